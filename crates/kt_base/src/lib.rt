@@ -1,0 +1,17 @@
+//! Numbers, sets of processes and labels, which every layer speaks of.
+#![tactic(auto)]
+
+mod counters;
+mod faults;
+mod numbers;
+mod sets;
+mod words;
+
+pub use counters::Labels;
+pub use faults::Memory;
+pub use numbers::{InstNo, Label, MsgNo, ProcNo, RowNo};
+pub use sets::{ProcSet, same_members};
+pub use words::{Cause, Kind, Standing, Verb};
+
+#[cfg(test)]
+mod tests;

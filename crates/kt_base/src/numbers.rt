@@ -1,0 +1,226 @@
+//! Numbers in range: processes, labels, messages, rows and instances.
+
+ghost use Rattle.std.specs.Prelude.{◌≡◌, ◌<◌, ◌≤◌, ◌↔◌, IsSome, IfSome};
+ghost use Rattle.kt_base.specs.Numbers.{IsProcNo, IsLabel, IsMsgNo, IsRowNo, IsInstNo};
+
+use std::marker::Model;
+
+/// The number of a process: 0 to 63, in the order in which the processes are declared.
+#[derive(Clone, Copy, Debug, PartialEq, Eq, PartialOrd, Ord, Hash)]
+pub struct ProcNo {
+    number: u8,
+}
+
+impl Model for ProcNo {
+    ghost use Rattle.std.specs.Prelude.{ℕ};
+    ghost use Rattle.kt_base.specs.Numbers.{IsProcNo};
+
+    ghost Value = { ℕ };
+
+    ghost view = { λ p. p.number };
+
+    ghost invariant = { λ p. IsProcNo p.number };
+
+    ghost inverse = { λ n. record { number = n } };
+}
+
+impl ProcNo {
+    /// How many processes there are at most.
+    pub const COUNT: u8 = 64;
+
+    /// The process with this number; None from 64 on.
+    pub fn new(number: u8) -> Option<ProcNo>
+        ensures valid { IsSome result ↔ IsProcNo number }
+        ensures value { IfSome result (λ p. p ≡ number) }
+    {
+        if number < Self::COUNT {
+            Some(ProcNo { number })
+        } else {
+            None
+        }
+    }
+
+    /// The number, 0 to 63.
+    pub fn get(self) -> u8
+        ensures value { result ≡ self }
+        ensures in_range { IsProcNo result }
+    {
+        self.number
+    }
+}
+
+/// The label of an application message, 1 to 2^48 - 1; 0 stands for no label.
+#[derive(Clone, Copy, Debug, PartialEq, Eq, PartialOrd, Ord, Hash)]
+pub struct Label {
+    number: u64,
+}
+
+impl Model for Label {
+    ghost use Rattle.std.specs.Prelude.{ℕ};
+    ghost use Rattle.kt_base.specs.Numbers.{IsLabel};
+
+    ghost Value = { ℕ };
+
+    ghost view = { λ l. l.number };
+
+    ghost invariant = { λ l. IsLabel l.number };
+
+    ghost inverse = { λ n. record { number = n } };
+}
+
+impl Label {
+    /// The greatest label.
+    pub const MOST: u64 = 281_474_976_710_655;
+
+    /// The label with this number; None from 2^48 on.
+    pub fn new(number: u64) -> Option<Label>
+        ensures valid { IsSome result ↔ IsLabel number }
+        ensures value { IfSome result (λ l. l ≡ number) }
+    {
+        if number <= Self::MOST {
+            Some(Label { number })
+        } else {
+            None
+        }
+    }
+
+    /// The number, 0 to 2^48 - 1.
+    pub fn get(self) -> u64
+        ensures value { result ≡ self }
+        ensures in_range { IsLabel result }
+    {
+        self.number
+    }
+}
+
+/// The number of a message, which is the number of its `sent` row: 1 to 2^24.
+#[derive(Clone, Copy, Debug, PartialEq, Eq, PartialOrd, Ord, Hash)]
+pub struct MsgNo {
+    number: u32,
+}
+
+impl Model for MsgNo {
+    ghost use Rattle.std.specs.Prelude.{ℕ};
+    ghost use Rattle.kt_base.specs.Numbers.{IsMsgNo};
+
+    ghost Value = { ℕ };
+
+    ghost view = { λ m. m.number };
+
+    ghost invariant = { λ m. IsMsgNo m.number };
+
+    ghost inverse = { λ n. record { number = n } };
+}
+
+impl MsgNo {
+    /// The greatest number of a message.
+    pub const MOST: u32 = 16_777_216;
+
+    /// The message with this number; None for 0 and above 2^24.
+    pub fn new(number: u32) -> Option<MsgNo>
+        ensures valid { IsSome result ↔ IsMsgNo number }
+        ensures value { IfSome result (λ m. m ≡ number) }
+    {
+        if number >= 1 && number <= Self::MOST {
+            Some(MsgNo { number })
+        } else {
+            None
+        }
+    }
+
+    /// The number, 1 to 2^24.
+    pub fn get(self) -> u32
+        ensures value { result ≡ self }
+        ensures in_range { IsMsgNo result }
+    {
+        self.number
+    }
+}
+
+/// The number of a row of a log: 1 to 2^24.
+#[derive(Clone, Copy, Debug, PartialEq, Eq, PartialOrd, Ord, Hash)]
+pub struct RowNo {
+    number: u32,
+}
+
+impl Model for RowNo {
+    ghost use Rattle.std.specs.Prelude.{ℕ};
+    ghost use Rattle.kt_base.specs.Numbers.{IsRowNo};
+
+    ghost Value = { ℕ };
+
+    ghost view = { λ r. r.number };
+
+    ghost invariant = { λ r. IsRowNo r.number };
+
+    ghost inverse = { λ n. record { number = n } };
+}
+
+impl RowNo {
+    /// The greatest number of a row.
+    pub const MOST: u32 = 16_777_216;
+
+    /// The row with this number; None for 0 and above 2^24.
+    pub fn new(number: u32) -> Option<RowNo>
+        ensures valid { IsSome result ↔ IsRowNo number }
+        ensures value { IfSome result (λ r. r ≡ number) }
+    {
+        if number >= 1 && number <= Self::MOST {
+            Some(RowNo { number })
+        } else {
+            None
+        }
+    }
+
+    /// The number, 1 to 2^24.
+    pub fn get(self) -> u32
+        ensures value { result ≡ self }
+        ensures in_range { IsRowNo result }
+    {
+        self.number
+    }
+}
+
+/// The number of an instance of checkpoint or rollback, in order of beginning: 1 to 4,096.
+#[derive(Clone, Copy, Debug, PartialEq, Eq, PartialOrd, Ord, Hash)]
+pub struct InstNo {
+    number: u16,
+}
+
+impl Model for InstNo {
+    ghost use Rattle.std.specs.Prelude.{ℕ};
+    ghost use Rattle.kt_base.specs.Numbers.{IsInstNo};
+
+    ghost Value = { ℕ };
+
+    ghost view = { λ k. k.number };
+
+    ghost invariant = { λ k. IsInstNo k.number };
+
+    ghost inverse = { λ n. record { number = n } };
+}
+
+impl InstNo {
+    /// The greatest number of an instance.
+    pub const MOST: u16 = 4096;
+
+    /// The instance with this number; None for 0 and above 4,096.
+    pub fn new(number: u16) -> Option<InstNo>
+        ensures valid { IsSome result ↔ IsInstNo number }
+        ensures value { IfSome result (λ k. k ≡ number) }
+    {
+        if number >= 1 && number <= Self::MOST {
+            Some(InstNo { number })
+        } else {
+            None
+        }
+    }
+
+    /// The number, 1 to 4,096.
+    pub fn get(self) -> u16
+        ensures value { result ≡ self }
+        ensures in_range { IsInstNo result }
+    {
+        self.number
+    }
+}
