@@ -3,6 +3,7 @@
 ghost use Rattle.std.specs.Prelude.{◌≡◌, ◌<◌, ◌≤◌, ◌↔◌, IsSome, IfSome};
 ghost use Rattle.kt_base.specs.Numbers.{IsProcNo, IsLabel, IsMsgNo, IsRowNo, IsInstNo};
 
+use std::fmt;
 use std::marker::Model;
 
 /// The number of a process: 0 to 63, in the order in which the processes are declared.
@@ -46,6 +47,17 @@ impl ProcNo {
         ensures in_range { IsProcNo result }
     {
         self.number
+    }
+}
+
+impl fmt::Display for ProcNo {
+    ghost use Rattle.std.specs.Prelude.{Some};
+    ghost use Rattle.std.specs.Fmt.{decimal};
+
+    ghost output = { λ p. Some (decimal p) };
+
+    fn fmt<W: fmt::Write>(&self, f: &mut fmt::Formatter<W>) -> fmt::Result {
+        self.number.fmt(f)
     }
 }
 
@@ -137,6 +149,17 @@ impl MsgNo {
     }
 }
 
+impl fmt::Display for MsgNo {
+    ghost use Rattle.std.specs.Prelude.{Some};
+    ghost use Rattle.std.specs.Fmt.{decimal};
+
+    ghost output = { λ m. Some (decimal m) };
+
+    fn fmt<W: fmt::Write>(&self, f: &mut fmt::Formatter<W>) -> fmt::Result {
+        self.number.fmt(f)
+    }
+}
+
 /// The number of a row of a log: 1 to 2^24.
 #[derive(Clone, Copy, Debug, PartialEq, Eq, PartialOrd, Ord, Hash)]
 pub struct RowNo {
@@ -181,6 +204,17 @@ impl RowNo {
     }
 }
 
+impl fmt::Display for RowNo {
+    ghost use Rattle.std.specs.Prelude.{Some};
+    ghost use Rattle.std.specs.Fmt.{decimal};
+
+    ghost output = { λ r. Some (decimal r) };
+
+    fn fmt<W: fmt::Write>(&self, f: &mut fmt::Formatter<W>) -> fmt::Result {
+        self.number.fmt(f)
+    }
+}
+
 /// The number of an instance of checkpoint or rollback, in order of beginning: 1 to 4,096.
 #[derive(Clone, Copy, Debug, PartialEq, Eq, PartialOrd, Ord, Hash)]
 pub struct InstNo {
@@ -222,5 +256,16 @@ impl InstNo {
         ensures in_range { IsInstNo result }
     {
         self.number
+    }
+}
+
+impl fmt::Display for InstNo {
+    ghost use Rattle.std.specs.Prelude.{Some};
+    ghost use Rattle.std.specs.Fmt.{decimal};
+
+    ghost output = { λ k. Some (decimal k) };
+
+    fn fmt<W: fmt::Write>(&self, f: &mut fmt::Formatter<W>) -> fmt::Result {
+        self.number.fmt(f)
     }
 }

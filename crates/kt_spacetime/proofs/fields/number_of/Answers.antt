@@ -1,0 +1,31 @@
+use Rattle.std.proofs.Common.{rules, ◌≡◌, ◌≢◌, ◌∙◌, ◌<◌, ◌^◌, sym, ap, arith, ℕ, List, Ok, Result, subst}
+use Rattle.std.specs.Fmt.{decimal}
+use Rattle.std.specs.Str.{IsUtf8}
+use Rattle.std.specs.Str.Parse.{ParsesUnsigned}
+use Rattle.std.proofs.lemmas.Fmt.{IsAscii-decimal, parse-decimal}
+use Rattle.std.proofs.lemmas.Str.{IsUtf8-from_ascii}
+use Rattle.kt_spacetime.proofs.fields.number_of.Goals as goal
+
+-- what spells a number is text
+spelt_text : (n : ℕ) (t : List ℕ) → n < 2 ^ 32 → t ≡ decimal n → IsUtf8 t
+spelt_text n t small e = let P : List ℕ → Type 0 = IsUtf8 in subst P (sym e) (IsUtf8-from_ascii (decimal n) (IsAscii-decimal n (omega arith)))
+
+-- it is read as that number
+spelt_reads : {E : Type 0} (n : ℕ) (t u : List ℕ) (r : Result ℕ E) → n < 2 ^ 32 → u ≡ t → t ≡ decimal n → ParsesUnsigned 32 10 u r → r ≡ Ok n
+spelt_reads n t u r small same e p = parse-decimal 32 n u r small (omega arith) (same ∙ e) p
+
+pub returns-in_default-clause-none : goal.returns-in_default-clause-none
+returns-in_default-clause-none c n small e = c.in_default.ensures.cases.0 (spelt_text n _ small e)
+
+pub returns-in_default-parse-clause-none : goal.returns-in_default-parse-clause-none
+returns-in_default-parse-clause-none c n small e =
+    let p = spelt_reads n c.args.text.now c.in-Ok.digits.now c.parse.result small c.in-Ok.ensures.cases.0 e c.parse.ensures.value.0 in
+    cc (rw c.in_default-parse.is at p)
+
+pub returns-then-ne-clause-none : goal.returns-then-ne-clause-none
+returns-then-ne-clause-none c n small e =
+    let p = spelt_reads n c.args.text.now c.in-Ok.digits.now c.parse.result small c.in-Ok.ensures.cases.0 e c.parse.ensures.value.0 in
+    let q = rw c.in-Ok-parse.is at p in
+    let same : c.in-Ok-parse.number ≡ n = cc q in
+    let unequal : c.as_bytes.result.now ≢ c.args.text.now = search rules in
+    unequal (c.as_bytes.ensures.value ∙ c.format.ensures.text ∙ ap decimal same ∙ sym e)

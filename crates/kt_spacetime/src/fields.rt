@@ -1,0 +1,78 @@
+//! Fields of records: numbers and words as they are spelled in logs and certificates.
+//!
+//! A number is spelled by its decimal digits with no sign and no leading zero; a body may have a `-` before it.
+
+ghost use Rattle.std.specs.Prelude.{◌≡◌, ◌≢◌, ◌<◌, ◌^◌, ℕ, ℤ, IfSome, IfNone, IfOk, IfErr, FitsSigned};
+ghost use Rattle.std.specs.Int.{w64};
+ghost use Rattle.std.specs.Fmt.{decimal, signed_decimal};
+ghost use Rattle.kt_base.specs.Numbers.{IsProcNo, IsMsgNo, IsInstNo};
+
+use kt_base::{InstNo, MsgNo, ProcNo};
+
+/// The number below 2^32 that a text spells, if it spells one.
+pub fn number_of(text: &[u8]) -> Option<u32>
+    ensures found { IfSome result (λ n. text.now ≡ decimal n) }
+    ensures none { IfNone result ((n : ℕ) → n < 2 ^ 32 → text.now ≢ decimal n) }
+{
+    let Ok(digits) = std::str::from_utf8(text) else {
+        return None;
+    };
+    let Ok(number) = digits.parse::<u32>() else {
+        return None;
+    };
+    let mut buffer = itoa::Buffer::new();
+    if buffer.format(number).as_bytes() != text {
+        return None;
+    }
+    Some(number)
+}
+
+/// The body, a whole number of 64 bits, that a text spells, if it spells one.
+pub fn body_of(text: &[u8]) -> Option<i64>
+    ensures found { IfSome result (λ z. text.now ≡ signed_decimal z) }
+    ensures none { IfNone result ((z : ℤ) → FitsSigned w64 z → text.now ≢ signed_decimal z) }
+{
+    let Ok(digits) = std::str::from_utf8(text) else {
+        return None;
+    };
+    let Ok(body) = digits.parse::<i64>() else {
+        return None;
+    };
+    let mut buffer = itoa::Buffer::new();
+    if buffer.format(body).as_bytes() != text {
+        return None;
+    }
+    Some(body)
+}
+
+/// The process that a text spells, if it spells a number from 0 to 63.
+pub fn process_of(text: &[u8]) -> Option<ProcNo>
+    ensures found { IfSome result (λ p. IsProcNo p × (text.now ≡ decimal p)) }
+    ensures none { IfNone result ((p : ℕ) → IsProcNo p → text.now ≢ decimal p) }
+{
+    let number = number_of(text)?;
+    let process = ProcNo::new(u8::try_from(number).ok()?)?;
+    process.get();
+    Some(process)
+}
+
+/// The instance that a text spells, if it spells a number from 1 to 4,096.
+pub fn instance_of(text: &[u8]) -> Option<InstNo>
+    ensures found { IfSome result (λ k. IsInstNo k × (text.now ≡ decimal k)) }
+    ensures none { IfNone result ((k : ℕ) → IsInstNo k → text.now ≢ decimal k) }
+{
+    let number = number_of(text)?;
+    let instance = InstNo::new(u16::try_from(number).ok()?)?;
+    instance.get();
+    Some(instance)
+}
+
+/// The message that a text spells, if it spells a number from 1 to 2^24.
+pub fn message_of(text: &[u8]) -> Option<MsgNo>
+    ensures found { IfSome result (λ m. IsMsgNo m × (text.now ≡ decimal m)) }
+    ensures none { IfNone result ((m : ℕ) → IsMsgNo m → text.now ≢ decimal m) }
+{
+    let message = MsgNo::new(number_of(text)?)?;
+    message.get();
+    Some(message)
+}

@@ -1,0 +1,17 @@
+//! The log of a run: its rows, and their text.
+#![tactic(auto)]
+
+mod event;
+mod fault;
+pub mod fields;
+mod log;
+mod reading;
+mod rows;
+
+pub use event::Event;
+pub use fault::LogFault;
+pub use log::SpaceTime;
+pub use reading::{RowReader, read_csv};
+
+#[cfg(test)]
+mod tests;
