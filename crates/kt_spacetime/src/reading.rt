@@ -133,7 +133,7 @@ fn read_row<R: Read>(
 #[derive(Drop)]
 pub struct RowReader<R: Read + Drop> {
     records: Reader<R>,
-    record: ByteRecord,
+    current: ByteRecord,
     // None before the first record was read.
     format: Option<Format>,
     count: u32,
@@ -163,7 +163,7 @@ impl<R: Read + Drop> RowReader<R> {
                 .has_headers(false)
                 .flexible(true)
                 .from_reader(alloc, reader),
-            record: ByteRecord::new(alloc),
+            current: ByteRecord::new(alloc),
             format: None,
             count: 0,
             progress: Progress::Reading,
@@ -182,7 +182,7 @@ impl<R: Read + Drop> RowReader<R> {
         }
         match read_row(
             &mut self.records,
-            &mut self.record,
+            &mut self.current,
             &mut self.format,
             self.count,
         ) {

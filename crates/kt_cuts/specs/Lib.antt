@@ -1,0 +1,9 @@
+pub use Rattle.kt_spacetime.specs.Events
+pub use Rattle.kt_spacetime.specs.Logs
+pub use Rattle.kt_base.specs.Numbers
+pub mod Rules
+pub mod Past
+pub mod Legal
+pub mod Cuts
+pub mod Chains
+pub mod WorkedRows
