@@ -1,9 +1,8 @@
 -- Members, linking messages and chains.
-use Rattle.std.specs.Prelude.{◌≡◌, ℕ, ◌==◌, Bool, true, false, Option, Some, None, is_some, if◌then◌else◌, List, [], ◌∷◌, take, drop, unwrap_or}
+use Rattle.std.specs.Prelude.{◌≡◌, ℕ, ◌==◌, Bool, true, Option, Some, None, is_some, if◌then◌else◌, List, [], ◌∷◌, take, drop, unwrap_or}
 use Rattle.std.specs.List.{filter_map}
 use Rattle.kt_spacetime.specs.declared.event.Event.{Event}
-use Rattle.kt_spacetime.specs.declared.event.Event.TheVariants.{Sent, Received, Dropped, Began, Took, Ready, Unwilling, Decided, Closed, Failed, Refused}
-use Rattle.kt_cuts.specs.declared.deeds.Deed.{Deed}
+use Rattle.kt_spacetime.specs.declared.event.Event.TheVariants.{Took, Ready}
 use Rattle.kt_cuts.specs.declared.deeds.Deed.TheVariants as deed
 use Rattle.kt_cuts.specs.Past.{Past}
 use Rattle.kt_cuts.specs.Legal.{has_deed}

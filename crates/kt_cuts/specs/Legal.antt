@@ -1,7 +1,6 @@
 -- The rules of a legal log.
-use Rattle.std.specs.Prelude.{◌≡◌, ℕ, ◌+◌, ◌≤◌, ◌==◌, ◌&&◌, ◌||◌, not, nat_lt, nat_le, Bool, true, false, Option, Some, None, is_some, is_none, List, [], ◌∷◌, length, find}
+use Rattle.std.specs.Prelude.{◌≡◌, ℕ, ◌+◌, ◌==◌, ◌&&◌, ◌||◌, not, nat_lt, nat_le, Bool, true, false, Option, Some, None, is_some, is_none, List, [], ◌∷◌, length, find}
 use Rattle.std.specs.List.{list_any, list_all}
-use Rattle.kt_base.specs.declared.words.Kind.{Kind}
 use Rattle.kt_base.specs.declared.words.Kind.TheVariants as kind
 use Rattle.kt_base.specs.declared.words.Verb.{Verb}
 use Rattle.kt_base.specs.declared.words.Verb.TheVariants as verb

@@ -1,8 +1,8 @@
 -- Logs of worked runs, and logs that each break one rule first.
-use Rattle.std.specs.Prelude.{List, [], ◌∷◌, true, false, pos}
+use Rattle.std.specs.Prelude.{List, [], ◌∷◌, true, pos}
 use Rattle.kt_base.specs.declared.words.Kind.TheVariants.{Checkpoint, Rollback}
 use Rattle.kt_spacetime.specs.declared.event.Event.{Event}
-use Rattle.kt_spacetime.specs.declared.event.Event.TheVariants.{Sent, Received, Dropped, Began, Took, Ready, Decided, Closed, Failed}
+use Rattle.kt_spacetime.specs.declared.event.Event.TheVariants.{Sent, Received, Began, Took, Ready, Decided, Closed, Failed}
 
 -- a sends to b, b begins a checkpoint: both take part
 abbrev pub two_processes_checkpoint : List Event

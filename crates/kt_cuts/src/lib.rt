@@ -1,10 +1,17 @@
 //! What a log means: live histories, positions, cuts, orphans, legal logs, chains.
 #![tactic(auto)]
 
+mod cut;
 mod deeds;
+mod histories;
+mod legality;
+mod replay;
 mod rules;
 mod worked;
 
+pub use cut::Cut;
 pub use deeds::Deed;
+pub use histories::{Histories, Trace};
+pub use legality::{LegalFault, legal};
 pub use rules::Rule;
 pub use worked::worked_rows;

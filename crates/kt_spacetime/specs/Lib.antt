@@ -3,3 +3,4 @@ pub mod Events
 pub mod Logs
 pub mod Reading
 pub mod Progress
+pub mod Words

@@ -2,12 +2,14 @@
 //!
 //! A number is spelled by its decimal digits with no sign and no leading zero; a body may have a `-` before it.
 
-ghost use Rattle.std.specs.Prelude.{◌≡◌, ◌≢◌, ◌<◌, ◌^◌, ℕ, ℤ, IfSome, IfNone, IfOk, IfErr, FitsSigned};
+ghost use Rattle.std.specs.Prelude.{◌≡◌, ◌≢◌, ◌<◌, ◌^◌, ℕ, ℤ, Bool, IfSome, IfNone, IfOk, IfErr, FitsSigned};
 ghost use Rattle.std.specs.Int.{w64};
 ghost use Rattle.std.specs.Fmt.{decimal, signed_decimal};
 ghost use Rattle.kt_base.specs.Numbers.{IsProcNo, IsMsgNo, IsInstNo};
+ghost use Rattle.kt_base.specs.declared.words.Kind.{Kind};
+ghost use Rattle.kt_spacetime.specs.Words.{kind_word, verdict_word};
 
-use kt_base::{InstNo, MsgNo, ProcNo};
+use kt_base::{InstNo, Kind, MsgNo, ProcNo};
 
 /// The number below 2^32 that a text spells, if it spells one.
 pub fn number_of(text: &[u8]) -> Option<u32>
@@ -75,4 +77,32 @@ pub fn message_of(text: &[u8]) -> Option<MsgNo>
     let message = MsgNo::new(number_of(text)?)?;
     message.get();
     Some(message)
+}
+
+/// The kind of instance that a text names: `checkpoint` or `rollback`.
+pub fn kind_of(text: &[u8]) -> Option<Kind>
+    ensures found { IfSome result (λ kind. text.now ≡ kind_word kind) }
+    ensures none { IfNone result ((kind : Kind) → text.now ≢ kind_word kind) }
+{
+    if text == b"checkpoint".as_slice() {
+        return Some(Kind::Checkpoint);
+    }
+    if text == b"rollback".as_slice() {
+        return Some(Kind::Rollback);
+    }
+    None
+}
+
+/// Whether a text names a commit (`commit`) or an abort (`abort`).
+pub fn verdict_of(text: &[u8]) -> Option<bool>
+    ensures found { IfSome result (λ commit. text.now ≡ verdict_word commit) }
+    ensures none { IfNone result ((commit : Bool) → text.now ≢ verdict_word commit) }
+{
+    if text == b"commit".as_slice() {
+        return Some(true);
+    }
+    if text == b"abort".as_slice() {
+        return Some(false);
+    }
+    None
 }

@@ -4,7 +4,7 @@ ghost use Rattle.std.specs.Prelude.{◌≤◌, ◌^◌};
 
 use crate::event::Event;
 use crate::fault::LogFault;
-use crate::fields::{body_of, instance_of, message_of, process_of};
+use crate::fields::{body_of, instance_of, kind_of, message_of, process_of, verdict_of};
 use kt_base::{Cause, InstNo, Kind, MsgNo, ProcNo, RowNo, Verb};
 
 /// The two formats of a log's text, which differ in their limits.
@@ -69,23 +69,11 @@ fn nothing(text: &[u8]) -> Result<(), RowFault> {
 }
 
 fn kind(text: &[u8]) -> Result<Kind, RowFault> {
-    if text == b"checkpoint".as_slice() {
-        return Ok(Kind::Checkpoint);
-    }
-    if text == b"rollback".as_slice() {
-        return Ok(Kind::Rollback);
-    }
-    Err(RowFault::Word)
+    kind_of(text).ok_or(RowFault::Word)
 }
 
 fn verdict(text: &[u8]) -> Result<bool, RowFault> {
-    if text == b"commit".as_slice() {
-        return Ok(true);
-    }
-    if text == b"abort".as_slice() {
-        return Ok(false);
-    }
-    Err(RowFault::Word)
+    verdict_of(text).ok_or(RowFault::Word)
 }
 
 fn verb(text: &[u8]) -> Result<Verb, RowFault> {

@@ -1,0 +1,100 @@
+//! What a certificate says.
+
+ghost use Rattle.std.specs.Prelude.{◌≡◌, [], ◌∷◌, ◌++◌, map, OnOk, OnErr};
+
+use kt_base::{InstNo, Kind, Memory, MsgNo, ProcNo};
+use std::alloc::Global;
+use std::marker::Model;
+
+/// The numbers of the messages that lead from the initiator of an instance to a member.
+#[derive(Debug, Drop)]
+pub struct Chain {
+    messages: Vec<MsgNo>,
+}
+
+impl Model for Chain {
+    ghost use Rattle.std.specs.Prelude.{List, ℕ};
+
+    ghost Value = { List ℕ };
+
+    ghost view = { λ c. c.messages.items };
+}
+
+impl Chain {
+    /// The chain with no message, as the initiator has it. It takes no memory.
+    pub fn new(alloc: Global) -> Chain
+        ensures { result ≡ [] }
+    {
+        Chain {
+            messages: Vec::new(alloc),
+        }
+    }
+
+    /// Adds a message at the end.
+    pub fn push(&mut self, msg: MsgNo) -> Result<(), Memory>
+        ensures ok { OnOk result (self.new ≡ self.old ++ msg ∷ []) }
+        ensures err { OnErr result (self.new ≡ self.old) }
+    {
+        self.messages.push(msg)?;
+        Ok(())
+    }
+
+    /// The messages in order.
+    pub fn messages(&self) -> &[MsgNo]
+        ensures { result.now ≡ self.now }
+    {
+        self.messages.as_slice()
+    }
+}
+
+/// The members that a certificate lists, each with its chain.
+#[derive(Debug, Drop)]
+pub struct Members {
+    list: Vec<(ProcNo, Chain)>,
+}
+
+impl Model for Members {
+    ghost use Rattle.std.specs.Prelude.{List, ℕ};
+
+    ghost Value = { List (ℕ × List ℕ) };
+
+    ghost view = { λ m. m.list.items };
+}
+
+impl Members {
+    /// No members, as an aborted instance has them. It takes no memory.
+    pub fn new(alloc: Global) -> Members
+        ensures { result ≡ [] }
+    {
+        Members {
+            list: Vec::new(alloc),
+        }
+    }
+
+    /// Adds a member at the end.
+    pub fn push(&mut self, process: ProcNo, chain: Chain) -> Result<(), Memory>
+        ensures ok { OnOk result (self.new ≡ self.old ++ (process, chain) ∷ []) }
+        ensures err { OnErr result (self.new ≡ self.old) }
+    {
+        self.list.push((process, chain))?;
+        Ok(())
+    }
+
+    /// The members in order.
+    pub fn list(&self) -> &[(ProcNo, Chain)]
+        ensures { result.now ≡ self.now }
+    {
+        self.list.as_slice()
+    }
+}
+
+/// What is claimed of one decided instance: what it was, how it was decided and, where it was committed, its members
+/// in the order in which they joined, each with its chain.
+#[derive(Debug, Drop)]
+pub struct Certificate {
+    pub inst: InstNo,
+    pub kind: Kind,
+    pub initiator: ProcNo,
+    pub commit: bool,
+    pub members: Members,
+}

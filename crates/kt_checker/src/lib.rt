@@ -1,0 +1,9 @@
+//! The checker of logs and certificates, which trusts nobody.
+#![tactic(auto)]
+
+mod checking;
+mod decisions;
+mod verdict;
+
+pub use checking::check;
+pub use verdict::{Verdict, Why};

@@ -1,0 +1,68 @@
+//! What the checker answers.
+
+use kt_base::{InstNo, RowNo};
+use kt_cuts::Rule;
+use std::fmt;
+
+/// Why the checker says no.
+#[derive(Clone, Copy, Debug, PartialEq, Eq, Hash)]
+pub enum Why {
+    /// The log is not legal: the row breaks this rule.
+    BadLog(Rule),
+    /// The instance is not decided in the log, was certified before, or was another than the certificate says.
+    Unknown,
+    /// An aborted instance without an `unwilling` row, or a committed one with one.
+    Cause,
+    /// The list is not the instance's members in the order in which they joined.
+    Members,
+    /// A member's list is no chain for it.
+    Chain,
+    /// The cut has an orphan.
+    Orphan,
+    /// A decided instance has no certificate.
+    Missing,
+}
+
+/// What the checker answers of a log and a list of certificates.
+#[derive(Clone, Copy, Debug, PartialEq, Eq, Hash)]
+pub enum Verdict {
+    Yes,
+    /// The first fault, with the instance and the row where there is one.
+    No {
+        inst: Option<InstNo>,
+        row: Option<RowNo>,
+        why: Why,
+    },
+}
+
+impl fmt::Display for Why {
+    fn fmt<W: fmt::Write>(&self, f: &mut fmt::Formatter<W>) -> fmt::Result {
+        match self {
+            Why::BadLog(rule) => write!(f, "BadLog {}", rule.number()),
+            Why::Unknown => write!(f, "Unknown"),
+            Why::Cause => write!(f, "Cause"),
+            Why::Members => write!(f, "Members"),
+            Why::Chain => write!(f, "Chain"),
+            Why::Orphan => write!(f, "Orphan"),
+            Why::Missing => write!(f, "Missing"),
+        }
+    }
+}
+
+impl fmt::Display for Verdict {
+    fn fmt<W: fmt::Write>(&self, f: &mut fmt::Formatter<W>) -> fmt::Result {
+        match self {
+            Verdict::Yes => write!(f, "yes"),
+            Verdict::No { inst, row, why } => {
+                write!(f, "no")?;
+                if let Some(inst) = inst {
+                    write!(f, " instance {inst}")?;
+                }
+                if let Some(row) = row {
+                    write!(f, " row {row}")?;
+                }
+                write!(f, " {why}")
+            }
+        }
+    }
+}
