@@ -1,6 +1,7 @@
 -- Numbers as they are spelled, and where a number fits its type.
-use Rattle.std.proofs.Common.{◌≡◌, ◌≢◌, ◌∙◌, ◌<◌, ◌≤◌, ◌^◌, ℕ, List, Option, Some, None, Result, Ok, Err, IfNone, sym, inl, inr}
+use Rattle.std.proofs.Common.{◌≡◌, ◌≢◌, ◌∙◌, ◌<◌, ◌≤◌, ◌^◌, ℕ, List, [], ◌∷◌, length, refl, arith, Option, Some, None, Result, Ok, Err, IfNone, sym, inl, inr}
 use Rattle.std.specs.Result.{OkIff, result_ok}
+use Rattle.csv.specs.Records.{field_at}
 use Rattle.std.specs.Fmt.{decimal}
 use Rattle.std.proofs.lemmas.Bool.{cases_lt}
 use Rattle.std.proofs.lemmas.Fmt.{decimal_injective}
@@ -23,3 +24,34 @@ too_great n w (Err x) f e = elim (cases_lt n w) [ inl less ↦ absurd (f less) |
 pub same_number : {E : Type 0} (n w x : ℕ) (r : Result ℕ E) → OkIff r (n < w) n → result_ok r ≡ Some x → x ≡ n
 same_number n w x (Ok y) f e = let same : y ≡ x = cc e in sym same ∙ f.1
 same_number n w x (Err y) f e = cc e
+
+-- a list of four fields, from what is at its places
+pub four_of : (fs : List (List ℕ)) (a b c d : List ℕ) → length fs ≡ 4 → Some a ≡ field_at fs 0 → Some b ≡ field_at fs 1 → Some c ≡ field_at fs 2 → Some d ≡ field_at fs 3 → fs ≡ a ∷ b ∷ c ∷ d ∷ []
+unfolding field_at
+four_of [] a b c d n p q r s = absurd (omega (arith, n))
+four_of (x ∷ []) a b c d n p q r s = absurd (omega (arith, n))
+four_of (x ∷ y ∷ []) a b c d n p q r s = absurd (omega (arith, n))
+four_of (x ∷ y ∷ z ∷ []) a b c d n p q r s = absurd (omega (arith, n))
+four_of (x ∷ y ∷ z ∷ w ∷ []) a b c d n p q r s = cc (p, q, r, s)
+four_of (x ∷ y ∷ z ∷ w ∷ v ∷ rest) a b c d n p q r s = absurd (omega (arith, n))
+
+-- each of four places has a field
+pub four_full : (fs : List (List ℕ)) → length fs ≡ 4 → (field_at fs 0 ≢ None) × (field_at fs 1 ≢ None) × (field_at fs 2 ≢ None) × (field_at fs 3 ≢ None)
+unfolding field_at
+four_full [] n = absurd (omega (arith, n))
+four_full (x ∷ []) n = absurd (omega (arith, n))
+four_full (x ∷ y ∷ []) n = absurd (omega (arith, n))
+four_full (x ∷ y ∷ z ∷ []) n = absurd (omega (arith, n))
+four_full (x ∷ y ∷ z ∷ w ∷ rest) n = ((λ e. cc e), (λ e. cc e), (λ e. cc e), (λ e. cc e))
+
+-- a list with no first field is empty
+pub none_first : (fs : List (List ℕ)) → field_at fs 0 ≡ None → fs ≡ []
+unfolding field_at
+none_first [] e = refl
+none_first (x ∷ rest) e = cc e
+
+-- a list with a first field begins with it
+pub some_first : (fs : List (List ℕ)) (a : List ℕ) → Some a ≡ field_at fs 0 → (rest : List (List ℕ)) × (fs ≡ a ∷ rest)
+unfolding field_at
+some_first [] a e = cc e
+some_first (x ∷ rest) a e = (rest, cc e)

@@ -1,1 +1,5 @@
 pub mod FieldFacts
+pub mod RecordFacts
+pub mod ReaderFacts
+pub mod StepFacts
+pub mod GatherFacts

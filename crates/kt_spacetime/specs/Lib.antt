@@ -1,6 +1,10 @@
 pub use Rattle.kt_base.specs.Numbers
 pub mod Events
 pub mod Logs
+pub mod Words
+pub mod Slot
+pub mod Spelling
+pub mod Records
+pub mod Texts
 pub mod Reading
 pub mod Progress
-pub mod Words

@@ -1,8 +1,13 @@
 //! Logs read from their text.
 
-ghost use Rattle.std.specs.Prelude.{◌≡◌, ◌<◌, ◌≤◌, ◌+◌, ◌^◌, IfOk, IfSome, OnSome, Err, None};
-ghost use Rattle.kt_spacetime.specs.Reading.{Counts};
-ghost use Rattle.kt_spacetime.specs.Progress.{fault_in};
+ghost use Rattle.std.specs.Prelude.{◌≡◌, ◌≢◌, ◌⊎◌, ◌<◌, ◌≤◌, ℕ, List, [], ◌∷◌, length, Some, None, Ok, Err, IfOk, IfErr, IfSome, IfNone, OnSome, MatchBool, true, false};
+ghost use Rattle.csv.specs.Reading.{default_config, strip_bom, records};
+ghost use Rattle.csv.specs.Records.{fields_of};
+ghost use Rattle.kt_spacetime.specs.Events.{IsInRange};
+ghost use Rattle.kt_spacetime.specs.Spelling.{spelling, most_rows, IsInFormat};
+ghost use Rattle.kt_spacetime.specs.Texts.{header, IsMarked, IsUnmarked, IsOtherVersion, IsRowFault, IsFaultFrom, IsEndedFrom, IsLogText, IsFirstFault};
+ghost use Rattle.kt_spacetime.specs.Reading.{Steps, rows_unread};
+ghost use Rattle.kt_spacetime.specs.Progress.{left_in, ReadsOn, Takes, TakesFields, IsFormatOf, IsHeadFault, IsCount, Keeps, ReadsRow};
 
 use crate::event::Event;
 use crate::fault::LogFault;
@@ -22,16 +27,21 @@ enum Progress {
 }
 
 // The next record into `current`, and whether there was one.
-fn next_record<R: Read>(
-    records: &mut Reader<R>,
-    current: &mut ByteRecord,
-) -> Result<bool, LogFault> {
+fn next_record<R: Read>(records: &mut Reader<R>, current: &mut ByteRecord) -> Result<bool, LogFault>
+    requires { ReadsOn records.old }
+    ensures found { IfOk result (λ found. found ≡ true → ReadsOn records.new × Takes (left_in R.remaining records.old) (left_in R.remaining records.new) (fields_of current.new)) }
+    ensures ended { IfOk result (λ found. found ≡ false → IfSome (left_in R.remaining records.old) (λ left. left ≡ [])) }
+    ensures fault { IfErr result (λ e. (e ≡ LogFault.Read) ⊎ (e ≡ LogFault.Memory)) }
+{
     let found = records.read_byte_record(current)?;
     Ok(found)
 }
 
 // The four fields of a record.
-fn four_fields(current: &ByteRecord) -> Option<(&[u8], &[u8], &[u8], &[u8])> {
+fn four_fields(current: &ByteRecord) -> Option<(&[u8], &[u8], &[u8], &[u8])>
+    ensures found { IfSome result (λ f. fields_of current.now ≡ f.0.now ∷ f.1.now ∷ f.2.now ∷ f.3.now ∷ []) }
+    ensures none { IfNone result (length (fields_of current.now) ≢ 4) }
+{
     if current.len() != 4 {
         return None;
     }
@@ -42,35 +52,60 @@ fn four_fields(current: &ByteRecord) -> Option<(&[u8], &[u8], &[u8], &[u8])> {
     Some((word, first, second, third))
 }
 
-// What the first record of a text says of its format.
-fn format_of(current: &ByteRecord) -> Result<Format, LogFault> {
+// Whether a record's first field is `kt`.
+fn is_marked(current: &ByteRecord) -> bool
+    ensures { MatchBool result (IsMarked (fields_of current.now)) (IsUnmarked (fields_of current.now)) }
+{
     let Some(word) = current.get(0) else {
-        return Ok(Format::One);
+        return false;
     };
-    if word != b"kt".as_slice() {
+    if word == b"kt".as_slice() {
+        return true;
+    }
+    false
+}
+
+// Whether a record is the one that a text of format 2 begins with.
+fn is_header(current: &ByteRecord) -> bool
+    ensures { MatchBool result (fields_of current.now ≡ header) (fields_of current.now ≢ header) }
+{
+    let Some((word, version, second, third)) = four_fields(current) else {
+        return false;
+    };
+    if word == b"kt".as_slice()
+        && version == b"2".as_slice()
+        && second == b"-".as_slice()
+        && third == b"-".as_slice()
+    {
+        return true;
+    }
+    false
+}
+
+// What the first record of a text says of its format.
+fn format_of(current: &ByteRecord) -> Result<Format, LogFault>
+    ensures found { IfOk result (λ format. IsFormatOf format (fields_of current.now)) }
+    ensures fault { IfErr result (λ e. (e ≡ LogFault.Version) × IsOtherVersion (fields_of current.now)) }
+{
+    if !is_marked(current) {
         return Ok(Format::One);
     }
-    let Some((_, version, second, third)) = four_fields(current) else {
+    if !is_header(current) {
         return Err(LogFault::Version);
-    };
-    if version == b"2".as_slice() && second == b"-".as_slice() && third == b"-".as_slice() {
-        Ok(Format::Two)
-    } else {
-        Err(LogFault::Version)
     }
+    Ok(Format::Two)
 }
 
 // The row that a record says, after `count` rows.
 fn row_in(current: &ByteRecord, format: Format, count: u32) -> Result<Event, LogFault>
-    requires { count ≤ 2 ^ 24 }
-    ensures few { IfOk result (λ _. count < 2 ^ 24) }
+    requires { count ≤ most_rows format }
+    ensures found { IfOk result (λ row. (spelling row ≡ fields_of current.now) × IsInRange row × IsInFormat format row × (count < most_rows format)) }
+    ensures fault { IfErr result (λ e. (rest : List (List (List ℕ))) → IsRowFault format count (fields_of current.now ∷ rest) e) }
 {
     if count >= format.most_rows() {
         return Err(LogFault::TooLong);
     }
-    let Some(row) = RowNo::new(count + 1) else {
-        return Err(LogFault::TooLong);
-    };
+    let row = RowNo::new(count + 1).unwrap();
     let Some((word, first, second, third)) = four_fields(current) else {
         return Err(LogFault::Fields(row));
     };
@@ -80,32 +115,50 @@ fn row_in(current: &ByteRecord, format: Format, count: u32) -> Result<Event, Log
     }
 }
 
-// The format of a text and whether its first row was read with it; None for an empty text.
+// The format of a text, once its first row's record was read; None for a text with no row.
 fn begin<R: Read>(
     records: &mut Reader<R>,
     current: &mut ByteRecord,
-) -> Result<Option<Format>, LogFault> {
+) -> Result<Option<Format>, LogFault>
+    requires { ReadsOn records.old }
+    ensures found { IfOk result (λ o. IfSome o (λ format. ReadsOn records.new × TakesFields None format (left_in R.remaining records.old) (left_in R.remaining records.new) (fields_of current.new))) }
+    ensures ended { IfOk result (λ o. IfNone o (IfSome (left_in R.remaining records.old) (IsEndedFrom None))) }
+    ensures fault { IfErr result (λ e. IfSome (left_in R.remaining records.old) (λ left. IsHeadFault None left e)) }
+{
     if !next_record(records, current)? {
         return Ok(None);
     }
-    let format = format_of(current)?;
-    if format == Format::Two && !next_record(records, current)? {
-        return Ok(None);
+    match format_of(current)? {
+        Format::One => Ok(Some(Format::One)),
+        Format::Two => {
+            if next_record(records, current)? {
+                Ok(Some(Format::Two))
+            } else {
+                Ok(None)
+            }
+        }
     }
-    Ok(Some(format))
 }
 
-// The format, once the next record was read, where there is one.
+// The format, once the next row's record was read; None where there is no row left.
 fn advance<R: Read>(
     records: &mut Reader<R>,
     current: &mut ByteRecord,
     format: Option<Format>,
-) -> Result<Option<Format>, LogFault> {
+) -> Result<Option<Format>, LogFault>
+    requires { ReadsOn records.old }
+    ensures found { IfOk result (λ o. IfSome o (λ found. ReadsOn records.new × Keeps format found × TakesFields format found (left_in R.remaining records.old) (left_in R.remaining records.new) (fields_of current.new))) }
+    ensures ended { IfOk result (λ o. IfNone o (IfSome (left_in R.remaining records.old) (IsEndedFrom format))) }
+    ensures fault { IfErr result (λ e. IfSome (left_in R.remaining records.old) (λ left. IsHeadFault format left e)) }
+{
     let Some(format) = format else {
         return begin(records, current);
     };
-    let found = next_record(records, current)?;
-    Ok(found.then_some(format))
+    if next_record(records, current)? {
+        Ok(Some(format))
+    } else {
+        Ok(None)
+    }
 }
 
 // The next row, after `count` rows.
@@ -115,8 +168,13 @@ fn read_row<R: Read>(
     format: &mut Option<Format>,
     count: u32,
 ) -> Result<Option<Event>, LogFault>
-    requires { count ≤ 2 ^ 24 }
-    ensures { IfOk result (λ found. OnSome found (count < 2 ^ 24)) }
+    requires reading { ReadsOn records.old }
+    requires count { IsCount format.old count }
+    ensures row { IfOk result (λ o. IfSome o (λ row. ReadsRow format.old format.new count (left_in R.remaining records.old) (left_in R.remaining records.new) row)) }
+    ensures reading { IfOk result (λ o. OnSome o (ReadsOn records.new)) }
+    ensures ended { IfOk result (λ o. IfNone o (IfSome (left_in R.remaining records.old) (IsEndedFrom format.old))) }
+    ensures fault { IfErr result (λ e. IfSome (left_in R.remaining records.old) (λ left. IsFaultFrom format.old count left e)) }
+    ensures count { IsCount format.new count }
 {
     let Some(found) = advance(records, current, *format)? else {
         return Ok(None);
@@ -145,18 +203,17 @@ impl<R: Read + Drop> Model for RowReader<R> {
 
     ghost Value = { RowsRead };
 
-    ghost use Rattle.std.specs.Prelude.{◌≤◌, ◌^◌};
-    ghost use Rattle.kt_spacetime.specs.Progress.{fault_in};
+    ghost use Rattle.kt_spacetime.specs.Progress.{rows_read, IsSetUp};
 
-    ghost view = { λ r. record { count = r.count; fault = fault_in r.progress } };
+    ghost view = { rows_read R.remaining };
 
-    ghost invariant = { λ r. r.count ≤ 2 ^ 24 };
+    ghost invariant = { IsSetUp };
 }
 
 impl<R: Read + Drop> RowReader<R> {
     /// A reader of the log that this reader gives, before its first row.
     pub fn new(alloc: Global, reader: R) -> Result<RowReader<R>, Memory>
-        ensures { IfOk result (λ r. r ≡ record { count = 0; fault = None }) }
+        ensures { IfOk result (λ r. r ≡ rows_unread (R.remaining reader)) }
     {
         Ok(RowReader {
             records: ReaderBuilder::new()
@@ -172,7 +229,8 @@ impl<R: Read + Drop> RowReader<R> {
 
     /// The next row, None at the end of the text, or the first fault.
     pub fn next(&mut self) -> Result<Option<Event>, LogFault>
-        ensures counts { Counts self.old self.new result }
+        ensures steps { Steps self.old self.new result }
+        ensures done { self.old.ended ≡ true → (result ≡ Ok None) × (self.new ≡ self.old) }
         ensures failed { IfSome self.old.fault (λ fault. (result ≡ Err fault) × (self.new ≡ self.old)) }
     {
         match self.progress {
@@ -206,7 +264,10 @@ impl<R: Read + Drop> RowReader<R> {
 /// The log of a text, in format 1 or 2.
 ///
 /// Answers the first fault of the text: rows in order, and in one row its number of fields, then field by field.
-pub fn read_csv<R: Read + Drop>(alloc: Global, reader: R) -> Result<SpaceTime, LogFault> {
+pub fn read_csv<R: Read + Drop>(alloc: Global, reader: R) -> Result<SpaceTime, LogFault>
+    ensures found { IfOk result (λ log. IfSome (R.remaining reader) (λ bytes. IsLogText (records default_config (strip_bom bytes)) log.rows)) }
+    ensures fault { IfErr result (λ e. IfSome (R.remaining reader) (λ bytes. IsFirstFault (records default_config (strip_bom bytes)) e)) }
+{
     let mut rows = RowReader::new(alloc, reader)?;
     let mut log = SpaceTime::new(alloc);
     while let Some(event) = rows.next()? {
