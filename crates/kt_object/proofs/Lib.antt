@@ -1,1 +1,2 @@
 pub mod NumbersLemmas
+pub mod SavedOnce

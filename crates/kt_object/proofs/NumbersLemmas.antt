@@ -6,13 +6,19 @@ use Rattle.std.proofs.lemmas.Grind.{flat_map-append}
 use Rattle.std.proofs.lemmas.List.{take_more, drop-drop}
 use Rattle.std.proofs.Math.Seq.{take-add}
 use Rattle.kt_object.specs.Bytes.{number_bytes, saved_bytes}
-use Rattle.kt_object.specs.Value.{IsCount}
+use Rattle.kt_object.specs.Value.{IsCount, last_eight}
 
 -- a value has at most eight numbers
 pub IsCount-few : (kind count : ℕ) → IsCount kind count → count ≤ 8
 IsCount-few zero count is = omega arith
 IsCount-few (suc zero) count is = omega arith
 IsCount-few (suc (suc kind)) count is = is
+
+-- with fewer than eight numbers one more keeps all
+pub last_eight-few : (numbers : List ℤ) (number : ℤ) → length numbers < 8 → last_eight (numbers ++ number ∷ []) ≡ numbers ++ number ∷ []
+last_eight-few numbers number few =
+    let none : length (numbers ++ number ∷ []) - 8 ≡ 0 = omega (arith, length-append numbers (number ∷ [])) in
+    ap (λ n. drop n (numbers ++ number ∷ [])) none
 
 -- eight bytes a number
 pub length-number_bytes : (numbers : List ℤ) → length (flat_map number_bytes numbers) ≡ 8 * length numbers

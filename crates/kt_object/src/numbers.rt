@@ -1,6 +1,6 @@
 //! The numbers of a value, and their bytes in a saved state.
 
-ghost use Rattle.std.specs.Prelude.{◌≡◌, ◌≤◌, ◌<◌, ◌+◌, ◌++◌, ◌∷◌, [], ℤ, List, length, vec_len, vec_capacity, IsTrue, ◌↔◌, OnOk, OnErr, IfSome, IfNone, IsSome, ◌*◌, All, FitsSigned};
+ghost use Rattle.std.specs.Prelude.{◌≡◌, ◌≤◌, ◌<◌, ◌+◌, ◌++◌, ◌∷◌, [], ℤ, List, length, vec_len, vec_capacity, IsTrue, ◌↔◌, OnOk, OnErr, IfSome, IfNone, ◌*◌, All, FitsSigned};
 ghost use Rattle.std.specs.Int.{w64};
 ghost use Rattle.std.specs.List.{flat_map};
 ghost use Rattle.kt_object.specs.Bytes.{number_bytes, saved_bytes, IsSavedState};
@@ -83,26 +83,27 @@ impl Numbers {
         if *first != kind || !is_count(kind, *count) {
             return None;
         }
-        numbers_at(bytes, usize::from(*count))
+        let count = usize::from(*count);
+        if bytes.len() != 8 * count {
+            return None;
+        }
+        Some(numbers_at(bytes, count))
     }
 }
 
-/// So many numbers, whose bytes these are; None where the bytes are more or fewer.
-fn numbers_at(bytes: &[u8], count: usize) -> Option<Numbers>
-    requires { count ≤ 8 }
-    ensures some { IsSome result ↔ (length bytes.now ≡ 8 * count) }
-    ensures bytes { IfSome result (λ numbers. bytes.now ≡ flat_map number_bytes numbers) }
-    ensures count { IfSome result (λ numbers. length numbers ≡ count) }
-    ensures fit { IfSome result (λ numbers. All (λ number. FitsSigned w64 number) numbers) }
+/// So many numbers, whose bytes these are.
+fn numbers_at(bytes: &[u8], count: usize) -> Numbers
+    requires few { count ≤ 8 }
+    requires len { length bytes.now ≡ 8 * count }
+    ensures bytes { bytes.now ≡ flat_map number_bytes result }
+    ensures count { length result ≡ count }
+    ensures fit { All (λ number. FitsSigned w64 number) result }
 {
-    if bytes.len() != 8 * count {
-        return None;
-    }
     let mut numbers = Numbers::none();
     for place in 0..count {
         numbers.push(number_at(&bytes[8 * place..8 * place + 8]));
     }
-    Some(numbers)
+    numbers
 }
 
 /// Whether the value of a kind may have this many numbers.
