@@ -3,15 +3,19 @@
 
 mod depots;
 mod faults;
+mod lasts;
 mod laws;
 mod numbers;
 mod objects;
 mod slots;
 mod sums;
+mod tails;
 
 pub use depots::Depot;
 pub use faults::{RestoreFault, SaveFault};
+pub use lasts::Last;
 pub use laws::saved_once;
 pub use objects::{Object, Recoverable};
 pub use slots::{SlotBook, SlotGuard};
 pub use sums::Sum;
+pub use tails::Tail;

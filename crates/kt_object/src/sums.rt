@@ -50,9 +50,9 @@ impl Recoverable for Sum {
     }
 
     fn save(&self, out: &mut Vec<u8>) -> Result<(), SaveFault>
-        ensures ok { OnOk result (out.new.items ≡ out.old.items ++ saved_bytes 0 (self.now.total ∷ [])) }
+        ensures ok { OnOk result (out.new.items ≡ out.old.items ++ saved_bytes 0 (⟦<Sum as Recoverable>⟧.value_of self.now)) }
         ensures err { OnErr result (out.new.items ≡ out.old.items) }
-        ensures proper { IsValue 0 (self.now.total ∷ []) }
+        ensures proper { IsValue 0 (⟦<Sum as Recoverable>⟧.value_of self.now) }
         ensures able { IsOkUnless result SaveFault.Memory }
     {
         save_numbers(0, &[self.total], out)?;
@@ -60,10 +60,10 @@ impl Recoverable for Sum {
     }
 
     fn restore(&mut self, saved: &[u8]) -> Result<(), RestoreFault>
-        ensures ok { OnOk result (IsSavedState 0 (self.new.total ∷ []) saved.now) }
-        ensures err { OnErr result (self.new.total ≡ self.old.total) }
-        ensures slot { self.new.guard ≡ self.old.guard }
-        ensures proper { IsValue 0 (self.new.total ∷ []) }
+        ensures ok { OnOk result (IsSavedState 0 (⟦<Sum as Recoverable>⟧.value_of self.new) saved.now) }
+        ensures err { OnErr result (⟦<Sum as Recoverable>⟧.value_of self.new ≡ ⟦<Sum as Recoverable>⟧.value_of self.old) }
+        ensures slot { ⟦<Sum as Recoverable>⟧.slot_of self.new ≡ ⟦<Sum as Recoverable>⟧.slot_of self.old }
+        ensures proper { IsValue 0 (⟦<Sum as Recoverable>⟧.value_of self.new) }
         ensures form { (result ≡ Err RestoreFault.Form) ↔ ((value : List ℤ) → ¬ IsSavedState 0 value saved.now) }
         ensures only_form { IsOkUnless result RestoreFault.Form }
     {
