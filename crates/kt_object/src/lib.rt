@@ -19,3 +19,6 @@ pub use objects::{Object, Recoverable};
 pub use slots::{SlotBook, SlotGuard};
 pub use sums::Sum;
 pub use tails::Tail;
+
+#[cfg(test)]
+mod tests;
