@@ -42,7 +42,7 @@ pub read_more : (bytes : List ℕ) (numbers : List ℤ) (place : ℕ) (number : 
     → take (8 * (place + 1)) bytes ≡ flat_map number_bytes (numbers ++ number ∷ [])
 read_more bytes numbers place number so at =
     let next : take (8 * (place + 1)) bytes ≡ take (8 * place) bytes ++ take 8 (drop (8 * place) bytes) =
-        ap (λ n. take n bytes) (omega arith) ∙ take-add (8 * place) 8 bytes in
+    ap (λ n. take n bytes) (omega arith) ∙ take-add (8 * place) 8 bytes in
     rw (next, number_bytes-push numbers number, so, at) refl
 
 -- the bytes so far, and one number more
@@ -53,7 +53,7 @@ pub saved_more : (start now : List ℕ) (kind count place : ℕ) (numbers : List
 saved_more start now kind count place numbers number new low is so more =
     let taken : take (place + 1) numbers ≡ take place numbers ++ number ∷ [] = rw is (take_more numbers place (pos 0) low) in
     let step : flat_map number_bytes (take (place + 1) numbers) ≡ flat_map number_bytes (take place numbers) ++ number_bytes number =
-        rw taken (number_bytes-push (take place numbers) number) in
+    rw taken (number_bytes-push (take place numbers) number) in
     more ∙ ap (λ s. s ++ number_bytes number) so
     ∙ append_assoc start (kind ∷ count ∷ flat_map number_bytes (take place numbers)) (number_bytes number)
     ∙ ap (λ rest. start ++ kind ∷ count ∷ rest) (sym step)

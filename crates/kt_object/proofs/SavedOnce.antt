@@ -32,15 +32,15 @@ numbers_once [] (y ∷ ys) xs_fit ys_fit long same = absurd (omega arith)
 numbers_once (x ∷ xs) [] xs_fit ys_fit long same = absurd (omega arith)
 numbers_once (x ∷ xs) (y ∷ ys) xs_fit ys_fit long same =
     let front : number_bytes x ≡ number_bytes y =
-        sym (take_at (number_bytes x) (flat_map number_bytes xs) 8 refl) ∙ ap (take 8) same
-        ∙ take_at (number_bytes y) (flat_map number_bytes ys) 8 refl in
+    sym (take_at (number_bytes x) (flat_map number_bytes xs) 8 refl) ∙ ap (take 8) same
+    ∙ take_at (number_bytes y) (flat_map number_bytes ys) 8 refl in
     let back : flat_map number_bytes xs ≡ flat_map number_bytes ys =
-        sym (drop_at (number_bytes x) (flat_map number_bytes xs) 8 refl) ∙ ap (drop 8) same
-        ∙ drop_at (number_bytes y) (flat_map number_bytes ys) 8 refl in
+    sym (drop_at (number_bytes x) (flat_map number_bytes xs) 8 refl) ∙ ap (drop 8) same
+    ∙ drop_at (number_bytes y) (flat_map number_bytes ys) 8 refl in
     let head = number_bytes-once x y (All-head (λ number. FitsSigned w64 number) x xs xs_fit)
-        (All-head (λ number. FitsSigned w64 number) y ys ys_fit) front in
+    (All-head (λ number. FitsSigned w64 number) y ys ys_fit) front in
     let tail = numbers_once xs ys (All-tail (λ number. FitsSigned w64 number) x xs xs_fit)
-        (All-tail (λ number. FitsSigned w64 number) y ys ys_fit) (omega arith) back in
+    (All-tail (λ number. FitsSigned w64 number) y ys ys_fit) (omega arith) back in
     cc (head, tail)
 
 -- a saved state has one kind

@@ -4,158 +4,17 @@ mod stubborn;
 use crate::{Depot, Last, Object, Recoverable, RestoreFault, SaveFault, SlotBook, Sum, Tail};
 use callers::{answer_of, boxed_sum, saved_state, take_over};
 use kt_base::ProcNo;
-use std::alloc::Global;
+use std::alloc::{AllocError, Global};
+use std::process::Abort;
 use std::test::Fail;
 use stubborn::Stubborn;
 
 const SUM_AT_5: [u8; 10] = [0, 1, 0, 0, 0, 0, 0, 0, 0, 5];
+
 const LAST_AT_THE_END: [u8; 10] = [1, 1, 0x7f, 0xff, 0xff, 0xff, 0xff, 0xff, 0xff, 0xff];
 
-fn process(number: u8) -> Result<ProcNo, Fail> {
-    Ok(ProcNo::new(number).ok_or("no process")?)
-}
-
-#[test]
-fn a_sum_at_5_is_saved_and_restored(rt: HostRuntime) -> Result<(), Fail> {
-    let alloc = rt.alloc();
-    let mut book = SlotBook::new(alloc);
-    let mut sum = boxed_sum(alloc, book.open()?)?;
-    assert_eq!(rt; sum.kind(), 0);
-    assert_eq!(rt; sum.offer(), 0);
-    assert_eq!(rt; answer_of(&mut sum, process(1)?, 7), 7);
-    assert_eq!(rt; answer_of(&mut sum, process(2)?, -2), 5);
-    let saved = saved_state(alloc, &sum)?;
-    assert_eq!(rt; saved.as_slice(), SUM_AT_5.as_slice());
-    let mut spare = boxed_sum(alloc, book.open()?)?;
-    take_over(&mut spare, &sum, &saved)?;
-    assert_eq!(rt; spare.offer(), 5);
-    assert_eq!(rt; (sum.slot(), spare.slot()), (0, 1));
-    Ok(())
-}
-
-#[test]
-fn a_last_at_the_end_of_i64_is_saved_and_restored(rt: HostRuntime) -> Result<(), Fail> {
-    let alloc = rt.alloc();
-    let mut book = SlotBook::new(alloc);
-    let mut last: Object = Box::new(alloc, Last::new(book.open()?))?;
-    assert_eq!(rt; last.kind(), 1);
-    assert_eq!(rt; last.offer(), 0);
-    assert_eq!(rt; answer_of(&mut last, process(0)?, 3), 3);
-    assert_eq!(rt; answer_of(&mut last, process(0)?, i64::MAX), i64::MAX);
-    let saved = saved_state(alloc, &last)?;
-    assert_eq!(rt; saved.as_slice(), LAST_AT_THE_END.as_slice());
-    let mut spare: Object = Box::new(alloc, Last::new(book.open()?))?;
-    take_over(&mut spare, &last, &saved)?;
-    assert_eq!(rt; spare.offer(), i64::MAX);
-    Ok(())
-}
-
-#[test]
-fn a_tail_keeps_the_last_eight(rt: HostRuntime) -> Result<(), Fail> {
-    let alloc = rt.alloc();
-    let mut book = SlotBook::new(alloc);
-    let mut tail: Object = Box::new(alloc, Tail::new(book.open()?))?;
-    assert_eq!(rt; tail.kind(), 2);
-    assert_eq!(rt; tail.offer(), 0);
-    let opening = saved_state(alloc, &tail)?;
-    assert_eq!(rt; opening.as_slice(), [2, 0].as_slice());
-    for body in 1..10i64 {
-        assert_eq!(rt; answer_of(&mut tail, process(3)?, body), body);
-    }
-    let saved = saved_state(alloc, &tail)?;
-    let mut expected = vec![in alloc; 2, 8]?;
-    for body in 2..10u8 {
-        expected.extend_from_slice(&[0, 0, 0, 0, 0, 0, 0, body])?;
-    }
-    assert_eq!(rt; saved.len(), 66);
-    assert_eq!(rt; saved.as_slice(), expected.as_slice());
-    let mut spare: Object = Box::new(alloc, Tail::new(book.open()?))?;
-    take_over(&mut spare, &tail, &saved)?;
-    assert_eq!(rt; spare.offer(), 9);
-    assert_eq!(rt; saved_state(alloc, &spare)?.as_slice(), expected.as_slice());
-    spare.restore(&opening)?;
-    assert_eq!(rt; spare.offer(), 0);
-    Ok(())
-}
-
-#[test]
-fn a_sum_saturates_at_both_ends(rt: HostRuntime) -> Result<(), Fail> {
-    let alloc = rt.alloc();
-    let mut book = SlotBook::new(alloc);
-    let mut sum = boxed_sum(alloc, book.open()?)?;
-    assert_eq!(rt; answer_of(&mut sum, process(0)?, i64::MAX), i64::MAX);
-    assert_eq!(rt; answer_of(&mut sum, process(0)?, 1), i64::MAX);
-    assert_eq!(rt; answer_of(&mut sum, process(0)?, -1), i64::MAX - 1);
-    assert_eq!(rt; answer_of(&mut sum, process(0)?, i64::MIN), -2);
-    assert_eq!(rt; answer_of(&mut sum, process(0)?, i64::MIN), i64::MIN);
-    Ok(())
-}
-
-#[test]
-fn a_save_comes_after_what_is_there(rt: HostRuntime) -> Result<(), Fail> {
-    let alloc = rt.alloc();
-    let mut book = SlotBook::new(alloc);
-    let last: Object = Box::new(alloc, Last::new(book.open()?))?;
-    let mut out = vec![in alloc; 9, 9]?;
-    last.save(&mut out)?;
-    assert_eq!(rt; out.as_slice(), [9, 9, 1, 1, 0, 0, 0, 0, 0, 0, 0, 0].as_slice());
-    Ok(())
-}
-
-#[test]
-fn other_bytes_are_no_saved_state(rt: HostRuntime) -> Result<(), Fail> {
-    let alloc = rt.alloc();
-    let mut book = SlotBook::new(alloc);
-    let mut objects: Vec<Object> = Vec::new(alloc);
-    objects.push(Box::new(alloc, Sum::new(book.open()?))?)?;
-    objects.push(Box::new(alloc, Last::new(book.open()?))?)?;
-    objects.push(Box::new(alloc, Tail::new(book.open()?))?)?;
-    for object in objects.iter_mut() {
-        object.apply(process(0)?, 6);
-        let kind = object.kind();
-        let other = (kind + 1) % 3;
-        let long = [kind, 1, 0, 0, 0, 0, 0, 0, 0, 5, 0];
-        let empty: [u8; 0] = [];
-        let wrong: [&[u8]; 8] = [
-            &empty,
-            &[kind],
-            &[kind, 1],
-            &[other, 1, 0, 0, 0, 0, 0, 0, 0, 5],
-            &[3, 1, 0, 0, 0, 0, 0, 0, 0, 5],
-            &[kind, 9, 0, 0, 0, 0, 0, 0, 0, 5],
-            &long,
-            &long[..9],
-        ];
-        for saved in wrong {
-            assert_eq!(rt; object.restore(saved), Err(RestoreFault::Form), "{saved:?}");
-            assert_eq!(rt; object.offer(), 6);
-        }
-        object.restore(&long[..10])?;
-        assert_eq!(rt; object.offer(), 5);
-    }
-    Ok(())
-}
-
-#[test]
-fn only_a_tail_has_no_number_or_many(rt: HostRuntime) -> Result<(), Fail> {
-    let alloc = rt.alloc();
-    let mut book = SlotBook::new(alloc);
-    let mut saved = [0u8; 74];
-    for kind in 0..3u8 {
-        let mut object = object_of(alloc, &mut book, kind)?;
-        saved[0] = kind;
-        for count in 0..10u8 {
-            saved[1] = count;
-            let good = if kind == 2 { count <= 8 } else { count == 1 };
-            let end = 2 + 8 * usize::from(count);
-            assert_eq!(rt; object.restore(&saved[..end]).is_ok(), good, "{kind} {count}");
-        }
-    }
-    Ok(())
-}
-
-fn object_of(alloc: Global, book: &mut SlotBook, kind: u8) -> Result<Object, Fail> {
-    let guard = book.open()?;
+fn object_of(alloc: Global, kind: u8) -> Result<Object, Fail> {
+    let guard = SlotBook::new(alloc).open()?;
     Ok(match kind {
         0 => Box::new(alloc, Sum::new(guard))?,
         1 => Box::new(alloc, Last::new(guard))?,
@@ -163,57 +22,197 @@ fn object_of(alloc: Global, book: &mut SlotBook, kind: u8) -> Result<Object, Fai
     })
 }
 
+fn apply_all(object: &mut Object, bodies: &[i64]) {
+    if let Some(from) = ProcNo::new(3) {
+        for body in bodies {
+            object.apply(from, *body);
+        }
+    }
+}
+
+/// Applies these bodies to an object of this kind, and sees what it offers and its saved state; a spare that was restored
+/// from that has the same.
+fn is_saved_as(
+    rt: &impl Abort,
+    alloc: Global,
+    kind: u8,
+    bodies: &[i64],
+    offered: i64,
+    bytes: &[u8],
+) -> Result<(), Fail> {
+    let mut object = object_of(alloc, kind)?;
+    assert_eq!(rt; object.kind(), kind);
+    apply_all(&mut object, bodies);
+    assert_eq!(rt; object.offer(), offered);
+    let saved = saved_state(alloc, &object)?;
+    assert_eq!(rt; saved.as_slice(), bytes);
+    let mut spare = object_of(alloc, kind)?;
+    take_over(&mut spare, &object, &saved)?;
+    assert_eq!(rt; spare.offer(), offered);
+    assert_eq!(rt; saved_state(alloc, &spare)?.as_slice(), bytes);
+    Ok(())
+}
+
+#[test]
+fn a_sum_at_5_is_saved_and_restored(rt: HostRuntime) -> Result<(), Fail> {
+    is_saved_as(&rt, rt.alloc(), 0, &[7, -2], 5, &SUM_AT_5)
+}
+
+#[test]
+fn a_last_at_the_end_of_i64_is_saved_and_restored(rt: HostRuntime) -> Result<(), Fail> {
+    is_saved_as(
+        &rt,
+        rt.alloc(),
+        1,
+        &[3, i64::MAX],
+        i64::MAX,
+        &LAST_AT_THE_END,
+    )
+}
+
+#[test]
+fn a_tail_is_saved_and_restored(rt: HostRuntime) -> Result<(), Fail> {
+    let alloc = rt.alloc();
+    is_saved_as(&rt, alloc, 2, &[], 0, &[2, 0])?;
+    let mut bytes = vec![in alloc; 2, 8]?;
+    for body in 2..10u8 {
+        bytes.extend_from_slice(&[0, 0, 0, 0, 0, 0, 0, body])?;
+    }
+    assert_eq!(rt; bytes.len(), 66);
+    is_saved_as(&rt, alloc, 2, &[1, 2, 3, 4, 5, 6, 7, 8, 9], 9, &bytes)
+}
+
+#[test]
+fn a_sum_saturates_at_both_ends(rt: HostRuntime) -> Result<(), Fail> {
+    for (bodies, offered) in [
+        ([i64::MAX, 1], i64::MAX),
+        ([i64::MIN, -1], i64::MIN),
+        ([i64::MAX, -1], i64::MAX - 1),
+        ([i64::MIN, i64::MAX], -1),
+    ] {
+        let mut sum = object_of(rt.alloc(), 0)?;
+        apply_all(&mut sum, &bodies);
+        assert_eq!(rt; sum.offer(), offered);
+    }
+    Ok(())
+}
+
+#[test]
+fn a_caller_knows_the_trait_alone(rt: HostRuntime) -> Result<(), Fail> {
+    let alloc = rt.alloc();
+    let mut sum = boxed_sum(alloc, SlotBook::new(alloc).open()?)?;
+    let from = ProcNo::new(0).ok_or("no process")?;
+    assert_eq!(rt; answer_of(&mut sum, from, 4), 4);
+    assert_eq!(rt; answer_of(&mut sum, from, 5), 9);
+    Ok(())
+}
+
+#[test]
+fn a_save_comes_after_what_is_there(rt: HostRuntime) -> Result<(), Fail> {
+    let last = object_of(rt.alloc(), 1)?;
+    let mut out = vec![in rt.alloc(); 9, 9]?;
+    last.save(&mut out)?;
+    assert_eq!(rt;
+        out.as_slice(),
+        [9, 9, 1, 1, 0, 0, 0, 0, 0, 0, 0, 0].as_slice()
+    );
+    Ok(())
+}
+
+/// Sees that these bytes are refused, and the object is as it was.
+fn refuses(rt: &impl Abort, object: &mut Object, saved: &[u8]) {
+    let offered = object.offer();
+    assert_eq!(rt; object.restore(saved), Err(RestoreFault::Form), "{saved:?}");
+    assert_eq!(rt; object.offer(), offered);
+}
+
+#[test]
+fn other_bytes_are_no_saved_state(rt: HostRuntime) -> Result<(), Fail> {
+    for kind in 0..3u8 {
+        let mut object = object_of(rt.alloc(), kind)?;
+        apply_all(&mut object, &[6]);
+        let mut saved = [kind, 1, 0, 0, 0, 0, 0, 0, 0, 5, 0];
+        for end in 0..10 {
+            refuses(&rt, &mut object, &saved[..end]);
+        }
+        refuses(&rt, &mut object, &saved);
+        for other in [kind ^ 1, 3, 255] {
+            saved[0] = other;
+            refuses(&rt, &mut object, &saved[..10]);
+        }
+    }
+    Ok(())
+}
+
+#[test]
+fn only_a_tail_has_no_number_or_many(rt: HostRuntime) -> Result<(), Fail> {
+    let mut saved = [0u8; 74];
+    for kind in 0..3u8 {
+        let mut object = object_of(rt.alloc(), kind)?;
+        saved[0] = kind;
+        for count in 0..10u8 {
+            saved[1] = count;
+            let good = if kind == 2 { count <= 8 } else { count == 1 };
+            let end = 2 + 8 * usize::from(count);
+            assert_eq!(rt;
+                object.restore(&saved[..end]).is_ok(),
+                good,
+                "{kind} {count}"
+            );
+        }
+    }
+    Ok(())
+}
+
 #[test]
 fn an_object_may_be_unable_to_save(rt: HostRuntime) -> Result<(), Fail> {
     let alloc = rt.alloc();
-    let mut book = SlotBook::new(alloc);
-    let mut object: Object = Box::new(alloc, Stubborn::unable_at(2, Sum::new(book.open()?)))?;
-    object.apply(process(0)?, 5);
+    let sum = Sum::new(SlotBook::new(alloc).open()?);
+    let mut object: Object = Box::new(alloc, Stubborn::unable_at(2, sum))?;
+    apply_all(&mut object, &[5]);
     let mut out = Vec::new(alloc);
-    assert_eq!(rt; object.save(&mut out), Ok(()));
-    assert_eq!(rt; object.save(&mut out), Err(SaveFault::Unable));
-    assert_eq!(rt; out.as_slice(), SUM_AT_5.as_slice());
-    assert_eq!(rt; object.save(&mut out), Ok(()));
-    assert_eq!(rt; out.len(), 20);
+    for answer in [Ok(()), Err(SaveFault::Unable), Ok(())] {
+        assert_eq!(rt; object.save(&mut out), answer);
+    }
+    assert_eq!(rt; out.len(), 2 * SUM_AT_5.len());
+    assert_eq!(rt; &out[10..], SUM_AT_5.as_slice());
     Ok(())
 }
 
 #[test]
 fn an_object_may_take_no_saved_state(rt: HostRuntime) -> Result<(), Fail> {
     let alloc = rt.alloc();
-    let mut book = SlotBook::new(alloc);
-    let mut object: Object = Box::new(alloc, Stubborn::taking_nothing(Sum::new(book.open()?)))?;
-    object.apply(process(0)?, 4);
-    assert_eq!(rt; object.restore(&SUM_AT_5), Err(RestoreFault::Form));
-    assert_eq!(rt; object.offer(), 4);
+    let sum = Sum::new(SlotBook::new(alloc).open()?);
+    let mut object: Object = Box::new(alloc, Stubborn::taking_nothing(sum))?;
+    refuses(&rt, &mut object, &SUM_AT_5);
     Ok(())
+}
+
+/// Sees that so many slots are freed and so many are out then.
+fn frees(rt: &impl Abort, book: &mut SlotBook, freed: usize, out: usize) {
+    assert_eq!(rt; book.collect(), freed);
+    assert_eq!(rt; book.out(), out);
+    assert_eq!(rt; book.collect(), 0);
+}
+
+fn guarded(alloc: Global, book: &mut SlotBook) -> Result<Object, Fail> {
+    let sum = Sum::new(book.open()?);
+    Ok(Box::new(alloc, sum)?)
 }
 
 #[test]
 fn a_dropped_object_gives_its_own_slot_back(rt: HostRuntime) -> Result<(), Fail> {
     let alloc = rt.alloc();
     let mut book = SlotBook::new(alloc);
-    assert_eq!(rt; book.out(), 0);
-    let first = object_of(alloc, &mut book, 0)?;
-    let second = object_of(alloc, &mut book, 1)?;
-    let third = object_of(alloc, &mut book, 2)?;
-    assert_eq!(rt; (first.slot(), second.slot(), third.slot()), (0, 1, 2));
-    assert_eq!(rt; book.collect(), 0);
-    assert_eq!(rt; book.out(), 3);
+    frees(&rt, &mut book, 0, 0);
+    let first = guarded(alloc, &mut book)?;
+    let second = guarded(alloc, &mut book)?;
+    let third = guarded(alloc, &mut book)?;
+    frees(&rt, &mut book, 0, 3);
     drop(second);
-    assert_eq!(rt; book.out(), 3);
-    assert_eq!(rt; book.collect(), 1);
-    assert_eq!(rt; book.out(), 2);
-    assert_eq!(rt; book.collect(), 0);
-    let again = book.open()?;
-    assert_eq!(rt; again.number(), 1);
-    drop(third);
-    drop(again);
-    assert_eq!(rt; book.collect(), 2);
-    assert_eq!(rt; book.out(), 1);
-    drop(first);
-    assert_eq!(rt; book.collect(), 1);
-    assert_eq!(rt; book.out(), 0);
+    frees(&rt, &mut book, 1, 2);
+    let again = guarded(alloc, &mut book)?;
+    assert_eq!(rt; [first.slot(), again.slot(), third.slot()], [0, 1, 2]);
     Ok(())
 }
 
@@ -226,33 +225,32 @@ fn a_guard_may_outlive_its_book(rt: HostRuntime) -> Result<(), Fail> {
     Ok(())
 }
 
+/// Sees what a depot keeps.
+fn keeps(rt: &impl Abort, depot: &Depot, permanent: &[u8], tentative: Option<&[u8]>) {
+    assert_eq!(rt; depot.permanent(), permanent);
+    assert_eq!(rt; depot.tentative(), tentative);
+}
+
 #[test]
-fn a_depot_promotes_or_discards(rt: HostRuntime) -> Result<(), Fail> {
+fn a_depot_promotes_or_discards(rt: HostRuntime) -> Result<(), AllocError> {
     let alloc = rt.alloc();
     let mut depot = Depot::new(vec![in alloc; 1, 2]?);
-    assert_eq!(rt; depot.permanent(), [1, 2].as_slice());
-    assert!(rt; depot.tentative().is_none());
+    keeps(&rt, &depot, &[1, 2], None);
     depot.keep_tentative(vec![in alloc; 3]?);
-    assert_eq!(rt; depot.permanent(), [1, 2].as_slice());
-    assert_eq!(rt; depot.tentative().ok_or("none kept")?, [3].as_slice());
+    keeps(&rt, &depot, &[1, 2], Some(&[3]));
     depot.discard();
-    assert_eq!(rt; depot.permanent(), [1, 2].as_slice());
-    assert!(rt; depot.tentative().is_none());
+    keeps(&rt, &depot, &[1, 2], None);
     depot.keep_tentative(vec![in alloc; 4]?);
     depot.promote();
-    assert_eq!(rt; depot.permanent(), [4].as_slice());
-    assert!(rt; depot.tentative().is_none());
+    keeps(&rt, &depot, &[4], None);
     Ok(())
 }
 
 #[test]
-fn faults_have_words(rt: HostRuntime) -> Result<(), Fail> {
-    let alloc = rt.alloc();
-    let unable = SaveFault::Unable;
-    let form = RestoreFault::Form;
-    assert_eq!(rt; format!(in alloc; "{unable}")?.as_str(), "not able to save");
-    assert_eq!(rt; format!(in alloc; "{form}")?.as_str(), "not a saved state of this kind");
-    assert_eq!(rt; format!(in alloc; "{}", SaveFault::Memory)?.as_str(), "memory");
-    assert_eq!(rt; format!(in alloc; "{}", RestoreFault::Memory)?.as_str(), "memory");
+fn faults_have_words(rt: HostRuntime) -> Result<(), AllocError> {
+    let faults = format!(in rt.alloc(); "{}, {}", SaveFault::Unable, SaveFault::Memory)?;
+    assert_eq!(rt; faults.as_str(), "not able to save, memory");
+    let faults = format!(in rt.alloc(); "{}, {}", RestoreFault::Form, RestoreFault::Memory)?;
+    assert_eq!(rt; faults.as_str(), "not a saved state of this kind, memory");
     Ok(())
 }

@@ -1,6 +1,6 @@
 //! Callers that know the trait alone, and what they can promise of an object through its box.
 
-ghost use Rattle.std.specs.Prelude.{◌≡◌, IfOk, IsTrue, OnErr};
+ghost use Rattle.std.specs.Prelude.{◌≡◌, IfOk, OnOk, OnErr};
 ghost use Rattle.kt_object.specs.Bytes.{IsSavedState};
 ghost use Rattle.kt_object.specs.Value.{after, offered, opening};
 
@@ -37,13 +37,14 @@ pub fn saved_state(alloc: Global, object: &Object) -> Result<Vec<u8>, SaveFault>
     Ok(saved)
 }
 
-/// Brings an object back to the value that another was saved at: it has that value, and the same kind.
+/// Brings an object to the value that another was saved at.
 pub fn take_over(object: &mut Object, other: &Object, saved: &[u8]) -> Result<(), RestoreFault>
     requires { IsSavedState (kind_of other.now) (value_of other.now) saved.now }
-    ensures kind { IfOk result (λ _. kind_of object.new ≡ kind_of other.now) }
-    ensures value { IfOk result (λ _. value_of object.new ≡ value_of other.now) }
+    ensures kind { OnOk result (kind_of object.new ≡ kind_of other.now) }
+    ensures value { OnOk result (value_of object.new ≡ value_of other.now) }
     ensures err { OnErr result (value_of object.new ≡ value_of object.old) }
 {
     let _kind = other.kind();
-    object.restore(saved)
+    object.restore(saved)?;
+    Ok(())
 }

@@ -8,6 +8,6 @@ use Rattle.kt_object.proofs.numbers.save_numbers.Goals as goal
 pub loop-number-preserved : goal.loop-number-preserved
 loop-number-preserved c =
     let fits : FitsSigned w64 (get_or c.args.numbers.now c.loop-number.number-index (pos 0)) = search rules in record {
-  items = saved_more c.args.out.now.items _ _ _ c.loop-number.number-index c.args.numbers.now _ _ (search rules) refl c.loop-number.invariant.items (rw (to_z-of_z w64 _ fits) at c.push_number.ensures.items);
-  room = omega (arith, c.push_number.ensures.len, c.push_number.ensures.capacity);
-}
+      items = saved_more c.args.out.now.items _ _ _ c.loop-number.number-index c.args.numbers.now _ _ (search rules) refl c.loop-number.invariant.items (rw (to_z-of_z w64 _ fits) at c.push_number.ensures.items);
+      room = omega (arith, c.push_number.ensures.len, c.push_number.ensures.capacity);
+    }
