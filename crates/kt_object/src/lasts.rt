@@ -11,6 +11,9 @@ use crate::objects::Recoverable;
 use crate::slots::SlotGuard;
 use kt_base::ProcNo;
 
+/// The number of this kind.
+const KIND: u8 = 1;
+
 /// The body of the last message: kind 1.
 #[derive(Drop)]
 pub struct Last {
@@ -38,7 +41,7 @@ impl Recoverable for Last {
     ghost slot_of = { λ last. last.guard };
 
     fn kind(&self) -> u8 {
-        1
+        KIND
     }
 
     fn apply(&mut self, _from: ProcNo, body: i64) {
@@ -53,9 +56,9 @@ impl Recoverable for Last {
         ensures ok { OnOk result (out.new.items ≡ out.old.items ++ saved_bytes 1 (⟦<Last as Recoverable>⟧.value_of self.now)) }
         ensures err { OnErr result (out.new.items ≡ out.old.items) }
         ensures proper { IsValue 1 (⟦<Last as Recoverable>⟧.value_of self.now) }
-        ensures able { IsOkUnless result SaveFault.Memory }
+        ensures only_memory { IsOkUnless result SaveFault.Memory }
     {
-        save_numbers(1, &[self.number], out)?;
+        save_numbers(KIND, &[self.number], out)?;
         Ok(())
     }
 
@@ -67,7 +70,7 @@ impl Recoverable for Last {
         ensures form { (result ≡ Err RestoreFault.Form) ↔ ((value : List ℤ) → ¬ IsSavedState 1 value saved.now) }
         ensures only_form { IsOkUnless result RestoreFault.Form }
     {
-        let numbers = Numbers::read(1, saved).ok_or(RestoreFault::Form)?;
+        let numbers = Numbers::read(KIND, saved).ok_or(RestoreFault::Form)?;
         self.number = numbers.newest();
         Ok(())
     }

@@ -11,6 +11,9 @@ use crate::objects::Recoverable;
 use crate::slots::SlotGuard;
 use kt_base::ProcNo;
 
+/// The number of this kind.
+const KIND: u8 = 0;
+
 /// The sum of the bodies, saturating at the ends of i64: kind 0.
 #[derive(Drop)]
 pub struct Sum {
@@ -38,7 +41,7 @@ impl Recoverable for Sum {
     ghost slot_of = { λ sum. sum.guard };
 
     fn kind(&self) -> u8 {
-        0
+        KIND
     }
 
     fn apply(&mut self, _from: ProcNo, body: i64) {
@@ -53,9 +56,9 @@ impl Recoverable for Sum {
         ensures ok { OnOk result (out.new.items ≡ out.old.items ++ saved_bytes 0 (⟦<Sum as Recoverable>⟧.value_of self.now)) }
         ensures err { OnErr result (out.new.items ≡ out.old.items) }
         ensures proper { IsValue 0 (⟦<Sum as Recoverable>⟧.value_of self.now) }
-        ensures able { IsOkUnless result SaveFault.Memory }
+        ensures only_memory { IsOkUnless result SaveFault.Memory }
     {
-        save_numbers(0, &[self.total], out)?;
+        save_numbers(KIND, &[self.total], out)?;
         Ok(())
     }
 
@@ -67,7 +70,7 @@ impl Recoverable for Sum {
         ensures form { (result ≡ Err RestoreFault.Form) ↔ ((value : List ℤ) → ¬ IsSavedState 0 value saved.now) }
         ensures only_form { IsOkUnless result RestoreFault.Form }
     {
-        let numbers = Numbers::read(0, saved).ok_or(RestoreFault::Form)?;
+        let numbers = Numbers::read(KIND, saved).ok_or(RestoreFault::Form)?;
         self.total = numbers.newest();
         Ok(())
     }

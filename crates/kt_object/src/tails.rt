@@ -10,6 +10,9 @@ use crate::objects::Recoverable;
 use crate::slots::SlotGuard;
 use kt_base::ProcNo;
 
+/// The number of this kind.
+const KIND: u8 = 2;
+
 /// The bodies of the last eight messages, the oldest first: kind 2.
 #[derive(Drop)]
 pub struct Tail {
@@ -40,7 +43,7 @@ impl Recoverable for Tail {
     ghost slot_of = { λ tail. tail.guard };
 
     fn kind(&self) -> u8 {
-        2
+        KIND
     }
 
     fn apply(&mut self, _from: ProcNo, body: i64) {
@@ -55,9 +58,9 @@ impl Recoverable for Tail {
         ensures ok { OnOk result (out.new.items ≡ out.old.items ++ saved_bytes 2 (⟦<Tail as Recoverable>⟧.value_of self.now)) }
         ensures err { OnErr result (out.new.items ≡ out.old.items) }
         ensures proper { IsValue 2 (⟦<Tail as Recoverable>⟧.value_of self.now) }
-        ensures able { IsOkUnless result SaveFault.Memory }
+        ensures only_memory { IsOkUnless result SaveFault.Memory }
     {
-        save_numbers(2, self.numbers.as_slice(), out)?;
+        save_numbers(KIND, self.numbers.as_slice(), out)?;
         Ok(())
     }
 
@@ -69,7 +72,7 @@ impl Recoverable for Tail {
         ensures form { (result ≡ Err RestoreFault.Form) ↔ ((value : List ℤ) → ¬ IsSavedState 2 value saved.now) }
         ensures only_form { IsOkUnless result RestoreFault.Form }
     {
-        self.numbers = Numbers::read(2, saved).ok_or(RestoreFault::Form)?;
+        self.numbers = Numbers::read(KIND, saved).ok_or(RestoreFault::Form)?;
         Ok(())
     }
 
