@@ -14,7 +14,7 @@ mod tails;
 pub use depots::Depot;
 pub use faults::{RestoreFault, SaveFault};
 pub use lasts::Last;
-pub use laws::saved_once;
+pub use laws::{saved_once, values_stay};
 pub use objects::{Object, Recoverable};
 pub use slots::{SlotBook, SlotGuard};
 pub use sums::Sum;

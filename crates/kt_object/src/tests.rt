@@ -1,9 +1,11 @@
 mod callers;
 mod stubborn;
 
-use crate::{Depot, Last, Object, Recoverable, RestoreFault, SaveFault, SlotBook, Sum, Tail};
+use crate::{
+    Depot, Last, Object, Recoverable, RestoreFault, SaveFault, SlotBook, SlotGuard, Sum, Tail,
+};
 use callers::{answer_of, boxed_sum, saved_state, take_over};
-use kt_base::ProcNo;
+use kt_base::{Memory, ProcNo};
 use std::alloc::{AllocError, Global};
 use std::process::Abort;
 use std::test::Fail;
@@ -223,6 +225,48 @@ fn a_guard_may_outlive_its_book(rt: HostRuntime) -> Result<(), Fail> {
     drop(book);
     assert_eq!(rt; guard.number(), 0);
     Ok(())
+}
+
+/// Opens a slot, or sees that want of memory opens none.
+fn opens_or_leaves(rt: &impl Abort, book: &mut SlotBook) -> Option<SlotGuard> {
+    let out = book.out();
+    match book.open() {
+        Ok(guard) => {
+            assert!(rt; book.out() > out);
+            Some(guard)
+        }
+        Err(Memory) => {
+            assert_eq!(rt; book.out(), out);
+            None
+        }
+    }
+}
+
+/// Saves an object, or sees that want of memory leaves `out` as it was.
+fn saves_or_leaves<R: Recoverable>(rt: &impl Abort, object: &R, out: &mut Vec<u8>) {
+    let len = out.len();
+    match object.save(out) {
+        Ok(()) => assert!(rt; out.len() > len),
+        Err(fault) => {
+            assert_eq!(rt; fault, SaveFault::Memory);
+            assert_eq!(rt; out.len(), len);
+        }
+    }
+}
+
+/// Ends well whichever one growth is refused: to be run with each allocation failing in turn, which the gate does not do.
+#[test]
+fn want_of_memory_leaves_all_as_it_was(rt: HostRuntime) {
+    let mut book = SlotBook::new(rt.alloc());
+    let mut out = Vec::new(rt.alloc());
+    if let Some(guard) = opens_or_leaves(&rt, &mut book) {
+        saves_or_leaves(&rt, &Sum::new(guard), &mut out);
+    }
+    if let Some(guard) = opens_or_leaves(&rt, &mut book) {
+        saves_or_leaves(&rt, &Tail::new(guard), &mut out);
+    }
+    let opened = book.out();
+    assert_eq!(rt; book.collect(), opened);
 }
 
 /// Sees what a depot keeps.
