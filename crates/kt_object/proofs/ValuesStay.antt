@@ -1,9 +1,9 @@
 -- Values of a kind stay values of the kind.
-use Rattle.std.proofs.Common.{rules, ◌≡◌, ◌≤◌, ◌<◌, ℕ, ◌+◌, ◌-◌, ◌^◌, suc, zero, List, [], ◌∷◌, ◌++◌, length, drop, refl, arith, length-append, length-drop, get_or}
+use Rattle.std.proofs.Common.{ℕ, ◌-◌, suc, zero, List, [], ◌∷◌, ◌++◌, length, refl, arith, length-append, length-drop, get_or}
 use Rattle.std.specs.Prelude.{ℤ, pos, negsuc, ◌+ℤ◌, FitsSigned, All}
 use Rattle.std.specs.Int.{w64, saturate_signed}
 use Rattle.std.proofs.lemmas.List.Elements.{All-push, All-drop}
-use Rattle.kt_object.specs.Value.{opening, after, offered, first, newest, last_eight, IsKind, IsValue}
+use Rattle.kt_object.specs.Value.{opening, after, offered, first, IsKind, IsValue}
 
 zero_fits : FitsSigned w64 (pos 0)
 zero_fits = record { sfits = omega arith }
