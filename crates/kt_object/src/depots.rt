@@ -18,7 +18,10 @@ impl Model for Depot {
 
     ghost Value = { SavedStates };
 
-    ghost view = { λ d. record { permanent = d.permanent.items; tentative = option_map (λ saved. saved.items) d.tentative } };
+    ghost view = { λ d. record {
+      permanent = d.permanent.items;
+      tentative = option_map (λ saved. saved.items) d.tentative;
+    } };
 }
 
 impl Depot {

@@ -53,7 +53,8 @@ impl Recoverable for Last {
     }
 
     fn save(&self, out: &mut Vec<u8>) -> Result<(), SaveFault>
-        ensures ok { OnOk result (out.new.items ≡ out.old.items ++ saved_bytes 1 (⟦<Last as Recoverable>⟧.value_of self.now)) }
+        ensures ok { OnOk result
+            (out.new.items ≡ out.old.items ++ saved_bytes 1 (⟦<Last as Recoverable>⟧.value_of self.now)) }
         ensures err { OnErr result (out.new.items ≡ out.old.items) }
         ensures proper { IsValue 1 (⟦<Last as Recoverable>⟧.value_of self.now) }
         ensures only_memory { IsOkUnless result SaveFault.Memory }
@@ -64,10 +65,12 @@ impl Recoverable for Last {
 
     fn restore(&mut self, saved: &[u8]) -> Result<(), RestoreFault>
         ensures ok { OnOk result (IsSavedState 1 (⟦<Last as Recoverable>⟧.value_of self.new) saved.now) }
-        ensures err { OnErr result (⟦<Last as Recoverable>⟧.value_of self.new ≡ ⟦<Last as Recoverable>⟧.value_of self.old) }
+        ensures err { OnErr result
+            (⟦<Last as Recoverable>⟧.value_of self.new ≡ ⟦<Last as Recoverable>⟧.value_of self.old) }
         ensures slot { ⟦<Last as Recoverable>⟧.slot_of self.new ≡ ⟦<Last as Recoverable>⟧.slot_of self.old }
         ensures proper { IsValue 1 (⟦<Last as Recoverable>⟧.value_of self.new) }
-        ensures form { (result ≡ Err RestoreFault.Form) ↔ ((value : List ℤ) → ¬ IsSavedState 1 value saved.now) }
+        ensures form { (result ≡ Err RestoreFault.Form)
+            ↔ ((value : List ℤ) → ¬ IsSavedState 1 value saved.now) }
         ensures only_form { IsOkUnless result RestoreFault.Form }
     {
         let numbers = Numbers::read(KIND, saved).ok_or(RestoreFault::Form)?;

@@ -13,10 +13,12 @@ pub fn saved_once()
         → IsSavedState kind value saved → IsSavedState other gives saved → value ≡ gives }
 {}
 
-/// An object of a kind has a value of the kind at first and after every message, and what it offers is within i64.
+/// An object of a kind has a value of the kind at first and after every message, and what it
+/// offers is within i64.
 pub fn values_stay()
     ensures opening { (kind : ℕ) → IsKind kind → IsValue kind (opening kind) }
     ensures after { (kind from : ℕ) (value : List ℤ) (body : ℤ)
         → IsValue kind value → FitsSigned w64 body → IsValue kind (after kind value from body) }
-    ensures offered { (kind : ℕ) (value : List ℤ) → IsValue kind value → FitsSigned w64 (offered kind value) }
+    ensures offered { (kind : ℕ) (value : List ℤ)
+        → IsValue kind value → FitsSigned w64 (offered kind value) }
 {}

@@ -53,7 +53,8 @@ impl Recoverable for Sum {
     }
 
     fn save(&self, out: &mut Vec<u8>) -> Result<(), SaveFault>
-        ensures ok { OnOk result (out.new.items ≡ out.old.items ++ saved_bytes 0 (⟦<Sum as Recoverable>⟧.value_of self.now)) }
+        ensures ok { OnOk result
+            (out.new.items ≡ out.old.items ++ saved_bytes 0 (⟦<Sum as Recoverable>⟧.value_of self.now)) }
         ensures err { OnErr result (out.new.items ≡ out.old.items) }
         ensures proper { IsValue 0 (⟦<Sum as Recoverable>⟧.value_of self.now) }
         ensures only_memory { IsOkUnless result SaveFault.Memory }
@@ -64,10 +65,12 @@ impl Recoverable for Sum {
 
     fn restore(&mut self, saved: &[u8]) -> Result<(), RestoreFault>
         ensures ok { OnOk result (IsSavedState 0 (⟦<Sum as Recoverable>⟧.value_of self.new) saved.now) }
-        ensures err { OnErr result (⟦<Sum as Recoverable>⟧.value_of self.new ≡ ⟦<Sum as Recoverable>⟧.value_of self.old) }
+        ensures err { OnErr result
+            (⟦<Sum as Recoverable>⟧.value_of self.new ≡ ⟦<Sum as Recoverable>⟧.value_of self.old) }
         ensures slot { ⟦<Sum as Recoverable>⟧.slot_of self.new ≡ ⟦<Sum as Recoverable>⟧.slot_of self.old }
         ensures proper { IsValue 0 (⟦<Sum as Recoverable>⟧.value_of self.new) }
-        ensures form { (result ≡ Err RestoreFault.Form) ↔ ((value : List ℤ) → ¬ IsSavedState 0 value saved.now) }
+        ensures form { (result ≡ Err RestoreFault.Form)
+            ↔ ((value : List ℤ) → ¬ IsSavedState 0 value saved.now) }
         ensures only_form { IsOkUnless result RestoreFault.Form }
     {
         let numbers = Numbers::read(KIND, saved).ok_or(RestoreFault::Form)?;

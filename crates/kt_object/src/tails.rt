@@ -55,7 +55,8 @@ impl Recoverable for Tail {
     }
 
     fn save(&self, out: &mut Vec<u8>) -> Result<(), SaveFault>
-        ensures ok { OnOk result (out.new.items ≡ out.old.items ++ saved_bytes 2 (⟦<Tail as Recoverable>⟧.value_of self.now)) }
+        ensures ok { OnOk result
+            (out.new.items ≡ out.old.items ++ saved_bytes 2 (⟦<Tail as Recoverable>⟧.value_of self.now)) }
         ensures err { OnErr result (out.new.items ≡ out.old.items) }
         ensures proper { IsValue 2 (⟦<Tail as Recoverable>⟧.value_of self.now) }
         ensures only_memory { IsOkUnless result SaveFault.Memory }
@@ -66,10 +67,12 @@ impl Recoverable for Tail {
 
     fn restore(&mut self, saved: &[u8]) -> Result<(), RestoreFault>
         ensures ok { OnOk result (IsSavedState 2 (⟦<Tail as Recoverable>⟧.value_of self.new) saved.now) }
-        ensures err { OnErr result (⟦<Tail as Recoverable>⟧.value_of self.new ≡ ⟦<Tail as Recoverable>⟧.value_of self.old) }
+        ensures err { OnErr result
+            (⟦<Tail as Recoverable>⟧.value_of self.new ≡ ⟦<Tail as Recoverable>⟧.value_of self.old) }
         ensures slot { ⟦<Tail as Recoverable>⟧.slot_of self.new ≡ ⟦<Tail as Recoverable>⟧.slot_of self.old }
         ensures proper { IsValue 2 (⟦<Tail as Recoverable>⟧.value_of self.new) }
-        ensures form { (result ≡ Err RestoreFault.Form) ↔ ((value : List ℤ) → ¬ IsSavedState 2 value saved.now) }
+        ensures form { (result ≡ Err RestoreFault.Form)
+            ↔ ((value : List ℤ) → ¬ IsSavedState 2 value saved.now) }
         ensures only_form { IsOkUnless result RestoreFault.Form }
     {
         self.numbers = Numbers::read(KIND, saved).ok_or(RestoreFault::Form)?;
