@@ -173,11 +173,11 @@ fn an_object_may_be_unable_to_save(rt: HostRuntime) -> Result<(), Fail> {
     let mut object: Object = Box::new(alloc, Stubborn::unable_at(2, sum))?;
     apply_all(&mut object, &[5]);
     let mut out = Vec::new(alloc);
-    for answer in [Ok(()), Err(SaveFault::Unable), Ok(())] {
-        assert_eq!(rt; object.save(&mut out), answer);
-    }
+    object.save(&mut out)?;
+    assert_eq!(rt; object.save(&mut out), Err(SaveFault::Unable));
+    assert_eq!(rt; out.as_slice(), SUM_AT_5.as_slice());
+    object.save(&mut out)?;
     assert_eq!(rt; out.len(), 2 * SUM_AT_5.len());
-    assert_eq!(rt; &out[10..], SUM_AT_5.as_slice());
     Ok(())
 }
 
