@@ -1,0 +1,3 @@
+pub mod NumbersLemmas
+pub mod SavedOnce
+pub mod ValuesStay
