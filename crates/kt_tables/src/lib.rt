@@ -1,0 +1,4 @@
+#![tactic(auto)]
+
+mod peers;
+
