@@ -168,3 +168,9 @@ pub cohort_more : (ps : Pairs) (g : ℕ → ℕ) (i : ℕ) (x : ℕ × ℕ) → 
     map (beside g) (take (i + 1) ps) ≡ map (beside g) (take i ps) ++ beside g x ∷ []
 cohort_more ps g i x b r =
     ap (map (beside g)) (take_more ps i x b) ∙ (map-append (beside g) (take i ps) (get_or ps i x ∷ []) ∙ ap (λ (t : ℕ × ℕ). map (beside g) (take i ps) ++ beside g t ∷ []) (sym r))
+
+-- a count is at most what was counted
+pub count_most : (n : ℕ) (f : ℕ → Bool) → count_peers n f ≤ n
+unfolding count_peers
+count_most zero f = omega arith
+count_most (suc n) f = let h = count_most n f in grind (arith, nat_tests)
