@@ -1,5 +1,5 @@
 -- What a write at one pair's place changes.
-use Rattle.std.specs.Prelude.{nat_lt, nat_eq, ◌&&◌, if◌then◌else◌, slice_index}
+use Rattle.std.specs.Prelude.{nat_eq, ◌&&◌, if◌then◌else◌, slice_index}
 use Rattle.std.proofs.Common.{◌≡◌, ◌≢◌, ℕ, ◌+◌, ◌-◌, ◌*◌, ◌≤◌, ◌<◌, Bool, true, false, List, [], ◌∷◌, ◌++◌, length, set, get_or, refl, arith, sym, ap, subst, ◌∙◌, inl, inr}
 use Rattle.std.proofs.Math.Path.{fun_ext}
 use Rattle.std.proofs.lemmas.List.{length-set, get_or-set_same, get_or-set_other, get_or_default}
@@ -128,8 +128,10 @@ exact_written w senders from to i s y k h here others p q b =
   where
     at_both : (p q : ℕ) (x y : List Parcel) → (if nat_eq p p && nat_eq q q then x else y) ≡ x
     at_both p q x y = grind (arith, nat_tests)
+
     off_first : (p from q : ℕ) (x y : List Parcel) → p ≢ from → (if nat_eq p from && nat_eq q q then x else y) ≡ y
     off_first p from q x y n = grind (arith, nat_tests)
+
     off_second : (p q from to : ℕ) (x y : List Parcel) → q ≢ to → (if nat_eq p from && nat_eq q to then x else y) ≡ y
     off_second p q from to x y n = grind (arith, nat_tests)
 

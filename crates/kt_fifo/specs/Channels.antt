@@ -1,5 +1,5 @@
 -- One list of parcels, with room, for each ordered pair of processes.
-use Rattle.std.specs.Prelude.{◌≡◌, ℕ, ◌+◌, ◌*◌, ◌≤◌, ◌<◌, ◌==◌, ◌&&◌, nat_lt, if◌then◌else◌, Bool, true, List, [], length, slice_index_or, slice_index}
+use Rattle.std.specs.Prelude.{◌≡◌, ℕ, ◌+◌, ◌*◌, ◌≤◌, ◌<◌, ◌==◌, ◌&&◌, nat_lt, if◌then◌else◌, true, List, [], length, slice_index_or, slice_index}
 use Rattle.kt_base.specs.Sets.{has}
 use Rattle.kt_fifo.specs.declared.parcels.Parcel.{Parcel}
 use Rattle.kt_fifo.specs.Queues.{Queue, no_queue, has_parcel}

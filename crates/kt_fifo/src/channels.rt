@@ -181,9 +181,7 @@ impl Channels {
         ensures processes { self.new.processes ≡ self.old.processes }
         ensures front { result ≡ slice_get (channel self.old from to) 0 }
         ensures lists { channel self.new ≡ at_pair from to (drop 1 (channel self.old from to)) (channel self.old) }
-        ensures spare {
-            spare_of self.new ≡ at_pair from to (spare_of self.old from to + (length (channel self.old from to) - length (channel self.new from to))) (spare_of self.old)
-        }
+        ensures spare { spare_of self.new ≡ at_pair from to (spare_of self.old from to + (length (channel self.old from to) - length (channel self.new from to))) (spare_of self.old) }
     {
         let place = self.place(from, to);
         let fifo = &mut self.fifos[place];
@@ -200,9 +198,7 @@ impl Channels {
         requires to { to < self.old.processes }
         ensures processes { self.new.processes ≡ self.old.processes }
         ensures lists { channel self.new ≡ at_pair from to (without_above label (channel self.old from to)) (channel self.old) }
-        ensures spare {
-            spare_of self.new ≡ at_pair from to (spare_of self.old from to + (length (channel self.old from to) - length (channel self.new from to))) (spare_of self.old)
-        }
+        ensures spare { spare_of self.new ≡ at_pair from to (spare_of self.old from to + (length (channel self.old from to) - length (channel self.new from to))) (spare_of self.old) }
     {
         let place = self.place(from, to);
         let fifo = &mut self.fifos[place];
@@ -226,9 +222,7 @@ impl Channels {
         // The same of the other.
         ensures other_processes { other.new.processes ≡ other.old.processes }
         ensures other_lists { channel other.new ≡ at_pair from to [] (channel other.old) }
-        ensures other_spare {
-            spare_of other.new ≡ at_pair from to (spare_of other.old from to + length (channel other.old from to)) (spare_of other.old)
-        }
+        ensures other_spare { spare_of other.new ≡ at_pair from to (spare_of other.old from to + length (channel other.old from to)) (spare_of other.old) }
     {
         let place = self.place(from, to);
         let other_place = other.place(from, to);

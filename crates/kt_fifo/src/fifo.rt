@@ -29,7 +29,7 @@ impl Model for Fifo {
 
 impl Fifo {
     /// An empty list.
-    pub fn new(alloc: Global) -> Fifo
+    pub(crate) fn new(alloc: Global) -> Fifo
         ensures { result.parcels ≡ [] }
     {
         Fifo {
@@ -38,28 +38,28 @@ impl Fifo {
     }
 
     /// How many parcels there are.
-    pub fn len(&self) -> usize
+    pub(crate) fn len(&self) -> usize
         ensures { result ≡ length self.now.parcels }
     {
         self.parcels.len()
     }
 
     /// Whether there is a parcel.
-    pub fn has_parcel(&self) -> bool
+    pub(crate) fn has_parcel(&self) -> bool
         ensures { result ≡ has_parcel self.now.parcels }
     {
         !self.parcels.is_empty()
     }
 
     /// How many parcels more there is room for.
-    pub fn spare(&self) -> usize
+    pub(crate) fn spare(&self) -> usize
         ensures { result ≡ self.now.spare }
     {
         self.parcels.capacity() - self.parcels.len()
     }
 
     /// Makes room for that many parcels more.
-    pub fn reserve(&mut self, count: usize) -> Result<(), Memory>
+    pub(crate) fn reserve(&mut self, count: usize) -> Result<(), Memory>
         ensures parcels { self.new.parcels ≡ self.old.parcels }
         ensures grows { self.old.spare ≤ self.new.spare }
         ensures ok { OnOk result (count ≤ self.new.spare) }
@@ -70,7 +70,7 @@ impl Fifo {
     }
 
     /// Adds a parcel at the end, in room made beforehand.
-    pub fn push_reserved(&mut self, parcel: Parcel)
+    pub(crate) fn push_reserved(&mut self, parcel: Parcel)
         requires { 0 < self.old.spare }
         ensures { self.new ≡ record { parcels = self.old.parcels ++ parcel ∷ []; spare = self.old.spare - 1 } }
     {
@@ -78,7 +78,7 @@ impl Fifo {
     }
 
     /// Adds a parcel before all others, in room made beforehand.
-    pub fn push_front_reserved(&mut self, parcel: Parcel)
+    pub(crate) fn push_front_reserved(&mut self, parcel: Parcel)
         requires { 0 < self.old.spare }
         ensures { self.new ≡ record { parcels = parcel ∷ self.old.parcels; spare = self.old.spare - 1 } }
     {
@@ -86,14 +86,14 @@ impl Fifo {
     }
 
     /// The oldest parcel.
-    pub fn front(&self) -> Option<&Parcel>
+    pub(crate) fn front(&self) -> Option<&Parcel>
         ensures { option_copied result ≡ slice_get self.now.parcels 0 }
     {
         self.parcels.front()
     }
 
     /// Takes the oldest parcel.
-    pub fn pop(&mut self) -> Option<Parcel>
+    pub(crate) fn pop(&mut self) -> Option<Parcel>
         ensures front { result ≡ slice_get self.old.parcels 0 }
         ensures parcels { self.new.parcels ≡ drop 1 self.old.parcels }
         ensures spare { self.new.spare ≡ self.old.spare + (length self.old.parcels - length self.new.parcels) }
@@ -102,7 +102,7 @@ impl Fifo {
     }
 
     /// Takes the newest parcel.
-    pub fn pop_back(&mut self) -> Option<Parcel>
+    pub(crate) fn pop_back(&mut self) -> Option<Parcel>
         ensures back { IfSome result (λ parcel. self.old.parcels ≡ self.new.parcels ++ parcel ∷ []) }
         ensures none { IfNone result ((self.old.parcels ≡ []) × (self.new.parcels ≡ [])) }
         ensures spare { self.new.spare ≡ self.old.spare + (length self.old.parcels - length self.new.parcels) }
@@ -111,7 +111,7 @@ impl Fifo {
     }
 
     /// Takes out the application messages with a greater label; the others keep their order.
-    pub fn drop_above(&mut self, label: Label)
+    pub(crate) fn drop_above(&mut self, label: Label)
         ensures parcels { self.new.parcels ≡ without_above label self.old.parcels }
         ensures spare { self.new.spare ≡ self.old.spare + (length self.old.parcels - length self.new.parcels) }
     {
@@ -119,7 +119,7 @@ impl Fifo {
     }
 
     /// Sets the other's parcels before its own, in room made beforehand, and leaves the other empty.
-    pub fn put_before(&mut self, other: &mut Fifo)
+    pub(crate) fn put_before(&mut self, other: &mut Fifo)
         requires { length other.old.parcels ≤ self.old.spare }
         ensures parcels { self.new.parcels ≡ other.old.parcels ++ self.old.parcels }
         ensures spare { self.new.spare ≡ self.old.spare - length other.old.parcels }

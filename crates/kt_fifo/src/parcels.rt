@@ -8,7 +8,11 @@ use kt_base::{InstNo, Kind, Label, MsgNo};
 #[derive(Clone, Copy, Debug, PartialEq, Eq, Hash)]
 pub enum Parcel {
     /// An application message, with its label, its number and its body.
-    App { label: Label, msg: MsgNo, body: i64 },
+    App {
+        label: Label,
+        msg: MsgNo,
+        body: i64,
+    },
     /// The question whether the receiver takes part in an instance, with the label that it turns on.
     Ask {
         inst: InstNo,
@@ -16,9 +20,15 @@ pub enum Parcel {
         label: Label,
     },
     /// The answer to the question of an instance.
-    Reply { inst: InstNo, willing: bool },
+    Reply {
+        inst: InstNo,
+        willing: bool,
+    },
     /// How an instance was decided.
-    Decide { inst: InstNo, commit: bool },
+    Decide {
+        inst: InstNo,
+        commit: bool,
+    },
 }
 
 impl Parcel {

@@ -1,6 +1,6 @@
 -- The parts of a list of calls.
-use Rattle.std.specs.Prelude.{◌==◌, if◌then◌else◌, fold}
-use Rattle.std.proofs.Common.{◌≡◌, ◌≢◌, ℕ, Bool, true, false, List, [], ◌∷◌, ◌++◌, refl, arith, sym, ap, subst, ◌∙◌, append_assoc}
+use Rattle.std.specs.Prelude.{if◌then◌else◌}
+use Rattle.std.proofs.Common.{◌≡◌, ℕ, Bool, true, false, List, [], ◌∷◌, ◌++◌, refl, arith, sym, ap, subst, ◌∙◌, append_assoc}
 use Rattle.std.proofs.lemmas.Bool.Decides.{nat_tests}
 use Rattle.std.proofs.lemmas.Grind.{fold-append}
 use Rattle.std.proofs.lemmas.List.{append-nil}
@@ -162,3 +162,52 @@ received_rises calls s q =
     let e : p.since_rollback ≡ f ++ p.since = h.last.1 ∙ sym (append_assoc h.last.0 p.aside p.since) in
     Rises_end (receiveds q f) (receiveds q p.since) 0
     (subst (λ (l : List ℕ). Rises 0 l) (receiveds-append q f p.since) (subst (λ (l : List Call). Rises 0 (receiveds q l)) e (s.received_rise q)))
+
+-- *before* is a beginning of the list, and so is the list cut before an open tentative checkpoint
+record Begins (calls : List Call) (p : Parts) : Type 0 where
+  before : (rest : List Call) × (calls ≡ p.before ++ rest)
+  cut : p.is_open ≡ true → (rest : List Call) × (calls ≡ p.cut ++ rest)
+
+begins_more : (calls front : List Call) (c : Call) → (rest : List Call) × (calls ≡ front ++ rest) → (rest : List Call) × (calls ++ c ∷ [] ≡ front ++ rest)
+begins_more calls front c h = (h.0 ++ c ∷ [], rolled_more calls front h.0 c h.1)
+
+begins_after : (calls : List Call) (p : Parts) (c : Call) → p.calls ≡ calls → Begins calls p → Begins (calls ++ c ∷ []) (parts_after p c)
+begins_after calls p (sent q l) e h = record { before = begins_more calls p.before (sent q l) h.before; cut = λ o. begins_more calls p.cut (sent q l) (h.cut o) }
+begins_after calls p (received q l) e h = record { before = begins_more calls p.before (received q l) h.before; cut = λ o. begins_more calls p.cut (received q l) (h.cut o) }
+begins_after calls p on_tentative e h = record {
+  before = begins_more calls p.before on_tentative h.before;
+  cut = λ o. (on_tentative ∷ [], ap (λ (x : List Call). x ++ on_tentative ∷ []) (sym e));
+}
+begins_after calls p on_commit e h = record {
+  before = begins_more calls (if p.is_open then p.cut else p.before) on_commit (either p.is_open refl);
+  cut = λ o. absurd (cc (o));
+}
+  where
+    either : (b : Bool) → p.is_open ≡ b → (rest : List Call) × (calls ≡ (if b then p.cut else p.before) ++ rest)
+    either true o = h.cut o
+    either false o = h.before
+begins_after calls p on_abort e h = record { before = begins_more calls p.before on_abort h.before; cut = λ o. absurd (cc (o)) }
+begins_after calls p on_rollback e h = record { before = begins_more calls p.before on_rollback h.before; cut = λ o. absurd (cc (o)) }
+
+begins : (calls : List Call) → Begins calls (parts calls)
+begins calls = by_calls (λ calls. Begins calls (parts calls)) (record { before = ([], refl); cut = λ o. absurd (cc (o)) })
+    (λ calls c h. subst (λ (p : Parts). Begins (calls ++ c ∷ []) p) (sym (parts_push calls c)) (begins_after calls (parts calls) c (ends calls).whole h)) calls
+
+pub before_begins : (calls : List Call) → (rest : List Call) × (calls ≡ (parts calls).before ++ rest)
+before_begins calls = (begins calls).before
+
+-- what is kept aside is *since* of the list cut before the tentative checkpoint
+abbrev pub IsAside : Parts → Type 0
+IsAside p = p.is_open ≡ true → p.aside ≡ (parts p.cut).since ++ on_tentative ∷ []
+
+aside_after : (calls : List Call) (c : Call) → IsAside (parts calls) → IsAside (parts_after (parts calls) c)
+aside_after calls (sent q l) h = h
+aside_after calls (received q l) h = h
+aside_after calls on_tentative h = λ o. ap (λ (x : List Call). (parts x).since ++ on_tentative ∷ []) (sym (ends calls).whole)
+aside_after calls on_commit h = λ o. absurd (cc (o))
+aside_after calls on_abort h = λ o. absurd (cc (o))
+aside_after calls on_rollback h = λ o. absurd (cc (o))
+
+pub aside_is : (calls : List Call) → IsAside (parts calls)
+aside_is calls = by_calls (λ calls. IsAside (parts calls)) (λ o. absurd (cc (o)))
+    (λ calls c h. subst IsAside (sym (parts_push calls c)) (aside_after calls c h)) calls

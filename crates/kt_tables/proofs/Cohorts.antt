@@ -1,6 +1,6 @@
 -- The peers of a table, in a list, and how many they are.
-use Rattle.std.specs.Prelude.{◌==◌, ◌↔◌, not, if◌then◌else◌, Contains, AllPairs, nat_lt}
-use Rattle.std.proofs.Common.{◌≡◌, ◌≢◌, ℕ, zero, suc, ◌+◌, ◌≤◌, ◌<◌, Bool, true, false, List, [], ◌∷◌, ◌++◌, length, get_or, map, take, drop, refl, arith, sym, ap, subst, ◌∙◌, inl, inr}
+use Rattle.std.specs.Prelude.{◌==◌, not, if◌then◌else◌}
+use Rattle.std.proofs.Common.{◌≡◌, ◌≢◌, ℕ, zero, suc, ◌+◌, ◌≤◌, ◌<◌, Bool, true, false, [], ◌∷◌, ◌++◌, length, get_or, map, take, drop, refl, arith, sym, ap, subst, ◌∙◌, inl, inr}
 use Rattle.std.proofs.lemmas.Bool.{cases_lt, cases_eq}
 use Rattle.std.proofs.lemmas.Bool.Decides.{nat_tests}
 use Rattle.std.proofs.lemmas.List.{length-map, get_or-map, get_or_default, take_more, map-append}
@@ -57,26 +57,24 @@ cohort_is n ps g h = record {
       let i_in : i < length ps = omega arith in
       rw (get_or-map (beside g) ps i d d i_in, get_or-map (beside g) ps j d d j_in) (table_rising 0 n ps i j d h a j_in);
   members = λ q l. (
-      λ m.
+    λ m.
         let long = length-map ps (beside g) in
         let k_in : m.0 < length ps = omega (arith, m.1) in
         let e : beside g (get_or ps m.0 (q, l)) ≡ (q, l) = sym (get_or-map (beside g) ps m.0 (q, l) (q, l) k_in) ∙ m.2 in
         let peer : (get_or ps m.0 (q, l)).0 ≡ q = ap (λ (t : ℕ × ℕ). t.0) e in
-        let label : g (get_or ps m.0 (q, l)).0 ≡ l = ap (λ (t : ℕ × ℕ). t.1) e in
-        (
+        let label : g (get_or ps m.0 (q, l)).0 ≡ l = ap (λ (t : ℕ × ℕ). t.1) e in (
           not_zero (find_label ps q) (subst (λ (x : ℕ). 0 < find_label ps x) peer (find_at 0 n ps m.0 (q, l) h k_in)),
           sym label ∙ ap g peer,
         ),
-      λ m.
+    λ m.
         let r = find_in ps q (q, l) (above_zero (find_label ps q) m.0) in
         let e : beside g (get_or ps r.0 (q, l)) ≡ (q, l) = ap (λ (x : ℕ). let t : ℕ × ℕ = (x, g x) in t) r.2 ∙ ap (λ (x : ℕ). let t : ℕ × ℕ = (q, x) in t) (sym m.1) in
         (r.0, omega (arith, r.1, length-map ps (beside g)), get_or-map (beside g) ps r.0 (q, l) (q, l) r.1 ∙ e),
-    );
+  );
 }
 
 -- what stands before a peer's place does not matter for that peer and those after it
 pub find_drop : (ps : Pairs) (p q : ℕ) → p ≤ q → find_label (drop (place_of ps p) ps) q ≡ find_label ps q
-
 find_drop [] p q b = refl
 find_drop (pair ∷ ps) p q b = elim (cases_lt pair.0 p) [
   | inl less ↦ rw (place_less pair ps p less) (find_drop ps p q b ∙ sym (find_other pair ps q (λ e. absurd (omega arith))))
@@ -127,7 +125,7 @@ count_is low n (pair ∷ ps) h =
     let here : not (find_label (pair ∷ ps) pair.0 == 0) ≡ true = rw (find_same pair ps pair.0 refl) (above pair.1 a) in
     let there : not (find_label ps pair.0 == 0) ≡ false = ap (λ (x : ℕ). not (x == 0)) none in
     let e = count_one n (λ q. not (find_label (pair ∷ ps) q == 0)) (λ q. not (find_label ps q == 0)) pair.0 h.1 here there
-      (λ q other. ap (λ (x : ℕ). not (x == 0)) (find_other pair ps q (λ s. other (sym s)))) in
+    (λ q other. ap (λ (x : ℕ). not (x == 0)) (find_other pair ps q (λ s. other (sym s)))) in
     omega (arith, e, r)
   where
     above : (x : ℕ) → 0 < x → not (x == 0) ≡ true

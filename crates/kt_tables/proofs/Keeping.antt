@@ -1,12 +1,12 @@
 -- What each call does to the labels that tables keep.
 use Rattle.std.specs.Prelude.{◌==◌, not, if◌then◌else◌, IsTrue, nat_lt, nat_le, ◌↔◌, Contains}
 use Rattle.std.proofs.Math.Path.{fun_ext}
-use Rattle.std.proofs.Common.{◌≡◌, ◌≢◌, ℕ, ◌+◌, ◌≤◌, ◌<◌, max, Bool, true, false, List, [], ◌∷◌, ◌++◌, refl, arith, sym, ap, subst, ◌∙◌, inl, inr}
+use Rattle.std.proofs.Common.{◌≡◌, ◌≢◌, ℕ, ◌≤◌, ◌<◌, max, Bool, true, false, List, [], ◌∷◌, ◌++◌, refl, arith, sym, ap, subst, ◌∙◌, inl, inr}
 use Rattle.std.proofs.lemmas.Bool.{cases_eq}
 use Rattle.std.proofs.lemmas.Bool.Decides.{nat_tests}
 use Rattle.std.proofs.lemmas.List.{append-nil}
 use Rattle.kt_tables.specs.Labels.{has_label, least, greatest, Rises}
-use Rattle.kt_tables.specs.Calls.{Call, sent, received, on_tentative, on_commit, on_abort, on_rollback, Parts, no_parts, parts_after, parts, sents, receiveds, Speaks}
+use Rattle.kt_tables.specs.Calls.{Call, sent, received, on_tentative, on_commit, on_abort, on_rollback, Parts, parts_after, parts, sents, receiveds, Speaks}
 use Rattle.kt_tables.specs.Peers.{LabelTable, label_of, no_label, at_peer, has_one, IsCohort}
 use Rattle.kt_tables.specs.States.{State}
 use Rattle.kt_tables.specs.Standing.{Keeps, StandsFor}
@@ -101,6 +101,7 @@ keeps_nothing t o a b c d e f = record {
   where
     at_all : {g : ℕ → ℕ} → g ≡ no_label → (q : ℕ) → g q ≡ 0
     at_all e q = ap (λ (h : ℕ → ℕ). h q) e
+
     none : (front rest : List Call) (c : Call) → [] ≡ front ++ c ∷ rest → ⊥
     none [] rest c e = absurd (cc (e))
     none (x ∷ front) rest c e = absurd (cc (e))
@@ -116,7 +117,7 @@ stands_sent t calls p l first out h s b f g =
     let v = parts calls in
     let k = h.keeps in
     let rise : Rises 0 (sents p (v.since ++ sent p l ∷ [])) =
-      subst (λ (x : Parts). Rises 0 (sents p x.since)) (parts_push calls (sent p l)) (sent_rises (calls ++ sent p l ∷ []) s p) in
+    subst (λ (x : Parts). Rises 0 (sents p x.since)) (parts_push calls (sent p l)) (sent_rises (calls ++ sent p l ∷ []) s p) in
     later_list _ calls (sent p l) s (record {
       is_open = k.is_open;
       last_rcvd = λ q. k.last_rcvd q ∙ ap greatest (sym (receiveds_more q v.since (sent p l) refl));
@@ -142,17 +143,18 @@ stands_received t calls p l last h s b f =
       last_out = λ q. k.last_out q ∙ ap greatest (sym (sents_more q v.calls (received p l) refl));
     })
 
-pub stands_tentative : (t : State) (calls : List Call) (rcvd first : LabelTable) → StandsFor t calls → Speaks (calls ++ on_tentative ∷ []) → label_of rcvd ≡ no_label → label_of first ≡ no_label →
-    StandsFor (record t { is_tentative = true; last_rcvd = rcvd; first_sent = first; kept_rcvd = t.last_rcvd; kept_sent = t.first_sent }) (calls ++ on_tentative ∷ [])
-stands_tentative t calls rcvd first h s f g =
+pub stands_tentative : (t : State) (calls : List Call) (rcvd first rcvd_aside first_aside : LabelTable) → StandsFor t calls → Speaks (calls ++ on_tentative ∷ []) →
+    label_of rcvd ≡ no_label → label_of first ≡ no_label → label_of rcvd_aside ≡ label_of t.last_rcvd → label_of first_aside ≡ label_of t.first_sent →
+    StandsFor (record t { is_tentative = true; last_rcvd = rcvd; first_sent = first; kept_rcvd = rcvd_aside; kept_sent = first_aside }) (calls ++ on_tentative ∷ [])
+stands_tentative t calls rcvd first rcvd_aside first_aside h s f g d e =
     let v = parts calls in
     let k = h.keeps in
     later_list _ calls on_tentative s (record {
       is_open = refl;
       last_rcvd = λ q. ap (λ (x : ℕ → ℕ). x q) f;
       first_sent = λ q. ap (λ (x : ℕ → ℕ). x q) g;
-      kept_rcvd = λ q. k.last_rcvd q ∙ ap greatest (sym (receiveds_more q v.since on_tentative refl));
-      kept_sent = λ q. k.first_sent q ∙ ap least (sym (sents_more q v.since on_tentative refl));
+      kept_rcvd = λ q. ap (λ (x : ℕ → ℕ). x q) d ∙ (k.last_rcvd q ∙ ap greatest (sym (receiveds_more q v.since on_tentative refl)));
+      kept_sent = λ q. ap (λ (x : ℕ → ℕ). x q) e ∙ (k.first_sent q ∙ ap least (sym (sents_more q v.since on_tentative refl)));
       last_sent = k.last_sent;
       last_out = λ q. k.last_out q ∙ ap greatest (sym (sents_more q v.calls on_tentative refl));
     })
@@ -185,25 +187,25 @@ stands_commit t calls rcvd first last h s o f g e =
       last_out = λ q. k.last_out q ∙ ap greatest (sym (sents_more q v.calls on_commit refl));
     })
 
-pub stands_abort : (t : State) (calls : List Call) (rcvd none nothing : LabelTable) → StandsFor t calls → Speaks (calls ++ on_abort ∷ []) → t.is_tentative ≡ true →
-    ((q : ℕ) → label_of rcvd q ≡ max (label_of t.last_rcvd q) (label_of t.kept_rcvd q)) → label_of none ≡ no_label → label_of nothing ≡ no_label →
-    StandsFor (record t { is_tentative = false; last_rcvd = rcvd; first_sent = t.kept_sent; kept_rcvd = none; kept_sent = nothing }) (calls ++ on_abort ∷ [])
-stands_abort t calls rcvd none nothing h s o e f g =
+pub stands_abort : (t : State) (calls : List Call) (rcvd merged first none nothing : LabelTable) → StandsFor t calls → Speaks (calls ++ on_abort ∷ []) → t.is_tentative ≡ true →
+    label_of rcvd ≡ label_of merged → ((q : ℕ) → label_of merged q ≡ max (label_of t.last_rcvd q) (label_of t.kept_rcvd q)) → label_of first ≡ label_of t.kept_sent → label_of none ≡ no_label → label_of nothing ≡ no_label →
+    StandsFor (record t { is_tentative = false; last_rcvd = rcvd; first_sent = first; kept_rcvd = none; kept_sent = nothing }) (calls ++ on_abort ∷ [])
+stands_abort t calls rcvd merged first none nothing h s o m e d f g =
     let v = parts calls in
     let k = h.keeps in
     let opened : v.is_open ≡ true = sym k.is_open ∙ o in
     later_list _ calls on_abort s (record {
       is_open = refl;
       last_rcvd = λ q.
-          let m = greatest-append (receiveds q v.aside) (receiveds q v.since) in
+          let j = greatest-append (receiveds q v.aside) (receiveds q v.since) in
           let n : receiveds q (v.aside ++ (v.since ++ on_abort ∷ [])) ≡ receiveds q v.aside ++ receiveds q v.since =
-            receiveds-append q v.aside (v.since ++ on_abort ∷ []) ∙ ap (λ (x : List ℕ). receiveds q v.aside ++ x) (receiveds_more q v.since on_abort refl) in
-          e q ∙ (both (k.last_rcvd q) (k.kept_rcvd q) ∙ sym (ap greatest n ∙ m));
+          receiveds-append q v.aside (v.since ++ on_abort ∷ []) ∙ ap (λ (x : List ℕ). receiveds q v.aside ++ x) (receiveds_more q v.since on_abort refl) in
+          ap (λ (x : ℕ → ℕ). x q) m ∙ (e q ∙ (both (k.last_rcvd q) (k.kept_rcvd q) ∙ sym (ap greatest n ∙ j)));
       first_sent = λ q.
           let n : sents q (v.aside ++ (v.since ++ on_abort ∷ [])) ≡ sents q v.aside =
-            sents-append q v.aside (v.since ++ on_abort ∷ [])
-            ∙ (ap (λ (x : List ℕ). sents q v.aside ++ x) (sents_more q v.since on_abort refl ∙ quiet calls h.speaks.apart opened q) ∙ append-nil (sents q v.aside)) in
-          k.kept_sent q ∙ ap least (sym n);
+          sents-append q v.aside (v.since ++ on_abort ∷ [])
+          ∙ (ap (λ (x : List ℕ). sents q v.aside ++ x) (sents_more q v.since on_abort refl ∙ quiet calls h.speaks.apart opened q) ∙ append-nil (sents q v.aside)) in
+          ap (λ (x : ℕ → ℕ). x q) d ∙ (k.kept_sent q ∙ ap least (sym n));
       kept_rcvd = λ q. ap (λ (x : ℕ → ℕ). x q) f;
       kept_sent = λ q. ap (λ (x : ℕ → ℕ). x q) g;
       last_sent = k.last_sent;

@@ -1,6 +1,6 @@
 -- Lists of labels that grow at their end.
 use Rattle.std.specs.Prelude.{◌==◌, ◌↔◌, not, if◌then◌else◌, Contains, slice_index_or}
-use Rattle.std.proofs.Common.{◌≡◌, ◌≢◌, ℕ, zero, suc, ◌+◌, ◌≤◌, ◌<◌, min, max, Bool, true, false, List, [], ◌∷◌, ◌++◌, length, refl, arith, sym, ap, subst, ◌∙◌, inl, inr}
+use Rattle.std.proofs.Common.{◌≡◌, ℕ, zero, suc, ◌≤◌, ◌<◌, min, max, true, List, [], ◌∷◌, ◌++◌, length, refl, arith, sym, ap, ◌∙◌, inl, inr}
 use Rattle.std.proofs.lemmas.Bool.{cases_lt}
 use Rattle.std.proofs.lemmas.Bool.Decides.{nat_tests}
 use Rattle.kt_tables.specs.Labels.{has_label, least, greatest, Rises}
@@ -62,8 +62,7 @@ pub least_decides : (xs : List ℕ) (l : ℕ) → Rises 0 xs → ((0 < least xs)
 least_decides [] l r = (λ h. absurd (omega (arith, h.0)), λ h. absurd (omega (arith, h.1.1)))
 least_decides (x ∷ xs) l r =
     let e = least_head x xs 0 r in
-    let a : 0 < x = r.0 in
-    (
+    let a : 0 < x = r.0 in (
       λ h. (x, (zero, omega arith, refl), omega (arith, e, h.1)),
       λ h. (omega (arith, e), omega (arith, e, first_least h.0 h.1.0 h.1.1 h.1.2, h.2)),
     )

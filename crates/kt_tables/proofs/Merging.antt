@@ -1,12 +1,12 @@
 -- Two tables merged by peer, the later label for each.
-use Rattle.std.specs.Prelude.{◌==◌, if◌then◌else◌, Option, nat_le}
-use Rattle.std.proofs.Common.{◌≡◌, ◌≢◌, ℕ, zero, suc, ◌+◌, ◌≤◌, ◌<◌, max, Bool, true, false, List, [], ◌∷◌, ◌++◌, length, Some, None, refl, arith, sym, ap, subst, ◌∙◌, inl, inr, length-append}
+use Rattle.std.specs.Prelude.{if◌then◌else◌, nat_le}
+use Rattle.std.proofs.Common.{◌≡◌, ℕ, ◌+◌, ◌≤◌, ◌<◌, max, [], ◌∷◌, ◌++◌, length, Some, None, refl, arith, sym, ap, subst, ◌∙◌, inl, inr, length-append}
 use Rattle.std.proofs.lemmas.Bool.{cases_lt, cases_eq}
 use Rattle.std.proofs.lemmas.Bool.Decides.{nat_tests}
 use Rattle.std.proofs.lemmas.List.{append-nil, append_assoc}
 use Rattle.kt_tables.specs.Peers.{find_label, IsTable, at_peer}
 use Rattle.kt_tables.specs.Walks.{head_label, after_peer, smaller_head}
-use Rattle.kt_tables.proofs.Pairs.{Pairs, table_lower, table_front, table_end, table_step, table_length, find_step, find_skip, find_head, after_table}
+use Rattle.kt_tables.proofs.Pairs.{Pairs, table_front, table_end, table_step, table_length, find_step, find_skip, find_head, after_table}
 
 -- a and b are merged as far as `done`; `first` and `second` are left of them
 pub record Merging (a b : Pairs) (n : ℕ) (done first second : Pairs) : Type 0 where
@@ -61,6 +61,7 @@ turn n done (one ∷ first) (two ∷ second) p h k e = elim (cases_lt two.0 one.
   where
     took_first : (m k p : ℕ) → Some (if nat_le m k then m else k) ≡ Some p → m ≤ k → m ≡ p
     took_first m k p e h = let f : (if nat_le m k then m else k) ≡ p = cc (e) in grind (arith, nat_tests)
+
     took_second : (m k p : ℕ) → Some (if nat_le m k then m else k) ≡ Some p → k < m → k ≡ p
     took_second m k p e h = let f : (if nat_le m k then m else k) ≡ p = cc (e) in grind (arith, nat_tests)
 
@@ -91,7 +92,6 @@ merging_more a b n done first second p l m e is =
     }
 
 none_left : (first second : Pairs) → smaller_head first second ≡ None → (first ≡ []) × (second ≡ [])
-
 none_left [] [] e = (refl, refl)
 none_left (one ∷ first) [] e = absurd (cc (e))
 none_left [] (two ∷ second) e = absurd (cc (e))
@@ -118,7 +118,6 @@ merging_room a b n done first second p m e =
 
 -- each turn leaves fewer pairs
 pub merging_falls : (first second : Pairs) (p : ℕ) → smaller_head first second ≡ Some p → length (after_peer first p) + length (after_peer second p) < length first + length second
-
 merging_falls [] [] p e = absurd (cc (e))
 merging_falls (one ∷ first) [] p e = let s : one.0 ≡ p = cc (e) in grind (arith, nat_tests)
 merging_falls [] (two ∷ second) p e = let s : two.0 ≡ p = cc (e) in grind (arith, nat_tests)

@@ -1,12 +1,12 @@
 -- Pairs by rising peer.
-use Rattle.std.specs.Prelude.{◌==◌, ◌↔◌, not, if◌then◌else◌, Option, Contains, AllPairs, nat_lt, nat_le, insert, ◌&&◌}
-use Rattle.std.proofs.Common.{◌≡◌, ◌≢◌, ℕ, zero, suc, ◌+◌, ◌≤◌, ◌<◌, max, Bool, true, false, List, [], ◌∷◌, ◌++◌, length, get_or, set, map, take, drop, Some, None, refl, arith, sym, ap, subst, ◌∙◌, inl, inr, length-append, length-take, length-drop}
+use Rattle.std.specs.Prelude.{◌==◌, if◌then◌else◌, nat_lt, insert}
+use Rattle.std.proofs.Common.{◌≡◌, ◌≢◌, ℕ, suc, ◌+◌, ◌≤◌, ◌<◌, true, false, List, [], ◌∷◌, ◌++◌, length, get_or, set, take, drop, refl, arith, sym, ap, subst, ◌∙◌, inl, inr, length-append, length-take, length-drop}
 use Rattle.std.proofs.lemmas.Bool.{cases_lt, cases_eq}
 use Rattle.std.proofs.lemmas.Bool.Decides.{nat_tests}
-use Rattle.std.proofs.lemmas.List.{append-nil, append_assoc, length-map, get_or-map, get_or_default, at_drop_more, at_drop_all}
+use Rattle.std.proofs.lemmas.List.{get_or_default, at_drop_more, at_drop_all}
 use Rattle.std.proofs.Math.Path.{fun_ext}
-use Rattle.kt_tables.specs.Peers.{LabelTable, label_of, no_label, find_label, IsTable, count_peers, at_peer, IsCohort}
-use Rattle.kt_tables.specs.Walks.{place_of, head_label, after_peer, smaller_head, stands_at}
+use Rattle.kt_tables.specs.Peers.{LabelTable, label_of, no_label, find_label, IsTable, at_peer}
+use Rattle.kt_tables.specs.Walks.{place_of, head_label, after_peer, stands_at}
 
 abbrev pub Pairs : Type 0
 Pairs = List (ℕ × ℕ)
@@ -49,11 +49,9 @@ unfolding put_pair
 put_more pair ps q l h = grind (arith, nat_tests)
 
 pub place_less : (pair : ℕ × ℕ) (ps : Pairs) (q : ℕ) → pair.0 < q → place_of (pair ∷ ps) q ≡ suc (place_of ps q)
-
 place_less pair ps q h = grind (arith, nat_tests)
 
 pub place_stop : (pair : ℕ × ℕ) (ps : Pairs) (q : ℕ) → q ≤ pair.0 → place_of (pair ∷ ps) q ≡ 0
-
 place_stop pair ps q h = grind (arith, nat_tests)
 
 pub find_same : (pair : ℕ × ℕ) (ps : Pairs) (q : ℕ) → pair.0 ≡ q → find_label (pair ∷ ps) q ≡ pair.1
@@ -114,7 +112,6 @@ insert_is_put (pair ∷ ps) q l absent = elim (cases_lt pair.0 q) [
 ]
 
 pub place_within : (ps : Pairs) (q : ℕ) → place_of ps q ≤ length ps
-
 place_within [] q = omega arith
 place_within (pair ∷ ps) q = let h = place_within ps q in elim (cases_lt pair.0 q) [
   | inl less ↦ omega (arith, place_less pair ps q less)
@@ -177,6 +174,7 @@ after_table p n (pair ∷ ps) h = elim (cases_eq pair.0 p) [
   where
     same_after : (pair : ℕ × ℕ) (ps : Pairs) (p : ℕ) → pair.0 ≡ p → after_peer (pair ∷ ps) p ≡ ps
     same_after pair ps p e = grind (arith, nat_tests)
+
     other_after : (pair : ℕ × ℕ) (ps : Pairs) (p : ℕ) → pair.0 ≢ p → after_peer (pair ∷ ps) p ≡ pair ∷ ps
     other_after pair ps p e = grind (arith, nat_tests)
 
@@ -209,9 +207,9 @@ pub insert_at : (ps : Pairs) (q l i : ℕ) → i ≡ place_of ps q → stands_at
 insert_at ps q l i e h =
     subst (λ (k : ℕ). insert ps k (q, l) ≡ put_pair ps q l) (sym e)
     (insert_is_put ps q l (λ x b r s.
-      let c : i < length ps = omega (arith, e) in
-      let k : x ≡ get_or ps i (0, 0) = subst (λ (j : ℕ). x ≡ get_or ps j x) (sym e) r ∙ get_or_default ps i x (0, 0) c in
-      not_at ps i q h c (ap (λ (t : ℕ × ℕ). t.0) (sym k) ∙ s)))
+    let c : i < length ps = omega (arith, e) in
+    let k : x ≡ get_or ps i (0, 0) = subst (λ (j : ℕ). x ≡ get_or ps j x) (sym e) r ∙ get_or_default ps i x (0, 0) c in
+    not_at ps i q h c (ap (λ (t : ℕ × ℕ). t.0) (sym k) ∙ s)))
 
 -- a table with a pair more has room for it
 pub insert_room : (n : ℕ) (ps : Pairs) (q l i : ℕ) → IsTable 0 n ps → q < n → 0 < l → i ≡ place_of ps q → stands_at ps i q ≡ false → length ps < n

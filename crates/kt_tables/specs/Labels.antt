@@ -1,5 +1,5 @@
 -- Lists of labels.
-use Rattle.std.specs.Prelude.{ℕ, ◌+◌, ◌<◌, ◌==◌, if◌then◌else◌, Bool, true, false, List, [], ◌∷◌, min, max}
+use Rattle.std.specs.Prelude.{ℕ, ◌<◌, if◌then◌else◌, Bool, true, false, List, [], ◌∷◌, min, max}
 
 -- whether there is a label
 abbrev pub has_label : List ℕ → Bool

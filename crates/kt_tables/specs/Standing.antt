@@ -1,5 +1,5 @@
 -- Which lists of calls the tables of a process stand for.
-use Rattle.std.specs.Prelude.{◌≡◌, ◌≤◌, ◌<◌, ℕ, Bool, List}
+use Rattle.std.specs.Prelude.{◌≡◌, ◌≤◌, ◌<◌, ℕ, List}
 use Rattle.kt_tables.specs.Labels.{least, greatest}
 use Rattle.kt_tables.specs.Calls.{Call, Parts, parts, sents, receiveds, Speaks}
 use Rattle.kt_tables.specs.Peers.{LabelTable, label_of}

@@ -1,5 +1,5 @@
 -- Steps along pairs that stand by rising peer.
-use Rattle.std.specs.Prelude.{ℕ, zero, suc, ◌==◌, ◌&&◌, length, slice_index_or, Bool, nat_lt, nat_le, if◌then◌else◌, List, [], ◌∷◌, Option, Some, None}
+use Rattle.std.specs.Prelude.{ℕ, suc, ◌==◌, ◌&&◌, length, slice_index_or, Bool, nat_lt, nat_le, if◌then◌else◌, List, [], ◌∷◌, Option, Some, None}
 
 -- where the pair of a peer stands, or would stand
 abbrev pub place_of : List (ℕ × ℕ) → ℕ → ℕ

@@ -4,4 +4,7 @@
 mod peers;
 mod tables;
 
-pub use tables::Tables;
+pub use tables::{Tables, parts_of_a_list};
+
+#[cfg(test)]
+mod tests;

@@ -7,6 +7,7 @@ ghost use Rattle.kt_tables.specs.Walks.{place_of, after_peer, smaller_head, head
 use kt_base::{Label, Memory, ProcNo};
 use std::alloc::Global;
 use std::marker::Model;
+use std::mem;
 
 /// A label for each peer, kept as pairs by rising peer, for the peers that have one alone.
 ///
@@ -73,7 +74,11 @@ fn head(pairs: &[(ProcNo, Label)], peer: ProcNo) -> Label
     let Some(pair) = pairs.first() else {
         return none();
     };
-    if pair.0.get() == peer.get() { pair.1 } else { none() }
+    if pair.0.get() == peer.get() {
+        pair.1
+    } else {
+        none()
+    }
 }
 
 /// The pairs from a peer on.
@@ -90,7 +95,11 @@ fn after(pairs: &[(ProcNo, Label)], peer: ProcNo) -> &[(ProcNo, Label)]
     let Some((pair, rest)) = pairs.split_first() else {
         return pairs;
     };
-    if pair.0.get() == peer.get() { rest } else { pairs }
+    if pair.0.get() == peer.get() {
+        rest
+    } else {
+        pairs
+    }
 }
 
 /// The smaller peer at the heads of two lists.
@@ -113,7 +122,7 @@ fn smaller(first: &[(ProcNo, Label)], second: &[(ProcNo, Label)]) -> Option<Proc
 
 impl PeerLabels {
     /// A table with no label, for the peers below a number of at most 64.
-    pub fn new(alloc: Global, peers: usize) -> Result<PeerLabels, Memory>
+    pub(crate) fn new(alloc: Global, peers: usize) -> Result<PeerLabels, Memory>
         ensures peers { IfOk result (λ t. t.peers ≡ peers) }
         ensures empty { IfOk result (λ t. label_of t ≡ no_label) }
     {
@@ -124,7 +133,7 @@ impl PeerLabels {
     }
 
     /// The label of a peer, 0 for none.
-    pub fn label(&self, peer: ProcNo) -> Label
+    pub(crate) fn label(&self, peer: ProcNo) -> Label
         ensures { result ≡ label_of self.now peer }
     {
         for pair in &self.pairs {
@@ -136,7 +145,7 @@ impl PeerLabels {
     }
 
     /// Gives a peer a label.
-    pub fn put(&mut self, peer: ProcNo, label: Label)
+    pub(crate) fn put(&mut self, peer: ProcNo, label: Label)
         requires peer { peer < self.old.peers }
         requires label { 0 < label }
         ensures peers { self.new.peers ≡ self.old.peers }
@@ -151,7 +160,7 @@ impl PeerLabels {
     }
 
     /// Gives a peer a label where it has none.
-    pub fn put_first(&mut self, peer: ProcNo, label: Label)
+    pub(crate) fn put_first(&mut self, peer: ProcNo, label: Label)
         requires peer { peer < self.old.peers }
         requires label { 0 < label }
         ensures peers { self.new.peers ≡ self.old.peers }
@@ -163,22 +172,34 @@ impl PeerLabels {
     }
 
     /// Takes all labels out.
-    pub fn clear(&mut self)
+    pub(crate) fn clear(&mut self)
         ensures peers { self.new.peers ≡ self.old.peers }
         ensures labels { label_of self.new ≡ no_label }
     {
         self.pairs.clear();
     }
 
+    /// Takes the labels out of another table.
+    pub(crate) fn take(&mut self, other: &mut PeerLabels)
+        requires { self.old.peers ≡ other.old.peers }
+        ensures peers { self.new.peers ≡ self.old.peers }
+        ensures labels { label_of self.new ≡ label_of other.old }
+        ensures other_peers { other.new.peers ≡ other.old.peers }
+        ensures other_labels { label_of other.new ≡ no_label }
+    {
+        mem::swap(&mut self.pairs, &mut other.pairs);
+        other.pairs.clear();
+    }
+
     /// How many peers have a label.
-    pub fn count(&self) -> usize
+    pub(crate) fn count(&self) -> usize
         ensures { result ≡ count_peers self.now.peers (has_one self.now) }
     {
         self.pairs.len()
     }
 
     /// Takes over the labels of another table.
-    pub fn copy_from(&mut self, other: &PeerLabels)
+    pub(crate) fn copy_from(&mut self, other: &PeerLabels)
         requires { other.now.peers ≡ self.old.peers }
         ensures peers { self.new.peers ≡ self.old.peers }
         ensures labels { label_of self.new ≡ label_of other.now }
@@ -188,7 +209,7 @@ impl PeerLabels {
     }
 
     /// Takes the later of two tables' labels for each peer.
-    pub fn set_to_later(&mut self, first: &PeerLabels, second: &PeerLabels)
+    pub(crate) fn set_to_later(&mut self, first: &PeerLabels, second: &PeerLabels)
         requires first { first.now.peers ≡ self.old.peers }
         requires second { second.now.peers ≡ self.old.peers }
         ensures peers { self.new.peers ≡ self.old.peers }
@@ -206,7 +227,7 @@ impl PeerLabels {
     }
 
     /// The peers that have a label, by rising number, each with its label in another table.
-    pub fn cohort(&self, labels: &PeerLabels) -> Result<Vec<(ProcNo, Label)>, Memory>
+    pub(crate) fn cohort(&self, labels: &PeerLabels) -> Result<Vec<(ProcNo, Label)>, Memory>
         ensures { IfOk result (λ pairs. IsCohort pairs.items (has_one self.now) (label_of labels.now)) }
     {
         let mut cohort = Vec::with_capacity(*self.pairs.allocator(), self.pairs.len())?;

@@ -9,7 +9,17 @@ use crate::peers::PeerLabels;
 use kt_base::{Label, Memory, ProcNo};
 use std::alloc::Global;
 use std::marker::Model;
-use std::mem;
+
+/// What the parts of a list of calls are: a law, with nothing to run.
+pub fn parts_of_a_list()
+    ensures whole { (calls : List Call) → (parts calls).calls ≡ calls }
+    ensures since { (calls : List Call) → (front : List Call) × (calls ≡ front ++ (parts calls).since) }
+    ensures before { (calls : List Call) → (rest : List Call) × (calls ≡ (parts calls).before ++ rest) }
+
+    // While a tentative checkpoint is open.
+    ensures opened { (calls : List Call) → (parts calls).is_open ≡ true → calls ≡ (parts calls).cut ++ on_tentative ∷ (parts calls).since }
+    ensures aside { (calls : List Call) → (parts calls).is_open ≡ true → (parts calls).aside ≡ (parts (parts calls).cut).since ++ on_tentative ∷ [] }
+{}
 
 /// The label tables of one process: of each peer, the labels that decide who takes part in a checkpoint or a rollback.
 ///
@@ -35,25 +45,25 @@ impl Model for Tables {
     ghost Value = { State };
 
     ghost view = { λ t. record {
-        processes = t.processes;
-        is_tentative = t.is_tentative;
-        last_rcvd = t.last_rcvd;
-        first_sent = t.first_sent;
-        kept_rcvd = t.kept_rcvd;
-        kept_sent = t.kept_sent;
-        last_sent = t.last_sent;
-        last_out = t.last_out;
+      processes = t.processes;
+      is_tentative = t.is_tentative;
+      last_rcvd = t.last_rcvd;
+      first_sent = t.first_sent;
+      kept_rcvd = t.kept_rcvd;
+      kept_sent = t.kept_sent;
+      last_sent = t.last_sent;
+      last_out = t.last_out;
     } };
 
     ghost invariant = { λ t. HasRoom (record {
-        processes = t.processes;
-        is_tentative = t.is_tentative;
-        last_rcvd = t.last_rcvd;
-        first_sent = t.first_sent;
-        kept_rcvd = t.kept_rcvd;
-        kept_sent = t.kept_sent;
-        last_sent = t.last_sent;
-        last_out = t.last_out;
+      processes = t.processes;
+      is_tentative = t.is_tentative;
+      last_rcvd = t.last_rcvd;
+      first_sent = t.first_sent;
+      kept_rcvd = t.kept_rcvd;
+      kept_sent = t.kept_sent;
+      last_sent = t.last_sent;
+      last_out = t.last_out;
     }) t.merged };
 }
 
@@ -65,6 +75,7 @@ impl Tables {
     pub fn new(alloc: Global, processes: usize) -> Result<Tables, Memory>
         requires { processes ≤ 64 }
         ensures processes { IfOk result (λ t. t.processes ≡ processes) }
+        ensures tentative { IfOk result (λ t. t.is_tentative ≡ false) }
         ensures stands { IfOk result (λ t. StandsFor t []) }
     {
         Ok(Tables {
@@ -110,7 +121,8 @@ impl Tables {
         requires { from < self.now.processes }
         ensures { IsTrue result ↔ CanReceive self.now from label }
     {
-        label.get() > self.last_rcvd.label(from).get() && label.get() > self.kept_rcvd.label(from).get()
+        label.get() > self.last_rcvd.label(from).get()
+            && label.get() > self.kept_rcvd.label(from).get()
     }
 
     /// Notes a message sent to a peer.
@@ -119,9 +131,7 @@ impl Tables {
         requires rises { CanSend self.old to label }
         ensures processes { self.new.processes ≡ self.old.processes }
         ensures tentative { self.new.is_tentative ≡ self.old.is_tentative }
-        ensures stands {
-            (calls : List Call) → StandsFor self.old calls → Speaks (calls ++ sent to label ∷ []) → StandsFor self.new (calls ++ sent to label ∷ [])
-        }
+        ensures stands { (calls : List Call) → StandsFor self.old calls → Speaks (calls ++ sent to label ∷ []) → StandsFor self.new (calls ++ sent to label ∷ []) }
     {
         self.first_sent.put_first(to, label);
         self.last_out.put(to, label);
@@ -133,9 +143,7 @@ impl Tables {
         requires rises { CanReceive self.old from label }
         ensures processes { self.new.processes ≡ self.old.processes }
         ensures tentative { self.new.is_tentative ≡ self.old.is_tentative }
-        ensures stands {
-            (calls : List Call) → StandsFor self.old calls → Speaks (calls ++ received from label ∷ []) → StandsFor self.new (calls ++ received from label ∷ [])
-        }
+        ensures stands { (calls : List Call) → StandsFor self.old calls → Speaks (calls ++ received from label ∷ []) → StandsFor self.new (calls ++ received from label ∷ []) }
     {
         self.last_rcvd.put(from, label);
     }
@@ -145,14 +153,10 @@ impl Tables {
         requires { self.old.is_tentative ≡ false }
         ensures processes { self.new.processes ≡ self.old.processes }
         ensures tentative { self.new.is_tentative ≡ true }
-        ensures stands {
-            (calls : List Call) → StandsFor self.old calls → Speaks (calls ++ on_tentative ∷ []) → StandsFor self.new (calls ++ on_tentative ∷ [])
-        }
+        ensures stands { (calls : List Call) → StandsFor self.old calls → Speaks (calls ++ on_tentative ∷ []) → StandsFor self.new (calls ++ on_tentative ∷ []) }
     {
-        mem::swap(&mut self.last_rcvd, &mut self.kept_rcvd);
-        mem::swap(&mut self.first_sent, &mut self.kept_sent);
-        self.last_rcvd.clear();
-        self.first_sent.clear();
+        self.kept_rcvd.take(&mut self.last_rcvd);
+        self.kept_sent.take(&mut self.first_sent);
         self.is_tentative = true;
     }
 
@@ -161,9 +165,7 @@ impl Tables {
         requires { self.old.is_tentative ≡ true }
         ensures processes { self.new.processes ≡ self.old.processes }
         ensures tentative { self.new.is_tentative ≡ false }
-        ensures stands {
-            (calls : List Call) → StandsFor self.old calls → Speaks (calls ++ on_commit ∷ []) → StandsFor self.new (calls ++ on_commit ∷ [])
-        }
+        ensures stands { (calls : List Call) → StandsFor self.old calls → Speaks (calls ++ on_commit ∷ []) → StandsFor self.new (calls ++ on_commit ∷ []) }
     {
         self.kept_rcvd.clear();
         self.kept_sent.clear();
@@ -176,15 +178,12 @@ impl Tables {
         requires { self.old.is_tentative ≡ true }
         ensures processes { self.new.processes ≡ self.old.processes }
         ensures tentative { self.new.is_tentative ≡ false }
-        ensures stands {
-            (calls : List Call) → StandsFor self.old calls → Speaks (calls ++ on_abort ∷ []) → StandsFor self.new (calls ++ on_abort ∷ [])
-        }
+        ensures stands { (calls : List Call) → StandsFor self.old calls → Speaks (calls ++ on_abort ∷ []) → StandsFor self.new (calls ++ on_abort ∷ []) }
     {
-        mem::swap(&mut self.first_sent, &mut self.kept_sent);
+        self.first_sent.take(&mut self.kept_sent);
         self.merged.set_to_later(&self.last_rcvd, &self.kept_rcvd);
-        mem::swap(&mut self.last_rcvd, &mut self.merged);
+        self.last_rcvd.take(&mut self.merged);
         self.kept_rcvd.clear();
-        self.kept_sent.clear();
         self.is_tentative = false;
     }
 
@@ -193,9 +192,7 @@ impl Tables {
         requires { self.old.is_tentative ≡ false }
         ensures processes { self.new.processes ≡ self.old.processes }
         ensures tentative { self.new.is_tentative ≡ false }
-        ensures stands {
-            (calls : List Call) → StandsFor self.old calls → Speaks (calls ++ on_rollback ∷ []) → StandsFor self.new (calls ++ on_rollback ∷ [])
-        }
+        ensures stands { (calls : List Call) → StandsFor self.old calls → Speaks (calls ++ on_rollback ∷ []) → StandsFor self.new (calls ++ on_rollback ∷ []) }
     {
         self.last_rcvd.clear();
         self.first_sent.clear();
@@ -205,10 +202,8 @@ impl Tables {
     /// checkpoint whose label is at most the one that the asker received last.
     pub fn must_take(&self, from: ProcNo, last: Label) -> bool
         requires { from < self.now.processes }
-        ensures {
-            (calls : List Call) → StandsFor self.now calls →
-            (IsTrue result ↔ ((x : ℕ) × Contains (sents from (parts calls).since) x × (x ≤ last)))
-        }
+        ensures { (calls : List Call) → StandsFor self.now calls →
+            (IsTrue result ↔ ((x : ℕ) × Contains (sents from (parts calls).since) x × (x ≤ last))) }
     {
         let first = self.first_sent.label(from).get();
         first > 0 && last.get() >= first
@@ -218,10 +213,8 @@ impl Tables {
     /// checkpoint whose label is above the last one that the asker sent before its permanent checkpoint.
     pub fn must_roll(&self, from: ProcNo, last_sent: Label) -> bool
         requires { from < self.now.processes }
-        ensures {
-            (calls : List Call) → StandsFor self.now calls →
-            (IsTrue result ↔ ((x : ℕ) × Contains (receiveds from (parts calls).since) x × (last_sent < x)))
-        }
+        ensures { (calls : List Call) → StandsFor self.now calls →
+            (IsTrue result ↔ ((x : ℕ) × Contains (receiveds from (parts calls).since) x × (last_sent < x))) }
     {
         self.last_rcvd.label(from).get() > last_sent.get()
     }
@@ -229,10 +222,8 @@ impl Tables {
     /// The processes to ask when a checkpoint is taken, by rising number: those that sent a message received since
     /// the last checkpoint, each with the last such label. To be called before `on_tentative`.
     pub fn ckpt_cohort(&self) -> Result<Vec<(ProcNo, Label)>, Memory>
-        ensures {
-            IfOk result (λ pairs. (calls : List Call) → StandsFor self.now calls →
-                IsCohort pairs.items (λ q. has_label (receiveds q (parts calls).since)) (λ q. greatest (receiveds q (parts calls).since)))
-        }
+        ensures { IfOk result (λ pairs. (calls : List Call) → StandsFor self.now calls →
+            IsCohort pairs.items (λ q. has_label (receiveds q (parts calls).since)) (λ q. greatest (receiveds q (parts calls).since))) }
     {
         self.last_rcvd.cohort(&self.last_rcvd)
     }
@@ -240,21 +231,17 @@ impl Tables {
     /// The processes to ask at a rollback, by rising number: those that a message was sent to since the last
     /// checkpoint, each with the last label sent to it before the permanent one, or 0.
     pub fn roll_cohort(&self) -> Result<Vec<(ProcNo, Label)>, Memory>
-        ensures {
-            IfOk result (λ pairs. (calls : List Call) → StandsFor self.now calls →
-                IsCohort pairs.items (λ q. has_label (sents q (parts calls).since)) (λ q. greatest (sents q (parts calls).before)))
-        }
+        ensures { IfOk result (λ pairs. (calls : List Call) → StandsFor self.now calls →
+            IsCohort pairs.items (λ q. has_label (sents q (parts calls).since)) (λ q. greatest (sents q (parts calls).before))) }
     {
         self.first_sent.cohort(&self.last_sent)
     }
 
     /// How many labels of messages received and sent since the last checkpoint are kept: one for each peer and kind.
     pub fn kept(&self) -> usize
-        ensures {
-            (calls : List Call) → StandsFor self.now calls →
+        ensures { (calls : List Call) → StandsFor self.now calls →
             result ≡ count_peers self.now.processes (λ q. has_label (receiveds q (parts calls).since))
-                + count_peers self.now.processes (λ q. has_label (sents q (parts calls).since))
-        }
+            + count_peers self.now.processes (λ q. has_label (sents q (parts calls).since)) }
     {
         self.last_rcvd.count() + self.first_sent.count()
     }

@@ -1,6 +1,5 @@
-use Rattle.std.proofs.Common.{◌∙◌, ap, sym, true, List, [], ◌∷◌, ◌++◌, ◌-◌, ◌≡◌}
-use Rattle.kt_fifo.specs.declared.parcels.Parcel.{Parcel}
-use Rattle.kt_fifo.specs.Queues.{Queue, has_parcel}
+use Rattle.std.proofs.Common.{◌∙◌, ap, sym, [], ◌∷◌, ◌++◌, ◌-◌}
+use Rattle.kt_fifo.specs.Queues.{Queue}
 use Rattle.kt_fifo.proofs.Wiring.{place_of, lists_changed, spare_changed, wired_written, has_parcel-append}
 use Rattle.kt_fifo.proofs.channels.Channels.push_reserved.Goals as goal
 

@@ -1,4 +1,4 @@
-use Rattle.std.proofs.Common.{◌≡◌, ◌<◌, ◌≤◌, ◌+◌, ℕ, true, false, sym, ap, ◌∙◌, subst, arith, below_more}
+use Rattle.std.proofs.Common.{◌≡◌, false, sym, ◌∙◌, arith, below_more}
 use Rattle.kt_base.specs.Sets.{has}
 use Rattle.kt_fifo.specs.Channels.{spare_of}
 use Rattle.kt_fifo.proofs.Wiring.{grows_at, others_at}
@@ -28,7 +28,7 @@ loop-number-preserved c =
             grows = λ p q. omega (arith, c.loop-number.invariant.grows p q, more p q);
             others = λ p q n. kept p q (λ a b. n (a, rw b target)) ∙ c.loop-number.invariant.others p q n;
             done = below_more _ _ (λ to below member. omega (arith, c.loop-number.invariant.done to below member, more c.args.from to))
-              (λ member. rw (← here) (w.in_ok-reserve_many.ensures.ok));
+                (λ member. rw (← here) (w.in_ok-reserve_many.ensures.ok));
           })
       | else-has w ↦
           let not_target : has c.args.targets c.unwrap-to.result ≡ false = sym c.has.ensures ∙ w.if-has.false in

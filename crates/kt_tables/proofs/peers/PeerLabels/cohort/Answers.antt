@@ -1,6 +1,6 @@
-use Rattle.std.proofs.Common.{◌≡◌, sym, ◌∙◌, ap, subst, arith, length, map, take, get_or, List, ℕ, ◌<◌, ◌≤◌, ◌++◌, ◌∷◌, []}
+use Rattle.std.proofs.Common.{◌≡◌, sym, ◌∙◌, ap, subst, length, map, take, get_or, ℕ, ◌<◌, ◌≤◌, ◌++◌, ◌∷◌, []}
 use Rattle.std.proofs.lemmas.List.{take_all}
-use Rattle.kt_tables.specs.Peers.{LabelTable, label_of, find_label, IsTable, IsCohort}
+use Rattle.kt_tables.specs.Peers.{LabelTable, label_of, find_label, IsTable}
 use Rattle.kt_tables.specs.Walks.{head_label}
 use Rattle.kt_tables.proofs.Pairs.{Pairs}
 use Rattle.kt_tables.proofs.Cohorts.{beside, cohort_is, cohort_more, walking_head, walking_more}
@@ -17,7 +17,7 @@ loop-pair-preserved c =
     let item : x ≡ get_or ps i x = subst (λ (l : Pairs). x ≡ get_or l i x) same c.pair-item.is in
     let table : IsTable 0 c.args.self.now.peers ps = subst (λ (t : LabelTable). IsTable 0 t.peers t.pairs) c.self.view_is c.self.invariant.0 in
     let label : c.head.result ≡ find_label labels x.0 =
-      c.head.ensures ∙ (ap (λ (l : Pairs). head_label l x.0) c.from_peer-rest.ensures ∙ walking_head ps labels _ i _ x c.loop-pair.invariant.walking within item) in
+    c.head.ensures ∙ (ap (λ (l : Pairs). head_label l x.0) c.from_peer-rest.ensures ∙ walking_head ps labels _ i _ x c.loop-pair.invariant.walking within item) in
     record {
       walking = rw c.from_peer-rest.ensures (walking_more _ ps labels _ i _ x table c.loop-pair.invariant.walking within item);
       items =

@@ -1,4 +1,3 @@
-use Rattle.std.proofs.Common.{arith}
 use Rattle.kt_tables.proofs.Pairs.{empty_table, empty_labels}
 use Rattle.kt_tables.proofs.peers.PeerLabels.new.Goals as goal
 

@@ -1,5 +1,5 @@
-use Rattle.std.proofs.Common.{sym, ◌∙◌, ap, arith, refl, subst, length, ◌≡◌}
-use Rattle.kt_tables.specs.Peers.{label_of, LabelTable}
+use Rattle.std.proofs.Common.{sym, ◌∙◌, arith}
+use Rattle.kt_tables.specs.Peers.{label_of}
 use Rattle.kt_tables.proofs.Merging.{merging_more, merging_all, merging_room}
 use Rattle.kt_tables.proofs.peers.PeerLabels.set_to_later.Goals as goal
 

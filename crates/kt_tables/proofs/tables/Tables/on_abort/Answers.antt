@@ -1,5 +1,4 @@
-use Rattle.std.proofs.Common.{◌≡◌, ◌<◌, sym, ◌∙◌, ap, subst, true, false}
-use Rattle.kt_tables.specs.Peers.{label_of}
+use Rattle.std.proofs.Common.{sym, ◌∙◌, ap, subst}
 use Rattle.kt_tables.specs.States.{State}
 use Rattle.kt_tables.specs.Standing.{StandsFor}
 use Rattle.kt_tables.proofs.Keeping.{stands_abort}
@@ -9,5 +8,4 @@ pub returns-clause-stands : goal.returns-clause-stands
 returns-clause-stands c = λ calls h s.
     let stood = subst (λ (t : State). StandsFor t calls) (sym c.self.view_is) h in
     let state = ap (λ (t : State). t.is_tentative) c.self.view_is ∙ c.requires in
-    rw (c.swap.ensures.x_after, c.swap-2.ensures.x_after)
-    (stands_abort _ calls _ _ _ stood s state c.set_to_later.ensures.labels c.clear.ensures.labels c.clear-2.ensures.labels)
+    stands_abort _ calls _ _ _ _ _ stood s state c.take-2.ensures.labels c.set_to_later.ensures.labels c.take.ensures.labels c.clear.ensures.labels c.take.ensures.other_labels

@@ -1,5 +1,4 @@
-use Rattle.std.proofs.Common.{◌≡◌, ◌<◌, sym, ◌∙◌, ap, subst, true, false}
-use Rattle.kt_tables.specs.Peers.{label_of}
+use Rattle.std.proofs.Common.{sym, ◌∙◌, ap, subst}
 use Rattle.kt_tables.specs.States.{State}
 use Rattle.kt_tables.specs.Standing.{StandsFor}
 use Rattle.kt_tables.proofs.Keeping.{stands_rollback}

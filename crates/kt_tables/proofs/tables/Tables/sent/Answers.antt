@@ -1,4 +1,4 @@
-use Rattle.std.proofs.Common.{◌≡◌, ◌<◌, sym, ◌∙◌, ap, subst, true, false}
+use Rattle.std.proofs.Common.{◌<◌, sym, subst}
 use Rattle.kt_tables.specs.Peers.{label_of}
 use Rattle.kt_tables.specs.States.{State}
 use Rattle.kt_tables.specs.Standing.{StandsFor}
