@@ -1,0 +1,18 @@
+use Rattle.std.proofs.Common.{drop, ◌∙◌}
+use Rattle.kt_fifo.proofs.Wiring.{place_of, lists_changed, spare_freed, wired_written}
+use Rattle.kt_fifo.proofs.channels.Channels.pop.Goals as goal
+
+pub invariant_of-self : goal.invariant_of-self
+invariant_of-self c =
+    let at = place_of _ _ _ _ _ c.self.view_is c.self.invariant.square c.requires.from c.requires.to c.place-place.ensures.place in
+    wired_written _ _ _ _ _ _ _ _ _ c.self.invariant at c.get-receiver.ensures.value c.index.ensures (c.noted.ensures.here ∙ c.has_parcel-waits.ensures) c.noted.ensures.others
+
+pub returns-clause-lists : goal.returns-clause-lists
+returns-clause-lists c =
+    let at = place_of _ _ _ _ _ c.self.view_is c.self.invariant.square c.requires.from c.requires.to c.place-place.ensures.place in
+    rw (← c.self.view_is) (lists_changed _ _ _ _ _ _ (λ l. drop 1 l) at c.index_mut-fifo.ensures.value c.pop-parcel.ensures.parcels)
+
+pub returns-clause-spare : goal.returns-clause-spare
+returns-clause-spare c =
+    let at = place_of _ _ _ _ _ c.self.view_is c.self.invariant.square c.requires.from c.requires.to c.place-place.ensures.place in
+    rw (← c.self.view_is) (spare_freed _ _ _ _ _ _ at c.index_mut-fifo.ensures.value c.pop-parcel.ensures.spare)

@@ -1,0 +1,19 @@
+use Rattle.std.proofs.Common.{◌∙◌, ap, sym, [], ◌∷◌, ◌++◌, ◌-◌}
+use Rattle.kt_fifo.specs.Queues.{Queue}
+use Rattle.kt_fifo.proofs.Wiring.{place_of, lists_changed, spare_changed, wired_written, has_parcel-append}
+use Rattle.kt_fifo.proofs.channels.Channels.push_reserved.Goals as goal
+
+pub invariant_of-self : goal.invariant_of-self
+invariant_of-self c =
+    let at = place_of _ _ _ _ _ c.self.view_is c.self.invariant.square c.requires.from c.requires.to c.place-place.ensures.place in
+    wired_written _ _ _ _ _ _ _ _ _ c.self.invariant at c.get-receiver.ensures.value c.index.ensures (c.noted.ensures.here ∙ sym (has_parcel-append _ _ _ (ap (λ (q : Queue). q.parcels) c.push_reserved.ensures))) c.noted.ensures.others
+
+pub returns-clause-lists : goal.returns-clause-lists
+returns-clause-lists c =
+    let at = place_of _ _ _ _ _ c.self.view_is c.self.invariant.square c.requires.from c.requires.to c.place-place.ensures.place in
+    rw (← c.self.view_is) (lists_changed _ _ _ _ _ _ (λ l. l ++ c.args.parcel ∷ []) at c.index_mut-fifo.ensures.value (ap (λ (q : Queue). q.parcels) c.push_reserved.ensures))
+
+pub returns-clause-spare : goal.returns-clause-spare
+returns-clause-spare c =
+    let at = place_of _ _ _ _ _ c.self.view_is c.self.invariant.square c.requires.from c.requires.to c.place-place.ensures.place in
+    rw (← c.self.view_is) (spare_changed _ _ _ _ _ _ (λ q. q.spare - 1) at c.index_mut-fifo.ensures.value (ap (λ (q : Queue). q.spare) c.push_reserved.ensures))

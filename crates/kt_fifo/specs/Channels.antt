@@ -1,0 +1,41 @@
+-- One list of parcels, with room, for each ordered pair of processes.
+use Rattle.std.specs.Prelude.{◌≡◌, ℕ, ◌+◌, ◌*◌, ◌≤◌, ◌<◌, ◌==◌, ◌&&◌, nat_lt, if◌then◌else◌, true, List, [], length, slice_index_or, slice_index}
+use Rattle.kt_base.specs.Sets.{has}
+use Rattle.kt_fifo.specs.declared.parcels.Parcel.{Parcel}
+use Rattle.kt_fifo.specs.Queues.{Queue, no_queue, has_parcel}
+
+-- how many processes there are, and a queue for each ordered pair
+pub record Wires : Type 0 where
+  pub processes : ℕ
+  pub queues : List Queue
+
+-- the queue from one process to another
+abbrev pub queue : Wires → ℕ → ℕ → Queue
+queue w from to = if nat_lt from w.processes && nat_lt to w.processes then slice_index_or w.queues (from * w.processes + to) no_queue else no_queue
+
+-- the parcels on their way from one process to another, the oldest first
+abbrev pub channel : Wires → ℕ → ℕ → List Parcel
+channel w from to = (queue w from to).parcels
+
+-- how many parcels more there is room for
+abbrev pub spare_of : Wires → ℕ → ℕ → ℕ
+spare_of w from to = (queue w from to).spare
+
+-- f with another value at one pair
+abbrev pub at_pair : {X : Type 0} → ℕ → ℕ → X → (ℕ → ℕ → X) → ℕ → ℕ → X
+at_pair from to x f p q = if p == from && q == to then x else f p q
+
+-- no parcel from any process to any other
+abbrev pub nothing : ℕ → ℕ → List Parcel
+nothing from to = []
+
+-- a pair whose sender is this one and whose receiver is in the set
+abbrev pub IsTarget : ℕ → ℕ → ℕ → ℕ → Type 0
+IsTarget from targets p q = (p ≡ from) × (has targets q ≡ true)
+
+-- a queue for each pair; and for each receiver the set of those whose list to it is not empty
+pub record IsWired (w : Wires) (senders : List ℕ) : Type 0 where
+  pub few : w.processes ≤ 64
+  pub square : length w.queues ≡ w.processes * w.processes
+  pub receivers : length senders ≡ w.processes
+  pub exact : (from to : ℕ) → to < w.processes → has (slice_index senders to) from ≡ has_parcel (channel w from to)

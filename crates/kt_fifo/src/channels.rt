@@ -1,0 +1,236 @@
+//! Channels between all pairs of processes.
+
+ghost use Rattle.std.specs.Prelude.{◌≡◌, ◌≢◌, ℕ, ◌<◌, ◌≤◌, ◌+◌, ◌-◌, ◌*◌, true, List, [], ◌∷◌, ◌++◌, length, drop, slice_get, IfOk, OnOk, OnErr};
+ghost use Rattle.std.specs.Option.{option_copied};
+ghost use Rattle.kt_base.specs.Sets.{has};
+ghost use Rattle.kt_fifo.specs.Queues.{has_parcel};
+ghost use Rattle.kt_fifo.specs.Channels.{channel, spare_of, at_pair, nothing, IsTarget};
+ghost use Rattle.kt_fifo.specs.Parcels.{without_above};
+
+use crate::fifo::Fifo;
+use crate::parcels::Parcel;
+use kt_base::{Label, Memory, ProcNo, ProcSet};
+use std::alloc::Global;
+use std::marker::Model;
+
+/// One list of parcels for each ordered pair of processes: first in, first out, and nothing is lost.
+///
+/// Beside each list stands how many more parcels there is room for, its spare room.
+#[derive(Drop)]
+pub struct Channels {
+    processes: usize,
+    fifos: Vec<Fifo>,
+    senders: Vec<ProcSet>,
+}
+
+impl Model for Channels {
+    ghost use Rattle.kt_fifo.specs.Channels.{Wires, IsWired};
+
+    ghost Value = { Wires };
+
+    ghost view = { λ c. record { processes = c.processes; queues = c.fifos.items } };
+
+    ghost invariant = { λ c. IsWired (record { processes = c.processes; queues = c.fifos.items }) c.senders.items };
+}
+
+/// The senders to a receiver, once it is known whether one of them has a parcel on its way.
+fn noted(senders: ProcSet, from: ProcNo, waits: bool) -> ProcSet
+    ensures here { has result from ≡ waits }
+    ensures others { (q : ℕ) → q ≢ from → has result q ≡ has senders q }
+{
+    if waits {
+        senders.with(from)
+    } else {
+        senders.without(from)
+    }
+}
+
+impl Channels {
+    /// Channels with empty lists between that many processes, at most 64.
+    pub fn new(alloc: Global, processes: usize) -> Result<Channels, Memory>
+        requires { processes ≤ 64 }
+        ensures processes { IfOk result (λ channels. channels.processes ≡ processes) }
+        ensures lists { IfOk result (λ channels. channel channels ≡ nothing) }
+    {
+        let pairs = processes * processes;
+        let mut fifos = Vec::with_capacity(alloc, pairs)?;
+        for _pair in 0..pairs {
+            fifos.push(Fifo::new(alloc))?;
+        }
+        let senders = vec![in alloc; ProcSet::empty(); processes]?;
+        Ok(Channels {
+            processes,
+            fifos,
+            senders,
+        })
+    }
+
+    /// How many processes there are: each process that a call names is below this number.
+    pub fn processes(&self) -> usize
+        ensures processes { result ≡ self.now.processes }
+        ensures few { result ≤ 64 }
+    {
+        self.processes
+    }
+
+    /// Where the list of a pair stands.
+    fn place(&self, from: ProcNo, to: ProcNo) -> usize
+        requires from { from < self.now.processes }
+        requires to { to < self.now.processes }
+        ensures place { result ≡ from * self.now.processes + to }
+        ensures within { result < length self.now.queues }
+    {
+        from.get() as usize * self.processes + to.get() as usize
+    }
+
+    /// How many parcels are on their way from one process to another.
+    pub fn len(&self, from: ProcNo, to: ProcNo) -> usize
+        requires from { from < self.now.processes }
+        requires to { to < self.now.processes }
+        ensures { result ≡ length (channel self.now from to) }
+    {
+        self.fifos[self.place(from, to)].len()
+    }
+
+    /// How many parcels more there is room for, from one process to another.
+    pub fn spare(&self, from: ProcNo, to: ProcNo) -> usize
+        requires from { from < self.now.processes }
+        requires to { to < self.now.processes }
+        ensures { result ≡ spare_of self.now from to }
+    {
+        self.fifos[self.place(from, to)].spare()
+    }
+
+    /// The processes that have a parcel on its way to this one.
+    pub fn senders(&self, to: ProcNo) -> ProcSet
+        requires { to < self.now.processes }
+        ensures { (from : ℕ) → has result from ≡ has_parcel (channel self.now from to) }
+    {
+        self.senders[to.get() as usize]
+    }
+
+    /// The oldest parcel from one process to another.
+    pub fn front(&self, from: ProcNo, to: ProcNo) -> Option<&Parcel>
+        requires from { from < self.now.processes }
+        requires to { to < self.now.processes }
+        ensures { option_copied result ≡ slice_get (channel self.now from to) 0 }
+    {
+        self.fifos[self.place(from, to)].front()
+    }
+
+    /// Makes room for that many parcels more, from one process to another.
+    pub fn reserve_many(&mut self, from: ProcNo, to: ProcNo, count: usize) -> Result<(), Memory>
+        requires from { from < self.old.processes }
+        requires to { to < self.old.processes }
+        ensures processes { self.new.processes ≡ self.old.processes }
+        ensures lists { channel self.new ≡ channel self.old }
+
+        // The spare room of the pair never shrinks, and that of every other pair stays.
+        ensures spare { spare_of self.new ≡ at_pair from to (spare_of self.new from to) (spare_of self.old) }
+        ensures grows { spare_of self.old from to ≤ spare_of self.new from to }
+        ensures ok { OnOk result (count ≤ spare_of self.new from to) }
+        ensures full { OnErr result (spare_of self.old from to < count) }
+    {
+        let place = self.place(from, to);
+        let fifo = &mut self.fifos[place];
+        fifo.reserve(count)
+    }
+
+    /// Makes room for one parcel more, from a process to each of a set of processes.
+    pub fn reserve(&mut self, from: ProcNo, targets: ProcSet) -> Result<(), Memory>
+        requires from { from < self.old.processes }
+        requires targets { (to : ℕ) → has targets to ≡ true → to < self.old.processes }
+        ensures processes { self.new.processes ≡ self.old.processes }
+        ensures lists { channel self.new ≡ channel self.old }
+
+        // No spare room shrinks, and that of every other pair stays.
+        ensures grows { (p q : ℕ) → spare_of self.old p q ≤ spare_of self.new p q }
+        ensures others { (p q : ℕ) → ¬ IsTarget from targets p q → spare_of self.new p q ≡ spare_of self.old p q }
+        ensures ok { OnOk result ((to : ℕ) → has targets to ≡ true → 1 ≤ spare_of self.new from to) }
+        ensures full { OnErr result ((to : ℕ) × (has targets to ≡ true) × (spare_of self.old from to ≡ 0)) }
+    {
+        for number in 0..self.processes() as u8 {
+            let to = ProcNo::new(number).unwrap();
+            if targets.has(to) {
+                self.reserve_many(from, to, 1)?;
+            }
+        }
+        Ok(())
+    }
+
+    /// Adds a parcel at the end of a list, in room made beforehand.
+    pub fn push_reserved(&mut self, from: ProcNo, to: ProcNo, parcel: Parcel)
+        requires from { from < self.old.processes }
+        requires to { to < self.old.processes }
+        requires room { 0 < spare_of self.old from to }
+        ensures processes { self.new.processes ≡ self.old.processes }
+        ensures lists { channel self.new ≡ at_pair from to (channel self.old from to ++ parcel ∷ []) (channel self.old) }
+        ensures spare { spare_of self.new ≡ at_pair from to (spare_of self.old from to - 1) (spare_of self.old) }
+    {
+        let place = self.place(from, to);
+        let fifo = &mut self.fifos[place];
+        fifo.push_reserved(parcel);
+        let receiver = to.get() as usize;
+        self.senders[receiver] = noted(self.senders[receiver], from, true);
+    }
+
+    /// Takes the oldest parcel from one process to another; its room is spare room again.
+    pub fn pop(&mut self, from: ProcNo, to: ProcNo) -> Option<Parcel>
+        requires from { from < self.old.processes }
+        requires to { to < self.old.processes }
+        ensures processes { self.new.processes ≡ self.old.processes }
+        ensures front { result ≡ slice_get (channel self.old from to) 0 }
+        ensures lists { channel self.new ≡ at_pair from to (drop 1 (channel self.old from to)) (channel self.old) }
+        ensures spare { spare_of self.new ≡ at_pair from to (spare_of self.old from to + (length (channel self.old from to) - length (channel self.new from to))) (spare_of self.old) }
+    {
+        let place = self.place(from, to);
+        let fifo = &mut self.fifos[place];
+        let parcel = fifo.pop();
+        let waits = fifo.has_parcel();
+        let receiver = to.get() as usize;
+        self.senders[receiver] = noted(self.senders[receiver], from, waits);
+        parcel
+    }
+
+    /// Takes out the application messages of a list with a greater label; the others keep their order.
+    pub fn drop_above(&mut self, from: ProcNo, to: ProcNo, label: Label)
+        requires from { from < self.old.processes }
+        requires to { to < self.old.processes }
+        ensures processes { self.new.processes ≡ self.old.processes }
+        ensures lists { channel self.new ≡ at_pair from to (without_above label (channel self.old from to)) (channel self.old) }
+        ensures spare { spare_of self.new ≡ at_pair from to (spare_of self.old from to + (length (channel self.old from to) - length (channel self.new from to))) (spare_of self.old) }
+    {
+        let place = self.place(from, to);
+        let fifo = &mut self.fifos[place];
+        fifo.drop_above(label);
+        let waits = fifo.has_parcel();
+        let receiver = to.get() as usize;
+        self.senders[receiver] = noted(self.senders[receiver], from, waits);
+    }
+
+    /// Sets the other's list of a pair before this one's, in room made beforehand, and leaves the other's empty.
+    pub fn put_before(&mut self, other: &mut Channels, from: ProcNo, to: ProcNo)
+        requires from { from < self.old.processes }
+        requires to { to < self.old.processes }
+        requires from_there { from < other.old.processes }
+        requires to_there { to < other.old.processes }
+        requires room { length (channel other.old from to) ≤ spare_of self.old from to }
+        ensures processes { self.new.processes ≡ self.old.processes }
+        ensures lists { channel self.new ≡ at_pair from to (channel other.old from to ++ channel self.old from to) (channel self.old) }
+        ensures spare { spare_of self.new ≡ at_pair from to (spare_of self.old from to - length (channel other.old from to)) (spare_of self.old) }
+
+        // The same of the other.
+        ensures other_processes { other.new.processes ≡ other.old.processes }
+        ensures other_lists { channel other.new ≡ at_pair from to [] (channel other.old) }
+        ensures other_spare { spare_of other.new ≡ at_pair from to (spare_of other.old from to + length (channel other.old from to)) (spare_of other.old) }
+    {
+        let place = self.place(from, to);
+        let other_place = other.place(from, to);
+        let fifo = &mut self.fifos[place];
+        fifo.put_before(&mut other.fifos[other_place]);
+        let waits = fifo.has_parcel();
+        let receiver = to.get() as usize;
+        self.senders[receiver] = noted(self.senders[receiver], from, waits);
+        other.senders[receiver] = noted(other.senders[receiver], from, false);
+    }
+}

@@ -1,0 +1,174 @@
+-- The peers of a table, in a list, and how many they are.
+use Rattle.std.specs.Prelude.{◌==◌, not, if◌then◌else◌}
+use Rattle.std.proofs.Common.{◌≡◌, ◌≢◌, ℕ, zero, suc, ◌+◌, ◌≤◌, ◌<◌, Bool, true, false, [], ◌∷◌, ◌++◌, length, get_or, map, take, drop, refl, arith, sym, ap, subst, ◌∙◌, inl, inr}
+use Rattle.std.proofs.lemmas.Bool.{cases_lt, cases_eq}
+use Rattle.std.proofs.lemmas.Bool.Decides.{nat_tests}
+use Rattle.std.proofs.lemmas.List.{length-map, get_or-map, get_or_default, take_more, map-append}
+use Rattle.kt_tables.specs.Peers.{find_label, IsTable, count_peers, IsCohort}
+use Rattle.kt_tables.specs.Walks.{place_of, head_label}
+use Rattle.kt_tables.proofs.Pairs.{Pairs, table_lower, find_below, place_less, place_stop, find_same, find_other, find_head}
+
+-- the pairs stand by rising peer
+table_above : (low n : ℕ) (ps : Pairs) (k : ℕ) (d : ℕ × ℕ) → IsTable low n ps → k < length ps → low ≤ (get_or ps k d).0
+unfolding IsTable
+table_above low n [] k d h b = absurd (omega arith)
+table_above low n (pair ∷ ps) zero d h b = h.0
+table_above low n (pair ∷ ps) (suc k) d h b = let r = table_above (pair.0 + 1) n ps k d h.3 (omega arith) in omega (arith, h.0)
+
+pub table_rising : (low n : ℕ) (ps : Pairs) (i j : ℕ) (d : ℕ × ℕ) → IsTable low n ps → i < j → j < length ps → (get_or ps i d).0 < (get_or ps j d).0
+unfolding IsTable
+table_rising low n [] i j d h a b = absurd (omega arith)
+table_rising low n (pair ∷ ps) i zero d h a b = absurd (omega arith)
+table_rising low n (pair ∷ ps) zero (suc j) d h a b = let r = table_above (pair.0 + 1) n ps j d h.3 (omega arith) in omega arith
+table_rising low n (pair ∷ ps) (suc i) (suc j) d h a b = table_rising (pair.0 + 1) n ps i j d h.3 (omega arith) (omega arith)
+
+-- the label at a place is that of its peer, and above 0
+find_at : (low n : ℕ) (ps : Pairs) (k : ℕ) (d : ℕ × ℕ) → IsTable low n ps → k < length ps → 0 < find_label ps (get_or ps k d).0
+unfolding IsTable
+find_at low n [] k d h b = absurd (omega arith)
+find_at low n (pair ∷ ps) zero d h b = rw (find_same pair ps pair.0 refl) h.2
+find_at low n (pair ∷ ps) (suc k) d h b =
+    let a = table_above (pair.0 + 1) n ps k d h.3 (omega arith) in
+    rw (find_other pair ps (get_or ps k d).0 (λ e. absurd (omega arith))) (find_at (pair.0 + 1) n ps k d h.3 (omega arith))
+
+-- a label above 0 stands at a place
+find_in : (ps : Pairs) (q : ℕ) (d : ℕ × ℕ) → 0 < find_label ps q → (k : ℕ) × (k < length ps) × ((get_or ps k d).0 ≡ q)
+unfolding find_label
+find_in [] q d h = absurd (omega arith)
+find_in (pair ∷ ps) q d h = elim (cases_eq pair.0 q) [
+  | inl same ↦ (zero, omega arith, same)
+  | inr other ↦ let r = find_in ps q d (rw (find_other pair ps q other) at h) in (suc r.0, omega (arith, r.1), r.2)
+]
+
+abbrev pub beside : (ℕ → ℕ) → ℕ × ℕ → ℕ × ℕ
+beside g pair = (pair.0, g pair.0)
+
+above_zero : (x : ℕ) → not (x == 0) ≡ true → 0 < x
+above_zero x h = grind (arith, nat_tests)
+
+not_zero : (x : ℕ) → 0 < x → not (x == 0) ≡ true
+not_zero x h = grind (arith, nat_tests)
+
+pub cohort_is : (n : ℕ) (ps : Pairs) (g : ℕ → ℕ) → IsTable 0 n ps → IsCohort (map (beside g) ps) (λ q. not (find_label ps q == 0)) g
+cohort_is n ps g h = record {
+  rising = λ i j d a b.
+      let long = length-map ps (beside g) in
+      let j_in : j < length ps = omega arith in
+      let i_in : i < length ps = omega arith in
+      rw (get_or-map (beside g) ps i d d i_in, get_or-map (beside g) ps j d d j_in) (table_rising 0 n ps i j d h a j_in);
+  members = λ q l. (
+    λ m.
+        let long = length-map ps (beside g) in
+        let k_in : m.0 < length ps = omega (arith, m.1) in
+        let e : beside g (get_or ps m.0 (q, l)) ≡ (q, l) = sym (get_or-map (beside g) ps m.0 (q, l) (q, l) k_in) ∙ m.2 in
+        let peer : (get_or ps m.0 (q, l)).0 ≡ q = ap (λ (t : ℕ × ℕ). t.0) e in
+        let label : g (get_or ps m.0 (q, l)).0 ≡ l = ap (λ (t : ℕ × ℕ). t.1) e in (
+          not_zero (find_label ps q) (subst (λ (x : ℕ). 0 < find_label ps x) peer (find_at 0 n ps m.0 (q, l) h k_in)),
+          sym label ∙ ap g peer,
+        ),
+    λ m.
+        let r = find_in ps q (q, l) (above_zero (find_label ps q) m.0) in
+        let e : beside g (get_or ps r.0 (q, l)) ≡ (q, l) = ap (λ (x : ℕ). let t : ℕ × ℕ = (x, g x) in t) r.2 ∙ ap (λ (x : ℕ). let t : ℕ × ℕ = (q, x) in t) (sym m.1) in
+        (r.0, omega (arith, r.1, length-map ps (beside g)), get_or-map (beside g) ps r.0 (q, l) (q, l) r.1 ∙ e),
+  );
+}
+
+-- what stands before a peer's place does not matter for that peer and those after it
+pub find_drop : (ps : Pairs) (p q : ℕ) → p ≤ q → find_label (drop (place_of ps p) ps) q ≡ find_label ps q
+find_drop [] p q b = refl
+find_drop (pair ∷ ps) p q b = elim (cases_lt pair.0 p) [
+  | inl less ↦ rw (place_less pair ps p less) (find_drop ps p q b ∙ sym (find_other pair ps q (λ e. absurd (omega arith))))
+  | inr more ↦ rw (place_stop pair ps p more) refl
+]
+
+pub table_drop : (low n : ℕ) (ps : Pairs) (p : ℕ) → IsTable low n ps → IsTable p n (drop (place_of ps p) ps)
+unfolding IsTable
+table_drop low n [] p h = tt
+table_drop low n (pair ∷ ps) p h = elim (cases_lt pair.0 p) [
+  | inl less ↦ rw (place_less pair ps p less) (table_drop (pair.0 + 1) n ps p h.3)
+  | inr more ↦ rw (place_stop pair ps p more) (more, h.1, h.2, h.3)
+]
+
+count_same : (n : ℕ) (f g : ℕ → Bool) → ((q : ℕ) → q < n → f q ≡ g q) → count_peers n f ≡ count_peers n g
+unfolding count_peers
+count_same zero f g h = refl
+count_same (suc n) f g h =
+    rw (h n (omega arith)) (ap (λ (x : ℕ). x + (if g n then 1 else 0)) (count_same n f g (λ q b. h q (omega arith))))
+
+count_none : (n : ℕ) (f : ℕ → Bool) → ((q : ℕ) → f q ≡ false) → count_peers n f ≡ 0
+unfolding count_peers
+count_none zero f h = refl
+count_none (suc n) f h = let r = count_none n f h in rw (h n) (omega arith)
+
+count_one : (n : ℕ) (f g : ℕ → Bool) (p : ℕ) → p < n → f p ≡ true → g p ≡ false → ((q : ℕ) → q ≢ p → f q ≡ g q) → count_peers n f ≡ count_peers n g + 1
+unfolding count_peers
+count_one zero f g p b t u h = absurd (omega arith)
+count_one (suc n) f g p b t u h = elim (cases_eq n p) [
+  | inl same ↦
+      let r = count_same n f g (λ q c. h q (λ e. absurd (omega arith))) in
+      let x : f n ≡ true = ap f same ∙ t in
+      let y : g n ≡ false = ap g same ∙ u in
+      rw (x, y) (omega arith)
+  | inr other ↦
+      let r = count_one n f g p (omega arith) t u h in
+      rw (h n other) (omega arith)
+]
+
+-- a table has as many pairs as peers with a label
+pub count_is : (low n : ℕ) (ps : Pairs) → IsTable low n ps → count_peers n (λ q. not (find_label ps q == 0)) ≡ length ps
+unfolding IsTable find_label
+count_is low n [] h = count_none n (λ q. false) (λ q. refl)
+count_is low n (pair ∷ ps) h =
+    let r = count_is (pair.0 + 1) n ps h.3 in
+    let none = find_below (pair.0 + 1) n ps pair.0 h.3 (omega arith) in
+    let a : 0 < pair.1 = h.2 in
+    let here : not (find_label (pair ∷ ps) pair.0 == 0) ≡ true = rw (find_same pair ps pair.0 refl) (above pair.1 a) in
+    let there : not (find_label ps pair.0 == 0) ≡ false = ap (λ (x : ℕ). not (x == 0)) none in
+    let e = count_one n (λ q. not (find_label (pair ∷ ps) q == 0)) (λ q. not (find_label ps q == 0)) pair.0 h.1 here there
+    (λ q other. ap (λ (x : ℕ). not (x == 0)) (find_other pair ps q (λ s. other (sym s)))) in
+    omega (arith, e, r)
+  where
+    above : (x : ℕ) → 0 < x → not (x == 0) ≡ true
+    above x h = grind (arith, nat_tests)
+
+-- a walk along a table and another one's pairs side by side, as far as place i
+pub record Walking (ps labels : Pairs) (n i : ℕ) (rest : Pairs) : Type 0 where
+  pub table : IsTable 0 n rest
+  pub ahead : (k : ℕ) → i ≤ k → k < length ps → find_label rest (get_or ps k (0, 0)).0 ≡ find_label labels (get_or ps k (0, 0)).0
+
+pub walking_none : (ps labels : Pairs) (n : ℕ) → IsTable 0 n labels → Walking ps labels n 0 labels
+walking_none ps labels n h = record { table = h; ahead = λ k a b. refl }
+
+at_place : (ps : Pairs) (i : ℕ) (x : ℕ × ℕ) → i < length ps → x ≡ get_or ps i x → x ≡ get_or ps i (0, 0)
+at_place ps i x b r = r ∙ get_or_default ps i x (0, 0) b
+
+pub walking_head : (ps labels : Pairs) (n i : ℕ) (rest : Pairs) (x : ℕ × ℕ) → Walking ps labels n i rest → i < length ps → x ≡ get_or ps i x →
+    head_label (drop (place_of rest x.0) rest) x.0 ≡ find_label labels x.0
+walking_head ps labels n i rest x w b r =
+    let k = at_place ps i x b r in
+    let h = w.ahead i (omega arith) b in
+    sym (find_head x.0 n (drop (place_of rest x.0) rest) (table_drop 0 n rest x.0 w.table))
+    ∙ (find_drop rest x.0 x.0 (omega arith) ∙ subst (λ (t : ℕ × ℕ). find_label rest t.0 ≡ find_label labels t.0) (sym k) h)
+
+pub walking_more : (m : ℕ) (ps labels : Pairs) (n i : ℕ) (rest : Pairs) (x : ℕ × ℕ) → IsTable 0 m ps → Walking ps labels n i rest → i < length ps → x ≡ get_or ps i x →
+    Walking ps labels n (i + 1) (drop (place_of rest x.0) rest)
+walking_more m ps labels n i rest x h w b r =
+    let k = at_place ps i x b r in
+    record {
+      table = table_lower x.0 0 n (drop (place_of rest x.0) rest) (omega arith) (table_drop 0 n rest x.0 w.table);
+      ahead = λ j a c.
+          let rise = table_rising 0 m ps i j (0, 0) h (omega arith) c in
+          let e : x.0 ≡ (get_or ps i (0, 0)).0 = ap (λ (t : ℕ × ℕ). t.0) k in
+          find_drop rest x.0 (get_or ps j (0, 0)).0 (omega arith) ∙ w.ahead j (omega arith) c;
+    }
+
+pub cohort_more : (ps : Pairs) (g : ℕ → ℕ) (i : ℕ) (x : ℕ × ℕ) → i < length ps → x ≡ get_or ps i x →
+    map (beside g) (take (i + 1) ps) ≡ map (beside g) (take i ps) ++ beside g x ∷ []
+cohort_more ps g i x b r =
+    ap (map (beside g)) (take_more ps i x b) ∙ (map-append (beside g) (take i ps) (get_or ps i x ∷ []) ∙ ap (λ (t : ℕ × ℕ). map (beside g) (take i ps) ++ beside g t ∷ []) (sym r))
+
+-- a count is at most what was counted
+pub count_most : (n : ℕ) (f : ℕ → Bool) → count_peers n f ≤ n
+unfolding count_peers
+count_most zero f = omega arith
+count_most (suc n) f = let h = count_most n f in grind (arith, nat_tests)

@@ -1,0 +1,6 @@
+pub mod CallParts
+pub mod Cohorts
+pub mod Keeping
+pub mod LabelLists
+pub mod Merging
+pub mod Pairs
