@@ -2,8 +2,13 @@ pub use Rattle.kt_spacetime.specs.Events
 pub use Rattle.kt_spacetime.specs.Logs
 pub use Rattle.kt_base.specs.Numbers
 pub mod Rules
+pub mod Lists
+pub mod Sorted
 pub mod Past
 pub mod Legal
 pub mod Cuts
 pub mod Chains
+pub mod Standing
+pub mod Tables
+pub mod Changes
 pub mod WorkedRows

@@ -3,15 +3,15 @@
 
 mod cut;
 mod deeds;
-mod histories;
-mod legality;
+mod history;
+mod messages;
+mod process;
 mod replay;
 mod rules;
+mod tables;
 mod worked;
 
 pub use cut::Cut;
 pub use deeds::Deed;
-pub use histories::{Histories, Trace};
-pub use legality::{LegalFault, legal};
 pub use rules::Rule;
 pub use worked::worked_rows;

@@ -1,54 +1,17 @@
 //! The rows of a log replayed one after another: what is known after them, in tables.
 
-ghost use Rattle.std.specs.Prelude.{◌≡◌, ◌<◌, ◌≤◌, ◌+◌, ◌*◌, ◌^◌, length, vec_len, IfOk, OnOk};
+ghost use Rattle.std.specs.Prelude.{◌≡◌, ◌<◌, ◌≤◌, ◌+◌, ◌^◌, ◌++◌, ◌∷◌, [], ℕ, Some, None, length, vec_len, slice_get, OnOk, IfOk};
+ghost use Rattle.std.specs.Option.{option_copied};
+ghost use Rattle.kt_spacetime.specs.declared.event.Event.TheVariants as event;
 
-use crate::deeds::Deed;
+use crate::messages::Messages;
+use crate::process::{Process, opening_processes};
+use crate::tables::{
+    Instance, Message, bury, enter, judge, make_permanent, mark_dropped, mark_received, roll_back,
+};
 use kt_base::{InstNo, Kind, Memory, MsgNo, ProcNo, ProcSet};
 use kt_spacetime::Event;
 use std::alloc::Global;
-
-/// How many processes there are at most.
-const PROCESSES: usize = 64;
-
-/// A process, after the rows so far.
-#[derive(Drop)]
-pub(crate) struct Process {
-    pub(crate) history: Vec<Deed>,
-    pub(crate) permanent: usize,
-    pub(crate) open_in: Option<InstNo>,
-    pub(crate) up: bool,
-}
-
-/// A message, from its `sent` row on. Places in a history count from 1.
-#[derive(Clone, Copy)]
-pub(crate) struct Message {
-    pub(crate) from: ProcNo,
-    pub(crate) to: ProcNo,
-    /// The place of its send in the sender's history, when it was sent.
-    pub(crate) sent: usize,
-    /// The place of its last receive in the receiver's history, when it was received.
-    pub(crate) received: Option<usize>,
-    /// What its receiver had received last from this sender, before its last receive.
-    pub(crate) previous: Option<MsgNo>,
-    pub(crate) dropped: bool,
-}
-
-/// A member of an instance, with the length of its history when it joined.
-#[derive(Clone, Copy)]
-pub(crate) struct Member {
-    pub(crate) process: ProcNo,
-    pub(crate) position: usize,
-}
-
-/// An instance, from its `began` row on, with its members in the order in which they joined.
-#[derive(Drop)]
-pub(crate) struct Instance {
-    pub(crate) initiator: ProcNo,
-    pub(crate) kind: Kind,
-    pub(crate) verdict: Option<bool>,
-    pub(crate) joined: ProcSet,
-    pub(crate) members: Vec<Member>,
-}
 
 /// What is known after the rows so far.
 #[derive(Drop)]
@@ -58,280 +21,231 @@ pub(crate) struct Replay {
     // By row: the message that it sent.
     pub(crate) messages: Vec<Option<Message>>,
     pub(crate) instances: Vec<Instance>,
-    // By receiver and sender: what was received last, of what is in the receiver's history.
-    last_received: Vec<Option<MsgNo>>,
-    // By receiver and sender: what was dropped last, since the receiver's last closed row of a committed rollback.
-    last_dropped: Vec<Option<MsgNo>>,
+    // What was undone while it stood in its receiver's history, and perhaps still does.
+    pub(crate) dead: Messages,
     /// Who began which instance in the last row.
     pub(crate) beginning: Option<(ProcNo, InstNo)>,
-    ghost processes_there: { vec_len processes ≡ 64 },
-    ghost received_there: { vec_len last_received ≡ 4096 },
-    ghost dropped_there: { vec_len last_dropped ≡ 4096 },
-}
-
-// The place of a receiver and a sender in a table of pairs.
-fn pair(p: ProcNo, from: ProcNo) -> usize
-    ensures { result < 4096 }
-{
-    p.get() as usize * PROCESSES + from.get() as usize
+    ghost processes_there: { length processes.items ≡ 64 },
 }
 
 impl Replay {
+    ghost use Rattle.kt_cuts.specs.Past.{Past, start, after};
+    ghost use Rattle.kt_cuts.specs.Standing.{ShowsPast, StandsFor, IsAllowed, parties_shown, parties_of_row, message_at, at_number, rolled_back_shown};
+
     /// What is known before the first row.
-    pub(crate) fn new(alloc: Global) -> Result<Replay, Memory> {
+    pub(crate) fn new(alloc: Global) -> Result<Replay, Memory>
+        ensures { IfOk result (λ r. StandsFor r []) }
+    {
         let processes = opening_processes(alloc)?;
         Ok(Replay {
             alloc,
             processes,
             messages: Vec::new(alloc),
             instances: Vec::new(alloc),
-            last_received: vec![in alloc; None; 4096]?,
-            last_dropped: vec![in alloc; None; 4096]?,
+            dead: Messages::new(alloc),
             beginning: None,
         })
     }
 
     /// One more row.
-    pub(crate) fn add(&mut self, row: &Event) -> Result<(), Memory> {
-        self.messages.push(None)?;
-        self.beginning = None;
+    pub(crate) fn add(&mut self, row: &Event) -> Result<(), Memory>
+        requires { vec_len self.old.messages < 2 ^ 24 }
+        ensures shows { OnOk result ((s : Past) → ShowsPast self.old s → IsAllowed s row.now → ShowsPast self.new (after s row.now)) }
+        ensures parties { OnOk result (parties_shown self.new ≡ parties_shown self.old ++ parties_of_row row.now ∷ []) }
+    {
         match *row {
             Event::Sent { p, to, .. } => self.send(p, to),
             Event::Received { p, from, msg } => self.receive(p, from, msg),
-            Event::Dropped { p, from, msg } => {
-                self.lose(p, from, msg);
-                Ok(())
-            }
+            Event::Dropped { p, from, msg } => self.lose(p, from, msg),
             Event::Began { p, inst, kind } => self.begin(p, inst, kind),
-            Event::Took { p, inst } | Event::Ready { p, inst } => self.join(p, inst),
-            Event::Decided { inst, commit, .. } => {
-                self.decide(inst, commit);
+            Event::Took { p, inst } => self.join(p, inst),
+            Event::Ready { p, inst } => self.join(p, inst),
+            Event::Decided { inst, commit, .. } => self.decide(inst, commit),
+            Event::Closed { p, inst } => self.close(p, inst),
+            Event::Failed { p } => self.fail(p),
+            Event::Unwilling { .. } => {
+                self.pass()?;
                 Ok(())
             }
-            Event::Closed { p, inst } => {
-                self.close(p, inst);
+            Event::Refused { .. } => {
+                self.pass()?;
                 Ok(())
             }
-            Event::Failed { p } => {
-                self.processes[p.get() as usize].up = false;
-                Ok(())
-            }
-            Event::Unwilling { .. } | Event::Refused { .. } => Ok(()),
         }
     }
 
     /// The process, after the rows so far.
-    pub(crate) fn process(&self, p: ProcNo) -> &Process {
+    pub(crate) fn process(&self, p: ProcNo) -> &Process
+        ensures { slice_get self.now.processes.items p ≡ Some result.now }
+    {
         &self.processes[p.get() as usize]
     }
 
     /// The message that this row sent.
-    pub(crate) fn message(&self, msg: MsgNo) -> Option<Message> {
+    pub(crate) fn message(&self, msg: MsgNo) -> Option<Message>
+        ensures { result ≡ message_at self.now.messages.items msg }
+    {
         *self.messages.get(msg.get() as usize - 1)?
     }
 
     /// The instance, if it has begun.
-    pub(crate) fn instance(&self, inst: InstNo) -> Option<&Instance> {
+    pub(crate) fn instance(&self, inst: InstNo) -> Option<&Instance>
+        ensures { option_copied result ≡ at_number self.now.instances.items inst }
+    {
         self.instances.get(inst.get() as usize - 1)
     }
 
-    /// The greatest message from this sender that is in the receiver's history.
-    pub(crate) fn last_received(&self, p: ProcNo, from: ProcNo) -> Option<MsgNo> {
-        self.last_received[pair(p, from)]
-    }
-
-    /// The greatest message from this sender that the receiver dropped since its last closed row of a committed
-    /// rollback.
-    pub(crate) fn last_dropped(&self, p: ProcNo, from: ProcNo) -> Option<MsgNo> {
-        self.last_dropped[pair(p, from)]
-    }
-
-    /// Whether the message's send is in its sender's history.
-    pub(crate) fn is_live(&self, msg: MsgNo, message: &Message) -> bool {
-        let history = &self.process(message.from).history;
-        let to = message.to;
-        message.sent >= 1 && history.get(message.sent - 1) == Some(&Deed::Sent { msg, to })
-    }
-
-    /// The place of the message's receive in its receiver's history, if it is there.
-    pub(crate) fn place_received(&self, msg: MsgNo, message: &Message) -> Option<usize> {
-        let place = message.received?;
-        let from = message.from;
-        let history = &self.process(message.to).history;
-        if place >= 1 && history.get(place - 1) == Some(&Deed::Received { msg, from }) {
-            Some(place)
-        } else {
-            None
+    // Whether the instance is a committed rollback.
+    fn was_rolled_back(&self, inst: InstNo) -> bool
+        ensures { result ≡ rolled_back_shown (at_number self.now.instances.items inst) }
+    {
+        match self.instance(inst) {
+            Some(instance) => instance.is_committed_rollback(),
+            None => false,
         }
     }
 
-    // The number of the row that was added last.
-    fn last_row(&self) -> Option<MsgNo> {
-        MsgNo::new(u32::try_from(self.messages.len()).ok()?)
+    // The number of the next row.
+    fn next_message(&self) -> MsgNo
+        requires { vec_len self.now.messages < 2 ^ 24 }
+        ensures { result ≡ length self.now.messages.items + 1 }
+    {
+        match MsgNo::new(self.messages.len() as u32 + 1) {
+            Some(msg) => msg,
+            None => unreachable!(),
+        }
     }
 
-    fn send(&mut self, p: ProcNo, to: ProcNo) -> Result<(), Memory> {
-        let Some(msg) = self.last_row() else {
-            return Ok(());
-        };
-        let history = &mut self.processes[p.get() as usize].history;
-        history.push(Deed::Sent { msg, to })?;
-        let message = Message {
+    fn send(&mut self, p: ProcNo, to: ProcNo) -> Result<(), Memory>
+        requires { vec_len self.old.messages < 2 ^ 24 }
+        ensures shows { OnOk result ((s : Past) (body : _) → ShowsPast self.old s → IsAllowed s (event.Sent p to body) → ShowsPast self.new (after s (event.Sent p to body))) }
+        ensures parties { OnOk result (parties_shown self.new ≡ parties_shown self.old ++ Some (p, to) ∷ []) }
+    {
+        let msg = self.next_message();
+        let process = &mut self.processes[p.get() as usize];
+        let sent = process.history.len();
+        process.history.send(msg, to)?;
+        self.messages.push(Some(Message {
             from: p,
             to,
-            sent: history.len(),
+            sent,
             received: None,
-            previous: None,
             dropped: false,
-        };
-        if let Some(place) = self.messages.last_mut() {
-            *place = Some(message);
-        }
+        }))?;
+        self.beginning = None;
         Ok(())
     }
 
-    fn receive(&mut self, p: ProcNo, from: ProcNo, msg: MsgNo) -> Result<(), Memory> {
-        let history = &mut self.processes[p.get() as usize].history;
-        history.push(Deed::Received { msg, from })?;
-        let place = history.len();
-        let previous = self.last_received[pair(p, from)];
-        self.last_received[pair(p, from)] = Some(msg);
-        if let Some(Some(message)) = self.messages.get_mut(msg.get() as usize - 1) {
-            message.received = Some(place);
-            message.previous = previous;
-        }
+    fn receive(&mut self, p: ProcNo, from: ProcNo, msg: MsgNo) -> Result<(), Memory>
+        ensures shows { OnOk result ((s : Past) → ShowsPast self.old s → IsAllowed s (event.Received p from msg) → ShowsPast self.new (after s (event.Received p from msg))) }
+        ensures parties { OnOk result (parties_shown self.new ≡ parties_shown self.old ++ None ∷ []) }
+    {
+        let process = &mut self.processes[p.get() as usize];
+        let place = process.history.len();
+        process.history.receive(msg, from)?;
+        mark_received(&mut self.messages, msg, place);
+        self.pass()?;
         Ok(())
     }
 
-    fn lose(&mut self, p: ProcNo, from: ProcNo, msg: MsgNo) {
-        self.last_dropped[pair(p, from)] = Some(msg);
-        if let Some(Some(message)) = self.messages.get_mut(msg.get() as usize - 1) {
-            message.dropped = true;
-        }
+    fn lose(&mut self, p: ProcNo, from: ProcNo, msg: MsgNo) -> Result<(), Memory>
+        ensures shows { OnOk result ((s : Past) → ShowsPast self.old s → IsAllowed s (event.Dropped p from msg) → ShowsPast self.new (after s (event.Dropped p from msg))) }
+        ensures parties { OnOk result (parties_shown self.new ≡ parties_shown self.old ++ None ∷ []) }
+    {
+        let process = &mut self.processes[p.get() as usize];
+        process.last_dropped[from.get() as usize] = Some(msg);
+        mark_dropped(&mut self.messages, msg);
+        self.pass()?;
+        Ok(())
     }
 
-    fn begin(&mut self, p: ProcNo, inst: InstNo, kind: Kind) -> Result<(), Memory> {
-        self.beginning = Some((p, inst));
+    fn begin(&mut self, p: ProcNo, inst: InstNo, kind: Kind) -> Result<(), Memory>
+        ensures shows { OnOk result ((s : Past) → ShowsPast self.old s → IsAllowed s (event.Began p inst kind) → ShowsPast self.new (after s (event.Began p inst kind))) }
+        ensures parties { OnOk result (parties_shown self.new ≡ parties_shown self.old ++ None ∷ []) }
+    {
         self.instances.push(Instance {
             initiator: p,
             kind,
             verdict: None,
             joined: ProcSet::empty(),
-            members: Vec::new(self.alloc),
+            positions: [0; 64],
         })?;
+        self.pass()?;
+        self.beginning = Some((p, inst));
         Ok(())
     }
 
-    fn join(&mut self, p: ProcNo, inst: InstNo) -> Result<(), Memory> {
+    fn join(&mut self, p: ProcNo, inst: InstNo) -> Result<(), Memory>
+        ensures took { OnOk result ((s : Past) → ShowsPast self.old s → IsAllowed s (event.Took p inst) → ShowsPast self.new (after s (event.Took p inst))) }
+        ensures ready { OnOk result ((s : Past) → ShowsPast self.old s → IsAllowed s (event.Ready p inst) → ShowsPast self.new (after s (event.Ready p inst))) }
+        ensures parties { OnOk result (parties_shown self.new ≡ parties_shown self.old ++ None ∷ []) }
+    {
         let process = &mut self.processes[p.get() as usize];
-        process.open_in = Some(inst);
         let position = process.history.len();
-        if let Some(instance) = self.instances.get_mut(inst.get() as usize - 1) {
-            instance.joined = instance.joined.with(p);
-            instance.members.push(Member {
-                process: p,
-                position,
-            })?;
-        }
+        process.open_in = Some(inst);
+        enter(&mut self.instances, inst, p, position);
+        self.pass()?;
         Ok(())
     }
 
-    fn decide(&mut self, inst: InstNo, commit: bool) {
-        let Some(instance) = self.instances.get_mut(inst.get() as usize - 1) else {
-            return;
+    fn decide(&mut self, inst: InstNo, commit: bool) -> Result<(), Memory>
+        ensures shows { OnOk result ((s : Past) (p : ℕ) → ShowsPast self.old s → IsAllowed s (event.Decided p inst commit) → ShowsPast self.new (after s (event.Decided p inst commit))) }
+        ensures parties { OnOk result (parties_shown self.new ≡ parties_shown self.old ++ None ∷ []) }
+    {
+        let Some(instance) = judge(&mut self.instances, inst, commit) else {
+            return self.pass();
         };
-        instance.verdict = Some(commit);
-        if commit {
-            match instance.kind {
-                Kind::Checkpoint => make_permanent(&mut self.processes, &instance.members),
-                Kind::Rollback => roll_back(
-                    &mut self.processes,
-                    &instance.members,
-                    &self.messages,
-                    &mut self.last_received,
-                ),
+        if !commit {
+            self.pass()?;
+            return Ok(());
+        }
+        match instance.kind {
+            Kind::Checkpoint => {
+                make_permanent(&mut self.processes, &instance);
+                self.pass()?;
+                Ok(())
+            }
+            Kind::Rollback => {
+                let mut undone = Messages::new(self.alloc);
+                roll_back(&mut self.processes, &instance, &mut undone)?;
+                bury(&mut self.dead, &undone, &self.processes, &self.messages)?;
+                self.pass()?;
+                Ok(())
             }
         }
     }
 
-    fn close(&mut self, p: ProcNo, inst: InstNo) {
-        self.processes[p.get() as usize].open_in = None;
-        let Some(instance) = self.instances.get(inst.get() as usize - 1) else {
-            return;
-        };
-        if instance.kind == Kind::Rollback && instance.verdict == Some(true) {
-            self.processes[p.get() as usize].up = true;
-            forget_drops(&mut self.last_dropped, p);
-        }
+    fn close(&mut self, p: ProcNo, inst: InstNo) -> Result<(), Memory>
+        ensures shows { OnOk result ((s : Past) → ShowsPast self.old s → IsAllowed s (event.Closed p inst) → ShowsPast self.new (after s (event.Closed p inst))) }
+        ensures parties { OnOk result (parties_shown self.new ≡ parties_shown self.old ++ None ∷ []) }
+    {
+        let was_rolled_back = self.was_rolled_back(inst);
+        let process = &mut self.processes[p.get() as usize];
+        process.close(was_rolled_back);
+        self.pass()?;
+        Ok(())
     }
-}
 
-// The 64 processes before the first row.
-fn opening_processes(alloc: Global) -> Result<Vec<Process>, Memory>
-    ensures { IfOk result (λ v. vec_len v ≡ 64) }
-{
-    let mut processes = Vec::new(alloc);
-    for _number in 0..PROCESSES {
-        processes.push(Process {
-            history: Vec::new(alloc),
-            permanent: 0,
-            open_in: None,
-            up: true,
-        })?;
+    fn fail(&mut self, p: ProcNo) -> Result<(), Memory>
+        ensures shows { OnOk result ((s : Past) → ShowsPast self.old s → IsAllowed s (event.Failed p) → ShowsPast self.new (after s (event.Failed p))) }
+        ensures parties { OnOk result (parties_shown self.new ≡ parties_shown self.old ++ None ∷ []) }
+    {
+        let process = &mut self.processes[p.get() as usize];
+        process.up = false;
+        self.pass()?;
+        Ok(())
     }
-    Ok(processes)
-}
 
-// Makes the members' new positions permanent.
-fn make_permanent(processes: &mut [Process], members: &[Member])
-    requires { length processes.old ≡ 64 }
-{
-    for member in members {
-        let process = &mut processes[member.process.get() as usize];
-        process.permanent = member.position;
+    // A row that neither sends a message nor begins an instance.
+    fn pass(&mut self) -> Result<(), Memory>
+        ensures processes { OnOk result (self.new.processes ≡ self.old.processes) }
+        ensures messages { OnOk result (self.new.messages.items ≡ self.old.messages.items ++ None ∷ []) }
+        ensures instances { OnOk result (self.new.instances ≡ self.old.instances) }
+        ensures dead { OnOk result (self.new.dead ≡ self.old.dead) }
+        ensures beginning { OnOk result (self.new.beginning ≡ None) }
+    {
+        self.messages.push(None)?;
+        self.beginning = None;
+        Ok(())
     }
-}
-
-// Cuts the members' histories back to their permanent positions.
-fn roll_back(
-    processes: &mut [Process],
-    members: &[Member],
-    messages: &[Option<Message>],
-    last_received: &mut [Option<MsgNo>],
-)
-    requires processes { length processes.old ≡ 64 }
-    requires pairs { length last_received.old ≡ 4096 }
-{
-    for member in members {
-        let process = &mut processes[member.process.get() as usize];
-        cut_back(process, member.process, messages, last_received);
-    }
-}
-
-// Cuts a process's history back to its permanent position, the newest deed first.
-fn cut_back(
-    process: &mut Process,
-    p: ProcNo,
-    messages: &[Option<Message>],
-    last_received: &mut [Option<MsgNo>],
-)
-    requires { length last_received.old ≡ 4096 }
-{
-    while process.history.len() > process.permanent {
-        let Some(deed) = process.history.pop() else {
-            return;
-        };
-        if let Deed::Received { msg, from } = deed {
-            let message = messages.get(msg.get() as usize - 1).copied().flatten();
-            last_received[pair(p, from)] = message.and_then(|m| m.previous);
-        }
-    }
-}
-
-// Forgets what a process dropped.
-fn forget_drops(last_dropped: &mut [Option<MsgNo>], p: ProcNo)
-    requires { length last_dropped.old ≡ 4096 }
-{
-    let start = p.get() as usize * PROCESSES;
-    last_dropped[start..start + PROCESSES].fill(None);
 }

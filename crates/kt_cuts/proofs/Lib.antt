@@ -1,0 +1,10 @@
+pub mod Places
+pub mod ListFacts
+pub mod SortedFacts
+pub mod ProcessFacts
+pub mod Keeping
+pub mod DeedFacts
+pub mod MessageTables
+pub mod Shown
+pub mod Steps
+pub mod InstanceSteps

@@ -1,0 +1,105 @@
+-- Marks in the table of messages, members and verdicts in the table of instances.
+use Rattle.std.proofs.Common.{◌≡◌, ◌≢◌, ℕ, zero, suc, ◌+◌, ◌-◌, ◌<◌, ◌≤◌, Bool, true, Option, Some, None, List, [], ◌∷◌, ◌++◌, ◌⊎◌, map, length, take, subst, get_or, set, refl, sym, ap, ◌∙◌, arith}
+use Rattle.std.specs.List.{slice_get, Contains}
+use Rattle.std.specs.Option.{option_flatten}
+use Rattle.std.proofs.lemmas.Option.{slice_get_read, slice_get_past}
+use Rattle.kt_cuts.specs.declared.tables.Message.{Message}
+use Rattle.kt_cuts.specs.Tables.{with_received, with_dropped}
+use Rattle.std.proofs.lemmas.List.{length-set}
+use Rattle.std.proofs.lemmas.List.Elements.{Contains-push_cases}
+use Rattle.kt_base.specs.Sets.{has}
+use Rattle.kt_cuts.specs.declared.tables.Instance.{Instance}
+use Rattle.kt_cuts.specs.Changes.{IsJoined, IsDecided}
+use Rattle.kt_cuts.specs.Standing.{message_at, at_number, parties, beginning_shown}
+use Rattle.kt_cuts.proofs.Places.{set_mapped, get_set_same, get_set_other}
+use Rattle.kt_cuts.proofs.SortedFacts.{some_same}
+
+pub marked_parties : (ms : List (Option Message)) (i : ℕ) (x y : Option Message) → i < length ms → x ≡ get_or ms i x → parties y ≡ parties x → map parties (set ms i y) ≡ map parties ms
+marked_parties ms i x y l e s = set_mapped parties ms i x y (slice_get_read ms (length ms) i x refl l e) s
+
+pub received_parties : (place : ℕ) (o : Option Message) → parties (with_received place o) ≡ parties o
+received_parties place None = refl
+received_parties place (Some v) = refl
+
+pub dropped_parties : (o : Option Message) → parties (with_dropped o) ≡ parties o
+dropped_parties None = refl
+dropped_parties (Some v) = refl
+
+past_end : (ms : List (Option Message)) (m : ℕ) → length ms ≤ m - 1 → message_at ms m ≡ None
+past_end ms zero l = refl
+past_end ms (suc m) l = ap option_flatten (slice_get_past ms m (omega (arith, l)))
+
+pub received_past : (place : ℕ) (ms : List (Option Message)) (m : ℕ) → length ms ≤ m - 1 → message_at ms m ≡ with_received place (message_at ms m)
+received_past place ms m l = past_end ms m l ∙ ap (with_received place) (sym (past_end ms m l))
+
+pub dropped_past : (ms : List (Option Message)) (m : ℕ) → length ms ≤ m - 1 → message_at ms m ≡ with_dropped (message_at ms m)
+dropped_past ms m l = past_end ms m l ∙ ap with_dropped (sym (past_end ms m l))
+
+pub number_set_same : {X : Type 0} (xs : List X) (i k : ℕ) (x : X) → i ≡ k - 1 → 1 ≤ k → i < length xs → at_number (set xs i x) k ≡ Some x
+number_set_same xs i zero x e l b = absurd (omega (arith, l))
+number_set_same xs i (suc k) x e l b =
+    let same : k ≡ i = omega (arith, e) in
+    ap (slice_get (set xs i x)) same ∙ get_set_same xs i x b
+
+pub number_set_other : {X : Type 0} (xs : List X) (i k j : ℕ) (x : X) → i ≡ k - 1 → 1 ≤ k → j ≢ k → at_number (set xs i x) j ≡ at_number xs j
+number_set_other xs i k zero x e l n = refl
+number_set_other xs i k (suc j) x e l n = get_set_other xs i j x (λ h. n (omega (arith, e, l, h)))
+
+pub number_at : {X : Type 0} (xs : List X) (i k : ℕ) → i ≡ k - 1 → 1 ≤ k → at_number xs k ≡ slice_get xs i
+number_at xs i zero e l = absurd (omega (arith, l))
+number_at xs i (suc k) e l =
+    let same : k ≡ i = omega (arith, e) in
+    ap (slice_get xs) same
+
+pub same_item : {X : Type 0} (xs : List X) (i k : ℕ) (u v : X) → i ≡ k - 1 → 1 ≤ k → i < length xs → u ≡ get_or xs i u → at_number xs k ≡ Some v → u ≡ v
+same_item xs i k u v e l b r a = some_same (sym (slice_get_read xs (length xs) i u refl b r) ∙ (sym (number_at xs i k e l) ∙ a))
+
+pub is_joined : (js : List Instance) (i k p position : ℕ) (u v w : Instance) → i ≡ k - 1 → 1 ≤ k → i < length js → u ≡ get_or js i u → at_number js k ≡ Some v
+    → w.initiator ≡ u.initiator → w.kind ≡ u.kind → w.verdict ≡ u.verdict → has w.joined p ≡ true → ((q : ℕ) → q ≢ p → has w.joined q ≡ has u.joined q) → w.positions ≡ set u.positions p position
+    → IsJoined js (set js i w) k p position v w
+is_joined js i k p position u v w e l b r a initiator of_kind verdict joined others positions =
+    let same : u ≡ v = same_item js i k u v e l b r a in
+    record {
+      was = a;
+      now = number_set_same js i k w e l b;
+      others = λ j n. number_set_other js i k j w e l n;
+      beginnings = set_mapped beginning_shown js i u w (slice_get_read js (length js) i u refl b r) (λ j. record { initiator = initiator j; kind = of_kind j });
+      kind = of_kind ∙ ap (λ (x : Instance). x.kind) same;
+      verdict = verdict ∙ ap (λ (x : Instance). x.verdict) same;
+      joined = joined;
+      not_joined = λ q n. others q n ∙ ap (λ (x : Instance). has x.joined q) same;
+      positions = positions ∙ ap (λ (x : Instance). set x.positions p position) same;
+    }
+
+pub is_decided : (js : List Instance) (i k : ℕ) (commit : Bool) (u v : Instance) → i ≡ k - 1 → 1 ≤ k → i < length js → u ≡ get_or js i u → at_number js k ≡ Some v
+    → IsDecided js (set js i (record u { verdict = Some commit })) k commit v
+is_decided js i k commit u v e l b r a =
+    let same : u ≡ v = same_item js i k u v e l b r a in
+    record {
+      was = a;
+      now = number_set_same js i k _ e l b ∙ ap (λ (x : Instance). Some (record x { verdict = Some commit })) same;
+      others = λ j n. number_set_other js i k j _ e l n;
+      beginnings = set_mapped beginning_shown js i u _ (slice_get_read js (length js) i u refl b r) refl;
+    }
+
+pub judged_item : (js : List Instance) (i k : ℕ) (commit : Bool) (u v r : Instance) → i ≡ k - 1 → 1 ≤ k → i < length js → u ≡ get_or js i u → at_number js k ≡ Some v
+    → r ≡ get_or (set js i (record u { verdict = Some commit })) i r → Some r ≡ Some (record v { verdict = Some commit })
+judged_item js i k commit u v r e l b rd a is =
+    let same : u ≡ v = same_item js i k u v e l b rd a in
+    let list : List Instance = set js i (record u { verdict = Some commit }) in
+    let read : slice_get list i ≡ Some r = slice_get_read list (length js) i r (sym (length-set js i (record u { verdict = Some commit }))) b is in
+    sym read ∙ (get_set_same js i (record u { verdict = Some commit }) b ∙ ap (λ (x : Instance). Some (record x { verdict = Some commit })) same)
+
+take_more : (xs : List ℕ) (i n d : ℕ) → n ≡ i + 1 → i < length xs → take n xs ≡ take i xs ++ get_or xs i d ∷ []
+take_more [] i n d e l = absurd (omega (arith, l))
+take_more (x ∷ xs) i zero d e l = absurd (omega (arith, e))
+take_more (x ∷ xs) zero (suc n) d e l =
+    let none : n ≡ 0 = omega (arith, e) in
+    rw none refl
+take_more (x ∷ xs) (suc i) (suc n) d e l = ap (λ (t : List ℕ). x ∷ t) (take_more xs i n d (omega (arith, e)) (omega (arith, l)))
+
+-- what the first items and one more have
+pub contains_more : (xs : List ℕ) (i x m : ℕ) → i < length xs → x ≡ get_or xs i x → Contains (take (i + 1) xs) m → Contains (take i xs) m ⊎ (x ≡ m)
+contains_more xs i x m l e h =
+    let more : take (i + 1) xs ≡ take i xs ++ x ∷ [] = take_more xs i (i + 1) x refl l ∙ ap (λ (y : ℕ). take i xs ++ y ∷ []) (sym e) in
+    Contains-push_cases (take i xs) x m (subst (λ (t : List ℕ). Contains t m) more h)

@@ -1,0 +1,12 @@
+use Rattle.std.proofs.Common.{Option, ◌-◌, arith, ap, sym, ◌∙◌, ◌≡◌, refl}
+use Rattle.std.proofs.lemmas.Option.{slice_get_read}
+use Rattle.kt_cuts.specs.Standing.{parties}
+use Rattle.kt_cuts.proofs.MessageTables.{marked_parties, received_parties, received_past}
+use Rattle.kt_cuts.proofs.tables.mark_received.Goals as goal
+
+pub returns-then-index-messages-clause-parties : goal.returns-then-index-messages-clause-parties
+returns-then-index-messages-clause-parties c =
+    marked_parties c.args.messages.now (c.get.result - 1) c.index-messages-index.result c.received_at.result c.if-index-messages.true c.index-messages-index.is (ap parties c.received_at.ensures ∙ received_parties c.args.place c.index-messages-index.result)
+
+pub returns-else-index-messages-clause-marked : goal.returns-else-index-messages-clause-marked
+returns-else-index-messages-clause-marked c = received_past c.args.place c.args.messages.now c.args.msg (omega (arith, c.if-index-messages.false, c.get.ensures.value))
