@@ -4,6 +4,7 @@ pub mod SortedFacts
 pub mod ProcessFacts
 pub mod Keeping
 pub mod DeedFacts
+pub mod LatestFacts
 pub mod MessageTables
 pub mod Shown
 pub mod Steps

@@ -11,4 +11,5 @@ pub mod Chains
 pub mod Standing
 pub mod Tables
 pub mod Changes
+pub mod Tests
 pub mod WorkedRows

@@ -1,6 +1,6 @@
 //! The live history of a process, with what it has of one kind of deed.
 
-ghost use Rattle.std.specs.Prelude.{◌≡◌, ◌≤◌, ◌<◌, ◌++◌, ◌∷◌, [], nat_le, find, length, drop, slice_get, option_to_list, OnOk, IfOk, IfNone};
+ghost use Rattle.std.specs.Prelude.{◌≡◌, ◌≤◌, ◌<◌, ◌++◌, ◌∷◌, [], nat_le, find, length, drop, slice_get, option_to_list, OnOk, IfOk, IfNone, IsTrue, ◌↔◌, Some};
 ghost use Rattle.kt_cuts.specs.declared.deeds.Deed.TheVariants as deed;
 ghost use Rattle.kt_cuts.specs.Lists.{last_of, Rises, sent_in, received_in};
 
@@ -63,6 +63,16 @@ impl History {
         ensures { result ≡ slice_get self.now place }
     {
         self.deeds.get(place).copied()
+    }
+
+    /// Whether this deed is at a place from 0.
+    pub(crate) fn has_at(&self, place: usize, deed: &Deed) -> bool
+        ensures { IsTrue result ↔ (slice_get self.now place ≡ Some deed.now) }
+    {
+        match self.deed(place) {
+            Some(there) => there == *deed,
+            None => false,
+        }
     }
 
     /// Adds a send at the end.

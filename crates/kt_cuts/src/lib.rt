@@ -4,6 +4,7 @@
 mod cut;
 mod deeds;
 mod history;
+mod legality;
 mod messages;
 mod process;
 mod replay;
@@ -13,5 +14,6 @@ mod worked;
 
 pub use cut::Cut;
 pub use deeds::Deed;
+pub use legality::{LegalFault, legal};
 pub use rules::Rule;
 pub use worked::worked_rows;

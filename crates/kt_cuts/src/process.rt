@@ -39,7 +39,8 @@ impl Process {
 
     /// What was dropped last from this sender, since the last closed row of a committed rollback.
     pub(crate) fn last_dropped(&self, from: ProcNo) -> Option<MsgNo>
-        ensures { slice_get self.now.last_dropped from ≡ Some result }
+        ensures there { slice_get self.now.last_dropped from ≡ Some result }
+        ensures in_range { from < 64 }
     {
         self.last_dropped[from.get() as usize]
     }

@@ -174,11 +174,7 @@ pub(crate) fn roll_back(
 }
 
 // Cuts a member's history back.
-fn cut_back_if(
-    is_member: bool,
-    process: &mut Process,
-    undone: &mut Messages,
-) -> Result<(), Memory>
+fn cut_back_if(is_member: bool, process: &mut Process, undone: &mut Messages) -> Result<(), Memory>
     ensures process { OnOk result (process.new ≡ (if is_member then record process.old { history = take process.old.permanent process.old.history } else process.old)) }
     ensures undone { OnOk result ((i m to : ℕ) → is_member ≡ true → slice_get process.old.history i ≡ Some (deed.Sent m to) → process.old.permanent ≤ i → Contains undone.new m) }
     ensures kept { OnOk result ((m : ℕ) → Contains undone.old m → Contains undone.new m) }

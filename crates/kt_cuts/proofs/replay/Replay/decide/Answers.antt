@@ -21,7 +21,7 @@ returns-in_ok-pass-in-Checkpoint-clause-shows c = λ s p h allowed.
     let whole_processes = written c.args.self.now.processes.len c.make_permanent.new.processes c.args.self.now.processes.items long_processes in
     rw (c.in_ok-pass-in-Checkpoint.ensures.processes, whole_processes, c.in_ok-pass-in-Checkpoint.ensures.messages, c.in_ok-pass-in-Checkpoint.ensures.instances, whole, c.in_ok-pass-in-Checkpoint.ensures.dead, c.in_ok-pass-in-Checkpoint.ensures.beginning)
     (decides_checkpoint _ _ _ _ _ _ _ s p c.args.inst c.args.commit c.in-Some.instance h allowed c.if-not-commit.false (rw was at c.judge.ensures.decided) (rw was at c.in-Some.ensures.instance) c.in-Checkpoint.is
-      c.make_permanent.ensures.all (rw were at c.make_permanent.ensures.each))
+    c.make_permanent.ensures.all (rw were at c.make_permanent.ensures.each))
 
 pub returns-in_ok-pass-in-Rollback-clause-shows : goal.returns-in_ok-pass-in-Rollback-clause-shows
 returns-in_ok-pass-in-Rollback-clause-shows c = λ s p h allowed.
@@ -34,5 +34,5 @@ returns-in_ok-pass-in-Rollback-clause-shows c = λ s p h allowed.
     let whole_processes = written c.args.self.now.processes.len c.roll_back.new.processes c.args.self.now.processes.items long_processes in
     rw (c.in_ok-pass-in-Rollback.ensures.processes, whole_processes, c.in_ok-pass-in-Rollback.ensures.messages, c.in_ok-pass-in-Rollback.ensures.instances, whole, c.in_ok-pass-in-Rollback.ensures.dead, c.in_ok-pass-in-Rollback.ensures.beginning)
     (decides_rollback _ _ _ _ _ _ _ c.roll_back.new.undone _ s p c.args.inst c.args.commit c.in-Some.instance h allowed c.if-not-commit.false (rw was at c.judge.ensures.decided) (rw was at c.in-Some.ensures.instance) c.in-Rollback.is
-      rolled.all (rw were at rolled.each) (rw were at rolled.undone) c.in_ok-bury-in-Rollback.ensures.kept
-      (rw (c.deref.ensures.value, c.deref-in-Rollback.ensures.value, whole_processes) at c.in_ok-bury-in-Rollback.ensures.buried))
+    rolled.all (rw were at rolled.each) (rw were at rolled.undone) c.in_ok-bury-in-Rollback.ensures.kept
+    (rw (c.deref.ensures.value, c.deref-in-Rollback.ensures.value, whole_processes) at c.in_ok-bury-in-Rollback.ensures.buried))
