@@ -6,4 +6,5 @@ pub mod Past
 pub mod Legal
 pub mod Cuts
 pub mod Chains
+pub mod InCheckpoint
 pub mod WorkedRows

@@ -4,6 +4,7 @@
 mod cut;
 mod deeds;
 mod histories;
+mod laws;
 mod legality;
 mod replay;
 mod rules;
@@ -12,6 +13,7 @@ mod worked;
 pub use cut::Cut;
 pub use deeds::Deed;
 pub use histories::{Histories, Trace};
+pub use laws::{legal_logs, positions_of_legal_logs};
 pub use legality::{LegalFault, legal};
 pub use rules::Rule;
 pub use worked::worked_rows;

@@ -1,0 +1,4 @@
+pub mod LegalLogs
+pub mod Positions
+pub mod RowRules
+pub mod Updates

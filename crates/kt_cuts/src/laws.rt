@@ -1,0 +1,49 @@
+//! Laws of the definitions: each function has nothing to run, and its contract is the law.
+
+ghost use Rattle.std.specs.Prelude.{◌≡◌, ℕ, ◌+◌, ◌≤◌, ◌↔◌, true, false, Some, None, List, [], ◌∷◌, ◌++◌, length, take, slice_get};
+ghost use Rattle.kt_spacetime.specs.declared.event.Event.{Event};
+ghost use Rattle.kt_cuts.specs.declared.rules.Rule.{Rule};
+ghost use Rattle.kt_cuts.specs.Past.{past, after, is_member};
+ghost use Rattle.kt_cuts.specs.declared.deeds.Deed.{Deed};
+ghost use Rattle.kt_cuts.specs.InCheckpoint.{IsInCheckpoint, decides};
+ghost use Rattle.kt_cuts.specs.Legal.{IsLegal, broken_rule, first_broken};
+
+/// How the prefixes of a log and its first broken rule tell whether it is legal.
+pub fn legal_logs()
+    // A front of a legal log is legal.
+    ensures front { (log more : List Event) → IsLegal (log ++ more) → IsLegal log }
+    ensures prefix { (log : List Event) (n : ℕ) → IsLegal log → IsLegal (take n log) }
+
+    // One more row.
+    ensures one_more { (log : List Event) (row : Event) → past (log ++ row ∷ []) ≡ after (past log) row }
+    ensures one_more_legal { (log : List Event) (row : Event) →
+        IsLegal (log ++ row ∷ []) ↔ (IsLegal log × (broken_rule (past log) row ≡ None)) }
+
+    // The first broken rule.
+    ensures unbroken { (log : List Event) → IsLegal log ↔ (first_broken log ≡ None) }
+    ensures broken { (log : List Event) (n : ℕ) (row : Event) (rule : Rule) →
+        IsLegal (take n log) → slice_get log n ≡ Some row → broken_rule (past (take n log)) row ≡ Some rule →
+        first_broken log ≡ Some (n + 1, rule) }
+{}
+
+/// Where the positions of a legal log stand, and what a process in an undecided checkpoint keeps.
+pub fn positions_of_legal_logs()
+    ensures permanent { (log : List Event) → IsLegal log → (p : ℕ) →
+        (past log).permanent p ≤ length ((past log).live p) }
+
+    // The members of an undecided instance are in it, and who is in an instance is a member.
+    ensures inside { (log : List Event) → IsLegal log → (k p : ℕ) →
+        (past log).verdict k ≡ None → is_member (past log) k p ≡ true → (past log).open_in p ≡ Some k }
+    ensures joined { (log : List Event) → IsLegal log → (k p : ℕ) →
+        (past log).open_in p ≡ Some k → is_member (past log) k p ≡ true }
+
+    // A process in an undecided checkpoint: its new position, and what one more row does.
+    ensures new { (log : List Event) → IsLegal log → (k p : ℕ) → IsInCheckpoint (past log) k p → (n : ℕ) ×
+        ((past log).new k p ≡ Some n) × ((past log).permanent p ≤ n) × (n ≤ length ((past log).live p)) }
+    ensures uncut { (log : List Event) (row : Event) → IsLegal (log ++ row ∷ []) → (k p : ℕ) →
+        IsInCheckpoint (past log) k p →
+        (more : List Deed) × ((past (log ++ row ∷ [])).live p ≡ (past log).live p ++ more) }
+    ensures unmoved { (log : List Event) (row : Event) → IsLegal (log ++ row ∷ []) → (k p : ℕ) →
+        IsInCheckpoint (past log) k p → decides row k ≡ false →
+        (past (log ++ row ∷ [])).permanent p ≡ (past log).permanent p }
+{}
