@@ -1,4 +1,6 @@
 pub mod LegalLogs
+pub mod Lists
+pub mod Places
 pub mod Positions
 pub mod RowRules
 pub mod Updates

@@ -7,4 +7,5 @@ pub mod Legal
 pub mod Cuts
 pub mod Chains
 pub mod InCheckpoint
+pub mod Messages
 pub mod WorkedRows

@@ -1,10 +1,12 @@
 //! Laws of the definitions: each function has nothing to run, and its contract is the law.
 
-ghost use Rattle.std.specs.Prelude.{◌≡◌, ℕ, ◌+◌, ◌≤◌, ◌↔◌, true, false, Some, None, List, [], ◌∷◌, ◌++◌, length, take, slice_get};
+ghost use Rattle.std.specs.Prelude.{◌≡◌, ℕ, ◌+◌, ◌<◌, ◌≤◌, ◌↔◌, true, false, Some, None, List, [], ◌∷◌, ◌++◌, length, take, slice_get};
 ghost use Rattle.kt_spacetime.specs.declared.event.Event.{Event};
 ghost use Rattle.kt_cuts.specs.declared.rules.Rule.{Rule};
 ghost use Rattle.kt_cuts.specs.Past.{past, after, is_member};
 ghost use Rattle.kt_cuts.specs.declared.deeds.Deed.{Deed};
+ghost use Rattle.kt_cuts.specs.declared.deeds.Deed.TheVariants as deed;
+ghost use Rattle.kt_cuts.specs.Messages.{IsMessage};
 ghost use Rattle.kt_cuts.specs.InCheckpoint.{IsInCheckpoint, decides};
 ghost use Rattle.kt_cuts.specs.Legal.{IsLegal, broken_rule, first_broken};
 
@@ -46,4 +48,33 @@ pub fn positions_of_legal_logs()
     ensures unmoved { (log : List Event) (row : Event) → IsLegal (log ++ row ∷ []) → (k p : ℕ) →
         IsInCheckpoint (past log) k p → decides row k ≡ false →
         (past (log ++ row ∷ [])).permanent p ≡ (past log).permanent p }
+{}
+
+/// Where messages stand in the live histories of a legal log.
+pub fn places_of_legal_logs()
+    // A message stands at most once as sent, and at most once as received, in all live histories.
+    ensures sent_once { (log : List Event) → IsLegal log → (p q i j msg to other : ℕ) →
+        slice_get ((past log).live p) i ≡ Some (deed.Sent msg to) →
+        slice_get ((past log).live q) j ≡ Some (deed.Sent msg other) → (p ≡ q) × (i ≡ j) }
+    ensures received_once { (log : List Event) → IsLegal log → (p q i j msg from other : ℕ) →
+        slice_get ((past log).live p) i ≡ Some (deed.Received msg from) →
+        slice_get ((past log).live q) j ≡ Some (deed.Received msg other) → (p ≡ q) × (i ≡ j) }
+    ensures deed_once { (log : List Event) → IsLegal log → (p i j : ℕ) (d : Deed) →
+        slice_get ((past log).live p) i ≡ Some d → slice_get ((past log).live p) j ≡ Some d → i ≡ j }
+
+    // A history's sends rise in number, and what it received of one sender does.
+    ensures sent_within { (log : List Event) → IsLegal log → (p i msg to : ℕ) →
+        slice_get ((past log).live p) i ≡ Some (deed.Sent msg to) → (1 ≤ msg) × (msg ≤ length log) }
+    ensures sent_rise { (log : List Event) → IsLegal log → (p i j msg later to other : ℕ) → i < j →
+        slice_get ((past log).live p) i ≡ Some (deed.Sent msg to) →
+        slice_get ((past log).live p) j ≡ Some (deed.Sent later other) → msg < later }
+    ensures received_rise { (log : List Event) → IsLegal log → (p from i j msg later : ℕ) → i < j →
+        slice_get ((past log).live p) i ≡ Some (deed.Received msg from) →
+        slice_get ((past log).live p) j ≡ Some (deed.Received later from) → msg < later }
+
+    // What stands in a live history has its row in the log.
+    ensures sent_row { (log : List Event) → IsLegal log → (p i msg to : ℕ) →
+        slice_get ((past log).live p) i ≡ Some (deed.Sent msg to) → IsMessage log msg p to }
+    ensures received_row { (log : List Event) → IsLegal log → (p i msg from : ℕ) →
+        slice_get ((past log).live p) i ≡ Some (deed.Received msg from) → IsMessage log msg from p }
 {}
