@@ -1,5 +1,7 @@
+pub mod Leastness
 pub mod LegalLogs
 pub mod Lists
+pub mod Members
 pub mod Places
 pub mod Positions
 pub mod RowRules

@@ -7,5 +7,6 @@ pub mod Legal
 pub mod Cuts
 pub mod Chains
 pub mod InCheckpoint
+pub mod Least
 pub mod Messages
 pub mod WorkedRows

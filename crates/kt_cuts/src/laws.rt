@@ -1,11 +1,14 @@
 //! Laws of the definitions: each function has nothing to run, and its contract is the law.
 
-ghost use Rattle.std.specs.Prelude.{◌≡◌, ℕ, ◌+◌, ◌<◌, ◌≤◌, ◌↔◌, true, false, Some, None, List, [], ◌∷◌, ◌++◌, length, take, slice_get};
+ghost use Rattle.std.specs.Prelude.{◌≡◌, ◌≢◌, ℕ, Bool, ◌+◌, ◌<◌, ◌≤◌, ◌↔◌, true, false, Some, None, List, [], ◌∷◌, ◌++◌, length, take, slice_get};
 ghost use Rattle.kt_spacetime.specs.declared.event.Event.{Event};
 ghost use Rattle.kt_cuts.specs.declared.rules.Rule.{Rule};
-ghost use Rattle.kt_cuts.specs.Past.{past, after, is_member};
+ghost use Rattle.kt_cuts.specs.Past.{past, after, is_member, initiator_of};
 ghost use Rattle.kt_cuts.specs.declared.deeds.Deed.{Deed};
 ghost use Rattle.kt_cuts.specs.declared.deeds.Deed.TheVariants as deed;
+ghost use Rattle.kt_cuts.specs.Cuts.{IsConsistent, checkpoint_cut, rollback_cut};
+ghost use Rattle.kt_cuts.specs.Chains.{members, LinksCheckpoint, LinksRollback, IsCheckpointChain, IsRollbackChain};
+ghost use Rattle.kt_cuts.specs.Least.{HasInitiator, IsCheckpointChoice, IsLeastCheckpointSet, cut_without, IsLeastRollbackSet, EachLinks};
 ghost use Rattle.kt_cuts.specs.Messages.{IsMessage};
 ghost use Rattle.kt_cuts.specs.InCheckpoint.{IsInCheckpoint, decides};
 ghost use Rattle.kt_cuts.specs.Legal.{IsLegal, broken_rule, first_broken};
@@ -77,4 +80,41 @@ pub fn places_of_legal_logs()
         slice_get ((past log).live p) i ≡ Some (deed.Sent msg to) → IsMessage log msg p to }
     ensures received_row { (log : List Event) → IsLegal log → (p i msg from : ℕ) →
         slice_get ((past log).live p) i ≡ Some (deed.Received msg from) → IsMessage log msg from p }
+{}
+
+/// Why the members of a checkpoint are the least set: each is bound to the initiator by messages that a consistent
+/// choice cannot leave out.
+pub fn least_checkpoint_sets()
+    // A consistent choice has the process at the end of a chain.
+    ensures chain { (log : List Event) (k i p : ℕ) (chain : List ℕ) → initiator_of (past log) k ≡ Some i →
+        IsCheckpointChain (past log) k i chain p → (set : ℕ → Bool) (cut : ℕ → ℕ) →
+        IsCheckpointChoice (past log) k set cut → IsConsistent (past log) cut → set p ≡ true }
+
+    // The members' cut is consistent, and each but the initiator has a chain, or a linking message with an earlier one.
+    ensures by_chains { (log : List Event) (k i : ℕ) → initiator_of (past log) k ≡ Some i →
+        IsConsistent (past log) (checkpoint_cut (past log) k) →
+        ((p : ℕ) → is_member (past log) k p ≡ true → p ≢ i →
+        (chain : List ℕ) × IsCheckpointChain (past log) k i chain p) →
+        IsLeastCheckpointSet (past log) k }
+    ensures by_links { (log : List Event) (k : ℕ) → IsConsistent (past log) (checkpoint_cut (past log) k) →
+        EachLinks (LinksCheckpoint (past log) k) (initiator_of (past log) k) (members log k) →
+        IsLeastCheckpointSet (past log) k }
+{}
+
+/// Why the members of a rollback are the least set: each is bound to the initiator by messages that would be orphans.
+pub fn least_rollback_sets()
+    // A set with the initiator whose cut is consistent has the process at the end of a chain.
+    ensures chain { (log : List Event) (k i p : ℕ) (chain : List ℕ) → initiator_of (past log) k ≡ Some i →
+        IsRollbackChain (past log) i chain p → (set : ℕ → Bool) →
+        HasInitiator (past log) k set → IsConsistent (past log) (cut_without (past log) set) → set p ≡ true }
+
+    // The members' cut is consistent, and each but the initiator has a chain, or a linking message with an earlier one.
+    ensures by_chains { (log : List Event) (k i : ℕ) → initiator_of (past log) k ≡ Some i →
+        IsConsistent (past log) (rollback_cut (past log) k) →
+        ((p : ℕ) → is_member (past log) k p ≡ true → p ≢ i →
+        (chain : List ℕ) × IsRollbackChain (past log) i chain p) →
+        IsLeastRollbackSet (past log) k }
+    ensures by_links { (log : List Event) (k : ℕ) → IsConsistent (past log) (rollback_cut (past log) k) →
+        EachLinks (LinksRollback (past log)) (initiator_of (past log) k) (members log k) →
+        IsLeastRollbackSet (past log) k }
 {}

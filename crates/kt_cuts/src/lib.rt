@@ -13,7 +13,10 @@ mod worked;
 pub use cut::Cut;
 pub use deeds::Deed;
 pub use histories::{Histories, Trace};
-pub use laws::{legal_logs, places_of_legal_logs, positions_of_legal_logs};
+pub use laws::{
+    least_checkpoint_sets, least_rollback_sets, legal_logs, places_of_legal_logs,
+    positions_of_legal_logs,
+};
 pub use legality::{LegalFault, legal};
 pub use rules::Rule;
 pub use worked::worked_rows;
