@@ -6,3 +6,4 @@ pub mod Places
 pub mod Positions
 pub mod RowRules
 pub mod Updates
+pub mod WorkedInstances
