@@ -10,6 +10,14 @@ use Rattle.kt_cuts.specs.Legal.{has_deed}
 use Rattle.kt_cuts.specs.Cuts.{part, is_unsent, IsConsistent, checkpoint_cut, rollback_cut}
 use Rattle.kt_cuts.specs.Chains.{members, LinksCheckpoint, LinksRollback, IsCheckpointChain, IsRollbackChain}
 use Rattle.kt_cuts.specs.Least.{IsCheckpointChoice, IsLeastCheckpointSet, cut_without, IsLeastRollbackSet, EachLinks}
+use Rattle.std.specs.Prelude.{◌||◌, ◌++◌, ◌≤◌, if◌then◌else◌}
+use Rattle.kt_cuts.specs.Least.{HasInitiator}
+use Rattle.kt_spacetime.specs.declared.event.Event.TheVariants.{Decided}
+use Rattle.kt_cuts.specs.Past.{is_rollback}
+use Rattle.kt_cuts.specs.Legal.{IsLegal}
+use Rattle.kt_cuts.proofs.LegalLogs.{legal_last}
+use Rattle.kt_cuts.proofs.RowRules.{may_decide}
+use Rattle.kt_cuts.proofs.Positions.{Positions, positions, one_kind}
 use Rattle.kt_cuts.proofs.Lists.{get_take, get_in_take, get_drop, deed_place, filtered_out}
 use Rattle.kt_cuts.proofs.Places.{SentPlaces, sent_places, sent_once}
 use Rattle.kt_cuts.proofs.Members.{member_place}
@@ -134,3 +142,50 @@ least_rollback_by_chains log k i first consistent chains = record {
     | inr n ↦ let chain = chains p m n in rollback_chain (past log) i p chain.0 set (sent_places log) chain.1 (has i first) c
   ];
 }
+
+-- just before a decision the initiator is a member
+pub initiator_member : (log : List Event) (k p : ℕ) (commit : Bool) → IsLegal (log ++ Decided p k commit ∷ []) → HasInitiator (past log) k (is_member (past log) k)
+initiator_member log k p commit l q e =
+    let parts = legal_last log (Decided p k commit) l in
+    let may = may_decide (past log) p k commit parts.1 in
+    let same : Some p ≡ Some q = sym may.is_initiator ∙ e in
+    let process : p ≡ q = cc in
+    let g = positions log parts.0 in
+    subst (λ (x : ℕ). is_member (past log) k x ≡ true) process (g.inside_member p k may.inside)
+
+-- the members and their cut are a choice
+pub members_choice : (log : List Event) (k p : ℕ) (commit : Bool) → IsLegal (log ++ Decided p k commit ∷ []) → IsCheckpointChoice (past log) k (is_member (past log) k) (checkpoint_cut (past log) k)
+members_choice log k p commit l =
+    let parts = legal_last log (Decided p k commit) l in
+    let may = may_decide (past log) p k commit parts.1 in
+    record {
+      initiator = initiator_member log k p commit l;
+      within = λ q. short (past log) (positions log parts.0) may.undecided q;
+      outside = λ q e. out (past log) q e;
+      inside = λ q e. omega arith;
+    }
+  where
+    short : (s : Past) → Positions s → s.verdict k ≡ None → (q : ℕ) → checkpoint_cut s k q ≤ length (s.live q)
+    short s g v q = at_new (s.new k q) refl
+      where
+        at_new : (o : Option ℕ) → s.new k q ≡ o → unwrap_or o (s.permanent q) ≤ length (s.live q)
+        at_new None e = g.permanent_within q
+        at_new (Some n) e = let w = g.within q k n v e in w.1
+
+    out : (s : Past) (q : ℕ) → is_member s k q ≡ false → checkpoint_cut s k q ≡ s.permanent q
+    out s q e = at_new (s.new k q) e
+      where
+        at_new : (o : Option ℕ) → (is_some o || s.ready k q) ≡ false → unwrap_or o (s.permanent q) ≡ s.permanent q
+        at_new None e = refl
+        at_new (Some n) e = absurd (cc)
+
+-- the cut of the members of a rollback
+pub members_cut : (log : List Event) (k p : ℕ) → IsLegal log → is_rollback (past log) k ≡ true → cut_without (past log) (is_member (past log) k) p ≡ rollback_cut (past log) k p
+members_cut log k p l r = from (past log) (positions log l) r
+  where
+    from : (s : Past) → Positions s → is_rollback s k ≡ true → cut_without s (is_member s k) p ≡ rollback_cut s k p
+    from s g r = at_new (s.new k p) refl
+      where
+        at_new : (o : Option ℕ) → s.new k p ≡ o → (if is_some o || s.ready k p then s.permanent p else length (s.live p)) ≡ (if s.ready k p then s.permanent p else length (s.live p))
+        at_new None e = refl
+        at_new (Some n) e = absurd (one_kind s k (g.took_kind p k n e) r)

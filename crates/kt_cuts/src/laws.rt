@@ -1,9 +1,10 @@
 //! Laws of the definitions: each function has nothing to run, and its contract is the law.
 
-ghost use Rattle.std.specs.Prelude.{◌≡◌, ◌≢◌, ℕ, Bool, ◌+◌, ◌<◌, ◌≤◌, ◌↔◌, true, false, Some, None, List, [], ◌∷◌, ◌++◌, length, take, slice_get};
+ghost use Rattle.std.specs.Prelude.{◌≡◌, ◌≢◌, ℕ, Bool, ◌+◌, ◌<◌, ◌≤◌, ◌↔◌, true, false, Some, None, List, [], ◌∷◌, ◌++◌, length, take, slice_get, Contains};
 ghost use Rattle.kt_spacetime.specs.declared.event.Event.{Event};
+ghost use Rattle.kt_spacetime.specs.declared.event.Event.TheVariants.{Decided};
 ghost use Rattle.kt_cuts.specs.declared.rules.Rule.{Rule};
-ghost use Rattle.kt_cuts.specs.Past.{past, after, is_member, initiator_of};
+ghost use Rattle.kt_cuts.specs.Past.{past, after, live_after, permanent_after, new_after, is_rollback, is_member, initiator_of};
 ghost use Rattle.kt_cuts.specs.declared.deeds.Deed.{Deed};
 ghost use Rattle.kt_cuts.specs.declared.deeds.Deed.TheVariants as deed;
 ghost use Rattle.kt_cuts.specs.Cuts.{IsConsistent, checkpoint_cut, rollback_cut};
@@ -82,6 +83,24 @@ pub fn places_of_legal_logs()
         slice_get ((past log).live p) i ≡ Some (deed.Received msg from) → IsMessage log msg from p }
 {}
 
+/// What one more row does to live histories, positions and members, and who the members are.
+pub fn one_more_row()
+    ensures live { (log : List Event) (row : Event) (p : ℕ) →
+        (past (log ++ row ∷ [])).live p ≡ live_after (past log) row p }
+    ensures permanent { (log : List Event) (row : Event) (p : ℕ) →
+        (past (log ++ row ∷ [])).permanent p ≡ permanent_after (past log) row p }
+    ensures new { (log : List Event) (row : Event) (k p : ℕ) →
+        (past (log ++ row ∷ [])).new k p ≡ new_after (past log) row k p }
+    ensures members { (log : List Event) (row : Event) (k : ℕ) →
+        members (log ++ row ∷ []) k ≡ members log k ++ members (row ∷ []) k }
+
+    // Who is a member, and that each joins once.
+    ensures member { (log : List Event) (k p : ℕ) →
+        (is_member (past log) k p ≡ true) ↔ Contains (members log k) p }
+    ensures joins_once { (log : List Event) → IsLegal log → (k i j p : ℕ) →
+        slice_get (members log k) i ≡ Some p → slice_get (members log k) j ≡ Some p → i ≡ j }
+{}
+
 /// Why the members of a checkpoint are the least set: each is bound to the initiator by messages that a consistent
 /// choice cannot leave out.
 pub fn least_checkpoint_sets()
@@ -99,6 +118,10 @@ pub fn least_checkpoint_sets()
     ensures by_links { (log : List Event) (k : ℕ) → IsConsistent (past log) (checkpoint_cut (past log) k) →
         EachLinks (LinksCheckpoint (past log) k) (initiator_of (past log) k) (members log k) →
         IsLeastCheckpointSet (past log) k }
+
+    // Just before the decision of a legal log the members and their cut are such a choice.
+    ensures choice { (log : List Event) (k p : ℕ) (commit : Bool) → IsLegal (log ++ Decided p k commit ∷ []) →
+        IsCheckpointChoice (past log) k (is_member (past log) k) (checkpoint_cut (past log) k) }
 {}
 
 /// Why the members of a rollback are the least set: each is bound to the initiator by messages that would be orphans.
@@ -117,4 +140,10 @@ pub fn least_rollback_sets()
     ensures by_links { (log : List Event) (k : ℕ) → IsConsistent (past log) (rollback_cut (past log) k) →
         EachLinks (LinksRollback (past log)) (initiator_of (past log) k) (members log k) →
         IsLeastRollbackSet (past log) k }
+
+    // Just before the decision of a legal log the members are such a set, and their cut is the members' cut.
+    ensures initiator { (log : List Event) (k p : ℕ) (commit : Bool) → IsLegal (log ++ Decided p k commit ∷ []) →
+        HasInitiator (past log) k (is_member (past log) k) }
+    ensures cut { (log : List Event) (k p : ℕ) → IsLegal log → is_rollback (past log) k ≡ true →
+        cut_without (past log) (is_member (past log) k) p ≡ rollback_cut (past log) k p }
 {}
