@@ -1,3 +1,4 @@
+pub mod Consistency
 pub mod Leastness
 pub mod LegalLogs
 pub mod Lists

@@ -9,4 +9,5 @@ pub mod Chains
 pub mod InCheckpoint
 pub mod Least
 pub mod Messages
+pub mod Throughout
 pub mod WorkedRows

@@ -4,15 +4,16 @@ ghost use Rattle.std.specs.Prelude.{◌≡◌, ◌≢◌, ℕ, Bool, ◌+◌, �
 ghost use Rattle.kt_spacetime.specs.declared.event.Event.{Event};
 ghost use Rattle.kt_spacetime.specs.declared.event.Event.TheVariants.{Decided};
 ghost use Rattle.kt_cuts.specs.declared.rules.Rule.{Rule};
-ghost use Rattle.kt_cuts.specs.Past.{past, after, live_after, permanent_after, new_after, is_rollback, is_member, initiator_of};
+ghost use Rattle.kt_cuts.specs.Past.{Past, past, after, live_after, permanent_after, new_after, is_rollback, is_member, initiator_of};
 ghost use Rattle.kt_cuts.specs.declared.deeds.Deed.{Deed};
 ghost use Rattle.kt_cuts.specs.declared.deeds.Deed.TheVariants as deed;
-ghost use Rattle.kt_cuts.specs.Cuts.{IsConsistent, checkpoint_cut, rollback_cut};
+ghost use Rattle.kt_cuts.specs.Cuts.{part, IsOrphan, IsConsistent, permanent_cut, present_cut, checkpoint_cut, rollback_cut};
 ghost use Rattle.kt_cuts.specs.Chains.{members, LinksCheckpoint, LinksRollback, IsCheckpointChain, IsRollbackChain};
 ghost use Rattle.kt_cuts.specs.Least.{HasInitiator, IsCheckpointChoice, IsLeastCheckpointSet, cut_without, IsLeastRollbackSet, EachLinks};
 ghost use Rattle.kt_cuts.specs.Messages.{IsMessage};
 ghost use Rattle.kt_cuts.specs.InCheckpoint.{IsInCheckpoint, decides};
-ghost use Rattle.kt_cuts.specs.Legal.{IsLegal, broken_rule, first_broken};
+ghost use Rattle.kt_cuts.specs.Legal.{IsLegal, broken_rule, first_broken, has_deed};
+ghost use Rattle.kt_cuts.specs.Throughout.{HasConsistentDecisions};
 
 /// How the prefixes of a log and its first broken rule tell whether it is legal.
 pub fn legal_logs()
@@ -146,4 +147,19 @@ pub fn least_rollback_sets()
         HasInitiator (past log) k (is_member (past log) k) }
     ensures cut { (log : List Event) (k p : ℕ) → IsLegal log → is_rollback (past log) k ≡ true →
         cut_without (past log) (is_member (past log) k) p ≡ rollback_cut (past log) k p }
+{}
+
+/// When a cut is consistent, and what keeps the permanent and the present cut so.
+pub fn consistent_cuts()
+    // A cut without an orphan; one in which what is received in a part is sent in the sender's part.
+    ensures no_orphan { (s : Past) (cut : ℕ → ℕ) → IsConsistent s cut ↔ ((msg : ℕ) → IsOrphan s cut msg → ⊥) }
+    ensures sent { (s : Past) (cut : ℕ → ℕ) → IsConsistent s cut ↔ ((p q i msg : ℕ) →
+        slice_get (part s cut p) i ≡ Some (deed.Received msg q) →
+        has_deed (deed.Sent msg p) (part s cut q) ≡ true) }
+
+    // Where each committed decision of a legal log leaves a consistent cut, both cuts are consistent at every row.
+    ensures permanent { (log : List Event) → IsLegal log → HasConsistentDecisions log → (n : ℕ) →
+        IsConsistent (past (take n log)) (permanent_cut (past (take n log))) }
+    ensures present { (log : List Event) → IsLegal log → HasConsistentDecisions log → (n : ℕ) →
+        IsConsistent (past (take n log)) (present_cut (past (take n log))) }
 {}
