@@ -1,4 +1,5 @@
 pub mod Consistency
+pub mod FirstMembers
 pub mod Leastness
 pub mod LegalLogs
 pub mod Lists

@@ -84,7 +84,7 @@ pub fn places_of_legal_logs()
         slice_get ((past log).live p) i ≡ Some (deed.Received msg from) → IsMessage log msg from p }
 {}
 
-/// What one more row does to live histories, positions and members, and who the members are.
+/// What one more row does to live histories, positions and members.
 pub fn one_more_row()
     ensures live { (log : List Event) (row : Event) (p : ℕ) →
         (past (log ++ row ∷ [])).live p ≡ live_after (past log) row p }
@@ -94,12 +94,19 @@ pub fn one_more_row()
         (past (log ++ row ∷ [])).new k p ≡ new_after (past log) row k p }
     ensures members { (log : List Event) (row : Event) (k : ℕ) →
         members (log ++ row ∷ []) k ≡ members log k ++ members (row ∷ []) k }
+{}
 
-    // Who is a member, and that each joins once.
+/// Who the members of an instance are, and in which order.
+pub fn members_of_legal_logs()
+    // Whoever joined by a row of the log.
     ensures member { (log : List Event) (k p : ℕ) →
         (is_member (past log) k p ≡ true) ↔ Contains (members log k) p }
+
+    // In a legal log each joins once, the initiator first.
     ensures joins_once { (log : List Event) → IsLegal log → (k i j p : ℕ) →
         slice_get (members log k) i ≡ Some p → slice_get (members log k) j ≡ Some p → i ≡ j }
+    ensures initiator_first { (log : List Event) → IsLegal log → (k p : ℕ) →
+        slice_get (members log k) 0 ≡ Some p → initiator_of (past log) k ≡ Some p }
 {}
 
 /// Why the members of a checkpoint are the least set: each is bound to the initiator by messages that a consistent

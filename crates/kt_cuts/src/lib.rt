@@ -14,8 +14,8 @@ pub use cut::Cut;
 pub use deeds::Deed;
 pub use histories::{Histories, Trace};
 pub use laws::{
-    least_checkpoint_sets, least_rollback_sets, legal_logs, one_more_row, places_of_legal_logs,
-    positions_of_legal_logs,
+    least_checkpoint_sets, least_rollback_sets, legal_logs, members_of_legal_logs, one_more_row,
+    places_of_legal_logs, positions_of_legal_logs,
 };
 pub use legality::{LegalFault, legal};
 pub use rules::Rule;
