@@ -1,20 +1,16 @@
 -- The law of leastness: linking messages and chains make the members the least set.
 use Rattle.std.proofs.Common.{◌≡◌, ◌≢◌, ℕ, zero, suc, ◌+◌, ◌<◌, Bool, true, false, Option, Some, None, List, [], ◌∷◌, length, take, drop, refl, arith, sym, ap, subst, ◌∙◌, inl, inr}
-use Rattle.std.specs.Prelude.{slice_get, not, is_some, unwrap_or, ◌⊎◌}
+use Rattle.std.specs.Prelude.{slice_get, not, is_some, unwrap_or, ◌⊎◌, ◌||◌, ◌++◌, ◌≤◌, if◌then◌else◌}
 use Rattle.std.proofs.lemmas.Bool.{cases_eq}
 use Rattle.std.proofs.lemmas.Option.{slice_get_within}
 use Rattle.kt_spacetime.specs.declared.event.Event.{Event}
 use Rattle.kt_cuts.specs.declared.deeds.Deed.TheVariants as deed
-use Rattle.kt_cuts.specs.Past.{Past, past, is_member, initiator_of}
-use Rattle.kt_cuts.specs.Legal.{has_deed}
+use Rattle.kt_cuts.specs.Past.{Past, past, is_member, initiator_of, is_rollback}
+use Rattle.kt_cuts.specs.Legal.{has_deed, IsLegal}
 use Rattle.kt_cuts.specs.Cuts.{part, is_unsent, IsConsistent, checkpoint_cut, rollback_cut}
 use Rattle.kt_cuts.specs.Chains.{members, LinksCheckpoint, LinksRollback, IsCheckpointChain, IsRollbackChain}
-use Rattle.kt_cuts.specs.Least.{IsCheckpointChoice, IsLeastCheckpointSet, cut_without, IsLeastRollbackSet, EachLinks}
-use Rattle.std.specs.Prelude.{◌||◌, ◌++◌, ◌≤◌, if◌then◌else◌}
-use Rattle.kt_cuts.specs.Least.{HasInitiator}
+use Rattle.kt_cuts.specs.Least.{IsCheckpointChoice, IsLeastCheckpointSet, cut_without, IsLeastRollbackSet, EachLinks, HasInitiator}
 use Rattle.kt_spacetime.specs.declared.event.Event.TheVariants.{Decided}
-use Rattle.kt_cuts.specs.Past.{is_rollback}
-use Rattle.kt_cuts.specs.Legal.{IsLegal}
 use Rattle.kt_cuts.proofs.LegalLogs.{legal_last}
 use Rattle.kt_cuts.proofs.RowRules.{may_decide}
 use Rattle.kt_cuts.proofs.Positions.{Positions, positions, one_kind}

@@ -1,13 +1,12 @@
 -- The members of an instance.
 use Rattle.std.proofs.Common.{◌≡◌, ℕ, zero, suc, Bool, true, false, Option, Some, None, List, [], ◌∷◌, ◌++◌, length, refl, subst, ap, ◌∙◌, sym, arith, ◌∙◌, inl, inr}
 use Rattle.std.specs.List.{cons_option}
-use Rattle.std.specs.Prelude.{slice_get, fold, is_some, ◌⊎◌, ◌==◌, ◌&&◌, ◌||◌, if◌then◌else◌}
+use Rattle.std.specs.Prelude.{slice_get, fold, is_some, ◌⊎◌, ◌==◌, ◌&&◌, ◌||◌, if◌then◌else◌, Contains}
 use Rattle.std.proofs.lemmas.Bool.Decides.{nat_tests}
 use Rattle.std.proofs.lemmas.List.Elements.{filter_map-append}
 use Rattle.kt_spacetime.specs.declared.event.Event.{Event}
 use Rattle.kt_spacetime.specs.declared.event.Event.TheVariants.{Sent, Received, Dropped, Began, Took, Ready, Unwilling, Decided, Closed, Failed, Refused}
 use Rattle.kt_cuts.specs.Past.{Past, start, after, past, is_member}
-use Rattle.std.specs.Prelude.{Contains}
 use Rattle.std.proofs.lemmas.List.{append-nil}
 use Rattle.std.proofs.lemmas.Option.{slice_get_within, slice_get-get_or, get_or_from_slice_get}
 use Rattle.kt_cuts.specs.Legal.{IsLegal, broken_rule}

@@ -1,6 +1,6 @@
 -- Positions after a legal log: who is in which open instance, and where permanent and new positions stand.
 use Rattle.std.proofs.Common.{◌≡◌, ℕ, zero, suc, ◌+◌, ◌≤◌, Bool, true, false, Option, Some, None, List, [], ◌∷◌, ◌++◌, length, refl, arith, sym, subst, ◌∙◌, length-append, length-take, append-nil}
-use Rattle.std.specs.Prelude.{is_some, slice_get, ◌==◌, ◌||◌}
+use Rattle.std.specs.Prelude.{is_some, ◌==◌, ◌||◌}
 use Rattle.std.proofs.lemmas.Bool.Decides.{nat_tests}
 use Rattle.kt_base.specs.declared.words.Kind.{Kind}
 use Rattle.kt_base.specs.declared.words.Kind.TheVariants.{Checkpoint, Rollback}
@@ -9,6 +9,7 @@ use Rattle.kt_spacetime.specs.declared.event.Event.TheVariants.{Sent, Received, 
 use Rattle.kt_cuts.specs.declared.deeds.Deed.{Deed}
 use Rattle.kt_cuts.specs.declared.deeds.Deed.TheVariants as deed
 use Rattle.kt_cuts.specs.InCheckpoint.{IsInCheckpoint, decides}
+use Rattle.kt_cuts.proofs.Lists.{get_kept}
 use Rattle.kt_cuts.proofs.Updates.{at_one_all}
 use Rattle.kt_cuts.specs.Past.{Past, Beginning, start, after, past, at_one, beginning_of, kind_of, is_checkpoint_kind, is_rollback_kind, is_checkpoint, is_rollback, is_member}
 use Rattle.kt_cuts.specs.Legal.{IsLegal, broken_rule}
@@ -16,14 +17,9 @@ use Rattle.kt_cuts.proofs.LegalLogs.{legal_induction}
 use Rattle.kt_cuts.proofs.RowRules.{MayTake, may_take, MayGetReady, may_get_ready, may_decide, MayClose, may_close}
 
 -- how an instance began stays known
-get_more : {X : Type 0} (xs : List X) (y : X) (i : ℕ) (x : X) → slice_get xs i ≡ Some x → slice_get (xs ++ y ∷ []) i ≡ Some x
-get_more [] y i x e = absurd (cc)
-get_more (z ∷ zs) y zero x e = e
-get_more (z ∷ zs) y (suc i) x e = get_more zs y i x e
-
 pub begun_kept : (s : Past) (row : Event) (k : ℕ) (b : Beginning) → beginning_of s k ≡ Some b → beginning_of (after s row) k ≡ Some b
 begun_kept s row zero b e = absurd (cc)
-begun_kept s (Began p j kind) (suc k) b e = get_more s.begun (record { initiator = p; kind = kind }) k b e
+begun_kept s (Began p j kind) (suc k) b e = get_kept s.begun (record { initiator = p; kind = kind }) k b e
 begun_kept s (Sent p to body) (suc k) b e = e
 begun_kept s (Received p from msg) (suc k) b e = e
 begun_kept s (Dropped p from msg) (suc k) b e = e
@@ -79,7 +75,7 @@ positions_start = record {
   permanent_within = λ q. omega arith;
 }
 
--- a set of processes in two instances: no process is both, in one instance
+-- no process has both taken a checkpoint and got ready in one instance
 not_both : (s : Past) → Positions s → (q k n : ℕ) → s.new k q ≡ Some n → s.ready k q ≡ true → ⊥
 not_both s g q k n t r = one_kind s k (g.took_kind q k n t) (g.ready_kind q k r)
 
