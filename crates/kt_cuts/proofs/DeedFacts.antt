@@ -11,7 +11,7 @@ use Rattle.kt_cuts.specs.declared.deeds.Deed.{Deed}
 use Rattle.kt_cuts.specs.declared.deeds.Deed.TheVariants as deed
 use Rattle.kt_cuts.specs.Legal.{is_deed, has_deed, is_later}
 use Rattle.kt_cuts.specs.Lists.{sent_in, received_in, last_of, Rises}
-use Rattle.kt_cuts.proofs.Places.{get_left, get_seam}
+use Rattle.kt_cuts.proofs.Items.{get_left, get_seam}
 use Rattle.kt_cuts.proofs.SortedFacts.{sent_more, received_more, some_same}
 
 -- a history that has a deed has it at a place

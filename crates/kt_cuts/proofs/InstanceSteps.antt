@@ -23,10 +23,10 @@ use Rattle.kt_cuts.specs.Lists.{Rises, last_of, sent_in, received_in}
 use Rattle.kt_cuts.specs.Tables.{promoted, rolled, is_committed_verdict}
 use Rattle.kt_cuts.specs.Changes.{IsJoined, IsDecided}
 use Rattle.kt_cuts.specs.Standing.{Shows, ShowsProcess, ShowsProcesses, ShowsMessages, ShowsInstances, IsInOrder, IsAllowed, message_at, at_number, sending, receiving, is_dropped, beginning_shown, beginning_of_row, verdict_shown, new_shown, ready_shown, kind_shown, rolled_back_shown}
-use Rattle.kt_cuts.proofs.Places.{get_left, get_seam, get_set_same, get_set_other, get_take, get_in_take, item_there}
+use Rattle.kt_cuts.proofs.Items.{get_left, get_seam, get_set_same, get_set_other, get_take, get_in_take, item_there}
 use Rattle.kt_cuts.proofs.SortedFacts.{some_same}
 use Rattle.kt_cuts.proofs.DeedFacts.{place_of_deed, has_at, sent_rises_take, received_rises_take}
-use Rattle.kt_cuts.proofs.Keeping.{Keeps, keeps_all}
+use Rattle.kt_cuts.proofs.LegalLogs.{kept}
 use Rattle.kt_cuts.proofs.Shown.{at_same, at_other, processes_set, processes_same, messages_quiet}
 
 -- a function of two numbers with another value at one pair
@@ -226,15 +226,15 @@ joined_place v p position l low = get_or_from_slice_get _ p position 0 (get_set_
 
 pub took_there : (ps : List Process) (ms : List (Option Message)) (js : List Instance) (d : List ℕ) (b : Option (ℕ × ℕ)) (s : Past) (p k : ℕ) → Shows ps ms js d b s → IsAllowed s (event.Took p k)
     → (v : Instance) × (at_number js k ≡ Some v)
-took_there ps ms js d b s p k h allowed = begun_there js s k h.of_instances (keeps_all s (event.Took p k) allowed).numbers
+took_there ps ms js d b s p k h allowed = begun_there js s k h.of_instances (kept s (event.Took p k) allowed.unbroken).numbers
 
 pub ready_there : (ps : List Process) (ms : List (Option Message)) (js : List Instance) (d : List ℕ) (b : Option (ℕ × ℕ)) (s : Past) (p k : ℕ) → Shows ps ms js d b s → IsAllowed s (event.Ready p k)
     → (v : Instance) × (at_number js k ≡ Some v)
-ready_there ps ms js d b s p k h allowed = begun_there js s k h.of_instances (keeps_all s (event.Ready p k) allowed).numbers
+ready_there ps ms js d b s p k h allowed = begun_there js s k h.of_instances (kept s (event.Ready p k) allowed.unbroken).numbers
 
 pub decided_there : (ps : List Process) (ms : List (Option Message)) (js : List Instance) (d : List ℕ) (b : Option (ℕ × ℕ)) (s : Past) (p k : ℕ) (commit : Bool) → Shows ps ms js d b s → IsAllowed s (event.Decided p k commit)
     → (v : Instance) × (at_number js k ≡ Some v)
-decided_there ps ms js d b s p k commit h allowed = begun_there js s k h.of_instances (keeps_all s (event.Decided p k commit) allowed).numbers
+decided_there ps ms js d b s p k commit h allowed = begun_there js s k h.of_instances (kept s (event.Decided p k commit) allowed.unbroken).numbers
 
 pub shows_took : (ps : List Process) (ms : List (Option Message)) (js is : List Instance) (d : List ℕ) (b : Option (ℕ × ℕ)) (s : Past) (p k : ℕ) (v : Process) (u w : Instance)
     → Shows ps ms js d b s → IsAllowed s (event.Took p k) → p < 64 → slice_get ps p ≡ Some v → IsJoined js is k p (length v.history) u w
@@ -242,7 +242,7 @@ pub shows_took : (ps : List Process) (ms : List (Option Message)) (js is : List 
 shows_took ps ms js is d b s p k v u w h allowed low at x =
     let t : Past = after s (event.Took p k) in
     let old = h.of_processes.each p v at in
-    let rules = keeps_all s (event.Took p k) allowed in
+    let rules = kept s (event.Took p k) allowed.unbroken in
     let up = and_parts _ _ (and_parts _ _ rules.joining).0 in
     let checkpoint : is_checkpoint s k ≡ true = (and_parts _ (is_checkpoint s k) up.0).1 in
     let there = is_checkpoint_there (at_number js k) (ap is_checkpoint_kind (sym (kind_known js s k h.of_instances)) ∙ checkpoint) in
@@ -283,7 +283,7 @@ pub shows_ready : (ps : List Process) (ms : List (Option Message)) (js is : List
 shows_ready ps ms js is d b s p k v u w h allowed low at x =
     let t : Past = after s (event.Ready p k) in
     let old = h.of_processes.each p v at in
-    let rules = keeps_all s (event.Ready p k) allowed in
+    let rules = kept s (event.Ready p k) allowed.unbroken in
     let may = (and_parts _ _ rules.joining).0 in
     let rollback : is_rollback s k ≡ true = (and_parts _ (is_rollback s k) may).1 in
     let there = is_rollback_there (at_number js k) (ap is_rollback_kind (sym (kind_known js s k h.of_instances)) ∙ rollback) in

@@ -11,7 +11,7 @@ use Rattle.kt_base.specs.Sets.{has}
 use Rattle.kt_cuts.specs.declared.tables.Instance.{Instance}
 use Rattle.kt_cuts.specs.Changes.{IsJoined, IsDecided}
 use Rattle.kt_cuts.specs.Standing.{message_at, at_number, parties, beginning_shown}
-use Rattle.kt_cuts.proofs.Places.{set_mapped, get_set_same, get_set_other}
+use Rattle.kt_cuts.proofs.Items.{set_mapped, get_set_same, get_set_other, take_item}
 use Rattle.kt_cuts.proofs.SortedFacts.{some_same}
 
 pub marked_parties : (ms : List (Option Message)) (i : ℕ) (x y : Option Message) → i < length ms → x ≡ get_or ms i x → parties y ≡ parties x → map parties (set ms i y) ≡ map parties ms
@@ -90,16 +90,8 @@ judged_item js i k commit u v r e l b rd a is =
     let read : slice_get list i ≡ Some r = slice_get_read list (length js) i r (sym (length-set js i (record u { verdict = Some commit }))) b is in
     sym read ∙ (get_set_same js i (record u { verdict = Some commit }) b ∙ ap (λ (x : Instance). Some (record x { verdict = Some commit })) same)
 
-take_more : (xs : List ℕ) (i n d : ℕ) → n ≡ i + 1 → i < length xs → take n xs ≡ take i xs ++ get_or xs i d ∷ []
-take_more [] i n d e l = absurd (omega (arith, l))
-take_more (x ∷ xs) i zero d e l = absurd (omega (arith, e))
-take_more (x ∷ xs) zero (suc n) d e l =
-    let none : n ≡ 0 = omega (arith, e) in
-    rw none refl
-take_more (x ∷ xs) (suc i) (suc n) d e l = ap (λ (t : List ℕ). x ∷ t) (take_more xs i n d (omega (arith, e)) (omega (arith, l)))
-
 -- what the first items and one more have
 pub contains_more : (xs : List ℕ) (i x m : ℕ) → i < length xs → x ≡ get_or xs i x → Contains (take (i + 1) xs) m → Contains (take i xs) m ⊎ (x ≡ m)
 contains_more xs i x m l e h =
-    let more : take (i + 1) xs ≡ take i xs ++ x ∷ [] = take_more xs i (i + 1) x refl l ∙ ap (λ (y : ℕ). take i xs ++ y ∷ []) (sym e) in
+    let more : take (i + 1) xs ≡ take i xs ++ x ∷ [] = take_item xs i (i + 1) x refl (slice_get_read xs (length xs) i x refl l e) in
     Contains-push_cases (take i xs) x m (subst (λ (t : List ℕ). Contains t m) more h)

@@ -12,7 +12,7 @@ use Rattle.kt_cuts.specs.declared.process.Process.{Process}
 use Rattle.kt_cuts.specs.Past.{Past, start}
 use Rattle.kt_cuts.specs.Lists.{last_of}
 use Rattle.kt_cuts.specs.Standing.{ShowsProcess}
-use Rattle.kt_cuts.proofs.Places.{get_left, get_seam, get_push}
+use Rattle.kt_cuts.proofs.Items.{get_left, get_seam, get_push}
 use Rattle.kt_cuts.proofs.SortedFacts.{some_same}
 
 -- a process before the first row

@@ -19,10 +19,9 @@ use Rattle.kt_cuts.specs.Legal.{has_deed}
 use Rattle.kt_cuts.specs.Lists.{Rises, last_of, sent_in, received_in}
 use Rattle.kt_cuts.specs.Tables.{with_received, with_dropped}
 use Rattle.kt_cuts.specs.Standing.{Shows, ShowsProcess, ShowsProcesses, ShowsMessages, ShowsInstances, IsInOrder, IsAllowed, message_at, at_number, sending, receiving, is_dropped}
-use Rattle.kt_cuts.proofs.Places.{get_left, get_seam, get_right, get_push, get_set_same, get_set_other, get_take}
+use Rattle.kt_cuts.proofs.Items.{get_left, get_seam, get_right, get_push, get_set_same, get_set_other, get_take}
 use Rattle.kt_cuts.proofs.SortedFacts.{some_same, sent_more, received_more, received_at, received_else, received_unsent}
 use Rattle.kt_cuts.proofs.DeedFacts.{place_of_deed, has_at, has_front, sent_source, received_source, rises_push, later_than, last_push, sent_rises_take, received_rises_take}
-use Rattle.kt_cuts.proofs.Keeping.{Keeps, keeps_all}
 
 -- a function with another value at one place
 pub at_same : {X : Type 0} (p : ℕ) (x : X) (f : ℕ → X) → at_one p x f p ≡ x

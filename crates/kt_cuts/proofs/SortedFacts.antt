@@ -12,7 +12,7 @@ use Rattle.kt_cuts.specs.declared.deeds.Deed.{Deed}
 use Rattle.kt_cuts.specs.declared.deeds.Deed.TheVariants as deed
 use Rattle.kt_cuts.specs.Lists.{sent_in, received_in, message_sent, message_from}
 use Rattle.kt_cuts.specs.Sorted.{IsSorted}
-use Rattle.kt_cuts.proofs.Places.{get_left, get_right, get_seam, get_set_same, get_set_other}
+use Rattle.kt_cuts.proofs.Items.{get_left, get_right, get_seam, get_set_same, get_set_other}
 
 pub some_same : {X : Type 0} {x y : X} → Some x ≡ Some y → x ≡ y
 some_same e = cc

@@ -17,10 +17,10 @@ use Rattle.kt_cuts.specs.Legal.{has_deed, is_later, is_undelivered}
 use Rattle.kt_cuts.specs.Lists.{Rises, last_of, sent_in, received_in}
 use Rattle.kt_cuts.specs.Tables.{with_received, with_dropped}
 use Rattle.kt_cuts.specs.Standing.{Shows, ShowsProcess, ShowsProcesses, ShowsMessages, ShowsInstances, IsInOrder, IsAllowed, message_at, sending, receiving, is_dropped}
-use Rattle.kt_cuts.proofs.Places.{get_push, get_set_same, get_set_other, get_seam}
+use Rattle.kt_cuts.proofs.Items.{get_push, get_set_same, get_set_other, get_seam}
 use Rattle.kt_cuts.proofs.SortedFacts.{some_same, sent_more, received_at, received_else, received_unsent}
 use Rattle.kt_cuts.proofs.DeedFacts.{place_of_deed, has_at, has_front, received_source, rises_push, later_than, last_push}
-use Rattle.kt_cuts.proofs.Keeping.{Keeps, keeps_all}
+use Rattle.kt_cuts.proofs.LegalLogs.{kept}
 use Rattle.kt_cuts.proofs.Shown.{at_same, at_other, processes_set, old_message, new_message, no_message, quiet_message, kept_sending, kept_receiving, messages_quiet, sent_before}
 
 -- the deeds of a history with one more
@@ -173,7 +173,7 @@ shows_received ps ms os js d b s p f m v h allowed low at marked others same =
     let t : Past = after s (event.Received p f m) in
     let new : Deed = deed.Received m f in
     let live : (q : ℕ) → t.live q ≡ at_one p (s.live p ++ new ∷ []) s.live q = λ q. refl in
-    let rules = keeps_all s (event.Received p f m) allowed in
+    let rules = kept s (event.Received p f m) allowed.unbroken in
     let known = undelivered ms s p f m h.of_messages rules.message in
     let order = and_parts (list_all (is_later f m) (s.live p)) _ rules.order in
     let now : message_at (os ++ None ∷ []) m ≡ Some (record (known.0) { received = Some (length v.history) }) =
@@ -271,7 +271,7 @@ shows_dropped ps ms os js d b s p f m v h allowed low low_f at marked others sam
     let old = h.of_processes.each p v at in
     let t : Past = after s (event.Dropped p f m) in
     let new : Deed = deed.Received m f in
-    let rules = keeps_all s (event.Dropped p f m) allowed in
+    let rules = kept s (event.Dropped p f m) allowed.unbroken in
     let known = undelivered ms s p f m h.of_messages rules.message in
     let order = and_parts (list_all (is_later f m) (s.live p)) _ rules.order in
     let now : message_at (os ++ None ∷ []) m ≡ Some (record (known.0) { dropped = true }) = quiet_message os m ∙ (marked ∙ ap with_dropped known.1) in

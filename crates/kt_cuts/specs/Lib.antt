@@ -12,4 +12,8 @@ pub mod Standing
 pub mod Tables
 pub mod Changes
 pub mod Tests
+pub mod InCheckpoint
+pub mod Least
+pub mod Messages
+pub mod Throughout
 pub mod WorkedRows

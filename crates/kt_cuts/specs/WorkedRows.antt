@@ -126,6 +126,47 @@ without_the_sender =
     Decided 1 1 true ∷
     Closed 1 1 ∷ []
 
+-- the first of these logs with a needless third process in its checkpoint
+abbrev pub with_a_needless_member : List Event
+with_a_needless_member =
+    Sent 0 1 (pos 5) ∷
+    Received 1 0 1 ∷
+    Began 1 1 Checkpoint ∷
+    Took 1 1 ∷
+    Took 0 1 ∷
+    Took 2 1 ∷
+    Decided 1 1 true ∷
+    Closed 1 1 ∷
+    Closed 0 1 ∷
+    Closed 2 1 ∷ []
+
+-- the rollback after a failure with the receiver left out
+abbrev pub without_the_receiver : List Event
+without_the_receiver =
+    Sent 0 1 (pos 7) ∷
+    Received 1 0 1 ∷
+    Failed 0 ∷
+    Began 0 1 Rollback ∷
+    Ready 0 1 ∷
+    Decided 0 1 true ∷
+    Closed 0 1 ∷ []
+
+-- the rollback after a failure with a needless third process
+abbrev pub with_a_needless_rollback : List Event
+with_a_needless_rollback =
+    Sent 0 1 (pos 7) ∷
+    Received 1 0 1 ∷
+    Failed 0 ∷
+    Began 0 1 Rollback ∷
+    Ready 0 1 ∷
+    Ready 1 1 ∷
+    Sent 2 0 (pos 1) ∷
+    Ready 2 1 ∷
+    Decided 0 1 true ∷
+    Closed 0 1 ∷
+    Closed 1 1 ∷
+    Closed 2 1 ∷ []
+
 -- breaks numbers
 abbrev pub breaks_numbers : List Event
 breaks_numbers =

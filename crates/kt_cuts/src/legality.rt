@@ -2,6 +2,9 @@
 
 ghost use Rattle.std.specs.Prelude.{◌≡◌, ◌<◌, ◌^◌, ◌==◌, ◌&&◌, ◌||◌, not, is_none, is_some, ℕ, true, Option, Some, None, Err, vec_len, OnOk, find};
 ghost use Rattle.kt_base.specs.declared.words.Kind.{Kind};
+ghost use Rattle.kt_cuts.specs.declared.rules.Rule.{Rule};
+ghost use Rattle.kt_cuts.specs.declared.legality.LegalFault.TheVariants as fault;
+ghost use Rattle.kt_cuts.specs.Legal.{IsLegal, first_broken};
 ghost use Rattle.kt_cuts.specs.Tests.{is_after};
 
 use crate::deeds::Deed;
@@ -36,15 +39,14 @@ impl From<Memory> for LegalFault {
 
 /// Whether the rows of a log keep the rules of a legal log; else the first row that breaks one, and the least rule
 /// that it breaks.
-pub fn legal(alloc: Global, log: &SpaceTime) -> Result<(), LegalFault> {
+pub fn legal(alloc: Global, log: &SpaceTime) -> Result<(), LegalFault>
+    ensures legal { OnOk result (IsLegal log.now.rows) }
+    ensures broken { (row : ℕ) (rule : Rule) → result ≡ Err (fault.Broken row rule) → first_broken log.now.rows ≡ Some (row, rule) }
+{
     let mut replay = Replay::new(alloc)?;
-    let mut number = 0u32;
     for row in log.rows() {
-        number = number.saturating_add(1);
-        if let Some(rule) = replay.broken_rule(row)
-            && let Some(number) = RowNo::new(number)
-        {
-            return Err(LegalFault::Broken(number, rule));
+        if let Some(rule) = replay.broken_rule(row) {
+            return Err(LegalFault::Broken(replay.next_row(), rule));
         }
         replay.add(row)?;
     }

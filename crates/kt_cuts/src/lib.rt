@@ -4,6 +4,7 @@
 mod cut;
 mod deeds;
 mod history;
+mod laws;
 mod legality;
 mod messages;
 mod process;
@@ -14,6 +15,10 @@ mod worked;
 
 pub use cut::Cut;
 pub use deeds::Deed;
+pub use laws::{
+    consistent_cuts, least_checkpoint_sets, least_rollback_sets, legal_logs, members_of_legal_logs,
+    one_more_row, places_of_legal_logs, positions_of_legal_logs,
+};
 pub use legality::{LegalFault, legal};
 pub use rules::Rule;
 pub use worked::worked_rows;

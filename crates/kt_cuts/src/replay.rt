@@ -9,7 +9,7 @@ use crate::process::{Process, opening_processes};
 use crate::tables::{
     Instance, Message, bury, enter, judge, make_permanent, mark_dropped, mark_received, roll_back,
 };
-use kt_base::{InstNo, Kind, Memory, MsgNo, ProcNo, ProcSet};
+use kt_base::{InstNo, Kind, Memory, MsgNo, ProcNo, ProcSet, RowNo};
 use kt_spacetime::Event;
 use std::alloc::Global;
 
@@ -105,7 +105,18 @@ impl Replay {
         }
     }
 
-    // The number of the next row.
+    /// The number of the next row.
+    pub(crate) fn next_row(&self) -> RowNo
+        requires { vec_len self.now.messages < 2 ^ 24 }
+        ensures { result ≡ length self.now.messages.items + 1 }
+    {
+        match RowNo::new(self.messages.len() as u32 + 1) {
+            Some(row) => row,
+            None => unreachable!(),
+        }
+    }
+
+    // The number of the next row, as that of a message.
     fn next_message(&self) -> MsgNo
         requires { vec_len self.now.messages < 2 ^ 24 }
         ensures { result ≡ length self.now.messages.items + 1 }

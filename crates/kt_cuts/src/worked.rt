@@ -3,11 +3,12 @@
 ghost use Rattle.std.specs.Prelude.{◌≡◌, Some, None, [], ◌∷◌, take};
 ghost use Rattle.kt_cuts.specs.Past.{past};
 ghost use Rattle.kt_cuts.specs.Legal.{first_broken, broken_rule};
-ghost use Rattle.kt_cuts.specs.Cuts.{unsent_receives, permanent_cut, present_cut, checkpoint_cut, rollback_cut};
+ghost use Rattle.kt_cuts.specs.Least.{IsLeastCheckpointSet, IsLeastRollbackSet};
+ghost use Rattle.kt_cuts.specs.Cuts.{IsConsistent, unsent_receives, permanent_cut, present_cut, checkpoint_cut, rollback_cut};
 ghost use Rattle.kt_cuts.specs.Chains.{members};
 ghost use Rattle.kt_cuts.specs.declared.deeds.Deed.TheVariants as deed;
 ghost use Rattle.kt_cuts.specs.declared.rules.Rule.TheVariants as rule;
-ghost use Rattle.kt_cuts.specs.WorkedRows.{two_processes_checkpoint, only_the_initiator, checkpoint_through_three, rollback_after_a_failure, two_instances_at_once, rollback_meets_a_message, rollback_through_three, second_checkpoint, without_the_sender, breaks_numbers, breaks_message, breaks_order, breaks_sending, breaks_receiving, breaks_joining, breaks_deciding, breaks_closing, breaks_causes};
+ghost use Rattle.kt_cuts.specs.WorkedRows.{two_processes_checkpoint, only_the_initiator, checkpoint_through_three, rollback_after_a_failure, two_instances_at_once, rollback_meets_a_message, rollback_through_three, second_checkpoint, without_the_sender, with_a_needless_member, without_the_receiver, with_a_needless_rollback, breaks_numbers, breaks_message, breaks_order, breaks_sending, breaks_receiving, breaks_joining, breaks_deciding, breaks_closing, breaks_causes};
 
 /// The definitions have the values that were worked out by hand: a law, with nothing to run.
 pub fn worked_rows()
@@ -40,6 +41,14 @@ pub fn worked_rows()
     ensures present { unsent_receives (past without_the_sender) (present_cut (past without_the_sender)) 1 ≡ [] }
     ensures rollback_consistent { unsent_receives (past (take 9 rollback_through_three)) (rollback_cut (past (take 9 rollback_through_three)) 1) 1 ≡ [] }
 
+    // Least sets, just before the decision: the members are least, a needless one is not, the initiator alone leaves an orphan.
+    ensures least { IsLeastCheckpointSet (past (take 5 two_processes_checkpoint)) 1 }
+    ensures needless { IsLeastCheckpointSet (past (take 6 with_a_needless_member)) 1 → ⊥ }
+    ensures initiator_alone { IsConsistent (past (take 4 without_the_sender)) (checkpoint_cut (past (take 4 without_the_sender)) 1) → ⊥ }
+    ensures least_rollback { IsLeastRollbackSet (past (take 6 rollback_after_a_failure)) 1 }
+    ensures needless_rollback { IsLeastRollbackSet (past (take 8 with_a_needless_rollback)) 1 → ⊥ }
+    ensures rollback_alone { IsConsistent (past (take 5 without_the_receiver)) (rollback_cut (past (take 5 without_the_receiver)) 1) → ⊥ }
+
     // Legal logs.
     ensures legal_two_processes { first_broken two_processes_checkpoint ≡ None }
     ensures legal_alone { first_broken only_the_initiator ≡ None }
@@ -50,6 +59,9 @@ pub fn worked_rows()
     ensures legal_rollback { first_broken rollback_through_three ≡ None }
     ensures legal_second { first_broken second_checkpoint ≡ None }
     ensures legal_without { first_broken without_the_sender ≡ None }
+    ensures legal_needless { first_broken with_a_needless_member ≡ None }
+    ensures legal_without_receiver { first_broken without_the_receiver ≡ None }
+    ensures legal_needless_rollback { first_broken with_a_needless_rollback ≡ None }
 
     // Each rule is the first to be broken in one log.
     ensures numbers { first_broken breaks_numbers ≡ Some (1, rule.Numbers) }

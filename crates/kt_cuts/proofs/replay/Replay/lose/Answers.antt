@@ -1,6 +1,6 @@
 use Rattle.std.proofs.Common.{◌≡◌, arith, sym, ap, ◌∙◌, ◌<◌, length}
 use Rattle.std.proofs.lemmas.Option.{slice_get_read}
-use Rattle.kt_cuts.proofs.Places.{written}
+use Rattle.kt_cuts.proofs.Items.{written}
 use Rattle.kt_cuts.proofs.Steps.{shows_dropped}
 use Rattle.kt_cuts.proofs.replay.Replay.lose.Goals as goal
 
