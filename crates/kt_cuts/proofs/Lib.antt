@@ -5,6 +5,7 @@ pub mod SortedFacts
 pub mod ProcessFacts
 pub mod DeedFacts
 pub mod LatestFacts
+pub mod Traced
 pub mod MessageTables
 pub mod Shown
 pub mod Steps

@@ -12,6 +12,9 @@ pub mod Standing
 pub mod Tables
 pub mod Changes
 pub mod Tests
+pub mod Traces
+pub mod HistoriesOf
+pub mod Orphans
 pub mod InCheckpoint
 pub mod Least
 pub mod Messages

@@ -1,6 +1,6 @@
 //! The live history of a process, with what it has of one kind of deed.
 
-ghost use Rattle.std.specs.Prelude.{◌≡◌, ◌≤◌, ◌<◌, ◌++◌, ◌∷◌, [], nat_le, find, length, drop, slice_get, option_to_list, OnOk, IfOk, IfNone, IsTrue, ◌↔◌, Some};
+ghost use Rattle.std.specs.Prelude.{◌≡◌, ◌≤◌, ◌<◌, ◌++◌, ◌∷◌, [], nat_le, find, length, drop, slice_get, option_to_list, OnOk, IfOk, IfNone, IsTrue, ◌↔◌, Some, None, ◌+◌};
 ghost use Rattle.kt_cuts.specs.declared.deeds.Deed.TheVariants as deed;
 ghost use Rattle.kt_cuts.specs.Lists.{last_of, Rises, sent_in, received_in};
 
@@ -72,6 +72,18 @@ impl History {
         match self.deed(place) {
             Some(there) => there == *deed,
             None => false,
+        }
+    }
+
+    /// This place, counted from 1, where this deed is at it.
+    pub(crate) fn place_if(&self, place: usize, deed: &Deed) -> Option<usize>
+        ensures there { slice_get self.now place ≡ Some deed.now → result ≡ Some (place + 1) }
+        ensures none { (slice_get self.now place ≡ Some deed.now → ⊥) → result ≡ None }
+    {
+        if place < self.deeds.len() && self.has_at(place, deed) {
+            Some(place + 1)
+        } else {
+            None
         }
     }
 

@@ -3,6 +3,7 @@
 
 mod cut;
 mod deeds;
+mod histories;
 mod history;
 mod laws;
 mod legality;
@@ -15,6 +16,7 @@ mod worked;
 
 pub use cut::Cut;
 pub use deeds::Deed;
+pub use histories::{Histories, Trace};
 pub use laws::{
     consistent_cuts, least_checkpoint_sets, least_rollback_sets, legal_logs, members_of_legal_logs,
     one_more_row, places_of_legal_logs, positions_of_legal_logs,

@@ -41,6 +41,7 @@ ghost use Rattle.kt_cuts.specs.Tables.{promoted, rolled, with_received, with_dro
 impl Instance {
     ghost use Rattle.kt_cuts.specs.Past.{is_rollback_kind};
     ghost use Rattle.kt_cuts.specs.Tables.{is_committed_verdict};
+    ghost use Rattle.kt_cuts.specs.Standing.{new_shown};
 
     /// One more member, whose history has this length.
     pub(crate) fn add(&mut self, p: ProcNo, position: usize)
@@ -53,6 +54,17 @@ impl Instance {
     {
         self.joined = self.joined.with(p);
         self.positions[p.get() as usize] = position;
+    }
+
+    /// The length of a process's history when it joined this checkpoint.
+    pub(crate) fn position(&self, p: ProcNo) -> Option<usize>
+        ensures { result ≡ new_shown (Some self.now) p }
+    {
+        if self.kind == Kind::Checkpoint && self.joined.has(p) {
+            Some(self.positions[p.get() as usize])
+        } else {
+            None
+        }
     }
 
     /// Whether this process has joined.
