@@ -26,7 +26,7 @@ filter_none : {X : Type 0} (test : X → Bool) (xs : List X) → ((i : ℕ) (x :
 filter_none test [] h = refl
 filter_none test (x ∷ xs) h = rw (h 0 x refl) (filter_none test xs (λ i y e. h (suc i) y e))
 
-filter_keeps : {X : Type 0} (test : X → Bool) (xs : List X) (i : ℕ) (x : X) → slice_get xs i ≡ Some x → test x ≡ true → (j : ℕ) × (slice_get (filter test xs) j ≡ Some x)
+pub filter_keeps : {X : Type 0} (test : X → Bool) (xs : List X) (i : ℕ) (x : X) → slice_get xs i ≡ Some x → test x ≡ true → (j : ℕ) × (slice_get (filter test xs) j ≡ Some x)
 filter_keeps test [] i x e t = absurd (cc)
 filter_keeps test (y ∷ ys) zero x e t = let same : y ≡ x = cc in let passes : test y ≡ true = subst (λ z. test z ≡ true) (sym same) t in (0, rw passes e)
 filter_keeps {X} test (y ∷ ys) (suc i) x e t = let r = filter_keeps test ys i x e t in at_test (test y) r.0 r.1

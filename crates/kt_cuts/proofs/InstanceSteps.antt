@@ -478,7 +478,7 @@ past_front true n l i d e h = elim (cases_lt i n) [
 ]
 
 -- a process with a deed is one of the 64
-below : (live : ℕ → List Deed) → ((q : ℕ) → 64 ≤ q → live q ≡ []) → (q i : ℕ) (d : Deed) → slice_get (live q) i ≡ Some d → q < 64
+pub below : (live : ℕ → List Deed) → ((q : ℕ) → 64 ≤ q → live q ≡ []) → (q i : ℕ) (d : Deed) → slice_get (live q) i ≡ Some d → q < 64
 below live none q i d e = elim (cases_lt q 64) [
   | inl l ↦ l
   | inr g ↦

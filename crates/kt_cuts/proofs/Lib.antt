@@ -6,6 +6,7 @@ pub mod ProcessFacts
 pub mod DeedFacts
 pub mod LatestFacts
 pub mod Traced
+pub mod OrphanFacts
 pub mod MessageTables
 pub mod Shown
 pub mod Steps

@@ -1,5 +1,5 @@
 -- The least orphan of a cut.
-use Rattle.std.specs.Prelude.{◌≡◌, ℕ, ◌≤◌, if◌then◌else◌, nat_le, false, Option, Some, None, slice_get}
+use Rattle.std.specs.Prelude.{◌≡◌, ℕ, ◌≤◌, if◌then◌else◌, nat_le, Bool, false, Option, Some, None, slice_get}
 use Rattle.kt_cuts.specs.declared.deeds.Deed.TheVariants as deed
 use Rattle.kt_cuts.specs.Past.{Past}
 use Rattle.kt_cuts.specs.Legal.{has_deed}
@@ -21,3 +21,8 @@ earlier (Some m) (Some n) = Some (if nat_le m n then m else n)
 abbrev pub IsAtMost : Option ℕ → ℕ → Type 0
 IsAtMost None m = ⊥
 IsAtMost (Some n) m = n ≤ m
+
+-- there is a place, counted from 1, and it is within a part of this length
+abbrev pub is_within : Option ℕ → ℕ → Bool
+is_within None length = false
+is_within (Some place) length = nat_le place length

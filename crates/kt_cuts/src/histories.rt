@@ -1,12 +1,10 @@
 //! Live histories and positions after the first rows of a log.
 
-ghost use Rattle.std.specs.Prelude.{◌≡◌, ◌≤◌, ◌+◌, ℕ, Some, None, List, length, take, slice_index, IfOk, IfSome, IfNone};
+ghost use Rattle.std.specs.Prelude.{◌≡◌, ◌≤◌, ◌+◌, ℕ, List, length, take, IfOk};
 ghost use Rattle.kt_spacetime.specs.declared.event.Event.{Event};
 ghost use Rattle.kt_cuts.specs.Past.{Past, past};
-ghost use Rattle.kt_cuts.specs.Legal.{IsLegal, has_deed};
-ghost use Rattle.kt_cuts.specs.Cuts.{IsOrphan};
+ghost use Rattle.kt_cuts.specs.Legal.{IsLegal};
 
-use crate::cut::Cut;
 use crate::deeds::Deed;
 use crate::replay::Replay;
 use crate::tables::{Instance, Message};
@@ -95,7 +93,7 @@ impl Replay {
     ghost use Rattle.kt_cuts.specs.Traces.{place_of};
 
     // The place of a message's send in its sender's history, counted from 1.
-    fn sent_place(&self, msg: MsgNo, message: &Message) -> Option<usize>
+    pub(crate) fn sent_place(&self, msg: MsgNo, message: &Message) -> Option<usize>
         ensures { (s : Past) → ShowsPast self.now s → message_at self.now.messages.items msg ≡ Some message.now → result ≡ place_of (deed.Sent msg message.now.to) (s.live message.now.from) }
     {
         let to = message.to;
@@ -106,7 +104,7 @@ impl Replay {
     }
 
     // The place of a message's receive in its receiver's history, counted from 1.
-    fn received_place(&self, msg: MsgNo, message: &Message) -> Option<usize>
+    pub(crate) fn received_place(&self, msg: MsgNo, message: &Message) -> Option<usize>
         ensures { (s : Past) → ShowsPast self.now s → message_at self.now.messages.items msg ≡ Some message.now → result ≡ place_of (deed.Received msg message.now.from) (s.live message.now.to) }
     {
         let Some(place) = message.received else {

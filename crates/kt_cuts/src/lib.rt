@@ -8,6 +8,7 @@ mod history;
 mod laws;
 mod legality;
 mod messages;
+mod orphans;
 mod process;
 mod replay;
 mod rules;
