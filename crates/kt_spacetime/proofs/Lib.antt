@@ -3,3 +3,5 @@ pub mod RecordFacts
 pub mod ReaderFacts
 pub mod StepFacts
 pub mod GatherFacts
+pub mod SpellingFacts
+pub mod TextFacts

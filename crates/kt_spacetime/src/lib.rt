@@ -4,12 +4,14 @@
 mod event;
 mod fault;
 pub mod fields;
+mod laws;
 mod log;
 mod reading;
 mod rows;
 
 pub use event::Event;
 pub use fault::LogFault;
+pub use laws::{faults_are_real, one_spelling};
 pub use log::SpaceTime;
 pub use reading::{RowReader, read_csv};
 
