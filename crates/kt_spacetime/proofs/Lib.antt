@@ -5,3 +5,4 @@ pub mod StepFacts
 pub mod GatherFacts
 pub mod SpellingFacts
 pub mod TextFacts
+pub mod WritingFacts
