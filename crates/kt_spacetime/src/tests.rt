@@ -1,3 +1,7 @@
+mod logs;
+mod too_long;
+mod writing;
+
 use crate::{Event, LogFault, RowReader, SpaceTime, read_csv};
 use kt_base::{Cause, InstNo, Kind, MsgNo, ProcNo, RowNo, Verb};
 use std::io;
