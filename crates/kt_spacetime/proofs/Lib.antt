@@ -6,3 +6,4 @@ pub mod GatherFacts
 pub mod SpellingFacts
 pub mod TextFacts
 pub mod WritingFacts
+pub mod FaultFacts

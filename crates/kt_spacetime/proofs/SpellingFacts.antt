@@ -67,23 +67,23 @@ word_back row.Failed = refl
 word_back row.Refused = refl
 
 -- a text is one word of a row
-one_word : (w v : RowWord) → row_word w ≡ row_word v → w ≡ v
+pub one_word : (w v : RowWord) → row_word w ≡ row_word v → w ≡ v
 one_word w v e = sym (word_back w) ∙ ap word_in e ∙ word_back v
 
 -- the fields of a record with four
-abbrev field_1 : List (List ℕ) → List ℕ
+abbrev pub field_1 : List (List ℕ) → List ℕ
 field_1 (w ∷ a ∷ b ∷ c ∷ rest) = w
 field_1 _ = []
 
-abbrev field_2 : List (List ℕ) → List ℕ
+abbrev pub field_2 : List (List ℕ) → List ℕ
 field_2 (w ∷ a ∷ b ∷ c ∷ rest) = a
 field_2 _ = []
 
-abbrev field_3 : List (List ℕ) → List ℕ
+abbrev pub field_3 : List (List ℕ) → List ℕ
 field_3 (w ∷ a ∷ b ∷ c ∷ rest) = b
 field_3 _ = []
 
-abbrev field_4 : List (List ℕ) → List ℕ
+abbrev pub field_4 : List (List ℕ) → List ℕ
 field_4 (w ∷ a ∷ b ∷ c ∷ rest) = c
 field_4 _ = []
 

@@ -13,8 +13,9 @@ pub fn one_spelling()
     ensures alone { (row other : events) → IsInRange row → IsInRange other → spelling row ≡ spelling other → row ≡ other }
 {}
 
-/// A text says the rows of one log at most, and a text with a first fault of its own says those of none.
+/// A text says the rows of one log at most, or has one first fault of its own; it never has both.
 pub fn faults_are_real()
     ensures one_log { (text : List (List (List ℕ))) (rows others : List events) → IsLogText text rows → IsLogText text others → rows ≡ others }
     ensures no_log { (text : List (List (List ℕ))) (rows : List events) (fault : log_faults) → IsOfText fault → IsFirstFault text fault → IsLogText text rows → ⊥ }
+    ensures one_fault { (text : List (List (List ℕ))) (fault other : log_faults) → IsOfText fault → IsOfText other → IsFirstFault text fault → IsFirstFault text other → fault ≡ other }
 {}
