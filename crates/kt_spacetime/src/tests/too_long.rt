@@ -1,3 +1,4 @@
+use super::next_fault;
 use crate::{LogFault, RowReader};
 use std::alloc::Global;
 use std::io;
@@ -34,13 +35,8 @@ fn fault_after(alloc: Global, first: &'static [u8], count: u32) -> Result<LogFau
             Err(fault) => return Err(fault.into()),
         }
     }
-    let Err(fault) = rows.next() else {
-        return Err("no fault".into());
-    };
-    let Err(again) = rows.next() else {
-        return Err("no fault at the next call".into());
-    };
-    if again == fault {
+    let fault = next_fault(&mut rows)?;
+    if next_fault(&mut rows)? == fault {
         Ok(fault)
     } else {
         Err("another fault at the next call".into())

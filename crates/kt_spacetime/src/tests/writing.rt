@@ -6,6 +6,11 @@ use std::io;
 use std::io::Write;
 use std::test::Fail;
 
+// How many bytes a row's record has at most, and the first record.
+const ROW_ROOM: usize = 32;
+
+const HEADER: &[u8] = b"kt,2,-,-\n";
+
 // Takes some bytes a call at most, and fails at one call; a flush is a call.
 #[derive(Drop)]
 struct FailingWriter {
@@ -16,9 +21,9 @@ struct FailingWriter {
 }
 
 impl FailingWriter {
-    fn new(alloc: Global, takes: usize, fails_at: usize) -> FailingWriter {
+    fn new(room: Vec<u8>, takes: usize, fails_at: usize) -> FailingWriter {
         FailingWriter {
-            held: Vec::new(alloc),
+            held: room,
             takes,
             calls: 0,
             fails_at,
@@ -48,8 +53,14 @@ impl Write for FailingWriter {
     }
 }
 
+// Room for the text of a log, so that a refused growth is no fault of the writer.
+fn room_for(alloc: Global, log: &SpaceTime) -> Result<Vec<u8>, Fail> {
+    let rows = log.rows().len();
+    Ok(Vec::with_capacity(alloc, HEADER.len() + ROW_ROOM * rows)?)
+}
+
 fn text_of(alloc: Global, log: &SpaceTime) -> Result<Vec<u8>, Fail> {
-    let mut text = Vec::new(alloc);
+    let mut text = room_for(alloc, log)?;
     write_csv(alloc, log, &mut text)?;
     Ok(text)
 }
@@ -84,7 +95,7 @@ fn what_is_written_is_read_back(rt: HostRuntime) -> Result<(), Fail> {
 #[test]
 fn a_log_without_rows_is_its_first_record(rt: HostRuntime) -> Result<(), Fail> {
     let text = text_of(rt.alloc(), &SpaceTime::new(rt.alloc()))?;
-    assert_eq!(rt; text.as_slice(), b"kt,2,-,-\n".as_slice());
+    assert_eq!(rt; text.as_slice(), HEADER);
     Ok(())
 }
 
@@ -92,7 +103,7 @@ fn a_log_without_rows_is_its_first_record(rt: HostRuntime) -> Result<(), Fail> {
 fn a_log_of_many_pieces_is_read_back(rt: HostRuntime) -> Result<(), Fail> {
     let log = long_log(rt.alloc())?;
     let text = text_of(rt.alloc(), &log)?;
-    assert_eq!(rt; text.len(), 9 + 6_000 * 14);
+    assert_eq!(rt; text.len(), HEADER.len() + 6_000 * 14);
     let again = read_csv(rt.alloc(), text.as_slice())?;
     assert_eq!(rt; again.rows(), log.rows());
     Ok(())
@@ -105,7 +116,7 @@ fn held_at(
     takes: usize,
     call: usize,
 ) -> Result<Option<Vec<u8>>, Fail> {
-    let mut writer = FailingWriter::new(alloc, takes, call);
+    let mut writer = FailingWriter::new(room_for(alloc, log)?, takes, call);
     match write_csv(alloc, log, &mut writer) {
         Ok(()) => Ok(None),
         Err(WriteFault::Memory) => Err(WriteFault::Memory.into()),
