@@ -3,3 +3,7 @@ pub mod RecordFacts
 pub mod ReaderFacts
 pub mod StepFacts
 pub mod GatherFacts
+pub mod SpellingFacts
+pub mod TextFacts
+pub mod WritingFacts
+pub mod FaultFacts

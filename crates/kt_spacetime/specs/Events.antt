@@ -1,5 +1,6 @@
 -- The rows of a log.
-use Rattle.std.specs.Prelude.{ℕ}
+use Rattle.std.specs.Prelude.{ℕ, FitsSigned}
+use Rattle.std.specs.Int.{w64}
 use Rattle.kt_base.specs.Numbers.{IsProcNo, IsMsgNo, IsInstNo}
 use Rattle.kt_base.specs.declared.words.Cause.{Cause}
 use Rattle.kt_base.specs.declared.words.Cause.TheVariants.{Busy, Down, NoSave}
@@ -26,9 +27,9 @@ IsCauseInRange (Busy inst) = IsInstNo inst
 IsCauseInRange Down = Unit {0}
 IsCauseInRange NoSave = Unit {0}
 
--- every number of a row is in its range
+-- every number of a row is in its range, a body within 64 bits
 abbrev pub IsInRange : Event → Type 0
-IsInRange (Sent p to body) = IsProcNo p × IsProcNo to
+IsInRange (Sent p to body) = IsProcNo p × IsProcNo to × FitsSigned w64 body
 IsInRange (Received p from msg) = IsProcNo p × IsProcNo from × IsMsgNo msg
 IsInRange (Dropped p from msg) = IsProcNo p × IsProcNo from × IsMsgNo msg
 IsInRange (Began p inst kind) = IsProcNo p × IsInstNo inst

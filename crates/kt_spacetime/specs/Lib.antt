@@ -6,5 +6,6 @@ pub mod Slot
 pub mod Spelling
 pub mod Records
 pub mod Texts
+pub mod Writing
 pub mod Reading
 pub mod Progress

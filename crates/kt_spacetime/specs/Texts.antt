@@ -95,3 +95,7 @@ pub record IsFirstFault (text : List (List (List ℕ))) (fault : LogFault) : Typ
   pub left : List (List (List ℕ))
   pub after_rows : IsAfterRows format rows left text
   pub wrong : IsFaultFrom format (length rows) left fault
+
+-- a fault of the text itself: neither of its reader nor of memory
+abbrev pub IsOfText : LogFault → Type 0
+IsOfText fault = (fault ≢ Read) × (fault ≢ Memory)

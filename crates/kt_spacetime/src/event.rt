@@ -1,6 +1,7 @@
 //! The rows of a log.
 
-ghost use Rattle.std.specs.Prelude.{◌≡◌};
+ghost use Rattle.std.specs.Prelude.{◌≡◌, FitsSigned};
+ghost use Rattle.std.specs.Int.{w64};
 ghost use Rattle.kt_base.specs.Numbers.{IsProcNo, IsInstNo};
 ghost use Rattle.kt_spacetime.specs.Events.{process_of, IsInRange, IsCauseInRange};
 
@@ -99,7 +100,10 @@ impl Event {
         ensures { IsInRange self.now }
     {
         match *self {
-            Event::Sent { p, to, .. } => read_pair(p, to),
+            Event::Sent { p, to, body } => {
+                read_pair(p, to);
+                read_body(body);
+            }
             Event::Received { p, from, msg } | Event::Dropped { p, from, msg } => {
                 read_pair(p, from);
                 msg.get();
@@ -130,6 +134,10 @@ fn read_pair(p: ProcNo, q: ProcNo)
     p.get();
     q.get();
 }
+
+fn read_body(body: i64)
+    ensures { FitsSigned w64 body }
+{}
 
 fn read_inst(p: ProcNo, inst: InstNo)
     ensures { IsProcNo p × IsInstNo inst }

@@ -1,8 +1,9 @@
-//! Why a log's text was refused.
+//! Why a log's text was refused, or not written.
 
 ghost use Rattle.std.specs.Prelude.{◌≡◌, if◌then◌else◌};
 ghost use Rattle.csv.specs.Reading.{error_kind, is_io};
 ghost use Rattle.kt_spacetime.specs.declared.fault.LogFault.TheVariants as fault;
+ghost use Rattle.kt_spacetime.specs.declared.fault.WriteFault.TheVariants as write;
 
 use kt_base::{Memory, RowNo};
 use thiserror::Error;
@@ -51,5 +52,24 @@ impl From<csv::Error> for LogFault {
         } else {
             LogFault::Memory
         }
+    }
+}
+
+/// Why a text was not written. Part of it may be.
+#[derive(Clone, Copy, Debug, PartialEq, Eq, Hash, Error)]
+pub enum WriteFault {
+    /// The writer failed.
+    #[error("write fault")]
+    Write,
+    /// There was no memory for a piece of the text.
+    #[error("memory")]
+    Memory,
+}
+
+impl From<Memory> for WriteFault {
+    ghost from_gives = { λ _ f. f ≡ write.Memory };
+
+    fn from(_fault: Memory) -> WriteFault {
+        WriteFault::Memory
     }
 }

@@ -106,3 +106,20 @@ pub fn verdict_of(text: &[u8]) -> Option<bool>
     }
     None
 }
+
+/// The word of a kind of instance: `checkpoint` or `rollback`.
+pub fn kind_text(kind: Kind) -> &'static [u8]
+    ensures { result.now ≡ kind_word kind }
+{
+    match kind {
+        Kind::Checkpoint => b"checkpoint",
+        Kind::Rollback => b"rollback",
+    }
+}
+
+/// The word of a verdict: `commit` or `abort`.
+pub fn verdict_text(commit: bool) -> &'static [u8]
+    ensures { result.now ≡ verdict_word commit }
+{
+    if commit { b"commit" } else { b"abort" }
+}

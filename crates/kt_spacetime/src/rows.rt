@@ -1,6 +1,7 @@
 //! What the four fields of a record say.
 
-ghost use Rattle.std.specs.Prelude.{◌≡◌, ◌≢◌, ◌≤◌, ◌^◌, [], ◌∷◌, codes, IfOk, IfErr, IfSome, IfNone};
+ghost use Rattle.std.specs.Prelude.{◌≡◌, ◌≢◌, ◌≤◌, ◌^◌, [], ◌∷◌, codes, FitsSigned, IfOk, IfErr, IfSome, IfNone};
+ghost use Rattle.std.specs.Int.{w64};
 ghost use Rattle.std.specs.Fmt.{decimal, signed_decimal};
 ghost use Rattle.kt_base.specs.Numbers.{IsProcNo, IsInstNo, IsMsgNo};
 ghost use Rattle.kt_spacetime.specs.declared.rows.Format.TheVariants.{One};
@@ -99,7 +100,7 @@ fn message(text: &[u8], format: Format) -> Result<MsgNo, RowFault>
 }
 
 fn body(text: &[u8]) -> Result<i64, RowFault>
-    ensures found { IfOk result (λ z. text.now ≡ signed_decimal z) }
+    ensures found { IfOk result (λ z. FitsSigned w64 z × (text.now ≡ signed_decimal z)) }
     ensures fault { IfErr result (IsMisfit One slot.body text.now) }
 {
     body_of(text).ok_or(RowFault::Number)
