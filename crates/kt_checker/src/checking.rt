@@ -1,5 +1,8 @@
 //! The checker's order.
 
+ghost use Rattle.std.specs.Prelude.{◌≡◌, None, IfOk};
+ghost use Rattle.kt_cuts.specs.Legal.{IsLegal};
+
 use crate::decisions::{Decision, Instance, Instances};
 use crate::verdict::{Verdict, Why};
 use kt_base::{InstNo, Kind, Memory, MsgNo, ProcNo, RowNo};
@@ -31,7 +34,9 @@ pub fn check(
 }
 
 // The answer to a log that is not legal.
-fn illegal(alloc: Global, log: &SpaceTime) -> Result<Option<Verdict>, Memory> {
+fn illegal(alloc: Global, log: &SpaceTime) -> Result<Option<Verdict>, Memory>
+    ensures { IfOk result (λ verdict. verdict ≡ None → IsLegal log.now.rows) }
+{
     let Err(fault) = legal(alloc, log) else {
         return Ok(None);
     };
@@ -59,7 +64,9 @@ fn refuted(
     log: &SpaceTime,
     instances: &mut Instances,
     certificate: &Certificate,
-) -> Result<Option<Verdict>, Memory> {
+) -> Result<Option<Verdict>, Memory>
+    requires { IsLegal log.now.rows }
+{
     let inst = certificate.inst;
     let Some(instance) = instances.get_mut(inst) else {
         return Ok(Some(no(Some(inst), None, Why::Unknown)));
@@ -93,7 +100,9 @@ fn fault_in(
     instance: &Instance,
     decision: &Decision,
     certificate: &Certificate,
-) -> Result<Option<Why>, Memory> {
+) -> Result<Option<Why>, Memory>
+    requires { IsLegal log.now.rows }
+{
     if decision.commit == instance.refused {
         return Ok(Some(Why::Cause));
     }

@@ -1,5 +1,5 @@
 -- Rows of instances and failures: tables go on showing what is known.
-use Rattle.std.proofs.Common.{◌≡◌, ◌≢◌, ℕ, zero, suc, ◌+◌, ◌-◌, ◌<◌, ◌≤◌, ◌==◌, ◌&&◌, ◌||◌, not, nat_le, if◌then◌else◌, ◌⊎◌, Bool, true, false, Option, Some, None, option_map, unwrap_or, List, [], ◌∷◌, ◌++◌, length, map, get_or, set, take, drop, replicate, refl, sym, ap, ◌∙◌, subst, arith, inl, inr, length-append}
+use Rattle.std.proofs.Common.{◌≡◌, ◌≢◌, ℕ, zero, suc, ◌+◌, ◌<◌, ◌≤◌, ◌&&◌, ◌||◌, nat_le, if◌then◌else◌, Bool, true, false, Option, Some, None, option_map, unwrap_or, List, [], ◌∷◌, ◌++◌, length, get_or, set, take, replicate, refl, sym, ap, ◌∙◌, subst, arith, inl, inr, length-append}
 use Rattle.std.specs.List.{slice_get, Contains}
 use Rattle.std.proofs.lemmas.Bool.{cases_lt, cases_eq, and_parts}
 use Rattle.std.proofs.lemmas.Bool.Decides.{nat_tests}
@@ -10,7 +10,6 @@ use Rattle.kt_base.specs.declared.words.Kind.{Kind}
 use Rattle.kt_base.specs.declared.words.Kind.TheVariants.{Checkpoint, Rollback}
 use Rattle.kt_base.specs.declared.words.Cause.{Cause}
 use Rattle.kt_base.specs.declared.words.Verb.{Verb}
-use Rattle.kt_spacetime.specs.declared.event.Event.{Event}
 use Rattle.kt_spacetime.specs.declared.event.Event.TheVariants as event
 use Rattle.kt_cuts.specs.declared.deeds.Deed.{Deed}
 use Rattle.kt_cuts.specs.declared.deeds.Deed.TheVariants as deed
@@ -22,8 +21,8 @@ use Rattle.kt_cuts.specs.Legal.{has_deed, has_begun}
 use Rattle.kt_cuts.specs.Lists.{Rises, last_of, sent_in, received_in}
 use Rattle.kt_cuts.specs.Tables.{promoted, rolled, is_committed_verdict}
 use Rattle.kt_cuts.specs.Changes.{IsJoined, IsDecided}
-use Rattle.kt_cuts.specs.Standing.{Shows, ShowsProcess, ShowsProcesses, ShowsMessages, ShowsInstances, IsInOrder, IsAllowed, message_at, at_number, sending, receiving, is_dropped, beginning_shown, beginning_of_row, verdict_shown, new_shown, ready_shown, kind_shown, rolled_back_shown}
-use Rattle.kt_cuts.proofs.Items.{get_left, get_seam, get_set_same, get_set_other, get_take, get_in_take, item_there}
+use Rattle.kt_cuts.specs.Standing.{Shows, ShowsProcess, ShowsProcesses, ShowsInstances, IsAllowed, message_at, at_number, receiving, beginning_shown, beginning_of_row, verdict_shown, new_shown, ready_shown, kind_shown, rolled_back_shown}
+use Rattle.kt_cuts.proofs.Items.{get_left, get_seam, get_set_same, get_take, get_in_take, item_there}
 use Rattle.kt_cuts.proofs.SortedFacts.{some_same}
 use Rattle.kt_cuts.proofs.DeedFacts.{place_of_deed, has_at, sent_rises_take, received_rises_take}
 use Rattle.kt_cuts.proofs.LegalLogs.{kept}

@@ -1,20 +1,19 @@
 -- What is later than the last is later than all.
-use Rattle.std.proofs.Common.{◌≡◌, ◌≢◌, ℕ, zero, suc, ◌+◌, ◌-◌, ◌<◌, ◌≤◌, ◌==◌, ◌&&◌, ◌||◌, not, nat_lt, if◌then◌else◌, ◌⊎◌, Bool, true, false, Option, Some, None, List, [], ◌∷◌, ◌++◌, length, get_or, refl, sym, ap, ◌∙◌, subst, arith, inl, inr}
+use Rattle.std.proofs.Common.{◌≡◌, ℕ, zero, suc, ◌-◌, ◌<◌, ◌≤◌, ◌==◌, ◌&&◌, nat_lt, Bool, true, false, Option, Some, None, List, [], ◌∷◌, length, get_or, refl, sym, ap, ◌∙◌, arith, inl, inr}
 use Rattle.std.specs.Prelude.{IsTrue, ◌↔◌}
 use Rattle.std.specs.List.{slice_get, list_all}
-use Rattle.std.proofs.lemmas.Bool.{cases_lt, cases_eq, and_parts}
+use Rattle.std.proofs.lemmas.Bool.{cases_lt, cases_eq}
 use Rattle.std.proofs.lemmas.Bool.Decides.{nat_tests}
 use Rattle.std.proofs.lemmas.Option.{slice_get_within, slice_get-get_or, get_or_from_slice_get}
 use Rattle.kt_cuts.specs.declared.deeds.Deed.{Deed}
 use Rattle.kt_cuts.specs.declared.deeds.Deed.TheVariants as deed
 use Rattle.kt_cuts.specs.declared.process.Process.{Process}
 use Rattle.kt_cuts.specs.declared.tables.Message.{Message}
-use Rattle.kt_cuts.specs.declared.tables.Instance.{Instance}
 use Rattle.kt_cuts.specs.Past.{Past}
 use Rattle.kt_cuts.specs.Legal.{has_deed, is_later, is_latest, is_undelivered}
 use Rattle.kt_cuts.specs.Lists.{received_in, last_of, Rises}
 use Rattle.kt_cuts.specs.Tests.{is_after}
-use Rattle.kt_cuts.specs.Standing.{Shows, ShowsProcess, ShowsMessages, message_at, sending, receiving, is_dropped}
+use Rattle.kt_cuts.specs.Standing.{ShowsProcess, ShowsMessages, message_at, sending, receiving}
 use Rattle.kt_cuts.proofs.SortedFacts.{some_same}
 use Rattle.kt_cuts.proofs.DeedFacts.{later_than, received_source, place_of_deed, has_at}
 

@@ -1,11 +1,10 @@
 -- Rising lists of messages.
-use Rattle.std.proofs.Common.{◌≡◌, ℕ, zero, suc, ◌+◌, ◌-◌, ◌<◌, ◌≤◌, nat_lt, nat_le, true, false, cond, Some, None, List, [], ◌∷◌, ◌++◌, length, get_or, refl, sym, ap, ◌∙◌, arith, inl, inr}
-use Rattle.std.specs.List.{find, slice_get, AllPairs}
+use Rattle.std.proofs.Common.{◌≡◌, ℕ, zero, suc, nat_lt, nat_le, true, false, List, [], ◌∷◌, refl, arith, inl, inr}
+use Rattle.std.specs.List.{find, slice_get}
 use Rattle.std.specs.List.Sorted.{IsPartitionPoint, IsPartitionedBy}
 use Rattle.std.proofs.lemmas.Bool.{cases_eq}
 use Rattle.std.proofs.lemmas.Bool.Decides.{nat_tests}
-use Rattle.std.proofs.lemmas.Grind.{common_steps}
-use Rattle.kt_cuts.specs.Lists.{last_of, Rises}
+use Rattle.kt_cuts.specs.Lists.{Rises}
 
 -- where the numbers below a message end, its first follower stands
 pub find_from_point : (xs : List ℕ) (m i : ℕ) → IsPartitionPoint (λ x. nat_lt x m ≡ true) (λ x. nat_lt x m ≡ false) xs i → slice_get xs i ≡ find (nat_le m) xs

@@ -1,15 +1,14 @@
 -- Orphans by lists of messages that rise.
-use Rattle.std.proofs.Common.{◌≡◌, ◌≢◌, ℕ, zero, suc, ◌+◌, ◌-◌, ◌<◌, ◌≤◌, ◌==◌, ◌&&◌, ◌||◌, not, nat_le, nat_lt, cond, if◌then◌else◌, ◌⊎◌, Bool, true, false, Option, Some, None, IfSome, IfNone, option_map, List, [], ◌∷◌, ◌++◌, length, get_or, take, drop, refl, sym, ap, ◌∙◌, subst, arith, inl, inr, length-append}
+use Rattle.std.proofs.Common.{◌≡◌, ℕ, zero, suc, ◌+◌, ◌-◌, ◌<◌, ◌≤◌, ◌&&◌, ◌||◌, not, nat_le, cond, if◌then◌else◌, Bool, true, false, Option, Some, None, IfSome, IfNone, option_map, List, [], ◌∷◌, ◌++◌, length, get_or, take, drop, refl, sym, ap, ◌∙◌, subst, arith, inl, inr, length-append}
 use Rattle.std.specs.Prelude.{IsTrue, ◌↔◌}
 use Rattle.std.specs.List.{slice_get, find, filter, Contains}
-use Rattle.std.proofs.lemmas.Bool.{cases_lt, cases_eq}
+use Rattle.std.proofs.lemmas.Bool.{cases_lt}
 use Rattle.std.proofs.lemmas.Bool.Decides.{nat_tests}
 use Rattle.std.proofs.lemmas.List.{take-append-drop, get_or-append-add}
 use Rattle.std.proofs.lemmas.Option.{slice_get_within, slice_get-get_or, get_or_from_slice_get}
 use Rattle.std.proofs.Math.ListN.{get_or-append}
 use Rattle.kt_cuts.specs.declared.deeds.Deed.{Deed}
 use Rattle.kt_cuts.specs.declared.deeds.Deed.TheVariants as deed
-use Rattle.kt_cuts.specs.declared.process.Process.{Process}
 use Rattle.kt_cuts.specs.declared.tables.Message.{Message}
 use Rattle.kt_spacetime.specs.declared.event.Event.{Event}
 use Rattle.kt_cuts.specs.declared.replay.Replay.{Replay}
@@ -22,7 +21,7 @@ use Rattle.kt_cuts.specs.Lists.{sent_in, received_in, Rises}
 use Rattle.kt_cuts.specs.Traces.{place_of}
 use Rattle.kt_cuts.specs.Orphans.{IsOrphanBetween, IsAtMost, earlier, is_within}
 use Rattle.kt_cuts.specs.Standing.{ShowsMessages, ShowsPast, message_at, receiving}
-use Rattle.kt_cuts.proofs.Items.{get_left, get_right, get_take, get_in_take, in_take}
+use Rattle.kt_cuts.proofs.Items.{get_take, get_in_take, in_take}
 use Rattle.kt_cuts.proofs.SortedFacts.{some_same, sent_more, received_more}
 use Rattle.kt_cuts.proofs.DeedFacts.{place_of_deed, has_at, received_source}
 use Rattle.kt_cuts.proofs.LatestFacts.{received_place}
@@ -256,6 +255,7 @@ within_part d (x ∷ l) zero = at_test (is_deed d x)
     never : (o : Option ℕ) → is_within (option_map suc o) zero ≡ false
     never None = refl
     never (Some k) = grind (arith, nat_tests)
+
     at_test : (b : Bool) → is_within (if b then Some 1 else option_map suc (place_of d l)) zero ≡ false
     at_test true = refl
     at_test false = never (place_of d l)
@@ -264,6 +264,7 @@ within_part d (x ∷ l) (suc n) = at_test (is_deed d x) (within_part d l n)
     one_less : (o : Option ℕ) → is_within (option_map suc o) (suc n) ≡ is_within o n
     one_less None = refl
     one_less (Some k) = grind (arith, nat_tests)
+
     at_test : (b : Bool) → is_within (place_of d l) n ≡ has_deed d (take n l) → is_within (if b then Some 1 else option_map suc (place_of d l)) (suc n) ≡ (b || has_deed d (take n l))
     at_test true e = grind (arith, nat_tests)
     at_test false e = one_less (place_of d l) ∙ e
@@ -288,9 +289,12 @@ is_orphan_of ms s cut m p q v h at o =
 pub orphan_test : (ms : List (Option Message)) (s : Past) (cut : ℕ → ℕ) (m : ℕ) (v : Message) (r t b : Bool) → ShowsMessages ms s → message_at ms m ≡ Some v
     → r ≡ has_deed (deed.Received m v.from) (part s cut v.to) → t ≡ has_deed (deed.Sent m v.to) (part s cut v.from) → b ≡ (r && not t)
     → (IsTrue b ↔ ((p : ℕ) × (q : ℕ) × IsOrphanBetween s cut p q m))
-orphan_test ms s cut m v r t b h at received sent is = (λ e. found r t received sent (sym is ∙ e), λ o.
-  let known = is_orphan_of ms s cut m o.0 o.1 v h at o.2 in
-  is ∙ (λ i. (received ∙ known.0) i && not ((sent ∙ known.1) i)))
+orphan_test ms s cut m v r t b h at received sent is = (
+  λ e. found r t received sent (sym is ∙ e),
+  λ o.
+      let known = is_orphan_of ms s cut m o.0 o.1 v h at o.2 in
+      is ∙ (λ i. (received ∙ known.0) i && not ((sent ∙ known.1) i)),
+)
   where
     found : (r t : Bool) → r ≡ has_deed (deed.Received m v.from) (part s cut v.to) → t ≡ has_deed (deed.Sent m v.to) (part s cut v.from) → (r && not t) ≡ true → (p : ℕ) × (q : ℕ) × IsOrphanBetween s cut p q m
     found true false a c e = orphan_is s cut m v (sym a) (sym c)

@@ -1,16 +1,14 @@
 -- Rows replayed one after another.
-use Rattle.std.proofs.Common.{◌≡◌, ℕ, ◌+◌, ◌<◌, ◌≤◌, ◌∷◌, [], ◌++◌, List, Some, None, map, take, length, get_or, arith, ap, refl, sym, subst, ◌∙◌, length-take}
+use Rattle.std.proofs.Common.{◌≡◌, ℕ, ◌+◌, ◌<◌, ◌∷◌, [], ◌++◌, List, Some, None, take, length, get_or, arith, ap, refl, sym, ◌∙◌, length-take}
 use Rattle.std.specs.List.{slice_get}
 use Rattle.std.proofs.lemmas.Option.{slice_get_read}
 use Rattle.std.proofs.lemmas.List.{map-append}
 use Rattle.kt_spacetime.specs.declared.event.Event.{Event}
-use Rattle.kt_cuts.specs.declared.rules.Rule.{Rule}
 use Rattle.kt_cuts.specs.declared.replay.Replay.{Replay}
 use Rattle.kt_cuts.specs.Past.{past, after}
-use Rattle.kt_cuts.specs.Legal.{IsLegal, broken_rule}
+use Rattle.kt_cuts.specs.Legal.{broken_rule}
 use Rattle.kt_cuts.specs.Standing.{StandsFor, ShowsPast, IsAllowed, parties_shown, parties_of_row}
-use Rattle.kt_cuts.proofs.SortedFacts.{some_same}
-use Rattle.kt_cuts.proofs.LegalLogs.{past_push, rows_length, legal_push}
+use Rattle.kt_cuts.proofs.LegalLogs.{past_push, rows_length}
 
 pub row_read : (rows : List Event) (i : ℕ) (row : Event) → i < length rows → row ≡ get_or rows i row → slice_get rows i ≡ Some row
 row_read rows i row l e = slice_get_read rows (length rows) i row refl l e

@@ -1,27 +1,21 @@
 -- Tables go on showing what is known, row by row.
-use Rattle.std.proofs.Common.{◌≡◌, ◌≢◌, ℕ, zero, suc, ◌+◌, ◌-◌, ◌<◌, ◌≤◌, ◌==◌, ◌&&◌, ◌||◌, not, if◌then◌else◌, ◌⊎◌, Bool, true, false, Option, Some, None, option_map, unwrap_or, List, [], ◌∷◌, ◌++◌, length, map, get_or, set, take, drop, replicate, refl, sym, ap, ◌∙◌, subst, arith, inl, inr, length-append}
-use Rattle.std.specs.List.{slice_get, Contains}
+use Rattle.std.proofs.Common.{◌≡◌, ◌≢◌, ℕ, zero, suc, ◌+◌, ◌<◌, ◌≤◌, Option, Some, None, List, [], ◌∷◌, ◌++◌, length, set, refl, sym, ap, ◌∙◌, subst, arith, inl, inr, length-append}
+use Rattle.std.specs.List.{slice_get}
 use Rattle.std.specs.Option.{option_flatten}
 use Rattle.std.proofs.lemmas.Bool.{cases_lt, cases_eq}
 use Rattle.std.proofs.lemmas.Bool.Decides.{nat_tests}
-use Rattle.std.proofs.lemmas.List.{append-nil, map-append, length-set, length-map}
-use Rattle.std.proofs.lemmas.Option.{slice_get_within, slice_get_past}
-use Rattle.kt_base.specs.Sets.{has}
-use Rattle.kt_spacetime.specs.declared.event.Event.{Event}
-use Rattle.kt_spacetime.specs.declared.event.Event.TheVariants as event
+use Rattle.std.proofs.lemmas.List.{length-set}
+use Rattle.std.proofs.lemmas.Option.{slice_get_past}
 use Rattle.kt_cuts.specs.declared.deeds.Deed.{Deed}
 use Rattle.kt_cuts.specs.declared.deeds.Deed.TheVariants as deed
 use Rattle.kt_cuts.specs.declared.process.Process.{Process}
 use Rattle.kt_cuts.specs.declared.tables.Message.{Message}
-use Rattle.kt_cuts.specs.declared.tables.Instance.{Instance}
-use Rattle.kt_cuts.specs.Past.{Past, after, at_one}
-use Rattle.kt_cuts.specs.Legal.{has_deed}
-use Rattle.kt_cuts.specs.Lists.{Rises, last_of, sent_in, received_in}
-use Rattle.kt_cuts.specs.Tables.{with_received, with_dropped}
-use Rattle.kt_cuts.specs.Standing.{Shows, ShowsProcess, ShowsProcesses, ShowsMessages, ShowsInstances, IsInOrder, IsAllowed, message_at, at_number, sending, receiving, is_dropped}
-use Rattle.kt_cuts.proofs.Items.{get_left, get_seam, get_right, get_push, get_set_same, get_set_other, get_take}
-use Rattle.kt_cuts.proofs.SortedFacts.{some_same, sent_more, received_more, received_at, received_else, received_unsent}
-use Rattle.kt_cuts.proofs.DeedFacts.{place_of_deed, has_at, has_front, sent_source, received_source, rises_push, later_than, last_push, sent_rises_take, received_rises_take}
+use Rattle.kt_cuts.specs.Past.{Past, at_one}
+use Rattle.kt_cuts.specs.Lists.{sent_in}
+use Rattle.kt_cuts.specs.Standing.{ShowsProcess, ShowsProcesses, ShowsMessages, message_at, sending, receiving}
+use Rattle.kt_cuts.proofs.Items.{get_left, get_seam, get_set_same, get_set_other}
+use Rattle.kt_cuts.proofs.SortedFacts.{some_same}
+use Rattle.kt_cuts.proofs.DeedFacts.{sent_source}
 
 -- a function with another value at one place
 pub at_same : {X : Type 0} (p : ℕ) (x : X) (f : ℕ → X) → at_one p x f p ≡ x

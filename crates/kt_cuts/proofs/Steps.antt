@@ -1,11 +1,9 @@
 -- Sends, receives and drops: tables go on showing what is known.
-use Rattle.std.proofs.Common.{◌≡◌, ◌≢◌, ℕ, zero, suc, ◌+◌, ◌-◌, ◌<◌, ◌≤◌, ◌==◌, ◌&&◌, ◌||◌, not, if◌then◌else◌, ◌⊎◌, Bool, true, false, Option, Some, None, option_map, unwrap_or, List, [], ◌∷◌, ◌++◌, length, map, get_or, set, take, drop, replicate, refl, sym, ap, ◌∙◌, subst, arith, inl, inr, length-append}
-use Rattle.std.specs.List.{slice_get, Contains, list_all}
-use Rattle.std.proofs.lemmas.Bool.{cases_lt, cases_eq, and_parts}
-use Rattle.std.proofs.lemmas.Bool.Decides.{nat_tests}
-use Rattle.std.proofs.lemmas.List.{append-nil, length-set}
+use Rattle.std.proofs.Common.{◌≡◌, ◌≢◌, ℕ, ◌+◌, ◌<◌, not, ◌⊎◌, Bool, true, false, Option, Some, None, List, [], ◌∷◌, ◌++◌, length, set, refl, sym, ap, ◌∙◌, subst, arith, inl, inr, length-append}
+use Rattle.std.specs.List.{slice_get, list_all}
+use Rattle.std.proofs.lemmas.Bool.{cases_eq, and_parts}
+use Rattle.std.proofs.lemmas.List.{append-nil}
 use Rattle.std.proofs.lemmas.Option.{slice_get_within}
-use Rattle.kt_spacetime.specs.declared.event.Event.{Event}
 use Rattle.kt_spacetime.specs.declared.event.Event.TheVariants as event
 use Rattle.kt_cuts.specs.declared.deeds.Deed.{Deed}
 use Rattle.kt_cuts.specs.declared.deeds.Deed.TheVariants as deed
@@ -16,12 +14,12 @@ use Rattle.kt_cuts.specs.Past.{Past, after, at_one}
 use Rattle.kt_cuts.specs.Legal.{has_deed, is_later, is_undelivered}
 use Rattle.kt_cuts.specs.Lists.{Rises, last_of, sent_in, received_in}
 use Rattle.kt_cuts.specs.Tables.{with_received, with_dropped}
-use Rattle.kt_cuts.specs.Standing.{Shows, ShowsProcess, ShowsProcesses, ShowsMessages, ShowsInstances, IsInOrder, IsAllowed, message_at, sending, receiving, is_dropped}
-use Rattle.kt_cuts.proofs.Items.{get_push, get_set_same, get_set_other, get_seam}
+use Rattle.kt_cuts.specs.Standing.{Shows, ShowsMessages, IsAllowed, message_at, sending, receiving, is_dropped}
+use Rattle.kt_cuts.proofs.Items.{get_push, get_set_same, get_set_other}
 use Rattle.kt_cuts.proofs.SortedFacts.{some_same, sent_more, received_at, received_else, received_unsent}
 use Rattle.kt_cuts.proofs.DeedFacts.{place_of_deed, has_at, has_front, received_source, rises_push, later_than, last_push}
 use Rattle.kt_cuts.proofs.LegalLogs.{kept}
-use Rattle.kt_cuts.proofs.Shown.{at_same, at_other, processes_set, old_message, new_message, no_message, quiet_message, kept_sending, kept_receiving, messages_quiet, sent_before}
+use Rattle.kt_cuts.proofs.Shown.{at_same, at_other, processes_set, old_message, new_message, no_message, quiet_message, kept_sending, kept_receiving, sent_before}
 
 -- the deeds of a history with one more
 more_or_same : (p q i : ℕ) (l : List Deed) (f : ℕ → List Deed) (d x : Deed) → l ≡ f p → slice_get (at_one p (l ++ x ∷ []) f q) i ≡ Some d

@@ -1,6 +1,5 @@
-use Rattle.std.proofs.Common.{◌≡◌, ℕ, ◌+◌, Some, take, arith, ap, refl, sym, ◌∙◌}
-use Rattle.kt_cuts.specs.declared.rules.Rule.{Rule}
-use Rattle.kt_cuts.specs.Past.{past, start}
+use Rattle.std.proofs.Common.{◌≡◌, ◌+◌, Some, arith, refl, sym, ◌∙◌}
+use Rattle.kt_cuts.specs.Past.{start}
 use Rattle.kt_cuts.proofs.Items.{take_item}
 use Rattle.kt_cuts.proofs.LegalLogs.{first_broken_at, legal_push}
 use Rattle.kt_cuts.proofs.Replayed.{row_read, replayed, next_number}

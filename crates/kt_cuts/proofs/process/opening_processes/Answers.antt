@@ -1,6 +1,4 @@
-use Rattle.std.proofs.Common.{ℕ, ◌+◌, ◌∷◌, [], Some, length, ap, inl, inr, arith, ◌∙◌, length-append}
-use Rattle.kt_cuts.specs.Past.{start}
-use Rattle.kt_cuts.specs.Standing.{ShowsProcess}
+use Rattle.std.proofs.Common.{ℕ, ◌+◌, ◌∷◌, [], length, ap, inl, inr, arith, ◌∙◌, length-append}
 use Rattle.kt_cuts.proofs.Items.{get_push}
 use Rattle.kt_cuts.proofs.ProcessFacts.{shows_start}
 use Rattle.kt_cuts.proofs.process.opening_processes.Goals as goal

@@ -1,4 +1,4 @@
-use Rattle.std.proofs.Common.{◌≡◌, ℕ, Some, inl, inr, arith, ap, sym, subst, ◌∙◌, true, take, is_some}
+use Rattle.std.proofs.Common.{inl, inr, ap, sym, ◌∙◌, take, is_some}
 use Rattle.std.specs.List.{Contains}
 use Rattle.std.proofs.lemmas.List.{take_all}
 use Rattle.kt_cuts.proofs.MessageTables.{contains_more}

@@ -1,4 +1,4 @@
-use Rattle.std.proofs.Common.{◌≡◌, ℕ, ◌≤◌, ◌<◌, Some, take}
+use Rattle.std.proofs.Common.{◌≡◌, ℕ, Some, take}
 use Rattle.std.specs.List.{slice_get, Contains}
 use Rattle.kt_cuts.specs.declared.deeds.Deed.TheVariants as deed
 use Rattle.kt_cuts.specs.declared.process.Process.{Process}

@@ -1,6 +1,5 @@
-use Rattle.std.proofs.Common.{◌≡◌, ◌≤◌, ◌-◌, arith, ap, sym, ◌∙◌, length, subst}
+use Rattle.std.proofs.Common.{◌≡◌, ◌≤◌, ◌-◌, arith, ap, sym, ◌∙◌}
 use Rattle.std.proofs.lemmas.Option.{slice_get_past}
-use Rattle.kt_cuts.specs.declared.tables.Instance.{Instance}
 use Rattle.kt_cuts.proofs.MessageTables.{is_joined, number_at}
 use Rattle.kt_cuts.proofs.tables.enter.Goals as goal
 

@@ -1,5 +1,4 @@
-use Rattle.std.proofs.Common.{Option, ◌-◌, arith, ap, sym, ◌∙◌, ◌≡◌, refl}
-use Rattle.std.proofs.lemmas.Option.{slice_get_read}
+use Rattle.std.proofs.Common.{◌-◌, arith, ap, ◌∙◌}
 use Rattle.kt_cuts.specs.Standing.{parties}
 use Rattle.kt_cuts.proofs.MessageTables.{marked_parties, dropped_parties, dropped_past}
 use Rattle.kt_cuts.proofs.tables.mark_dropped.Goals as goal

@@ -1,4 +1,4 @@
-use Rattle.std.proofs.Common.{sym, ◌∙◌, ap}
+use Rattle.std.proofs.Common.{sym, ◌∙◌}
 use Rattle.std.proofs.lemmas.Option.{slice_get_read}
 use Rattle.kt_cuts.proofs.SortedFacts.{some_same}
 use Rattle.kt_cuts.proofs.history.History.first_received_from.Goals as goal

@@ -1,4 +1,4 @@
-use Rattle.std.proofs.Common.{sym, ◌∙◌, ap}
+use Rattle.std.proofs.Common.{sym, ◌∙◌}
 use Rattle.kt_cuts.proofs.SortedFacts.{sent_past}
 use Rattle.kt_cuts.proofs.history.History.first_sent_past.Goals as goal
 

@@ -1,4 +1,4 @@
-use Rattle.std.proofs.Common.{sym, ◌∙◌, ap, arith, List, ◌++◌, ◌∷◌, []}
+use Rattle.std.proofs.Common.{sym, ◌∙◌, ap, arith, ◌++◌, ◌∷◌, []}
 use Rattle.std.proofs.lemmas.Option.{slice_get_read}
 use Rattle.kt_cuts.specs.declared.deeds.Deed.{Deed}
 use Rattle.kt_cuts.proofs.SortedFacts.{sorted_without_send, sorted_without_receive, none_last}

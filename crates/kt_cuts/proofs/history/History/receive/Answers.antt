@@ -1,4 +1,4 @@
-use Rattle.std.proofs.Common.{sym, ◌∙◌, ap, arith}
+use Rattle.std.proofs.Common.{sym}
 use Rattle.std.proofs.lemmas.Option.{slice_get_read}
 use Rattle.kt_cuts.proofs.SortedFacts.{sorted_receive}
 use Rattle.kt_cuts.proofs.history.History.receive.Goals as goal

@@ -1,5 +1,4 @@
-use Rattle.std.proofs.Common.{rules, of_calls, nat_lt, nat_le, sym, ◌∙◌, ap}
-use Rattle.std.specs.List.{find, slice_get}
+use Rattle.std.proofs.Common.{rules, of_calls, nat_lt, ◌∙◌}
 use Rattle.std.proofs.lemmas.Fn.{always_returns_same}
 use Rattle.kt_cuts.proofs.ListFacts.{find_from_point, parted}
 use Rattle.kt_cuts.proofs.messages.Messages.first_from.Goals as goal

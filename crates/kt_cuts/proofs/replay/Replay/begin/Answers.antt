@@ -1,4 +1,4 @@
-use Rattle.std.proofs.Common.{arith, sym, refl}
+use Rattle.std.proofs.Common.{refl}
 use Rattle.kt_cuts.proofs.InstanceSteps.{shows_began}
 use Rattle.kt_cuts.proofs.replay.Replay.begin.Goals as goal
 

@@ -1,4 +1,4 @@
-use Rattle.std.proofs.Common.{◌≡◌, Some, sym, ap, ◌∙◌}
+use Rattle.std.proofs.Common.{sym, ◌∙◌}
 use Rattle.std.specs.List.{slice_index}
 use Rattle.kt_cuts.proofs.OrphanFacts.{nothing_past, none_received, found_place, found_orphan, found_least, found_past, test_below}
 use Rattle.kt_cuts.proofs.replay.Replay.first_between.Goals as goal

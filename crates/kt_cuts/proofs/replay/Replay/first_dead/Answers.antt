@@ -1,7 +1,6 @@
-use Rattle.std.proofs.Common.{◌≡◌, ℕ, if◌then◌else◌, Some, None, inl, inr, arith, ap, sym, subst, ◌∙◌, take}
+use Rattle.std.proofs.Common.{ℕ, if◌then◌else◌, Some, None, inl, inr, sym, subst, take}
 use Rattle.std.specs.List.{Contains, slice_index}
 use Rattle.std.proofs.lemmas.List.{take_all}
-use Rattle.kt_cuts.specs.Past.{Past}
 use Rattle.kt_cuts.specs.Orphans.{IsOrphanBetween, IsAtMost}
 use Rattle.kt_cuts.proofs.MessageTables.{contains_more}
 use Rattle.kt_cuts.proofs.OrphanFacts.{IsOrphanShown, some_earlier, some_if, at_most_first, at_most_second, at_most_if}

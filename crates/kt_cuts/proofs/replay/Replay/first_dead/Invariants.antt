@@ -1,4 +1,4 @@
-use Rattle.std.proofs.Common.{◌≡◌, ℕ, ◌<◌, IfSome, take}
+use Rattle.std.proofs.Common.{ℕ, IfSome, take}
 use Rattle.std.specs.List.{slice_index, Contains}
 use Rattle.kt_cuts.specs.Past.{Past}
 use Rattle.kt_cuts.specs.Orphans.{IsOrphanBetween, IsAtMost}

@@ -1,4 +1,4 @@
-use Rattle.std.proofs.Common.{◌≡◌, ◌&&◌, not, Bool, sym, ap, refl, ◌∙◌}
+use Rattle.std.proofs.Common.{◌&&◌, not, Bool, sym, ap, ◌∙◌}
 use Rattle.std.specs.List.{slice_index}
 use Rattle.kt_cuts.specs.declared.deeds.Deed.TheVariants as deed
 use Rattle.kt_cuts.specs.Orphans.{is_within}

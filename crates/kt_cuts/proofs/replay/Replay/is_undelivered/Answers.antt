@@ -1,4 +1,4 @@
-use Rattle.std.proofs.Common.{sym, ap, ◌∙◌}
+use Rattle.std.proofs.Common.{sym, ◌∙◌}
 use Rattle.kt_cuts.proofs.LatestFacts.{undelivered_none, undelivered_else}
 use Rattle.kt_cuts.proofs.replay.Replay.is_undelivered.Goals as goal
 
