@@ -4,6 +4,7 @@
 mod certificate;
 mod fault;
 mod reading;
+mod records;
 
 pub use certificate::{Certificate, Chain, Members};
 pub use fault::CertTextFault;

@@ -1,0 +1,4 @@
+pub mod FieldFacts
+pub mod ChainFacts
+pub mod PlaceFacts
+pub mod GatherFacts
