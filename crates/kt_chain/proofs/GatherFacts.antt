@@ -1,12 +1,14 @@
 -- What the certificates gathered so far say of the text.
-use Rattle.std.proofs.Common.{◌≡◌, ◌∙◌, ◌<◌, ◌+◌, ℕ, List, [], ◌∷◌, ◌++◌, Option, Some, None, IfSome, sym, ap, arith, length, length-append, append_assoc}
+use Rattle.std.proofs.Common.{◌≡◌, ◌∙◌, ◌<◌, ◌≤◌, ◌+◌, ℕ, List, [], ◌∷◌, ◌++◌, Option, Some, None, IfSome, sym, ap, arith, length, length-append, append_assoc}
+use Rattle.std.specs.Prelude.{All}
+use Rattle.std.proofs.lemmas.List.Elements.{All-weaker}
 use Rattle.csv.specs.Reading.{default_config, strip_bom, records}
 use Rattle.kt_spacetime.specs.Progress.{Takes as TakesRecord}
 use Rattle.kt_chain.specs.declared.certificate.Certificate.{Certificate}
 use Rattle.kt_chain.specs.declared.fault.CertTextFault.{CertTextFault}
 use Rattle.kt_chain.specs.declared.records.RecordFault.{RecordFault}
 use Rattle.kt_chain.specs.declared.records.RecordFault.TheVariants as fault
-use Rattle.kt_chain.specs.Spelling.{records_of}
+use Rattle.kt_chain.specs.Spelling.{Member, IsInRange, IsMemberInRange, HasShortChains, most_messages, records_of}
 use Rattle.kt_chain.specs.Texts.{IsRecordFault, IsFaultAfter, IsFirstFault, record_count, most_records, fault_at}
 use Rattle.kt_chain.specs.Reading.{Begins, Takes}
 
@@ -50,3 +52,7 @@ pub record_fault : (source : Option (List ℕ)) (left rest : Option Records) (ce
     → TakesRecord left rest fields → n ≡ record_count certificates + 1 → record_count certificates < most_records → IsRecordFault certificates fields f
     → IfSome source (λ bytes. IsFirstFault (records default_config (strip_bom bytes)) (fault_at f n))
 record_fault source left rest certificates fields n f b t e few h = first_fault source left certificates (fault_at f n) b (wrong_record left rest certificates fields n f t e few h)
+
+-- certificates in range have short chains
+pub short : (certificates : List Certificate) → All IsInRange certificates → All HasShortChains certificates
+short certificates all = All-weaker IsInRange HasShortChains (λ c is. All-weaker IsMemberInRange (λ (member : Member). length member.1 ≤ most_messages) (λ member in_range. in_range.few) c.members is.members) certificates all

@@ -1,9 +1,10 @@
 //! Certificates read from their text.
 
-ghost use Rattle.std.specs.Prelude.{◌≡◌, ◌⊎◌, [], true, false, IfOk, IfErr, IfSome};
+ghost use Rattle.std.specs.Prelude.{◌≡◌, ◌⊎◌, [], true, false, All, IfOk, IfErr, IfSome};
 ghost use Rattle.csv.specs.Reading.{default_config, strip_bom, records};
 ghost use Rattle.csv.specs.Records.{fields_of};
 ghost use Rattle.kt_spacetime.specs.Progress.{left_in, ReadsOn, Takes};
+ghost use Rattle.kt_chain.specs.Spelling.{IsInRange, HasShortChains};
 ghost use Rattle.kt_chain.specs.Texts.{IsCertText, IsFirstFault};
 
 use crate::certificate::Certificate;
@@ -39,6 +40,8 @@ pub fn read_certs<R: Read + Drop>(
     reader: R,
 ) -> Result<Vec<Certificate>, CertTextFault>
     ensures found { IfOk result (λ certificates. IfSome (R.remaining reader) (λ bytes. IsCertText (records default_config (strip_bom bytes)) certificates.items)) }
+    ensures in_range { IfOk result (λ certificates. All IsInRange certificates.items) }
+    ensures short { IfOk result (λ certificates. All HasShortChains certificates.items) }
     ensures fault { IfErr result (λ e. IfSome (R.remaining reader) (λ bytes. IsFirstFault (records default_config (strip_bom bytes)) e)) }
 {
     let mut records = ReaderBuilder::new()

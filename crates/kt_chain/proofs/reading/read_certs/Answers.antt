@@ -2,7 +2,7 @@ use Rattle.std.proofs.Common.{◌<◌, ◌+◌, arith}
 use Rattle.csv.specs.Records.{fields_of}
 use Rattle.kt_spacetime.specs.Progress.{left_in}
 use Rattle.kt_chain.specs.Texts.{record_count, most_records}
-use Rattle.kt_chain.proofs.GatherFacts.{count_more, begins_more, record_fault}
+use Rattle.kt_chain.proofs.GatherFacts.{count_more, begins_more, record_fault, short}
 use Rattle.kt_chain.proofs.reading.read_certs.Goals as goal
 
 pub returns-in-Err-clause-fault : goal.returns-in-Err-clause-fault
@@ -30,3 +30,6 @@ loop-certificates-preserved g c =
       counted = omega (arith, c.loop-certificates.invariant.counted, count_more before c.take_record.new.certificates.items (fields_of c.next_record.new.current) taken);
       few = omega (arith, few, c.loop-certificates.invariant.counted);
     }
+
+pub returns-clause-short : goal.returns-clause-short
+returns-clause-short g c = short c.loop-certificates.certificates.items c.loop-certificates.invariant.in_range
