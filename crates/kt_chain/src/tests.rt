@@ -1,4 +1,5 @@
 mod texts;
+mod too_long;
 mod writing;
 
 use crate::{CertTextFault, read_certs};
