@@ -27,6 +27,43 @@ sent,0,1,3
 received,1,0,13
 ";
 
+// By log: the first row that breaks a rule, and the rule.
+const BROKEN: [(&[u8], u32, Rule); 9] = [
+    (b"began,0,2,checkpoint", 1, Rule::Numbers),
+    (
+        b"sent,0,1,5\nreceived,1,0,1\nreceived,1,0,1",
+        3,
+        Rule::Message,
+    ),
+    (
+        b"sent,0,1,1\nsent,0,1,2\nreceived,1,0,2\nreceived,1,0,1",
+        4,
+        Rule::Order,
+    ),
+    (
+        b"began,0,1,checkpoint\ntook,0,1,-\nsent,0,1,5",
+        3,
+        Rule::Sending,
+    ),
+    (
+        b"sent,0,1,5\nfailed,1,-,-\nreceived,1,0,1",
+        3,
+        Rule::Receiving,
+    ),
+    (b"began,0,1,checkpoint\nsent,1,0,5", 2, Rule::Joining),
+    (
+        b"began,0,1,checkpoint\ntook,0,1,-\ndecided,1,1,commit",
+        3,
+        Rule::Deciding,
+    ),
+    (
+        b"began,0,1,checkpoint\ntook,0,1,-\nclosed,0,1,-",
+        3,
+        Rule::Closing,
+    ),
+    (b"failed,0,-,-\nfailed,0,-,-", 2, Rule::Causes),
+];
+
 fn process(number: usize) -> Result<ProcNo, Fail> {
     let number = u8::try_from(number).ok().ok_or("no process")?;
     Ok(ProcNo::new(number).ok_or("no process")?)
@@ -51,43 +88,8 @@ fn field(text: Option<&[u8]>) -> Result<usize, Fail> {
 
 #[test]
 fn the_first_broken_rule_is_answered(rt: HostRuntime) -> Result<(), Fail> {
-    let table: [(&[u8], u32, Rule); 9] = [
-        (b"began,0,2,checkpoint", 1, Rule::Numbers),
-        (
-            b"sent,0,1,5\nreceived,1,0,1\nreceived,1,0,1",
-            3,
-            Rule::Message,
-        ),
-        (
-            b"sent,0,1,1\nsent,0,1,2\nreceived,1,0,2\nreceived,1,0,1",
-            4,
-            Rule::Order,
-        ),
-        (
-            b"began,0,1,checkpoint\ntook,0,1,-\nsent,0,1,5",
-            3,
-            Rule::Sending,
-        ),
-        (
-            b"sent,0,1,5\nfailed,1,-,-\nreceived,1,0,1",
-            3,
-            Rule::Receiving,
-        ),
-        (b"began,0,1,checkpoint\nsent,1,0,5", 2, Rule::Joining),
-        (
-            b"began,0,1,checkpoint\ntook,0,1,-\ndecided,1,1,commit",
-            3,
-            Rule::Deciding,
-        ),
-        (
-            b"began,0,1,checkpoint\ntook,0,1,-\nclosed,0,1,-",
-            3,
-            Rule::Closing,
-        ),
-        (b"failed,0,-,-\nfailed,0,-,-", 2, Rule::Causes),
-    ];
     let mut number = 1;
-    for (text, row, rule) in table {
+    for (text, row, rule) in BROKEN {
         let log = read_csv(rt.alloc(), text)?;
         let row = RowNo::new(row).ok_or("no row")?;
         assert_eq!(rt; legal(rt.alloc(), &log), Err(LegalFault::Broken(row, rule)));

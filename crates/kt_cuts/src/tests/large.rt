@@ -74,9 +74,9 @@ fn many_cuts_of_a_large_log_are_tested(rt: HostRuntime) -> Result<(), Fail> {
     let found = Histories::of(rt.alloc(), &log, log.rows().len())?;
     assert_eq!(rt; found.first_orphan(&Cut::new([DEEDS; 64])), None);
     for number in 1..64_u32 {
-        for step in 0..512_u32 {
+        for step in 0..4096_u32 {
             // Each process but the first receives and sends in turn.
-            let sent = 16 * step;
+            let sent = 2 * step;
             let mut cut = Cut::new([DEEDS; 64]);
             cut.set(process(number as usize)?, 2 * sent as usize);
             let orphan = message(2 * (number + 64 * sent) + 1)?;
