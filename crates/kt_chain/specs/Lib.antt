@@ -1,0 +1,4 @@
+pub mod Spelling
+pub mod Texts
+pub mod Reading
+pub mod Writing

@@ -3,8 +3,16 @@
 
 mod certificate;
 mod fault;
+mod laws;
 mod reading;
+mod records;
+mod writing;
 
 pub use certificate::{Certificate, Chain, Members};
 pub use fault::CertTextFault;
+pub use laws::{faults_are_real, one_spelling};
 pub use reading::read_certs;
+pub use writing::write_certs;
+
+#[cfg(test)]
+mod tests;

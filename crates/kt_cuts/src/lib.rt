@@ -25,3 +25,6 @@ pub use laws::{
 pub use legality::{LegalFault, legal};
 pub use rules::Rule;
 pub use worked::worked_rows;
+
+#[cfg(test)]
+mod tests;

@@ -1,0 +1,58 @@
+-- What the certificates gathered so far say of the text.
+use Rattle.std.proofs.Common.{◌≡◌, ◌∙◌, ◌<◌, ◌≤◌, ◌+◌, ℕ, List, [], ◌∷◌, ◌++◌, Option, Some, None, IfSome, sym, ap, arith, length, length-append, append_assoc}
+use Rattle.std.specs.Prelude.{All}
+use Rattle.std.proofs.lemmas.List.Elements.{All-weaker}
+use Rattle.csv.specs.Reading.{default_config, strip_bom, records}
+use Rattle.kt_spacetime.specs.Progress.{Takes as TakesRecord}
+use Rattle.kt_chain.specs.declared.certificate.Certificate.{Certificate}
+use Rattle.kt_chain.specs.declared.fault.CertTextFault.{CertTextFault}
+use Rattle.kt_chain.specs.declared.records.RecordFault.{RecordFault}
+use Rattle.kt_chain.specs.declared.records.RecordFault.TheVariants as fault
+use Rattle.kt_chain.specs.Spelling.{Member, IsInRange, IsMemberInRange, HasShortChains, most_messages, records_of}
+use Rattle.kt_chain.specs.Texts.{IsRecordFault, IsFaultAfter, IsFirstFault, record_count, most_records, fault_at}
+use Rattle.kt_chain.specs.Reading.{Begins, Takes}
+
+abbrev Records : Type 0
+Records = List (List (List ℕ))
+
+-- one record more
+pub count_more : (old new : List Certificate) (fields : List (List ℕ)) → Takes old new fields → record_count new ≡ record_count old + 1
+count_more old new fields taken = ap length taken.spelled ∙ length-append (records_of old) (fields ∷ [])
+
+pub begins_more : (source : Option (List ℕ)) (left rest : Option Records) (old new : List Certificate) (fields : List (List ℕ)) → Begins source left old → TakesRecord left rest fields → Takes old new fields
+    → record_count old < most_records → Begins source rest new
+begins_more None left rest old new fields b t taken few = tt
+begins_more (Some bytes) None rest old new fields b t taken few = absurd b
+begins_more (Some bytes) (Some left) None old new fields b t taken few = absurd t
+begins_more (Some bytes) (Some left) (Some rest) old new fields b t taken few = record {
+  spelled = b.spelled ∙ ap (λ (x : Records). records_of old ++ x) t ∙ sym (append_assoc (records_of old) (fields ∷ []) rest) ∙ ap (λ (x : Records). x ++ rest) (sym taken.spelled);
+  in_range = taken.in_range b.in_range;
+  few = omega (arith, count_more old new fields taken, few);
+}
+
+-- what is wrong after them is what is first wrong
+first_fault : (source : Option (List ℕ)) (left : Option Records) (certificates : List Certificate) (fault : CertTextFault) → Begins source left certificates → IfSome left (λ left. IsFaultAfter certificates left fault)
+    → IfSome source (λ bytes. IsFirstFault (records default_config (strip_bom bytes)) fault)
+first_fault None left certificates fault b h = tt
+first_fault (Some bytes) None certificates fault b h = absurd b
+first_fault (Some bytes) (Some left) certificates fault b h = record { before = certificates; left = left; after = b; wrong = h }
+
+-- a record is wrong
+wrong_record : (left rest : Option Records) (certificates : List Certificate) (fields : List (List ℕ)) (n : ℕ) (f : RecordFault) → TakesRecord left rest fields → n ≡ record_count certificates + 1
+    → record_count certificates < most_records → IsRecordFault certificates fields f → IfSome left (λ left. IsFaultAfter certificates left (fault_at f n))
+wrong_record None rest certificates fields n f t e few h = tt
+wrong_record (Some left) None certificates fields n f t e few h = absurd t
+wrong_record (Some left) (Some rest) certificates fields n fault.Memory t e few h = tt
+wrong_record (Some left) (Some rest) certificates fields n fault.Fields t e few h = (e, few, fields, rest, t, h)
+wrong_record (Some left) (Some rest) certificates fields n fault.Word t e few h = (e, few, fields, rest, t, h)
+wrong_record (Some left) (Some rest) certificates fields n fault.Number t e few h = (e, few, fields, rest, t, h)
+wrong_record (Some left) (Some rest) certificates fields n fault.Place t e few h = (e, few, fields, rest, t, h)
+
+pub record_fault : (source : Option (List ℕ)) (left rest : Option Records) (certificates : List Certificate) (fields : List (List ℕ)) (n : ℕ) (f : RecordFault) → Begins source left certificates
+    → TakesRecord left rest fields → n ≡ record_count certificates + 1 → record_count certificates < most_records → IsRecordFault certificates fields f
+    → IfSome source (λ bytes. IsFirstFault (records default_config (strip_bom bytes)) (fault_at f n))
+record_fault source left rest certificates fields n f b t e few h = first_fault source left certificates (fault_at f n) b (wrong_record left rest certificates fields n f t e few h)
+
+-- certificates in range have short chains
+pub short : (certificates : List Certificate) → All IsInRange certificates → All HasShortChains certificates
+short certificates all = All-weaker IsInRange HasShortChains (λ c is. All-weaker IsMemberInRange (λ (member : Member). length member.1 ≤ most_messages) (λ member in_range. in_range.few) c.members is.members) certificates all

@@ -1,0 +1,72 @@
+-- Texts gathered and written piece by piece.
+use Rattle.std.proofs.Common.{◌≡◌, ◌∙◌, ◌<◌, ◌+◌, ℕ, List, [], ◌∷◌, ◌++◌, length, refl, sym, ap, subst, take, get_or, Option, append_assoc, add-one}
+use Rattle.std.proofs.lemmas.List.{take_more, map-append, append-nil}
+use Rattle.std.proofs.lemmas.List.Concat.{flat_map-append}
+use Rattle.std.specs.Fmt.{decimal}
+use Rattle.csv.proofs.WriteFacts.{appends-more}
+use Rattle.kt_spacetime.specs.Writing.{line_of, text_of}
+use Rattle.kt_chain.specs.declared.certificate.Certificate.{Certificate}
+use Rattle.kt_chain.specs.Spelling.{Member, member_record, certificate_records, records_of, chain_word}
+use Rattle.kt_chain.specs.Writing.{Sends}
+
+-- a chain with one more number
+chain_more : (first : ℕ) (others : List ℕ) (msg : ℕ) → chain_word (first ∷ (others ++ msg ∷ [])) ≡ chain_word (first ∷ others) ++ 47 ∷ decimal msg
+chain_more first [] msg = refl
+chain_more first (next ∷ others) msg = ap (λ (x : List ℕ). decimal first ++ 47 ∷ x) (chain_more next others msg) ∙ sym (append_assoc (decimal first) (47 ∷ chain_word (next ∷ others)) (47 ∷ decimal msg))
+
+-- one more number of a chain is gathered
+pub gathers_number : (text old new messages others : List ℕ) (first i msg : ℕ) → messages ≡ first ∷ others → i < length others → get_or others i msg ≡ msg → old ≡ text ++ 44 ∷ chain_word (take (i + 1) messages)
+    → new ≡ old ++ 47 ∷ decimal msg → new ≡ text ++ 44 ∷ chain_word (take (i + 1 + 1) messages)
+gathers_number text old new messages others first i msg e within at was more =
+    let before : take (i + 1) messages ≡ first ∷ take i others = rw (e, add-one i) refl in
+    let after : take (i + 1 + 1) messages ≡ first ∷ take (i + 1) others = rw (e, add-one (i + 1)) refl in
+    let step : take (i + 1) others ≡ take i others ++ msg ∷ [] = take_more others i msg within ∙ ap (λ (m : ℕ). take i others ++ m ∷ []) at in
+    more ∙ ap (λ (x : List ℕ). x ++ 47 ∷ decimal msg) (was ∙ ap (λ (x : List ℕ). text ++ 44 ∷ chain_word x) before) ∙ append_assoc text (44 ∷ chain_word (first ∷ take i others)) (47 ∷ decimal msg)
+    ∙ ap (λ (x : List ℕ). text ++ 44 ∷ x) (sym (chain_more first (take i others) msg)) ∙ ap (λ (x : List ℕ). text ++ 44 ∷ chain_word x) (sym (after ∙ ap (λ (x : List ℕ). first ∷ x) step))
+
+-- one text is sent after another
+pub sends_more : (a b c : Option (List ℕ)) (x y z s t : List ℕ) → Sends a b x y s → Sends b c y z t → Sends a c x z (s ++ t)
+sends_more a b c x y z s t p q = record {
+  gone = p.gone ++ q.gone;
+  written = appends-more a b c p.gone q.gone p.written q.written;
+  is = append_assoc p.gone q.gone z ∙ ap (λ (u : List ℕ). p.gone ++ u) q.is ∙ sym (append_assoc p.gone y t) ∙ ap (λ (u : List ℕ). u ++ t) p.is ∙ append_assoc x s t;
+}
+
+-- a text is gathered after what was sent
+sends_gathered : (a b : Option (List ℕ)) (x y z s t : List ℕ) → Sends a b x y s → z ≡ y ++ t → Sends a b x z (s ++ t)
+sends_gathered a b x y z s t p e = record {
+  gone = p.gone;
+  written = p.written;
+  is = ap (λ (u : List ℕ). p.gone ++ u) e ∙ sym (append_assoc p.gone y t) ∙ ap (λ (u : List ℕ). u ++ t) p.is ∙ append_assoc x s t;
+}
+
+-- nothing more is sent
+pub sends_nothing : (a b c : Option (List ℕ)) (x y z s : List ℕ) → Sends a b x y s → Sends b c y z [] → Sends a c x z s
+sends_nothing a b c x y z s p q = rw append-nil at (sends_more a b c x y z s [] p q)
+
+-- the records of a certificate with some of its members
+abbrev pub records_to : Certificate → List Member → List (List (List ℕ))
+records_to c members = certificate_records (record { inst = c.inst; kind = c.kind; initiator = c.initiator; commit = c.commit; members = members })
+
+text_more : (before : List (List (List ℕ))) (fields : List (List ℕ)) → text_of (before ++ fields ∷ []) ≡ text_of before ++ line_of fields
+text_more before fields = flat_map-append line_of before (fields ∷ []) ∙ ap (λ (x : List ℕ). text_of before ++ x) (append-nil (line_of fields))
+
+-- one more member is sent
+pub sends_member : (a b d : Option (List ℕ)) (x y z u : List ℕ) (c : Certificate) (i : ℕ) (member : Member) → i < length c.members → get_or c.members i member ≡ member
+    → Sends a b x y (text_of (records_to c (take i c.members))) → Sends b d y z [] → u ≡ z ++ line_of (member_record c.inst member) → Sends a d x u (text_of (records_to c (take (i + 1) c.members)))
+sends_member a b d x y z u c i member within at p q e =
+    let step : take (i + 1) c.members ≡ take i c.members ++ member ∷ [] = take_more c.members i member within ∙ ap (λ (m : Member). take i c.members ++ m ∷ []) at in
+    let records : records_to c (take (i + 1) c.members) ≡ records_to c (take i c.members) ++ member_record c.inst member ∷ [] =
+    ap (records_to c) step ∙ ap (λ (r : List (List (List ℕ))). records_to c [] ++ r) (map-append (member_record c.inst) (take i c.members) (member ∷ [])) in
+    subst (λ (text : List ℕ). Sends a d x u text) (sym (ap text_of records ∙ text_more (records_to c (take i c.members)) (member_record c.inst member)))
+    (sends_gathered a d x z u (text_of (records_to c (take i c.members))) (line_of (member_record c.inst member)) (sends_nothing a b d x y z (text_of (records_to c (take i c.members))) p q) e)
+
+-- one more certificate is sent
+pub sends_certificate : (a b d : Option (List ℕ)) (x y z : List ℕ) (certificates : List Certificate) (i : ℕ) (c : Certificate) → i < length certificates → get_or certificates i c ≡ c
+    → Sends a b x y (text_of (records_of (take i certificates))) → Sends b d y z (text_of (certificate_records c)) → Sends a d x z (text_of (records_of (take (i + 1) certificates)))
+sends_certificate a b d x y z certificates i c within at p q =
+    let step : take (i + 1) certificates ≡ take i certificates ++ c ∷ [] = take_more certificates i c within ∙ ap (λ (m : Certificate). take i certificates ++ m ∷ []) at in
+    let records : records_of (take (i + 1) certificates) ≡ records_of (take i certificates) ++ certificate_records c =
+    ap records_of step ∙ flat_map-append certificate_records (take i certificates) (c ∷ []) ∙ ap (λ (r : List (List (List ℕ))). records_of (take i certificates) ++ r) (append-nil (certificate_records c)) in
+    subst (λ (text : List ℕ). Sends a d x z text) (sym (ap text_of records ∙ flat_map-append line_of (records_of (take i certificates)) (certificate_records c)))
+    (sends_more a b d x y z (text_of (records_of (take i certificates))) (text_of (certificate_records c)) p q)

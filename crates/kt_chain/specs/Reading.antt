@@ -1,0 +1,33 @@
+-- What is known while certificates are read.
+use Rattle.std.specs.Prelude.{◌≡◌, ◌≤◌, ◌⊎◌, ℕ, List, [], ◌∷◌, ◌++◌, Option, Some, None, All}
+use Rattle.csv.specs.Reading.{default_config, strip_bom, records}
+use Rattle.csv.specs.declared.reader.Reader.{Reader}
+use Rattle.kt_spacetime.specs.Progress.{left_in, ReadsOn}
+use Rattle.kt_chain.specs.declared.certificate.Certificate.{Certificate}
+use Rattle.kt_chain.specs.declared.records.RecordFault.{RecordFault}
+use Rattle.kt_chain.specs.declared.records.RecordFault.TheVariants as fault
+use Rattle.kt_chain.specs.Spelling.{IsInRange, records_of}
+use Rattle.kt_chain.specs.Texts.{IsAfter, record_count, most_records}
+
+-- want of memory, or this
+abbrev pub OrMemory : RecordFault → Type 0 → Type 0
+OrMemory f P = (f ≡ fault.Memory) ⊎ P
+
+-- a record was taken: the certificates say it beside what they said
+pub record Takes (old new : List Certificate) (fields : List (List ℕ)) : Type 0 where
+  pub spelled : records_of new ≡ records_of old ++ fields ∷ []
+  pub in_range : All IsInRange old → All IsInRange new
+
+-- the bytes, where they are known, begin with the records of these certificates, and what is left is known too
+abbrev pub Begins : Option (List ℕ) → Option (List (List (List ℕ))) → List Certificate → Type 0
+Begins None left certificates = Unit {0}
+Begins (Some bytes) None certificates = ⊥
+Begins (Some bytes) (Some left) certificates = IsAfter certificates left (records default_config (strip_bom bytes))
+
+-- what is known while certificates are gathered
+pub record Gathers {R : Type 0} (remaining : R → Option (List ℕ)) (source : R) (reader : Reader R) (count : ℕ) (certificates : List Certificate) : Type 0 where
+  pub reading : ReadsOn reader
+  pub begins : Begins (remaining source) (left_in remaining reader) certificates
+  pub in_range : All IsInRange certificates
+  pub counted : count ≡ record_count certificates
+  pub few : count ≤ most_records

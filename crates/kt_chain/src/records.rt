@@ -1,0 +1,283 @@
+//! Records of a certificate text: an instance, or a member of the last one.
+
+ghost use Rattle.std.specs.Prelude.{◌≡◌, ◌≢◌, ◌⊎◌, ◌≤◌, ◌==◌, ℕ, List, [], ◌∷◌, ◌++◌, codes, length, map, All, IfOk, IfErr, OnOk, IfSome, IfNone};
+ghost use Rattle.std.specs.List.{slice_split};
+ghost use Rattle.std.specs.Fmt.{decimal};
+ghost use Rattle.csv.specs.Records.{fields_of};
+ghost use Rattle.kt_base.specs.Numbers.{IsProcNo, IsMsgNo, IsInstNo};
+ghost use Rattle.kt_spacetime.specs.Words.{kind_word, verdict_word};
+ghost use Rattle.kt_chain.specs.Spelling.{IsInRange, IsMemberInRange, instance_record, member_record, chain_word, most_messages};
+ghost use Rattle.kt_chain.specs.Texts.{IsMisfit, IsInstanceMisfit, IsMemberFault, IsOtherInstance, IsFieldFault, IsRecordFault, fault_at};
+ghost use Rattle.kt_chain.specs.Texts as slot;
+ghost use Rattle.kt_chain.specs.declared.records.RecordFault.TheVariants as fault;
+ghost use Rattle.kt_chain.specs.Reading.{OrMemory, Takes};
+
+use crate::certificate::{Certificate, Chain, Members};
+use crate::fault::CertTextFault;
+use csv::ByteRecord;
+use kt_base::{InstNo, Kind, Memory, ProcNo};
+use kt_spacetime::fields::{instance_of, kind_of, message_of, number_of, process_of, verdict_of};
+use std::alloc::{AllocFailed, Global};
+
+/// The greatest length of a chain.
+const MOST_MESSAGES: u32 = 63;
+
+/// What is first wrong in a record.
+#[derive(Clone, Copy, Debug, PartialEq, Eq)]
+pub(crate) enum RecordFault {
+    Fields,
+    Word,
+    Number,
+    Place,
+    Memory,
+}
+
+impl RecordFault {
+    /// The fault of a text whose record this is.
+    pub(crate) fn at(self, number: u32) -> CertTextFault
+        ensures { result ≡ fault_at self number }
+    {
+        match self {
+            RecordFault::Fields => CertTextFault::Fields(number),
+            RecordFault::Word => CertTextFault::Word(number),
+            RecordFault::Number => CertTextFault::Number(number),
+            RecordFault::Place => CertTextFault::Place(number),
+            RecordFault::Memory => CertTextFault::Memory,
+        }
+    }
+}
+
+impl From<Memory> for RecordFault {
+    ghost from_gives = { λ _ f. f ≡ fault.Memory };
+
+    fn from(_fault: Memory) -> RecordFault {
+        RecordFault::Memory
+    }
+}
+
+impl<T: Drop> From<AllocFailed<T>> for RecordFault {
+    ghost from_gives = { λ _ f. f ≡ fault.Memory };
+
+    fn from(_fault: AllocFailed<T>) -> RecordFault {
+        RecordFault::Memory
+    }
+}
+
+// The five fields of a record.
+fn five_fields(current: &ByteRecord) -> Option<(&[u8], &[u8], &[u8], &[u8], &[u8])>
+    ensures found { IfSome result (λ f. fields_of current.now ≡ f.0.now ∷ f.1.now ∷ f.2.now ∷ f.3.now ∷ f.4.now ∷ []) }
+    ensures none { IfNone result (length (fields_of current.now) ≢ 5) }
+{
+    if current.len() != 5 {
+        return None;
+    }
+    let word = current.get(0)?;
+    let first = current.get(1)?;
+    let second = current.get(2)?;
+    let third = current.get(3)?;
+    let fourth = current.get(4)?;
+    Some((word, first, second, third, fourth))
+}
+
+fn instance(text: &[u8]) -> Result<InstNo, RecordFault>
+    ensures found { IfOk result (λ k. IsInstNo k × (text.now ≡ decimal k)) }
+    ensures fault { IfErr result (IsMisfit slot.instance text.now) }
+{
+    instance_of(text).ok_or(RecordFault::Number)
+}
+
+fn process(text: &[u8]) -> Result<ProcNo, RecordFault>
+    ensures found { IfOk result (λ p. IsProcNo p × (text.now ≡ decimal p)) }
+    ensures fault { IfErr result (IsMisfit slot.process text.now) }
+{
+    process_of(text).ok_or(RecordFault::Number)
+}
+
+fn kind(text: &[u8]) -> Result<Kind, RecordFault>
+    ensures found { IfOk result (λ k. text.now ≡ kind_word k) }
+    ensures fault { IfErr result (IsMisfit slot.kind text.now) }
+{
+    kind_of(text).ok_or(RecordFault::Word)
+}
+
+fn verdict(text: &[u8]) -> Result<bool, RecordFault>
+    ensures found { IfOk result (λ commit. text.now ≡ verdict_word commit) }
+    ensures fault { IfErr result (IsMisfit slot.verdict text.now) }
+{
+    verdict_of(text).ok_or(RecordFault::Word)
+}
+
+// How many messages a member's record says that its chain has.
+fn count(text: &[u8]) -> Result<u32, RecordFault>
+    ensures found { IfOk result (λ n. (n ≤ most_messages) × (text.now ≡ decimal n)) }
+    ensures fault { IfErr result (IsMisfit slot.count text.now) }
+{
+    let Some(number) = number_of(text) else {
+        return Err(RecordFault::Number);
+    };
+    if number > MOST_MESSAGES {
+        return Err(RecordFault::Number);
+    }
+    Ok(number)
+}
+
+// The parts of a text between one `/` and the next.
+fn parts_of(alloc: Global, text: &[u8]) -> Result<Vec<&[u8]>, RecordFault>
+    ensures found { IfOk result (λ parts. map (λ part. part.now) parts.items ≡ slice_split (λ byte. byte == 47) text.now) }
+    ensures fault { IfErr result (λ f. f ≡ RecordFault.Memory) }
+{
+    match text.split(|byte| *byte == b'/').collect(alloc) {
+        Ok(parts) => Ok(parts),
+        Err(_) => Err(RecordFault::Memory),
+    }
+}
+
+// The messages that these parts spell, one each.
+fn messages_of(alloc: Global, parts: &[&[u8]]) -> Result<Chain, RecordFault>
+    ensures found { IfOk result (λ messages. All IsMsgNo messages × (map decimal messages ≡ map (λ part. part.now) parts.now)) }
+    ensures fault { IfErr result (λ f. OrMemory f ((f ≡ RecordFault.Number) × ((messages : List ℕ) → All IsMsgNo messages → map decimal messages ≢ map (λ part. part.now) parts.now))) }
+{
+    let mut chain = Chain::new(alloc);
+    for part in parts {
+        let Some(msg) = message_of(part) else {
+            return Err(RecordFault::Number);
+        };
+        chain.push(msg)?;
+    }
+    Ok(chain)
+}
+
+// The messages of a chain, joined by `/`, or `-` for none.
+fn chain(alloc: Global, text: &[u8]) -> Result<Chain, RecordFault>
+    ensures found { IfOk result (λ messages. All IsMsgNo messages × (text.now ≡ chain_word messages)) }
+    ensures fault { IfErr result (λ f. OrMemory f (IsMisfit slot.chain text.now f)) }
+{
+    if text == b"-".as_slice() {
+        return Ok(Chain::new(alloc));
+    }
+    let parts = parts_of(alloc, text)?;
+    messages_of(alloc, parts.as_slice())
+}
+
+// The certificate of an instance, before any member.
+fn certificate(
+    alloc: Global,
+    first: &[u8],
+    second: &[u8],
+    third: &[u8],
+    fourth: &[u8],
+) -> Result<Certificate, RecordFault>
+    ensures spelled { IfOk result (λ c. instance_record c ≡ codes "cert" ∷ first.now ∷ second.now ∷ third.now ∷ fourth.now ∷ []) }
+    ensures in_range { IfOk result IsInRange }
+    ensures members { IfOk result (λ c. c.members ≡ []) }
+    ensures fault { IfErr result (IsInstanceMisfit first.now second.now third.now fourth.now) }
+{
+    let inst = instance(first)?;
+    let kind = kind(second)?;
+    let initiator = process(third)?;
+    let commit = verdict(fourth)?;
+    Ok(Certificate {
+        inst,
+        kind,
+        initiator,
+        commit,
+        members: Members::new(alloc),
+    })
+}
+
+// Adds a member to the last certificate, if that is of this instance.
+fn place(
+    certificates: &mut Vec<Certificate>,
+    inst: InstNo,
+    process: ProcNo,
+    chain: Chain,
+) -> Result<(), RecordFault>
+    ensures placed { OnOk result (IsMemberInRange (process, chain) → Takes certificates.old.items certificates.new.items (member_record inst (process, chain))) }
+    ensures fault { IfErr result (λ f. OrMemory f ((f ≡ RecordFault.Place) × ((certificates.old.items ≡ []) ⊎ IsOtherInstance certificates.old.items (decimal inst)))) }
+{
+    let Some(mut last) = certificates.pop() else {
+        return Err(RecordFault::Place);
+    };
+    if last.inst.get() != inst.get() {
+        return Err(RecordFault::Place);
+    }
+    last.members.push(process, chain)?;
+    certificates.push(last)?;
+    Ok(())
+}
+
+// Takes the fields after the word of a record of an instance: a certificate with no member yet.
+fn take_instance(
+    alloc: Global,
+    certificates: &mut Vec<Certificate>,
+    first: &[u8],
+    second: &[u8],
+    third: &[u8],
+    fourth: &[u8],
+) -> Result<(), RecordFault>
+    ensures taken { OnOk result (Takes certificates.old.items certificates.new.items (codes "cert" ∷ first.now ∷ second.now ∷ third.now ∷ fourth.now ∷ [])) }
+    ensures fault { IfErr result (λ f. OrMemory f (IsInstanceMisfit first.now second.now third.now fourth.now f)) }
+{
+    let certificate = certificate(alloc, first, second, third, fourth)?;
+    certificates.push(certificate)?;
+    Ok(())
+}
+
+// Takes the fields after the word of a member's record: one more member of the last certificate.
+fn take_member(
+    alloc: Global,
+    certificates: &mut Vec<Certificate>,
+    first: &[u8],
+    second: &[u8],
+    third: &[u8],
+    fourth: &[u8],
+) -> Result<(), RecordFault>
+    ensures taken { OnOk result (Takes certificates.old.items certificates.new.items (codes "member" ∷ first.now ∷ second.now ∷ third.now ∷ fourth.now ∷ [])) }
+    ensures fault { IfErr result (λ f. OrMemory f (IsMemberFault certificates.old.items first.now second.now third.now fourth.now f)) }
+{
+    let inst = instance(first)?;
+    let process = process(second)?;
+    let count = count(third)?;
+    let chain = chain(alloc, fourth)?;
+    if chain.messages().len() != count as usize {
+        return Err(RecordFault::Place);
+    }
+    place(certificates, inst, process, chain)
+}
+
+// Takes the word of a record and the fields after it.
+fn take_fields(
+    alloc: Global,
+    certificates: &mut Vec<Certificate>,
+    word: &[u8],
+    first: &[u8],
+    second: &[u8],
+    third: &[u8],
+    fourth: &[u8],
+) -> Result<(), RecordFault>
+    ensures taken { OnOk result (Takes certificates.old.items certificates.new.items (word.now ∷ first.now ∷ second.now ∷ third.now ∷ fourth.now ∷ [])) }
+    ensures fault { IfErr result (λ f. OrMemory f (IsFieldFault certificates.old.items word.now first.now second.now third.now fourth.now f)) }
+{
+    if word == b"cert".as_slice() {
+        return take_instance(alloc, certificates, first, second, third, fourth);
+    }
+    if word == b"member".as_slice() {
+        return take_member(alloc, certificates, first, second, third, fourth);
+    }
+    Err(RecordFault::Word)
+}
+
+/// Takes a record: a certificate, or a member of the last one.
+pub(crate) fn take_record(
+    alloc: Global,
+    certificates: &mut Vec<Certificate>,
+    current: &ByteRecord,
+) -> Result<(), RecordFault>
+    ensures taken { OnOk result (Takes certificates.old.items certificates.new.items (fields_of current.now)) }
+    ensures fault { IfErr result (IsRecordFault certificates.old.items (fields_of current.now)) }
+{
+    let Some((word, first, second, third, fourth)) = five_fields(current) else {
+        return Err(RecordFault::Fields);
+    };
+    take_fields(alloc, certificates, word, first, second, third, fourth)
+}

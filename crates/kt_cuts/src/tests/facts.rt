@@ -1,0 +1,894 @@
+//! Worked logs, and what the live histories and positions are after each of their rows.
+
+/// By log: what it shows, its text, after each row a line with the length of the live history and the permanent
+/// position of each process in turn, and a line with the instance, the process and the place of each new position.
+pub const FACTS: [(&str, &[u8], &[u8], &[u8]); 30] = [
+    (
+        "a checkpoint of two",
+        b"kt,2,-,-
+sent,0,1,5
+received,1,0,1
+began,1,1,checkpoint
+took,1,1,-
+took,0,1,-
+decided,1,1,commit
+closed,1,1,-
+closed,0,1,-
+",
+        b"1,0,0,0
+1,0,1,0
+1,0,1,0
+1,0,1,0
+1,0,1,0
+1,1,1,1
+1,1,1,1
+1,1,1,1
+",
+        b"1,1,1
+1,0,1
+",
+    ),
+    (
+        "a checkpoint of the sender alone",
+        b"kt,2,-,-
+sent,0,1,5
+received,1,0,1
+began,0,1,checkpoint
+took,0,1,-
+decided,0,1,commit
+closed,0,1,-
+",
+        b"1,0,0,0
+1,0,1,0
+1,0,1,0
+1,0,1,0
+1,1,1,0
+1,1,1,0
+",
+        b"1,0,1
+",
+    ),
+    (
+        "a checkpoint before the message comes",
+        b"kt,2,-,-
+sent,0,1,5
+began,1,1,checkpoint
+took,1,1,-
+decided,1,1,commit
+closed,1,1,-
+received,1,0,1
+",
+        b"1,0,0,0
+1,0,0,0
+1,0,0,0
+1,0,0,0
+1,0,0,0
+1,0,1,0
+",
+        b"1,1,0
+",
+    ),
+    (
+        "a checkpoint through three",
+        b"kt,2,-,-
+sent,1,2,1
+received,2,1,1
+sent,0,1,2
+received,1,0,3
+began,2,1,checkpoint
+took,2,1,-
+took,1,1,-
+took,0,1,-
+decided,2,1,commit
+closed,2,1,-
+closed,1,1,-
+closed,0,1,-
+",
+        b"0,0,1,0,0,0
+0,0,1,0,1,0
+1,0,1,0,1,0
+1,0,2,0,1,0
+1,0,2,0,1,0
+1,0,2,0,1,0
+1,0,2,0,1,0
+1,0,2,0,1,0
+1,1,2,2,1,1
+1,1,2,2,1,1
+1,1,2,2,1,1
+1,1,2,2,1,1
+",
+        b"1,2,1
+1,1,2
+1,0,1
+",
+    ),
+    (
+        "a rollback after a failure",
+        b"kt,2,-,-
+sent,0,1,7
+received,1,0,1
+failed,0,-,-
+began,0,1,rollback
+ready,0,1,-
+ready,1,1,-
+decided,0,1,commit
+closed,0,1,-
+closed,1,1,-
+",
+        b"1,0,0,0
+1,0,1,0
+1,0,1,0
+1,0,1,0
+1,0,1,0
+1,0,1,0
+0,0,0,0
+0,0,0,0
+0,0,0,0
+",
+        b"",
+    ),
+    (
+        "a rollback of the receiver alone",
+        b"kt,2,-,-
+sent,0,1,7
+received,1,0,1
+began,1,1,rollback
+ready,1,1,-
+decided,1,1,commit
+closed,1,1,-
+received,1,0,1
+",
+        b"1,0,0,0
+1,0,1,0
+1,0,1,0
+1,0,1,0
+1,0,0,0
+1,0,0,0
+1,0,1,0
+",
+        b"",
+    ),
+    (
+        "a second checkpoint of one",
+        b"kt,2,-,-
+sent,1,2,1
+received,2,1,1
+sent,0,1,2
+received,1,0,3
+began,2,1,checkpoint
+took,2,1,-
+took,1,1,-
+took,0,1,-
+decided,2,1,commit
+closed,2,1,-
+closed,1,1,-
+closed,0,1,-
+began,2,2,checkpoint
+took,2,2,-
+decided,2,2,commit
+closed,2,2,-
+",
+        b"0,0,1,0,0,0
+0,0,1,0,1,0
+1,0,1,0,1,0
+1,0,2,0,1,0
+1,0,2,0,1,0
+1,0,2,0,1,0
+1,0,2,0,1,0
+1,0,2,0,1,0
+1,1,2,2,1,1
+1,1,2,2,1,1
+1,1,2,2,1,1
+1,1,2,2,1,1
+1,1,2,2,1,1
+1,1,2,2,1,1
+1,1,2,2,1,1
+1,1,2,2,1,1
+",
+        b"1,2,1
+1,1,2
+1,0,1
+2,2,1
+",
+    ),
+    (
+        "a checkpoint round a ring",
+        b"kt,2,-,-
+sent,0,1,1
+received,1,0,1
+sent,1,2,2
+received,2,1,3
+sent,2,0,3
+received,0,2,5
+began,0,1,checkpoint
+took,0,1,-
+took,2,1,-
+took,1,1,-
+decided,0,1,commit
+closed,0,1,-
+closed,2,1,-
+closed,1,1,-
+",
+        b"1,0,0,0,0,0
+1,0,1,0,0,0
+1,0,2,0,0,0
+1,0,2,0,1,0
+1,0,2,0,2,0
+2,0,2,0,2,0
+2,0,2,0,2,0
+2,0,2,0,2,0
+2,0,2,0,2,0
+2,0,2,0,2,0
+2,2,2,2,2,2
+2,2,2,2,2,2
+2,2,2,2,2,2
+2,2,2,2,2,2
+",
+        b"1,0,2
+1,2,2
+1,1,2
+",
+    ),
+    (
+        "two checkpoints at once",
+        b"kt,2,-,-
+sent,0,1,4
+received,1,0,1
+began,1,1,checkpoint
+took,1,1,-
+began,0,2,checkpoint
+took,0,2,-
+decided,0,2,commit
+closed,0,2,-
+decided,1,1,commit
+closed,1,1,-
+",
+        b"1,0,0,0
+1,0,1,0
+1,0,1,0
+1,0,1,0
+1,0,1,0
+1,0,1,0
+1,1,1,0
+1,1,1,0
+1,1,1,1
+1,1,1,1
+",
+        b"1,1,1
+2,0,1
+",
+    ),
+    (
+        "a busy process refuses",
+        b"kt,2,-,-
+sent,2,0,1
+received,0,2,1
+sent,0,1,2
+received,1,0,3
+began,0,1,checkpoint
+took,0,1,-
+began,1,2,checkpoint
+took,1,2,-
+unwilling,0,2,busy-1
+decided,1,2,abort
+closed,1,2,-
+took,2,1,-
+decided,0,1,commit
+closed,0,1,-
+closed,2,1,-
+",
+        b"0,0,0,0,1,0
+1,0,0,0,1,0
+2,0,0,0,1,0
+2,0,1,0,1,0
+2,0,1,0,1,0
+2,0,1,0,1,0
+2,0,1,0,1,0
+2,0,1,0,1,0
+2,0,1,0,1,0
+2,0,1,0,1,0
+2,0,1,0,1,0
+2,0,1,0,1,0
+2,2,1,0,1,1
+2,2,1,0,1,1
+2,2,1,0,1,1
+",
+        b"1,0,2
+2,1,1
+1,2,1
+",
+    ),
+    (
+        "a rollback meets a message on its way",
+        b"kt,2,-,-
+sent,0,1,5
+began,0,1,rollback
+ready,0,1,-
+received,1,0,1
+ready,1,1,-
+decided,0,1,commit
+closed,0,1,-
+closed,1,1,-
+",
+        b"1,0,0,0
+1,0,0,0
+1,0,0,0
+1,0,1,0
+1,0,1,0
+0,0,0,0
+0,0,0,0
+0,0,0,0
+",
+        b"",
+    ),
+    (
+        "a dropped message",
+        b"kt,2,-,-
+sent,0,1,5
+failed,1,-,-
+dropped,1,0,1
+began,0,1,rollback
+ready,0,1,-
+decided,0,1,commit
+closed,0,1,-
+began,1,2,rollback
+ready,1,2,-
+decided,1,2,commit
+closed,1,2,-
+",
+        b"1,0,0,0
+1,0,0,0
+1,0,0,0
+1,0,0,0
+1,0,0,0
+0,0,0,0
+0,0,0,0
+0,0,0,0
+0,0,0,0
+0,0,0,0
+0,0,0,0
+",
+        b"",
+    ),
+    (
+        "a failure inside a checkpoint",
+        b"kt,2,-,-
+sent,0,1,5
+received,1,0,1
+began,1,1,checkpoint
+took,1,1,-
+failed,1,-,-
+took,0,1,-
+decided,1,1,commit
+closed,1,1,-
+closed,0,1,-
+began,1,2,rollback
+ready,1,2,-
+decided,1,2,commit
+closed,1,2,-
+",
+        b"1,0,0,0
+1,0,1,0
+1,0,1,0
+1,0,1,0
+1,0,1,0
+1,0,1,0
+1,1,1,1
+1,1,1,1
+1,1,1,1
+1,1,1,1
+1,1,1,1
+1,1,1,1
+1,1,1,1
+",
+        b"1,1,1
+1,0,1
+",
+    ),
+    (
+        "a process that is down refuses",
+        b"kt,2,-,-
+sent,0,1,5
+received,1,0,1
+failed,0,-,-
+began,1,1,checkpoint
+took,1,1,-
+unwilling,0,1,down
+decided,1,1,abort
+closed,1,1,-
+",
+        b"1,0,0,0
+1,0,1,0
+1,0,1,0
+1,0,1,0
+1,0,1,0
+1,0,1,0
+1,0,1,0
+1,0,1,0
+",
+        b"1,1,1
+",
+    ),
+    (
+        "two aborts",
+        b"kt,2,-,-
+sent,2,0,1
+received,0,2,1
+sent,0,1,2
+received,1,0,3
+failed,2,-,-
+began,1,1,checkpoint
+took,1,1,-
+took,0,1,-
+unwilling,2,1,down
+decided,1,1,abort
+closed,1,1,-
+closed,0,1,-
+began,1,2,checkpoint
+took,1,2,-
+took,0,2,-
+unwilling,2,2,down
+decided,1,2,abort
+closed,1,2,-
+closed,0,2,-
+",
+        b"0,0,0,0,1,0
+1,0,0,0,1,0
+2,0,0,0,1,0
+2,0,1,0,1,0
+2,0,1,0,1,0
+2,0,1,0,1,0
+2,0,1,0,1,0
+2,0,1,0,1,0
+2,0,1,0,1,0
+2,0,1,0,1,0
+2,0,1,0,1,0
+2,0,1,0,1,0
+2,0,1,0,1,0
+2,0,1,0,1,0
+2,0,1,0,1,0
+2,0,1,0,1,0
+2,0,1,0,1,0
+2,0,1,0,1,0
+2,0,1,0,1,0
+",
+        b"1,1,1
+1,0,2
+2,1,1
+2,0,2
+",
+    ),
+    (
+        "a rollback through three",
+        b"kt,2,-,-
+sent,2,0,1
+received,0,2,1
+sent,2,1,2
+received,1,2,3
+sent,0,1,3
+began,2,1,rollback
+ready,2,1,-
+ready,1,1,-
+ready,0,1,-
+decided,2,1,commit
+closed,2,1,-
+closed,0,1,-
+closed,1,1,-
+",
+        b"0,0,0,0,1,0
+1,0,0,0,1,0
+1,0,0,0,2,0
+1,0,1,0,2,0
+2,0,1,0,2,0
+2,0,1,0,2,0
+2,0,1,0,2,0
+2,0,1,0,2,0
+2,0,1,0,2,0
+0,0,0,0,0,0
+0,0,0,0,0,0
+0,0,0,0,0,0
+0,0,0,0,0,0
+",
+        b"",
+    ),
+    (
+        "two instances abort each other",
+        b"kt,2,-,-
+sent,2,1,1
+received,1,2,1
+sent,0,1,2
+received,1,0,3
+began,1,1,checkpoint
+took,1,1,-
+began,0,2,rollback
+ready,0,2,-
+sent,2,0,3
+unwilling,0,1,busy-2
+unwilling,1,2,busy-1
+decided,0,2,abort
+closed,0,2,-
+received,0,2,9
+took,2,1,-
+decided,1,1,abort
+closed,1,1,-
+closed,2,1,-
+",
+        b"0,0,0,0,1,0
+0,0,1,0,1,0
+1,0,1,0,1,0
+1,0,2,0,1,0
+1,0,2,0,1,0
+1,0,2,0,1,0
+1,0,2,0,1,0
+1,0,2,0,1,0
+1,0,2,0,2,0
+1,0,2,0,2,0
+1,0,2,0,2,0
+1,0,2,0,2,0
+1,0,2,0,2,0
+2,0,2,0,2,0
+2,0,2,0,2,0
+2,0,2,0,2,0
+2,0,2,0,2,0
+2,0,2,0,2,0
+",
+        b"1,1,2
+1,2,2
+",
+    ),
+    (
+        "a command refused as busy",
+        b"kt,2,-,-
+sent,1,0,1
+received,0,1,1
+began,0,1,checkpoint
+took,0,1,-
+refused,0,checkpoint,busy-1
+took,1,1,-
+decided,0,1,commit
+closed,0,1,-
+closed,1,1,-
+",
+        b"0,0,1,0
+1,0,1,0
+1,0,1,0
+1,0,1,0
+1,0,1,0
+1,0,1,0
+1,1,1,1
+1,1,1,1
+1,1,1,1
+",
+        b"1,0,1
+1,1,1
+",
+    ),
+    (
+        "commands refused as down",
+        b"kt,2,-,-
+failed,0,-,-
+refused,0,send,down
+refused,0,fail,down
+refused,0,checkpoint,down
+",
+        b"0,0
+0,0
+0,0
+0,0
+",
+        b"",
+    ),
+    (
+        "an offered body",
+        b"kt,2,-,-
+sent,0,1,3
+received,1,0,1
+sent,0,1,4
+received,1,0,3
+sent,1,0,4
+received,0,1,5
+",
+        b"1,0,0,0
+1,0,1,0
+2,0,1,0
+2,0,2,0
+2,0,3,0
+3,0,3,0
+",
+        b"",
+    ),
+    (
+        "a sum that stays",
+        b"kt,2,-,-
+sent,0,1,9223372036854775807
+received,1,0,1
+sent,0,1,1
+received,1,0,3
+",
+        b"1,0,0,0
+1,0,1,0
+2,0,1,0
+2,0,2,0
+",
+        b"",
+    ),
+    (
+        "the empty scenario",
+        b"kt,2,-,-
+",
+        b"",
+        b"",
+    ),
+    (
+        "an object and no command",
+        b"kt,2,-,-
+",
+        b"",
+        b"",
+    ),
+    (
+        "a second checkpoint of two",
+        b"kt,2,-,-
+sent,0,1,1
+received,1,0,1
+began,0,1,checkpoint
+took,0,1,-
+decided,0,1,commit
+closed,0,1,-
+sent,0,1,2
+received,1,0,7
+began,1,2,checkpoint
+took,1,2,-
+took,0,2,-
+decided,1,2,commit
+closed,1,2,-
+closed,0,2,-
+",
+        b"1,0,0,0
+1,0,1,0
+1,0,1,0
+1,0,1,0
+1,1,1,0
+1,1,1,0
+2,1,1,0
+2,1,2,0
+2,1,2,0
+2,1,2,0
+2,1,2,0
+2,2,2,2
+2,2,2,2
+2,2,2,2
+",
+        b"1,0,1
+2,1,2
+2,0,2
+",
+    ),
+    (
+        "a checkpoint round a ring in phases",
+        b"kt,2,-,-
+sent,0,1,1
+received,1,0,1
+sent,1,2,2
+received,2,1,3
+sent,2,0,3
+received,0,2,5
+began,0,1,checkpoint
+took,0,1,-
+took,2,1,-
+took,1,1,-
+decided,0,1,commit
+closed,0,1,-
+closed,2,1,-
+closed,1,1,-
+",
+        b"1,0,0,0,0,0
+1,0,1,0,0,0
+1,0,2,0,0,0
+1,0,2,0,1,0
+1,0,2,0,2,0
+2,0,2,0,2,0
+2,0,2,0,2,0
+2,0,2,0,2,0
+2,0,2,0,2,0
+2,0,2,0,2,0
+2,2,2,2,2,2
+2,2,2,2,2,2
+2,2,2,2,2,2
+2,2,2,2,2,2
+",
+        b"1,0,2
+1,2,2
+1,1,2
+",
+    ),
+    (
+        "a message to a process that is down",
+        b"kt,2,-,-
+sent,0,1,5
+failed,1,-,-
+dropped,1,0,1
+",
+        b"1,0,0,0
+1,0,0,0
+1,0,0,0
+",
+        b"",
+    ),
+    (
+        "a failure and a rollback in phases",
+        b"kt,2,-,-
+sent,0,1,7
+received,1,0,1
+failed,0,-,-
+began,0,1,rollback
+ready,0,1,-
+ready,1,1,-
+decided,0,1,commit
+closed,0,1,-
+closed,1,1,-
+",
+        b"1,0,0,0
+1,0,1,0
+1,0,1,0
+1,0,1,0
+1,0,1,0
+1,0,1,0
+0,0,0,0
+0,0,0,0
+0,0,0,0
+",
+        b"",
+    ),
+    (
+        "a checkpoint of four",
+        b"kt,2,-,-
+sent,0,1,1
+received,1,0,1
+sent,0,2,1
+received,2,0,3
+sent,0,3,1
+received,3,0,5
+sent,1,0,1
+received,0,1,7
+sent,1,2,1
+received,2,1,9
+sent,1,3,1
+received,3,1,11
+sent,2,0,1
+received,0,2,13
+sent,2,1,1
+received,1,2,15
+sent,2,3,1
+received,3,2,17
+sent,3,0,1
+received,0,3,19
+sent,3,1,1
+received,1,3,21
+sent,3,2,1
+received,2,3,23
+began,0,1,checkpoint
+took,0,1,-
+took,1,1,-
+took,2,1,-
+took,3,1,-
+decided,0,1,commit
+closed,0,1,-
+closed,1,1,-
+closed,2,1,-
+closed,3,1,-
+",
+        b"1,0,0,0,0,0,0,0
+1,0,1,0,0,0,0,0
+2,0,1,0,0,0,0,0
+2,0,1,0,1,0,0,0
+3,0,1,0,1,0,0,0
+3,0,1,0,1,0,1,0
+3,0,2,0,1,0,1,0
+4,0,2,0,1,0,1,0
+4,0,3,0,1,0,1,0
+4,0,3,0,2,0,1,0
+4,0,4,0,2,0,1,0
+4,0,4,0,2,0,2,0
+4,0,4,0,3,0,2,0
+5,0,4,0,3,0,2,0
+5,0,4,0,4,0,2,0
+5,0,5,0,4,0,2,0
+5,0,5,0,5,0,2,0
+5,0,5,0,5,0,3,0
+5,0,5,0,5,0,4,0
+6,0,5,0,5,0,4,0
+6,0,5,0,5,0,5,0
+6,0,6,0,5,0,5,0
+6,0,6,0,5,0,6,0
+6,0,6,0,6,0,6,0
+6,0,6,0,6,0,6,0
+6,0,6,0,6,0,6,0
+6,0,6,0,6,0,6,0
+6,0,6,0,6,0,6,0
+6,0,6,0,6,0,6,0
+6,6,6,6,6,6,6,6
+6,6,6,6,6,6,6,6
+6,6,6,6,6,6,6,6
+6,6,6,6,6,6,6,6
+6,6,6,6,6,6,6,6
+",
+        b"1,0,6
+1,1,6
+1,2,6
+1,3,6
+",
+    ),
+    (
+        "messages received again",
+        b"kt,2,-,-
+sent,0,1,1
+received,1,0,1
+sent,0,1,2
+received,1,0,3
+failed,1,-,-
+began,1,1,rollback
+ready,1,1,-
+decided,1,1,commit
+closed,1,1,-
+received,1,0,1
+received,1,0,3
+began,1,2,checkpoint
+took,1,2,-
+took,0,2,-
+decided,1,2,commit
+closed,1,2,-
+closed,0,2,-
+",
+        b"1,0,0,0
+1,0,1,0
+2,0,1,0
+2,0,2,0
+2,0,2,0
+2,0,2,0
+2,0,2,0
+2,0,0,0
+2,0,0,0
+2,0,1,0
+2,0,2,0
+2,0,2,0
+2,0,2,0
+2,0,2,0
+2,2,2,2
+2,2,2,2
+2,2,2,2
+",
+        b"2,1,2
+2,0,2
+",
+    ),
+    (
+        "an undone message is not received again",
+        b"kt,2,-,-
+sent,2,1,1
+received,1,2,1
+sent,0,1,2
+received,1,0,3
+began,0,1,rollback
+ready,0,1,-
+ready,1,1,-
+decided,0,1,commit
+closed,0,1,-
+closed,1,1,-
+received,1,2,1
+",
+        b"0,0,0,0,1,0
+0,0,1,0,1,0
+1,0,1,0,1,0
+1,0,2,0,1,0
+1,0,2,0,1,0
+1,0,2,0,1,0
+1,0,2,0,1,0
+0,0,0,0,1,0
+0,0,0,0,1,0
+0,0,0,0,1,0
+0,0,1,0,1,0
+",
+        b"",
+    ),
+];
