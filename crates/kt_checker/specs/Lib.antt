@@ -5,3 +5,4 @@ pub use Rattle.kt_cuts.specs.Chains
 pub use Rattle.kt_cuts.specs.Least
 pub mod Unwilling
 pub mod Gathered
+pub mod Passing

@@ -1,11 +1,13 @@
 //! What a log says of each instance: how it began, who joined, how it was decided.
 
-ghost use Rattle.std.specs.Prelude.{◌≡◌, ◌<◌, ◌+◌, ◌^◌, ◌++◌, ◌∷◌, [], ℕ, List, length, IfOk, OnOk};
+ghost use Rattle.std.specs.Prelude.{◌≡◌, ◌<◌, ◌+◌, ◌^◌, ◌++◌, ◌∷◌, [], ℕ, true, Some, List, length, slice_get, IfOk, IfNone, OnOk};
 ghost use Rattle.std.specs.Option.{option_copied};
 ghost use Rattle.kt_spacetime.specs.declared.event.Event.{Event};
 ghost use Rattle.kt_spacetime.specs.declared.event.Event.TheVariants as event;
 ghost use Rattle.kt_base.specs.declared.words.Cause.{Cause};
 ghost use Rattle.kt_cuts.specs.Legal.{IsLegal};
+ghost use Rattle.kt_checker.specs.declared.decisions.Instance.{Instance};
+ghost use Rattle.kt_checker.specs.declared.decisions.Decision.{Decision};
 ghost use Rattle.kt_checker.specs.Gathered.{Gathered};
 ghost use Rattle.kt_cuts.specs.Standing.{at_number};
 
@@ -23,6 +25,7 @@ pub(crate) struct Decision {
 /// What a log says of an instance.
 #[derive(Drop)]
 pub(crate) struct Instance {
+    pub(crate) inst: InstNo,
     pub(crate) kind: Kind,
     pub(crate) initiator: ProcNo,
     pub(crate) decision: Option<Decision>,
@@ -64,6 +67,22 @@ impl Instances {
         self.list.get(inst.get() as usize - 1)
     }
 
+    /// The least decided instance that no certificate was seen of, with its decided row.
+    pub(crate) fn first_missing(&self, seen: &[bool]) -> Option<(InstNo, RowNo)>
+        requires { length seen.now ≡ length self.now.list.items }
+        ensures { IfNone result ((k : ℕ) (v : Instance) (d : Decision) → slice_get self.now.list.items k ≡ Some v → v.decision ≡ Some d → slice_get seen.now k ≡ Some true) }
+    {
+        for index in 0..self.list.len() {
+            let instance = &self.list[index];
+            if let Some(decision) = instance.decision
+                && !seen[index]
+            {
+                return Some((instance.inst, decision.row));
+            }
+        }
+        None
+    }
+
     /// How many instances there are.
     pub(crate) fn len(&self) -> usize
         ensures { result ≡ length self.now.list.items }
@@ -75,7 +94,7 @@ impl Instances {
         ensures { OnOk result ((rows : List Event) → Gathered self.old.list.items rows → number ≡ length rows + 1 → IsLegal (rows ++ row.now ∷ []) → Gathered self.new.list.items (rows ++ row.now ∷ [])) }
     {
         match *row {
-            Event::Began { p, kind, .. } => self.begin(p, kind),
+            Event::Began { p, inst, kind } => self.begin(p, inst, kind),
             Event::Took { p, inst } => join(&mut self.list, p, inst),
             Event::Ready { p, inst } => join(&mut self.list, p, inst),
             Event::Unwilling { inst, .. } => {
@@ -95,10 +114,11 @@ impl Instances {
         }
     }
 
-    fn begin(&mut self, initiator: ProcNo, kind: Kind) -> Result<(), Memory>
-        ensures { OnOk result ((rows : List Event) (inst : ℕ) → Gathered self.old.list.items rows → Gathered self.new.list.items (rows ++ event.Began initiator inst kind ∷ [])) }
+    fn begin(&mut self, initiator: ProcNo, inst: InstNo, kind: Kind) -> Result<(), Memory>
+        ensures { OnOk result ((rows : List Event) → Gathered self.old.list.items rows → Gathered self.new.list.items (rows ++ event.Began initiator inst kind ∷ [])) }
     {
         self.list.push(Instance {
+            inst,
             kind,
             initiator,
             decision: None,
