@@ -16,12 +16,14 @@ use Rattle.kt_cuts.specs.declared.histories.Trace.{Trace}
 use Rattle.kt_cuts.specs.Past.{Past, past}
 use Rattle.kt_cuts.specs.Legal.{is_deed, has_deed}
 use Rattle.kt_cuts.specs.Chains.{LinksCheckpoint, LinksRollback, IsCheckpointChain, IsRollbackChain}
+use Rattle.kt_cuts.specs.Cuts.{part, IsOrphan, IsConsistent}
 use Rattle.kt_cuts.specs.Messages.{row_at}
 use Rattle.kt_cuts.specs.Standing.{parties_of_row}
 use Rattle.kt_cuts.specs.Traces.{place_of, trace_between, trace_of}
 use Rattle.kt_cuts.proofs.Items.{get_in_take, item_there}
 use Rattle.kt_cuts.proofs.SortedFacts.{some_same}
 use Rattle.kt_cuts.proofs.DeedFacts.{same_deed, has_at}
+use Rattle.kt_cuts.proofs.Consistency.{consistent_from, consistent_sent, consistent_without}
 use Rattle.kt_cuts.proofs.OrphanFacts.{get_from_drop}
 use Rattle.kt_checker.specs.Passing.{IsChain}
 
@@ -124,3 +126,19 @@ same_lists (m ∷ ms) [] l agree = absurd (omega (arith, l))
 same_lists (m ∷ ms) (x ∷ xs) l agree =
     let first : x ≡ m.0 = some_same (agree 0 m.0 m.1 refl) in
     (λ i. sym first i ∷ same_lists ms xs (omega (arith, l)) (λ k q chain e. agree (suc k) q chain e) i)
+
+take_none : (n : ℕ) → take n (let l : List Deed = [] in l) ≡ []
+take_none zero = refl
+take_none (suc n) = refl
+
+-- cuts that agree on the processes have the same orphans
+pub consistent_of : (s : Past) (a b : ℕ → ℕ) → ((p : ℕ) → p < 64 → a p ≡ b p) → ((p : ℕ) → 64 ≤ p → s.live p ≡ []) → ((msg : ℕ) → IsOrphan s a msg → ⊥) → IsConsistent s b
+consistent_of s a b same none no_orphan = consistent_from s b (λ p q i msg e. agree q (has_deed (deed.Sent msg p)) (consistent_sent s a (consistent_without s a no_orphan) p q i msg (sym (ap (λ (l : List Deed). slice_get l i) (parts p)) ∙ e)))
+  where
+    parts : (p : ℕ) → part s b p ≡ part s a p
+    parts p = elim (cases_lt p 64) [
+      | inl low ↦ ap (λ (n : ℕ). take n (s.live p)) (sym (same p low))
+      | inr high ↦ ap (take (b p)) (none p high) ∙ (take_none (b p) ∙ (sym (take_none (a p)) ∙ ap (take (a p)) (sym (none p high))))
+    ]
+    agree : (q : ℕ) (test : List Deed → Bool) → test (part s a q) ≡ true → test (part s b q) ≡ true
+    agree q test e = ap test (parts q) ∙ e

@@ -1,11 +1,12 @@
 //! The checker's order.
 
-ghost use Rattle.std.specs.Prelude.{◌≡◌, ℕ, ◌≤◌, ◌<◌, ◌+◌, not, true, Some, None, Option, List, length, map, take, slice_get, slice_index, IfOk, IsTrue};
-ghost use Rattle.kt_spacetime.specs.declared.event.Event.{Event};
-ghost use Rattle.kt_cuts.specs.Past.{Past, past};
+ghost use Rattle.std.specs.Prelude.{◌≡◌, ℕ, ◌≤◌, ◌<◌, ◌+◌, ◌↔◌, ◌⊎◌, not, true, Some, None, length, map, take, slice_get, IfOk, IsTrue};
+ghost use Rattle.kt_cuts.specs.Past.{past};
 ghost use Rattle.kt_cuts.specs.Legal.{IsLegal};
-ghost use Rattle.kt_cuts.specs.HistoriesOf.{HistoriesOf};
 ghost use Rattle.kt_cuts.specs.Standing.{at_number};
+ghost use Rattle.kt_checker.specs.declared.verdict.Verdict.TheVariants.{Yes};
+ghost use Rattle.kt_checker.specs.declared.decisions.Instance.{Instance};
+ghost use Rattle.kt_checker.specs.declared.decisions.Decision.{Decision};
 ghost use Rattle.kt_checker.specs.Gathered.{Gathered};
 ghost use Rattle.kt_checker.specs.Passing.{Passes, IsShownBefore, ListsReadyOf};
 
@@ -57,7 +58,10 @@ fn illegal(alloc: Global, log: &SpaceTime) -> Result<Option<Verdict>, Memory>
 }
 
 // The answer where every certificate passed.
-fn missing(instances: &Instances, seen: &[bool]) -> Verdict {
+fn missing(instances: &Instances, seen: &[bool]) -> Verdict
+    requires { length seen.now ≡ length instances.now.list.items }
+    ensures { result ≡ Yes → (k : ℕ) (v : Instance) (d : Decision) → slice_get instances.now.list.items k ≡ Some v → v.decision ≡ Some d → slice_get seen.now k ≡ Some true }
+{
     match instances.first_missing(seen) {
         Some((inst, row)) => no(Some(inst), Some(row), Why::Missing),
         None => Verdict::Yes,
@@ -69,13 +73,17 @@ fn no(inst: Option<InstNo>, row: Option<RowNo>, why: Why) -> Verdict {
 }
 
 // Whether a certificate of an instance was seen.
-fn is_marked(seen: &[bool], inst: InstNo) -> bool {
+fn is_marked(seen: &[bool], inst: InstNo) -> bool
+    ensures { IsTrue result ↔ (at_number seen.now inst ≡ Some true) }
+{
     let index = inst.get() as usize - 1;
     index < seen.len() && seen[index]
 }
 
 // Notes that a certificate of an instance was seen.
-fn mark(seen: &mut [bool], inst: InstNo) {
+fn mark(seen: &mut [bool], inst: InstNo)
+    ensures { (k : ℕ) → slice_get seen.new k ≡ Some true → (slice_get seen.old k ≡ Some true) ⊎ (inst ≡ k + 1) }
+{
     let index = inst.get() as usize - 1;
     if index < seen.len() {
         seen[index] = true;
@@ -153,10 +161,10 @@ fn fault_in(
         return Ok(Some(Why::Chain));
     }
     let cut = cut_of(&histories, certificate);
-    if histories.first_orphan(&cut).is_some() {
-        return Ok(Some(Why::Orphan));
+    match histories.first_orphan(&cut) {
+        Some(_) => Ok(Some(Why::Orphan)),
+        None => Ok(None),
     }
-    Ok(None)
 }
 
 // Whether a certificate lists the members in the order in which they joined.

@@ -1,4 +1,4 @@
-use Rattle.std.proofs.Common.{◌≡◌, ℕ, ◌<◌, List}
+use Rattle.std.proofs.Common.{◌≡◌, ℕ, ◌<◌, List, length}
 use Rattle.std.specs.List.{slice_index}
 use Rattle.kt_spacetime.specs.declared.event.Event.{Event}
 use Rattle.kt_cuts.specs.Past.{past}
@@ -7,4 +7,7 @@ use Rattle.kt_checker.specs.Passing.{ListsReady, decided_cut}
 use Rattle.kt_checker.proofs.chains.cut_of.Given as goal
 
 abbrev pub invariant-loop-number : goal.invariant-loop-number
-invariant-loop-number l = (rows : List Event) (p : ℕ) → HistoriesOf l.histories rows → ListsReady (past rows) l.certificate → p < l.number → slice_index l.cut p ≡ decided_cut (past rows) l.certificate.inst l.certificate.kind p
+invariant-loop-number l = record {
+  long : length l.cut ≡ 64;
+  lengths : (rows : List Event) (p : ℕ) → HistoriesOf l.histories rows → ListsReady (past rows) l.certificate → p < l.number → slice_index l.cut p ≡ decided_cut (past rows) l.certificate.inst l.certificate.kind p;
+}
