@@ -68,7 +68,9 @@ fn missing(instances: &Instances, seen: &[bool]) -> Verdict
     }
 }
 
-fn no(inst: Option<InstNo>, row: Option<RowNo>, why: Why) -> Verdict {
+fn no(inst: Option<InstNo>, row: Option<RowNo>, why: Why) -> Verdict
+    ensures { result ≡ Yes → ⊥ }
+{
     Verdict::No { inst, row, why }
 }
 
