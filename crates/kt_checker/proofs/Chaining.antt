@@ -74,23 +74,29 @@ pub checkpoint_step : (rows : List Event) (k at m sent received position permane
 checkpoint_step rows k at m sent received position permanent t e a b p low new to within =
     let parts = trace_parts rows m t e in
     let past_it = sent_past (deed.Sent m t.to) ((past rows).live t.from) permanent sent (sym parts.0 ∙ a) low in
-    let got = received_within (deed.Received m t.from) ((past rows).live t.to) position received (sym parts.1 ∙ b) within in
-    (t.from, record {
-      sent = (λ i. has_deed (deed.Sent m (sym to i)) (drop (sym p i) ((past rows).live t.from))) ∙ past_it;
-      member = ap (λ (o : Option ℕ). is_some o) new;
-      received = (λ i. has_deed (deed.Received m t.from) (take (unwrap_or (new i) 0) ((past rows).live (sym to i)))) ∙ got;
-    }, refl)
+    let got = received_within (deed.Received m t.from) ((past rows).live t.to) position received (sym parts.1 ∙ b) within in (
+      t.from,
+      record {
+        sent = (λ i. has_deed (deed.Sent m (sym to i)) (drop (sym p i) ((past rows).live t.from))) ∙ past_it;
+        member = ap (λ (o : Option ℕ). is_some o) new;
+        received = (λ i. has_deed (deed.Received m t.from) (take (unwrap_or (new i) 0) ((past rows).live (sym to i)))) ∙ got;
+      },
+      refl,
+    )
 
 pub rollback_step : (rows : List Event) (at m sent received permanent : ℕ) (t : Trace) → trace_of rows m ≡ Some t → t.sent ≡ Some sent → t.received ≡ Some received
     → permanent ≡ (past rows).permanent t.from → permanent < sent → t.from ≡ at → IsRollbackChain (past rows) at (m ∷ []) t.to
 rollback_step rows at m sent received permanent t e a b p low from =
     let parts = trace_parts rows m t e in
     let past_it = sent_past (deed.Sent m t.to) ((past rows).live t.from) permanent sent (sym parts.0 ∙ a) low in
-    let got = received_there (deed.Received m t.from) ((past rows).live t.to) received (sym parts.1 ∙ b) in
-    (t.to, record {
-      sent = (λ i. has_deed (deed.Sent m t.to) (drop ((past rows).permanent (sym from i)) ((past rows).live (sym from i)))) ∙ ((λ i. has_deed (deed.Sent m t.to) (drop (sym p i) ((past rows).live t.from))) ∙ past_it);
-      received = (λ i. has_deed (deed.Received m (sym from i)) ((past rows).live t.to)) ∙ got;
-    }, refl)
+    let got = received_there (deed.Received m t.from) ((past rows).live t.to) received (sym parts.1 ∙ b) in (
+      t.to,
+      record {
+        sent = (λ i. has_deed (deed.Sent m t.to) (drop ((past rows).permanent (sym from i)) ((past rows).live (sym from i)))) ∙ ((λ i. has_deed (deed.Sent m t.to) (drop (sym p i) ((past rows).live t.from))) ∙ past_it);
+        received = (λ i. has_deed (deed.Received m (sym from i)) ((past rows).live t.to)) ∙ got;
+      },
+      refl,
+    )
 
 pub same_from : (a b : ℕ) → true ≡ (a == b) → a ≡ b
 same_from a b e = grind (arith, nat_tests, e)
@@ -140,5 +146,6 @@ consistent_of s a b same none no_orphan = consistent_from s b (λ p q i msg e. a
       | inl low ↦ ap (λ (n : ℕ). take n (s.live p)) (sym (same p low))
       | inr high ↦ ap (take (b p)) (none p high) ∙ (take_none (b p) ∙ (sym (take_none (a p)) ∙ ap (take (a p)) (sym (none p high))))
     ]
+
     agree : (q : ℕ) (test : List Deed → Bool) → test (part s a q) ≡ true → test (part s b q) ≡ true
     agree q test e = ap test (parts q) ∙ e

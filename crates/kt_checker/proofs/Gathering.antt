@@ -165,8 +165,8 @@ pub gathered_unwilling : (list : List Instance) (rows : List Event) (p k : ℕ) 
 gathered_unwilling list rows p k cause i u e l b r h =
     let row : Event = event.Unwilling p k cause in
     gathered_changed list _ rows row k u _ h (changed list rows row i k u (record u { refused = true }) e l b r refl (sym (append-nil u.members.items)) (λ j n. refl)
-      (or_true u.refused ∙ ap (λ (t : Bool). u.refused || t) (sym (same_number k))) (λ j n. other_number j k n)
-      (decision_kept rows row k _ (decision_at list rows i k u h e l b r) (λ q commit f. absurd (cc))) (λ j q commit n f. absurd (cc)))
+    (or_true u.refused ∙ ap (λ (t : Bool). u.refused || t) (sym (same_number k))) (λ j n. other_number j k n)
+    (decision_kept rows row k _ (decision_at list rows i k u h e l b r) (λ q commit f. absurd (cc))) (λ j q commit n f. absurd (cc)))
     (ap (λ (s : Past). s.begun) (past_push rows row))
 
 pub gathered_decided : (list : List Instance) (rows : List Event) (p k : ℕ) (commit : Bool) (number i : ℕ) (u : Instance) → i ≡ k - 1 → 1 ≤ k → i < length list → u ≡ get_or list i u → number ≡ length rows + 1 → Gathered list rows
@@ -174,8 +174,8 @@ pub gathered_decided : (list : List Instance) (rows : List Event) (p k : ℕ) (c
 gathered_decided list rows p k commit number i u e l b r n h =
     let row : Event = event.Decided p k commit in
     gathered_changed list _ rows row k u _ h (changed list rows row i k u (record u { decision = Some (record { row = number; commit = commit }) }) e l b r refl (sym (append-nil u.members.items)) (λ j m. refl)
-      (or_none u.refused) (λ j m. refl)
-      (length rows, p, n, get_seam rows row []) (λ j q c m f. decided_else j q c m f))
+    (or_none u.refused) (λ j m. refl)
+    (length rows, p, n, get_seam rows row []) (λ j q c m f. decided_else j q c m f))
     (ap (λ (s : Past). s.begun) (past_push rows row))
   where
     decided_else : (j q : ℕ) (c : Bool) → j ≢ k → event.Decided p k commit ≡ event.Decided q j c → ⊥
@@ -199,9 +199,9 @@ pub gathered_took : (list : List Instance) (rows : List Event) (p k i : ℕ) (u 
 gathered_took list rows p k i u w e l b r beginning refused decision joined h =
     let row : Event = event.Took p k in
     gathered_changed list _ rows row k u _ h (changed list rows row i k u w e l b r beginning
-      (joined ∙ ap (λ (t : List ℕ). u.members.items ++ t) (sym (listed_if (k == k) p ∙ join_now k p))) (λ j n. listed_if (k == j) p ∙ join_else j k p n)
-      (refused ∙ or_none u.refused) (λ j n. refl)
-      (subst (IsDecision (rows ++ row ∷ []) k) (sym decision) (decision_kept rows row k _ (decision_at list rows i k u h e l b r) (λ q commit f. absurd (cc)))) (λ j q commit n f. absurd (cc)))
+    (joined ∙ ap (λ (t : List ℕ). u.members.items ++ t) (sym (listed_if (k == k) p ∙ join_now k p))) (λ j n. listed_if (k == j) p ∙ join_else j k p n)
+    (refused ∙ or_none u.refused) (λ j n. refl)
+    (subst (IsDecision (rows ++ row ∷ []) k) (sym decision) (decision_kept rows row k _ (decision_at list rows i k u h e l b r) (λ q commit f. absurd (cc)))) (λ j q commit n f. absurd (cc)))
     (ap (λ (s : Past). s.begun) (past_push rows row))
 
 pub gathered_ready : (list : List Instance) (rows : List Event) (p k i : ℕ) (u w : Instance) → i ≡ k - 1 → 1 ≤ k → i < length list → u ≡ get_or list i u
@@ -210,9 +210,9 @@ pub gathered_ready : (list : List Instance) (rows : List Event) (p k i : ℕ) (u
 gathered_ready list rows p k i u w e l b r beginning refused decision joined h =
     let row : Event = event.Ready p k in
     gathered_changed list _ rows row k u _ h (changed list rows row i k u w e l b r beginning
-      (joined ∙ ap (λ (t : List ℕ). u.members.items ++ t) (sym (listed_if (k == k) p ∙ join_now k p))) (λ j n. listed_if (k == j) p ∙ join_else j k p n)
-      (refused ∙ or_none u.refused) (λ j n. refl)
-      (subst (IsDecision (rows ++ row ∷ []) k) (sym decision) (decision_kept rows row k _ (decision_at list rows i k u h e l b r) (λ q commit f. absurd (cc)))) (λ j q commit n f. absurd (cc)))
+    (joined ∙ ap (λ (t : List ℕ). u.members.items ++ t) (sym (listed_if (k == k) p ∙ join_now k p))) (λ j n. listed_if (k == j) p ∙ join_else j k p n)
+    (refused ∙ or_none u.refused) (λ j n. refl)
+    (subst (IsDecision (rows ++ row ∷ []) k) (sym decision) (decision_kept rows row k _ (decision_at list rows i k u h e l b r) (λ q commit f. absurd (cc)))) (λ j q commit n f. absurd (cc)))
     (ap (λ (s : Past). s.begun) (past_push rows row))
 
 pub gathered_began : (list : List Instance) (rows : List Event) (p k : ℕ) (kind : Kind) (v : Instance) → Gathered list rows → v.initiator ≡ p → v.kind ≡ kind → v.decision ≡ None → v.refused ≡ false → v.members.items ≡ []

@@ -1,8 +1,13 @@
 //! The checker's order.
 
-ghost use Rattle.std.specs.Prelude.{◌≡◌, ℕ, ◌≤◌, ◌<◌, ◌+◌, ◌↔◌, ◌⊎◌, not, true, Some, None, length, map, take, slice_get, IfOk, IsTrue};
-ghost use Rattle.kt_cuts.specs.Past.{past};
+ghost use Rattle.std.specs.Prelude.{◌≡◌, ℕ, ◌≤◌, ◌<◌, ◌+◌, ◌↔◌, ◌⊎◌, not, Bool, true, Some, None, length, map, take, slice_get, IfOk, IsTrue};
+ghost use Rattle.kt_cuts.specs.Past.{past, is_checkpoint, is_rollback};
 ghost use Rattle.kt_cuts.specs.Legal.{IsLegal};
+ghost use Rattle.kt_cuts.specs.Cuts.{IsConsistent, permanent_cut, present_cut};
+ghost use Rattle.kt_cuts.specs.Least.{IsLeastCheckpointSet, IsLeastRollbackSet};
+ghost use Rattle.kt_spacetime.specs.declared.event.Event.TheVariants.{Decided};
+ghost use Rattle.kt_chain.specs.declared.certificate.Certificate.{Certificate};
+ghost use Rattle.kt_checker.specs.Unwilling.{has_unwilling};
 ghost use Rattle.kt_cuts.specs.Standing.{at_number};
 ghost use Rattle.kt_checker.specs.declared.verdict.Verdict.TheVariants.{Yes};
 ghost use Rattle.kt_checker.specs.declared.decisions.Instance.{Instance};
@@ -28,7 +33,27 @@ pub fn check(
     alloc: Global,
     log: &SpaceTime,
     certificates: &[Certificate],
-) -> Result<Verdict, Memory> {
+) -> Result<Verdict, Memory>
+    // A yes knows that the log is legal, that each certificate passes, and that each decided instance has one.
+    ensures legal { IfOk result (λ verdict. verdict ≡ Yes → IsLegal log.now.rows) }
+    ensures passes { IfOk result (λ verdict. verdict ≡ Yes → (i : ℕ) (certificate : Certificate) → slice_get certificates.now i ≡ Some certificate → Passes log.now.rows certificate) }
+    ensures complete { IfOk result (λ verdict. verdict ≡ Yes → (n p k : ℕ) (commit : Bool) → slice_get log.now.rows n ≡ Some (Decided p k commit) →
+        (i : ℕ) × (certificate : Certificate) × (slice_get certificates.now i ≡ Some certificate) × (certificate.inst ≡ k)) }
+
+    // So it means that each committed instance took the least set,
+    ensures checkpoints { IfOk result (λ verdict. verdict ≡ Yes → (n p k : ℕ) → slice_get log.now.rows n ≡ Some (Decided p k true) →
+        is_checkpoint (past (take n log.now.rows)) k ≡ true → IsLeastCheckpointSet (past (take n log.now.rows)) k) }
+    ensures rollbacks { IfOk result (λ verdict. verdict ≡ Yes → (n p k : ℕ) → slice_get log.now.rows n ≡ Some (Decided p k true) →
+        is_rollback (past (take n log.now.rows)) k ≡ true → IsLeastRollbackSet (past (take n log.now.rows)) k) }
+
+    // that each aborted instance has an unwilling row and no committed one has,
+    ensures aborts { IfOk result (λ verdict. verdict ≡ Yes → (n p k : ℕ) (commit : Bool) → slice_get log.now.rows n ≡ Some (Decided p k commit) →
+        has_unwilling log.now.rows k ≡ not commit) }
+
+    // and that at every row neither the permanent cut nor the present one has an orphan.
+    ensures permanent { IfOk result (λ verdict. verdict ≡ Yes → (n : ℕ) → IsConsistent (past (take n log.now.rows)) (permanent_cut (past (take n log.now.rows)))) }
+    ensures present { IfOk result (λ verdict. verdict ≡ Yes → (n : ℕ) → IsConsistent (past (take n log.now.rows)) (present_cut (past (take n log.now.rows)))) }
+{
     if let Some(verdict) = illegal(alloc, log)? {
         return Ok(verdict);
     }

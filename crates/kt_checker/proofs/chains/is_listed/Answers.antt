@@ -4,8 +4,10 @@ use Rattle.kt_checker.proofs.Chaining.{none_listed, never}
 use Rattle.kt_checker.proofs.chains.is_listed.Goals as goal
 
 pub returns : goal.returns
-returns c =
-    (λ e. absurd (never e), λ listed. absurd (none_listed c.args.certificate.now.members c.args.p (λ k q chain e.
+returns c = (
+  λ e. absurd (never e),
+  λ listed. absurd (none_listed c.args.certificate.now.members c.args.p (λ k q chain e.
       let same = c.list-process-items.ensures in
       let here = rw (← same) at e in
-      c.loop-process.invariant k q chain (omega (arith, slice_get_within c.list-process-items.result.now k _ here, c.loop-process-test.false)) here) listed))
+      c.loop-process.invariant k q chain (omega (arith, slice_get_within c.list-process-items.result.now k _ here, c.loop-process-test.false)) here) listed),
+)

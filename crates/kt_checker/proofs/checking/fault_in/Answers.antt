@@ -16,5 +16,5 @@ returns-clause-shown c = λ n none commit row few ready.
       members = same;
       lists = λ i p chain e. c.has_chains.ensures (take n rows) i p chain hist c.if-not-has_chains.false e;
       consistent = consistent_of (past (take n rows)) (slice_index c.cut_of-cut.result) (decided_cut (past (take n rows)) c.args.certificate.now.inst c.args.certificate.now.kind)
-        (λ p low. c.cut_of-cut.ensures (take n rows) p hist listed low) hist.shows.of_processes.no_more (λ msg orphan. c.in-None.ensures.none (take n rows) msg hist orphan);
+          (λ p low. c.cut_of-cut.ensures (take n rows) p hist listed low) hist.shows.of_processes.no_more (λ msg orphan. c.in-None.ensures.none (take n rows) msg hist orphan);
     }
