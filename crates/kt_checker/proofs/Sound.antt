@@ -30,7 +30,7 @@ use Rattle.kt_checker.specs.declared.decisions.Instance.{Instance}
 use Rattle.kt_checker.specs.declared.decisions.Decision.{Decision}
 use Rattle.kt_checker.specs.Unwilling.{has_unwilling}
 use Rattle.kt_checker.specs.Gathered.{Gathered, IsDecision, beginning_gathered, members_gathered, refused_gathered, decision_gathered}
-use Rattle.kt_checker.specs.Passing.{Passes, IsShownBefore, ListsReadyOf, IsListOf, IsChain, decided_cut}
+use Rattle.kt_checker.specs.Passing.{Passes, IsPassed, IsShownBefore, ListsReadyOf, IsListOf, IsChain, decided_cut}
 use Rattle.kt_checker.proofs.Deciding.{decided_once, members_before, beginning_stays}
 
 -- how an instance began, as gathered
@@ -99,12 +99,6 @@ passes_of list rows c v d l h there decided of_kind initiator commit refused sho
   where
     below : (rows : List Event) (n : ℕ) (x : Event) → slice_get rows n ≡ Some x → n ≤ length rows
     below rows n x e = omega (arith, slice_get_within rows n x e)
-
--- what a yes knows: the log is legal, every certificate passes, and each decided instance has one
-pub record IsPassed (rows : List Event) (certificates : List Certificate) : Type 0 where
-  pub legal : IsLegal rows
-  pub passes : (i : ℕ) (c : Certificate) → slice_get certificates i ≡ Some c → Passes rows c
-  pub complete : (n p k : ℕ) (commit : Bool) → slice_get rows n ≡ Some (event.Decided p k commit) → (i : ℕ) × (c : Certificate) × (slice_get certificates i ≡ Some c) × (c.inst ≡ k)
 
 -- of a decided row, its certificate passes at this row
 record IsCertified (rows : List Event) (n k : ℕ) (commit : Bool) : Type 0 where
@@ -199,3 +193,30 @@ pub present_consistent : (rows : List Event) (certificates : List Certificate) �
 present_consistent rows certificates h n =
     let s = sound_log (take n rows) (legal_take n rows h.legal) (decisions_take n rows (decisions_consistent rows certificates h)) in
     consistent (past (take n rows)) (present_cut (past (take n rows))) s.present
+
+-- the certificates passed up to the last, and none is missing
+pub passed : (list : List Instance) (rows : List Event) (certificates : List Certificate) (seen : List Bool) (count : ℕ) → IsLegal rows → Gathered list rows
+    → ((i : ℕ) (c : Certificate) → i < count → slice_get certificates i ≡ Some c → Passes rows c)
+    → ((k : ℕ) → slice_get seen k ≡ Some true → (i : ℕ) × (c : Certificate) × (i < count) × (slice_get certificates i ≡ Some c) × (c.inst ≡ k + 1))
+    → ((i : ℕ) (c : Certificate) → slice_get certificates i ≡ Some c → i < count)
+    → ((k : ℕ) (v : Instance) (d : Decision) → slice_get list k ≡ Some v → v.decision ≡ Some d → slice_get seen k ≡ Some true)
+    → IsPassed rows certificates
+passed list rows certificates seen count l h passes marked whole none = record {
+  legal = l;
+  passes = λ i c e. passes i c (whole i c e) e;
+  complete = λ n p k commit e. certificate_of n p k commit (at_number list k) refl e;
+}
+  where
+    decided_number : (n p k : ℕ) (commit : Bool) (o : Option Decision) → IsDecision rows k o → slice_get rows n ≡ Some (event.Decided p k commit) → (d : Decision) × (o ≡ Some d)
+    decided_number n p k commit None never e = absurd (never n p commit e)
+    decided_number n p k commit (Some d) found e = (d, refl)
+
+    certificate_of : (n p k : ℕ) (commit : Bool) (o : Option Instance) → at_number list k ≡ o → slice_get rows n ≡ Some (event.Decided p k commit) → (i : ℕ) × (c : Certificate) × (slice_get certificates i ≡ Some c) × (c.inst ≡ k)
+    certificate_of n p k commit None there e = absurd (subst (λ (o : Option Instance). IsDecision rows k (decision_gathered o)) there (h.decision k) n p commit e)
+    certificate_of n p zero commit (Some v) there e =
+        let never : None ≡ Some v = there in
+        absurd (cc)
+    certificate_of n p (suc k) commit (Some v) there e =
+        let d = decided_number n p (suc k) commit v.decision (subst (λ (o : Option Instance). IsDecision rows (suc k) (decision_gathered o)) there (h.decision (suc k))) e in
+        let found = marked k (none k v d.0 there d.1) in
+        (found.0, found.1, found.3, omega (arith, found.4))

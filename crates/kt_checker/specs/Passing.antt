@@ -5,6 +5,7 @@ use Rattle.kt_base.specs.declared.words.Kind.TheVariants.{Checkpoint, Rollback}
 use Rattle.kt_spacetime.specs.declared.event.Event.{Event}
 use Rattle.kt_spacetime.specs.declared.event.Event.TheVariants.{Decided}
 use Rattle.kt_cuts.specs.Past.{Past, past, kind_of, initiator_of}
+use Rattle.kt_cuts.specs.Legal.{IsLegal}
 use Rattle.kt_cuts.specs.Cuts.{IsConsistent, checkpoint_cut, rollback_cut}
 use Rattle.kt_cuts.specs.Chains.{members, IsCheckpointChain, IsRollbackChain}
 use Rattle.kt_chain.specs.declared.certificate.Certificate.{Certificate}
@@ -50,3 +51,9 @@ pub record Passes (log : List Event) (certificate : Certificate) : Type 0 where
   pub initiator : initiator_of (past (take row log)) certificate.inst ≡ Some certificate.initiator
   pub cause : has_unwilling log certificate.inst ≡ not certificate.commit
   pub shown : certificate.commit ≡ true → IsShownBefore (past (take row log)) certificate (members log certificate.inst)
+
+-- what a yes knows: the log is legal, every certificate passes, and each decided instance has one
+pub record IsPassed (rows : List Event) (certificates : List Certificate) : Type 0 where
+  pub legal : IsLegal rows
+  pub passes : (i : ℕ) (c : Certificate) → slice_get certificates i ≡ Some c → Passes rows c
+  pub complete : (n p k : ℕ) (commit : Bool) → slice_get rows n ≡ Some (Decided p k commit) → (i : ℕ) × (c : Certificate) × (slice_get certificates i ≡ Some c) × (c.inst ≡ k)

@@ -13,7 +13,7 @@ ghost use Rattle.kt_checker.specs.declared.verdict.Verdict.TheVariants.{Yes};
 ghost use Rattle.kt_checker.specs.declared.decisions.Instance.{Instance};
 ghost use Rattle.kt_checker.specs.declared.decisions.Decision.{Decision};
 ghost use Rattle.kt_checker.specs.Gathered.{Gathered};
-ghost use Rattle.kt_checker.specs.Passing.{Passes, IsShownBefore, ListsReadyOf};
+ghost use Rattle.kt_checker.specs.Passing.{Passes, IsPassed, IsShownBefore, ListsReadyOf};
 
 use crate::chains::{cut_of, has_chains};
 use crate::decisions::{Decision, Instance, Instances};
@@ -54,6 +54,13 @@ pub fn check(
     ensures permanent { IfOk result (λ verdict. verdict ≡ Yes → (n : ℕ) → IsConsistent (past (take n log.now.rows)) (permanent_cut (past (take n log.now.rows)))) }
     ensures present { IfOk result (λ verdict. verdict ≡ Yes → (n : ℕ) → IsConsistent (past (take n log.now.rows)) (present_cut (past (take n log.now.rows)))) }
 {
+    judged(alloc, log, certificates)
+}
+
+// The first fault in that order, or yes.
+fn judged(alloc: Global, log: &SpaceTime, certificates: &[Certificate]) -> Result<Verdict, Memory>
+    ensures { IfOk result (λ verdict. verdict ≡ Yes → IsPassed log.now.rows certificates.now) }
+{
     if let Some(verdict) = illegal(alloc, log)? {
         return Ok(verdict);
     }
@@ -71,7 +78,8 @@ pub fn check(
 
 // The answer to a log that is not legal.
 fn illegal(alloc: Global, log: &SpaceTime) -> Result<Option<Verdict>, Memory>
-    ensures { IfOk result (λ verdict. verdict ≡ None → IsLegal log.now.rows) }
+    ensures legal { IfOk result (λ verdict. verdict ≡ None → IsLegal log.now.rows) }
+    ensures no { IfOk result (λ verdict. verdict ≡ Some Yes → ⊥) }
 {
     let Err(fault) = legal(alloc, log) else {
         return Ok(None);
@@ -127,7 +135,8 @@ fn refuted(
 ) -> Result<Option<Verdict>, Memory>
     requires legal { IsLegal log.now.rows }
     requires gathered { Gathered instances.now.list.items log.now.rows }
-    ensures { IfOk result (λ verdict. verdict ≡ None → Passes log.now.rows certificate.now) }
+    ensures passes { IfOk result (λ verdict. verdict ≡ None → Passes log.now.rows certificate.now) }
+    ensures no { IfOk result (λ verdict. verdict ≡ Some Yes → ⊥) }
 {
     let inst = certificate.inst;
     let Some(instance) = instances.get(inst) else {

@@ -3,8 +3,8 @@ use Rattle.std.specs.Option.{option_copied}
 use Rattle.kt_checker.proofs.Sound.{passes_of}
 use Rattle.kt_checker.proofs.checking.refuted.Goals as goal
 
-pub returns-in-None : goal.returns-in-None
-returns-in-None c = λ e.
+pub returns-in-None-clause-passes : goal.returns-in-None-clause-passes
+returns-in-None-clause-passes c = λ e.
     let there = sym c.get.ensures ∙ ap option_copied c.in-Some.is in
     let tests = c.is_as_certified.ensures in
     let passed = c.if-not-is_as_certified.false in
