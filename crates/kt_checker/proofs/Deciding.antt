@@ -1,20 +1,18 @@
 -- What stays of an instance after its decided row.
-use Rattle.std.proofs.Common.{◌≡◌, ◌≢◌, ℕ, zero, suc, ◌+◌, ◌<◌, ◌≤◌, ◌==◌, ◌&&◌, ◌||◌, if◌then◌else◌, is_some, is_none, Bool, true, false, Option, Some, None, option_map, List, [], ◌∷◌, ◌++◌, map, length, take, drop, refl, sym, ap, ◌∙◌, subst, arith, inl, inr}
-use Rattle.std.specs.Prelude.{IsTrue, ◌↔◌, fold}
-use Rattle.std.specs.List.{slice_get, Contains, filter_map, cons_option}
-use Rattle.std.proofs.lemmas.Bool.{cases_lt, cases_eq, cases_order, and_parts}
+use Rattle.std.proofs.Common.{◌≡◌, ℕ, zero, suc, ◌<◌, is_some, is_none, Bool, true, Option, Some, None, List, [], ◌∷◌, take, drop, refl, sym, ap, ◌∙◌, subst, arith, inl, inr}
+use Rattle.std.specs.Prelude.{fold}
+use Rattle.std.specs.List.{slice_get, filter_map, cons_option}
+use Rattle.std.proofs.lemmas.Bool.{cases_eq, cases_order, and_parts}
 use Rattle.std.proofs.lemmas.Bool.Decides.{nat_tests}
 use Rattle.std.proofs.lemmas.Grind.{fold-append}
 use Rattle.std.proofs.lemmas.List.{take-append-drop}
-use Rattle.kt_base.specs.declared.words.Kind.{Kind}
-use Rattle.kt_base.specs.declared.words.Kind.TheVariants.{Checkpoint, Rollback}
 use Rattle.kt_spacetime.specs.declared.event.Event.{Event}
 use Rattle.kt_spacetime.specs.declared.event.Event.TheVariants as event
-use Rattle.kt_cuts.specs.Past.{Past, Beginning, past, start, after, beginning_of, kind_of, initiator_of, is_member, is_checkpoint, at_one}
+use Rattle.kt_cuts.specs.Past.{Past, Beginning, past, start, after, beginning_of, is_checkpoint}
 use Rattle.kt_cuts.specs.Legal.{IsLegal, IsLegalAfter, broken_rule, is_undecided, has_begun}
 use Rattle.kt_cuts.specs.Chains.{members, joins}
 use Rattle.kt_cuts.proofs.SortedFacts.{some_same}
-use Rattle.kt_cuts.proofs.LegalLogs.{kept, legal_take, past_induction}
+use Rattle.kt_cuts.proofs.LegalLogs.{kept, past_induction}
 use Rattle.kt_cuts.proofs.Traced.{next_unbroken}
 use Rattle.kt_cuts.proofs.Positions.{begun_kept}
 

@@ -1,8 +1,8 @@
 -- Instances gathered row by row.
-use Rattle.std.proofs.Common.{◌≡◌, ◌≢◌, ℕ, zero, suc, ◌+◌, ◌-◌, ◌<◌, ◌≤◌, ◌==◌, ◌&&◌, ◌||◌, nat_le, if◌then◌else◌, Bool, true, false, Option, Some, None, List, [], ◌∷◌, ◌++◌, map, length, get_or, set, refl, sym, ap, ◌∙◌, subst, arith, inl, inr, length-append}
-use Rattle.std.specs.List.{slice_get, list_any, cons_option}
+use Rattle.std.proofs.Common.{◌≡◌, ◌≢◌, ℕ, zero, suc, ◌+◌, ◌-◌, ◌<◌, ◌≤◌, ◌==◌, ◌||◌, nat_le, if◌then◌else◌, Bool, true, false, Option, Some, None, List, [], ◌∷◌, ◌++◌, map, length, get_or, set, refl, sym, ap, ◌∙◌, subst, arith, inl, inr}
+use Rattle.std.specs.List.{slice_get, cons_option}
 use Rattle.std.proofs.lemmas.Option.{slice_get_past, slice_get_read}
-use Rattle.std.proofs.lemmas.Bool.{cases_lt, cases_eq, and_parts}
+use Rattle.std.proofs.lemmas.Bool.{cases_eq, and_parts}
 use Rattle.std.proofs.lemmas.Bool.Decides.{nat_tests}
 use Rattle.std.proofs.lemmas.List.{append-nil, map-append, length-map}
 use Rattle.kt_base.specs.declared.words.Kind.{Kind}
@@ -10,14 +10,14 @@ use Rattle.kt_base.specs.declared.words.Cause.{Cause}
 use Rattle.kt_base.specs.declared.words.Verb.{Verb}
 use Rattle.kt_spacetime.specs.declared.event.Event.{Event}
 use Rattle.kt_spacetime.specs.declared.event.Event.TheVariants as event
-use Rattle.kt_cuts.specs.Past.{Past, Beginning, past}
-use Rattle.kt_cuts.specs.Legal.{IsLegal, has_begun, broken_rule}
+use Rattle.kt_cuts.specs.Past.{Past, past}
+use Rattle.kt_cuts.specs.Legal.{has_begun}
 use Rattle.kt_cuts.specs.Chains.{members}
 use Rattle.kt_cuts.specs.Standing.{at_number}
 use Rattle.kt_cuts.proofs.Items.{get_left, get_push, get_seam, item_there, set_mapped}
 use Rattle.kt_cuts.proofs.MessageTables.{number_at, number_set_same, number_set_other}
 use Rattle.kt_cuts.proofs.InstanceSteps.{old_item, new_item, no_item}
-use Rattle.kt_cuts.proofs.LegalLogs.{past_push, legal_last, kept}
+use Rattle.kt_cuts.proofs.LegalLogs.{past_push}
 use Rattle.kt_cuts.proofs.Members.{members_push}
 use Rattle.kt_checker.specs.declared.decisions.Instance.{Instance}
 use Rattle.kt_checker.specs.declared.decisions.Decision.{Decision}

@@ -1,6 +1,6 @@
 -- A certificate that passes, and what certificates that all pass say of a log.
-use Rattle.std.proofs.Common.{◌≡◌, ◌≢◌, ℕ, zero, suc, ◌+◌, ◌<◌, ◌≤◌, ◌&&◌, ◌||◌, not, nat_le, is_some, Bool, true, false, Option, Some, None, option_map, List, [], map, length, take, refl, sym, ap, ◌∙◌, subst, arith, inl, inr}
-use Rattle.std.specs.Prelude.{IsTrue, ◌↔◌}
+use Rattle.std.proofs.Common.{◌≡◌, ℕ, zero, suc, ◌+◌, ◌<◌, ◌≤◌, ◌||◌, not, nat_le, is_some, Bool, true, false, Option, Some, None, option_map, List, map, length, take, refl, sym, ap, ◌∙◌, subst, arith}
+use Rattle.std.specs.Prelude.{◌↔◌}
 use Rattle.std.specs.List.{slice_get, Contains}
 use Rattle.std.proofs.lemmas.Bool.{and_parts}
 use Rattle.std.proofs.lemmas.Bool.Decides.{nat_tests}
@@ -12,10 +12,10 @@ use Rattle.kt_spacetime.specs.declared.event.Event.{Event}
 use Rattle.kt_spacetime.specs.declared.event.Event.TheVariants as event
 use Rattle.kt_cuts.specs.Past.{Past, Beginning, past, beginning_of, kind_of, initiator_of, is_member, is_checkpoint, is_rollback, is_checkpoint_kind, is_rollback_kind}
 use Rattle.kt_cuts.specs.Legal.{IsLegal, has_begun}
-use Rattle.kt_cuts.specs.Cuts.{IsConsistent, checkpoint_cut, rollback_cut, permanent_cut, present_cut}
-use Rattle.kt_cuts.specs.Chains.{members, IsCheckpointChain, IsRollbackChain}
+use Rattle.kt_cuts.specs.Cuts.{IsConsistent, permanent_cut, present_cut}
+use Rattle.kt_cuts.specs.Chains.{members}
 use Rattle.kt_cuts.specs.Least.{IsLeastCheckpointSet, IsLeastRollbackSet}
-use Rattle.kt_cuts.specs.Throughout.{LeavesConsistent, HasConsistentDecisions}
+use Rattle.kt_cuts.specs.Throughout.{HasConsistentDecisions}
 use Rattle.kt_cuts.specs.Standing.{at_number}
 use Rattle.kt_cuts.proofs.Items.{item_there}
 use Rattle.kt_cuts.proofs.SortedFacts.{some_same}

@@ -1,4 +1,4 @@
-use Rattle.std.proofs.Common.{◌≡◌, ◌+◌, ℕ, take, refl, sym, ap, subst, ◌∙◌, length}
+use Rattle.std.proofs.Common.{◌+◌, refl, length}
 use Rattle.std.proofs.lemmas.Option.{slice_get_read}
 use Rattle.kt_cuts.specs.Past.{past}
 use Rattle.kt_cuts.proofs.Items.{take_item}

@@ -1,4 +1,4 @@
-use Rattle.std.proofs.Common.{◌≡◌, ℕ, ◌<◌, List, arith, ap, sym, subst, map}
+use Rattle.std.proofs.Common.{arith}
 use Rattle.std.proofs.lemmas.Option.{slice_get_within}
 use Rattle.kt_checker.proofs.Chaining.{none_listed, never}
 use Rattle.kt_checker.proofs.chains.is_listed.Goals as goal

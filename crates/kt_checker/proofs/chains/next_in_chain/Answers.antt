@@ -1,7 +1,4 @@
-use Rattle.std.proofs.Common.{sym, ◌∙◌, arith, subst, ap}
-use Rattle.kt_base.specs.declared.words.Kind.{Kind}
-use Rattle.kt_cuts.specs.Past.{past}
-use Rattle.kt_checker.specs.Passing.{IsChain}
+use Rattle.std.proofs.Common.{sym, ◌∙◌}
 use Rattle.kt_checker.proofs.Chaining.{checkpoint_step, rollback_step, same_from}
 use Rattle.kt_checker.proofs.chains.next_in_chain.Goals as goal
 

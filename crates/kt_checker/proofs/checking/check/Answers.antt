@@ -1,5 +1,4 @@
 use Rattle.std.proofs.lemmas.Result.{IfOk-weaker}
-use Rattle.kt_checker.specs.Passing.{IsPassed}
 use Rattle.kt_checker.proofs.Sound.{checkpoints_least, rollbacks_least, aborts, permanent_consistent, present_consistent}
 use Rattle.kt_checker.proofs.checking.check.Goals as goal
 

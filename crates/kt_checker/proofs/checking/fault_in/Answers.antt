@@ -1,4 +1,4 @@
-use Rattle.std.proofs.Common.{◌≡◌, ◌-◌, ℕ, take, arith, ap, sym, subst, ◌∙◌, refl}
+use Rattle.std.proofs.Common.{◌≡◌, ◌-◌, take, arith, sym, subst}
 use Rattle.std.specs.List.{slice_index}
 use Rattle.kt_cuts.specs.Past.{past}
 use Rattle.kt_checker.specs.Passing.{ListsReadyOf, decided_cut}

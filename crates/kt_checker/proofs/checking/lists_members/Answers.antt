@@ -1,4 +1,4 @@
-use Rattle.std.proofs.Common.{◌≡◌, ℕ, ◌<◌, List, arith, ap, sym, subst, map, length, ◌∙◌}
+use Rattle.std.proofs.Common.{arith, ap, length}
 use Rattle.std.proofs.lemmas.Option.{slice_get_within}
 use Rattle.kt_checker.proofs.Chaining.{same_lists}
 use Rattle.kt_checker.proofs.checking.lists_members.Goals as goal

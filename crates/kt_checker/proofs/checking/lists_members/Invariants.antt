@@ -1,4 +1,4 @@
-use Rattle.std.proofs.Common.{◌≡◌, ℕ, ◌<◌, Some, List, length}
+use Rattle.std.proofs.Common.{◌≡◌, ℕ, ◌<◌, Some, List}
 use Rattle.std.specs.List.{slice_get}
 use Rattle.kt_checker.proofs.checking.lists_members.Given as goal
 

@@ -1,4 +1,4 @@
-use Rattle.std.proofs.Common.{sym, ap, ◌∙◌, refl}
+use Rattle.std.proofs.Common.{sym, ap, ◌∙◌}
 use Rattle.std.specs.Option.{option_copied}
 use Rattle.kt_checker.proofs.Sound.{passes_of}
 use Rattle.kt_checker.proofs.checking.refuted.Goals as goal

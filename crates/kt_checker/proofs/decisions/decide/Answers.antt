@@ -1,6 +1,5 @@
-use Rattle.std.proofs.Common.{◌≡◌, ◌≤◌, ◌-◌, arith, ap, sym, refl}
+use Rattle.std.proofs.Common.{◌≡◌, ◌≤◌, ◌-◌, arith, ap}
 use Rattle.kt_spacetime.specs.declared.event.Event.TheVariants as event
-use Rattle.std.proofs.lemmas.Bool.{and_parts}
 use Rattle.kt_cuts.specs.Past.{past}
 use Rattle.kt_cuts.proofs.LegalLogs.{kept, legal_last}
 use Rattle.kt_checker.proofs.Gathering.{gathered_decided, never_past}

@@ -1,4 +1,4 @@
-use Rattle.std.proofs.Common.{◌≡◌, ◌≤◌, ◌-◌, arith, ap, sym, refl}
+use Rattle.std.proofs.Common.{◌≡◌, ◌≤◌, ◌-◌, arith, ap}
 use Rattle.kt_spacetime.specs.declared.event.Event.TheVariants as event
 use Rattle.std.proofs.lemmas.Bool.{and_parts}
 use Rattle.kt_cuts.specs.Past.{past}

@@ -1,4 +1,4 @@
-use Rattle.std.proofs.Common.{◌≡◌, ◌+◌, length, take, refl, sym, ap, subst, arith, ◌∙◌, length-take}
+use Rattle.std.proofs.Common.{◌≡◌, ◌+◌, length, take, refl, sym, subst, arith, length-take}
 use Rattle.kt_cuts.specs.Legal.{IsLegal}
 use Rattle.kt_cuts.proofs.Items.{take_item}
 use Rattle.kt_cuts.proofs.LegalLogs.{legal_take}
