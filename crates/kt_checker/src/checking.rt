@@ -1,13 +1,26 @@
 //! The checker's order.
 
-ghost use Rattle.std.specs.Prelude.{◌≡◌, None, IfOk};
+ghost use Rattle.std.specs.Prelude.{◌≡◌, ℕ, ◌≤◌, ◌<◌, ◌+◌, ◌↔◌, ◌⊎◌, not, Bool, true, Some, None, length, map, take, slice_get, IfOk, IsTrue};
+ghost use Rattle.kt_cuts.specs.Past.{past, is_checkpoint, is_rollback};
 ghost use Rattle.kt_cuts.specs.Legal.{IsLegal};
+ghost use Rattle.kt_cuts.specs.Cuts.{IsConsistent, permanent_cut, present_cut};
+ghost use Rattle.kt_cuts.specs.Least.{IsLeastCheckpointSet, IsLeastRollbackSet};
+ghost use Rattle.kt_spacetime.specs.declared.event.Event.TheVariants.{Decided};
+ghost use Rattle.kt_chain.specs.declared.certificate.Certificate.{Certificate};
+ghost use Rattle.kt_checker.specs.Unwilling.{has_unwilling};
+ghost use Rattle.kt_cuts.specs.Standing.{at_number};
+ghost use Rattle.kt_checker.specs.declared.verdict.Verdict.TheVariants.{Yes};
+ghost use Rattle.kt_checker.specs.declared.decisions.Instance.{Instance};
+ghost use Rattle.kt_checker.specs.declared.decisions.Decision.{Decision};
+ghost use Rattle.kt_checker.specs.Gathered.{Gathered};
+ghost use Rattle.kt_checker.specs.Passing.{Passes, IsPassed, IsShownBefore, ListsReadyOf};
 
+use crate::chains::{cut_of, has_chains};
 use crate::decisions::{Decision, Instance, Instances};
 use crate::verdict::{Verdict, Why};
-use kt_base::{InstNo, Kind, Memory, MsgNo, ProcNo, RowNo};
-use kt_chain::{Certificate, Chain};
-use kt_cuts::{Cut, Histories, LegalFault, legal};
+use kt_base::{InstNo, Memory, RowNo};
+use kt_chain::Certificate;
+use kt_cuts::{Histories, LegalFault, legal};
 use kt_spacetime::SpaceTime;
 use std::alloc::Global;
 
@@ -20,22 +33,53 @@ pub fn check(
     alloc: Global,
     log: &SpaceTime,
     certificates: &[Certificate],
-) -> Result<Verdict, Memory> {
+) -> Result<Verdict, Memory>
+    // A yes knows that the log is legal, that each certificate passes, and that each decided instance has one.
+    ensures legal { IfOk result (λ verdict. verdict ≡ Yes → IsLegal log.now.rows) }
+    ensures passes { IfOk result (λ verdict. verdict ≡ Yes → (i : ℕ) (certificate : Certificate) → slice_get certificates.now i ≡ Some certificate → Passes log.now.rows certificate) }
+    ensures complete { IfOk result (λ verdict. verdict ≡ Yes → (n p k : ℕ) (commit : Bool) → slice_get log.now.rows n ≡ Some (Decided p k commit) →
+        (i : ℕ) × (certificate : Certificate) × (slice_get certificates.now i ≡ Some certificate) × (certificate.inst ≡ k)) }
+
+    // So it means that each committed instance took the least set,
+    ensures checkpoints { IfOk result (λ verdict. verdict ≡ Yes → (n p k : ℕ) → slice_get log.now.rows n ≡ Some (Decided p k true) →
+        is_checkpoint (past (take n log.now.rows)) k ≡ true → IsLeastCheckpointSet (past (take n log.now.rows)) k) }
+    ensures rollbacks { IfOk result (λ verdict. verdict ≡ Yes → (n p k : ℕ) → slice_get log.now.rows n ≡ Some (Decided p k true) →
+        is_rollback (past (take n log.now.rows)) k ≡ true → IsLeastRollbackSet (past (take n log.now.rows)) k) }
+
+    // that each aborted instance has an unwilling row and no committed one has,
+    ensures aborts { IfOk result (λ verdict. verdict ≡ Yes → (n p k : ℕ) (commit : Bool) → slice_get log.now.rows n ≡ Some (Decided p k commit) →
+        has_unwilling log.now.rows k ≡ not commit) }
+
+    // and that at every row neither the permanent cut nor the present one has an orphan.
+    ensures permanent { IfOk result (λ verdict. verdict ≡ Yes → (n : ℕ) → IsConsistent (past (take n log.now.rows)) (permanent_cut (past (take n log.now.rows)))) }
+    ensures present { IfOk result (λ verdict. verdict ≡ Yes → (n : ℕ) → IsConsistent (past (take n log.now.rows)) (present_cut (past (take n log.now.rows)))) }
+{
+    judged(alloc, log, certificates)
+}
+
+// The first fault in that order, or yes.
+fn judged(alloc: Global, log: &SpaceTime, certificates: &[Certificate]) -> Result<Verdict, Memory>
+    ensures { IfOk result (λ verdict. verdict ≡ Yes → IsPassed log.now.rows certificates.now) }
+{
     if let Some(verdict) = illegal(alloc, log)? {
         return Ok(verdict);
     }
-    let mut instances = Instances::of(alloc, log)?;
+    let instances = Instances::of(alloc, log)?;
+    let mut seen = vec![in alloc; false; instances.len()]?;
     for certificate in certificates {
-        if let Some(verdict) = refuted(alloc, log, &mut instances, certificate)? {
+        let is_seen = is_marked(&seen, certificate.inst);
+        if let Some(verdict) = refuted(alloc, log, &instances, is_seen, certificate)? {
             return Ok(verdict);
         }
+        mark(&mut seen, certificate.inst);
     }
-    Ok(missing(&instances))
+    Ok(missing(&instances, &seen))
 }
 
 // The answer to a log that is not legal.
 fn illegal(alloc: Global, log: &SpaceTime) -> Result<Option<Verdict>, Memory>
-    ensures { IfOk result (λ verdict. verdict ≡ None → IsLegal log.now.rows) }
+    ensures legal { IfOk result (λ verdict. verdict ≡ None → IsLegal log.now.rows) }
+    ensures no { IfOk result (λ verdict. verdict ≡ Some Yes → ⊥) }
 {
     let Err(fault) = legal(alloc, log) else {
         return Ok(None);
@@ -47,47 +91,76 @@ fn illegal(alloc: Global, log: &SpaceTime) -> Result<Option<Verdict>, Memory>
 }
 
 // The answer where every certificate passed.
-fn missing(instances: &Instances) -> Verdict {
-    match instances.first_missing() {
+fn missing(instances: &Instances, seen: &[bool]) -> Verdict
+    requires { length seen.now ≡ length instances.now.list.items }
+    ensures { result ≡ Yes → (k : ℕ) (v : Instance) (d : Decision) → slice_get instances.now.list.items k ≡ Some v → v.decision ≡ Some d → slice_get seen.now k ≡ Some true }
+{
+    match instances.first_missing(seen) {
         Some((inst, row)) => no(Some(inst), Some(row), Why::Missing),
         None => Verdict::Yes,
     }
 }
 
-fn no(inst: Option<InstNo>, row: Option<RowNo>, why: Why) -> Verdict {
+fn no(inst: Option<InstNo>, row: Option<RowNo>, why: Why) -> Verdict
+    ensures { result ≡ Yes → ⊥ }
+{
     Verdict::No { inst, row, why }
+}
+
+// Whether a certificate of an instance was seen.
+fn is_marked(seen: &[bool], inst: InstNo) -> bool
+    ensures { IsTrue result ↔ (at_number seen.now inst ≡ Some true) }
+{
+    let index = inst.get() as usize - 1;
+    index < seen.len() && seen[index]
+}
+
+// Notes that a certificate of an instance was seen.
+fn mark(seen: &mut [bool], inst: InstNo)
+    ensures { (k : ℕ) → slice_get seen.new k ≡ Some true → (slice_get seen.old k ≡ Some true) ⊎ (inst ≡ k + 1) }
+{
+    let index = inst.get() as usize - 1;
+    if index < seen.len() {
+        seen[index] = true;
+    }
 }
 
 // The answer to a certificate that does not pass, after those before it.
 fn refuted(
     alloc: Global,
     log: &SpaceTime,
-    instances: &mut Instances,
+    instances: &Instances,
+    is_seen: bool,
     certificate: &Certificate,
 ) -> Result<Option<Verdict>, Memory>
-    requires { IsLegal log.now.rows }
+    requires legal { IsLegal log.now.rows }
+    requires gathered { Gathered instances.now.list.items log.now.rows }
+    ensures passes { IfOk result (λ verdict. verdict ≡ None → Passes log.now.rows certificate.now) }
+    ensures no { IfOk result (λ verdict. verdict ≡ Some Yes → ⊥) }
 {
     let inst = certificate.inst;
-    let Some(instance) = instances.get_mut(inst) else {
+    let Some(instance) = instances.get(inst) else {
         return Ok(Some(no(Some(inst), None, Why::Unknown)));
     };
     let Some(decision) = instance.decision else {
         return Ok(Some(no(Some(inst), None, Why::Unknown)));
     };
-    if !is_as_certified(instance, &decision, certificate) {
+    if is_seen || !is_as_certified(instance, &decision, certificate) {
         return Ok(Some(no(Some(inst), None, Why::Unknown)));
     }
-    instance.certified = true;
     match fault_in(alloc, log, instance, &decision, certificate)? {
         Some(why) => Ok(Some(no(Some(inst), Some(decision.row), why))),
         None => Ok(None),
     }
 }
 
-// Whether the log has the instance as the certificate has it, and no certificate had it before.
-fn is_as_certified(instance: &Instance, decision: &Decision, certificate: &Certificate) -> bool {
-    !instance.certified
-        && instance.kind == certificate.kind
+// Whether the log has the instance as the certificate has it.
+fn is_as_certified(instance: &Instance, decision: &Decision, certificate: &Certificate) -> bool
+    ensures kind { IsTrue result → instance.now.kind ≡ certificate.now.kind }
+    ensures initiator { IsTrue result → instance.now.initiator ≡ certificate.now.initiator }
+    ensures verdict { IsTrue result → decision.now.commit ≡ certificate.now.commit }
+{
+    instance.kind == certificate.kind
         && instance.initiator == certificate.initiator
         && decision.commit == certificate.commit
         && (certificate.commit || certificate.members.list().is_empty())
@@ -101,7 +174,10 @@ fn fault_in(
     decision: &Decision,
     certificate: &Certificate,
 ) -> Result<Option<Why>, Memory>
-    requires { IsLegal log.now.rows }
+    requires legal { IsLegal log.now.rows }
+    ensures cause { IfOk result (λ why. why ≡ None → instance.now.refused ≡ not decision.now.commit) }
+    ensures shown { IfOk result (λ why. (n : ℕ) → why ≡ None → decision.now.commit ≡ true → decision.now.row ≡ n + 1 → n ≤ length log.now.rows →
+        ListsReadyOf (past (take n log.now.rows)) certificate.now instance.now.members.items → IsShownBefore (past (take n log.now.rows)) certificate.now instance.now.members.items) }
 {
     if decision.commit == instance.refused {
         return Ok(Some(Why::Cause));
@@ -120,89 +196,25 @@ fn fault_in(
     if !has_chains(&histories, certificate) {
         return Ok(Some(Why::Chain));
     }
-    let cut = cut_of(&histories, certificate, instance);
-    if histories.first_orphan(&cut).is_some() {
-        return Ok(Some(Why::Orphan));
+    let cut = cut_of(&histories, certificate);
+    match histories.first_orphan(&cut) {
+        Some(_) => Ok(Some(Why::Orphan)),
+        None => Ok(None),
     }
-    Ok(None)
 }
 
 // Whether a certificate lists the members in the order in which they joined.
-fn lists_members(instance: &Instance, certificate: &Certificate) -> bool {
+fn lists_members(instance: &Instance, certificate: &Certificate) -> bool
+    ensures { IsTrue result → map (λ m. m.0) certificate.now.members ≡ instance.now.members.items }
+{
     let listed = certificate.members.list();
-    listed.len() == instance.members.len()
-        && listed
-            .iter()
-            .zip(&instance.members)
-            .all(|(listed, member)| listed.0 == *member)
-}
-
-// Whether each member's list is a chain for it.
-fn has_chains(histories: &Histories, certificate: &Certificate) -> bool {
-    certificate.members.list().iter().all(|(process, chain)| is_chain(
-        histories,
-        certificate,
-        *process,
-        chain,
-    ))
-}
-
-// Whether a list is a chain for a member: none for the initiator, else messages that lead from the initiator to it.
-fn is_chain(
-    histories: &Histories,
-    certificate: &Certificate,
-    process: ProcNo,
-    chain: &Chain,
-) -> bool {
-    if process == certificate.initiator {
-        return chain.messages().is_empty();
+    if listed.len() != instance.members.len() {
+        return false;
     }
-    let mut at = certificate.initiator;
-    for msg in chain.messages() {
-        let Some(next) = next_in_chain(histories, certificate, at, *msg) else {
+    for index in 0..listed.len() {
+        if instance.members[index] != listed[index].0 {
             return false;
-        };
-        at = next;
-    }
-    at == process
-}
-
-// Where a linking message leads from a process: to its sender in a checkpoint, to its receiver in a rollback.
-fn next_in_chain(
-    histories: &Histories,
-    certificate: &Certificate,
-    at: ProcNo,
-    msg: MsgNo,
-) -> Option<ProcNo> {
-    let trace = histories.trace(msg)?;
-    let received = trace.received?;
-    if trace.sent? <= histories.permanent(trace.from) {
-        return None;
-    }
-    match certificate.kind {
-        Kind::Checkpoint => {
-            let position = histories.position(certificate.inst, at)?;
-            (trace.to == at && received <= position).then_some(trace.from)
-        }
-        Kind::Rollback => (trace.from == at).then_some(trace.to),
-    }
-}
-
-// The cut that the decision makes: of a checkpoint the new positions beside the others' permanent ones, of a rollback
-// the permanent positions beside the others' whole histories.
-fn cut_of(histories: &Histories, certificate: &Certificate, instance: &Instance) -> Cut {
-    let mut cut = Cut::new([0; 64]);
-    for number in 0..ProcNo::COUNT {
-        if let Some(p) = ProcNo::new(number) {
-            let length = match certificate.kind {
-                Kind::Checkpoint => histories
-                    .position(certificate.inst, p)
-                    .unwrap_or(histories.permanent(p)),
-                Kind::Rollback if instance.members.contains(&p) => histories.permanent(p),
-                Kind::Rollback => histories.length(p),
-            };
-            cut.set(p, length);
         }
     }
-    cut
+    true
 }

@@ -1,6 +1,7 @@
 //! The checker of logs and certificates, which trusts nobody.
 #![tactic(auto)]
 
+mod chains;
 mod checking;
 mod decisions;
 mod verdict;

@@ -1,0 +1,150 @@
+-- Chains and cuts of a certificate, by what histories answer.
+use Rattle.std.proofs.Common.{◌≡◌, ◌≢◌, ℕ, zero, suc, ◌+◌, ◌-◌, ◌<◌, ◌≤◌, ◌==◌, if◌then◌else◌, unwrap_or, is_some, Bool, true, false, Option, Some, None, option_map, List, [], ◌∷◌, ◌++◌, map, length, take, drop, refl, sym, ap, ◌∙◌, subst, arith, inl, inr}
+use Rattle.std.specs.List.{slice_get, Contains}
+use Rattle.std.specs.Option.{option_flatten}
+use Rattle.std.proofs.lemmas.Bool.Decides.{nat_tests}
+use Rattle.std.proofs.lemmas.Bool.{cases_lt}
+use Rattle.std.proofs.lemmas.Option.{slice_get_within, slice_get-get_or, get_or_from_slice_get, slice_get-map}
+use Rattle.std.proofs.lemmas.List.{length-map}
+use Rattle.kt_base.specs.declared.words.Kind.{Kind}
+use Rattle.kt_base.specs.declared.words.Kind.TheVariants.{Checkpoint, Rollback}
+use Rattle.kt_spacetime.specs.declared.event.Event.{Event}
+use Rattle.kt_cuts.specs.declared.deeds.Deed.{Deed}
+use Rattle.kt_cuts.specs.declared.deeds.Deed.TheVariants as deed
+use Rattle.kt_cuts.specs.declared.histories.Trace.{Trace}
+use Rattle.kt_cuts.specs.Past.{Past, past}
+use Rattle.kt_cuts.specs.Legal.{is_deed, has_deed}
+use Rattle.kt_cuts.specs.Chains.{IsCheckpointChain, IsRollbackChain}
+use Rattle.kt_cuts.specs.Cuts.{part, IsOrphan, IsConsistent}
+use Rattle.kt_cuts.specs.Messages.{row_at}
+use Rattle.kt_cuts.specs.Standing.{parties_of_row}
+use Rattle.kt_cuts.specs.Traces.{place_of, trace_between, trace_of}
+use Rattle.kt_cuts.proofs.Items.{get_in_take, item_there}
+use Rattle.kt_cuts.proofs.SortedFacts.{some_same}
+use Rattle.kt_cuts.proofs.DeedFacts.{same_deed, has_at}
+use Rattle.kt_cuts.proofs.Consistency.{consistent_from, consistent_sent, consistent_without}
+use Rattle.kt_cuts.proofs.OrphanFacts.{get_from_drop}
+use Rattle.kt_checker.specs.Passing.{IsChain}
+
+-- a place that is found, counted from 1
+pub place_found : (d : Deed) (l : List Deed) (n : ℕ) → place_of d l ≡ Some n → (i : ℕ) × (n ≡ i + 1) × (slice_get l i ≡ Some d)
+place_found d [] n e = absurd (cc)
+place_found d (x ∷ l) n e = at_test (is_deed d x) refl e (place_found d l)
+  where
+    at_test : (b : Bool) → is_deed d x ≡ b → (if b then Some 1 else option_map suc (place_of d l)) ≡ Some n → ((m : ℕ) → place_of d l ≡ Some m → (i : ℕ) × (m ≡ i + 1) × (slice_get l i ≡ Some d)) → (i : ℕ) × (n ≡ i + 1) × (slice_get (x ∷ l) i ≡ Some d)
+    at_test true is e rest = (0, sym (some_same e), ap Some (same_deed d x is))
+    at_test false is e rest = later (place_of d l) refl e rest
+      where
+        later : (o : Option ℕ) → place_of d l ≡ o → option_map suc o ≡ Some n → ((m : ℕ) → place_of d l ≡ Some m → (i : ℕ) × (m ≡ i + 1) × (slice_get l i ≡ Some d)) → (i : ℕ) × (n ≡ i + 1) × (slice_get (x ∷ l) i ≡ Some d)
+        later None p e rest = absurd (cc)
+        later (Some m) p e rest =
+            let there = rest m p in
+            let next : suc m ≡ n = some_same e in
+            (suc there.0, omega (arith, there.1, next), there.2)
+
+-- what a trace says
+pub trace_parts : (rows : List Event) (m : ℕ) (t : Trace) → trace_of rows m ≡ Some t
+    → (t.sent ≡ place_of (deed.Sent m t.to) ((past rows).live t.from)) × (t.received ≡ place_of (deed.Received m t.from) ((past rows).live t.to))
+trace_parts rows m t e = between (option_flatten (option_map parties_of_row (row_at rows m))) e
+  where
+    between : (o : Option (ℕ × ℕ)) → trace_between (past rows) m o ≡ Some t → (t.sent ≡ place_of (deed.Sent m t.to) ((past rows).live t.from)) × (t.received ≡ place_of (deed.Received m t.from) ((past rows).live t.to))
+    between None e = absurd (cc)
+    between (Some (p, q)) e =
+        let same = some_same e in
+        (subst (λ (x : Trace). x.sent ≡ place_of (deed.Sent m x.to) ((past rows).live x.from)) same refl, subst (λ (x : Trace). x.received ≡ place_of (deed.Received m x.from) ((past rows).live x.to)) same refl)
+
+sent_past : (d : Deed) (l : List Deed) (n place : ℕ) → place_of d l ≡ Some place → n < place → has_deed d (drop n l) ≡ true
+sent_past d l n place e low =
+    let there = place_found d l place e in
+    has_at d (drop n l) (there.0 - n) (get_from_drop n l there.0 d there.2 (omega (arith, low, there.1)))
+
+received_within : (d : Deed) (l : List Deed) (n place : ℕ) → place_of d l ≡ Some place → place ≤ n → has_deed d (take n l) ≡ true
+received_within d l n place e low =
+    let there = place_found d l place e in
+    has_at d (take n l) there.0 (get_in_take n l there.0 (omega (arith, low, there.1)) ∙ there.2)
+
+received_there : (d : Deed) (l : List Deed) (place : ℕ) → place_of d l ≡ Some place → has_deed d l ≡ true
+received_there d l place e =
+    let there = place_found d l place e in
+    has_at d l there.0 there.2
+
+pub checkpoint_step : (rows : List Event) (k at m sent received position permanent : ℕ) (t : Trace) → trace_of rows m ≡ Some t → t.sent ≡ Some sent → t.received ≡ Some received
+    → permanent ≡ (past rows).permanent t.from → permanent < sent → (past rows).new k at ≡ Some position → t.to ≡ at → received ≤ position → IsCheckpointChain (past rows) k at (m ∷ []) t.from
+checkpoint_step rows k at m sent received position permanent t e a b p low new to within =
+    let parts = trace_parts rows m t e in
+    let past_it = sent_past (deed.Sent m t.to) ((past rows).live t.from) permanent sent (sym parts.0 ∙ a) low in
+    let got = received_within (deed.Received m t.from) ((past rows).live t.to) position received (sym parts.1 ∙ b) within in (
+      t.from,
+      record {
+        sent = (λ i. has_deed (deed.Sent m (sym to i)) (drop (sym p i) ((past rows).live t.from))) ∙ past_it;
+        member = ap (λ (o : Option ℕ). is_some o) new;
+        received = (λ i. has_deed (deed.Received m t.from) (take (unwrap_or (new i) 0) ((past rows).live (sym to i)))) ∙ got;
+      },
+      refl,
+    )
+
+pub rollback_step : (rows : List Event) (at m sent received permanent : ℕ) (t : Trace) → trace_of rows m ≡ Some t → t.sent ≡ Some sent → t.received ≡ Some received
+    → permanent ≡ (past rows).permanent t.from → permanent < sent → t.from ≡ at → IsRollbackChain (past rows) at (m ∷ []) t.to
+rollback_step rows at m sent received permanent t e a b p low from =
+    let parts = trace_parts rows m t e in
+    let past_it = sent_past (deed.Sent m t.to) ((past rows).live t.from) permanent sent (sym parts.0 ∙ a) low in
+    let got = received_there (deed.Received m t.from) ((past rows).live t.to) received (sym parts.1 ∙ b) in (
+      t.to,
+      record {
+        sent = (λ i. has_deed (deed.Sent m t.to) (drop ((past rows).permanent (sym from i)) ((past rows).live (sym from i)))) ∙ ((λ i. has_deed (deed.Sent m t.to) (drop (sym p i) ((past rows).live t.from))) ∙ past_it);
+        received = (λ i. has_deed (deed.Received m (sym from i)) ((past rows).live t.to)) ∙ got;
+      },
+      refl,
+    )
+
+pub same_from : (a b : ℕ) → true ≡ (a == b) → a ≡ b
+same_from a b e = grind (arith, nat_tests, e)
+
+-- a chain and one more message
+pub chain_more : (s : Past) (k : ℕ) (kind : Kind) (q x y m : ℕ) (chain : List ℕ) → IsChain s k kind q chain x → IsChain s k kind x (m ∷ []) y → IsChain s k kind q (chain ++ m ∷ []) y
+chain_more s k Checkpoint q x y m [] h step = subst (λ (z : ℕ). IsCheckpointChain s k z (m ∷ []) y) (sym h) step
+chain_more s k Checkpoint q x y m (n ∷ chain) h step = (h.0, h.1, chain_more s k Checkpoint h.0 x y m chain h.2 step)
+chain_more s k Rollback q x y m [] h step = subst (λ (z : ℕ). IsRollbackChain s z (m ∷ []) y) (sym h) step
+chain_more s k Rollback q x y m (n ∷ chain) h step = (h.0, h.1, chain_more s k Rollback h.0 x y m chain h.2 step)
+
+-- what a list passes through, index by index
+pub none_listed : (ms : List (ℕ × List ℕ)) (p : ℕ) → ((k q : ℕ) (chain : List ℕ) → slice_get ms k ≡ Some (q, chain) → q ≢ p) → Contains (map (λ m. m.0) ms) p → ⊥
+none_listed ms p never (k, l, e) =
+    let there = item_there ms k (subst (λ (n : ℕ). k < n) (length-map ms (λ m. m.0)) l) in
+    let listed : slice_get (map (λ m. m.0) ms) k ≡ Some (there.0.0) = slice_get-map (λ m. m.0) ms k ∙ ap (option_map (λ m. m.0)) there.1 in
+    let same : there.0.0 ≡ p = some_same (sym listed ∙ (slice_get-get_or (map (λ m. m.0) ms) k p l ∙ ap Some e)) in
+    never k there.0.0 there.0.1 there.1 same
+
+pub one_listed : (ms : List (ℕ × List ℕ)) (k q : ℕ) (chain : List ℕ) → slice_get ms k ≡ Some (q, chain) → Contains (map (λ m. m.0) ms) q
+one_listed ms k q chain e =
+    let listed : slice_get (map (λ m. m.0) ms) k ≡ Some q = slice_get-map (λ m. m.0) ms k ∙ ap (option_map (λ m. m.0)) e in
+    (k, slice_get_within (map (λ m. m.0) ms) k q listed, get_or_from_slice_get (map (λ m. m.0) ms) k q q listed)
+
+pub never : false ≡ true → ⊥
+never e = cc
+
+-- lists of one length that agree at each place
+pub same_lists : (ms : List (ℕ × List ℕ)) (xs : List ℕ) → length ms ≡ length xs → ((k q : ℕ) (chain : List ℕ) → slice_get ms k ≡ Some (q, chain) → slice_get xs k ≡ Some q) → map (λ m. m.0) ms ≡ xs
+same_lists [] [] l agree = refl
+same_lists [] (x ∷ xs) l agree = absurd (omega (arith, l))
+same_lists (m ∷ ms) [] l agree = absurd (omega (arith, l))
+same_lists (m ∷ ms) (x ∷ xs) l agree =
+    let first : x ≡ m.0 = some_same (agree 0 m.0 m.1 refl) in
+    (λ i. sym first i ∷ same_lists ms xs (omega (arith, l)) (λ k q chain e. agree (suc k) q chain e) i)
+
+take_none : (n : ℕ) → take n (let l : List Deed = [] in l) ≡ []
+take_none zero = refl
+take_none (suc n) = refl
+
+-- cuts that agree on the processes have the same orphans
+pub consistent_of : (s : Past) (a b : ℕ → ℕ) → ((p : ℕ) → p < 64 → a p ≡ b p) → ((p : ℕ) → 64 ≤ p → s.live p ≡ []) → ((msg : ℕ) → IsOrphan s a msg → ⊥) → IsConsistent s b
+consistent_of s a b same none no_orphan = consistent_from s b (λ p q i msg e. agree q (has_deed (deed.Sent msg p)) (consistent_sent s a (consistent_without s a no_orphan) p q i msg (sym (ap (λ (l : List Deed). slice_get l i) (parts p)) ∙ e)))
+  where
+    parts : (p : ℕ) → part s b p ≡ part s a p
+    parts p = elim (cases_lt p 64) [
+      | inl low ↦ ap (λ (n : ℕ). take n (s.live p)) (sym (same p low))
+      | inr high ↦ ap (take (b p)) (none p high) ∙ (take_none (b p) ∙ (sym (take_none (a p)) ∙ ap (take (a p)) (sym (none p high))))
+    ]
+
+    agree : (q : ℕ) (test : List Deed → Bool) → test (part s a q) ≡ true → test (part s b q) ≡ true
+    agree q test e = ap test (parts q) ∙ e

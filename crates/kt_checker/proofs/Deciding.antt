@@ -1,0 +1,121 @@
+-- What stays of an instance after its decided row.
+use Rattle.std.proofs.Common.{◌≡◌, ℕ, zero, suc, ◌<◌, is_some, is_none, Bool, true, Option, Some, None, List, [], ◌∷◌, take, drop, refl, sym, ap, ◌∙◌, subst, arith, inl, inr}
+use Rattle.std.specs.Prelude.{fold}
+use Rattle.std.specs.List.{slice_get, filter_map, cons_option}
+use Rattle.std.proofs.lemmas.Bool.{cases_eq, cases_order, and_parts}
+use Rattle.std.proofs.lemmas.Bool.Decides.{nat_tests}
+use Rattle.std.proofs.lemmas.Grind.{fold-append}
+use Rattle.std.proofs.lemmas.List.{take-append-drop}
+use Rattle.kt_spacetime.specs.declared.event.Event.{Event}
+use Rattle.kt_spacetime.specs.declared.event.Event.TheVariants as event
+use Rattle.kt_cuts.specs.Past.{Past, Beginning, past, start, after, beginning_of, is_checkpoint}
+use Rattle.kt_cuts.specs.Legal.{IsLegal, IsLegalAfter, broken_rule, is_undecided, has_begun}
+use Rattle.kt_cuts.specs.Chains.{members, joins}
+use Rattle.kt_cuts.proofs.SortedFacts.{some_same}
+use Rattle.kt_cuts.proofs.LegalLogs.{kept, past_induction}
+use Rattle.kt_cuts.proofs.Traced.{next_unbroken}
+use Rattle.kt_cuts.proofs.Positions.{begun_kept}
+
+verdict_stays : (s : Past) (row : Event) (k : ℕ) → is_some (s.verdict k) ≡ true → is_some ((after s row).verdict k) ≡ true
+verdict_stays s (event.Decided p j commit) k e = elim (cases_eq k j) [
+  | inl same ↦ grind (arith, nat_tests, same)
+  | inr other ↦ grind (arith, nat_tests, other, e)
+]
+verdict_stays s (event.Sent p to body) k e = e
+verdict_stays s (event.Received p from msg) k e = e
+verdict_stays s (event.Dropped p from msg) k e = e
+verdict_stays s (event.Began p j kind) k e = e
+verdict_stays s (event.Took p j) k e = e
+verdict_stays s (event.Ready p j) k e = e
+verdict_stays s (event.Unwilling p j cause) k e = e
+verdict_stays s (event.Closed p j) k e = e
+verdict_stays s (event.Failed p) k e = e
+verdict_stays s (event.Refused p verb cause) k e = e
+
+verdict_after_decision : (s : Past) (log : List Event) (n p k : ℕ) (commit : Bool) → slice_get log n ≡ Some (event.Decided p k commit) → is_some ((fold after s log).verdict k) ≡ true
+verdict_after_decision s [] n p k commit e = absurd (cc)
+verdict_after_decision s (row ∷ rows) zero p k commit e =
+    let same : row ≡ event.Decided p k commit = some_same e in
+    let here : is_some ((after s row).verdict k) ≡ true = rw same (decided_now s p k commit) in
+    past_induction (λ t. is_some (t.verdict k) ≡ true) (λ t r h. verdict_stays t r k h) (after s row) rows here
+  where
+    decided_now : (s : Past) (p k : ℕ) (commit : Bool) → is_some ((after s (event.Decided p k commit)).verdict k) ≡ true
+    decided_now s p k commit = grind (arith, nat_tests)
+verdict_after_decision s (row ∷ rows) (suc n) p k commit e = verdict_after_decision (after s row) rows n p k commit e
+
+not_undecided : (s : Past) (k : ℕ) → is_some (s.verdict k) ≡ true → is_undecided s k ≡ true → ⊥
+not_undecided s k e u = clash (s.verdict k) e (and_parts (has_begun s k) (is_none (s.verdict k)) u).1
+  where
+    clash : (o : Option Bool) → is_some o ≡ true → is_none o ≡ true → ⊥
+    clash None a b = cc
+    clash (Some x) a b = cc
+
+get_of_take : (log : List Event) (n m : ℕ) (x : Event) → slice_get log n ≡ Some x → n < m → slice_get (take m log) n ≡ Some x
+get_of_take [] n m x e l = absurd (cc)
+get_of_take (y ∷ log) n zero x e l = absurd (omega (arith, l))
+get_of_take (y ∷ log) zero (suc m) x e l = e
+get_of_take (y ∷ log) (suc n) (suc m) x e l = get_of_take log n m x e (omega (arith, l))
+
+-- an instance is decided once
+decided_before : (log : List Event) (n m p q k : ℕ) (a b : Bool) → IsLegal log → slice_get log n ≡ Some (event.Decided p k a) → slice_get log m ≡ Some (event.Decided q k b) → n < m → ⊥
+decided_before log n m p q k a b l e f low =
+    let was = verdict_after_decision start (take m log) n p k a (get_of_take log n m (event.Decided p k a) e low) in
+    let deciding = (kept (past (take m log)) (event.Decided q k b) (next_unbroken log m (event.Decided q k b) l f)).deciding in
+    not_undecided (past (take m log)) k was (and_parts _ (is_undecided (past (take m log)) k) deciding).1
+
+pub decided_once : (log : List Event) (n m p q k : ℕ) (a b : Bool) → IsLegal log → slice_get log n ≡ Some (event.Decided p k a) → slice_get log m ≡ Some (event.Decided q k b) → n ≡ m
+decided_once log n m p q k a b l e f = elim (cases_order n m) [
+  | inl same ↦ same
+  | inr other ↦ elim other [
+    | inl low ↦ absurd (decided_before log n m p q k a b l e f low)
+    | inr high ↦ absurd (decided_before log m n q p k b a l f e high)
+  ]
+]
+
+-- nobody joins a decided instance
+no_join : (s : Past) (row : Event) (k : ℕ) → broken_rule s row ≡ None → is_some (s.verdict k) ≡ true → joins k row ≡ None
+no_join s (event.Took p j) k e v = elim (cases_eq j k) [
+  | inl same ↦
+      let may = (and_parts _ _ (kept s (event.Took p j) e).joining).0 in
+      let open_yet : is_undecided s j ≡ true = (and_parts _ (is_undecided s j) (and_parts _ (is_checkpoint s j) (and_parts _ _ may).0).0).1 in
+      absurd (not_undecided s k v (subst (λ (x : ℕ). is_undecided s x ≡ true) same open_yet))
+  | inr other ↦ grind (arith, nat_tests, other)
+]
+no_join s (event.Ready p j) k e v = elim (cases_eq j k) [
+  | inl same ↦
+      let may = (and_parts _ _ (kept s (event.Ready p j) e).joining).0 in
+      let open_yet : is_undecided s j ≡ true = (and_parts _ (is_undecided s j) (and_parts _ _ may).0).1 in
+      absurd (not_undecided s k v (subst (λ (x : ℕ). is_undecided s x ≡ true) same open_yet))
+  | inr other ↦ grind (arith, nat_tests, other)
+]
+no_join s (event.Sent p to body) k e v = refl
+no_join s (event.Received p from msg) k e v = refl
+no_join s (event.Dropped p from msg) k e v = refl
+no_join s (event.Began p j kind) k e v = refl
+no_join s (event.Unwilling p j cause) k e v = refl
+no_join s (event.Decided p j commit) k e v = refl
+no_join s (event.Closed p j) k e v = refl
+no_join s (event.Failed p) k e v = refl
+no_join s (event.Refused p verb cause) k e v = refl
+
+no_joins : (s : Past) (rows : List Event) (k : ℕ) → IsLegalAfter s rows → is_some (s.verdict k) ≡ true → filter_map (joins k) rows ≡ []
+no_joins s [] k l v = refl
+no_joins s (row ∷ rows) k l v = ap (λ (o : Option ℕ). cons_option o (filter_map (joins k) rows)) (no_join s row k l.0 v) ∙ no_joins (after s row) rows k l.1 (verdict_stays s row k v)
+
+members_to : (s : Past) (log : List Event) (n p k : ℕ) (commit : Bool) → IsLegalAfter s log → slice_get log n ≡ Some (event.Decided p k commit) → filter_map (joins k) log ≡ filter_map (joins k) (take n log)
+members_to s [] n p k commit l e = absurd (cc)
+members_to s (row ∷ rows) zero p k commit l e =
+    let same : row ≡ event.Decided p k commit = some_same e in
+    let decided : is_some ((after s row).verdict k) ≡ true = verdict_after_decision s (row ∷ []) 0 p k commit e in
+    ap (λ (o : Option ℕ). cons_option o (filter_map (joins k) rows)) (ap (joins k) same) ∙ no_joins (after s row) rows k l.1 decided
+members_to s (row ∷ rows) (suc n) p k commit l e = ap (λ (t : List ℕ). cons_option (joins k row) t) (members_to (after s row) rows n p k commit l.1 e)
+
+-- the members of a decided instance joined before its decided row
+pub members_before : (log : List Event) (n p k : ℕ) (commit : Bool) → IsLegal log → slice_get log n ≡ Some (event.Decided p k commit) → members log k ≡ members (take n log) k
+members_before log n p k commit l e = members_to start log n p k commit l e
+
+-- how an instance began is known from then on
+pub beginning_stays : (log : List Event) (n k : ℕ) (b : Beginning) → beginning_of (past (take n log)) k ≡ Some b → beginning_of (past log) k ≡ Some b
+beginning_stays log n k b e =
+    let whole : past log ≡ fold after (past (take n log)) (drop n log) = ap past (sym (take-append-drop n log)) ∙ fold-append after start (take n log) (drop n log) in
+    subst (λ (s : Past). beginning_of s k ≡ Some b) (sym whole) (past_induction (λ t. beginning_of t k ≡ Some b) (λ t row h. begun_kept t row k b h) (past (take n log)) (drop n log) e)

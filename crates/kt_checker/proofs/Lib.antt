@@ -1,0 +1,4 @@
+pub mod Gathering
+pub mod Chaining
+pub mod Deciding
+pub mod Sound

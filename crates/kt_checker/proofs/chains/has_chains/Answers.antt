@@ -1,0 +1,23 @@
+use Rattle.std.proofs.Common.{◌≡◌, ℕ, List, refl, sym, ap, subst, ◌∙◌, length, arith, inl, inr}
+use Rattle.std.proofs.lemmas.Bool.{cases_eq}
+use Rattle.std.proofs.lemmas.Option.{slice_get_read, slice_get_within}
+use Rattle.std.specs.List.{slice_get}
+use Rattle.kt_cuts.specs.Past.{past}
+use Rattle.kt_cuts.proofs.SortedFacts.{some_same}
+use Rattle.kt_checker.specs.Passing.{IsListOf}
+use Rattle.kt_checker.proofs.chains.has_chains.Goals as goal
+
+pub loop-process-preserved : goal.loop-process-preserved
+loop-process-preserved c = λ rows i p chain low h e. elim (cases_eq i c.loop-process.process-index) [
+  | inl same ↦
+      let items = c.list-process-items.result.now in
+      let read = slice_get_read items (length items) c.loop-process.process-index c.loop-process-item.result refl c.loop-process-test.true c.loop-process-item.is in
+      let item : c.loop-process-item.result ≡ (p, chain) = some_same (sym read ∙ (ap (slice_get items) (sym same) ∙ e)) in
+      subst (λ (m : ℕ × List ℕ). IsListOf (past rows) c.args.certificate.now.inst c.args.certificate.now.kind c.args.certificate.now.initiator m.0 m.1) item (c.is_chain.ensures rows h c.if-not-is_chain.false)
+  | inr other ↦ c.loop-process.invariant rows i p chain (omega (arith, low, other)) h e
+]
+
+pub returns : goal.returns
+returns c = λ rows i p chain h t e.
+    let here = rw (← c.list-process-items.ensures) at e in
+    c.loop-process.invariant rows i p chain (omega (arith, slice_get_within c.list-process-items.result.now i _ here, c.loop-process-test.false)) h here

@@ -1,0 +1,144 @@
+//! Chains and cuts of a certificate.
+
+ghost use Rattle.std.specs.Prelude.{◌≡◌, ◌↔◌, ℕ, ◌<◌, Some, List, [], ◌∷◌, map, Contains, slice_get, slice_index, IsTrue, IfSome};
+ghost use Rattle.kt_spacetime.specs.declared.event.Event.{Event};
+ghost use Rattle.kt_cuts.specs.Past.{Past, past};
+ghost use Rattle.kt_cuts.specs.HistoriesOf.{HistoriesOf};
+ghost use Rattle.kt_checker.specs.Passing.{IsListOf, IsChain, ListsReady, decided_cut};
+
+use kt_base::{Kind, MsgNo, ProcNo};
+use kt_chain::{Certificate, Chain};
+use kt_cuts::{Cut, Histories};
+
+/// Whether each member's list is a chain for it.
+pub(crate) fn has_chains(histories: &Histories, certificate: &Certificate) -> bool
+    ensures { (rows : List Event) (i p : ℕ) (chain : List ℕ) → HistoriesOf histories.now rows → IsTrue result → slice_get certificate.now.members i ≡ Some (p, chain) →
+        IsListOf (past rows) certificate.now.inst certificate.now.kind certificate.now.initiator p chain }
+{
+    for (process, chain) in certificate.members.list() {
+        if !is_chain(histories, certificate, *process, chain) {
+            return false;
+        }
+    }
+    true
+}
+
+// Whether a list is a chain for a member: none for the initiator, else messages that lead from the initiator to it.
+fn is_chain(
+    histories: &Histories,
+    certificate: &Certificate,
+    process: ProcNo,
+    chain: &Chain,
+) -> bool
+    ensures { (rows : List Event) → HistoriesOf histories.now rows → IsTrue result →
+        IsListOf (past rows) certificate.now.inst certificate.now.kind certificate.now.initiator process chain.now }
+{
+    if process == certificate.initiator {
+        return chain.messages().is_empty();
+    }
+    let mut at = certificate.initiator;
+    for msg in chain.messages() {
+        let Some(next) = next_in_chain(histories, certificate, at, *msg) else {
+            return false;
+        };
+        at = next;
+    }
+    at == process
+}
+
+// Where a linking message leads from a process: to its sender in a checkpoint, to its receiver in a rollback.
+fn next_in_chain(
+    histories: &Histories,
+    certificate: &Certificate,
+    at: ProcNo,
+    msg: MsgNo,
+) -> Option<ProcNo>
+    ensures { IfSome result (λ next. (rows : List Event) → HistoriesOf histories.now rows → IsChain (past rows) certificate.now.inst certificate.now.kind at (msg ∷ []) next) }
+{
+    let Some(trace) = histories.trace(msg) else {
+        return None;
+    };
+    let Some(received) = trace.received else {
+        return None;
+    };
+    let Some(sent) = trace.sent else {
+        return None;
+    };
+    if sent <= histories.permanent(trace.from) {
+        return None;
+    }
+    match certificate.kind {
+        Kind::Checkpoint => {
+            let Some(position) = histories.position(certificate.inst, at) else {
+                return None;
+            };
+            if trace.to == at && received <= position {
+                Some(trace.from)
+            } else {
+                None
+            }
+        }
+        Kind::Rollback => {
+            if trace.from == at {
+                Some(trace.to)
+            } else {
+                None
+            }
+        }
+    }
+}
+
+/// The cut that the decision makes: of a checkpoint the new positions beside the others' permanent ones, of a rollback
+/// the permanent positions beside the others' whole histories.
+pub(crate) fn cut_of(histories: &Histories, certificate: &Certificate) -> Cut
+    ensures { (rows : List Event) (p : ℕ) → HistoriesOf histories.now rows → ListsReady (past rows) certificate.now → p < 64 → slice_index result p ≡ decided_cut (past rows) certificate.now.inst certificate.now.kind p }
+{
+    let mut cut = Cut::new([0; 64]);
+    for number in 0..ProcNo::COUNT {
+        let p = process_no(number);
+        cut.set(p, length_in_cut(histories, certificate, p));
+    }
+    cut
+}
+
+// A process's length in that cut.
+fn length_in_cut(histories: &Histories, certificate: &Certificate, p: ProcNo) -> usize
+    ensures { (rows : List Event) → HistoriesOf histories.now rows → ListsReady (past rows) certificate.now → result ≡ decided_cut (past rows) certificate.now.inst certificate.now.kind p }
+{
+    match certificate.kind {
+        Kind::Checkpoint => match histories.position(certificate.inst, p) {
+            Some(position) => position,
+            None => histories.permanent(p),
+        },
+        Kind::Rollback => {
+            if is_listed(certificate, p) {
+                histories.permanent(p)
+            } else {
+                histories.length(p)
+            }
+        }
+    }
+}
+
+// Whether a certificate lists a process.
+fn is_listed(certificate: &Certificate, p: ProcNo) -> bool
+    ensures { IsTrue result ↔ Contains (map (λ m. m.0) certificate.now.members) p }
+{
+    for (process, _chain) in certificate.members.list() {
+        if *process == p {
+            return true;
+        }
+    }
+    false
+}
+
+// The process of this number.
+fn process_no(number: u8) -> ProcNo
+    requires { number < 64 }
+    ensures { result ≡ number }
+{
+    match ProcNo::new(number) {
+        Some(p) => p,
+        None => unreachable!(),
+    }
+}
