@@ -1,5 +1,5 @@
 -- A certificate that passes, and what certificates that all pass say of a log.
-use Rattle.std.proofs.Common.{◌≡◌, ℕ, zero, suc, ◌+◌, ◌<◌, ◌≤◌, ◌||◌, not, nat_le, is_some, Bool, true, false, Option, Some, None, option_map, List, map, length, take, refl, sym, ap, ◌∙◌, subst, arith}
+use Rattle.std.proofs.Common.{◌≡◌, ℕ, zero, suc, ◌+◌, ◌<◌, ◌≤◌, ◌||◌, not, nat_le, is_some, Bool, true, false, Option, Some, None, option_map, List, [], map, length, take, refl, sym, ap, ◌∙◌, subst, arith}
 use Rattle.std.specs.Prelude.{◌↔◌}
 use Rattle.std.specs.List.{slice_get, Contains}
 use Rattle.std.proofs.lemmas.Bool.{and_parts}
@@ -30,7 +30,7 @@ use Rattle.kt_checker.specs.declared.decisions.Instance.{Instance}
 use Rattle.kt_checker.specs.declared.decisions.Decision.{Decision}
 use Rattle.kt_checker.specs.Unwilling.{has_unwilling}
 use Rattle.kt_checker.specs.Gathered.{Gathered, IsDecision, beginning_gathered, members_gathered, refused_gathered, decision_gathered}
-use Rattle.kt_checker.specs.Passing.{Passes, IsPassed, IsShownBefore, ListsReadyOf, IsListOf, IsChain, decided_cut}
+use Rattle.kt_checker.specs.Passing.{Passes, IsPassed, IsAsInLog, IsShownBefore, ListsReadyOf, IsListOf, IsChain, decided_cut}
 use Rattle.kt_checker.proofs.Deciding.{decided_once, members_before, beginning_stays}
 
 -- how an instance began, as gathered
@@ -47,7 +47,7 @@ begun_is s (suc k) e =
     item_there s.begun k (grind (arith, nat_tests, parts.1))
 
 -- it is known just before the decided row
-beginning_then : (list : List Instance) (rows : List Event) (n p k : ℕ) (commit : Bool) (v : Instance) → IsLegal rows → Gathered list rows → at_number list k ≡ Some v → slice_get rows n ≡ Some (event.Decided p k commit)
+pub beginning_then : (list : List Instance) (rows : List Event) (n p k : ℕ) (commit : Bool) (v : Instance) → IsLegal rows → Gathered list rows → at_number list k ≡ Some v → slice_get rows n ≡ Some (event.Decided p k commit)
     → beginning_of (past (take n rows)) k ≡ Some (beginning_gathered v)
 beginning_then list rows n p k commit v l h there at =
     let numbers = (kept (past (take n rows)) (event.Decided p k commit) (next_unbroken rows n (event.Decided p k commit) l at)).numbers in
@@ -71,34 +71,47 @@ ready_members log k p l of_kind = (λ e. contains_member log k p (either ((past 
         let never : false ≡ true = sym (ap is_checkpoint_kind of_kind) ∙ took in
         absurd (cc)
 
+pub within : (rows : List Event) (n : ℕ) (x : Event) → slice_get rows n ≡ Some x → n ≤ length rows
+within rows n x e = omega (arith, slice_get_within rows n x e)
+
+-- a certificate that says what was gathered of a decided instance is as the log has it
+pub as_in_log : (list : List Instance) (rows : List Event) (c : Certificate) (v : Instance) (d : Decision) (n p : ℕ) → IsLegal rows → Gathered list rows → at_number list c.inst ≡ Some v
+    → slice_get rows n ≡ Some (event.Decided p c.inst d.commit) → v.kind ≡ c.kind → v.initiator ≡ c.initiator → d.commit ≡ c.commit → (c.commit ≡ false → c.members ≡ []) → IsAsInLog rows c n
+as_in_log list rows c v d n p l h there at of_kind initiator commit no_members =
+    let began = beginning_then list rows n p c.inst d.commit v l h there at in
+    record {
+      process = p;
+      decided = at ∙ ap (λ (b : Bool). Some (event.Decided p c.inst b)) commit;
+      kind = ap (λ (o : Option Beginning). option_map (λ b. b.kind) o) began ∙ ap Some of_kind;
+      initiator = ap (λ (o : Option Beginning). option_map (λ b. b.initiator) o) began ∙ ap Some initiator;
+      no_members = no_members;
+    }
+
+-- the members gathered of a rollback are the processes that were ready just before the decided row
+pub ready_in_joined : (list : List Instance) (rows : List Event) (c : Certificate) (v : Instance) (n p : ℕ) (commit : Bool) → IsLegal rows → Gathered list rows → at_number list c.inst ≡ Some v
+    → slice_get rows n ≡ Some (event.Decided p c.inst commit) → kind_of (past (take n rows)) c.inst ≡ Some c.kind → ListsReadyOf (past (take n rows)) c v.members.items
+ready_in_joined list rows c v n p commit l h there at of_kind = λ rollback q.
+    let ready = ready_members (take n rows) c.inst q (legal_take n rows l) (of_kind ∙ ap Some rollback) in
+    let listed : v.members.items ≡ members rows c.inst = ap members_gathered (sym there) ∙ h.members_listed c.inst in
+    let joined : v.members.items ≡ members (take n rows) c.inst = listed ∙ members_before rows n p c.inst commit l at in
+    (λ e. subst (λ (t : List ℕ). Contains t q) (sym joined) (ready.0 e), λ e. ready.1 (subst (λ (t : List ℕ). Contains t q) joined e))
+
 pub passes_of : (list : List Instance) (rows : List Event) (c : Certificate) (v : Instance) (d : Decision) → IsLegal rows → Gathered list rows → at_number list c.inst ≡ Some v → v.decision ≡ Some d
-    → v.kind ≡ c.kind → v.initiator ≡ c.initiator → d.commit ≡ c.commit → v.refused ≡ not d.commit
+    → v.kind ≡ c.kind → v.initiator ≡ c.initiator → d.commit ≡ c.commit → (c.commit ≡ false → c.members ≡ []) → v.refused ≡ not d.commit
     → ((n : ℕ) → d.commit ≡ true → d.row ≡ n + 1 → n ≤ length rows → ListsReadyOf (past (take n rows)) c v.members.items → IsShownBefore (past (take n rows)) c v.members.items)
     → Passes rows c
-passes_of list rows c v d l h there decided of_kind initiator commit refused shown =
+passes_of list rows c v d l h there decided of_kind initiator commit no_members refused shown =
     let found : IsDecision rows c.inst (Some d) = subst (IsDecision rows c.inst) decided (subst (λ (o : Option Instance). IsDecision rows c.inst (decision_gathered o)) there (h.decision c.inst)) in
     let n : ℕ = found.0 in
-    let p : ℕ = found.1 in
-    let at : slice_get rows n ≡ Some (event.Decided p c.inst d.commit) = found.3 in
-    let began = beginning_then list rows n p c.inst d.commit v l h there at in
-    let kind_then : kind_of (past (take n rows)) c.inst ≡ Some c.kind = ap (λ (o : Option Beginning). option_map (λ b. b.kind) o) began ∙ ap Some of_kind in
+    let instance = as_in_log list rows c v d n found.1 l h there found.3 of_kind initiator commit no_members in
     let listed : v.members.items ≡ members rows c.inst = ap members_gathered (sym there) ∙ h.members_listed c.inst in
     record {
       row = n;
-      process = p;
-      decided = at ∙ ap (λ (b : Bool). Some (event.Decided p c.inst b)) commit;
-      kind = kind_then;
-      initiator = ap (λ (o : Option Beginning). option_map (λ b. b.initiator) o) began ∙ ap Some initiator;
+      instance = instance;
       cause = sym (ap refused_gathered (sym there) ∙ h.refused c.inst) ∙ (refused ∙ ap not commit);
       shown = λ yes_commit. subst (IsShownBefore (past (take n rows)) c) listed
-          (shown n (commit ∙ yes_commit) found.2 (below rows n _ at) (λ rollback q.
-          let ready = ready_members (take n rows) c.inst q (legal_take n rows l) (kind_then ∙ ap Some rollback) in
-          let joined : v.members.items ≡ members (take n rows) c.inst = listed ∙ members_before rows n p c.inst d.commit l at in
-          (λ e. subst (λ (t : List ℕ). Contains t q) (sym joined) (ready.0 e), λ e. ready.1 (subst (λ (t : List ℕ). Contains t q) joined e))));
+          (shown n (commit ∙ yes_commit) found.2 (within rows n _ found.3) (ready_in_joined list rows c v n found.1 d.commit l h there found.3 instance.kind));
     }
-  where
-    below : (rows : List Event) (n : ℕ) (x : Event) → slice_get rows n ≡ Some x → n ≤ length rows
-    below rows n x e = omega (arith, slice_get_within rows n x e)
 
 -- of a decided row, its certificate passes at this row
 record IsCertified (rows : List Event) (n k : ℕ) (commit : Bool) : Type 0 where
@@ -113,17 +126,17 @@ record IsCertified (rows : List Event) (n k : ℕ) (commit : Bool) : Type 0 wher
 certified : (rows : List Event) (certificates : List Certificate) (n p k : ℕ) (commit : Bool) → IsPassed rows certificates → slice_get rows n ≡ Some (event.Decided p k commit) → IsCertified rows n k commit
 certified rows certificates n p k commit h e =
     let found = h.complete n p k commit e in
-    of_same n k commit found.1 (h.passes found.0 found.1 found.2) found.3 e
+    of_same n k commit found.1 (h.pass found.0 found.1 (slice_get_within certificates found.0 found.1 found.2) found.2).0 found.3 e
   where
     of_same : (n k : ℕ) (commit : Bool) (c : Certificate) → Passes rows c → c.inst ≡ k → slice_get rows n ≡ Some (event.Decided p k commit) → IsCertified rows n k commit
     of_same n k commit c x inst e =
-        let row : x.row ≡ n = decided_once rows x.row n x.process p c.inst c.commit commit h.legal x.decided (subst (λ (j : ℕ). slice_get rows n ≡ Some (event.Decided p j commit)) (sym inst) e) in
-        let same : event.Decided x.process c.inst c.commit ≡ event.Decided p k commit = some_same (sym x.decided ∙ (ap (slice_get rows) row ∙ e)) in
+        let row : x.row ≡ n = decided_once rows x.row n x.instance.process p c.inst c.commit commit h.legal x.instance.decided (subst (λ (j : ℕ). slice_get rows n ≡ Some (event.Decided p j commit)) (sym inst) e) in
+        let same : event.Decided x.instance.process c.inst c.commit ≡ event.Decided p k commit = some_same (sym x.instance.decided ∙ (ap (slice_get rows) row ∙ e)) in
         let verdict : c.commit ≡ commit = cc in
         record {
           certificate = c;
-          kind = (λ i. kind_of (past (take (sym row i) rows)) (sym inst i)) ∙ x.kind;
-          initiator = (λ i. initiator_of (past (take (sym row i) rows)) (sym inst i)) ∙ x.initiator;
+          kind = (λ i. kind_of (past (take (sym row i) rows)) (sym inst i)) ∙ x.instance.kind;
+          initiator = (λ i. initiator_of (past (take (sym row i) rows)) (sym inst i)) ∙ x.instance.initiator;
           cause = ap (has_unwilling rows) (sym inst) ∙ (x.cause ∙ ap not verdict);
           members = λ yes_commit. (x.shown (verdict ∙ yes_commit)).members ∙ ap (members rows) inst;
           lists = λ yes_commit i q chain at. subst (λ (t : Past). IsListOf t k c.kind c.initiator q chain) (ap (λ (m : ℕ). past (take m rows)) row)
@@ -193,30 +206,3 @@ pub present_consistent : (rows : List Event) (certificates : List Certificate) �
 present_consistent rows certificates h n =
     let s = sound_log (take n rows) (legal_take n rows h.legal) (decisions_take n rows (decisions_consistent rows certificates h)) in
     consistent (past (take n rows)) (present_cut (past (take n rows))) s.present
-
--- the certificates passed up to the last, and none is missing
-pub passed : (list : List Instance) (rows : List Event) (certificates : List Certificate) (seen : List Bool) (count : ℕ) → IsLegal rows → Gathered list rows
-    → ((i : ℕ) (c : Certificate) → i < count → slice_get certificates i ≡ Some c → Passes rows c)
-    → ((k : ℕ) → slice_get seen k ≡ Some true → (i : ℕ) × (c : Certificate) × (i < count) × (slice_get certificates i ≡ Some c) × (c.inst ≡ k + 1))
-    → ((i : ℕ) (c : Certificate) → slice_get certificates i ≡ Some c → i < count)
-    → ((k : ℕ) (v : Instance) (d : Decision) → slice_get list k ≡ Some v → v.decision ≡ Some d → slice_get seen k ≡ Some true)
-    → IsPassed rows certificates
-passed list rows certificates seen count l h passes marked whole none = record {
-  legal = l;
-  passes = λ i c e. passes i c (whole i c e) e;
-  complete = λ n p k commit e. certificate_of n p k commit (at_number list k) refl e;
-}
-  where
-    decided_number : (n p k : ℕ) (commit : Bool) (o : Option Decision) → IsDecision rows k o → slice_get rows n ≡ Some (event.Decided p k commit) → (d : Decision) × (o ≡ Some d)
-    decided_number n p k commit None never e = absurd (never n p commit e)
-    decided_number n p k commit (Some d) found e = (d, refl)
-
-    certificate_of : (n p k : ℕ) (commit : Bool) (o : Option Instance) → at_number list k ≡ o → slice_get rows n ≡ Some (event.Decided p k commit) → (i : ℕ) × (c : Certificate) × (slice_get certificates i ≡ Some c) × (c.inst ≡ k)
-    certificate_of n p k commit None there e = absurd (subst (λ (o : Option Instance). IsDecision rows k (decision_gathered o)) there (h.decision k) n p commit e)
-    certificate_of n p zero commit (Some v) there e =
-        let never : None ≡ Some v = there in
-        absurd (cc)
-    certificate_of n p (suc k) commit (Some v) there e =
-        let d = decided_number n p (suc k) commit v.decision (subst (λ (o : Option Instance). IsDecision rows (suc k) (decision_gathered o)) there (h.decision (suc k))) e in
-        let found = marked k (none k v d.0 there d.1) in
-        (found.0, found.1, found.3, omega (arith, found.4))

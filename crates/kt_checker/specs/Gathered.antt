@@ -1,5 +1,6 @@
 -- What was gathered of each instance of a log.
 use Rattle.std.specs.Prelude.{◌≡◌, ℕ, ◌+◌, Bool, false, Option, Some, None, List, [], map, slice_get}
+use Rattle.kt_base.specs.Numbers.{IsInstNo}
 use Rattle.kt_spacetime.specs.declared.event.Event.{Event}
 use Rattle.kt_spacetime.specs.declared.event.Event.TheVariants.{Decided}
 use Rattle.kt_cuts.specs.Past.{Beginning, past}
@@ -35,3 +36,7 @@ pub record Gathered (instances : List Instance) (rows : List Event) : Type 0 whe
   pub members_listed : (k : ℕ) → members_gathered (at_number instances k) ≡ members rows k
   pub refused : (k : ℕ) → refused_gathered (at_number instances k) ≡ has_unwilling rows k
   pub decision : (k : ℕ) → IsDecision rows k (decision_gathered (at_number instances k))
+
+-- the numbers of decided instances are numbers of instances
+abbrev pub AreNumbered : List Instance → Type 0
+AreNumbered instances = (k : ℕ) (v : Instance) (d : Decision) → slice_get instances k ≡ Some v → v.decision ≡ Some d → IsInstNo (k + 1)

@@ -6,3 +6,5 @@ pub use Rattle.kt_cuts.specs.Least
 pub mod Unwilling
 pub mod Gathered
 pub mod Passing
+pub mod Order
+pub mod Missing

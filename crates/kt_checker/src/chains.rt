@@ -1,10 +1,11 @@
 //! Chains and cuts of a certificate.
 
-ghost use Rattle.std.specs.Prelude.{◌≡◌, ◌↔◌, ℕ, ◌<◌, Some, List, [], ◌∷◌, map, Contains, slice_get, slice_index, IsTrue, IfSome};
+ghost use Rattle.std.specs.Prelude.{◌≡◌, ◌↔◌, ℕ, ◌<◌, Some, List, [], ◌∷◌, map, Contains, slice_get, slice_index, IsTrue, IfSome, IfNone};
 ghost use Rattle.kt_spacetime.specs.declared.event.Event.{Event};
 ghost use Rattle.kt_cuts.specs.Past.{Past, past};
+ghost use Rattle.kt_cuts.specs.Legal.{IsLegal};
 ghost use Rattle.kt_cuts.specs.HistoriesOf.{HistoriesOf};
-ghost use Rattle.kt_checker.specs.Passing.{IsListOf, IsChain, ListsReady, decided_cut};
+ghost use Rattle.kt_checker.specs.Passing.{IsListOf, HasLists, IsChain, ListsReady, decided_cut};
 
 use kt_base::{Kind, MsgNo, ProcNo};
 use kt_chain::{Certificate, Chain};
@@ -12,8 +13,8 @@ use kt_cuts::{Cut, Histories};
 
 /// Whether each member's list is a chain for it.
 pub(crate) fn has_chains(histories: &Histories, certificate: &Certificate) -> bool
-    ensures { (rows : List Event) (i p : ℕ) (chain : List ℕ) → HistoriesOf histories.now rows → IsTrue result → slice_get certificate.now.members i ≡ Some (p, chain) →
-        IsListOf (past rows) certificate.now.inst certificate.now.kind certificate.now.initiator p chain }
+    ensures lists { (rows : List Event) → HistoriesOf histories.now rows → IsTrue result → HasLists (past rows) certificate.now }
+    ensures exact { (rows : List Event) → HistoriesOf histories.now rows → IsLegal rows → IsTrue result ↔ HasLists (past rows) certificate.now }
 {
     for (process, chain) in certificate.members.list() {
         if !is_chain(histories, certificate, *process, chain) {
@@ -30,8 +31,10 @@ fn is_chain(
     process: ProcNo,
     chain: &Chain,
 ) -> bool
-    ensures { (rows : List Event) → HistoriesOf histories.now rows → IsTrue result →
+    ensures lists { (rows : List Event) → HistoriesOf histories.now rows → IsTrue result →
         IsListOf (past rows) certificate.now.inst certificate.now.kind certificate.now.initiator process chain.now }
+    ensures exact { (rows : List Event) → HistoriesOf histories.now rows → IsLegal rows →
+        IsTrue result ↔ IsListOf (past rows) certificate.now.inst certificate.now.kind certificate.now.initiator process chain.now }
 {
     if process == certificate.initiator {
         return chain.messages().is_empty();
@@ -53,7 +56,8 @@ fn next_in_chain(
     at: ProcNo,
     msg: MsgNo,
 ) -> Option<ProcNo>
-    ensures { IfSome result (λ next. (rows : List Event) → HistoriesOf histories.now rows → IsChain (past rows) certificate.now.inst certificate.now.kind at (msg ∷ []) next) }
+    ensures found { IfSome result (λ next. (rows : List Event) → HistoriesOf histories.now rows → IsChain (past rows) certificate.now.inst certificate.now.kind at (msg ∷ []) next) }
+    ensures none { IfNone result ((rows : List Event) (next : ℕ) → HistoriesOf histories.now rows → IsLegal rows → IsChain (past rows) certificate.now.inst certificate.now.kind at (msg ∷ []) next → ⊥) }
 {
     let Some(trace) = histories.trace(msg) else {
         return None;
@@ -72,11 +76,13 @@ fn next_in_chain(
             let Some(position) = histories.position(certificate.inst, at) else {
                 return None;
             };
-            if trace.to == at && received <= position {
-                Some(trace.from)
-            } else {
-                None
+            if trace.to != at {
+                return None;
             }
+            if received > position {
+                return None;
+            }
+            Some(trace.from)
         }
         Kind::Rollback => {
             if trace.from == at {

@@ -1,6 +1,6 @@
 //! The checker's order.
 
-ghost use Rattle.std.specs.Prelude.{◌≡◌, ℕ, ◌≤◌, ◌<◌, ◌+◌, ◌↔◌, ◌⊎◌, not, Bool, true, Some, None, length, map, take, slice_get, IfOk, IsTrue};
+ghost use Rattle.std.specs.Prelude.{◌≡◌, ℕ, ◌≤◌, ◌<◌, ◌+◌, ◌↔◌, ◌⊎◌, not, Bool, true, false, Some, None, [], length, map, take, slice_get, List, IfOk, IsTrue, IfSome};
 ghost use Rattle.kt_cuts.specs.Past.{past, is_checkpoint, is_rollback};
 ghost use Rattle.kt_cuts.specs.Legal.{IsLegal};
 ghost use Rattle.kt_cuts.specs.Cuts.{IsConsistent, permanent_cut, present_cut};
@@ -9,11 +9,13 @@ ghost use Rattle.kt_spacetime.specs.declared.event.Event.TheVariants.{Decided};
 ghost use Rattle.kt_chain.specs.declared.certificate.Certificate.{Certificate};
 ghost use Rattle.kt_checker.specs.Unwilling.{has_unwilling};
 ghost use Rattle.kt_cuts.specs.Standing.{at_number};
-ghost use Rattle.kt_checker.specs.declared.verdict.Verdict.TheVariants.{Yes};
-ghost use Rattle.kt_checker.specs.declared.decisions.Instance.{Instance};
-ghost use Rattle.kt_checker.specs.declared.decisions.Decision.{Decision};
-ghost use Rattle.kt_checker.specs.Gathered.{Gathered};
-ghost use Rattle.kt_checker.specs.Passing.{Passes, IsPassed, IsShownBefore, ListsReadyOf};
+ghost use Rattle.kt_checker.specs.declared.verdict.Verdict.TheVariants.{Yes, No};
+ghost use Rattle.kt_checker.specs.declared.verdict.Why.{Why};
+ghost use Rattle.kt_checker.specs.Gathered.{Gathered, AreNumbered};
+ghost use Rattle.kt_checker.specs.Passing.{Passes, IsPassed, IsSecond, AreComplete, IsShownBefore, ListsReadyOf};
+ghost use Rattle.kt_checker.specs.Order.{IsAnswer, IsBadLog, IsUnknown, IsRefuted, IsWrong};
+ghost use Rattle.kt_checker.specs.Missing.{AnswersMissing};
+ghost use Rattle.kt_base.specs.Numbers.{IsInstNo};
 
 use crate::chains::{cut_of, has_chains};
 use crate::decisions::{Decision, Instance, Instances};
@@ -34,11 +36,14 @@ pub fn check(
     log: &SpaceTime,
     certificates: &[Certificate],
 ) -> Result<Verdict, Memory>
+    // The answer is the first fault in that order, and yes exactly where there is none.
+    ensures answer { IfOk result (λ verdict. IsAnswer log.now.rows certificates.now verdict) }
+    ensures yes { IfOk result (λ verdict. (verdict ≡ Yes) ↔ IsPassed log.now.rows certificates.now) }
+
     // A yes knows that the log is legal, that each certificate passes, and that each decided instance has one.
     ensures legal { IfOk result (λ verdict. verdict ≡ Yes → IsLegal log.now.rows) }
     ensures passes { IfOk result (λ verdict. verdict ≡ Yes → (i : ℕ) (certificate : Certificate) → slice_get certificates.now i ≡ Some certificate → Passes log.now.rows certificate) }
-    ensures complete { IfOk result (λ verdict. verdict ≡ Yes → (n p k : ℕ) (commit : Bool) → slice_get log.now.rows n ≡ Some (Decided p k commit) →
-        (i : ℕ) × (certificate : Certificate) × (slice_get certificates.now i ≡ Some certificate) × (certificate.inst ≡ k)) }
+    ensures complete { IfOk result (λ verdict. verdict ≡ Yes → AreComplete log.now.rows certificates.now) }
 
     // So it means that each committed instance took the least set,
     ensures checkpoints { IfOk result (λ verdict. verdict ≡ Yes → (n p k : ℕ) → slice_get log.now.rows n ≡ Some (Decided p k true) →
@@ -59,7 +64,7 @@ pub fn check(
 
 // The first fault in that order, or yes.
 fn judged(alloc: Global, log: &SpaceTime, certificates: &[Certificate]) -> Result<Verdict, Memory>
-    ensures { IfOk result (λ verdict. verdict ≡ Yes → IsPassed log.now.rows certificates.now) }
+    ensures { IfOk result (λ verdict. IsAnswer log.now.rows certificates.now verdict) }
 {
     if let Some(verdict) = illegal(alloc, log)? {
         return Ok(verdict);
@@ -79,7 +84,7 @@ fn judged(alloc: Global, log: &SpaceTime, certificates: &[Certificate]) -> Resul
 // The answer to a log that is not legal.
 fn illegal(alloc: Global, log: &SpaceTime) -> Result<Option<Verdict>, Memory>
     ensures legal { IfOk result (λ verdict. verdict ≡ None → IsLegal log.now.rows) }
-    ensures no { IfOk result (λ verdict. verdict ≡ Some Yes → ⊥) }
+    ensures bad { IfOk result (λ verdict. IfSome verdict (λ v. IsBadLog log.now.rows v)) }
 {
     let Err(fault) = legal(alloc, log) else {
         return Ok(None);
@@ -92,17 +97,26 @@ fn illegal(alloc: Global, log: &SpaceTime) -> Result<Option<Verdict>, Memory>
 
 // The answer where every certificate passed.
 fn missing(instances: &Instances, seen: &[bool]) -> Verdict
-    requires { length seen.now ≡ length instances.now.list.items }
-    ensures { result ≡ Yes → (k : ℕ) (v : Instance) (d : Decision) → slice_get instances.now.list.items k ≡ Some v → v.decision ≡ Some d → slice_get seen.now k ≡ Some true }
+    requires many { length seen.now ≡ length instances.now.list.items }
+    requires numbers { AreNumbered instances.now.list.items }
+    ensures { AnswersMissing instances.now.list.items seen.now result }
 {
     match instances.first_missing(seen) {
-        Some((inst, row)) => no(Some(inst), Some(row), Why::Missing),
+        Some(found) => no(instance_no(found.0), Some(found.1), Why::Missing),
         None => Verdict::Yes,
     }
 }
 
+// The number of the instance at an index.
+fn instance_no(index: usize) -> Option<InstNo>
+    requires { IsInstNo (index + 1) }
+    ensures { result ≡ Some (index + 1) }
+{
+    InstNo::new((index + 1) as u16)
+}
+
 fn no(inst: Option<InstNo>, row: Option<RowNo>, why: Why) -> Verdict
-    ensures { result ≡ Yes → ⊥ }
+    ensures { result ≡ No inst row why }
 {
     Verdict::No { inst, row, why }
 }
@@ -117,7 +131,9 @@ fn is_marked(seen: &[bool], inst: InstNo) -> bool
 
 // Notes that a certificate of an instance was seen.
 fn mark(seen: &mut [bool], inst: InstNo)
-    ensures { (k : ℕ) → slice_get seen.new k ≡ Some true → (slice_get seen.old k ≡ Some true) ⊎ (inst ≡ k + 1) }
+    ensures marked { (k : ℕ) → slice_get seen.new k ≡ Some true → (slice_get seen.old k ≡ Some true) ⊎ (inst ≡ k + 1) }
+    ensures kept { (k : ℕ) → slice_get seen.old k ≡ Some true → slice_get seen.new k ≡ Some true }
+    ensures marks { inst ≤ length seen.old → at_number seen.new inst ≡ Some true }
 {
     let index = inst.get() as usize - 1;
     if index < seen.len() {
@@ -136,7 +152,10 @@ fn refuted(
     requires legal { IsLegal log.now.rows }
     requires gathered { Gathered instances.now.list.items log.now.rows }
     ensures passes { IfOk result (λ verdict. verdict ≡ None → Passes log.now.rows certificate.now) }
-    ensures no { IfOk result (λ verdict. verdict ≡ Some Yes → ⊥) }
+    ensures listed { IfOk result (λ verdict. verdict ≡ None → certificate.now.inst ≤ length instances.now.list.items) }
+    ensures fresh { IfOk result (λ verdict. verdict ≡ None → IsTrue is_seen → ⊥) }
+    ensures refused { IfOk result (λ verdict. IfSome verdict (λ v. (certificates : List Certificate) (i : ℕ) → (IsTrue is_seen ↔ IsSecond certificates i certificate.now)
+        → IsUnknown log.now.rows certificates i certificate.now v ⊎ IsRefuted log.now.rows certificates i certificate.now v)) }
 {
     let inst = certificate.inst;
     let Some(instance) = instances.get(inst) else {
@@ -145,7 +164,10 @@ fn refuted(
     let Some(decision) = instance.decision else {
         return Ok(Some(no(Some(inst), None, Why::Unknown)));
     };
-    if is_seen || !is_as_certified(instance, &decision, certificate) {
+    if is_seen {
+        return Ok(Some(no(Some(inst), None, Why::Unknown)));
+    }
+    if !is_as_certified(instance, &decision, certificate) {
         return Ok(Some(no(Some(inst), None, Why::Unknown)));
     }
     match fault_in(alloc, log, instance, &decision, certificate)? {
@@ -159,6 +181,9 @@ fn is_as_certified(instance: &Instance, decision: &Decision, certificate: &Certi
     ensures kind { IsTrue result → instance.now.kind ≡ certificate.now.kind }
     ensures initiator { IsTrue result → instance.now.initiator ≡ certificate.now.initiator }
     ensures verdict { IsTrue result → decision.now.commit ≡ certificate.now.commit }
+    ensures no_members { IsTrue result → certificate.now.commit ≡ false → certificate.now.members ≡ [] }
+    ensures all { instance.now.kind ≡ certificate.now.kind → instance.now.initiator ≡ certificate.now.initiator → decision.now.commit ≡ certificate.now.commit
+        → (certificate.now.commit ≡ false → certificate.now.members ≡ []) → IsTrue result }
 {
     instance.kind == certificate.kind
         && instance.initiator == certificate.initiator
@@ -178,6 +203,8 @@ fn fault_in(
     ensures cause { IfOk result (λ why. why ≡ None → instance.now.refused ≡ not decision.now.commit) }
     ensures shown { IfOk result (λ why. (n : ℕ) → why ≡ None → decision.now.commit ≡ true → decision.now.row ≡ n + 1 → n ≤ length log.now.rows →
         ListsReadyOf (past (take n log.now.rows)) certificate.now instance.now.members.items → IsShownBefore (past (take n log.now.rows)) certificate.now instance.now.members.items) }
+    ensures wrong { IfOk result (λ answer. (why : Why) (n : ℕ) → answer ≡ Some why → decision.now.commit ≡ certificate.now.commit → decision.now.row ≡ n + 1 → n ≤ length log.now.rows →
+        ListsReadyOf (past (take n log.now.rows)) certificate.now instance.now.members.items → IsWrong (past (take n log.now.rows)) instance.now.members.items instance.now.refused certificate.now why) }
 {
     if decision.commit == instance.refused {
         return Ok(Some(Why::Cause));
@@ -205,7 +232,7 @@ fn fault_in(
 
 // Whether a certificate lists the members in the order in which they joined.
 fn lists_members(instance: &Instance, certificate: &Certificate) -> bool
-    ensures { IsTrue result → map (λ m. m.0) certificate.now.members ≡ instance.now.members.items }
+    ensures { IsTrue result ↔ (map (λ m. m.0) certificate.now.members ≡ instance.now.members.items) }
 {
     let listed = certificate.members.list();
     if listed.len() != instance.members.len() {

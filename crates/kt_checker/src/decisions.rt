@@ -1,14 +1,14 @@
 //! What a log says of each instance: how it began, who joined, how it was decided.
 
-ghost use Rattle.std.specs.Prelude.{◌≡◌, ◌<◌, ◌+◌, ◌^◌, ◌++◌, ◌∷◌, [], ℕ, true, Some, List, length, slice_get, IfOk, IfNone, OnOk};
+ghost use Rattle.std.specs.Prelude.{◌≡◌, ◌<◌, ◌+◌, ◌^◌, ◌++◌, ◌∷◌, [], ℕ, List, Some, length, IfOk, IfNone, IfSome, IsTrue, OnOk};
 ghost use Rattle.std.specs.Option.{option_copied};
 ghost use Rattle.kt_spacetime.specs.declared.event.Event.{Event};
 ghost use Rattle.kt_spacetime.specs.declared.event.Event.TheVariants as event;
 ghost use Rattle.kt_base.specs.declared.words.Cause.{Cause};
 ghost use Rattle.kt_cuts.specs.Legal.{IsLegal};
-ghost use Rattle.kt_checker.specs.declared.decisions.Instance.{Instance};
 ghost use Rattle.kt_checker.specs.declared.decisions.Decision.{Decision};
-ghost use Rattle.kt_checker.specs.Gathered.{Gathered};
+ghost use Rattle.kt_checker.specs.Gathered.{Gathered, AreNumbered};
+ghost use Rattle.kt_checker.specs.Missing.{AreSeenBefore, IsUnseen};
 ghost use Rattle.kt_cuts.specs.Standing.{at_number};
 
 use kt_base::{InstNo, Kind, Memory, ProcNo, RowNo};
@@ -25,7 +25,6 @@ pub(crate) struct Decision {
 /// What a log says of an instance.
 #[derive(Drop)]
 pub(crate) struct Instance {
-    pub(crate) inst: InstNo,
     pub(crate) kind: Kind,
     pub(crate) initiator: ProcNo,
     pub(crate) decision: Option<Decision>,
@@ -46,7 +45,8 @@ impl Instances {
     /// The instances of a log.
     pub(crate) fn of(alloc: Global, log: &SpaceTime) -> Result<Instances, Memory>
         requires { IsLegal log.now.rows }
-        ensures { IfOk result (λ instances. Gathered instances.list.items log.now.rows) }
+        ensures gathered { IfOk result (λ instances. Gathered instances.list.items log.now.rows) }
+        ensures numbers { IfOk result (λ instances. AreNumbered instances.list.items) }
     {
         let mut instances = Instances {
             alloc,
@@ -67,17 +67,15 @@ impl Instances {
         self.list.get(inst.get() as usize - 1)
     }
 
-    /// The least decided instance that no certificate was seen of, with its decided row.
-    pub(crate) fn first_missing(&self, seen: &[bool]) -> Option<(InstNo, RowNo)>
+    /// The index of the first decided instance that no certificate was seen of, with its decided row.
+    pub(crate) fn first_missing(&self, seen: &[bool]) -> Option<(usize, RowNo)>
         requires { length seen.now ≡ length self.now.list.items }
-        ensures { IfNone result ((k : ℕ) (v : Instance) (d : Decision) → slice_get self.now.list.items k ≡ Some v → v.decision ≡ Some d → slice_get seen.now k ≡ Some true) }
+        ensures none { IfNone result (AreSeenBefore self.now.list.items seen.now (length self.now.list.items)) }
+        ensures missing { IfSome result (λ found. IsUnseen self.now.list.items seen.now found.0 found.1) }
     {
         for index in 0..self.list.len() {
-            let instance = &self.list[index];
-            if let Some(decision) = instance.decision
-                && !seen[index]
-            {
-                return Some((instance.inst, decision.row));
+            if let Some(row) = lacking(&self.list[index], seen[index]) {
+                return Some((index, row));
             }
         }
         None
@@ -94,7 +92,7 @@ impl Instances {
         ensures { OnOk result ((rows : List Event) → Gathered self.old.list.items rows → number ≡ length rows + 1 → IsLegal (rows ++ row.now ∷ []) → Gathered self.new.list.items (rows ++ row.now ∷ [])) }
     {
         match *row {
-            Event::Began { p, inst, kind } => self.begin(p, inst, kind),
+            Event::Began { p, kind, .. } => self.begin(p, kind),
             Event::Took { p, inst } => join(&mut self.list, p, inst),
             Event::Ready { p, inst } => join(&mut self.list, p, inst),
             Event::Unwilling { inst, .. } => {
@@ -114,11 +112,10 @@ impl Instances {
         }
     }
 
-    fn begin(&mut self, initiator: ProcNo, inst: InstNo, kind: Kind) -> Result<(), Memory>
-        ensures { OnOk result ((rows : List Event) → Gathered self.old.list.items rows → Gathered self.new.list.items (rows ++ event.Began initiator inst kind ∷ [])) }
+    fn begin(&mut self, initiator: ProcNo, kind: Kind) -> Result<(), Memory>
+        ensures { OnOk result ((rows : List Event) (inst : ℕ) → Gathered self.old.list.items rows → Gathered self.new.list.items (rows ++ event.Began initiator inst kind ∷ [])) }
     {
         self.list.push(Instance {
-            inst,
             kind,
             initiator,
             decision: None,
@@ -127,6 +124,21 @@ impl Instances {
         })?;
         Ok(())
     }
+}
+
+// The decided row of an instance that no certificate was seen of.
+fn lacking(instance: &Instance, is_seen: bool) -> Option<RowNo>
+    ensures none { IfNone result ((d : Decision) → instance.now.decision ≡ Some d → IsTrue is_seen) }
+    ensures decided { IfSome result (λ row. (d : Decision) × (instance.now.decision ≡ Some d) × (d.row ≡ row)) }
+    ensures unseen { IfSome result (λ row. IsTrue is_seen → ⊥) }
+{
+    let Some(decision) = instance.decision else {
+        return None;
+    };
+    if is_seen {
+        return None;
+    }
+    Some(decision.row)
 }
 
 fn join(list: &mut [Instance], p: ProcNo, inst: InstNo) -> Result<(), Memory>

@@ -1,37 +1,54 @@
-use Rattle.std.proofs.Common.{◌≡◌, Some, length, refl, sym, ap, subst, ◌∙◌, arith, inl, inr}
-use Rattle.std.proofs.lemmas.Bool.{cases_eq}
-use Rattle.std.proofs.lemmas.Option.{slice_get_read, slice_get_within}
+use Rattle.std.proofs.Common.{◌≡◌, ◌+◌, Some, length, refl, sym, ap, subst, ◌∙◌, arith, inl, inr}
+use Rattle.std.proofs.lemmas.Option.{slice_get_read}
 use Rattle.std.specs.List.{slice_get}
 use Rattle.kt_cuts.proofs.Items.{written}
-use Rattle.kt_cuts.proofs.SortedFacts.{some_same}
-use Rattle.kt_checker.specs.Passing.{Passes}
-use Rattle.kt_checker.proofs.Sound.{passed}
+use Rattle.kt_checker.specs.Missing.{AnswersMissing}
+use Rattle.kt_checker.proofs.Marking.{IsMarkedBy, HasMarked, marked_next, marks_next, marked_all, marks_all, seen_second}
+use Rattle.kt_checker.proofs.Answering.{pass_next, pass_all, answer_of}
 use Rattle.kt_checker.proofs.checking.judged.Goals as goal
 
 pub loop-certificate-preserved : goal.loop-certificate-preserved
 loop-certificate-preserved c =
     let items = c.args.certificates.now in
     let index = c.loop-certificate.certificate-index in
-    let at : slice_get items index ≡ Some c.certificate-item.result = slice_get_read items (length items) index c.certificate-item.result refl c.loop-certificate-test.true c.certificate-item.is in
-    let value : c.deref_mut.result.now ≡ c.loop-certificate.seen.items = c.deref_mut.ensures.value in
-    let long : length c.mark.new.seen ≡ length c.loop-certificate.seen.items = c.mark.auto.seen ∙ ap length value in
+    let inv = c.loop-certificate.invariant in
+    let item = c.certificate-item.result in
+    let at : slice_get items index ≡ Some item = slice_get_read items (length items) index item refl c.loop-certificate-test.true c.certificate-item.is in
+    let old = c.loop-certificate.seen.items in
+    let value : c.deref_mut.result.now ≡ old = c.deref_mut.ensures.value in
+    let long : length c.mark.new.seen ≡ length old = c.mark.auto.seen ∙ ap length value in
     let seen_len : length c.mark.new.seen ≡ c.loop-certificate.seen.len = long ∙ sym c.loop-certificate.seen.ok.0 in
-    let whole = written c.loop-certificate.seen.len c.mark.new.seen c.loop-certificate.seen.items seen_len in
+    let whole = written c.loop-certificate.seen.len c.mark.new.seen old seen_len in
+    let marked = subst (λ s. IsMarkedBy s items index) (sym value) inv.marked in
+    let marks = subst (λ s. HasMarked s items index) (sym value) inv.marks in
     record {
-      many = ap length whole ∙ (long ∙ c.loop-certificate.invariant.many);
-      passes = λ i v low e. elim (cases_eq i index) [
-        | inl same ↦ subst (Passes c.args.log.now.rows) (some_same (sym at ∙ (ap (slice_get items) (sym same) ∙ e))) (c.in_ok-verdict-2.ensures.passes c.in_default-2.is)
-        | inr other ↦ c.loop-certificate.invariant.passes i v (omega (arith, low, other)) e
-      ];
-      marked = λ k e. elim (c.mark.ensures k (sym (ap (λ t. slice_get t k) whole) ∙ e)) [
-        | inl old ↦
-            let found = c.loop-certificate.invariant.marked k (sym (ap (λ t. slice_get t k) value) ∙ old) in
-            (found.0, found.1, omega (arith, found.2), found.3, found.4)
-        | inr new ↦ (index, c.certificate-item.result, omega (arith), at, new)
-      ];
+      many = ap length whole ∙ (long ∙ inv.many);
+      passed = pass_next c.args.log.now.rows items index item at inv.passed (c.in_ok-verdict-2.ensures.passes c.in_default-2.is)
+          (λ second. c.in_ok-verdict-2.ensures.fresh c.in_default-2.is
+          ((seen_second c.deref.result.now items index item c.is_marked-is_seen.result (subst (λ s. IsMarkedBy s items index) (sym c.deref.ensures.value) inv.marked) (subst (λ s. HasMarked s items index) (sym c.deref.ensures.value) inv.marks) c.is_marked-is_seen.ensures).1 second));
+      marked = subst (λ s. IsMarkedBy s items (index + 1)) (sym whole) (marked_next c.deref_mut.result.now c.mark.new.seen items index item at marked c.mark.ensures.marked);
+      marks = subst (λ s. HasMarked s items (index + 1)) (sym whole) (marks_next c.deref_mut.result.now c.mark.new.seen items index item at marks c.mark.ensures.kept
+          (c.mark.ensures.marks (omega (arith, c.in_ok-verdict-2.ensures.listed c.in_default-2.is, inv.many, ap length value))));
     }
 
 pub returns : goal.returns
-returns c = λ e.
-    passed c.in_ok-instances.instances.list.items c.args.log.now.rows c.args.certificates.now c.loop-certificate.seen.items c.loop-certificate.certificate-index
-    (c.in_ok-verdict.ensures.legal c.in_default.is) c.in_ok-instances.ensures c.loop-certificate.invariant.passes c.loop-certificate.invariant.marked (λ i v at. omega (arith, slice_get_within c.args.certificates.now i v at, c.loop-certificate-test.false)) (λ k v d there decided. sym (ap (λ t. slice_get t k) c.deref-2.ensures.value) ∙ c.missing.ensures e k v d there decided)
+returns c =
+    let certificates = c.args.certificates.now in
+    let list = c.in_ok-instances.instances.list.items in
+    let seen = c.loop-certificate.seen.items in
+    let inv = c.loop-certificate.invariant in
+    answer_of list c.args.log.now.rows certificates seen c.missing.result (c.in_ok-verdict.ensures.legal c.in_default.is) c.in_ok-instances.ensures.gathered
+    (pass_all c.args.log.now.rows certificates c.loop-certificate.certificate-index c.loop-certificate-test.false inv.passed)
+    (marked_all seen certificates c.loop-certificate.certificate-index inv.marked)
+    (marks_all seen certificates c.loop-certificate.certificate-index c.loop-certificate-test.false inv.marks)
+    (subst (λ s. AnswersMissing list s c.missing.result) c.deref-2.ensures.value c.missing.ensures)
+
+pub returns-in-Some-2 : goal.returns-in-Some-2
+returns-in-Some-2 c =
+    let items = c.args.certificates.now in
+    let index = c.loop-certificate.certificate-index in
+    let inv = c.loop-certificate.invariant in
+    let item = c.certificate-item.result in
+    let at : slice_get items index ≡ Some item = slice_get_read items (length items) index item refl c.loop-certificate-test.true c.certificate-item.is in
+    let second = seen_second c.deref.result.now items index item c.is_marked-is_seen.result (subst (λ s. IsMarkedBy s items index) (sym c.deref.ensures.value) inv.marked) (subst (λ s. HasMarked s items index) (sym c.deref.ensures.value) inv.marks) c.is_marked-is_seen.ensures in
+    inr (inr (c.in_ok-verdict.ensures.legal c.in_default.is, inl (index, item, at, inv.passed, (rw c.in-Some-2.is at c.in_ok-verdict-2.ensures.refused) items index second)))

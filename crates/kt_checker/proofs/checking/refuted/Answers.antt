@@ -1,6 +1,9 @@
-use Rattle.std.proofs.Common.{sym, ap, ◌∙◌}
+use Rattle.std.proofs.Common.{sym, ap, ◌∙◌, inl, inr}
 use Rattle.std.specs.Option.{option_copied}
+use Rattle.kt_checker.proofs.Chaining.{never}
 use Rattle.kt_checker.proofs.Sound.{passes_of}
+use Rattle.kt_checker.proofs.Marking.{number_within}
+use Rattle.kt_checker.proofs.Answering.{gathered_as, refuted_of}
 use Rattle.kt_checker.proofs.checking.refuted.Goals as goal
 
 pub returns-in-None-clause-passes : goal.returns-in-None-clause-passes
@@ -9,4 +12,28 @@ returns-in-None-clause-passes c = λ e.
     let tests = c.is_as_certified.ensures in
     let passed = c.if-not-is_as_certified.false in
     passes_of _ c.args.log.now.rows c.args.certificate.now c.in-Some.instance.now c.in-Some-decision.decision c.requires.legal c.requires.gathered there c.in-Some-decision.is
-    (tests.kind passed) (tests.initiator passed) (tests.verdict passed) (c.in_ok-why.ensures.cause c.in-None.is) (λ n. c.in_ok-why.ensures.shown n c.in-None.is)
+    (tests.kind passed) (tests.initiator passed) (tests.verdict passed) (tests.no_members passed) (c.in_ok-why.ensures.cause c.in-None.is) (λ n. c.in_ok-why.ensures.shown n c.in-None.is)
+
+pub returns-in-None-clause-listed : goal.returns-in-None-clause-listed
+returns-in-None-clause-listed c = λ e.
+    let there = sym c.get.ensures ∙ ap option_copied c.in-Some.is in
+    number_within c.args.instances.now.list.items c.args.certificate.now.inst c.in-Some.instance.now there
+
+pub returns-then-not-is_as_certified-clause-refused : goal.returns-then-not-is_as_certified-clause-refused
+returns-then-not-is_as_certified-clause-refused c = λ certificates i second. inl (
+  c.no-then-not-is_as_certified.ensures,
+  λ n stated first.
+      let certificate = c.args.certificate.now in
+      let there = sym c.get.ensures ∙ ap option_copied c.in-Some.is in
+      let same = gathered_as c.args.instances.now.list.items c.args.log.now.rows certificate n c.in-Some.instance.now c.in-Some-decision.decision c.requires.legal c.requires.gathered there c.in-Some-decision.is stated in
+      never (sym c.if-not-is_as_certified.true ∙ c.is_as_certified.ensures.all same.0 same.1 same.2 stated.no_members),
+)
+
+pub returns-in-Some-2-clause-refused : goal.returns-in-Some-2-clause-refused
+returns-in-Some-2-clause-refused c = λ certificates i second.
+    let there = sym c.get.ensures ∙ ap option_copied c.in-Some.is in
+    let tests = c.is_as_certified.ensures in
+    let passed = c.if-not-is_as_certified.false in
+    inr (refuted_of c.args.instances.now.list.items c.args.log.now.rows certificates i c.args.certificate.now c.in-Some.instance.now c.in-Some-decision.decision _ c.in-Some-2.why c.requires.legal c.requires.gathered there c.in-Some-decision.is
+    (tests.kind passed) (tests.initiator passed) (tests.verdict passed) (tests.no_members passed) (λ earlier. never (sym c.if-is_seen.false ∙ second.1 earlier)) c.no-in-Some-2.ensures
+    (λ n. c.in_ok-why.ensures.wrong c.in-Some-2.why n c.in-Some-2.is (tests.verdict passed)))

@@ -1,8 +1,11 @@
 use Rattle.std.proofs.Common.{◌≡◌, ◌+◌, length, take, refl, sym, subst, arith, length-take}
+use Rattle.std.proofs.lemmas.List.{take_all}
 use Rattle.kt_cuts.specs.Legal.{IsLegal}
 use Rattle.kt_cuts.proofs.Items.{take_item}
 use Rattle.kt_cuts.proofs.LegalLogs.{legal_take}
 use Rattle.kt_cuts.proofs.Replayed.{row_read}
+use Rattle.kt_checker.specs.Gathered.{Gathered}
+use Rattle.kt_checker.proofs.Marking.{numbered}
 use Rattle.kt_checker.proofs.decisions.Instances.of.Goals as goal
 
 pub loop-row-preserved : goal.loop-row-preserved
@@ -18,3 +21,9 @@ loop-row-preserved c =
       count = omega (arith, c.loop-row.invariant.count);
       gathered = rw more (c.in_ok-add.ensures (take i rows) c.loop-row.invariant.gathered number (subst IsLegal more (legal_take (i + 1) rows whole)));
     }
+
+pub returns-clause-numbers : goal.returns-clause-numbers
+returns-clause-numbers c =
+    let rows = c.rows-row-items.result.now in
+    let whole = take_all c.loop-row.row-index rows c.loop-row-test.false in
+    numbered c.loop-row.instances.list.items rows (subst (Gathered c.loop-row.instances.list.items) whole c.loop-row.invariant.gathered) c.rows-row-items.ensures.in_range

@@ -1,0 +1,196 @@
+-- Why an answer is the first fault in the checker's order.
+use Rattle.std.proofs.Common.{◌≡◌, ℕ, suc, ◌+◌, ◌<◌, ◌≤◌, not, Bool, true, false, Option, Some, None, option_map, List, [], length, take, refl, sym, ap, ◌∙◌, subst, arith, inl, inr}
+use Rattle.std.specs.List.{slice_get}
+use mathlib.Core.Bool.{beq}
+use Rattle.std.proofs.lemmas.Bool.{cases_eq}
+use Rattle.std.proofs.lemmas.Option.{slice_get_within}
+use Rattle.kt_spacetime.specs.declared.event.Event.{Event}
+use Rattle.kt_spacetime.specs.declared.event.Event.TheVariants as event
+use Rattle.kt_cuts.specs.declared.rules.Rule.{Rule}
+use Rattle.kt_cuts.specs.Past.{Past, Beginning, past, start}
+use Rattle.kt_cuts.specs.Legal.{IsLegal, first_broken}
+use Rattle.kt_cuts.specs.Cuts.{IsConsistent, IsOrphan}
+use Rattle.kt_cuts.specs.Chains.{members}
+use Rattle.kt_cuts.specs.Standing.{at_number}
+use Rattle.kt_cuts.proofs.SortedFacts.{some_same}
+use Rattle.kt_cuts.proofs.LegalLogs.{legal_unbroken}
+use Rattle.kt_cuts.proofs.Consistency.{no_orphan}
+use Rattle.kt_chain.specs.declared.certificate.Certificate.{Certificate}
+use Rattle.kt_checker.specs.declared.decisions.Instance.{Instance}
+use Rattle.kt_checker.specs.declared.decisions.Decision.{Decision}
+use Rattle.kt_checker.specs.declared.verdict.Verdict.{Verdict}
+use Rattle.kt_checker.specs.declared.verdict.Verdict.TheVariants.{Yes, No}
+use Rattle.kt_checker.specs.declared.verdict.Why.{Why}
+use Rattle.kt_checker.specs.declared.verdict.Why.TheVariants as why
+use Rattle.kt_checker.specs.Unwilling.{has_unwilling}
+use Rattle.kt_checker.specs.Gathered.{Gathered, IsDecision, members_gathered, refused_gathered, decision_gathered}
+use Rattle.kt_checker.specs.Passing.{Passes, IsPassed, IsAsInLog, IsSecond, PassBefore, IsShownBefore, ListsReadyOf}
+use Rattle.kt_checker.specs.Order.{IsWrong, IsRefuted, IsMissing, IsAnswer}
+use Rattle.kt_checker.specs.Missing.{AreSeenBefore, AnswersMissing}
+use Rattle.kt_checker.proofs.Chaining.{consistent_of}
+use Rattle.kt_checker.proofs.Deciding.{decided_once}
+use Rattle.kt_checker.proofs.Sound.{beginning_then, as_in_log, ready_in_joined, within}
+use Rattle.kt_checker.proofs.Marking.{IsMarkedBy, HasMarked, decided_row, certificate_of}
+
+-- no row decides an instance of which no decision was gathered
+pub never_decided : (list : List Instance) (rows : List Event) (c : Certificate) (n : ℕ) → Gathered list rows → decision_gathered (at_number list c.inst) ≡ None → IsAsInLog rows c n → ⊥
+never_decided list rows c n h none stated =
+    let undecided : IsDecision rows c.inst None = subst (IsDecision rows c.inst) none (h.decision c.inst) in
+    undecided n stated.process c.commit stated.decided
+
+-- a certificate that is as the log has it says what was gathered
+pub gathered_as : (list : List Instance) (rows : List Event) (c : Certificate) (n : ℕ) (v : Instance) (d : Decision) → IsLegal rows → Gathered list rows → at_number list c.inst ≡ Some v → v.decision ≡ Some d → IsAsInLog rows c n
+    → (v.kind ≡ c.kind) × (v.initiator ≡ c.initiator) × (d.commit ≡ c.commit)
+gathered_as list rows c n v d l h there decided stated =
+    let began = beginning_then list rows n stated.process c.inst c.commit v l h there stated.decided in
+    let kind : v.kind ≡ c.kind = some_same (sym (ap (λ (o : Option Beginning). option_map (λ b. b.kind) o) began) ∙ stated.kind) in
+    let initiator : v.initiator ≡ c.initiator = some_same (sym (ap (λ (o : Option Beginning). option_map (λ b. b.initiator) o) began) ∙ stated.initiator) in
+    let found : IsDecision rows c.inst (Some d) = decided_row list rows c.inst v d h there decided in
+    let row = decided_once rows found.0 n found.1 stated.process c.inst d.commit c.commit l found.3 stated.decided in
+    let same : event.Decided found.1 c.inst d.commit ≡ event.Decided stated.process c.inst c.commit = some_same (sym found.3 ∙ (ap (slice_get rows) row ∙ stated.decided)) in
+    let commit : d.commit ≡ c.commit = cc in
+    (kind, initiator, commit)
+
+-- the answer to a certificate of a decided instance that is wrong
+pub refuted_of : (list : List Instance) (rows : List Event) (certificates : List Certificate) (i : ℕ) (c : Certificate) (v : Instance) (d : Decision) (verdict : Verdict) (reason : Why) → IsLegal rows → Gathered list rows
+    → at_number list c.inst ≡ Some v → v.decision ≡ Some d → v.kind ≡ c.kind → v.initiator ≡ c.initiator → d.commit ≡ c.commit → (c.commit ≡ false → c.members ≡ []) → (IsSecond certificates i c → ⊥)
+    → verdict ≡ No (Some c.inst) (Some d.row) reason
+    → ((n : ℕ) → d.row ≡ n + 1 → n ≤ length rows → ListsReadyOf (past (take n rows)) c v.members.items → IsWrong (past (take n rows)) v.members.items v.refused c reason)
+    → IsRefuted rows certificates i c verdict
+refuted_of list rows certificates i c v d verdict reason l h there decided kind initiator commit no_members first is wrong =
+    let found : IsDecision rows c.inst (Some d) = decided_row list rows c.inst v d h there decided in
+    let n : ℕ = found.0 in
+    let stated = as_in_log list rows c v d n found.1 l h there found.3 kind initiator commit no_members in
+    let listed : v.members.items ≡ members rows c.inst = ap members_gathered (sym there) ∙ h.members_listed c.inst in
+    let refused : v.refused ≡ has_unwilling rows c.inst = ap refused_gathered (sym there) ∙ h.refused c.inst in
+    let before = wrong n found.2 (within rows n _ found.3) (ready_in_joined list rows c v n found.1 d.commit l h there found.3 stated.kind) in (
+      n,
+      reason,
+      is ∙ ap (λ (x : ℕ). No (Some c.inst) (Some x) reason) found.2,
+      stated,
+      first,
+      subst (λ (b : Bool). IsWrong (past (take n rows)) (members rows c.inst) b c reason) refused (subst (λ (ms : List ℕ). IsWrong (past (take n rows)) ms v.refused c reason) listed before),
+    )
+
+pub refused_not : (a b : Bool) → beq a b ≡ false → b ≡ not a
+refused_not true true e = absurd (cc)
+refused_not true false e = refl
+refused_not false true e = refl
+refused_not false false e = absurd (cc)
+
+-- a cut with an orphan is not consistent
+pub orphan_refutes : (s : Past) (a b : ℕ → ℕ) (msg : ℕ) → ((p : ℕ) → p < 64 → a p ≡ b p) → ((p : ℕ) → 64 ≤ p → s.live p ≡ []) → IsOrphan s a msg → IsConsistent s b → ⊥
+orphan_refutes s a b msg same none orphan consistent =
+    let first : IsConsistent s a = consistent_of s b a (λ p low. sym (same p low)) none (λ m. no_orphan s b consistent m) in
+    no_orphan s a first msg orphan
+
+pub pass_next : (rows : List Event) (certificates : List Certificate) (n : ℕ) (c : Certificate) → slice_get certificates n ≡ Some c → PassBefore rows certificates n → Passes rows c → (IsSecond certificates n c → ⊥)
+    → PassBefore rows certificates (n + 1)
+pass_next rows certificates n c at before passes first i v low e = elim (cases_eq i n) [
+  | inl same ↦
+      let item : c ≡ v = some_same (sym at ∙ (ap (slice_get certificates) (sym same) ∙ e)) in
+      (subst (Passes rows) item passes, λ second. first (second.0, second.1, omega (arith, second.2, same), second.3, second.4 ∙ ap (λ (x : Certificate). x.inst) (sym item)))
+  | inr other ↦ before i v (omega (arith, low, other)) e
+]
+
+pub pass_all : (rows : List Event) (certificates : List Certificate) (n : ℕ) → length certificates ≤ n → PassBefore rows certificates n → PassBefore rows certificates (length certificates)
+pass_all rows certificates n long before i c low e = before i c (omega (arith, long, low)) e
+
+-- the answer where every certificate passed
+pub answer_of : (list : List Instance) (rows : List Event) (certificates : List Certificate) (seen : List Bool) (v : Verdict) → IsLegal rows → Gathered list rows → PassBefore rows certificates (length certificates)
+    → IsMarkedBy seen certificates (length certificates) → HasMarked seen certificates (length certificates) → AnswersMissing list seen v → IsAnswer rows certificates v
+answer_of list rows certificates seen v l h pass marked marks answers = elim answers [
+  | inl none ↦ inl (
+    none.0,
+    record {
+      legal = l;
+      pass = pass;
+      complete = λ n p k commit e. certificate_of list rows seen certificates (length certificates) (length list) h none.1 marked n p k commit (λ j w there same. slice_get_within list j w there) e;
+    },
+  )
+  | inr lacks ↦ inr (inr (l, inr (missing lacks.0 lacks.1 lacks.2 lacks.3.0 lacks.3.1 lacks.3.2 lacks.3.3 lacks.3.4 lacks.3.5 lacks.3.6)))
+]
+  where
+    missing : (k row : ℕ) → v ≡ No (Some (k + 1)) (Some row) why.Missing → (w : Instance) (d : Decision) → slice_get list k ≡ Some w → w.decision ≡ Some d → d.row ≡ row → (slice_get seen k ≡ Some true → ⊥) → AreSeenBefore list seen k
+        → IsMissing rows certificates v
+    missing k row is w d there decided number unseen before =
+        let found : IsDecision rows (suc k) (Some d) = decided_row list rows (suc k) w d h there decided in
+        let next : k + 1 ≡ suc k = omega arith in (
+          pass,
+          found.0,
+          found.1,
+          suc k,
+          d.commit,
+          is ∙ (λ i. No (Some (next i)) (Some ((sym number ∙ found.2) i)) why.Missing),
+          found.3,
+          λ other. unseen (subst (λ (n : ℕ). at_number seen n ≡ Some true) other.3 (marks other.0 other.1 (slice_get_within certificates other.0 other.1 other.2) other.2)),
+          λ m q j also low e. certificate_of list rows seen certificates (length certificates) k h before marked m q j also (λ i u at same. omega (arith, low, same)) e,
+        )
+
+-- a yes is answered where all has passed, and only there
+pub passed_of : (rows : List Event) (certificates : List Certificate) (v : Verdict) → IsAnswer rows certificates v → v ≡ Yes → IsPassed rows certificates
+passed_of rows certificates v answer is = elim answer [
+  | inl passed ↦ passed.1
+  | inr fault ↦ elim fault [
+    | inl bad ↦ absurd (no_is_no (sym is ∙ bad.2))
+    | inr rest ↦ elim rest.1 [
+      | inl refused ↦ elim refused.4 [
+        | inl unknown ↦ absurd (no_is_no (sym is ∙ unknown.0))
+        | inr refuted ↦ absurd (no_is_no (sym is ∙ refuted.2))
+      ]
+      | inr missing ↦ absurd (no_is_no (sym is ∙ missing.5))
+    ]
+  ]
+]
+  where
+    no_is_no : {inst row : Option ℕ} {reason : Why} → Yes ≡ No inst row reason → ⊥
+    no_is_no e = cc
+
+no_broken : (rows : List Event) (n : ℕ) (rule : Rule) → IsLegal rows → first_broken rows ≡ Some (n, rule) → ⊥
+no_broken rows n rule l e = never (sym (legal_unbroken start rows l) ∙ e)
+  where
+    never : (let none : Option (ℕ × Rule) = None in none) ≡ Some (n, rule) → ⊥
+    never h = cc
+
+not_both : (a b : Bool) → a ≡ b → a ≡ not b → ⊥
+not_both a true e f =
+    let never : true ≡ false = sym e ∙ f in
+    cc
+not_both a false e f =
+    let never : false ≡ true = sym e ∙ f in
+    cc
+
+-- what passes is not wrong
+not_wrong : (s : Past) (joined : List ℕ) (refused : Bool) (c : Certificate) (reason : Why) → IsWrong s joined refused c reason → refused ≡ not c.commit → (c.commit ≡ true → IsShownBefore s c joined) → ⊥
+not_wrong s joined refused c (why.BadLog rule) wrong cause shown = wrong
+not_wrong s joined refused c why.Unknown wrong cause shown = wrong
+not_wrong s joined refused c why.Missing wrong cause shown = wrong
+not_wrong s joined refused c why.Cause wrong cause shown = not_both refused c.commit wrong cause
+not_wrong s joined refused c why.Members wrong cause shown = wrong.2 (shown wrong.1).members
+not_wrong s joined refused c why.Chain wrong cause shown = wrong.3 (shown wrong.1).lists
+not_wrong s joined refused c why.Orphan wrong cause shown = wrong.4 (shown wrong.1).consistent
+
+pub yes_of : (rows : List Event) (certificates : List Certificate) (v : Verdict) → IsAnswer rows certificates v → IsPassed rows certificates → v ≡ Yes
+yes_of rows certificates v answer h = elim answer [
+  | inl passed ↦ passed.0
+  | inr fault ↦ elim fault [
+    | inl bad ↦ absurd (no_broken rows bad.0 bad.1 h.legal bad.3)
+    | inr rest ↦ elim rest.1 [
+      | inl refused ↦ elim refused.4 [
+        | inl unknown ↦
+            let is = h.pass refused.0 refused.1 (slice_get_within certificates refused.0 refused.1 refused.2) refused.2 in
+            absurd (unknown.1 is.0.row is.0.instance is.1)
+        | inr refuted ↦
+            let is = h.pass refused.0 refused.1 (slice_get_within certificates refused.0 refused.1 refused.2) refused.2 in
+            absurd (wrong_passes refused.1 refuted.0 refuted.1 is.0 refuted.3 refuted.5)
+      ]
+      | inr missing ↦ absurd (missing.7 (h.complete missing.1 missing.2 missing.3 missing.4 missing.6))
+    ]
+  ]
+]
+  where
+    wrong_passes : (c : Certificate) (n : ℕ) (reason : Why) → Passes rows c → IsAsInLog rows c n → IsWrong (past (take n rows)) (members rows c.inst) (has_unwilling rows c.inst) c reason → ⊥
+    wrong_passes c n reason passes stated wrong =
+        let row = decided_once rows passes.row n passes.instance.process stated.process c.inst c.commit c.commit h.legal passes.instance.decided stated.decided in
+        not_wrong (past (take n rows)) (members rows c.inst) (has_unwilling rows c.inst) c reason wrong passes.cause
+        (λ commit. subst (λ (m : ℕ). IsShownBefore (past (take m rows)) c (members rows c.inst)) row (passes.shown commit))

@@ -1,0 +1,178 @@
+-- Links of chains over a legal log: each message leads to one process.
+use Rattle.std.proofs.Common.{◌≡◌, ◌≢◌, ℕ, zero, suc, ◌+◌, ◌<◌, ◌≤◌, ◌==◌, not, unwrap_or, is_some, true, false, Option, Some, None, option_map, List, [], ◌∷◌, ◌++◌, take, drop, refl, sym, ap, ◌∙◌, subst, arith}
+use Rattle.std.specs.List.{slice_get}
+use Rattle.std.specs.Option.{option_flatten}
+use Rattle.std.proofs.lemmas.Bool.Decides.{nat_tests}
+use Rattle.kt_base.specs.declared.words.Kind.{Kind}
+use Rattle.kt_base.specs.declared.words.Kind.TheVariants.{Checkpoint, Rollback}
+use Rattle.kt_spacetime.specs.declared.event.Event.{Event}
+use Rattle.kt_cuts.specs.declared.deeds.Deed.{Deed}
+use Rattle.kt_cuts.specs.declared.deeds.Deed.TheVariants as deed
+use Rattle.kt_cuts.specs.declared.histories.Trace.{Trace}
+use Rattle.kt_cuts.specs.Past.{Past, past}
+use Rattle.kt_cuts.specs.Legal.{IsLegal}
+use Rattle.kt_cuts.specs.Chains.{LinksCheckpoint, LinksRollback}
+use Rattle.kt_cuts.specs.Standing.{parties_of_row}
+use Rattle.kt_cuts.specs.Traces.{place_of, trace_between, trace_of}
+use Rattle.kt_cuts.proofs.Items.{get_take, in_take}
+use Rattle.kt_cuts.proofs.SortedFacts.{some_same}
+use Rattle.kt_cuts.proofs.DeedFacts.{place_of_deed}
+use Rattle.kt_cuts.proofs.Places.{sent_places, received_places, deed_once, rowed}
+use Rattle.kt_cuts.proofs.Traced.{place_at}
+use Rattle.kt_checker.specs.Passing.{IsChain, IsListOf}
+
+-- what a trace says of a message that leads from a process of an instance to the next one
+abbrev pub Leads : Past → ℕ → Kind → ℕ → ℕ → Trace → ℕ → Type 0
+Leads s k Checkpoint at next t received = (t.to ≡ at) × (t.from ≡ next) × (position : ℕ) × (s.new k at ≡ Some position) × (received ≤ position)
+Leads s k Rollback at next t received = (t.from ≡ at) × (t.to ≡ next)
+
+-- a message that leads from a process to the next one, by its trace
+pub record Linked (rows : List Event) (k : ℕ) (kind : Kind) (at m next : ℕ) : Type 0 where
+  pub trace : Trace
+  pub traced : trace_of rows m ≡ Some trace
+  pub sent : ℕ
+  pub is_sent : trace.sent ≡ Some sent
+  pub late : (past rows).permanent trace.from < sent
+  pub received : ℕ
+  pub is_received : trace.received ≡ Some received
+  pub leads : Leads (past rows) k kind at next trace received
+
+get_after_drop : {X : Type 0} (n : ℕ) (l : List X) (i : ℕ) (x : X) → slice_get (drop n l) i ≡ Some x → slice_get l (n + i) ≡ Some x
+get_after_drop zero l i x e =
+    let same : 0 + i ≡ i = omega arith in
+    ap (slice_get l) same ∙ e
+get_after_drop (suc n) [] i x e = absurd (cc)
+get_after_drop (suc n) (y ∷ l) i x e =
+    let same : suc n + i ≡ suc (n + i) = omega arith in
+    ap (slice_get (y ∷ l)) same ∙ get_after_drop n l i x e
+
+placed : (rows : List Event) → IsLegal rows → (p i : ℕ) (d : Deed) → slice_get ((past rows).live p) i ≡ Some d → place_of d ((past rows).live p) ≡ Some (i + 1)
+placed rows l p i d e = place_at d ((past rows).live p) i e (λ j f. deed_once (past rows) (sent_places rows) (received_places rows l) p j i d f e)
+
+-- the trace of a message that is sent and received
+traced_at : (rows : List Event) → IsLegal rows → (p q m i j : ℕ) → slice_get ((past rows).live p) i ≡ Some (deed.Sent m q) → slice_get ((past rows).live q) j ≡ Some (deed.Received m p)
+    → trace_of rows m ≡ Some (record { from = p; to = q; sent = Some (i + 1); received = Some (j + 1) })
+traced_at rows l p q m i j e f =
+    let row = (rowed rows l).sent p i m q e in
+    let a = placed rows l p i (deed.Sent m q) e in
+    let b = placed rows l q j (deed.Received m p) f in
+    ap (λ (o : Option Event). trace_between (past rows) m (option_flatten (option_map parties_of_row o))) row.1 ∙ (λ x. Some (record { from = p; to = q; sent = a x; received = b x }))
+
+checkpoint_linked : (rows : List Event) (k at m next : ℕ) → IsLegal rows → LinksCheckpoint (past rows) k next at m → Linked rows k Checkpoint at m next
+checkpoint_linked rows k at m next l h =
+    let s = past rows in
+    let a = place_of_deed (deed.Sent m at) (drop (s.permanent next) (s.live next)) h.sent in
+    let sent = get_after_drop (s.permanent next) (s.live next) a.0 (deed.Sent m at) a.1 in
+    let new = is_new (s.new k at) h.member in
+    let b = place_of_deed (deed.Received m next) (take (unwrap_or (s.new k at) 0) (s.live at)) h.received in
+    let received = get_take (unwrap_or (s.new k at) 0) (s.live at) b.0 (deed.Received m next) b.1 in
+    let within = in_take (unwrap_or (s.new k at) 0) (s.live at) b.0 (deed.Received m next) b.1 in
+    record {
+      trace = record { from = next; to = at; sent = Some (s.permanent next + a.0 + 1); received = Some (b.0 + 1) };
+      traced = traced_at rows l next at m (s.permanent next + a.0) b.0 sent received;
+      sent = s.permanent next + a.0 + 1;
+      is_sent = refl;
+      late = omega arith;
+      received = b.0 + 1;
+      is_received = refl;
+      leads = (refl, refl, new.0, new.1, omega (arith, within, ap (λ (o : Option ℕ). unwrap_or o 0) new.1));
+    }
+  where
+    is_new : (o : Option ℕ) → is_some o ≡ true → (n : ℕ) × (o ≡ Some n)
+    is_new None e = absurd (cc)
+    is_new (Some n) e = (n, refl)
+
+rollback_linked : (rows : List Event) (k at m next : ℕ) → IsLegal rows → LinksRollback (past rows) next at m → Linked rows k Rollback at m next
+rollback_linked rows k at m next l h =
+    let s = past rows in
+    let a = place_of_deed (deed.Sent m next) (drop (s.permanent at) (s.live at)) h.sent in
+    let sent = get_after_drop (s.permanent at) (s.live at) a.0 (deed.Sent m next) a.1 in
+    let b = place_of_deed (deed.Received m at) (s.live next) h.received in
+    record {
+      trace = record { from = at; to = next; sent = Some (s.permanent at + a.0 + 1); received = Some (b.0 + 1) };
+      traced = traced_at rows l at next m (s.permanent at + a.0) b.0 sent b.1;
+      sent = s.permanent at + a.0 + 1;
+      is_sent = refl;
+      late = omega arith;
+      received = b.0 + 1;
+      is_received = refl;
+      leads = (refl, refl);
+    }
+
+-- a link of a chain, by its trace
+pub step_of : (rows : List Event) (k : ℕ) (kind : Kind) (at m next : ℕ) → IsLegal rows → IsChain (past rows) k kind at (m ∷ []) next → Linked rows k kind at m next
+step_of rows k Checkpoint at m next l h = subst (Linked rows k Checkpoint at m) h.2 (checkpoint_linked rows k at m h.0 l h.1)
+step_of rows k Rollback at m next l h = subst (Linked rows k Rollback at m) h.2 (rollback_linked rows k at m h.0 l h.1)
+
+-- a message leads from a process to one process
+one_step : (rows : List Event) (k : ℕ) (kind : Kind) (at m x y : ℕ) → IsLegal rows → IsChain (past rows) k kind at (m ∷ []) x → IsChain (past rows) k kind at (m ∷ []) y → x ≡ y
+one_step rows k kind at m x y l g h = same kind (step_of rows k kind at m x l g) (step_of rows k kind at m y l h)
+  where
+    same : (kind : Kind) → Linked rows k kind at m x → Linked rows k kind at m y → x ≡ y
+    same Checkpoint a b = sym a.leads.1 ∙ (ap (λ (t : Trace). t.from) (some_same (sym a.traced ∙ b.traced)) ∙ b.leads.1)
+    same Rollback a b = sym a.leads.1 ∙ (ap (λ (t : Trace). t.to) (some_same (sym a.traced ∙ b.traced)) ∙ b.leads.1)
+
+-- a chain with a message in its midst
+pub midst : (s : Past) (k : ℕ) (kind : Kind) (q : ℕ) (xs : List ℕ) (m : ℕ) (ys : List ℕ) (p : ℕ) → IsChain s k kind q (xs ++ m ∷ ys) p → (a : ℕ) × (b : ℕ) × IsChain s k kind q xs a × IsChain s k kind a (m ∷ []) b
+midst s k Checkpoint q [] m ys p h = (q, h.0, refl, (h.0, h.1, refl))
+midst s k Checkpoint q (x ∷ xs) m ys p h =
+    let rest = midst s k Checkpoint h.0 xs m ys p h.2 in
+    (rest.0, rest.1, (h.0, h.1, rest.2), rest.3)
+midst s k Rollback q [] m ys p h = (q, h.0, refl, (h.0, h.1, refl))
+midst s k Rollback q (x ∷ xs) m ys p h =
+    let rest = midst s k Rollback h.0 xs m ys p h.2 in
+    (rest.0, rest.1, (h.0, h.1, rest.2), rest.3)
+
+-- the messages of a chain lead to one process
+pub one_end : (rows : List Event) (k : ℕ) (kind : Kind) (q : ℕ) (xs : List ℕ) (a b : ℕ) → IsLegal rows → IsChain (past rows) k kind q xs a → IsChain (past rows) k kind q xs b → a ≡ b
+one_end rows k Checkpoint q [] a b l g h = sym g ∙ h
+one_end rows k Checkpoint q (m ∷ xs) a b l g h =
+    let same = one_step rows k Checkpoint q m g.0 h.0 l (g.0, g.1, refl) (h.0, h.1, refl) in
+    one_end rows k Checkpoint h.0 xs a b l (subst (λ (x : ℕ). IsChain (past rows) k Checkpoint x xs a) same g.2) h.2
+one_end rows k Rollback q [] a b l g h = sym g ∙ h
+one_end rows k Rollback q (m ∷ xs) a b l g h =
+    let same = one_step rows k Rollback q m g.0 h.0 l (g.0, g.1, refl) (h.0, h.1, refl) in
+    one_end rows k Rollback h.0 xs a b l (subst (λ (x : ℕ). IsChain (past rows) k Rollback x xs a) same g.2) h.2
+
+-- where a chain comes to a message that leads nowhere, it is none
+pub no_way : (rows : List Event) (k : ℕ) (kind : Kind) (q : ℕ) (xs : List ℕ) (m : ℕ) (ys : List ℕ) (at p : ℕ) → IsLegal rows → IsChain (past rows) k kind q xs at → ((next : ℕ) → IsChain (past rows) k kind at (m ∷ []) next → ⊥)
+    → IsChain (past rows) k kind q (xs ++ m ∷ ys) p → ⊥
+no_way rows k kind q xs m ys at p l to never whole =
+    let split = midst (past rows) k kind q xs m ys p whole in
+    let same = one_end rows k kind q xs split.0 at l split.2 to in
+    never split.1 (subst (λ (x : ℕ). IsChain (past rows) k kind x (m ∷ []) split.1) same split.3)
+
+pub same_is : (a b : ℕ) → a ≡ b → (a == b) ≡ true
+same_is a b e = grind (arith, nat_tests, e)
+
+-- a list is a chain for the initiator where it is empty, for another where it leads there
+pub list_of_initiator : (s : Past) (k : ℕ) (kind : Kind) (initiator p : ℕ) (chain : List ℕ) → p ≡ initiator → (IsListOf s k kind initiator p chain → chain ≡ []) × (chain ≡ [] → IsListOf s k kind initiator p chain)
+list_of_initiator s k kind initiator p chain same = (λ h. h.none same, λ e. record { none = λ again. e; leads = λ other. absurd (other same) })
+
+pub list_of_other : (s : Past) (k : ℕ) (kind : Kind) (initiator p : ℕ) (chain : List ℕ) → p ≢ initiator → IsChain s k kind initiator chain p → IsListOf s k kind initiator p chain
+list_of_other s k kind initiator p chain other h = record { none = λ same. absurd (other same); leads = λ again. h }
+
+pub same_unless : (a b : ℕ) → false ≡ not (a == b) → a ≡ b
+same_unless a b e = grind (arith, nat_tests, e)
+
+pub other_if : (a b : ℕ) → true ≡ not (a == b) → a ≢ b
+other_if a b e = λ same. absurd (clash (sym (ap not (same_is a b same)) ∙ sym e))
+  where
+    clash : false ≡ true → ⊥
+    clash x = cc
+
+pub other_from : (a b : ℕ) → false ≡ (a == b) → a ≢ b
+other_from a b e = λ same. absurd (clash (e ∙ same_is a b same))
+  where
+    clash : false ≡ true → ⊥
+    clash x = cc
+
+-- a list around one of its items
+pub around : (xs : List ℕ) (i x : ℕ) → slice_get xs i ≡ Some x → xs ≡ take i xs ++ x ∷ drop (i + 1) xs
+around [] i x e = absurd (cc)
+around (y ∷ xs) zero x e =
+    let same : y ≡ x = some_same e in
+    ap (λ (z : ℕ). z ∷ xs) same
+around (y ∷ xs) (suc i) x e =
+    let next : suc i + 1 ≡ suc (i + 1) = omega arith in
+    ap (λ (l : List ℕ). y ∷ l) (around xs i x e) ∙ ap (λ (n : ℕ). y ∷ take i xs ++ x ∷ drop n (y ∷ xs)) (sym next)
