@@ -1,9 +1,20 @@
 //! Stored runs judged.
 
+ghost use Rattle.std.specs.Prelude.{◌≡◌, ◌≢◌, IfOk, IfErr, IfSome, OnOk};
+ghost use Rattle.std.specs.Io.KnownBytes.{Appends};
+ghost use Rattle.kt_spacetime.specs.declared.fault.LogFault.{LogFault};
+ghost use Rattle.kt_spacetime.specs.Texts as rows;
+ghost use Rattle.kt_chain.specs.declared.fault.CertTextFault.{CertTextFault};
+ghost use Rattle.kt_chain.specs.Texts as certs;
+ghost use Rattle.kt_checker.specs.declared.verdict.Verdict.{Verdict};
+ghost use Rattle.kt_checker.specs.Streamed.{IsAnswerOf};
+ghost use Rattle.koo_toueg.specs.declared.fault.AppFault.TheVariants as app;
+ghost use Rattle.koo_toueg.specs.Stored.{IsJudged, IsRefusal, SayCertificates, is_yes, line_of, of_cert, of_log, records_told};
+
 use crate::fault::AppFault;
-use kt_chain::read_certs;
-use kt_checker::{Verdict, check};
-use kt_spacetime::read_csv;
+use kt_chain::{CertTextFault, Certificate, read_certs};
+use kt_checker::{Verdict, check_stream};
+use kt_spacetime::LogFault;
 use std::alloc::Global;
 use std::io::{Read, Write};
 
@@ -16,19 +27,107 @@ pub fn check_bytes<L: Read + Drop, C: Read + Drop, W: Write>(
     log_reader: L,
     cert_reader: C,
     writer: &mut W,
-) -> Result<bool, AppFault> {
-    let certificates = match read_certs(alloc, cert_reader).map_err(AppFault::from) {
-        Err(AppFault::Memory) => return Err(AppFault::Memory),
-        other => other,
-    };
-    let log = read_csv(alloc, log_reader)?;
-    let certificates = certificates?;
-    let verdict = check(alloc, &log, certificates.as_slice())?;
+) -> Result<bool, AppFault>
+    // The line is that of the checker's answer to the rows and the certificates that the bytes say.
+    ensures answer { IfOk result (λ passed. (verdict : Verdict) × (passed ≡ is_yes verdict)
+        × IsJudged (L.remaining log_reader) (C.remaining cert_reader) verdict
+        × Appends (W.contents writer.old) (W.contents writer.new) (line_of verdict)) }
+    // A fault is the first of the log, else that of the certificates, else one of the writer.
+    ensures fault { IfErr result (IsRefusal (L.remaining log_reader) (C.remaining cert_reader)) }
+    ensures unwritten { IfErr result (λ e. e ≢ app.Write → W.contents writer.new ≡ W.contents writer.old) }
+{
+    let verdict = judged(alloc, log_reader, cert_reader)?;
+    write_line(writer, &verdict)?;
+    Ok(is_yes(&verdict))
+}
+
+// The answer to what the readers tell.
+fn judged<L: Read + Drop, C: Read + Drop>(
+    alloc: Global,
+    log_reader: L,
+    cert_reader: C,
+) -> Result<Verdict, AppFault>
+    ensures answer { IfOk result (IsJudged (L.remaining log_reader) (C.remaining cert_reader)) }
+    ensures fault { IfErr result (λ e. (e ≢ app.Write) × IsRefusal (L.remaining log_reader) (C.remaining cert_reader) e) }
+{
+    let certificates = read_certificates(alloc, cert_reader);
+    if let Err(AppFault::Memory) = certificates {
+        return Err(AppFault::Memory);
+    }
+    match certificates {
+        Ok(certificates) => judge_log(alloc, log_reader, certificates.as_slice()),
+        Err(fault) => {
+            judge_log(alloc, log_reader, &[])?;
+            Err(fault)
+        }
+    }
+}
+
+// The answer to the log that the reader tells.
+fn judge_log<L: Read + Drop>(
+    alloc: Global,
+    reader: L,
+    certificates: &[Certificate],
+) -> Result<Verdict, AppFault>
+    ensures answer { IfOk result (IsAnswerOf (L.remaining reader) certificates.now) }
+    ensures fault { IfErr result (λ e. (f : LogFault) × (e ≡ of_log f) × IfSome (records_told (L.remaining reader)) (λ text. rows.IsFirstFault text f)) }
+{
+    match check_stream(alloc, reader, certificates) {
+        Ok(verdict) => Ok(verdict),
+        Err(fault) => Err(log_refused(fault)),
+    }
+}
+
+// The certificates that the reader tells.
+fn read_certificates<C: Read + Drop>(alloc: Global, reader: C) -> Result<Vec<Certificate>, AppFault>
+    ensures certificates { IfOk result (λ certificates. SayCertificates (C.remaining reader) certificates.items) }
+    ensures fault { IfErr result (λ e. (f : CertTextFault) × (e ≡ of_cert f) × IfSome (records_told (C.remaining reader)) (λ text. certs.IsFirstFault text f)) }
+{
+    match read_certs(alloc, reader) {
+        Ok(certificates) => Ok(certificates),
+        Err(fault) => Err(certificates_refused(fault)),
+    }
+}
+
+// A fault of a log; its want of memory is the program's own.
+fn log_refused(fault: LogFault) -> AppFault
+    ensures { result ≡ of_log fault }
+{
+    match fault {
+        LogFault::Memory => AppFault::Memory,
+        _ => AppFault::Log(fault),
+    }
+}
+
+// A fault of certificates; its want of memory is the program's own.
+fn certificates_refused(fault: CertTextFault) -> AppFault
+    ensures { result ≡ of_cert fault }
+{
+    match fault {
+        CertTextFault::Memory => AppFault::Memory,
+        _ => AppFault::Cert(fault),
+    }
+}
+
+fn is_yes(verdict: &Verdict) -> bool
+    ensures { result ≡ is_yes verdict.now }
+{
+    match verdict {
+        Verdict::Yes => true,
+        Verdict::No { .. } => false,
+    }
+}
+
+// Writes the line of an answer.
+fn write_line<W: Write>(writer: &mut W, verdict: &Verdict) -> Result<(), AppFault>
+    ensures written { OnOk result (Appends (W.contents writer.old) (W.contents writer.new) (line_of verdict.now)) }
+    ensures fault { IfErr result (λ e. e ≡ app.Write) }
+{
     if writeln!(writer, "{verdict}").is_err() {
         return Err(AppFault::Write);
     }
     match writer.flush() {
-        Ok(()) => Ok(verdict == Verdict::Yes),
+        Ok(()) => Ok(()),
         Err(_) => Err(AppFault::Write),
     }
 }

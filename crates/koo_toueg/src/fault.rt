@@ -1,6 +1,7 @@
 //! Why the program could not do what it was asked.
 
 ghost use Rattle.std.specs.Prelude.{◌≡◌};
+ghost use Rattle.koo_toueg.specs.declared.fault.AppFault.TheVariants as app;
 ghost use Rattle.koo_toueg.specs.Status.{status_of};
 
 use kt_base::Memory;
@@ -41,27 +42,9 @@ impl AppFault {
 }
 
 impl From<Memory> for AppFault {
+    ghost from_gives = { λ _ f. f ≡ app.Memory };
+
     fn from(_fault: Memory) -> AppFault {
         AppFault::Memory
-    }
-}
-
-impl From<LogFault> for AppFault {
-    /// A log's fault; its want of memory is the program's own.
-    fn from(fault: LogFault) -> AppFault {
-        match fault {
-            LogFault::Memory => AppFault::Memory,
-            _ => AppFault::Log(fault),
-        }
-    }
-}
-
-impl From<CertTextFault> for AppFault {
-    /// A certificate text's fault; its want of memory is the program's own.
-    fn from(fault: CertTextFault) -> AppFault {
-        match fault {
-            CertTextFault::Memory => AppFault::Memory,
-            _ => AppFault::Cert(fault),
-        }
     }
 }

@@ -6,8 +6,9 @@ use crate::fault::AppFault;
 use crate::line::Asked;
 use crate::words::Words;
 use clap::error::ErrorKind;
-use kt_chain::CertTextFault;
-use kt_spacetime::LogFault;
+use kt_chain::{CertTextFault, read_certs};
+use kt_checker::{Verdict, check};
+use kt_spacetime::{LogFault, read_csv};
 use runs::RUNS;
 use std::alloc::Global;
 use std::io;
@@ -69,7 +70,28 @@ member,1,1,1,3
 member,1,0,1,1
 ";
 
-// What the program would print of a log and its certificates: the line of the answer, or the fault line.
+// Whether an answer is written as this text.
+fn is_written(alloc: Global, verdict: &Verdict, text: &str) -> Result<bool, Fail> {
+    let words = format!(in alloc; "{verdict}")?;
+    Ok(words.as_str() == text)
+}
+
+// Whether the answer to a list of rows is this text.
+fn answers_list(alloc: Global, log: &str, cert: &str, text: &str) -> Result<bool, Fail> {
+    let Ok(rows) = read_csv(alloc, log.as_bytes()) else {
+        return Ok(false);
+    };
+    let Ok(certificates) = read_certs(alloc, cert.as_bytes()) else {
+        return Ok(false);
+    };
+    let Ok(verdict) = check(alloc, &rows, certificates.as_slice()) else {
+        return Ok(false);
+    };
+    is_written(alloc, &verdict, text)
+}
+
+// What the program would print of a log and its certificates: the line of the answer, or the fault line. The answer is
+// also that to the list of rows.
 fn said(alloc: Global, log: &str, cert: &str) -> Result<String, Fail> {
     let mut line = Vec::new(alloc);
     let text = match check_bytes(alloc, log.as_bytes(), cert.as_bytes(), &mut line) {
@@ -77,7 +99,11 @@ fn said(alloc: Global, log: &str, cert: &str) -> Result<String, Fail> {
             if yes != (line.as_slice() == b"yes\n".as_slice()) {
                 return Err(Fail::from("the answer is not the line's"));
             }
-            String::from_str(alloc, std::str::from_utf8(line.as_slice())?.trim_end())?
+            let text = String::from_str(alloc, std::str::from_utf8(line.as_slice())?.trim_end())?;
+            if !answers_list(alloc, log, cert, text.as_str())? {
+                return Err(Fail::from("the answer to the list of rows is another"));
+            }
+            text
         }
         Err(fault) => format!(in alloc; "{fault}")?,
     };
@@ -404,6 +430,67 @@ impl Read for FailingReader<'_> {
             _ => Ok(0),
         }
     }
+}
+
+// Adds a message of process 0 that process 1 receives, after this many rows.
+fn push_message(log: &mut String, rows: u32) -> Result<(), Fail> {
+    let msg = rows.saturating_add(1);
+    writeln!(log, "sent,0,1,1")?;
+    writeln!(log, "received,1,0,{msg}")?;
+    Ok(())
+}
+
+// Adds 47 messages; the number of rows then.
+fn push_messages(log: &mut String, rows: u32) -> Result<u32, Fail> {
+    let mut rows = rows;
+    for _ in 0..47 {
+        push_message(log, rows)?;
+        rows = rows.saturating_add(2);
+    }
+    Ok(rows)
+}
+
+// Adds a checkpoint of process 1, which process 0 has to take for the last message.
+fn push_checkpoint(log: &mut String, inst: u32) -> Result<(), Fail> {
+    writeln!(log, "began,1,{inst},checkpoint")?;
+    writeln!(log, "took,1,{inst},-")?;
+    writeln!(log, "took,0,{inst},-")?;
+    writeln!(log, "decided,1,{inst},commit")?;
+    writeln!(log, "closed,1,{inst},-")?;
+    writeln!(log, "closed,0,{inst},-")?;
+    Ok(())
+}
+
+// Adds the certificate of that checkpoint, whose last message is this one.
+fn push_certificate(cert: &mut String, inst: u32, msg: u32) -> Result<(), Fail> {
+    writeln!(cert, "cert,{inst},checkpoint,1,commit")?;
+    writeln!(cert, "member,{inst},1,0,-")?;
+    writeln!(cert, "member,{inst},0,1,{msg}")?;
+    Ok(())
+}
+
+#[test]
+fn a_log_of_20000_rows_is_judged(rt: HostRuntime) -> Result<(), Fail> {
+    let mut log = String::new(rt.alloc());
+    let mut cert = String::new(rt.alloc());
+    let mut rows = 0u32;
+    for inst in 1..201u32 {
+        rows = push_messages(&mut log, rows)?;
+        push_certificate(&mut cert, inst, rows.saturating_sub(1))?;
+        push_checkpoint(&mut log, inst)?;
+        rows = rows.saturating_add(6);
+    }
+    assert_eq!(rt; rows, 20_000);
+    assert_eq!(rt;
+        said(rt.alloc(), log.as_str(), cert.as_str())?.as_str(),
+        "yes"
+    );
+    writeln!(&mut log, "closed,0,200,-")?;
+    assert_eq!(rt;
+        said(rt.alloc(), log.as_str(), cert.as_str())?.as_str(),
+        "no row 20001 BadLog 8"
+    );
+    Ok(())
 }
 
 #[test]

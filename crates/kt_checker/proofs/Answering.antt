@@ -23,53 +23,51 @@ use Rattle.kt_checker.specs.declared.verdict.Verdict.TheVariants.{Yes, No}
 use Rattle.kt_checker.specs.declared.verdict.Why.{Why}
 use Rattle.kt_checker.specs.declared.verdict.Why.TheVariants as why
 use Rattle.kt_checker.specs.Unwilling.{has_unwilling}
-use Rattle.kt_checker.specs.Gathered.{Gathered, IsDecision, members_gathered, refused_gathered, decision_gathered}
-use Rattle.kt_checker.specs.Passing.{Passes, IsPassed, IsAsInLog, IsSecond, PassBefore, IsShownBefore, ListsReadyOf}
+use Rattle.kt_checker.specs.Gathered.{Gathered, IsDecision, decision_gathered}
+use Rattle.kt_checker.specs.Passing.{Passes, IsPassed, IsAsInLog, IsSecond, PassBefore, IsShownBefore}
 use Rattle.kt_checker.specs.Order.{IsWrong, IsRefuted, IsMissing, IsAnswer}
-use Rattle.kt_checker.specs.Missing.{AreSeenBefore, AnswersMissing}
+use Rattle.kt_checker.specs.Missing.{IsUnseen, AnswersMissing}
 use Rattle.kt_checker.proofs.Chaining.{consistent_of}
-use Rattle.kt_checker.proofs.Deciding.{decided_once}
-use Rattle.kt_checker.proofs.Sound.{beginning_then, as_in_log, ready_in_joined, within}
+use Rattle.kt_checker.proofs.Deciding.{decided_once, members_before, unwilling_before}
+use Rattle.kt_checker.proofs.Sound.{beginning_then, as_in_log, ready_in_joined}
 use Rattle.kt_checker.proofs.Marking.{IsMarkedBy, HasMarked, decided_row, certificate_of}
 
 -- no row decides an instance of which no decision was gathered
-pub never_decided : (list : List Instance) (rows : List Event) (c : Certificate) (n : ℕ) → Gathered list rows → decision_gathered (at_number list c.inst) ≡ None → IsAsInLog rows c n → ⊥
-never_decided list rows c n h none stated =
-    let undecided : IsDecision rows c.inst None = subst (IsDecision rows c.inst) none (h.decision c.inst) in
+pub never_decided : {certs : List Certificate} (list : List Instance) (rows : List Event) (c : Certificate) (n : ℕ) → Gathered certs list rows → decision_gathered (at_number list c.inst) ≡ None → IsAsInLog rows c n → ⊥
+never_decided {certs} list rows c n h none stated =
+    let undecided : IsDecision certs rows c.inst None = subst (IsDecision certs rows c.inst) none (h.decision c.inst) in
     undecided n stated.process c.commit stated.decided
 
 -- a certificate that is as the log has it says what was gathered
-pub gathered_as : (list : List Instance) (rows : List Event) (c : Certificate) (n : ℕ) (v : Instance) (d : Decision) → IsLegal rows → Gathered list rows → at_number list c.inst ≡ Some v → v.decision ≡ Some d → IsAsInLog rows c n
+pub gathered_as : {certs : List Certificate} (list : List Instance) (rows : List Event) (c : Certificate) (n : ℕ) (v : Instance) (d : Decision) → IsLegal rows → Gathered certs list rows → at_number list c.inst ≡ Some v → v.decision ≡ Some d → IsAsInLog rows c n
     → (v.kind ≡ c.kind) × (v.initiator ≡ c.initiator) × (d.commit ≡ c.commit)
-gathered_as list rows c n v d l h there decided stated =
+gathered_as {certs} list rows c n v d l h there decided stated =
     let began = beginning_then list rows n stated.process c.inst c.commit v l h there stated.decided in
     let kind : v.kind ≡ c.kind = some_same (sym (ap (λ (o : Option Beginning). option_map (λ b. b.kind) o) began) ∙ stated.kind) in
     let initiator : v.initiator ≡ c.initiator = some_same (sym (ap (λ (o : Option Beginning). option_map (λ b. b.initiator) o) began) ∙ stated.initiator) in
-    let found : IsDecision rows c.inst (Some d) = decided_row list rows c.inst v d h there decided in
+    let found : IsDecision certs rows c.inst (Some d) = decided_row list rows c.inst v d h there decided in
     let row = decided_once rows found.0 n found.1 stated.process c.inst d.commit c.commit l found.3 stated.decided in
     let same : event.Decided found.1 c.inst d.commit ≡ event.Decided stated.process c.inst c.commit = some_same (sym found.3 ∙ (ap (slice_get rows) row ∙ stated.decided)) in
     let commit : d.commit ≡ c.commit = cc in
     (kind, initiator, commit)
 
 -- the answer to a certificate of a decided instance that is wrong
-pub refuted_of : (list : List Instance) (rows : List Event) (certificates : List Certificate) (i : ℕ) (c : Certificate) (v : Instance) (d : Decision) (verdict : Verdict) (reason : Why) → IsLegal rows → Gathered list rows
-    → at_number list c.inst ≡ Some v → v.decision ≡ Some d → v.kind ≡ c.kind → v.initiator ≡ c.initiator → d.commit ≡ c.commit → (c.commit ≡ false → c.members ≡ []) → (IsSecond certificates i c → ⊥)
-    → verdict ≡ No (Some c.inst) (Some d.row) reason
-    → ((n : ℕ) → d.row ≡ n + 1 → n ≤ length rows → ListsReadyOf (past (take n rows)) c v.members.items → IsWrong (past (take n rows)) v.members.items v.refused c reason)
-    → IsRefuted rows certificates i c verdict
-refuted_of list rows certificates i c v d verdict reason l h there decided kind initiator commit no_members first is wrong =
-    let found : IsDecision rows c.inst (Some d) = decided_row list rows c.inst v d h there decided in
+pub refuted_of : {certs : List Certificate} (list : List Instance) (rows : List Event) (i : ℕ) (c : Certificate) (v : Instance) (d : Decision) (verdict : Verdict) (reason : Why) → IsLegal rows → Gathered certs list rows
+    → at_number list c.inst ≡ Some v → v.decision ≡ Some d → v.kind ≡ c.kind → v.initiator ≡ c.initiator → d.commit ≡ c.commit → (c.commit ≡ false → c.members ≡ []) → slice_get certs i ≡ Some c → (IsSecond certs i c → ⊥)
+    → verdict ≡ No (Some c.inst) (Some d.row) reason → d.fault ≡ Some reason → IsRefuted rows certs i c verdict
+refuted_of {certs} list rows i c v d verdict reason l h there decided kind initiator commit no_members at first is fault =
+    let found : IsDecision certs rows c.inst (Some d) = decided_row list rows c.inst v d h there decided in
     let n : ℕ = found.0 in
     let stated = as_in_log list rows c v d n found.1 l h there found.3 kind initiator commit no_members in
-    let listed : v.members.items ≡ members rows c.inst = ap members_gathered (sym there) ∙ h.members_listed c.inst in
-    let refused : v.refused ≡ has_unwilling rows c.inst = ap refused_gathered (sym there) ∙ h.refused c.inst in
-    let before = wrong n found.2 (within rows n _ found.3) (ready_in_joined list rows c v n found.1 d.commit l h there found.3 stated.kind) in (
+    let before = (found.5 i c at refl first).wrong reason fault commit (ready_in_joined rows c n l stated.kind) in
+    let joined = sym (members_before rows n found.1 c.inst d.commit l found.3) in
+    let unwilling = sym (unwilling_before rows n found.1 c.inst d.commit l found.3) in (
       n,
       reason,
       is ∙ ap (λ (x : ℕ). No (Some c.inst) (Some x) reason) found.2,
       stated,
       first,
-      subst (λ (b : Bool). IsWrong (past (take n rows)) (members rows c.inst) b c reason) refused (subst (λ (ms : List ℕ). IsWrong (past (take n rows)) ms v.refused c reason) listed before),
+      subst (λ (b : Bool). IsWrong (past (take n rows)) (members rows c.inst) b c reason) unwilling (subst (λ (ms : List ℕ). IsWrong (past (take n rows)) ms (has_unwilling (take n rows) c.inst) c reason) joined before),
     )
 
 pub refused_not : (a b : Bool) → beq a b ≡ false → b ≡ not a
@@ -97,7 +95,7 @@ pub pass_all : (rows : List Event) (certificates : List Certificate) (n : ℕ) �
 pass_all rows certificates n long before i c low e = before i c (omega (arith, long, low)) e
 
 -- the answer where every certificate passed
-pub answer_of : (list : List Instance) (rows : List Event) (certificates : List Certificate) (seen : List Bool) (v : Verdict) → IsLegal rows → Gathered list rows → PassBefore rows certificates (length certificates)
+pub answer_of : (list : List Instance) (rows : List Event) (certificates : List Certificate) (seen : List Bool) (v : Verdict) → IsLegal rows → Gathered certificates list rows → PassBefore rows certificates (length certificates)
     → IsMarkedBy seen certificates (length certificates) → HasMarked seen certificates (length certificates) → AnswersMissing list seen v → IsAnswer rows certificates v
 answer_of list rows certificates seen v l h pass marked marks answers = elim answers [
   | inl none ↦ inl (
@@ -108,23 +106,22 @@ answer_of list rows certificates seen v l h pass marked marks answers = elim ans
       complete = λ n p k commit e. certificate_of list rows seen certificates (length certificates) (length list) h none.1 marked n p k commit (λ j w there same. slice_get_within list j w there) e;
     },
   )
-  | inr lacks ↦ inr (inr (l, inr (missing lacks.0 lacks.1 lacks.2 lacks.3.0 lacks.3.1 lacks.3.2 lacks.3.3 lacks.3.4 lacks.3.5 lacks.3.6)))
+  | inr lacks ↦ inr (inr (l, inr (missing lacks.0 lacks.1 lacks.2)))
 ]
   where
-    missing : (k row : ℕ) → v ≡ No (Some (k + 1)) (Some row) why.Missing → (w : Instance) (d : Decision) → slice_get list k ≡ Some w → w.decision ≡ Some d → d.row ≡ row → (slice_get seen k ≡ Some true → ⊥) → AreSeenBefore list seen k
-        → IsMissing rows certificates v
-    missing k row is w d there decided number unseen before =
-        let found : IsDecision rows (suc k) (Some d) = decided_row list rows (suc k) w d h there decided in
-        let next : k + 1 ≡ suc k = omega arith in (
+    missing : (d : Decision) → v ≡ No (Some d.inst) (Some d.row) why.Missing → IsUnseen list seen d → IsMissing rows certificates v
+    missing d is unseen =
+        let k : ℕ = unseen.0 in
+        let found : IsDecision certificates rows (suc k) (Some d) = decided_row list rows (suc k) unseen.1 d h unseen.2 unseen.3 in (
           pass,
           found.0,
           found.1,
           suc k,
           d.commit,
-          is ∙ (λ i. No (Some (next i)) (Some ((sym number ∙ found.2) i)) why.Missing),
+          is ∙ (λ i. No (Some (found.4 i)) (Some (found.2 i)) why.Missing),
           found.3,
-          λ other. unseen (subst (λ (n : ℕ). at_number seen n ≡ Some true) other.3 (marks other.0 other.1 (slice_get_within certificates other.0 other.1 other.2) other.2)),
-          λ m q j also low e. certificate_of list rows seen certificates (length certificates) k h before marked m q j also (λ i u at same. omega (arith, low, same)) e,
+          λ other. unseen.4 (subst (λ (n : ℕ). at_number seen n ≡ Some true) other.3 (marks other.0 other.1 (slice_get_within certificates other.0 other.1 other.2) other.2)),
+          λ m q j also low e. certificate_of list rows seen certificates (length certificates) k h unseen.5 marked m q j also (λ i u at same. omega (arith, low, same)) e,
         )
 
 -- a yes is answered where all has passed, and only there

@@ -1,5 +1,5 @@
 -- What stays of an instance after its decided row.
-use Rattle.std.proofs.Common.{◌≡◌, ℕ, zero, suc, ◌<◌, is_some, is_none, Bool, true, Option, Some, None, List, [], ◌∷◌, take, drop, refl, sym, ap, ◌∙◌, subst, arith, inl, inr}
+use Rattle.std.proofs.Common.{◌≡◌, ℕ, zero, suc, ◌<◌, is_some, is_none, ◌||◌, Bool, true, false, Option, Some, None, List, [], ◌∷◌, take, drop, refl, sym, ap, ◌∙◌, subst, arith, inl, inr}
 use Rattle.std.specs.Prelude.{fold}
 use Rattle.std.specs.List.{slice_get, filter_map, cons_option}
 use Rattle.std.proofs.lemmas.Bool.{cases_eq, cases_order, and_parts}
@@ -15,6 +15,7 @@ use Rattle.kt_cuts.proofs.SortedFacts.{some_same}
 use Rattle.kt_cuts.proofs.LegalLogs.{kept, past_induction}
 use Rattle.kt_cuts.proofs.Traced.{next_unbroken}
 use Rattle.kt_cuts.proofs.Positions.{begun_kept}
+use Rattle.kt_checker.specs.Unwilling.{is_unwilling, has_unwilling}
 
 verdict_stays : (s : Past) (row : Event) (k : ℕ) → is_some (s.verdict k) ≡ true → is_some ((after s row).verdict k) ≡ true
 verdict_stays s (event.Decided p j commit) k e = elim (cases_eq k j) [
@@ -113,6 +114,41 @@ members_to s (row ∷ rows) (suc n) p k commit l e = ap (λ (t : List ℕ). cons
 -- the members of a decided instance joined before its decided row
 pub members_before : (log : List Event) (n p k : ℕ) (commit : Bool) → IsLegal log → slice_get log n ≡ Some (event.Decided p k commit) → members log k ≡ members (take n log) k
 members_before log n p k commit l e = members_to start log n p k commit l e
+
+-- nobody is unwilling to join a decided instance
+no_refusal : (s : Past) (row : Event) (k : ℕ) → broken_rule s row ≡ None → is_some (s.verdict k) ≡ true → is_unwilling k row ≡ false
+no_refusal s (event.Unwilling p j cause) k e v = elim (cases_eq j k) [
+  | inl same ↦
+      let open_yet : is_undecided s j ≡ true = (and_parts (is_undecided s j) _ (kept s (event.Unwilling p j cause) e).causes).0 in
+      absurd (not_undecided s k v (subst (λ (x : ℕ). is_undecided s x ≡ true) same open_yet))
+  | inr other ↦ grind (arith, nat_tests, other)
+]
+no_refusal s (event.Took p j) k e v = refl
+no_refusal s (event.Ready p j) k e v = refl
+no_refusal s (event.Sent p to body) k e v = refl
+no_refusal s (event.Received p from msg) k e v = refl
+no_refusal s (event.Dropped p from msg) k e v = refl
+no_refusal s (event.Began p j kind) k e v = refl
+no_refusal s (event.Decided p j commit) k e v = refl
+no_refusal s (event.Closed p j) k e v = refl
+no_refusal s (event.Failed p) k e v = refl
+no_refusal s (event.Refused p verb cause) k e v = refl
+
+no_refusals : (s : Past) (rows : List Event) (k : ℕ) → IsLegalAfter s rows → is_some (s.verdict k) ≡ true → has_unwilling rows k ≡ false
+no_refusals s [] k l v = refl
+no_refusals s (row ∷ rows) k l v = ap (λ (b : Bool). b || has_unwilling rows k) (no_refusal s row k l.0 v) ∙ no_refusals (after s row) rows k l.1 (verdict_stays s row k v)
+
+unwilling_to : (s : Past) (log : List Event) (n p k : ℕ) (commit : Bool) → IsLegalAfter s log → slice_get log n ≡ Some (event.Decided p k commit) → has_unwilling log k ≡ has_unwilling (take n log) k
+unwilling_to s [] n p k commit l e = absurd (cc)
+unwilling_to s (row ∷ rows) zero p k commit l e =
+    let same : row ≡ event.Decided p k commit = some_same e in
+    let decided : is_some ((after s row).verdict k) ≡ true = verdict_after_decision s (row ∷ []) 0 p k commit e in
+    ap (λ (b : Bool). b || has_unwilling rows k) (ap (is_unwilling k) same) ∙ no_refusals (after s row) rows k l.1 decided
+unwilling_to s (row ∷ rows) (suc n) p k commit l e = ap (λ (b : Bool). is_unwilling k row || b) (unwilling_to (after s row) rows n p k commit l.1 e)
+
+-- who was unwilling to join a decided instance was so before its decided row
+pub unwilling_before : (log : List Event) (n p k : ℕ) (commit : Bool) → IsLegal log → slice_get log n ≡ Some (event.Decided p k commit) → has_unwilling log k ≡ has_unwilling (take n log) k
+unwilling_before log n p k commit l e = unwilling_to start log n p k commit l e
 
 -- how an instance began is known from then on
 pub beginning_stays : (log : List Event) (n k : ℕ) (b : Beginning) → beginning_of (past (take n log)) k ≡ Some b → beginning_of (past log) k ≡ Some b

@@ -5,3 +5,7 @@ pub mod Deciding
 pub mod Sound
 pub mod Marking
 pub mod Answering
+pub mod FirstPlaces
+pub mod Judging
+pub mod RowByRow
+pub mod Inside

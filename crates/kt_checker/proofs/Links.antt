@@ -14,6 +14,8 @@ use Rattle.kt_cuts.specs.Legal.{IsLegal}
 use Rattle.kt_cuts.specs.Chains.{LinksCheckpoint, LinksRollback}
 use Rattle.kt_cuts.specs.Standing.{parties_of_row}
 use Rattle.kt_cuts.specs.Traces.{place_of, trace_between, trace_of}
+use Rattle.kt_cuts.specs.Keeping.{kept_trace}
+use Rattle.kt_cuts.proofs.WalkLinks.{link_kept}
 use Rattle.kt_cuts.proofs.Items.{get_take, in_take}
 use Rattle.kt_cuts.proofs.SortedFacts.{some_same}
 use Rattle.kt_cuts.proofs.DeedFacts.{place_of_deed}
@@ -103,6 +105,10 @@ rollback_linked rows k at m next l h =
 pub step_of : (rows : List Event) (k : ℕ) (kind : Kind) (at m next : ℕ) → IsLegal rows → IsChain (past rows) k kind at (m ∷ []) next → Linked rows k kind at m next
 step_of rows k Checkpoint at m next l h = subst (Linked rows k Checkpoint at m) h.2 (checkpoint_linked rows k at m h.0 l h.1)
 step_of rows k Rollback at m next l h = subst (Linked rows k Rollback at m) h.2 (rollback_linked rows k at m h.0 l h.1)
+
+-- a message that leads on is kept
+pub kept_link : (rows : List Event) (k : ℕ) (kind : Kind) (at m next : ℕ) → IsLegal rows → (h : Linked rows k kind at m next) → kept_trace rows m ≡ Some h.trace
+kept_link rows k kind at m next l h = link_kept rows l m h.trace h.sent h.received h.traced h.is_sent h.is_received h.late
 
 -- a message leads from a process to one process
 one_step : (rows : List Event) (k : ℕ) (kind : Kind) (at m x y : ℕ) → IsLegal rows → IsChain (past rows) k kind at (m ∷ []) x → IsChain (past rows) k kind at (m ∷ []) y → x ≡ y

@@ -1,12 +1,9 @@
 -- What marks of seen instances say of certificates.
 use Rattle.std.proofs.Common.{◌≡◌, ℕ, zero, suc, ◌+◌, ◌<◌, ◌≤◌, Bool, true, Option, Some, None, List, length, refl, sym, ap, ◌∙◌, subst, arith, inl, inr}
-use Rattle.std.specs.Prelude.{◌⊎◌, ◌↔◌, All, IsTrue}
+use Rattle.std.specs.Prelude.{◌⊎◌, ◌↔◌, IsTrue}
 use Rattle.std.specs.List.{slice_get}
 use Rattle.std.proofs.lemmas.Bool.{cases_eq}
-use Rattle.std.proofs.lemmas.Option.{slice_get_within, slice_get-get_or}
-use Rattle.std.proofs.lemmas.List.Elements.{All-get_or}
-use Rattle.kt_base.specs.Numbers.{IsInstNo}
-use Rattle.kt_spacetime.specs.Events.{IsInRange}
+use Rattle.std.proofs.lemmas.Option.{slice_get_within}
 use Rattle.kt_spacetime.specs.declared.event.Event.{Event}
 use Rattle.kt_spacetime.specs.declared.event.Event.TheVariants as event
 use Rattle.kt_cuts.specs.Standing.{at_number}
@@ -14,24 +11,13 @@ use Rattle.kt_cuts.proofs.SortedFacts.{some_same}
 use Rattle.kt_chain.specs.declared.certificate.Certificate.{Certificate}
 use Rattle.kt_checker.specs.declared.decisions.Instance.{Instance}
 use Rattle.kt_checker.specs.declared.decisions.Decision.{Decision}
-use Rattle.kt_checker.specs.Gathered.{Gathered, AreNumbered, IsDecision, decision_gathered}
+use Rattle.kt_checker.specs.Gathered.{Gathered, IsDecision, decision_gathered}
 use Rattle.kt_checker.specs.Missing.{AreSeenBefore}
 use Rattle.kt_checker.specs.Passing.{IsSecond, HasCertificate}
 
 -- the decided row that was gathered of an instance
-pub decided_row : (list : List Instance) (rows : List Event) (k : ℕ) (v : Instance) (d : Decision) → Gathered list rows → at_number list k ≡ Some v → v.decision ≡ Some d → IsDecision rows k (Some d)
-decided_row list rows k v d h there decided = subst (IsDecision rows k) decided (subst (λ (o : Option Instance). IsDecision rows k (decision_gathered o)) there (h.decision k))
-
--- the numbers of decided instances are in range
-pub numbered : (list : List Instance) (rows : List Event) → Gathered list rows → All IsInRange rows → AreNumbered list
-numbered list rows h ranged k v d there decided =
-    let found : IsDecision rows (suc k) (Some d) = decided_row list rows (suc k) v d h there decided in
-    let row : event.Decided found.1 (suc k) d.commit ≡ event.Decided found.1 (suc k) d.commit = refl in
-    let low = slice_get_within rows found.0 (event.Decided found.1 (suc k) d.commit) found.3 in
-    let same = some_same (sym (slice_get-get_or rows found.0 (event.Decided found.1 (suc k) d.commit) low) ∙ found.3) in
-    let kept = subst IsInRange same (All-get_or IsInRange rows found.0 (event.Decided found.1 (suc k) d.commit) low ranged) in
-    let next : suc k ≡ k + 1 = omega arith in
-    subst IsInstNo next kept.1
+pub decided_row : {certs : List Certificate} (list : List Instance) (rows : List Event) (k : ℕ) (v : Instance) (d : Decision) → Gathered certs list rows → at_number list k ≡ Some v → v.decision ≡ Some d → IsDecision certs rows k (Some d)
+decided_row {certs} list rows k v d h there decided = subst (IsDecision certs rows k) decided (subst (λ (o : Option Instance). IsDecision certs rows k (decision_gathered o)) there (h.decision k))
 
 -- each mark is of an instance that one of the first certificates is of
 abbrev pub IsMarkedBy : List Bool → List Certificate → ℕ → Type 0
@@ -82,21 +68,21 @@ seen_second seen certificates n c is_seen marked marks test = (
         (found.0, found.1, found.2, found.3, omega (arith, found.4, e))
 
 -- where the decided instances are marked up to this number, each has a certificate
-pub certificate_of : (list : List Instance) (rows : List Event) (seen : List Bool) (certificates : List Certificate) (n bound : ℕ) → Gathered list rows → AreSeenBefore list seen bound → IsMarkedBy seen certificates n
+pub certificate_of : {certs : List Certificate} (list : List Instance) (rows : List Event) (seen : List Bool) (certificates : List Certificate) (n bound : ℕ) → Gathered certs list rows → AreSeenBefore list seen bound → IsMarkedBy seen certificates n
     → (m q j : ℕ) (commit : Bool) → ((k : ℕ) (v : Instance) → slice_get list k ≡ Some v → j ≡ suc k → k < bound) → slice_get rows m ≡ Some (event.Decided q j commit) → HasCertificate certificates j
-certificate_of list rows seen certificates n bound h before marked m q j commit below e = of_instance j (at_number list j) refl below e
+certificate_of {certs} list rows seen certificates n bound h before marked m q j commit below e = of_instance j (at_number list j) refl below e
   where
-    is_decided : (j : ℕ) (o : Option Decision) → IsDecision rows j o → slice_get rows m ≡ Some (event.Decided q j commit) → (d : Decision) × (o ≡ Some d)
+    is_decided : (j : ℕ) (o : Option Decision) → IsDecision certs rows j o → slice_get rows m ≡ Some (event.Decided q j commit) → (d : Decision) × (o ≡ Some d)
     is_decided j None never e = absurd (never m q commit e)
     is_decided j (Some d) found e = (d, refl)
 
     of_instance : (j : ℕ) (o : Option Instance) → at_number list j ≡ o → ((k : ℕ) (v : Instance) → slice_get list k ≡ Some v → j ≡ suc k → k < bound) → slice_get rows m ≡ Some (event.Decided q j commit) → HasCertificate certificates j
-    of_instance j None there below e = absurd (subst (λ (o : Option Instance). IsDecision rows j (decision_gathered o)) there (h.decision j) m q commit e)
+    of_instance j None there below e = absurd (subst (λ (o : Option Instance). IsDecision certs rows j (decision_gathered o)) there (h.decision j) m q commit e)
     of_instance zero (Some v) there below e =
         let never : None ≡ Some v = there in
         absurd (cc)
     of_instance (suc k) (Some v) there below e =
-        let d = is_decided (suc k) v.decision (subst (λ (o : Option Instance). IsDecision rows (suc k) (decision_gathered o)) there (h.decision (suc k))) e in
+        let d = is_decided (suc k) v.decision (subst (λ (o : Option Instance). IsDecision certs rows (suc k) (decision_gathered o)) there (h.decision (suc k))) e in
         let found = marked k (before k v d.0 (below k v there refl) there d.1) in
         (found.0, found.1, found.3, omega (arith, found.4))
 

@@ -30,13 +30,13 @@ use Rattle.kt_checker.specs.declared.decisions.Instance.{Instance}
 use Rattle.kt_checker.specs.declared.decisions.Decision.{Decision}
 use Rattle.kt_checker.specs.Unwilling.{has_unwilling}
 use Rattle.kt_checker.specs.Gathered.{Gathered, IsDecision, beginning_gathered, members_gathered, refused_gathered, decision_gathered}
-use Rattle.kt_checker.specs.Passing.{Passes, IsPassed, IsAsInLog, IsShownBefore, ListsReadyOf, IsListOf, IsChain, decided_cut}
-use Rattle.kt_checker.proofs.Deciding.{decided_once, members_before, beginning_stays}
+use Rattle.kt_checker.specs.Passing.{Passes, IsPassed, IsAsInLog, IsSecond, IsShownBefore, ListsReadyOf, IsListOf, IsChain, decided_cut}
+use Rattle.kt_checker.proofs.Deciding.{decided_once, members_before, unwilling_before, beginning_stays}
 
 -- how an instance began, as gathered
-beginning_listed : (list : List Instance) (rows : List Event) (k : ℕ) → Gathered list rows → beginning_of (past rows) k ≡ option_map beginning_gathered (at_number list k)
-beginning_listed list rows zero h = refl
-beginning_listed list rows (suc k) h = ap (λ (l : List Beginning). slice_get l k) (sym h.begun) ∙ slice_get-map beginning_gathered list k
+beginning_listed : {certs : List Certificate} (list : List Instance) (rows : List Event) (k : ℕ) → Gathered certs list rows → beginning_of (past rows) k ≡ option_map beginning_gathered (at_number list k)
+beginning_listed {certs} list rows zero h = refl
+beginning_listed {certs} list rows (suc k) h = ap (λ (l : List Beginning). slice_get l k) (sym h.begun) ∙ slice_get-map beginning_gathered list k
 
 begun_is : (s : Past) (k : ℕ) → has_begun s k ≡ true → (b : Beginning) × (beginning_of s k ≡ Some b)
 begun_is s zero e =
@@ -47,9 +47,9 @@ begun_is s (suc k) e =
     item_there s.begun k (grind (arith, nat_tests, parts.1))
 
 -- it is known just before the decided row
-pub beginning_then : (list : List Instance) (rows : List Event) (n p k : ℕ) (commit : Bool) (v : Instance) → IsLegal rows → Gathered list rows → at_number list k ≡ Some v → slice_get rows n ≡ Some (event.Decided p k commit)
+pub beginning_then : {certs : List Certificate} (list : List Instance) (rows : List Event) (n p k : ℕ) (commit : Bool) (v : Instance) → IsLegal rows → Gathered certs list rows → at_number list k ≡ Some v → slice_get rows n ≡ Some (event.Decided p k commit)
     → beginning_of (past (take n rows)) k ≡ Some (beginning_gathered v)
-beginning_then list rows n p k commit v l h there at =
+beginning_then {certs} list rows n p k commit v l h there at =
     let numbers = (kept (past (take n rows)) (event.Decided p k commit) (next_unbroken rows n (event.Decided p k commit) l at)).numbers in
     let first = begun_is (past (take n rows)) k numbers in
     let last = beginning_stays rows n k first.0 first.1 in
@@ -75,9 +75,9 @@ pub within : (rows : List Event) (n : ℕ) (x : Event) → slice_get rows n ≡ 
 within rows n x e = omega (arith, slice_get_within rows n x e)
 
 -- a certificate that says what was gathered of a decided instance is as the log has it
-pub as_in_log : (list : List Instance) (rows : List Event) (c : Certificate) (v : Instance) (d : Decision) (n p : ℕ) → IsLegal rows → Gathered list rows → at_number list c.inst ≡ Some v
+pub as_in_log : {certs : List Certificate} (list : List Instance) (rows : List Event) (c : Certificate) (v : Instance) (d : Decision) (n p : ℕ) → IsLegal rows → Gathered certs list rows → at_number list c.inst ≡ Some v
     → slice_get rows n ≡ Some (event.Decided p c.inst d.commit) → v.kind ≡ c.kind → v.initiator ≡ c.initiator → d.commit ≡ c.commit → (c.commit ≡ false → c.members ≡ []) → IsAsInLog rows c n
-as_in_log list rows c v d n p l h there at of_kind initiator commit no_members =
+as_in_log {certs} list rows c v d n p l h there at of_kind initiator commit no_members =
     let began = beginning_then list rows n p c.inst d.commit v l h there at in
     record {
       process = p;
@@ -87,30 +87,23 @@ as_in_log list rows c v d n p l h there at of_kind initiator commit no_members =
       no_members = no_members;
     }
 
--- the members gathered of a rollback are the processes that were ready just before the decided row
-pub ready_in_joined : (list : List Instance) (rows : List Event) (c : Certificate) (v : Instance) (n p : ℕ) (commit : Bool) → IsLegal rows → Gathered list rows → at_number list c.inst ≡ Some v
-    → slice_get rows n ≡ Some (event.Decided p c.inst commit) → kind_of (past (take n rows)) c.inst ≡ Some c.kind → ListsReadyOf (past (take n rows)) c v.members.items
-ready_in_joined list rows c v n p commit l h there at of_kind = λ rollback q.
-    let ready = ready_members (take n rows) c.inst q (legal_take n rows l) (of_kind ∙ ap Some rollback) in
-    let listed : v.members.items ≡ members rows c.inst = ap members_gathered (sym there) ∙ h.members_listed c.inst in
-    let joined : v.members.items ≡ members (take n rows) c.inst = listed ∙ members_before rows n p c.inst commit l at in
-    (λ e. subst (λ (t : List ℕ). Contains t q) (sym joined) (ready.0 e), λ e. ready.1 (subst (λ (t : List ℕ). Contains t q) joined e))
+-- the members of a rollback are the processes that were ready just before the decided row
+pub ready_in_joined : (rows : List Event) (c : Certificate) (n : ℕ) → IsLegal rows → kind_of (past (take n rows)) c.inst ≡ Some c.kind → ListsReadyOf (past (take n rows)) c (members (take n rows) c.inst)
+ready_in_joined rows c n l of_kind = λ rollback q. ready_members (take n rows) c.inst q (legal_take n rows l) (of_kind ∙ ap Some rollback)
 
-pub passes_of : (list : List Instance) (rows : List Event) (c : Certificate) (v : Instance) (d : Decision) → IsLegal rows → Gathered list rows → at_number list c.inst ≡ Some v → v.decision ≡ Some d
-    → v.kind ≡ c.kind → v.initiator ≡ c.initiator → d.commit ≡ c.commit → (c.commit ≡ false → c.members ≡ []) → v.refused ≡ not d.commit
-    → ((n : ℕ) → d.commit ≡ true → d.row ≡ n + 1 → n ≤ length rows → ListsReadyOf (past (take n rows)) c v.members.items → IsShownBefore (past (take n rows)) c v.members.items)
-    → Passes rows c
-passes_of list rows c v d l h there decided of_kind initiator commit no_members refused shown =
-    let found : IsDecision rows c.inst (Some d) = subst (IsDecision rows c.inst) decided (subst (λ (o : Option Instance). IsDecision rows c.inst (decision_gathered o)) there (h.decision c.inst)) in
+pub passes_of : {certs : List Certificate} (list : List Instance) (rows : List Event) (c : Certificate) (i : ℕ) (v : Instance) (d : Decision) → IsLegal rows → Gathered certs list rows → at_number list c.inst ≡ Some v → v.decision ≡ Some d
+    → v.kind ≡ c.kind → v.initiator ≡ c.initiator → d.commit ≡ c.commit → (c.commit ≡ false → c.members ≡ []) → slice_get certs i ≡ Some c → (IsSecond certs i c → ⊥) → d.fault ≡ None → Passes rows c
+passes_of {certs} list rows c i v d l h there decided of_kind initiator commit no_members at first none =
+    let found : IsDecision certs rows c.inst (Some d) = subst (IsDecision certs rows c.inst) decided (subst (λ (o : Option Instance). IsDecision certs rows c.inst (decision_gathered o)) there (h.decision c.inst)) in
     let n : ℕ = found.0 in
     let instance = as_in_log list rows c v d n found.1 l h there found.3 of_kind initiator commit no_members in
-    let listed : v.members.items ≡ members rows c.inst = ap members_gathered (sym there) ∙ h.members_listed c.inst in
+    let finding = found.5 i c at refl first in
     record {
       row = n;
       instance = instance;
-      cause = sym (ap refused_gathered (sym there) ∙ h.refused c.inst) ∙ (refused ∙ ap not commit);
-      shown = λ yes_commit. subst (IsShownBefore (past (take n rows)) c) listed
-          (shown n (commit ∙ yes_commit) found.2 (within rows n _ found.3) (ready_in_joined list rows c v n found.1 d.commit l h there found.3 instance.kind));
+      cause = unwilling_before rows n found.1 c.inst d.commit l found.3 ∙ (finding.cause none ∙ ap not commit);
+      shown = λ yes_commit. subst (IsShownBefore (past (take n rows)) c) (sym (members_before rows n found.1 c.inst d.commit l found.3))
+          (finding.shown none (commit ∙ yes_commit) (ready_in_joined rows c n l instance.kind));
     }
 
 -- of a decided row, its certificate passes at this row

@@ -1,14 +1,17 @@
 -- What was gathered of each instance of a log.
-use Rattle.std.specs.Prelude.{◌≡◌, ℕ, ◌+◌, Bool, false, Option, Some, None, List, [], map, slice_get}
-use Rattle.kt_base.specs.Numbers.{IsInstNo}
+use Rattle.std.specs.Prelude.{◌≡◌, ℕ, ◌+◌, Bool, true, false, not, Option, Some, None, List, [], map, take, slice_get}
 use Rattle.kt_spacetime.specs.declared.event.Event.{Event}
 use Rattle.kt_spacetime.specs.declared.event.Event.TheVariants.{Decided}
-use Rattle.kt_cuts.specs.Past.{Beginning, past}
+use Rattle.kt_cuts.specs.Past.{Past, Beginning, past}
 use Rattle.kt_cuts.specs.Chains.{members}
 use Rattle.kt_cuts.specs.Standing.{at_number}
 use Rattle.kt_checker.specs.declared.decisions.Instance.{Instance}
 use Rattle.kt_checker.specs.declared.decisions.Decision.{Decision}
+use Rattle.kt_chain.specs.declared.certificate.Certificate.{Certificate}
+use Rattle.kt_checker.specs.declared.verdict.Why.{Why}
 use Rattle.kt_checker.specs.Unwilling.{has_unwilling}
+use Rattle.kt_checker.specs.Passing.{IsSecond, IsShownBefore, ListsReadyOf}
+use Rattle.kt_checker.specs.Order.{IsWrong}
 
 abbrev pub beginning_gathered : Instance → Beginning
 beginning_gathered v = record { initiator = v.initiator; kind = v.kind }
@@ -25,18 +28,29 @@ abbrev pub decision_gathered : Option Instance → Option Decision
 decision_gathered None = None
 decision_gathered (Some v) = v.decision
 
--- the decided row of an instance, and whether it commits; or no row decides it
-abbrev pub IsDecision : List Event → ℕ → Option Decision → Type 0
-IsDecision rows k None = (n p : ℕ) (commit : Bool) → slice_get rows n ≡ Some (Decided p k commit) → ⊥
-IsDecision rows k (Some d) = (n : ℕ) × (p : ℕ) × (d.row ≡ n + 1) × (slice_get rows n ≡ Some (Decided p k d.commit))
+-- a row decides an instance, and a certificate of it was tested there: what is first wrong with it, or nothing is
+pub record IsFinding (s : Past) (joined : List ℕ) (refused : Bool) (commit : Bool) (c : Certificate) (fault : Option Why) : Type 0 where
+  pub cause : fault ≡ None → refused ≡ not commit
+  pub shown : fault ≡ None → commit ≡ true → ListsReadyOf s c joined → IsShownBefore s c joined
+  pub wrong : (why : Why) → fault ≡ Some why → commit ≡ c.commit → ListsReadyOf s c joined → IsWrong s joined refused c why
 
--- the instances are those of these rows
-pub record Gathered (instances : List Instance) (rows : List Event) : Type 0 where
+-- after these rows the next one decides an instance: this was found of its first certificate
+abbrev pub IsFoundFirst : List Certificate → List Event → ℕ → Bool → Option Why → Type 0
+IsFoundFirst certificates rows k commit fault =
+    (i : ℕ) (c : Certificate) → slice_get certificates i ≡ Some c → c.inst ≡ k → (IsSecond certificates i c → ⊥)
+    → IsFinding (past rows) (members rows k) (has_unwilling rows k) commit c fault
+
+-- the decided row of an instance, whether it commits, and what was found there of its first certificate; or no row
+-- decides it
+abbrev pub IsDecision : List Certificate → List Event → ℕ → Option Decision → Type 0
+IsDecision certificates rows k None = (n p : ℕ) (commit : Bool) → slice_get rows n ≡ Some (Decided p k commit) → ⊥
+IsDecision certificates rows k (Some d) =
+    (n : ℕ) × (p : ℕ) × (d.row ≡ n + 1) × (slice_get rows n ≡ Some (Decided p k d.commit))
+    × (d.inst ≡ k) × IsFoundFirst certificates (take n rows) k d.commit d.fault
+
+-- the instances are those of these rows, with what was found of these certificates
+pub record Gathered (certificates : List Certificate) (instances : List Instance) (rows : List Event) : Type 0 where
   pub begun : map beginning_gathered instances ≡ (past rows).begun
   pub members_listed : (k : ℕ) → members_gathered (at_number instances k) ≡ members rows k
   pub refused : (k : ℕ) → refused_gathered (at_number instances k) ≡ has_unwilling rows k
-  pub decision : (k : ℕ) → IsDecision rows k (decision_gathered (at_number instances k))
-
--- the numbers of decided instances are numbers of instances
-abbrev pub AreNumbered : List Instance → Type 0
-AreNumbered instances = (k : ℕ) (v : Instance) (d : Decision) → slice_get instances k ≡ Some v → v.decision ≡ Some d → IsInstNo (k + 1)
+  pub decision : (k : ℕ) → IsDecision certificates rows k (decision_gathered (at_number instances k))

@@ -4,7 +4,11 @@ pub use Rattle.kt_cuts.specs.Cuts
 pub use Rattle.kt_cuts.specs.Chains
 pub use Rattle.kt_cuts.specs.Least
 pub mod Unwilling
-pub mod Gathered
 pub mod Passing
 pub mod Order
+pub mod Gathered
 pub mod Missing
+pub mod Words
+pub mod Soundness
+pub mod Judged
+pub mod Streamed

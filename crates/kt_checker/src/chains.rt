@@ -4,20 +4,20 @@ ghost use Rattle.std.specs.Prelude.{◌≡◌, ◌↔◌, ℕ, ◌<◌, Some, Li
 ghost use Rattle.kt_spacetime.specs.declared.event.Event.{Event};
 ghost use Rattle.kt_cuts.specs.Past.{Past, past};
 ghost use Rattle.kt_cuts.specs.Legal.{IsLegal};
-ghost use Rattle.kt_cuts.specs.HistoriesOf.{HistoriesOf};
+ghost use Rattle.kt_cuts.specs.WalkOf.{WalkOf};
 ghost use Rattle.kt_checker.specs.Passing.{IsListOf, HasLists, IsChain, ListsReady, decided_cut};
 
 use kt_base::{Kind, MsgNo, ProcNo};
 use kt_chain::{Certificate, Chain};
-use kt_cuts::{Cut, Histories};
+use kt_cuts::{Cut, Walk};
 
 /// Whether each member's list is a chain for it.
-pub(crate) fn has_chains(histories: &Histories, certificate: &Certificate) -> bool
-    ensures lists { (rows : List Event) → HistoriesOf histories.now rows → IsTrue result → HasLists (past rows) certificate.now }
-    ensures exact { (rows : List Event) → HistoriesOf histories.now rows → IsLegal rows → IsTrue result ↔ HasLists (past rows) certificate.now }
+pub(crate) fn has_chains(walk: &Walk, certificate: &Certificate) -> bool
+    ensures lists { (rows : List Event) → WalkOf walk.now rows → IsTrue result → HasLists (past rows) certificate.now }
+    ensures exact { (rows : List Event) → WalkOf walk.now rows → IsLegal rows → IsTrue result ↔ HasLists (past rows) certificate.now }
 {
     for (process, chain) in certificate.members.list() {
-        if !is_chain(histories, certificate, *process, chain) {
+        if !is_chain(walk, certificate, *process, chain) {
             return false;
         }
     }
@@ -25,15 +25,10 @@ pub(crate) fn has_chains(histories: &Histories, certificate: &Certificate) -> bo
 }
 
 // Whether a list is a chain for a member: none for the initiator, else messages that lead from the initiator to it.
-fn is_chain(
-    histories: &Histories,
-    certificate: &Certificate,
-    process: ProcNo,
-    chain: &Chain,
-) -> bool
-    ensures lists { (rows : List Event) → HistoriesOf histories.now rows → IsTrue result →
+fn is_chain(walk: &Walk, certificate: &Certificate, process: ProcNo, chain: &Chain) -> bool
+    ensures lists { (rows : List Event) → WalkOf walk.now rows → IsTrue result →
         IsListOf (past rows) certificate.now.inst certificate.now.kind certificate.now.initiator process chain.now }
-    ensures exact { (rows : List Event) → HistoriesOf histories.now rows → IsLegal rows →
+    ensures exact { (rows : List Event) → WalkOf walk.now rows → IsLegal rows →
         IsTrue result ↔ IsListOf (past rows) certificate.now.inst certificate.now.kind certificate.now.initiator process chain.now }
 {
     if process == certificate.initiator {
@@ -41,7 +36,7 @@ fn is_chain(
     }
     let mut at = certificate.initiator;
     for msg in chain.messages() {
-        let Some(next) = next_in_chain(histories, certificate, at, *msg) else {
+        let Some(next) = next_in_chain(walk, certificate, at, *msg) else {
             return false;
         };
         at = next;
@@ -50,16 +45,11 @@ fn is_chain(
 }
 
 // Where a linking message leads from a process: to its sender in a checkpoint, to its receiver in a rollback.
-fn next_in_chain(
-    histories: &Histories,
-    certificate: &Certificate,
-    at: ProcNo,
-    msg: MsgNo,
-) -> Option<ProcNo>
-    ensures found { IfSome result (λ next. (rows : List Event) → HistoriesOf histories.now rows → IsChain (past rows) certificate.now.inst certificate.now.kind at (msg ∷ []) next) }
-    ensures none { IfNone result ((rows : List Event) (next : ℕ) → HistoriesOf histories.now rows → IsLegal rows → IsChain (past rows) certificate.now.inst certificate.now.kind at (msg ∷ []) next → ⊥) }
+fn next_in_chain(walk: &Walk, certificate: &Certificate, at: ProcNo, msg: MsgNo) -> Option<ProcNo>
+    ensures found { IfSome result (λ next. (rows : List Event) → WalkOf walk.now rows → IsChain (past rows) certificate.now.inst certificate.now.kind at (msg ∷ []) next) }
+    ensures none { IfNone result ((rows : List Event) (next : ℕ) → WalkOf walk.now rows → IsLegal rows → IsChain (past rows) certificate.now.inst certificate.now.kind at (msg ∷ []) next → ⊥) }
 {
-    let Some(trace) = histories.trace(msg) else {
+    let Some(trace) = walk.trace(msg) else {
         return None;
     };
     let Some(received) = trace.received else {
@@ -68,12 +58,12 @@ fn next_in_chain(
     let Some(sent) = trace.sent else {
         return None;
     };
-    if sent <= histories.permanent(trace.from) {
+    if sent <= walk.permanent(trace.from) {
         return None;
     }
     match certificate.kind {
         Kind::Checkpoint => {
-            let Some(position) = histories.position(certificate.inst, at) else {
+            let Some(position) = walk.position(certificate.inst, at) else {
                 return None;
             };
             if trace.to != at {
@@ -95,32 +85,32 @@ fn next_in_chain(
 }
 
 /// The cut that the decision makes: of a checkpoint the new positions beside the others' permanent ones, of a rollback
-/// the permanent positions beside the others' whole histories.
-pub(crate) fn cut_of(histories: &Histories, certificate: &Certificate) -> Cut
-    ensures { (rows : List Event) (p : ℕ) → HistoriesOf histories.now rows → ListsReady (past rows) certificate.now → p < 64 → slice_index result p ≡ decided_cut (past rows) certificate.now.inst certificate.now.kind p }
+/// the permanent positions beside the others' whole walk.
+pub(crate) fn cut_of(walk: &Walk, certificate: &Certificate) -> Cut
+    ensures { (rows : List Event) (p : ℕ) → WalkOf walk.now rows → ListsReady (past rows) certificate.now → p < 64 → slice_index result p ≡ decided_cut (past rows) certificate.now.inst certificate.now.kind p }
 {
     let mut cut = Cut::new([0; 64]);
     for number in 0..ProcNo::COUNT {
         let p = process_no(number);
-        cut.set(p, length_in_cut(histories, certificate, p));
+        cut.set(p, length_in_cut(walk, certificate, p));
     }
     cut
 }
 
 // A process's length in that cut.
-fn length_in_cut(histories: &Histories, certificate: &Certificate, p: ProcNo) -> usize
-    ensures { (rows : List Event) → HistoriesOf histories.now rows → ListsReady (past rows) certificate.now → result ≡ decided_cut (past rows) certificate.now.inst certificate.now.kind p }
+fn length_in_cut(walk: &Walk, certificate: &Certificate, p: ProcNo) -> usize
+    ensures { (rows : List Event) → WalkOf walk.now rows → ListsReady (past rows) certificate.now → result ≡ decided_cut (past rows) certificate.now.inst certificate.now.kind p }
 {
     match certificate.kind {
-        Kind::Checkpoint => match histories.position(certificate.inst, p) {
+        Kind::Checkpoint => match walk.position(certificate.inst, p) {
             Some(position) => position,
-            None => histories.permanent(p),
+            None => walk.permanent(p),
         },
         Kind::Rollback => {
             if is_listed(certificate, p) {
-                histories.permanent(p)
+                walk.permanent(p)
             } else {
-                histories.length(p)
+                walk.length(p)
             }
         }
     }

@@ -1,29 +1,30 @@
 //! The checker's order.
 
-ghost use Rattle.std.specs.Prelude.{◌≡◌, ℕ, ◌≤◌, ◌<◌, ◌+◌, ◌↔◌, ◌⊎◌, not, Bool, true, false, Some, None, [], length, map, take, slice_get, List, IfOk, IsTrue, IfSome};
+ghost use Rattle.std.specs.Prelude.{◌≡◌, ℕ, ◌≤◌, ◌+◌, ◌++◌, ◌∷◌, ◌↔◌, ◌⊎◌, not, Bool, true, false, Some, None, [], length, take, slice_get, List, IfOk, IsTrue, IfSome};
 ghost use Rattle.kt_cuts.specs.Past.{past, is_checkpoint, is_rollback};
 ghost use Rattle.kt_cuts.specs.Legal.{IsLegal};
 ghost use Rattle.kt_cuts.specs.Cuts.{IsConsistent, permanent_cut, present_cut};
 ghost use Rattle.kt_cuts.specs.Least.{IsLeastCheckpointSet, IsLeastRollbackSet};
+ghost use Rattle.kt_spacetime.specs.declared.event.Event.{Event};
 ghost use Rattle.kt_spacetime.specs.declared.event.Event.TheVariants.{Decided};
 ghost use Rattle.kt_chain.specs.declared.certificate.Certificate.{Certificate};
 ghost use Rattle.kt_checker.specs.Unwilling.{has_unwilling};
 ghost use Rattle.kt_cuts.specs.Standing.{at_number};
 ghost use Rattle.kt_checker.specs.declared.verdict.Verdict.TheVariants.{Yes, No};
 ghost use Rattle.kt_checker.specs.declared.verdict.Why.{Why};
-ghost use Rattle.kt_checker.specs.Gathered.{Gathered, AreNumbered};
-ghost use Rattle.kt_checker.specs.Passing.{Passes, IsPassed, IsSecond, AreComplete, IsShownBefore, ListsReadyOf};
-ghost use Rattle.kt_checker.specs.Order.{IsAnswer, IsBadLog, IsUnknown, IsRefuted, IsWrong};
+ghost use Rattle.kt_checker.specs.Gathered.{Gathered};
+ghost use Rattle.kt_checker.specs.Judged.{IsFew, JudgeOf};
+ghost use Rattle.kt_checker.specs.Passing.{Passes, IsPassed, IsSecond, AreComplete};
+ghost use Rattle.kt_checker.specs.Order.{IsAnswer, IsBadLog, IsUnknown, IsRefuted};
 ghost use Rattle.kt_checker.specs.Missing.{AnswersMissing};
-ghost use Rattle.kt_base.specs.Numbers.{IsInstNo};
 
-use crate::chains::{cut_of, has_chains};
 use crate::decisions::{Decision, Instance, Instances};
+use crate::judge::Judge;
 use crate::verdict::{Verdict, Why};
 use kt_base::{InstNo, Memory, RowNo};
 use kt_chain::Certificate;
-use kt_cuts::{Histories, LegalFault, legal};
-use kt_spacetime::SpaceTime;
+use kt_cuts::LegalFault;
+use kt_spacetime::{Event, SpaceTime};
 use std::alloc::Global;
 
 /// Judges a log and its certificates: yes, or the first fault in the checker's order.
@@ -66,53 +67,62 @@ pub fn check(
 fn judged(alloc: Global, log: &SpaceTime, certificates: &[Certificate]) -> Result<Verdict, Memory>
     ensures { IfOk result (λ verdict. IsAnswer log.now.rows certificates.now verdict) }
 {
-    if let Some(verdict) = illegal(alloc, log)? {
-        return Ok(verdict);
+    let mut judge = Judge::new(alloc, certificates)?;
+    for row in log.rows() {
+        if let Some(verdict) = fed(&mut judge, certificates, row)? {
+            return Ok(verdict);
+        }
     }
-    let instances = Instances::of(alloc, log)?;
+    verdict(alloc, &judge.instances, certificates)
+}
+
+/// One more row; the answer where it breaks a rule.
+pub(crate) fn fed(
+    judge: &mut Judge,
+    certificates: &[Certificate],
+    row: &Event,
+) -> Result<Option<Verdict>, Memory>
+    requires few { IsFew judge.old }
+    ensures fed { IfOk result (λ answer. answer ≡ None → (rows : List Event) → JudgeOf judge.old certificates.now rows → JudgeOf judge.new certificates.now (rows ++ row.now ∷ [])) }
+    ensures bad { IfOk result (λ answer. IfSome answer (λ v. (rows : List Event) → JudgeOf judge.old certificates.now rows → IsBadLog (rows ++ row.now ∷ []) v)) }
+{
+    let Err(fault) = judge.feed(certificates, row) else {
+        return Ok(None);
+    };
+    let LegalFault::Broken(number, rule) = fault else {
+        return Err(Memory);
+    };
+    Ok(Some(no(None, Some(number), Why::BadLog(rule))))
+}
+
+/// The answer to a legal log, of what was gathered from all its rows.
+pub(crate) fn verdict(
+    alloc: Global,
+    instances: &Instances,
+    certificates: &[Certificate],
+) -> Result<Verdict, Memory>
+    ensures { IfOk result (λ verdict. (rows : List Event) → IsLegal rows → Gathered certificates.now instances.now.list.items rows → IsAnswer rows certificates.now verdict) }
+{
     let mut seen = vec![in alloc; false; instances.len()]?;
     for certificate in certificates {
         let is_seen = is_marked(&seen, certificate.inst);
-        if let Some(verdict) = refuted(alloc, log, &instances, is_seen, certificate)? {
+        if let Some(verdict) = refuted(instances, is_seen, certificate) {
             return Ok(verdict);
         }
         mark(&mut seen, certificate.inst);
     }
-    Ok(missing(&instances, &seen))
-}
-
-// The answer to a log that is not legal.
-fn illegal(alloc: Global, log: &SpaceTime) -> Result<Option<Verdict>, Memory>
-    ensures legal { IfOk result (λ verdict. verdict ≡ None → IsLegal log.now.rows) }
-    ensures bad { IfOk result (λ verdict. IfSome verdict (λ v. IsBadLog log.now.rows v)) }
-{
-    let Err(fault) = legal(alloc, log) else {
-        return Ok(None);
-    };
-    let LegalFault::Broken(row, rule) = fault else {
-        return Err(Memory);
-    };
-    Ok(Some(no(None, Some(row), Why::BadLog(rule))))
+    Ok(missing(instances, &seen))
 }
 
 // The answer where every certificate passed.
 fn missing(instances: &Instances, seen: &[bool]) -> Verdict
-    requires many { length seen.now ≡ length instances.now.list.items }
-    requires numbers { AreNumbered instances.now.list.items }
+    requires { length seen.now ≡ length instances.now.list.items }
     ensures { AnswersMissing instances.now.list.items seen.now result }
 {
     match instances.first_missing(seen) {
-        Some(found) => no(instance_no(found.0), Some(found.1), Why::Missing),
+        Some(lacks) => no(Some(lacks.inst), Some(lacks.row), Why::Missing),
         None => Verdict::Yes,
     }
-}
-
-// The number of the instance at an index.
-fn instance_no(index: usize) -> Option<InstNo>
-    requires { IsInstNo (index + 1) }
-    ensures { result ≡ Some (index + 1) }
-{
-    InstNo::new((index + 1) as u16)
 }
 
 fn no(inst: Option<InstNo>, row: Option<RowNo>, why: Why) -> Verdict
@@ -142,37 +152,31 @@ fn mark(seen: &mut [bool], inst: InstNo)
 }
 
 // The answer to a certificate that does not pass, after those before it.
-fn refuted(
-    alloc: Global,
-    log: &SpaceTime,
-    instances: &Instances,
-    is_seen: bool,
-    certificate: &Certificate,
-) -> Result<Option<Verdict>, Memory>
-    requires legal { IsLegal log.now.rows }
-    requires gathered { Gathered instances.now.list.items log.now.rows }
-    ensures passes { IfOk result (λ verdict. verdict ≡ None → Passes log.now.rows certificate.now) }
-    ensures listed { IfOk result (λ verdict. verdict ≡ None → certificate.now.inst ≤ length instances.now.list.items) }
-    ensures fresh { IfOk result (λ verdict. verdict ≡ None → IsTrue is_seen → ⊥) }
-    ensures refused { IfOk result (λ verdict. IfSome verdict (λ v. (certificates : List Certificate) (i : ℕ) → (IsTrue is_seen ↔ IsSecond certificates i certificate.now)
-        → IsUnknown log.now.rows certificates i certificate.now v ⊎ IsRefuted log.now.rows certificates i certificate.now v)) }
+fn refuted(instances: &Instances, is_seen: bool, certificate: &Certificate) -> Option<Verdict>
+    ensures passes { result ≡ None → (certificates : List Certificate) (rows : List Event) (i : ℕ) → IsLegal rows → Gathered certificates instances.now.list.items rows
+        → slice_get certificates i ≡ Some certificate.now → (IsTrue is_seen ↔ IsSecond certificates i certificate.now) → Passes rows certificate.now }
+    ensures listed { result ≡ None → certificate.now.inst ≤ length instances.now.list.items }
+    ensures fresh { result ≡ None → IsTrue is_seen → ⊥ }
+    ensures refused { IfSome result (λ v. (certificates : List Certificate) (rows : List Event) (i : ℕ) → IsLegal rows → Gathered certificates instances.now.list.items rows
+        → slice_get certificates i ≡ Some certificate.now → (IsTrue is_seen ↔ IsSecond certificates i certificate.now)
+        → IsUnknown rows certificates i certificate.now v ⊎ IsRefuted rows certificates i certificate.now v) }
 {
     let inst = certificate.inst;
     let Some(instance) = instances.get(inst) else {
-        return Ok(Some(no(Some(inst), None, Why::Unknown)));
+        return Some(no(Some(inst), None, Why::Unknown));
     };
     let Some(decision) = instance.decision else {
-        return Ok(Some(no(Some(inst), None, Why::Unknown)));
+        return Some(no(Some(inst), None, Why::Unknown));
     };
     if is_seen {
-        return Ok(Some(no(Some(inst), None, Why::Unknown)));
+        return Some(no(Some(inst), None, Why::Unknown));
     }
     if !is_as_certified(instance, &decision, certificate) {
-        return Ok(Some(no(Some(inst), None, Why::Unknown)));
+        return Some(no(Some(inst), None, Why::Unknown));
     }
-    match fault_in(alloc, log, instance, &decision, certificate)? {
-        Some(why) => Ok(Some(no(Some(inst), Some(decision.row), why))),
-        None => Ok(None),
+    match decision.fault {
+        Some(why) => Some(no(Some(inst), Some(decision.row), why)),
+        None => None,
     }
 }
 
@@ -189,59 +193,4 @@ fn is_as_certified(instance: &Instance, decision: &Decision, certificate: &Certi
         && instance.initiator == certificate.initiator
         && decision.commit == certificate.commit
         && (certificate.commit || certificate.members.list().is_empty())
-}
-
-// What is first wrong with a certificate of a decided instance.
-fn fault_in(
-    alloc: Global,
-    log: &SpaceTime,
-    instance: &Instance,
-    decision: &Decision,
-    certificate: &Certificate,
-) -> Result<Option<Why>, Memory>
-    requires legal { IsLegal log.now.rows }
-    ensures cause { IfOk result (λ why. why ≡ None → instance.now.refused ≡ not decision.now.commit) }
-    ensures shown { IfOk result (λ why. (n : ℕ) → why ≡ None → decision.now.commit ≡ true → decision.now.row ≡ n + 1 → n ≤ length log.now.rows →
-        ListsReadyOf (past (take n log.now.rows)) certificate.now instance.now.members.items → IsShownBefore (past (take n log.now.rows)) certificate.now instance.now.members.items) }
-    ensures wrong { IfOk result (λ answer. (why : Why) (n : ℕ) → answer ≡ Some why → decision.now.commit ≡ certificate.now.commit → decision.now.row ≡ n + 1 → n ≤ length log.now.rows →
-        ListsReadyOf (past (take n log.now.rows)) certificate.now instance.now.members.items → IsWrong (past (take n log.now.rows)) instance.now.members.items instance.now.refused certificate.now why) }
-{
-    if decision.commit == instance.refused {
-        return Ok(Some(Why::Cause));
-    }
-    if !decision.commit {
-        return Ok(None);
-    }
-    if !lists_members(instance, certificate) {
-        return Ok(Some(Why::Members));
-    }
-    let before = decision.row.get() as usize - 1;
-    if before > log.rows().len() {
-        return Ok(Some(Why::Orphan));
-    }
-    let histories = Histories::of(alloc, log, before)?;
-    if !has_chains(&histories, certificate) {
-        return Ok(Some(Why::Chain));
-    }
-    let cut = cut_of(&histories, certificate);
-    match histories.first_orphan(&cut) {
-        Some(_) => Ok(Some(Why::Orphan)),
-        None => Ok(None),
-    }
-}
-
-// Whether a certificate lists the members in the order in which they joined.
-fn lists_members(instance: &Instance, certificate: &Certificate) -> bool
-    ensures { IsTrue result ↔ (map (λ m. m.0) certificate.now.members ≡ instance.now.members.items) }
-{
-    let listed = certificate.members.list();
-    if listed.len() != instance.members.len() {
-        return false;
-    }
-    for index in 0..listed.len() {
-        if instance.members[index] != listed[index].0 {
-            return false;
-        }
-    }
-    true
 }

@@ -1,25 +1,30 @@
 //! What a log says of each instance: how it began, who joined, how it was decided.
 
-ghost use Rattle.std.specs.Prelude.{◌≡◌, ◌<◌, ◌+◌, ◌^◌, ◌++◌, ◌∷◌, [], ℕ, List, Some, length, IfOk, IfNone, IfSome, IsTrue, OnOk};
+ghost use Rattle.std.specs.Prelude.{◌≡◌, ◌+◌, ◌++◌, ◌∷◌, [], ℕ, Bool, List, Some, length, IfNone, IfSome, IsTrue, OnOk};
 ghost use Rattle.std.specs.Option.{option_copied};
 ghost use Rattle.kt_spacetime.specs.declared.event.Event.{Event};
 ghost use Rattle.kt_spacetime.specs.declared.event.Event.TheVariants as event;
 ghost use Rattle.kt_base.specs.declared.words.Cause.{Cause};
 ghost use Rattle.kt_cuts.specs.Legal.{IsLegal};
 ghost use Rattle.kt_checker.specs.declared.decisions.Decision.{Decision};
-ghost use Rattle.kt_checker.specs.Gathered.{Gathered, AreNumbered};
+ghost use Rattle.kt_checker.specs.Gathered.{Gathered, IsFoundFirst};
+ghost use Rattle.kt_chain.specs.declared.certificate.Certificate.{Certificate};
 ghost use Rattle.kt_checker.specs.Missing.{AreSeenBefore, IsUnseen};
 ghost use Rattle.kt_cuts.specs.Standing.{at_number};
 
+use crate::verdict::Why;
 use kt_base::{InstNo, Kind, Memory, ProcNo, RowNo};
-use kt_spacetime::{Event, SpaceTime};
+use kt_spacetime::Event;
 use std::alloc::Global;
 
 /// How an instance was decided: by which row, and whether committed.
 #[derive(Clone, Copy, Debug, PartialEq, Eq)]
 pub(crate) struct Decision {
+    pub(crate) inst: InstNo,
     pub(crate) row: RowNo,
     pub(crate) commit: bool,
+    /// What is first wrong with the first certificate of the instance, but for what it says of the decision.
+    pub(crate) fault: Option<Why>,
 }
 
 /// What a log says of an instance.
@@ -42,22 +47,14 @@ pub(crate) struct Instances {
 }
 
 impl Instances {
-    /// The instances of a log.
-    pub(crate) fn of(alloc: Global, log: &SpaceTime) -> Result<Instances, Memory>
-        requires { IsLegal log.now.rows }
-        ensures gathered { IfOk result (λ instances. Gathered instances.list.items log.now.rows) }
-        ensures numbers { IfOk result (λ instances. AreNumbered instances.list.items) }
+    /// No instances.
+    pub(crate) fn new(alloc: Global) -> Instances
+        ensures { result.list.items ≡ [] }
     {
-        let mut instances = Instances {
+        Instances {
             alloc,
             list: Vec::new(alloc),
-        };
-        let mut count = 0u32;
-        for row in log.rows() {
-            instances.add(row_no(count), row)?;
-            count += 1;
         }
-        Ok(instances)
     }
 
     /// The instance of this number.
@@ -67,15 +64,15 @@ impl Instances {
         self.list.get(inst.get() as usize - 1)
     }
 
-    /// The index of the first decided instance that no certificate was seen of, with its decided row.
-    pub(crate) fn first_missing(&self, seen: &[bool]) -> Option<(usize, RowNo)>
+    /// The first decided instance that no certificate was seen of.
+    pub(crate) fn first_missing(&self, seen: &[bool]) -> Option<Decision>
         requires { length seen.now ≡ length self.now.list.items }
         ensures none { IfNone result (AreSeenBefore self.now.list.items seen.now (length self.now.list.items)) }
-        ensures missing { IfSome result (λ found. IsUnseen self.now.list.items seen.now found.0 found.1) }
+        ensures missing { IfSome result (IsUnseen self.now.list.items seen.now) }
     {
         for index in 0..self.list.len() {
-            if let Some(row) = lacking(&self.list[index], seen[index]) {
-                return Some((index, row));
+            if let Some(decision) = lacking(&self.list[index], seen[index]) {
+                return Some(decision);
             }
         }
         None
@@ -88,19 +85,42 @@ impl Instances {
         self.list.len()
     }
 
-    fn add(&mut self, number: RowNo, row: &Event) -> Result<(), Memory>
-        ensures { OnOk result ((rows : List Event) → Gathered self.old.list.items rows → number ≡ length rows + 1 → IsLegal (rows ++ row.now ∷ []) → Gathered self.new.list.items (rows ++ row.now ∷ [])) }
+    /// One more row, of this number, and where it decides an instance what was found of its first certificate.
+    pub(crate) fn add(
+        &mut self,
+        number: RowNo,
+        row: &Event,
+        fault: Option<Why>,
+    ) -> Result<(), Memory>
+        ensures { OnOk result ((certificates : List Certificate) (rows : List Event) → Gathered certificates self.old.list.items rows → number ≡ length rows + 1 → IsLegal (rows ++ row.now ∷ [])
+            → ((p k : ℕ) (commit : Bool) → row.now ≡ event.Decided p k commit → IsFoundFirst certificates rows k commit fault)
+            → Gathered certificates self.new.list.items (rows ++ row.now ∷ [])) }
     {
         match *row {
-            Event::Began { p, kind, .. } => self.begin(p, kind),
-            Event::Took { p, inst } => join(&mut self.list, p, inst),
-            Event::Ready { p, inst } => join(&mut self.list, p, inst),
+            Event::Began { p, kind, .. } => {
+                self.begin(p, kind)?;
+                Ok(())
+            }
+            Event::Took { p, inst } => {
+                join(&mut self.list, p, inst)?;
+                Ok(())
+            }
+            Event::Ready { p, inst } => {
+                join(&mut self.list, p, inst)?;
+                Ok(())
+            }
             Event::Unwilling { inst, .. } => {
                 refuse(&mut self.list, inst);
                 Ok(())
             }
             Event::Decided { inst, commit, .. } => {
-                decide(&mut self.list, inst, number, commit);
+                let decision = Decision {
+                    inst,
+                    row: number,
+                    commit,
+                    fault,
+                };
+                decide(&mut self.list, &decision);
                 Ok(())
             }
             Event::Sent { .. } => Ok(()),
@@ -113,7 +133,7 @@ impl Instances {
     }
 
     fn begin(&mut self, initiator: ProcNo, kind: Kind) -> Result<(), Memory>
-        ensures { OnOk result ((rows : List Event) (inst : ℕ) → Gathered self.old.list.items rows → Gathered self.new.list.items (rows ++ event.Began initiator inst kind ∷ [])) }
+        ensures { OnOk result ((certificates : List Certificate) (rows : List Event) (inst : ℕ) → Gathered certificates self.old.list.items rows → Gathered certificates self.new.list.items (rows ++ event.Began initiator inst kind ∷ [])) }
     {
         self.list.push(Instance {
             kind,
@@ -126,24 +146,22 @@ impl Instances {
     }
 }
 
-// The decided row of an instance that no certificate was seen of.
-fn lacking(instance: &Instance, is_seen: bool) -> Option<RowNo>
+// The decision of an instance that no certificate was seen of.
+fn lacking(instance: &Instance, is_seen: bool) -> Option<Decision>
     ensures none { IfNone result ((d : Decision) → instance.now.decision ≡ Some d → IsTrue is_seen) }
-    ensures decided { IfSome result (λ row. (d : Decision) × (instance.now.decision ≡ Some d) × (d.row ≡ row)) }
-    ensures unseen { IfSome result (λ row. IsTrue is_seen → ⊥) }
+    ensures decided { IfSome result (λ d. instance.now.decision ≡ Some d) }
+    ensures unseen { IfSome result (λ d. IsTrue is_seen → ⊥) }
 {
-    let Some(decision) = instance.decision else {
-        return None;
-    };
+    let decision = instance.decision?;
     if is_seen {
         return None;
     }
-    Some(decision.row)
+    Some(decision)
 }
 
 fn join(list: &mut [Instance], p: ProcNo, inst: InstNo) -> Result<(), Memory>
-    ensures took { OnOk result ((rows : List Event) → Gathered list.old rows → IsLegal (rows ++ event.Took p inst ∷ []) → Gathered list.new (rows ++ event.Took p inst ∷ [])) }
-    ensures ready { OnOk result ((rows : List Event) → Gathered list.old rows → IsLegal (rows ++ event.Ready p inst ∷ []) → Gathered list.new (rows ++ event.Ready p inst ∷ [])) }
+    ensures took { OnOk result ((certificates : List Certificate) (rows : List Event) → Gathered certificates list.old rows → IsLegal (rows ++ event.Took p inst ∷ []) → Gathered certificates list.new (rows ++ event.Took p inst ∷ [])) }
+    ensures ready { OnOk result ((certificates : List Certificate) (rows : List Event) → Gathered certificates list.old rows → IsLegal (rows ++ event.Ready p inst ∷ []) → Gathered certificates list.new (rows ++ event.Ready p inst ∷ [])) }
 {
     let index = inst.get() as usize - 1;
     if index < list.len() {
@@ -153,7 +171,7 @@ fn join(list: &mut [Instance], p: ProcNo, inst: InstNo) -> Result<(), Memory>
 }
 
 fn refuse(list: &mut [Instance], inst: InstNo)
-    ensures { (rows : List Event) (p : ℕ) (cause : Cause) → Gathered list.old rows → IsLegal (rows ++ event.Unwilling p inst cause ∷ []) → Gathered list.new (rows ++ event.Unwilling p inst cause ∷ []) }
+    ensures { (certificates : List Certificate) (rows : List Event) (p : ℕ) (cause : Cause) → Gathered certificates list.old rows → IsLegal (rows ++ event.Unwilling p inst cause ∷ []) → Gathered certificates list.new (rows ++ event.Unwilling p inst cause ∷ []) }
 {
     let index = inst.get() as usize - 1;
     if index < list.len() {
@@ -161,22 +179,13 @@ fn refuse(list: &mut [Instance], inst: InstNo)
     }
 }
 
-fn decide(list: &mut [Instance], inst: InstNo, row: RowNo, commit: bool)
-    ensures { (rows : List Event) (p : ℕ) → Gathered list.old rows → row ≡ length rows + 1 → IsLegal (rows ++ event.Decided p inst commit ∷ []) → Gathered list.new (rows ++ event.Decided p inst commit ∷ []) }
+fn decide(list: &mut [Instance], decision: &Decision)
+    ensures { (certificates : List Certificate) (rows : List Event) (p : ℕ) → Gathered certificates list.old rows → decision.now.row ≡ length rows + 1
+        → IsLegal (rows ++ event.Decided p decision.now.inst decision.now.commit ∷ []) → IsFoundFirst certificates rows decision.now.inst decision.now.commit decision.now.fault
+        → Gathered certificates list.new (rows ++ event.Decided p decision.now.inst decision.now.commit ∷ []) }
 {
-    let index = inst.get() as usize - 1;
+    let index = decision.inst.get() as usize - 1;
     if index < list.len() {
-        list[index].decision = Some(Decision { row, commit });
-    }
-}
-
-// The number of the row after this many.
-fn row_no(count: u32) -> RowNo
-    requires { count < 2 ^ 24 }
-    ensures { result ≡ count + 1 }
-{
-    match RowNo::new(count + 1) {
-        Some(row) => row,
-        None => unreachable!(),
+        list[index].decision = Some(*decision);
     }
 }

@@ -4,7 +4,11 @@
 mod chains;
 mod checking;
 mod decisions;
+mod firsts;
+mod judge;
+mod streaming;
 mod verdict;
 
 pub use checking::check;
+pub use streaming::check_stream;
 pub use verdict::{Verdict, Why};

@@ -1,5 +1,9 @@
 //! What the checker answers.
 
+ghost use Rattle.std.specs.Prelude.{Some, codes};
+ghost use Rattle.std.specs.Fmt.{DisplaysOnOk};
+ghost use Rattle.kt_checker.specs.Words.{numbered};
+
 use kt_base::{InstNo, RowNo};
 use kt_cuts::Rule;
 use std::fmt;
@@ -36,6 +40,11 @@ pub enum Verdict {
 }
 
 impl fmt::Display for Why {
+    ghost use Rattle.std.specs.Prelude.{Some};
+    ghost use Rattle.kt_checker.specs.Words.{why_words};
+
+    ghost output = { λ w. Some (why_words w) };
+
     fn fmt<W: fmt::Write>(&self, f: &mut fmt::Formatter<W>) -> fmt::Result {
         match self {
             Why::BadLog(rule) => write!(f, "BadLog {}", rule.number()),
@@ -50,19 +59,40 @@ impl fmt::Display for Why {
 }
 
 impl fmt::Display for Verdict {
+    ghost use Rattle.std.specs.Prelude.{Some};
+    ghost use Rattle.kt_checker.specs.Words.{verdict_words};
+
+    ghost output = { λ v. Some (verdict_words v) };
+
     fn fmt<W: fmt::Write>(&self, f: &mut fmt::Formatter<W>) -> fmt::Result {
         match self {
             Verdict::Yes => write!(f, "yes"),
             Verdict::No { inst, row, why } => {
                 write!(f, "no")?;
-                if let Some(inst) = inst {
-                    write!(f, " instance {inst}")?;
-                }
-                if let Some(row) = row {
-                    write!(f, " row {row}")?;
-                }
+                write_instance(f, *inst)?;
+                write_row(f, *row)?;
                 write!(f, " {why}")
             }
         }
     }
+}
+
+// The instance, where there is one.
+fn write_instance<W: fmt::Write>(f: &mut fmt::Formatter<W>, inst: Option<InstNo>) -> fmt::Result
+    ensures { DisplaysOnOk W.write_str_gives f.old result (Some (numbered (codes " instance ") inst)) f.new }
+{
+    let Some(inst) = inst else {
+        return Ok(());
+    };
+    write!(f, " instance {inst}")
+}
+
+// The row, where there is one.
+fn write_row<W: fmt::Write>(f: &mut fmt::Formatter<W>, row: Option<RowNo>) -> fmt::Result
+    ensures { DisplaysOnOk W.write_str_gives f.old result (Some (numbered (codes " row ") row)) f.new }
+{
+    let Some(row) = row else {
+        return Ok(());
+    };
+    write!(f, " row {row}")
 }

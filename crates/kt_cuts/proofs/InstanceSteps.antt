@@ -76,7 +76,7 @@ shows_same ps qs ms js is d b c s t h processes instances live dropped since las
   rows = length-append ms (None ∷ []) ∙ (ap (λ (n : ℕ). n + 1) h.rows ∙ sym rows);
 }
 
-same_instances : (js : List Instance) (s t : Past) → ShowsInstances js s → t.begun ≡ s.begun → t.verdict ≡ s.verdict → t.new ≡ s.new → t.ready ≡ s.ready → ShowsInstances js t
+pub same_instances : (js : List Instance) (s t : Past) → ShowsInstances js s → t.begun ≡ s.begun → t.verdict ≡ s.verdict → t.new ≡ s.new → t.ready ≡ s.ready → ShowsInstances js t
 same_instances js s t h b v n r = record {
   begun = h.begun ∙ sym b;
   verdict = λ k. h.verdict k ∙ ap (λ (f : ℕ → Option Bool). f k) (sym v);
@@ -109,11 +109,38 @@ shows_failed ps ms js d b s p v h low at =
     (λ q w n g. record { live = g.live; permanent = g.permanent; open_in = g.open_in; up = g.up ∙ sym (at_other p q false s.up n); dropped = g.dropped }) h.of_processes.no_more)
     (same_instances js s t h.of_instances refl refl refl refl) (λ q. refl) (λ m. refl) h.in_order.dropped refl refl
 
-not_new : (v : Instance) (q : ℕ) → has v.joined q ≡ false → new_shown (Some v) q ≡ None
+pub not_new : (v : Instance) (q : ℕ) → has v.joined q ≡ false → new_shown (Some v) q ≡ None
 not_new v q e = grind (arith, e)
 
-not_ready : (v : Instance) (q : ℕ) → has v.joined q ≡ false → ready_shown (Some v) q ≡ false
+pub not_ready : (v : Instance) (q : ℕ) → has v.joined q ≡ false → ready_shown (Some v) q ≡ false
 not_ready v q e = grind (arith, e)
+
+pub began_instances : (js : List Instance) (s : Past) (p k : ℕ) (kind : Kind) (v : Instance) → ShowsInstances js s → v.initiator ≡ p → v.kind ≡ kind → v.verdict ≡ None → ((q : ℕ) → has v.joined q ≡ false) → length v.positions ≡ 64
+    → ShowsInstances (js ++ v ∷ []) (after s (event.Began p k kind))
+began_instances js s p k kind v h initiator of_kind undecided empty positions = record {
+  begun = map-append beginning_shown js (v ∷ []) ∙ (λ i. h.begun i ++ record { initiator = initiator i; kind = of_kind i } ∷ []);
+  verdict = λ j. elim (cases_eq j (length js + 1)) [
+    | inl e ↦
+        ap verdict_shown (new_item js v j e) ∙ (undecided ∙ (sym (ap verdict_shown (no_item js j (omega (arith, e)))) ∙ h.verdict j))
+    | inr n ↦ ap verdict_shown (old_item js v j n) ∙ h.verdict j
+  ];
+  new = λ j q. elim (cases_eq j (length js + 1)) [
+    | inl e ↦
+        ap (λ (o : Option Instance). new_shown o q) (new_item js v j e) ∙ (not_new v q (empty q) ∙ (sym (ap (λ (o : Option Instance). new_shown o q) (no_item js j (omega (arith, e)))) ∙ h.new j q))
+    | inr n ↦ ap (λ (o : Option Instance). new_shown o q) (old_item js v j n) ∙ h.new j q
+  ];
+  ready = λ j q. elim (cases_eq j (length js + 1)) [
+    | inl e ↦
+        ap (λ (o : Option Instance). ready_shown o q) (new_item js v j e) ∙ (not_ready v q (empty q) ∙ (sym (ap (λ (o : Option Instance). ready_shown o q) (no_item js j (omega (arith, e)))) ∙ h.ready j q))
+    | inr n ↦ ap (λ (o : Option Instance). ready_shown o q) (old_item js v j n) ∙ h.ready j q
+  ];
+  positions = λ j w e. elim (cases_eq j (length js + 1)) [
+    | inl is ↦
+        let same : v ≡ w = some_same (sym (new_item js v j is) ∙ e) in
+        subst (λ (x : Instance). length x.positions ≡ 64) same positions
+    | inr n ↦ h.positions j w (sym (old_item js v j n) ∙ e)
+  ];
+}
 
 pub shows_began : (ps : List Process) (ms : List (Option Message)) (js : List Instance) (d : List ℕ) (b : Option (ℕ × ℕ)) (s : Past) (p k : ℕ) (kind : Kind) (v : Instance)
     → Shows ps ms js d b s → v.initiator ≡ p → v.kind ≡ kind → v.verdict ≡ None → ((q : ℕ) → has v.joined q ≡ false) → length v.positions ≡ 64
@@ -121,30 +148,7 @@ pub shows_began : (ps : List Process) (ms : List (Option Message)) (js : List In
 shows_began ps ms js d b s p k kind v h initiator of_kind undecided empty positions =
     let t : Past = after s (event.Began p k kind) in
     shows_same ps ps ms js (js ++ v ∷ []) d b (Some (p, k)) s t h (processes_same ps s t h.of_processes (λ q w g. record { live = g.live; permanent = g.permanent; open_in = g.open_in; up = g.up; dropped = g.dropped }) h.of_processes.no_more)
-    (record {
-      begun = map-append beginning_shown js (v ∷ []) ∙ (λ i. h.of_instances.begun i ++ record { initiator = initiator i; kind = of_kind i } ∷ []);
-      verdict = λ j. elim (cases_eq j (length js + 1)) [
-        | inl e ↦
-            ap verdict_shown (new_item js v j e) ∙ (undecided ∙ (sym (ap verdict_shown (no_item js j (omega (arith, e)))) ∙ h.of_instances.verdict j))
-        | inr n ↦ ap verdict_shown (old_item js v j n) ∙ h.of_instances.verdict j
-      ];
-      new = λ j q. elim (cases_eq j (length js + 1)) [
-        | inl e ↦
-            ap (λ (o : Option Instance). new_shown o q) (new_item js v j e) ∙ (not_new v q (empty q) ∙ (sym (ap (λ (o : Option Instance). new_shown o q) (no_item js j (omega (arith, e)))) ∙ h.of_instances.new j q))
-        | inr n ↦ ap (λ (o : Option Instance). new_shown o q) (old_item js v j n) ∙ h.of_instances.new j q
-      ];
-      ready = λ j q. elim (cases_eq j (length js + 1)) [
-        | inl e ↦
-            ap (λ (o : Option Instance). ready_shown o q) (new_item js v j e) ∙ (not_ready v q (empty q) ∙ (sym (ap (λ (o : Option Instance). ready_shown o q) (no_item js j (omega (arith, e)))) ∙ h.of_instances.ready j q))
-        | inr n ↦ ap (λ (o : Option Instance). ready_shown o q) (old_item js v j n) ∙ h.of_instances.ready j q
-      ];
-      positions = λ j w e. elim (cases_eq j (length js + 1)) [
-        | inl is ↦
-            let same : v ≡ w = some_same (sym (new_item js v j is) ∙ e) in
-            subst (λ (x : Instance). length x.positions ≡ 64) same positions
-        | inr n ↦ h.of_instances.positions j w (sym (old_item js v j n) ∙ e)
-      ];
-    }) (λ q. refl) (λ m. refl) h.in_order.dropped refl refl
+    (began_instances js s p k kind v h.of_instances initiator of_kind undecided empty positions) (λ q. refl) (λ m. refl) h.in_order.dropped refl refl
 
 -- how an instance began
 pub beginning_known : (js : List Instance) (s : Past) (k : ℕ) → ShowsInstances js s → beginning_of s k ≡ option_map beginning_shown (at_number js k)
@@ -187,16 +191,16 @@ is_rollback_there (Some v) e = (v, refl, of_kind v.kind e)
     of_kind Rollback h = refl
 
 -- what is shown of a member and of others
-new_member : (v : Instance) (q : ℕ) → v.kind ≡ Checkpoint → has v.joined q ≡ true → new_shown (Some v) q ≡ Some (get_or v.positions q 0)
+pub new_member : (v : Instance) (q : ℕ) → v.kind ≡ Checkpoint → has v.joined q ≡ true → new_shown (Some v) q ≡ Some (get_or v.positions q 0)
 new_member v q e h = grind (arith, e, h)
 
-new_of_rollback : (v : Instance) (q : ℕ) → v.kind ≡ Rollback → new_shown (Some v) q ≡ None
+pub new_of_rollback : (v : Instance) (q : ℕ) → v.kind ≡ Rollback → new_shown (Some v) q ≡ None
 new_of_rollback v q e = grind (arith, e)
 
-ready_member : (v : Instance) (q : ℕ) → v.kind ≡ Rollback → ready_shown (Some v) q ≡ has v.joined q
+pub ready_member : (v : Instance) (q : ℕ) → v.kind ≡ Rollback → ready_shown (Some v) q ≡ has v.joined q
 ready_member v q e = grind (arith, e)
 
-ready_of_checkpoint : (v : Instance) (q : ℕ) → v.kind ≡ Checkpoint → ready_shown (Some v) q ≡ false
+pub ready_of_checkpoint : (v : Instance) (q : ℕ) → v.kind ≡ Checkpoint → ready_shown (Some v) q ≡ false
 ready_of_checkpoint v q e = grind (arith, e)
 
 new_other : (v w : Instance) (q : ℕ) → w.kind ≡ v.kind → has w.joined q ≡ has v.joined q → get_or w.positions q 0 ≡ get_or v.positions q 0 → new_shown (Some w) q ≡ new_shown (Some v) q
@@ -235,6 +239,45 @@ pub decided_there : (ps : List Process) (ms : List (Option Message)) (js : List 
     → (v : Instance) × (at_number js k ≡ Some v)
 decided_there ps ms js d b s p k commit h allowed = begun_there js s k h.of_instances (kept s (event.Decided p k commit) allowed.unbroken).numbers
 
+joined_kind : (js : List Instance) (s : Past) (k : ℕ) (u : Instance) → ShowsInstances js s → is_checkpoint s k ≡ true → (is : List Instance) (p position : ℕ) (w : Instance) → IsJoined js is k p position u w → u.kind ≡ Checkpoint
+joined_kind js s k u h checkpoint is p position w x =
+    let there = is_checkpoint_there (at_number js k) (ap is_checkpoint_kind (sym (kind_known js s k h)) ∙ checkpoint) in
+    ap (λ (y : Instance). y.kind) (some_same (sym x.was ∙ there.1)) ∙ there.2
+
+rolling_kind : (js : List Instance) (s : Past) (k : ℕ) (u : Instance) → ShowsInstances js s → is_rollback s k ≡ true → (is : List Instance) (p position : ℕ) (w : Instance) → IsJoined js is k p position u w → u.kind ≡ Rollback
+rolling_kind js s k u h rollback is p position w x =
+    let there = is_rollback_there (at_number js k) (ap is_rollback_kind (sym (kind_known js s k h)) ∙ rollback) in
+    ap (λ (y : Instance). y.kind) (some_same (sym x.was ∙ there.1)) ∙ there.2
+
+pub took_instances : (js is : List Instance) (s : Past) (p k position : ℕ) (u w : Instance) → ShowsInstances js s → is_checkpoint s k ≡ true → p < 64 → position ≡ length (s.live p) → IsJoined js is k p position u w
+    → ShowsInstances is (after s (event.Took p k))
+took_instances js is s p k position u w h checkpoint low same x = record {
+  begun = x.beginnings ∙ h.begun;
+  verdict = joined_verdict js is s k p position u w h x;
+  new = λ j q. elim (cases_eq j k) [
+    | inl e ↦ elim (cases_eq q p) [
+      | inl here ↦
+          let place = joined_place u p position (h.positions k u x.was) low in
+          let base : new_shown (at_number is k) p ≡ at_pair k p (Some (length (s.live p))) s.new k p =
+          ap (λ (o : Option Instance). new_shown o p) x.now ∙ (new_member w p (x.kind ∙ joined_kind js s k u h checkpoint is p position w x) x.joined ∙ (ap (λ (l : List ℕ). Some (get_or l p 0)) x.positions
+          ∙ (ap Some place ∙ (ap Some same ∙ sym (pair_same k p (Some (length (s.live p))) s.new))))) in
+          (λ i. new_shown (at_number is (e i)) (here i)) ∙ (base ∙ (λ i. at_pair k p (Some (length (s.live p))) s.new (sym e i) (sym here i)))
+      | inr n ↦
+          let kept = ap (λ (l : List ℕ). get_or l q 0) x.positions ∙ get_or-set_other u.positions p q position 0 n in
+          (λ i. new_shown (at_number is (e i)) q) ∙ (ap (λ (o : Option Instance). new_shown o q) x.now ∙ (new_other u w q x.kind (x.not_joined q n) kept
+          ∙ (sym (ap (λ (o : Option Instance). new_shown o q) x.was) ∙ (h.new k q ∙ (ap (λ (m : ℕ). s.new m q) (sym e) ∙ sym (pair_other k p j q (Some (length (s.live p))) s.new n))))))
+    ]
+    | inr n ↦ ap (λ (o : Option Instance). new_shown o q) (x.others j n) ∙ (h.new j q ∙ sym (pair_else k p j q (Some (length (s.live p))) s.new n))
+  ];
+  ready = λ j q. elim (cases_eq j k) [
+    | inl e ↦
+        (λ i. ready_shown (at_number is (e i)) q) ∙ (ap (λ (o : Option Instance). ready_shown o q) x.now ∙ (ready_of_checkpoint w q (x.kind ∙ joined_kind js s k u h checkpoint is p position w x) ∙ (sym (ready_of_checkpoint u q (joined_kind js s k u h checkpoint is p position w x))
+        ∙ (sym (ap (λ (o : Option Instance). ready_shown o q) x.was) ∙ (h.ready k q ∙ ap (λ (m : ℕ). s.ready m q) (sym e))))))
+    | inr n ↦ ap (λ (o : Option Instance). ready_shown o q) (x.others j n) ∙ h.ready j q
+  ];
+  positions = joined_positions js is s k p position u w h x;
+}
+
 pub shows_took : (ps : List Process) (ms : List (Option Message)) (js is : List Instance) (d : List ℕ) (b : Option (ℕ × ℕ)) (s : Past) (p k : ℕ) (v : Process) (u w : Instance)
     → Shows ps ms js d b s → IsAllowed s (event.Took p k) → p < 64 → slice_get ps p ≡ Some v → IsJoined js is k p (length v.history) u w
     → Shows (set ps p (record v { open_in = Some k })) (ms ++ None ∷ []) is d None (after s (event.Took p k))
@@ -244,37 +287,36 @@ shows_took ps ms js is d b s p k v u w h allowed low at x =
     let rules = kept s (event.Took p k) allowed.unbroken in
     let up = and_parts _ _ (and_parts _ _ rules.joining).0 in
     let checkpoint : is_checkpoint s k ≡ true = (and_parts _ (is_checkpoint s k) up.0).1 in
-    let there = is_checkpoint_there (at_number js k) (ap is_checkpoint_kind (sym (kind_known js s k h.of_instances)) ∙ checkpoint) in
-    let of_kind : u.kind ≡ Checkpoint = ap (λ (y : Instance). y.kind) (some_same (sym x.was ∙ there.1)) ∙ there.2 in
     shows_same ps _ ms js is d b None s t h (processes_set ps s t p (record v { open_in = Some k }) h.of_processes low
     (record { live = old.live; permanent = old.permanent; open_in = sym (at_same p (Some k) s.open_in); up = old.up; dropped = old.dropped })
     (λ q y n g. record { live = g.live; permanent = g.permanent; open_in = g.open_in ∙ sym (at_other p q (Some k) s.open_in n); up = g.up; dropped = g.dropped }) h.of_processes.no_more)
-    (record {
-      begun = x.beginnings ∙ h.of_instances.begun;
-      verdict = joined_verdict js is s k p (length v.history) u w h.of_instances x;
-      new = λ j q. elim (cases_eq j k) [
-        | inl e ↦ elim (cases_eq q p) [
-          | inl here ↦
-              let place = joined_place u p (length v.history) (h.of_instances.positions k u x.was) low in
-              let base : new_shown (at_number is k) p ≡ at_pair k p (Some (length (s.live p))) s.new k p =
-              ap (λ (o : Option Instance). new_shown o p) x.now ∙ (new_member w p (x.kind ∙ of_kind) x.joined ∙ (ap (λ (l : List ℕ). Some (get_or l p 0)) x.positions
-              ∙ (ap Some place ∙ (ap (λ (l : List Deed). Some (length l)) old.live ∙ sym (pair_same k p (Some (length (s.live p))) s.new))))) in
-              (λ i. new_shown (at_number is (e i)) (here i)) ∙ (base ∙ (λ i. at_pair k p (Some (length (s.live p))) s.new (sym e i) (sym here i)))
-          | inr n ↦
-              let kept = ap (λ (l : List ℕ). get_or l q 0) x.positions ∙ get_or-set_other u.positions p q (length v.history) 0 n in
-              (λ i. new_shown (at_number is (e i)) q) ∙ (ap (λ (o : Option Instance). new_shown o q) x.now ∙ (new_other u w q x.kind (x.not_joined q n) kept
-              ∙ (sym (ap (λ (o : Option Instance). new_shown o q) x.was) ∙ (h.of_instances.new k q ∙ (ap (λ (m : ℕ). s.new m q) (sym e) ∙ sym (pair_other k p j q (Some (length (s.live p))) s.new n))))))
-        ]
-        | inr n ↦ ap (λ (o : Option Instance). new_shown o q) (x.others j n) ∙ (h.of_instances.new j q ∙ sym (pair_else k p j q (Some (length (s.live p))) s.new n))
-      ];
-      ready = λ j q. elim (cases_eq j k) [
-        | inl e ↦
-            (λ i. ready_shown (at_number is (e i)) q) ∙ (ap (λ (o : Option Instance). ready_shown o q) x.now ∙ (ready_of_checkpoint w q (x.kind ∙ of_kind) ∙ (sym (ready_of_checkpoint u q of_kind)
-            ∙ (sym (ap (λ (o : Option Instance). ready_shown o q) x.was) ∙ (h.of_instances.ready k q ∙ ap (λ (m : ℕ). s.ready m q) (sym e))))))
-        | inr n ↦ ap (λ (o : Option Instance). ready_shown o q) (x.others j n) ∙ h.of_instances.ready j q
-      ];
-      positions = joined_positions js is s k p (length v.history) u w h.of_instances x;
-    }) (λ q. refl) (λ m. refl) h.in_order.dropped refl refl
+    (took_instances js is s p k (length v.history) u w h.of_instances checkpoint low (ap length old.live) x) (λ q. refl) (λ m. refl) h.in_order.dropped refl refl
+
+pub ready_instances : (js is : List Instance) (s : Past) (p k position : ℕ) (u w : Instance) → ShowsInstances js s → is_rollback s k ≡ true → p < 64 → IsJoined js is k p position u w
+    → ShowsInstances is (after s (event.Ready p k))
+ready_instances js is s p k position u w h rollback low x = record {
+  begun = x.beginnings ∙ h.begun;
+  verdict = joined_verdict js is s k p position u w h x;
+  new = λ j q. elim (cases_eq j k) [
+    | inl e ↦
+        (λ i. new_shown (at_number is (e i)) q) ∙ (ap (λ (o : Option Instance). new_shown o q) x.now ∙ (new_of_rollback w q (x.kind ∙ rolling_kind js s k u h rollback is p position w x) ∙ (sym (new_of_rollback u q (rolling_kind js s k u h rollback is p position w x))
+        ∙ (sym (ap (λ (o : Option Instance). new_shown o q) x.was) ∙ (h.new k q ∙ ap (λ (m : ℕ). s.new m q) (sym e))))))
+    | inr n ↦ ap (λ (o : Option Instance). new_shown o q) (x.others j n) ∙ h.new j q
+  ];
+  ready = λ j q. elim (cases_eq j k) [
+    | inl e ↦ elim (cases_eq q p) [
+      | inl here ↦
+          let base : ready_shown (at_number is k) p ≡ at_pair k p true s.ready k p =
+          ap (λ (o : Option Instance). ready_shown o p) x.now ∙ (ready_member w p (x.kind ∙ rolling_kind js s k u h rollback is p position w x) ∙ (x.joined ∙ sym (pair_same k p true s.ready))) in
+          (λ i. ready_shown (at_number is (e i)) (here i)) ∙ (base ∙ (λ i. at_pair k p true s.ready (sym e i) (sym here i)))
+      | inr n ↦
+          (λ i. ready_shown (at_number is (e i)) q) ∙ (ap (λ (o : Option Instance). ready_shown o q) x.now ∙ (ready_other u w q x.kind (x.not_joined q n)
+          ∙ (sym (ap (λ (o : Option Instance). ready_shown o q) x.was) ∙ (h.ready k q ∙ (ap (λ (m : ℕ). s.ready m q) (sym e) ∙ sym (pair_other k p j q true s.ready n))))))
+    ]
+    | inr n ↦ ap (λ (o : Option Instance). ready_shown o q) (x.others j n) ∙ (h.ready j q ∙ sym (pair_else k p j q true s.ready n))
+  ];
+  positions = joined_positions js is s k p position u w h x;
+}
 
 pub shows_ready : (ps : List Process) (ms : List (Option Message)) (js is : List Instance) (d : List ℕ) (b : Option (ℕ × ℕ)) (s : Past) (p k : ℕ) (v : Process) (u w : Instance)
     → Shows ps ms js d b s → IsAllowed s (event.Ready p k) → p < 64 → slice_get ps p ≡ Some v → IsJoined js is k p (length v.history) u w
@@ -285,36 +327,12 @@ shows_ready ps ms js is d b s p k v u w h allowed low at x =
     let rules = kept s (event.Ready p k) allowed.unbroken in
     let may = (and_parts _ _ rules.joining).0 in
     let rollback : is_rollback s k ≡ true = (and_parts _ (is_rollback s k) may).1 in
-    let there = is_rollback_there (at_number js k) (ap is_rollback_kind (sym (kind_known js s k h.of_instances)) ∙ rollback) in
-    let of_kind : u.kind ≡ Rollback = ap (λ (y : Instance). y.kind) (some_same (sym x.was ∙ there.1)) ∙ there.2 in
     shows_same ps _ ms js is d b None s t h (processes_set ps s t p (record v { open_in = Some k }) h.of_processes low
     (record { live = old.live; permanent = old.permanent; open_in = sym (at_same p (Some k) s.open_in); up = old.up; dropped = old.dropped })
     (λ q y n g. record { live = g.live; permanent = g.permanent; open_in = g.open_in ∙ sym (at_other p q (Some k) s.open_in n); up = g.up; dropped = g.dropped }) h.of_processes.no_more)
-    (record {
-      begun = x.beginnings ∙ h.of_instances.begun;
-      verdict = joined_verdict js is s k p (length v.history) u w h.of_instances x;
-      new = λ j q. elim (cases_eq j k) [
-        | inl e ↦
-            (λ i. new_shown (at_number is (e i)) q) ∙ (ap (λ (o : Option Instance). new_shown o q) x.now ∙ (new_of_rollback w q (x.kind ∙ of_kind) ∙ (sym (new_of_rollback u q of_kind)
-            ∙ (sym (ap (λ (o : Option Instance). new_shown o q) x.was) ∙ (h.of_instances.new k q ∙ ap (λ (m : ℕ). s.new m q) (sym e))))))
-        | inr n ↦ ap (λ (o : Option Instance). new_shown o q) (x.others j n) ∙ h.of_instances.new j q
-      ];
-      ready = λ j q. elim (cases_eq j k) [
-        | inl e ↦ elim (cases_eq q p) [
-          | inl here ↦
-              let base : ready_shown (at_number is k) p ≡ at_pair k p true s.ready k p =
-              ap (λ (o : Option Instance). ready_shown o p) x.now ∙ (ready_member w p (x.kind ∙ of_kind) ∙ (x.joined ∙ sym (pair_same k p true s.ready))) in
-              (λ i. ready_shown (at_number is (e i)) (here i)) ∙ (base ∙ (λ i. at_pair k p true s.ready (sym e i) (sym here i)))
-          | inr n ↦
-              (λ i. ready_shown (at_number is (e i)) q) ∙ (ap (λ (o : Option Instance). ready_shown o q) x.now ∙ (ready_other u w q x.kind (x.not_joined q n)
-              ∙ (sym (ap (λ (o : Option Instance). ready_shown o q) x.was) ∙ (h.of_instances.ready k q ∙ (ap (λ (m : ℕ). s.ready m q) (sym e) ∙ sym (pair_other k p j q true s.ready n))))))
-        ]
-        | inr n ↦ ap (λ (o : Option Instance). ready_shown o q) (x.others j n) ∙ (h.of_instances.ready j q ∙ sym (pair_else k p j q true s.ready n))
-      ];
-      positions = joined_positions js is s k p (length v.history) u w h.of_instances x;
-    }) (λ q. refl) (λ m. refl) h.in_order.dropped refl refl
+    (ready_instances js is s p k (length v.history) u w h.of_instances rollback low x) (λ q. refl) (λ m. refl) h.in_order.dropped refl refl
 
-decided_instances : (js is : List Instance) (s : Past) (p k : ℕ) (commit : Bool) (v : Instance) → ShowsInstances js s → IsDecided js is k commit v → ShowsInstances is (after s (event.Decided p k commit))
+pub decided_instances : (js is : List Instance) (s : Past) (p k : ℕ) (commit : Bool) (v : Instance) → ShowsInstances js s → IsDecided js is k commit v → ShowsInstances is (after s (event.Decided p k commit))
 decided_instances js is s p k commit v h x = record {
   begun = x.beginnings ∙ h.begun;
   verdict = λ j. elim (cases_eq j k) [
@@ -435,12 +453,12 @@ nothing_there : (i : ℕ) (d : Deed) → slice_get (let l : List Deed = [] in l)
 nothing_there i d e = cc
 
 -- what was dropped is forgotten, or kept
-closed_dropped : (was : Bool) (ls : List (Option ℕ)) (l : List Deed) (q : ℕ) → q < 64 → slice_get ls q ≡ Some (last_of (received_in q l))
+pub closed_dropped : (was : Bool) (ls : List (Option ℕ)) (l : List Deed) (q : ℕ) → q < 64 → slice_get ls q ≡ Some (last_of (received_in q l))
     → slice_get (if was then replicate 64 None else ls) q ≡ Some (last_of (received_in q (if was then [] else l)))
 closed_dropped true ls l q low e = slice_get-get_or (replicate 64 None) q None (omega (arith, low, length-replicate {A = Option ℕ} 64 None)) ∙ ap Some (get_or-replicate 64 q None None low)
 closed_dropped false ls l q low e = e
 
-closed_rises : (was : Bool) (p : ℕ) (f : ℕ → List Deed) (q g : ℕ) → ((r x : ℕ) → Rises (received_in x (f r))) → Rises (received_in g (at_one p (if was then [] else f p) f q))
+pub closed_rises : (was : Bool) (p : ℕ) (f : ℕ → List Deed) (q g : ℕ) → ((r x : ℕ) → Rises (received_in x (f r))) → Rises (received_in g (at_one p (if was then [] else f p) f q))
 closed_rises was p f q g all = elim (cases_eq q p) [
   | inl e ↦
       subst (λ (l : List Deed). Rises (received_in g l)) (sym (ap (at_one p (if was then [] else f p) f) e ∙ at_same p (if was then [] else f p) f)) (forgotten was)
@@ -456,7 +474,7 @@ take_nil zero = refl
 take_nil (suc n) = refl
 
 -- a property of a history, and of its front
-if_front : (P : List Deed → Type 0) (b : Bool) (n : ℕ) (l : List Deed) → P l → P (take n l) → P (if b then take n l else l)
+pub if_front : (P : List Deed → Type 0) (b : Bool) (n : ℕ) (l : List Deed) → P l → P (take n l) → P (if b then take n l else l)
 if_front P true n l whole front = front
 if_front P false n l whole front = whole
 
@@ -530,7 +548,7 @@ shows_committed_rollback ps qs ms js is d c undone b s p k v h x of_kind all cha
         buried q i m f receiver.0 gone (h.of_messages.received q i m f (front_get (s.ready k q) (s.permanent q) (s.live q) i (deed.Received m f) e)) receiver.1 (ap (λ (l : List Deed). slice_get l i) now.live ∙ e)
 
 -- what the close of an instance finds
-rolled_known : (js : List Instance) (s : Past) (k : ℕ) → ShowsInstances js s → rolled_back_shown (at_number js k) ≡ (is_rollback s k && is_committed s k)
+pub rolled_known : (js : List Instance) (s : Past) (k : ℕ) → ShowsInstances js s → rolled_back_shown (at_number js k) ≡ (is_rollback s k && is_committed s k)
 rolled_known js s k h =
     shown (at_number js k) ∙ (λ i. is_rollback_kind (sym (kind_known js s k h) i) && unwrap_or (h.verdict k i) false)
   where

@@ -52,14 +52,14 @@ pub record SentPlaces (s : Past) : Type 0 where
   pub rises : (p i j m n a b : ℕ) → i < j → slice_get (s.live p) i ≡ Some (deed.Sent m a) → slice_get (s.live p) j ≡ Some (deed.Sent n b) → m < n
   pub one_sender : (p q i j m a b : ℕ) → slice_get (s.live p) i ≡ Some (deed.Sent m a) → slice_get (s.live q) j ≡ Some (deed.Sent m b) → p ≡ q
 
-sent_places_start : SentPlaces start
+pub sent_places_start : SentPlaces start
 sent_places_start = record {
   within = λ p i m to e. absurd (cc);
   rises = λ p i j m n a b l e f. absurd (cc);
   one_sender = λ p q i j m a b e f. absurd (cc);
 }
 
-sent_places_keep : (s : Past) (row : Event) → SentPlaces s → SentPlaces (after s row)
+pub sent_places_keep : (s : Past) (row : Event) → SentPlaces s → SentPlaces (after s row)
 sent_places_keep s row g = record {
   within = λ p i m to e. is_within p i m to (comes s row p i (deed.Sent m to) e);
   rises = λ p i j m n a b l e f. rising p i j m n a b l (comes s row p i (deed.Sent m a) e) (comes s row p j (deed.Sent n b) f);

@@ -43,7 +43,7 @@ front_kept p q f d x h = elim (cases_eq q p) [
 ]
 
 -- a property of each history, with one that has one more deed
-each_history : (P : List Deed → Type 0) (p q : ℕ) (l : List Deed) (f : ℕ → List Deed) → P l → ((r : ℕ) → P (f r)) → P (at_one p l f q)
+pub each_history : (P : List Deed → Type 0) (p q : ℕ) (l : List Deed) (f : ℕ → List Deed) → P l → ((r : ℕ) → P (f r)) → P (at_one p l f q)
 each_history P p q l f new all = elim (cases_eq q p) [
   | inl same ↦ subst (λ (y : ℕ). P (at_one p l f y)) (sym same) (subst P (sym (at_same p l f)) new)
   | inr n ↦ subst P (sym (at_other p q l f n)) (all q)

@@ -12,6 +12,7 @@ pub mod Standing
 pub mod Tables
 pub mod Changes
 pub mod Tests
+pub mod Grounds
 pub mod Traces
 pub mod HistoriesOf
 pub mod Orphans
@@ -19,4 +20,12 @@ pub mod InCheckpoint
 pub mod Least
 pub mod Messages
 pub mod Throughout
+pub mod Keeping
+pub mod TrailParts
+pub mod PartsOf
+pub mod TrailOf
+pub mod Stages
+pub mod Arrivals
+pub mod WalkParts
+pub mod WalkOf
 pub mod WorkedRows

@@ -1,18 +1,28 @@
 //! What a log means: live histories, positions, cuts, orphans, legal logs, chains.
 #![tactic(auto)]
 
+mod arrivals;
+mod channel;
 mod cut;
+mod deciding;
 mod deeds;
+mod feeding;
+mod grounds;
 mod histories;
 mod history;
+mod kept;
 mod laws;
 mod legality;
 mod messages;
 mod orphans;
 mod process;
+mod recent;
 mod replay;
 mod rules;
 mod tables;
+mod trail;
+mod walk;
+mod walker;
 mod worked;
 
 pub use cut::Cut;
@@ -24,6 +34,7 @@ pub use laws::{
 };
 pub use legality::{LegalFault, legal};
 pub use rules::Rule;
+pub use walk::Walk;
 pub use worked::worked_rows;
 
 #[cfg(test)]

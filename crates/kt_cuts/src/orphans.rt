@@ -113,8 +113,8 @@ impl Replay {
     }
 }
 
-// Whether there is a place, from 1, and it is within a part of this length.
-fn is_within(place: Option<usize>, length: usize) -> bool
+/// Whether there is a place, from 1, and it is within a part of this length.
+pub(crate) fn is_within(place: Option<usize>, length: usize) -> bool
     ensures { result ≡ is_within place length }
 {
     match place {
@@ -123,15 +123,15 @@ fn is_within(place: Option<usize>, length: usize) -> bool
     }
 }
 
-// A message that is wanted.
-fn if_wanted(is_wanted: bool, msg: MsgNo) -> Option<MsgNo>
+/// A message that is wanted.
+pub(crate) fn if_wanted(is_wanted: bool, msg: MsgNo) -> Option<MsgNo>
     ensures { result ≡ (if is_wanted then Some msg else None) }
 {
     is_wanted.then_some(msg)
 }
 
-// The lesser of two messages that may lack.
-fn earlier(a: Option<MsgNo>, b: Option<MsgNo>) -> Option<MsgNo>
+/// The lesser of two messages that may lack.
+pub(crate) fn earlier(a: Option<MsgNo>, b: Option<MsgNo>) -> Option<MsgNo>
     ensures { result ≡ earlier a b }
 {
     match (a, b) {
@@ -140,8 +140,8 @@ fn earlier(a: Option<MsgNo>, b: Option<MsgNo>) -> Option<MsgNo>
     }
 }
 
-// The process of this number.
-fn process_no(number: u8) -> ProcNo
+/// The process of this number.
+pub(crate) fn process_no(number: u8) -> ProcNo
     requires { number < 64 }
     ensures { result ≡ number }
 {

@@ -68,7 +68,7 @@ impl Instance {
     }
 
     /// Whether this process has joined.
-    fn has_joined(&self, number: u8) -> bool
+    pub(crate) fn has_joined(&self, number: u8) -> bool
         requires { number < 64 }
         ensures { result ≡ has self.now.joined number }
     {

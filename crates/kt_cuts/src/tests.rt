@@ -1,5 +1,8 @@
+mod arrivals;
 mod facts;
 mod large;
+mod walk_orphans;
+mod walks;
 
 use crate::{Cut, Histories, LegalFault, Rule, Trace, legal};
 use facts::FACTS;

@@ -90,15 +90,36 @@ of_bytes : (source : Option (List ℕ)) (P : List (List (List ℕ)) → Type 0) 
 of_bytes None P h = tt
 of_bytes (Some bytes) P h = h
 
+-- what was gathered to the end is what the records say
+pub gathered_all : (source : Option (List ℕ)) (old new : RowsRead) (rows : List Event) → Gathers source old rows → MeetsEnd old new → IfSome (rows_unread source).left (λ text. IsLogText text rows)
+gathered_all source old new rows g e = all_said (rows_unread source).left old.left old.format rows g.begins (e.nothing_left g.going.1)
+
 pub gathered : (source : Option (List ℕ)) (old new : RowsRead) (rows : List Event) → Gathers source old rows → MeetsEnd old new → IfSome source (λ bytes. IsLogText (records default_config (strip_bom bytes)) rows)
-gathered source old new rows g e = of_bytes source (λ t. IsLogText t rows) (all_said (rows_unread source).left old.left old.format rows g.begins (e.nothing_left g.going.1))
+gathered source old new rows g e = of_bytes source (λ t. IsLogText t rows) (gathered_all source old new rows g e)
+
+-- a fault that is met while rows are gathered is the first of the records
+pub gathered_to_fault : (source : Option (List ℕ)) (old new : RowsRead) (rows : List Event) (fault : LogFault) → Gathers source old rows → MeetsFault old new fault → IfSome (rows_unread source).left (λ text. IsFirstFault text fault)
+gathered_to_fault source old new rows fault g f =
+    first_fault (rows_unread source).left old.left old.format rows fault g.begins (subst (λ (n : ℕ). IfSome old.left (λ left. IsFaultFrom old.format n left fault)) g.count (f.first g.going.0))
 
 pub gathered_fault : (source : Option (List ℕ)) (old new : RowsRead) (rows : List Event) (fault : LogFault) → Gathers source old rows → MeetsFault old new fault → IfSome source (λ bytes. IsFirstFault (records default_config (strip_bom bytes)) fault)
-gathered_fault source old new rows fault g f =
-    of_bytes source (λ t. IsFirstFault t fault) (first_fault (rows_unread source).left old.left old.format rows fault g.begins (subst (λ (n : ℕ). IfSome old.left (λ left. IsFaultFrom old.format n left fault)) g.count (f.first g.going.0)))
+gathered_fault source old new rows fault g f = of_bytes source (λ t. IsFirstFault t fault) (gathered_to_fault source old new rows fault g f)
 
 pub gathered_memory : (source : Option (List ℕ)) (old : RowsRead) (rows : List Event) → Gathers source old rows → IfSome source (λ bytes. IsFirstFault (records default_config (strip_bom bytes)) Memory)
 gathered_memory source old rows g = of_bytes source (λ t. IsFirstFault t Memory) (no_memory (rows_unread source).left old.left old.format rows g.begins)
+
+-- before the first row
+pub gathers_none : (source : Option (List ℕ)) → Gathers source (rows_unread source) []
+gathers_none source = record {
+  begins = unread source;
+  count = refl;
+  few = omega arith;
+  going = (refl, refl);
+}
+  where
+    unread : (o : Option (List ℕ)) → Begins (rows_unread o).left (rows_unread o).left None []
+    unread None = tt
+    unread (Some bytes) = (refl, refl)
 
 -- a call that gave no row met the end
 pub at_end : {old new : RowsRead} (found : Option Event) → ((row : Event) → found ≡ Some row → ⊥) → Steps old new (Ok found) → MeetsEnd old new

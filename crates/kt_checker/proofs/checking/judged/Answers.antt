@@ -1,54 +1,40 @@
-use Rattle.std.proofs.Common.{◌≡◌, ◌+◌, Some, length, refl, sym, ap, subst, ◌∙◌, arith, inl, inr}
-use Rattle.std.proofs.lemmas.Option.{slice_get_read}
-use Rattle.std.specs.List.{slice_get}
-use Rattle.kt_cuts.proofs.Items.{written}
-use Rattle.kt_checker.specs.Missing.{AnswersMissing}
-use Rattle.kt_checker.proofs.Marking.{IsMarkedBy, HasMarked, marked_next, marks_next, marked_all, marks_all, seen_second}
-use Rattle.kt_checker.proofs.Answering.{pass_next, pass_all, answer_of}
+use Rattle.std.proofs.Common.{◌≡◌, ◌+◌, ◌<◌, ◌≤◌, ◌^◌, length, take, refl, sym, ap, subst, ◌∙◌, arith, inl, inr, length-take}
+use Rattle.std.proofs.lemmas.List.{take_all}
+use Rattle.std.proofs.lemmas.Result.{IfOk-weaker}
+use Rattle.kt_cuts.specs.Legal.{IsLegal}
+use Rattle.kt_cuts.proofs.Items.{take_item}
+use Rattle.kt_cuts.proofs.Replayed.{row_read}
+use Rattle.kt_checker.specs.Judged.{JudgeOf}
+use Rattle.kt_checker.specs.Order.{IsAnswer, IsBadLog}
+use Rattle.kt_checker.proofs.Judging.{bad_front}
 use Rattle.kt_checker.proofs.checking.judged.Goals as goal
 
-pub loop-certificate-preserved : goal.loop-certificate-preserved
-loop-certificate-preserved c =
-    let items = c.args.certificates.now in
-    let index = c.loop-certificate.certificate-index in
-    let inv = c.loop-certificate.invariant in
-    let item = c.certificate-item.result in
-    let at : slice_get items index ≡ Some item = slice_get_read items (length items) index item refl c.loop-certificate-test.true c.certificate-item.is in
-    let old = c.loop-certificate.seen.items in
-    let value : c.deref_mut.result.now ≡ old = c.deref_mut.ensures.value in
-    let long : length c.mark.new.seen ≡ length old = c.mark.auto.seen ∙ ap length value in
-    let seen_len : length c.mark.new.seen ≡ c.loop-certificate.seen.len = long ∙ sym c.loop-certificate.seen.ok.0 in
-    let whole = written c.loop-certificate.seen.len c.mark.new.seen old seen_len in
-    let marked = subst (λ s. IsMarkedBy s items index) (sym value) inv.marked in
-    let marks = subst (λ s. HasMarked s items index) (sym value) inv.marks in
-    record {
-      many = ap length whole ∙ (long ∙ inv.many);
-      passed = pass_next c.args.log.now.rows items index item at inv.passed (c.in_ok-verdict-2.ensures.passes c.in_default-2.is)
-          (λ second. c.in_ok-verdict-2.ensures.fresh c.in_default-2.is
-          ((seen_second c.deref.result.now items index item c.is_marked-is_seen.result (subst (λ s. IsMarkedBy s items index) (sym c.deref.ensures.value) inv.marked) (subst (λ s. HasMarked s items index) (sym c.deref.ensures.value) inv.marks) c.is_marked-is_seen.ensures).1 second));
-      marked = subst (λ s. IsMarkedBy s items (index + 1)) (sym whole) (marked_next c.deref_mut.result.now c.mark.new.seen items index item at marked c.mark.ensures.marked);
-      marks = subst (λ s. HasMarked s items (index + 1)) (sym whole) (marks_next c.deref_mut.result.now c.mark.new.seen items index item at marks c.mark.ensures.kept
-          (c.mark.ensures.marks (omega (arith, c.in_ok-verdict-2.ensures.listed c.in_default-2.is, inv.many, ap length value))));
-    }
+pub fed-requires : goal.fed-requires
+fed-requires c =
+    let rows = c.rows-row-items.result.now in
+    let i = c.loop-row.row-index in
+    omega (arith, c.loop-row.invariant.walk.trail.number, length-take i rows, c.loop-row-test.true, c.rows-row-items.ensures.few)
+
+pub loop-row-preserved : goal.loop-row-preserved
+loop-row-preserved c =
+    let rows = c.rows-row-items.result.now in
+    let i = c.loop-row.row-index in
+    let at = row_read rows i c.row-item.result c.loop-row-test.true c.row-item.is in
+    let more = take_item rows i (i + 1) c.row-item.result refl at in
+    rw more (c.in_ok-verdict.ensures.fed c.in_default.is (take i rows) c.loop-row.invariant)
+
+pub returns-in-Some : goal.returns-in-Some
+returns-in-Some c =
+    let rows = c.rows-row-items.result.now in
+    let i = c.loop-row.row-index in
+    let at = row_read rows i c.row-item.result c.loop-row-test.true c.row-item.is in
+    let more = take_item rows i (i + 1) c.row-item.result refl at in
+    let bad = (rw c.in-Some.is at c.in_ok-verdict.ensures.bad) (take i rows) c.loop-row.invariant in
+    let whole = bad_front (i + 1) rows c.in-Some.verdict (subst (λ l. IsBadLog l c.in-Some.verdict) (sym more) bad) in
+    rw (← c.rows-row-items.ensures.rows) (inr (inl whole))
 
 pub returns : goal.returns
 returns c =
-    let certificates = c.args.certificates.now in
-    let list = c.in_ok-instances.instances.list.items in
-    let seen = c.loop-certificate.seen.items in
-    let inv = c.loop-certificate.invariant in
-    answer_of list c.args.log.now.rows certificates seen c.missing.result (c.in_ok-verdict.ensures.legal c.in_default.is) c.in_ok-instances.ensures.gathered
-    (pass_all c.args.log.now.rows certificates c.loop-certificate.certificate-index c.loop-certificate-test.false inv.passed)
-    (marked_all seen certificates c.loop-certificate.certificate-index inv.marked)
-    (marks_all seen certificates c.loop-certificate.certificate-index c.loop-certificate-test.false inv.marks)
-    (subst (λ s. AnswersMissing list s c.missing.result) c.deref-2.ensures.value c.missing.ensures)
-
-pub returns-in-Some-2 : goal.returns-in-Some-2
-returns-in-Some-2 c =
-    let items = c.args.certificates.now in
-    let index = c.loop-certificate.certificate-index in
-    let inv = c.loop-certificate.invariant in
-    let item = c.certificate-item.result in
-    let at : slice_get items index ≡ Some item = slice_get_read items (length items) index item refl c.loop-certificate-test.true c.certificate-item.is in
-    let second = seen_second c.deref.result.now items index item c.is_marked-is_seen.result (subst (λ s. IsMarkedBy s items index) (sym c.deref.ensures.value) inv.marked) (subst (λ s. HasMarked s items index) (sym c.deref.ensures.value) inv.marks) c.is_marked-is_seen.ensures in
-    inr (inr (c.in_ok-verdict.ensures.legal c.in_default.is, inl (index, item, at, inv.passed, (rw c.in-Some-2.is at c.in_ok-verdict-2.ensures.refused) items index second)))
+    let rows = c.rows-row-items.result.now in
+    let judged = subst (JudgeOf c.loop-row.judge c.args.certificates.now) (take_all c.loop-row.row-index rows c.loop-row-test.false) c.loop-row.invariant in
+    IfOk-weaker c.verdict.result _ _ (λ v answer. rw (← c.rows-row-items.ensures.rows) (answer rows judged.legal judged.gathered)) c.verdict.ensures

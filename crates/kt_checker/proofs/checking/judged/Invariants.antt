@@ -1,12 +1,6 @@
-use Rattle.std.proofs.Common.{◌≡◌, length}
-use Rattle.kt_checker.specs.Passing.{PassBefore}
-use Rattle.kt_checker.proofs.Marking.{IsMarkedBy, HasMarked}
+use Rattle.std.proofs.Common.{take}
+use Rattle.kt_checker.specs.Judged.{JudgeOf}
 use Rattle.kt_checker.proofs.checking.judged.Given as goal
 
-abbrev pub invariant-loop-certificate : goal.invariant-loop-certificate
-invariant-loop-certificate l = record {
-  many : length l.seen.items ≡ length l.instances.list.items;
-  passed : PassBefore l.log.rows l.certificates l.certificate-index;
-  marked : IsMarkedBy l.seen.items l.certificates l.certificate-index;
-  marks : HasMarked l.seen.items l.certificates l.certificate-index;
-}
+abbrev pub invariant-loop-row : goal.invariant-loop-row
+invariant-loop-row l = JudgeOf l.judge l.fn.certificates (take l.row-index l.row-items)

@@ -10,13 +10,11 @@ pub returns-in-Some-clause-missing : goal.returns-in-Some-clause-missing
 returns-in-Some-clause-missing c =
     let list = c.args.self.now.list.items in
     let low : c.loop-index.index < length list = omega (arith, c.loop-index-test.true, c.len-index-end.ensures, c.args.self.now.list.ok.0) in
-    let at : slice_get list c.loop-index.index ≡ Some c.index.result.now = slice_get-get_or list c.loop-index.index c.index.result.now low ∙ ap Some (sym c.index.ensures) in
-    let decided = c.in-Some.ensures.decided in (
+    let at : slice_get list c.loop-index.index ≡ Some c.index.result.now = slice_get-get_or list c.loop-index.index c.index.result.now low ∙ ap Some (sym c.index.ensures) in (
+      c.loop-index.index,
       c.index.result.now,
-      decided.0,
       at,
-      decided.1,
-      decided.2,
+      c.in-Some.ensures.decided,
       λ seen. c.in-Some.ensures.unseen (get_or_from_slice_get c.args.seen.now c.loop-index.index true false seen),
       c.loop-index.invariant,
     )

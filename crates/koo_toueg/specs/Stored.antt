@@ -1,0 +1,62 @@
+-- What the program answers to a stored log with its certificates.
+use Rattle.std.specs.Prelude.{◌≡◌, ◌≢◌, ℕ, Bool, true, false, Option, List, [], ◌∷◌, ◌++◌, IfSome}
+use Rattle.std.specs.Io.KnownBytes.{Appends}
+use Rattle.kt_spacetime.specs.declared.event.Event.{Event}
+use Rattle.kt_spacetime.specs.declared.fault.LogFault.{LogFault}
+use Rattle.kt_spacetime.specs.declared.fault.LogFault.TheVariants as log
+use Rattle.kt_spacetime.specs.Reading.{rows_unread}
+use Rattle.kt_spacetime.specs.Texts as rows
+use Rattle.kt_chain.specs.declared.certificate.Certificate.{Certificate}
+use Rattle.kt_chain.specs.declared.fault.CertTextFault.{CertTextFault}
+use Rattle.kt_chain.specs.declared.fault.CertTextFault.TheVariants as cert
+use Rattle.kt_chain.specs.Texts as certs
+use Rattle.kt_checker.specs.declared.verdict.Verdict.{Verdict}
+use Rattle.kt_checker.specs.declared.verdict.Verdict.TheVariants.{Yes, No}
+use Rattle.kt_checker.specs.Streamed.{IsAnswerOf, SaysRows}
+use Rattle.kt_checker.specs.Words.{verdict_words}
+use Rattle.koo_toueg.specs.declared.fault.AppFault.{AppFault}
+use Rattle.koo_toueg.specs.declared.fault.AppFault.TheVariants as app
+
+-- the bytes that a reader tells, where it does
+abbrev pub Told : Type 0
+Told = Option (List ℕ)
+
+-- the records of such bytes
+abbrev pub records_told : Told → Option (List (List (List ℕ)))
+records_told bytes = (rows_unread bytes).left
+
+-- the bytes of a list of certificates say these
+abbrev pub SayCertificates : Told → List Certificate → Type 0
+SayCertificates bytes certificates = IfSome (records_told bytes) (λ text. certs.IsCertText text certificates)
+
+abbrev pub is_yes : Verdict → Bool
+is_yes Yes = true
+is_yes (No inst row why) = false
+
+-- the checker's answer to the rows and the certificates that the bytes say; a yes means that they are sound
+pub record IsJudged (log cert : Told) (verdict : Verdict) : Type 0 where
+  pub certificates : List Certificate
+  pub certificates_said : SayCertificates cert certificates
+  pub answer : IsAnswerOf log certificates verdict
+
+-- the line of an answer
+abbrev pub line_of : Verdict → List ℕ
+line_of verdict = verdict_words verdict ++ 10 ∷ []
+
+-- what is wrong where the program does not answer: the first fault of the log, or that of the certificates of a log
+-- that was read; what could be written was read; nothing is said of want of memory
+abbrev pub IsRefusal : Told → Told → AppFault → Type 0
+IsRefusal of_rows of_certs (app.Log fault) = (fault ≢ log.Memory) × IfSome (records_told of_rows) (λ text. rows.IsFirstFault text fault)
+IsRefusal of_rows of_certs (app.Cert fault) = (fault ≢ cert.Memory) × IfSome (records_told of_certs) (λ text. certs.IsFirstFault text fault) × (read : List Event) × SaysRows of_rows read
+IsRefusal of_rows of_certs app.Write = (verdict : Verdict) × IsJudged of_rows of_certs verdict
+IsRefusal of_rows of_certs app.Memory = Unit {0}
+
+-- a fault of a log, as the program answers it
+abbrev pub of_log : LogFault → AppFault
+of_log log.Memory = app.Memory
+of_log fault = app.Log fault
+
+-- a fault of a list of certificates, as the program answers it
+abbrev pub of_cert : CertTextFault → AppFault
+of_cert cert.Memory = app.Memory
+of_cert fault = app.Cert fault

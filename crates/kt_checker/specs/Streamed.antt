@@ -1,0 +1,21 @@
+-- The checker's answer to the bytes of a log.
+use Rattle.std.specs.Prelude.{◌≡◌, ℕ, Option, List, IfSome}
+use Rattle.kt_spacetime.specs.declared.event.Event.{Event}
+use Rattle.kt_spacetime.specs.Reading.{rows_unread}
+use Rattle.kt_spacetime.specs.Texts.{IsLogText}
+use Rattle.kt_chain.specs.declared.certificate.Certificate.{Certificate}
+use Rattle.kt_checker.specs.declared.verdict.Verdict.{Verdict}
+use Rattle.kt_checker.specs.declared.verdict.Verdict.TheVariants.{Yes}
+use Rattle.kt_checker.specs.Order.{IsAnswer}
+use Rattle.kt_checker.specs.Soundness.{IsSound}
+
+-- the bytes that a reader tells, where it does, say these rows
+abbrev pub SaysRows : Option (List ℕ) → List Event → Type 0
+SaysRows bytes rows = IfSome (rows_unread bytes).left (λ text. IsLogText text rows)
+
+-- the checker's answer to the rows that the bytes say; a yes means that they and the certificates are sound
+pub record IsAnswerOf (bytes : Option (List ℕ)) (certificates : List Certificate) (verdict : Verdict) : Type 0 where
+  pub rows : List Event
+  pub says : SaysRows bytes rows
+  pub answer : IsAnswer rows certificates verdict
+  pub sound : verdict ≡ Yes → IsSound rows certificates

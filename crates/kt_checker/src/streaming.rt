@@ -1,0 +1,39 @@
+//! A stored log judged row by row.
+
+ghost use Rattle.std.specs.Prelude.{IfOk, IfErr, IfSome};
+ghost use Rattle.kt_spacetime.specs.Reading.{rows_unread};
+ghost use Rattle.kt_spacetime.specs.Texts.{IsFirstFault};
+ghost use Rattle.kt_checker.specs.Streamed.{IsAnswerOf};
+
+use crate::checking::{fed, verdict};
+use crate::judge::Judge;
+use crate::verdict::Verdict;
+use kt_chain::Certificate;
+use kt_spacetime::{LogFault, RowReader};
+use std::alloc::Global;
+use std::io::Read;
+
+/// Judges a stored log and its certificates in one pass, as `check` judges a list of rows.
+///
+/// A fault in the log's text is answered before any verdict, so reading goes on after a row that breaks a rule.
+pub fn check_stream<R: Read + Drop>(
+    alloc: Global,
+    log_reader: R,
+    certificates: &[Certificate],
+) -> Result<Verdict, LogFault>
+    ensures answer { IfOk result (IsAnswerOf (R.remaining log_reader) certificates.now) }
+    ensures fault { IfErr result (λ e. IfSome (rows_unread (R.remaining log_reader)).left (λ text. IsFirstFault text e)) }
+{
+    let mut judge = Judge::new(alloc, certificates)?;
+    let mut rows = RowReader::new(alloc, log_reader)?;
+    let mut broken = None;
+    while let Some(row) = rows.next()? {
+        if broken.is_none() {
+            broken = fed(&mut judge, certificates, &row)?;
+        }
+    }
+    match broken {
+        Some(answer) => Ok(answer),
+        None => Ok(verdict(alloc, &judge.instances, certificates)?),
+    }
+}

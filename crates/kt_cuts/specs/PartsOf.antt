@@ -1,0 +1,64 @@
+-- When what a walk knows stands for rows.
+use Rattle.std.specs.Prelude.{◌≡◌, ℕ, ◌<◌, ◌≤◌, Bool, true, false, Option, Some, None, List, [], ◌∷◌, ◌++◌, length, take, drop, slice_get}
+use Rattle.kt_spacetime.specs.declared.event.Event.{Event}
+use Rattle.kt_spacetime.specs.declared.event.Event.TheVariants.{Sent, Received, Began}
+use Rattle.kt_cuts.specs.declared.deeds.Deed.{Deed}
+use Rattle.kt_cuts.specs.declared.deeds.Deed.TheVariants as deed
+use Rattle.kt_cuts.specs.declared.histories.Trace.{Trace}
+use Rattle.kt_cuts.specs.declared.recent.Step.{Step}
+use Rattle.kt_cuts.specs.declared.walker.Walker.{Walker}
+use Rattle.kt_cuts.specs.Past.{Past, past}
+use Rattle.kt_cuts.specs.Legal.{IsLegal}
+use Rattle.kt_cuts.specs.Lists.{last_of, received_in}
+use Rattle.kt_cuts.specs.Standing.{ShowsInstances, beginning_of_row}
+use Rattle.kt_cuts.specs.Keeping.{kept_at, kept_between, parties_in}
+use Rattle.kt_cuts.specs.TrailParts.{TrailParts}
+
+-- a deed after some earlier ones, with what undoes it
+abbrev pub step_of : List Deed → Deed → Step
+step_of earlier (deed.Sent msg to) = record { msg = msg; from = None; before = None }
+step_of earlier (deed.Received msg from) = record { msg = msg; from = Some from; before = last_of (received_in from earlier) }
+
+-- the deeds that follow some earlier ones, each with what it changed
+abbrev pub steps_after : List Deed → List Deed → List Step
+steps_after earlier [] = []
+steps_after earlier (d ∷ rest) = step_of earlier d ∷ steps_after (earlier ++ d ∷ []) rest
+
+-- the deeds of a history past this many
+abbrev pub steps_past : ℕ → List Deed → List Step
+steps_past n deeds = steps_after (take n deeds) (drop n deeds)
+
+-- a process's tables are what is known of it
+pub record ShowsWalker (v : Walker) (s : Past) (p : ℕ) : Type 0 where
+  pub length : v.length ≡ length (s.live p)
+  pub permanent : v.permanent ≡ s.permanent p
+  pub open_in : v.open_in ≡ s.open_in p
+  pub up : v.up ≡ s.up p
+  pub recent : v.recent ≡ steps_past (s.permanent p) (s.live p)
+  pub received : (q : ℕ) → q < 64 → slice_get v.last_received q ≡ Some (last_of (received_in q (s.live p)))
+  pub dropped : (q : ℕ) → q < 64 → slice_get v.last_dropped q ≡ Some (last_of (received_in q (s.dropped_since p)))
+
+pub record ShowsWalkers (walkers : List Walker) (s : Past) : Type 0 where
+  pub each : (p : ℕ) (v : Walker) → slice_get walkers p ≡ Some v → ShowsWalker v s p
+  pub all : length walkers ≡ 64
+
+-- of each message what is kept of it
+pub record ShowsKept (traces : List (ℕ × Trace)) (between : ℕ → Option (ℕ × ℕ)) (s : Past) : Type 0 where
+  pub each : (msg : ℕ) → kept_at traces msg ≡ kept_between s msg (between msg)
+
+-- what a walk knows after the rows of a legal log
+pub record PartsOf (w : TrailParts) (rows : List Event) : Type 0 where
+  pub legal : IsLegal rows
+  pub number : w.rows ≡ length rows
+  pub of_walkers : ShowsWalkers w.walkers (past rows)
+  pub no_more : (p : ℕ) → 64 ≤ p → (past rows).live p ≡ []
+  pub of_instances : ShowsInstances w.instances (past rows)
+  pub of_beginning : w.beginning ≡ beginning_of_row (past rows).last
+  pub of_kept : ShowsKept w.kept (parties_in rows) (past rows)
+
+-- whether a row needs no room
+abbrev pub is_in_room : Event → Bool
+is_in_room (Sent p to body) = false
+is_in_room (Received p from msg) = false
+is_in_room (Began p k kind) = false
+is_in_room _ = true
