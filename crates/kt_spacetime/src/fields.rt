@@ -2,8 +2,8 @@
 //!
 //! A number is spelled by its decimal digits with no sign and no leading zero; a body may have a `-` before it.
 
-ghost use Rattle.std.specs.Prelude.{◌≡◌, ◌≢◌, ◌<◌, ◌^◌, ℕ, ℤ, Bool, IfSome, IfNone, IfOk, IfErr, FitsSigned};
-ghost use Rattle.std.specs.Int.{w64};
+ghost use Rattle.std.specs.Prelude.{◌≡◌, ◌≢◌, ◌<◌, ◌^◌, ℕ, ℤ, Bool, true, false, length, slice_index, IfSome, IfNone, IfOk, IfErr, FitsSigned};
+ghost use Rattle.std.specs.Int.{w64, IsInRange};
 ghost use Rattle.std.specs.Fmt.{decimal, signed_decimal};
 ghost use Rattle.kt_base.specs.Numbers.{IsProcNo, IsMsgNo, IsInstNo};
 ghost use Rattle.kt_base.specs.declared.words.Kind.{Kind};
@@ -16,17 +16,28 @@ pub fn number_of(text: &[u8]) -> Option<u32>
     ensures found { IfSome result (λ n. text.now ≡ decimal n) }
     ensures none { IfNone result ((n : ℕ) → n < 2 ^ 32 → text.now ≢ decimal n) }
 {
+    if !begins_as_number(text) {
+        return None;
+    }
     let Ok(digits) = std::str::from_utf8(text) else {
         return None;
     };
     let Ok(number) = digits.parse::<u32>() else {
         return None;
     };
-    let mut buffer = itoa::Buffer::new();
-    if buffer.format(number).as_bytes() != text {
-        return None;
-    }
     Some(number)
+}
+
+// Whether a text begins with a digit other than `0`, or is `0`.
+fn begins_as_number(text: &[u8]) -> bool
+    ensures number { result ≡ true → (0 < length text.now) × IsInRange 48 57 (slice_index text.now 0) × (slice_index text.now 0 ≡ 48 → length text.now ≡ 1) }
+    ensures none { result ≡ false → (n : ℕ) → n < 2 ^ 64 → text.now ≢ decimal n }
+{
+    match text.first() {
+        Some(b'0') => text.len() == 1,
+        Some(first) => first.is_ascii_digit(),
+        None => false,
+    }
 }
 
 /// The body, a whole number of 64 bits, that a text spells, if it spells one.

@@ -1,9 +1,10 @@
-use Rattle.std.proofs.Common.{rules, ◌≡◌, ◌≢◌, ◌∙◌, ◌<◌, ◌^◌, sym, ap, arith, ℕ, List, Ok, Result, subst}
+use Rattle.std.proofs.Common.{rules, ◌≡◌, ◌∙◌, ◌<◌, ◌^◌, sym, arith, ℕ, List, Ok, Result, subst}
 use Rattle.std.specs.Fmt.{decimal}
 use Rattle.std.specs.Str.{IsUtf8}
 use Rattle.std.specs.Str.Parse.{ParsesUnsigned}
 use Rattle.std.proofs.lemmas.Fmt.{IsAscii-decimal, parse-decimal}
 use Rattle.std.proofs.lemmas.Str.{IsUtf8-from_ascii}
+use Rattle.kt_spacetime.proofs.NumberFacts.{Begins, begun_spells}
 use Rattle.kt_spacetime.proofs.fields.number_of.Goals as goal
 
 -- what spells a number is text
@@ -22,10 +23,8 @@ returns-in_default-parse-clause-none c n small e =
     let p = spelt_reads n c.args.text.now c.in-Ok.digits.now c.parse.result small c.in-Ok.ensures.cases.0 e c.parse.ensures.value.0 in
     cc (rw c.in_default-parse.is at p)
 
-pub returns-then-ne-clause-none : goal.returns-then-ne-clause-none
-returns-then-ne-clause-none c n small e =
-    let p = spelt_reads n c.args.text.now c.in-Ok.digits.now c.parse.result small c.in-Ok.ensures.cases.0 e c.parse.ensures.value.0 in
-    let q = rw c.in-Ok-parse.is at p in
-    let same : c.in-Ok-parse.number ≡ n = cc q in
-    let unequal : c.as_bytes.result.now ≢ c.args.text.now = search rules in
-    unequal (c.as_bytes.ensures.value ∙ c.format.ensures.text ∙ ap decimal same ∙ sym e)
+pub returns-clause-found : goal.returns-clause-found
+returns-clause-found c =
+    let begins : Begins c.args.text.now = c.begins_as_number.ensures.number (search rules) in
+    let same = c.in-Ok.ensures.cases.0 in
+    sym same ∙ begun_spells c.in-Ok-parse.number c.in-Ok.digits.now c.parse.result (subst Begins (sym same) begins) c.parse.ensures.value.0 c.in-Ok-parse.is
