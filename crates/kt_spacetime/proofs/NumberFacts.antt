@@ -1,22 +1,23 @@
 -- How the text of a number begins.
-use Rattle.std.proofs.Common.{◌≡◌, ◌∙◌, ◌<◌, ◌^◌, ℕ, zero, suc, List, [], ◌∷◌, length, slice_index, slice_get, Some, None, sym, ap, subst, arith, Result, Ok}
-use Rattle.std.specs.Int.{IsInRange}
-use Rattle.std.specs.Fmt.{decimal}
-use Rattle.std.specs.Str.Parse.{AllDigits, IsNumeral, ParsesUnsigned, digits_value, without_leading_plus}
+use Rattle.std.proofs.Common.{◌≡◌, ◌≢◌, ◌∙◌, ◌<◌, ◌≤◌, ◌^◌, ℕ, ℤ, zero, suc, List, [], ◌∷◌, length, drop, slice_index, slice_get, Some, None, sym, ap, subst, refl, inl, inr, arith, rules, Result, Ok, FitsSigned}
+use Rattle.std.specs.Prelude.{pos, negsuc, neg_ℤ}
+use Rattle.std.specs.Int.{IsInRange, w64}
+use Rattle.std.specs.Result.{OkIff}
+use Rattle.std.specs.Int.Signed.{mag}
+use Rattle.std.specs.Fmt.{decimal, signed_decimal}
+use Rattle.std.specs.Str.Parse.{AllDigits, IsNumeral, ParsesUnsigned, ParsesSigned, digits_value, without_leading_plus}
 use Rattle.std.proofs.lemmas.Fmt.{decimal_is_IsNumeral, decimal_digit, first_decimal, decimal-digits_value}
-use Rattle.std.proofs.lemmas.Str.Parse.{digit_from_value, numerals_by_value, tells_digits, without_leading_plus_none}
+use Rattle.std.proofs.lemmas.Bool.{cases_eq}
+use Rattle.std.proofs.lemmas.Str.Parse.{digit_from_value, numerals_by_value, tells_digits, without_leading_plus_none, parse_signed_plain, parse_signed_minus}
+use Rattle.kt_spacetime.specs.Words.{BeginsAsNumber, BeginsAsBody}
 
--- a text begins with a digit, which is not 0 where more follow
-abbrev pub Begins : List ℕ → Type 0
-Begins t = (0 < length t) × IsInRange 48 57 (slice_index t 0) × (slice_index t 0 ≡ 48 → length t ≡ 1)
-
-digits_begin : (t : List ℕ) → IsNumeral 10 t → (slice_index t 0 ≡ 48 → length t ≡ 1) → Begins t
+digits_begin : (t : List ℕ) → IsNumeral 10 t → (slice_index t 0 ≡ 48 → length t ≡ 1) → BeginsAsNumber t
 digits_begin [] h z = absurd (omega (arith, h.0))
 digits_begin (c ∷ cs) h z = (h.0, digit_from_value c h.1.0, z)
 
 -- so does what spells a number
-pub spelt_begins : (n : ℕ) (t : List ℕ) → n < 2 ^ 64 → t ≡ decimal n → Begins t
-spelt_begins n t small e = subst Begins (sym e) (digits_begin (decimal n) (decimal_is_IsNumeral n small).0 (first n small))
+pub spelt_begins : (n : ℕ) (t : List ℕ) → n < 2 ^ 64 → t ≡ decimal n → BeginsAsNumber t
+spelt_begins n t small e = subst BeginsAsNumber (sym e) (digits_begin (decimal n) (decimal_is_IsNumeral n small).0 (first n small))
   where
     first : (m : ℕ) → m < 2 ^ 64 → slice_index (decimal m) 0 ≡ 48 → length (decimal m) ≡ 1
     first zero l z = ap length (decimal_digit 0 (omega arith))
@@ -34,7 +35,7 @@ other_first n x (c ∷ cs) small e h =
     subst (λ (y : ℕ). IsInRange 48 57 y × (y ≡ 48 → length (c ∷ cs) ≡ 1)) same (let b = spelt_begins n (c ∷ cs) small e in (b.1, b.2))
 
 -- and a text that begins so, and is read as a number, spells it
-pub begun_spells : {E : Type 0} (n : ℕ) (t : List ℕ) (r : Result ℕ E) → Begins t → ParsesUnsigned 32 10 t r → r ≡ Ok n → t ≡ decimal n
+pub begun_spells : {E : Type 0} (n : ℕ) (t : List ℕ) (r : Result ℕ E) → BeginsAsNumber t → ParsesUnsigned 32 10 t r → r ≡ Ok n → t ≡ decimal n
 begun_spells {E} n t r b p e =
     let read : ParsesUnsigned {E = E} 32 10 t (Ok n) = subst (λ (x : Result ℕ E). ParsesUnsigned {E = E} 32 10 t x) e p in
     let plain : without_leading_plus t ≡ t = without_leading_plus_none t (λ (s : slice_index t 0 ≡ 43). absurd (omega (arith, s, b.1))) in
@@ -42,3 +43,57 @@ begun_spells {E} n t r b p e =
     let small : digits_value 10 t < 2 ^ 32 = subst (λ (x : List ℕ). digits_value 10 x < 2 ^ 32) plain read.0.1 in
     let value : n ≡ digits_value 10 t = read.1 ∙ ap (digits_value 10) plain in
     sym (ap decimal value ∙ decimal-digits_value (numerals_by_value (AllDigits 10) tells_digits) t digits.1 b.0 b.2 (omega (arith, small)))
+
+-- the digits of a number that begins so
+digits_spell : (t : List ℕ) → BeginsAsNumber t → AllDigits 10 t → digits_value 10 t < 2 ^ 64 → decimal (digits_value 10 t) ≡ t
+digits_spell t b d small = decimal-digits_value (numerals_by_value (AllDigits 10) tells_digits) t d b.0 b.2 small
+
+pub small_body : (z : ℤ) → FitsSigned w64 z → mag z < 2 ^ 63
+small_body (pos n) f = search (rules, f)
+small_body (negsuc n) f = search (rules, f)
+
+-- what spells a body begins as one
+pub spelt_body : (z : ℤ) (t : List ℕ) → FitsSigned w64 z → t ≡ signed_decimal z → BeginsAsBody t
+spelt_body (pos n) t f e =
+    let b = spelt_begins n t (omega (arith, small_body (pos n) f)) e in
+    ((λ _. b), λ minus. absurd (omega (arith, minus, b.1)))
+spelt_body (negsuc n) t f e =
+    let small : suc n < 2 ^ 64 = omega (arith, small_body (negsuc n) f) in
+    subst BeginsAsBody (sym e) ((λ plain. absurd (plain refl)), λ minus. (spelt_begins (suc n) (decimal (suc n)) small refl, λ z. absurd (omega (arith, z, first_decimal (suc n) (omega arith) small))))
+
+-- after a `-` it has a number other than 0
+pub minus_body : (z : ℤ) (t ds : List ℕ) → FitsSigned w64 z → t ≡ signed_decimal z → t ≡ 45 ∷ ds → (n : ℕ) × (n < 2 ^ 64) × (ds ≡ decimal n) × (slice_index ds 0 ≢ 48)
+minus_body (pos n) t ds f e whole =
+    let minus : slice_index t 0 ≡ 45 = ap (λ (l : List ℕ). slice_index l 0) whole in
+    absurd (omega (arith, minus, (spelt_begins n t (omega (arith, small_body (pos n) f)) e).1))
+minus_body (negsuc n) t ds f e whole =
+    let small : suc n < 2 ^ 64 = omega (arith, small_body (negsuc n) f) in
+    let same : ds ≡ decimal (suc n) = ap (drop 1) (sym whole ∙ e) in
+    (suc n, small, same, λ z. absurd (omega (arith, z, ap (λ (l : List ℕ). slice_index l 0) same, first_decimal (suc n) (omega arith) small)))
+
+minus_text : (t ds : List ℕ) (v : ℕ) → slice_index t 0 ≡ 45 → drop 1 t ≡ ds → slice_index ds 0 ≢ 48 → decimal v ≡ ds → t ≡ signed_decimal (neg_ℤ (pos v))
+minus_text [] ds v at e other d = absurd (omega (arith, at))
+minus_text (c ∷ cs) ds zero at e other d = absurd (other (ap (λ (l : List ℕ). slice_index l 0) (sym d ∙ decimal_digit 0 (omega arith))))
+minus_text (c ∷ cs) ds (suc n) at e other d = ap (λ (x : ℕ). x ∷ cs) at ∙ ap (λ (l : List ℕ). 45 ∷ l) (e ∙ sym d)
+
+-- and a text that begins so, and is read as a body, spells it
+pub begun_body : {E : Type 0} (z : ℤ) (t : List ℕ) (r : Result ℤ E) → BeginsAsBody t → ParsesSigned w64 10 t r → r ≡ Ok z → t ≡ signed_decimal z
+begun_body {E = E} z t r b p e = elim (cases_eq (slice_index t 0) 45) [
+  | inl minus ↦
+      let begins = b.1 minus in
+      let read : OkIff {E = E} (Ok z) (AllDigits 10 (drop 1 t) × (0 < length (drop 1 t)) × (digits_value 10 (drop 1 t) ≤ 2 ^ 63)) (neg_ℤ (pos (digits_value 10 (drop 1 t))))
+        = subst (λ (x : Result ℤ E). OkIff x (AllDigits 10 (drop 1 t) × (0 < length (drop 1 t)) × (digits_value 10 (drop 1 t) ≤ 2 ^ 63)) (neg_ℤ (pos (digits_value 10 (drop 1 t))))) e (parse_signed_minus (numerals_by_value (AllDigits 10) tells_digits) w64 t r p minus) in
+      let spelt = digits_spell (drop 1 t) begins.0 read.0.0 (omega (arith, read.0.2)) in
+      minus_text t (drop 1 t) (digits_value 10 (drop 1 t)) minus refl begins.1 spelt ∙ ap signed_decimal (sym read.1)
+  | inr plain ↦
+      let begins = b.0 plain in
+      let read : OkIff {E = E} (Ok z) (AllDigits 10 t × (0 < length t) × (digits_value 10 t < 2 ^ 63)) (pos (digits_value 10 t))
+        = subst (λ (x : Result ℤ E). OkIff x (AllDigits 10 t × (0 < length t) × (digits_value 10 t < 2 ^ 63)) (pos (digits_value 10 t))) e (parse_signed_plain (numerals_by_value (AllDigits 10) tells_digits) w64 t r p (λ (s : slice_index t 0 ≡ 43). absurd (omega (arith, s, begins.1))) plain) in
+      sym (ap signed_decimal read.1 ∙ digits_spell t begins read.0.0 (omega (arith, read.0.2)))
+]
+
+-- what is read as a body is one
+pub body_fits : {E : Type 0} (z : ℤ) (t : List ℕ) (r : Result ℤ E) → ParsesSigned w64 10 t r → r ≡ Ok z → FitsSigned w64 z
+body_fits {E = E} z t r p e =
+    let read : ParsesSigned {E = E} w64 10 t (Ok z) = subst (λ (x : Result ℤ E). ParsesSigned {E = E} w64 10 t x) e p in
+    subst (FitsSigned w64) (sym read.1) read.0.1

@@ -1,5 +1,6 @@
--- Words of log and certificate texts.
-use Rattle.std.specs.Prelude.{ℕ, Bool, true, false, List, codes}
+-- Words and numbers of log and certificate texts.
+use Rattle.std.specs.Prelude.{◌≡◌, ◌≢◌, ◌<◌, ℕ, Bool, true, false, List, codes, drop, length, slice_index}
+use Rattle.std.specs.Int.{IsInRange}
 use Rattle.kt_base.specs.declared.words.Kind.{Kind}
 use Rattle.kt_base.specs.declared.words.Kind.TheVariants.{Checkpoint, Rollback}
 
@@ -12,3 +13,11 @@ kind_word Rollback = codes "rollback"
 abbrev pub verdict_word : Bool → List ℕ
 verdict_word true = codes "commit"
 verdict_word false = codes "abort"
+
+-- a text begins with a digit, which is not 0 where more follow
+abbrev pub BeginsAsNumber : List ℕ → Type 0
+BeginsAsNumber text = (0 < length text) × IsInRange 48 57 (slice_index text 0) × (slice_index text 0 ≡ 48 → length text ≡ 1)
+
+-- the same, or it begins so after a `-`, with a digit other than 0
+abbrev pub BeginsAsBody : List ℕ → Type 0
+BeginsAsBody text = (slice_index text 0 ≢ 45 → BeginsAsNumber text) × (slice_index text 0 ≡ 45 → BeginsAsNumber (drop 1 text) × (slice_index (drop 1 text) 0 ≢ 48))

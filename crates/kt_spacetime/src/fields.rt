@@ -2,12 +2,12 @@
 //!
 //! A number is spelled by its decimal digits with no sign and no leading zero; a body may have a `-` before it.
 
-ghost use Rattle.std.specs.Prelude.{◌≡◌, ◌≢◌, ◌<◌, ◌^◌, ℕ, ℤ, Bool, true, false, length, slice_index, IfSome, IfNone, IfOk, IfErr, FitsSigned};
-ghost use Rattle.std.specs.Int.{w64, IsInRange};
+ghost use Rattle.std.specs.Prelude.{◌≡◌, ◌≢◌, ◌<◌, ◌^◌, ℕ, ℤ, Bool, true, false, IfSome, IfNone, IfOk, IfErr, FitsSigned};
+ghost use Rattle.std.specs.Int.{w64};
 ghost use Rattle.std.specs.Fmt.{decimal, signed_decimal};
 ghost use Rattle.kt_base.specs.Numbers.{IsProcNo, IsMsgNo, IsInstNo};
 ghost use Rattle.kt_base.specs.declared.words.Kind.{Kind};
-ghost use Rattle.kt_spacetime.specs.Words.{kind_word, verdict_word};
+ghost use Rattle.kt_spacetime.specs.Words.{BeginsAsNumber, BeginsAsBody, kind_word, verdict_word};
 
 use kt_base::{InstNo, Kind, MsgNo, ProcNo};
 
@@ -30,7 +30,7 @@ pub fn number_of(text: &[u8]) -> Option<u32>
 
 // Whether a text begins with a digit other than `0`, or is `0`.
 fn begins_as_number(text: &[u8]) -> bool
-    ensures number { result ≡ true → (0 < length text.now) × IsInRange 48 57 (slice_index text.now 0) × (slice_index text.now 0 ≡ 48 → length text.now ≡ 1) }
+    ensures number { result ≡ true → BeginsAsNumber text.now }
     ensures none { result ≡ false → (n : ℕ) → n < 2 ^ 64 → text.now ≢ decimal n }
 {
     match text.first() {
@@ -45,17 +45,27 @@ pub fn body_of(text: &[u8]) -> Option<i64>
     ensures found { IfSome result (λ z. text.now ≡ signed_decimal z) }
     ensures none { IfNone result ((z : ℤ) → FitsSigned w64 z → text.now ≢ signed_decimal z) }
 {
+    if !begins_as_body(text) {
+        return None;
+    }
     let Ok(digits) = std::str::from_utf8(text) else {
         return None;
     };
     let Ok(body) = digits.parse::<i64>() else {
         return None;
     };
-    let mut buffer = itoa::Buffer::new();
-    if buffer.format(body).as_bytes() != text {
-        return None;
-    }
     Some(body)
+}
+
+// Whether a text begins as a number does, or with a `-` and then as a number other than 0.
+fn begins_as_body(text: &[u8]) -> bool
+    ensures body { result ≡ true → BeginsAsBody text.now }
+    ensures none { result ≡ false → (z : ℤ) → FitsSigned w64 z → text.now ≢ signed_decimal z }
+{
+    match text.split_first() {
+        Some((b'-', digits)) => begins_as_number(digits) && digits[0] != b'0',
+        _ => begins_as_number(text),
+    }
 }
 
 /// The process that a text spells, if it spells a number from 0 to 63.

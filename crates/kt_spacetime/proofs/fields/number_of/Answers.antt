@@ -4,7 +4,8 @@ use Rattle.std.specs.Str.{IsUtf8}
 use Rattle.std.specs.Str.Parse.{ParsesUnsigned}
 use Rattle.std.proofs.lemmas.Fmt.{IsAscii-decimal, parse-decimal}
 use Rattle.std.proofs.lemmas.Str.{IsUtf8-from_ascii}
-use Rattle.kt_spacetime.proofs.NumberFacts.{Begins, begun_spells}
+use Rattle.kt_spacetime.specs.Words.{BeginsAsNumber}
+use Rattle.kt_spacetime.proofs.NumberFacts.{begun_spells}
 use Rattle.kt_spacetime.proofs.fields.number_of.Goals as goal
 
 -- what spells a number is text
@@ -25,6 +26,6 @@ returns-in_default-parse-clause-none c n small e =
 
 pub returns-clause-found : goal.returns-clause-found
 returns-clause-found c =
-    let begins : Begins c.args.text.now = c.begins_as_number.ensures.number (search rules) in
+    let begins : BeginsAsNumber c.args.text.now = c.begins_as_number.ensures.number (search rules) in
     let same = c.in-Ok.ensures.cases.0 in
-    sym same ∙ begun_spells c.in-Ok-parse.number c.in-Ok.digits.now c.parse.result (subst Begins (sym same) begins) c.parse.ensures.value.0 c.in-Ok-parse.is
+    sym same ∙ begun_spells c.in-Ok-parse.number c.in-Ok.digits.now c.parse.result (subst BeginsAsNumber (sym same) begins) c.parse.ensures.value.0 c.in-Ok-parse.is
