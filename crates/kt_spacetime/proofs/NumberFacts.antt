@@ -1,13 +1,17 @@
 -- How the text of a number begins.
-use Rattle.std.proofs.Common.{◌≡◌, ◌≢◌, ◌∙◌, ◌<◌, ◌≤◌, ◌^◌, ℕ, ℤ, zero, suc, List, [], ◌∷◌, length, drop, slice_index, slice_get, Some, None, sym, ap, subst, refl, inl, inr, arith, rules, Result, Ok, FitsSigned}
+use Rattle.std.proofs.Common.{◌≡◌, ◌≢◌, ◌∙◌, ◌<◌, ◌≤◌, ◌+◌, ◌-◌, ◌*◌, ◌^◌, ℕ, ℤ, zero, suc, List, [], ◌∷◌, length, drop, slice_index, slice_get, Option, Some, None, IfSome, IfNone, sym, ap, subst, refl, inl, inr, arith, rules, Result, Ok, FitsSigned}
 use Rattle.std.specs.Prelude.{pos, negsuc, neg_ℤ}
 use Rattle.std.specs.Int.{IsInRange, w64}
 use Rattle.std.specs.Result.{OkIff}
 use Rattle.std.specs.Int.Signed.{mag}
 use Rattle.std.specs.Fmt.{decimal, signed_decimal}
-use Rattle.std.specs.Str.Parse.{AllDigits, IsNumeral, ParsesUnsigned, ParsesSigned, digits_value, without_leading_plus}
+use Rattle.std.specs.Str.Parse.{AllDigits, IsNumeral, ParsesUnsigned, ParsesSigned, digits_value, digits_value_after, without_leading_plus}
 use Rattle.std.proofs.lemmas.Fmt.{decimal_is_IsNumeral, decimal_digit, first_decimal, decimal-digits_value}
+use Rattle.std.specs.Char.{digit_value}
 use Rattle.std.proofs.lemmas.Bool.{cases_eq}
+use Rattle.std.proofs.lemmas.Str.{digit_value_digit}
+use Rattle.std.proofs.Math.Seq.{drop-cons}
+use Rattle.std.proofs.Math.ListN.{drop_of_length-le}
 use Rattle.std.proofs.lemmas.Str.Parse.{digit_from_value, numerals_by_value, tells_digits, without_leading_plus_none, parse_signed_plain, parse_signed_minus}
 use Rattle.kt_spacetime.specs.Words.{BeginsAsNumber, BeginsAsBody}
 
@@ -82,13 +86,13 @@ begun_body {E = E} z t r b p e = elim (cases_eq (slice_index t 0) 45) [
   | inl minus ↦
       let begins = b.1 minus in
       let read : OkIff {E = E} (Ok z) (AllDigits 10 (drop 1 t) × (0 < length (drop 1 t)) × (digits_value 10 (drop 1 t) ≤ 2 ^ 63)) (neg_ℤ (pos (digits_value 10 (drop 1 t))))
-        = subst (λ (x : Result ℤ E). OkIff x (AllDigits 10 (drop 1 t) × (0 < length (drop 1 t)) × (digits_value 10 (drop 1 t) ≤ 2 ^ 63)) (neg_ℤ (pos (digits_value 10 (drop 1 t))))) e (parse_signed_minus (numerals_by_value (AllDigits 10) tells_digits) w64 t r p minus) in
+      = subst (λ (x : Result ℤ E). OkIff x (AllDigits 10 (drop 1 t) × (0 < length (drop 1 t)) × (digits_value 10 (drop 1 t) ≤ 2 ^ 63)) (neg_ℤ (pos (digits_value 10 (drop 1 t))))) e (parse_signed_minus (numerals_by_value (AllDigits 10) tells_digits) w64 t r p minus) in
       let spelt = digits_spell (drop 1 t) begins.0 read.0.0 (omega (arith, read.0.2)) in
       minus_text t (drop 1 t) (digits_value 10 (drop 1 t)) minus refl begins.1 spelt ∙ ap signed_decimal (sym read.1)
   | inr plain ↦
       let begins = b.0 plain in
       let read : OkIff {E = E} (Ok z) (AllDigits 10 t × (0 < length t) × (digits_value 10 t < 2 ^ 63)) (pos (digits_value 10 t))
-        = subst (λ (x : Result ℤ E). OkIff x (AllDigits 10 t × (0 < length t) × (digits_value 10 t < 2 ^ 63)) (pos (digits_value 10 t))) e (parse_signed_plain (numerals_by_value (AllDigits 10) tells_digits) w64 t r p (λ (s : slice_index t 0 ≡ 43). absurd (omega (arith, s, begins.1))) plain) in
+      = subst (λ (x : Result ℤ E). OkIff x (AllDigits 10 t × (0 < length t) × (digits_value 10 t < 2 ^ 63)) (pos (digits_value 10 t))) e (parse_signed_plain (numerals_by_value (AllDigits 10) tells_digits) w64 t r p (λ (s : slice_index t 0 ≡ 43). absurd (omega (arith, s, begins.1))) plain) in
       sym (ap signed_decimal read.1 ∙ digits_spell t begins read.0.0 (omega (arith, read.0.2)))
 ]
 
@@ -97,3 +101,51 @@ pub body_fits : {E : Type 0} (z : ℤ) (t : List ℕ) (r : Result ℤ E) → Par
 body_fits {E = E} z t r p e =
     let read : ParsesSigned {E = E} w64 10 t (Ok z) = subst (λ (x : Result ℤ E). ParsesSigned {E = E} w64 10 t x) e p in
     subst (FitsSigned w64) (sym read.1) read.0.1
+
+-- digits are read up to a place, and write this number so far
+abbrev pub IsReading : List ℕ → ℕ → ℕ → Type 0
+IsReading t i n = (digits_value_after 10 n (drop i t) ≡ digits_value 10 t) × (AllDigits 10 (drop i t) → AllDigits 10 t) × (AllDigits 10 t → AllDigits 10 (drop i t))
+
+pub reading_begins : (t : List ℕ) → IsReading t 0 0
+reading_begins t = (refl, (λ d. d), λ d. d)
+
+next_place : (t : List ℕ) (i : ℕ) → i < length t → drop i t ≡ slice_index t i ∷ drop (i + 1) t
+next_place t i l =
+    let number : suc i ≡ i + 1 = omega arith in
+    drop-cons t i 0 l ∙ ap (λ (k : ℕ). slice_index t i ∷ drop k t) number
+
+pub reading_next : (t : List ℕ) (i n : ℕ) → IsReading t i n → i < length t → IsInRange 48 57 (slice_index t i) → IsReading t (i + 1) (n * 10 + (slice_index t i - 48))
+reading_next t i n h l r =
+    let there = next_place t i l in
+    let digit : digit_value (slice_index t i) ≡ slice_index t i - 48 = omega (arith, digit_value_digit (slice_index t i) r) in
+    let value = ap (λ (k : ℕ). digits_value_after 10 (n * 10 + k) (drop (i + 1) t)) (sym digit) ∙ (ap (digits_value_after 10 n) (sym there) ∙ h.0) in
+    let low : digit_value (slice_index t i) < 10 = omega (arith, digit, r) in
+    (value, (λ d. h.1 (subst (AllDigits 10) (sym there) (low, d))), λ d. (subst (AllDigits 10) there (h.2 d)).1)
+
+pub reading_all : (t : List ℕ) (i n : ℕ) → IsReading t i n → length t ≤ i → AllDigits 10 t × (n ≡ digits_value 10 t)
+reading_all t i n h l =
+    let end : drop i t ≡ [] = drop_of_length-le t l in
+    (h.1 (subst (AllDigits 10) (sym end) tt), ap (digits_value_after 10 n) (sym end) ∙ h.0)
+
+after_grows : (n : ℕ) (ds : List ℕ) → n ≤ digits_value_after 10 n ds
+after_grows n [] = omega arith
+after_grows n (c ∷ cs) = omega (arith, after_grows (n * 10 + digit_value c) cs)
+
+-- a byte that is no digit, or too great a number
+pub reading_stops : (t : List ℕ) (i n : ℕ) → IsReading t i n → i < length t → (IsInRange 48 57 (slice_index t i) → 2 ^ 32 ≤ n * 10 + (slice_index t i - 48)) → AllDigits 10 t → 2 ^ 32 ≤ digits_value 10 t
+reading_stops t i n h l over d =
+    let digits = subst (AllDigits 10) (next_place t i l) (h.2 d) in
+    let r = digit_from_value (slice_index t i) digits.0 in
+    let next = reading_next t i n h l r in
+    omega (arith, over r, next.0, after_grows (n * 10 + (slice_index t i - 48)) (drop (i + 1) t))
+
+-- what is found of a number's digits
+pub value_spells : (t : List ℕ) (o : Option ℕ) → BeginsAsNumber t → IfSome o (λ n. AllDigits 10 t × (n ≡ digits_value 10 t) × (n < 2 ^ 32)) → IfSome o (λ n. t ≡ decimal n)
+value_spells t None b h = tt
+value_spells t (Some n) b h = sym (ap decimal h.1 ∙ digits_spell t b h.0 (omega (arith, h.1, h.2)))
+
+pub value_is_spelt : (t : List ℕ) (o : Option ℕ) → IfNone o (AllDigits 10 t → 2 ^ 32 ≤ digits_value 10 t) → IfNone o ((n : ℕ) → n < 2 ^ 32 → t ≢ decimal n)
+value_is_spelt t (Some n) h = tt
+value_is_spelt t None h = λ n l e.
+    let digits = decimal_is_IsNumeral n (omega (arith, l)) in
+    omega (arith, l, digits.1, ap (digits_value 10) e, h (subst (AllDigits 10) (sym e) digits.0.1))

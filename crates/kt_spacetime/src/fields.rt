@@ -2,9 +2,10 @@
 //!
 //! A number is spelled by its decimal digits with no sign and no leading zero; a body may have a `-` before it.
 
-ghost use Rattle.std.specs.Prelude.{◌≡◌, ◌≢◌, ◌<◌, ◌^◌, ℕ, ℤ, Bool, true, false, IfSome, IfNone, IfOk, IfErr, FitsSigned};
-ghost use Rattle.std.specs.Int.{w64};
+ghost use Rattle.std.specs.Prelude.{◌≡◌, ◌≢◌, ◌<◌, ◌≤◌, ◌+◌, ◌-◌, ◌*◌, ◌^◌, ℕ, ℤ, Bool, true, false, IfSome, IfNone, IfOk, IfErr, FitsSigned};
+ghost use Rattle.std.specs.Int.{w64, IsInRange};
 ghost use Rattle.std.specs.Fmt.{decimal, signed_decimal};
+ghost use Rattle.std.specs.Str.Parse.{AllDigits, digits_value};
 ghost use Rattle.kt_base.specs.Numbers.{IsProcNo, IsMsgNo, IsInstNo};
 ghost use Rattle.kt_base.specs.declared.words.Kind.{Kind};
 ghost use Rattle.kt_spacetime.specs.Words.{BeginsAsNumber, BeginsAsBody, kind_word, verdict_word};
@@ -19,13 +20,30 @@ pub fn number_of(text: &[u8]) -> Option<u32>
     if !begins_as_number(text) {
         return None;
     }
-    let Ok(digits) = std::str::from_utf8(text) else {
-        return None;
-    };
-    let Ok(number) = digits.parse::<u32>() else {
-        return None;
-    };
+    value_of(text)
+}
+
+// The number below 2^32 that digits write, where a text has no other bytes.
+fn value_of(text: &[u8]) -> Option<u32>
+    ensures found { IfSome result (λ n. AllDigits 10 text.now × (n ≡ digits_value 10 text.now) × (n < 2 ^ 32)) }
+    ensures none { IfNone result (AllDigits 10 text.now → 2 ^ 32 ≤ digits_value 10 text.now) }
+{
+    let mut number = 0;
+    for byte in text {
+        number = with_digit(number, *byte)?;
+    }
     Some(number)
+}
+
+// A number with one more digit, where it stays below 2^32.
+fn with_digit(number: u32, byte: u8) -> Option<u32>
+    ensures found { IfSome result (λ n. IsInRange 48 57 byte × (n ≡ number * 10 + (byte - 48)) × (n < 2 ^ 32)) }
+    ensures none { IfNone result (IsInRange 48 57 byte → 2 ^ 32 ≤ number * 10 + (byte - 48)) }
+{
+    if !byte.is_ascii_digit() {
+        return None;
+    }
+    number.checked_mul(10)?.checked_add(u32::from(byte - b'0'))
 }
 
 // Whether a text begins with a digit other than `0`, or is `0`.
