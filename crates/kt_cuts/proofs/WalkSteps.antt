@@ -52,7 +52,7 @@ not_so false f = refl
 
 -- a send
 pub sent_row : (w : TrailParts) (rows : List Event) (p to n : ℕ) (body : _) (v : Walker) (r : List Step) (es : List (ℕ × Trace)) → PartsOf w rows → broken_rule (past rows) (event.Sent p to body) ≡ None → p < 64 → slice_get w.walkers p ≡ Some v
-    → n ≡ w.rows + 1 → r ≡ v.recent ++ record { msg = n; from = None; before = None } ∷ []
+    → n ≡ w.rows + 1 → r ≡ v.recent ++ record { msg = n; from = None; before = None; place = v.length + 1 } ∷ []
     → ((m : ℕ) → kept_at es m ≡ at_one n (Some (record { from = p; to = to; sent = Some (v.length + 1); received = None })) (kept_at w.kept) m)
     → PartsOf (record { rows = w.rows + 1; walkers = set w.walkers p (record v { recent = r; length = v.length + 1 }); instances = w.instances; beginning = None; kept = es }) (rows ++ event.Sent p to body ∷ [])
 sent_row w rows p to n body v r es h unbroken low at number more changed =
@@ -79,7 +79,8 @@ sent_row w rows p to n body v r es h unbroken low at number more changed =
       permanent = g.permanent;
       open_in = g.open_in;
       up = g.up;
-      recent = more ∙ (ap (λ (l : List Step). l ++ record { msg = n; from = None; before = None } ∷ []) g.recent ∙ (sym (steps_past_push (s.permanent p) (s.live p) d within) ∙ ap (steps_past (s.permanent p)) (sym here)));
+      recent = pushed_recent v.recent r (s.permanent p) (s.live p) (t.live p) d s.dropped (record { msg = n; from = None; before = None; place = v.length + 1 }) g.recent within
+          (λ x q e. subst (λ (y : Deed). (IsSendOf x y → s.dropped x ≡ false)) refl (λ o. ap s.dropped (sym o) ∙ undropped) (sent_message n to x q e)) more (λ i. record { msg = n; from = None; before = None; place = g.length i + 1 }) here;
       received = λ q l. g.received q l ∙ ap (λ (x : List ℕ). Some (last_of x)) (sym (received_unsent (s.live p) n to q) ∙ ap (received_in q) (sym here));
       dropped = g.dropped;
     }) (λ q u o x. record {

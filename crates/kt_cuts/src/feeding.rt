@@ -8,6 +8,7 @@ ghost use Rattle.kt_cuts.specs.declared.deeds.Deed.TheVariants as deed;
 use crate::arrivals::Arrivals;
 use crate::channel::Arrival;
 use crate::histories::Trace;
+use crate::recent::Step;
 use crate::tables::{Instance, enter};
 use crate::trail::Trail;
 use kt_base::{InstNo, Kind, Memory, MsgNo, ProcNo, ProcSet};
@@ -62,7 +63,12 @@ impl Trail {
         let msg = self.next_message();
         let place = self.walker(p).next_place();
         let walker = &mut self.walkers[p.get() as usize];
-        walker.recent.push(msg, None, None)?;
+        walker.recent.push(Step {
+            msg,
+            from: None,
+            before: None,
+            place,
+        })?;
         let trace = Trace {
             from: p,
             to,
@@ -70,7 +76,7 @@ impl Trail {
             received: None,
         };
         if let Err(fault) = self.kept.add(msg, trace) {
-            walker.recent.pop_last();
+            walker.recent.pop_last(place);
             return Err(fault);
         }
         walker.length = place;
@@ -97,9 +103,14 @@ impl Trail {
         let before = walker.last_received(from);
         let arrival = self.arrival(p, msg);
         let walker = &mut self.walkers[p.get() as usize];
-        walker.recent.push(msg, Some(from), before)?;
+        walker.recent.push(Step {
+            msg,
+            from: Some(from),
+            before,
+            place,
+        })?;
         if let Err(fault) = arrivals.receive(p, from, arrival) {
-            walker.recent.pop_last();
+            walker.recent.pop_last(place);
             return Err(fault);
         }
         walker.length = place;
@@ -160,6 +171,15 @@ impl Trail {
         walker.last_dropped[from.get() as usize] = Some(msg);
         self.kept.remove(msg);
         self.pass();
+        self.lose_send(from);
+    }
+
+    // A message of this process was dropped.
+    fn lose_send(&mut self, from: ProcNo)
+        ensures { (rows : List Event) → TrailOf self.old rows → TrailOf self.new rows }
+    {
+        let walker = &mut self.walkers[from.get() as usize];
+        walker.lose(&self.kept);
     }
 
     fn join(&mut self, p: ProcNo, inst: InstNo)
