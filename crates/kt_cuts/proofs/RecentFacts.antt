@@ -1,5 +1,5 @@
 -- The steps that a walk keeps of a process, as its history changes.
-use Rattle.std.proofs.Common.{◌≡◌, ◌≢◌, ◌⊎◌, ℕ, zero, suc, ◌+◌, ◌-◌, ◌<◌, ◌≤◌, not, ◌&&◌, ◌||◌, cond, Bool, true, false, Option, Some, None, List, [], ◌∷◌, ◌++◌, length, take, drop, refl, sym, ap, ◌∙◌, arith, inl, inr, length-append, length-take}
+use Rattle.std.proofs.Common.{◌≡◌, ◌≢◌, ◌⊎◌, ℕ, zero, suc, ◌+◌, ◌-◌, ◌<◌, ◌≤◌, not, ◌&&◌, ◌||◌, cond, Bool, true, false, Option, Some, None, List, [], ◌∷◌, ◌++◌, length, take, drop, refl, sym, ap, subst, ◌∙◌, arith, inl, inr, length-append, length-take}
 use Rattle.std.specs.Prelude.{is_some, is_none, filter}
 use Rattle.std.specs.List.{slice_get}
 use Rattle.std.proofs.lemmas.Bool.Decides.{nat_tests}
@@ -12,6 +12,7 @@ use Rattle.kt_cuts.specs.declared.deeds.Deed.TheVariants as deed
 use Rattle.kt_cuts.specs.declared.histories.Trace.{Trace}
 use Rattle.kt_cuts.specs.declared.recent.Step.{Step}
 use Rattle.kt_cuts.specs.Past.{Past}
+use Rattle.kt_cuts.specs.Lists.{last_of, received_in}
 use Rattle.kt_cuts.specs.Keeping.{kept_at, kept_between}
 use Rattle.kt_cuts.specs.Orphans.{is_within}
 use Rattle.kt_cuts.specs.PartsOf.{ShowsKept}
@@ -112,6 +113,22 @@ recent_push r n l d dropped h low new = record {
     needed : (d : Deed) → ((m to : ℕ) → d ≡ deed.Sent m to → dropped m ≡ false) → not (is_send_of h.forgotten (step_of l d)) ≡ true
     needed (deed.Sent m to) not_so = ap not (undropped m (h.forgotten m) refl (not_so m to refl))
     needed (deed.Received m g) not_so = refl
+
+-- a send more, of a message that is not dropped
+pub recent_sent : (r : List Step) (n : ℕ) (l : List Deed) (m to place : ℕ) (dropped : ℕ → Bool) → ShowsRecent r n l dropped → n ≤ length l → dropped m ≡ false → place ≡ length l + 1
+    → ShowsRecent (r ++ record { msg = m; from = None; before = None; place = place } ∷ []) n (l ++ deed.Sent m to ∷ []) dropped
+recent_sent r n l m to place dropped h low new number =
+    subst (λ (k : ℕ). ShowsRecent (r ++ record { msg = m; from = None; before = None; place = k } ∷ []) n (l ++ deed.Sent m to ∷ []) dropped) (sym number)
+    (recent_push r n l (deed.Sent m to) dropped h low (λ x q e.
+      let same : m ≡ x = cc in
+      ap dropped (sym same) ∙ new))
+
+-- a receive more
+pub recent_received : (r : List Step) (n : ℕ) (l : List Deed) (m f place : ℕ) (before : Option ℕ) (dropped : ℕ → Bool) → ShowsRecent r n l dropped → n ≤ length l → before ≡ last_of (received_in f l) → place ≡ length l + 1
+    → ShowsRecent (r ++ record { msg = m; from = Some f; before = before; place = place } ∷ []) n (l ++ deed.Received m f ∷ []) dropped
+recent_received r n l m f place before dropped h low last number =
+    subst (λ (x : Step). ShowsRecent (r ++ x ∷ []) n (l ++ deed.Received m f ∷ []) dropped) (λ i. record { msg = m; from = Some f; before = sym last i; place = sym number i })
+    (recent_push r n l (deed.Received m f) dropped h low (λ x q e. absurd (cc)))
 
 -- the first deed past a place: its step comes first, or it was lost
 pub first_known : (r : List Step) (n place : ℕ) (l : List Deed) (d : Deed) (dropped : ℕ → Bool) → ShowsRecent r n l dropped → place ≡ n + 1 → slice_get l n ≡ Some d

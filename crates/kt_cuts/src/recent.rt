@@ -103,7 +103,7 @@ impl Recent {
         self.taken = 0;
         self.steps.retain(
             |step: &Step| -> bool
-                ensures { result ≡ is_needed kept.now step.now }
+                ensures { result ≡ is_needed kept.entry.now step.now }
             { step.from.is_some() || kept.get(step.msg).is_some() },
         );
     }
