@@ -48,16 +48,12 @@ step_place e r i x at =
 -- what is kept of a list is of the list
 filter_item : (f : Step → Bool) (l : List Step) (i : ℕ) (x : Step) → slice_get (filter f l) i ≡ Some x → (j : ℕ) × (slice_get l j ≡ Some x)
 filter_item f [] i x e = absurd (cc)
-filter_item f (y ∷ l) i x e = at_test (f y) i e
+filter_item f (y ∷ l) i x e = at_test (f y) i e (λ k. filter_item f l k x)
   where
-    at_test : (b : Bool) (i : ℕ) → slice_get (cond b (y ∷ filter f l) (filter f l)) i ≡ Some x → (j : ℕ) × (slice_get (y ∷ l) j ≡ Some x)
-    at_test true zero e = (0, e)
-    at_test true (suc i) e =
-        let rest = filter_item f l i x e in
-        (suc rest.0, rest.1)
-    at_test false i e =
-        let rest = filter_item f l i x e in
-        (suc rest.0, rest.1)
+    at_test : (b : Bool) (i : ℕ) → slice_get (cond b (y ∷ filter f l) (filter f l)) i ≡ Some x → ((k : ℕ) → slice_get (filter f l) k ≡ Some x → (j : ℕ) × (slice_get l j ≡ Some x)) → (j : ℕ) × (slice_get (y ∷ l) j ≡ Some x)
+    at_test true zero e rest = (0, e)
+    at_test true (suc i) e rest = (suc (rest i e).0, (rest i e).1)
+    at_test false i e rest = (suc (rest i e).0, (rest i e).1)
 
 none_at : (place : ℕ) (o : Option Step) → ((x : Step) → o ≡ Some x → x.place ≢ place) → if_at place o ≡ None
 none_at place None h = refl
@@ -213,16 +209,13 @@ last_known r n place l front d dropped h cut low number = at_test (f x) refl
 -- two tests one after the other
 filter_twice : (f g h : Step → Bool) (l : List Step) → ((i : ℕ) (x : Step) → slice_get l i ≡ Some x → (f x && g x) ≡ h x) → filter g (filter f l) ≡ filter h l
 filter_twice f g h [] both = refl
-filter_twice f g h (x ∷ l) both = at_test (f x) refl
+filter_twice f g h (x ∷ l) both = at_test (f x) refl (filter_twice f g h l (λ i y e. both (suc i) y e))
   where
-    rest : filter g (filter f l) ≡ filter h l
-    rest = filter_twice f g h l (λ i y e. both (suc i) y e)
-
-    at_test : (b : Bool) → f x ≡ b → filter g (cond b (x ∷ filter f l) (filter f l)) ≡ cond (h x) (x ∷ filter h l) (filter h l)
-    at_test true is =
+    at_test : (b : Bool) → f x ≡ b → filter g (filter f l) ≡ filter h l → filter g (cond b (x ∷ filter f l) (filter f l)) ≡ cond (h x) (x ∷ filter h l) (filter h l)
+    at_test true is rest =
         let same : g x ≡ h x = ap (λ (b : Bool). b && g x) (sym is) ∙ both 0 x refl in
         λ i. cond (same i) (x ∷ rest i) (rest i)
-    at_test false is =
+    at_test false is rest =
         let same : false ≡ h x = ap (λ (b : Bool). b && g x) (sym is) ∙ both 0 x refl in
         rest ∙ ap (λ (b : Bool). cond b (x ∷ filter h l) (filter h l)) same
 

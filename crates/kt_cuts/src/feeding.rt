@@ -8,7 +8,6 @@ ghost use Rattle.kt_cuts.specs.declared.deeds.Deed.TheVariants as deed;
 use crate::arrivals::Arrivals;
 use crate::channel::Arrival;
 use crate::histories::Trace;
-use crate::recent::Step;
 use crate::tables::{Instance, enter};
 use crate::trail::Trail;
 use kt_base::{InstNo, Kind, Memory, MsgNo, ProcNo, ProcSet};
@@ -63,12 +62,7 @@ impl Trail {
         let msg = self.next_message();
         let place = self.walker(p).next_place();
         let walker = &mut self.walkers[p.get() as usize];
-        walker.recent.push(Step {
-            msg,
-            from: None,
-            before: None,
-            place,
-        })?;
+        walker.recent.push(msg, None, None, place)?;
         let trace = Trace {
             from: p,
             to,
@@ -103,12 +97,7 @@ impl Trail {
         let before = walker.last_received(from);
         let arrival = self.arrival(p, msg);
         let walker = &mut self.walkers[p.get() as usize];
-        walker.recent.push(Step {
-            msg,
-            from: Some(from),
-            before,
-            place,
-        })?;
+        walker.recent.push(msg, Some(from), before, place)?;
         if let Err(fault) = arrivals.receive(p, from, arrival) {
             walker.recent.pop_last(place);
             return Err(fault);

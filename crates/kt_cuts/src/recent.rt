@@ -57,13 +57,24 @@ impl Recent {
         self.steps.len() - self.taken
     }
 
-    /// Adds a step at the end.
-    pub(crate) fn push(&mut self, step: Step) -> Result<(), Memory>
-        ensures ok { OnOk result (self.new ≡ self.old ++ step ∷ []) }
+    /// Adds a step at the end: the message, the sender of a receive, what was received last from it before, the place.
+    pub(crate) fn push(
+        &mut self,
+        msg: MsgNo,
+        from: Option<ProcNo>,
+        before: Option<MsgNo>,
+        place: usize,
+    ) -> Result<(), Memory>
+        ensures ok { OnOk result (self.new ≡ self.old ++ record { msg = msg; from = from; before = before; place = place } ∷ []) }
         ensures err { OnErr result (self.new ≡ self.old) }
     {
         self.steps.reserve(1)?;
-        self.steps.push_reserved(step);
+        self.steps.push_reserved(Step {
+            msg,
+            from,
+            before,
+            place,
+        });
         Ok(())
     }
 
@@ -92,7 +103,8 @@ impl Recent {
         if last.place != place {
             return None;
         }
-        self.steps.pop()
+        self.steps.pop();
+        Some(last)
     }
 
     /// Forgets the sends of messages that are not kept.
