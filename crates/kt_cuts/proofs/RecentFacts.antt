@@ -116,8 +116,8 @@ pub recent_sent : (r : List Step) (n : ℕ) (l : List Deed) (m to place : ℕ) (
 recent_sent r n l m to place dropped h low new number =
     subst (λ (k : ℕ). ShowsRecent (r ++ record { msg = m; from = None; before = None; place = k } ∷ []) n (l ++ deed.Sent m to ∷ []) dropped) (sym number)
     (recent_push r n l (deed.Sent m to) dropped h low (λ x q e.
-      let same : m ≡ x = cc in
-      ap dropped (sym same) ∙ new))
+    let same : m ≡ x = cc in
+    ap dropped (sym same) ∙ new))
 
 -- a receive more
 pub recent_received : (r : List Step) (n : ℕ) (l : List Deed) (m f place : ℕ) (before : Option ℕ) (dropped : ℕ → Bool) → ShowsRecent r n l dropped → n ≤ length l → before ≡ last_of (received_in f l) → place ≡ length l + 1

@@ -67,7 +67,7 @@ fn add_part(log: &mut SpaceTime) -> Result<(), Fail> {
 }
 
 // An instance with process 0 alone.
-fn add_instance(log: &mut SpaceTime, inst: u32, kind: Kind) -> Result<(), Fail> {
+fn add_instance(log: &mut SpaceTime, inst: u16, kind: Kind) -> Result<(), Fail> {
     let p = process(0)?;
     let inst = InstNo::new(inst).ok_or("no instance")?;
     add(log, Event::Began { p, inst, kind })?;
