@@ -9,9 +9,10 @@ use crate::recent::{Recent, Step};
 use kt_base::{InstNo, MsgNo, ProcNo};
 use std::alloc::Global;
 
-/// A process after the rows so far, with its deeds past the permanent position alone.
+/// A process after the rows so far.
 #[derive(Drop)]
 pub(crate) struct Walker {
+    /// Its deeds past the permanent position, but for some sends of messages that were dropped.
     pub(crate) recent: Recent,
     /// How many of its messages were dropped since the sends of such messages were forgotten.
     pub(crate) lost: usize,
