@@ -88,7 +88,7 @@ recent_same r n k l t f g number same more h = record {
 }
 
 -- one more deed
-pub recent_push : (r : List Step) (n : ℕ) (l : List Deed) (d : Deed) (dropped : ℕ → Bool) → ShowsRecent r n l dropped → n ≤ length l → ((m to : ℕ) → d ≡ deed.Sent m to → dropped m ≡ false)
+recent_push : (r : List Step) (n : ℕ) (l : List Deed) (d : Deed) (dropped : ℕ → Bool) → ShowsRecent r n l dropped → n ≤ length l → ((m to : ℕ) → d ≡ deed.Sent m to → dropped m ≡ false)
     → ShowsRecent (r ++ step_of l d ∷ []) n (l ++ d ∷ []) dropped
 recent_push r n l d dropped h low new = record {
   forgotten = h.forgotten;

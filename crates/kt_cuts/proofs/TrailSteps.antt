@@ -65,7 +65,7 @@ moved ws s p n w h l e q v at = elim (cases_eq q p) [
 ]
 
 -- the first deed past a permanent position
-pub first_deed : (s : Past) (p place : ℕ) → s.permanent p ≡ place → place < length (s.live p) → (d : Deed) × (slice_get (s.live p) (s.permanent p) ≡ Some d)
+first_deed : (s : Past) (p place : ℕ) → s.permanent p ≡ place → place < length (s.live p) → (d : Deed) × (slice_get (s.live p) (s.permanent p) ≡ Some d)
 first_deed s p place at low = item_there (s.live p) (s.permanent p) (omega (arith, at, low))
 
 -- a process more of whose deeds are permanent
@@ -189,7 +189,7 @@ undone_walker v s t p front d r last g whole live permanent open_in up since ste
 }
 
 -- the last deed of a process that has one past its permanent position
-pub last_deed : (s : Past) (p : ℕ) → s.permanent p < length (s.live p)
+last_deed : (s : Past) (p : ℕ) → s.permanent p < length (s.live p)
     → (d : Deed) × (s.live p ≡ take (length (s.live p) - 1) (s.live p) ++ d ∷ []) × (s.permanent p ≤ length (take (length (s.live p) - 1) (s.live p))) × (length (s.live p) ≡ length (take (length (s.live p) - 1) (s.live p)) + 1)
 last_deed s p low =
     let there = last_item (s.live p) (length (s.live p) - 1) (omega (arith, low)) in
