@@ -24,6 +24,7 @@ pub mod Updates
 pub mod WorkedInstances
 pub mod StepLists
 pub mod KeptFacts
+pub mod RecentFacts
 pub mod TrailSteps
 pub mod TrailLoops
 pub mod Orderly

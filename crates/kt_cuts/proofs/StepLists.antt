@@ -8,7 +8,7 @@ use Rattle.kt_cuts.specs.declared.deeds.Deed.TheVariants as deed
 use Rattle.kt_cuts.specs.declared.recent.Step.{Step}
 use Rattle.kt_cuts.specs.Legal.{is_deed, has_deed}
 use Rattle.kt_cuts.specs.Traces.{place_of}
-use Rattle.kt_cuts.specs.PartsOf.{step_of, steps_after, steps_past}
+use Rattle.kt_cuts.specs.RecentSteps.{step_of, steps_after, steps_past}
 use Rattle.kt_cuts.proofs.Items.{take_item}
 use Rattle.kt_cuts.proofs.SortedFacts.{some_same}
 use Rattle.kt_cuts.proofs.DeedFacts.{same_deed, is_same}
@@ -37,10 +37,6 @@ drop_item (x ∷ l) (suc n) (suc m) d e a = drop_item l n m d (omega (arith, e))
 pub steps_past_next : (n : ℕ) (l : List Deed) (d : Deed) → slice_get l n ≡ Some d → steps_past n l ≡ step_of (take n l) d ∷ steps_past (n + 1) l
 steps_past_next n l d at =
     ap (steps_after (take n l)) (drop_item l n (n + 1) d refl at) ∙ ap (λ (e : List Deed). step_of (take n l) d ∷ steps_after e (drop (n + 1) l)) (sym (take_item l n (n + 1) d refl at))
-
-pub steps_count : (e r : List Deed) → length (steps_after e r) ≡ length r
-steps_count e [] = refl
-steps_count e (x ∷ r) = ap suc (steps_count (e ++ x ∷ []) r)
 
 -- a list that is not empty has a last item
 pub last_item : {X : Type 0} (l : List X) (n : ℕ) → length l ≡ n + 1 → (x : X) × (l ≡ take n l ++ x ∷ []) × (slice_get l n ≡ Some x)

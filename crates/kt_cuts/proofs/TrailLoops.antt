@@ -1,10 +1,9 @@
 -- Decisions, process by process.
-use Rattle.std.proofs.Common.{◌≡◌, ◌≢◌, ◌⊎◌, ℕ, zero, suc, ◌+◌, ◌-◌, ◌<◌, ◌≤◌, ◌&&◌, nat_lt, if◌then◌else◌, Bool, true, false, Option, Some, List, [], ◌∷◌, length, take, drop, refl, sym, ap, subst, ◌∙◌, arith, inl, inr, length-take}
+use Rattle.std.proofs.Common.{◌≡◌, ◌≢◌, ◌⊎◌, ℕ, zero, suc, ◌+◌, ◌-◌, ◌<◌, ◌≤◌, ◌&&◌, nat_lt, if◌then◌else◌, Bool, true, false, Option, Some, List, [], ◌∷◌, length, take, refl, sym, ap, subst, ◌∙◌, arith, inl, inr, length-take}
 use Rattle.std.specs.Prelude.{slice_index_or}
 use Rattle.std.specs.List.{slice_get}
 use Rattle.std.proofs.lemmas.Bool.{cases_eq}
 use Rattle.std.proofs.lemmas.Bool.Decides.{nat_tests}
-use Rattle.std.proofs.lemmas.List.{length-drop}
 use Rattle.kt_base.specs.Sets.{has}
 use Rattle.kt_cuts.specs.declared.deeds.Deed.{Deed}
 use Rattle.kt_cuts.specs.declared.tables.Instance.{Instance}
@@ -16,7 +15,6 @@ use Rattle.kt_cuts.specs.TrailOf.{ShowsTrail, KeepsInstances}
 use Rattle.kt_cuts.specs.PartsOf.{ShowsWalker}
 use Rattle.kt_cuts.proofs.Lists.{get_take}
 use Rattle.kt_cuts.proofs.Shown.{at_same, at_other}
-use Rattle.kt_cuts.proofs.StepLists.{steps_count}
 
 pub keeps_all : (t : Trail) → KeepsInstances t t
 keeps_all t = record { rows = refl; instances = refl; beginning = refl }
@@ -83,8 +81,8 @@ sound_below between permanent live n v g = sound_cut between permanent live (und
     at_test q false = inl refl
 
 -- how many deeds past the permanent position a process has
-pub recent_count : (v : Walker) (s : Past) (p : ℕ) → ShowsWalker v s p → length v.recent ≡ length (s.live p) - s.permanent p
-recent_count v s p g = ap length g.recent ∙ (steps_count (take (s.permanent p) (s.live p)) (drop (s.permanent p) (s.live p)) ∙ length-drop (s.permanent p) (s.live p))
+pub recent_count : (v : Walker) (s : Past) (p : ℕ) → ShowsWalker v s p → v.length - v.permanent ≡ length (s.live p) - s.permanent p
+recent_count v s p g = λ i. g.length i - g.permanent i
 
 -- one front of another
 pub front_once : (l : List Deed) (n m : ℕ) → n < length l → m ≡ n + 1 → take (length (take (length l - n) l) - 1) (take (length l - n) l) ≡ take (length l - m) l

@@ -23,11 +23,12 @@ use Rattle.kt_cuts.specs.Keeping.{kept_between, parties_in}
 use Rattle.kt_cuts.specs.Stages.{with_permanent, with_live, settled_below, undone_below, IsWithin, IsSound}
 use Rattle.kt_cuts.specs.Traces.{place_of}
 use Rattle.kt_cuts.specs.TrailParts.{TrailParts}
-use Rattle.kt_cuts.specs.PartsOf.{ShowsWalkers, ShowsKept, PartsOf, steps_past}
+use Rattle.kt_cuts.specs.PartsOf.{ShowsWalkers, ShowsKept, PartsOf}
 use Rattle.kt_cuts.proofs.SortedFacts.{some_same}
 use Rattle.kt_cuts.proofs.InstanceSteps.{begun_there, decided_instances, new_member, not_new, ready_member, ready_of_checkpoint, new_of_rollback}
 use Rattle.kt_cuts.proofs.KeptFacts.{kept_of, same_kept}
 use Rattle.kt_cuts.proofs.Positions.{positions}
+use Rattle.kt_cuts.proofs.RecentFacts.{recent_same}
 use Rattle.kt_cuts.proofs.RowRules.{may_decide}
 use Rattle.kt_cuts.proofs.TrailSteps.{walkers_same}
 use Rattle.kt_cuts.proofs.WalkRows.{parties_quiet, sound, next_walk, quiet_kept}
@@ -108,7 +109,7 @@ checkpoint_row w rows p k true is x ws es h unbroken commits decided same of_kin
             permanent = g.permanent ∙ sym (permanent q low);
             open_in = g.open_in;
             up = g.up;
-            recent = g.recent ∙ (λ i. steps_past (sym (permanent q low) i) (sym (live q) i));
+            recent = recent_same u.recent (f q) (t.permanent q) (s.live q) (t.live q) s.dropped t.dropped (sym (permanent q low)) (sym (live q)) (λ m e. e) g.recent;
             received = λ y l. g.received y l ∙ ap (λ (z : List Deed). Some (last_of (received_in y z))) (sym (live q));
             dropped = g.dropped;
           };
@@ -163,7 +164,7 @@ rollback_row w rows p k true is x ws es h unbroken commits decided same of_kind 
       permanent = g.permanent ∙ sym (permanent q);
       open_in = g.open_in;
       up = g.up;
-      recent = g.recent ∙ (λ i. steps_past (sym (permanent q) i) (sym (live q) i));
+      recent = recent_same u.recent (s.permanent q) (t.permanent q) (f q) (t.live q) s.dropped t.dropped (sym (permanent q)) (sym (live q)) (λ m e. e) g.recent;
       received = λ y l. g.received y l ∙ ap (λ (z : List Deed). Some (last_of (received_in y z))) (sym (live q));
       dropped = g.dropped;
     }))

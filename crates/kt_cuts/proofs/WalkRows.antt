@@ -1,5 +1,5 @@
 -- A walk takes one more row.
-use Rattle.std.proofs.Common.{◌≡◌, ◌≢◌, ℕ, zero, suc, ◌+◌, ◌<◌, ◌≤◌, ◌&&◌, true, Option, Some, None, option_map, List, [], ◌∷◌, ◌++◌, length, take, replicate, refl, sym, ap, subst, ◌∙◌, arith, inl, inr, length-append}
+use Rattle.std.proofs.Common.{◌≡◌, ◌≢◌, ℕ, zero, suc, ◌+◌, ◌<◌, ◌≤◌, ◌&&◌, true, false, Option, Some, None, option_map, List, [], ◌∷◌, ◌++◌, length, take, replicate, refl, sym, ap, subst, ◌∙◌, arith, inl, inr, length-append}
 use Rattle.std.specs.List.{slice_get}
 use Rattle.std.specs.Option.{option_flatten}
 use Rattle.std.proofs.lemmas.Bool.{cases_eq, cases_lt}
@@ -111,7 +111,7 @@ walker_start v p recent long permanent open_in up received dropped = record {
   permanent = permanent;
   open_in = open_in;
   up = up;
-  recent = recent;
+  recent = record { forgotten = λ m. false; were_dropped = λ m e. absurd (cc); others = recent };
   received = λ q l. rw received (slice_get-get_or (replicate 64 None) q None (omega (arith, l, length-replicate {A = Option ℕ} 64 None)) ∙ ap Some (get_or-replicate 64 q None None l));
   dropped = λ q l. rw dropped (slice_get-get_or (replicate 64 None) q None (omega (arith, l, length-replicate {A = Option ℕ} 64 None)) ∙ ap Some (get_or-replicate 64 q None None l));
 }

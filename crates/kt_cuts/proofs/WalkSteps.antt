@@ -1,5 +1,6 @@
 -- A walk after each sort of row.
-use Rattle.std.proofs.Common.{◌≡◌, ℕ, zero, suc, ◌+◌, ◌-◌, ◌<◌, ◌≤◌, not, ◌&&◌, ◌||◌, if◌then◌else◌, Bool, true, false, Option, Some, None, List, [], ◌∷◌, ◌++◌, length, set, take, replicate, refl, sym, ap, subst, ◌∙◌, arith, inl, inr, length-append}
+use Rattle.std.proofs.Common.{◌≡◌, ◌⊎◌, ℕ, zero, suc, ◌+◌, ◌-◌, ◌<◌, ◌≤◌, not, ◌&&◌, ◌||◌, if◌then◌else◌, Bool, true, false, Option, Some, None, List, [], ◌∷◌, ◌++◌, length, set, take, replicate, refl, sym, ap, subst, ◌∙◌, arith, inl, inr, length-append}
+use Rattle.std.specs.Prelude.{filter}
 use Rattle.std.specs.List.{slice_get}
 use Rattle.std.proofs.lemmas.Bool.{cases_eq, and_parts}
 use Rattle.std.proofs.lemmas.Option.{slice_get_within}
@@ -24,8 +25,9 @@ use Rattle.kt_cuts.specs.Standing.{at_number, rolled_back_shown}
 use Rattle.kt_cuts.specs.Keeping.{kept_at, kept_between, parties_in, received_here}
 use Rattle.kt_cuts.specs.Traces.{place_of}
 use Rattle.kt_cuts.specs.TrailParts.{TrailParts}
-use Rattle.kt_cuts.specs.PartsOf.{PartsOf, steps_past}
-use Rattle.kt_cuts.proofs.Items.{get_set_same, get_set_other}
+use Rattle.kt_cuts.specs.PartsOf.{ShowsWalker, PartsOf}
+use Rattle.kt_cuts.specs.RecentSteps.{ShowsRecent, if_at, without_last, is_needed}
+use Rattle.kt_cuts.proofs.Items.{get_seam, get_set_same, get_set_other}
 use Rattle.kt_cuts.proofs.SortedFacts.{some_same, received_at, received_else, received_unsent}
 use Rattle.kt_cuts.proofs.DeedFacts.{last_push, place_of_deed}
 use Rattle.kt_cuts.proofs.InstanceSteps.{begun_there, took_instances, ready_instances, began_instances, same_instances, closed_dropped, rolled_known}
@@ -35,9 +37,10 @@ use Rattle.kt_cuts.proofs.Positions.{positions}
 use Rattle.kt_cuts.proofs.RowRules.{may_take, may_get_ready}
 use Rattle.kt_cuts.proofs.Shown.{at_same, at_other}
 use Rattle.kt_cuts.proofs.Traced.{place_none, place_at}
-use Rattle.kt_cuts.proofs.StepLists.{place_last, steps_past_push, other_sent, other_received}
+use Rattle.kt_cuts.proofs.StepLists.{place_last, other_sent, other_received}
 use Rattle.kt_cuts.proofs.KeptFacts.{absent, same_kept, push_place, kept_waiting, kept_received, kept_dropped}
 use Rattle.kt_cuts.proofs.Orderly.{orderly}
+use Rattle.kt_cuts.proofs.RecentFacts.{recent_same, recent_sent, recent_received, recent_thinned, unkept_dropped, some_at}
 use Rattle.kt_cuts.proofs.TrailSteps.{walkers_set, walkers_same}
 use Rattle.kt_cuts.proofs.WalkRows.{parties_old, parties_new, parties_none, parties_quiet, sent_parties, sound, next_walk, quiet_kept}
 
@@ -52,7 +55,7 @@ not_so false f = refl
 
 -- a send
 pub sent_row : (w : TrailParts) (rows : List Event) (p to n : ℕ) (body : _) (v : Walker) (r : List Step) (es : List (ℕ × Trace)) → PartsOf w rows → broken_rule (past rows) (event.Sent p to body) ≡ None → p < 64 → slice_get w.walkers p ≡ Some v
-    → n ≡ w.rows + 1 → r ≡ v.recent ++ record { msg = n; from = None; before = None } ∷ []
+    → n ≡ w.rows + 1 → r ≡ v.recent ++ record { msg = n; from = None; before = None; place = v.length + 1 } ∷ []
     → ((m : ℕ) → kept_at es m ≡ at_one n (Some (record { from = p; to = to; sent = Some (v.length + 1); received = None })) (kept_at w.kept) m)
     → PartsOf (record { rows = w.rows + 1; walkers = set w.walkers p (record v { recent = r; length = v.length + 1 }); instances = w.instances; beginning = None; kept = es }) (rows ++ event.Sent p to body ∷ [])
 sent_row w rows p to n body v r es h unbroken low at number more changed =
@@ -79,7 +82,9 @@ sent_row w rows p to n body v r es h unbroken low at number more changed =
       permanent = g.permanent;
       open_in = g.open_in;
       up = g.up;
-      recent = more ∙ (ap (λ (l : List Step). l ++ record { msg = n; from = None; before = None } ∷ []) g.recent ∙ (sym (steps_past_push (s.permanent p) (s.live p) d within) ∙ ap (steps_past (s.permanent p)) (sym here)));
+      recent = subst (λ (x : List Step). ShowsRecent x (s.permanent p) (t.live p) s.dropped) (sym more)
+          (recent_same _ (s.permanent p) (s.permanent p) (s.live p ++ d ∷ []) (t.live p) s.dropped s.dropped refl (sym here) (λ x e. e)
+          (recent_sent v.recent (s.permanent p) (s.live p) n to (v.length + 1) s.dropped g.recent within undropped (ap (λ (k : ℕ). k + 1) g.length)));
       received = λ q l. g.received q l ∙ ap (λ (x : List ℕ). Some (last_of x)) (sym (received_unsent (s.live p) n to q) ∙ ap (received_in q) (sym here));
       dropped = g.dropped;
     }) (λ q u o x. record {
@@ -87,7 +92,7 @@ sent_row w rows p to n body v r es h unbroken low at number more changed =
       permanent = x.permanent;
       open_in = x.open_in;
       up = x.up;
-      recent = x.recent ∙ ap (steps_past (s.permanent q)) (sym (live q ∙ at_other p q (s.live p ++ d ∷ []) s.live o));
+      recent = recent_same u.recent (s.permanent q) (s.permanent q) (s.live q) (t.live q) s.dropped s.dropped refl (sym (live q ∙ at_other p q (s.live p ++ d ∷ []) s.live o)) (λ y e. e) x.recent;
       received = λ y l. x.received y l ∙ ap (λ (z : List Deed). Some (last_of (received_in y z))) (sym (live q ∙ at_other p q (s.live p ++ d ∷ []) s.live o));
       dropped = x.dropped;
     }))
@@ -109,7 +114,7 @@ sent_row w rows p to n body v r es h unbroken low at number more changed =
 
 -- a receive
 pub received_row : (w : TrailParts) (rows : List Event) (p f m : ℕ) (v : Walker) (b : Option ℕ) (r : List Step) (es : List (ℕ × Trace)) → PartsOf w rows → broken_rule (past rows) (event.Received p f m) ≡ None → p < 64 → f < 64 → slice_get w.walkers p ≡ Some v
-    → slice_get v.last_received f ≡ Some b → r ≡ v.recent ++ record { msg = m; from = Some f; before = b } ∷ []
+    → slice_get v.last_received f ≡ Some b → r ≡ v.recent ++ record { msg = m; from = Some f; before = b; place = v.length + 1 } ∷ []
     → ((x : ℕ) → kept_at es x ≡ at_one m (received_here (v.length + 1) (kept_at w.kept m)) (kept_at w.kept) x)
     → PartsOf (record { rows = w.rows + 1; walkers = set w.walkers p (record v { recent = r; length = v.length + 1; last_received = set v.last_received f (Some m) }); instances = w.instances; beginning = None; kept = es }) (rows ++ event.Received p f m ∷ [])
 received_row w rows p f m v b r es h unbroken low low_f at last more changed =
@@ -132,14 +137,15 @@ received_row w rows p f m v b r es h unbroken low low_f at last more changed =
     let was : kept_between s m (Some (f, p)) ≡ Some (record { from = f; to = p; sent = Some (sent.0 + 1); received = None }) = kept_waiting s m f p (sent.0 + 1) undropped sent_there (place_none d (s.live p) (absent d (s.live p) unreceived)) in
     let now : kept_between t m (Some (f, p)) ≡ Some (record { from = f; to = p; sent = Some (sent.0 + 1); received = Some (length (s.live p) + 1) }) =
     kept_received t m f p (sent.0 + 1) (length (s.live p)) undropped (push_place s.live p f (deed.Sent m p) d refl ∙ sent_there) (ap (place_of d) here ∙ place_last d (s.live p) unreceived) within in
-    let step : Step = record { msg = m; from = Some f; before = b } in
     next_walk w rows row (w.rows + 1) _ _ _ es h unbroken refl
     (walkers_set w.walkers s t p (record v { recent = r; length = v.length + 1; last_received = set v.last_received f (Some m) }) h.of_walkers low (record {
       length = omega (arith, g.length, ap length here, length-append (s.live p) (d ∷ []));
       permanent = g.permanent;
       open_in = g.open_in;
       up = g.up;
-      recent = more ∙ ((λ i. g.recent i ++ record { msg = m; from = Some f; before = before i } ∷ []) ∙ (sym (steps_past_push (s.permanent p) (s.live p) d within) ∙ ap (steps_past (s.permanent p)) (sym here)));
+      recent = subst (λ (x : List Step). ShowsRecent x (s.permanent p) (t.live p) s.dropped) (sym more)
+          (recent_same _ (s.permanent p) (s.permanent p) (s.live p ++ d ∷ []) (t.live p) s.dropped s.dropped refl (sym here) (λ x e. e)
+          (recent_received v.recent (s.permanent p) (s.live p) m f (v.length + 1) b s.dropped g.recent within before (ap (λ (k : ℕ). k + 1) g.length)));
       received = λ q l. elim (cases_eq q f) [
         | inl same ↦
             let whole : received_in f (t.live p) ≡ received_in f (s.live p) ++ m ∷ [] = ap (received_in f) here ∙ received_at (s.live p) m f in
@@ -155,7 +161,7 @@ received_row w rows p f m v b r es h unbroken low low_f at last more changed =
       permanent = x.permanent;
       open_in = x.open_in;
       up = x.up;
-      recent = x.recent ∙ ap (steps_past (s.permanent q)) (sym (at_other p q (s.live p ++ d ∷ []) s.live o));
+      recent = recent_same u.recent (s.permanent q) (s.permanent q) (s.live q) (t.live q) s.dropped s.dropped refl (sym (at_other p q (s.live p ++ d ∷ []) s.live o)) (λ y e. e) x.recent;
       received = λ y l. x.received y l ∙ ap (λ (z : List Deed). Some (last_of (received_in y z))) (sym (at_other p q (s.live p ++ d ∷ []) s.live o));
       dropped = x.dropped;
     }))
@@ -191,13 +197,17 @@ dropped_row w rows p f m v es h unbroken low low_f at changed =
     let d : Deed = deed.Received m f in
     let here : t.dropped_since p ≡ s.dropped_since p ++ d ∷ [] = at_same p (s.dropped_since p ++ d ∷ []) s.dropped_since in
     let g = h.of_walkers.each p v at in
+    let more : (x : ℕ) → s.dropped x ≡ true → t.dropped x ≡ true = λ x e. elim (cases_eq x m) [
+      | inl same ↦ ap t.dropped same ∙ at_same m true s.dropped
+      | inr other ↦ at_other m x true s.dropped other ∙ e
+    ] in
     next_walk w rows row (w.rows + 1) _ _ _ es h unbroken refl
     (walkers_set w.walkers s t p (record v { last_dropped = set v.last_dropped f (Some m) }) h.of_walkers low (record {
       length = g.length;
       permanent = g.permanent;
       open_in = g.open_in;
       up = g.up;
-      recent = g.recent;
+      recent = recent_same v.recent (s.permanent p) (s.permanent p) (s.live p) (s.live p) s.dropped t.dropped refl refl more g.recent;
       received = g.received;
       dropped = λ q l. elim (cases_eq q f) [
         | inl same ↦
@@ -213,7 +223,7 @@ dropped_row w rows p f m v es h unbroken low low_f at changed =
       permanent = x.permanent;
       open_in = x.open_in;
       up = x.up;
-      recent = x.recent;
+      recent = recent_same u.recent (s.permanent q) (s.permanent q) (s.live q) (s.live q) s.dropped t.dropped refl refl more x.recent;
       received = x.received;
       dropped = λ y l. x.dropped y l ∙ ap (λ (z : List Deed). Some (last_of (received_in y z))) (sym (at_other p q (s.dropped_since p ++ d ∷ []) s.dropped_since o));
     }))
@@ -228,6 +238,36 @@ dropped_row w rows p f m v es h unbroken low low_f at changed =
             ∙ sym (same_kept s t x (parties_in (rows ++ row ∷ []) x) (at_other m x true s.dropped other) (λ a c e. refl) (λ a c e. refl) (λ q. refl)))))
       ];
     }) h.no_more
+
+-- the sends of a process that are not kept are forgotten
+pub thinned_walk : (w : TrailParts) (rows : List Event) (p : ℕ) (v u : Walker) → PartsOf w rows → p < 64 → slice_get w.walkers p ≡ Some v
+    → ((u.recent ≡ v.recent) ⊎ (u.recent ≡ filter (is_needed w.kept) v.recent)) → u ≡ record v { lost = u.lost; recent = u.recent } → PartsOf (record w { walkers = set w.walkers p u }) rows
+thinned_walk w rows p v u h low at steps same = record {
+  legal = h.legal;
+  number = h.number;
+  of_walkers = walkers_set w.walkers s s p u h.of_walkers low (subst (λ (x : Walker). ShowsWalker x s p) (sym same) now) (λ q x n e. e);
+  no_more = h.no_more;
+  of_instances = h.of_instances;
+  of_beginning = h.of_beginning;
+  of_kept = h.of_kept;
+}
+  where
+    s : Past
+    s = past rows
+
+    g : ShowsWalker v s p
+    g = h.of_walkers.each p v at
+
+    recent : ShowsRecent u.recent (s.permanent p) (s.live p) s.dropped
+    recent = elim steps [
+      | inl all ↦ subst (λ (x : List Step). ShowsRecent x (s.permanent p) (s.live p) s.dropped) (sym all) g.recent
+      | inr some ↦
+          subst (λ (x : List Step). ShowsRecent x (s.permanent p) (s.live p) s.dropped) (sym some)
+          (recent_thinned v.recent (s.permanent p) (s.live p) s.dropped w.kept g.recent (λ k m to l e. unkept_dropped w.kept (parties_in rows) s p k m to h.of_kept (sound rows h.legal) l e))
+    ]
+
+    now : ShowsWalker (record v { lost = u.lost; recent = u.recent }) s p
+    now = record { length = g.length; permanent = g.permanent; open_in = g.open_in; up = g.up; recent = recent; received = g.received; dropped = g.dropped }
 
 -- a failure
 pub failed_row : (w : TrailParts) (rows : List Event) (p : ℕ) (v : Walker) → PartsOf w rows → broken_rule (past rows) (event.Failed p) ≡ None → p < 64 → slice_get w.walkers p ≡ Some v
@@ -348,12 +388,14 @@ closed_row w rows p k v was h unbroken low at is =
     (quiet_kept w.kept rows (event.Closed p k) t h.of_kept refl (λ m. refl) (λ q. refl) (λ q. refl)) h.no_more
 
 -- a step that is pushed and taken back leaves the parts as they were
-pub back_again : (rows : ℕ) (ws : List Walker) (p : ℕ) (v : Walker) (x : Step) (pushed popped : List Step) (is : List Instance) (b : Option (ℕ × ℕ)) (es fs : List (ℕ × Trace)) → slice_get ws p ≡ Some v
-    → pushed ≡ v.recent ++ x ∷ [] → popped ≡ take (length pushed - 1) pushed → fs ≡ es
+pub back_again : (rows : ℕ) (ws : List Walker) (p : ℕ) (v : Walker) (x : Step) (place : ℕ) (pushed popped : List Step) (o : Option Step) (is : List Instance) (b : Option (ℕ × ℕ)) (es fs : List (ℕ × Trace)) → slice_get ws p ≡ Some v
+    → pushed ≡ v.recent ++ x ∷ [] → x.place ≡ place → o ≡ if_at place (slice_get pushed (length pushed - 1)) → popped ≡ without_last o pushed → fs ≡ es
     → (let now : TrailParts = record { rows = rows; walkers = set ws p (record v { recent = popped }); instances = is; beginning = b; kept = fs } in now) ≡ record { rows = rows; walkers = ws; instances = is; beginning = b; kept = es }
-back_again rows ws p v x pushed popped is b es fs at more rest same =
+back_again rows ws p v x place pushed popped o is b es fs at more same_place last rest same =
     let count : length (v.recent ++ x ∷ []) - 1 ≡ length v.recent = omega (arith, length-append v.recent (x ∷ [])) in
-    let back : popped ≡ v.recent = rest ∙ (ap (λ (l : List Step). take (length l - 1) l) more ∙ (ap (λ (n : ℕ). take n (v.recent ++ x ∷ [])) count ∙ take-append_seam v.recent (x ∷ []))) in
+    let here : slice_get pushed (length pushed - 1) ≡ Some x = ap (λ (l : List Step). slice_get l (length l - 1)) more ∙ (ap (slice_get (v.recent ++ x ∷ [])) count ∙ get_seam v.recent x []) in
+    let taken : o ≡ Some x = last ∙ some_at place (slice_get pushed (length pushed - 1)) x here same_place in
+    let back : popped ≡ v.recent = rest ∙ ((λ i. without_last (taken i) (more i)) ∙ (ap (λ (n : ℕ). take n (v.recent ++ x ∷ [])) count ∙ take-append_seam v.recent (x ∷ []))) in
     let put : set ws p (record v { recent = popped }) ≡ ws = ap (λ (l : List Step). set ws p (record v { recent = l })) back ∙ set_back ws p v at in
     λ i. record { rows = rows; walkers = put i; instances = is; beginning = b; kept = same i }
   where

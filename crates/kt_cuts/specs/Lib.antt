@@ -21,6 +21,7 @@ pub mod Least
 pub mod Messages
 pub mod Throughout
 pub mod Keeping
+pub mod RecentSteps
 pub mod TrailParts
 pub mod PartsOf
 pub mod TrailOf

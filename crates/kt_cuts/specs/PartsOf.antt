@@ -1,32 +1,16 @@
 -- When what a walk knows stands for rows.
-use Rattle.std.specs.Prelude.{◌≡◌, ℕ, ◌<◌, ◌≤◌, Bool, true, false, Option, Some, None, List, [], ◌∷◌, ◌++◌, length, take, drop, slice_get}
+use Rattle.std.specs.Prelude.{◌≡◌, ℕ, ◌<◌, ◌≤◌, Bool, true, false, Option, Some, List, [], length, slice_get}
 use Rattle.kt_spacetime.specs.declared.event.Event.{Event}
 use Rattle.kt_spacetime.specs.declared.event.Event.TheVariants.{Sent, Received, Began}
-use Rattle.kt_cuts.specs.declared.deeds.Deed.{Deed}
-use Rattle.kt_cuts.specs.declared.deeds.Deed.TheVariants as deed
 use Rattle.kt_cuts.specs.declared.histories.Trace.{Trace}
-use Rattle.kt_cuts.specs.declared.recent.Step.{Step}
 use Rattle.kt_cuts.specs.declared.walker.Walker.{Walker}
 use Rattle.kt_cuts.specs.Past.{Past, past}
 use Rattle.kt_cuts.specs.Legal.{IsLegal}
 use Rattle.kt_cuts.specs.Lists.{last_of, received_in}
 use Rattle.kt_cuts.specs.Standing.{ShowsInstances, beginning_of_row}
 use Rattle.kt_cuts.specs.Keeping.{kept_at, kept_between, parties_in}
+use Rattle.kt_cuts.specs.RecentSteps.{ShowsRecent}
 use Rattle.kt_cuts.specs.TrailParts.{TrailParts}
-
--- a deed after some earlier ones, with what undoes it
-abbrev pub step_of : List Deed → Deed → Step
-step_of earlier (deed.Sent msg to) = record { msg = msg; from = None; before = None }
-step_of earlier (deed.Received msg from) = record { msg = msg; from = Some from; before = last_of (received_in from earlier) }
-
--- the deeds that follow some earlier ones, each with what it changed
-abbrev pub steps_after : List Deed → List Deed → List Step
-steps_after earlier [] = []
-steps_after earlier (d ∷ rest) = step_of earlier d ∷ steps_after (earlier ++ d ∷ []) rest
-
--- the deeds of a history past this many
-abbrev pub steps_past : ℕ → List Deed → List Step
-steps_past n deeds = steps_after (take n deeds) (drop n deeds)
 
 -- a process's tables are what is known of it
 pub record ShowsWalker (v : Walker) (s : Past) (p : ℕ) : Type 0 where
@@ -34,7 +18,7 @@ pub record ShowsWalker (v : Walker) (s : Past) (p : ℕ) : Type 0 where
   pub permanent : v.permanent ≡ s.permanent p
   pub open_in : v.open_in ≡ s.open_in p
   pub up : v.up ≡ s.up p
-  pub recent : v.recent ≡ steps_past (s.permanent p) (s.live p)
+  pub recent : ShowsRecent v.recent (s.permanent p) (s.live p) s.dropped
   pub received : (q : ℕ) → q < 64 → slice_get v.last_received q ≡ Some (last_of (received_in q (s.live p)))
   pub dropped : (q : ℕ) → q < 64 → slice_get v.last_dropped q ≡ Some (last_of (received_in q (s.dropped_since p)))
 

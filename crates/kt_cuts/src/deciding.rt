@@ -155,7 +155,8 @@ impl Trail {
         ensures kept { KeepsInstances self.old self.new }
         ensures undone { (s : Past) (between : ℕ → Option (ℕ × ℕ)) → ShowsTrail self.old between s → IsSound between s.permanent s.live → ShowsTrail self.new between (with_live s (at_one number (take (s.permanent number) (s.live number)) s.live)) }
     {
-        for _count in 0..self.walkers[number as usize].recent.len() {
+        let walker = &self.walkers[number as usize];
+        for _count in 0..walker.length.saturating_sub(walker.permanent) {
             self.undo(number);
         }
     }

@@ -62,7 +62,7 @@ impl Trail {
         let msg = self.next_message();
         let place = self.walker(p).next_place();
         let walker = &mut self.walkers[p.get() as usize];
-        walker.recent.push(msg, None, None)?;
+        walker.recent.push(msg, None, None, place)?;
         let trace = Trace {
             from: p,
             to,
@@ -70,7 +70,7 @@ impl Trail {
             received: None,
         };
         if let Err(fault) = self.kept.add(msg, trace) {
-            walker.recent.pop_last();
+            walker.recent.pop_last(place);
             return Err(fault);
         }
         walker.length = place;
@@ -97,9 +97,9 @@ impl Trail {
         let before = walker.last_received(from);
         let arrival = self.arrival(p, msg);
         let walker = &mut self.walkers[p.get() as usize];
-        walker.recent.push(msg, Some(from), before)?;
+        walker.recent.push(msg, Some(from), before, place)?;
         if let Err(fault) = arrivals.receive(p, from, arrival) {
-            walker.recent.pop_last();
+            walker.recent.pop_last(place);
             return Err(fault);
         }
         walker.length = place;
@@ -160,6 +160,15 @@ impl Trail {
         walker.last_dropped[from.get() as usize] = Some(msg);
         self.kept.remove(msg);
         self.pass();
+        self.lose_send(from);
+    }
+
+    // A message of this process was dropped.
+    fn lose_send(&mut self, from: ProcNo)
+        ensures { (rows : List Event) → TrailOf self.old rows → TrailOf self.new rows }
+    {
+        let walker = &mut self.walkers[from.get() as usize];
+        walker.lose(&self.kept);
     }
 
     fn join(&mut self, p: ProcNo, inst: InstNo)

@@ -1,7 +1,9 @@
 //! The deeds of a process past its permanent position.
 
-ghost use Rattle.std.specs.Prelude.{◌≡◌, ◌++◌, ◌∷◌, [], length, drop, take, slice_get, ◌-◌, OnOk, OnErr};
+ghost use Rattle.std.specs.Prelude.{◌≡◌, ◌++◌, ◌∷◌, [], length, filter, slice_get, ◌-◌, OnOk, OnErr};
+ghost use Rattle.kt_cuts.specs.RecentSteps.{if_at, without_first, without_last, is_needed};
 
+use crate::kept::Kept;
 use kt_base::{Memory, MsgNo, ProcNo};
 use std::alloc::Global;
 use std::marker::Model;
@@ -14,6 +16,8 @@ pub(crate) struct Step {
     pub(crate) from: Option<ProcNo>,
     /// Of a receive: what was received last from this sender before it.
     pub(crate) before: Option<MsgNo>,
+    /// Its place in the live history, counted from 1.
+    pub(crate) place: usize,
 }
 
 /// Steps in order, the first of which come to be permanent and the last of which are undone.
@@ -53,40 +57,67 @@ impl Recent {
         self.steps.len() - self.taken
     }
 
-    /// Adds a step at the end: the message, the sender of a receive, and what was received last from it before.
+    /// Adds a step at the end: the message, the sender of a receive, what was received last from it before, the place.
     pub(crate) fn push(
         &mut self,
         msg: MsgNo,
         from: Option<ProcNo>,
         before: Option<MsgNo>,
+        place: usize,
     ) -> Result<(), Memory>
-        ensures ok { OnOk result (self.new ≡ self.old ++ record { msg = msg; from = from; before = before } ∷ []) }
+        ensures ok { OnOk result (self.new ≡ self.old ++ record { msg = msg; from = from; before = before; place = place } ∷ []) }
         ensures err { OnErr result (self.new ≡ self.old) }
     {
         self.steps.reserve(1)?;
-        self.steps.push_reserved(Step { msg, from, before });
+        self.steps.push_reserved(Step {
+            msg,
+            from,
+            before,
+            place,
+        });
         Ok(())
     }
 
-    /// Takes the first step. Its room is given back by `compact`.
-    pub(crate) fn pop_first(&mut self) -> Option<Step>
-        ensures rest { self.new ≡ drop 1 self.old }
-        ensures first { result ≡ slice_get self.old 0 }
+    /// Takes the first step, if it is at this place. Its room is given back by `compact`.
+    pub(crate) fn pop_first(&mut self, place: usize) -> Option<Step>
+        ensures step { result ≡ if_at place (slice_get self.old 0) }
+        ensures rest { self.new ≡ without_first result self.old }
     {
         let first = self.steps.get(self.taken).copied()?;
+        if first.place != place {
+            return None;
+        }
         self.taken += 1;
         Some(first)
     }
 
-    /// Takes the last step.
-    pub(crate) fn pop_last(&mut self) -> Option<Step>
-        ensures rest { self.new ≡ take (length self.old - 1) self.old }
-        ensures last { result ≡ slice_get self.old (length self.old - 1) }
+    /// Takes the last step, if it is at this place.
+    pub(crate) fn pop_last(&mut self, place: usize) -> Option<Step>
+        ensures step { result ≡ if_at place (slice_get self.old (length self.old - 1)) }
+        ensures rest { self.new ≡ without_last result self.old }
     {
         if self.taken == self.steps.len() {
             return None;
         }
-        self.steps.pop()
+        let last = self.steps[self.steps.len() - 1];
+        if last.place != place {
+            return None;
+        }
+        self.steps.pop();
+        Some(last)
+    }
+
+    /// Forgets the sends of messages that are not kept.
+    pub(crate) fn forget_sends(&mut self, kept: &Kept)
+        ensures { self.new ≡ filter (is_needed kept.now) self.old }
+    {
+        self.steps.drain(..self.taken);
+        self.taken = 0;
+        self.steps.retain(
+            |step: &Step| -> bool
+                ensures { result ≡ is_needed kept.entry.now step.now }
+            { step.from.is_some() || kept.get(step.msg).is_some() },
+        );
     }
 
     /// Gives back the room of the steps that were taken from the front.

@@ -1,4 +1,5 @@
 mod arrivals;
+mod dropped;
 mod facts;
 mod large;
 mod walk_orphans;
@@ -8,7 +9,7 @@ use crate::{Cut, Histories, LegalFault, Rule, Trace, legal};
 use facts::FACTS;
 use kt_base::{InstNo, MsgNo, ProcNo, RowNo};
 use kt_spacetime::fields::{instance_of, number_of};
-use kt_spacetime::{SpaceTime, read_csv};
+use kt_spacetime::{Event, SpaceTime, read_csv};
 use std::alloc::Global;
 use std::process::Abort;
 use std::test::Fail;
@@ -74,6 +75,16 @@ fn process(number: usize) -> Result<ProcNo, Fail> {
 
 fn message(number: u32) -> Result<MsgNo, Fail> {
     Ok(MsgNo::new(number).ok_or("no message")?)
+}
+
+// Adds a row to a log.
+fn add(log: &mut SpaceTime, row: Event) -> Result<(), Fail> {
+    log.reserve(1)?;
+    if log.rows().len() >= 16_777_216 {
+        return Err("too many rows".into());
+    }
+    log.push_reserved(row);
+    Ok(())
 }
 
 // What the first rows of a legal log say.

@@ -1,16 +1,21 @@
 //! A process, as a walk keeps it.
 
-ghost use Rattle.std.specs.Prelude.{◌≡◌, ◌<◌, ◌-◌, ◌+◌, ◌^◌, None, true, [], take, drop, length, replicate, slice_get, slice_set, ◌||◌, if◌then◌else◌};
+ghost use Rattle.std.specs.Prelude.{◌≡◌, ◌<◌, ◌-◌, ◌+◌, ◌^◌, None, true, [], ◌⊎◌, length, filter, replicate, slice_get, ◌||◌, if◌then◌else◌};
 ghost use Rattle.kt_cuts.specs.Keeping.{restored, restored_from};
+ghost use Rattle.kt_cuts.specs.RecentSteps.{if_at, without_first, without_last, is_needed};
 
+use crate::kept::Kept;
 use crate::recent::{Recent, Step};
 use kt_base::{InstNo, MsgNo, ProcNo};
 use std::alloc::Global;
 
-/// A process after the rows so far, with its deeds past the permanent position alone.
+/// A process after the rows so far.
 #[derive(Drop)]
 pub(crate) struct Walker {
+    /// Its deeds past the permanent position, but for some sends of messages that were dropped.
     pub(crate) recent: Recent,
+    /// How many of its messages were dropped since the sends of such messages were forgotten.
+    pub(crate) lost: usize,
     /// The length of its live history.
     pub(crate) length: usize,
     pub(crate) permanent: usize,
@@ -29,6 +34,7 @@ impl Walker {
     {
         Walker {
             recent: Recent::new(alloc),
+            lost: 0,
             length: 0,
             permanent: 0,
             open_in: None,
@@ -76,32 +82,45 @@ impl Walker {
         }
     }
 
-    /// Makes its first step past the permanent position permanent too, where that position is this one.
-    pub(crate) fn settle(&mut self, permanent: usize) -> Option<Step>
-        requires { permanent + 1 < 2 ^ 64 }
-        ensures walker { self.new ≡ record self.old { permanent = permanent + 1; recent = drop 1 self.old.recent } }
-        ensures step { result ≡ slice_get self.old.recent 0 }
+    /// Makes the deed at this place, counted from 0, permanent too. Gives its step, unless that was forgotten.
+    pub(crate) fn settle(&mut self, place: usize) -> Option<Step>
+        requires { place + 1 < 2 ^ 64 }
+        ensures walker { self.new ≡ record self.old { permanent = place + 1; recent = without_first result self.old.recent } }
+        ensures step { result ≡ if_at (place + 1) (slice_get self.old.recent 0) }
     {
-        self.permanent = permanent + 1;
-        self.recent.pop_first()
+        self.permanent = place + 1;
+        self.recent.pop_first(self.permanent)
     }
 
-    /// Undoes its last step past the permanent position.
+    /// Undoes its last deed. Gives its step, unless that was forgotten.
     pub(crate) fn undo(&mut self) -> Option<Step>
         ensures walker { self.new ≡ record self.old {
           length = self.old.length - 1;
-          recent = take (length self.old.recent - 1) self.old.recent;
+          recent = without_last result self.old.recent;
           last_received = restored self.old.last_received result;
         } }
-        ensures step { result ≡ slice_get self.old.recent (length self.old.recent - 1) }
+        ensures step { result ≡ if_at self.old.length (slice_get self.old.recent (length self.old.recent - 1)) }
     {
-        let step = self.recent.pop_last();
+        let step = self.recent.pop_last(self.length);
         self.length = self.length.saturating_sub(1);
         let Some(undone) = step else {
             return None;
         };
         self.restore(undone.from, undone.before);
         Some(undone)
+    }
+
+    /// One more of its messages was dropped. Forgets the sends of such messages, where they may be more than the half of
+    /// the steps.
+    pub(crate) fn lose(&mut self, kept: &Kept)
+        ensures walker { self.new ≡ record self.old { lost = self.new.lost; recent = self.new.recent } }
+        ensures recent { (self.new.recent ≡ self.old.recent) ⊎ (self.new.recent ≡ filter (is_needed kept.now) self.old.recent) }
+    {
+        self.lost = self.lost.saturating_add(1);
+        if self.lost > self.recent.len() / 2 {
+            self.recent.forget_sends(kept);
+            self.lost = 0;
+        }
     }
 
     // What was received last from a sender before what is undone is so again.

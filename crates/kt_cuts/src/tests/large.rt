@@ -1,6 +1,6 @@
 //! Logs with so many rows that a scan for each row or cut would not end in time.
 
-use super::{message, process};
+use super::{add, message, process};
 use crate::{Cut, Histories, LegalFault, Rule, legal};
 use kt_base::RowNo;
 use kt_spacetime::{Event, SpaceTime};
@@ -11,15 +11,6 @@ const MESSAGES: u32 = 524_288;
 
 // How many sends and receives each process makes.
 const DEEDS: usize = 16_384;
-
-fn add(log: &mut SpaceTime, row: Event) -> Result<(), Fail> {
-    log.reserve(1)?;
-    if log.rows().len() >= 16_777_216 {
-        return Err("too many rows".into());
-    }
-    log.push_reserved(row);
-    Ok(())
-}
 
 // Messages round a ring of 64, each received before the next one is sent.
 fn messages_round_a_ring(alloc: Global) -> Result<SpaceTime, Fail> {

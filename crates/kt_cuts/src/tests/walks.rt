@@ -38,7 +38,7 @@ dropped,1,0,1
 ";
 
 // Feeds a row that has to be taken; a walk of fewer rows than the limit.
-fn take(walk: &mut Walk, row: &Event) -> Result<(), Fail> {
+pub(super) fn take(walk: &mut Walk, row: &Event) -> Result<(), Fail> {
     if walk.rows() >= 16_777_216 {
         return Err("too many rows".into());
     }
@@ -95,7 +95,7 @@ fn agrees(rt: &impl Abort, alloc: Global, log: &SpaceTime) -> Result<(), Fail> {
     Ok(())
 }
 
-fn agrees_after(
+pub(super) fn agrees_after(
     rt: &impl Abort,
     alloc: Global,
     log: &SpaceTime,

@@ -1,7 +1,14 @@
 use Rattle.std.proofs.Common.{ℕ, ◌+◌, refl, arith}
 use Rattle.kt_cuts.specs.Stages.{with_permanent, settled_below, settled_at}
-use Rattle.kt_cuts.proofs.TrailLoops.{keeps_both, same_permanent, settled_next, within_next}
+use Rattle.kt_cuts.proofs.TrailLoops.{keeps_all, keeps_both, same_permanent, settled_none, settled_next, within_next}
 use Rattle.kt_cuts.proofs.trail.Trail.settle_members.Goals as goal
+
+pub loop-number-init : goal.loop-number-init
+loop-number-init c = record {
+  low = omega arith;
+  kept = keeps_all c.args.self.now;
+  settled = λ s between h w. same_permanent c.args.self.now between s s.permanent (settled_below 0 c.args.instance.now s.permanent) (settled_none c.args.instance.now s.permanent) h;
+}
 
 pub loop-number-preserved : goal.loop-number-preserved
 loop-number-preserved c = record {

@@ -24,9 +24,9 @@ loop-count-preserved c = record {
       let p : ℕ = c.args.number in
       let n : ℕ = c.loop-count._count in
       let now = c.loop-count.invariant.undone s between h sound in
-      let there = slice_get_read c.args.self.now.walkers.items 64 p c.index.result.now (sym c.args.self.now.walkers_there) c.requires c.index.ensures in
-      let count = recent_count c.index.result.now s p (h.of_walkers.each _ _ there) in
-      let left : n < length (s.live p) - s.permanent p = omega (arith, c.loop-count-test.true, c.len-count-end.ensures, count) in
+      let there = slice_get_read c.args.self.now.walkers.items 64 p c.index-walker.result.now (sym c.args.self.now.walkers_there) c.requires c.index-walker.ensures in
+      let count = recent_count c.index-walker.result.now s p (h.of_walkers.each _ _ there) in
+      let left : n < length (s.live p) - s.permanent p = omega (arith, c.loop-count-test.true, c.saturating_sub-count-end.ensures, count) in
       let front : List Deed = take (length (s.live p) - n) (s.live p) in
       let f : ℕ → List Deed = at_one p front s.live in
       let here : f p ≡ front = at_same p front s.live in
@@ -41,7 +41,7 @@ pub returns-clause-undone : goal.returns-clause-undone
 returns-clause-undone c = λ s between h sound.
     let p : ℕ = c.args.number in
     let n : ℕ = c.loop-count._count in
-    let there = slice_get_read c.args.self.now.walkers.items 64 p c.index.result.now (sym c.args.self.now.walkers_there) c.requires c.index.ensures in
-    let count = recent_count c.index.result.now s p (h.of_walkers.each _ _ there) in
-    let left : length (s.live p) - n ≡ s.permanent p = omega (arith, c.loop-count-test.false, c.loop-count.auto._count-end, c.len-count-end.ensures, count, sound.within p) in
+    let there = slice_get_read c.args.self.now.walkers.items 64 p c.index-walker.result.now (sym c.args.self.now.walkers_there) c.requires c.index-walker.ensures in
+    let count = recent_count c.index-walker.result.now s p (h.of_walkers.each _ _ there) in
+    let left : length (s.live p) - n ≡ s.permanent p = omega (arith, c.loop-count-test.false, c.loop-count.auto._count-end, c.saturating_sub-count-end.ensures, count, sound.within p) in
     same_live c.loop-count.self between s (at_one p (take (length (s.live p) - n) (s.live p)) s.live) (at_one p (take (s.permanent p) (s.live p)) s.live) (λ q. ap (λ (k : ℕ). at_one p (take k (s.live p)) s.live q) left) (c.loop-count.invariant.undone s between h sound)

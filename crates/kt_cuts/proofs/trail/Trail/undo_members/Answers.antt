@@ -1,8 +1,15 @@
 use Rattle.std.proofs.Common.{ℕ, ◌+◌, List, refl, arith}
 use Rattle.kt_cuts.specs.declared.deeds.Deed.{Deed}
 use Rattle.kt_cuts.specs.Stages.{with_live, undone_below, undone_at}
-use Rattle.kt_cuts.proofs.TrailLoops.{keeps_both, same_live, undone_next, sound_below}
+use Rattle.kt_cuts.proofs.TrailLoops.{keeps_all, keeps_both, same_live, undone_none, undone_next, sound_below}
 use Rattle.kt_cuts.proofs.trail.Trail.undo_members.Goals as goal
+
+pub loop-number-init : goal.loop-number-init
+loop-number-init c = record {
+  low = omega arith;
+  kept = keeps_all c.args.self.now;
+  undone = λ s between h sound. same_live c.args.self.now between s s.live (undone_below 0 c.args.instance.now s.permanent s.live) (undone_none c.args.instance.now s.permanent s.live) h;
+}
 
 pub loop-number-preserved : goal.loop-number-preserved
 loop-number-preserved c = record {
