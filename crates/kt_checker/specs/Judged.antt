@@ -1,7 +1,6 @@
 -- What a judge knows after some rows.
 use Rattle.std.specs.Prelude.{◌≡◌, ◌<◌, ◌+◌, ◌^◌, ℕ, Option, Some, None, List, length, slice_get}
 use Rattle.kt_spacetime.specs.declared.event.Event.{Event}
-use Rattle.kt_cuts.specs.Legal.{IsLegal}
 use Rattle.kt_cuts.specs.WalkOf.{WalkOf}
 use Rattle.kt_chain.specs.declared.certificate.Certificate.{Certificate}
 use Rattle.kt_checker.specs.declared.judge.Judge.{Judge}
@@ -25,6 +24,5 @@ IsFew judge = judge.walk.rows < 2 ^ 24
 -- a judge of certificates has seen these rows
 pub record JudgeOf (judge : Judge) (certificates : List Certificate) (rows : List Event) : Type 0 where
   pub walk : WalkOf judge.walk rows
-  pub legal : IsLegal rows
   pub gathered : Gathered certificates judge.instances.list.items rows
   pub firsts : AreFirsts judge.firsts.places.items certificates (length certificates)

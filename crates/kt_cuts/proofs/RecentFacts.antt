@@ -17,7 +17,7 @@ use Rattle.kt_cuts.specs.Keeping.{kept_at, kept_between}
 use Rattle.kt_cuts.specs.Orphans.{is_within}
 use Rattle.kt_cuts.specs.PartsOf.{ShowsKept}
 use Rattle.kt_cuts.specs.RecentSteps.{step_of, steps_after, steps_past, is_send_of, ShowsRecent, if_at, is_needed}
-use Rattle.kt_cuts.specs.Stages.{IsSound}
+use Rattle.kt_cuts.specs.Stages.{AreInPlace}
 use Rattle.kt_cuts.specs.Traces.{place_of}
 use Rattle.kt_cuts.proofs.Items.{get_seam}
 use Rattle.kt_cuts.proofs.KeptFacts.{kept_of, past_it}
@@ -254,7 +254,7 @@ recent_thinned r n l dropped es h lost = record {
         ∙ ap (λ (y : Step). not (is_send_of more y)) item.2)
 
 -- a live send past the permanent position that is not kept was dropped
-pub unkept_dropped : (es : List (ℕ × Trace)) (between : ℕ → Option (ℕ × ℕ)) (s : Past) (p k m to : ℕ) → ShowsKept es between s → IsSound between s.permanent s.live → s.permanent p ≤ k → slice_get (s.live p) k ≡ Some (deed.Sent m to)
+pub unkept_dropped : (es : List (ℕ × Trace)) (between : ℕ → Option (ℕ × ℕ)) (s : Past) (p k m to : ℕ) → ShowsKept es between s → AreInPlace between s.permanent s.live → s.permanent p ≤ k → slice_get (s.live p) k ≡ Some (deed.Sent m to)
     → kept_at es m ≡ None → s.dropped m ≡ true
 unkept_dropped es between s p k m to h sound low at none = at_test (s.dropped m) refl
   where

@@ -10,7 +10,7 @@ use Rattle.kt_cuts.specs.declared.tables.Instance.{Instance}
 use Rattle.kt_cuts.specs.declared.trail.Trail.{Trail}
 use Rattle.kt_cuts.specs.declared.walker.Walker.{Walker}
 use Rattle.kt_cuts.specs.Past.{Past, at_one}
-use Rattle.kt_cuts.specs.Stages.{with_permanent, with_live, settled_below, settled_at, undone_below, undone_at, IsWithin, IsSound}
+use Rattle.kt_cuts.specs.Stages.{with_permanent, with_live, settled_below, settled_at, undone_below, undone_at, IsWithin, AreInPlace}
 use Rattle.kt_cuts.specs.TrailOf.{ShowsTrail, KeepsInstances}
 use Rattle.kt_cuts.specs.PartsOf.{ShowsWalker}
 use Rattle.kt_cuts.proofs.Lists.{get_take}
@@ -52,7 +52,7 @@ cut_get permanent live cut h q i d e = elim (h q) [
   | inr front ↦ (get_take front.0 (live q) i d (ap (λ (l : List Deed). slice_get l i) (sym front.1) ∙ e)).0
 ]
 
-sound_cut : (between : ℕ → Option (ℕ × ℕ)) (permanent : ℕ → ℕ) (live cut : ℕ → List Deed) → IsSound between permanent live → IsCutBack permanent live cut → IsSound between permanent cut
+sound_cut : (between : ℕ → Option (ℕ × ℕ)) (permanent : ℕ → ℕ) (live cut : ℕ → List Deed) → AreInPlace between permanent live → IsCutBack permanent live cut → AreInPlace between permanent cut
 unfolding IsCutBack
 sound_cut between permanent live cut g h = record {
   once = λ p i j d e f. g.once p i j d (cut_get permanent live cut h p i d e) (cut_get permanent live cut h p j d f);
@@ -64,7 +64,7 @@ sound_cut between permanent live cut g h = record {
   ];
 }
 
-pub sound_one : (between : ℕ → Option (ℕ × ℕ)) (permanent : ℕ → ℕ) (live : ℕ → List Deed) (p n : ℕ) → IsSound between permanent live → permanent p ≤ n → IsSound between permanent (at_one p (take n (live p)) live)
+pub sound_one : (between : ℕ → Option (ℕ × ℕ)) (permanent : ℕ → ℕ) (live : ℕ → List Deed) (p n : ℕ) → AreInPlace between permanent live → permanent p ≤ n → AreInPlace between permanent (at_one p (take n (live p)) live)
 unfolding IsCutBack
 sound_one between permanent live p n g low = sound_cut between permanent live (at_one p (take n (live p)) live) g (λ q. elim (cases_eq q p) [
   | inl same ↦
@@ -72,7 +72,7 @@ sound_one between permanent live p n g low = sound_cut between permanent live (a
   | inr other ↦ inl (at_other p q (take n (live p)) live other)
 ])
 
-pub sound_below : (between : ℕ → Option (ℕ × ℕ)) (permanent : ℕ → ℕ) (live : ℕ → List Deed) (n : ℕ) (v : Instance) → IsSound between permanent live → IsSound between permanent (undone_below n v permanent live)
+pub sound_below : (between : ℕ → Option (ℕ × ℕ)) (permanent : ℕ → ℕ) (live : ℕ → List Deed) (n : ℕ) (v : Instance) → AreInPlace between permanent live → AreInPlace between permanent (undone_below n v permanent live)
 unfolding IsCutBack
 sound_below between permanent live n v g = sound_cut between permanent live (undone_below n v permanent live) g (λ q. at_test q (nat_lt q n && has v.joined q))
   where

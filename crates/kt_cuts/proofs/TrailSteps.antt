@@ -13,7 +13,7 @@ use Rattle.kt_cuts.specs.Past.{Past, at_one}
 use Rattle.kt_cuts.specs.Legal.{has_deed}
 use Rattle.kt_cuts.specs.Lists.{received_in, last_of}
 use Rattle.kt_cuts.specs.Keeping.{kept_at, kept_between, uncovered, unsent, unreceived, restored}
-use Rattle.kt_cuts.specs.Stages.{with_permanent, with_live, HasPermanent, IsSound}
+use Rattle.kt_cuts.specs.Stages.{with_permanent, with_live, HasPermanent, AreInPlace}
 use Rattle.kt_cuts.specs.PartsOf.{ShowsWalker, ShowsWalkers, ShowsKept}
 use Rattle.kt_cuts.specs.RecentSteps.{step_of, ShowsRecent, if_at}
 use Rattle.kt_cuts.proofs.Items.{get_left, get_seam, get_set_same, get_set_other, item_there}
@@ -282,7 +282,7 @@ forgotten_undone_trail ws es between s p v w h k l there low none new =
 
 -- a send is undone
 pub sent_undone_trail : (ws : List Walker) (es fs : List (ℕ × Trace)) (between : ℕ → Option (ℕ × ℕ)) (s : Past) (p : ℕ) (v w : Walker) (step : Step)
-    → ShowsWalkers ws s → ShowsKept es between s → IsSound between s.permanent s.live → p < 64 → slice_get ws p ≡ Some v → s.permanent p < length (s.live p)
+    → ShowsWalkers ws s → ShowsKept es between s → AreInPlace between s.permanent s.live → p < 64 → slice_get ws p ≡ Some v → s.permanent p < length (s.live p)
     → if_at v.length (slice_get v.recent (length v.recent - 1)) ≡ Some step → w ≡ record v { length = v.length - 1; recent = take (length v.recent - 1) v.recent; last_received = restored v.last_received (Some step) } → step.from ≡ None
     → ((m : ℕ) → kept_at fs m ≡ at_one step.msg (unsent (kept_at es step.msg)) (kept_at es) m)
     → ShowsWalkers (set ws p w) (with_live s (at_one p (take (length (s.live p) - 1) (s.live p)) s.live)) × ShowsKept fs between (with_live s (at_one p (take (length (s.live p) - 1) (s.live p)) s.live))
@@ -315,7 +315,7 @@ sent_undone_trail ws es fs between s p v w step h k sound l there low last new s
 
 -- a receive is undone
 pub received_undone_trail : (ws : List Walker) (es fs : List (ℕ × Trace)) (between : ℕ → Option (ℕ × ℕ)) (s : Past) (p : ℕ) (v w : Walker) (step : Step) (f : ℕ)
-    → ShowsWalkers ws s → ShowsKept es between s → IsSound between s.permanent s.live → p < 64 → slice_get ws p ≡ Some v → s.permanent p < length (s.live p)
+    → ShowsWalkers ws s → ShowsKept es between s → AreInPlace between s.permanent s.live → p < 64 → slice_get ws p ≡ Some v → s.permanent p < length (s.live p)
     → if_at v.length (slice_get v.recent (length v.recent - 1)) ≡ Some step → w ≡ record v { length = v.length - 1; recent = take (length v.recent - 1) v.recent; last_received = restored v.last_received (Some step) } → step.from ≡ Some f
     → ((m : ℕ) → kept_at fs m ≡ at_one step.msg (unreceived (kept_at es step.msg)) (kept_at es) m)
     → ShowsWalkers (set ws p w) (with_live s (at_one p (take (length (s.live p) - 1) (s.live p)) s.live)) × ShowsKept fs between (with_live s (at_one p (take (length (s.live p) - 1) (s.live p)) s.live))

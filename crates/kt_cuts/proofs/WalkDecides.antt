@@ -20,7 +20,7 @@ use Rattle.kt_cuts.specs.Lists.{received_in, last_of}
 use Rattle.kt_cuts.specs.Orphans.{is_within}
 use Rattle.kt_cuts.specs.Standing.{at_number, new_shown, ready_shown}
 use Rattle.kt_cuts.specs.Keeping.{kept_between, parties_in}
-use Rattle.kt_cuts.specs.Stages.{with_permanent, with_live, settled_below, undone_below, IsWithin, IsSound}
+use Rattle.kt_cuts.specs.Stages.{with_permanent, with_live, settled_below, undone_below, IsWithin, AreInPlace}
 use Rattle.kt_cuts.specs.Traces.{place_of}
 use Rattle.kt_cuts.specs.TrailParts.{TrailParts}
 use Rattle.kt_cuts.specs.PartsOf.{ShowsWalkers, ShowsKept, PartsOf}
@@ -142,7 +142,7 @@ cut_same v permanent live q none = elim (cases_lt q 64) [
 
 pub rollback_row : (w : TrailParts) (rows : List Event) (p k : ℕ) (commit : Bool) (is : List Instance) (x : Instance) (ws : List Walker) (es : List (ℕ × Trace)) → PartsOf w rows → broken_rule (past rows) (event.Decided p k commit) ≡ None → commit ≡ true
     → ((v : Instance) → at_number w.instances k ≡ Some v → IsDecided w.instances is k commit v) → ((v : Instance) → at_number w.instances k ≡ Some v → Some x ≡ Some (record v { verdict = Some commit })) → x.kind ≡ Rollback
-    → ((s : Past) (between : ℕ → Option (ℕ × ℕ)) → ShowsWalkers w.walkers s → ShowsKept w.kept between s → IsSound between s.permanent s.live → ShowsWalkers ws (with_live s (undone_below 64 x s.permanent s.live)) × ShowsKept es between (with_live s (undone_below 64 x s.permanent s.live)))
+    → ((s : Past) (between : ℕ → Option (ℕ × ℕ)) → ShowsWalkers w.walkers s → ShowsKept w.kept between s → AreInPlace between s.permanent s.live → ShowsWalkers ws (with_live s (undone_below 64 x s.permanent s.live)) × ShowsKept es between (with_live s (undone_below 64 x s.permanent s.live)))
     → PartsOf (record { rows = w.rows + 1; walkers = ws; instances = is; beginning = None; kept = es }) (rows ++ event.Decided p k commit ∷ [])
 rollback_row w rows p k false is x ws es h unbroken commits decided same of_kind undoes = absurd (cc)
 rollback_row w rows p k true is x ws es h unbroken commits decided same of_kind undoes =

@@ -14,7 +14,7 @@ use Rattle.kt_cuts.specs.Past.{Past, start, past, after}
 use Rattle.kt_cuts.specs.Legal.{IsLegal, broken_rule, first_broken, has_deed, is_latest}
 use Rattle.kt_cuts.specs.Lists.{received_in, last_of}
 use Rattle.kt_cuts.specs.Standing.{ShowsInstances, at_number, verdict_shown, new_shown, ready_shown, beginning_of_row, parties_of_row}
-use Rattle.kt_cuts.specs.Stages.{IsSound}
+use Rattle.kt_cuts.specs.Stages.{AreInPlace}
 use Rattle.kt_cuts.specs.Tests.{is_after}
 use Rattle.kt_cuts.specs.Traces.{place_of}
 use Rattle.kt_cuts.specs.Keeping.{kept_between, parties_in}
@@ -57,7 +57,7 @@ parties_quiet rows row m e = elim (cases_eq m (length rows + 1)) [
 ]
 
 -- the parties of a message whose deed is in a live history
-pub sound : (rows : List Event) → IsLegal rows → IsSound (parties_in rows) (past rows).permanent (past rows).live
+pub sound : (rows : List Event) → IsLegal rows → AreInPlace (parties_in rows) (past rows).permanent (past rows).live
 sound rows l = record {
   once = λ p i j d e f. deed_once (past rows) (sent_places rows) (received_places rows l) p i j d e f;
   sent = λ p i m to e. ap (λ (o : Option Event). option_flatten (option_map parties_of_row o)) ((rowed rows l).sent p i m to e).1;

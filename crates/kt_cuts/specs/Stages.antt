@@ -37,7 +37,7 @@ IsWithin v s = (q : ℕ) → has v.joined q ≡ true → (s.permanent q ≤ slic
 
 -- what is so of deeds: each stands once in its history, between the sender and the receiver of its message, and no
 -- permanent position lies past the end
-pub record IsSound (between : ℕ → Option (ℕ × ℕ)) (permanent : ℕ → ℕ) (live : ℕ → List Deed) : Type 0 where
+pub record AreInPlace (between : ℕ → Option (ℕ × ℕ)) (permanent : ℕ → ℕ) (live : ℕ → List Deed) : Type 0 where
   pub once : (p i j : ℕ) (d : Deed) → slice_get (live p) i ≡ Some d → slice_get (live p) j ≡ Some d → i ≡ j
   pub sent : (p i msg to : ℕ) → slice_get (live p) i ≡ Some (deed.Sent msg to) → between msg ≡ Some (p, to)
   pub received : (p i msg from : ℕ) → slice_get (live p) i ≡ Some (deed.Received msg from) → between msg ≡ Some (from, p)

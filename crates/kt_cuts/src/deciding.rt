@@ -16,7 +16,7 @@ impl Trail {
     ghost use Rattle.kt_cuts.specs.Legal.{broken_rule};
     ghost use Rattle.kt_cuts.specs.Keeping.{kept_at, uncovered, is_covered};
     ghost use Rattle.kt_cuts.specs.TrailOf.{TrailOf, ShowsTrail, KeepsInstances};
-    ghost use Rattle.kt_cuts.specs.Stages.{with_permanent, with_live, settled_below, settled_at, undone_below, undone_at, IsWithin, IsSound, HasPermanent};
+    ghost use Rattle.kt_cuts.specs.Stages.{with_permanent, with_live, settled_below, settled_at, undone_below, undone_at, IsWithin, AreInPlace, HasPermanent};
 
     /// An instance is decided.
     pub(crate) fn decide(&mut self, inst: InstNo, commit: bool)
@@ -132,7 +132,7 @@ impl Trail {
     // Cuts the members' histories back to their permanent positions.
     fn undo_members(&mut self, instance: &Instance)
         ensures kept { KeepsInstances self.old self.new }
-        ensures undone { (s : Past) (between : ℕ → Option (ℕ × ℕ)) → ShowsTrail self.old between s → IsSound between s.permanent s.live → ShowsTrail self.new between (with_live s (undone_below 64 instance.now s.permanent s.live)) }
+        ensures undone { (s : Past) (between : ℕ → Option (ℕ × ℕ)) → ShowsTrail self.old between s → AreInPlace between s.permanent s.live → ShowsTrail self.new between (with_live s (undone_below 64 instance.now s.permanent s.live)) }
     {
         for number in 0..ProcNo::COUNT {
             self.undo_if(instance, number);
@@ -142,7 +142,7 @@ impl Trail {
     fn undo_if(&mut self, instance: &Instance, number: u8)
         requires { number < 64 }
         ensures kept { KeepsInstances self.old self.new }
-        ensures undone { (s : Past) (between : ℕ → Option (ℕ × ℕ)) → ShowsTrail self.old between s → IsSound between s.permanent s.live → ShowsTrail self.new between (with_live s (undone_at number instance.now s.permanent s.live)) }
+        ensures undone { (s : Past) (between : ℕ → Option (ℕ × ℕ)) → ShowsTrail self.old between s → AreInPlace between s.permanent s.live → ShowsTrail self.new between (with_live s (undone_at number instance.now s.permanent s.live)) }
     {
         if instance.has_joined(number) {
             self.undo_all(number);
@@ -153,7 +153,7 @@ impl Trail {
     fn undo_all(&mut self, number: u8)
         requires { number < 64 }
         ensures kept { KeepsInstances self.old self.new }
-        ensures undone { (s : Past) (between : ℕ → Option (ℕ × ℕ)) → ShowsTrail self.old between s → IsSound between s.permanent s.live → ShowsTrail self.new between (with_live s (at_one number (take (s.permanent number) (s.live number)) s.live)) }
+        ensures undone { (s : Past) (between : ℕ → Option (ℕ × ℕ)) → ShowsTrail self.old between s → AreInPlace between s.permanent s.live → ShowsTrail self.new between (with_live s (at_one number (take (s.permanent number) (s.live number)) s.live)) }
     {
         let walker = &self.walkers[number as usize];
         for _count in 0..walker.length.saturating_sub(walker.permanent) {
@@ -165,7 +165,7 @@ impl Trail {
     fn undo(&mut self, number: u8)
         requires { number < 64 }
         ensures kept { KeepsInstances self.old self.new }
-        ensures undone { (s : Past) (between : ℕ → Option (ℕ × ℕ)) → ShowsTrail self.old between s → IsSound between s.permanent s.live → s.permanent number < length (s.live number) → ShowsTrail self.new between (with_live s (at_one number (take (length (s.live number) - 1) (s.live number)) s.live)) }
+        ensures undone { (s : Past) (between : ℕ → Option (ℕ × ℕ)) → ShowsTrail self.old between s → AreInPlace between s.permanent s.live → s.permanent number < length (s.live number) → ShowsTrail self.new between (with_live s (at_one number (take (length (s.live number) - 1) (s.live number)) s.live)) }
     {
         let Some(step) = self.walkers[number as usize].undo() else {
             return;

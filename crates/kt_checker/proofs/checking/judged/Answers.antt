@@ -37,4 +37,4 @@ pub returns : goal.returns
 returns c =
     let rows = c.rows-row-items.result.now in
     let judged = subst (JudgeOf c.loop-row.judge c.args.certificates.now) (take_all c.loop-row.row-index rows c.loop-row-test.false) c.loop-row.invariant in
-    IfOk-weaker c.verdict.result _ _ (λ v answer. rw (← c.rows-row-items.ensures.rows) (answer rows judged.legal judged.gathered)) c.verdict.ensures
+    IfOk-weaker c.verdict.result _ _ (λ v answer. rw (← c.rows-row-items.ensures.rows) (answer rows judged.walk.trail.legal judged.gathered)) c.verdict.ensures

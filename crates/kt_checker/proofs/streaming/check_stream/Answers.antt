@@ -41,4 +41,4 @@ pub returns-clause-answer : goal.returns-clause-answer
 returns-clause-answer g c =
     let seen = subst (λ (o : Option Verdict). HasSeen (g.R.Read.remaining c.args.log_reader) c.loop-rows.rows c.loop-rows.judge c.args.certificates.now o) c.in-None.is c.loop-rows.invariant in
     legal_answer c.loop-rows.rows c.next.new.self c.loop-rows.judge c.args.certificates.now _ seen (at_end c.in_ok-row.field-0 c.in_default.not-Some c.in_ok-row.ensures.steps)
-    (λ rows h. c.in_ok-verdict-in-None.ensures rows h.legal h.gathered)
+    (λ rows h. c.in_ok-verdict-in-None.ensures rows h.walk.trail.legal h.gathered)

@@ -8,7 +8,6 @@ returns-clause-fed c = λ rows h.
     let number : c.row_no-number.result ≡ length rows + 1 = omega (arith, c.row_no-number.ensures, c.rows.ensures.count rows h.walk) in
     record {
       walk = (c.in_ok-feed.ensures.fed rows h.walk).1;
-      legal = legal;
       gathered = c.in_ok-add.ensures certificates rows h.gathered number legal (λ p k commit is. c.fault_at-fault.ensures rows p k commit h legal is);
       firsts = h.firsts;
     }

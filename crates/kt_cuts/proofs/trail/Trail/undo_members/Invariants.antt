@@ -1,6 +1,6 @@
 use Rattle.std.proofs.Common.{ℕ, ◌≤◌, Option}
 use Rattle.kt_cuts.specs.Past.{Past}
-use Rattle.kt_cuts.specs.Stages.{with_live, undone_below, IsSound}
+use Rattle.kt_cuts.specs.Stages.{with_live, undone_below, AreInPlace}
 use Rattle.kt_cuts.specs.TrailOf.{ShowsTrail, KeepsInstances}
 use Rattle.kt_cuts.proofs.trail.Trail.undo_members.Given as goal
 
@@ -8,5 +8,5 @@ abbrev pub invariant-loop-number : goal.invariant-loop-number
 invariant-loop-number l = record {
   low : l.number ≤ 64;
   kept : KeepsInstances l.initial.self l.self;
-  undone : (s : Past) (between : ℕ → Option (ℕ × ℕ)) → ShowsTrail l.initial.self between s → IsSound between s.permanent s.live → ShowsTrail l.self between (with_live s (undone_below l.number l.instance s.permanent s.live));
+  undone : (s : Past) (between : ℕ → Option (ℕ × ℕ)) → ShowsTrail l.initial.self between s → AreInPlace between s.permanent s.live → ShowsTrail l.self between (with_live s (undone_below l.number l.instance s.permanent s.live));
 }
