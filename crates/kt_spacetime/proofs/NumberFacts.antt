@@ -1,19 +1,21 @@
 -- How the text of a number begins.
-use Rattle.std.proofs.Common.{◌≡◌, ◌≢◌, ◌∙◌, ◌<◌, ◌≤◌, ◌+◌, ◌-◌, ◌*◌, ◌^◌, ℕ, ℤ, zero, suc, List, [], ◌∷◌, length, drop, slice_index, slice_get, Option, Some, None, IfSome, IfNone, sym, ap, subst, refl, inl, inr, arith, rules, Result, Ok, FitsSigned}
+use Rattle.std.proofs.Common.{◌≡◌, ◌≢◌, ◌∙◌, ◌<◌, ◌≤◌, ◌+◌, ◌-◌, ◌*◌, ◌^◌, ℕ, ℤ, zero, suc, List, [], ◌∷◌, length, drop, slice_index, slice_get, Option, Some, None, IsSome, IfSome, IfNone, ◌↔◌, sym, ap, subst, refl, inl, inr, arith, rules, Result, Ok, FitsSigned}
 use Rattle.std.specs.Prelude.{pos, negsuc, neg_ℤ}
 use Rattle.std.specs.Int.{IsInRange, w64}
-use Rattle.std.specs.Result.{OkIff}
+use Rattle.std.specs.Result.{OkIff, result_ok}
 use Rattle.std.specs.Int.Signed.{mag}
 use Rattle.std.specs.Fmt.{decimal, signed_decimal}
 use Rattle.std.specs.Str.Parse.{AllDigits, IsNumeral, ParsesUnsigned, ParsesSigned, digits_value, digits_value_after, without_leading_plus}
-use Rattle.std.proofs.lemmas.Fmt.{decimal_is_IsNumeral, decimal_digit, first_decimal, decimal-digits_value}
+use Rattle.std.proofs.lemmas.Fmt.{decimal_is_IsNumeral, decimal_digit, first_decimal, decimal-digits_value, length-decimal-le}
 use Rattle.std.specs.Char.{digit_value}
 use Rattle.std.proofs.lemmas.Bool.{cases_eq}
 use Rattle.std.proofs.lemmas.Str.{digit_value_digit}
 use Rattle.std.proofs.Math.Seq.{drop-cons}
 use Rattle.std.proofs.Math.ListN.{drop_of_length-le}
 use Rattle.std.proofs.lemmas.Str.Parse.{digit_from_value, numerals_by_value, tells_digits, without_leading_plus_none, parse_signed_plain, parse_signed_minus}
+use Rattle.kt_base.specs.Numbers.{IsProcNo}
 use Rattle.kt_spacetime.specs.Words.{BeginsAsNumber, BeginsAsBody}
+use Rattle.kt_spacetime.proofs.FieldFacts.{same_number, too_great}
 
 digits_begin : (t : List ℕ) → IsNumeral 10 t → (slice_index t 0 ≡ 48 → length t ≡ 1) → BeginsAsNumber t
 digits_begin [] h z = absurd (omega (arith, h.0))
@@ -139,13 +141,71 @@ reading_stops t i n h l over d =
     let next = reading_next t i n h l r in
     omega (arith, over r, next.0, after_grows (n * 10 + (slice_index t i - 48)) (drop (i + 1) t))
 
--- what is found of a number's digits
-pub value_spells : (t : List ℕ) (o : Option ℕ) → BeginsAsNumber t → IfSome o (λ n. AllDigits 10 t × (n ≡ digits_value 10 t) × (n < 2 ^ 32)) → IfSome o (λ n. t ≡ decimal n)
-value_spells t None b h = tt
-value_spells t (Some n) b h = sym (ap decimal h.1 ∙ digits_spell t b h.0 (omega (arith, h.1, h.2)))
+-- what spells a number has digits, of that value
+pub spelt_value : (n : ℕ) (t : List ℕ) → n < 2 ^ 64 → t ≡ decimal n → AllDigits 10 t × (digits_value 10 t ≡ n)
+spelt_value n t l e =
+    let digits = decimal_is_IsNumeral n l in
+    (subst (AllDigits 10) (sym e) digits.0.1, ap (digits_value 10) e ∙ digits.1)
 
-pub value_is_spelt : (t : List ℕ) (o : Option ℕ) → IfNone o (AllDigits 10 t → 2 ^ 32 ≤ digits_value 10 t) → IfNone o ((n : ℕ) → n < 2 ^ 32 → t ≢ decimal n)
-value_is_spelt t (Some n) h = tt
-value_is_spelt t None h = λ n l e.
-    let digits = decimal_is_IsNumeral n (omega (arith, l)) in
-    omega (arith, l, digits.1, ap (digits_value 10) e, h (subst (AllDigits 10) (sym e) digits.0.1))
+-- a value below 2^32 is spelled by its digits
+pub value_spells : {E : Type 0} (t : List ℕ) (n : ℕ) (r : Result ℕ E) (o : Option ℕ) → BeginsAsNumber t → AllDigits 10 t → n ≡ digits_value 10 t → n < 2 ^ 64 → OkIff r (n < 2 ^ 32) n → o ≡ result_ok r → IfSome o (λ m. t ≡ decimal m)
+value_spells t n r None b d v l f e = tt
+value_spells t n r (Some m) b d v l f e = sym (ap decimal (same_number n (2 ^ 32) m r f (sym e) ∙ v) ∙ digits_spell t b d (omega (arith, v, l)))
+
+-- and a greater one spells none of them
+pub value_is_spelt : {E : Type 0} (t : List ℕ) (n : ℕ) (r : Result ℕ E) (o : Option ℕ) → n ≡ digits_value 10 t → OkIff r (n < 2 ^ 32) n → o ≡ result_ok r → IfNone o ((k : ℕ) → k < 2 ^ 32 → t ≢ decimal k)
+value_is_spelt t n r (Some m) v f e = tt
+value_is_spelt t n r None v f e = λ k l spelt. omega (arith, l, v, (spelt_value k t (omega (arith, l)) spelt).1, too_great n (2 ^ 32) r f (sym e))
+
+pub spelt_short : (n : ℕ) (t : List ℕ) → n < 2 ^ 32 → t ≡ decimal n → length t ≤ 10
+spelt_short n t l e = omega (arith, ap length e, length-decimal-le 10 n (omega arith) (omega (arith, l)) (omega (arith, l)))
+
+-- texts of one byte and of two
+pub spelt_one : (n : ℕ) (t : List ℕ) → n < 2 ^ 64 → t ≡ decimal n → length t ≡ 1 → IsInRange 48 57 (slice_index t 0) × (n ≡ slice_index t 0 - 48)
+spelt_one n [] l e one = absurd (omega (arith, one))
+spelt_one n (a ∷ b ∷ rest) l e one = absurd (omega (arith, one))
+spelt_one n (a ∷ []) l e one =
+    let spelt = spelt_value n (a ∷ []) l e in
+    let digit = digit_from_value a spelt.0.0 in
+    (digit, omega (arith, spelt.1, digit_value_digit a digit))
+
+pub spelt_two : (n : ℕ) (t : List ℕ) → n < 2 ^ 64 → t ≡ decimal n → length t ≡ 2 → (slice_index t 0 ≢ 48) × IsInRange 48 57 (slice_index t 0) × IsInRange 48 57 (slice_index t 1) × (n ≡ (slice_index t 0 - 48) * 10 + (slice_index t 1 - 48))
+spelt_two n [] l e two = absurd (omega (arith, two))
+spelt_two n (a ∷ []) l e two = absurd (omega (arith, two))
+spelt_two n (a ∷ b ∷ c ∷ rest) l e two = absurd (omega (arith, two))
+spelt_two n (a ∷ b ∷ []) l e two =
+    let spelt = spelt_value n (a ∷ b ∷ []) l e in
+    let tens = digit_from_value a spelt.0.0 in
+    let units = digit_from_value b spelt.0.1.0 in
+    let begins = spelt_begins n (a ∷ b ∷ []) l e in
+    ((λ zero. absurd (omega (arith, begins.2 zero))), tens, units, omega (arith, spelt.1, tens, units, digit_value_digit a tens, digit_value_digit b units))
+
+pub one_spells : (t : List ℕ) → length t ≡ 1 → IsInRange 48 57 (slice_index t 0) → t ≡ decimal (slice_index t 0 - 48)
+one_spells [] one d = absurd (omega (arith, one))
+one_spells (a ∷ b ∷ rest) one d = absurd (omega (arith, one))
+one_spells (a ∷ []) one d =
+    let value : digits_value 10 (a ∷ []) ≡ a - 48 = omega (arith, d, digit_value_digit a d) in
+    let low : digit_value a < 10 = omega (arith, d, digit_value_digit a d) in
+    sym (ap decimal (sym value) ∙ digits_spell (a ∷ []) (omega arith, d, λ zero. refl) (low, tt) (omega (arith, value, d)))
+
+pub two_spell : (t : List ℕ) → length t ≡ 2 → slice_index t 0 ≢ 48 → IsInRange 48 57 (slice_index t 0) → IsInRange 48 57 (slice_index t 1) → t ≡ decimal ((slice_index t 0 - 48) * 10 + (slice_index t 1 - 48))
+two_spell [] two other d u = absurd (omega (arith, two))
+two_spell (a ∷ []) two other d u = absurd (omega (arith, two))
+two_spell (a ∷ b ∷ c ∷ rest) two other d u = absurd (omega (arith, two))
+two_spell (a ∷ b ∷ []) two other d u =
+    let value : digits_value 10 (a ∷ b ∷ []) ≡ (a - 48) * 10 + (b - 48) = omega (arith, d, u, digit_value_digit a d, digit_value_digit b u) in
+    let tens : digit_value a < 10 = omega (arith, d, digit_value_digit a d) in
+    let units : digit_value b < 10 = omega (arith, u, digit_value_digit b u) in
+    sym (ap decimal (sym value) ∙ digits_spell (a ∷ b ∷ []) (omega arith, d, λ zero. absurd (other zero)) (tens, (units, tt)) (omega (arith, value, d, u)))
+
+pub spelt_process : (n : ℕ) (t : List ℕ) → n < 64 → t ≡ decimal n → (0 < length t) × (length t ≤ 2)
+spelt_process n t l e = ((spelt_begins n t (omega (arith, l)) e).0, omega (arith, ap length e, length-decimal-le 2 n (omega arith) (omega (arith, l)) (omega (arith, l))))
+
+-- a process of a number, where there is one
+pub process_spells : (t : List ℕ) (n : ℕ) (o : Option ℕ) → t ≡ decimal n → (IsSome o ↔ IsProcNo n) → IfSome o (λ p. p ≡ n) → IfSome o (λ p. IsProcNo p × (t ≡ decimal p))
+process_spells t n None e valid same = tt
+process_spells t n (Some p) e valid same = (omega (arith, same, valid.0 refl), e ∙ ap decimal (sym same))
+
+pub process_is_spelt : (t : List ℕ) (n : ℕ) (o : Option ℕ) → ((p : ℕ) → p < 64 → t ≡ decimal p → p ≡ n) → (IsSome o ↔ IsProcNo n) → IfNone o ((p : ℕ) → IsProcNo p → t ≢ decimal p)
+process_is_spelt t n (Some p) one valid = tt
+process_is_spelt t n None one valid = λ p l e. cc (valid.1 (omega (arith, l, one p l e)))

@@ -2,7 +2,7 @@
 //!
 //! A number is spelled by its decimal digits with no sign and no leading zero; a body may have a `-` before it.
 
-ghost use Rattle.std.specs.Prelude.{◌≡◌, ◌≢◌, ◌<◌, ◌≤◌, ◌+◌, ◌-◌, ◌*◌, ◌^◌, ℕ, ℤ, Bool, true, false, IfSome, IfNone, IfOk, IfErr, FitsSigned};
+ghost use Rattle.std.specs.Prelude.{◌≡◌, ◌≢◌, ◌<◌, ◌≤◌, ◌+◌, ◌^◌, ℕ, ℤ, length, Bool, true, false, IfSome, IfNone, IfOk, IfErr, FitsSigned};
 ghost use Rattle.std.specs.Int.{w64, IsInRange};
 ghost use Rattle.std.specs.Fmt.{decimal, signed_decimal};
 ghost use Rattle.std.specs.Str.Parse.{AllDigits, digits_value};
@@ -17,33 +17,35 @@ pub fn number_of(text: &[u8]) -> Option<u32>
     ensures found { IfSome result (λ n. text.now ≡ decimal n) }
     ensures none { IfNone result ((n : ℕ) → n < 2 ^ 32 → text.now ≢ decimal n) }
 {
-    if !begins_as_number(text) {
+    // A number below 2^32 has at most 10 digits.
+    if text.len() > 10 || !begins_as_number(text) {
         return None;
     }
-    value_of(text)
+    u32::try_from(value_of(text)?).ok()
 }
 
-// The number below 2^32 that digits write, where a text has no other bytes.
-fn value_of(text: &[u8]) -> Option<u32>
-    ensures found { IfSome result (λ n. AllDigits 10 text.now × (n ≡ digits_value 10 text.now) × (n < 2 ^ 32)) }
-    ensures none { IfNone result (AllDigits 10 text.now → 2 ^ 32 ≤ digits_value 10 text.now) }
+// The number that at most 10 digits write, where a text has no other bytes.
+fn value_of(text: &[u8]) -> Option<u64>
+    requires { length text.now ≤ 10 }
+    ensures found { IfSome result (λ n. AllDigits 10 text.now × (n ≡ digits_value 10 text.now)) }
+    ensures none { IfNone result (AllDigits 10 text.now → ⊥) }
 {
     let mut number = 0;
     for byte in text {
-        number = with_digit(number, *byte)?;
+        number = number * 10 + u64::from(digit_of(*byte)?);
     }
     Some(number)
 }
 
-// A number with one more digit, where it stays below 2^32.
-fn with_digit(number: u32, byte: u8) -> Option<u32>
-    ensures found { IfSome result (λ n. IsInRange 48 57 byte × (n ≡ number * 10 + (byte - 48)) × (n < 2 ^ 32)) }
-    ensures none { IfNone result (IsInRange 48 57 byte → 2 ^ 32 ≤ number * 10 + (byte - 48)) }
+// The digit that a byte is, 0 to 9, if it is one.
+fn digit_of(byte: u8) -> Option<u8>
+    ensures found { IfSome result (λ digit. (byte ≡ 48 + digit) × (digit < 10)) }
+    ensures none { IfNone result (IsInRange 48 57 byte → ⊥) }
 {
     if !byte.is_ascii_digit() {
         return None;
     }
-    number.checked_mul(10)?.checked_add(u32::from(byte - b'0'))
+    Some(byte - b'0')
 }
 
 // Whether a text begins with a digit other than `0`, or is `0`.
@@ -60,6 +62,18 @@ fn begins_as_number(text: &[u8]) -> bool
 
 /// The body, a whole number of 64 bits, that a text spells, if it spells one.
 pub fn body_of(text: &[u8]) -> Option<i64>
+    ensures found { IfSome result (λ z. text.now ≡ signed_decimal z) }
+    ensures none { IfNone result ((z : ℤ) → FitsSigned w64 z → text.now ≢ signed_decimal z) }
+{
+    // Most bodies are small and have no sign: to read them so takes a third of the time.
+    if let Some(number) = number_of(text) {
+        return Some(i64::from(number));
+    }
+    any_body_of(text)
+}
+
+// The body, a whole number of 64 bits, that a text spells, if it spells one.
+fn any_body_of(text: &[u8]) -> Option<i64>
     ensures found { IfSome result (λ z. text.now ≡ signed_decimal z) }
     ensures none { IfNone result ((z : ℤ) → FitsSigned w64 z → text.now ≢ signed_decimal z) }
 {
@@ -91,10 +105,12 @@ pub fn process_of(text: &[u8]) -> Option<ProcNo>
     ensures found { IfSome result (λ p. IsProcNo p × (text.now ≡ decimal p)) }
     ensures none { IfNone result ((p : ℕ) → IsProcNo p → text.now ≢ decimal p) }
 {
-    let number = number_of(text)?;
-    let process = ProcNo::new(u8::try_from(number).ok()?)?;
-    process.get();
-    Some(process)
+    match text {
+        [units] => ProcNo::new(digit_of(*units)?),
+        [b'0', _] => None,
+        [tens, units] => ProcNo::new(digit_of(*tens)? * 10 + digit_of(*units)?),
+        _ => None,
+    }
 }
 
 /// The instance that a text spells, if it spells a number from 1 to 4,096.

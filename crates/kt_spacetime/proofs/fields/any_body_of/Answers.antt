@@ -9,7 +9,7 @@ use Rattle.std.proofs.lemmas.Int.{to_z-of_z}
 use Rattle.std.proofs.lemmas.Str.{IsUtf8-from_ascii}
 use Rattle.kt_spacetime.specs.Words.{BeginsAsBody}
 use Rattle.kt_spacetime.proofs.NumberFacts.{begun_body, body_fits, small_body}
-use Rattle.kt_spacetime.proofs.fields.body_of.Goals as goal
+use Rattle.kt_spacetime.proofs.fields.any_body_of.Goals as goal
 
 spelt_text : (z : ℤ) (t : List ℕ) → FitsSigned w64 z → t ≡ signed_decimal z → IsUtf8 t
 spelt_text z t f e = let P : List ℕ → Type 0 = IsUtf8 in subst P (sym e) (IsUtf8-from_ascii (signed_decimal z) (IsAscii-signed z (small_body z f)))
