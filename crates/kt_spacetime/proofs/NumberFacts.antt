@@ -10,8 +10,6 @@ use Rattle.std.proofs.lemmas.Fmt.{decimal_is_IsNumeral, decimal_digit, first_dec
 use Rattle.std.specs.Char.{digit_value}
 use Rattle.std.proofs.lemmas.Bool.{cases_eq}
 use Rattle.std.proofs.lemmas.Str.{digit_value_digit}
-use Rattle.std.proofs.Math.Seq.{drop-cons}
-use Rattle.std.proofs.Math.ListN.{drop_of_length-le}
 use Rattle.std.proofs.lemmas.Str.Parse.{digit_from_value, numerals_by_value, tells_digits, without_leading_plus_none, parse_signed_plain, parse_signed_minus}
 use Rattle.kt_base.specs.Numbers.{IsProcNo}
 use Rattle.kt_spacetime.specs.Words.{BeginsAsNumber, BeginsAsBody}
@@ -107,39 +105,6 @@ body_fits {E = E} z t r p e =
 -- digits are read up to a place, and write this number so far
 abbrev pub IsReading : List ℕ → ℕ → ℕ → Type 0
 IsReading t i n = (digits_value_after 10 n (drop i t) ≡ digits_value 10 t) × (AllDigits 10 (drop i t) → AllDigits 10 t) × (AllDigits 10 t → AllDigits 10 (drop i t))
-
-pub reading_begins : (t : List ℕ) → IsReading t 0 0
-reading_begins t = (refl, (λ d. d), λ d. d)
-
-next_place : (t : List ℕ) (i : ℕ) → i < length t → drop i t ≡ slice_index t i ∷ drop (i + 1) t
-next_place t i l =
-    let number : suc i ≡ i + 1 = omega arith in
-    drop-cons t i 0 l ∙ ap (λ (k : ℕ). slice_index t i ∷ drop k t) number
-
-pub reading_next : (t : List ℕ) (i n : ℕ) → IsReading t i n → i < length t → IsInRange 48 57 (slice_index t i) → IsReading t (i + 1) (n * 10 + (slice_index t i - 48))
-reading_next t i n h l r =
-    let there = next_place t i l in
-    let digit : digit_value (slice_index t i) ≡ slice_index t i - 48 = omega (arith, digit_value_digit (slice_index t i) r) in
-    let value = ap (λ (k : ℕ). digits_value_after 10 (n * 10 + k) (drop (i + 1) t)) (sym digit) ∙ (ap (digits_value_after 10 n) (sym there) ∙ h.0) in
-    let low : digit_value (slice_index t i) < 10 = omega (arith, digit, r) in
-    (value, (λ d. h.1 (subst (AllDigits 10) (sym there) (low, d))), λ d. (subst (AllDigits 10) there (h.2 d)).1)
-
-pub reading_all : (t : List ℕ) (i n : ℕ) → IsReading t i n → length t ≤ i → AllDigits 10 t × (n ≡ digits_value 10 t)
-reading_all t i n h l =
-    let end : drop i t ≡ [] = drop_of_length-le t l in
-    (h.1 (subst (AllDigits 10) (sym end) tt), ap (digits_value_after 10 n) (sym end) ∙ h.0)
-
-after_grows : (n : ℕ) (ds : List ℕ) → n ≤ digits_value_after 10 n ds
-after_grows n [] = omega arith
-after_grows n (c ∷ cs) = omega (arith, after_grows (n * 10 + digit_value c) cs)
-
--- a byte that is no digit, or too great a number
-pub reading_stops : (t : List ℕ) (i n : ℕ) → IsReading t i n → i < length t → (IsInRange 48 57 (slice_index t i) → 2 ^ 32 ≤ n * 10 + (slice_index t i - 48)) → AllDigits 10 t → 2 ^ 32 ≤ digits_value 10 t
-reading_stops t i n h l over d =
-    let digits = subst (AllDigits 10) (next_place t i l) (h.2 d) in
-    let r = digit_from_value (slice_index t i) digits.0 in
-    let next = reading_next t i n h l r in
-    omega (arith, over r, next.0, after_grows (n * 10 + (slice_index t i - 48)) (drop (i + 1) t))
 
 -- what spells a number has digits, of that value
 pub spelt_value : (n : ℕ) (t : List ℕ) → n < 2 ^ 64 → t ≡ decimal n → AllDigits 10 t × (digits_value 10 t ≡ n)

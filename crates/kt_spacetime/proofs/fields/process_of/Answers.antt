@@ -1,6 +1,6 @@
-use Rattle.std.proofs.Common.{rules, arith, ◌≡◌, ◌≢◌, ◌+◌, ◌*◌, ◌∙◌, length, slice_index, ap, sym, refl}
+use Rattle.std.proofs.Common.{rules, arith, ◌≡◌, ◌≢◌, ◌+◌, ◌*◌, ◌∙◌, length, slice_index, ap}
 use Rattle.std.specs.Fmt.{decimal}
-use Rattle.kt_spacetime.proofs.NumberFacts.{spelt_begins, spelt_one, spelt_two, one_spells, two_spell, spelt_process, process_spells, process_is_spelt}
+use Rattle.kt_spacetime.proofs.NumberFacts.{spelt_one, spelt_two, one_spells, two_spell, spelt_process, process_spells, process_is_spelt}
 use Rattle.kt_spacetime.proofs.fields.process_of.Goals.{in_default-via-then-text-lt1, in_default-via-else-text-lt1+else-text-lt2+else-text-lt3}
 use Rattle.kt_spacetime.proofs.fields.process_of.Goals as goal
 
