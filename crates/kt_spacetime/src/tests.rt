@@ -2,6 +2,7 @@ mod logs;
 mod too_long;
 mod writing;
 
+use crate::fields::{body_of, number_of, process_of};
 use crate::{Event, LogFault, RowReader, SpaceTime, read_csv};
 use kt_base::{Cause, InstNo, Kind, MsgNo, ProcNo, RowNo, Verb};
 use std::alloc::Global;
@@ -159,16 +160,44 @@ fn every_word_is_read(rt: HostRuntime) -> Result<(), Fail> {
 }
 
 #[test]
+fn numbers_of_every_length_are_read(rt: HostRuntime) -> Result<(), Fail> {
+    let bodies: [(&[u8], i64); 8] = [
+        (b"0", 0),
+        (b"10", 10),
+        (b"-7", -7),
+        (b"999999999", 999_999_999),
+        (b"4294967295", 4_294_967_295),
+        (b"4294967296", 4_294_967_296),
+        (b"10000000000", 10_000_000_000),
+        (b"9223372036854775807", i64::MAX),
+    ];
+    for (text, body) in bodies {
+        assert_eq!(rt; body_of(text), Some(body));
+    }
+    let processes: [(&[u8], u8); 4] = [(b"0", 0), (b"9", 9), (b"10", 10), (b"63", 63)];
+    for (text, number) in processes {
+        assert_eq!(rt; process_of(text), Some(process(number)?));
+    }
+    assert_eq!(rt; number_of(b"999999999"), Some(999_999_999));
+    assert_eq!(rt; number_of(b"4294967295"), Some(u32::MAX));
+    assert_eq!(rt; number_of(b"4294967296"), None);
+    Ok(())
+}
+
+#[test]
 fn the_first_fault_is_answered(rt: HostRuntime) -> Result<(), Fail> {
     let one = RowNo::new(1).ok_or("no row")?;
     let two = RowNo::new(2).ok_or("no row")?;
-    let table: [(&[u8], LogFault); 24] = [
+    let table: [(&[u8], LogFault); 29] = [
         (b"sent,0,1", LogFault::Fields(one)),
         (b"sent,0,1,5,6", LogFault::Fields(one)),
         (b"send,0,1,5", LogFault::Word(one)),
         (b"took,0,1,x", LogFault::Word(one)),
         (b"unwilling,0,1,late", LogFault::Word(one)),
         (b"sent,64,1,5", LogFault::Number(one)),
+        (b"sent,07,1,5", LogFault::Number(one)),
+        (b"sent,1,100,5", LogFault::Number(one)),
+        (b"sent,1,1x,5", LogFault::Number(one)),
         (b"sent,0,1,05", LogFault::Number(one)),
         (b"sent,0,1,+5", LogFault::Number(one)),
         (b"sent,0,1,-0", LogFault::Number(one)),
@@ -178,6 +207,8 @@ fn the_first_fault_is_answered(rt: HostRuntime) -> Result<(), Fail> {
         (b"began,0,0,check", LogFault::Number(one)),
         (b"received,1,0,1048577", LogFault::Number(one)),
         (b"kt,2,-,-\nreceived,1,0,16777217", LogFault::Number(one)),
+        (b"received,1,0,4294967297", LogFault::Number(one)),
+        (b"received,1,0,10000000001", LogFault::Number(one)),
         (b"failed,0,-,x", LogFault::Word(one)),
         (b"refused,0,took,down", LogFault::Word(one)),
         (b"failed,0,-,-\nsend,0,1,5", LogFault::Word(two)),
