@@ -159,7 +159,7 @@ fn is_between(message: &Message, from: ProcNo, to: ProcNo) -> bool
 }
 
 /// Whether a message comes after what was last.
-pub(crate) fn is_after(msg: MsgNo, last: Option<MsgNo>) -> bool
+pub fn is_after(msg: MsgNo, last: Option<MsgNo>) -> bool
     ensures { result ≡ is_after msg last }
 {
     match last {
