@@ -3,8 +3,8 @@
 ghost use Rattle.std.specs.Prelude.{◌≡◌, ◌==◌, ◌&&◌, ◌||◌, ℕ};
 ghost use Rattle.std.specs.Option.{option_copied};
 
-use crate::rules::Rule;
 use crate::instances::Instance;
+use crate::rules::Rule;
 use kt_base::{Cause, InstNo, Kind, ProcNo, Verb};
 use kt_spacetime::Event;
 
@@ -30,12 +30,7 @@ impl Grounds<'_> {
 
     /// The least rule that a row of this process would break; whether it keeps the rules on messages and on their
     /// order is given.
-    pub fn broken_rule(
-        &self,
-        row: &Event,
-        message_kept: bool,
-        order_kept: bool,
-    ) -> Option<Rule>
+    pub fn broken_rule(&self, row: &Event, message_kept: bool, order_kept: bool) -> Option<Rule>
         ensures { (s : Past) → ShowsGrounds self.now s (process_of row.now) → message_kept ≡ keeps_message s row.now → order_kept ≡ keeps_order s row.now → result ≡ broken_rule s row.now }
     {
         if !self.keeps_numbers(row) {
