@@ -11,6 +11,7 @@ use kt_spacetime::Event;
 /// What is known of the instances, and of the process whose row is tested, after the rows so far.
 #[derive(Clone, Copy)]
 pub struct Grounds<'a> {
+    /// The instances that have begun, by number, from 1.
     pub instances: &'a [Instance],
     /// Who began which instance in the last row.
     pub beginning: Option<(ProcNo, InstNo)>,

@@ -123,14 +123,14 @@ pub fn is_within(place: Option<usize>, length: usize) -> bool
     }
 }
 
-/// A message that is wanted.
+/// The message where it is wanted, else None.
 pub fn if_wanted(is_wanted: bool, msg: MsgNo) -> Option<MsgNo>
     ensures { result ≡ (if is_wanted then Some msg else None) }
 {
     is_wanted.then_some(msg)
 }
 
-/// The lesser of two messages that may lack.
+/// The lesser of two messages; where one lacks, the other.
 pub fn earlier(a: Option<MsgNo>, b: Option<MsgNo>) -> Option<MsgNo>
     ensures { result ≡ earlier a b }
 {
@@ -140,7 +140,7 @@ pub fn earlier(a: Option<MsgNo>, b: Option<MsgNo>) -> Option<MsgNo>
     }
 }
 
-/// The process of this number.
+/// The process of this number, at most 63.
 pub fn process_no(number: u8) -> ProcNo
     requires { number < 64 }
     ensures { result ≡ number }
