@@ -6,8 +6,8 @@ use Rattle.kt_base.specs.declared.words.Kind.TheVariants.{Checkpoint, Rollback}
 use Rattle.kt_spacetime.specs.declared.event.Event.{Event}
 use Rattle.kt_cuts.specs.Past.{Past, past}
 use Rattle.kt_cuts.specs.Legal.{IsLegal, is_undecided}
-use Rattle.kt_cuts.specs.Arrivals.{KeepsPermanent}
-use Rattle.kt_cuts.proofs.WalkLinks.{new_between, permanent_inside}
+use Rattle.kt_walk.specs.Arrivals.{KeepsPermanent}
+use Rattle.kt_walk.proofs.WalkLinks.{new_between, permanent_inside}
 use Rattle.kt_checker.specs.Passing.{decided_cut}
 
 decided_inside : (rows : List Event) (k : ℕ) (kind : Kind) (p : ℕ) → IsLegal rows → is_undecided (past rows) k ≡ true → (past rows).permanent p ≤ decided_cut (past rows) k kind p

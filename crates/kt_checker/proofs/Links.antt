@@ -14,8 +14,8 @@ use Rattle.kt_cuts.specs.Legal.{IsLegal}
 use Rattle.kt_cuts.specs.Chains.{LinksCheckpoint, LinksRollback}
 use Rattle.kt_cuts.specs.Standing.{parties_of_row}
 use Rattle.kt_cuts.specs.Traces.{place_of, trace_between, trace_of}
-use Rattle.kt_cuts.specs.Keeping.{kept_trace}
-use Rattle.kt_cuts.proofs.WalkLinks.{link_kept}
+use Rattle.kt_walk.specs.Keeping.{kept_trace}
+use Rattle.kt_walk.proofs.WalkLinks.{link_kept}
 use Rattle.kt_cuts.proofs.Items.{get_take, in_take}
 use Rattle.kt_cuts.proofs.SortedFacts.{some_same}
 use Rattle.kt_cuts.proofs.DeedFacts.{place_of_deed}

@@ -1,7 +1,7 @@
 -- What a judge knows after some rows.
 use Rattle.std.specs.Prelude.{◌≡◌, ◌<◌, ◌+◌, ◌^◌, ℕ, Option, Some, None, List, length, slice_get}
 use Rattle.kt_spacetime.specs.declared.event.Event.{Event}
-use Rattle.kt_cuts.specs.WalkOf.{WalkOf}
+use Rattle.kt_walk.specs.WalkOf.{WalkOf}
 use Rattle.kt_chain.specs.declared.certificate.Certificate.{Certificate}
 use Rattle.kt_checker.specs.declared.judge.Judge.{Judge}
 use Rattle.kt_checker.specs.Gathered.{Gathered}

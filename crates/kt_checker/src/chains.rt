@@ -4,12 +4,13 @@ ghost use Rattle.std.specs.Prelude.{◌≡◌, ◌↔◌, ℕ, ◌<◌, Some, Li
 ghost use Rattle.kt_spacetime.specs.declared.event.Event.{Event};
 ghost use Rattle.kt_cuts.specs.Past.{Past, past};
 ghost use Rattle.kt_cuts.specs.Legal.{IsLegal};
-ghost use Rattle.kt_cuts.specs.WalkOf.{WalkOf};
+ghost use Rattle.kt_walk.specs.WalkOf.{WalkOf};
 ghost use Rattle.kt_checker.specs.Passing.{IsListOf, HasLists, IsChain, ListsReady, decided_cut};
 
 use kt_base::{Kind, MsgNo, ProcNo};
 use kt_chain::{Certificate, Chain};
-use kt_cuts::{Cut, Walk};
+use kt_cuts::Cut;
+use kt_walk::Walk;
 
 /// Whether each member's list is a chain for it.
 pub(crate) fn has_chains(walk: &Walk, certificate: &Certificate) -> bool

@@ -5,7 +5,7 @@ ghost use Rattle.kt_spacetime.specs.declared.event.Event.{Event};
 ghost use Rattle.kt_spacetime.specs.declared.event.Event.TheVariants as event;
 ghost use Rattle.kt_cuts.specs.declared.rules.Rule.{Rule};
 ghost use Rattle.kt_cuts.specs.declared.legality.LegalFault.TheVariants as fault;
-ghost use Rattle.kt_cuts.specs.WalkOf.{WalkOf};
+ghost use Rattle.kt_walk.specs.WalkOf.{WalkOf};
 ghost use Rattle.kt_cuts.specs.Past.{past};
 ghost use Rattle.kt_cuts.specs.Legal.{IsLegal, first_broken, is_undecided};
 ghost use Rattle.kt_checker.specs.Gathered.{IsFinding, IsFoundFirst};
@@ -17,8 +17,9 @@ use crate::firsts::Firsts;
 use crate::verdict::Why;
 use kt_base::{Memory, RowNo};
 use kt_chain::Certificate;
-use kt_cuts::{LegalFault, Walk};
+use kt_cuts::LegalFault;
 use kt_spacetime::Event;
+use kt_walk::Walk;
 use std::alloc::Global;
 
 /// What is known of a log after its first rows, and what was found of a list of certificates.

@@ -15,7 +15,7 @@ use Rattle.kt_cuts.specs.declared.deeds.Deed.{Deed}
 use Rattle.kt_cuts.specs.declared.deeds.Deed.TheVariants as deed
 use Rattle.kt_cuts.specs.declared.process.Process.{Process}
 use Rattle.kt_cuts.specs.declared.tables.Message.{Message}
-use Rattle.kt_cuts.specs.declared.tables.Instance.{Instance}
+use Rattle.kt_cuts.specs.declared.instances.Instance.{Instance}
 use Rattle.kt_cuts.specs.Past.{Past, Beginning, after, at_one, at_pair, kind_of, beginning_of, is_checkpoint, is_rollback, is_committed, is_checkpoint_kind, is_rollback_kind}
 use Rattle.kt_cuts.specs.Legal.{has_deed, has_begun}
 use Rattle.kt_cuts.specs.Lists.{Rises, last_of, sent_in, received_in}

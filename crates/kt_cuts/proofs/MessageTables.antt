@@ -8,7 +8,7 @@ use Rattle.kt_cuts.specs.Tables.{with_received, with_dropped}
 use Rattle.std.proofs.lemmas.List.{length-set}
 use Rattle.std.proofs.lemmas.List.Elements.{Contains-push_cases}
 use Rattle.kt_base.specs.Sets.{has}
-use Rattle.kt_cuts.specs.declared.tables.Instance.{Instance}
+use Rattle.kt_cuts.specs.declared.instances.Instance.{Instance}
 use Rattle.kt_cuts.specs.Changes.{IsJoined, IsDecided}
 use Rattle.kt_cuts.specs.Standing.{message_at, at_number, parties, beginning_shown}
 use Rattle.kt_cuts.proofs.Items.{set_mapped, get_set_same, get_set_other, take_item}

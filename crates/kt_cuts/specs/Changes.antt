@@ -1,7 +1,7 @@
 -- What a call changes in the tables of instances.
 use Rattle.std.specs.Prelude.{◌≡◌, ◌≢◌, ℕ, Bool, true, Some, List, map, slice_set}
 use Rattle.kt_base.specs.Sets.{has}
-use Rattle.kt_cuts.specs.declared.tables.Instance.{Instance}
+use Rattle.kt_cuts.specs.declared.instances.Instance.{Instance}
 use Rattle.kt_cuts.specs.Standing.{at_number, beginning_shown}
 
 -- an instance's tables with one more member

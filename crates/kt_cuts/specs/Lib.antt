@@ -20,13 +20,4 @@ pub mod InCheckpoint
 pub mod Least
 pub mod Messages
 pub mod Throughout
-pub mod Keeping
-pub mod RecentSteps
-pub mod TrailParts
-pub mod PartsOf
-pub mod TrailOf
-pub mod Stages
-pub mod Arrivals
-pub mod WalkParts
-pub mod WalkOf
 pub mod WorkedRows

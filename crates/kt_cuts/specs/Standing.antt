@@ -8,7 +8,7 @@ use Rattle.kt_spacetime.specs.declared.event.Event.TheVariants.{Sent, Began}
 use Rattle.kt_cuts.specs.declared.deeds.Deed.TheVariants as deed
 use Rattle.kt_cuts.specs.declared.process.Process.{Process}
 use Rattle.kt_cuts.specs.declared.tables.Message.{Message}
-use Rattle.kt_cuts.specs.declared.tables.Instance.{Instance}
+use Rattle.kt_cuts.specs.declared.instances.Instance.{Instance}
 use Rattle.kt_cuts.specs.declared.replay.Replay.{Replay}
 use Rattle.kt_cuts.specs.Past.{Past, Beginning, past, is_checkpoint_kind, is_rollback_kind}
 use Rattle.kt_cuts.specs.Legal.{has_deed, broken_rule}

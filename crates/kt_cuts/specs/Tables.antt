@@ -2,7 +2,7 @@
 use Rattle.std.specs.Prelude.{ℕ, if◌then◌else◌, Bool, true, false, Option, Some, None, take, slice_index_or}
 use Rattle.kt_base.specs.Sets.{has}
 use Rattle.kt_cuts.specs.declared.process.Process.{Process}
-use Rattle.kt_cuts.specs.declared.tables.Instance.{Instance}
+use Rattle.kt_cuts.specs.declared.instances.Instance.{Instance}
 use Rattle.kt_cuts.specs.declared.tables.Message.{Message}
 
 abbrev pub is_committed_verdict : Option Bool → Bool

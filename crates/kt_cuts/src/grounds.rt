@@ -3,21 +3,22 @@
 ghost use Rattle.std.specs.Prelude.{◌≡◌, ◌==◌, ◌&&◌, ◌||◌, ℕ};
 ghost use Rattle.std.specs.Option.{option_copied};
 
+use crate::instances::Instance;
 use crate::rules::Rule;
-use crate::tables::Instance;
 use kt_base::{Cause, InstNo, Kind, ProcNo, Verb};
 use kt_spacetime::Event;
 
 /// What is known of the instances, and of the process whose row is tested, after the rows so far.
 #[derive(Clone, Copy)]
-pub(crate) struct Grounds<'a> {
-    pub(crate) instances: &'a [Instance],
+pub struct Grounds<'a> {
+    /// The instances that have begun, by number, from 1.
+    pub instances: &'a [Instance],
     /// Who began which instance in the last row.
-    pub(crate) beginning: Option<(ProcNo, InstNo)>,
+    pub beginning: Option<(ProcNo, InstNo)>,
     /// The open instance that the process is in.
-    pub(crate) open_in: Option<InstNo>,
+    pub open_in: Option<InstNo>,
     /// Whether the process is up.
-    pub(crate) up: bool,
+    pub up: bool,
 }
 
 impl Grounds<'_> {
@@ -30,12 +31,7 @@ impl Grounds<'_> {
 
     /// The least rule that a row of this process would break; whether it keeps the rules on messages and on their
     /// order is given.
-    pub(crate) fn broken_rule(
-        &self,
-        row: &Event,
-        message_kept: bool,
-        order_kept: bool,
-    ) -> Option<Rule>
+    pub fn broken_rule(&self, row: &Event, message_kept: bool, order_kept: bool) -> Option<Rule>
         ensures { (s : Past) → ShowsGrounds self.now s (process_of row.now) → message_kept ≡ keeps_message s row.now → order_kept ≡ keeps_order s row.now → result ≡ broken_rule s row.now }
     {
         if !self.keeps_numbers(row) {

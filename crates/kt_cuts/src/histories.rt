@@ -7,7 +7,7 @@ ghost use Rattle.kt_cuts.specs.Legal.{IsLegal};
 
 use crate::deeds::Deed;
 use crate::replay::Replay;
-use crate::tables::{Instance, Message};
+use crate::tables::Message;
 use kt_base::{InstNo, Kind, Memory, MsgNo, ProcNo};
 use kt_spacetime::SpaceTime;
 use std::alloc::Global;

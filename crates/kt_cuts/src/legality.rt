@@ -158,8 +158,8 @@ fn is_between(message: &Message, from: ProcNo, to: ProcNo) -> bool
     message.from == from && message.to == to
 }
 
-/// Whether a message comes after what was last.
-pub(crate) fn is_after(msg: MsgNo, last: Option<MsgNo>) -> bool
+/// Whether a message comes after what was last: its number is greater, or there was none.
+pub fn is_after(msg: MsgNo, last: Option<MsgNo>) -> bool
     ensures { result ≡ is_after msg last }
 {
     match last {

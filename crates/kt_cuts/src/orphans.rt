@@ -114,7 +114,7 @@ impl Replay {
 }
 
 /// Whether there is a place, from 1, and it is within a part of this length.
-pub(crate) fn is_within(place: Option<usize>, length: usize) -> bool
+pub fn is_within(place: Option<usize>, length: usize) -> bool
     ensures { result ≡ is_within place length }
 {
     match place {
@@ -123,15 +123,15 @@ pub(crate) fn is_within(place: Option<usize>, length: usize) -> bool
     }
 }
 
-/// A message that is wanted.
-pub(crate) fn if_wanted(is_wanted: bool, msg: MsgNo) -> Option<MsgNo>
+/// The message where it is wanted, else None.
+pub fn if_wanted(is_wanted: bool, msg: MsgNo) -> Option<MsgNo>
     ensures { result ≡ (if is_wanted then Some msg else None) }
 {
     is_wanted.then_some(msg)
 }
 
-/// The lesser of two messages that may lack.
-pub(crate) fn earlier(a: Option<MsgNo>, b: Option<MsgNo>) -> Option<MsgNo>
+/// The lesser of two messages; where one lacks, the other.
+pub fn earlier(a: Option<MsgNo>, b: Option<MsgNo>) -> Option<MsgNo>
     ensures { result ≡ earlier a b }
 {
     match (a, b) {
@@ -140,8 +140,8 @@ pub(crate) fn earlier(a: Option<MsgNo>, b: Option<MsgNo>) -> Option<MsgNo>
     }
 }
 
-/// The process of this number.
-pub(crate) fn process_no(number: u8) -> ProcNo
+/// The process of this number, at most 63.
+pub fn process_no(number: u8) -> ProcNo
     requires { number < 64 }
     ensures { result ≡ number }
 {

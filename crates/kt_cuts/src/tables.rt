@@ -1,14 +1,15 @@
-//! Messages and instances, after the rows so far.
+//! Messages, after the rows so far, and what a decision does to processes and messages.
 
-ghost use Rattle.std.specs.Prelude.{◌≡◌, ◌≢◌, ◌<◌, ◌≤◌, ◌+◌, ◌&&◌, ℕ, true, if◌then◌else◌, Some, None, Option, length, take, map, slice_get, slice_index_or, slice_set, Contains, OnOk, IfNone};
+ghost use Rattle.std.specs.Prelude.{◌≡◌, ◌≢◌, ◌<◌, ◌≤◌, ◌+◌, ℕ, true, if◌then◌else◌, Some, None, Option, length, take, map, slice_get, slice_index_or, Contains, OnOk};
 ghost use Rattle.kt_base.specs.Sets.{has};
 ghost use Rattle.kt_cuts.specs.declared.deeds.Deed.TheVariants as deed;
 ghost use Rattle.kt_cuts.specs.declared.process.Process.{Process};
 
 use crate::deeds::Deed;
+use crate::instances::Instance;
 use crate::messages::Messages;
 use crate::process::Process;
-use kt_base::{InstNo, Kind, Memory, MsgNo, ProcNo, ProcSet};
+use kt_base::{Memory, MsgNo, ProcNo};
 
 /// A message, from its `sent` row on. Places in a history count from 0 here.
 #[derive(Clone, Copy)]
@@ -22,93 +23,8 @@ pub(crate) struct Message {
     pub(crate) dropped: bool,
 }
 
-/// An instance, from its `began` row on.
-#[derive(Clone, Copy)]
-pub(crate) struct Instance {
-    pub(crate) initiator: ProcNo,
-    pub(crate) kind: Kind,
-    pub(crate) verdict: Option<bool>,
-    pub(crate) joined: ProcSet,
-    /// By process: the length of its history when it joined.
-    pub(crate) positions: [usize; 64],
-}
-
-ghost use Rattle.kt_cuts.specs.declared.tables.Instance.{Instance};
-ghost use Rattle.kt_cuts.specs.Changes.{IsJoined, IsDecided};
-ghost use Rattle.kt_cuts.specs.Standing.{message_at, at_number, parties, receiving};
+ghost use Rattle.kt_cuts.specs.Standing.{message_at, parties, receiving};
 ghost use Rattle.kt_cuts.specs.Tables.{promoted, rolled, with_received, with_dropped};
-
-impl Instance {
-    ghost use Rattle.kt_cuts.specs.Past.{is_rollback_kind};
-    ghost use Rattle.kt_cuts.specs.Tables.{is_committed_verdict};
-    ghost use Rattle.kt_cuts.specs.Standing.{new_shown};
-
-    /// One more member, whose history has this length.
-    pub(crate) fn add(&mut self, p: ProcNo, position: usize)
-        ensures initiator { self.new.initiator ≡ self.old.initiator }
-        ensures kind { self.new.kind ≡ self.old.kind }
-        ensures verdict { self.new.verdict ≡ self.old.verdict }
-        ensures joined { has self.new.joined p ≡ true }
-        ensures others { (q : ℕ) → q ≢ p → has self.new.joined q ≡ has self.old.joined q }
-        ensures positions { self.new.positions ≡ slice_set self.old.positions p position }
-    {
-        self.joined = self.joined.with(p);
-        self.positions[p.get() as usize] = position;
-    }
-
-    /// The length of a process's history when it joined this checkpoint.
-    pub(crate) fn position(&self, p: ProcNo) -> Option<usize>
-        ensures { result ≡ new_shown (Some self.now) p }
-    {
-        if self.kind == Kind::Checkpoint && self.joined.has(p) {
-            Some(self.positions[p.get() as usize])
-        } else {
-            None
-        }
-    }
-
-    /// Whether this process has joined.
-    pub(crate) fn has_joined(&self, number: u8) -> bool
-        requires { number < 64 }
-        ensures { result ≡ has self.now.joined number }
-    {
-        match ProcNo::new(number) {
-            Some(p) => self.joined.has(p),
-            None => unreachable!(),
-        }
-    }
-
-    /// Whether it is a committed rollback.
-    pub(crate) fn is_committed_rollback(&self) -> bool
-        ensures { result ≡ (is_rollback_kind (Some self.now.kind) && is_committed_verdict self.now.verdict) }
-    {
-        self.kind == Kind::Rollback && self.verdict == Some(true)
-    }
-}
-
-/// One more member of an instance, whose history has this length.
-pub(crate) fn enter(instances: &mut [Instance], inst: InstNo, p: ProcNo, position: usize)
-    ensures { (v : Instance) → at_number instances.old inst ≡ Some v → (w : Instance) × IsJoined instances.old instances.new inst p position v w }
-{
-    let index = inst.get() as usize - 1;
-    if index < instances.len() {
-        instances[index].add(p, position);
-    }
-}
-
-/// Gives an instance a verdict; the instance then, if it has begun.
-pub(crate) fn judge(instances: &mut [Instance], inst: InstNo, commit: bool) -> Option<Instance>
-    ensures decided { (v : Instance) → at_number instances.old inst ≡ Some v → IsDecided instances.old instances.new inst commit v }
-    ensures instance { (v : Instance) → at_number instances.old inst ≡ Some v → result ≡ Some (record v { verdict = Some commit }) }
-    ensures none { IfNone result (at_number instances.old inst ≡ None) }
-{
-    let index = inst.get() as usize - 1;
-    if index >= instances.len() {
-        return None;
-    }
-    instances[index].verdict = Some(commit);
-    Some(instances[index])
-}
 
 /// Notes at which place a message was received.
 pub(crate) fn mark_received(messages: &mut [Option<Message>], msg: MsgNo, place: usize)

@@ -1,9 +1,5 @@
-mod arrivals;
-mod dropped;
 mod facts;
 mod large;
-mod walk_orphans;
-mod walks;
 
 use crate::{Cut, Histories, LegalFault, Rule, Trace, legal};
 use facts::FACTS;

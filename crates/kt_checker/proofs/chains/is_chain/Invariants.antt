@@ -1,7 +1,7 @@
 use Rattle.std.proofs.Common.{List, take}
 use Rattle.kt_spacetime.specs.declared.event.Event.{Event}
 use Rattle.kt_cuts.specs.Past.{past}
-use Rattle.kt_cuts.specs.WalkOf.{WalkOf}
+use Rattle.kt_walk.specs.WalkOf.{WalkOf}
 use Rattle.kt_checker.specs.Passing.{IsChain}
 use Rattle.kt_checker.proofs.chains.is_chain.Given as goal
 

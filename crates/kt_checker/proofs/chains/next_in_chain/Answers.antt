@@ -1,7 +1,7 @@
 use Rattle.std.proofs.Common.{arith, ap, sym, subst, ◌∙◌}
 use Rattle.kt_cuts.specs.Past.{past}
 use Rattle.kt_cuts.proofs.SortedFacts.{some_same}
-use Rattle.kt_cuts.proofs.WalkLinks.{kept_traced}
+use Rattle.kt_walk.proofs.WalkLinks.{kept_traced}
 use Rattle.kt_checker.proofs.Chaining.{checkpoint_step, rollback_step, same_from}
 use Rattle.kt_checker.proofs.Links.{Leads, step_of, kept_link, same_unless, other_if, other_from}
 use Rattle.kt_checker.proofs.chains.next_in_chain.Goals as goal

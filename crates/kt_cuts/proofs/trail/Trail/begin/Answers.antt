@@ -1,7 +1,0 @@
-use Rattle.std.proofs.Common.{refl}
-use Rattle.kt_cuts.proofs.WalkSteps.{began_row}
-use Rattle.kt_cuts.proofs.trail.Trail.begin.Goals as goal
-
-pub returns-clause-fed : goal.returns-clause-fed
-returns-clause-fed c = λ rows h unbroken.
-    rw (c.pass.ensures, c.in_ok-push.ensures.items) (began_row _ rows c.args.p c.args.inst c.args.kind _ h unbroken refl refl refl c.empty.ensures refl)

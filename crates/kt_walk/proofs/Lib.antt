@@ -1,0 +1,15 @@
+pub mod StepLists
+pub mod KeptFacts
+pub mod RecentFacts
+pub mod TrailSteps
+pub mod TrailLoops
+pub mod Orderly
+pub mod WalkRows
+pub mod WalkSteps
+pub mod WalkDecides
+pub mod HeldCounts
+pub mod ItemPlaces
+pub mod ChannelFacts
+pub mod ArrivalFacts
+pub mod WalkArrivals
+pub mod WalkLinks

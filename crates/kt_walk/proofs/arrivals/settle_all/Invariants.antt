@@ -1,0 +1,10 @@
+use Rattle.std.proofs.Common.{◌≡◌, ℕ, ◌≤◌, ◌<◌, Some}
+use Rattle.std.specs.List.{slice_get}
+use Rattle.kt_walk.specs.Arrivals.{Traffic, IsSettled}
+use Rattle.kt_walk.proofs.arrivals.settle_all.Given as goal
+
+abbrev pub invariant-loop-channel : goal.invariant-loop-channel
+invariant-loop-channel l = record {
+  done : (i : ℕ) (w : Traffic) → i < l.channel-index → slice_get l.channels i ≡ Some w → (v : Traffic) × (slice_get l.initial.channels i ≡ Some v) × IsSettled l.permanent v w;
+  to_do : (i : ℕ) (w : Traffic) → l.channel-index ≤ i → slice_get l.channels i ≡ Some w → slice_get l.initial.channels i ≡ Some w;
+}

@@ -1,0 +1,84 @@
+-- The messages that a walk keeps.
+use Rattle.std.specs.Prelude.{ℕ, zero, suc, ◌==◌, ◌&&◌, ◌||◌, not, nat_eq, Bool, if◌then◌else◌, Option, Some, None, option_map, is_some, is_none, List, [], ◌∷◌, ◌++◌, length, filter, slice_set}
+use Rattle.std.specs.Option.{option_flatten}
+use Rattle.std.specs.Map.{lookup}
+use Rattle.kt_spacetime.specs.declared.event.Event.{Event}
+use Rattle.kt_cuts.specs.declared.histories.Trace.{Trace}
+use Rattle.kt_walk.specs.declared.recent.Step.{Step}
+use Rattle.kt_cuts.specs.Past.{Past, past}
+use Rattle.kt_cuts.specs.Messages.{row_at}
+use Rattle.kt_cuts.specs.Standing.{parties_of_row}
+use Rattle.kt_cuts.specs.Traces.{trace_between, trace_of}
+use Rattle.kt_cuts.specs.Orphans.{is_within}
+
+-- the trace that a list of messages has for a message
+abbrev pub kept_at : List (ℕ × Trace) → ℕ → Option Trace
+kept_at traces msg = lookup (nat_eq msg) traces
+
+-- whether both rows of a message lie within these positions
+abbrev pub is_covered : (ℕ → ℕ) → Trace → Bool
+is_covered permanent t = is_within t.sent (permanent t.from) && is_within t.received (permanent t.to)
+
+-- whether a message is kept: it was not dropped, it is live or in its receiver's live history, and its rows do not both
+-- lie within the permanent positions
+abbrev pub is_kept : Past → ℕ → Trace → Bool
+is_kept s msg t = not (s.dropped msg) && (is_some t.sent || is_some t.received) && not (is_covered s.permanent t)
+
+abbrev pub if_kept : Past → ℕ → Option Trace → Option Trace
+if_kept s msg None = None
+if_kept s msg (Some t) = if is_kept s msg t then Some t else None
+
+-- a message and its places after these rows, where it is kept
+abbrev pub kept_trace : List Event → ℕ → Option Trace
+kept_trace rows msg = if_kept (past rows) msg (trace_of rows msg)
+
+-- the numbers from 1 to this one
+abbrev pub numbers_to : ℕ → List ℕ
+numbers_to zero = []
+numbers_to (suc n) = numbers_to n ++ suc n ∷ []
+
+-- how many messages of these rows are kept
+abbrev pub held_of : List Event → ℕ
+held_of rows = length (filter (λ msg. is_some (kept_trace rows msg)) (numbers_to (length rows)))
+
+-- who sent a message to whom in these rows
+abbrev pub parties_in : List Event → ℕ → Option (ℕ × ℕ)
+parties_in rows msg = option_flatten (option_map parties_of_row (row_at rows msg))
+
+-- what is kept of a message between these two
+abbrev pub kept_between : Past → ℕ → Option (ℕ × ℕ) → Option Trace
+kept_between s msg between = if_kept s msg (trace_between s msg between)
+
+-- a message that is kept, with its receive
+abbrev pub received_here : ℕ → Option Trace → Option Trace
+received_here place None = None
+received_here place (Some t) = Some (record t { received = Some place })
+
+-- with its send undone; gone, where it is not received
+abbrev pub unsent : Option Trace → Option Trace
+unsent None = None
+unsent (Some t) = if is_none t.received then None else Some (record t { sent = None })
+
+-- with its receive undone; gone, where its send is undone
+abbrev pub unreceived : Option Trace → Option Trace
+unreceived None = None
+unreceived (Some t) = if is_none t.sent then None else Some (record t { received = None })
+
+-- gone, where both its rows lie within these positions
+abbrev pub uncovered : (ℕ → ℕ) → Option Trace → Option Trace
+uncovered permanent None = None
+uncovered permanent (Some t) = if is_covered permanent t then None else Some t
+
+-- what was received last by sender, before what is undone: a receive from this sender, or a send
+abbrev pub restored_from : List (Option ℕ) → Option ℕ → Option ℕ → List (Option ℕ)
+restored_from last None before = last
+restored_from last (Some from) before = slice_set last from before
+
+-- the same before a step, if there is one
+abbrev pub restored : List (Option ℕ) → Option Step → List (Option ℕ)
+restored last None = last
+restored last (Some step) = restored_from last step.from step.before
+
+-- whether a message is live and not received, from the one process to the other
+abbrev pub is_on_the_way : Trace → ℕ → ℕ → Bool
+is_on_the_way t p q = (t.from == p) && (t.to == q) && is_some t.sent && is_none t.received

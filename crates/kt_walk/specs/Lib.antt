@@ -1,0 +1,13 @@
+pub use Rattle.kt_cuts.specs.Past
+pub use Rattle.kt_cuts.specs.Legal
+pub use Rattle.kt_cuts.specs.Cuts
+pub use Rattle.kt_cuts.specs.Traces
+pub mod Keeping
+pub mod RecentSteps
+pub mod TrailParts
+pub mod PartsOf
+pub mod TrailOf
+pub mod Stages
+pub mod Arrivals
+pub mod WalkParts
+pub mod WalkOf

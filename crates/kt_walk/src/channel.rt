@@ -1,0 +1,241 @@
+//! The messages of one process that stand in the live history of another.
+
+ghost use Rattle.std.specs.Prelude.{◌≡◌, ◌≤◌, ◌<◌, ◌+◌, ◌++◌, ◌∷◌, [], ℕ, List, true, nat_lt, length, drop, map, take, vec_len, vec_capacity, slice_get, slice_index, filter, Some, None, OnOk, OnErr, IfSome};
+ghost use Rattle.kt_base.specs.Sets.{has};
+ghost use Rattle.kt_cuts.specs.declared.deeds.Deed.{Deed};
+ghost use Rattle.kt_walk.specs.declared.channel.Arrival.{Arrival};
+ghost use Rattle.kt_walk.specs.declared.channel.Undone.{Undone};
+ghost use Rattle.kt_cuts.specs.Past.{Past};
+ghost use Rattle.kt_cuts.specs.Lists.{Rises, sent_in};
+ghost use Rattle.kt_cuts.specs.Orphans.{IsOrphanBetween, IsAtMost};
+ghost use Rattle.kt_cuts.specs.Standing.{IsInOrder};
+ghost use Rattle.kt_walk.specs.Arrivals.{IsRising, Parts, sent_at, received_at, undo, IsTraffic, ShowsTraffic, IsHalfOpen, cut_back};
+
+use kt_base::{Memory, MsgNo, ProcNo, ProcSet};
+use kt_cuts::Cut;
+use kt_cuts::orphans::{earlier, if_wanted};
+use std::alloc::Global;
+use std::marker::Model;
+
+/// A message in its receiver's live history, whose send is in its sender's. Places count from 0.
+#[derive(Clone, Copy)]
+pub(crate) struct Arrival {
+    pub(crate) msg: MsgNo,
+    pub(crate) sent: usize,
+    pub(crate) received: usize,
+}
+
+/// A message in its receiver's live history, whose send was undone.
+#[derive(Clone, Copy)]
+pub(crate) struct Undone {
+    pub(crate) msg: MsgNo,
+    pub(crate) received: usize,
+}
+
+/// The messages of a sender that stand in a receiver's live history, but for those that both permanent parts have.
+#[derive(Drop)]
+pub(crate) struct Channel {
+    receiver: ProcNo,
+    sender: ProcNo,
+    // In the order of their sends, which is that of their receives.
+    arrivals: Vec<Arrival>,
+    // With room for all the arrivals.
+    undone: Vec<Undone>,
+}
+
+impl Model for Channel {
+    ghost use Rattle.std.specs.Prelude.{◌+◌, ◌≤◌, vec_len, vec_capacity};
+    ghost use Rattle.kt_walk.specs.Arrivals.{Traffic};
+
+    ghost Value = { Traffic };
+
+    ghost view = { λ c. record { receiver = c.receiver; sender = c.sender; arrivals = c.arrivals.items; undone = c.undone.items } };
+
+    ghost invariant = { λ c. vec_len c.undone + vec_len c.arrivals ≤ vec_capacity c.undone };
+}
+
+impl Channel {
+    /// No message.
+    pub(crate) fn new(alloc: Global, receiver: ProcNo, sender: ProcNo) -> Channel
+        ensures { result ≡ record { receiver = receiver; sender = sender; arrivals = []; undone = [] } }
+    {
+        Channel {
+            receiver,
+            sender,
+            arrivals: Vec::new(alloc),
+            undone: Vec::new(alloc),
+        }
+    }
+
+    /// One more message, the last one; unchanged where there is no memory.
+    pub(crate) fn receive(&mut self, arrival: Arrival) -> Result<(), Memory>
+        ensures ok { OnOk result (self.new ≡ record self.old { arrivals = self.old.arrivals ++ arrival ∷ [] }) }
+        ensures err { OnErr result (self.new ≡ self.old) }
+    {
+        self.arrivals.reserve(1)?;
+        self.undone.reserve(self.arrivals.len() + 1)?;
+        self.arrivals.push_reserved(arrival);
+        Ok(())
+    }
+
+    /// Cuts the histories of these processes back to these lengths.
+    pub(crate) fn cut_back(&mut self, members: ProcSet, lengths: &[usize; 64])
+        ensures receiver { self.new.receiver ≡ self.old.receiver }
+        ensures sender { self.new.sender ≡ self.old.sender }
+        ensures traffic { (received sent : List Deed) (i j : ℕ) → Rises (sent_in sent) → j ≤ slice_index lengths.now self.old.sender → IsTraffic self.old received sent i j → IsTraffic self.new (cut_back members lengths.now self.old.receiver received) (cut_back members lengths.now self.old.sender sent) i j }
+    {
+        self.cut_sender_back(members, lengths);
+        self.cut_receiver_back(members, lengths);
+    }
+
+    // Cuts the sender's history back, if it is a member.
+    fn cut_sender_back(&mut self, members: ProcSet, lengths: &[usize; 64])
+        ensures receiver { self.new.receiver ≡ self.old.receiver }
+        ensures sender { self.new.sender ≡ self.old.sender }
+        ensures traffic { (received sent : List Deed) (i j : ℕ) → Rises (sent_in sent) → j ≤ slice_index lengths.now self.old.sender → IsTraffic self.old received sent i j → IsTraffic self.new received (cut_back members lengths.now self.old.sender sent) i j }
+    {
+        let sender = self.sender;
+        if members.has(sender) {
+            self.cut_sender(lengths[sender.get() as usize]);
+        }
+    }
+
+    // Cuts the receiver's history back, if it is a member.
+    fn cut_receiver_back(&mut self, members: ProcSet, lengths: &[usize; 64])
+        ensures receiver { self.new.receiver ≡ self.old.receiver }
+        ensures sender { self.new.sender ≡ self.old.sender }
+        ensures traffic { (received sent : List Deed) (i j : ℕ) → IsTraffic self.old received sent i j → IsTraffic self.new (cut_back members lengths.now self.old.receiver received) sent i j }
+    {
+        let receiver = self.receiver;
+        if members.has(receiver) {
+            self.cut_receiver(lengths[receiver.get() as usize]);
+        }
+    }
+
+    // Cuts the sender's history back.
+    fn cut_sender(&mut self, length: usize)
+        ensures receiver { self.new.receiver ≡ self.old.receiver }
+        ensures sender { self.new.sender ≡ self.old.sender }
+        ensures traffic { (received sent : List Deed) (i j : ℕ) → Rises (sent_in sent) → j ≤ length → IsTraffic self.old received sent i j → IsTraffic self.new received (take length sent) i j }
+    {
+        let kept = count_sent_before(&self.arrivals, length);
+        undo_all(&mut self.undone, &self.arrivals[kept..]);
+        self.arrivals.truncate(kept);
+    }
+
+    // Cuts the receiver's history back.
+    fn cut_receiver(&mut self, length: usize)
+        ensures receiver { self.new.receiver ≡ self.old.receiver }
+        ensures sender { self.new.sender ≡ self.old.sender }
+        ensures traffic { (received sent : List Deed) (i j : ℕ) → IsTraffic self.old received sent i j → IsTraffic self.new (take length received) sent i j }
+    {
+        let kept = count_received_before(&self.arrivals, length);
+        self.arrivals.truncate(kept);
+        keep_received_before(&mut self.undone, length);
+    }
+
+    /// Forgets what both permanent parts have, of these lengths by process, where that is more than the half.
+    pub(crate) fn forget(&mut self, permanent: &[usize; 64])
+        ensures receiver { self.new.receiver ≡ self.old.receiver }
+        ensures sender { self.new.sender ≡ self.old.sender }
+        ensures traffic { (received sent : List Deed) (i j : ℕ) → i ≤ slice_index permanent.now self.old.receiver → j ≤ slice_index permanent.now self.old.sender → IsTraffic self.old received sent i j → IsTraffic self.new received sent (slice_index permanent.now self.old.receiver) (slice_index permanent.now self.old.sender) }
+        ensures few { IsRising self.old.arrivals → IsHalfOpen permanent.now self.new }
+    {
+        let sent = count_sent_before(&self.arrivals, permanent[self.sender.get() as usize]);
+        let received = count_received_before(
+            &self.arrivals,
+            permanent[self.receiver.get() as usize],
+        );
+        let covered = sent.min(received);
+        if covered > self.arrivals.len() / 2 {
+            self.arrivals.drain(..covered);
+        }
+    }
+
+    /// The least message that is received within its receiver's part and not sent within its sender's.
+    pub(crate) fn orphan(&self, cut: &Cut) -> Option<MsgNo>
+        ensures orphan { IfSome result (λ msg. (s : Past) → IsInOrder s → ShowsTraffic self.now s → IsOrphanBetween s (slice_index cut.now) self.now.receiver self.now.sender msg) }
+        ensures least { (s : Past) (msg : ℕ) → s.permanent self.now.sender ≤ slice_index cut.now self.now.sender → ShowsTraffic self.now s → IsOrphanBetween s (slice_index cut.now) self.now.receiver self.now.sender msg → IsAtMost result msg }
+    {
+        let received = cut.length(self.receiver);
+        let sent = cut.length(self.sender);
+        earlier(
+            first_past(&self.arrivals, sent, received),
+            first_undone(&self.undone, received),
+        )
+    }
+}
+
+// How many of rising arrivals are sent before this place.
+fn count_sent_before(arrivals: &[Arrival], place: usize) -> usize
+    ensures bound { result ≤ length arrivals.now }
+    ensures parts { IsRising arrivals.now → Parts sent_at arrivals.now place result }
+{
+    arrivals.partition_point(
+        |arrival: &Arrival| -> bool
+            ensures { result ≡ nat_lt arrival.now.sent place }
+        { arrival.sent < place },
+    )
+}
+
+// How many of rising arrivals are received before this place.
+fn count_received_before(arrivals: &[Arrival], place: usize) -> usize
+    ensures bound { result ≤ length arrivals.now }
+    ensures parts { IsRising arrivals.now → Parts received_at arrivals.now place result }
+{
+    arrivals.partition_point(
+        |arrival: &Arrival| -> bool
+            ensures { result ≡ nat_lt arrival.now.received place }
+        { arrival.received < place },
+    )
+}
+
+// Adds arrivals to what was undone, where there is room.
+fn undo_all(undone: &mut Vec<Undone>, arrivals: &[Arrival])
+    requires { vec_len undone.old + length arrivals.now ≤ vec_capacity undone.old }
+    ensures items { undone.new.items ≡ undone.old.items ++ map undo arrivals.now }
+    ensures len { vec_len undone.new ≡ vec_len undone.old + length arrivals.now }
+    ensures capacity { vec_capacity undone.new ≡ vec_capacity undone.old }
+{
+    for arrival in arrivals {
+        undone.push_reserved(Undone {
+            msg: arrival.msg,
+            received: arrival.received,
+        });
+    }
+}
+
+// Keeps what is received before this place.
+fn keep_received_before(undone: &mut Vec<Undone>, place: usize)
+    ensures items { undone.new.items ≡ filter (λ u. nat_lt u.received place) undone.old.items }
+    ensures len { vec_len undone.new ≤ vec_len undone.old }
+    ensures capacity { vec_capacity undone.new ≡ vec_capacity undone.old }
+{
+    undone.retain(
+        |message: &Undone| -> bool
+            ensures { result ≡ nat_lt message.now.received place }
+        { message.received < place },
+    );
+}
+
+// The first of rising arrivals that is not sent before one place, if it is received before another one.
+fn first_past(arrivals: &[Arrival], sent: usize, received: usize) -> Option<MsgNo>
+    ensures orphan { IfSome result (λ msg. IsRising arrivals.now → (k : ℕ) × (a : Arrival) × (slice_get arrivals.now k ≡ Some a) × (a.msg ≡ msg) × (sent ≤ a.sent) × (a.received < received)) }
+    ensures least { (k : ℕ) (a : Arrival) → IsRising arrivals.now → slice_get arrivals.now k ≡ Some a → sent ≤ a.sent → a.received < received → IsAtMost result a.msg }
+{
+    let count = count_sent_before(arrivals, sent);
+    let first = *arrivals.get(count)?;
+    if_wanted(first.received < received, first.msg)
+}
+
+// The least of what was undone that is received before this place.
+fn first_undone(undone: &[Undone], place: usize) -> Option<MsgNo>
+    ensures orphan { IfSome result (λ msg. (k : ℕ) × (u : Undone) × (slice_get undone.now k ≡ Some u) × (u.msg ≡ msg) × (u.received < place)) }
+    ensures least { (k : ℕ) (u : Undone) → slice_get undone.now k ≡ Some u → u.received < place → IsAtMost result u.msg }
+{
+    let mut least = None;
+    for message in undone {
+        least = earlier(least, if_wanted(message.received < place, message.msg));
+    }
+    least
+}

@@ -1,0 +1,178 @@
+//! A walk takes a decision.
+
+ghost use Rattle.std.specs.Prelude.{◌≡◌, ◌<◌, ◌≤◌, ◌^◌, ◌++◌, ◌∷◌, [], ℕ, Option, List, None, length, take, ◌+◌, ◌-◌};
+ghost use Rattle.kt_spacetime.specs.declared.event.Event.{Event};
+ghost use Rattle.kt_spacetime.specs.declared.event.Event.TheVariants as event;
+ghost use Rattle.kt_cuts.specs.Orphans.{is_within};
+
+use crate::trail::Trail;
+use kt_base::{InstNo, Kind, MsgNo, ProcNo};
+use kt_cuts::Trace;
+use kt_cuts::instances::{Instance, judge};
+use kt_cuts::orphans::is_within;
+
+impl Trail {
+    ghost use Rattle.kt_cuts.specs.Past.{Past, past, at_one};
+    ghost use Rattle.kt_cuts.specs.Legal.{broken_rule};
+    ghost use Rattle.kt_walk.specs.Keeping.{kept_at, uncovered, is_covered};
+    ghost use Rattle.kt_walk.specs.TrailOf.{TrailOf, ShowsTrail, KeepsInstances};
+    ghost use Rattle.kt_walk.specs.Stages.{with_permanent, with_live, settled_below, settled_at, undone_below, undone_at, IsWithin, AreInPlace, HasPermanent};
+
+    /// An instance is decided.
+    pub(crate) fn decide(&mut self, inst: InstNo, commit: bool)
+        requires few { self.old.rows < 2 ^ 24 }
+        ensures { (rows : List Event) (p : ℕ) → TrailOf self.old rows → broken_rule (past rows) (event.Decided p inst commit) ≡ None → TrailOf self.new (rows ++ event.Decided p inst commit ∷ []) }
+    {
+        let Some(instance) = judge(&mut self.instances, inst, commit) else {
+            self.pass();
+            return;
+        };
+        if !commit {
+            self.pass();
+            return;
+        }
+        match instance.kind {
+            Kind::Checkpoint => {
+                self.settle_members(&instance);
+                self.pass();
+            }
+            Kind::Rollback => {
+                self.undo_members(&instance);
+                self.pass();
+            }
+        }
+    }
+
+    // Makes the members' new positions permanent.
+    fn settle_members(&mut self, instance: &Instance)
+        ensures kept { KeepsInstances self.old self.new }
+        ensures settled { (s : Past) (between : ℕ → Option (ℕ × ℕ)) → ShowsTrail self.old between s → IsWithin instance.now s → ShowsTrail self.new between (with_permanent s (settled_below 64 instance.now s.permanent)) }
+    {
+        for number in 0..ProcNo::COUNT {
+            self.settle_if(instance, number);
+        }
+    }
+
+    fn settle_if(&mut self, instance: &Instance, number: u8)
+        requires { number < 64 }
+        ensures kept { KeepsInstances self.old self.new }
+        ensures settled { (s : Past) (between : ℕ → Option (ℕ × ℕ)) → ShowsTrail self.old between s → IsWithin instance.now s → ShowsTrail self.new between (with_permanent s (settled_at number instance.now s.permanent)) }
+    {
+        if instance.has_joined(number) {
+            self.settle_to(number, instance.positions[number as usize]);
+        }
+    }
+
+    // Makes a process's history permanent up to this position.
+    fn settle_to(&mut self, number: u8, position: usize)
+        requires { number < 64 }
+        ensures kept { KeepsInstances self.old self.new }
+        ensures settled { (s : Past) (between : ℕ → Option (ℕ × ℕ)) → ShowsTrail self.old between s → s.permanent number ≤ position → position ≤ length (s.live number) → ShowsTrail self.new between (with_permanent s (at_one number position s.permanent)) }
+    {
+        self.settle_places(number, position);
+        self.compact(number);
+    }
+
+    // Gives back the room of what a process no longer keeps.
+    fn compact(&mut self, number: u8)
+        requires { number < 64 }
+        ensures same { KeepsInstances self.old self.new }
+        ensures walkers { self.new.walkers.items ≡ self.old.walkers.items }
+        ensures kept { self.new.kept ≡ self.old.kept }
+    {
+        self.walkers[number as usize].recent.compact();
+    }
+
+    fn settle_places(&mut self, number: u8, position: usize)
+        requires { number < 64 }
+        ensures kept { KeepsInstances self.old self.new }
+        ensures settled { (s : Past) (between : ℕ → Option (ℕ × ℕ)) → ShowsTrail self.old between s → s.permanent number ≤ position → position ≤ length (s.live number) → ShowsTrail self.new between (with_permanent s (at_one number position s.permanent)) }
+    {
+        for place in self.walkers[number as usize].permanent..position {
+            self.settle(number, place);
+        }
+    }
+
+    // Makes the deed of a process at this place, counted from 0, permanent too.
+    fn settle(&mut self, number: u8, place: usize)
+        requires number { number < 64 }
+        requires place { place + 1 < 2 ^ 64 }
+        ensures kept { KeepsInstances self.old self.new }
+        ensures settled { (s : Past) (between : ℕ → Option (ℕ × ℕ)) → ShowsTrail self.old between s → s.permanent number ≡ place → place < length (s.live number) → ShowsTrail self.new between (with_permanent s (at_one number (place + 1) s.permanent)) }
+    {
+        let Some(step) = self.walkers[number as usize].settle(place) else {
+            return;
+        };
+        self.release(step.msg);
+    }
+
+    // Forgets a message whose rows both lie within the permanent positions.
+    fn release(&mut self, msg: MsgNo)
+        ensures same { KeepsInstances self.old self.new }
+        ensures walkers { self.new.walkers ≡ self.old.walkers }
+        ensures kept { (permanent : ℕ → ℕ) → HasPermanent self.old.walkers.items permanent → (m : ℕ) → kept_at self.new.kept m ≡ at_one msg (uncovered permanent (kept_at self.old.kept msg)) (kept_at self.old.kept) m }
+    {
+        let Some(trace) = self.kept.get(msg) else {
+            return;
+        };
+        if self.is_covered(&trace) {
+            self.kept.remove(msg);
+        }
+    }
+
+    // Whether both rows of a message lie within the permanent positions.
+    fn is_covered(&self, trace: &Trace) -> bool
+        ensures { (permanent : ℕ → ℕ) → HasPermanent self.now.walkers.items permanent → result ≡ is_covered permanent trace.now }
+    {
+        let from = self.walker(trace.from).permanent;
+        let to = self.walker(trace.to).permanent;
+        is_within(trace.sent, from) && is_within(trace.received, to)
+    }
+
+    // Cuts the members' histories back to their permanent positions.
+    fn undo_members(&mut self, instance: &Instance)
+        ensures kept { KeepsInstances self.old self.new }
+        ensures undone { (s : Past) (between : ℕ → Option (ℕ × ℕ)) → ShowsTrail self.old between s → AreInPlace between s.permanent s.live → ShowsTrail self.new between (with_live s (undone_below 64 instance.now s.permanent s.live)) }
+    {
+        for number in 0..ProcNo::COUNT {
+            self.undo_if(instance, number);
+        }
+    }
+
+    fn undo_if(&mut self, instance: &Instance, number: u8)
+        requires { number < 64 }
+        ensures kept { KeepsInstances self.old self.new }
+        ensures undone { (s : Past) (between : ℕ → Option (ℕ × ℕ)) → ShowsTrail self.old between s → AreInPlace between s.permanent s.live → ShowsTrail self.new between (with_live s (undone_at number instance.now s.permanent s.live)) }
+    {
+        if instance.has_joined(number) {
+            self.undo_all(number);
+        }
+    }
+
+    // Cuts a process's history back to its permanent position.
+    fn undo_all(&mut self, number: u8)
+        requires { number < 64 }
+        ensures kept { KeepsInstances self.old self.new }
+        ensures undone { (s : Past) (between : ℕ → Option (ℕ × ℕ)) → ShowsTrail self.old between s → AreInPlace between s.permanent s.live → ShowsTrail self.new between (with_live s (at_one number (take (s.permanent number) (s.live number)) s.live)) }
+    {
+        let walker = &self.walkers[number as usize];
+        for _count in 0..walker.length.saturating_sub(walker.permanent) {
+            self.undo(number);
+        }
+    }
+
+    // Undoes the last deed of a process.
+    fn undo(&mut self, number: u8)
+        requires { number < 64 }
+        ensures kept { KeepsInstances self.old self.new }
+        ensures undone { (s : Past) (between : ℕ → Option (ℕ × ℕ)) → ShowsTrail self.old between s → AreInPlace between s.permanent s.live → s.permanent number < length (s.live number) → ShowsTrail self.new between (with_live s (at_one number (take (length (s.live number) - 1) (s.live number)) s.live)) }
+    {
+        let Some(step) = self.walkers[number as usize].undo() else {
+            return;
+        };
+        match step.from {
+            None => self.kept.unsend(step.msg),
+            Some(_) => self.kept.unreceive(step.msg),
+        }
+    }
+}

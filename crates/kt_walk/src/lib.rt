@@ -1,0 +1,17 @@
+//! A reader of a log row by row, which keeps no rows.
+#![tactic(auto)]
+
+mod arrivals;
+mod channel;
+mod deciding;
+mod feeding;
+mod kept;
+mod recent;
+mod trail;
+mod walk;
+mod walker;
+
+pub use walk::Walk;
+
+#[cfg(test)]
+mod tests;

@@ -1,0 +1,132 @@
+//! The deeds of a process past its permanent position.
+
+ghost use Rattle.std.specs.Prelude.{◌≡◌, ◌++◌, ◌∷◌, [], length, filter, slice_get, ◌-◌, OnOk, OnErr};
+ghost use Rattle.kt_walk.specs.RecentSteps.{if_at, without_first, without_last, is_needed};
+
+use crate::kept::Kept;
+use kt_base::{Memory, MsgNo, ProcNo};
+use std::alloc::Global;
+use std::marker::Model;
+
+/// A send or a receive of a message, with what undoes it.
+#[derive(Clone, Copy)]
+pub(crate) struct Step {
+    pub(crate) msg: MsgNo,
+    /// Of a receive: the sender.
+    pub(crate) from: Option<ProcNo>,
+    /// Of a receive: what was received last from this sender before it.
+    pub(crate) before: Option<MsgNo>,
+    /// Its place in the live history, counted from 1.
+    pub(crate) place: usize,
+}
+
+/// Steps in order, the first of which come to be permanent and the last of which are undone.
+#[derive(Drop)]
+pub(crate) struct Recent {
+    steps: Vec<Step>,
+    // How many of them were taken from the front.
+    taken: usize,
+}
+
+impl Model for Recent {
+    ghost use Rattle.std.specs.Prelude.{List, drop, ◌≤◌, vec_len};
+    ghost use Rattle.kt_walk.specs.declared.recent.Step.{Step};
+
+    ghost Value = { List Step };
+
+    ghost view = { λ r. drop r.taken r.steps.items };
+
+    ghost invariant = { λ r. r.taken ≤ vec_len r.steps };
+}
+
+impl Recent {
+    /// No steps. It takes no memory.
+    pub(crate) fn new(alloc: Global) -> Recent
+        ensures { result ≡ [] }
+    {
+        Recent {
+            steps: Vec::new(alloc),
+            taken: 0,
+        }
+    }
+
+    /// How many steps there are.
+    pub(crate) fn len(&self) -> usize
+        ensures { result ≡ length self.now }
+    {
+        self.steps.len() - self.taken
+    }
+
+    /// Adds a step at the end: the message, the sender of a receive, what was received last from it before, the place.
+    pub(crate) fn push(
+        &mut self,
+        msg: MsgNo,
+        from: Option<ProcNo>,
+        before: Option<MsgNo>,
+        place: usize,
+    ) -> Result<(), Memory>
+        ensures ok { OnOk result (self.new ≡ self.old ++ record { msg = msg; from = from; before = before; place = place } ∷ []) }
+        ensures err { OnErr result (self.new ≡ self.old) }
+    {
+        self.steps.reserve(1)?;
+        self.steps.push_reserved(Step {
+            msg,
+            from,
+            before,
+            place,
+        });
+        Ok(())
+    }
+
+    /// Takes the first step, if it is at this place. Its room is given back by `compact`.
+    pub(crate) fn pop_first(&mut self, place: usize) -> Option<Step>
+        ensures step { result ≡ if_at place (slice_get self.old 0) }
+        ensures rest { self.new ≡ without_first result self.old }
+    {
+        let first = self.steps.get(self.taken).copied()?;
+        if first.place != place {
+            return None;
+        }
+        self.taken += 1;
+        Some(first)
+    }
+
+    /// Takes the last step, if it is at this place.
+    pub(crate) fn pop_last(&mut self, place: usize) -> Option<Step>
+        ensures step { result ≡ if_at place (slice_get self.old (length self.old - 1)) }
+        ensures rest { self.new ≡ without_last result self.old }
+    {
+        if self.taken == self.steps.len() {
+            return None;
+        }
+        let last = self.steps[self.steps.len() - 1];
+        if last.place != place {
+            return None;
+        }
+        self.steps.pop();
+        Some(last)
+    }
+
+    /// Forgets the sends of messages that are not kept.
+    pub(crate) fn forget_sends(&mut self, kept: &Kept)
+        ensures { self.new ≡ filter (is_needed kept.now) self.old }
+    {
+        self.steps.drain(..self.taken);
+        self.taken = 0;
+        self.steps.retain(
+            |step: &Step| -> bool
+                ensures { result ≡ is_needed kept.entry.now step.now }
+            { step.from.is_some() || kept.get(step.msg).is_some() },
+        );
+    }
+
+    /// Gives back the room of the steps that were taken from the front.
+    pub(crate) fn compact(&mut self)
+        ensures { self.new ≡ self.old }
+    {
+        let count = self.len();
+        self.steps.rotate_left(self.taken);
+        self.steps.truncate(count);
+        self.taken = 0;
+    }
+}

@@ -1,0 +1,413 @@
+//! Worked logs.
+
+/// Logs that are legal; what each of them shows is said before it.
+pub const LOGS: [&[u8]; 30] = [
+    // A checkpoint of two.
+    b"kt,2,-,-
+sent,0,1,5
+received,1,0,1
+began,1,1,checkpoint
+took,1,1,-
+took,0,1,-
+decided,1,1,commit
+closed,1,1,-
+closed,0,1,-
+",
+    // A checkpoint of the sender alone.
+    b"kt,2,-,-
+sent,0,1,5
+received,1,0,1
+began,0,1,checkpoint
+took,0,1,-
+decided,0,1,commit
+closed,0,1,-
+",
+    // A checkpoint before the message comes.
+    b"kt,2,-,-
+sent,0,1,5
+began,1,1,checkpoint
+took,1,1,-
+decided,1,1,commit
+closed,1,1,-
+received,1,0,1
+",
+    // A checkpoint through three.
+    b"kt,2,-,-
+sent,1,2,1
+received,2,1,1
+sent,0,1,2
+received,1,0,3
+began,2,1,checkpoint
+took,2,1,-
+took,1,1,-
+took,0,1,-
+decided,2,1,commit
+closed,2,1,-
+closed,1,1,-
+closed,0,1,-
+",
+    // A rollback after a failure.
+    b"kt,2,-,-
+sent,0,1,7
+received,1,0,1
+failed,0,-,-
+began,0,1,rollback
+ready,0,1,-
+ready,1,1,-
+decided,0,1,commit
+closed,0,1,-
+closed,1,1,-
+",
+    // A rollback of the receiver alone.
+    b"kt,2,-,-
+sent,0,1,7
+received,1,0,1
+began,1,1,rollback
+ready,1,1,-
+decided,1,1,commit
+closed,1,1,-
+received,1,0,1
+",
+    // A second checkpoint of one.
+    b"kt,2,-,-
+sent,1,2,1
+received,2,1,1
+sent,0,1,2
+received,1,0,3
+began,2,1,checkpoint
+took,2,1,-
+took,1,1,-
+took,0,1,-
+decided,2,1,commit
+closed,2,1,-
+closed,1,1,-
+closed,0,1,-
+began,2,2,checkpoint
+took,2,2,-
+decided,2,2,commit
+closed,2,2,-
+",
+    // A checkpoint round a ring.
+    b"kt,2,-,-
+sent,0,1,1
+received,1,0,1
+sent,1,2,2
+received,2,1,3
+sent,2,0,3
+received,0,2,5
+began,0,1,checkpoint
+took,0,1,-
+took,2,1,-
+took,1,1,-
+decided,0,1,commit
+closed,0,1,-
+closed,2,1,-
+closed,1,1,-
+",
+    // Two checkpoints at once.
+    b"kt,2,-,-
+sent,0,1,4
+received,1,0,1
+began,1,1,checkpoint
+took,1,1,-
+began,0,2,checkpoint
+took,0,2,-
+decided,0,2,commit
+closed,0,2,-
+decided,1,1,commit
+closed,1,1,-
+",
+    // A busy process refuses.
+    b"kt,2,-,-
+sent,2,0,1
+received,0,2,1
+sent,0,1,2
+received,1,0,3
+began,0,1,checkpoint
+took,0,1,-
+began,1,2,checkpoint
+took,1,2,-
+unwilling,0,2,busy-1
+decided,1,2,abort
+closed,1,2,-
+took,2,1,-
+decided,0,1,commit
+closed,0,1,-
+closed,2,1,-
+",
+    // A rollback meets a message on its way.
+    b"kt,2,-,-
+sent,0,1,5
+began,0,1,rollback
+ready,0,1,-
+received,1,0,1
+ready,1,1,-
+decided,0,1,commit
+closed,0,1,-
+closed,1,1,-
+",
+    // A dropped message.
+    b"kt,2,-,-
+sent,0,1,5
+failed,1,-,-
+dropped,1,0,1
+began,0,1,rollback
+ready,0,1,-
+decided,0,1,commit
+closed,0,1,-
+began,1,2,rollback
+ready,1,2,-
+decided,1,2,commit
+closed,1,2,-
+",
+    // A failure inside a checkpoint.
+    b"kt,2,-,-
+sent,0,1,5
+received,1,0,1
+began,1,1,checkpoint
+took,1,1,-
+failed,1,-,-
+took,0,1,-
+decided,1,1,commit
+closed,1,1,-
+closed,0,1,-
+began,1,2,rollback
+ready,1,2,-
+decided,1,2,commit
+closed,1,2,-
+",
+    // A process that is down refuses.
+    b"kt,2,-,-
+sent,0,1,5
+received,1,0,1
+failed,0,-,-
+began,1,1,checkpoint
+took,1,1,-
+unwilling,0,1,down
+decided,1,1,abort
+closed,1,1,-
+",
+    // Two aborts.
+    b"kt,2,-,-
+sent,2,0,1
+received,0,2,1
+sent,0,1,2
+received,1,0,3
+failed,2,-,-
+began,1,1,checkpoint
+took,1,1,-
+took,0,1,-
+unwilling,2,1,down
+decided,1,1,abort
+closed,1,1,-
+closed,0,1,-
+began,1,2,checkpoint
+took,1,2,-
+took,0,2,-
+unwilling,2,2,down
+decided,1,2,abort
+closed,1,2,-
+closed,0,2,-
+",
+    // A rollback through three.
+    b"kt,2,-,-
+sent,2,0,1
+received,0,2,1
+sent,2,1,2
+received,1,2,3
+sent,0,1,3
+began,2,1,rollback
+ready,2,1,-
+ready,1,1,-
+ready,0,1,-
+decided,2,1,commit
+closed,2,1,-
+closed,0,1,-
+closed,1,1,-
+",
+    // Two instances abort each other.
+    b"kt,2,-,-
+sent,2,1,1
+received,1,2,1
+sent,0,1,2
+received,1,0,3
+began,1,1,checkpoint
+took,1,1,-
+began,0,2,rollback
+ready,0,2,-
+sent,2,0,3
+unwilling,0,1,busy-2
+unwilling,1,2,busy-1
+decided,0,2,abort
+closed,0,2,-
+received,0,2,9
+took,2,1,-
+decided,1,1,abort
+closed,1,1,-
+closed,2,1,-
+",
+    // A command refused as busy.
+    b"kt,2,-,-
+sent,1,0,1
+received,0,1,1
+began,0,1,checkpoint
+took,0,1,-
+refused,0,checkpoint,busy-1
+took,1,1,-
+decided,0,1,commit
+closed,0,1,-
+closed,1,1,-
+",
+    // Commands refused as down.
+    b"kt,2,-,-
+failed,0,-,-
+refused,0,send,down
+refused,0,fail,down
+refused,0,checkpoint,down
+",
+    // An offered body.
+    b"kt,2,-,-
+sent,0,1,3
+received,1,0,1
+sent,0,1,4
+received,1,0,3
+sent,1,0,4
+received,0,1,5
+",
+    // A sum that stays.
+    b"kt,2,-,-
+sent,0,1,9223372036854775807
+received,1,0,1
+sent,0,1,1
+received,1,0,3
+",
+    // The empty scenario.
+    b"kt,2,-,-
+",
+    // An object and no command.
+    b"kt,2,-,-
+",
+    // A second checkpoint of two.
+    b"kt,2,-,-
+sent,0,1,1
+received,1,0,1
+began,0,1,checkpoint
+took,0,1,-
+decided,0,1,commit
+closed,0,1,-
+sent,0,1,2
+received,1,0,7
+began,1,2,checkpoint
+took,1,2,-
+took,0,2,-
+decided,1,2,commit
+closed,1,2,-
+closed,0,2,-
+",
+    // A checkpoint round a ring in phases.
+    b"kt,2,-,-
+sent,0,1,1
+received,1,0,1
+sent,1,2,2
+received,2,1,3
+sent,2,0,3
+received,0,2,5
+began,0,1,checkpoint
+took,0,1,-
+took,2,1,-
+took,1,1,-
+decided,0,1,commit
+closed,0,1,-
+closed,2,1,-
+closed,1,1,-
+",
+    // A message to a process that is down.
+    b"kt,2,-,-
+sent,0,1,5
+failed,1,-,-
+dropped,1,0,1
+",
+    // A failure and a rollback in phases.
+    b"kt,2,-,-
+sent,0,1,7
+received,1,0,1
+failed,0,-,-
+began,0,1,rollback
+ready,0,1,-
+ready,1,1,-
+decided,0,1,commit
+closed,0,1,-
+closed,1,1,-
+",
+    // A checkpoint of four.
+    b"kt,2,-,-
+sent,0,1,1
+received,1,0,1
+sent,0,2,1
+received,2,0,3
+sent,0,3,1
+received,3,0,5
+sent,1,0,1
+received,0,1,7
+sent,1,2,1
+received,2,1,9
+sent,1,3,1
+received,3,1,11
+sent,2,0,1
+received,0,2,13
+sent,2,1,1
+received,1,2,15
+sent,2,3,1
+received,3,2,17
+sent,3,0,1
+received,0,3,19
+sent,3,1,1
+received,1,3,21
+sent,3,2,1
+received,2,3,23
+began,0,1,checkpoint
+took,0,1,-
+took,1,1,-
+took,2,1,-
+took,3,1,-
+decided,0,1,commit
+closed,0,1,-
+closed,1,1,-
+closed,2,1,-
+closed,3,1,-
+",
+    // Messages received again.
+    b"kt,2,-,-
+sent,0,1,1
+received,1,0,1
+sent,0,1,2
+received,1,0,3
+failed,1,-,-
+began,1,1,rollback
+ready,1,1,-
+decided,1,1,commit
+closed,1,1,-
+received,1,0,1
+received,1,0,3
+began,1,2,checkpoint
+took,1,2,-
+took,0,2,-
+decided,1,2,commit
+closed,1,2,-
+closed,0,2,-
+",
+    // An undone message is not received again.
+    b"kt,2,-,-
+sent,2,1,1
+received,1,2,1
+sent,0,1,2
+received,1,0,3
+began,0,1,rollback
+ready,0,1,-
+ready,1,1,-
+decided,0,1,commit
+closed,0,1,-
+closed,1,1,-
+received,1,2,1
+",
+];

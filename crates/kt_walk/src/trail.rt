@@ -1,0 +1,181 @@
+//! What a walk knows after the rows so far, without the rows.
+
+ghost use Rattle.std.specs.Prelude.{◌≡◌, ◌<◌, ◌+◌, ◌^◌, [], ℕ, Some, List, length, slice_get, slice_index, IfOk};
+ghost use Rattle.std.specs.Option.{option_copied};
+ghost use Rattle.kt_spacetime.specs.declared.event.Event.{Event};
+ghost use Rattle.kt_cuts.specs.Past.{start};
+ghost use Rattle.kt_walk.specs.Keeping.{is_on_the_way};
+ghost use Rattle.kt_walk.specs.PartsOf.{ShowsWalkers};
+
+use crate::kept::Kept;
+use crate::walker::Walker;
+use kt_base::{InstNo, Memory, MsgNo, ProcNo, RowNo};
+use kt_cuts::grounds::Grounds;
+use kt_cuts::instances::Instance;
+use kt_cuts::{Rule, Trace, is_after};
+use kt_spacetime::Event;
+use std::alloc::Global;
+
+/// What is known after the rows so far.
+#[derive(Drop)]
+pub(crate) struct Trail {
+    pub(crate) rows: usize,
+    pub(crate) walkers: Vec<Walker>,
+    pub(crate) instances: Vec<Instance>,
+    /// Who began which instance in the last row.
+    pub(crate) beginning: Option<(ProcNo, InstNo)>,
+    pub(crate) kept: Kept,
+    ghost walkers_there: { length walkers.items ≡ 64 },
+}
+
+/// The 64 processes before the first row.
+fn opening_walkers(alloc: Global) -> Result<Vec<Walker>, Memory>
+    ensures { IfOk result (λ ws. ShowsWalkers ws.items start) }
+{
+    let mut walkers = Vec::new(alloc);
+    for _number in 0..ProcNo::COUNT {
+        walkers.push(Walker::new(alloc))?;
+    }
+    Ok(walkers)
+}
+
+impl Trail {
+    ghost use Rattle.kt_spacetime.specs.Events.{process_of};
+    ghost use Rattle.kt_walk.specs.declared.walker.Walker.{Walker};
+    ghost use Rattle.kt_cuts.specs.Past.{past};
+    ghost use Rattle.kt_cuts.specs.Legal.{broken_rule, keeps_message, keeps_order, is_undelivered, is_latest};
+    ghost use Rattle.kt_cuts.specs.Grounds.{ShowsGrounds};
+    ghost use Rattle.kt_cuts.specs.Standing.{at_number};
+    ghost use Rattle.kt_walk.specs.TrailOf.{TrailOf};
+
+    /// What is known before the first row.
+    pub(crate) fn new(alloc: Global) -> Result<Trail, Memory>
+        ensures { IfOk result (λ t. TrailOf t []) }
+    {
+        let walkers = opening_walkers(alloc)?;
+        Ok(Trail {
+            rows: 0,
+            walkers,
+            instances: Vec::new(alloc),
+            beginning: None,
+            kept: Kept::new(alloc),
+        })
+    }
+
+    /// The process, after the rows so far.
+    pub(crate) fn walker(&self, p: ProcNo) -> &Walker
+        ensures { slice_get self.now.walkers.items p ≡ Some result.now }
+    {
+        &self.walkers[p.get() as usize]
+    }
+
+    /// The instance, if it has begun.
+    pub(crate) fn instance(&self, inst: InstNo) -> Option<&Instance>
+        ensures { option_copied result ≡ at_number self.now.instances.items inst }
+    {
+        self.instances.get(inst.get() as usize - 1)
+    }
+
+    /// The permanent positions, by process.
+    pub(crate) fn permanent_lengths(&self) -> [usize; 64]
+        ensures { (q : ℕ) (v : Walker) → slice_get self.now.walkers.items q ≡ Some v → slice_index result q ≡ v.permanent }
+    {
+        let mut lengths = [0; 64];
+        for number in 0..ProcNo::COUNT {
+            lengths[number as usize] = self.walkers[number as usize].permanent;
+        }
+        lengths
+    }
+
+    /// The number of the next row.
+    pub(crate) fn next_row(&self) -> RowNo
+        requires { self.now.rows < 2 ^ 24 }
+        ensures { result ≡ self.now.rows + 1 }
+    {
+        match RowNo::new(self.rows as u32 + 1) {
+            Some(row) => row,
+            None => unreachable!(),
+        }
+    }
+
+    /// The number of the next row, as that of a message.
+    pub(crate) fn next_message(&self) -> MsgNo
+        requires { self.now.rows < 2 ^ 24 }
+        ensures { result ≡ self.now.rows + 1 }
+    {
+        match MsgNo::new(self.rows as u32 + 1) {
+            Some(msg) => msg,
+            None => unreachable!(),
+        }
+    }
+
+    /// The least rule that the next row would break.
+    pub(crate) fn broken_rule(&self, row: &Event) -> Option<Rule>
+        ensures { (rows : List Event) → TrailOf self.now rows → result ≡ broken_rule (past rows) row.now }
+    {
+        let message_kept = self.keeps_message(row);
+        let order_kept = self.keeps_order(row);
+        let grounds = self.grounds(row.process());
+        grounds.broken_rule(row, message_kept, order_kept)
+    }
+
+    // What the rules ask of the instances and of this process.
+    fn grounds(&self, p: ProcNo) -> Grounds<'_>
+        ensures { (rows : List Event) → TrailOf self.now rows → ShowsGrounds result (past rows) p }
+    {
+        let walker = self.walker(p);
+        Grounds {
+            instances: self.instances.as_slice(),
+            beginning: self.beginning,
+            open_in: walker.open_in,
+            up: walker.up,
+        }
+    }
+
+    fn keeps_message(&self, row: &Event) -> bool
+        ensures { (rows : List Event) → TrailOf self.now rows → result ≡ keeps_message (past rows) row.now }
+    {
+        match *row {
+            Event::Received { p, from, msg } | Event::Dropped { p, from, msg } => {
+                self.is_undelivered(p, from, msg)
+            }
+            _ => true,
+        }
+    }
+
+    fn is_undelivered(&self, p: ProcNo, from: ProcNo, msg: MsgNo) -> bool
+        ensures { (rows : List Event) → TrailOf self.now rows → result ≡ is_undelivered (past rows) p from msg }
+    {
+        let Some(trace) = self.kept.get(msg) else {
+            return false;
+        };
+        is_on_the_way(&trace, from, p)
+    }
+
+    fn keeps_order(&self, row: &Event) -> bool
+        ensures { (rows : List Event) → TrailOf self.now rows → result ≡ keeps_order (past rows) row.now }
+    {
+        match *row {
+            Event::Received { p, from, msg } | Event::Dropped { p, from, msg } => {
+                self.is_latest(p, from, msg)
+            }
+            _ => true,
+        }
+    }
+
+    fn is_latest(&self, p: ProcNo, from: ProcNo, msg: MsgNo) -> bool
+        ensures { (rows : List Event) → TrailOf self.now rows → result ≡ is_latest (past rows) p from msg }
+    {
+        let walker = self.walker(p);
+        let received = walker.last_received(from);
+        let dropped = walker.last_dropped(from);
+        is_after(msg, received) && is_after(msg, dropped)
+    }
+}
+
+// Whether a message is live and not received, from the one process to the other.
+fn is_on_the_way(trace: &Trace, from: ProcNo, to: ProcNo) -> bool
+    ensures { result ≡ is_on_the_way trace.now from to }
+{
+    trace.from == from && trace.to == to && trace.sent.is_some() && trace.received.is_none()
+}

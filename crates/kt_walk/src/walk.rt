@@ -1,0 +1,163 @@
+//! A reader of a log row by row, which keeps no rows.
+
+ghost use Rattle.std.specs.Prelude.{◌≡◌, ◌<◌, ◌^◌, ◌++◌, ◌∷◌, [], ℕ, List, length, IfOk, OnOk, OnErr, IfNone, IfSome, Err, None, Some, true, slice_index, ◌≤◌};
+ghost use Rattle.kt_spacetime.specs.declared.event.Event.{Event};
+ghost use Rattle.kt_spacetime.specs.declared.event.Event.TheVariants as event;
+ghost use Rattle.kt_cuts.specs.declared.rules.Rule.{Rule};
+ghost use Rattle.kt_cuts.specs.declared.legality.LegalFault.TheVariants as fault;
+ghost use Rattle.kt_cuts.specs.Past.{past};
+ghost use Rattle.kt_cuts.specs.Legal.{IsLegal, broken_rule, first_broken};
+ghost use Rattle.kt_walk.specs.Keeping.{kept_trace, held_of};
+ghost use Rattle.kt_cuts.specs.Cuts.{IsOrphan};
+ghost use Rattle.kt_walk.specs.Arrivals.{KeepsPermanent, ShowsArrivals};
+ghost use Rattle.kt_walk.specs.TrailOf.{TrailOf};
+ghost use Rattle.kt_walk.specs.WalkOf.{WalkOf};
+
+use crate::arrivals::Arrivals;
+use crate::trail::Trail;
+use kt_base::{InstNo, Kind, Memory, MsgNo, ProcNo};
+use kt_cuts::{Cut, LegalFault, Trace};
+use kt_spacetime::Event;
+use std::alloc::Global;
+use std::marker::Model;
+
+/// A reader of a log row by row, which keeps no rows: what is known after the rows fed so far.
+///
+/// Where it stands for some rows, its answers are what these rows say. It keeps a message only while it was not
+/// dropped, is live or in its receiver's live history, and one of its rows lies past the permanent positions.
+/// Of the messages that are received it keeps the places too, to find orphans, and forgets them at checkpoints.
+#[derive(Drop)]
+pub struct Walk {
+    trail: Trail,
+    arrivals: Arrivals,
+}
+
+impl Model for Walk {
+    ghost use Rattle.kt_walk.specs.WalkParts.{WalkParts, walk_parts};
+
+    ghost Value = { WalkParts };
+
+    ghost view = { λ w. walk_parts w.trail w.arrivals };
+}
+
+impl Walk {
+    /// A walk that was fed no rows.
+    pub fn new(alloc: Global) -> Result<Walk, Memory>
+        ensures { IfOk result (λ w. WalkOf w []) }
+    {
+        let trail = Trail::new(alloc)?;
+        let arrivals = Arrivals::new(alloc)?;
+        Ok(Walk { trail, arrivals })
+    }
+
+    /// Takes one more row, where it breaks no rule of a legal log; else the number of this row and the least rule that
+    /// it breaks. A walk that refuses a row, or lacks the memory for it, is unchanged.
+    pub fn feed(&mut self, row: &Event) -> Result<(), LegalFault>
+        requires few { self.old.rows < 2 ^ 24 }
+        ensures fed { OnOk result ((rows : List Event) → WalkOf self.old rows → IsLegal (rows ++ row.now ∷ []) × WalkOf self.new (rows ++ row.now ∷ [])) }
+        ensures broken { (number : ℕ) (rule : Rule) → result ≡ Err (fault.Broken number rule) → (rows : List Event) → WalkOf self.old rows → IsLegal rows × (first_broken (rows ++ row.now ∷ []) ≡ Some (number, rule)) }
+        ensures unchanged { OnErr result (self.new ≡ self.old) }
+    {
+        if let Some(rule) = self.trail.broken_rule(row) {
+            return Err(LegalFault::Broken(self.trail.next_row(), rule));
+        }
+        self.add(row)?;
+        Ok(())
+    }
+
+    // Takes one more row that breaks no rule.
+    fn add(&mut self, row: &Event) -> Result<(), Memory>
+        requires few { self.old.rows < 2 ^ 24 }
+        ensures fed { OnOk result ((rows : List Event) → WalkOf self.old rows → broken_rule (past rows) row.now ≡ None → WalkOf self.new (rows ++ row.now ∷ [])) }
+        ensures unchanged { OnErr result (self.new ≡ self.old) }
+    {
+        match *row {
+            Event::Received { p, from, msg } => {
+                self.trail.receive(&mut self.arrivals, p, from, msg)
+            }
+            Event::Decided { inst, commit, .. } => {
+                self.decide(inst, commit);
+                Ok(())
+            }
+            _ => self.trail.add(row),
+        }
+    }
+
+    // An instance is decided.
+    fn decide(&mut self, inst: InstNo, commit: bool)
+        requires few { self.old.rows < 2 ^ 24 }
+        ensures { (rows : List Event) (p : ℕ) → WalkOf self.old rows → broken_rule (past rows) (event.Decided p inst commit) ≡ None → WalkOf self.new (rows ++ event.Decided p inst commit ∷ []) }
+    {
+        self.trail.decide(inst, commit);
+        if commit {
+            commit_arrivals(&mut self.arrivals, &self.trail, inst);
+        }
+    }
+
+    /// How many rows were fed.
+    pub fn rows(&self) -> usize
+        ensures count { (rows : List Event) → WalkOf self.now rows → result ≡ length rows }
+        ensures rows { result ≡ self.now.rows }
+    {
+        self.trail.rows
+    }
+
+    /// The length of a process's live history.
+    pub fn length(&self, p: ProcNo) -> usize
+        ensures { (rows : List Event) → WalkOf self.now rows → result ≡ length ((past rows).live p) }
+    {
+        self.trail.walker(p).length
+    }
+
+    /// A process's permanent position.
+    pub fn permanent(&self, p: ProcNo) -> usize
+        ensures { (rows : List Event) → WalkOf self.now rows → result ≡ (past rows).permanent p }
+    {
+        self.trail.walker(p).permanent
+    }
+
+    /// The new position of a process in an instance; None where it has no `took` row of it.
+    pub fn position(&self, inst: InstNo, p: ProcNo) -> Option<usize>
+        ensures { (rows : List Event) → WalkOf self.now rows → result ≡ (past rows).new inst p }
+    {
+        self.trail.instance(inst)?.position(p)
+    }
+
+    /// A message and its places, counted from 1; None where it is not kept.
+    pub fn trace(&self, msg: MsgNo) -> Option<Trace>
+        ensures { (rows : List Event) → WalkOf self.now rows → result ≡ kept_trace rows msg }
+    {
+        self.trail.kept.get(msg)
+    }
+
+    /// How many messages are kept.
+    pub fn held(&self) -> usize
+        ensures { (rows : List Event) → WalkOf self.now rows → result ≡ held_of rows }
+    {
+        self.trail.kept.len()
+    }
+
+    /// The least orphan of a cut: a message that is received within its receiver's part and not sent within its
+    /// sender's. No part is longer than the history, or shorter than its permanent part.
+    pub fn orphan(&self, cut: &Cut) -> Option<MsgNo>
+        ensures none { IfNone result ((rows : List Event) (msg : ℕ) → WalkOf self.now rows → KeepsPermanent (past rows) cut.now → IsOrphan (past rows) (slice_index cut.now) msg → ⊥) }
+        ensures orphan { IfSome result (λ msg. (rows : List Event) → WalkOf self.now rows → IsOrphan (past rows) (slice_index cut.now) msg) }
+        ensures least { IfSome result (λ msg. (rows : List Event) (other : ℕ) → WalkOf self.now rows → KeepsPermanent (past rows) cut.now → IsOrphan (past rows) (slice_index cut.now) other → msg ≤ other) }
+    {
+        self.arrivals.orphan(cut)
+    }
+}
+
+// What the arrivals lose by the commit of an instance that the trail has taken.
+fn commit_arrivals(arrivals: &mut Arrivals, trail: &Trail, inst: InstNo)
+    ensures { (rows : List Event) (p : ℕ) → TrailOf trail.now (rows ++ event.Decided p inst true ∷ []) → ShowsArrivals arrivals.old (past rows) → ShowsArrivals arrivals.new (past (rows ++ event.Decided p inst true ∷ [])) }
+{
+    let Some(instance) = trail.instance(inst) else {
+        return;
+    };
+    let permanent = trail.permanent_lengths();
+    match instance.kind {
+        Kind::Checkpoint => arrivals.settle(&permanent),
+        Kind::Rollback => arrivals.roll_back(instance.joined, &permanent),
+    }
+}
