@@ -1,6 +1,5 @@
 -- What the program answers to a stored log with its certificates.
 use Rattle.std.specs.Prelude.{◌≡◌, ◌≢◌, ℕ, Bool, true, false, Option, List, [], ◌∷◌, ◌++◌, IfSome}
-use Rattle.std.specs.Io.KnownBytes.{Appends}
 use Rattle.kt_spacetime.specs.declared.event.Event.{Event}
 use Rattle.kt_spacetime.specs.declared.fault.LogFault.{LogFault}
 use Rattle.kt_spacetime.specs.declared.fault.LogFault.TheVariants as log

@@ -10,6 +10,7 @@ ghost use Rattle.kt_checker.specs.Passing.{IsListOf, HasLists, IsChain, ListsRea
 use kt_base::{Kind, MsgNo, ProcNo};
 use kt_chain::{Certificate, Chain};
 use kt_cuts::Cut;
+use kt_cuts::orphans::process_no;
 use kt_walk::Walk;
 
 /// Whether each member's list is a chain for it.
@@ -86,7 +87,7 @@ fn next_in_chain(walk: &Walk, certificate: &Certificate, at: ProcNo, msg: MsgNo)
 }
 
 /// The cut that the decision makes: of a checkpoint the new positions beside the others' permanent ones, of a rollback
-/// the permanent positions beside the others' whole walk.
+/// the permanent positions beside the others' whole histories.
 pub(crate) fn cut_of(walk: &Walk, certificate: &Certificate) -> Cut
     ensures { (rows : List Event) (p : ℕ) → WalkOf walk.now rows → ListsReady (past rows) certificate.now → p < 64 → slice_index result p ≡ decided_cut (past rows) certificate.now.inst certificate.now.kind p }
 {
@@ -127,15 +128,4 @@ fn is_listed(certificate: &Certificate, p: ProcNo) -> bool
         }
     }
     false
-}
-
-// The process of this number.
-fn process_no(number: u8) -> ProcNo
-    requires { number < 64 }
-    ensures { result ≡ number }
-{
-    match ProcNo::new(number) {
-        Some(p) => p,
-        None => unreachable!(),
-    }
 }

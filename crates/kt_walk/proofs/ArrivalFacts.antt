@@ -1,5 +1,5 @@
 -- Arrivals go on showing what is received, row by row.
-use Rattle.std.proofs.Common.{◌≡◌, ◌≢◌, ℕ, ◌+◌, ◌*◌, ◌<◌, ◌≤◌, true, false, Option, Some, List, [], ◌∷◌, ◌++◌, length, set, take, refl, sym, ap, ◌∙◌, subst, arith, inl, inr}
+use Rattle.std.proofs.Common.{◌≡◌, ◌≢◌, ℕ, ◌+◌, ◌*◌, ◌<◌, ◌≤◌, true, false, Option, Some, List, [], ◌∷◌, ◌++◌, length, set, take, refl, sym, ap, ◌∙◌, subst, arith, inl, inr, length-append}
 use Rattle.std.specs.List.{slice_get, slice_index}
 use Rattle.std.specs.Prelude.{if◌then◌else◌, unwrap_or, Result, Ok, Err, OnOk, OnErr}
 use Rattle.std.proofs.lemmas.Bool.{cases_eq}
@@ -9,13 +9,15 @@ use Rattle.kt_spacetime.specs.declared.event.Event.{Event}
 use Rattle.kt_spacetime.specs.declared.event.Event.TheVariants.{Sent, Received, Dropped, Began, Took, Ready, Unwilling, Decided, Closed, Failed, Refused}
 use Rattle.kt_cuts.specs.declared.deeds.Deed.{Deed}
 use Rattle.kt_cuts.specs.declared.deeds.Deed.TheVariants as deed
-use Rattle.kt_walk.specs.declared.channel.Arrival.{Arrival}
+use Rattle.kt_walk.specs.declared.queue.Arrival.{Arrival}
+use Rattle.kt_cuts.specs.declared.histories.Trace.{Trace}
 use Rattle.kt_cuts.specs.Past.{Past, after, at_one}
 use Rattle.kt_cuts.specs.Lists.{Rises, sent_in}
 use Rattle.kt_cuts.specs.Orphans.{IsOrphanBetween, IsAtMost}
 use Rattle.kt_cuts.specs.Standing.{IsInOrder, IsAllowed}
-use Rattle.kt_walk.specs.Arrivals.{Traffic, IsTraffic, ShowsTraffic, IsByPair, ShowsArrivals, message_of, cut_back, IsCutBack, IsSettled, RollsBack, MakesPermanent, KeepsPermanent, IsHalfOpen, is_quiet}
+use Rattle.kt_walk.specs.Arrivals.{Traffic, IsTraffic, ShowsTraffic, IsByPair, ShowsArrivals, message_of, cut_back, IsCutBack, IsSettled, RollsBack, MakesPermanent, KeepsPermanent, AreOpened, IsOpen, AreRising, HasCovered, IsReleased, AreReleased, is_quiet}
 use Rattle.kt_cuts.proofs.Items.{get_set_same, get_set_other, item_there}
+use Rattle.kt_cuts.proofs.Lists.{get_take, get_in_take, get_push}
 use Rattle.kt_cuts.proofs.SortedFacts.{some_same}
 use Rattle.kt_cuts.proofs.DeedFacts.{later_than}
 use Rattle.kt_cuts.proofs.OrphanFacts.{received_of}
@@ -278,12 +280,84 @@ shows_settled cs ds s p k lengths pairs count each h makes =
         (permanent v.receiver w.receiver low_r grown.receiver) (permanent v.sender w.sender low_q grown.sender)
         (grown.traffic (s.live v.receiver) (s.live v.sender) (s.permanent v.receiver) (s.permanent v.sender) (makes.grows v.receiver low_r) (makes.grows v.sender low_q) (h.each i v at))
 
-pub settled_few : (cs ds : List Traffic) (s : Past) (lengths : List ℕ) → ((i : ℕ) (w : Traffic) → slice_get ds i ≡ Some w → (v : Traffic) × (slice_get cs i ≡ Some v) × IsSettled lengths v w)
-    → ShowsArrivals cs s → (i : ℕ) (w : Traffic) → slice_get ds i ≡ Some w → IsHalfOpen lengths w
-settled_few cs ds s lengths each h i w e =
+pub settled_none : (cs ds : List Traffic) (s : Past) (lengths : List ℕ) → ((i : ℕ) (w : Traffic) → slice_get ds i ≡ Some w → (v : Traffic) × (slice_get cs i ≡ Some v) × IsSettled lengths v w)
+    → ShowsArrivals cs s → (i : ℕ) (w : Traffic) → slice_get ds i ≡ Some w → IsOpen lengths w
+settled_none cs ds s lengths each h i w e =
     let was = each i w e in
     let traffic = h.each i was.0 was.1 in
-    was.2.few traffic.rising
+    was.2.none traffic.rising
+
+pub are_rising : (cs : List Traffic) (s : Past) → ShowsArrivals cs s → AreRising cs
+are_rising cs s h i v at = (h.each i v at).rising
+
+-- one channel more is opened
+pub opened_next : (cs ds : List Traffic) (p q n m : ℕ) (v : Traffic) → AreOpened cs n → n ≡ p * 64 + q → m ≡ n + 1 → p < 64 → q < 64 → v ≡ record { receiver = p; sender = q; arrivals = []; undone = [] } → ds ≡ cs ++ v ∷ [] → AreOpened ds m
+opened_next cs ds p q n m v h at next low_p low_q is new = subst (λ (l : List Traffic). AreOpened l m) (sym new) (record {
+  count = omega (arith, length-append cs (v ∷ []), h.count, next);
+  place = λ i w e. elim (get_push cs v i w e) [
+    | inl was ↦ h.place i w was
+    | inr last ↦ subst (λ (x : Traffic). x.receiver * 64 + x.sender ≡ i) (sym is ∙ last.1) (omega (arith, at, last.0, h.count))
+  ];
+  receiver = λ i w e. elim (get_push cs v i w e) [
+    | inl was ↦ h.receiver i w was
+    | inr last ↦ subst (λ (x : Traffic). x.receiver < 64) (sym is ∙ last.1) low_p
+  ];
+  sender = λ i w e. elim (get_push cs v i w e) [
+    | inl was ↦ h.sender i w was
+    | inr last ↦ subst (λ (x : Traffic). x.sender < 64) (sym is ∙ last.1) low_q
+  ];
+  arrivals = λ i w e. elim (get_push cs v i w e) [
+    | inl was ↦ h.arrivals i w was
+    | inr last ↦ subst (λ (x : Traffic). x.arrivals ≡ []) (sym is ∙ last.1) refl
+  ];
+  undone = λ i w e. elim (get_push cs v i w e) [
+    | inl was ↦ h.undone i w was
+    | inr last ↦ subst (λ (x : Traffic). x.undone ≡ []) (sym is ∙ last.1) refl
+  ];
+})
+
+-- the messages of one channel more are released
+pub released_start : (lengths : List ℕ) (cs : List Traffic) (es : List (ℕ × Trace)) → AreReleased lengths (take 0 cs) es es
+released_start lengths cs es = record {
+  gone = λ i v m at cover. absurd (omega (arith, (get_take 0 cs i v at).1));
+  others = λ m. inl refl;
+}
+
+pub released_next : (lengths : List ℕ) (cs : List Traffic) (es fs gs : List (ℕ × Trace)) (n : ℕ) (v : Traffic) → slice_get cs n ≡ Some v → AreReleased lengths (take n cs) es fs → IsReleased lengths v fs gs
+    → AreReleased lengths (take (n + 1) cs) es gs
+released_next lengths cs es fs gs n v here h r = record {
+  gone = λ i u m at cover.
+      let there = get_take (n + 1) cs i u at in
+      elim (cases_eq i n) [
+        | inl same ↦
+            let is : u ≡ v = some_same (sym there.0 ∙ (ap (slice_get cs) same ∙ here)) in
+            r.gone m (subst (λ (x : Traffic). HasCovered lengths x m) is cover)
+        | inr other ↦
+            let none = h.gone i u m (get_in_take n cs i u there.0 (omega (arith, there.1, other))) cover in
+            elim (r.others m) [
+              | inl still ↦ still ∙ none
+              | inr x ↦ x.1
+            ]
+      ];
+  others = λ m. elim (r.others m) [
+    | inl still ↦ elim (h.others m) [
+      | inl same ↦ inl (still ∙ same)
+      | inr x ↦
+          let there = get_take n cs x.0 x.1 x.2 in
+          inr (x.0, x.1, get_in_take (n + 1) cs x.0 x.1 there.0 (omega (arith, there.1)), x.3, still ∙ x.4)
+    ]
+    | inr x ↦ inr (n, v, get_in_take (n + 1) cs n v here (omega arith), x.0, x.1)
+  ];
+}
+
+pub released_all : (lengths : List ℕ) (cs : List Traffic) (es fs : List (ℕ × Trace)) (n : ℕ) → length cs ≤ n → AreReleased lengths (take n cs) es fs → AreReleased lengths cs es fs
+released_all lengths cs es fs n all h = record {
+  gone = λ i v m at cover. h.gone i v m (get_in_take n cs i v at (omega (arith, all, slice_get_within cs i v at))) cover;
+  others = λ m. elim (h.others m) [
+    | inl same ↦ inl same
+    | inr x ↦ inr (x.0, x.1, (get_take n cs x.0 x.1 x.2).0, x.3, x.4)
+  ];
+}
 
 -- each other row
 pub shows_quiet : (cs : List Traffic) (s : Past) (row : Event) → is_quiet row ≡ true → ShowsArrivals cs s → ShowsArrivals cs (after s row)

@@ -1,22 +1,26 @@
 -- Traffic while its two histories grow and are cut back.
-use Rattle.std.proofs.Common.{◌≡◌, ℕ, ◌+◌, ◌-◌, ◌<◌, ◌≤◌, true, false, Option, Some, IfSome, List, [], ◌∷◌, ◌++◌, length, map, take, drop, sym, ap, ◌∙◌, subst, arith, inl, inr}
+use Rattle.std.proofs.Common.{◌≡◌, ℕ, ◌+◌, ◌-◌, ◌<◌, ◌≤◌, ◌≢◌, ◌⊎◌, true, false, Option, Some, None, IfSome, List, [], ◌∷◌, ◌++◌, length, map, take, drop, refl, sym, ap, ◌∙◌, subst, arith, inl, inr}
 use Rattle.std.specs.List.{slice_get, slice_index, filter}
-use Rattle.std.specs.Prelude.{nat_lt, min, ◌*◌}
-use Rattle.std.proofs.lemmas.Bool.{cases_lt}
+use Rattle.std.specs.Prelude.{nat_lt, min, ◌==◌}
+use Rattle.std.proofs.lemmas.Bool.{cases_lt, cases_eq}
 use Rattle.std.proofs.lemmas.Bool.Decides.{nat_tests}
 use Rattle.std.proofs.lemmas.Option.{slice_get_within}
 use Rattle.kt_cuts.specs.declared.deeds.Deed.{Deed}
 use Rattle.kt_cuts.specs.declared.deeds.Deed.TheVariants as deed
-use Rattle.kt_walk.specs.declared.channel.Arrival.{Arrival}
+use Rattle.kt_walk.specs.declared.queue.Arrival.{Arrival}
 use Rattle.kt_walk.specs.declared.channel.Undone.{Undone}
 use Rattle.kt_cuts.specs.Legal.{has_deed}
 use Rattle.kt_cuts.specs.Lists.{Rises, sent_in}
-use Rattle.kt_cuts.specs.Past.{Past}
+use Rattle.kt_cuts.specs.Past.{Past, at_one}
 use Rattle.kt_cuts.specs.Orphans.{IsOrphanBetween, IsAtMost, earlier}
 use Rattle.kt_cuts.specs.Standing.{IsInOrder}
-use Rattle.kt_walk.specs.Arrivals.{Traffic, IsRising, Parts, sent_at, received_at, undo, IsTraffic, ShowsTraffic, IsHalfOpen}
+use Rattle.kt_walk.specs.Arrivals.{Traffic, IsRising, Parts, sent_at, received_at, undo, IsTraffic, ShowsTraffic, IsOpen, IsReleased}
+use Rattle.kt_cuts.specs.declared.histories.Trace.{Trace}
+use Rattle.kt_walk.specs.Keeping.{kept_at}
 use Rattle.kt_cuts.proofs.Lists.{get_push, get_kept, get_last, get_take, get_in_take, get_drop}
 use Rattle.kt_cuts.proofs.DeedFacts.{has_at, has_front}
+use Rattle.kt_cuts.proofs.SortedFacts.{some_same}
+use Rattle.kt_cuts.proofs.Shown.{at_same, at_other}
 use Rattle.kt_cuts.proofs.OrphanFacts.{get_from_drop, received_of, some_earlier, some_weaker, at_most_first, at_most_second}
 use Rattle.kt_cuts.proofs.Consistency.{filter_keeps}
 use Rattle.kt_walk.proofs.ItemPlaces.{get_joined, has_left, has_right, get_mapped, mapped_get, get_filtered, rising_take, rising_drop, rising_push, one_send, sent_before, lacks_past, lacks_part, past_it, lacks_push, place_or_lacks}
@@ -292,22 +296,70 @@ least_orphan v cut x y s m past undone settled t o =
           at_most_second x y m (undone found.0 (record { msg = m; received = o.place }) found.1 at.1)
     ]
 
--- at most half of what is left is within both parts
-pub drained_few : (v w : Traffic) (lengths : List ℕ) (n c d : ℕ) → Parts sent_at v.arrivals (slice_index lengths v.sender) c → Parts received_at v.arrivals (slice_index lengths v.receiver) d → n ≡ min c d
-    → w.receiver ≡ v.receiver → w.sender ≡ v.sender → w.arrivals ≡ drop n v.arrivals → w.undone ≡ v.undone → IsHalfOpen lengths w
-drained_few v w lengths n c d sent received least a b e _ = record {
-  few = λ k x f l m.
+-- none of what is left lies within both parts
+pub released_none : (v w : Traffic) (lengths : List ℕ) (n c d : ℕ) → Parts sent_at v.arrivals (slice_index lengths v.sender) c → Parts received_at v.arrivals (slice_index lengths v.receiver) d → n ≡ min c d
+    → w.receiver ≡ v.receiver → w.sender ≡ v.sender → w.arrivals ≡ drop n v.arrivals → w.undone ≡ v.undone → IsOpen lengths w
+released_none v w lengths n c d sent received least a b e _ = record {
+  none = λ k x f cover.
       let at = get_drop n v.arrivals k x (ap (λ (xs : List Arrival). slice_get xs k) (sym e) ∙ f) in
-      let one = within_count sent_at v.arrivals (slice_index lengths v.sender) c (n + k) x sent at (subst (λ (q : ℕ). x.sent < slice_index lengths q) b l) in
-      let two = within_count received_at v.arrivals (slice_index lengths v.receiver) d (n + k) x received at (subst (λ (q : ℕ). x.received < slice_index lengths q) a m) in
+      let one = within_count sent_at v.arrivals (slice_index lengths v.sender) c (n + k) x sent at (subst (λ (q : ℕ). x.sent < slice_index lengths q) b cover.sent) in
+      let two = within_count received_at v.arrivals (slice_index lengths v.receiver) d (n + k) x received at (subst (λ (q : ℕ). x.received < slice_index lengths q) a cover.received) in
       absurd (omega (arith, one, two, least));
 }
 
-pub kept_few : (v : Traffic) (lengths : List ℕ) (n c d : ℕ) → Parts sent_at v.arrivals (slice_index lengths v.sender) c → Parts received_at v.arrivals (slice_index lengths v.receiver) d → n ≡ min c d
-    → n * 2 ≤ length v.arrivals → IsHalfOpen lengths v
-kept_few v lengths n c d sent received least half = record {
-  few = λ k x f l m.
-      let one = within_count sent_at v.arrivals (slice_index lengths v.sender) c k x sent f l in
-      let two = within_count received_at v.arrivals (slice_index lengths v.receiver) d k x received f m in
-      omega (arith, one, two, least, half);
+-- the messages of the first arrivals, which lie within both parts, are kept no more
+pub released_kept : (v : Traffic) (lengths : List ℕ) (n c d : ℕ) (es fs : List (ℕ × Trace)) → Parts sent_at v.arrivals (slice_index lengths v.sender) c → Parts received_at v.arrivals (slice_index lengths v.receiver) d → n ≡ min c d
+    → ((k : ℕ) (a : Arrival) → slice_get (take n v.arrivals) k ≡ Some a → kept_at fs a.msg ≡ None)
+    → ((m : ℕ) → (kept_at fs m ≡ kept_at es m) ⊎ ((k : ℕ) × (a : Arrival) × (slice_get (take n v.arrivals) k ≡ Some a) × (a.msg ≡ m) × (kept_at fs m ≡ None)))
+    → IsReleased lengths v es fs
+released_kept v lengths n c d es fs sent received least gone others = record {
+  gone = λ m h.
+      let one = within_count sent_at v.arrivals (slice_index lengths v.sender) c h.0 h.1 sent h.2 h.4.sent in
+      let two = within_count received_at v.arrivals (slice_index lengths v.receiver) d h.0 h.1 received h.2 h.4.received in
+      ap (kept_at fs) (sym h.3) ∙ gone h.0 h.1 (get_in_take n v.arrivals h.0 h.1 h.2 (omega (arith, one, two, least)));
+  others = λ m. elim (others m) [
+    | inl same ↦ inl same
+    | inr x ↦
+        let at = get_take n v.arrivals x.0 x.1 x.2 in
+        inr ((x.0, x.1, at.0, x.3, record { sent = sent.below x.0 x.1 (omega (arith, at.1, least)) at.0; received = received.below x.0 x.1 (omega (arith, at.1, least)) at.0 }), x.4)
+  ];
 }
+
+-- a message more is kept no more
+pub removed_start : (arrivals : List Arrival) (es : List (ℕ × Trace)) (m : ℕ)
+    → (kept_at es m ≡ kept_at es m) ⊎ ((k : ℕ) × (a : Arrival) × (slice_get arrivals k ≡ Some a) × (a.msg ≡ m) × (kept_at es m ≡ None))
+removed_start arrivals es m = inl refl
+
+pub removed_gone : (arrivals : List Arrival) (fs gs : List (ℕ × Trace)) (n : ℕ) (b : Arrival) → slice_get arrivals n ≡ Some b → ((m : ℕ) → kept_at gs m ≡ at_one b.msg None (kept_at fs) m)
+    → ((k : ℕ) (a : Arrival) → k < n → slice_get arrivals k ≡ Some a → kept_at fs a.msg ≡ None)
+    → (k : ℕ) (a : Arrival) → k < n + 1 → slice_get arrivals k ≡ Some a → kept_at gs a.msg ≡ None
+removed_gone arrivals fs gs n b here removed gone k a low at = elim (cases_eq a.msg b.msg) [
+  | inl same ↦ removed a.msg ∙ (ap (at_one b.msg None (kept_at fs)) same ∙ at_same b.msg None (kept_at fs))
+  | inr other ↦
+      let before : k ≢ n = λ e. other (ap (λ (x : Arrival). x.msg) (some_same (sym at ∙ (ap (slice_get arrivals) e ∙ here)))) in
+      removed a.msg ∙ (at_other b.msg a.msg None (kept_at fs) other ∙ gone k a (omega (arith, low, before)) at)
+]
+
+pub removed_others : (arrivals : List Arrival) (es fs gs : List (ℕ × Trace)) (n : ℕ) (b : Arrival) → slice_get arrivals n ≡ Some b → ((m : ℕ) → kept_at gs m ≡ at_one b.msg None (kept_at fs) m)
+    → ((m : ℕ) → (kept_at fs m ≡ kept_at es m) ⊎ ((k : ℕ) × (a : Arrival) × (slice_get arrivals k ≡ Some a) × (a.msg ≡ m) × (kept_at fs m ≡ None)))
+    → (m : ℕ) → (kept_at gs m ≡ kept_at es m) ⊎ ((k : ℕ) × (a : Arrival) × (slice_get arrivals k ≡ Some a) × (a.msg ≡ m) × (kept_at gs m ≡ None))
+removed_others arrivals es fs gs n b here removed others m = elim (cases_eq m b.msg) [
+  | inl same ↦ inr (n, b, here, sym same, removed m ∙ (ap (at_one b.msg None (kept_at fs)) same ∙ at_same b.msg None (kept_at fs)))
+  | inr other ↦
+      let still : kept_at gs m ≡ kept_at fs m = removed m ∙ at_other b.msg m None (kept_at fs) other in
+      elim (others m) [
+        | inl same ↦ inl (still ∙ same)
+        | inr x ↦ inr (x.0, x.1, x.2, x.3, still ∙ x.4)
+      ]
+]
+
+-- a channel without arrivals
+no_item : {X : Type 0} (xs : List X) (k : ℕ) (x : X) → length xs ≡ 0 → slice_get xs k ≡ Some x → ⊥
+no_item xs k x e at = absurd (omega (arith, e, slice_get_within xs k x at))
+
+pub none_there : (n m : ℕ) → true ≡ (n == 0) → n ≡ m → m ≡ 0
+none_there n m e same = grind (arith, nat_tests, e, same)
+
+pub no_orphan : (v : Traffic) (cut : ℕ → ℕ) (s : Past) (m : ℕ) → length v.arrivals ≡ 0 → length v.undone ≡ 0 → s.permanent v.sender ≤ cut v.sender → ShowsTraffic v s → IsOrphanBetween s cut v.receiver v.sender m → IsAtMost None m
+no_orphan v cut s m arrivals undone settled t o =
+    least_orphan v cut None None s m (λ k a r at low high. absurd (no_item v.arrivals k a arrivals at)) (λ k u at low. absurd (no_item v.undone k u undone at)) settled t o

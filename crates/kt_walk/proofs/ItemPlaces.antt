@@ -9,7 +9,7 @@ use Rattle.std.proofs.lemmas.List.{take-append-drop, take_all}
 use Rattle.std.proofs.lemmas.Option.{slice_get_within, slice_get-get_or, get_or_from_slice_get}
 use Rattle.kt_cuts.specs.declared.deeds.Deed.{Deed}
 use Rattle.kt_cuts.specs.declared.deeds.Deed.TheVariants as deed
-use Rattle.kt_walk.specs.declared.channel.Arrival.{Arrival}
+use Rattle.kt_walk.specs.declared.queue.Arrival.{Arrival}
 use Rattle.kt_cuts.specs.Legal.{has_deed}
 use Rattle.kt_cuts.specs.Lists.{Rises, sent_in}
 use Rattle.kt_walk.specs.Arrivals.{Has, IsBefore, IsRising, Parts}

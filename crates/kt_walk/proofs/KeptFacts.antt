@@ -312,3 +312,13 @@ no_way s m p q o h e = sym (ap (λ (t : Option Trace). on_way t p q) e) ∙ way_
 pub its_way : (s : Past) (m p q : ℕ) (o : Option (ℕ × ℕ)) (t : Trace) → (has_deed (deed.Sent m q) (s.live p) ≡ true → o ≡ Some (p, q)) → kept_between s m o ≡ Some t → is_on_the_way t p q ≡ is_undelivered s q p m
 unfolding on_way
 its_way s m p q o t h e = sym (ap (λ (t : Option Trace). on_way t p q) e) ∙ way_known s m p q o h
+
+-- a message that is on its way is live
+pub way_sent : (t : Trace) (p q : ℕ) → is_on_the_way t p q ≡ true → is_some t.sent ≡ true
+way_sent t p q e = at_first (t.from == p) (t.to == q) (is_some t.sent) (is_none t.received) e
+  where
+    at_first : (a b c d : Bool) → (a && b && c && d) ≡ true → c ≡ true
+    at_first true true true d e = refl
+    at_first true true false d e = absurd (cc)
+    at_first true false c d e = absurd (cc)
+    at_first false b c d e = absurd (cc)

@@ -11,5 +11,6 @@ pub mod HeldCounts
 pub mod ItemPlaces
 pub mod ChannelFacts
 pub mod ArrivalFacts
+pub mod ReleasedFacts
 pub mod WalkArrivals
 pub mod WalkLinks

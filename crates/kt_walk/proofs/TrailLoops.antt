@@ -11,8 +11,8 @@ use Rattle.kt_walk.specs.declared.trail.Trail.{Trail}
 use Rattle.kt_walk.specs.declared.walker.Walker.{Walker}
 use Rattle.kt_cuts.specs.Past.{Past, at_one}
 use Rattle.kt_walk.specs.Stages.{with_permanent, with_live, settled_below, settled_at, undone_below, undone_at, IsWithin, AreInPlace}
-use Rattle.kt_walk.specs.TrailOf.{ShowsTrail, KeepsInstances}
-use Rattle.kt_walk.specs.PartsOf.{ShowsWalker}
+use Rattle.kt_walk.specs.TrailOf.{ShowsTrail, KeepsInstances, KeepsRest}
+use Rattle.kt_walk.specs.PartsOf.{ShowsWalker, ShowsWalkers}
 use Rattle.kt_cuts.proofs.Lists.{get_take}
 use Rattle.kt_cuts.proofs.Shown.{at_same, at_other}
 
@@ -22,9 +22,15 @@ keeps_all t = record { rows = refl; instances = refl; beginning = refl }
 pub keeps_both : (t u v : Trail) → KeepsInstances t u → KeepsInstances u v → KeepsInstances t v
 keeps_both t u v a b = record { rows = b.rows ∙ a.rows; instances = b.instances ∙ a.instances; beginning = b.beginning ∙ a.beginning }
 
+pub keeps_rest : (t : Trail) → KeepsRest t t
+keeps_rest t = record { rows = refl; instances = refl; beginning = refl; kept = refl }
+
+pub keeps_rest_twice : (t u v : Trail) → KeepsRest t u → KeepsRest u v → KeepsRest t v
+keeps_rest_twice t u v a b = record { rows = b.rows ∙ a.rows; instances = b.instances ∙ a.instances; beginning = b.beginning ∙ a.beginning; kept = b.kept ∙ a.kept }
+
 -- the same positions, and the same histories
-pub same_permanent : (t : Trail) (between : ℕ → Option (ℕ × ℕ)) (s : Past) (f g : ℕ → ℕ) → ((q : ℕ) → f q ≡ g q) → ShowsTrail t between (with_permanent s f) → ShowsTrail t between (with_permanent s g)
-same_permanent t between s f g e h = subst (λ (x : ℕ → ℕ). ShowsTrail t between (with_permanent s x)) (λ i q. e q i) h
+pub same_permanent : (ws : List Walker) (s : Past) (f g : ℕ → ℕ) → ((q : ℕ) → f q ≡ g q) → ShowsWalkers ws (with_permanent s f) → ShowsWalkers ws (with_permanent s g)
+same_permanent ws s f g e h = subst (λ (x : ℕ → ℕ). ShowsWalkers ws (with_permanent s x)) (λ i q. e q i) h
 
 pub same_live : (t : Trail) (between : ℕ → Option (ℕ × ℕ)) (s : Past) (f g : ℕ → List Deed) → ((q : ℕ) → f q ≡ g q) → ShowsTrail t between (with_live s f) → ShowsTrail t between (with_live s g)
 same_live t between s f g e h = subst (λ (x : ℕ → List Deed). ShowsTrail t between (with_live s x)) (λ i q. e q i) h

@@ -12,16 +12,16 @@ use Rattle.kt_walk.specs.declared.walker.Walker.{Walker}
 use Rattle.kt_cuts.specs.Past.{Past, at_one}
 use Rattle.kt_cuts.specs.Legal.{has_deed}
 use Rattle.kt_cuts.specs.Lists.{received_in, last_of}
-use Rattle.kt_walk.specs.Keeping.{kept_at, kept_between, uncovered, unsent, unreceived, restored}
+use Rattle.kt_walk.specs.Keeping.{kept_at, kept_between, unsent, unreceived, restored}
 use Rattle.kt_walk.specs.Stages.{with_permanent, with_live, HasPermanent, AreInPlace}
 use Rattle.kt_walk.specs.PartsOf.{ShowsWalker, ShowsWalkers, ShowsKept}
-use Rattle.kt_walk.specs.RecentSteps.{step_of, ShowsRecent, if_at}
+use Rattle.kt_walk.specs.RecentSteps.{step_of, ShowsRecent, if_at, without_first}
 use Rattle.kt_cuts.proofs.Items.{get_left, get_seam, get_set_same, get_set_other, item_there}
 use Rattle.kt_cuts.proofs.SortedFacts.{some_same, received_unsent, received_else}
 use Rattle.kt_cuts.proofs.DeedFacts.{place_of_deed}
 use Rattle.kt_cuts.proofs.Shown.{at_same, at_other}
 use Rattle.kt_walk.proofs.StepLists.{last_item, other_sent, other_received}
-use Rattle.kt_walk.proofs.KeptFacts.{settled_kept, other_settled, kept_dropped, other_undone, sent_undone, received_undone}
+use Rattle.kt_walk.proofs.KeptFacts.{kept_dropped, other_undone, sent_undone, received_undone}
 use Rattle.kt_walk.proofs.RecentFacts.{IsLost, recent_same, first_known, last_known}
 
 -- the processes with another one at a place
@@ -97,56 +97,16 @@ settled_walkers ws s p place v w r h l there at steps new =
     })
 
 -- a deed more is permanent
-pub settled_trail : (ws : List Walker) (es fs : List (ℕ × Trace)) (between : ℕ → Option (ℕ × ℕ)) (s : Past) (p place : ℕ) (v w : Walker) (step : Step)
-    → ShowsWalkers ws s → ShowsKept es between s → p < 64 → slice_get ws p ≡ Some v → s.permanent p ≡ place → place < length (s.live p)
-    → if_at (place + 1) (slice_get v.recent 0) ≡ Some step → w ≡ record v { permanent = place + 1; recent = drop 1 v.recent }
-    → ((permanent : ℕ → ℕ) → HasPermanent (set ws p w) permanent → (m : ℕ) → kept_at fs m ≡ at_one step.msg (uncovered permanent (kept_at es step.msg)) (kept_at es) m)
-    → ShowsWalkers (set ws p w) (with_permanent s (at_one p (place + 1) s.permanent)) × ShowsKept fs between (with_permanent s (at_one p (place + 1) s.permanent))
-settled_trail ws es fs between s p place v w step h k l there at low first new released =
+pub settled_step : (ws : List Walker) (s : Past) (p place : ℕ) (v w : Walker) → ShowsWalkers ws s → p < 64 → slice_get ws p ≡ Some v → s.permanent p ≡ place → place < length (s.live p)
+    → w ≡ record v { permanent = place + 1; recent = without_first (if_at (place + 1) (slice_get v.recent 0)) v.recent }
+    → ShowsWalkers (set ws p w) (with_permanent s (at_one p (place + 1) s.permanent))
+settled_step ws s p place v w h l there at low new =
     let g = h.each p v there in
     let found = first_deed s p place at low in
-    let d : Deed = found.0 in
-    let number : s.permanent p + 1 ≡ place + 1 = ap (λ (n : ℕ). n + 1) at in
-    let permanent : w.permanent ≡ place + 1 = ap (λ (x : Walker). x.permanent) new in
-    elim (first_known v.recent (s.permanent p) (place + 1) (s.live p) d s.dropped g.recent (sym number) found.1) [
-      | inl known ↦
-          let is : step_of (take (s.permanent p) (s.live p)) d ≡ step = some_same (sym known.0 ∙ first) in
-          let msg : step.msg ≡ (step_of (take (s.permanent p) (s.live p)) d).msg = ap (λ (x : Step). x.msg) (sym is) in (
-            settled_walkers ws s p place v w (drop 1 v.recent) h l there at known.1 new,
-            subst (λ (x : ℕ). ShowsKept fs between (with_permanent s (at_one p x s.permanent))) number
-                (settled_kept es fs between s p step.msg d k found.1 (λ m o q. message_known (take (s.permanent p) (s.live p)) d step.msg m q msg o) (λ m o q. message_received (take (s.permanent p) (s.live p)) d step.msg m q msg o)
-                (released (at_one p (s.permanent p + 1) s.permanent) (moved ws s p (s.permanent p + 1) w h l (permanent ∙ sym number)))),
-          )
-      | inr lost ↦ absurd (cc (sym first ∙ lost.0))
-    ]
-
--- a deed more is permanent, whose step was forgotten
-pub settled_forgotten : (ws : List Walker) (es : List (ℕ × Trace)) (between : ℕ → Option (ℕ × ℕ)) (s : Past) (p place : ℕ) (v w : Walker)
-    → ShowsWalkers ws s → ShowsKept es between s → p < 64 → slice_get ws p ≡ Some v → s.permanent p ≡ place → place < length (s.live p)
-    → if_at (place + 1) (slice_get v.recent 0) ≡ None → w ≡ record v { permanent = place + 1; recent = v.recent }
-    → ShowsWalkers (set ws p w) (with_permanent s (at_one p (place + 1) s.permanent)) × ShowsKept es between (with_permanent s (at_one p (place + 1) s.permanent))
-settled_forgotten ws es between s p place v w h k l there at low none new =
-    let g = h.each p v there in
-    let found = first_deed s p place at low in
-    let d : Deed = found.0 in
-    let number : s.permanent p + 1 ≡ place + 1 = ap (λ (n : ℕ). n + 1) at in
-    elim (first_known v.recent (s.permanent p) (place + 1) (s.live p) d s.dropped g.recent (sym number) found.1) [
-      | inl known ↦ absurd (cc (sym none ∙ known.0))
-      | inr lost ↦ (
-        settled_walkers ws s p place v w v.recent h l there at lost.2 new,
-        subst (λ (x : ℕ). ShowsKept es between (with_permanent s (at_one p x s.permanent))) number (record { each = λ m. still m d found.1 lost.1 }),
-      )
-    ]
-  where
-    still : (m : ℕ) (d : Deed) → slice_get (s.live p) (s.permanent p) ≡ Some d → IsLost s.dropped d → kept_at es m ≡ kept_between (with_permanent s (at_one p (s.permanent p + 1) s.permanent)) m (between m)
-    still m d here lost = elim (cases_eq m lost.0) [
-      | inl same ↦
-          let gone : s.dropped m ≡ true = ap s.dropped same ∙ lost.3 in
-          k.each m ∙ (kept_dropped s m (between m) gone ∙ sym (kept_dropped (with_permanent s (at_one p (s.permanent p + 1) s.permanent)) m (between m) gone))
-      | inr other ↦
-          k.each m ∙ sym (other_settled s p m (between m) d here
-          (λ q e. message_known (take (s.permanent p) (s.live p)) d lost.0 m q (ap (λ (x : Deed). (step_of (take (s.permanent p) (s.live p)) x).msg) (sym lost.2)) other e)
-          (λ q e. message_received (take (s.permanent p) (s.live p)) d lost.0 m q (ap (λ (x : Deed). (step_of (take (s.permanent p) (s.live p)) x).msg) (sym lost.2)) other e))
+    let number : place + 1 ≡ s.permanent p + 1 = ap (λ (n : ℕ). n + 1) (sym at) in
+    elim (first_known v.recent (s.permanent p) (place + 1) (s.live p) found.0 s.dropped g.recent number found.1) [
+      | inl known ↦ settled_walkers ws s p place v w (drop 1 v.recent) h l there at known.1 (new ∙ ap (λ (o : Option Step). record v { permanent = place + 1; recent = without_first o v.recent }) known.0)
+      | inr lost ↦ settled_walkers ws s p place v w v.recent h l there at lost.2 (new ∙ ap (λ (o : Option Step). record v { permanent = place + 1; recent = without_first o v.recent }) lost.0)
     ]
 
 -- the deeds that a history with one more has before it

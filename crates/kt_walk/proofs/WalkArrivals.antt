@@ -1,12 +1,12 @@
 -- What a walk keeps of the messages received.
-use Rattle.std.proofs.Common.{◌≡◌, ℕ, ◌+◌, ◌-◌, ◌<◌, ◌≤◌, not, Bool, true, false, Option, Some, None, unwrap_or, IfSome, IfNone, List, [], ◌∷◌, ◌++◌, length, refl, sym, ap, subst, ◌∙◌, arith, append-nil}
+use Rattle.std.proofs.Common.{◌≡◌, ℕ, ◌+◌, ◌<◌, ◌≤◌, not, Bool, true, false, Option, Some, None, unwrap_or, IfSome, IfNone, List, [], ◌∷◌, ◌++◌, length, refl, sym, ap, subst, ◌∙◌, arith, append-nil}
 use Rattle.std.specs.List.{slice_get, slice_index}
 use Rattle.std.specs.Prelude.{Result, Ok, Err, OnOk, OnErr}
 use Rattle.std.proofs.lemmas.Bool.{and_parts}
 use Rattle.kt_base.specs.declared.words.Kind.TheVariants.{Checkpoint, Rollback}
 use Rattle.kt_spacetime.specs.declared.event.Event.{Event}
 use Rattle.kt_spacetime.specs.declared.event.Event.TheVariants.{Sent, Received, Dropped, Began, Took, Ready, Unwilling, Decided, Closed, Failed, Refused}
-use Rattle.kt_walk.specs.declared.channel.Arrival.{Arrival}
+use Rattle.kt_walk.specs.declared.queue.Arrival.{Arrival}
 use Rattle.kt_cuts.specs.declared.deeds.Deed.{Deed}
 use Rattle.kt_cuts.specs.declared.deeds.Deed.TheVariants as deed
 use Rattle.kt_cuts.specs.declared.histories.Trace.{Trace}
@@ -19,9 +19,9 @@ use Rattle.kt_cuts.specs.Lists.{Rises, sent_in}
 use Rattle.kt_cuts.specs.Cuts.{IsOrphan}
 use Rattle.kt_cuts.specs.Orphans.{IsOrphanBetween, IsAtMost}
 use Rattle.kt_cuts.specs.Standing.{ShowsInstances, IsInOrder, IsAllowed, at_number, new_shown, ready_shown}
-use Rattle.kt_walk.specs.Keeping.{kept_at, kept_between, parties_in}
+use Rattle.kt_walk.specs.Keeping.{kept_at, kept_between, parties_in, IsSentAt}
 use Rattle.kt_cuts.specs.Traces.{place_of}
-use Rattle.kt_walk.specs.Arrivals.{Traffic, ShowsArrivals, RollsBack, MakesPermanent, KeepsPermanent, is_quiet}
+use Rattle.kt_walk.specs.Arrivals.{Traffic, ShowsArrivals, RollsBack, MakesPermanent, KeepsPermanent, is_quiet, needs_arrivals}
 use Rattle.kt_walk.specs.TrailParts.{TrailParts}
 use Rattle.kt_walk.specs.PartsOf.{PartsOf, ShowsWalkers}
 use Rattle.kt_walk.specs.TrailOf.{parts_of}
@@ -103,28 +103,20 @@ not_kept w rows p f m o h unbroken was none =
     clash : (o : Option Trace) (t : Trace) → o ≡ Some t → o ≡ None → ⊥
     clash o t e f = cc
 
-kept_sent : (w : TrailParts) (rows : List Event) (p f m : ℕ) (o : Option Trace) (t : Trace) → PartsOf w rows → broken_rule (past rows) (Received p f m) ≡ None → o ≡ kept_at w.kept m → o ≡ Some t
+pub kept_sent : (w : TrailParts) (rows : List Event) (p f m : ℕ) (o : Option Trace) (t : Trace) → PartsOf w rows → broken_rule (past rows) (Received p f m) ≡ None → o ≡ kept_at w.kept m → o ≡ Some t
     → (i : ℕ) × (slice_get ((past rows).live f) i ≡ Some (deed.Sent m p)) × (t.sent ≡ Some (i + 1))
 kept_sent w rows p f m o t h unbroken was here =
     let there = sent_of_kept w rows p f m h unbroken in
     let same : t ≡ record { from = f; to = p; sent = Some (there.0 + 1); received = None } = some_same (sym here ∙ (was ∙ there.2)) in
     (there.0, there.1, ap (λ (x : Trace). x.sent) same)
 
-pub not_unsent : (w : TrailParts) (rows : List Event) (p f m : ℕ) (o : Option Trace) (t : Trace) → PartsOf w rows → broken_rule (past rows) (Received p f m) ≡ None → o ≡ kept_at w.kept m → o ≡ Some t → t.sent ≡ None → ⊥
-not_unsent w rows p f m o t h unbroken was here none =
-    let there = kept_sent w rows p f m o t h unbroken was here in
-    clash t.sent (there.0 + 1) there.2 none
-  where
-    clash : (o : Option ℕ) (n : ℕ) → o ≡ Some n → o ≡ None → ⊥
-    clash o n e f = cc
-
-pub place_of_send : (w : TrailParts) (rows : List Event) (p f m : ℕ) (o : Option Trace) (t : Trace) (n i : ℕ) → PartsOf w rows → broken_rule (past rows) (Received p f m) ≡ None → o ≡ kept_at w.kept m → o ≡ Some t → t.sent ≡ Some n → i ≡ n - 1
-    → slice_get ((past rows).live f) i ≡ Some (deed.Sent m p)
-place_of_send w rows p f m o t n i h unbroken was here sent place =
-    let there = kept_sent w rows p f m o t h unbroken was here in
-    let same : n ≡ there.0 + 1 = some_same (sym sent ∙ there.2) in
-    let is : i ≡ there.0 = omega (arith, place, same) in
-    ap (slice_get ((past rows).live f)) is ∙ there.1
+-- the place of the send of a message that is received
+pub sent_at : (s : Past) (n p f m : ℕ) → slice_get (s.live f) n ≡ Some (deed.Sent m p) → IsSentAt n s (Received p f m)
+sent_at s n p f m at x y z e =
+    let one : p ≡ x = cc in
+    let two : f ≡ y = cc in
+    let three : m ≡ z = cc in
+    subst (λ (a : ℕ). slice_get (s.live y) n ≡ Some (deed.Sent z a)) one (subst (λ (a : ℕ). slice_get (s.live a) n ≡ Some (deed.Sent z p)) two (subst (λ (a : ℕ). slice_get (s.live f) n ≡ Some (deed.Sent a p)) three at))
 
 -- arrivals after a receive
 pub arrives : (cs ds : List Traffic) (rows : List Event) (p f m : ℕ) (a : Arrival)
@@ -156,6 +148,19 @@ quiet_row (Unwilling p k cause) a b = refl
 quiet_row (Closed p k) a b = refl
 quiet_row (Failed p) a b = refl
 quiet_row (Refused p verb cause) a b = refl
+
+pub lone_row : (row : Event) → ((p f m : ℕ) → row ≡ Received p f m → ⊥) → ((p k : ℕ) (commit : Bool) → row ≡ Decided p k commit → ⊥) → needs_arrivals row ≡ false
+lone_row (Received p f m) a b = absurd (a p f m refl)
+lone_row (Decided p k commit) a b = absurd (b p k commit refl)
+lone_row (Sent p to body) a b = refl
+lone_row (Dropped p f m) a b = refl
+lone_row (Began p k kind) a b = refl
+lone_row (Took p k) a b = refl
+lone_row (Ready p k) a b = refl
+lone_row (Unwilling p k cause) a b = refl
+lone_row (Closed p k) a b = refl
+lone_row (Failed p) a b = refl
+lone_row (Refused p verb cause) a b = refl
 
 -- what a call leaves
 pub both_ok : {X E : Type 0} (r : Result X E) (P Q R : Type 0) → (P → Q → R) → OnOk r P → OnOk r Q → OnOk r R
@@ -208,6 +213,24 @@ makes_permanent w rows p k v lengths h at kind each =
     grown : (q : ℕ) (o : Option ℕ) → (past rows).new k q ≡ o → (past rows).permanent q ≤ unwrap_or o ((past rows).permanent q)
     grown q None e = omega arith
     grown q (Some n) e = ((positions rows last.0).within q k n (may_decide (past rows) p k true last.1).undecided e).0
+
+-- the arrivals after a commit
+pub settled_arrivals : (w : TrailParts) (rows : List Event) (p k : ℕ) (commit : Bool) (v : Instance) (lengths : List ℕ) (cs ds : List Traffic) → PartsOf w (rows ++ Decided p k commit ∷ []) → commit ≡ true → at_number w.instances k ≡ Some v → v.kind ≡ Checkpoint
+    → ((r : ℕ) (u : Walker) → slice_get w.walkers r ≡ Some u → slice_index lengths r ≡ u.permanent)
+    → ((s : Past) (p k : ℕ) → ShowsArrivals cs s → MakesPermanent s k lengths → ShowsArrivals ds (after s (Decided p k true)))
+    → ShowsArrivals cs (past rows) → ShowsArrivals ds (past (rows ++ Decided p k commit ∷ []))
+settled_arrivals w rows p k false v lengths cs ds h commits at kind each settles shown = absurd (cc)
+settled_arrivals w rows p k true v lengths cs ds h commits at kind each settles shown =
+    subst (ShowsArrivals ds) (sym (past_push rows (Decided p k true))) (settles (past rows) p k shown (makes_permanent w rows p k v lengths h at kind each))
+
+pub rolled_back_arrivals : (w : TrailParts) (rows : List Event) (p k : ℕ) (commit : Bool) (v : Instance) (lengths : List ℕ) (cs ds : List Traffic) → PartsOf w (rows ++ Decided p k commit ∷ []) → commit ≡ true → at_number w.instances k ≡ Some v → v.kind ≡ Rollback
+    → ((r : ℕ) (u : Walker) → slice_get w.walkers r ≡ Some u → slice_index lengths r ≡ u.permanent)
+    → ((s : Past) (p k : ℕ) → ShowsArrivals cs s → IsInOrder s → RollsBack s k v.joined lengths → ShowsArrivals ds (after s (Decided p k true)))
+    → ShowsArrivals cs (past rows) → ShowsArrivals ds (past (rows ++ Decided p k commit ∷ []))
+rolled_back_arrivals w rows p k false v lengths cs ds h commits at kind each rolls shown = absurd (cc)
+rolled_back_arrivals w rows p k true v lengths cs ds h commits at kind each rolls shown =
+    let legal = (legal_last rows (Decided p k true) h.legal).0 in
+    subst (ShowsArrivals ds) (sym (past_push rows (Decided p k true))) (rolls (past rows) p k shown (in_order rows legal) (rolls_back w rows p k v lengths h at kind each))
 
 -- the orphans of a walk
 pub none_orphan : (o : Option ℕ) (w : WalkParts) (cs : List Traffic) (cut : List ℕ) → w.arrivals ≡ cs

@@ -1,6 +1,7 @@
 -- A walk after a decision.
 use Rattle.std.proofs.Common.{◌≡◌, ℕ, zero, suc, ◌+◌, ◌<◌, ◌≤◌, nat_lt, ◌&&◌, if◌then◌else◌, Bool, true, false, Option, Some, None, unwrap_or, List, [], ◌∷◌, ◌++◌, length, take, refl, sym, ap, ◌∙◌, arith, inl, inr}
 use Rattle.std.specs.Prelude.{slice_index_or}
+use Rattle.std.specs.List.{slice_get, slice_index}
 use Rattle.std.proofs.lemmas.Bool.{cases_lt}
 use Rattle.std.proofs.lemmas.Bool.Decides.{nat_tests}
 use Rattle.std.proofs.lemmas.Option.{slice_get_within}
@@ -23,7 +24,10 @@ use Rattle.kt_walk.specs.Keeping.{kept_between, parties_in}
 use Rattle.kt_walk.specs.Stages.{with_permanent, with_live, settled_below, undone_below, IsWithin, AreInPlace}
 use Rattle.kt_cuts.specs.Traces.{place_of}
 use Rattle.kt_walk.specs.TrailParts.{TrailParts}
+use Rattle.kt_walk.specs.Arrivals.{Traffic, ShowsArrivals, AreReleased}
 use Rattle.kt_walk.specs.PartsOf.{ShowsWalkers, ShowsKept, PartsOf}
+use Rattle.kt_cuts.proofs.Items.{item_there}
+use Rattle.kt_walk.proofs.ReleasedFacts.{released_trail}
 use Rattle.kt_cuts.proofs.SortedFacts.{some_same}
 use Rattle.kt_cuts.proofs.InstanceSteps.{begun_there, decided_instances, new_member, not_new, ready_member, ready_of_checkpoint, new_of_rollback}
 use Rattle.kt_walk.proofs.KeptFacts.{kept_of, same_kept}
@@ -73,12 +77,25 @@ member_position v q n of_kind low = at_test (has v.joined q) refl
     at_test true e = ap (λ (o : Option ℕ). unwrap_or o n) (new_member v q of_kind e) ∙ grind (arith, nat_tests, low, e)
     at_test false e = ap (λ (o : Option ℕ). unwrap_or o n) (not_new v q e) ∙ grind (arith, nat_tests, low, e)
 
-pub checkpoint_row : (w : TrailParts) (rows : List Event) (p k : ℕ) (commit : Bool) (is : List Instance) (x : Instance) (ws : List Walker) (es : List (ℕ × Trace)) → PartsOf w rows → broken_rule (past rows) (event.Decided p k commit) ≡ None → commit ≡ true
+settled_greater : (n : ℕ) (v : Instance) (s : Past) → IsWithin v s → (q : ℕ) → s.permanent q ≤ settled_below n v s.permanent q
+settled_greater n v s w q = at_member (has v.joined q) refl
+  where
+    at_limit : (b : Bool) → s.permanent q ≤ slice_index_or v.positions q 0 → s.permanent q ≤ (if b then slice_index_or v.positions q 0 else s.permanent q)
+    at_limit true l = l
+    at_limit false l = omega arith
+
+    at_member : (b : Bool) → has v.joined q ≡ b → s.permanent q ≤ settled_below n v s.permanent q
+    at_member true e = at_limit (nat_lt q n && has v.joined q) (w q e).0
+    at_member false e = let same : settled_below n v s.permanent q ≡ s.permanent q = grind (arith, nat_tests, e) in omega (arith, same)
+
+pub checkpoint_row : (w : TrailParts) (rows : List Event) (p k : ℕ) (commit : Bool) (is : List Instance) (x : Instance) (ws : List Walker) (es : List (ℕ × Trace)) (lengths : List ℕ) → PartsOf w rows → broken_rule (past rows) (event.Decided p k commit) ≡ None → commit ≡ true
     → ((v : Instance) → at_number w.instances k ≡ Some v → IsDecided w.instances is k commit v) → ((v : Instance) → at_number w.instances k ≡ Some v → Some x ≡ Some (record v { verdict = Some commit })) → x.kind ≡ Checkpoint
-    → ((s : Past) (between : ℕ → Option (ℕ × ℕ)) → ShowsWalkers w.walkers s → ShowsKept w.kept between s → IsWithin x s → ShowsWalkers ws (with_permanent s (settled_below 64 x s.permanent)) × ShowsKept es between (with_permanent s (settled_below 64 x s.permanent)))
+    → ((s : Past) → ShowsWalkers w.walkers s → IsWithin x s → ShowsWalkers ws (with_permanent s (settled_below 64 x s.permanent)))
+    → ((q : ℕ) (u : Walker) → slice_get ws q ≡ Some u → slice_index lengths q ≡ u.permanent)
+    → (cs : List Traffic) → ShowsArrivals cs (past rows) → AreReleased lengths cs w.kept es
     → PartsOf (record { rows = w.rows + 1; walkers = ws; instances = is; beginning = None; kept = es }) (rows ++ event.Decided p k commit ∷ [])
-checkpoint_row w rows p k false is x ws es h unbroken commits decided same of_kind settles = absurd (cc)
-checkpoint_row w rows p k true is x ws es h unbroken commits decided same of_kind settles =
+checkpoint_row w rows p k false is x ws es lengths h unbroken commits decided same of_kind settles each cs shown released = absurd (cc)
+checkpoint_row w rows p k true is x ws es lengths h unbroken commits decided same of_kind settles each cs shown released =
     let s : Past = past rows in
     let row : Event = event.Decided p k true in
     let t : Past = after s row in
@@ -97,13 +114,17 @@ checkpoint_row w rows p k true is x ws es h unbroken commits decided same of_kin
     let bounds = (positions rows h.legal).within q k (slice_index_or v.positions q 0) undecided (new q ∙ new_member v q kind_v joined) in
     let place : slice_index_or v.positions q 0 ≡ slice_index_or x.positions q 0 = ap (λ (y : Instance). slice_index_or y.positions q 0) (sym is_x) in
     (omega (arith, bounds.0, place), omega (arith, bounds.1, place)) in
-    let done = settles s (parties_in rows) h.of_walkers h.of_kept within in
+    let done = settles s h.of_walkers within in
+    let low_lengths : (q : ℕ) → q < 64 → slice_index lengths q ≡ f q = λ q low.
+    let there = item_there ws q (omega (arith, low, done.all)) in
+    each q there.0 there.1 ∙ (done.each q there.0 there.1).permanent in
+    let left = released_trail cs w.kept es (parties_in rows) s lengths f shown released (sound rows h.legal) low_lengths (settled_greater 64 x s within) h.of_kept in
     let none : (q : ℕ) → 64 ≤ q → t.live q ≡ [] = λ q g. live q ∙ h.no_more q g in
     next_walk w rows row (w.rows + 1) _ _ _ es h unbroken refl
     (record {
       each = λ q u at.
-          let low : q < 64 = omega (arith, slice_get_within ws q u at, done.0.all) in
-          let g = done.0.each q u at in
+          let low : q < 64 = omega (arith, slice_get_within ws q u at, done.all) in
+          let g = done.each q u at in
           record {
             length = g.length ∙ ap length (sym (live q));
             permanent = g.permanent ∙ sym (permanent q low);
@@ -113,10 +134,10 @@ checkpoint_row w rows p k true is x ws es h unbroken commits decided same of_kin
             received = λ y l. g.received y l ∙ ap (λ (z : List Deed). Some (last_of (received_in y z))) (sym (live q));
             dropped = g.dropped;
           };
-      all = done.0.all;
+      all = done.all;
     })
     (decided_instances w.instances is s p k true v h.of_instances (decided v there.1)) refl
-    (record { each = λ m. done.1.each m ∙ (ap (kept_between (with_permanent s f) m) (sym (parties_quiet rows row m refl)) ∙ sym (settled_same s t f m (parties_in (rows ++ row ∷ []) m) refl live permanent none)) })
+    (record { each = λ m. left.each m ∙ (ap (kept_between (with_permanent s f) m) (sym (parties_quiet rows row m refl)) ∙ sym (settled_same s t f m (parties_in (rows ++ row ∷ []) m) refl live permanent none)) })
     none
 
 take_none : (n : ℕ) (l : List Deed) → l ≡ [] → take n l ≡ []

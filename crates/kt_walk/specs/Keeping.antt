@@ -1,8 +1,11 @@
 -- The messages that a walk keeps.
-use Rattle.std.specs.Prelude.{ℕ, zero, suc, ◌==◌, ◌&&◌, ◌||◌, not, nat_eq, Bool, if◌then◌else◌, Option, Some, None, option_map, is_some, is_none, List, [], ◌∷◌, ◌++◌, length, filter, slice_set}
+use Rattle.std.specs.Prelude.{◌≡◌, ◌-◌, slice_get, false, ℕ, zero, suc, ◌==◌, ◌&&◌, ◌||◌, not, nat_eq, Bool, if◌then◌else◌, Option, Some, None, option_map, is_some, is_none, List, [], ◌∷◌, ◌++◌, length, filter, slice_set}
 use Rattle.std.specs.Option.{option_flatten}
 use Rattle.std.specs.Map.{lookup}
 use Rattle.kt_spacetime.specs.declared.event.Event.{Event}
+use Rattle.kt_spacetime.specs.declared.event.Event.TheVariants as event
+use Rattle.kt_cuts.specs.declared.deeds.Deed.TheVariants as deed
+use Rattle.kt_cuts.specs.Legal.{is_undelivered}
 use Rattle.kt_cuts.specs.declared.histories.Trace.{Trace}
 use Rattle.kt_walk.specs.declared.recent.Step.{Step}
 use Rattle.kt_cuts.specs.Past.{Past, past}
@@ -82,3 +85,18 @@ restored last (Some step) = restored_from last step.from step.before
 -- whether a message is live and not received, from the one process to the other
 abbrev pub is_on_the_way : Trace → ℕ → ℕ → Bool
 is_on_the_way t p q = (t.from == p) && (t.to == q) && is_some t.sent && is_none t.received
+
+-- whether a row takes a message that is on its way to the row's process
+abbrev pub waits : Past → Event → Bool
+waits s (event.Received p from msg) = is_undelivered s p from msg
+waits s (event.Dropped p from msg) = is_undelivered s p from msg
+waits s row = false
+
+-- the place of a send, counted from 0, of the one counted from 1
+abbrev pub sent_index : Option ℕ → ℕ
+sent_index None = 0
+sent_index (Some n) = n - 1
+
+-- the send of the message that a row receives has this place, counted from 0
+abbrev pub IsSentAt : ℕ → Past → Event → Type 0
+IsSentAt place s row = (p from msg : ℕ) → row ≡ event.Received p from msg → slice_get (s.live from) place ≡ Some (deed.Sent msg p)

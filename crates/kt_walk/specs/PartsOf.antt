@@ -1,7 +1,7 @@
 -- When what a walk knows stands for rows.
 use Rattle.std.specs.Prelude.{◌≡◌, ℕ, ◌<◌, ◌≤◌, Bool, true, false, Option, Some, List, [], length, slice_get}
 use Rattle.kt_spacetime.specs.declared.event.Event.{Event}
-use Rattle.kt_spacetime.specs.declared.event.Event.TheVariants.{Sent, Received, Began}
+use Rattle.kt_spacetime.specs.declared.event.Event.TheVariants.{Sent, Received, Began, Decided}
 use Rattle.kt_cuts.specs.declared.histories.Trace.{Trace}
 use Rattle.kt_walk.specs.declared.walker.Walker.{Walker}
 use Rattle.kt_cuts.specs.Past.{Past, past}
@@ -45,4 +45,5 @@ abbrev pub is_in_room : Event → Bool
 is_in_room (Sent p to body) = false
 is_in_room (Received p from msg) = false
 is_in_room (Began p k kind) = false
+is_in_room (Decided p k commit) = false
 is_in_room _ = true

@@ -23,3 +23,10 @@ pub record KeepsInstances (t u : Trail) : Type 0 where
   pub rows : u.rows ≡ t.rows
   pub instances : u.instances ≡ t.instances
   pub beginning : u.beginning ≡ t.beginning
+
+-- what stays where processes alone change
+pub record KeepsRest (t u : Trail) : Type 0 where
+  pub rows : u.rows ≡ t.rows
+  pub instances : u.instances ≡ t.instances
+  pub beginning : u.beginning ≡ t.beginning
+  pub kept : u.kept ≡ t.kept

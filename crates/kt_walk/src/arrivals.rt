@@ -6,9 +6,11 @@ ghost use Rattle.kt_cuts.specs.declared.deeds.Deed.TheVariants as deed;
 ghost use Rattle.kt_cuts.specs.Past.{Past, start, after};
 ghost use Rattle.kt_cuts.specs.Orphans.{IsOrphanBetween, IsAtMost};
 ghost use Rattle.kt_cuts.specs.Standing.{IsInOrder, IsAllowed};
-ghost use Rattle.kt_walk.specs.Arrivals.{Traffic, AreOpened, IsCutBack, IsSettled, IsHalfOpen, ShowsTraffic, ShowsArrivals, RollsBack, MakesPermanent, KeepsPermanent};
+ghost use Rattle.kt_walk.specs.Arrivals.{Traffic, AreOpened, IsCutBack, IsSettled, IsOpen, AreRising, AreReleased, ShowsTraffic, ShowsArrivals, RollsBack, MakesPermanent, KeepsPermanent};
 
-use crate::channel::{Arrival, Channel};
+use crate::channel::Channel;
+use crate::kept::Kept;
+use crate::queue::Arrival;
 use kt_base::{Memory, MsgNo, ProcNo, ProcSet};
 use kt_cuts::Cut;
 use kt_cuts::orphans::{earlier, process_no};
@@ -66,12 +68,13 @@ impl Arrivals {
         cut_all_back(&mut self.channels, members, permanent);
     }
 
-    /// A committed checkpoint leaves these permanent lengths.
-    pub(crate) fn settle(&mut self, permanent: &[usize; 64])
+    /// A committed checkpoint leaves these permanent lengths. Messages that both permanent parts have are kept no more.
+    pub(crate) fn settle(&mut self, permanent: &[usize; 64], kept: &mut Kept)
         ensures shows { (s : Past) (p k : ℕ) → ShowsArrivals self.old s → MakesPermanent s k permanent.now → ShowsArrivals self.new (after s (event.Decided p k true)) }
-        ensures few { (s : Past) (i : ℕ) (v : Traffic) → ShowsArrivals self.old s → slice_get self.new i ≡ Some v → IsHalfOpen permanent.now v }
+        ensures none { (s : Past) (i : ℕ) (v : Traffic) → ShowsArrivals self.old s → slice_get self.new i ≡ Some v → IsOpen permanent.now v }
+        ensures kept { (s : Past) → ShowsArrivals self.old s → AreReleased permanent.now self.old kept.old kept.new }
     {
-        settle_all(&mut self.channels, permanent);
+        settle_all(&mut self.channels, permanent, kept);
     }
 
     /// The least orphan of a cut that keeps the permanent parts.
@@ -114,12 +117,13 @@ fn cut_all_back(channels: &mut [Channel], members: ProcSet, lengths: &[usize; 64
 }
 
 // Makes these lengths permanent in each channel.
-fn settle_all(channels: &mut [Channel], permanent: &[usize; 64])
+fn settle_all(channels: &mut [Channel], permanent: &[usize; 64], kept: &mut Kept)
     ensures count { length channels.new ≡ length channels.old }
     ensures each { (i : ℕ) (w : Traffic) → slice_get channels.new i ≡ Some w → (v : Traffic) × (slice_get channels.old i ≡ Some v) × IsSettled permanent.now v w }
+    ensures kept { AreRising channels.old → AreReleased permanent.now channels.old kept.old kept.new }
 {
     for channel in channels.iter_mut() {
-        channel.forget(permanent);
+        channel.release(permanent, kept);
     }
 }
 

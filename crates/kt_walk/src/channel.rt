@@ -1,29 +1,24 @@
 //! The messages of one process that stand in the live history of another.
 
-ghost use Rattle.std.specs.Prelude.{◌≡◌, ◌≤◌, ◌<◌, ◌+◌, ◌++◌, ◌∷◌, [], ℕ, List, true, nat_lt, length, drop, map, take, vec_len, vec_capacity, slice_get, slice_index, filter, Some, None, OnOk, OnErr, IfSome};
+ghost use Rattle.std.specs.Prelude.{◌≡◌, ◌⊎◌, ◌≤◌, ◌<◌, ◌+◌, ◌++◌, ◌∷◌, [], ℕ, List, true, nat_lt, length, drop, map, take, vec_len, vec_capacity, slice_get, slice_index, filter, Some, None, OnOk, OnErr, IfSome};
 ghost use Rattle.kt_base.specs.Sets.{has};
 ghost use Rattle.kt_cuts.specs.declared.deeds.Deed.{Deed};
-ghost use Rattle.kt_walk.specs.declared.channel.Arrival.{Arrival};
+ghost use Rattle.kt_walk.specs.declared.queue.Arrival.{Arrival};
 ghost use Rattle.kt_walk.specs.declared.channel.Undone.{Undone};
 ghost use Rattle.kt_cuts.specs.Past.{Past};
 ghost use Rattle.kt_cuts.specs.Lists.{Rises, sent_in};
 ghost use Rattle.kt_cuts.specs.Orphans.{IsOrphanBetween, IsAtMost};
 ghost use Rattle.kt_cuts.specs.Standing.{IsInOrder};
-ghost use Rattle.kt_walk.specs.Arrivals.{IsRising, Parts, sent_at, received_at, undo, IsTraffic, ShowsTraffic, IsHalfOpen, cut_back};
+ghost use Rattle.kt_walk.specs.Arrivals.{IsRising, Parts, sent_at, received_at, undo, IsTraffic, ShowsTraffic, IsOpen, IsReleased, cut_back};
+ghost use Rattle.kt_walk.specs.Keeping.{kept_at};
 
+use crate::kept::Kept;
+use crate::queue::{Arrival, Queue};
 use kt_base::{Memory, MsgNo, ProcNo, ProcSet};
 use kt_cuts::Cut;
 use kt_cuts::orphans::{earlier, if_wanted};
 use std::alloc::Global;
 use std::marker::Model;
-
-/// A message in its receiver's live history, whose send is in its sender's. Places count from 0.
-#[derive(Clone, Copy)]
-pub(crate) struct Arrival {
-    pub(crate) msg: MsgNo,
-    pub(crate) sent: usize,
-    pub(crate) received: usize,
-}
 
 /// A message in its receiver's live history, whose send was undone.
 #[derive(Clone, Copy)]
@@ -38,20 +33,20 @@ pub(crate) struct Channel {
     receiver: ProcNo,
     sender: ProcNo,
     // In the order of their sends, which is that of their receives.
-    arrivals: Vec<Arrival>,
+    arrivals: Queue,
     // With room for all the arrivals.
     undone: Vec<Undone>,
 }
 
 impl Model for Channel {
-    ghost use Rattle.std.specs.Prelude.{◌+◌, ◌≤◌, vec_len, vec_capacity};
+    ghost use Rattle.std.specs.Prelude.{◌+◌, ◌≤◌, length, vec_len, vec_capacity};
     ghost use Rattle.kt_walk.specs.Arrivals.{Traffic};
 
     ghost Value = { Traffic };
 
-    ghost view = { λ c. record { receiver = c.receiver; sender = c.sender; arrivals = c.arrivals.items; undone = c.undone.items } };
+    ghost view = { λ c. record { receiver = c.receiver; sender = c.sender; arrivals = c.arrivals; undone = c.undone.items } };
 
-    ghost invariant = { λ c. vec_len c.undone + vec_len c.arrivals ≤ vec_capacity c.undone };
+    ghost invariant = { λ c. vec_len c.undone + length c.arrivals ≤ vec_capacity c.undone };
 }
 
 impl Channel {
@@ -62,7 +57,7 @@ impl Channel {
         Channel {
             receiver,
             sender,
-            arrivals: Vec::new(alloc),
+            arrivals: Queue::new(alloc),
             undone: Vec::new(alloc),
         }
     }
@@ -72,9 +67,8 @@ impl Channel {
         ensures ok { OnOk result (self.new ≡ record self.old { arrivals = self.old.arrivals ++ arrival ∷ [] }) }
         ensures err { OnErr result (self.new ≡ self.old) }
     {
-        self.arrivals.reserve(1)?;
         self.undone.reserve(self.arrivals.len() + 1)?;
-        self.arrivals.push_reserved(arrival);
+        self.arrivals.push(arrival)?;
         Ok(())
     }
 
@@ -118,8 +112,9 @@ impl Channel {
         ensures sender { self.new.sender ≡ self.old.sender }
         ensures traffic { (received sent : List Deed) (i j : ℕ) → Rises (sent_in sent) → j ≤ length → IsTraffic self.old received sent i j → IsTraffic self.new received (take length sent) i j }
     {
-        let kept = count_sent_before(&self.arrivals, length);
-        undo_all(&mut self.undone, &self.arrivals[kept..]);
+        let arrivals = self.arrivals.as_slice();
+        let kept = count_sent_before(arrivals, length);
+        undo_all(&mut self.undone, &arrivals[kept..]);
         self.arrivals.truncate(kept);
     }
 
@@ -129,27 +124,28 @@ impl Channel {
         ensures sender { self.new.sender ≡ self.old.sender }
         ensures traffic { (received sent : List Deed) (i j : ℕ) → IsTraffic self.old received sent i j → IsTraffic self.new (take length received) sent i j }
     {
-        let kept = count_received_before(&self.arrivals, length);
+        let kept = count_received_before(self.arrivals.as_slice(), length);
         self.arrivals.truncate(kept);
         keep_received_before(&mut self.undone, length);
     }
 
-    /// Forgets what both permanent parts have, of these lengths by process, where that is more than the half.
-    pub(crate) fn forget(&mut self, permanent: &[usize; 64])
+    /// Forgets what both permanent parts have, of these lengths by process, here and among the messages kept.
+    pub(crate) fn release(&mut self, permanent: &[usize; 64], kept: &mut Kept)
         ensures receiver { self.new.receiver ≡ self.old.receiver }
         ensures sender { self.new.sender ≡ self.old.sender }
         ensures traffic { (received sent : List Deed) (i j : ℕ) → i ≤ slice_index permanent.now self.old.receiver → j ≤ slice_index permanent.now self.old.sender → IsTraffic self.old received sent i j → IsTraffic self.new received sent (slice_index permanent.now self.old.receiver) (slice_index permanent.now self.old.sender) }
-        ensures few { IsRising self.old.arrivals → IsHalfOpen permanent.now self.new }
+        ensures none { IsRising self.old.arrivals → IsOpen permanent.now self.new }
+        ensures kept { IsRising self.old.arrivals → IsReleased permanent.now self.old kept.old kept.new }
     {
-        let sent = count_sent_before(&self.arrivals, permanent[self.sender.get() as usize]);
-        let received = count_received_before(
-            &self.arrivals,
-            permanent[self.receiver.get() as usize],
-        );
-        let covered = sent.min(received);
-        if covered > self.arrivals.len() / 2 {
-            self.arrivals.drain(..covered);
+        let arrivals = self.arrivals.as_slice();
+        if arrivals.is_empty() {
+            return;
         }
+        let sent = count_sent_before(arrivals, permanent[self.sender.get() as usize]);
+        let received = count_received_before(arrivals, permanent[self.receiver.get() as usize]);
+        let covered = sent.min(received);
+        remove_all(kept, &arrivals[..covered]);
+        self.arrivals.skip(covered);
     }
 
     /// The least message that is received within its receiver's part and not sent within its sender's.
@@ -157,10 +153,13 @@ impl Channel {
         ensures orphan { IfSome result (λ msg. (s : Past) → IsInOrder s → ShowsTraffic self.now s → IsOrphanBetween s (slice_index cut.now) self.now.receiver self.now.sender msg) }
         ensures least { (s : Past) (msg : ℕ) → s.permanent self.now.sender ≤ slice_index cut.now self.now.sender → ShowsTraffic self.now s → IsOrphanBetween s (slice_index cut.now) self.now.receiver self.now.sender msg → IsAtMost result msg }
     {
+        if self.arrivals.len() == 0 && self.undone.is_empty() {
+            return None;
+        }
         let received = cut.length(self.receiver);
         let sent = cut.length(self.sender);
         earlier(
-            first_past(&self.arrivals, sent, received),
+            first_past(self.arrivals.as_slice(), sent, received),
             first_undone(&self.undone, received),
         )
     }
@@ -188,6 +187,16 @@ fn count_received_before(arrivals: &[Arrival], place: usize) -> usize
             ensures { result ≡ nat_lt arrival.now.received place }
         { arrival.received < place },
     )
+}
+
+// Takes the messages of these arrivals out.
+fn remove_all(kept: &mut Kept, arrivals: &[Arrival])
+    ensures gone { (k : ℕ) (a : Arrival) → slice_get arrivals.now k ≡ Some a → kept_at kept.new a.msg ≡ None }
+    ensures others { (m : ℕ) → (kept_at kept.new m ≡ kept_at kept.old m) ⊎ ((k : ℕ) × (a : Arrival) × (slice_get arrivals.now k ≡ Some a) × (a.msg ≡ m) × (kept_at kept.new m ≡ None)) }
+{
+    for arrival in arrivals {
+        kept.remove(arrival.msg);
+    }
 }
 
 // Adds arrivals to what was undone, where there is room.

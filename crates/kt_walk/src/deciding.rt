@@ -3,25 +3,25 @@
 ghost use Rattle.std.specs.Prelude.{◌≡◌, ◌<◌, ◌≤◌, ◌^◌, ◌++◌, ◌∷◌, [], ℕ, Option, List, None, length, take, ◌+◌, ◌-◌};
 ghost use Rattle.kt_spacetime.specs.declared.event.Event.{Event};
 ghost use Rattle.kt_spacetime.specs.declared.event.Event.TheVariants as event;
-ghost use Rattle.kt_cuts.specs.Orphans.{is_within};
 
+use crate::arrivals::Arrivals;
 use crate::trail::Trail;
-use kt_base::{InstNo, Kind, MsgNo, ProcNo};
-use kt_cuts::Trace;
+use kt_base::{InstNo, Kind, ProcNo};
 use kt_cuts::instances::{Instance, judge};
-use kt_cuts::orphans::is_within;
 
 impl Trail {
     ghost use Rattle.kt_cuts.specs.Past.{Past, past, at_one};
     ghost use Rattle.kt_cuts.specs.Legal.{broken_rule};
-    ghost use Rattle.kt_walk.specs.Keeping.{kept_at, uncovered, is_covered};
-    ghost use Rattle.kt_walk.specs.TrailOf.{TrailOf, ShowsTrail, KeepsInstances};
-    ghost use Rattle.kt_walk.specs.Stages.{with_permanent, with_live, settled_below, settled_at, undone_below, undone_at, IsWithin, AreInPlace, HasPermanent};
+    ghost use Rattle.kt_walk.specs.Arrivals.{ShowsArrivals};
+    ghost use Rattle.kt_walk.specs.PartsOf.{ShowsWalkers};
+    ghost use Rattle.kt_walk.specs.TrailOf.{TrailOf, ShowsTrail, KeepsInstances, KeepsRest};
+    ghost use Rattle.kt_walk.specs.Stages.{with_permanent, with_live, settled_below, settled_at, undone_below, undone_at, IsWithin, AreInPlace};
 
     /// An instance is decided.
-    pub(crate) fn decide(&mut self, inst: InstNo, commit: bool)
+    pub(crate) fn decide(&mut self, arrivals: &mut Arrivals, inst: InstNo, commit: bool)
         requires few { self.old.rows < 2 ^ 24 }
-        ensures { (rows : List Event) (p : ℕ) → TrailOf self.old rows → broken_rule (past rows) (event.Decided p inst commit) ≡ None → TrailOf self.new (rows ++ event.Decided p inst commit ∷ []) }
+        ensures fed { (rows : List Event) (p : ℕ) → TrailOf self.old rows → broken_rule (past rows) (event.Decided p inst commit) ≡ None → ShowsArrivals arrivals.old (past rows) → TrailOf self.new (rows ++ event.Decided p inst commit ∷ []) }
+        ensures arrived { (rows : List Event) (p : ℕ) → TrailOf self.old rows → broken_rule (past rows) (event.Decided p inst commit) ≡ None → ShowsArrivals arrivals.old (past rows) → ShowsArrivals arrivals.new (past (rows ++ event.Decided p inst commit ∷ [])) }
     {
         let Some(instance) = judge(&mut self.instances, inst, commit) else {
             self.pass();
@@ -34,19 +34,23 @@ impl Trail {
         match instance.kind {
             Kind::Checkpoint => {
                 self.settle_members(&instance);
+                let permanent = self.permanent_lengths();
+                arrivals.settle(&permanent, &mut self.kept);
                 self.pass();
             }
             Kind::Rollback => {
                 self.undo_members(&instance);
+                let permanent = self.permanent_lengths();
+                arrivals.roll_back(instance.joined, &permanent);
                 self.pass();
             }
         }
     }
 
-    // Makes the members' new positions permanent.
+    // Makes the members' new positions permanent. What is kept of messages is as it was.
     fn settle_members(&mut self, instance: &Instance)
-        ensures kept { KeepsInstances self.old self.new }
-        ensures settled { (s : Past) (between : ℕ → Option (ℕ × ℕ)) → ShowsTrail self.old between s → IsWithin instance.now s → ShowsTrail self.new between (with_permanent s (settled_below 64 instance.now s.permanent)) }
+        ensures rest { KeepsRest self.old self.new }
+        ensures settled { (s : Past) → ShowsWalkers self.old.walkers.items s → IsWithin instance.now s → ShowsWalkers self.new.walkers.items (with_permanent s (settled_below 64 instance.now s.permanent)) }
     {
         for number in 0..ProcNo::COUNT {
             self.settle_if(instance, number);
@@ -55,8 +59,8 @@ impl Trail {
 
     fn settle_if(&mut self, instance: &Instance, number: u8)
         requires { number < 64 }
-        ensures kept { KeepsInstances self.old self.new }
-        ensures settled { (s : Past) (between : ℕ → Option (ℕ × ℕ)) → ShowsTrail self.old between s → IsWithin instance.now s → ShowsTrail self.new between (with_permanent s (settled_at number instance.now s.permanent)) }
+        ensures rest { KeepsRest self.old self.new }
+        ensures settled { (s : Past) → ShowsWalkers self.old.walkers.items s → IsWithin instance.now s → ShowsWalkers self.new.walkers.items (with_permanent s (settled_at number instance.now s.permanent)) }
     {
         if instance.has_joined(number) {
             self.settle_to(number, instance.positions[number as usize]);
@@ -66,8 +70,8 @@ impl Trail {
     // Makes a process's history permanent up to this position.
     fn settle_to(&mut self, number: u8, position: usize)
         requires { number < 64 }
-        ensures kept { KeepsInstances self.old self.new }
-        ensures settled { (s : Past) (between : ℕ → Option (ℕ × ℕ)) → ShowsTrail self.old between s → s.permanent number ≤ position → position ≤ length (s.live number) → ShowsTrail self.new between (with_permanent s (at_one number position s.permanent)) }
+        ensures rest { KeepsRest self.old self.new }
+        ensures settled { (s : Past) → ShowsWalkers self.old.walkers.items s → s.permanent number ≤ position → position ≤ length (s.live number) → ShowsWalkers self.new.walkers.items (with_permanent s (at_one number position s.permanent)) }
     {
         self.settle_places(number, position);
         self.compact(number);
@@ -76,17 +80,16 @@ impl Trail {
     // Gives back the room of what a process no longer keeps.
     fn compact(&mut self, number: u8)
         requires { number < 64 }
-        ensures same { KeepsInstances self.old self.new }
+        ensures rest { KeepsRest self.old self.new }
         ensures walkers { self.new.walkers.items ≡ self.old.walkers.items }
-        ensures kept { self.new.kept ≡ self.old.kept }
     {
         self.walkers[number as usize].recent.compact();
     }
 
     fn settle_places(&mut self, number: u8, position: usize)
         requires { number < 64 }
-        ensures kept { KeepsInstances self.old self.new }
-        ensures settled { (s : Past) (between : ℕ → Option (ℕ × ℕ)) → ShowsTrail self.old between s → s.permanent number ≤ position → position ≤ length (s.live number) → ShowsTrail self.new between (with_permanent s (at_one number position s.permanent)) }
+        ensures rest { KeepsRest self.old self.new }
+        ensures settled { (s : Past) → ShowsWalkers self.old.walkers.items s → s.permanent number ≤ position → position ≤ length (s.live number) → ShowsWalkers self.new.walkers.items (with_permanent s (at_one number position s.permanent)) }
     {
         for place in self.walkers[number as usize].permanent..position {
             self.settle(number, place);
@@ -97,36 +100,10 @@ impl Trail {
     fn settle(&mut self, number: u8, place: usize)
         requires number { number < 64 }
         requires place { place + 1 < 2 ^ 64 }
-        ensures kept { KeepsInstances self.old self.new }
-        ensures settled { (s : Past) (between : ℕ → Option (ℕ × ℕ)) → ShowsTrail self.old between s → s.permanent number ≡ place → place < length (s.live number) → ShowsTrail self.new between (with_permanent s (at_one number (place + 1) s.permanent)) }
+        ensures rest { KeepsRest self.old self.new }
+        ensures settled { (s : Past) → ShowsWalkers self.old.walkers.items s → s.permanent number ≡ place → place < length (s.live number) → ShowsWalkers self.new.walkers.items (with_permanent s (at_one number (place + 1) s.permanent)) }
     {
-        let Some(step) = self.walkers[number as usize].settle(place) else {
-            return;
-        };
-        self.release(step.msg);
-    }
-
-    // Forgets a message whose rows both lie within the permanent positions.
-    fn release(&mut self, msg: MsgNo)
-        ensures same { KeepsInstances self.old self.new }
-        ensures walkers { self.new.walkers ≡ self.old.walkers }
-        ensures kept { (permanent : ℕ → ℕ) → HasPermanent self.old.walkers.items permanent → (m : ℕ) → kept_at self.new.kept m ≡ at_one msg (uncovered permanent (kept_at self.old.kept msg)) (kept_at self.old.kept) m }
-    {
-        let Some(trace) = self.kept.get(msg) else {
-            return;
-        };
-        if self.is_covered(&trace) {
-            self.kept.remove(msg);
-        }
-    }
-
-    // Whether both rows of a message lie within the permanent positions.
-    fn is_covered(&self, trace: &Trace) -> bool
-        ensures { (permanent : ℕ → ℕ) → HasPermanent self.now.walkers.items permanent → result ≡ is_covered permanent trace.now }
-    {
-        let from = self.walker(trace.from).permanent;
-        let to = self.walker(trace.to).permanent;
-        is_within(trace.sent, from) && is_within(trace.received, to)
+        self.walkers[number as usize].settle(place);
     }
 
     // Cuts the members' histories back to their permanent positions.

@@ -1,12 +1,12 @@
 //! A walk takes one more row.
 
-ghost use Rattle.std.specs.Prelude.{◌≡◌, ◌<◌, ◌^◌, ◌+◌, ◌++◌, ◌∷◌, [], ℕ, List, OnOk, OnErr, Some, None, true, length, slice_get};
+ghost use Rattle.std.specs.Prelude.{◌≡◌, ◌<◌, ◌^◌, ◌+◌, ◌++◌, ◌∷◌, [], ℕ, List, OnOk, OnErr, Some, None, true, false, length, slice_get};
 ghost use Rattle.kt_spacetime.specs.declared.event.Event.{Event};
 ghost use Rattle.kt_spacetime.specs.declared.event.Event.TheVariants as event;
 ghost use Rattle.kt_cuts.specs.declared.deeds.Deed.TheVariants as deed;
 
 use crate::arrivals::Arrivals;
-use crate::channel::Arrival;
+use crate::queue::Arrival;
 use crate::trail::Trail;
 use kt_base::{InstNo, Kind, Memory, MsgNo, ProcNo, ProcSet};
 use kt_cuts::Trace;
@@ -16,15 +16,15 @@ use kt_spacetime::Event;
 impl Trail {
     ghost use Rattle.kt_cuts.specs.Past.{past};
     ghost use Rattle.kt_cuts.specs.Legal.{broken_rule};
-    ghost use Rattle.kt_walk.specs.Arrivals.{ShowsArrivals, is_quiet};
+    ghost use Rattle.kt_walk.specs.Arrivals.{ShowsArrivals, needs_arrivals};
     ghost use Rattle.kt_cuts.specs.Standing.{at_number, rolled_back_shown};
     ghost use Rattle.kt_walk.specs.PartsOf.{is_in_room};
     ghost use Rattle.kt_walk.specs.TrailOf.{TrailOf, parts_of};
 
-    /// Takes one more row that breaks no rule, other than a receive.
+    /// Takes one more row that breaks no rule, other than a receive and a decision.
     pub(crate) fn add(&mut self, row: &Event) -> Result<(), Memory>
         requires few { self.old.rows < 2 ^ 24 }
-        ensures fed { OnOk result ((rows : List Event) → TrailOf self.old rows → broken_rule (past rows) row.now ≡ None → is_quiet row.now ≡ true → TrailOf self.new (rows ++ row.now ∷ [])) }
+        ensures fed { OnOk result ((rows : List Event) → TrailOf self.old rows → broken_rule (past rows) row.now ≡ None → needs_arrivals row.now ≡ false → TrailOf self.new (rows ++ row.now ∷ [])) }
         ensures unchanged { OnErr result (parts_of self.new ≡ parts_of self.old) }
     {
         match *row {
@@ -45,12 +45,14 @@ impl Trail {
         match *row {
             Event::Dropped { p, from, msg } => self.lose(p, from, msg),
             Event::Took { p, inst } | Event::Ready { p, inst } => self.join(p, inst),
-            Event::Decided { inst, commit, .. } => self.decide(inst, commit),
             Event::Closed { p, inst } => self.close(p, inst),
             Event::Failed { p } => self.fail(p),
             Event::Unwilling { .. } => self.pass(),
             Event::Refused { .. } => self.pass(),
-            Event::Sent { .. } | Event::Received { .. } | Event::Began { .. } => {}
+            Event::Sent { .. }
+            | Event::Received { .. }
+            | Event::Began { .. }
+            | Event::Decided { .. } => {}
         }
     }
 
@@ -78,24 +80,29 @@ impl Trail {
         Ok(())
     }
 
-    /// Receives a message, and adds it to the arrivals.
+    /// Receives a message, whose send has this place, counted from 0, and adds it to the arrivals.
     pub(crate) fn receive(
         &mut self,
         arrivals: &mut Arrivals,
         p: ProcNo,
         from: ProcNo,
         msg: MsgNo,
+        sent: usize,
     ) -> Result<(), Memory>
         requires few { self.old.rows < 2 ^ 24 }
         ensures fed { OnOk result ((rows : List Event) → TrailOf self.old rows → broken_rule (past rows) (event.Received p from msg) ≡ None → TrailOf self.new (rows ++ event.Received p from msg ∷ [])) }
-        ensures arrived { OnOk result ((rows : List Event) → TrailOf self.old rows → broken_rule (past rows) (event.Received p from msg) ≡ None → ShowsArrivals arrivals.old (past rows) → ShowsArrivals arrivals.new (past (rows ++ event.Received p from msg ∷ []))) }
+        ensures arrived { OnOk result ((rows : List Event) → TrailOf self.old rows → broken_rule (past rows) (event.Received p from msg) ≡ None → slice_get ((past rows).live from) sent ≡ Some (deed.Sent msg p) → ShowsArrivals arrivals.old (past rows) → ShowsArrivals arrivals.new (past (rows ++ event.Received p from msg ∷ []))) }
         ensures unchanged { OnErr result (parts_of self.new ≡ parts_of self.old) }
         ensures same_arrivals { OnErr result (arrivals.new ≡ arrivals.old) }
     {
         let walker = self.walker(p);
         let place = walker.next_place();
         let before = walker.last_received(from);
-        let arrival = self.arrival(p, msg);
+        let arrival = Arrival {
+            msg,
+            sent,
+            received: walker.length,
+        };
         let walker = &mut self.walkers[p.get() as usize];
         walker.recent.push(msg, Some(from), before, place)?;
         if let Err(fault) = arrivals.receive(p, from, arrival) {
@@ -107,32 +114,6 @@ impl Trail {
         self.kept.receive(msg, place);
         self.pass();
         Ok(())
-    }
-
-    // A message that this process receives next.
-    fn arrival(&self, p: ProcNo, msg: MsgNo) -> Arrival
-        ensures msg { result.msg ≡ msg }
-        ensures received { (rows : List Event) → TrailOf self.now rows → result.received ≡ length ((past rows).live p) }
-        ensures sent { (rows : List Event) (from : ℕ) → TrailOf self.now rows → broken_rule (past rows) (event.Received p from msg) ≡ None → slice_get ((past rows).live from) result.sent ≡ Some (deed.Sent msg p) }
-    {
-        Arrival {
-            msg,
-            sent: self.sent_place(msg),
-            received: self.walker(p).length,
-        }
-    }
-
-    // The place of the send of a message that is on the way, counted from 0.
-    fn sent_place(&self, msg: MsgNo) -> usize
-        ensures { (rows : List Event) (p from : ℕ) → TrailOf self.now rows → broken_rule (past rows) (event.Received p from msg) ≡ None → slice_get ((past rows).live from) result ≡ Some (deed.Sent msg p) }
-    {
-        let Some(trace) = self.kept.get(msg) else {
-            return 0;
-        };
-        let Some(place) = trace.sent else {
-            return 0;
-        };
-        place.saturating_sub(1)
     }
 
     fn begin(&mut self, p: ProcNo, inst: InstNo, kind: Kind) -> Result<(), Memory>

@@ -6,6 +6,7 @@ mod channel;
 mod deciding;
 mod feeding;
 mod kept;
+mod queue;
 mod recent;
 mod trail;
 mod walk;

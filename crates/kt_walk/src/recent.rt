@@ -78,17 +78,15 @@ impl Recent {
         Ok(())
     }
 
-    /// Takes the first step, if it is at this place. Its room is given back by `compact`.
-    pub(crate) fn pop_first(&mut self, place: usize) -> Option<Step>
-        ensures step { result ≡ if_at place (slice_get self.old 0) }
-        ensures rest { self.new ≡ without_first result self.old }
+    /// Drops the first step, if it is at this place. Its room is given back by `compact`.
+    pub(crate) fn drop_first(&mut self, place: usize)
+        ensures { self.new ≡ without_first (if_at place (slice_get self.old 0)) self.old }
     {
-        let first = self.steps.get(self.taken).copied()?;
-        if first.place != place {
-            return None;
+        if let Some(first) = self.steps.get(self.taken)
+            && first.place == place
+        {
+            self.taken += 1;
         }
-        self.taken += 1;
-        Some(first)
     }
 
     /// Takes the last step, if it is at this place.

@@ -1,10 +1,13 @@
 //! What a walk knows after the rows so far, without the rows.
 
-ghost use Rattle.std.specs.Prelude.{◌≡◌, ◌<◌, ◌+◌, ◌^◌, [], ℕ, Some, List, length, slice_get, slice_index, IfOk};
+ghost use Rattle.std.specs.Prelude.{◌≡◌, ◌||◌, not, None, is_some, ◌<◌, ◌+◌, ◌^◌, [], ℕ, Some, List, length, slice_get, slice_index, IfOk};
 ghost use Rattle.std.specs.Option.{option_copied};
 ghost use Rattle.kt_spacetime.specs.declared.event.Event.{Event};
-ghost use Rattle.kt_cuts.specs.Past.{start};
-ghost use Rattle.kt_walk.specs.Keeping.{is_on_the_way};
+ghost use Rattle.kt_spacetime.specs.declared.event.Event.TheVariants as event;
+ghost use Rattle.kt_cuts.specs.declared.deeds.Deed.TheVariants as deed;
+ghost use Rattle.kt_cuts.specs.Past.{Past, start};
+ghost use Rattle.kt_cuts.specs.Legal.{keeps_message};
+ghost use Rattle.kt_walk.specs.Keeping.{is_on_the_way, waits, sent_index, IsSentAt};
 ghost use Rattle.kt_walk.specs.PartsOf.{ShowsWalkers};
 
 use crate::kept::Kept;
@@ -43,7 +46,7 @@ impl Trail {
     ghost use Rattle.kt_spacetime.specs.Events.{process_of};
     ghost use Rattle.kt_walk.specs.declared.walker.Walker.{Walker};
     ghost use Rattle.kt_cuts.specs.Past.{past};
-    ghost use Rattle.kt_cuts.specs.Legal.{broken_rule, keeps_message, keeps_order, is_undelivered, is_latest};
+    ghost use Rattle.kt_cuts.specs.Legal.{broken_rule, keeps_order, is_undelivered, is_latest};
     ghost use Rattle.kt_cuts.specs.Grounds.{ShowsGrounds};
     ghost use Rattle.kt_cuts.specs.Standing.{at_number};
     ghost use Rattle.kt_walk.specs.TrailOf.{TrailOf};
@@ -109,11 +112,23 @@ impl Trail {
         }
     }
 
-    /// The least rule that the next row would break.
-    pub(crate) fn broken_rule(&self, row: &Event) -> Option<Rule>
-        ensures { (rows : List Event) → TrailOf self.now rows → result ≡ broken_rule (past rows) row.now }
+    /// The place of the send, counted from 1, of the message that a row takes, if it is on its way to the row's process.
+    pub(crate) fn waiting(&self, row: &Event) -> Option<usize>
+        ensures is { (rows : List Event) → TrailOf self.now rows → is_some result ≡ waits (past rows) row.now }
+        ensures place { (rows : List Event) → TrailOf self.now rows → broken_rule (past rows) row.now ≡ None → IsSentAt (sent_index result) (past rows) row.now }
     {
-        let message_kept = self.keeps_message(row);
+        match *row {
+            Event::Received { p, from, msg } => self.undelivered(p, from, msg),
+            Event::Dropped { p, from, msg } => self.undelivered(p, from, msg),
+            _ => None,
+        }
+    }
+
+    /// The least rule that the next row would break; whether the message that it takes is on its way is given.
+    pub(crate) fn broken_rule(&self, row: &Event, is_waiting: bool) -> Option<Rule>
+        ensures { (rows : List Event) → TrailOf self.now rows → is_waiting ≡ waits (past rows) row.now → result ≡ broken_rule (past rows) row.now }
+    {
+        let message_kept = is_waiting || !takes_message(row);
         let order_kept = self.keeps_order(row);
         let grounds = self.grounds(row.process());
         grounds.broken_rule(row, message_kept, order_kept)
@@ -132,24 +147,19 @@ impl Trail {
         }
     }
 
-    fn keeps_message(&self, row: &Event) -> bool
-        ensures { (rows : List Event) → TrailOf self.now rows → result ≡ keeps_message (past rows) row.now }
-    {
-        match *row {
-            Event::Received { p, from, msg } | Event::Dropped { p, from, msg } => {
-                self.is_undelivered(p, from, msg)
-            }
-            _ => true,
-        }
-    }
-
-    fn is_undelivered(&self, p: ProcNo, from: ProcNo, msg: MsgNo) -> bool
-        ensures { (rows : List Event) → TrailOf self.now rows → result ≡ is_undelivered (past rows) p from msg }
+    // The place of the send of a message that is on its way, counted from 1.
+    fn undelivered(&self, p: ProcNo, from: ProcNo, msg: MsgNo) -> Option<usize>
+        ensures is { (rows : List Event) → TrailOf self.now rows → is_some result ≡ is_undelivered (past rows) p from msg }
+        ensures place { (rows : List Event) → TrailOf self.now rows → broken_rule (past rows) (event.Received p from msg) ≡ None → slice_get ((past rows).live from) (sent_index result) ≡ Some (deed.Sent msg p) }
     {
         let Some(trace) = self.kept.get(msg) else {
-            return false;
+            return None;
         };
-        is_on_the_way(&trace, from, p)
+        if is_on_the_way(&trace, from, p) {
+            trace.sent
+        } else {
+            None
+        }
     }
 
     fn keeps_order(&self, row: &Event) -> bool
@@ -170,6 +180,16 @@ impl Trail {
         let received = walker.last_received(from);
         let dropped = walker.last_dropped(from);
         is_after(msg, received) && is_after(msg, dropped)
+    }
+}
+
+// Whether a row receives or drops a message.
+fn takes_message(row: &Event) -> bool
+    ensures { (s : Past) → keeps_message s row.now ≡ (waits s row.now || not result) }
+{
+    match *row {
+        Event::Received { .. } | Event::Dropped { .. } => true,
+        _ => false,
     }
 }
 

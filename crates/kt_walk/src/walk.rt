@@ -7,15 +7,14 @@ ghost use Rattle.kt_cuts.specs.declared.rules.Rule.{Rule};
 ghost use Rattle.kt_cuts.specs.declared.legality.LegalFault.TheVariants as fault;
 ghost use Rattle.kt_cuts.specs.Past.{past};
 ghost use Rattle.kt_cuts.specs.Legal.{IsLegal, broken_rule, first_broken};
-ghost use Rattle.kt_walk.specs.Keeping.{kept_trace, held_of};
+ghost use Rattle.kt_walk.specs.Keeping.{kept_trace, held_of, sent_index, IsSentAt};
 ghost use Rattle.kt_cuts.specs.Cuts.{IsOrphan};
-ghost use Rattle.kt_walk.specs.Arrivals.{KeepsPermanent, ShowsArrivals};
-ghost use Rattle.kt_walk.specs.TrailOf.{TrailOf};
+ghost use Rattle.kt_walk.specs.Arrivals.{KeepsPermanent};
 ghost use Rattle.kt_walk.specs.WalkOf.{WalkOf};
 
 use crate::arrivals::Arrivals;
 use crate::trail::Trail;
-use kt_base::{InstNo, Kind, Memory, MsgNo, ProcNo};
+use kt_base::{InstNo, Memory, MsgNo, ProcNo};
 use kt_cuts::{Cut, LegalFault, Trace};
 use kt_spacetime::Event;
 use std::alloc::Global;
@@ -58,39 +57,30 @@ impl Walk {
         ensures broken { (number : ℕ) (rule : Rule) → result ≡ Err (fault.Broken number rule) → (rows : List Event) → WalkOf self.old rows → IsLegal rows × (first_broken (rows ++ row.now ∷ []) ≡ Some (number, rule)) }
         ensures unchanged { OnErr result (self.new ≡ self.old) }
     {
-        if let Some(rule) = self.trail.broken_rule(row) {
+        let waiting = self.trail.waiting(row);
+        if let Some(rule) = self.trail.broken_rule(row, waiting.is_some()) {
             return Err(LegalFault::Broken(self.trail.next_row(), rule));
         }
-        self.add(row)?;
+        self.add(row, waiting)?;
         Ok(())
     }
 
-    // Takes one more row that breaks no rule.
-    fn add(&mut self, row: &Event) -> Result<(), Memory>
+    // Takes one more row that breaks no rule; the place of the send, counted from 1, of the message that it receives is given.
+    fn add(&mut self, row: &Event, waiting: Option<usize>) -> Result<(), Memory>
         requires few { self.old.rows < 2 ^ 24 }
-        ensures fed { OnOk result ((rows : List Event) → WalkOf self.old rows → broken_rule (past rows) row.now ≡ None → WalkOf self.new (rows ++ row.now ∷ [])) }
+        ensures fed { OnOk result ((rows : List Event) → WalkOf self.old rows → broken_rule (past rows) row.now ≡ None → IsSentAt (sent_index waiting) (past rows) row.now → WalkOf self.new (rows ++ row.now ∷ [])) }
         ensures unchanged { OnErr result (self.new ≡ self.old) }
     {
         match *row {
             Event::Received { p, from, msg } => {
-                self.trail.receive(&mut self.arrivals, p, from, msg)
+                self.trail
+                    .receive(&mut self.arrivals, p, from, msg, sent_index(waiting))
             }
             Event::Decided { inst, commit, .. } => {
-                self.decide(inst, commit);
+                self.trail.decide(&mut self.arrivals, inst, commit);
                 Ok(())
             }
             _ => self.trail.add(row),
-        }
-    }
-
-    // An instance is decided.
-    fn decide(&mut self, inst: InstNo, commit: bool)
-        requires few { self.old.rows < 2 ^ 24 }
-        ensures { (rows : List Event) (p : ℕ) → WalkOf self.old rows → broken_rule (past rows) (event.Decided p inst commit) ≡ None → WalkOf self.new (rows ++ event.Decided p inst commit ∷ []) }
-    {
-        self.trail.decide(inst, commit);
-        if commit {
-            commit_arrivals(&mut self.arrivals, &self.trail, inst);
         }
     }
 
@@ -148,16 +138,12 @@ impl Walk {
     }
 }
 
-// What the arrivals lose by the commit of an instance that the trail has taken.
-fn commit_arrivals(arrivals: &mut Arrivals, trail: &Trail, inst: InstNo)
-    ensures { (rows : List Event) (p : ℕ) → TrailOf trail.now (rows ++ event.Decided p inst true ∷ []) → ShowsArrivals arrivals.old (past rows) → ShowsArrivals arrivals.new (past (rows ++ event.Decided p inst true ∷ [])) }
+// The place of a send, counted from 0, of the one counted from 1.
+fn sent_index(place: Option<usize>) -> usize
+    ensures { result ≡ sent_index place }
 {
-    let Some(instance) = trail.instance(inst) else {
-        return;
-    };
-    let permanent = trail.permanent_lengths();
-    match instance.kind {
-        Kind::Checkpoint => arrivals.settle(&permanent),
-        Kind::Rollback => arrivals.roll_back(instance.joined, &permanent),
+    match place {
+        Some(place) => place.saturating_sub(1),
+        None => 0,
     }
 }

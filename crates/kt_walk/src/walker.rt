@@ -82,14 +82,13 @@ impl Walker {
         }
     }
 
-    /// Makes the deed at this place, counted from 0, permanent too. Gives its step, unless that was forgotten.
-    pub(crate) fn settle(&mut self, place: usize) -> Option<Step>
+    /// Makes the deed at this place, counted from 0, permanent too.
+    pub(crate) fn settle(&mut self, place: usize)
         requires { place + 1 < 2 ^ 64 }
-        ensures walker { self.new ≡ record self.old { permanent = place + 1; recent = without_first result self.old.recent } }
-        ensures step { result ≡ if_at (place + 1) (slice_get self.old.recent 0) }
+        ensures { self.new ≡ record self.old { permanent = place + 1; recent = without_first (if_at (place + 1) (slice_get self.old.recent 0)) self.old.recent } }
     {
         self.permanent = place + 1;
-        self.recent.pop_first(self.permanent)
+        self.recent.drop_first(self.permanent);
     }
 
     /// Undoes its last deed. Gives its step, unless that was forgotten.

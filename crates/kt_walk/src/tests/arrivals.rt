@@ -2,9 +2,10 @@
 
 use super::{message, process};
 use crate::arrivals::Arrivals;
-use crate::channel::Arrival;
+use crate::kept::Kept;
+use crate::queue::Arrival;
 use kt_base::ProcSet;
-use kt_cuts::Cut;
+use kt_cuts::{Cut, Trace};
 use std::test::Fail;
 
 // How many messages each process sends round the ring.
@@ -60,7 +61,19 @@ fn a_process_that_keeps_less_leaves_an_orphan(rt: HostRuntime) -> Result<(), Fai
 fn permanent_parts_are_forgotten(rt: HostRuntime) -> Result<(), Fail> {
     let mut arrivals = Arrivals::new(rt.alloc())?;
     receive_round_a_ring(&mut arrivals)?;
-    arrivals.settle(&[2 * ROUNDS; 64]);
+    let mut kept = Kept::new(rt.alloc());
+    for number in [1, 2] {
+        let trace = Trace {
+            from: process(0)?,
+            to: process(1)?,
+            sent: None,
+            received: None,
+        };
+        kept.add(message(number)?, trace)?;
+    }
+    arrivals.settle(&[2 * ROUNDS; 64], &mut kept);
+    assert_eq!(rt; kept.get(message(1)?), None, "of the first receive");
+    assert_eq!(rt; kept.len(), 1, "the other one was not received");
     assert_eq!(rt; arrivals.orphan(&Cut::new([2 * ROUNDS; 64])), None);
     let mut cut = Cut::new([2 * ROUNDS; 64]);
     cut.set(process(5)?, 0);

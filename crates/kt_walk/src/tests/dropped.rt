@@ -130,7 +130,11 @@ fn take_in_parts(trail: &mut Trail, arrivals: &mut Arrivals, row: &Event) -> Res
         return Err("too many rows".into());
     }
     match *row {
-        Event::Received { p, from, msg } => trail.receive(arrivals, p, from, msg)?,
+        Event::Received { p, from, msg } => {
+            let place = trail.waiting(row).ok_or("not on its way")?;
+            trail.receive(arrivals, p, from, msg, place.saturating_sub(1))?;
+        }
+        Event::Decided { inst, commit, .. } => trail.decide(arrivals, inst, commit),
         _ => trail.add(row)?,
     }
     Ok(())

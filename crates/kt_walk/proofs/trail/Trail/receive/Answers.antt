@@ -20,9 +20,8 @@ returns-clause-fed c = λ rows h unbroken.
     rw (c.pass.ensures, place, c.get.ensures.value, c.get-2.ensures.value) (received_row _ rows c.args.p c.args.from c.args.msg c.index_mut-walker.result.now c.last_received-before.result _ _ h unbroken low c.last_received-before.ensures.in_range at last (rw place at c.in_ok-push.ensures.ok) (rw place at c.receive-2.ensures))
 
 pub returns-clause-arrived : goal.returns-clause-arrived
-returns-clause-arrived c = λ rows h unbroken shows.
-    arrives c.args.arrivals.now c.receive.new.self rows c.args.p c.args.from c.args.msg c.arrival-arrival.result c.in_default.ensures.ok c.arrival-arrival.ensures.msg h.legal unbroken
-    (c.arrival-arrival.ensures.sent rows c.args.from h unbroken) (c.arrival-arrival.ensures.received rows h) shows
+returns-clause-arrived c = λ rows h unbroken sent shows.
+    arrives c.args.arrivals.now c.receive.new.self rows c.args.p c.args.from c.args.msg _ c.in_default.ensures.ok refl h.legal unbroken sent (h.of_walkers.each c.args.p c.walker-walker.result.now c.walker-walker.ensures).length shows
 
 pub returns-in-Err-clause-unchanged : goal.returns-in-Err-clause-unchanged
 returns-in-Err-clause-unchanged c =
