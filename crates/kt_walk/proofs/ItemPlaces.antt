@@ -73,7 +73,7 @@ parts_at {X} number xs bound i p = record {
     above_of a b e = grind (arith, nat_tests)
 
 -- arrivals that rise by a number are parted by a bound
-pub parted_by : (number : Arrival → ℕ) (xs : List Arrival) (bound : ℕ) → ((i j : ℕ) (a b : Arrival) → i < j → slice_get xs i ≡ Some a → slice_get xs j ≡ Some b → number a < number b) → IsPartitionedBy (λ a. nat_lt (number a) bound) xs
+pub parted_by : {X : Type 0} (number : X → ℕ) (xs : List X) (bound : ℕ) → ((i j : ℕ) (a b : X) → i < j → slice_get xs i ≡ Some a → slice_get xs j ≡ Some b → number a < number b) → IsPartitionedBy (λ a. nat_lt (number a) bound) xs
 parted_by number xs bound rise i j d le lt below = elim (cases_eq i j) [
   | inl same ↦ rw same below
   | inr other ↦

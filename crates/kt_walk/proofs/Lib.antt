@@ -1,4 +1,5 @@
 pub mod StepLists
+pub mod NumberedFacts
 pub mod KeptFacts
 pub mod RecentFacts
 pub mod TrailSteps

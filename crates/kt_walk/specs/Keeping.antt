@@ -1,5 +1,5 @@
 -- The messages that a walk keeps.
-use Rattle.std.specs.Prelude.{◌≡◌, ◌-◌, slice_get, false, ℕ, zero, suc, ◌==◌, ◌&&◌, ◌||◌, not, nat_eq, Bool, if◌then◌else◌, Option, Some, None, option_map, is_some, is_none, List, [], ◌∷◌, ◌++◌, length, filter, slice_set}
+use Rattle.std.specs.Prelude.{◌≡◌, ◌-◌, ◌<◌, slice_get, false, ℕ, zero, suc, ◌==◌, ◌&&◌, ◌||◌, not, nat_eq, Bool, if◌then◌else◌, Option, Some, None, option_map, is_some, is_none, List, [], ◌∷◌, ◌++◌, length, filter, slice_set}
 use Rattle.std.specs.Option.{option_flatten}
 use Rattle.std.specs.Map.{lookup}
 use Rattle.kt_spacetime.specs.declared.event.Event.{Event}
@@ -17,6 +17,35 @@ use Rattle.kt_cuts.specs.Orphans.{is_within}
 -- the trace that a list of messages has for a message
 abbrev pub kept_at : List (ℕ × Trace) → ℕ → Option Trace
 kept_at traces msg = lookup (nat_eq msg) traces
+
+-- whether a message is live or received
+abbrev pub has_place : Trace → Bool
+has_place t = is_some t.sent || is_some t.received
+
+-- the same of a message with its number
+abbrev pub is_there : ℕ × Trace → Bool
+is_there e = has_place e.1
+
+abbrev pub is_gone : ℕ × Trace → Bool
+is_gone e = not (has_place e.1)
+
+-- whether an entry is of this message
+abbrev pub is_of : ℕ → Option (ℕ × Trace) → Bool
+is_of msg None = false
+is_of msg (Some e) = e.0 == msg
+
+-- a trace, if it has a place
+abbrev pub if_there : Trace → Option Trace
+if_there t = if has_place t then Some t else None
+
+-- a message that is there, with these places; gone, where they are none
+abbrev pub given : Option ℕ → Option ℕ → Option Trace → Option Trace
+given sent received None = None
+given sent received (Some t) = if_there (record t { sent = sent; received = received })
+
+-- messages by rising number
+pub record IsNumbered (entries : List (ℕ × Trace)) : Type 0 where
+  pub each : (j k : ℕ) (a b : ℕ × Trace) → j < k → slice_get entries j ≡ Some a → slice_get entries k ≡ Some b → a.0 < b.0
 
 -- whether both rows of a message lie within these positions
 abbrev pub is_covered : (ℕ → ℕ) → Trace → Bool

@@ -1,28 +1,39 @@
 //! The messages that a walk keeps.
 
-ghost use Rattle.std.specs.Prelude.{◌≡◌, ◌==◌, ℕ, [], Some, None, length, OnOk, OnErr, if◌then◌else◌};
+ghost use Rattle.std.specs.Prelude.{◌≡◌, ◌==◌, ℕ, [], Some, None, true, length, OnOk, OnErr, if◌then◌else◌};
 ghost use Rattle.kt_cuts.specs.Past.{at_one};
-ghost use Rattle.kt_walk.specs.Keeping.{kept_at, unsent, unreceived, received_here};
+ghost use Rattle.kt_walk.specs.Keeping.{kept_at, has_place, unsent, unreceived, received_here};
 
+use crate::numbered::{comes_last, count_below, give, has_place, place_of, replace, stands_at};
 use kt_base::{Memory, MsgNo};
 use kt_cuts::Trace;
 use std::alloc::Global;
-use std::collections::HashMap;
 use std::marker::Model;
 
-/// Messages with their traces, by the number of the message.
+/// Messages with their traces, in the order of their numbers.
+///
+/// A message is added at the end, since its number is the next one, and found from the end on, where it is received
+/// soon after. Those that are taken out together follow each other, so the next one is looked for past the last one.
 #[derive(Drop)]
 pub(crate) struct Kept {
-    traces: HashMap<u32, Trace>,
+    // By rising number. Those that are gone have no place; they are no more than half of them.
+    entries: Vec<(MsgNo, Trace)>,
+    // How many of them are gone.
+    gone: usize,
+    // The place past that of the message which was taken out last.
+    next: usize,
 }
 
 impl Model for Kept {
-    ghost use Rattle.std.specs.Prelude.{List, ℕ};
+    ghost use Rattle.std.specs.Prelude.{◌≡◌, List, ℕ, length, filter};
     ghost use Rattle.kt_cuts.specs.declared.histories.Trace.{Trace};
+    ghost use Rattle.kt_walk.specs.Keeping.{is_there, is_gone, IsNumbered};
 
     ghost Value = { List (ℕ × Trace) };
 
-    ghost view = { λ k. k.traces.entries };
+    ghost view = { λ k. filter is_there k.entries.items };
+
+    ghost invariant = { λ k. IsNumbered k.entries.items × (k.gone ≡ length (filter is_gone k.entries.items)) };
 }
 
 impl Kept {
@@ -35,7 +46,9 @@ impl Kept {
         ensures { result ≡ [] }
     {
         Kept {
-            traces: HashMap::new(alloc),
+            entries: Vec::new(alloc),
+            gone: 0,
+            next: 0,
         }
     }
 
@@ -44,22 +57,44 @@ impl Kept {
         ensures len { result ≡ length self.now }
         ensures unique { IsDistinct nat_eq (keys_of self.now) }
     {
-        self.traces.len()
+        self.entries.len() - self.gone
     }
 
     /// A message's trace, if it is there.
     pub(crate) fn get(&self, msg: MsgNo) -> Option<Trace>
         ensures { result ≡ kept_at self.now msg }
     {
-        self.traces.get(&msg.get()).copied()
+        let place = place_of(&self.entries, msg, self.entries.len())?;
+        let trace = self.entries[place].1;
+        if has_place(&trace) { Some(trace) } else { None }
     }
 
-    /// Adds a message, or changes its trace.
+    /// Adds a message that has a place, or changes its trace.
     pub(crate) fn add(&mut self, msg: MsgNo, trace: Trace) -> Result<(), Memory>
+        requires { has_place trace ≡ true }
         ensures ok { OnOk result ((m : ℕ) → kept_at self.new m ≡ at_one msg (Some trace) (kept_at self.old) m) }
         ensures err { OnErr result (self.new ≡ self.old) }
     {
-        self.traces.insert(msg.get(), trace)?;
+        if !comes_last(&self.entries, msg) {
+            return self.insert(msg, trace);
+        }
+        self.entries.reserve(1)?;
+        self.entries.push_reserved((msg, trace));
+        Ok(())
+    }
+
+    // Adds a message, which need not be the last one, or changes its trace.
+    fn insert(&mut self, msg: MsgNo, trace: Trace) -> Result<(), Memory>
+        requires { has_place trace ≡ true }
+        ensures ok { OnOk result ((m : ℕ) → kept_at self.new m ≡ at_one msg (Some trace) (kept_at self.old) m) }
+        ensures err { OnErr result (self.new ≡ self.old) }
+    {
+        let place = count_below(&self.entries, msg);
+        if stands_at(&self.entries, place, msg) {
+            replace(&mut self.entries, &mut self.gone, place, trace);
+            return Ok(());
+        }
+        self.entries.insert(place, (msg, trace))?;
         Ok(())
     }
 
@@ -67,15 +102,19 @@ impl Kept {
     pub(crate) fn remove(&mut self, msg: MsgNo)
         ensures { (m : ℕ) → kept_at self.new m ≡ at_one msg None (kept_at self.old) m }
     {
-        self.traces.remove(&msg.get());
+        if let Some(place) = place_of(&self.entries, msg, self.next) {
+            self.next = place + 1;
+            give(&mut self.entries, &mut self.gone, place, None, None);
+        }
     }
 
     /// A message is received at this place, counted from 1.
     pub(crate) fn receive(&mut self, msg: MsgNo, place: usize)
         ensures { (m : ℕ) → kept_at self.new m ≡ at_one msg (received_here place (kept_at self.old msg)) (kept_at self.old) m }
     {
-        if let Some(trace) = self.traces.get_mut(&msg.get()) {
-            trace.received = Some(place);
+        if let Some(index) = place_of(&self.entries, msg, self.entries.len()) {
+            let sent = self.entries[index].1.sent;
+            give(&mut self.entries, &mut self.gone, index, sent, Some(place));
         }
     }
 
@@ -83,13 +122,9 @@ impl Kept {
     pub(crate) fn unsend(&mut self, msg: MsgNo)
         ensures { (m : ℕ) → kept_at self.new m ≡ at_one msg (unsent (kept_at self.old msg)) (kept_at self.old) m }
     {
-        let Some(trace) = self.traces.get_mut(&msg.get()) else {
-            return;
-        };
-        trace.sent = None;
-        let received = trace.received;
-        if received.is_none() {
-            self.remove(msg);
+        if let Some(place) = place_of(&self.entries, msg, self.entries.len()) {
+            let received = self.entries[place].1.received;
+            give(&mut self.entries, &mut self.gone, place, None, received);
         }
     }
 
@@ -97,13 +132,9 @@ impl Kept {
     pub(crate) fn unreceive(&mut self, msg: MsgNo)
         ensures { (m : ℕ) → kept_at self.new m ≡ at_one msg (unreceived (kept_at self.old msg)) (kept_at self.old) m }
     {
-        let Some(trace) = self.traces.get_mut(&msg.get()) else {
-            return;
-        };
-        trace.received = None;
-        let sent = trace.sent;
-        if sent.is_none() {
-            self.remove(msg);
+        if let Some(place) = place_of(&self.entries, msg, self.entries.len()) {
+            let sent = self.entries[place].1.sent;
+            give(&mut self.entries, &mut self.gone, place, sent, None);
         }
     }
 }

@@ -6,6 +6,7 @@ mod channel;
 mod deciding;
 mod feeding;
 mod kept;
+mod numbered;
 mod queue;
 mod recent;
 mod trail;

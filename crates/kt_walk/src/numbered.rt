@@ -1,0 +1,152 @@
+//! Messages with their traces in a list that rises by their numbers. Those that are gone have no place.
+
+ghost use Rattle.std.specs.Prelude.{◌≡◌, ◌≤◌, ◌<◌, ℕ, true, nat_lt, length, filter, vec_len, slice_get, Some, IfSome, IfNone};
+ghost use Rattle.kt_cuts.specs.declared.histories.Trace.{Trace};
+ghost use Rattle.kt_cuts.specs.Past.{at_one};
+ghost use Rattle.kt_walk.specs.Keeping.{kept_at, has_place, is_there, is_gone, is_of, if_there, given, IsNumbered};
+
+use kt_base::MsgNo;
+use kt_cuts::Trace;
+
+/// Whether a message is live or received.
+pub(crate) fn has_place(trace: &Trace) -> bool
+    ensures { result ≡ has_place trace.now }
+{
+    trace.sent.is_some() || trace.received.is_some()
+}
+
+/// The place of a message in the list, looked for from a place on where it may be. Numbers rise by one at least, so it
+/// is no more places away than the numbers are apart.
+pub(crate) fn place_of(entries: &[(MsgNo, Trace)], msg: MsgNo, guess: usize) -> Option<usize>
+    ensures found { IfSome result (λ i. (t : Trace) × (slice_get entries.now i ≡ Some (msg, t))) }
+    ensures none { IfNone result (IsNumbered entries.now → (i : ℕ) (t : Trace) → slice_get entries.now i ≡ Some (msg, t) → ⊥) }
+{
+    let last = entries.len().checked_sub(1)?;
+    let near = guess.min(last);
+    let there = entries[near].0.get();
+    let number = msg.get();
+    if there == number {
+        Some(near)
+    } else if there < number {
+        let end = near.saturating_add((number - there) as usize).min(last);
+        search(entries, near, end + 1, msg)
+    } else {
+        let start = near.saturating_sub((there - number) as usize);
+        search(entries, start, near, msg)
+    }
+}
+
+// The place of a message, if it is from the one place on and before the other one.
+fn search(entries: &[(MsgNo, Trace)], start: usize, end: usize, msg: MsgNo) -> Option<usize>
+    requires { (start ≤ end) × (end ≤ length entries.now) }
+    ensures found { IfSome result (λ i. (t : Trace) × (slice_get entries.now i ≡ Some (msg, t))) }
+    ensures none { IfNone result (IsNumbered entries.now → (i : ℕ) (t : Trace) → start ≤ i → i < end → slice_get entries.now i ≡ Some (msg, t) → ⊥) }
+{
+    let place = start + count_below(&entries[start..end], msg);
+    if stands_at(entries, place, msg) {
+        Some(place)
+    } else {
+        None
+    }
+}
+
+/// Whether a message stands at this place.
+pub(crate) fn stands_at(entries: &[(MsgNo, Trace)], place: usize, msg: MsgNo) -> bool
+    ensures { result ≡ is_of msg (slice_get entries.now place) }
+{
+    match entries.get(place) {
+        Some(entry) => entry.0.get() == msg.get(),
+        None => false,
+    }
+}
+
+/// How many messages come before this one.
+pub(crate) fn count_below(entries: &[(MsgNo, Trace)], msg: MsgNo) -> usize
+    ensures bound { result ≤ length entries.now }
+    ensures below { IsNumbered entries.now → (i : ℕ) (e : ℕ × Trace) → i < result → slice_get entries.now i ≡ Some e → e.0 < msg }
+    ensures above { IsNumbered entries.now → (i : ℕ) (e : ℕ × Trace) → result ≤ i → slice_get entries.now i ≡ Some e → msg ≤ e.0 }
+{
+    entries.partition_point(
+        |entry: &(MsgNo, Trace)| -> bool
+            ensures { result ≡ nat_lt entry.now.0 msg }
+        { entry.0.get() < msg.get() },
+    )
+}
+
+/// Whether a message comes after all these.
+pub(crate) fn comes_last(entries: &[(MsgNo, Trace)], msg: MsgNo) -> bool
+    ensures { result ≡ true → IsNumbered entries.now → (i : ℕ) (e : ℕ × Trace) → slice_get entries.now i ≡ Some e → e.0 < msg }
+{
+    match entries.last() {
+        Some(last) => last.0.get() < msg.get(),
+        None => true,
+    }
+}
+
+/// Gives the message at this place, if it is there, these places; it is gone, where they are none. How many are gone is
+/// kept count of.
+pub(crate) fn give(
+    entries: &mut Vec<(MsgNo, Trace)>,
+    gone: &mut usize,
+    place: usize,
+    sent: Option<usize>,
+    received: Option<usize>,
+)
+    requires within { place < vec_len entries.old }
+    requires counted { gone.old ≡ length (filter is_gone entries.old.items) }
+    ensures counted { gone.new ≡ length (filter is_gone entries.new.items) }
+    ensures numbered { IsNumbered entries.old.items → IsNumbered entries.new.items }
+    ensures there { (msg m : ℕ) (t : Trace) → IsNumbered entries.old.items → slice_get entries.old.items place ≡ Some (msg, t) → kept_at (filter is_there entries.new.items) m ≡ at_one msg (given sent received (if_there t)) (kept_at (filter is_there entries.old.items)) m }
+{
+    let count = entries.len();
+    let trace = &mut entries[place].1;
+    if !has_place(trace) {
+        return;
+    }
+    trace.sent = sent;
+    trace.received = received;
+    if has_place(trace) {
+        return;
+    }
+    *gone += 1;
+    purge(entries, gone, count);
+}
+
+/// Changes the trace of the message at this place. How many are gone is kept count of.
+pub(crate) fn replace(
+    entries: &mut Vec<(MsgNo, Trace)>,
+    gone: &mut usize,
+    place: usize,
+    trace: Trace,
+)
+    requires within { place < vec_len entries.old }
+    requires has_place { has_place trace ≡ true }
+    requires counted { gone.old ≡ length (filter is_gone entries.old.items) }
+    ensures counted { gone.new ≡ length (filter is_gone entries.new.items) }
+    ensures numbered { IsNumbered entries.old.items → IsNumbered entries.new.items }
+    ensures there { (msg m : ℕ) (t : Trace) → IsNumbered entries.old.items → slice_get entries.old.items place ≡ Some (msg, t) → kept_at (filter is_there entries.new.items) m ≡ at_one msg (Some trace) (kept_at (filter is_there entries.old.items)) m }
+{
+    let entry = &mut entries[place].1;
+    let was_there = has_place(entry);
+    *entry = trace;
+    if !was_there {
+        *gone -= 1;
+    }
+}
+
+// Lets go of the messages that are gone, once they are more than the half of so many.
+fn purge(entries: &mut Vec<(MsgNo, Trace)>, gone: &mut usize, count: usize)
+    requires { gone.old ≡ length (filter is_gone entries.old.items) }
+    ensures counted { gone.new ≡ length (filter is_gone entries.new.items) }
+    ensures there { filter is_there entries.new.items ≡ filter is_there entries.old.items }
+    ensures numbered { IsNumbered entries.old.items → IsNumbered entries.new.items }
+{
+    if *gone > count / 2 {
+        entries.retain(
+            |entry: &(MsgNo, Trace)| -> bool
+                ensures { result ≡ is_there entry.now }
+            { has_place(&entry.1) },
+        );
+        *gone = 0;
+    }
+}
