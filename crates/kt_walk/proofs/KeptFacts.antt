@@ -39,41 +39,6 @@ same_kept s t m None dropped sent received permanent = refl
 same_kept s t m (Some (p, q)) dropped sent received permanent =
     λ i. kept_of (dropped i) p q (sent p q refl i) (received p q refl i) (is_within (sent p q refl i) (permanent p i)) (is_within (received p q refl i) (permanent q i))
 
--- one place more is within, if it is there
-within_next : (o : Option ℕ) (n : ℕ) → o ≢ Some (n + 1) → is_within o (n + 1) ≡ is_within o n
-within_next None n e = refl
-within_next (Some k) n e =
-    let other : k ≢ n + 1 = λ h. e (ap Some h) in
-    grind (arith, nat_tests, other)
-
--- a permanent position that moves past the deed of another message
-pub other_settled : (s : Past) (p m : ℕ) (o : Option (ℕ × ℕ)) (d : Deed) → slice_get (s.live p) (s.permanent p) ≡ Some d
-    → ((q : ℕ) → d ≢ deed.Sent m q) → ((q : ℕ) → d ≢ deed.Received m q)
-    → kept_between (with_permanent s (at_one p (s.permanent p + 1) s.permanent)) m o ≡ kept_between s m o
-other_settled s p m None d at not_sent not_received = refl
-other_settled s p m (Some (a, b)) d at not_sent not_received =
-    λ i. kept_of (s.dropped m) a b (place_of (deed.Sent m b) (s.live a)) (place_of (deed.Received m a) (s.live b)) (sent i) (received i)
-  where
-    place_here : (x : Deed) → d ≢ x → place_of x (s.live p) ≢ Some (s.permanent p + 1)
-    place_here x n e =
-        let found = place_found x (s.live p) (s.permanent p + 1) e in
-        let same : found.0 ≡ s.permanent p = omega (arith, found.1) in
-        n (some_same (sym at ∙ subst (λ (j : ℕ). slice_get (s.live p) j ≡ Some x) same found.2))
-
-    at_process : (x : Deed) (c : ℕ) → d ≢ x → is_within (place_of x (s.live c)) (at_one p (s.permanent p + 1) s.permanent c) ≡ is_within (place_of x (s.live c)) (s.permanent c)
-    at_process x c n = elim (cases_eq c p) [
-      | inl same ↦
-          subst (λ (y : ℕ). is_within (place_of x (s.live y)) (at_one p (s.permanent p + 1) s.permanent y) ≡ is_within (place_of x (s.live y)) (s.permanent y)) (sym same)
-          (ap (is_within (place_of x (s.live p))) (at_same p (s.permanent p + 1) s.permanent) ∙ within_next (place_of x (s.live p)) (s.permanent p) (place_here x n))
-      | inr other ↦ ap (is_within (place_of x (s.live c))) (at_other p c (s.permanent p + 1) s.permanent other)
-    ]
-
-    sent : is_within (place_of (deed.Sent m b) (s.live a)) (at_one p (s.permanent p + 1) s.permanent a) ≡ is_within (place_of (deed.Sent m b) (s.live a)) (s.permanent a)
-    sent = at_process (deed.Sent m b) a (not_sent b)
-
-    received : is_within (place_of (deed.Received m a) (s.live b)) (at_one p (s.permanent p + 1) s.permanent b) ≡ is_within (place_of (deed.Received m a) (s.live b)) (s.permanent b)
-    received = at_process (deed.Received m a) b (not_received a)
-
 -- a message that greater positions cover is kept no more
 pub greater_kept : (s : Past) (f : ℕ → ℕ) (m : ℕ) (o : Option (ℕ × ℕ)) → ((p : ℕ) → s.permanent p ≤ f p) → kept_between (with_permanent s f) m o ≡ uncovered f (kept_between s m o)
 greater_kept s f m None g = refl
@@ -103,30 +68,6 @@ greater_kept s f m (Some (p, q)) g =
     by_cases t false false c h = refl
     by_cases t false true true h = ap (λ (x : Bool). if not x then Some t else None) (h refl)
     by_cases t false true false h = last_case t (is_covered f t)
-
--- what is kept once a permanent position is moved past one deed
-pub settled_kept : (es fs : List (ℕ × Trace)) (between : ℕ → Option (ℕ × ℕ)) (s : Past) (p n : ℕ) (d : Deed) → ShowsKept es between s → slice_get (s.live p) (s.permanent p) ≡ Some d
-    → ((m : ℕ) → m ≢ n → (q : ℕ) → d ≢ deed.Sent m q) → ((m : ℕ) → m ≢ n → (q : ℕ) → d ≢ deed.Received m q)
-    → ((m : ℕ) → kept_at fs m ≡ at_one n (uncovered (at_one p (s.permanent p + 1) s.permanent) (kept_at es n)) (kept_at es) m)
-    → ShowsKept fs between (with_permanent s (at_one p (s.permanent p + 1) s.permanent))
-settled_kept es fs between s p n d h at not_sent not_received new = record {
-  each = λ m. elim (cases_eq m n) [
-    | inl same ↦
-        new m ∙ (ap (λ (x : ℕ). at_one n (uncovered f (kept_at es n)) (kept_at es) x) same ∙ (at_same n (uncovered f (kept_at es n)) (kept_at es)
-        ∙ (ap (uncovered f) (h.each n) ∙ (sym (greater_kept s f n (between n) greater) ∙ ap (λ (x : ℕ). kept_between (with_permanent s f) x (between x)) (sym same)))))
-    | inr other ↦
-        new m ∙ (at_other n m (uncovered f (kept_at es n)) (kept_at es) other ∙ (h.each m ∙ sym (other_settled s p m (between m) d at (not_sent m other) (not_received m other))))
-  ];
-}
-  where
-    f : ℕ → ℕ
-    f = at_one p (s.permanent p + 1) s.permanent
-
-    greater : (q : ℕ) → s.permanent q ≤ f q
-    greater q = elim (cases_eq q p) [
-      | inl same ↦ omega (arith, ap f same, at_same p (s.permanent p + 1) s.permanent, ap s.permanent same)
-      | inr other ↦ omega (arith, at_other p q (s.permanent p + 1) s.permanent other)
-    ]
 
 -- a history without its last deed: what is kept of another message
 pub other_undone : (s : Past) (p m : ℕ) (o : Option (ℕ × ℕ)) (front : List Deed) (d : Deed) → s.live p ≡ front ++ d ∷ [] → ((q : ℕ) → is_deed (deed.Sent m q) d ≡ false) → ((q : ℕ) → is_deed (deed.Received m q) d ≡ false)

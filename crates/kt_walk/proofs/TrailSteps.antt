@@ -13,7 +13,7 @@ use Rattle.kt_cuts.specs.Past.{Past, at_one}
 use Rattle.kt_cuts.specs.Legal.{has_deed}
 use Rattle.kt_cuts.specs.Lists.{received_in, last_of}
 use Rattle.kt_walk.specs.Keeping.{kept_at, kept_between, unsent, unreceived, restored}
-use Rattle.kt_walk.specs.Stages.{with_permanent, with_live, HasPermanent, AreInPlace}
+use Rattle.kt_walk.specs.Stages.{with_permanent, with_live, AreInPlace}
 use Rattle.kt_walk.specs.PartsOf.{ShowsWalker, ShowsWalkers, ShowsKept}
 use Rattle.kt_walk.specs.RecentSteps.{step_of, ShowsRecent, if_at, without_first}
 use Rattle.kt_cuts.proofs.Items.{get_left, get_seam, get_set_same, get_set_other, item_there}
@@ -40,29 +40,6 @@ walkers_set ws s t p v h l fresh others = record {
 
 pub walkers_same : (ws : List Walker) (s t : Past) → ShowsWalkers ws s → ((q : ℕ) (w : Walker) → ShowsWalker w s q → ShowsWalker w t q) → ShowsWalkers ws t
 walkers_same ws s t h others = record { each = λ q w e. others q w (h.each q w e); all = h.all }
-
--- the message of a step
-message_known : (l : List Deed) (d : Deed) (n : ℕ) (m q : ℕ) → n ≡ (step_of l d).msg → m ≢ n → d ≡ deed.Sent m q → ⊥
-message_known l (deed.Sent a b) n m q e o h =
-    let same : a ≡ m = cc in
-    o (sym same ∙ sym e)
-message_known l (deed.Received a b) n m q e o h = cc
-
-message_received : (l : List Deed) (d : Deed) (n : ℕ) (m q : ℕ) → n ≡ (step_of l d).msg → m ≢ n → d ≡ deed.Received m q → ⊥
-message_received l (deed.Received a b) n m q e o h =
-    let same : a ≡ m = cc in
-    o (sym same ∙ sym e)
-message_received l (deed.Sent a b) n m q e o h = cc
-
--- the permanent positions with one moved
-moved : (ws : List Walker) (s : Past) (p n : ℕ) (w : Walker) → ShowsWalkers ws s → p < 64 → w.permanent ≡ n → HasPermanent (set ws p w) (at_one p n s.permanent)
-moved ws s p n w h l e q v at = elim (cases_eq q p) [
-  | inl same ↦
-      let here : slice_get (set ws p w) p ≡ Some v = subst (λ (x : ℕ). slice_get (set ws p w) x ≡ Some v) same at in
-      let is : w ≡ v = some_same (sym (get_set_same ws p w (omega (arith, h.all, l))) ∙ here) in
-      ap (λ (x : Walker). x.permanent) (sym is) ∙ (e ∙ (sym (at_same p n s.permanent) ∙ ap (at_one p n s.permanent) (sym same)))
-  | inr other ↦ (h.each q v (sym (get_set_other ws p q w other) ∙ at)).permanent ∙ sym (at_other p q n s.permanent other)
-]
 
 -- the first deed past a permanent position
 first_deed : (s : Past) (p place : ℕ) → s.permanent p ≡ place → place < length (s.live p) → (d : Deed) × (slice_get (s.live p) (s.permanent p) ≡ Some d)

@@ -42,7 +42,3 @@ pub record AreInPlace (between : ℕ → Option (ℕ × ℕ)) (permanent : ℕ �
   pub sent : (p i msg to : ℕ) → slice_get (live p) i ≡ Some (deed.Sent msg to) → between msg ≡ Some (p, to)
   pub received : (p i msg from : ℕ) → slice_get (live p) i ≡ Some (deed.Received msg from) → between msg ≡ Some (from, p)
   pub within : (p : ℕ) → permanent p ≤ length (live p)
-
--- the processes have these permanent positions
-abbrev pub HasPermanent : List Walker → (ℕ → ℕ) → Type 0
-HasPermanent walkers permanent = (p : ℕ) (v : Walker) → slice_get walkers p ≡ Some v → v.permanent ≡ permanent p
