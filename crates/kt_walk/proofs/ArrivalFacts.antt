@@ -1,5 +1,5 @@
 -- Arrivals go on showing what is received, row by row.
-use Rattle.std.proofs.Common.{◌≡◌, ◌≢◌, ℕ, ◌+◌, ◌*◌, ◌<◌, ◌≤◌, true, false, Option, Some, List, [], ◌∷◌, ◌++◌, length, set, take, refl, sym, ap, ◌∙◌, subst, arith, inl, inr, length-append}
+use Rattle.std.proofs.Common.{◌≡◌, ℕ, ◌+◌, ◌*◌, ◌<◌, ◌≤◌, true, false, Option, Some, List, [], ◌∷◌, ◌++◌, length, set, take, refl, sym, ap, ◌∙◌, subst, arith, inl, inr, length-append}
 use Rattle.std.specs.List.{slice_get, slice_index}
 use Rattle.std.specs.Prelude.{if◌then◌else◌, unwrap_or, Result, Ok, Err, OnOk, OnErr}
 use Rattle.std.proofs.lemmas.Bool.{cases_eq}
@@ -10,14 +10,13 @@ use Rattle.kt_spacetime.specs.declared.event.Event.TheVariants.{Sent, Received, 
 use Rattle.kt_cuts.specs.declared.deeds.Deed.{Deed}
 use Rattle.kt_cuts.specs.declared.deeds.Deed.TheVariants as deed
 use Rattle.kt_walk.specs.declared.queue.Arrival.{Arrival}
-use Rattle.kt_cuts.specs.declared.histories.Trace.{Trace}
 use Rattle.kt_cuts.specs.Past.{Past, after, at_one}
 use Rattle.kt_cuts.specs.Lists.{Rises, sent_in}
 use Rattle.kt_cuts.specs.Orphans.{IsOrphanBetween, IsAtMost}
 use Rattle.kt_cuts.specs.Standing.{IsInOrder, IsAllowed}
-use Rattle.kt_walk.specs.Arrivals.{Traffic, IsTraffic, ShowsTraffic, IsByPair, ShowsArrivals, message_of, cut_back, IsCutBack, IsSettled, RollsBack, MakesPermanent, KeepsPermanent, AreOpened, IsOpen, AreRising, HasCovered, IsReleased, AreReleased, is_quiet}
+use Rattle.kt_walk.specs.Arrivals.{Traffic, IsTraffic, ShowsTraffic, IsByPair, ShowsArrivals, message_of, cut_back, IsCutBack, IsSettled, RollsBack, MakesPermanent, KeepsPermanent, AreOpened, IsOpen, AreRising, is_quiet}
 use Rattle.kt_cuts.proofs.Items.{get_set_same, get_set_other, item_there}
-use Rattle.kt_cuts.proofs.Lists.{get_take, get_in_take, get_push}
+use Rattle.kt_cuts.proofs.Lists.{get_push}
 use Rattle.kt_cuts.proofs.SortedFacts.{some_same}
 use Rattle.kt_cuts.proofs.DeedFacts.{later_than}
 use Rattle.kt_cuts.proofs.OrphanFacts.{received_of}
@@ -26,26 +25,6 @@ use Rattle.kt_cuts.proofs.Shown.{at_same}
 use Rattle.kt_cuts.proofs.RowRules.{may_receive}
 use Rattle.kt_cuts.proofs.Places.{Comes, old, sent, received, comes}
 use Rattle.kt_walk.proofs.ChannelFacts.{IsOrphanOf, traffic_receiver_more, traffic_sender_more, traffic_received}
-
--- a list whose items are written one after another
-pub all_done : {X : Type 0} (R : X → X → Type 0) (before now : List X) (n : ℕ) (x y : X) → slice_get now n ≡ Some x → R x y
-    → ((i : ℕ) (w : X) → i < n → slice_get now i ≡ Some w → (v : X) × (slice_get before i ≡ Some v) × R v w)
-    → ((i : ℕ) (w : X) → n ≤ i → slice_get now i ≡ Some w → slice_get before i ≡ Some w)
-    → (i : ℕ) (w : X) → i < n + 1 → slice_get (set now n y) i ≡ Some w → (v : X) × (slice_get before i ≡ Some v) × R v w
-all_done {X} R before now n x y at related done to_do i w l e = elim (cases_eq i n) [
-  | inl same ↦
-      let here : slice_get (set now n y) n ≡ Some w = subst (λ (j : ℕ). slice_get (set now n y) j ≡ Some w) same e in
-      let is : y ≡ w = some_same (sym (get_set_same now n y (slice_get_within now n x at)) ∙ here) in
-      (x, ap (slice_get before) same ∙ to_do n x (omega arith) at, subst (λ (z : X). R x z) is related)
-  | inr other ↦ done i w (omega (arith, l, other)) (sym (get_set_other now n i y other) ∙ e)
-]
-
-pub rest_to_do : {X : Type 0} (before now : List X) (n : ℕ) (y : X)
-    → ((i : ℕ) (w : X) → n ≤ i → slice_get now i ≡ Some w → slice_get before i ≡ Some w)
-    → (i : ℕ) (w : X) → n + 1 ≤ i → slice_get (set now n y) i ≡ Some w → slice_get before i ≡ Some w
-rest_to_do before now n y to_do i w l e =
-    let other : i ≢ n = λ same. absurd (omega (arith, l, same)) in
-    to_do i w (omega (arith, l)) (sym (get_set_other now n i y other) ∙ e)
 
 -- channels by pair
 pub by_pair_each : (cs ds : List Traffic) → IsByPair cs → length ds ≡ length cs
@@ -315,49 +294,6 @@ opened_next cs ds p q n m v h at next low_p low_q is new = subst (λ (l : List T
     | inr last ↦ subst (λ (x : Traffic). x.undone ≡ []) (sym is ∙ last.1) refl
   ];
 })
-
--- the messages of one channel more are released
-pub released_start : (lengths : List ℕ) (cs : List Traffic) (es : List (ℕ × Trace)) → AreReleased lengths (take 0 cs) es es
-released_start lengths cs es = record {
-  gone = λ i v m at cover. absurd (omega (arith, (get_take 0 cs i v at).1));
-  others = λ m. inl refl;
-}
-
-pub released_next : (lengths : List ℕ) (cs : List Traffic) (es fs gs : List (ℕ × Trace)) (n : ℕ) (v : Traffic) → slice_get cs n ≡ Some v → AreReleased lengths (take n cs) es fs → IsReleased lengths v fs gs
-    → AreReleased lengths (take (n + 1) cs) es gs
-released_next lengths cs es fs gs n v here h r = record {
-  gone = λ i u m at cover.
-      let there = get_take (n + 1) cs i u at in
-      elim (cases_eq i n) [
-        | inl same ↦
-            let is : u ≡ v = some_same (sym there.0 ∙ (ap (slice_get cs) same ∙ here)) in
-            r.gone m (subst (λ (x : Traffic). HasCovered lengths x m) is cover)
-        | inr other ↦
-            let none = h.gone i u m (get_in_take n cs i u there.0 (omega (arith, there.1, other))) cover in
-            elim (r.others m) [
-              | inl still ↦ still ∙ none
-              | inr x ↦ x.1
-            ]
-      ];
-  others = λ m. elim (r.others m) [
-    | inl still ↦ elim (h.others m) [
-      | inl same ↦ inl (still ∙ same)
-      | inr x ↦
-          let there = get_take n cs x.0 x.1 x.2 in
-          inr (x.0, x.1, get_in_take (n + 1) cs x.0 x.1 there.0 (omega (arith, there.1)), x.3, still ∙ x.4)
-    ]
-    | inr x ↦ inr (n, v, get_in_take (n + 1) cs n v here (omega arith), x.0, x.1)
-  ];
-}
-
-pub released_all : (lengths : List ℕ) (cs : List Traffic) (es fs : List (ℕ × Trace)) (n : ℕ) → length cs ≤ n → AreReleased lengths (take n cs) es fs → AreReleased lengths cs es fs
-released_all lengths cs es fs n all h = record {
-  gone = λ i v m at cover. h.gone i v m (get_in_take n cs i v at (omega (arith, all, slice_get_within cs i v at))) cover;
-  others = λ m. elim (h.others m) [
-    | inl same ↦ inl same
-    | inr x ↦ inr (x.0, x.1, (get_take n cs x.0 x.1 x.2).0, x.3, x.4)
-  ];
-}
 
 -- each other row
 pub shows_quiet : (cs : List Traffic) (s : Past) (row : Event) → is_quiet row ≡ true → ShowsArrivals cs s → ShowsArrivals cs (after s row)

@@ -1,7 +1,7 @@
 -- Traffic while its two histories grow and are cut back.
 use Rattle.std.proofs.Common.{◌≡◌, ℕ, ◌+◌, ◌-◌, ◌<◌, ◌≤◌, ◌≢◌, ◌⊎◌, true, false, Option, Some, None, IfSome, List, [], ◌∷◌, ◌++◌, length, map, take, drop, refl, sym, ap, ◌∙◌, subst, arith, inl, inr}
 use Rattle.std.specs.List.{slice_get, slice_index, filter}
-use Rattle.std.specs.Prelude.{nat_lt, min, ◌==◌}
+use Rattle.std.specs.Prelude.{nat_lt, min}
 use Rattle.std.proofs.lemmas.Bool.{cases_lt, cases_eq}
 use Rattle.std.proofs.lemmas.Bool.Decides.{nat_tests}
 use Rattle.std.proofs.lemmas.Option.{slice_get_within}
@@ -354,11 +354,8 @@ removed_others arrivals es fs gs n b here removed others m = elim (cases_eq m b.
 ]
 
 -- a channel without arrivals
-no_item : {X : Type 0} (xs : List X) (k : ℕ) (x : X) → length xs ≡ 0 → slice_get xs k ≡ Some x → ⊥
+pub no_item : {X : Type 0} (xs : List X) (k : ℕ) (x : X) → length xs ≡ 0 → slice_get xs k ≡ Some x → ⊥
 no_item xs k x e at = absurd (omega (arith, e, slice_get_within xs k x at))
-
-pub none_there : (n m : ℕ) → true ≡ (n == 0) → n ≡ m → m ≡ 0
-none_there n m e same = grind (arith, nat_tests, e, same)
 
 pub no_orphan : (v : Traffic) (cut : ℕ → ℕ) (s : Past) (m : ℕ) → length v.arrivals ≡ 0 → length v.undone ≡ 0 → s.permanent v.sender ≤ cut v.sender → ShowsTraffic v s → IsOrphanBetween s cut v.receiver v.sender m → IsAtMost None m
 no_orphan v cut s m arrivals undone settled t o =

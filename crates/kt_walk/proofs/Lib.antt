@@ -12,6 +12,7 @@ pub mod HeldCounts
 pub mod ItemPlaces
 pub mod ChannelFacts
 pub mod ArrivalFacts
+pub mod UsedFacts
 pub mod ReleasedFacts
 pub mod WalkArrivals
 pub mod WalkLinks

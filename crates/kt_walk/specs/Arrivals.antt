@@ -1,5 +1,5 @@
 -- What is kept of the messages that stand in live histories as received.
-use Rattle.std.specs.Prelude.{◌≡◌, ◌⊎◌, ℕ, ◌+◌, ◌*◌, ◌<◌, ◌≤◌, Bool, true, false, None, Some, List, [], length, take, slice_get, slice_index, unwrap_or, if◌then◌else◌}
+use Rattle.std.specs.Prelude.{◌≡◌, ◌⊎◌, ℕ, ◌+◌, ◌*◌, ◌<◌, ◌≤◌, ◌==◌, ◌&&◌, not, Bool, true, false, None, Some, Option, List, [], length, take, slice_get, slice_index, unwrap_or, if◌then◌else◌}
 use Rattle.kt_base.specs.Sets.{has}
 use Rattle.kt_spacetime.specs.declared.event.Event.{Event}
 use Rattle.kt_spacetime.specs.declared.event.Event.TheVariants.{Received, Decided}
@@ -72,6 +72,29 @@ pub record IsByPair (channels : List Traffic) : Type 0 where
   pub place : (i : ℕ) (v : Traffic) → slice_get channels i ≡ Some v → v.receiver * 64 + v.sender ≡ i
   pub receiver : (i : ℕ) (v : Traffic) → slice_get channels i ≡ Some v → v.receiver < 64
   pub sender : (i : ℕ) (v : Traffic) → slice_get channels i ≡ Some v → v.sender < 64
+
+-- there are no messages from one process to another
+abbrev pub is_empty : Traffic → Bool
+is_empty v = (length v.arrivals == 0) && (length v.undone == 0)
+
+-- the places of the pairs of processes that have messages, each once; others may be among them
+pub record AreListed (channels : List Traffic) (used : List ℕ) : Type 0 where
+  pub all : (i : ℕ) (v : Traffic) → slice_get channels i ≡ Some v → is_empty v ≡ false → Has used i
+  pub once : (j k i : ℕ) → slice_get used j ≡ Some i → slice_get used k ≡ Some i → j ≡ k
+  pub within : (k i : ℕ) → slice_get used k ≡ Some i → i < length channels
+
+-- each of these pairs of processes has messages
+pub record AreInUse (channels : List Traffic) (used : List ℕ) : Type 0 where
+  pub each : (k i : ℕ) (v : Traffic) → slice_get used k ≡ Some i → slice_get channels i ≡ Some v → is_empty v ≡ false
+
+-- there is traffic, and it has messages
+abbrev pub has_messages : Option Traffic → Bool
+has_messages None = false
+has_messages (Some v) = not (is_empty v)
+
+-- the pair of processes at a place has messages
+abbrev pub is_in_use : List Traffic → ℕ → Bool
+is_in_use channels place = has_messages (slice_get channels place)
 
 -- the message of a deed
 abbrev pub message_of : Deed → ℕ

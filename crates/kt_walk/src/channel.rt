@@ -9,7 +9,7 @@ ghost use Rattle.kt_cuts.specs.Past.{Past};
 ghost use Rattle.kt_cuts.specs.Lists.{Rises, sent_in};
 ghost use Rattle.kt_cuts.specs.Orphans.{IsOrphanBetween, IsAtMost};
 ghost use Rattle.kt_cuts.specs.Standing.{IsInOrder};
-ghost use Rattle.kt_walk.specs.Arrivals.{IsRising, Parts, sent_at, received_at, undo, IsTraffic, ShowsTraffic, IsOpen, IsReleased, cut_back};
+ghost use Rattle.kt_walk.specs.Arrivals.{IsRising, Parts, sent_at, received_at, undo, IsTraffic, ShowsTraffic, IsOpen, IsReleased, is_empty, cut_back};
 ghost use Rattle.kt_walk.specs.Keeping.{kept_at};
 
 use crate::kept::Kept;
@@ -60,6 +60,13 @@ impl Channel {
             arrivals: Queue::new(alloc),
             undone: Vec::new(alloc),
         }
+    }
+
+    /// There are no messages.
+    pub(crate) fn is_empty(&self) -> bool
+        ensures { result ≡ is_empty self.now }
+    {
+        self.arrivals.len() == 0 && self.undone.is_empty()
     }
 
     /// One more message, the last one; unchanged where there is no memory.
@@ -138,9 +145,6 @@ impl Channel {
         ensures kept { IsRising self.old.arrivals → IsReleased permanent.now self.old kept.old kept.new }
     {
         let arrivals = self.arrivals.as_slice();
-        if arrivals.is_empty() {
-            return;
-        }
         let sent = count_sent_before(arrivals, permanent[self.sender.get() as usize]);
         let received = count_received_before(arrivals, permanent[self.receiver.get() as usize]);
         let covered = sent.min(received);
@@ -153,9 +157,6 @@ impl Channel {
         ensures orphan { IfSome result (λ msg. (s : Past) → IsInOrder s → ShowsTraffic self.now s → IsOrphanBetween s (slice_index cut.now) self.now.receiver self.now.sender msg) }
         ensures least { (s : Past) (msg : ℕ) → s.permanent self.now.sender ≤ slice_index cut.now self.now.sender → ShowsTraffic self.now s → IsOrphanBetween s (slice_index cut.now) self.now.receiver self.now.sender msg → IsAtMost result msg }
     {
-        if self.arrivals.len() == 0 && self.undone.is_empty() {
-            return None;
-        }
         let received = cut.length(self.receiver);
         let sent = cut.length(self.sender);
         earlier(

@@ -1,17 +1,24 @@
-use Rattle.std.proofs.Common.{arith}
-use Rattle.std.proofs.lemmas.Option.{slice_get-get_or, slice_get_within}
+use Rattle.std.proofs.Common.{arith, ◌∙◌}
+use Rattle.std.proofs.lemmas.List.{length-set}
+use Rattle.std.proofs.lemmas.Option.{slice_get-get_or}
 use Rattle.kt_walk.specs.Arrivals.{IsCutBack}
-use Rattle.kt_walk.proofs.ArrivalFacts.{all_done, rest_to_do}
+use Rattle.kt_walk.proofs.UsedFacts.{empty_cut_back, changed_next, changed_all, still_listed}
 use Rattle.kt_walk.proofs.arrivals.cut_all_back.Goals as goal
 
-pub loop-channel-preserved : goal.loop-channel-preserved
-loop-channel-preserved c =
-    let at = slice_get-get_or c.loop-channel.channels c.loop-channel.channel-index c.channel-item.result (omega arith) in
-    let inv = c.loop-channel.invariant in
+pub loop-place-preserved : goal.loop-place-preserved
+loop-place-preserved c =
+    let inv = c.loop-place.invariant in
+    let next = slice_get-get_or c.args.used.now c.loop-place.place-index 0 c.loop-place-test.true in
+    let here = slice_get-get_or c.loop-place.channels _ c.index-channels-place.result (omega (arith, c.requires.within _ _ next, inv.count)) in
     record {
-      done = all_done (IsCutBack c.args.members c.args.lengths.now) _ _ _ _ _ at (record { receiver = c.cut_back.ensures.receiver; sender = c.cut_back.ensures.sender; traffic = c.cut_back.ensures.traffic }) inv.done inv.to_do;
-      to_do = rest_to_do _ _ _ _ inv.to_do;
+      count = length-set _ _ _ ∙ inv.count;
+      changed = changed_next (IsCutBack c.args.members c.args.lengths.now) _ _ _ _ _ _ _ _ c.requires next here (record { receiver = c.cut_back.ensures.receiver; sender = c.cut_back.ensures.sender; traffic = c.cut_back.ensures.traffic }) inv.changed;
     }
 
 pub returns-clause-each : goal.returns-clause-each
-returns-clause-each c = λ i w e. c.loop-channel.invariant.done i w (omega (arith, slice_get_within c.loop-channel.channels i w e, c.loop-channel-test.false)) e
+returns-clause-each c =
+    changed_all (IsCutBack c.args.members c.args.lengths.now) c.args.channels.now c.loop-place.channels c.args.used.now c.loop-place.place-index (omega (arith, c.loop-place-test.false)) c.requires
+    (empty_cut_back c.args.members c.args.lengths.now) c.loop-place.invariant.changed
+
+pub returns-clause-listed : goal.returns-clause-listed
+returns-clause-listed c = still_listed (IsCutBack c.args.members c.args.lengths.now) c.args.channels.now c.loop-place.channels c.args.used.now c.loop-place.place-index c.loop-place.invariant.count c.requires c.loop-place.invariant.changed

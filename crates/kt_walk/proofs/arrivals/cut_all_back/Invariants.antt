@@ -1,10 +1,10 @@
-use Rattle.std.proofs.Common.{◌≡◌, ℕ, ◌≤◌, ◌<◌, Some}
-use Rattle.std.specs.List.{slice_get}
-use Rattle.kt_walk.specs.Arrivals.{Traffic, IsCutBack}
+use Rattle.std.proofs.Common.{◌≡◌, length}
+use Rattle.kt_walk.specs.Arrivals.{IsCutBack}
+use Rattle.kt_walk.proofs.UsedFacts.{AreChanged}
 use Rattle.kt_walk.proofs.arrivals.cut_all_back.Given as goal
 
-abbrev pub invariant-loop-channel : goal.invariant-loop-channel
-invariant-loop-channel l = record {
-  done : (i : ℕ) (w : Traffic) → i < l.channel-index → slice_get l.channels i ≡ Some w → (v : Traffic) × (slice_get l.initial.channels i ≡ Some v) × IsCutBack l.members l.lengths v w;
-  to_do : (i : ℕ) (w : Traffic) → l.channel-index ≤ i → slice_get l.channels i ≡ Some w → slice_get l.initial.channels i ≡ Some w;
+abbrev pub invariant-loop-place : goal.invariant-loop-place
+invariant-loop-place l = record {
+  count : length l.channels ≡ length l.initial.channels;
+  changed : AreChanged (IsCutBack l.members l.lengths) l.initial.channels l.channels l.used l.place-index;
 }

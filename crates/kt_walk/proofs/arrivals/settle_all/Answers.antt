@@ -1,29 +1,36 @@
-use Rattle.std.proofs.Common.{arith}
-use Rattle.std.proofs.lemmas.Option.{slice_get-get_or, slice_get_within}
+use Rattle.std.proofs.Common.{refl, arith, ◌∙◌}
+use Rattle.std.proofs.lemmas.List.{length-set}
+use Rattle.std.proofs.lemmas.Option.{slice_get-get_or}
 use Rattle.kt_walk.specs.Arrivals.{IsSettled}
-use Rattle.kt_walk.proofs.ArrivalFacts.{all_done, rest_to_do, released_start, released_next, released_all}
+use Rattle.kt_walk.proofs.UsedFacts.{empty_settled, changed_start, unchanged_yet, changed_next, changed_all, still_listed, released_start, released_next, released_all}
 use Rattle.kt_walk.proofs.arrivals.settle_all.Goals as goal
 
-pub loop-channel-init : goal.loop-channel-init
-loop-channel-init c = record {
-  done = λ i w low at. absurd (omega (arith, low));
-  to_do = λ i w high at. at;
-  kept = λ rising. released_start c.args.permanent.now c.args.channels.now c.args.kept.now;
+pub loop-place-init : goal.loop-place-init
+loop-place-init c = record {
+  count = refl;
+  changed = changed_start (IsSettled c.args.permanent.now) c.args.channels.now c.args.used.now;
+  kept = λ rising. released_start c.args.permanent.now c.args.channels.now c.args.used.now c.args.kept.now;
 }
 
-pub loop-channel-preserved : goal.loop-channel-preserved
-loop-channel-preserved c =
-    let at = slice_get-get_or c.loop-channel.channels c.loop-channel.channel-index c.channel-item.result (omega arith) in
-    let inv = c.loop-channel.invariant in
-    let was = inv.to_do c.loop-channel.channel-index _ (omega arith) at in
+pub loop-place-preserved : goal.loop-place-preserved
+loop-place-preserved c =
+    let inv = c.loop-place.invariant in
+    let next = slice_get-get_or c.args.used.now c.loop-place.place-index 0 c.loop-place-test.true in
+    let here = slice_get-get_or c.loop-place.channels _ c.index-channels-place.result (omega (arith, c.requires.within _ _ next, inv.count)) in
+    let was = unchanged_yet (IsSettled c.args.permanent.now) _ _ _ _ _ _ _ c.requires next here inv.changed in
     record {
-      done = all_done (IsSettled c.args.permanent.now) _ _ _ _ _ at (record { receiver = c.release.ensures.receiver; sender = c.release.ensures.sender; traffic = c.release.ensures.traffic; none = c.release.ensures.none }) inv.done inv.to_do;
-      to_do = rest_to_do _ _ _ _ inv.to_do;
-      kept = λ rising. released_next c.args.permanent.now _ _ _ _ c.loop-channel.channel-index _ was (inv.kept rising) (c.release.ensures.kept (rising _ _ was));
+      count = length-set _ _ _ ∙ inv.count;
+      changed = changed_next (IsSettled c.args.permanent.now) _ _ _ _ _ _ _ _ c.requires next here (record { receiver = c.release.ensures.receiver; sender = c.release.ensures.sender; traffic = c.release.ensures.traffic; none = c.release.ensures.none }) inv.changed;
+      kept = λ rising. released_next c.args.permanent.now _ _ _ _ _ _ _ _ next was (inv.kept rising) (c.release.ensures.kept (rising _ _ was));
     }
 
 pub returns-clause-each : goal.returns-clause-each
-returns-clause-each c = λ i w e. c.loop-channel.invariant.done i w (omega (arith, slice_get_within c.loop-channel.channels i w e, c.loop-channel-test.false)) e
+returns-clause-each c =
+    changed_all (IsSettled c.args.permanent.now) c.args.channels.now c.loop-place.channels c.args.used.now c.loop-place.place-index (omega (arith, c.loop-place-test.false)) c.requires
+    (empty_settled c.args.permanent.now) c.loop-place.invariant.changed
+
+pub returns-clause-listed : goal.returns-clause-listed
+returns-clause-listed c = still_listed (IsSettled c.args.permanent.now) c.args.channels.now c.loop-place.channels c.args.used.now c.loop-place.place-index c.loop-place.invariant.count c.requires c.loop-place.invariant.changed
 
 pub returns-clause-kept : goal.returns-clause-kept
-returns-clause-kept c = λ rising. released_all c.args.permanent.now _ _ _ c.loop-channel.channel-index (omega (arith, c.loop-channel-test.false)) (c.loop-channel.invariant.kept rising)
+returns-clause-kept c = λ rising. released_all c.args.permanent.now c.args.channels.now c.args.used.now c.args.kept.now c.loop-place.kept c.loop-place.place-index (omega (arith, c.loop-place-test.false)) c.requires (c.loop-place.invariant.kept rising)

@@ -9,7 +9,7 @@ returns-clause-shows c = λ s p k h makes.
     let was = c.deref_mut.ensures.value in
     let long : length c.settle_all.new.channels ≡ c.self.inside.channels.len = c.settle_all.ensures.count ∙ (ap length was ∙ sym c.self.inside.channels.ok.0) in
     let whole = written c.self.inside.channels.len c.settle_all.new.channels c.self.inside.channels.items long in
-    rw whole (shows_settled c.self.inside.channels.items c.settle_all.new.channels s p k c.args.permanent.now c.self.invariant (rw was at c.settle_all.ensures.count) (rw was at c.settle_all.ensures.each)
+    rw whole (shows_settled c.self.inside.channels.items c.settle_all.new.channels s p k c.args.permanent.now c.self.invariant.0 (rw was at c.settle_all.ensures.count) (rw was at c.settle_all.ensures.each)
     (subst (λ (x : List Traffic). ShowsArrivals x s) (sym c.self.view_is) h) makes)
 
 pub returns-clause-none : goal.returns-clause-none
