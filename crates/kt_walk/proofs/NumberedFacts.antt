@@ -305,7 +305,7 @@ none_gone es =
 pub part_item : {X : Type 0} (xs : List X) (start end i : ℕ) (x : X) → start ≤ i → i < end → slice_get xs i ≡ Some x → slice_get (take (end - start) (drop start xs)) (i - start) ≡ Some x
 part_item xs start end i x low high at = get_in_take (end - start) (drop start xs) (i - start) x (get_from_drop start xs i x at low) (omega (arith, low, high))
 
--- a number that is higher than one, or lower, is not far from it
+-- a number that is higher than one, or not higher, is not far from it
 pub right_of : (es : List (ℕ × Trace)) → IsNumbered es → (near i m : ℕ) (a : ℕ × Trace) (t : Trace) → slice_get es near ≡ Some a → a.0 < m → slice_get es i ≡ Some (m, t) → (near ≤ i) × (i ≤ near + (m - a.0))
 right_of es h near i m a t at low there = elim (cases_lt i near) [
   | inl before ↦
@@ -317,20 +317,15 @@ right_of es h near i m a t at low there = elim (cases_lt i near) [
       (after, omega (arith, far, after))
 ]
 
-pub left_of : (es : List (ℕ × Trace)) → IsNumbered es → (near i m : ℕ) (a : ℕ × Trace) (t : Trace) → slice_get es near ≡ Some a → m < a.0 → slice_get es i ≡ Some (m, t) → (i < near) × (near - (a.0 - m) ≤ i)
-left_of es h near i m a t at high there = elim (cases_lt i near) [
-  | inl before ↦
+pub left_of : (es : List (ℕ × Trace)) → IsNumbered es → (near i m : ℕ) (a : ℕ × Trace) (t : Trace) → slice_get es near ≡ Some a → m ≤ a.0 → slice_get es i ≡ Some (m, t) → (i ≤ near) × (near - (a.0 - m) ≤ i)
+left_of es h near i m a t at high there = elim (cases_lt near i) [
+  | inl after ↦
+      let less = h.each near i a (m, t) after at there in
+      absurd (omega (arith, less, high))
+  | inr before ↦
       let back : near ≡ i + (near - i) = omega (arith, before) in
       let far = far_apart es h i (near - i) (m, t) a there (subst (λ (k : ℕ). slice_get es k ≡ Some a) back at) in
       (before, omega (arith, far, before))
-  | inr after ↦ elim (cases_eq i near) [
-    | inl same ↦
-        let is : (m, t) ≡ a = some_same (sym there ∙ (ap (slice_get es) same ∙ at)) in
-        absurd (omega (arith, ap (λ (e : ℕ × Trace). e.0) is, high))
-    | inr other ↦
-        let less = h.each near i a (m, t) (omega (arith, after, other)) at there in
-        absurd (omega (arith, less, high))
-  ]
 ]
 
 abbrev pub number_at : ℕ × Trace → ℕ

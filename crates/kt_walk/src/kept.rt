@@ -12,15 +12,17 @@ use std::marker::Model;
 
 /// Messages with their traces, in the order of their numbers.
 ///
-/// A message is added at the end, since its number is the next one, and found from the end on, where it is received
-/// soon after. Those that are taken out together follow each other, so the next one is looked for past the last one.
+/// A message is added at the end, since its number is the next one, and looked for at the end, where it is received soon
+/// after. Those that are taken out together are mostly as far apart as the last two were.
 #[derive(Drop)]
 pub(crate) struct Kept {
     // By rising number. Those that are gone have no place; they are no more than half of them.
     entries: Vec<(MsgNo, Trace)>,
     // How many of them are gone.
     gone: usize,
-    // The place past that of the message which was taken out last.
+    // The place of the message which was taken out last, and where the next one is, if it is as far from it as the last
+    // one was from the one before.
+    taken: usize,
     next: usize,
 }
 
@@ -48,6 +50,7 @@ impl Kept {
         Kept {
             entries: Vec::new(alloc),
             gone: 0,
+            taken: 0,
             next: 0,
         }
     }
@@ -64,7 +67,7 @@ impl Kept {
     pub(crate) fn get(&self, msg: MsgNo) -> Option<Trace>
         ensures { result ≡ kept_at self.now msg }
     {
-        let place = place_of(&self.entries, msg, self.entries.len())?;
+        let place = place_of(&self.entries, msg, self.entries.len().saturating_sub(1))?;
         let trace = self.entries[place].1;
         if has_place(&trace) { Some(trace) } else { None }
     }
@@ -103,7 +106,8 @@ impl Kept {
         ensures { (m : ℕ) → kept_at self.new m ≡ at_one msg None (kept_at self.old) m }
     {
         if let Some(place) = place_of(&self.entries, msg, self.next) {
-            self.next = place + 1;
+            self.next = place.saturating_add(place.saturating_sub(self.taken));
+            self.taken = place;
             give(&mut self.entries, &mut self.gone, place, None, None);
         }
     }
@@ -112,7 +116,7 @@ impl Kept {
     pub(crate) fn receive(&mut self, msg: MsgNo, place: usize)
         ensures { (m : ℕ) → kept_at self.new m ≡ at_one msg (received_here place (kept_at self.old msg)) (kept_at self.old) m }
     {
-        if let Some(index) = place_of(&self.entries, msg, self.entries.len()) {
+        if let Some(index) = place_of(&self.entries, msg, self.entries.len().saturating_sub(1)) {
             let sent = self.entries[index].1.sent;
             give(&mut self.entries, &mut self.gone, index, sent, Some(place));
         }
@@ -122,7 +126,7 @@ impl Kept {
     pub(crate) fn unsend(&mut self, msg: MsgNo)
         ensures { (m : ℕ) → kept_at self.new m ≡ at_one msg (unsent (kept_at self.old msg)) (kept_at self.old) m }
     {
-        if let Some(place) = place_of(&self.entries, msg, self.entries.len()) {
+        if let Some(place) = place_of(&self.entries, msg, self.entries.len().saturating_sub(1)) {
             let received = self.entries[place].1.received;
             give(&mut self.entries, &mut self.gone, place, None, received);
         }
@@ -132,7 +136,7 @@ impl Kept {
     pub(crate) fn unreceive(&mut self, msg: MsgNo)
         ensures { (m : ℕ) → kept_at self.new m ≡ at_one msg (unreceived (kept_at self.old msg)) (kept_at self.old) m }
     {
-        if let Some(place) = place_of(&self.entries, msg, self.entries.len()) {
+        if let Some(place) = place_of(&self.entries, msg, self.entries.len().saturating_sub(1)) {
             let sent = self.entries[place].1.sent;
             give(&mut self.entries, &mut self.gone, place, sent, None);
         }

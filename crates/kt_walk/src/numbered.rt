@@ -15,9 +15,21 @@ pub(crate) fn has_place(trace: &Trace) -> bool
     trace.sent.is_some() || trace.received.is_some()
 }
 
-/// The place of a message in the list, looked for from a place on where it may be. Numbers rise by one at least, so it
-/// is no more places away than the numbers are apart.
+/// The place of a message in the list, looked for first where it may be.
 pub(crate) fn place_of(entries: &[(MsgNo, Trace)], msg: MsgNo, guess: usize) -> Option<usize>
+    ensures found { IfSome result (λ i. (t : Trace) × (slice_get entries.now i ≡ Some (msg, t))) }
+    ensures none { IfNone result (IsNumbered entries.now → (i : ℕ) (t : Trace) → slice_get entries.now i ≡ Some (msg, t) → ⊥) }
+{
+    if stands_at(entries, guess, msg) {
+        Some(guess)
+    } else {
+        place_near(entries, msg, guess)
+    }
+}
+
+// The place of a message in the list, looked for round a place. Numbers rise by one at least, so it is no more places
+// away than the numbers are apart.
+fn place_near(entries: &[(MsgNo, Trace)], msg: MsgNo, guess: usize) -> Option<usize>
     ensures found { IfSome result (λ i. (t : Trace) × (slice_get entries.now i ≡ Some (msg, t))) }
     ensures none { IfNone result (IsNumbered entries.now → (i : ℕ) (t : Trace) → slice_get entries.now i ≡ Some (msg, t) → ⊥) }
 {
@@ -25,14 +37,12 @@ pub(crate) fn place_of(entries: &[(MsgNo, Trace)], msg: MsgNo, guess: usize) -> 
     let near = guess.min(last);
     let there = entries[near].0.get();
     let number = msg.get();
-    if there == number {
-        Some(near)
-    } else if there < number {
+    if there < number {
         let end = near.saturating_add((number - there) as usize).min(last);
         search(entries, near, end + 1, msg)
     } else {
         let start = near.saturating_sub((there - number) as usize);
-        search(entries, start, near, msg)
+        search(entries, start, near + 1, msg)
     }
 }
 
