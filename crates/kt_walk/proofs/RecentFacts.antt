@@ -16,10 +16,10 @@ use Rattle.kt_cuts.specs.Lists.{last_of, received_in}
 use Rattle.kt_walk.specs.Keeping.{kept_at, kept_between}
 use Rattle.kt_cuts.specs.Orphans.{is_within}
 use Rattle.kt_walk.specs.PartsOf.{ShowsKept}
-use Rattle.kt_walk.specs.RecentSteps.{step_of, steps_after, steps_past, is_send_of, ShowsRecent, if_at, is_needed}
+use Rattle.kt_walk.specs.RecentSteps.{step_of, steps_after, steps_past, is_send_of, ShowsRecent, if_at, is_needed, is_past}
 use Rattle.kt_walk.specs.Stages.{AreInPlace}
 use Rattle.kt_cuts.specs.Traces.{place_of}
-use Rattle.kt_cuts.proofs.Items.{get_seam}
+use Rattle.kt_cuts.proofs.Items.{get_seam, item_there}
 use Rattle.kt_walk.proofs.KeptFacts.{kept_of, past_it}
 use Rattle.kt_cuts.proofs.Lists.{get_drop}
 use Rattle.kt_cuts.proofs.SortedFacts.{some_same}
@@ -126,46 +126,48 @@ recent_received r n l m f place before dropped h low last number =
     subst (λ (x : Step). ShowsRecent (r ++ x ∷ []) n (l ++ deed.Received m f ∷ []) dropped) (λ i. record { msg = m; from = Some f; before = sym last i; place = sym number i })
     (recent_push r n l (deed.Received m f) dropped h low (λ x q e. absurd (cc)))
 
--- the first deed past a place: its step comes first, or it was lost
-pub first_known : (r : List Step) (n place : ℕ) (l : List Deed) (d : Deed) (dropped : ℕ → Bool) → ShowsRecent r n l dropped → place ≡ n + 1 → slice_get l n ≡ Some d
-    → ((if_at place (slice_get r 0) ≡ Some (step_of (take n l) d)) × ShowsRecent (drop 1 r) (n + 1) l dropped)
-    ⊎ ((if_at place (slice_get r 0) ≡ None) × IsLost dropped d × ShowsRecent r (n + 1) l dropped)
-first_known r n place l d dropped h number at = at_test (f x) refl
+-- the steps past a place, of those past an earlier one
+steps_later : (d n k : ℕ) (l : List Deed) → n + d ≡ k → k ≤ length l → filter (is_past k) (steps_past n l) ≡ steps_past k l
+steps_later zero n k l e low =
+    let same : n ≡ k = omega (arith, e) in
+    subst (λ (m : ℕ). filter (is_past k) (steps_past m l) ≡ steps_past k l) (sym same)
+    (all_pass (is_past k) (steps_past k l) (λ i x at.
+    let bounds = step_place (take k l) (drop k l) i x at in
+    let past : k < x.place = omega (arith, bounds.0, length-take k l, low) in
+    grind (arith, nat_tests, past)))
   where
-    x : Step
-    x = step_of (take n l) d
+    all_pass : (f : Step → Bool) (xs : List Step) → ((i : ℕ) (x : Step) → slice_get xs i ≡ Some x → f x ≡ true) → filter f xs ≡ xs
+    all_pass f [] pass = refl
+    all_pass f (x ∷ xs) pass = ap (λ (b : Bool). cond b (x ∷ filter f xs) (filter f xs)) (pass 0 x refl) ∙ ap (λ (t : List Step). x ∷ t) (all_pass f xs (λ i y at. pass (suc i) y at))
+steps_later (suc d) n k l e low =
+    let there = item_there l n (omega (arith, e, low)) in
+    let x : Step = step_of (take n l) there.0 in
+    let place : x.place ≡ n + 1 = place_of_step (take n l) there.0 ∙ omega (arith, length-take n l, e, low) in
+    let past : is_past k x ≡ false = grind (arith, nat_tests, place, e) in
+    ap (filter (is_past k)) (steps_past_next n l there.0 there.1)
+    ∙ (ap (λ (b : Bool). cond b (x ∷ filter (is_past k) (steps_past (n + 1) l)) (filter (is_past k) (steps_past (n + 1) l))) past ∙ steps_later d (n + 1) k l (omega (arith, e)) low)
 
-    rest : List Step
-    rest = steps_past (n + 1) l
-
+-- more deeds are permanent
+pub recent_settled : (r : List Step) (n k : ℕ) (l : List Deed) (dropped : ℕ → Bool) → ShowsRecent r n l dropped → n ≤ k → k ≤ length l → ShowsRecent (filter (is_past k) r) k l dropped
+recent_settled r n k l dropped h more low = record {
+  forgotten = h.forgotten;
+  were_dropped = h.were_dropped;
+  others = ap (filter (is_past k)) h.others ∙ (swapped (steps_past n l) ∙ ap (filter f) (steps_later (k - n) n k l (omega (arith, more)) low));
+}
+  where
     f : Step → Bool
-    f = λ y. not (is_send_of h.forgotten y)
+    f = λ x. not (is_send_of h.forgotten x)
 
-    low : n < length l
-    low = slice_get_within l n d at
-
-    here : x.place ≡ place
-    here = place_of_step (take n l) d ∙ omega (arith, length-take n l, low, number)
-
-    whole : (b : Bool) → f x ≡ b → r ≡ cond b (x ∷ filter f rest) (filter f rest)
-    whole b is = h.others ∙ (ap (filter f) (steps_past_next n l d at) ∙ ap (λ (c : Bool). cond c (x ∷ filter f rest) (filter f rest)) is)
-
-    later : r ≡ filter f rest → (y : Step) → slice_get r 0 ≡ Some y → y.place ≢ place
-    later now y e same =
-        let there = filter_item f rest 0 y (ap (λ (t : List Step). slice_get t 0) (sym now) ∙ e) in
-        let bounds = step_place (take (n + 1) l) (drop (n + 1) l) there.0 y there.1 in
-        absurd (omega (arith, bounds.0, length-take (n + 1) l, low, same, number))
-
-    at_test : (b : Bool) → f x ≡ b
-        → ((if_at place (slice_get r 0) ≡ Some (step_of (take n l) d)) × ShowsRecent (drop 1 r) (n + 1) l dropped)
-        ⊎ ((if_at place (slice_get r 0) ≡ None) × IsLost dropped d × ShowsRecent r (n + 1) l dropped)
-    at_test true is =
-        let now : r ≡ x ∷ filter f rest = whole true is in
-        inl (some_at place (slice_get r 0) x (ap (λ (t : List Step). slice_get t 0) now) here, record { forgotten = h.forgotten; were_dropped = h.were_dropped; others = ap (drop 1) now })
-    at_test false is =
-        let now : r ≡ filter f rest = whole false is in
-        let lost = lost_send h.forgotten (take n l) d is in
-        inr (none_at place (slice_get r 0) (later now), (lost.0, lost.1, lost.2, h.were_dropped lost.0 lost.3), record { forgotten = h.forgotten; were_dropped = h.were_dropped; others = now })
+    swapped : (l : List Step) → filter (is_past k) (filter f l) ≡ filter f (filter (is_past k) l)
+    swapped [] = refl
+    swapped (x ∷ l) = at_tests (f x) (is_past k x) refl refl (swapped l)
+      where
+        at_tests : (a b : Bool) → f x ≡ a → is_past k x ≡ b → filter (is_past k) (filter f l) ≡ filter f (filter (is_past k) l)
+            → filter (is_past k) (cond a (x ∷ filter f l) (filter f l)) ≡ filter f (cond b (x ∷ filter (is_past k) l) (filter (is_past k) l))
+        at_tests true true e g rest = rw (e, g) (ap (λ (t : List Step). x ∷ t) rest)
+        at_tests true false e g rest = rw g rest
+        at_tests false true e g rest = rw e rest
+        at_tests false false e g rest = rest
 
 -- the last deed: its step comes last, or it was lost
 pub last_known : (r : List Step) (n place : ℕ) (l front : List Deed) (d : Deed) (dropped : ℕ → Bool) → ShowsRecent r n l dropped → l ≡ front ++ d ∷ [] → n ≤ length front → place ≡ length front + 1

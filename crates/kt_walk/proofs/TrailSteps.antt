@@ -1,5 +1,5 @@
 -- One deed comes to be permanent, or is undone.
-use Rattle.std.proofs.Common.{◌≡◌, ◌≢◌, ℕ, ◌+◌, ◌-◌, ◌<◌, ◌≤◌, Bool, true, false, Option, Some, None, List, [], ◌∷◌, ◌++◌, length, set, take, drop, refl, sym, ap, subst, ◌∙◌, arith, inl, inr, length-append, length-take}
+use Rattle.std.proofs.Common.{filter, ◌≡◌, ◌≢◌, ℕ, ◌+◌, ◌-◌, ◌<◌, ◌≤◌, Bool, true, false, Option, Some, None, List, [], ◌∷◌, ◌++◌, length, set, take, refl, sym, ap, subst, ◌∙◌, arith, inl, inr, length-append, length-take}
 use Rattle.std.specs.List.{slice_get}
 use Rattle.std.proofs.lemmas.Bool.{cases_eq}
 use Rattle.std.proofs.lemmas.List.{length-set}
@@ -15,14 +15,14 @@ use Rattle.kt_cuts.specs.Lists.{received_in, last_of}
 use Rattle.kt_walk.specs.Keeping.{kept_at, kept_between, unsent, unreceived, restored}
 use Rattle.kt_walk.specs.Stages.{with_permanent, with_live, AreInPlace}
 use Rattle.kt_walk.specs.PartsOf.{ShowsWalker, ShowsWalkers, ShowsKept}
-use Rattle.kt_walk.specs.RecentSteps.{step_of, ShowsRecent, if_at, without_first}
-use Rattle.kt_cuts.proofs.Items.{get_left, get_seam, get_set_same, get_set_other, item_there}
+use Rattle.kt_walk.specs.RecentSteps.{step_of, ShowsRecent, if_at, is_past}
+use Rattle.kt_cuts.proofs.Items.{get_left, get_seam, get_set_same, get_set_other}
 use Rattle.kt_cuts.proofs.SortedFacts.{some_same, received_unsent, received_else}
 use Rattle.kt_cuts.proofs.DeedFacts.{place_of_deed}
 use Rattle.kt_cuts.proofs.Shown.{at_same, at_other}
 use Rattle.kt_walk.proofs.StepLists.{last_item, other_sent, other_received}
 use Rattle.kt_walk.proofs.KeptFacts.{kept_dropped, other_undone, sent_undone, received_undone}
-use Rattle.kt_walk.proofs.RecentFacts.{IsLost, recent_same, first_known, last_known}
+use Rattle.kt_walk.proofs.RecentFacts.{IsLost, recent_same, last_known, recent_settled}
 
 -- the processes with another one at a place
 pub walkers_set : (ws : List Walker) (s t : Past) (p : ℕ) (v : Walker) → ShowsWalkers ws s → p < 64 → ShowsWalker v t p
@@ -41,50 +41,31 @@ walkers_set ws s t p v h l fresh others = record {
 pub walkers_same : (ws : List Walker) (s t : Past) → ShowsWalkers ws s → ((q : ℕ) (w : Walker) → ShowsWalker w s q → ShowsWalker w t q) → ShowsWalkers ws t
 walkers_same ws s t h others = record { each = λ q w e. others q w (h.each q w e); all = h.all }
 
--- the first deed past a permanent position
-first_deed : (s : Past) (p place : ℕ) → s.permanent p ≡ place → place < length (s.live p) → (d : Deed) × (slice_get (s.live p) (s.permanent p) ≡ Some d)
-first_deed s p place at low = item_there (s.live p) (s.permanent p) (omega (arith, at, low))
-
 -- a process more of whose deeds are permanent
-settled_walkers : (ws : List Walker) (s : Past) (p place : ℕ) (v w : Walker) (r : List Step) → ShowsWalkers ws s → p < 64 → slice_get ws p ≡ Some v → s.permanent p ≡ place
-    → ShowsRecent r (s.permanent p + 1) (s.live p) s.dropped → w ≡ record v { permanent = place + 1; recent = r }
-    → ShowsWalkers (set ws p w) (with_permanent s (at_one p (place + 1) s.permanent))
-settled_walkers ws s p place v w r h l there at steps new =
+pub settled_to : (ws : List Walker) (s : Past) (p n : ℕ) (v w : Walker) → ShowsWalkers ws s → p < 64 → slice_get ws p ≡ Some v → s.permanent p ≤ n → n ≤ length (s.live p)
+    → w ≡ record v { permanent = n; recent = filter (is_past n) v.recent } → ShowsWalkers (set ws p w) (with_permanent s (at_one p n s.permanent))
+settled_to ws s p n v w h l there more low new =
     let g = h.each p v there in
-    let f : ℕ → ℕ = at_one p (place + 1) s.permanent in
-    let number : s.permanent p + 1 ≡ place + 1 = ap (λ (n : ℕ). n + 1) at in
-    let now : ShowsWalker (record v { permanent = place + 1; recent = r }) (with_permanent s f) p = record {
+    let f : ℕ → ℕ = at_one p n s.permanent in
+    let now : ShowsWalker (record v { permanent = n; recent = filter (is_past n) v.recent }) (with_permanent s f) p = record {
       length = g.length;
-      permanent = sym (at_same p (place + 1) s.permanent);
+      permanent = sym (at_same p n s.permanent);
       open_in = g.open_in;
       up = g.up;
-      recent = recent_same r (s.permanent p + 1) (f p) (s.live p) (s.live p) s.dropped s.dropped (number ∙ sym (at_same p (place + 1) s.permanent)) refl (λ m e. e) steps;
+      recent = recent_same _ n (f p) (s.live p) (s.live p) s.dropped s.dropped (sym (at_same p n s.permanent)) refl (λ m e. e) (recent_settled v.recent (s.permanent p) n (s.live p) s.dropped g.recent more low);
       received = g.received;
       dropped = g.dropped;
     } in
     walkers_set ws s (with_permanent s f) p w h l (subst (λ (x : Walker). ShowsWalker x (with_permanent s f) p) (sym new) now)
-    (λ q u n x. record {
+    (λ q u apart x. record {
       length = x.length;
-      permanent = x.permanent ∙ sym (at_other p q (place + 1) s.permanent n);
+      permanent = x.permanent ∙ sym (at_other p q n s.permanent apart);
       open_in = x.open_in;
       up = x.up;
-      recent = recent_same u.recent (s.permanent q) (f q) (s.live q) (s.live q) s.dropped s.dropped (sym (at_other p q (place + 1) s.permanent n)) refl (λ m e. e) x.recent;
+      recent = recent_same u.recent (s.permanent q) (f q) (s.live q) (s.live q) s.dropped s.dropped (sym (at_other p q n s.permanent apart)) refl (λ m e. e) x.recent;
       received = x.received;
       dropped = x.dropped;
     })
-
--- a deed more is permanent
-pub settled_step : (ws : List Walker) (s : Past) (p place : ℕ) (v w : Walker) → ShowsWalkers ws s → p < 64 → slice_get ws p ≡ Some v → s.permanent p ≡ place → place < length (s.live p)
-    → w ≡ record v { permanent = place + 1; recent = without_first (if_at (place + 1) (slice_get v.recent 0)) v.recent }
-    → ShowsWalkers (set ws p w) (with_permanent s (at_one p (place + 1) s.permanent))
-settled_step ws s p place v w h l there at low new =
-    let g = h.each p v there in
-    let found = first_deed s p place at low in
-    let number : place + 1 ≡ s.permanent p + 1 = ap (λ (n : ℕ). n + 1) (sym at) in
-    elim (first_known v.recent (s.permanent p) (place + 1) (s.live p) found.0 s.dropped g.recent number found.1) [
-      | inl known ↦ settled_walkers ws s p place v w (drop 1 v.recent) h l there at known.1 (new ∙ ap (λ (o : Option Step). record v { permanent = place + 1; recent = without_first o v.recent }) known.0)
-      | inr lost ↦ settled_walkers ws s p place v w v.recent h l there at lost.2 (new ∙ ap (λ (o : Option Step). record v { permanent = place + 1; recent = without_first o v.recent }) lost.0)
-    ]
 
 -- the deeds that a history with one more has before it
 unrepeated : (live : ℕ → List Deed) (p : ℕ) (front : List Deed) (d : Deed) → ((i j : ℕ) → slice_get (live p) i ≡ Some d → slice_get (live p) j ≡ Some d → i ≡ j) → live p ≡ front ++ d ∷ [] → has_deed d front ≡ false

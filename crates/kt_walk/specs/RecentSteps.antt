@@ -1,5 +1,5 @@
 -- The deeds of a process past its permanent position, as a walk keeps them.
-use Rattle.std.specs.Prelude.{◌≡◌, ℕ, ◌+◌, ◌-◌, ◌==◌, ◌&&◌, ◌||◌, not, if◌then◌else◌, Bool, true, Option, Some, None, is_some, is_none, List, [], ◌∷◌, ◌++◌, length, filter, take, drop}
+use Rattle.std.specs.Prelude.{◌≡◌, ℕ, nat_lt, ◌+◌, ◌-◌, ◌==◌, ◌&&◌, ◌||◌, not, if◌then◌else◌, Bool, true, Option, Some, None, is_some, is_none, List, [], ◌∷◌, ◌++◌, length, filter, take, drop}
 use Rattle.kt_cuts.specs.declared.deeds.Deed.{Deed}
 use Rattle.kt_cuts.specs.declared.deeds.Deed.TheVariants as deed
 use Rattle.kt_cuts.specs.declared.histories.Trace.{Trace}
@@ -36,11 +36,6 @@ abbrev pub if_at : ℕ → Option Step → Option Step
 if_at place None = None
 if_at place (Some step) = if step.place == place then Some step else None
 
--- what is left once the first step was taken, or none
-abbrev pub without_first : Option Step → List Step → List Step
-without_first None steps = steps
-without_first (Some step) steps = drop 1 steps
-
 -- what is left once the last step was taken, or none
 abbrev pub without_last : Option Step → List Step → List Step
 without_last None steps = steps
@@ -49,3 +44,7 @@ without_last (Some step) steps = take (length steps - 1) steps
 -- whether a step is a receive, or the send of a message that is kept
 abbrev pub is_needed : List (ℕ × Trace) → Step → Bool
 is_needed traces step = is_some step.from || is_some (kept_at traces step.msg)
+
+-- whether a step is past this place
+abbrev pub is_past : ℕ → Step → Bool
+is_past place step = nat_lt place step.place

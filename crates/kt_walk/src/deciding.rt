@@ -73,37 +73,7 @@ impl Trail {
         ensures rest { KeepsRest self.old self.new }
         ensures settled { (s : Past) → ShowsWalkers self.old.walkers.items s → s.permanent number ≤ position → position ≤ length (s.live number) → ShowsWalkers self.new.walkers.items (with_permanent s (at_one number position s.permanent)) }
     {
-        self.settle_places(number, position);
-        self.compact(number);
-    }
-
-    // Gives back the room of what a process no longer keeps.
-    fn compact(&mut self, number: u8)
-        requires { number < 64 }
-        ensures rest { KeepsRest self.old self.new }
-        ensures walkers { self.new.walkers.items ≡ self.old.walkers.items }
-    {
-        self.walkers[number as usize].recent.compact();
-    }
-
-    fn settle_places(&mut self, number: u8, position: usize)
-        requires { number < 64 }
-        ensures rest { KeepsRest self.old self.new }
-        ensures settled { (s : Past) → ShowsWalkers self.old.walkers.items s → s.permanent number ≤ position → position ≤ length (s.live number) → ShowsWalkers self.new.walkers.items (with_permanent s (at_one number position s.permanent)) }
-    {
-        for place in self.walkers[number as usize].permanent..position {
-            self.settle(number, place);
-        }
-    }
-
-    // Makes the deed of a process at this place, counted from 0, permanent too.
-    fn settle(&mut self, number: u8, place: usize)
-        requires number { number < 64 }
-        requires place { place + 1 < 2 ^ 64 }
-        ensures rest { KeepsRest self.old self.new }
-        ensures settled { (s : Past) → ShowsWalkers self.old.walkers.items s → s.permanent number ≡ place → place < length (s.live number) → ShowsWalkers self.new.walkers.items (with_permanent s (at_one number (place + 1) s.permanent)) }
-    {
-        self.walkers[number as usize].settle(place);
+        self.walkers[number as usize].settle(position);
     }
 
     // Cuts the members' histories back to their permanent positions.

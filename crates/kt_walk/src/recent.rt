@@ -1,7 +1,7 @@
 //! The deeds of a process past its permanent position.
 
 ghost use Rattle.std.specs.Prelude.{◌≡◌, ◌++◌, ◌∷◌, [], length, filter, slice_get, ◌-◌, OnOk, OnErr};
-ghost use Rattle.kt_walk.specs.RecentSteps.{if_at, without_first, without_last, is_needed};
+ghost use Rattle.kt_walk.specs.RecentSteps.{if_at, without_last, is_needed, is_past};
 
 use crate::kept::Kept;
 use kt_base::{Memory, MsgNo, ProcNo};
@@ -24,19 +24,15 @@ pub(crate) struct Step {
 #[derive(Drop)]
 pub(crate) struct Recent {
     steps: Vec<Step>,
-    // How many of them were taken from the front.
-    taken: usize,
 }
 
 impl Model for Recent {
-    ghost use Rattle.std.specs.Prelude.{List, drop, ◌≤◌, vec_len};
+    ghost use Rattle.std.specs.Prelude.{List};
     ghost use Rattle.kt_walk.specs.declared.recent.Step.{Step};
 
     ghost Value = { List Step };
 
-    ghost view = { λ r. drop r.taken r.steps.items };
-
-    ghost invariant = { λ r. r.taken ≤ vec_len r.steps };
+    ghost view = { λ r. r.steps.items };
 }
 
 impl Recent {
@@ -46,7 +42,6 @@ impl Recent {
     {
         Recent {
             steps: Vec::new(alloc),
-            taken: 0,
         }
     }
 
@@ -54,7 +49,7 @@ impl Recent {
     pub(crate) fn len(&self) -> usize
         ensures { result ≡ length self.now }
     {
-        self.steps.len() - self.taken
+        self.steps.len()
     }
 
     /// Adds a step at the end: the message, the sender of a receive, what was received last from it before, the place.
@@ -78,15 +73,15 @@ impl Recent {
         Ok(())
     }
 
-    /// Drops the first step, if it is at this place. Its room is given back by `compact`.
-    pub(crate) fn drop_first(&mut self, place: usize)
-        ensures { self.new ≡ without_first (if_at place (slice_get self.old 0)) self.old }
+    /// Forgets the steps up to this place, which is counted from 1.
+    pub(crate) fn forget_through(&mut self, place: usize)
+        ensures { self.new ≡ filter (is_past place) self.old }
     {
-        if let Some(first) = self.steps.get(self.taken)
-            && first.place == place
-        {
-            self.taken += 1;
-        }
+        self.steps.retain(
+            |step: &Step| -> bool
+                ensures { result ≡ is_past place step.now }
+            { place < step.place },
+        );
     }
 
     /// Takes the last step, if it is at this place.
@@ -94,7 +89,7 @@ impl Recent {
         ensures step { result ≡ if_at place (slice_get self.old (length self.old - 1)) }
         ensures rest { self.new ≡ without_last result self.old }
     {
-        if self.taken == self.steps.len() {
+        if self.steps.is_empty() {
             return None;
         }
         let last = self.steps[self.steps.len() - 1];
@@ -109,22 +104,10 @@ impl Recent {
     pub(crate) fn forget_sends(&mut self, kept: &Kept)
         ensures { self.new ≡ filter (is_needed kept.now) self.old }
     {
-        self.steps.drain(..self.taken);
-        self.taken = 0;
         self.steps.retain(
             |step: &Step| -> bool
                 ensures { result ≡ is_needed kept.entry.now step.now }
             { step.from.is_some() || kept.get(step.msg).is_some() },
         );
-    }
-
-    /// Gives back the room of the steps that were taken from the front.
-    pub(crate) fn compact(&mut self)
-        ensures { self.new ≡ self.old }
-    {
-        let count = self.len();
-        self.steps.rotate_left(self.taken);
-        self.steps.truncate(count);
-        self.taken = 0;
     }
 }

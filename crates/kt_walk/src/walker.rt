@@ -2,7 +2,7 @@
 
 ghost use Rattle.std.specs.Prelude.{◌≡◌, ◌<◌, ◌-◌, ◌+◌, ◌^◌, None, true, [], ◌⊎◌, length, filter, replicate, slice_get, ◌||◌, if◌then◌else◌};
 ghost use Rattle.kt_walk.specs.Keeping.{restored, restored_from};
-ghost use Rattle.kt_walk.specs.RecentSteps.{if_at, without_first, without_last, is_needed};
+ghost use Rattle.kt_walk.specs.RecentSteps.{if_at, without_last, is_needed, is_past};
 
 use crate::kept::Kept;
 use crate::recent::{Recent, Step};
@@ -82,13 +82,12 @@ impl Walker {
         }
     }
 
-    /// Makes the deed at this place, counted from 0, permanent too.
-    pub(crate) fn settle(&mut self, place: usize)
-        requires { place + 1 < 2 ^ 64 }
-        ensures { self.new ≡ record self.old { permanent = place + 1; recent = without_first (if_at (place + 1) (slice_get self.old.recent 0)) self.old.recent } }
+    /// Makes its history permanent up to this position.
+    pub(crate) fn settle(&mut self, position: usize)
+        ensures { self.new ≡ record self.old { permanent = position; recent = filter (is_past position) self.old.recent } }
     {
-        self.permanent = place + 1;
-        self.recent.drop_first(self.permanent);
+        self.permanent = position;
+        self.recent.forget_through(position);
     }
 
     /// Undoes its last deed. Gives its step, unless that was forgotten.

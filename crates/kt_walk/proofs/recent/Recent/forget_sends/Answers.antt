@@ -4,6 +4,4 @@ use Rattle.kt_walk.specs.RecentSteps.{is_needed}
 use Rattle.kt_walk.proofs.recent.Recent.forget_sends.Goals as goal
 
 pub returns : goal.returns
-returns c =
-    filter_same _ (is_needed c.args.kept.now) _ (λ u b g k. search (rules, of_calls)) _ _ c.retain.ensures.filtered
-    ∙ ap (filter (is_needed c.args.kept.now)) (c.drop-drain.ensures.items ∙ (c.drain.ensures.kept ∙ c.self.view_is))
+returns c = filter_same _ (is_needed c.args.kept.now) _ (λ u b g k. search (rules, of_calls)) _ _ c.retain.ensures.filtered ∙ ap (filter (is_needed c.args.kept.now)) c.self.view_is

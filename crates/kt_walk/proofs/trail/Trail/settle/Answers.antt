@@ -1,9 +1,0 @@
-use Rattle.std.proofs.Common.{sym}
-use Rattle.std.proofs.lemmas.Option.{slice_get_read}
-use Rattle.kt_walk.proofs.TrailSteps.{settled_step}
-use Rattle.kt_walk.proofs.trail.Trail.settle.Goals as goal
-
-pub returns-clause-settled : goal.returns-clause-settled
-returns-clause-settled c = λ s h at low.
-    let there = slice_get_read c.args.self.now.walkers.items 64 c.args.number c.index_mut.result.now (sym c.args.self.now.walkers_there) c.requires.number c.index_mut.ensures.value in
-    settled_step _ s c.args.number c.args.place c.index_mut.result.now c.settle.new.self h c.requires.number there at low c.settle.ensures
