@@ -4,7 +4,9 @@ ghost use Rattle.std.specs.Prelude.{◌≡◌, ◌==◌, ℕ, [], Some, None, tr
 ghost use Rattle.kt_cuts.specs.Past.{at_one};
 ghost use Rattle.kt_walk.specs.Keeping.{kept_at, has_place, unsent, unreceived, received_here};
 
-use crate::numbered::{comes_last, count_below, give, has_place, place_of, replace, stands_at};
+use crate::numbered::{
+    comes_last, count_below, give, has_place, place_from_end, place_of, replace, stands_at,
+};
 use kt_base::{Memory, MsgNo};
 use kt_cuts::Trace;
 use std::alloc::Global;
@@ -67,7 +69,7 @@ impl Kept {
     pub(crate) fn get(&self, msg: MsgNo) -> Option<Trace>
         ensures { result ≡ kept_at self.now msg }
     {
-        let place = place_of(&self.entries, msg, self.entries.len().saturating_sub(1))?;
+        let place = place_from_end(&self.entries, msg)?;
         let trace = self.entries[place].1;
         if has_place(&trace) { Some(trace) } else { None }
     }
@@ -116,7 +118,7 @@ impl Kept {
     pub(crate) fn receive(&mut self, msg: MsgNo, place: usize)
         ensures { (m : ℕ) → kept_at self.new m ≡ at_one msg (received_here place (kept_at self.old msg)) (kept_at self.old) m }
     {
-        if let Some(index) = place_of(&self.entries, msg, self.entries.len().saturating_sub(1)) {
+        if let Some(index) = place_from_end(&self.entries, msg) {
             let sent = self.entries[index].1.sent;
             give(&mut self.entries, &mut self.gone, index, sent, Some(place));
         }
@@ -126,7 +128,7 @@ impl Kept {
     pub(crate) fn unsend(&mut self, msg: MsgNo)
         ensures { (m : ℕ) → kept_at self.new m ≡ at_one msg (unsent (kept_at self.old msg)) (kept_at self.old) m }
     {
-        if let Some(place) = place_of(&self.entries, msg, self.entries.len().saturating_sub(1)) {
+        if let Some(place) = place_from_end(&self.entries, msg) {
             let received = self.entries[place].1.received;
             give(&mut self.entries, &mut self.gone, place, None, received);
         }
@@ -136,7 +138,7 @@ impl Kept {
     pub(crate) fn unreceive(&mut self, msg: MsgNo)
         ensures { (m : ℕ) → kept_at self.new m ≡ at_one msg (unreceived (kept_at self.old msg)) (kept_at self.old) m }
     {
-        if let Some(place) = place_of(&self.entries, msg, self.entries.len().saturating_sub(1)) {
+        if let Some(place) = place_from_end(&self.entries, msg) {
             let sent = self.entries[place].1.sent;
             give(&mut self.entries, &mut self.gone, place, sent, None);
         }

@@ -27,6 +27,14 @@ pub(crate) fn place_of(entries: &[(MsgNo, Trace)], msg: MsgNo, guess: usize) -> 
     }
 }
 
+/// The same, looked for first at the end.
+pub(crate) fn place_from_end(entries: &[(MsgNo, Trace)], msg: MsgNo) -> Option<usize>
+    ensures found { IfSome result (λ i. (t : Trace) × (slice_get entries.now i ≡ Some (msg, t))) }
+    ensures none { IfNone result (IsNumbered entries.now → (i : ℕ) (t : Trace) → slice_get entries.now i ≡ Some (msg, t) → ⊥) }
+{
+    place_of(entries, msg, entries.len().saturating_sub(1))
+}
+
 // The place of a message in the list, looked for round a place. Numbers rise by one at least, so it is no more places
 // away than the numbers are apart.
 fn place_near(entries: &[(MsgNo, Trace)], msg: MsgNo, guess: usize) -> Option<usize>
