@@ -5,7 +5,8 @@ ghost use Rattle.kt_cuts.specs.Past.{at_one};
 ghost use Rattle.kt_walk.specs.Keeping.{kept_at, has_place, unsent, unreceived, received_here};
 
 use crate::numbered::{
-    comes_last, count_below, give, has_place, place_from_end, place_of, replace, stands_at,
+    comes_last, count_below, give, has_place, one_further, place_from_end, place_of, replace,
+    stands_at,
 };
 use kt_base::{Memory, MsgNo};
 use kt_cuts::Trace;
@@ -15,16 +16,16 @@ use std::marker::Model;
 /// Messages with their traces, in the order of their numbers.
 ///
 /// A message is added at the end, since its number is the next one, and looked for at the end, where it is received soon
-/// after. Those that are taken out together are mostly as far apart as the last two were.
+/// after. Those that are taken out or undone together are mostly as far apart as the last two were.
 #[derive(Drop)]
 pub(crate) struct Kept {
     // By rising number. Those that are gone have no place; they are no more than half of them.
     entries: Vec<(MsgNo, Trace)>,
     // How many of them are gone.
     gone: usize,
-    // The place of the message which was taken out last, and where the next one is, if it is as far from it as the last
-    // one was from the one before.
-    taken: usize,
+    // The place of the message that was taken out or undone last, and where the next one is, if it is as far from it as
+    // the last one was from the one before.
+    last: usize,
     next: usize,
 }
 
@@ -52,7 +53,7 @@ impl Kept {
         Kept {
             entries: Vec::new(alloc),
             gone: 0,
-            taken: 0,
+            last: 0,
             next: 0,
         }
     }
@@ -108,8 +109,8 @@ impl Kept {
         ensures { (m : ℕ) → kept_at self.new m ≡ at_one msg None (kept_at self.old) m }
     {
         if let Some(place) = place_of(&self.entries, msg, self.next) {
-            self.next = place.saturating_add(place.saturating_sub(self.taken));
-            self.taken = place;
+            self.next = one_further(self.last, place);
+            self.last = place;
             give(&mut self.entries, &mut self.gone, place, None, None);
         }
     }
@@ -128,8 +129,10 @@ impl Kept {
     pub(crate) fn unsend(&mut self, msg: MsgNo)
         ensures { (m : ℕ) → kept_at self.new m ≡ at_one msg (unsent (kept_at self.old msg)) (kept_at self.old) m }
     {
-        if let Some(place) = place_from_end(&self.entries, msg) {
+        if let Some(place) = place_of(&self.entries, msg, self.next) {
             let received = self.entries[place].1.received;
+            self.next = one_further(self.last, place);
+            self.last = place;
             give(&mut self.entries, &mut self.gone, place, None, received);
         }
     }
@@ -138,8 +141,10 @@ impl Kept {
     pub(crate) fn unreceive(&mut self, msg: MsgNo)
         ensures { (m : ℕ) → kept_at self.new m ≡ at_one msg (unreceived (kept_at self.old msg)) (kept_at self.old) m }
     {
-        if let Some(place) = place_from_end(&self.entries, msg) {
+        if let Some(place) = place_of(&self.entries, msg, self.next) {
             let sent = self.entries[place].1.sent;
+            self.next = one_further(self.last, place);
+            self.last = place;
             give(&mut self.entries, &mut self.gone, place, sent, None);
         }
     }

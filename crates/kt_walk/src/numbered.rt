@@ -1,6 +1,6 @@
 //! Messages with their traces in a list that rises by their numbers. Those that are gone have no place.
 
-ghost use Rattle.std.specs.Prelude.{◌≡◌, ◌≤◌, ◌<◌, ℕ, true, nat_lt, length, filter, vec_len, slice_get, Some, IfSome, IfNone};
+ghost use Rattle.std.specs.Prelude.{◌≡◌, ◌+◌, ◌-◌, ◌^◌, ◌≤◌, ◌<◌, ℕ, true, nat_lt, length, filter, vec_len, slice_get, Some, IfSome, IfNone};
 ghost use Rattle.kt_cuts.specs.declared.histories.Trace.{Trace};
 ghost use Rattle.kt_cuts.specs.Past.{at_one};
 ghost use Rattle.kt_walk.specs.Keeping.{kept_at, has_place, is_there, is_gone, is_of, if_there, given, IsNumbered};
@@ -33,6 +33,13 @@ pub(crate) fn place_from_end(entries: &[(MsgNo, Trace)], msg: MsgNo) -> Option<u
     ensures none { IfNone result (IsNumbered entries.now → (i : ℕ) (t : Trace) → slice_get entries.now i ≡ Some (msg, t) → ⊥) }
 {
     place_of(entries, msg, entries.len().saturating_sub(1))
+}
+
+/// The place that is as far from this one as this one from the last.
+pub(crate) fn one_further(last: usize, place: usize) -> usize
+    ensures { place + place < 2 ^ 64 → result ≡ place + place - last }
+{
+    place.saturating_add(place).saturating_sub(last)
 }
 
 // The place of a message in the list, looked for round a place. Numbers rise by one at least, so it is no more places

@@ -66,7 +66,7 @@ fn permanent_parts_are_forgotten(rt: HostRuntime) -> Result<(), Fail> {
         let trace = Trace {
             from: process(0)?,
             to: process(1)?,
-            sent: None,
+            sent: Some(1),
             received: None,
         };
         kept.add(message(number)?, trace)?;
