@@ -18,6 +18,11 @@ use Rattle.kt_cuts.specs.Orphans.{is_within}
 abbrev pub kept_at : List (ℕ × Trace) → ℕ → Option Trace
 kept_at traces msg = lookup (nat_eq msg) traces
 
+-- a place counted from 1, of a number that is 0 where there is none
+abbrev pub if_positive : ℕ → Option ℕ
+if_positive zero = None
+if_positive (suc n) = Some (suc n)
+
 -- whether a message is live or received
 abbrev pub has_place : Trace → Bool
 has_place t = is_some t.sent || is_some t.received
@@ -28,6 +33,11 @@ is_there e = has_place e.1
 
 abbrev pub is_gone : ℕ × Trace → Bool
 is_gone e = not (has_place e.1)
+
+-- the trace of a message that was found somewhere
+abbrev pub trace_found : Option (ℕ × (ℕ × Trace)) → Option Trace
+trace_found None = None
+trace_found (Some f) = Some f.1.1
 
 -- whether an entry is of this message
 abbrev pub is_of : ℕ → Option (ℕ × Trace) → Bool

@@ -24,7 +24,7 @@ use std::marker::Model;
 #[derive(Clone, Copy)]
 pub(crate) struct Undone {
     pub(crate) msg: MsgNo,
-    pub(crate) received: usize,
+    pub(crate) received: u32,
 }
 
 /// The messages of a sender that stand in a receiver's live history, but for those that both permanent parts have.
@@ -174,7 +174,7 @@ fn count_sent_before(arrivals: &[Arrival], place: usize) -> usize
     arrivals.partition_point(
         |arrival: &Arrival| -> bool
             ensures { result ≡ nat_lt arrival.now.sent place }
-        { arrival.sent < place },
+        { (arrival.sent as usize) < place },
     )
 }
 
@@ -186,7 +186,7 @@ fn count_received_before(arrivals: &[Arrival], place: usize) -> usize
     arrivals.partition_point(
         |arrival: &Arrival| -> bool
             ensures { result ≡ nat_lt arrival.now.received place }
-        { arrival.received < place },
+        { (arrival.received as usize) < place },
     )
 }
 
@@ -224,7 +224,7 @@ fn keep_received_before(undone: &mut Vec<Undone>, place: usize)
     undone.retain(
         |message: &Undone| -> bool
             ensures { result ≡ nat_lt message.now.received place }
-        { message.received < place },
+        { (message.received as usize) < place },
     );
 }
 
@@ -234,8 +234,8 @@ fn first_past(arrivals: &[Arrival], sent: usize, received: usize) -> Option<MsgN
     ensures least { (k : ℕ) (a : Arrival) → IsRising arrivals.now → slice_get arrivals.now k ≡ Some a → sent ≤ a.sent → a.received < received → IsAtMost result a.msg }
 {
     let count = count_sent_before(arrivals, sent);
-    let first = *arrivals.get(count)?;
-    if_wanted(first.received < received, first.msg)
+    let first = arrivals.get(count)?;
+    if_wanted((first.received as usize) < received, first.msg)
 }
 
 // The least of what was undone that is received before this place.
@@ -245,7 +245,10 @@ fn first_undone(undone: &[Undone], place: usize) -> Option<MsgNo>
 {
     let mut least = None;
     for message in undone {
-        least = earlier(least, if_wanted(message.received < place, message.msg));
+        least = earlier(
+            least,
+            if_wanted((message.received as usize) < place, message.msg),
+        );
     }
     least
 }

@@ -103,7 +103,7 @@ impl Trail {
         ensures undone { (s : Past) (between : ℕ → Option (ℕ × ℕ)) → ShowsTrail self.old between s → AreInPlace between s.permanent s.live → ShowsTrail self.new between (with_live s (at_one number (take (s.permanent number) (s.live number)) s.live)) }
     {
         let walker = &self.walkers[number as usize];
-        for _count in 0..walker.length.saturating_sub(walker.permanent) {
+        for _count in 0..(walker.length as usize).saturating_sub(walker.permanent) {
             self.undo(number);
         }
     }

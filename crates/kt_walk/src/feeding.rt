@@ -6,15 +6,16 @@ ghost use Rattle.kt_spacetime.specs.declared.event.Event.TheVariants as event;
 ghost use Rattle.kt_cuts.specs.declared.deeds.Deed.TheVariants as deed;
 
 use crate::arrivals::Arrivals;
+use crate::entry::Entry;
 use crate::queue::Arrival;
-use crate::trail::Trail;
+use crate::trail::{Trail, Waiting};
 use kt_base::{InstNo, Kind, Memory, MsgNo, ProcNo, ProcSet};
-use kt_cuts::Trace;
 use kt_cuts::instances::{Instance, enter};
 use kt_spacetime::Event;
 
 impl Trail {
     ghost use Rattle.kt_cuts.specs.Past.{past};
+    ghost use Rattle.kt_walk.specs.Keeping.{sent_index};
     ghost use Rattle.kt_cuts.specs.Legal.{broken_rule};
     ghost use Rattle.kt_walk.specs.Arrivals.{ShowsArrivals, needs_arrivals};
     ghost use Rattle.kt_cuts.specs.Standing.{at_number, rolled_back_shown};
@@ -65,13 +66,7 @@ impl Trail {
         let place = self.walker(p).next_place();
         let walker = &mut self.walkers[p.get() as usize];
         walker.recent.push(msg, None, None, place)?;
-        let trace = Trace {
-            from: p,
-            to,
-            sent: Some(place),
-            received: None,
-        };
-        if let Err(fault) = self.kept.add(msg, trace) {
+        if let Err(fault) = self.kept.add(Entry::sent_at(msg, p, to, place)) {
             walker.recent.pop_last(place);
             return Err(fault);
         }
@@ -80,18 +75,18 @@ impl Trail {
         Ok(())
     }
 
-    /// Receives a message, whose send has this place, counted from 0, and adds it to the arrivals.
+    /// Receives a message that is waiting, and adds it to the arrivals.
     pub(crate) fn receive(
         &mut self,
         arrivals: &mut Arrivals,
         p: ProcNo,
         from: ProcNo,
         msg: MsgNo,
-        sent: usize,
+        waiting: Waiting,
     ) -> Result<(), Memory>
         requires few { self.old.rows < 2 ^ 24 }
         ensures fed { OnOk result ((rows : List Event) → TrailOf self.old rows → broken_rule (past rows) (event.Received p from msg) ≡ None → TrailOf self.new (rows ++ event.Received p from msg ∷ [])) }
-        ensures arrived { OnOk result ((rows : List Event) → TrailOf self.old rows → broken_rule (past rows) (event.Received p from msg) ≡ None → slice_get ((past rows).live from) sent ≡ Some (deed.Sent msg p) → ShowsArrivals arrivals.old (past rows) → ShowsArrivals arrivals.new (past (rows ++ event.Received p from msg ∷ []))) }
+        ensures arrived { OnOk result ((rows : List Event) → TrailOf self.old rows → broken_rule (past rows) (event.Received p from msg) ≡ None → slice_get ((past rows).live from) (sent_index waiting.sent) ≡ Some (deed.Sent msg p) → ShowsArrivals arrivals.old (past rows) → ShowsArrivals arrivals.new (past (rows ++ event.Received p from msg ∷ []))) }
         ensures unchanged { OnErr result (parts_of self.new ≡ parts_of self.old) }
         ensures same_arrivals { OnErr result (arrivals.new ≡ arrivals.old) }
     {
@@ -100,7 +95,7 @@ impl Trail {
         let before = walker.last_received(from);
         let arrival = Arrival {
             msg,
-            sent,
+            sent: waiting.sent.index(),
             received: walker.length,
         };
         let walker = &mut self.walkers[p.get() as usize];
@@ -111,7 +106,7 @@ impl Trail {
         }
         walker.length = place;
         walker.last_received[from.get() as usize] = Some(msg);
-        self.kept.receive(msg, place);
+        self.kept.receive(msg, place, waiting.kept_in);
         self.pass();
         Ok(())
     }
@@ -158,7 +153,7 @@ impl Trail {
         ensures ready { (rows : List Event) → TrailOf self.old rows → broken_rule (past rows) (event.Ready p inst) ≡ None → TrailOf self.new (rows ++ event.Ready p inst ∷ []) }
     {
         let walker = &mut self.walkers[p.get() as usize];
-        let position = walker.length;
+        let position = walker.length as usize;
         walker.open_in = Some(inst);
         enter(&mut self.instances, inst, p, position);
         self.pass();

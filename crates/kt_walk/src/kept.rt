@@ -1,12 +1,12 @@
 //! The messages that a walk keeps.
 
-ghost use Rattle.std.specs.Prelude.{◌≡◌, ◌==◌, ℕ, [], Some, None, true, length, OnOk, OnErr, if◌then◌else◌};
+ghost use Rattle.std.specs.Prelude.{◌≡◌, ◌<◌, ◌==◌, ℕ, [], Some, None, true, length, OnOk, OnErr, if◌then◌else◌};
 ghost use Rattle.kt_cuts.specs.Past.{at_one};
-ghost use Rattle.kt_walk.specs.Keeping.{kept_at, has_place, unsent, unreceived, received_here};
+ghost use Rattle.kt_walk.specs.Keeping.{kept_at, has_place, trace_found, unsent, unreceived, received_here};
 
+use crate::entry::{Entry, Place};
 use crate::numbered::{
-    comes_last, count_below, give, has_place, one_further, place_from_end, place_of, replace,
-    stands_at,
+    comes_last, count_below, give, one_further, place_from_end, place_of, replace, stands_at,
 };
 use kt_base::{Memory, MsgNo};
 use kt_cuts::Trace;
@@ -20,7 +20,7 @@ use std::marker::Model;
 #[derive(Drop)]
 pub(crate) struct Kept {
     // By rising number. Those that are gone have no place; they are no more than half of them.
-    entries: Vec<(MsgNo, Trace)>,
+    entries: Vec<Entry>,
     // How many of them are gone.
     gone: usize,
     // The place of the message that was taken out or undone last, and where the next one is, if it is as far from it as
@@ -70,37 +70,50 @@ impl Kept {
     pub(crate) fn get(&self, msg: MsgNo) -> Option<Trace>
         ensures { result ≡ kept_at self.now msg }
     {
+        let (_, entry) = self.find(msg)?;
+        Some(entry.trace())
+    }
+
+    /// A message, if it is there, and where it may be looked for first.
+    pub(crate) fn find(&self, msg: MsgNo) -> Option<(usize, Entry)>
+        ensures { trace_found result ≡ kept_at self.now msg }
+    {
         let place = place_from_end(&self.entries, msg)?;
-        let trace = self.entries[place].1;
-        if has_place(&trace) { Some(trace) } else { None }
+        let entry = self.entries[place];
+        if entry.has_place() {
+            Some((place, entry))
+        } else {
+            None
+        }
     }
 
     /// Adds a message that has a place, or changes its trace.
-    pub(crate) fn add(&mut self, msg: MsgNo, trace: Trace) -> Result<(), Memory>
-        requires { has_place trace ≡ true }
-        ensures ok { OnOk result ((m : ℕ) → kept_at self.new m ≡ at_one msg (Some trace) (kept_at self.old) m) }
+    pub(crate) fn add(&mut self, message: Entry) -> Result<(), Memory>
+        requires { has_place message.1 ≡ true }
+        ensures ok { OnOk result ((m : ℕ) → kept_at self.new m ≡ at_one message.0 (Some message.1) (kept_at self.old) m) }
         ensures err { OnErr result (self.new ≡ self.old) }
     {
-        if !comes_last(&self.entries, msg) {
-            return self.insert(msg, trace);
+        if !comes_last(&self.entries, message.msg()) {
+            return self.insert(message);
         }
         self.entries.reserve(1)?;
-        self.entries.push_reserved((msg, trace));
+        self.entries.push_reserved(message);
         Ok(())
     }
 
     // Adds a message, which need not be the last one, or changes its trace.
-    fn insert(&mut self, msg: MsgNo, trace: Trace) -> Result<(), Memory>
-        requires { has_place trace ≡ true }
-        ensures ok { OnOk result ((m : ℕ) → kept_at self.new m ≡ at_one msg (Some trace) (kept_at self.old) m) }
+    fn insert(&mut self, message: Entry) -> Result<(), Memory>
+        requires { has_place message.1 ≡ true }
+        ensures ok { OnOk result ((m : ℕ) → kept_at self.new m ≡ at_one message.0 (Some message.1) (kept_at self.old) m) }
         ensures err { OnErr result (self.new ≡ self.old) }
     {
+        let msg = message.msg();
         let place = count_below(&self.entries, msg);
         if stands_at(&self.entries, place, msg) {
-            replace(&mut self.entries, &mut self.gone, place, trace);
+            replace(&mut self.entries, &mut self.gone, place, message);
             return Ok(());
         }
-        self.entries.insert(place, (msg, trace))?;
+        self.entries.insert(place, message)?;
         Ok(())
     }
 
@@ -111,17 +124,30 @@ impl Kept {
         if let Some(place) = place_of(&self.entries, msg, self.next) {
             self.next = one_further(self.last, place);
             self.last = place;
-            give(&mut self.entries, &mut self.gone, place, None, None);
+            give(
+                &mut self.entries,
+                &mut self.gone,
+                place,
+                Place::none(),
+                Place::none(),
+            );
         }
     }
 
-    /// A message is received at this place, counted from 1.
-    pub(crate) fn receive(&mut self, msg: MsgNo, place: usize)
+    /// A message is received at this place, counted from 1. It is looked for first where it may be.
+    pub(crate) fn receive(&mut self, msg: MsgNo, place: u32, guess: usize)
+        requires { 0 < place }
         ensures { (m : ℕ) → kept_at self.new m ≡ at_one msg (received_here place (kept_at self.old msg)) (kept_at self.old) m }
     {
-        if let Some(index) = place_from_end(&self.entries, msg) {
-            let sent = self.entries[index].1.sent;
-            give(&mut self.entries, &mut self.gone, index, sent, Some(place));
+        if let Some(index) = place_of(&self.entries, msg, guess) {
+            let sent = self.entries[index].sent();
+            give(
+                &mut self.entries,
+                &mut self.gone,
+                index,
+                sent,
+                Place::at(place),
+            );
         }
     }
 
@@ -130,10 +156,16 @@ impl Kept {
         ensures { (m : ℕ) → kept_at self.new m ≡ at_one msg (unsent (kept_at self.old msg)) (kept_at self.old) m }
     {
         if let Some(place) = place_of(&self.entries, msg, self.next) {
-            let received = self.entries[place].1.received;
+            let received = self.entries[place].received();
             self.next = one_further(self.last, place);
             self.last = place;
-            give(&mut self.entries, &mut self.gone, place, None, received);
+            give(
+                &mut self.entries,
+                &mut self.gone,
+                place,
+                Place::none(),
+                received,
+            );
         }
     }
 
@@ -142,10 +174,16 @@ impl Kept {
         ensures { (m : ℕ) → kept_at self.new m ≡ at_one msg (unreceived (kept_at self.old msg)) (kept_at self.old) m }
     {
         if let Some(place) = place_of(&self.entries, msg, self.next) {
-            let sent = self.entries[place].1.sent;
+            let sent = self.entries[place].sent();
             self.next = one_further(self.last, place);
             self.last = place;
-            give(&mut self.entries, &mut self.gone, place, sent, None);
+            give(
+                &mut self.entries,
+                &mut self.gone,
+                place,
+                sent,
+                Place::none(),
+            );
         }
     }
 }

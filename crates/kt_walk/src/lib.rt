@@ -4,6 +4,7 @@
 mod arrivals;
 mod channel;
 mod deciding;
+mod entry;
 mod feeding;
 mod kept;
 mod numbered;

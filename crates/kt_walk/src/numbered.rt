@@ -5,18 +5,11 @@ ghost use Rattle.kt_cuts.specs.declared.histories.Trace.{Trace};
 ghost use Rattle.kt_cuts.specs.Past.{at_one};
 ghost use Rattle.kt_walk.specs.Keeping.{kept_at, has_place, is_there, is_gone, is_of, if_there, given, IsNumbered};
 
+use crate::entry::{Entry, Place};
 use kt_base::MsgNo;
-use kt_cuts::Trace;
-
-/// Whether a message is live or received.
-pub(crate) fn has_place(trace: &Trace) -> bool
-    ensures { result ≡ has_place trace.now }
-{
-    trace.sent.is_some() || trace.received.is_some()
-}
 
 /// The place of a message in the list, looked for first where it may be.
-pub(crate) fn place_of(entries: &[(MsgNo, Trace)], msg: MsgNo, guess: usize) -> Option<usize>
+pub(crate) fn place_of(entries: &[Entry], msg: MsgNo, guess: usize) -> Option<usize>
     ensures found { IfSome result (λ i. (t : Trace) × (slice_get entries.now i ≡ Some (msg, t))) }
     ensures none { IfNone result (IsNumbered entries.now → (i : ℕ) (t : Trace) → slice_get entries.now i ≡ Some (msg, t) → ⊥) }
 {
@@ -28,7 +21,7 @@ pub(crate) fn place_of(entries: &[(MsgNo, Trace)], msg: MsgNo, guess: usize) -> 
 }
 
 /// The same, looked for first at the end.
-pub(crate) fn place_from_end(entries: &[(MsgNo, Trace)], msg: MsgNo) -> Option<usize>
+pub(crate) fn place_from_end(entries: &[Entry], msg: MsgNo) -> Option<usize>
     ensures found { IfSome result (λ i. (t : Trace) × (slice_get entries.now i ≡ Some (msg, t))) }
     ensures none { IfNone result (IsNumbered entries.now → (i : ℕ) (t : Trace) → slice_get entries.now i ≡ Some (msg, t) → ⊥) }
 {
@@ -44,13 +37,13 @@ pub(crate) fn one_further(last: usize, place: usize) -> usize
 
 // The place of a message in the list, looked for round a place. Numbers rise by one at least, so it is no more places
 // away than the numbers are apart.
-fn place_near(entries: &[(MsgNo, Trace)], msg: MsgNo, guess: usize) -> Option<usize>
+fn place_near(entries: &[Entry], msg: MsgNo, guess: usize) -> Option<usize>
     ensures found { IfSome result (λ i. (t : Trace) × (slice_get entries.now i ≡ Some (msg, t))) }
     ensures none { IfNone result (IsNumbered entries.now → (i : ℕ) (t : Trace) → slice_get entries.now i ≡ Some (msg, t) → ⊥) }
 {
     let last = entries.len().checked_sub(1)?;
     let near = guess.min(last);
-    let there = entries[near].0.get();
+    let there = entries[near].msg().get();
     let number = msg.get();
     if there < number {
         let end = near.saturating_add((number - there) as usize).min(last);
@@ -62,7 +55,7 @@ fn place_near(entries: &[(MsgNo, Trace)], msg: MsgNo, guess: usize) -> Option<us
 }
 
 // The place of a message, if it is from the one place on and before the other one.
-fn search(entries: &[(MsgNo, Trace)], start: usize, end: usize, msg: MsgNo) -> Option<usize>
+fn search(entries: &[Entry], start: usize, end: usize, msg: MsgNo) -> Option<usize>
     requires { (start ≤ end) × (end ≤ length entries.now) }
     ensures found { IfSome result (λ i. (t : Trace) × (slice_get entries.now i ≡ Some (msg, t))) }
     ensures none { IfNone result (IsNumbered entries.now → (i : ℕ) (t : Trace) → start ≤ i → i < end → slice_get entries.now i ≡ Some (msg, t) → ⊥) }
@@ -76,34 +69,34 @@ fn search(entries: &[(MsgNo, Trace)], start: usize, end: usize, msg: MsgNo) -> O
 }
 
 /// Whether a message stands at this place.
-pub(crate) fn stands_at(entries: &[(MsgNo, Trace)], place: usize, msg: MsgNo) -> bool
+pub(crate) fn stands_at(entries: &[Entry], place: usize, msg: MsgNo) -> bool
     ensures { result ≡ is_of msg (slice_get entries.now place) }
 {
     match entries.get(place) {
-        Some(entry) => entry.0.get() == msg.get(),
+        Some(entry) => entry.msg().get() == msg.get(),
         None => false,
     }
 }
 
 /// How many messages come before this one.
-pub(crate) fn count_below(entries: &[(MsgNo, Trace)], msg: MsgNo) -> usize
+pub(crate) fn count_below(entries: &[Entry], msg: MsgNo) -> usize
     ensures bound { result ≤ length entries.now }
     ensures below { IsNumbered entries.now → (i : ℕ) (e : ℕ × Trace) → i < result → slice_get entries.now i ≡ Some e → e.0 < msg }
     ensures above { IsNumbered entries.now → (i : ℕ) (e : ℕ × Trace) → result ≤ i → slice_get entries.now i ≡ Some e → msg ≤ e.0 }
 {
     entries.partition_point(
-        |entry: &(MsgNo, Trace)| -> bool
+        |entry: &Entry| -> bool
             ensures { result ≡ nat_lt entry.now.0 msg }
-        { entry.0.get() < msg.get() },
+        { entry.msg().get() < msg.get() },
     )
 }
 
 /// Whether a message comes after all these.
-pub(crate) fn comes_last(entries: &[(MsgNo, Trace)], msg: MsgNo) -> bool
+pub(crate) fn comes_last(entries: &[Entry], msg: MsgNo) -> bool
     ensures { result ≡ true → IsNumbered entries.now → (i : ℕ) (e : ℕ × Trace) → slice_get entries.now i ≡ Some e → e.0 < msg }
 {
     match entries.last() {
-        Some(last) => last.0.get() < msg.get(),
+        Some(last) => last.msg().get() < msg.get(),
         None => true,
     }
 }
@@ -111,11 +104,11 @@ pub(crate) fn comes_last(entries: &[(MsgNo, Trace)], msg: MsgNo) -> bool
 /// Gives the message at this place, if it is there, these places; it is gone, where they are none. How many are gone is
 /// kept count of.
 pub(crate) fn give(
-    entries: &mut Vec<(MsgNo, Trace)>,
+    entries: &mut Vec<Entry>,
     gone: &mut usize,
     place: usize,
-    sent: Option<usize>,
-    received: Option<usize>,
+    sent: Place,
+    received: Place,
 )
     requires within { place < vec_len entries.old }
     requires counted { gone.old ≡ length (filter is_gone entries.old.items) }
@@ -124,43 +117,38 @@ pub(crate) fn give(
     ensures there { (msg m : ℕ) (t : Trace) → IsNumbered entries.old.items → slice_get entries.old.items place ≡ Some (msg, t) → kept_at (filter is_there entries.new.items) m ≡ at_one msg (given sent received (if_there t)) (kept_at (filter is_there entries.old.items)) m }
 {
     let count = entries.len();
-    let trace = &mut entries[place].1;
-    if !has_place(trace) {
+    let entry = &mut entries[place];
+    if !entry.has_place() {
         return;
     }
-    trace.sent = sent;
-    trace.received = received;
-    if has_place(trace) {
+    entry.give(sent, received);
+    if entry.has_place() {
         return;
     }
     *gone += 1;
     purge(entries, gone, count);
 }
 
-/// Changes the trace of the message at this place. How many are gone is kept count of.
-pub(crate) fn replace(
-    entries: &mut Vec<(MsgNo, Trace)>,
-    gone: &mut usize,
-    place: usize,
-    trace: Trace,
-)
+/// Changes the trace of the message at this place, which is this one. How many are gone is kept count of.
+pub(crate) fn replace(entries: &mut Vec<Entry>, gone: &mut usize, place: usize, message: Entry)
     requires within { place < vec_len entries.old }
-    requires has_place { has_place trace ≡ true }
+    requires has_place { has_place message.1 ≡ true }
+    requires same { (t : Trace) × (slice_get entries.old.items place ≡ Some (message.0, t)) }
     requires counted { gone.old ≡ length (filter is_gone entries.old.items) }
     ensures counted { gone.new ≡ length (filter is_gone entries.new.items) }
     ensures numbered { IsNumbered entries.old.items → IsNumbered entries.new.items }
-    ensures there { (msg m : ℕ) (t : Trace) → IsNumbered entries.old.items → slice_get entries.old.items place ≡ Some (msg, t) → kept_at (filter is_there entries.new.items) m ≡ at_one msg (Some trace) (kept_at (filter is_there entries.old.items)) m }
+    ensures there { (msg m : ℕ) (t : Trace) → IsNumbered entries.old.items → slice_get entries.old.items place ≡ Some (msg, t) → kept_at (filter is_there entries.new.items) m ≡ at_one msg (Some message.1) (kept_at (filter is_there entries.old.items)) m }
 {
-    let entry = &mut entries[place].1;
-    let was_there = has_place(entry);
-    *entry = trace;
+    let entry = &mut entries[place];
+    let was_there = entry.has_place();
+    *entry = message;
     if !was_there {
         *gone -= 1;
     }
 }
 
 // Lets go of the messages that are gone, once they are more than the half of so many.
-fn purge(entries: &mut Vec<(MsgNo, Trace)>, gone: &mut usize, count: usize)
+fn purge(entries: &mut Vec<Entry>, gone: &mut usize, count: usize)
     requires { gone.old ≡ length (filter is_gone entries.old.items) }
     ensures counted { gone.new ≡ length (filter is_gone entries.new.items) }
     ensures there { filter is_there entries.new.items ≡ filter is_there entries.old.items }
@@ -168,9 +156,9 @@ fn purge(entries: &mut Vec<(MsgNo, Trace)>, gone: &mut usize, count: usize)
 {
     if *gone > count / 2 {
         entries.retain(
-            |entry: &(MsgNo, Trace)| -> bool
+            |entry: &Entry| -> bool
                 ensures { result ≡ is_there entry.now }
-            { has_place(&entry.1) },
+            { entry.has_place() },
         );
         *gone = 0;
     }

@@ -11,8 +11,8 @@ use std::marker::Model;
 #[derive(Clone, Copy)]
 pub(crate) struct Arrival {
     pub(crate) msg: MsgNo,
-    pub(crate) sent: usize,
-    pub(crate) received: usize,
+    pub(crate) sent: u32,
+    pub(crate) received: u32,
 }
 
 /// Arrivals in order, the first of which come to be permanent and the last of which are undone.

@@ -17,7 +17,7 @@ pub(crate) struct Step {
     /// Of a receive: what was received last from this sender before it.
     pub(crate) before: Option<MsgNo>,
     /// Its place in the live history, counted from 1.
-    pub(crate) place: usize,
+    pub(crate) place: u32,
 }
 
 /// Steps in order, the first of which come to be permanent and the last of which are undone.
@@ -58,7 +58,7 @@ impl Recent {
         msg: MsgNo,
         from: Option<ProcNo>,
         before: Option<MsgNo>,
-        place: usize,
+        place: u32,
     ) -> Result<(), Memory>
         ensures ok { OnOk result (self.new ≡ self.old ++ record { msg = msg; from = from; before = before; place = place } ∷ []) }
         ensures err { OnErr result (self.new ≡ self.old) }
@@ -80,12 +80,12 @@ impl Recent {
         self.steps.retain(
             |step: &Step| -> bool
                 ensures { result ≡ is_past place step.now }
-            { place < step.place },
+            { place < step.place as usize },
         );
     }
 
     /// Takes the last step, if it is at this place.
-    pub(crate) fn pop_last(&mut self, place: usize) -> Option<Step>
+    pub(crate) fn pop_last(&mut self, place: u32) -> Option<Step>
         ensures step { result ≡ if_at place (slice_get self.old (length self.old - 1)) }
         ensures rest { self.new ≡ without_last result self.old }
     {

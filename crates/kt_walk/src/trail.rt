@@ -10,6 +10,7 @@ ghost use Rattle.kt_cuts.specs.Legal.{keeps_message};
 ghost use Rattle.kt_walk.specs.Keeping.{is_on_the_way, waits, sent_index, IsSentAt};
 ghost use Rattle.kt_walk.specs.PartsOf.{ShowsWalkers};
 
+use crate::entry::Place;
 use crate::kept::Kept;
 use crate::walker::Walker;
 use kt_base::{InstNo, Memory, MsgNo, ProcNo, RowNo};
@@ -18,6 +19,15 @@ use kt_cuts::instances::Instance;
 use kt_cuts::{Rule, Trace, is_after};
 use kt_spacetime::Event;
 use std::alloc::Global;
+
+/// A message that a row takes.
+#[derive(Clone, Copy)]
+pub(crate) struct Waiting {
+    /// The place of its send, if it is on its way.
+    pub(crate) sent: Place,
+    /// Where it is looked for first among the messages kept.
+    pub(crate) kept_in: usize,
+}
 
 /// What is known after the rows so far.
 #[derive(Drop)]
@@ -112,15 +122,15 @@ impl Trail {
         }
     }
 
-    /// The place of the send, counted from 1, of the message that a row takes, if it is on its way to the row's process.
-    pub(crate) fn waiting(&self, row: &Event) -> Option<usize>
-        ensures is { (rows : List Event) → TrailOf self.now rows → is_some result ≡ waits (past rows) row.now }
-        ensures place { (rows : List Event) → TrailOf self.now rows → broken_rule (past rows) row.now ≡ None → IsSentAt (sent_index result) (past rows) row.now }
+    /// The send of the message that a row takes, if it is on its way to the row's process.
+    pub(crate) fn waiting(&self, row: &Event) -> Waiting
+        ensures is { (rows : List Event) → TrailOf self.now rows → is_some result.sent ≡ waits (past rows) row.now }
+        ensures place { (rows : List Event) → TrailOf self.now rows → broken_rule (past rows) row.now ≡ None → IsSentAt (sent_index result.sent) (past rows) row.now }
     {
         match *row {
             Event::Received { p, from, msg } => self.undelivered(p, from, msg),
             Event::Dropped { p, from, msg } => self.undelivered(p, from, msg),
-            _ => None,
+            _ => not_waiting(),
         }
     }
 
@@ -147,18 +157,21 @@ impl Trail {
         }
     }
 
-    // The place of the send of a message that is on its way, counted from 1.
-    fn undelivered(&self, p: ProcNo, from: ProcNo, msg: MsgNo) -> Option<usize>
-        ensures is { (rows : List Event) → TrailOf self.now rows → is_some result ≡ is_undelivered (past rows) p from msg }
-        ensures place { (rows : List Event) → TrailOf self.now rows → broken_rule (past rows) (event.Received p from msg) ≡ None → slice_get ((past rows).live from) (sent_index result) ≡ Some (deed.Sent msg p) }
+    // The send of a message, if it is on its way.
+    fn undelivered(&self, p: ProcNo, from: ProcNo, msg: MsgNo) -> Waiting
+        ensures is { (rows : List Event) → TrailOf self.now rows → is_some result.sent ≡ is_undelivered (past rows) p from msg }
+        ensures place { (rows : List Event) → TrailOf self.now rows → broken_rule (past rows) (event.Received p from msg) ≡ None → slice_get ((past rows).live from) (sent_index result.sent) ≡ Some (deed.Sent msg p) }
     {
-        let Some(trace) = self.kept.get(msg) else {
-            return None;
+        let Some(found) = self.kept.find(msg) else {
+            return not_waiting();
         };
-        if is_on_the_way(&trace, from, p) {
-            trace.sent
+        if is_on_the_way(&found.1.trace(), from, p) {
+            Waiting {
+                sent: found.1.sent(),
+                kept_in: found.0,
+            }
         } else {
-            None
+            not_waiting()
         }
     }
 
@@ -180,6 +193,16 @@ impl Trail {
         let received = walker.last_received(from);
         let dropped = walker.last_dropped(from);
         is_after(msg, received) && is_after(msg, dropped)
+    }
+}
+
+// No message.
+fn not_waiting() -> Waiting
+    ensures { result.sent ≡ None }
+{
+    Waiting {
+        sent: Place::none(),
+        kept_in: 0,
     }
 }
 

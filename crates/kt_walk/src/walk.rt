@@ -13,7 +13,7 @@ ghost use Rattle.kt_walk.specs.Arrivals.{KeepsPermanent};
 ghost use Rattle.kt_walk.specs.WalkOf.{WalkOf};
 
 use crate::arrivals::Arrivals;
-use crate::trail::Trail;
+use crate::trail::{Trail, Waiting};
 use kt_base::{InstNo, Memory, MsgNo, ProcNo};
 use kt_cuts::{Cut, LegalFault, Trace};
 use kt_spacetime::Event;
@@ -58,23 +58,23 @@ impl Walk {
         ensures unchanged { OnErr result (self.new ≡ self.old) }
     {
         let waiting = self.trail.waiting(row);
-        if let Some(rule) = self.trail.broken_rule(row, waiting.is_some()) {
+        if let Some(rule) = self.trail.broken_rule(row, waiting.sent.is_some()) {
             return Err(LegalFault::Broken(self.trail.next_row(), rule));
         }
         self.add(row, waiting)?;
         Ok(())
     }
 
-    // Takes one more row that breaks no rule; the place of the send, counted from 1, of the message that it receives is given.
-    fn add(&mut self, row: &Event, waiting: Option<usize>) -> Result<(), Memory>
+    // Takes one more row that breaks no rule; the message that it receives is given.
+    fn add(&mut self, row: &Event, waiting: Waiting) -> Result<(), Memory>
         requires few { self.old.rows < 2 ^ 24 }
-        ensures fed { OnOk result ((rows : List Event) → WalkOf self.old rows → broken_rule (past rows) row.now ≡ None → IsSentAt (sent_index waiting) (past rows) row.now → WalkOf self.new (rows ++ row.now ∷ [])) }
+        ensures fed { OnOk result ((rows : List Event) → WalkOf self.old rows → broken_rule (past rows) row.now ≡ None → IsSentAt (sent_index waiting.sent) (past rows) row.now → WalkOf self.new (rows ++ row.now ∷ [])) }
         ensures unchanged { OnErr result (self.new ≡ self.old) }
     {
         match *row {
             Event::Received { p, from, msg } => {
                 self.trail
-                    .receive(&mut self.arrivals, p, from, msg, sent_index(waiting))
+                    .receive(&mut self.arrivals, p, from, msg, waiting)
             }
             Event::Decided { inst, commit, .. } => {
                 self.trail.decide(&mut self.arrivals, inst, commit);
@@ -96,7 +96,7 @@ impl Walk {
     pub fn length(&self, p: ProcNo) -> usize
         ensures { (rows : List Event) → WalkOf self.now rows → result ≡ length ((past rows).live p) }
     {
-        self.trail.walker(p).length
+        self.trail.walker(p).length as usize
     }
 
     /// A process's permanent position.
@@ -135,15 +135,5 @@ impl Walk {
         ensures least { IfSome result (λ msg. (rows : List Event) (other : ℕ) → WalkOf self.now rows → KeepsPermanent (past rows) cut.now → IsOrphan (past rows) (slice_index cut.now) other → msg ≤ other) }
     {
         self.arrivals.orphan(cut)
-    }
-}
-
-// The place of a send, counted from 0, of the one counted from 1.
-fn sent_index(place: Option<usize>) -> usize
-    ensures { result ≡ sent_index place }
-{
-    match place {
-        Some(place) => place.saturating_sub(1),
-        None => 0,
     }
 }

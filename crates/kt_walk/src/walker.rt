@@ -17,7 +17,7 @@ pub(crate) struct Walker {
     /// How many of its messages were dropped since the sends of such messages were forgotten.
     pub(crate) lost: usize,
     /// The length of its live history.
-    pub(crate) length: usize,
+    pub(crate) length: u32,
     pub(crate) permanent: usize,
     pub(crate) open_in: Option<InstNo>,
     pub(crate) up: bool,
@@ -61,8 +61,9 @@ impl Walker {
     }
 
     /// The place of its next deed, counted from 1.
-    pub(crate) fn next_place(&self) -> usize
-        ensures { self.now.length + 1 < 2 ^ 64 → result ≡ self.now.length + 1 }
+    pub(crate) fn next_place(&self) -> u32
+        ensures value { self.now.length + 1 < 2 ^ 32 → result ≡ self.now.length + 1 }
+        ensures positive { 0 < result }
     {
         self.length.saturating_add(1)
     }

@@ -15,13 +15,13 @@ returns-clause-fed c = λ rows h unbroken.
     let same : c.walker-walker.result.now ≡ c.index_mut-walker.result.now = some_same (sym c.walker-walker.ensures ∙ at) in
     let short = short_walker _ rows c.args.p c.index_mut-walker.result.now h at in
     let count = ap (λ (x : Walker). x.length) same in
-    let place : c.next_place-place.result ≡ c.index_mut-walker.result.now.length + 1 = c.next_place-place.ensures (omega (arith, short, count, c.requires.few)) ∙ ap (λ (x : Walker). x.length + 1) same in
+    let place : c.next_place-place.result ≡ c.index_mut-walker.result.now.length + 1 = c.next_place-place.ensures.value (omega (arith, short, count, c.requires.few)) ∙ ap (λ (x : Walker). x.length + 1) same in
     let last = ap (λ (x : Walker). slice_get x.last_received c.args.from) (sym same) ∙ c.last_received-before.ensures.there in
     rw (c.pass.ensures, place, c.get.ensures.value, c.get-2.ensures.value) (received_row _ rows c.args.p c.args.from c.args.msg c.index_mut-walker.result.now c.last_received-before.result _ _ h unbroken low c.last_received-before.ensures.in_range at last (rw place at c.in_ok-push.ensures.ok) (rw place at c.receive-2.ensures))
 
 pub returns-clause-arrived : goal.returns-clause-arrived
 returns-clause-arrived c = λ rows h unbroken sent shows.
-    arrives c.args.arrivals.now c.receive.new.self rows c.args.p c.args.from c.args.msg _ c.in_default.ensures.ok refl h.legal unbroken sent (h.of_walkers.each c.args.p c.walker-walker.result.now c.walker-walker.ensures).length shows
+    arrives c.args.arrivals.now c.receive.new.self rows c.args.p c.args.from c.args.msg _ c.in_default.ensures.ok refl h.legal unbroken (rw c.index.ensures sent) (h.of_walkers.each c.args.p c.walker-walker.result.now c.walker-walker.ensures).length shows
 
 pub returns-in-Err-clause-unchanged : goal.returns-in-Err-clause-unchanged
 returns-in-Err-clause-unchanged c =

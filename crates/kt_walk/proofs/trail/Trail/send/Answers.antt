@@ -13,8 +13,8 @@ returns-clause-fed c = λ rows body h unbroken.
     let same : c.walker.result.now ≡ c.index_mut-walker.result.now = some_same (sym c.walker.ensures ∙ at) in
     let short = short_walker _ rows c.args.p c.index_mut-walker.result.now h at in
     let count = ap (λ (x : Walker). x.length) same in
-    let place : c.next_place-place.result ≡ c.index_mut-walker.result.now.length + 1 = c.next_place-place.ensures (omega (arith, short, count, c.requires.few)) ∙ ap (λ (x : Walker). x.length + 1) same in
-    rw (c.pass.ensures, place, c.get.ensures.value) (sent_row _ rows c.args.p c.args.to c.next_message-msg.result body c.index_mut-walker.result.now _ _ h unbroken low at c.next_message-msg.ensures (rw place at c.in_ok-push.ensures.ok) (rw place at c.in_default.ensures.ok))
+    let place : c.next_place-place.result ≡ c.index_mut-walker.result.now.length + 1 = c.next_place-place.ensures.value (omega (arith, short, count, c.requires.few)) ∙ ap (λ (x : Walker). x.length + 1) same in
+    rw (c.pass.ensures, place, c.get.ensures.value) (sent_row _ rows c.args.p c.args.to c.next_message-msg.result body c.index_mut-walker.result.now _ _ h unbroken low at c.next_message-msg.ensures (rw place at c.in_ok-push.ensures.ok) (rw (c.sent_at.ensures, place) at c.in_default.ensures.ok))
 
 pub returns-in-Err-clause-unchanged : goal.returns-in-Err-clause-unchanged
 returns-in-Err-clause-unchanged c =

@@ -11,7 +11,7 @@ returns-in-Received-clause-fed c = rw c.in-Received.is (both_ok c.receive.result
     let here = subst (λ (w : WalkParts). WalkOf w rows) (sym c.self.view_is) h in
     record {
       trail = fed rows here.trail unbroken;
-      arrivals = arrived rows here.trail unbroken (rw c.sent_index.ensures (sent c.in-Received.p c.in-Received.from c.in-Received.msg refl)) here.arrivals;
+      arrivals = arrived rows here.trail unbroken (sent c.in-Received.p c.in-Received.from c.in-Received.msg refl) here.arrivals;
     }) c.receive.ensures.fed c.receive.ensures.arrived)
 
 pub returns-in-Decided-clause-fed : goal.returns-in-Decided-clause-fed

@@ -3,12 +3,12 @@ use Rattle.std.proofs.lemmas.Option.{slice_get_within, get_or_from_slice_get}
 use Rattle.kt_cuts.specs.declared.histories.Trace.{Trace}
 use Rattle.kt_walk.specs.Keeping.{kept_at, has_place}
 use Rattle.kt_walk.proofs.NumberedFacts.{not_there, there_at, if_there_some, if_there_none}
-use Rattle.kt_walk.proofs.kept.Kept.get.Goals as goal
+use Rattle.kt_walk.proofs.kept.Kept.find.Goals as goal
 
 pub returns-in_err-place : goal.returns-in_err-place
 returns-in_err-place c =
     let never = rw c.deref.ensures.value at c.in_err-place.ensures.none in
-    c.from_residual.ensures ∙ sym (subst (λ (x : List (ℕ × Trace)). kept_at x c.args.msg ≡ None) c.self.view_is (not_there c.self.inside.entries.items c.args.msg c.self.invariant.0 (never c.self.invariant.0)))
+    rw c.from_residual.ensures (sym (subst (λ (x : List (ℕ × Trace)). kept_at x c.args.msg ≡ None) c.self.view_is (not_there c.self.inside.entries.items c.args.msg c.self.invariant.0 (never c.self.invariant.0))))
 
 pub index-requires : goal.index-requires
 index-requires c =
