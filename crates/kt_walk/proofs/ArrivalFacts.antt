@@ -14,7 +14,7 @@ use Rattle.kt_cuts.specs.Past.{Past, after, at_one}
 use Rattle.kt_cuts.specs.Lists.{Rises, sent_in}
 use Rattle.kt_cuts.specs.Orphans.{IsOrphanBetween, IsAtMost}
 use Rattle.kt_cuts.specs.Standing.{IsInOrder, IsAllowed}
-use Rattle.kt_walk.specs.Arrivals.{Traffic, IsTraffic, ShowsTraffic, IsByPair, ShowsArrivals, message_of, cut_back, IsCutBack, IsSettled, RollsBack, MakesPermanent, KeepsPermanent, AreOpened, IsOpen, AreRising, is_quiet}
+use Rattle.kt_walk.specs.Arrivals.{Traffic, IsTraffic, ShowsTraffic, IsByPair, ShowsArrivals, message_of, cut_back, IsCutBack, IsSettled, RollsBack, MakesPermanent, KeepsPermanent, AreOpened, IsOpen, is_quiet}
 use Rattle.kt_cuts.proofs.Items.{get_set_same, get_set_other, item_there}
 use Rattle.kt_cuts.proofs.Lists.{get_push}
 use Rattle.kt_cuts.proofs.SortedFacts.{some_same}
@@ -265,9 +265,6 @@ settled_none cs ds s lengths each h i w e =
     let was = each i w e in
     let traffic = h.each i was.0 was.1 in
     was.2.none traffic.rising
-
-pub are_rising : (cs : List Traffic) (s : Past) → ShowsArrivals cs s → AreRising cs
-are_rising cs s h i v at = (h.each i v at).rising
 
 -- one channel more is opened
 pub opened_next : (cs ds : List Traffic) (p q n m : ℕ) (v : Traffic) → AreOpened cs n → n ≡ p * 64 + q → m ≡ n + 1 → p < 64 → q < 64 → v ≡ record { receiver = p; sender = q; arrivals = []; undone = [] } → ds ≡ cs ++ v ∷ [] → AreOpened ds m

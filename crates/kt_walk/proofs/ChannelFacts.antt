@@ -14,7 +14,7 @@ use Rattle.kt_cuts.specs.Lists.{Rises, sent_in}
 use Rattle.kt_cuts.specs.Past.{Past, at_one}
 use Rattle.kt_cuts.specs.Orphans.{IsOrphanBetween, IsAtMost, earlier}
 use Rattle.kt_cuts.specs.Standing.{IsInOrder}
-use Rattle.kt_walk.specs.Arrivals.{Traffic, IsRising, Parts, sent_at, received_at, undo, IsTraffic, ShowsTraffic, IsOpen, IsReleased}
+use Rattle.kt_walk.specs.Arrivals.{Traffic, IsRising, Parts, sent_at, received_at, undo, IsTraffic, ShowsTraffic, IsOpen}
 use Rattle.kt_cuts.specs.declared.histories.Trace.{Trace}
 use Rattle.kt_walk.specs.Keeping.{kept_at}
 use Rattle.kt_cuts.proofs.Lists.{get_push, get_kept, get_last, get_take, get_in_take, get_drop}
@@ -305,24 +305,6 @@ released_none v w lengths n c d sent received least a b e _ = record {
       let one = within_count sent_at v.arrivals (slice_index lengths v.sender) c (n + k) x sent at (subst (λ (q : ℕ). x.sent < slice_index lengths q) b cover.sent) in
       let two = within_count received_at v.arrivals (slice_index lengths v.receiver) d (n + k) x received at (subst (λ (q : ℕ). x.received < slice_index lengths q) a cover.received) in
       absurd (omega (arith, one, two, least));
-}
-
--- the messages of the first arrivals, which lie within both parts, are kept no more
-pub released_kept : (v : Traffic) (lengths : List ℕ) (n c d : ℕ) (es fs : List (ℕ × Trace)) → Parts sent_at v.arrivals (slice_index lengths v.sender) c → Parts received_at v.arrivals (slice_index lengths v.receiver) d → n ≡ min c d
-    → ((k : ℕ) (a : Arrival) → slice_get (take n v.arrivals) k ≡ Some a → kept_at fs a.msg ≡ None)
-    → ((m : ℕ) → (kept_at fs m ≡ kept_at es m) ⊎ ((k : ℕ) × (a : Arrival) × (slice_get (take n v.arrivals) k ≡ Some a) × (a.msg ≡ m) × (kept_at fs m ≡ None)))
-    → IsReleased lengths v es fs
-released_kept v lengths n c d es fs sent received least gone others = record {
-  gone = λ m h.
-      let one = within_count sent_at v.arrivals (slice_index lengths v.sender) c h.0 h.1 sent h.2 h.4.sent in
-      let two = within_count received_at v.arrivals (slice_index lengths v.receiver) d h.0 h.1 received h.2 h.4.received in
-      ap (kept_at fs) (sym h.3) ∙ gone h.0 h.1 (get_in_take n v.arrivals h.0 h.1 h.2 (omega (arith, one, two, least)));
-  others = λ m. elim (others m) [
-    | inl same ↦ inl same
-    | inr x ↦
-        let at = get_take n v.arrivals x.0 x.1 x.2 in
-        inr ((x.0, x.1, at.0, x.3, record { sent = sent.below x.0 x.1 (omega (arith, at.1, least)) at.0; received = received.below x.0 x.1 (omega (arith, at.1, least)) at.0 }), x.4)
-  ];
 }
 
 -- a message more is kept no more

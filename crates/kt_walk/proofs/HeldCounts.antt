@@ -15,9 +15,7 @@ use Rattle.std.proofs.lemmas.Map.Made.{is_some-lookup, is_member-filter, length-
 use Rattle.kt_spacetime.specs.declared.event.Event.{Event}
 use Rattle.kt_cuts.specs.declared.histories.Trace.{Trace}
 use Rattle.kt_cuts.specs.Past.{past}
-use Rattle.kt_walk.specs.Keeping.{kept_trace, kept_between, numbers_to, held_of}
-use Rattle.kt_walk.specs.TrailParts.{TrailParts}
-use Rattle.kt_walk.specs.PartsOf.{PartsOf}
+use Rattle.kt_walk.specs.Keeping.{kept_at, kept_trace, kept_between, numbers_to, held_of}
 use Rattle.kt_walk.proofs.WalkRows.{parties_none}
 
 -- which numbers there are up to one
@@ -59,8 +57,8 @@ kept_numbered rows (suc n) = elim (cases_lt n (length rows)) [
     within : (n m : ℕ) → n < m → (nat_le 1 (suc n) && nat_le (suc n) m) ≡ true
     within n m l = grind (arith, nat_tests, l)
 
-pub held_count : (w : TrailParts) (rows : List Event) → PartsOf w rows → IsDistinct nat_eq (keys_of w.kept) → length w.kept ≡ held_of rows
-held_count w rows h distinct =
+pub held_count : (es : List (ℕ × Trace)) (rows : List Event) → ((m : ℕ) → kept_at es m ≡ kept_trace rows m) → IsDistinct nat_eq (keys_of es) → length es ≡ held_of rows
+held_count es rows kept distinct =
     let test : ℕ → Bool = λ m. is_some (kept_trace rows m) in
-    sym (length-keys_of w.kept) ∙ length-from_same_keys nat_eq_equiv (keys_of w.kept) (filter test (numbers_to (length rows))) distinct (distinct_numbers test (length rows))
-    (λ q. sym (is_some-lookup (nat_eq q) w.kept) ∙ (ap is_some (h.of_kept.each q) ∙ (kept_numbered rows q ∙ sym (is_member-filter nat_eq_equiv test q (λ x e. same_test test q x e) (numbers_to (length rows))))))
+    sym (length-keys_of es) ∙ length-from_same_keys nat_eq_equiv (keys_of es) (filter test (numbers_to (length rows))) distinct (distinct_numbers test (length rows))
+    (λ q. sym (is_some-lookup (nat_eq q) es) ∙ (ap is_some (kept q) ∙ (kept_numbered rows q ∙ sym (is_member-filter nat_eq_equiv test q (λ x e. same_test test q x e) (numbers_to (length rows))))))

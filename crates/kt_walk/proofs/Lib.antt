@@ -13,6 +13,6 @@ pub mod ItemPlaces
 pub mod ChannelFacts
 pub mod ArrivalFacts
 pub mod UsedFacts
-pub mod ReleasedFacts
+pub mod SettledFacts
 pub mod WalkArrivals
 pub mod WalkLinks

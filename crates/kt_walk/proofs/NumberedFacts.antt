@@ -1,6 +1,6 @@
 -- Messages in a list that rises by their numbers.
 use Rattle.std.proofs.Common.{◌≡◌, ◌≢◌, ℕ, zero, suc, ◌+◌, ◌-◌, ◌≤◌, ◌<◌, ◌⊎◌, Bool, true, false, Option, Some, None, List, [], ◌∷◌, ◌++◌, length, set, take, drop, refl, sym, ap, subst, ◌∙◌, arith, inl, inr, cond}
-use Rattle.std.specs.Prelude.{nat_eq, ◌==◌, IfNone, not, filter}
+use Rattle.std.specs.Prelude.{nat_eq, ◌==◌, ◌&&◌, IfNone, not, filter, if◌then◌else◌}
 use Rattle.std.specs.List.{slice_get, insert, IsDistinct, AllByRecursion}
 use Rattle.std.specs.Map.{keys_of}
 use Rattle.std.proofs.lemmas.Bool.{cases_eq, cases_lt}
@@ -12,7 +12,7 @@ use Rattle.std.proofs.lemmas.Map.Entries.{lookup_from_place, place_from_lookup, 
 use Rattle.std.proofs.lemmas.Option.{slice_get_within}
 use Rattle.kt_cuts.specs.declared.histories.Trace.{Trace}
 use Rattle.kt_cuts.specs.Past.{at_one}
-use Rattle.kt_walk.specs.Keeping.{kept_at, has_place, is_there, is_gone, is_of, if_there, given, unsent, unreceived, received_here, IsNumbered}
+use Rattle.kt_walk.specs.Keeping.{kept_at, has_place, is_there, is_gone, is_open, is_left, is_covered, is_of, if_there, given, unsent, unreceived, uncovered, received_here, IsNumbered}
 use Rattle.kt_cuts.proofs.Items.{get_set_same, get_set_other, item_there}
 use Rattle.kt_cuts.proofs.Shown.{at_same, at_other}
 use Rattle.kt_cuts.proofs.SortedFacts.{some_same}
@@ -282,14 +282,23 @@ far_apart es h j (suc d) a b x y =
     let less = h.each (j + d) (j + suc d) before.0 b (omega arith) before.1 y in
     omega (arith, far, less)
 
+-- a filter of a filter
+filter_both : {X : Type 0} (f g h : X → Bool) → ((x : X) → (f x && g x) ≡ h x) → (xs : List X) → filter g (filter f xs) ≡ filter h xs
+filter_both f g h both [] = refl
+filter_both {X} f g h both (x ∷ xs) = by_case (f x) (g x) refl refl (filter_both f g h both xs)
+  where
+    by_case : (a b : Bool) → f x ≡ a → g x ≡ b → filter g (filter f xs) ≡ filter h xs → filter g (cond a (x ∷ filter f xs) (filter f xs)) ≡ cond (h x) (x ∷ filter h xs) (filter h xs)
+    by_case true true e k rest = rw k (ap (λ (l : List X). x ∷ l) rest ∙ ap (λ (c : Bool). cond c (x ∷ filter h xs) (filter h xs)) (sym (λ i. e i && k i) ∙ both x))
+    by_case true false e k rest = rw k (rest ∙ ap (λ (c : Bool). cond c (x ∷ filter h xs) (filter h xs)) (sym (λ i. e i && k i) ∙ both x))
+    by_case false b e k rest = rest ∙ ap (λ (c : Bool). cond c (x ∷ filter h xs) (filter h xs)) (ap (λ (c : Bool). c && g x) (sym e) ∙ both x)
+
 -- a list whose gone messages are let go of shows the same
 pub filter_twice : {X : Type 0} (f : X → Bool) (xs : List X) → filter f (filter f xs) ≡ filter f xs
-filter_twice f [] = refl
-filter_twice {X} f (x ∷ xs) = by_case (f x) refl (filter_twice f xs)
+filter_twice f xs = filter_both f f f (λ x. and_self (f x)) xs
   where
-    by_case : (b : Bool) → f x ≡ b → filter f (filter f xs) ≡ filter f xs → filter f (cond b (x ∷ filter f xs) (filter f xs)) ≡ cond b (x ∷ filter f xs) (filter f xs)
-    by_case true e rest = rw e (ap (λ (l : List X). x ∷ l) rest)
-    by_case false e rest = rest
+    and_self : (b : Bool) → (b && b) ≡ b
+    and_self true = refl
+    and_self false = refl
 
 -- those that are there and those that are gone are all
 pub there_and_gone : (es : List (ℕ × Trace)) → length (filter is_there es) + length (filter is_gone es) ≡ length es
@@ -300,6 +309,40 @@ pub none_gone : (es : List (ℕ × Trace)) → length (filter is_gone (filter is
 none_gone es =
     let all = there_and_gone (filter is_there es) in
     omega (arith, all, ap length (filter_twice is_there es))
+
+-- those that are left, of these positions, are there
+there_of_left : (permanent : ℕ → ℕ) (es : List (ℕ × Trace)) → filter is_there (filter (is_left permanent) es) ≡ filter (is_left permanent) es
+there_of_left permanent es = filter_both (is_left permanent) is_there (is_left permanent) (λ e. again (is_there e) (is_open permanent e)) es
+  where
+    again : (a b : Bool) → ((a && b) && a) ≡ (a && b)
+    again true true = refl
+    again true false = refl
+    again false b = refl
+
+pub open_of_there : (permanent : ℕ → ℕ) (es : List (ℕ × Trace)) → filter (is_open permanent) (filter is_there es) ≡ filter (is_left permanent) es
+open_of_there permanent es = filter_both is_there (is_open permanent) (is_left permanent) (λ e. refl) es
+
+pub none_gone_of_left : (permanent : ℕ → ℕ) (es : List (ℕ × Trace)) → length (filter is_gone (filter (is_left permanent) es)) ≡ 0
+none_gone_of_left permanent es =
+    let all = there_and_gone (filter (is_left permanent) es) in
+    omega (arith, all, ap length (there_of_left permanent es))
+
+-- what is kept of a message where those are taken out that lie within these positions
+pub open_kept : (permanent : ℕ → ℕ) (es : List (ℕ × Trace)) (m : ℕ) → IsDistinct nat_eq (keys_of es) → kept_at (filter (is_open permanent) es) m ≡ uncovered permanent (kept_at es m)
+open_kept permanent es m apart = lookup-filter-values nat_eq_equiv (λ t. not (is_covered permanent t)) m es apart ∙ by_case (kept_at es m)
+  where
+    at_test : (b : Bool) (t : Trace) → cond (not b) (Some t) None ≡ (if b then None else Some t)
+    at_test true t = refl
+    at_test false t = refl
+
+    by_case : (o : Option Trace) → option_filter (λ t. not (is_covered permanent t)) o ≡ uncovered permanent o
+    by_case None = refl
+    by_case (Some t) = at_test (is_covered permanent t) t
+
+pub kept_left : (permanent : ℕ → ℕ) (es : List (ℕ × Trace)) (m : ℕ) → IsNumbered es → kept_at (filter is_there (filter (is_left permanent) es)) m ≡ uncovered permanent (kept_at (filter is_there es) m)
+kept_left permanent es m h =
+    ap (λ (l : List (ℕ × Trace)). kept_at l m) (there_of_left permanent es ∙ sym (open_of_there permanent es))
+    ∙ open_kept permanent (filter is_there es) m (numbered_distinct (filter is_there es) (numbered_filter is_there es h))
 
 -- a message from one place on and before another one, in this part of the list
 pub part_item : {X : Type 0} (xs : List X) (start end i : ℕ) (x : X) → start ≤ i → i < end → slice_get xs i ≡ Some x → slice_get (take (end - start) (drop start xs)) (i - start) ≡ Some x

@@ -15,9 +15,9 @@ use Rattle.kt_cuts.specs.Past.{Past}
 use Rattle.kt_cuts.specs.Lists.{last_of, received_in}
 use Rattle.kt_walk.specs.Keeping.{kept_at, kept_between}
 use Rattle.kt_cuts.specs.Orphans.{is_within}
-use Rattle.kt_walk.specs.PartsOf.{ShowsKept}
+use Rattle.kt_walk.specs.PartsOf.{HasKept}
 use Rattle.kt_walk.specs.RecentSteps.{step_of, steps_after, steps_past, is_send_of, ShowsRecent, if_at, is_needed, is_past}
-use Rattle.kt_walk.specs.Stages.{AreInPlace}
+use Rattle.kt_walk.specs.Stages.{with_permanent, AreInPlace}
 use Rattle.kt_cuts.specs.Traces.{place_of}
 use Rattle.kt_cuts.proofs.Items.{get_seam, item_there}
 use Rattle.kt_walk.proofs.KeptFacts.{kept_of, past_it}
@@ -256,20 +256,26 @@ recent_thinned r n l dropped es h lost = record {
         ∙ ap (λ (y : Step). not (is_send_of more y)) item.2)
 
 -- a live send past the permanent position that is not kept was dropped
-pub unkept_dropped : (es : List (ℕ × Trace)) (between : ℕ → Option (ℕ × ℕ)) (s : Past) (p k m to : ℕ) → ShowsKept es between s → AreInPlace between s.permanent s.live → s.permanent p ≤ k → slice_get (s.live p) k ≡ Some (deed.Sent m to)
+pub unkept_dropped : (es : List (ℕ × Trace)) (between : ℕ → Option (ℕ × ℕ)) (s : Past) (p k m to : ℕ) → HasKept es between s → AreInPlace between s.permanent s.live → s.permanent p ≤ k → slice_get (s.live p) k ≡ Some (deed.Sent m to)
     → kept_at es m ≡ None → s.dropped m ≡ true
 unkept_dropped es between s p k m to h sound low at none = at_test (s.dropped m) refl
   where
+    earlier : Past
+    earlier = with_permanent s h.settled
+
+    past : h.settled p ≤ k
+    past = omega (arith, low, h.earlier p)
+
     place : place_of (deed.Sent m to) (s.live p) ≡ Some (k + 1)
     place = place_at (deed.Sent m to) (s.live p) k at (λ j e. sound.once p j k (deed.Sent m to) e at)
 
-    was : kept_between s m (Some (p, to)) ≡ None
-    was = ap (kept_between s m) (sym (sound.sent p k m to at)) ∙ (sym (h.each m) ∙ none)
+    was : kept_between earlier m (Some (p, to)) ≡ None
+    was = ap (kept_between earlier m) (sym (sound.sent p k m to at)) ∙ (sym (h.shown.each m) ∙ none)
 
     at_test : (b : Bool) → s.dropped m ≡ b → s.dropped m ≡ true
     at_test true is = is
     at_test false is =
-        let there : kept_between s m (Some (p, to)) ≡ kept_of false p to (Some (k + 1)) (place_of (deed.Received m p) (s.live to)) (is_within (Some (k + 1)) (s.permanent p)) (is_within (place_of (deed.Received m p) (s.live to)) (s.permanent to)) =
-        λ i. kept_of (is i) p to (place i) (place_of (deed.Received m p) (s.live to)) (is_within (place i) (s.permanent p)) (is_within (place_of (deed.Received m p) (s.live to)) (s.permanent to)) in
-        let out = ap (λ (b : Bool). kept_of false p to (Some (k + 1)) (place_of (deed.Received m p) (s.live to)) b (is_within (place_of (deed.Received m p) (s.live to)) (s.permanent to))) (past_it (s.permanent p) k low) in
+        let there : kept_between earlier m (Some (p, to)) ≡ kept_of false p to (Some (k + 1)) (place_of (deed.Received m p) (s.live to)) (is_within (Some (k + 1)) (h.settled p)) (is_within (place_of (deed.Received m p) (s.live to)) (h.settled to)) =
+        λ i. kept_of (is i) p to (place i) (place_of (deed.Received m p) (s.live to)) (is_within (place i) (h.settled p)) (is_within (place_of (deed.Received m p) (s.live to)) (h.settled to)) in
+        let out = ap (λ (b : Bool). kept_of false p to (Some (k + 1)) (place_of (deed.Received m p) (s.live to)) b (is_within (place_of (deed.Received m p) (s.live to)) (h.settled to))) (past_it (h.settled p) k past) in
         absurd (cc (sym was ∙ (there ∙ out)))

@@ -14,7 +14,7 @@ use Rattle.kt_cuts.specs.Legal.{has_deed}
 use Rattle.kt_cuts.specs.Lists.{received_in, last_of}
 use Rattle.kt_walk.specs.Keeping.{kept_at, kept_between, unsent, unreceived, restored}
 use Rattle.kt_walk.specs.Stages.{with_permanent, with_live, AreInPlace}
-use Rattle.kt_walk.specs.PartsOf.{ShowsWalker, ShowsWalkers, ShowsKept}
+use Rattle.kt_walk.specs.PartsOf.{ShowsWalker, ShowsWalkers, ShowsKept, HasKept}
 use Rattle.kt_walk.specs.RecentSteps.{step_of, ShowsRecent, if_at, is_past}
 use Rattle.kt_cuts.proofs.Items.{get_left, get_seam, get_set_same, get_set_other}
 use Rattle.kt_cuts.proofs.SortedFacts.{some_same, received_unsent, received_else}
@@ -172,13 +172,18 @@ last_restored v s p front d step g whole is q l =
     ap (λ (x : Step). slice_get (restored v.last_received (Some x)) q) (sym is)
     ∙ restored_known v.last_received front d q l (λ x m. g.received x m ∙ ap (λ (t : List Deed). Some (last_of (received_in x t))) whole)
 
+-- what was kept with the same earlier permanent positions
+still_shown : {es fs : List (ℕ × Trace)} {between : ℕ → Option (ℕ × ℕ)} {s : Past} (h : HasKept es between s) (live : ℕ → List Deed) → ShowsKept fs between (with_live (with_permanent s h.settled) live) → HasKept fs between (with_live s live)
+still_shown h live shown = record { settled = h.settled; earlier = h.earlier; shown = shown }
+
 -- a deed is undone whose step was forgotten
 pub forgotten_undone_trail : (ws : List Walker) (es : List (ℕ × Trace)) (between : ℕ → Option (ℕ × ℕ)) (s : Past) (p : ℕ) (v w : Walker)
-    → ShowsWalkers ws s → ShowsKept es between s → p < 64 → slice_get ws p ≡ Some v → s.permanent p < length (s.live p)
+    → ShowsWalkers ws s → HasKept es between s → p < 64 → slice_get ws p ≡ Some v → s.permanent p < length (s.live p)
     → if_at v.length (slice_get v.recent (length v.recent - 1)) ≡ None → w ≡ record v { length = v.length - 1; recent = v.recent; last_received = v.last_received }
-    → ShowsWalkers (set ws p w) (with_live s (at_one p (take (length (s.live p) - 1) (s.live p)) s.live)) × ShowsKept es between (with_live s (at_one p (take (length (s.live p) - 1) (s.live p)) s.live))
+    → ShowsWalkers (set ws p w) (with_live s (at_one p (take (length (s.live p) - 1) (s.live p)) s.live)) × HasKept es between (with_live s (at_one p (take (length (s.live p) - 1) (s.live p)) s.live))
 forgotten_undone_trail ws es between s p v w h k l there low none new =
     let front : List Deed = take (length (s.live p) - 1) (s.live p) in
+    let earlier : Past = with_permanent s k.settled in
     let g = h.each p v there in
     let found = last_lost v s p g low none in
     let lost = found.2 in
@@ -188,24 +193,25 @@ forgotten_undone_trail ws es between s p v w h k l there low none new =
     let whole : s.live p ≡ front ++ d ∷ [] = found.1 ∙ ap (λ (x : Deed). front ++ x ∷ []) lost.2 in (
       undone_walkers ws s p v w front d v.recent v.last_received h l there whole found.3
           (λ q m. g.received q m ∙ (ap (λ (t : List Deed). Some (last_of (received_in q t))) whole ∙ ap (λ (x : List ℕ). Some (last_of x)) (received_unsent front n to q))) new,
-      record {
+      still_shown k (at_one p front s.live) (record {
         each = λ m. elim (cases_eq m n) [
           | inl same ↦
               let gone : s.dropped m ≡ true = ap s.dropped same ∙ lost.3 in
-              k.each m ∙ (kept_dropped s m (between m) gone ∙ sym (kept_dropped (with_live s (at_one p front s.live)) m (between m) gone))
-          | inr other ↦ k.each m ∙ sym (other_undone s p m (between m) front d whole (λ q. other_sent m q n to other) (λ q. refl))
+              k.shown.each m ∙ (kept_dropped earlier m (between m) gone ∙ sym (kept_dropped (with_live earlier (at_one p front s.live)) m (between m) gone))
+          | inr other ↦ k.shown.each m ∙ sym (other_undone earlier p m (between m) front d whole (λ q. other_sent m q n to other) (λ q. refl))
         ];
-      },
+      }),
     )
 
 -- a send is undone
 pub sent_undone_trail : (ws : List Walker) (es fs : List (ℕ × Trace)) (between : ℕ → Option (ℕ × ℕ)) (s : Past) (p : ℕ) (v w : Walker) (step : Step)
-    → ShowsWalkers ws s → ShowsKept es between s → AreInPlace between s.permanent s.live → p < 64 → slice_get ws p ≡ Some v → s.permanent p < length (s.live p)
+    → ShowsWalkers ws s → HasKept es between s → AreInPlace between s.permanent s.live → p < 64 → slice_get ws p ≡ Some v → s.permanent p < length (s.live p)
     → if_at v.length (slice_get v.recent (length v.recent - 1)) ≡ Some step → w ≡ record v { length = v.length - 1; recent = take (length v.recent - 1) v.recent; last_received = restored v.last_received (Some step) } → step.from ≡ None
     → ((m : ℕ) → kept_at fs m ≡ at_one step.msg (unsent (kept_at es step.msg)) (kept_at es) m)
-    → ShowsWalkers (set ws p w) (with_live s (at_one p (take (length (s.live p) - 1) (s.live p)) s.live)) × ShowsKept fs between (with_live s (at_one p (take (length (s.live p) - 1) (s.live p)) s.live))
+    → ShowsWalkers (set ws p w) (with_live s (at_one p (take (length (s.live p) - 1) (s.live p)) s.live)) × HasKept fs between (with_live s (at_one p (take (length (s.live p) - 1) (s.live p)) s.live))
 sent_undone_trail ws es fs between s p v w step h k sound l there low last new sent changed =
     let front : List Deed = take (length (s.live p) - 1) (s.live p) in
+    let earlier : Past = with_permanent s k.settled in
     let short : s.permanent p ≤ length front = omega (arith, low, length-take (length (s.live p) - 1) (s.live p)) in
     let found = last_is v s p step (h.each p v there) low last in
     let is : step_of front found.0 ≡ step = found.2 in
@@ -218,27 +224,28 @@ sent_undone_trail ws es fs between s p v w step h k sound l there low last new s
     let parties : between n ≡ Some (p, to) = sound.sent p (length front) n to at in
     let once : has_deed d front ≡ false = unrepeated s.live p front d (λ i j. sound.once p i j d) whole in (
       undone_walkers ws s p v w front found.0 (take (length v.recent - 1) v.recent) (restored v.last_received (Some step)) h l there found.1 found.3 (last_restored v s p front found.0 step (h.each p v there) found.1 is) new,
-      record {
+      still_shown k (at_one p front s.live) (record {
         each = λ m. elim (cases_eq m n) [
           | inl same ↦
               changed m ∙ (ap (at_one n (unsent (kept_at es n)) (kept_at es)) same ∙ (at_same n (unsent (kept_at es n)) (kept_at es)
-              ∙ (ap unsent (k.each n ∙ ap (kept_between s n) parties) ∙ (sym (sent_undone s p n to front whole short once)
-              ∙ (ap (kept_between (with_live s (at_one p front s.live)) n) (sym parties) ∙ ap (λ (x : ℕ). kept_between (with_live s (at_one p front s.live)) x (between x)) (sym same))))))
+              ∙ (ap unsent (k.shown.each n ∙ ap (kept_between earlier n) parties) ∙ (sym (sent_undone earlier p n to front whole (omega (arith, short, k.earlier p)) once)
+              ∙ (ap (kept_between (with_live earlier (at_one p front s.live)) n) (sym parties) ∙ ap (λ (x : ℕ). kept_between (with_live earlier (at_one p front s.live)) x (between x)) (sym same))))))
           | inr other ↦
-              changed m ∙ (at_other n m (unsent (kept_at es n)) (kept_at es) other ∙ (k.each m
-              ∙ sym (other_undone s p m (between m) front d whole (λ q. other_sent m q n to other) (λ q. refl))))
+              changed m ∙ (at_other n m (unsent (kept_at es n)) (kept_at es) other ∙ (k.shown.each m
+              ∙ sym (other_undone earlier p m (between m) front d whole (λ q. other_sent m q n to other) (λ q. refl))))
         ];
-      },
+      }),
     )
 
 -- a receive is undone
 pub received_undone_trail : (ws : List Walker) (es fs : List (ℕ × Trace)) (between : ℕ → Option (ℕ × ℕ)) (s : Past) (p : ℕ) (v w : Walker) (step : Step) (f : ℕ)
-    → ShowsWalkers ws s → ShowsKept es between s → AreInPlace between s.permanent s.live → p < 64 → slice_get ws p ≡ Some v → s.permanent p < length (s.live p)
+    → ShowsWalkers ws s → HasKept es between s → AreInPlace between s.permanent s.live → p < 64 → slice_get ws p ≡ Some v → s.permanent p < length (s.live p)
     → if_at v.length (slice_get v.recent (length v.recent - 1)) ≡ Some step → w ≡ record v { length = v.length - 1; recent = take (length v.recent - 1) v.recent; last_received = restored v.last_received (Some step) } → step.from ≡ Some f
     → ((m : ℕ) → kept_at fs m ≡ at_one step.msg (unreceived (kept_at es step.msg)) (kept_at es) m)
-    → ShowsWalkers (set ws p w) (with_live s (at_one p (take (length (s.live p) - 1) (s.live p)) s.live)) × ShowsKept fs between (with_live s (at_one p (take (length (s.live p) - 1) (s.live p)) s.live))
+    → ShowsWalkers (set ws p w) (with_live s (at_one p (take (length (s.live p) - 1) (s.live p)) s.live)) × HasKept fs between (with_live s (at_one p (take (length (s.live p) - 1) (s.live p)) s.live))
 received_undone_trail ws es fs between s p v w step f h k sound l there low last new received changed =
     let front : List Deed = take (length (s.live p) - 1) (s.live p) in
+    let earlier : Past = with_permanent s k.settled in
     let short : s.permanent p ≤ length front = omega (arith, low, length-take (length (s.live p) - 1) (s.live p)) in
     let found = last_is v s p step (h.each p v there) low last in
     let is : step_of front found.0 ≡ step = found.2 in
@@ -251,15 +258,15 @@ received_undone_trail ws es fs between s p v w step f h k sound l there low last
     let parties : between n ≡ Some (by, p) = sound.received p (length front) n by at in
     let once : has_deed d front ≡ false = unrepeated s.live p front d (λ i j. sound.once p i j d) whole in (
       undone_walkers ws s p v w front found.0 (take (length v.recent - 1) v.recent) (restored v.last_received (Some step)) h l there found.1 found.3 (last_restored v s p front found.0 step (h.each p v there) found.1 is) new,
-      record {
+      still_shown k (at_one p front s.live) (record {
         each = λ m. elim (cases_eq m n) [
           | inl same ↦
               changed m ∙ (ap (at_one n (unreceived (kept_at es n)) (kept_at es)) same ∙ (at_same n (unreceived (kept_at es n)) (kept_at es)
-              ∙ (ap unreceived (k.each n ∙ ap (kept_between s n) parties) ∙ (sym (received_undone s p n by front whole short once)
-              ∙ (ap (kept_between (with_live s (at_one p front s.live)) n) (sym parties) ∙ ap (λ (x : ℕ). kept_between (with_live s (at_one p front s.live)) x (between x)) (sym same))))))
+              ∙ (ap unreceived (k.shown.each n ∙ ap (kept_between earlier n) parties) ∙ (sym (received_undone earlier p n by front whole (omega (arith, short, k.earlier p)) once)
+              ∙ (ap (kept_between (with_live earlier (at_one p front s.live)) n) (sym parties) ∙ ap (λ (x : ℕ). kept_between (with_live earlier (at_one p front s.live)) x (between x)) (sym same))))))
           | inr other ↦
-              changed m ∙ (at_other n m (unreceived (kept_at es n)) (kept_at es) other ∙ (k.each m
-              ∙ sym (other_undone s p m (between m) front d whole (λ q. refl) (λ q. other_received m q n by other))))
+              changed m ∙ (at_other n m (unreceived (kept_at es n)) (kept_at es) other ∙ (k.shown.each m
+              ∙ sym (other_undone earlier p m (between m) front d whole (λ q. refl) (λ q. other_received m q n by other))))
         ];
-      },
+      }),
     )

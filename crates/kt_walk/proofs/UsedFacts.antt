@@ -13,7 +13,7 @@ use Rattle.kt_cuts.specs.Past.{Past}
 use Rattle.kt_cuts.specs.Lists.{Rises, sent_in}
 use Rattle.kt_cuts.specs.Orphans.{IsOrphanBetween}
 use Rattle.kt_walk.specs.declared.queue.Arrival.{Arrival}
-use Rattle.kt_walk.specs.Arrivals.{Traffic, Has, Parts, sent_at, received_at, IsTraffic, ShowsTraffic, IsCutBack, IsSettled, IsReleased, HasCovered, AreReleased, AreListed, AreInUse, is_empty, is_in_use, has_messages, cut_back}
+use Rattle.kt_walk.specs.Arrivals.{Traffic, Has, Parts, sent_at, received_at, IsTraffic, ShowsTraffic, IsCutBack, IsSettled, AreListed, AreInUse, is_empty, is_in_use, has_messages, cut_back}
 use Rattle.kt_walk.specs.Keeping.{kept_at}
 use Rattle.kt_cuts.proofs.Items.{get_set_same, get_set_other}
 use Rattle.kt_cuts.proofs.Lists.{get_push, get_last}
@@ -109,9 +109,6 @@ empty_settled lengths v e = record {
   traffic = λ rs ss i j l m t. traffic_settled v rs ss i j (slice_index lengths v.receiver) (slice_index lengths v.sender) l m t;
   none = λ rising. record { none = λ k a at cover. no_item v.arrivals k a (both_empty v e).0 at };
 }
-
-empty_uncovered : (lengths : List ℕ) (v : Traffic) (m : ℕ) → is_empty v ≡ true → HasCovered lengths v m → ⊥
-empty_uncovered lengths v m e h = no_item v.arrivals h.0 h.1 (both_empty v e).0 h.2
 
 -- the channels at the first so many places of a list are changed, and no other is
 pub record AreChanged (R : Traffic → Traffic → Type 0) (before now : List Traffic) (used : List ℕ) (n : ℕ) : Type 0 where
@@ -265,49 +262,6 @@ full_after v w a new = ap is_empty new ∙ some_there (length (v.arrivals ++ a �
 pub as_full : {X E : Type 0} (r : Result X E) (v w : Traffic) (a : Arrival) → is_empty v ≡ false → OnOk r (w ≡ record v { arrivals = v.arrivals ++ a ∷ [] }) → OnErr r (w ≡ v) → is_empty w ≡ is_empty v
 as_full (Ok x) v w a full ok err = full_after v w a ok ∙ sym full
 as_full (Err e) v w a full ok err = ap is_empty err
-
--- the messages of the channels at the first so many places of a list are released
-pub record AreReleasedAt (lengths : List ℕ) (channels : List Traffic) (used : List ℕ) (n : ℕ) (old new : List (ℕ × Trace)) : Type 0 where
-  pub gone : (k i : ℕ) (v : Traffic) (m : ℕ) → k < n → slice_get used k ≡ Some i → slice_get channels i ≡ Some v → HasCovered lengths v m → kept_at new m ≡ None
-  pub others : (m : ℕ) → (kept_at new m ≡ kept_at old m) ⊎ ((i : ℕ) × (v : Traffic) × (slice_get channels i ≡ Some v) × HasCovered lengths v m × (kept_at new m ≡ None))
-
-pub released_start : (lengths : List ℕ) (cs : List Traffic) (used : List ℕ) (es : List (ℕ × Trace)) → AreReleasedAt lengths cs used 0 es es
-released_start lengths cs used es = record {
-  gone = λ k i v m l e at cover. absurd (omega (arith, l));
-  others = λ m. inl refl;
-}
-
-pub released_next : (lengths : List ℕ) (cs : List Traffic) (used : List ℕ) (es fs gs : List (ℕ × Trace)) (n j : ℕ) (v : Traffic) → slice_get used n ≡ Some j → slice_get cs j ≡ Some v → AreReleasedAt lengths cs used n es fs
-    → IsReleased lengths v fs gs → AreReleasedAt lengths cs used (n + 1) es gs
-released_next lengths cs used es fs gs n j v next here h r = record {
-  gone = λ k i u m l e at cover. elim (cases_eq k n) [
-    | inl same ↦
-        let place : i ≡ j = some_same (sym e ∙ (ap (slice_get used) same ∙ next)) in
-        let is : u ≡ v = some_same (sym at ∙ (ap (slice_get cs) place ∙ here)) in
-        r.gone m (subst (λ (x : Traffic). HasCovered lengths x m) is cover)
-    | inr other ↦
-        let none = h.gone k i u m (omega (arith, l, other)) e at cover in
-        elim (r.others m) [
-          | inl still ↦ still ∙ none
-          | inr x ↦ x.1
-        ]
-  ];
-  others = λ m. elim (r.others m) [
-    | inl still ↦ elim (h.others m) [
-      | inl same ↦ inl (still ∙ same)
-      | inr x ↦ inr (x.0, x.1, x.2, x.3, still ∙ x.4)
-    ]
-    | inr x ↦ inr (j, v, here, x.0, x.1)
-  ];
-}
-
-pub released_all : (lengths : List ℕ) (cs : List Traffic) (used : List ℕ) (es fs : List (ℕ × Trace)) (n : ℕ) → length used ≤ n → AreListed cs used → AreReleasedAt lengths cs used n es fs → AreReleased lengths cs es fs
-released_all lengths cs used es fs n all listed h = record {
-  gone = λ i v m at cover.
-      let there = listed.all i v at (false_unless (is_empty v) (λ empty. empty_uncovered lengths v m empty cover)) in
-      h.gone there.0 i v m (omega (arith, all, slice_get_within used there.0 i there.1)) there.1 at cover;
-  others = h.others;
-}
 
 -- traffic that has an orphan has messages
 pub full_if_orphan : (v : Traffic) (cut : ℕ → ℕ) (s : Past) (m : ℕ) → s.permanent v.sender ≤ cut v.sender → ShowsTraffic v s → IsOrphanBetween s cut v.receiver v.sender m → is_empty v ≡ false

@@ -24,6 +24,7 @@ use Rattle.kt_cuts.specs.Traces.{place_of}
 use Rattle.kt_walk.specs.Arrivals.{Traffic, ShowsArrivals, RollsBack, MakesPermanent, KeepsPermanent, is_quiet, needs_arrivals}
 use Rattle.kt_walk.specs.TrailParts.{TrailParts}
 use Rattle.kt_walk.specs.PartsOf.{PartsOf, ShowsWalkers}
+use Rattle.kt_walk.specs.Stages.{with_permanent}
 use Rattle.kt_walk.specs.TrailOf.{parts_of}
 use Rattle.kt_walk.specs.WalkParts.{WalkParts, walk_parts}
 use Rattle.kt_walk.specs.WalkOf.{WalkOf}
@@ -80,6 +81,7 @@ pub sent_of_kept : (w : TrailParts) (rows : List Event) (p f m : ℕ) → PartsO
     → (i : ℕ) × (slice_get ((past rows).live f) i ≡ Some (deed.Sent m p)) × (kept_at w.kept m ≡ Some (record { from = f; to = p; sent = Some (i + 1); received = None }))
 sent_of_kept w rows p f m h unbroken =
     let s : Past = past rows in
+    let earlier : Past = with_permanent s h.of_kept.settled in
     let d : Deed = deed.Received m f in
     let rules = kept s (Received p f m) unbroken in
     let first = and_parts _ _ rules.message in
@@ -89,7 +91,7 @@ sent_of_kept w rows p f m h unbroken =
     let sent = place_of_deed (deed.Sent m p) (s.live f) second.0 in
     let sent_there : place_of (deed.Sent m p) (s.live f) ≡ Some (sent.0 + 1) = place_at (deed.Sent m p) (s.live f) sent.0 sent.1 (λ j e. (sound rows h.legal).once f j sent.0 (deed.Sent m p) e sent.1) in
     let parties : parties_in rows m ≡ Some (f, p) = sent_parties rows p f m h.legal second.0 in
-    (sent.0, sent.1, h.of_kept.each m ∙ (ap (kept_between s m) parties ∙ kept_waiting s m f p (sent.0 + 1) undropped sent_there (place_none d (s.live p) (absent d (s.live p) unreceived))))
+    (sent.0, sent.1, h.of_kept.shown.each m ∙ (ap (kept_between earlier m) parties ∙ kept_waiting earlier m f p (sent.0 + 1) undropped sent_there (place_none d (s.live p) (absent d (s.live p) unreceived))))
   where
     not_not : (y : Bool) → not y ≡ true → y ≡ false
     not_not true e = absurd (cc)

@@ -1,5 +1,5 @@
 -- A walk after a decision.
-use Rattle.std.proofs.Common.{◌≡◌, ℕ, zero, suc, ◌+◌, ◌<◌, ◌≤◌, nat_lt, ◌&&◌, if◌then◌else◌, Bool, true, false, Option, Some, None, unwrap_or, List, [], ◌∷◌, ◌++◌, length, take, refl, sym, ap, ◌∙◌, arith, inl, inr}
+use Rattle.std.proofs.Common.{◌≡◌, ℕ, zero, suc, ◌+◌, ◌<◌, ◌≤◌, nat_lt, ◌⊎◌, ◌&&◌, if◌then◌else◌, Bool, true, false, Option, Some, None, unwrap_or, List, [], ◌∷◌, ◌++◌, length, take, refl, sym, ap, subst, ◌∙◌, arith, inl, inr}
 use Rattle.std.specs.Prelude.{slice_index_or}
 use Rattle.std.specs.List.{slice_get, slice_index}
 use Rattle.std.proofs.lemmas.Bool.{cases_lt}
@@ -18,24 +18,22 @@ use Rattle.kt_cuts.specs.Changes.{IsDecided}
 use Rattle.kt_cuts.specs.Past.{Past, past, after}
 use Rattle.kt_cuts.specs.Legal.{broken_rule}
 use Rattle.kt_cuts.specs.Lists.{received_in, last_of}
-use Rattle.kt_cuts.specs.Orphans.{is_within}
 use Rattle.kt_cuts.specs.Standing.{at_number, new_shown, ready_shown}
-use Rattle.kt_walk.specs.Keeping.{kept_between, parties_in}
+use Rattle.kt_walk.specs.Keeping.{kept_at, kept_between, parties_in, uncovered}
 use Rattle.kt_walk.specs.Stages.{with_permanent, with_live, settled_below, undone_below, IsWithin, AreInPlace}
 use Rattle.kt_cuts.specs.Traces.{place_of}
 use Rattle.kt_walk.specs.TrailParts.{TrailParts}
-use Rattle.kt_walk.specs.Arrivals.{Traffic, ShowsArrivals, AreReleased}
-use Rattle.kt_walk.specs.PartsOf.{ShowsWalkers, ShowsKept, PartsOf}
+use Rattle.kt_walk.specs.PartsOf.{ShowsWalkers, HasKept, PartsOf}
 use Rattle.kt_cuts.proofs.Items.{item_there}
-use Rattle.kt_walk.proofs.ReleasedFacts.{released_trail}
 use Rattle.kt_cuts.proofs.SortedFacts.{some_same}
 use Rattle.kt_cuts.proofs.InstanceSteps.{begun_there, decided_instances, new_member, not_new, ready_member, ready_of_checkpoint, new_of_rollback}
-use Rattle.kt_walk.proofs.KeptFacts.{kept_of, same_kept}
+use Rattle.kt_walk.proofs.KeptFacts.{same_kept}
+use Rattle.kt_walk.proofs.SettledFacts.{uncovered_kept}
 use Rattle.kt_cuts.proofs.Positions.{positions}
 use Rattle.kt_walk.proofs.RecentFacts.{recent_same}
 use Rattle.kt_cuts.proofs.RowRules.{may_decide}
 use Rattle.kt_walk.proofs.TrailSteps.{walkers_same}
-use Rattle.kt_walk.proofs.WalkRows.{parties_quiet, sound, next_walk, quiet_kept}
+use Rattle.kt_walk.proofs.WalkRows.{parties_quiet, sound, next_walk, grown_kept, quiet_kept}
 
 -- an instance that is decided has begun
 pub decided_instance : (w : TrailParts) (rows : List Event) (p k : ℕ) (commit : Bool) → PartsOf w rows → broken_rule (past rows) (event.Decided p k commit) ≡ None → (v : Instance) × (at_number w.instances k ≡ Some v)
@@ -55,21 +53,6 @@ aborted_row w rows p k false is h unbroken abort decided =
     (decided_instances w.instances is s p k false there.0 h.of_instances (decided there.0 there.1)) refl
     (quiet_kept w.kept rows row t h.of_kept refl (λ m. refl) (λ q. refl) (λ q. refl)) h.no_more
 
--- the same is kept where positions differ at processes that have no deeds
-same_within : (live : ℕ → List Deed) (f g : ℕ → ℕ) (x : Deed) (q : ℕ) → (q < 64 → f q ≡ g q) → (64 ≤ q → live q ≡ []) → is_within (place_of x (live q)) (f q) ≡ is_within (place_of x (live q)) (g q)
-same_within live f g x q low high = elim (cases_lt q 64) [
-  | inl l ↦ ap (is_within (place_of x (live q))) (low l)
-  | inr h ↦
-      ap (λ (l : List Deed). is_within (place_of x l) (f q)) (high h) ∙ sym (ap (λ (l : List Deed). is_within (place_of x l) (g q)) (high h))
-]
-
-settled_same : (s t : Past) (f : ℕ → ℕ) (m : ℕ) (o : Option (ℕ × ℕ)) → t.dropped m ≡ s.dropped m → ((q : ℕ) → t.live q ≡ s.live q) → ((q : ℕ) → q < 64 → t.permanent q ≡ f q) → ((q : ℕ) → 64 ≤ q → t.live q ≡ [])
-    → kept_between t m o ≡ kept_between (with_permanent s f) m o
-settled_same s t f m None dropped live low high = refl
-settled_same s t f m (Some (a, b)) dropped live low high =
-    (λ i. kept_of (dropped i) a b (place_of (deed.Sent m b) (t.live a)) (place_of (deed.Received m a) (t.live b)) (same_within t.live t.permanent f (deed.Sent m b) a (low a) (high a) i) (same_within t.live t.permanent f (deed.Received m a) b (low b) (high b) i))
-    ∙ (λ i. kept_of (s.dropped m) a b (place_of (deed.Sent m b) (live a i)) (place_of (deed.Received m a) (live b i)) (is_within (place_of (deed.Sent m b) (live a i)) (f a)) (is_within (place_of (deed.Received m a) (live b i)) (f b)))
-
 member_position : (v : Instance) (q n : ℕ) → v.kind ≡ Checkpoint → q < 64 → unwrap_or (new_shown (Some v) q) n ≡ (if nat_lt q 64 && has v.joined q then slice_index_or v.positions q 0 else n)
 member_position v q n of_kind low = at_test (has v.joined q) refl
   where
@@ -88,14 +71,23 @@ settled_greater n v s w q = at_member (has v.joined q) refl
     at_member true e = at_limit (nat_lt q n && has v.joined q) (w q e).0
     at_member false e = let same : settled_below n v s.permanent q ≡ s.permanent q = grind (arith, nat_tests, e) in omega (arith, same)
 
+-- what a commit leaves of what was kept, with those that permanent parts have or without them
+settled_kept : (es fs : List (ℕ × Trace)) (between : ℕ → Option (ℕ × ℕ)) (t : Past) (f : ℕ → ℕ) → ((fs ≡ es) ⊎ ((m : ℕ) → kept_at fs m ≡ uncovered f (kept_at es m))) → ((q : ℕ) → q < 64 → f q ≡ t.permanent q) → ((q : ℕ) → 64 ≤ q → t.live q ≡ [])
+    → HasKept es between t → HasKept fs between t
+settled_kept es fs between t f left low none h = elim left [
+  | inl same ↦ subst (λ (l : List (ℕ × Trace)). HasKept l between t) (sym same) h
+  | inr out ↦
+      record { settled = t.permanent; earlier = λ q. omega arith; shown = record { each = λ m. out m ∙ uncovered_kept es between t f h low none m } }
+]
+
 pub checkpoint_row : (w : TrailParts) (rows : List Event) (p k : ℕ) (commit : Bool) (is : List Instance) (x : Instance) (ws : List Walker) (es : List (ℕ × Trace)) (lengths : List ℕ) → PartsOf w rows → broken_rule (past rows) (event.Decided p k commit) ≡ None → commit ≡ true
     → ((v : Instance) → at_number w.instances k ≡ Some v → IsDecided w.instances is k commit v) → ((v : Instance) → at_number w.instances k ≡ Some v → Some x ≡ Some (record v { verdict = Some commit })) → x.kind ≡ Checkpoint
     → ((s : Past) → ShowsWalkers w.walkers s → IsWithin x s → ShowsWalkers ws (with_permanent s (settled_below 64 x s.permanent)))
     → ((q : ℕ) (u : Walker) → slice_get ws q ≡ Some u → slice_index lengths q ≡ u.permanent)
-    → (cs : List Traffic) → ShowsArrivals cs (past rows) → AreReleased lengths cs w.kept es
+    → ((es ≡ w.kept) ⊎ ((m : ℕ) → kept_at es m ≡ uncovered (slice_index lengths) (kept_at w.kept m)))
     → PartsOf (record { rows = w.rows + 1; walkers = ws; instances = is; beginning = None; kept = es }) (rows ++ event.Decided p k commit ∷ [])
-checkpoint_row w rows p k false is x ws es lengths h unbroken commits decided same of_kind settles each cs shown released = absurd (cc)
-checkpoint_row w rows p k true is x ws es lengths h unbroken commits decided same of_kind settles each cs shown released =
+checkpoint_row w rows p k false is x ws es lengths h unbroken commits decided same of_kind settles each left = absurd (cc)
+checkpoint_row w rows p k true is x ws es lengths h unbroken commits decided same of_kind settles each left =
     let s : Past = past rows in
     let row : Event = event.Decided p k true in
     let t : Past = after s row in
@@ -118,7 +110,6 @@ checkpoint_row w rows p k true is x ws es lengths h unbroken commits decided sam
     let low_lengths : (q : ℕ) → q < 64 → slice_index lengths q ≡ f q = λ q low.
     let there = item_there ws q (omega (arith, low, done.all)) in
     each q there.0 there.1 ∙ (done.each q there.0 there.1).permanent in
-    let left = released_trail cs w.kept es (parties_in rows) s lengths f shown released (sound rows h.legal) low_lengths (settled_greater 64 x s within) h.of_kept in
     let none : (q : ℕ) → 64 ≤ q → t.live q ≡ [] = λ q g. live q ∙ h.no_more q g in
     next_walk w rows row (w.rows + 1) _ _ _ es h unbroken refl
     (record {
@@ -137,8 +128,18 @@ checkpoint_row w rows p k true is x ws es lengths h unbroken commits decided sam
       all = done.all;
     })
     (decided_instances w.instances is s p k true v h.of_instances (decided v there.1)) refl
-    (record { each = λ m. left.each m ∙ (ap (kept_between (with_permanent s f) m) (sym (parties_quiet rows row m refl)) ∙ sym (settled_same s t f m (parties_in (rows ++ row ∷ []) m) refl live permanent none)) })
+    (settled_kept w.kept es (parties_in (rows ++ row ∷ [])) t (slice_index lengths) left (λ q low. low_lengths q low ∙ sym (permanent q low)) none
+    (grown_kept w.kept rows row t h.of_kept refl (λ m. refl) live (λ q. grows q (s.new k q) refl)))
     none
+  where
+    grows : (q : ℕ) (o : Option ℕ) → (past rows).new k q ≡ o → (past rows).permanent q ≤ (after (past rows) (event.Decided p k true)).permanent q
+    grows q None e =
+        let same : (after (past rows) (event.Decided p k true)).permanent q ≡ (past rows).permanent q = ap (λ (o : Option ℕ). unwrap_or o ((past rows).permanent q)) e in
+        omega (arith, same)
+    grows q (Some n) e =
+        let same : (after (past rows) (event.Decided p k true)).permanent q ≡ n = ap (λ (o : Option ℕ). unwrap_or o ((past rows).permanent q)) e in
+        let bounds = (positions rows h.legal).within q k n (may_decide (past rows) p k true unbroken).undecided e in
+        omega (arith, same, bounds.0)
 
 take_none : (n : ℕ) (l : List Deed) → l ≡ [] → take n l ≡ []
 take_none zero l e = ap (take 0) e
@@ -163,7 +164,7 @@ cut_same v permanent live q none = elim (cases_lt q 64) [
 
 pub rollback_row : (w : TrailParts) (rows : List Event) (p k : ℕ) (commit : Bool) (is : List Instance) (x : Instance) (ws : List Walker) (es : List (ℕ × Trace)) → PartsOf w rows → broken_rule (past rows) (event.Decided p k commit) ≡ None → commit ≡ true
     → ((v : Instance) → at_number w.instances k ≡ Some v → IsDecided w.instances is k commit v) → ((v : Instance) → at_number w.instances k ≡ Some v → Some x ≡ Some (record v { verdict = Some commit })) → x.kind ≡ Rollback
-    → ((s : Past) (between : ℕ → Option (ℕ × ℕ)) → ShowsWalkers w.walkers s → ShowsKept w.kept between s → AreInPlace between s.permanent s.live → ShowsWalkers ws (with_live s (undone_below 64 x s.permanent s.live)) × ShowsKept es between (with_live s (undone_below 64 x s.permanent s.live)))
+    → ((s : Past) (between : ℕ → Option (ℕ × ℕ)) → ShowsWalkers w.walkers s → HasKept w.kept between s → AreInPlace between s.permanent s.live → ShowsWalkers ws (with_live s (undone_below 64 x s.permanent s.live)) × HasKept es between (with_live s (undone_below 64 x s.permanent s.live)))
     → PartsOf (record { rows = w.rows + 1; walkers = ws; instances = is; beginning = None; kept = es }) (rows ++ event.Decided p k commit ∷ [])
 rollback_row w rows p k false is x ws es h unbroken commits decided same of_kind undoes = absurd (cc)
 rollback_row w rows p k true is x ws es h unbroken commits decided same of_kind undoes =
@@ -191,8 +192,12 @@ rollback_row w rows p k true is x ws es h unbroken commits decided same of_kind 
     }))
     (decided_instances w.instances is s p k true v h.of_instances (decided v there.1)) refl
     (record {
-      each = λ m. done.1.each m ∙ (ap (kept_between (with_live s f) m) (sym (parties_quiet rows row m refl))
-          ∙ sym (same_kept (with_live s f) t m (parties_in (rows ++ row ∷ []) m) refl (λ a b e. ap (place_of (deed.Sent m b)) (live a)) (λ a b e. ap (place_of (deed.Received m a)) (live b)) permanent));
+      settled = done.1.settled;
+      earlier = λ q. omega (arith, done.1.earlier q, permanent q);
+      shown = record {
+        each = λ m. done.1.shown.each m ∙ (ap (kept_between (with_permanent (with_live s f) done.1.settled) m) (sym (parties_quiet rows row m refl))
+            ∙ sym (same_kept (with_permanent (with_live s f) done.1.settled) (with_permanent t done.1.settled) m (parties_in (rows ++ row ∷ []) m) refl (λ a b e. ap (place_of (deed.Sent m b)) (live a)) (λ a b e. ap (place_of (deed.Received m a)) (live b)) (λ q. refl)));
+      };
     })
     (λ q g. if_none (s.ready k q) q (h.no_more q g))
   where

@@ -14,13 +14,13 @@ use Rattle.kt_cuts.specs.Past.{Past, start, past, after}
 use Rattle.kt_cuts.specs.Legal.{IsLegal, broken_rule, first_broken, has_deed, is_latest}
 use Rattle.kt_cuts.specs.Lists.{received_in, last_of}
 use Rattle.kt_cuts.specs.Standing.{ShowsInstances, at_number, verdict_shown, new_shown, ready_shown, beginning_of_row, parties_of_row}
-use Rattle.kt_walk.specs.Stages.{AreInPlace}
+use Rattle.kt_walk.specs.Stages.{with_permanent, AreInPlace}
 use Rattle.kt_cuts.specs.Tests.{is_after}
 use Rattle.kt_cuts.specs.Traces.{place_of}
-use Rattle.kt_walk.specs.Keeping.{kept_between, parties_in}
+use Rattle.kt_walk.specs.Keeping.{kept_at, kept_trace, kept_between, parties_in, uncovered}
 use Rattle.kt_walk.specs.TrailParts.{TrailParts}
-use Rattle.kt_walk.specs.PartsOf.{ShowsWalker, ShowsWalkers, ShowsKept, PartsOf}
-use Rattle.kt_cuts.proofs.Items.{get_left, get_seam}
+use Rattle.kt_walk.specs.PartsOf.{ShowsWalker, ShowsWalkers, HasKept, PartsOf}
+use Rattle.kt_cuts.proofs.Items.{get_left, get_seam, item_there}
 use Rattle.kt_cuts.proofs.Lists.{deed_place}
 use Rattle.kt_cuts.proofs.SortedFacts.{some_same}
 use Rattle.kt_cuts.proofs.LatestFacts.{later_is_after}
@@ -30,6 +30,7 @@ use Rattle.kt_cuts.proofs.LegalLogs.{past_push, legal_push, first_broken_at}
 use Rattle.kt_cuts.proofs.Places.{rowed, sent_places, received_places, deed_once}
 use Rattle.kt_cuts.proofs.Positions.{positions}
 use Rattle.kt_walk.proofs.KeptFacts.{same_kept}
+use Rattle.kt_walk.proofs.SettledFacts.{uncovered_kept}
 use Rattle.kt_walk.proofs.Orderly.{orderly}
 
 -- who sent a message, with one more row
@@ -73,7 +74,7 @@ sent_parties rows p f m l e =
 -- a walk after one more row
 pub next_walk : (w : TrailParts) (rows : List Event) (row : Event) (number : ℕ) (ws : List Walker) (is : List Instance) (b : Option (ℕ × ℕ)) (es : List (ℕ × Trace)) → PartsOf w rows → broken_rule (past rows) row ≡ None
     → number ≡ w.rows + 1 → ShowsWalkers ws (after (past rows) row) → ShowsInstances is (after (past rows) row) → b ≡ beginning_of_row (Some row)
-    → ShowsKept es (parties_in (rows ++ row ∷ [])) (after (past rows) row) → ((q : ℕ) → 64 ≤ q → (after (past rows) row).live q ≡ [])
+    → HasKept es (parties_in (rows ++ row ∷ [])) (after (past rows) row) → ((q : ℕ) → 64 ≤ q → (after (past rows) row).live q ≡ [])
     → PartsOf (record { rows = number; walkers = ws; instances = is; beginning = b; kept = es }) (rows ++ row ∷ [])
 next_walk w rows row number ws is b es h unbroken count walkers instances begins keeps none = record {
   legal = legal_push rows row h.legal unbroken;
@@ -82,16 +83,32 @@ next_walk w rows row number ws is b es h unbroken count walkers instances begins
   no_more = λ q g. ap (λ (s : Past). s.live q) (past_push rows row) ∙ none q g;
   of_instances = subst (λ (s : Past). ShowsInstances is s) (sym (past_push rows row)) instances;
   of_beginning = begins ∙ ap (λ (s : Past). beginning_of_row s.last) (sym (past_push rows row));
-  of_kept = subst (λ (s : Past). ShowsKept es (parties_in (rows ++ row ∷ [])) s) (sym (past_push rows row)) keeps;
+  of_kept = subst (λ (s : Past). HasKept es (parties_in (rows ++ row ∷ [])) s) (sym (past_push rows row)) keeps;
 }
 
--- a row that sends nothing and leaves histories, permanent positions and drops as they are keeps the same messages
-pub quiet_kept : (es : List (ℕ × Trace)) (rows : List Event) (row : Event) (t : Past) → ShowsKept es (parties_in rows) (past rows) → parties_of_row row ≡ None
-    → ((m : ℕ) → t.dropped m ≡ (past rows).dropped m) → ((p : ℕ) → t.live p ≡ (past rows).live p) → ((p : ℕ) → t.permanent p ≡ (past rows).permanent p) → ShowsKept es (parties_in (rows ++ row ∷ [])) t
-quiet_kept es rows row t h quiet dropped live permanent = record {
-  each = λ m. h.each m ∙ (ap (kept_between (past rows) m) (sym (parties_quiet rows row m quiet))
-      ∙ sym (same_kept (past rows) t m (parties_in (rows ++ row ∷ []) m) (dropped m) (λ p q e. ap (place_of (deed.Sent m q)) (live p)) (λ p q e. ap (place_of (deed.Received m p)) (live q)) permanent));
+-- a row that sends nothing and leaves histories and drops as they are, and permanent positions or moves them on, keeps the
+-- same messages
+pub grown_kept : (es : List (ℕ × Trace)) (rows : List Event) (row : Event) (t : Past) → HasKept es (parties_in rows) (past rows) → parties_of_row row ≡ None
+    → ((m : ℕ) → t.dropped m ≡ (past rows).dropped m) → ((p : ℕ) → t.live p ≡ (past rows).live p) → ((p : ℕ) → (past rows).permanent p ≤ t.permanent p) → HasKept es (parties_in (rows ++ row ∷ [])) t
+grown_kept es rows row t h quiet dropped live permanent = record {
+  settled = h.settled;
+  earlier = λ p. omega (arith, h.earlier p, permanent p);
+  shown = record {
+    each = λ m. h.shown.each m ∙ (ap (kept_between (with_permanent (past rows) h.settled) m) (sym (parties_quiet rows row m quiet))
+        ∙ sym (same_kept (with_permanent (past rows) h.settled) (with_permanent t h.settled) m (parties_in (rows ++ row ∷ []) m) (dropped m) (λ p q e. ap (place_of (deed.Sent m q)) (live p)) (λ p q e. ap (place_of (deed.Received m p)) (live q)) (λ p. refl)));
+  };
 }
+
+-- the same where it leaves permanent positions as they are
+pub quiet_kept : (es : List (ℕ × Trace)) (rows : List Event) (row : Event) (t : Past) → HasKept es (parties_in rows) (past rows) → parties_of_row row ≡ None
+    → ((m : ℕ) → t.dropped m ≡ (past rows).dropped m) → ((p : ℕ) → t.live p ≡ (past rows).live p) → ((p : ℕ) → t.permanent p ≡ (past rows).permanent p) → HasKept es (parties_in (rows ++ row ∷ [])) t
+quiet_kept es rows row t h quiet dropped live permanent = grown_kept es rows row t h quiet dropped live (λ p. omega (arith, permanent p))
+
+-- what is kept of a message, once those are taken out that permanent parts have
+pub kept_now : (w : TrailParts) (rows : List Event) (f : ℕ → ℕ) → PartsOf w rows → ((q : ℕ) (v : Walker) → slice_get w.walkers q ≡ Some v → f q ≡ v.permanent) → (m : ℕ) → uncovered f (kept_at w.kept m) ≡ kept_trace rows m
+kept_now w rows f h same =
+    uncovered_kept w.kept (parties_in rows) (past rows) f h.of_kept
+    (λ q low. let there = item_there w.walkers q (omega (arith, low, h.of_walkers.all)) in same q there.0 there.1 ∙ (h.of_walkers.each q there.0 there.1).permanent) h.no_more
 
 -- what is known of the order of a message
 pub latest_shown : (w : TrailParts) (v : Walker) (rows : List Event) (p f m : ℕ) (a b : Option ℕ) → PartsOf w rows → slice_get w.walkers p ≡ Some v → f < 64
@@ -125,7 +142,7 @@ walk_start ws h = record {
   no_more = λ p g. refl;
   of_instances = record { begun = refl; verdict = λ k. ap verdict_shown (nothing k); new = λ k p. ap (λ (o : Option Instance). new_shown o p) (nothing k); ready = λ k p. ap (λ (o : Option Instance). ready_shown o p) (nothing k); positions = λ k v e. absurd (cc (sym (nothing k) ∙ e)) };
   of_beginning = refl;
-  of_kept = record { each = λ m. sym (ap (kept_between start m) (unsaid m)) };
+  of_kept = record { settled = start.permanent; earlier = λ q. omega arith; shown = record { each = λ m. sym (ap (kept_between start m) (unsaid m)) } };
 }
   where
     nothing : (k : ℕ) → at_number (let l : List Instance = [] in l) k ≡ None

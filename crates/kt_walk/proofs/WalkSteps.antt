@@ -25,7 +25,8 @@ use Rattle.kt_cuts.specs.Standing.{at_number, rolled_back_shown}
 use Rattle.kt_walk.specs.Keeping.{kept_at, kept_between, parties_in, received_here}
 use Rattle.kt_cuts.specs.Traces.{place_of}
 use Rattle.kt_walk.specs.TrailParts.{TrailParts}
-use Rattle.kt_walk.specs.PartsOf.{ShowsWalker, PartsOf}
+use Rattle.kt_walk.specs.PartsOf.{ShowsWalker, ShowsKept, HasKept, PartsOf}
+use Rattle.kt_walk.specs.Stages.{with_permanent}
 use Rattle.kt_walk.specs.RecentSteps.{ShowsRecent, if_at, without_last, is_needed}
 use Rattle.kt_cuts.proofs.Items.{get_seam, get_set_same, get_set_other}
 use Rattle.kt_cuts.proofs.SortedFacts.{some_same, received_at, received_else, received_unsent}
@@ -53,6 +54,10 @@ not_so : (b : Bool) → (b ≡ true → ⊥) → b ≡ false
 not_so true f = absurd (f refl)
 not_so false f = refl
 
+-- what was kept with the same earlier permanent positions
+with_shown : {es fs : List (ℕ × Trace)} {between other : ℕ → Option (ℕ × ℕ)} {s : Past} (t : Past) (h : HasKept es between s) → ShowsKept fs other (with_permanent t h.settled) → ((q : ℕ) → s.permanent q ≡ t.permanent q) → HasKept fs other t
+with_shown t h shown same = record { settled = h.settled; earlier = λ q. omega (arith, h.earlier q, same q); shown = shown }
+
 -- a send
 pub sent_row : (w : TrailParts) (rows : List Event) (p to n : ℕ) (body : _) (v : Walker) (r : List Step) (es : List (ℕ × Trace)) → PartsOf w rows → broken_rule (past rows) (event.Sent p to body) ≡ None → p < 64 → slice_get w.walkers p ≡ Some v
     → n ≡ w.rows + 1 → r ≡ v.recent ++ record { msg = n; from = None; before = None; place = v.length + 1 } ∷ []
@@ -62,6 +67,8 @@ sent_row w rows p to n body v r es h unbroken low at number more changed =
     let s : Past = past rows in
     let row : Event = event.Sent p to body in
     let t : Past = after s row in
+    let was : Past = with_permanent s h.of_kept.settled in
+    let now : Past = with_permanent t h.of_kept.settled in
     let count : n ≡ s.rows + 1 = omega (arith, number, h.number, rows_length rows) in
     let d : Deed = deed.Sent n to in
     let live : (q : ℕ) → t.live q ≡ at_one p (s.live p ++ d ∷ []) s.live q = λ q. ap (λ (x : ℕ). at_one p (s.live p ++ deed.Sent x to ∷ []) s.live q) (sym count) in
@@ -97,20 +104,20 @@ sent_row w rows p to n body v r es h unbroken low at number more changed =
       dropped = x.dropped;
     }))
     (same_instances w.instances s t h.of_instances refl refl refl refl) refl
-    (record {
+    (with_shown t h.of_kept (record {
       each = λ m. elim (cases_eq m n) [
         | inl same ↦
             changed m ∙ (ap (at_one n (Some (record { from = p; to = to; sent = Some (v.length + 1); received = None })) (kept_at w.kept)) same ∙ (at_same n (Some (record { from = p; to = to; sent = Some (v.length + 1); received = None })) (kept_at w.kept)
-            ∙ (sym (kept_waiting t n p to (v.length + 1) undropped place nowhere)
-            ∙ (ap (kept_between t n) (sym (parties_new rows row n (omega (arith, number, h.number)))) ∙ ap (λ (x : ℕ). kept_between t x (parties_in (rows ++ row ∷ []) x)) (sym same)))))
+            ∙ (sym (kept_waiting now n p to (v.length + 1) undropped place nowhere)
+            ∙ (ap (kept_between now n) (sym (parties_new rows row n (omega (arith, number, h.number)))) ∙ ap (λ (x : ℕ). kept_between now x (parties_in (rows ++ row ∷ []) x)) (sym same)))))
         | inr other ↦
-            changed m ∙ (at_other n m (Some (record { from = p; to = to; sent = Some (v.length + 1); received = None })) (kept_at w.kept) other ∙ (h.of_kept.each m
-            ∙ (ap (kept_between s m) (sym (parties_old rows row m (λ e. other (omega (arith, e, number, h.number)))))
-            ∙ sym (same_kept s t m (parties_in (rows ++ row ∷ []) m) refl
+            changed m ∙ (at_other n m (Some (record { from = p; to = to; sent = Some (v.length + 1); received = None })) (kept_at w.kept) other ∙ (h.of_kept.shown.each m
+            ∙ (ap (kept_between was m) (sym (parties_old rows row m (λ e. other (omega (arith, e, number, h.number)))))
+            ∙ sym (same_kept was now m (parties_in (rows ++ row ∷ []) m) refl
             (λ a b e. ap (place_of (deed.Sent m b)) (live a) ∙ push_place s.live p a (deed.Sent m b) d (other_sent m b n to other))
             (λ a b e. ap (place_of (deed.Received m a)) (live b) ∙ push_place s.live p b (deed.Received m a) d refl) (λ q. refl)))))
       ];
-    }) (λ q x. live q ∙ (at_other p q (s.live p ++ d ∷ []) s.live (λ e. absurd (omega (arith, x, low, e))) ∙ h.no_more q x))
+    }) (λ q. refl)) (λ q x. live q ∙ (at_other p q (s.live p ++ d ∷ []) s.live (λ e. absurd (omega (arith, x, low, e))) ∙ h.no_more q x))
 
 -- a receive
 pub received_row : (w : TrailParts) (rows : List Event) (p f m : ℕ) (v : Walker) (b : Option ℕ) (r : List Step) (es : List (ℕ × Trace)) → PartsOf w rows → broken_rule (past rows) (event.Received p f m) ≡ None → p < 64 → f < 64 → slice_get w.walkers p ≡ Some v
@@ -121,6 +128,8 @@ received_row w rows p f m v b r es h unbroken low low_f at last more changed =
     let s : Past = past rows in
     let row : Event = event.Received p f m in
     let t : Past = after s row in
+    let earlier : Past = with_permanent s h.of_kept.settled in
+    let later : Past = with_permanent t h.of_kept.settled in
     let d : Deed = deed.Received m f in
     let here : t.live p ≡ s.live p ++ d ∷ [] = at_same p (s.live p ++ d ∷ []) s.live in
     let g = h.of_walkers.each p v at in
@@ -134,9 +143,9 @@ received_row w rows p f m v b r es h unbroken low low_f at last more changed =
     let sent_there : place_of (deed.Sent m p) (s.live f) ≡ Some (sent.0 + 1) = place_at (deed.Sent m p) (s.live f) sent.0 sent.1 (λ j e. (sound rows h.legal).once f j sent.0 (deed.Sent m p) e sent.1) in
     let parties : parties_in rows m ≡ Some (f, p) = sent_parties rows p f m h.legal second.0 in
     let before : b ≡ last_of (received_in f (s.live p)) = some_same (sym last ∙ g.received f low_f) in
-    let was : kept_between s m (Some (f, p)) ≡ Some (record { from = f; to = p; sent = Some (sent.0 + 1); received = None }) = kept_waiting s m f p (sent.0 + 1) undropped sent_there (place_none d (s.live p) (absent d (s.live p) unreceived)) in
-    let now : kept_between t m (Some (f, p)) ≡ Some (record { from = f; to = p; sent = Some (sent.0 + 1); received = Some (length (s.live p) + 1) }) =
-    kept_received t m f p (sent.0 + 1) (length (s.live p)) undropped (push_place s.live p f (deed.Sent m p) d refl ∙ sent_there) (ap (place_of d) here ∙ place_last d (s.live p) unreceived) within in
+    let was : kept_between earlier m (Some (f, p)) ≡ Some (record { from = f; to = p; sent = Some (sent.0 + 1); received = None }) = kept_waiting earlier m f p (sent.0 + 1) undropped sent_there (place_none d (s.live p) (absent d (s.live p) unreceived)) in
+    let now : kept_between later m (Some (f, p)) ≡ Some (record { from = f; to = p; sent = Some (sent.0 + 1); received = Some (length (s.live p) + 1) }) =
+    kept_received later m f p (sent.0 + 1) (length (s.live p)) undropped (push_place s.live p f (deed.Sent m p) d refl ∙ sent_there) (ap (place_of d) here ∙ place_last d (s.live p) unreceived) (omega (arith, within, h.of_kept.earlier p)) in
     next_walk w rows row (w.rows + 1) _ _ _ es h unbroken refl
     (walkers_set w.walkers s t p (record v { recent = r; length = v.length + 1; last_received = set v.last_received f (Some m) }) h.of_walkers low (record {
       length = omega (arith, g.length, ap length here, length-append (s.live p) (d ∷ []));
@@ -166,21 +175,21 @@ received_row w rows p f m v b r es h unbroken low low_f at last more changed =
       dropped = x.dropped;
     }))
     (same_instances w.instances s t h.of_instances refl refl refl refl) refl
-    (record {
+    (with_shown t h.of_kept (record {
       each = λ x. elim (cases_eq x m) [
         | inl same ↦
             changed x ∙ (ap (at_one m (received_here (v.length + 1) (kept_at w.kept m)) (kept_at w.kept)) same ∙ (at_same m (received_here (v.length + 1) (kept_at w.kept m)) (kept_at w.kept)
-            ∙ (ap (received_here (v.length + 1)) (h.of_kept.each m ∙ (ap (kept_between s m) parties ∙ was))
+            ∙ (ap (received_here (v.length + 1)) (h.of_kept.shown.each m ∙ (ap (kept_between earlier m) parties ∙ was))
             ∙ (ap (λ (k : ℕ). Some (record { from = f; to = p; sent = Some (sent.0 + 1); received = Some (k + 1) })) g.length ∙ (sym now
-            ∙ (ap (kept_between t m) (sym (parties_quiet rows row m refl ∙ parties)) ∙ ap (λ (y : ℕ). kept_between t y (parties_in (rows ++ row ∷ []) y)) (sym same)))))))
+            ∙ (ap (kept_between later m) (sym (parties_quiet rows row m refl ∙ parties)) ∙ ap (λ (y : ℕ). kept_between later y (parties_in (rows ++ row ∷ []) y)) (sym same)))))))
         | inr other ↦
-            changed x ∙ (at_other m x (received_here (v.length + 1) (kept_at w.kept m)) (kept_at w.kept) other ∙ (h.of_kept.each x
-            ∙ (ap (kept_between s x) (sym (parties_quiet rows row x refl))
-            ∙ sym (same_kept s t x (parties_in (rows ++ row ∷ []) x) refl
+            changed x ∙ (at_other m x (received_here (v.length + 1) (kept_at w.kept m)) (kept_at w.kept) other ∙ (h.of_kept.shown.each x
+            ∙ (ap (kept_between earlier x) (sym (parties_quiet rows row x refl))
+            ∙ sym (same_kept earlier later x (parties_in (rows ++ row ∷ []) x) refl
             (λ a c e. push_place s.live p a (deed.Sent x c) d refl)
             (λ a c e. push_place s.live p c (deed.Received x a) d (other_received x a m f other)) (λ q. refl)))))
       ];
-    }) (λ q x. at_other p q (s.live p ++ d ∷ []) s.live (λ e. absurd (omega (arith, x, low, e))) ∙ h.no_more q x)
+    }) (λ q. refl)) (λ q x. at_other p q (s.live p ++ d ∷ []) s.live (λ e. absurd (omega (arith, x, low, e))) ∙ h.no_more q x)
   where
     not_not : (y : Bool) → not y ≡ true → y ≡ false
     not_not true e = absurd (cc)
@@ -194,6 +203,8 @@ dropped_row w rows p f m v es h unbroken low low_f at changed =
     let s : Past = past rows in
     let row : Event = event.Dropped p f m in
     let t : Past = after s row in
+    let earlier : Past = with_permanent s h.of_kept.settled in
+    let later : Past = with_permanent t h.of_kept.settled in
     let d : Deed = deed.Received m f in
     let here : t.dropped_since p ≡ s.dropped_since p ++ d ∷ [] = at_same p (s.dropped_since p ++ d ∷ []) s.dropped_since in
     let g = h.of_walkers.each p v at in
@@ -228,16 +239,16 @@ dropped_row w rows p f m v es h unbroken low low_f at changed =
       dropped = λ y l. x.dropped y l ∙ ap (λ (z : List Deed). Some (last_of (received_in y z))) (sym (at_other p q (s.dropped_since p ++ d ∷ []) s.dropped_since o));
     }))
     (same_instances w.instances s t h.of_instances refl refl refl refl) refl
-    (record {
+    (with_shown t h.of_kept (record {
       each = λ x. elim (cases_eq x m) [
         | inl same ↦
-            changed x ∙ (ap (at_one m None (kept_at w.kept)) same ∙ (at_same m None (kept_at w.kept) ∙ sym (kept_dropped t x (parties_in (rows ++ row ∷ []) x) (ap (at_one m true s.dropped) same ∙ at_same m true s.dropped))))
+            changed x ∙ (ap (at_one m None (kept_at w.kept)) same ∙ (at_same m None (kept_at w.kept) ∙ sym (kept_dropped later x (parties_in (rows ++ row ∷ []) x) (ap (at_one m true s.dropped) same ∙ at_same m true s.dropped))))
         | inr other ↦
-            changed x ∙ (at_other m x None (kept_at w.kept) other ∙ (h.of_kept.each x
-            ∙ (ap (kept_between s x) (sym (parties_quiet rows row x refl))
-            ∙ sym (same_kept s t x (parties_in (rows ++ row ∷ []) x) (at_other m x true s.dropped other) (λ a c e. refl) (λ a c e. refl) (λ q. refl)))))
+            changed x ∙ (at_other m x None (kept_at w.kept) other ∙ (h.of_kept.shown.each x
+            ∙ (ap (kept_between earlier x) (sym (parties_quiet rows row x refl))
+            ∙ sym (same_kept earlier later x (parties_in (rows ++ row ∷ []) x) (at_other m x true s.dropped other) (λ a c e. refl) (λ a c e. refl) (λ q. refl)))))
       ];
-    }) h.no_more
+    }) (λ q. refl)) h.no_more
 
 -- the sends of a process that are not kept are forgotten
 pub thinned_walk : (w : TrailParts) (rows : List Event) (p : ℕ) (v u : Walker) → PartsOf w rows → p < 64 → slice_get w.walkers p ≡ Some v

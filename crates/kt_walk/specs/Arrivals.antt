@@ -1,5 +1,5 @@
 -- What is kept of the messages that stand in live histories as received.
-use Rattle.std.specs.Prelude.{◌≡◌, ◌⊎◌, ℕ, ◌+◌, ◌*◌, ◌<◌, ◌≤◌, ◌==◌, ◌&&◌, not, Bool, true, false, None, Some, Option, List, [], length, take, slice_get, slice_index, unwrap_or, if◌then◌else◌}
+use Rattle.std.specs.Prelude.{◌≡◌, ℕ, ◌+◌, ◌*◌, ◌<◌, ◌≤◌, ◌==◌, ◌&&◌, not, Bool, true, false, None, Some, Option, List, [], length, take, slice_get, slice_index, unwrap_or, if◌then◌else◌}
 use Rattle.kt_base.specs.Sets.{has}
 use Rattle.kt_spacetime.specs.declared.event.Event.{Event}
 use Rattle.kt_spacetime.specs.declared.event.Event.TheVariants.{Received, Decided}
@@ -7,11 +7,9 @@ use Rattle.kt_cuts.specs.declared.deeds.Deed.{Deed}
 use Rattle.kt_cuts.specs.declared.deeds.Deed.TheVariants as deed
 use Rattle.kt_walk.specs.declared.queue.Arrival.{Arrival}
 use Rattle.kt_walk.specs.declared.channel.Undone.{Undone}
-use Rattle.kt_cuts.specs.declared.histories.Trace.{Trace}
 use Rattle.kt_cuts.specs.Past.{Past}
 use Rattle.kt_cuts.specs.Legal.{has_deed}
 use Rattle.kt_cuts.specs.Lists.{Rises, sent_in}
-use Rattle.kt_walk.specs.Keeping.{kept_at}
 
 -- what is kept of the messages from one process to another: those whose send is live, and those whose send was undone
 pub record Traffic : Type 0 where
@@ -153,24 +151,6 @@ pub record IsCovered (lengths : List ℕ) (v : Traffic) (a : Arrival) : Type 0 w
 -- no arrival lies within both parts, of these lengths by process
 pub record IsOpen (lengths : List ℕ) (v : Traffic) : Type 0 where
   pub none : (k : ℕ) (a : Arrival) → slice_get v.arrivals k ≡ Some a → IsCovered lengths v a → ⊥
-
--- a message is that of an arrival that lies within both parts, of these lengths by process
-abbrev pub HasCovered : List ℕ → Traffic → ℕ → Type 0
-HasCovered lengths v m = (k : ℕ) × (a : Arrival) × (slice_get v.arrivals k ≡ Some a) × (a.msg ≡ m) × IsCovered lengths v a
-
--- the messages of the arrivals that lie within both parts are kept no more, and no other changes
-pub record IsReleased (lengths : List ℕ) (v : Traffic) (old new : List (ℕ × Trace)) : Type 0 where
-  pub gone : (m : ℕ) → HasCovered lengths v m → kept_at new m ≡ None
-  pub others : (m : ℕ) → (kept_at new m ≡ kept_at old m) ⊎ (HasCovered lengths v m × (kept_at new m ≡ None))
-
--- the arrivals of each pair of processes rise
-abbrev pub AreRising : List Traffic → Type 0
-AreRising channels = (i : ℕ) (v : Traffic) → slice_get channels i ≡ Some v → IsRising v.arrivals
-
--- the same of the arrivals of each pair of processes
-pub record AreReleased (lengths : List ℕ) (channels : List Traffic) (old new : List (ℕ × Trace)) : Type 0 where
-  pub gone : (i : ℕ) (v : Traffic) (m : ℕ) → slice_get channels i ≡ Some v → HasCovered lengths v m → kept_at new m ≡ None
-  pub others : (m : ℕ) → (kept_at new m ≡ kept_at old m) ⊎ ((i : ℕ) × (v : Traffic) × (slice_get channels i ≡ Some v) × HasCovered lengths v m × (kept_at new m ≡ None))
 
 -- traffic whose permanent parts grow to these lengths
 pub record IsSettled (lengths : List ℕ) (old new : Traffic) : Type 0 where

@@ -61,6 +61,14 @@ pub record IsNumbered (entries : List (ℕ × Trace)) : Type 0 where
 abbrev pub is_covered : (ℕ → ℕ) → Trace → Bool
 is_covered permanent t = is_within t.sent (permanent t.from) && is_within t.received (permanent t.to)
 
+-- whether not both rows of a message lie within these positions
+abbrev pub is_open : (ℕ → ℕ) → ℕ × Trace → Bool
+is_open permanent e = not (is_covered permanent e.1)
+
+-- whether a message is there, and not both its rows lie within these positions
+abbrev pub is_left : (ℕ → ℕ) → ℕ × Trace → Bool
+is_left permanent e = is_there e && is_open permanent e
+
 -- whether a message is kept: it was not dropped, it is live or in its receiver's live history, and its rows do not both
 -- lie within the permanent positions
 abbrev pub is_kept : Past → ℕ → Trace → Bool

@@ -10,6 +10,7 @@ use Rattle.kt_cuts.specs.Lists.{last_of, received_in}
 use Rattle.kt_cuts.specs.Standing.{ShowsInstances, beginning_of_row}
 use Rattle.kt_walk.specs.Keeping.{kept_at, kept_between, parties_in}
 use Rattle.kt_walk.specs.RecentSteps.{ShowsRecent}
+use Rattle.kt_walk.specs.Stages.{with_permanent}
 use Rattle.kt_walk.specs.TrailParts.{TrailParts}
 
 -- a process's tables are what is known of it
@@ -30,6 +31,13 @@ pub record ShowsWalkers (walkers : List Walker) (s : Past) : Type 0 where
 pub record ShowsKept (traces : List (ℕ × Trace)) (between : ℕ → Option (ℕ × ℕ)) (s : Past) : Type 0 where
   pub each : (msg : ℕ) → kept_at traces msg ≡ kept_between s msg (between msg)
 
+-- the same, where those that the permanent parts came to have may still be there: they are what was kept with earlier
+-- permanent positions
+pub record HasKept (traces : List (ℕ × Trace)) (between : ℕ → Option (ℕ × ℕ)) (s : Past) : Type 0 where
+  pub settled : ℕ → ℕ
+  pub earlier : (q : ℕ) → settled q ≤ s.permanent q
+  pub shown : ShowsKept traces between (with_permanent s settled)
+
 -- what a walk knows after the rows of a legal log
 pub record PartsOf (w : TrailParts) (rows : List Event) : Type 0 where
   pub legal : IsLegal rows
@@ -38,7 +46,7 @@ pub record PartsOf (w : TrailParts) (rows : List Event) : Type 0 where
   pub no_more : (p : ℕ) → 64 ≤ p → (past rows).live p ≡ []
   pub of_instances : ShowsInstances w.instances (past rows)
   pub of_beginning : w.beginning ≡ beginning_of_row (past rows).last
-  pub of_kept : ShowsKept w.kept (parties_in rows) (past rows)
+  pub of_kept : HasKept w.kept (parties_in rows) (past rows)
 
 -- whether a row needs no room
 abbrev pub is_in_room : Event → Bool

@@ -4,7 +4,7 @@ use Rattle.kt_spacetime.specs.declared.event.Event.{Event}
 use Rattle.kt_walk.specs.declared.trail.Trail.{Trail}
 use Rattle.kt_cuts.specs.Past.{Past}
 use Rattle.kt_walk.specs.TrailParts.{TrailParts}
-use Rattle.kt_walk.specs.PartsOf.{PartsOf, ShowsWalkers, ShowsKept}
+use Rattle.kt_walk.specs.PartsOf.{PartsOf, ShowsWalkers, HasKept}
 
 -- the parts of a trail
 abbrev pub parts_of : Trail → TrailParts
@@ -16,7 +16,7 @@ TrailOf t rows = PartsOf (parts_of t) rows
 -- processes and messages are shown, of a past between two rows
 pub record ShowsTrail (t : Trail) (between : ℕ → Option (ℕ × ℕ)) (s : Past) : Type 0 where
   pub of_walkers : ShowsWalkers t.walkers.items s
-  pub of_kept : ShowsKept t.kept between s
+  pub of_kept : HasKept t.kept between s
 
 -- what stays where processes and messages change
 pub record KeepsInstances (t u : Trail) : Type 0 where

@@ -6,10 +6,9 @@ ghost use Rattle.kt_cuts.specs.declared.deeds.Deed.TheVariants as deed;
 ghost use Rattle.kt_cuts.specs.Past.{Past, start, after};
 ghost use Rattle.kt_cuts.specs.Orphans.{IsOrphanBetween, IsAtMost};
 ghost use Rattle.kt_cuts.specs.Standing.{IsInOrder, IsAllowed};
-ghost use Rattle.kt_walk.specs.Arrivals.{Traffic, AreOpened, AreListed, AreInUse, is_in_use, IsCutBack, IsSettled, IsOpen, AreRising, AreReleased, ShowsTraffic, ShowsArrivals, RollsBack, MakesPermanent, KeepsPermanent};
+ghost use Rattle.kt_walk.specs.Arrivals.{Traffic, AreOpened, AreListed, AreInUse, is_in_use, IsCutBack, IsSettled, IsOpen, ShowsTraffic, ShowsArrivals, RollsBack, MakesPermanent, KeepsPermanent};
 
 use crate::channel::Channel;
-use crate::kept::Kept;
 use crate::queue::Arrival;
 use kt_base::{Memory, MsgNo, ProcNo, ProcSet};
 use kt_cuts::Cut;
@@ -81,13 +80,12 @@ impl Arrivals {
         drop_empty(&mut self.used, &self.channels);
     }
 
-    /// A committed checkpoint leaves these permanent lengths. Messages that both permanent parts have are kept no more.
-    pub(crate) fn settle(&mut self, permanent: &[usize; 64], kept: &mut Kept)
+    /// A committed checkpoint leaves these permanent lengths. Messages that both permanent parts have are forgotten.
+    pub(crate) fn settle(&mut self, permanent: &[usize; 64])
         ensures shows { (s : Past) (p k : ℕ) → ShowsArrivals self.old s → MakesPermanent s k permanent.now → ShowsArrivals self.new (after s (event.Decided p k true)) }
         ensures none { (s : Past) (i : ℕ) (v : Traffic) → ShowsArrivals self.old s → slice_get self.new i ≡ Some v → IsOpen permanent.now v }
-        ensures kept { (s : Past) → ShowsArrivals self.old s → AreReleased permanent.now self.old kept.old kept.new }
     {
-        settle_all(&mut self.channels, &self.used, permanent, kept);
+        settle_all(&mut self.channels, &self.used, permanent);
         drop_empty(&mut self.used, &self.channels);
     }
 
@@ -133,15 +131,14 @@ fn cut_all_back(channels: &mut [Channel], used: &[usize], members: ProcSet, leng
 }
 
 // Makes these lengths permanent in each channel that has messages.
-fn settle_all(channels: &mut [Channel], used: &[usize], permanent: &[usize; 64], kept: &mut Kept)
+fn settle_all(channels: &mut [Channel], used: &[usize], permanent: &[usize; 64])
     requires { AreListed channels.old used.now }
     ensures count { length channels.new ≡ length channels.old }
     ensures each { (i : ℕ) (w : Traffic) → slice_get channels.new i ≡ Some w → (v : Traffic) × (slice_get channels.old i ≡ Some v) × IsSettled permanent.now v w }
-    ensures kept { AreRising channels.old → AreReleased permanent.now channels.old kept.old kept.new }
     ensures listed { AreListed channels.new used.now }
 {
     for place in used {
-        channels[*place].release(permanent, kept);
+        channels[*place].release(permanent);
     }
 }
 

@@ -9,10 +9,8 @@ ghost use Rattle.kt_cuts.specs.Past.{Past};
 ghost use Rattle.kt_cuts.specs.Lists.{Rises, sent_in};
 ghost use Rattle.kt_cuts.specs.Orphans.{IsOrphanBetween, IsAtMost};
 ghost use Rattle.kt_cuts.specs.Standing.{IsInOrder};
-ghost use Rattle.kt_walk.specs.Arrivals.{IsRising, Parts, sent_at, received_at, undo, IsTraffic, ShowsTraffic, IsOpen, IsReleased, is_empty, cut_back};
-ghost use Rattle.kt_walk.specs.Keeping.{kept_at};
+ghost use Rattle.kt_walk.specs.Arrivals.{IsRising, Parts, sent_at, received_at, undo, IsTraffic, ShowsTraffic, IsOpen, is_empty, cut_back};
 
-use crate::kept::Kept;
 use crate::queue::{Arrival, Queue};
 use kt_base::{Memory, MsgNo, ProcNo, ProcSet};
 use kt_cuts::Cut;
@@ -136,20 +134,17 @@ impl Channel {
         keep_received_before(&mut self.undone, length);
     }
 
-    /// Forgets what both permanent parts have, of these lengths by process, here and among the messages kept.
-    pub(crate) fn release(&mut self, permanent: &[usize; 64], kept: &mut Kept)
+    /// Forgets what both permanent parts have, of these lengths by process.
+    pub(crate) fn release(&mut self, permanent: &[usize; 64])
         ensures receiver { self.new.receiver ≡ self.old.receiver }
         ensures sender { self.new.sender ≡ self.old.sender }
         ensures traffic { (received sent : List Deed) (i j : ℕ) → i ≤ slice_index permanent.now self.old.receiver → j ≤ slice_index permanent.now self.old.sender → IsTraffic self.old received sent i j → IsTraffic self.new received sent (slice_index permanent.now self.old.receiver) (slice_index permanent.now self.old.sender) }
         ensures none { IsRising self.old.arrivals → IsOpen permanent.now self.new }
-        ensures kept { IsRising self.old.arrivals → IsReleased permanent.now self.old kept.old kept.new }
     {
         let arrivals = self.arrivals.as_slice();
         let sent = count_sent_before(arrivals, permanent[self.sender.get() as usize]);
         let received = count_received_before(arrivals, permanent[self.receiver.get() as usize]);
-        let covered = sent.min(received);
-        remove_all(kept, &arrivals[..covered]);
-        self.arrivals.skip(covered);
+        self.arrivals.skip(sent.min(received));
     }
 
     /// The least message that is received within its receiver's part and not sent within its sender's.
@@ -188,16 +183,6 @@ fn count_received_before(arrivals: &[Arrival], place: usize) -> usize
             ensures { result ≡ nat_lt arrival.now.received place }
         { (arrival.received as usize) < place },
     )
-}
-
-// Takes the messages of these arrivals out.
-fn remove_all(kept: &mut Kept, arrivals: &[Arrival])
-    ensures gone { (k : ℕ) (a : Arrival) → slice_get arrivals.now k ≡ Some a → kept_at kept.new a.msg ≡ None }
-    ensures others { (m : ℕ) → (kept_at kept.new m ≡ kept_at kept.old m) ⊎ ((k : ℕ) × (a : Arrival) × (slice_get arrivals.now k ≡ Some a) × (a.msg ≡ m) × (kept_at kept.new m ≡ None)) }
-{
-    for arrival in arrivals {
-        kept.remove(arrival.msg);
-    }
 }
 
 // Adds arrivals to what was undone, where there is room.

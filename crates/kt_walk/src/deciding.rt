@@ -35,7 +35,8 @@ impl Trail {
             Kind::Checkpoint => {
                 self.settle_members(&instance);
                 let permanent = self.permanent_lengths();
-                arrivals.settle(&permanent, &mut self.kept);
+                arrivals.settle(&permanent);
+                self.kept.settle(&permanent);
                 self.pass();
             }
             Kind::Rollback => {

@@ -1,7 +1,8 @@
 //! A message that a walk keeps, with its places, in little room.
 
-ghost use Rattle.std.specs.Prelude.{◌≡◌, ◌<◌, Some, None, is_some};
-ghost use Rattle.kt_walk.specs.Keeping.{has_place, sent_index};
+ghost use Rattle.std.specs.Prelude.{◌≡◌, ◌<◌, Some, None, is_some, slice_index};
+ghost use Rattle.kt_cuts.specs.Orphans.{is_within};
+ghost use Rattle.kt_walk.specs.Keeping.{has_place, is_covered, sent_index};
 
 use kt_base::{MsgNo, ProcNo};
 use kt_cuts::Trace;
@@ -46,6 +47,13 @@ impl Place {
         ensures { result ≡ is_some self }
     {
         self.number > 0
+    }
+
+    /// Whether it lies within a part of this length.
+    pub(crate) fn is_within(self, length: usize) -> bool
+        ensures { result ≡ is_within self length }
+    {
+        self.number > 0 && self.number as usize <= length
     }
 
     /// The place counted from 0; 0 where there is none.
@@ -129,6 +137,15 @@ impl Entry {
         ensures { result ≡ has_place self.now.1 }
     {
         self.sent.is_some() || self.received.is_some()
+    }
+
+    /// Whether both its rows lie within the parts of these lengths, by process.
+    pub(crate) fn is_covered(&self, lengths: &[usize; 64]) -> bool
+        ensures { result ≡ is_covered (slice_index lengths.now) self.now.1 }
+    {
+        let sender = lengths[self.from.get() as usize];
+        let receiver = lengths[self.to.get() as usize];
+        self.sent.is_within(sender) && self.received.is_within(receiver)
     }
 
     /// The message's trace.

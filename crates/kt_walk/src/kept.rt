@@ -1,12 +1,13 @@
 //! The messages that a walk keeps.
 
-ghost use Rattle.std.specs.Prelude.{◌≡◌, ◌<◌, ◌==◌, ℕ, [], Some, None, true, length, OnOk, OnErr, if◌then◌else◌};
+ghost use Rattle.std.specs.Prelude.{◌≡◌, ◌⊎◌, ◌<◌, ◌==◌, ℕ, [], Some, None, true, length, filter, slice_index, OnOk, OnErr, if◌then◌else◌};
 ghost use Rattle.kt_cuts.specs.Past.{at_one};
-ghost use Rattle.kt_walk.specs.Keeping.{kept_at, has_place, trace_found, unsent, unreceived, received_here};
+ghost use Rattle.kt_walk.specs.Keeping.{kept_at, has_place, is_open, trace_found, uncovered, unsent, unreceived, received_here};
 
 use crate::entry::{Entry, Place};
 use crate::numbered::{
-    comes_last, count_below, give, one_further, place_from_end, place_of, replace, stands_at,
+    comes_last, count_below, count_open, give, keep_open, one_further, place_from_end, place_of,
+    replace, stands_at,
 };
 use kt_base::{Memory, MsgNo};
 use kt_cuts::Trace;
@@ -23,6 +24,8 @@ pub(crate) struct Kept {
     entries: Vec<Entry>,
     // How many of them are gone.
     gone: usize,
+    // How many were left after the last time that those were taken out which permanent parts have.
+    left: usize,
     // The place of the message that was taken out or undone last, and where the next one is, if it is as far from it as
     // the last one was from the one before.
     last: usize,
@@ -53,17 +56,31 @@ impl Kept {
         Kept {
             entries: Vec::new(alloc),
             gone: 0,
+            left: 0,
             last: 0,
             next: 0,
         }
     }
 
-    /// How many messages there are.
-    pub(crate) fn len(&self) -> usize
-        ensures len { result ≡ length self.now }
+    /// How many messages do not lie within the parts of these lengths, by process.
+    pub(crate) fn count_open(&self, lengths: &[usize; 64]) -> usize
+        ensures count { result ≡ length (filter (is_open (slice_index lengths.now)) self.now) }
         ensures unique { IsDistinct nat_eq (keys_of self.now) }
     {
-        self.entries.len() - self.gone
+        count_open(&self.entries, lengths)
+    }
+
+    /// Takes the messages out that lie within the parts of these lengths, by process, once there are twice as many as
+    /// there were after the last time.
+    pub(crate) fn settle(&mut self, lengths: &[usize; 64])
+        ensures { (self.new ≡ self.old) ⊎ ((m : ℕ) → kept_at self.new m ≡ uncovered (slice_index lengths.now) (kept_at self.old m)) }
+    {
+        if self.entries.len() / 2 < self.left {
+            return;
+        }
+        keep_open(&mut self.entries, lengths);
+        self.gone = 0;
+        self.left = self.entries.len();
     }
 
     /// A message's trace, if it is there.

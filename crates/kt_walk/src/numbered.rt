@@ -1,9 +1,9 @@
 //! Messages with their traces in a list that rises by their numbers. Those that are gone have no place.
 
-ghost use Rattle.std.specs.Prelude.{◌≡◌, ◌+◌, ◌-◌, ◌^◌, ◌≤◌, ◌<◌, ℕ, true, nat_lt, length, filter, vec_len, slice_get, Some, IfSome, IfNone};
+ghost use Rattle.std.specs.Prelude.{◌≡◌, ◌+◌, ◌-◌, ◌^◌, ◌≤◌, ◌<◌, ℕ, true, nat_lt, length, filter, vec_len, slice_get, slice_index, Some, IfSome, IfNone};
 ghost use Rattle.kt_cuts.specs.declared.histories.Trace.{Trace};
 ghost use Rattle.kt_cuts.specs.Past.{at_one};
-ghost use Rattle.kt_walk.specs.Keeping.{kept_at, has_place, is_there, is_gone, is_of, if_there, given, IsNumbered};
+ghost use Rattle.kt_walk.specs.Keeping.{kept_at, has_place, is_there, is_gone, is_open, is_left, is_of, if_there, given, IsNumbered};
 
 use crate::entry::{Entry, Place};
 use kt_base::MsgNo;
@@ -162,4 +162,35 @@ fn purge(entries: &mut Vec<Entry>, gone: &mut usize, count: usize)
         );
         *gone = 0;
     }
+}
+
+/// How many of the messages that are there do not lie within the parts of these lengths, by process.
+pub(crate) fn count_open(entries: &[Entry], lengths: &[usize; 64]) -> usize
+    ensures { result ≡ length (filter (is_open (slice_index lengths.now)) (filter is_there entries.now)) }
+{
+    let mut count = 0;
+    for entry in entries {
+        if is_left(entry, lengths) {
+            count += 1;
+        }
+    }
+    count
+}
+
+/// Keeps the messages alone that are there and do not lie within the parts of these lengths, by process.
+pub(crate) fn keep_open(entries: &mut Vec<Entry>, lengths: &[usize; 64])
+    ensures { entries.new.items ≡ filter (is_left (slice_index lengths.now)) entries.old.items }
+{
+    entries.retain(
+        |entry: &Entry| -> bool
+            ensures { result ≡ is_left (slice_index lengths.entry.now) entry.now }
+        { is_left(entry, lengths) },
+    );
+}
+
+// Whether a message is there and does not lie within the parts of these lengths, by process.
+fn is_left(entry: &Entry, lengths: &[usize; 64]) -> bool
+    ensures { result ≡ is_left (slice_index lengths.now) entry.now }
+{
+    entry.has_place() && !entry.is_covered(lengths)
 }

@@ -7,7 +7,7 @@ ghost use Rattle.kt_cuts.specs.declared.rules.Rule.{Rule};
 ghost use Rattle.kt_cuts.specs.declared.legality.LegalFault.TheVariants as fault;
 ghost use Rattle.kt_cuts.specs.Past.{past};
 ghost use Rattle.kt_cuts.specs.Legal.{IsLegal, broken_rule, first_broken};
-ghost use Rattle.kt_walk.specs.Keeping.{kept_trace, held_of, sent_index, IsSentAt};
+ghost use Rattle.kt_walk.specs.Keeping.{kept_trace, held_of, is_covered, sent_index, IsSentAt};
 ghost use Rattle.kt_cuts.specs.Cuts.{IsOrphan};
 ghost use Rattle.kt_walk.specs.Arrivals.{KeepsPermanent};
 ghost use Rattle.kt_walk.specs.WalkOf.{WalkOf};
@@ -15,6 +15,7 @@ ghost use Rattle.kt_walk.specs.WalkOf.{WalkOf};
 use crate::arrivals::Arrivals;
 use crate::trail::{Trail, Waiting};
 use kt_base::{InstNo, Memory, MsgNo, ProcNo};
+use kt_cuts::orphans::is_within;
 use kt_cuts::{Cut, LegalFault, Trace};
 use kt_spacetime::Event;
 use std::alloc::Global;
@@ -117,14 +118,27 @@ impl Walk {
     pub fn trace(&self, msg: MsgNo) -> Option<Trace>
         ensures { (rows : List Event) → WalkOf self.now rows → result ≡ kept_trace rows msg }
     {
-        self.trail.kept.get(msg)
+        let trace = self.trail.kept.get(msg)?;
+        if self.is_settled(&trace) {
+            None
+        } else {
+            Some(trace)
+        }
+    }
+
+    // Whether both rows of a message lie within the permanent parts.
+    fn is_settled(&self, trace: &Trace) -> bool
+        ensures { (rows : List Event) → WalkOf self.now rows → result ≡ is_covered (past rows).permanent trace.now }
+    {
+        is_within(trace.sent, self.permanent(trace.from))
+            && is_within(trace.received, self.permanent(trace.to))
     }
 
     /// How many messages are kept.
     pub fn held(&self) -> usize
         ensures { (rows : List Event) → WalkOf self.now rows → result ≡ held_of rows }
     {
-        self.trail.kept.len()
+        self.trail.kept.count_open(&self.trail.permanent_lengths())
     }
 
     /// The least orphan of a cut: a message that is received within its receiver's part and not sent within its

@@ -1,7 +1,7 @@
 use Rattle.std.proofs.Common.{◌≡◌, List, length, sym, ap, subst, ◌∙◌}
 use Rattle.kt_walk.specs.Arrivals.{Traffic, ShowsArrivals}
 use Rattle.kt_cuts.proofs.Items.{written}
-use Rattle.kt_walk.proofs.ArrivalFacts.{shows_settled, settled_none, are_rising}
+use Rattle.kt_walk.proofs.ArrivalFacts.{shows_settled, settled_none}
 use Rattle.kt_walk.proofs.arrivals.Arrivals.settle.Goals as goal
 
 pub returns-clause-shows : goal.returns-clause-shows
@@ -18,9 +18,3 @@ returns-clause-none c = λ s i v h e.
     let long : length c.settle_all.new.channels ≡ c.self.inside.channels.len = c.settle_all.ensures.count ∙ (ap length was ∙ sym c.self.inside.channels.ok.0) in
     let whole = written c.self.inside.channels.len c.settle_all.new.channels c.self.inside.channels.items long in
     settled_none c.self.inside.channels.items c.settle_all.new.channels s c.args.permanent.now (rw was at c.settle_all.ensures.each) (subst (λ (x : List Traffic). ShowsArrivals x s) (sym c.self.view_is) h) i v (rw whole at e)
-
-pub returns-clause-kept : goal.returns-clause-kept
-returns-clause-kept c = λ s h.
-    let was = c.deref_mut.ensures.value in
-    let shown = subst (λ (x : List Traffic). ShowsArrivals x s) (sym c.self.view_is) h in
-    rw (← c.self.view_is) ((rw was at c.settle_all.ensures.kept) (are_rising c.self.inside.channels.items s shown))

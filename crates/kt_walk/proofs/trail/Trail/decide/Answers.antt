@@ -40,7 +40,7 @@ returns-in-Checkpoint-clause-fed c = λ rows p h unbroken shown.
     let whole = written c.args.self.now.instances.len c.judge.new.instances c.args.self.now.instances.items long in
     let rest = c.settle_members.ensures.rest in
     rw (c.pass-in-Checkpoint.ensures, rest.rows, rest.instances, whole) (checkpoint_row _ rows p c.args.inst c.args.commit _ c.in-Some.instance _ _ c.permanent_lengths-permanent.result h unbroken c.if-not-commit.false (rw was at c.judge.ensures.decided) (rw was at c.in-Some.ensures.instance) c.in-Checkpoint.is
-    (λ s a w. c.settle_members.ensures.settled s a w) c.permanent_lengths-permanent.ensures c.args.arrivals.now shown (rw rest.kept at (c.settle.ensures.kept (past rows) shown)))
+    (λ s a w. c.settle_members.ensures.settled s a w) c.permanent_lengths-permanent.ensures (rw rest.kept at c.settle-in-Checkpoint.ensures))
 
 pub returns-in-Checkpoint-clause-arrived : goal.returns-in-Checkpoint-clause-arrived
 returns-in-Checkpoint-clause-arrived c = λ rows p h unbroken shown.
