@@ -1,5 +1,5 @@
 -- The steps that a walk keeps of a process, as its history changes.
-use Rattle.std.proofs.Common.{◌≡◌, ◌≢◌, ◌⊎◌, ℕ, zero, suc, ◌+◌, ◌-◌, ◌<◌, ◌≤◌, not, ◌&&◌, ◌||◌, cond, Bool, true, false, Option, Some, None, List, [], ◌∷◌, ◌++◌, length, take, drop, refl, sym, ap, subst, ◌∙◌, arith, inl, inr, length-append, length-take}
+use Rattle.std.proofs.Common.{◌≡◌, ◌≢◌, ◌⊎◌, ℕ, zero, suc, ◌+◌, ◌-◌, ◌<◌, ◌≤◌, not, ◌&&◌, ◌||◌, cond, Bool, true, false, Option, Some, None, List, [], ◌∷◌, ◌++◌, length, take, drop, nat_lt, refl, sym, ap, subst, ◌∙◌, arith, inl, inr, length-append, length-take}
 use Rattle.std.specs.Prelude.{is_some, is_none, filter}
 use Rattle.std.specs.List.{slice_get}
 use Rattle.std.proofs.lemmas.Bool.Decides.{nat_tests}
@@ -13,10 +13,11 @@ use Rattle.kt_cuts.specs.declared.histories.Trace.{Trace}
 use Rattle.kt_walk.specs.declared.recent.Step.{Step}
 use Rattle.kt_cuts.specs.Past.{Past}
 use Rattle.kt_cuts.specs.Lists.{last_of, received_in}
+use Rattle.kt_walk.specs.Arrivals.{Parts}
 use Rattle.kt_walk.specs.Keeping.{kept_at, kept_between}
 use Rattle.kt_cuts.specs.Orphans.{is_within}
 use Rattle.kt_walk.specs.PartsOf.{HasKept}
-use Rattle.kt_walk.specs.RecentSteps.{step_of, steps_after, steps_past, is_send_of, ShowsRecent, if_at, is_needed, is_past}
+use Rattle.kt_walk.specs.RecentSteps.{step_of, steps_after, steps_past, is_send_of, ShowsRecent, if_at, is_needed, is_past, placed_at, AreByPlace}
 use Rattle.kt_walk.specs.Stages.{with_permanent, AreInPlace}
 use Rattle.kt_cuts.specs.Traces.{place_of}
 use Rattle.kt_cuts.proofs.Items.{get_seam, item_there}
@@ -126,19 +127,70 @@ recent_received r n l m f place before dropped h low last number =
     subst (λ (x : Step). ShowsRecent (r ++ x ∷ []) n (l ++ deed.Received m f ∷ []) dropped) (λ i. record { msg = m; from = Some f; before = sym last i; place = sym number i })
     (recent_push r n l (deed.Received m f) dropped h low (λ x q e. absurd (cc)))
 
+-- a step before others that are past its place
+before_others : (x : Step) (xs : List Step) → ((j : ℕ) (y : Step) → slice_get xs j ≡ Some y → x.place < y.place) → AreByPlace xs → AreByPlace (x ∷ xs)
+before_others x xs less h = record { each = each }
+  where
+    each : (i j : ℕ) (a b : Step) → i < j → slice_get (x ∷ xs) i ≡ Some a → slice_get (x ∷ xs) j ≡ Some b → a.place < b.place
+    each i zero a b low e g = absurd (omega (arith, low))
+    each zero (suc j) a b low e g = subst (λ (y : Step). y.place < b.place) (some_same e) (less j b g)
+    each (suc i) (suc j) a b low e g = h.each i j a b (omega (arith, low)) e g
+
+-- some of the steps of deeds that follow earlier ones
+some_by_place : (f : Step → Bool) (e r : List Deed) → AreByPlace (filter f (steps_after e r))
+some_by_place f e [] = record { each = λ i j x y low is_x is_y. absurd (cc) }
+some_by_place f e (d ∷ r) = at_test (f (step_of e d)) (some_by_place f (e ++ d ∷ []) r)
+  where
+    rest : List Step
+    rest = steps_after (e ++ d ∷ []) r
+
+    past : (j : ℕ) (y : Step) → slice_get (filter f rest) j ≡ Some y → (step_of e d).place < y.place
+    past j y at =
+        let there = filter_item f rest j y at in
+        let bounds = step_place (e ++ d ∷ []) r there.0 y there.1 in
+        omega (arith, place_of_step e d, bounds.0, length-append e (d ∷ []))
+
+    at_test : (b : Bool) → AreByPlace (filter f rest) → AreByPlace (cond b (step_of e d ∷ filter f rest) (filter f rest))
+    at_test true h = before_others (step_of e d) (filter f rest) past h
+    at_test false h = h
+
+-- the steps that are kept are in the order of their places
+pub recent_by_place : (r : List Step) (n : ℕ) (l : List Deed) (dropped : ℕ → Bool) → ShowsRecent r n l dropped → AreByPlace r
+recent_by_place r n l dropped h = subst AreByPlace (sym h.others) (some_by_place (λ x. not (is_send_of h.forgotten x)) (take n l) (drop n l))
+
+-- where each one passes, each one is kept
+filter_all : (f : Step → Bool) (xs : List Step) → ((i : ℕ) (x : Step) → slice_get xs i ≡ Some x → f x ≡ true) → filter f xs ≡ xs
+filter_all f [] pass = refl
+filter_all f (x ∷ xs) pass = ap (λ (b : Bool). cond b (x ∷ filter f xs) (filter f xs)) (pass 0 x refl) ∙ ap (λ (t : List Step). x ∷ t) (filter_all f xs (λ i y at. pass (suc i) y at))
+
+-- where the first so many fail and the others pass, the others are kept
+filter_rest : (f : Step → Bool) (xs : List Step) (n : ℕ) → ((i : ℕ) (x : Step) → i < n → slice_get xs i ≡ Some x → f x ≡ false) → ((i : ℕ) (x : Step) → n ≤ i → slice_get xs i ≡ Some x → f x ≡ true)
+    → drop n xs ≡ filter f xs
+filter_rest f xs zero fail pass = sym (filter_all f xs (λ i x at. pass i x (omega arith) at))
+filter_rest f [] (suc n) fail pass = refl
+filter_rest f (x ∷ xs) (suc n) fail pass =
+    filter_rest f xs n (λ i y low at. fail (suc i) y (omega (arith, low)) at) (λ i y low at. pass (suc i) y (omega (arith, low)) at)
+    ∙ ap (λ (b : Bool). cond b (x ∷ filter f xs) (filter f xs)) (sym (fail 0 x (omega arith) refl))
+
+-- where so many steps come first that are up to a place, the others are those past it
+pub past_left : (xs : List Step) (place count : ℕ) → Parts placed_at xs (place + 1) count → drop count xs ≡ filter (is_past place) xs
+past_left xs place count parts = filter_rest (is_past place) xs count (λ i x low at. not_past x.place (parts.below i x low at)) (λ i x low at. past x.place (parts.above i x low at))
+  where
+    not_past : (n : ℕ) → n < place + 1 → nat_lt place n ≡ false
+    not_past n low = grind (arith, nat_tests, low)
+
+    past : (n : ℕ) → place + 1 ≤ n → nat_lt place n ≡ true
+    past n high = grind (arith, nat_tests, high)
+
 -- the steps past a place, of those past an earlier one
 steps_later : (d n k : ℕ) (l : List Deed) → n + d ≡ k → k ≤ length l → filter (is_past k) (steps_past n l) ≡ steps_past k l
 steps_later zero n k l e low =
     let same : n ≡ k = omega (arith, e) in
     subst (λ (m : ℕ). filter (is_past k) (steps_past m l) ≡ steps_past k l) (sym same)
-    (all_pass (is_past k) (steps_past k l) (λ i x at.
+    (filter_all (is_past k) (steps_past k l) (λ i x at.
     let bounds = step_place (take k l) (drop k l) i x at in
     let past : k < x.place = omega (arith, bounds.0, length-take k l, low) in
     grind (arith, nat_tests, past)))
-  where
-    all_pass : (f : Step → Bool) (xs : List Step) → ((i : ℕ) (x : Step) → slice_get xs i ≡ Some x → f x ≡ true) → filter f xs ≡ xs
-    all_pass f [] pass = refl
-    all_pass f (x ∷ xs) pass = ap (λ (b : Bool). cond b (x ∷ filter f xs) (filter f xs)) (pass 0 x refl) ∙ ap (λ (t : List Step). x ∷ t) (all_pass f xs (λ i y at. pass (suc i) y at))
 steps_later (suc d) n k l e low =
     let there = item_there l n (omega (arith, e, low)) in
     let x : Step = step_of (take n l) there.0 in

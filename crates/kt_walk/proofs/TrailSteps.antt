@@ -15,14 +15,14 @@ use Rattle.kt_cuts.specs.Lists.{received_in, last_of}
 use Rattle.kt_walk.specs.Keeping.{kept_at, kept_between, unsent, unreceived, restored}
 use Rattle.kt_walk.specs.Stages.{with_permanent, with_live, AreInPlace}
 use Rattle.kt_walk.specs.PartsOf.{ShowsWalker, ShowsWalkers, ShowsKept, HasKept}
-use Rattle.kt_walk.specs.RecentSteps.{step_of, ShowsRecent, if_at, is_past}
+use Rattle.kt_walk.specs.RecentSteps.{step_of, ShowsRecent, if_at, is_past, AreByPlace}
 use Rattle.kt_cuts.proofs.Items.{get_left, get_seam, get_set_same, get_set_other}
 use Rattle.kt_cuts.proofs.SortedFacts.{some_same, received_unsent, received_else}
 use Rattle.kt_cuts.proofs.DeedFacts.{place_of_deed}
 use Rattle.kt_cuts.proofs.Shown.{at_same, at_other}
 use Rattle.kt_walk.proofs.StepLists.{last_item, other_sent, other_received}
 use Rattle.kt_walk.proofs.KeptFacts.{kept_dropped, other_undone, sent_undone, received_undone}
-use Rattle.kt_walk.proofs.RecentFacts.{IsLost, recent_same, last_known, recent_settled}
+use Rattle.kt_walk.proofs.RecentFacts.{IsLost, recent_same, last_known, recent_settled, recent_by_place}
 
 -- the processes with another one at a place
 pub walkers_set : (ws : List Walker) (s t : Past) (p : ℕ) (v : Walker) → ShowsWalkers ws s → p < 64 → ShowsWalker v t p
@@ -43,7 +43,7 @@ walkers_same ws s t h others = record { each = λ q w e. others q w (h.each q w 
 
 -- a process more of whose deeds are permanent
 pub settled_to : (ws : List Walker) (s : Past) (p n : ℕ) (v w : Walker) → ShowsWalkers ws s → p < 64 → slice_get ws p ≡ Some v → s.permanent p ≤ n → n ≤ length (s.live p)
-    → w ≡ record v { permanent = n; recent = filter (is_past n) v.recent } → ShowsWalkers (set ws p w) (with_permanent s (at_one p n s.permanent))
+    → (AreByPlace v.recent → w ≡ record v { permanent = n; recent = filter (is_past n) v.recent }) → ShowsWalkers (set ws p w) (with_permanent s (at_one p n s.permanent))
 settled_to ws s p n v w h l there more low new =
     let g = h.each p v there in
     let f : ℕ → ℕ = at_one p n s.permanent in
@@ -56,7 +56,7 @@ settled_to ws s p n v w h l there more low new =
       received = g.received;
       dropped = g.dropped;
     } in
-    walkers_set ws s (with_permanent s f) p w h l (subst (λ (x : Walker). ShowsWalker x (with_permanent s f) p) (sym new) now)
+    walkers_set ws s (with_permanent s f) p w h l (subst (λ (x : Walker). ShowsWalker x (with_permanent s f) p) (sym (new (recent_by_place v.recent (s.permanent p) (s.live p) s.dropped g.recent))) now)
     (λ q u apart x. record {
       length = x.length;
       permanent = x.permanent ∙ sym (at_other p q n s.permanent apart);

@@ -1,5 +1,5 @@
 -- The deeds of a process past its permanent position, as a walk keeps them.
-use Rattle.std.specs.Prelude.{◌≡◌, ℕ, nat_lt, ◌+◌, ◌-◌, ◌==◌, ◌&&◌, ◌||◌, not, if◌then◌else◌, Bool, true, Option, Some, None, is_some, is_none, List, [], ◌∷◌, ◌++◌, length, filter, take, drop}
+use Rattle.std.specs.Prelude.{◌≡◌, ℕ, nat_lt, ◌<◌, ◌+◌, ◌-◌, ◌==◌, ◌&&◌, ◌||◌, not, if◌then◌else◌, Bool, true, Option, Some, None, is_some, is_none, List, [], ◌∷◌, ◌++◌, length, filter, take, drop, slice_get}
 use Rattle.kt_cuts.specs.declared.deeds.Deed.{Deed}
 use Rattle.kt_cuts.specs.declared.deeds.Deed.TheVariants as deed
 use Rattle.kt_cuts.specs.declared.histories.Trace.{Trace}
@@ -48,3 +48,11 @@ is_needed traces step = is_some step.from || is_some (kept_at traces step.msg)
 -- whether a step is past this place
 abbrev pub is_past : ℕ → Step → Bool
 is_past place step = nat_lt place step.place
+
+-- where a step stands
+abbrev pub placed_at : Step → ℕ
+placed_at step = step.place
+
+-- steps in the order of their places
+pub record AreByPlace (steps : List Step) : Type 0 where
+  pub each : (i j : ℕ) (x y : Step) → i < j → slice_get steps i ≡ Some x → slice_get steps j ≡ Some y → x.place < y.place

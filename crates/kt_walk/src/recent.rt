@@ -1,7 +1,7 @@
 //! The deeds of a process past its permanent position.
 
-ghost use Rattle.std.specs.Prelude.{◌≡◌, ◌++◌, ◌∷◌, [], length, filter, slice_get, ◌-◌, OnOk, OnErr};
-ghost use Rattle.kt_walk.specs.RecentSteps.{if_at, without_last, is_needed, is_past};
+ghost use Rattle.std.specs.Prelude.{◌≡◌, ◌++◌, ◌∷◌, [], length, filter, slice_get, ◌-◌, ◌+◌, nat_lt, OnOk, OnErr};
+ghost use Rattle.kt_walk.specs.RecentSteps.{if_at, without_last, is_needed, is_past, AreByPlace};
 
 use crate::kept::Kept;
 use kt_base::{Memory, MsgNo, ProcNo};
@@ -75,13 +75,14 @@ impl Recent {
 
     /// Forgets the steps up to this place, which is counted from 1.
     pub(crate) fn forget_through(&mut self, place: usize)
-        ensures { self.new ≡ filter (is_past place) self.old }
+        ensures { AreByPlace self.old → self.new ≡ filter (is_past place) self.old }
     {
-        self.steps.retain(
+        let count = self.steps.partition_point(
             |step: &Step| -> bool
-                ensures { result ≡ is_past place step.now }
-            { place < step.place as usize },
+                ensures { result ≡ nat_lt step.now.place (place + 1) }
+            { step.place as usize <= place },
         );
+        self.steps.drain(..count);
     }
 
     /// Takes the last step, if it is at this place.

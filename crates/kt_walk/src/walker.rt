@@ -2,7 +2,7 @@
 
 ghost use Rattle.std.specs.Prelude.{◌≡◌, ◌<◌, ◌-◌, ◌+◌, ◌^◌, None, true, [], ◌⊎◌, length, filter, replicate, slice_get, ◌||◌, if◌then◌else◌};
 ghost use Rattle.kt_walk.specs.Keeping.{restored, restored_from};
-ghost use Rattle.kt_walk.specs.RecentSteps.{if_at, without_last, is_needed, is_past};
+ghost use Rattle.kt_walk.specs.RecentSteps.{if_at, without_last, is_needed, is_past, AreByPlace};
 
 use crate::kept::Kept;
 use crate::recent::{Recent, Step};
@@ -85,7 +85,7 @@ impl Walker {
 
     /// Makes its history permanent up to this position.
     pub(crate) fn settle(&mut self, position: usize)
-        ensures { self.new ≡ record self.old { permanent = position; recent = filter (is_past position) self.old.recent } }
+        ensures { AreByPlace self.old.recent → self.new ≡ record self.old { permanent = position; recent = filter (is_past position) self.old.recent } }
     {
         self.permanent = position;
         self.recent.forget_through(position);
