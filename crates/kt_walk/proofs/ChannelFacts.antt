@@ -307,34 +307,6 @@ released_none v w lengths n c d sent received least a b e _ = record {
       absurd (omega (arith, one, two, least));
 }
 
--- a message more is kept no more
-pub removed_start : (arrivals : List Arrival) (es : List (ℕ × Trace)) (m : ℕ)
-    → (kept_at es m ≡ kept_at es m) ⊎ ((k : ℕ) × (a : Arrival) × (slice_get arrivals k ≡ Some a) × (a.msg ≡ m) × (kept_at es m ≡ None))
-removed_start arrivals es m = inl refl
-
-pub removed_gone : (arrivals : List Arrival) (fs gs : List (ℕ × Trace)) (n : ℕ) (b : Arrival) → slice_get arrivals n ≡ Some b → ((m : ℕ) → kept_at gs m ≡ at_one b.msg None (kept_at fs) m)
-    → ((k : ℕ) (a : Arrival) → k < n → slice_get arrivals k ≡ Some a → kept_at fs a.msg ≡ None)
-    → (k : ℕ) (a : Arrival) → k < n + 1 → slice_get arrivals k ≡ Some a → kept_at gs a.msg ≡ None
-removed_gone arrivals fs gs n b here removed gone k a low at = elim (cases_eq a.msg b.msg) [
-  | inl same ↦ removed a.msg ∙ (ap (at_one b.msg None (kept_at fs)) same ∙ at_same b.msg None (kept_at fs))
-  | inr other ↦
-      let before : k ≢ n = λ e. other (ap (λ (x : Arrival). x.msg) (some_same (sym at ∙ (ap (slice_get arrivals) e ∙ here)))) in
-      removed a.msg ∙ (at_other b.msg a.msg None (kept_at fs) other ∙ gone k a (omega (arith, low, before)) at)
-]
-
-pub removed_others : (arrivals : List Arrival) (es fs gs : List (ℕ × Trace)) (n : ℕ) (b : Arrival) → slice_get arrivals n ≡ Some b → ((m : ℕ) → kept_at gs m ≡ at_one b.msg None (kept_at fs) m)
-    → ((m : ℕ) → (kept_at fs m ≡ kept_at es m) ⊎ ((k : ℕ) × (a : Arrival) × (slice_get arrivals k ≡ Some a) × (a.msg ≡ m) × (kept_at fs m ≡ None)))
-    → (m : ℕ) → (kept_at gs m ≡ kept_at es m) ⊎ ((k : ℕ) × (a : Arrival) × (slice_get arrivals k ≡ Some a) × (a.msg ≡ m) × (kept_at gs m ≡ None))
-removed_others arrivals es fs gs n b here removed others m = elim (cases_eq m b.msg) [
-  | inl same ↦ inr (n, b, here, sym same, removed m ∙ (ap (at_one b.msg None (kept_at fs)) same ∙ at_same b.msg None (kept_at fs)))
-  | inr other ↦
-      let still : kept_at gs m ≡ kept_at fs m = removed m ∙ at_other b.msg m None (kept_at fs) other in
-      elim (others m) [
-        | inl same ↦ inl (still ∙ same)
-        | inr x ↦ inr (x.0, x.1, x.2, x.3, still ∙ x.4)
-      ]
-]
-
 -- a channel without arrivals
 pub no_item : {X : Type 0} (xs : List X) (k : ℕ) (x : X) → length xs ≡ 0 → slice_get xs k ≡ Some x → ⊥
 no_item xs k x e at = absurd (omega (arith, e, slice_get_within xs k x at))

@@ -36,9 +36,6 @@ numbered_cons e es below h = record { each = at }
     at (suc j) zero a b l x y = absurd (omega (arith, l))
     at (suc j) (suc k) a b l x y = h.each j k a b (omega (arith, l)) x y
 
-pub numbered_none : IsNumbered []
-numbered_none = record { each = λ j k a b l x y. absurd (cc) }
-
 -- some of the messages
 pub numbered_filter : (f : ℕ × Trace → Bool) (es : List (ℕ × Trace)) → IsNumbered es → IsNumbered (filter f es)
 numbered_filter f [] h = h

@@ -173,12 +173,6 @@ pub same_walk : {X E : Type 0} (r : Result X E) (t u : Trail) (cs : List Traffic
 same_walk (Ok x) t u cs w view same = tt
 same_walk (Err e) t u cs w view same = ap (λ (x : TrailParts). record { rows = x.rows; walkers = x.walkers; instances = x.instances; beginning = x.beginning; kept = x.kept; arrivals = cs }) same ∙ view
 
--- an instance that is committed has begun
-pub committed_instance : (w : TrailParts) (rows : List Event) (p k : ℕ) → PartsOf w (rows ++ Decided p k true ∷ []) → (v : Instance) × (at_number w.instances k ≡ Some v)
-committed_instance w rows p k h =
-    let last = legal_last rows (Decided p k true) h.legal in
-    begun_there w.instances (after (past rows) (Decided p k true)) k (subst (ShowsInstances w.instances) (past_push rows (Decided p k true)) h.of_instances) (may_decide (past rows) p k true last.1).begun
-
 -- the permanent lengths after a commit
 permanent_after : (w : TrailParts) (rows : List Event) (p k q : ℕ) (lengths : List ℕ) → PartsOf w (rows ++ Decided p k true ∷ [])
     → ((r : ℕ) (u : Walker) → slice_get w.walkers r ≡ Some u → slice_index lengths r ≡ u.permanent) → q < 64 → slice_index lengths q ≡ unwrap_or ((past rows).new k q) ((past rows).permanent q)

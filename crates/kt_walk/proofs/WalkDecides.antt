@@ -60,17 +60,6 @@ member_position v q n of_kind low = at_test (has v.joined q) refl
     at_test true e = ap (λ (o : Option ℕ). unwrap_or o n) (new_member v q of_kind e) ∙ grind (arith, nat_tests, low, e)
     at_test false e = ap (λ (o : Option ℕ). unwrap_or o n) (not_new v q e) ∙ grind (arith, nat_tests, low, e)
 
-settled_greater : (n : ℕ) (v : Instance) (s : Past) → IsWithin v s → (q : ℕ) → s.permanent q ≤ settled_below n v s.permanent q
-settled_greater n v s w q = at_member (has v.joined q) refl
-  where
-    at_limit : (b : Bool) → s.permanent q ≤ slice_index_or v.positions q 0 → s.permanent q ≤ (if b then slice_index_or v.positions q 0 else s.permanent q)
-    at_limit true l = l
-    at_limit false l = omega arith
-
-    at_member : (b : Bool) → has v.joined q ≡ b → s.permanent q ≤ settled_below n v s.permanent q
-    at_member true e = at_limit (nat_lt q n && has v.joined q) (w q e).0
-    at_member false e = let same : settled_below n v s.permanent q ≡ s.permanent q = grind (arith, nat_tests, e) in omega (arith, same)
-
 -- what a commit leaves of what was kept, with those that permanent parts have or without them
 settled_kept : (es fs : List (ℕ × Trace)) (between : ℕ → Option (ℕ × ℕ)) (t : Past) (f : ℕ → ℕ) → ((fs ≡ es) ⊎ ((m : ℕ) → kept_at fs m ≡ uncovered f (kept_at es m))) → ((q : ℕ) → q < 64 → f q ≡ t.permanent q) → ((q : ℕ) → 64 ≤ q → t.live q ≡ [])
     → HasKept es between t → HasKept fs between t

@@ -141,13 +141,8 @@ impl Kept {
         if let Some(place) = place_of(&self.entries, msg, self.next) {
             self.next = one_further(self.last, place);
             self.last = place;
-            give(
-                &mut self.entries,
-                &mut self.gone,
-                place,
-                Place::none(),
-                Place::none(),
-            );
+            let none = Place::none();
+            give(&mut self.entries, &mut self.gone, place, none, none);
         }
     }
 
@@ -158,13 +153,8 @@ impl Kept {
     {
         if let Some(index) = place_of(&self.entries, msg, guess) {
             let sent = self.entries[index].sent();
-            give(
-                &mut self.entries,
-                &mut self.gone,
-                index,
-                sent,
-                Place::at(place),
-            );
+            let received = Place::at(place);
+            give(&mut self.entries, &mut self.gone, index, sent, received);
         }
     }
 
@@ -176,13 +166,8 @@ impl Kept {
             let received = self.entries[place].received();
             self.next = one_further(self.last, place);
             self.last = place;
-            give(
-                &mut self.entries,
-                &mut self.gone,
-                place,
-                Place::none(),
-                received,
-            );
+            let none = Place::none();
+            give(&mut self.entries, &mut self.gone, place, none, received);
         }
     }
 
@@ -194,13 +179,8 @@ impl Kept {
             let sent = self.entries[place].sent();
             self.next = one_further(self.last, place);
             self.last = place;
-            give(
-                &mut self.entries,
-                &mut self.gone,
-                place,
-                sent,
-                Place::none(),
-            );
+            let none = Place::none();
+            give(&mut self.entries, &mut self.gone, place, sent, none);
         }
     }
 }

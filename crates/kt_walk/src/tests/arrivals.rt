@@ -2,19 +2,21 @@
 
 use super::{message, process};
 use crate::arrivals::Arrivals;
+use crate::entry::Entry;
 use crate::kept::Kept;
 use crate::queue::Arrival;
 use kt_base::ProcSet;
-use kt_cuts::{Cut, Trace};
+use kt_cuts::Cut;
 use std::test::Fail;
 
 // How many messages each process sends round the ring.
 const ROUNDS: usize = 16;
 
 // The place of a process's send of a round in its history: each process but the first receives before it sends.
-fn sent_place(number: usize, round: usize) -> usize {
+fn sent_place(number: usize, round: usize) -> Result<u32, Fail> {
     let first = usize::from(number > 0);
-    round.wrapping_mul(2).wrapping_add(first)
+    let place = round.wrapping_mul(2).wrapping_add(first);
+    Ok(u32::try_from(place).ok().ok_or("no place")?)
 }
 
 // A message of a round is received by the next process.
@@ -23,8 +25,8 @@ fn receive_of(arrivals: &mut Arrivals, number: usize, round: usize) -> Result<()
     let sent = round.wrapping_mul(64).wrapping_add(number);
     let arrival = Arrival {
         msg: message(u32::try_from(sent).ok().ok_or("no number")?.wrapping_mul(2) | 1)?,
-        sent: sent_place(number, round),
-        received: sent_place(next, round) ^ 1,
+        sent: sent_place(number, round)?,
+        received: sent_place(next, round)? ^ 1,
     };
     arrivals.receive(process(next)?, process(number)?, arrival)?;
     Ok(())
@@ -61,23 +63,51 @@ fn a_process_that_keeps_less_leaves_an_orphan(rt: HostRuntime) -> Result<(), Fai
 fn permanent_parts_are_forgotten(rt: HostRuntime) -> Result<(), Fail> {
     let mut arrivals = Arrivals::new(rt.alloc())?;
     receive_round_a_ring(&mut arrivals)?;
-    let mut kept = Kept::new(rt.alloc());
-    for number in [1, 2] {
-        let trace = Trace {
-            from: process(0)?,
-            to: process(1)?,
-            sent: Some(1),
-            received: None,
-        };
-        kept.add(message(number)?, trace)?;
-    }
-    arrivals.settle(&[2 * ROUNDS; 64], &mut kept);
-    assert_eq!(rt; kept.get(message(1)?), None, "of the first receive");
-    assert_eq!(rt; kept.len(), 1, "the other one was not received");
+    arrivals.settle(&[2 * ROUNDS; 64]);
     assert_eq!(rt; arrivals.orphan(&Cut::new([2 * ROUNDS; 64])), None);
     let mut cut = Cut::new([2 * ROUNDS; 64]);
     cut.set(process(5)?, 0);
     assert_eq!(rt; arrivals.orphan(&cut), None);
+    Ok(())
+}
+
+// Messages of these numbers from the first process to the second, which receives the odd ones; each has the place of
+// its number.
+fn add_messages(kept: &mut Kept, first: u32, last: u32) -> Result<(), Fail> {
+    for number in first..=last {
+        let msg = message(number)?;
+        let place = number.max(1);
+        kept.add(Entry::sent_at(msg, process(0)?, process(1)?, place))?;
+        if number % 2 == 1 {
+            kept.receive(msg, place, 0);
+        }
+    }
+    Ok(())
+}
+
+// Those that permanent parts have are taken out once there are twice as many messages as were left the last time.
+#[test]
+fn permanent_messages_are_taken_out_now_and_then(rt: HostRuntime) -> Result<(), Fail> {
+    let mut kept = Kept::new(rt.alloc());
+    add_messages(&mut kept, 1, 8)?;
+    assert_eq!(rt; kept.count_open(&[0; 64]), 8);
+    assert_eq!(rt; kept.count_open(&[5; 64]), 5, "1, 3 and 5 are within");
+    kept.settle(&[5; 64]);
+    assert_eq!(rt; kept.get(message(5)?).is_some(), false);
+    assert_eq!(rt; kept.get(message(7)?).is_some(), true);
+    add_messages(&mut kept, 9, 12)?;
+    kept.settle(&[12; 64]);
+    assert_eq!(rt;
+        kept.get(message(7)?).is_some(),
+        true,
+        "nine, and five were left"
+    );
+    assert_eq!(rt; kept.count_open(&[12; 64]), 6);
+    add_messages(&mut kept, 13, 13)?;
+    kept.settle(&[12; 64]);
+    assert_eq!(rt; kept.get(message(7)?).is_some(), false, "ten");
+    assert_eq!(rt; kept.get(message(13)?).is_some(), true);
+    assert_eq!(rt; kept.count_open(&[0; 64]), 7);
     Ok(())
 }
 

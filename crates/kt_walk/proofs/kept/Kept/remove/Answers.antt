@@ -9,7 +9,7 @@ returns-in-Some c = λ m.
     let t = found.0 in
     let same = given_none t.from t.to t.sent t.received in
     given_shown c.self.inside.entries.items c.give.new.entries.items c.args.self.now c.args.msg t None None (λ (o : Option Trace). None) c.self.view_is (there_at c.self.inside.entries.items c.in-Some.place c.args.msg t c.self.invariant.0 found.1)
-    (λ n. rw (c.none.ensures, c.none-in-Some.ensures) at (c.give.ensures.there c.args.msg n t c.self.invariant.0 found.1)) same m
+    (λ n. rw c.none-none.ensures at (c.give.ensures.there c.args.msg n t c.self.invariant.0 found.1)) same m
 
 pub returns-in_default : goal.returns-in_default
 returns-in_default c = λ m.

@@ -12,7 +12,7 @@ returns-in-Some c = λ m.
     let read = c.index.ensures ∙ get_or_from_slice_get c.self.inside.entries.items c.in-Some.place _ c.index.result.now found.1 in
     let same = ap (λ (e : ℕ × Trace). given None e.1.received (if_there t)) read ∙ given_unsent t.from t.to t.sent t.received in
     given_shown c.self.inside.entries.items c.give.new.entries.items c.args.self.now c.args.msg t None c.index.result.now.1.received unsent c.self.view_is (there_at c.self.inside.entries.items c.in-Some.place c.args.msg t c.self.invariant.0 found.1)
-    (λ n. rw (c.received-received.ensures, c.none.ensures) at (c.give.ensures.there c.args.msg n t c.self.invariant.0 found.1)) same m
+    (λ n. rw (c.received-received.ensures, c.none-none.ensures) at (c.give.ensures.there c.args.msg n t c.self.invariant.0 found.1)) same m
 
 pub returns-in_default : goal.returns-in_default
 returns-in_default c = λ m.
