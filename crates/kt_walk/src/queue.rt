@@ -76,7 +76,9 @@ impl Queue {
     {
         self.taken += count;
         if self.taken > self.arrivals.len() / 2 {
-            self.arrivals.drain(..self.taken);
+            let rest = self.arrivals.len() - self.taken;
+            self.arrivals.copy_within(self.taken.., 0);
+            self.arrivals.truncate(rest);
             self.taken = 0;
         }
     }

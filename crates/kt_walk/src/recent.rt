@@ -82,7 +82,9 @@ impl Recent {
                 ensures { result ≡ nat_lt step.now.place (place + 1) }
             { step.place as usize <= place },
         );
-        self.steps.drain(..count);
+        let rest = self.steps.len() - count;
+        self.steps.copy_within(count.., 0);
+        self.steps.truncate(rest);
     }
 
     /// Takes the last step, if it is at this place.
