@@ -1,6 +1,6 @@
 //! Messages with their traces in a list that rises by their numbers. Those that are gone have no place.
 
-ghost use Rattle.std.specs.Prelude.{◌≡◌, ◌+◌, ◌-◌, ◌^◌, ◌≤◌, ◌<◌, ℕ, true, nat_lt, length, filter, vec_len, slice_get, slice_index, Some, IfSome, IfNone};
+ghost use Rattle.std.specs.Prelude.{◌≡◌, ◌+◌, ◌-◌, ◌^◌, ◌≤◌, ◌<◌, ℕ, true, false, nat_lt, length, filter, vec_len, slice_get, slice_index, Some, IfSome, IfNone};
 ghost use Rattle.kt_cuts.specs.declared.histories.Trace.{Trace};
 ghost use Rattle.kt_cuts.specs.Past.{at_one};
 ghost use Rattle.kt_walk.specs.Keeping.{kept_at, has_place, is_there, is_gone, is_open, is_left, is_of, if_there, given, IsNumbered};
@@ -93,7 +93,8 @@ pub(crate) fn count_below(entries: &[Entry], msg: MsgNo) -> usize
 
 /// Whether a message comes after all these.
 pub(crate) fn comes_last(entries: &[Entry], msg: MsgNo) -> bool
-    ensures { result ≡ true → IsNumbered entries.now → (i : ℕ) (e : ℕ × Trace) → slice_get entries.now i ≡ Some e → e.0 < msg }
+    ensures after { result ≡ true → IsNumbered entries.now → (i : ℕ) (e : ℕ × Trace) → slice_get entries.now i ≡ Some e → e.0 < msg }
+    ensures not_after { result ≡ false → (i : ℕ) × (e : ℕ × Trace) × (slice_get entries.now i ≡ Some e) × (msg ≤ e.0) }
 {
     match entries.last() {
         Some(last) => last.msg().get() < msg.get(),
