@@ -1,8 +1,8 @@
 -- Traffic while its two histories grow and are cut back.
-use Rattle.std.proofs.Common.{◌≡◌, ℕ, ◌+◌, ◌-◌, ◌<◌, ◌≤◌, ◌≢◌, ◌⊎◌, true, false, Option, Some, None, IfSome, List, [], ◌∷◌, ◌++◌, length, map, take, drop, refl, sym, ap, ◌∙◌, subst, arith, inl, inr}
+use Rattle.std.proofs.Common.{◌≡◌, ℕ, ◌+◌, ◌-◌, ◌<◌, ◌≤◌, true, false, Option, Some, None, IfSome, List, [], ◌∷◌, ◌++◌, length, map, take, drop, sym, ap, ◌∙◌, subst, arith, inl, inr}
 use Rattle.std.specs.List.{slice_get, slice_index, filter}
 use Rattle.std.specs.Prelude.{nat_lt, min}
-use Rattle.std.proofs.lemmas.Bool.{cases_lt, cases_eq}
+use Rattle.std.proofs.lemmas.Bool.{cases_lt}
 use Rattle.std.proofs.lemmas.Bool.Decides.{nat_tests}
 use Rattle.std.proofs.lemmas.Option.{slice_get_within}
 use Rattle.kt_cuts.specs.declared.deeds.Deed.{Deed}
@@ -11,16 +11,12 @@ use Rattle.kt_walk.specs.declared.queue.Arrival.{Arrival}
 use Rattle.kt_walk.specs.declared.channel.Undone.{Undone}
 use Rattle.kt_cuts.specs.Legal.{has_deed}
 use Rattle.kt_cuts.specs.Lists.{Rises, sent_in}
-use Rattle.kt_cuts.specs.Past.{Past, at_one}
+use Rattle.kt_cuts.specs.Past.{Past}
 use Rattle.kt_cuts.specs.Orphans.{IsOrphanBetween, IsAtMost, earlier}
 use Rattle.kt_cuts.specs.Standing.{IsInOrder}
 use Rattle.kt_walk.specs.Arrivals.{Traffic, IsRising, Parts, sent_at, received_at, undo, IsTraffic, ShowsTraffic, IsOpen}
-use Rattle.kt_cuts.specs.declared.histories.Trace.{Trace}
-use Rattle.kt_walk.specs.Keeping.{kept_at}
 use Rattle.kt_cuts.proofs.Lists.{get_push, get_kept, get_last, get_take, get_in_take, get_drop}
 use Rattle.kt_cuts.proofs.DeedFacts.{has_at, has_front}
-use Rattle.kt_cuts.proofs.SortedFacts.{some_same}
-use Rattle.kt_cuts.proofs.Shown.{at_same, at_other}
 use Rattle.kt_cuts.proofs.OrphanFacts.{get_from_drop, received_of, some_earlier, some_weaker, at_most_first, at_most_second}
 use Rattle.kt_cuts.proofs.Consistency.{filter_keeps}
 use Rattle.kt_walk.proofs.ItemPlaces.{get_joined, has_left, has_right, get_mapped, mapped_get, get_filtered, rising_take, rising_drop, rising_push, one_send, sent_before, lacks_past, lacks_part, past_it, lacks_push, place_or_lacks}

@@ -1,5 +1,5 @@
 -- The pairs of processes that have messages are listed, and only these change.
-use Rattle.std.proofs.Common.{◌≡◌, ◌≢◌, ◌⊎◌, ℕ, zero, suc, ◌+◌, ◌<◌, ◌≤◌, Bool, true, false, Some, None, List, [], ◌∷◌, ◌++◌, length, set, refl, sym, ap, ◌∙◌, subst, arith, inl, inr, cond, length-append}
+use Rattle.std.proofs.Common.{◌≡◌, ◌≢◌, ◌⊎◌, ℕ, zero, suc, ◌+◌, ◌<◌, ◌≤◌, Bool, true, false, Some, List, [], ◌∷◌, ◌++◌, length, set, refl, sym, ap, ◌∙◌, subst, arith, inl, inr, cond, length-append}
 use Rattle.std.specs.List.{slice_get, slice_index, filter}
 use Rattle.std.specs.Prelude.{◌==◌, ◌&&◌, not, if◌then◌else◌, take, Result, Ok, Err, OnOk, OnErr}
 use Rattle.std.proofs.lemmas.Bool.{cases_eq}
@@ -8,13 +8,11 @@ use Rattle.std.proofs.lemmas.List.{length-set}
 use Rattle.std.proofs.lemmas.Option.{slice_get_within}
 use Rattle.kt_base.specs.Sets.{has}
 use Rattle.kt_cuts.specs.declared.deeds.Deed.{Deed}
-use Rattle.kt_cuts.specs.declared.histories.Trace.{Trace}
 use Rattle.kt_cuts.specs.Past.{Past}
 use Rattle.kt_cuts.specs.Lists.{Rises, sent_in}
 use Rattle.kt_cuts.specs.Orphans.{IsOrphanBetween}
 use Rattle.kt_walk.specs.declared.queue.Arrival.{Arrival}
 use Rattle.kt_walk.specs.Arrivals.{Traffic, Has, Parts, sent_at, received_at, IsTraffic, ShowsTraffic, IsCutBack, IsSettled, AreListed, AreInUse, is_empty, is_in_use, has_messages, cut_back}
-use Rattle.kt_walk.specs.Keeping.{kept_at}
 use Rattle.kt_cuts.proofs.Items.{get_set_same, get_set_other}
 use Rattle.kt_cuts.proofs.Lists.{get_push, get_last}
 use Rattle.kt_cuts.proofs.SortedFacts.{some_same}

@@ -18,11 +18,6 @@ use Rattle.kt_cuts.specs.Orphans.{is_within}
 abbrev pub kept_at : List (ℕ × Trace) → ℕ → Option Trace
 kept_at traces msg = lookup (nat_eq msg) traces
 
--- a place counted from 1, of a number that is 0 where there is none
-abbrev pub if_positive : ℕ → Option ℕ
-if_positive zero = None
-if_positive (suc n) = Some (suc n)
-
 -- whether a message is live or received
 abbrev pub has_place : Trace → Bool
 has_place t = is_some t.sent || is_some t.received

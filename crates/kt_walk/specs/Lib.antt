@@ -2,6 +2,7 @@ pub use Rattle.kt_cuts.specs.Past
 pub use Rattle.kt_cuts.specs.Legal
 pub use Rattle.kt_cuts.specs.Cuts
 pub use Rattle.kt_cuts.specs.Traces
+pub mod Positive
 pub mod Keeping
 pub mod RecentSteps
 pub mod TrailParts

@@ -17,7 +17,7 @@ pub(crate) struct Place {
 
 impl Model for Place {
     ghost use Rattle.std.specs.Prelude.{ℕ, Option, unwrap_or};
-    ghost use Rattle.kt_walk.specs.Keeping.{if_positive};
+    ghost use Rattle.kt_walk.specs.Positive.{if_positive};
 
     ghost Value = { Option ℕ };
 

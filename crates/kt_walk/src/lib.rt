@@ -4,6 +4,7 @@
 mod arrivals;
 mod channel;
 mod deciding;
+mod earlier;
 mod entry;
 mod feeding;
 mod kept;

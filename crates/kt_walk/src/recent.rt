@@ -3,6 +3,7 @@
 ghost use Rattle.std.specs.Prelude.{◌≡◌, ◌++◌, ◌∷◌, [], length, filter, slice_get, ◌-◌, ◌+◌, nat_lt, OnOk, OnErr};
 ghost use Rattle.kt_walk.specs.RecentSteps.{if_at, without_last, is_needed, is_past, AreByPlace};
 
+use crate::earlier::Earlier;
 use crate::kept::Kept;
 use kt_base::{Memory, MsgNo, ProcNo};
 use std::alloc::Global;
@@ -15,7 +16,7 @@ pub(crate) struct Step {
     /// Of a receive: the sender.
     pub(crate) from: Option<ProcNo>,
     /// Of a receive: what was received last from this sender before it.
-    pub(crate) before: Option<MsgNo>,
+    pub(crate) before: Earlier,
     /// Its place in the live history, counted from 1.
     pub(crate) place: u32,
 }
@@ -67,7 +68,7 @@ impl Recent {
         self.steps.push_reserved(Step {
             msg,
             from,
-            before,
+            before: Earlier::of(before),
             place,
         });
         Ok(())

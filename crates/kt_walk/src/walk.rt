@@ -24,7 +24,8 @@ use std::marker::Model;
 /// A reader of a log row by row, which keeps no rows: what is known after the rows fed so far.
 ///
 /// Where it stands for some rows, its answers are what these rows say. It keeps a message only while it was not
-/// dropped, is live or in its receiver's live history, and one of its rows lies past the permanent positions.
+/// dropped, is live or in its receiver's live history, and one of its rows lies past the permanent positions; the room
+/// of those that it keeps no more is given back now and then.
 /// Of the messages that are received it keeps the places too, to find orphans, and forgets them at checkpoints.
 #[derive(Drop)]
 pub struct Walk {

@@ -105,7 +105,7 @@ impl Walker {
         let Some(undone) = step else {
             return None;
         };
-        self.restore(undone.from, undone.before);
+        self.restore(undone.from, undone.before.get());
         Some(undone)
     }
 

@@ -1,4 +1,4 @@
-use Rattle.std.proofs.Common.{List, ℕ, length, filter, take, ap, sym, arith, ◌∙◌}
+use Rattle.std.proofs.Common.{List, ℕ, length, filter, ap, sym, arith, ◌∙◌}
 use Rattle.std.specs.Prelude.{slice_index}
 use Rattle.std.proofs.lemmas.List.{take_all}
 use Rattle.kt_cuts.specs.declared.histories.Trace.{Trace}

@@ -1,4 +1,4 @@
-use Rattle.std.proofs.Common.{◌≡◌, ℕ, List, filter, inr, sym, subst, ap, length, ◌∙◌}
+use Rattle.std.proofs.Common.{◌≡◌, ℕ, List, filter, inr, sym, subst}
 use Rattle.std.specs.Prelude.{slice_index}
 use Rattle.kt_cuts.specs.declared.histories.Trace.{Trace}
 use Rattle.kt_walk.specs.Keeping.{kept_at, is_there, is_left, uncovered}

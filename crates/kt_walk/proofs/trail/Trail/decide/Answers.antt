@@ -1,7 +1,6 @@
 use Rattle.std.proofs.Common.{◌≡◌, Option, Some, None, sym, ap, ◌∙◌, length}
 use Rattle.kt_spacetime.specs.declared.event.Event.TheVariants as event
 use Rattle.kt_cuts.specs.declared.instances.Instance.{Instance}
-use Rattle.kt_cuts.specs.Past.{past}
 use Rattle.kt_cuts.proofs.Items.{written}
 use Rattle.kt_walk.proofs.WalkArrivals.{quiet_arrivals, abort_is_quiet, settled_arrivals, rolled_back_arrivals}
 use Rattle.kt_walk.proofs.WalkDecides.{decided_instance, aborted_row, checkpoint_row, rollback_row}

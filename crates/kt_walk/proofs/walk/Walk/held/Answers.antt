@@ -1,4 +1,4 @@
-use Rattle.std.proofs.Common.{ℕ, List, filter, nat_eq, sym, subst, ◌∙◌}
+use Rattle.std.proofs.Common.{ℕ, filter, nat_eq, sym, subst, ◌∙◌}
 use Rattle.std.specs.Prelude.{slice_index}
 use Rattle.std.proofs.lemmas.Map.Made.{IsDistinct-keys_filter}
 use Rattle.kt_walk.specs.Keeping.{is_open}
