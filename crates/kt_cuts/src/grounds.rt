@@ -1,7 +1,8 @@
 //! The rules of a legal log, on what they rest on.
 
-ghost use Rattle.std.specs.Prelude.{◌≡◌, ◌==◌, ◌&&◌, ◌||◌, ℕ};
+ghost use Rattle.std.specs.Prelude.{◌≡◌, ◌==◌, ◌&&◌, ◌||◌, ℕ, is_none};
 ghost use Rattle.std.specs.Option.{option_copied};
+ghost use Rattle.kt_spacetime.specs.declared.event.Event.TheVariants as event;
 
 use crate::instances::Instance;
 use crate::rules::Rule;
@@ -24,7 +25,7 @@ pub struct Grounds<'a> {
 impl Grounds<'_> {
     ghost use Rattle.kt_spacetime.specs.Events.{process_of};
     ghost use Rattle.kt_cuts.specs.Past.{Past};
-    ghost use Rattle.kt_cuts.specs.Legal.{broken_rule, has_begun, names_begun, keeps_numbers, keeps_message, keeps_order, keeps_sending, keeps_receiving, keeps_joining, keeps_deciding, keeps_closing, keeps_causes, may_join, follows, is_undecided, excuses, refuses, is_in, is_in_none, is_rolling};
+    ghost use Rattle.kt_cuts.specs.Legal.{broken_rule, has_begun, names_begun, keeps_numbers, keeps_message, keeps_order, keeps_sending, keeps_receiving, keeps_joining, keeps_deciding, keeps_closing, keeps_causes, may_join, follows, is_undelivered, is_latest, is_undecided, excuses, refuses, is_in, is_in_none, is_rolling};
     ghost use Rattle.kt_cuts.specs.Standing.{at_number};
     ghost use Rattle.kt_cuts.specs.Tests.{is_open_to};
     ghost use Rattle.kt_cuts.specs.Grounds.{ShowsGrounds};
@@ -62,6 +63,32 @@ impl Grounds<'_> {
             return Some(Rule::Causes);
         }
         None
+    }
+
+    /// Whether a row in which this process, p, sends a message to another one breaks no rule.
+    pub fn may_send(&self, p: ProcNo, to: ProcNo) -> bool
+        ensures { (s : Past) (body : _) → ShowsGrounds self.now s p → result ≡ is_none (broken_rule s (event.Sent p to body)) }
+    {
+        to != p && self.up && self.is_in_none() && self.beginning.is_none()
+    }
+
+    /// Whether a row in which this process, p, receives a message breaks no rule; whether the message is on its way, and
+    /// comes after what was received from its sender, is given.
+    pub fn may_receive(
+        &self,
+        p: ProcNo,
+        from: ProcNo,
+        message_kept: bool,
+        order_kept: bool,
+    ) -> bool
+        ensures { (s : Past) (msg : ℕ) → ShowsGrounds self.now s p → message_kept ≡ is_undelivered s p from msg → order_kept ≡ is_latest s p from msg → result ≡ is_none (broken_rule s (event.Received p from msg)) }
+    {
+        from != p
+            && message_kept
+            && order_kept
+            && self.up
+            && !self.is_rolling()
+            && self.beginning.is_none()
     }
 
     // The instance, if it has begun.

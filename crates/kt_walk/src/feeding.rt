@@ -57,7 +57,8 @@ impl Trail {
         }
     }
 
-    fn send(&mut self, p: ProcNo, to: ProcNo) -> Result<(), Memory>
+    /// Sends a message.
+    pub(crate) fn send(&mut self, p: ProcNo, to: ProcNo) -> Result<(), Memory>
         requires few { self.old.rows < 2 ^ 24 }
         ensures fed { OnOk result ((rows : List Event) (body : _) → TrailOf self.old rows → broken_rule (past rows) (event.Sent p to body) ≡ None → TrailOf self.new (rows ++ event.Sent p to body ∷ [])) }
         ensures unchanged { OnErr result (parts_of self.new ≡ parts_of self.old) }

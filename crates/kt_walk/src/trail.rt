@@ -1,6 +1,6 @@
 //! What a walk knows after the rows so far, without the rows.
 
-ghost use Rattle.std.specs.Prelude.{◌≡◌, ◌||◌, not, None, is_some, ◌<◌, ◌+◌, ◌^◌, [], ℕ, Some, List, length, slice_get, slice_index, IfOk};
+ghost use Rattle.std.specs.Prelude.{◌≡◌, ◌||◌, not, None, is_some, is_none, ◌<◌, ◌+◌, ◌^◌, [], ℕ, Some, List, length, slice_get, slice_index, IfOk};
 ghost use Rattle.std.specs.Option.{option_copied};
 ghost use Rattle.kt_spacetime.specs.declared.event.Event.{Event};
 ghost use Rattle.kt_spacetime.specs.declared.event.Event.TheVariants as event;
@@ -144,6 +144,27 @@ impl Trail {
         grounds.broken_rule(row, message_kept, order_kept)
     }
 
+    /// Whether a row in which this process sends a message to another one breaks no rule.
+    pub(crate) fn may_send(&self, p: ProcNo, to: ProcNo) -> bool
+        ensures { (rows : List Event) (body : _) → TrailOf self.now rows → result ≡ is_none (broken_rule (past rows) (event.Sent p to body)) }
+    {
+        self.grounds(p).may_send(p, to)
+    }
+
+    /// Whether a row in which this process receives a message breaks no rule; whether it is on its way is given.
+    pub(crate) fn may_receive(
+        &self,
+        p: ProcNo,
+        from: ProcNo,
+        msg: MsgNo,
+        is_waiting: bool,
+    ) -> bool
+        ensures { (rows : List Event) → TrailOf self.now rows → is_waiting ≡ is_undelivered (past rows) p from msg → result ≡ is_none (broken_rule (past rows) (event.Received p from msg)) }
+    {
+        let order_kept = self.is_latest(p, from, msg);
+        self.grounds(p).may_receive(p, from, is_waiting, order_kept)
+    }
+
     // What the rules ask of the instances and of this process.
     fn grounds(&self, p: ProcNo) -> Grounds<'_>
         ensures { (rows : List Event) → TrailOf self.now rows → ShowsGrounds result (past rows) p }
@@ -157,8 +178,8 @@ impl Trail {
         }
     }
 
-    // The send of a message, if it is on its way.
-    fn undelivered(&self, p: ProcNo, from: ProcNo, msg: MsgNo) -> Waiting
+    /// The send of a message, if it is on its way.
+    pub(crate) fn undelivered(&self, p: ProcNo, from: ProcNo, msg: MsgNo) -> Waiting
         ensures is { (rows : List Event) → TrailOf self.now rows → is_some result.sent ≡ is_undelivered (past rows) p from msg }
         ensures place { (rows : List Event) → TrailOf self.now rows → broken_rule (past rows) (event.Received p from msg) ≡ None → slice_get ((past rows).live from) (sent_index result.sent) ≡ Some (deed.Sent msg p) }
     {

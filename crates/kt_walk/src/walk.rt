@@ -1,9 +1,10 @@
 //! A reader of a log row by row, which keeps no rows.
 
-ghost use Rattle.std.specs.Prelude.{◌≡◌, ◌<◌, ◌^◌, ◌++◌, ◌∷◌, [], ℕ, List, length, IfOk, OnOk, OnErr, IfNone, IfSome, Err, None, Some, true, slice_index, ◌≤◌};
+ghost use Rattle.std.specs.Prelude.{◌≡◌, ◌<◌, ◌^◌, ◌++◌, ◌∷◌, [], ℕ, List, length, IfOk, OnOk, OnErr, IfNone, IfSome, Err, None, Some, true, slice_get, slice_index, ◌≤◌};
 ghost use Rattle.kt_spacetime.specs.declared.event.Event.{Event};
 ghost use Rattle.kt_spacetime.specs.declared.event.Event.TheVariants as event;
 ghost use Rattle.kt_cuts.specs.declared.rules.Rule.{Rule};
+ghost use Rattle.kt_cuts.specs.declared.deeds.Deed.TheVariants as deed;
 ghost use Rattle.kt_cuts.specs.declared.legality.LegalFault.TheVariants as fault;
 ghost use Rattle.kt_cuts.specs.Past.{past};
 ghost use Rattle.kt_cuts.specs.Legal.{IsLegal, broken_rule, first_broken};
@@ -59,12 +60,70 @@ impl Walk {
         ensures broken { (number : ℕ) (rule : Rule) → result ≡ Err (fault.Broken number rule) → (rows : List Event) → WalkOf self.old rows → IsLegal rows × (first_broken (rows ++ row.now ∷ []) ≡ Some (number, rule)) }
         ensures unchanged { OnErr result (self.new ≡ self.old) }
     {
+        match *row {
+            Event::Sent { p, to, .. } if self.trail.may_send(p, to) => {
+                self.send(p, to)?;
+                Ok(())
+            }
+            Event::Received { p, from, msg } => self.feed_received(p, from, msg),
+            _ => self.feed_any(row),
+        }
+    }
+
+    // Takes a row that receives a message.
+    fn feed_received(&mut self, p: ProcNo, from: ProcNo, msg: MsgNo) -> Result<(), LegalFault>
+        requires few { self.old.rows < 2 ^ 24 }
+        ensures fed { OnOk result ((rows : List Event) → WalkOf self.old rows → IsLegal (rows ++ event.Received p from msg ∷ []) × WalkOf self.new (rows ++ event.Received p from msg ∷ [])) }
+        ensures broken { (number : ℕ) (rule : Rule) → result ≡ Err (fault.Broken number rule) → (rows : List Event) → WalkOf self.old rows → IsLegal rows × (first_broken (rows ++ event.Received p from msg ∷ []) ≡ Some (number, rule)) }
+        ensures unchanged { OnErr result (self.new ≡ self.old) }
+    {
+        let waiting = self.trail.undelivered(p, from, msg);
+        if !self.trail.may_receive(p, from, msg, waiting.sent.is_some()) {
+            return self.feed_any(&Event::Received { p, from, msg });
+        }
+        self.receive(p, from, msg, waiting)?;
+        Ok(())
+    }
+
+    // Takes a row of any kind, rule by rule.
+    #[inline(never)]
+    fn feed_any(&mut self, row: &Event) -> Result<(), LegalFault>
+        requires few { self.old.rows < 2 ^ 24 }
+        ensures fed { OnOk result ((rows : List Event) → WalkOf self.old rows → IsLegal (rows ++ row.now ∷ []) × WalkOf self.new (rows ++ row.now ∷ [])) }
+        ensures broken { (number : ℕ) (rule : Rule) → result ≡ Err (fault.Broken number rule) → (rows : List Event) → WalkOf self.old rows → IsLegal rows × (first_broken (rows ++ row.now ∷ []) ≡ Some (number, rule)) }
+        ensures unchanged { OnErr result (self.new ≡ self.old) }
+    {
         let waiting = self.trail.waiting(row);
         if let Some(rule) = self.trail.broken_rule(row, waiting.sent.is_some()) {
             return Err(LegalFault::Broken(self.trail.next_row(), rule));
         }
         self.add(row, waiting)?;
         Ok(())
+    }
+
+    // A process sends a message to another one, which breaks no rule.
+    fn send(&mut self, p: ProcNo, to: ProcNo) -> Result<(), Memory>
+        requires few { self.old.rows < 2 ^ 24 }
+        ensures fed { OnOk result ((rows : List Event) (body : _) → WalkOf self.old rows → broken_rule (past rows) (event.Sent p to body) ≡ None → WalkOf self.new (rows ++ event.Sent p to body ∷ [])) }
+        ensures unchanged { OnErr result (self.new ≡ self.old) }
+    {
+        self.trail.send(p, to)
+    }
+
+    // A process receives a message that is waiting, which breaks no rule.
+    fn receive(
+        &mut self,
+        p: ProcNo,
+        from: ProcNo,
+        msg: MsgNo,
+        waiting: Waiting,
+    ) -> Result<(), Memory>
+        requires few { self.old.rows < 2 ^ 24 }
+        ensures fed { OnOk result ((rows : List Event) → WalkOf self.old rows → broken_rule (past rows) (event.Received p from msg) ≡ None → slice_get ((past rows).live from) (sent_index waiting.sent) ≡ Some (deed.Sent msg p) → WalkOf self.new (rows ++ event.Received p from msg ∷ [])) }
+        ensures unchanged { OnErr result (self.new ≡ self.old) }
+    {
+        self.trail
+            .receive(&mut self.arrivals, p, from, msg, waiting)
     }
 
     // Takes one more row that breaks no rule; the message that it receives is given.
@@ -74,10 +133,7 @@ impl Walk {
         ensures unchanged { OnErr result (self.new ≡ self.old) }
     {
         match *row {
-            Event::Received { p, from, msg } => {
-                self.trail
-                    .receive(&mut self.arrivals, p, from, msg, waiting)
-            }
+            Event::Received { p, from, msg } => self.receive(p, from, msg, waiting),
             Event::Decided { inst, commit, .. } => {
                 self.trail.decide(&mut self.arrivals, inst, commit);
                 Ok(())

@@ -3,7 +3,7 @@ use Rattle.kt_walk.specs.TrailOf.{parts_of}
 use Rattle.kt_walk.specs.PartsOf.{PartsOf}
 use Rattle.kt_walk.specs.WalkParts.{WalkParts, trail_of}
 use Rattle.kt_walk.proofs.WalkRows.{broken_next}
-use Rattle.kt_walk.proofs.walk.Walk.feed.Goals as goal
+use Rattle.kt_walk.proofs.walk.Walk.feed_any.Goals as goal
 
 pub returns-in-Some-clause-broken : goal.returns-in-Some-clause-broken
 returns-in-Some-clause-broken c = λ number rule e rows h.
