@@ -74,13 +74,7 @@ impl Grounds<'_> {
 
     /// Whether a row in which this process, p, receives a message breaks no rule; whether the message is on its way, and
     /// comes after what was received from its sender, is given.
-    pub fn may_receive(
-        &self,
-        p: ProcNo,
-        from: ProcNo,
-        message_kept: bool,
-        order_kept: bool,
-    ) -> bool
+    pub fn may_receive(&self, p: ProcNo, from: ProcNo, message_kept: bool, order_kept: bool) -> bool
         ensures { (s : Past) (msg : ℕ) → ShowsGrounds self.now s p → message_kept ≡ is_undelivered s p from msg → order_kept ≡ is_latest s p from msg → result ≡ is_none (broken_rule s (event.Received p from msg)) }
     {
         from != p

@@ -152,13 +152,7 @@ impl Trail {
     }
 
     /// Whether a row in which this process receives a message breaks no rule; whether it is on its way is given.
-    pub(crate) fn may_receive(
-        &self,
-        p: ProcNo,
-        from: ProcNo,
-        msg: MsgNo,
-        is_waiting: bool,
-    ) -> bool
+    pub(crate) fn may_receive(&self, p: ProcNo, from: ProcNo, msg: MsgNo, is_waiting: bool) -> bool
         ensures { (rows : List Event) → TrailOf self.now rows → is_waiting ≡ is_undelivered (past rows) p from msg → result ≡ is_none (broken_rule (past rows) (event.Received p from msg)) }
     {
         let order_kept = self.is_latest(p, from, msg);
