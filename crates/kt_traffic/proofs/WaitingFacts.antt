@@ -60,17 +60,6 @@ belongs_at xs msg i within p = record {
     above_of : (a b : ℕ) → nat_lt a b ≡ false → b ≤ a
     above_of a b e = grind (arith, nat_tests)
 
--- where the last of messages in order is below a number, all are
-pub all_below : (xs : List Sent) (msg : ℕ) (last : Sent) → IsInOrder xs → slice_get xs (length xs - 1) ≡ Some last → last.msg < msg
-    → (k : ℕ) (a : Sent) → slice_get xs k ≡ Some a → a.msg < msg
-all_below xs msg last o at low k a e = elim (cases_eq k (length xs - 1)) [
-  | inl same ↦
-      let here : Some a ≡ Some last = sym e ∙ (ap (slice_get xs) same ∙ at) in
-      let is : a ≡ last = cc in
-      subst (λ (b : Sent). b.msg < msg) (sym is) low
-  | inr other ↦ omega (arith, low, (o.each k (length xs - 1) a last (omega (arith, other, slice_get_within xs k a e)) e at).msg)
-]
-
 -- a number that is not below the first of the messages after the cursor belongs before it
 pub belongs_before : (xs ys : List Sent) (msg i : ℕ) → IsInOrder (xs ++ ys) → ((a : Sent) → slice_get ys 0 ≡ Some a → msg ≤ a.msg) → Belongs msg xs i → Belongs msg (xs ++ ys) i
 belongs_before xs ys msg i o first b = record {
