@@ -1,0 +1,29 @@
+-- Messages on their way from one process to another.
+use Rattle.std.specs.Prelude.{◌≡◌, ℕ, ◌<◌, ◌≤◌, Some, List, insert, length, slice_get}
+use Rattle.kt_traffic.specs.declared.waiting.Sent.{Sent}
+
+-- messages on their way, and how many there can be without asking for memory
+pub record OnTheWay : Type 0 where
+  pub messages : List Sent
+  pub room : ℕ
+
+-- a message was sent before another one
+pub record IsBefore (a b : Sent) : Type 0 where
+  pub msg : a.msg < b.msg
+  pub place : a.place < b.place
+
+-- messages in the order of their sends
+pub record IsInOrder (messages : List Sent) : Type 0 where
+  pub each : (j k : ℕ) (a b : Sent) → j < k → slice_get messages j ≡ Some a → slice_get messages k ≡ Some b → IsBefore a b
+
+-- so many messages have numbers below this one, and they come first
+pub record Belongs (msg : ℕ) (messages : List Sent) (place : ℕ) : Type 0 where
+  pub within : place ≤ length messages
+  pub below : (k : ℕ) (a : Sent) → k < place → slice_get messages k ≡ Some a → a.msg < msg
+  pub above : (k : ℕ) (a : Sent) → place ≤ k → slice_get messages k ≡ Some a → msg ≤ a.msg
+
+-- a message is put where it belongs
+pub record IsPutBack (message : Sent) (old new : List Sent) : Type 0 where
+  pub place : ℕ
+  pub belongs : IsInOrder old → Belongs message.msg old place
+  pub messages : new ≡ insert old place message
