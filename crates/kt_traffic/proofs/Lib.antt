@@ -1,1 +1,3 @@
 pub mod WaitingFacts
+pub mod WayFacts
+pub mod LastFacts

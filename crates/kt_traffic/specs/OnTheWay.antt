@@ -1,5 +1,7 @@
 -- Messages on their way from one process to another.
-use Rattle.std.specs.Prelude.{◌≡◌, ℕ, ◌<◌, ◌≤◌, Some, List, insert, length, slice_get}
+use Rattle.std.specs.Prelude.{◌≡◌, ℕ, ◌<◌, ◌≤◌, Bool, false, Some, List, insert, length, slice_get}
+use Rattle.kt_cuts.specs.declared.deeds.Deed.{Deed}
+use Rattle.kt_cuts.specs.declared.deeds.Deed.TheVariants as deed
 use Rattle.kt_traffic.specs.declared.waiting.Sent.{Sent}
 
 -- messages on their way, and how many there can be without asking for memory
@@ -27,3 +29,10 @@ pub record IsPutBack (message : Sent) (old new : List Sent) : Type 0 where
   pub place : ℕ
   pub belongs : IsInOrder old → Belongs message.msg old place
   pub messages : new ≡ insert old place message
+
+-- the messages that a sender's history, sent, has for a receiver, but for those that are no longer on their way
+pub record AreOnTheWay (messages : List Sent) (receiver : ℕ) (sent : List Deed) (away : ℕ → Bool) : Type 0 where
+  pub in_order : IsInOrder messages
+  pub live : (k : ℕ) (w : Sent) → slice_get messages k ≡ Some w → slice_get sent w.place ≡ Some (deed.Sent w.msg receiver)
+  pub here : (k : ℕ) (w : Sent) → slice_get messages k ≡ Some w → away w.msg ≡ false
+  pub all : (msg i : ℕ) → slice_get sent i ≡ Some (deed.Sent msg receiver) → away msg ≡ false → (k : ℕ) × (slice_get messages k ≡ Some (record { msg = msg; place = i }))

@@ -16,3 +16,5 @@ pub mod UsedFacts
 pub mod SettledFacts
 pub mod WalkArrivals
 pub mod WalkLinks
+pub mod TraceFacts
+pub mod SettleFacts

@@ -1,0 +1,14 @@
+-- What a history received last from another process.
+use Rattle.std.specs.Prelude.{◌≡◌, ℕ, ◌≤◌, IfSome, Option, Some, None, List, slice_get}
+use Rattle.kt_cuts.specs.declared.deeds.Deed.{Deed}
+use Rattle.kt_cuts.specs.declared.deeds.Deed.TheVariants as deed
+
+-- there is a number, and it is this one or a greater one
+abbrev pub IsAtLeast : Option ℕ → ℕ → Type 0
+IsAtLeast None m = ⊥
+IsAtLeast (Some n) m = m ≤ n
+
+-- the greatest number among the messages that some deeds received from a process; none, where they received none
+pub record IsLastFrom (last : Option ℕ) (sender : ℕ) (deeds : List Deed) : Type 0 where
+  pub there : IfSome last (λ m. (j : ℕ) × (slice_get deeds j ≡ Some (deed.Received m sender)))
+  pub most : (m j : ℕ) → slice_get deeds j ≡ Some (deed.Received m sender) → IsAtLeast last m
