@@ -76,11 +76,11 @@ less_one xs i r = joined (take i xs) (drop (suc i) xs) (first_ones i xs r) (last
 pub more_one : (xs : List Sent) (i : ℕ) (y : Sent) → IsInOrder xs → ((k : ℕ) (a : Sent) → k < i → slice_get xs k ≡ Some a → IsBefore a y) → ((k : ℕ) (a : Sent) → i ≤ k → slice_get xs k ≡ Some a → IsBefore y a) → IsInOrder (insert xs i y)
 more_one xs i y r before after = joined (take i xs) (y ∷ drop i xs) (first_ones i xs r) (joined (y ∷ []) (drop i xs) (alone y) (last_ones i xs r) (λ j k a b e f. subst (λ (z : Sent). IsBefore z b) (only y j a e) (after (i + k) b (omega arith) (get_drop i xs k b f))))
     (λ j k a b e f.
-        let there = get_take i xs j a e in
-        elim (in_parts (y ∷ []) (drop i xs) k b f) [
-          | inl first ↦ subst (λ (z : Sent). IsBefore a z) (only y first.0 b first.1) (before j a there.1 there.0)
-          | inr second ↦ r.each j (i + second.0) a b (omega (arith, there.1)) there.0 (get_drop i xs second.0 b second.1)
-        ])
+    let there = get_take i xs j a e in
+    elim (in_parts (y ∷ []) (drop i xs) k b f) [
+      | inl first ↦ subst (λ (z : Sent). IsBefore a z) (only y first.0 b first.1) (before j a there.1 there.0)
+      | inr second ↦ r.each j (i + second.0) a b (omega (arith, there.1)) there.0 (get_drop i xs second.0 b second.1)
+    ])
 
 -- the items with one more are that one and the others
 pub one_of : {X : Type 0} (xs : List X) (i : ℕ) (y : X) (k : ℕ) (x : X) → slice_get (insert xs i y) k ≡ Some x → (y ≡ x) ⊎ ((j : ℕ) × (slice_get xs j ≡ Some x))
