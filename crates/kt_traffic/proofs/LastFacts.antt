@@ -1,6 +1,6 @@
 -- What was received last, when something is received, and when histories are cut back or come to be permanent.
 use Rattle.std.proofs.Common.{◌≡◌, ◌≢◌, ℕ, ◌<◌, ◌≤◌, Bool, true, false, Option, Some, None, List, [], ◌∷◌, ◌++◌, length, take, refl, sym, ◌∙◌, arith, inl, inr}
-use Rattle.std.specs.Prelude.{nat_lt, IfSome}
+use Rattle.std.specs.Prelude.{nat_lt, nat_le, if◌then◌else◌, IfSome}
 use Rattle.std.specs.List.{slice_get, list_all}
 use Rattle.std.proofs.lemmas.Bool.{cases_lt}
 use Rattle.std.proofs.lemmas.Bool.Decides.{nat_tests}
@@ -11,7 +11,7 @@ use Rattle.kt_cuts.specs.Tests.{is_after}
 use Rattle.kt_cuts.proofs.DeedFacts.{later_than}
 use Rattle.kt_cuts.proofs.LatestFacts.{all_later}
 use Rattle.kt_cuts.proofs.Lists.{get_push, get_kept, get_last, get_take, get_in_take}
-use Rattle.kt_traffic.specs.LastReceived.{IsAtLeast, IsLastFrom}
+use Rattle.kt_traffic.specs.LastReceived.{IsAtLeast, IsLastFrom, latest}
 
 -- a number is among those received, if there is one
 abbrev pub IsFound : Option ℕ → ℕ → List Deed → Type 0
@@ -87,3 +87,42 @@ last_grows last next q n k deeds le h there no_less since = record {
         | inr high ↦ since m j high whole.1 whole.0
       ];
 }
+
+-- the greater of two numbers is no less than either
+pub latest_first : (a b : Option ℕ) (m : ℕ) → IsAtLeast a m → IsAtLeast (latest a b) m
+latest_first None b m h = absurd h
+latest_first (Some x) None m h = h
+latest_first (Some x) (Some y) m h = at_test (nat_le x y) refl
+  where
+    greater : (x y m : ℕ) → m ≤ x → nat_le x y ≡ true → m ≤ y
+    greater x y m l e = grind (arith, nat_tests)
+
+    at_test : (b : Bool) → nat_le x y ≡ b → IsAtLeast (if b then Some y else Some x) m
+    at_test true e = greater x y m h e
+    at_test false e = h
+
+pub latest_second : (a b : Option ℕ) (m : ℕ) → IsAtLeast b m → IsAtLeast (latest a b) m
+latest_second None b m h = h
+latest_second (Some x) None m h = absurd h
+latest_second (Some x) (Some y) m h = at_test (nat_le x y) refl
+  where
+    less : (x y m : ℕ) → m ≤ y → nat_le x y ≡ false → m ≤ x
+    less x y m l e = grind (arith, nat_tests)
+
+    at_test : (b : Bool) → nat_le x y ≡ b → IsAtLeast (if b then Some y else Some x) m
+    at_test true e = h
+    at_test false e = less x y m h e
+
+-- and it is one of them
+pub latest_one : (P : ℕ → Type 0) (a b : Option ℕ) → IfSome a P → IfSome b P → IfSome (latest a b) P
+latest_one P None b f g = g
+latest_one P (Some x) None f g = f
+latest_one P (Some x) (Some y) f g = at_test (nat_le x y)
+  where
+    at_test : (b : Bool) → IfSome (if b then Some y else Some x) P
+    at_test true = g
+    at_test false = f
+
+pub at_least_if : (b : Bool) (m : ℕ) → b ≡ true → IsAtLeast (if b then Some m else None) m
+at_least_if true m e = omega arith
+at_least_if false m e = absurd (cc)

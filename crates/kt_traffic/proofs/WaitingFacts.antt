@@ -7,7 +7,7 @@ use Rattle.std.proofs.lemmas.Bool.{cases_lt, cases_eq}
 use Rattle.std.proofs.lemmas.Bool.Decides.{nat_tests}
 use Rattle.std.proofs.lemmas.Option.{slice_get_within, slice_get-get_or, get_or_from_slice_get}
 use Rattle.kt_traffic.specs.declared.waiting.Sent.{Sent}
-use Rattle.kt_traffic.specs.OnTheWay.{IsInOrder, Belongs}
+use Rattle.kt_traffic.specs.OnTheWay.{IsInOrder, Belongs, AreSentBefore}
 
 pub get_left : {X : Type 0} (xs ys : List X) (i : ℕ) → i < length xs → slice_get (xs ++ ys) i ≡ slice_get xs i
 get_left [] ys i l = absurd (omega arith)
@@ -116,3 +116,56 @@ take_joined (x ∷ xs) ys zero =
 take_joined (x ∷ xs) ys (suc n) =
     let one_less : suc n - suc (length xs) ≡ n - length xs = omega arith in
     ap (λ (k : ℕ). x ∷ (take n xs ++ take k ys)) one_less ∙ ap (λ (l : _). x ∷ l) (take_joined xs ys n)
+
+-- messages in order are parted by a place
+pub parted_by_place : (xs : List Sent) (place : ℕ) → IsInOrder xs → IsPartitionedBy (λ (a : Sent). nat_lt a.place place) xs
+parted_by_place xs place o i j d le lt below = elim (cases_eq i j) [
+  | inl same ↦ rw same below
+  | inr other ↦
+      let low : (get_or xs i d).place < (get_or xs j d).place =
+      (o.each i j (get_or xs i d) (get_or xs j d) (omega (arith, other, le)) (slice_get-get_or xs i d (omega (arith, le, lt))) (slice_get-get_or xs j d lt)).place in
+      still_below (get_or xs i d).place (get_or xs j d).place place low below
+]
+  where
+    still_below : (a b n : ℕ) → a < b → nat_lt b n ≡ true → nat_lt a n ≡ true
+    still_below a b n l e = grind (arith, nat_tests)
+
+pub sent_before_at : (xs : List Sent) (place i : ℕ) → IsPartitionPoint (λ (a : Sent). nat_lt a.place place ≡ true) (λ (a : Sent). nat_lt a.place place ≡ false) xs i → AreSentBefore place xs i
+sent_before_at xs place i p = record {
+  before = λ k a low e.
+      let here : nat_lt a.place place ≡ true = subst (λ (b : Sent). nat_lt b.place place ≡ true) (get_or_from_slice_get xs k a a e) (p.0 k a (omega arith) low) in
+      below_of a.place place here;
+  not_before = λ k a low e.
+      let here : nat_lt a.place place ≡ false = subst (λ (b : Sent). nat_lt b.place place ≡ false) (get_or_from_slice_get xs k a a e) (p.1 k a low (slice_get_within xs k a e)) in
+      above_of a.place place here;
+}
+  where
+    below_of : (a b : ℕ) → nat_lt a b ≡ true → a < b
+    below_of a b e = grind (arith, nat_tests)
+
+    above_of : (a b : ℕ) → nat_lt a b ≡ false → b ≤ a
+    above_of a b e = grind (arith, nat_tests)
+
+-- where the first half goes on past the place, the second one is past it
+pub before_left : (xs ys : List Sent) (place i : ℕ) → IsInOrder (xs ++ ys) → i < length xs → AreSentBefore place xs i → AreSentBefore place (xs ++ ys) i
+before_left xs ys place i o low b = record {
+  before = λ k a l e. b.before k a l (sym (get_left xs ys k (omega (arith, l, low))) ∙ e);
+  not_before = λ k a high e. elim (cases_lt k (length xs)) [
+    | inl left ↦ b.not_before k a high (sym (get_left xs ys k left) ∙ e)
+    | inr right ↦
+        let last : slice_get xs i ≡ Some (get_or xs i a) = slice_get-get_or xs i a low in
+        let past : place ≤ (get_or xs i a).place = b.not_before i (get_or xs i a) (omega arith) last in
+        let before : (get_or xs i a).place < a.place = (o.each i k (get_or xs i a) a (omega (arith, low, right)) (get_left xs ys i low ∙ last) e).place in
+        omega (arith, past, before)
+  ];
+}
+
+-- where the first half was sent before the place, the second one tells the rest
+pub before_right : (xs ys : List Sent) (place i : ℕ) → AreSentBefore place xs (length xs) → AreSentBefore place ys i → AreSentBefore place (xs ++ ys) (length xs + i)
+before_right xs ys place i all b = record {
+  before = λ k a l e. elim (cases_lt k (length xs)) [
+    | inl left ↦ all.before k a left (sym (get_left xs ys k left) ∙ e)
+    | inr right ↦ b.before (k - length xs) a (omega (arith, l, right)) (sym (get_right xs ys (k - length xs) k (omega (arith, right))) ∙ e)
+  ];
+  not_before = λ k a high e. b.not_before (k - length xs) a (omega (arith, high)) (sym (get_right xs ys (k - length xs) k (omega (arith, high))) ∙ e);
+}

@@ -36,3 +36,8 @@ pub record AreOnTheWay (messages : List Sent) (receiver : ℕ) (sent : List Deed
   pub live : (k : ℕ) (w : Sent) → slice_get messages k ≡ Some w → slice_get sent w.place ≡ Some (deed.Sent w.msg receiver)
   pub here : (k : ℕ) (w : Sent) → slice_get messages k ≡ Some w → away w.msg ≡ false
   pub all : (msg i : ℕ) → slice_get sent i ≡ Some (deed.Sent msg receiver) → away msg ≡ false → (k : ℕ) × (slice_get messages k ≡ Some (record { msg = msg; place = i }))
+
+-- so many messages were sent before a place, and they come first
+pub record AreSentBefore (place : ℕ) (messages : List Sent) (count : ℕ) : Type 0 where
+  pub before : (k : ℕ) (a : Sent) → k < count → slice_get messages k ≡ Some a → a.place < place
+  pub not_before : (k : ℕ) (a : Sent) → count ≤ k → slice_get messages k ≡ Some a → place ≤ a.place

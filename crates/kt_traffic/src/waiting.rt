@@ -3,7 +3,7 @@
 ghost use Rattle.std.specs.Prelude.{◌≡◌, ◌+◌, ◌<◌, ◌≤◌, ◌++◌, ◌∷◌, [], ℕ, true, false, nat_lt, length, remove, take, slice_get, vec_len, vec_capacity, Some, IfSome, IfNone, OnOk, OnErr};
 ghost use Rattle.std.specs.VecDeque.{deque_len, deque_capacity};
 ghost use Rattle.kt_traffic.specs.declared.waiting.Sent.{Sent};
-ghost use Rattle.kt_traffic.specs.OnTheWay.{IsInOrder, Belongs, IsPutBack};
+ghost use Rattle.kt_traffic.specs.OnTheWay.{IsInOrder, Belongs, IsPutBack, AreSentBefore};
 
 use kt_base::{Memory, MsgNo};
 use std::alloc::Global;
@@ -139,6 +139,18 @@ impl Waiting {
         self.passed.truncate(count);
     }
 
+    /// How many messages were sent before this place in their sender's history, which counts from 0.
+    pub fn count_before(&self, place: usize) -> usize
+        ensures { IsInOrder self.now.messages → AreSentBefore place self.now.messages result }
+    {
+        let passed = count_sent_before(&self.passed, place);
+        if passed < self.passed.len() {
+            passed
+        } else {
+            passed + count_next_sent_before(&self.next, place)
+        }
+    }
+
     // Where a message belongs.
     fn place_of(&self, msg: MsgNo) -> usize
         ensures within { result ≤ length self.now.messages }
@@ -197,6 +209,30 @@ fn count_below(messages: &[Sent], msg: MsgNo) -> usize
         |message: &Sent| -> bool
             ensures { result ≡ nat_lt message.now.msg msg }
         { message.msg.get() < msg.get() },
+    )
+}
+
+// How many messages were sent before this place.
+fn count_sent_before(messages: &[Sent], place: usize) -> usize
+    ensures within { result ≤ length messages.now }
+    ensures before { IsInOrder messages.now → AreSentBefore place messages.now result }
+{
+    messages.partition_point(
+        |message: &Sent| -> bool
+            ensures { result ≡ nat_lt message.now.place place }
+        { (message.place as usize) < place },
+    )
+}
+
+// The same.
+fn count_next_sent_before(messages: &VecDeque<Sent>, place: usize) -> usize
+    ensures within { result ≤ length messages.now.items }
+    ensures before { IsInOrder messages.now.items → AreSentBefore place messages.now.items result }
+{
+    messages.partition_point(
+        |message: &Sent| -> bool
+            ensures { result ≡ nat_lt message.now.place place }
+        { (message.place as usize) < place },
     )
 }
 

@@ -34,7 +34,7 @@ within_count number xs bound count k x parts e l = elim (cases_lt k count) [
   | inr high ↦ absurd (omega (arith, l, parts.above k x high e))
 ]
 
-past_count : (number : Arrival → ℕ) (xs : List Arrival) (bound count k : ℕ) (x : Arrival) → Parts number xs bound count → slice_get xs k ≡ Some x → bound ≤ number x → count ≤ k
+pub past_count : (number : Arrival → ℕ) (xs : List Arrival) (bound count k : ℕ) (x : Arrival) → Parts number xs bound count → slice_get xs k ≡ Some x → bound ≤ number x → count ≤ k
 past_count number xs bound count k x parts e l = elim (cases_lt k count) [
   | inl low ↦ absurd (omega (arith, l, parts.below k x low e))
   | inr high ↦ high

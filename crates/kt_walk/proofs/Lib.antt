@@ -16,5 +16,9 @@ pub mod UsedFacts
 pub mod SettledFacts
 pub mod WalkArrivals
 pub mod WalkLinks
+pub mod PairFacts
+pub mod WayRows
+pub mod PairsUsed
+pub mod PairsFacts
 pub mod TraceFacts
 pub mod SettleFacts

@@ -1,6 +1,6 @@
 //! The messages of one process that stand in the live history of another.
 
-ghost use Rattle.std.specs.Prelude.{◌≡◌, ◌⊎◌, ◌≤◌, ◌<◌, ◌+◌, ◌++◌, ◌∷◌, [], ℕ, List, true, nat_lt, length, drop, map, take, vec_len, vec_capacity, slice_get, slice_index, filter, Some, None, OnOk, OnErr, IfSome};
+ghost use Rattle.std.specs.Prelude.{◌≡◌, ◌⊎◌, ◌≤◌, ◌<◌, ◌+◌, ◌-◌, ◌++◌, ◌∷◌, [], ℕ, List, true, nat_lt, length, drop, map, take, vec_len, vec_capacity, slice_get, slice_index, filter, Some, None, OnOk, OnErr, IfSome};
 ghost use Rattle.kt_base.specs.Sets.{has};
 ghost use Rattle.kt_cuts.specs.declared.deeds.Deed.{Deed};
 ghost use Rattle.kt_walk.specs.declared.queue.Arrival.{Arrival};
@@ -77,6 +77,28 @@ impl Channel {
         Ok(())
     }
 
+    /// Forgets the last arrival.
+    pub(crate) fn forget_last(&mut self)
+        ensures { self.new ≡ record self.old { arrivals = take (length self.old.arrivals - 1) self.old.arrivals } }
+    {
+        self.arrivals
+            .truncate(self.arrivals.len().saturating_sub(1));
+    }
+
+    /// The process that receives.
+    pub(crate) fn receiver(&self) -> ProcNo
+        ensures { result ≡ self.now.receiver }
+    {
+        self.receiver
+    }
+
+    /// The process that sends.
+    pub(crate) fn sender(&self) -> ProcNo
+        ensures { result ≡ self.now.sender }
+    {
+        self.sender
+    }
+
     /// Cuts the histories of these processes back to these lengths.
     pub(crate) fn cut_back(&mut self, members: ProcSet, lengths: &[usize; 64])
         ensures receiver { self.new.receiver ≡ self.old.receiver }
@@ -111,14 +133,15 @@ impl Channel {
         }
     }
 
-    // Cuts the sender's history back.
-    fn cut_sender(&mut self, length: usize)
+    /// Cuts the sender's history back.
+    pub(crate) fn cut_sender(&mut self, place: usize)
         ensures receiver { self.new.receiver ≡ self.old.receiver }
         ensures sender { self.new.sender ≡ self.old.sender }
-        ensures traffic { (received sent : List Deed) (i j : ℕ) → Rises (sent_in sent) → j ≤ length → IsTraffic self.old received sent i j → IsTraffic self.new received (take length sent) i j }
+        ensures fewer { length self.new.arrivals ≤ length self.old.arrivals }
+        ensures traffic { (received sent : List Deed) (i j : ℕ) → Rises (sent_in sent) → j ≤ place → IsTraffic self.old received sent i j → IsTraffic self.new received (take place sent) i j }
     {
         let arrivals = self.arrivals.as_slice();
-        let kept = count_sent_before(arrivals, length);
+        let kept = count_sent_before(arrivals, place);
         undo_all(&mut self.undone, &arrivals[kept..]);
         self.arrivals.truncate(kept);
     }
@@ -130,14 +153,37 @@ impl Channel {
         ensures traffic { (received sent : List Deed) (i j : ℕ) → IsTraffic self.old received sent i j → IsTraffic self.new (take length received) sent i j }
     {
         let kept = count_received_before(self.arrivals.as_slice(), length);
+        self.forget_received(kept, length);
+    }
+
+    /// Keeps the first so many arrivals, and of those whose send was undone what is received before this place.
+    pub(crate) fn forget_received(&mut self, kept: usize, place: usize)
+        requires { kept ≤ length self.old.arrivals }
+        ensures { self.new ≡ record self.old { arrivals = take kept self.old.arrivals; undone = filter (λ u. nat_lt u.received place) self.old.undone } }
+    {
         self.arrivals.truncate(kept);
-        keep_received_before(&mut self.undone, length);
+        keep_received_before(&mut self.undone, place);
+    }
+
+    /// The messages whose sends are live, in the order of their sends.
+    pub(crate) fn arrivals(&self) -> &[Arrival]
+        ensures { result.now ≡ self.now.arrivals }
+    {
+        self.arrivals.as_slice()
+    }
+
+    /// The messages whose sends were undone.
+    pub(crate) fn undone(&self) -> &[Undone]
+        ensures { result.now ≡ self.now.undone }
+    {
+        self.undone.as_slice()
     }
 
     /// Forgets what both permanent parts have, of these lengths by process.
     pub(crate) fn release(&mut self, permanent: &[usize; 64])
         ensures receiver { self.new.receiver ≡ self.old.receiver }
         ensures sender { self.new.sender ≡ self.old.sender }
+        ensures fewer { length self.new.arrivals ≤ length self.old.arrivals }
         ensures traffic { (received sent : List Deed) (i j : ℕ) → i ≤ slice_index permanent.now self.old.receiver → j ≤ slice_index permanent.now self.old.sender → IsTraffic self.old received sent i j → IsTraffic self.new received sent (slice_index permanent.now self.old.receiver) (slice_index permanent.now self.old.sender) }
         ensures none { IsRising self.old.arrivals → IsOpen permanent.now self.new }
     {
@@ -174,7 +220,7 @@ fn count_sent_before(arrivals: &[Arrival], place: usize) -> usize
 }
 
 // How many of rising arrivals are received before this place.
-fn count_received_before(arrivals: &[Arrival], place: usize) -> usize
+pub(crate) fn count_received_before(arrivals: &[Arrival], place: usize) -> usize
     ensures bound { result ≤ length arrivals.now }
     ensures parts { IsRising arrivals.now → Parts received_at arrivals.now place result }
 {

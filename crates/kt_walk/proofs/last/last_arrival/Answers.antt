@@ -1,0 +1,1 @@
+use Rattle.kt_walk.proofs.last.last_arrival.Goals as goal

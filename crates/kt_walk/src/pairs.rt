@@ -1,0 +1,181 @@
+//! The messages of each pair of processes that can still matter.
+
+ghost use Rattle.std.specs.Prelude.{◌≡◌, ◌≢◌, ◌≤◌, ◌<◌, ◌+◌, ◌*◌, ℕ, List, Some, true, is_some, length, slice_get, slice_index, OnOk, OnErr, IfOk, IfSome};
+ghost use Rattle.kt_spacetime.specs.declared.event.Event.TheVariants as event;
+ghost use Rattle.kt_cuts.specs.declared.deeds.Deed.TheVariants as deed;
+ghost use Rattle.kt_cuts.specs.Past.{Past, start, after};
+ghost use Rattle.std.specs.List.{list_all};
+ghost use Rattle.kt_cuts.specs.Legal.{is_undelivered, is_later};
+ghost use Rattle.kt_cuts.specs.Tests.{is_after};
+ghost use Rattle.kt_cuts.specs.Orphans.{IsOrphanBetween, IsAtMost};
+ghost use Rattle.kt_cuts.specs.Standing.{IsInOrder, IsAllowed};
+ghost use Rattle.kt_traffic.specs.declared.waiting.Sent.{Sent};
+ghost use Rattle.kt_walk.specs.Arrivals.{ShowsTraffic, RollsBack, MakesPermanent, KeepsPermanent};
+ghost use Rattle.kt_walk.specs.Pairs.{Link, AreListed, AreInUse, is_in_use, IsPairCutBack, IsPairSettled, IsFit, IsEachOnce, AreNotDropped, ShowsPairs};
+
+use crate::pair::Pair;
+use crate::queue::Arrival;
+use kt_base::{Memory, MsgNo, ProcNo, ProcSet};
+use kt_cuts::Cut;
+use kt_cuts::orphans::earlier;
+use kt_traffic::Sent;
+use std::marker::Model;
+
+/// The messages that each process has sent to each other and that can still matter.
+#[derive(Drop)]
+pub(crate) struct Pairs {
+    // By receiver and then by sender.
+    pairs: Vec<Pair>,
+    // The places of the pairs that have messages, each once.
+    used: Vec<usize>,
+}
+
+impl Model for Pairs {
+    ghost use Rattle.std.specs.Prelude.{List, map};
+    ghost use Rattle.kt_walk.specs.Arrivals.{IsByPair};
+    ghost use Rattle.kt_walk.specs.Pairs.{Link, traffic_of, AreListed, AreInUse};
+
+    ghost Value = { List Link };
+
+    ghost view = { λ a. a.pairs.items };
+
+    ghost invariant = { λ a. IsByPair (map traffic_of a.pairs.items) × AreListed a.pairs.items a.used.items × AreInUse a.pairs.items a.used.items };
+}
+
+impl Pairs {
+    /// A message, if it is on its way to this process, and its place among those that are.
+    pub(crate) fn find(&self, p: ProcNo, from: ProcNo, msg: MsgNo) -> Option<(usize, Sent)>
+        ensures is { (s : Past) → ShowsPairs self.now s → is_some result ≡ is_undelivered s p from msg }
+        ensures found { IfSome result (λ r. (v : Link) → slice_get self.now (p * 64 + from) ≡ Some v → (slice_get v.waiting r.0 ≡ Some r.1) × (r.1.msg ≡ msg)) }
+    {
+        self.pairs[index_of(p, from)].find(msg)
+    }
+
+    /// What this process received last of the other one, in its live history.
+    pub(crate) fn last(&self, p: ProcNo, from: ProcNo) -> Option<MsgNo>
+        ensures is { (s : Past) (msg : ℕ) → ShowsPairs self.now s → list_all (is_later from msg) (s.live p) ≡ is_after msg result }
+        ensures known { (v : Link) → slice_get self.now (p * 64 + from) ≡ Some v → v.last ≡ result }
+    {
+        self.pairs[index_of(p, from)].last()
+    }
+
+    /// A process, p, sends a message to another one; unchanged where there is no memory.
+    pub(crate) fn send(&mut self, p: ProcNo, to: ProcNo, message: Sent) -> Result<(), Memory>
+        ensures ok { OnOk result ((s : Past) (body : _) → ShowsPairs self.old s → IsFit s → p ≢ to → message.msg ≡ s.rows + 1 → message.place ≡ length (s.live p) → ShowsPairs self.new (after s (event.Sent p to body))) }
+        ensures err { OnErr result (self.new ≡ self.old) }
+    {
+        let index = index_of(to, p);
+        let pair = &mut self.pairs[index];
+        if !pair.is_idle() {
+            return pair.send(message);
+        }
+        self.used.reserve(1)?;
+        pair.send(message)?;
+        self.used.push_reserved(index);
+        Ok(())
+    }
+
+    /// A process, p, receives a message that is on its way to it, at this place among those that are; unchanged where
+    /// there is no memory.
+    pub(crate) fn receive(&mut self, p: ProcNo, from: ProcNo, index: usize, arrival: Arrival) -> Result<(), Memory>
+        requires { (v : Link) → slice_get self.old (p * 64 + from) ≡ Some v → slice_get v.waiting index ≡ Some (record { msg = arrival.msg; place = arrival.sent }) }
+        ensures ok { OnOk result ((s : Past) → ShowsPairs self.old s → IsFit s → IsInOrder s → IsAllowed s (event.Received p from arrival.msg) → arrival.received ≡ length (s.live p) → ShowsPairs self.new (after s (event.Received p from arrival.msg))) }
+        ensures err { OnErr result (self.new ≡ self.old) }
+    {
+        let place = index_of(p, from);
+        self.pairs[place].receive(index, arrival)
+    }
+
+    /// The least orphan of a cut that keeps the permanent parts.
+    pub(crate) fn orphan(&self, cut: &Cut) -> Option<MsgNo>
+        ensures orphan { IfSome result (λ msg. (s : Past) → ShowsPairs self.now s → IsInOrder s → (p : ℕ) × (q : ℕ) × IsOrphanBetween s (slice_index cut.now) p q msg) }
+        ensures least { (s : Past) (p q msg : ℕ) → ShowsPairs self.now s → KeepsPermanent s cut.now → IsOrphanBetween s (slice_index cut.now) p q msg → IsAtMost result msg }
+    {
+        first_orphan_of(&self.pairs, &self.used, cut)
+    }
+
+    /// A committed rollback cuts the members' histories back to the permanent lengths.
+    pub(crate) fn roll_back(&mut self, members: ProcSet, permanent: &[usize; 64])
+        ensures { (s : Past) (p k : ℕ) → ShowsPairs self.old s → ((q : ℕ) → IsEachOnce (s.live q)) → ((q r : ℕ) → AreNotDropped r (s.live q) s.dropped) → IsInOrder s → RollsBack s k members permanent.now → ShowsPairs self.new (after s (event.Decided p k true)) }
+    {
+        cut_all_back(&mut self.pairs, &self.used, members, permanent);
+        drop_idle(&mut self.used, &self.pairs);
+    }
+
+    /// A committed checkpoint leaves these permanent lengths. Messages that both permanent parts have are forgotten.
+    pub(crate) fn settle(&mut self, permanent: &[usize; 64])
+        ensures { (s : Past) (p k : ℕ) → ShowsPairs self.old s → MakesPermanent s k permanent.now → ShowsPairs self.new (after s (event.Decided p k true)) }
+    {
+        settle_all(&mut self.pairs, &self.used, permanent);
+        drop_idle(&mut self.used, &self.pairs);
+    }
+}
+
+// The place of the pair of a receiver and a sender.
+fn index_of(receiver: ProcNo, sender: ProcNo) -> usize
+    ensures value { result ≡ receiver * 64 + sender }
+    ensures receiver_in_range { receiver < 64 }
+    ensures sender_in_range { sender < 64 }
+{
+    receiver.get() as usize * 64 + sender.get() as usize
+}
+
+// Cuts the histories of these processes back to their permanent parts, in each pair that has messages.
+fn cut_all_back(pairs: &mut [Pair], used: &[usize], members: ProcSet, lengths: &[usize; 64])
+    requires { AreListed pairs.old used.now }
+    ensures count { length pairs.new ≡ length pairs.old }
+    ensures each { (i : ℕ) (w : Link) → slice_get pairs.new i ≡ Some w → (v : Link) × (slice_get pairs.old i ≡ Some v) × IsPairCutBack members lengths.now v w }
+    ensures listed { AreListed pairs.new used.now }
+{
+    for place in used {
+        pairs[*place].cut_back(members, lengths);
+    }
+}
+
+// Forgets what both permanent parts have, in each pair that has messages.
+fn settle_all(pairs: &mut [Pair], used: &[usize], permanent: &[usize; 64])
+    requires { AreListed pairs.old used.now }
+    ensures count { length pairs.new ≡ length pairs.old }
+    ensures each { (i : ℕ) (w : Link) → slice_get pairs.new i ≡ Some w → (v : Link) × (slice_get pairs.old i ≡ Some v) × IsPairSettled permanent.now v w }
+    ensures listed { AreListed pairs.new used.now }
+{
+    for place in used {
+        pairs[*place].release(permanent);
+    }
+}
+
+// The least orphan of the pairs that have messages.
+fn first_orphan_of(pairs: &[Pair], used: &[usize], cut: &Cut) -> Option<MsgNo>
+    requires { AreListed pairs.now used.now }
+    ensures orphan { IfSome result (λ msg. (k : ℕ) × (v : Link) × (slice_get pairs.now k ≡ Some v) × ((s : Past) → IsInOrder s → ShowsTraffic v.traffic s → IsOrphanBetween s (slice_index cut.now) v.traffic.receiver v.traffic.sender msg)) }
+    ensures least { (k : ℕ) (v : Link) (s : Past) (msg : ℕ) → slice_get pairs.now k ≡ Some v → s.permanent v.traffic.sender ≤ slice_index cut.now v.traffic.sender → ShowsTraffic v.traffic s → IsOrphanBetween s (slice_index cut.now) v.traffic.receiver v.traffic.sender msg → IsAtMost result msg }
+{
+    let mut least = None;
+    for place in used {
+        least = earlier(least, pairs[*place].orphan(cut));
+    }
+    least
+}
+
+// Lists the pairs no more that came to have no messages.
+fn drop_idle(used: &mut Vec<usize>, pairs: &[Pair])
+    requires { AreListed pairs.now used.old.items }
+    ensures listed { AreListed pairs.now used.new.items }
+    ensures in_use { AreInUse pairs.now used.new.items }
+{
+    used.retain(
+        |place: &usize| -> bool
+            ensures { result ≡ is_in_use pairs.entry.now place.now }
+        { is_in_use(pairs, *place) },
+    );
+}
+
+// There is a pair at a place, and it has messages.
+fn is_in_use(pairs: &[Pair], place: usize) -> bool
+    ensures { result ≡ is_in_use pairs.now place }
+{
+    let Some(pair) = pairs.get(place) else {
+        return false;
+    };
+    !pair.is_idle()
+}
