@@ -1,6 +1,8 @@
 -- What is kept of the messages from one process to another.
 use Rattle.std.specs.Prelude.{◌≡◌, ℕ, ◌+◌, ◌<◌, ◌≤◌, ◌==◌, ◌&&◌, ◌||◌, not, Bool, true, false, Option, None, Some, List, length, map, slice_index, take, slice_get}
 use Rattle.std.specs.List.{list_any}
+use Rattle.kt_spacetime.specs.declared.event.Event.{Event}
+use Rattle.kt_spacetime.specs.declared.event.Event.TheVariants as event
 use Rattle.kt_cuts.specs.declared.deeds.Deed.{Deed}
 use Rattle.kt_cuts.specs.declared.deeds.Deed.TheVariants as deed
 use Rattle.kt_cuts.specs.Past.{Past}
@@ -93,10 +95,23 @@ has_messages (Some v) = not (is_idle v)
 abbrev pub is_in_use : List Link → ℕ → Bool
 is_in_use links place = has_messages (slice_get links place)
 
+-- no message received has both its rows in permanent parts
+abbrev pub IsStillOpen : Link → Past → Type 0
+IsStillOpen v s = (k : ℕ) (a : Arrival) → slice_get v.traffic.arrivals k ≡ Some a → a.sent < s.permanent v.traffic.sender → s.permanent v.traffic.receiver ≤ a.received
+
 -- the messages of all pairs of processes are those of the live histories
 pub record ShowsPairs (links : List Link) (s : Past) : Type 0 where
   pub arrivals : ShowsArrivals (map traffic_of links) s
   pub each : (i : ℕ) (v : Link) → slice_get links i ≡ Some v → ShowsWay v s
+  pub open : (i : ℕ) (v : Link) → slice_get links i ≡ Some v → IsStillOpen v s
+
+-- a row that neither sends, receives nor drops a message, and is no commit
+abbrev pub leaves_messages : Event → Bool
+leaves_messages (event.Sent p to body) = false
+leaves_messages (event.Received p from msg) = false
+leaves_messages (event.Dropped p from msg) = false
+leaves_messages (event.Decided p k true) = false
+leaves_messages row = true
 
 -- what is kept of two processes, when the members of a set are cut back to their permanent lengths
 pub record IsPairCutBack (set : ℕ) (lengths : List ℕ) (old new : Link) : Type 0 where

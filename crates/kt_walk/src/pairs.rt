@@ -25,9 +25,9 @@ use std::marker::Model;
 #[derive(Drop)]
 pub(crate) struct Pairs {
     // By receiver and then by sender.
-    pairs: Vec<Pair>,
+    pub(crate) pairs: Vec<Pair>,
     // The places of the pairs that have messages, each once.
-    used: Vec<usize>,
+    pub(crate) used: Vec<usize>,
 }
 
 impl Model for Pairs {
