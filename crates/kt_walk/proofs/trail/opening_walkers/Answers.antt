@@ -11,6 +11,6 @@ loop-number-preserved c =
       low = omega (arith, c.loop-number-test.true);
       each = λ p v e. elim (get_push _ _ p v (rw c.in_ok-push.ensures.items at e)) [
         | inl old ↦ c.loop-number.invariant.each p v old
-        | inr new ↦ rw new.1 (walker_start _ p fresh.0 fresh.1 fresh.2 fresh.3 fresh.4 fresh.5 fresh.6)
+        | inr new ↦ rw new.1 (walker_start _ p fresh.0 fresh.1 fresh.2 fresh.3 fresh.4)
       ];
     }
