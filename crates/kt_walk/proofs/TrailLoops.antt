@@ -1,7 +1,6 @@
 -- Decisions, process by process.
-use Rattle.std.proofs.Common.{◌≡◌, ◌≢◌, ◌⊎◌, ℕ, zero, suc, ◌+◌, ◌-◌, ◌<◌, ◌≤◌, ◌&&◌, nat_lt, if◌then◌else◌, Bool, true, false, Option, Some, List, [], ◌∷◌, length, take, refl, sym, ap, subst, ◌∙◌, arith, inl, inr, length-take}
+use Rattle.std.proofs.Common.{◌≡◌, ◌≢◌, ℕ, ◌+◌, ◌≤◌, ◌&&◌, nat_lt, if◌then◌else◌, Bool, true, false, List, length, take, refl, sym, ap, subst, ◌∙◌, arith, inl, inr, length-take}
 use Rattle.std.specs.Prelude.{slice_index_or}
-use Rattle.std.specs.List.{slice_get}
 use Rattle.std.proofs.lemmas.Bool.{cases_eq}
 use Rattle.std.proofs.lemmas.Bool.Decides.{nat_tests}
 use Rattle.kt_base.specs.Sets.{has}
@@ -13,7 +12,6 @@ use Rattle.kt_cuts.specs.Past.{Past, at_one}
 use Rattle.kt_walk.specs.Stages.{with_permanent, with_live, settled_below, settled_at, undone_below, undone_at, IsWithin}
 use Rattle.kt_walk.specs.TrailOf.{KeepsRest}
 use Rattle.kt_walk.specs.PartsOf.{ShowsWalkers}
-use Rattle.kt_cuts.proofs.Lists.{get_take}
 use Rattle.kt_cuts.proofs.Shown.{at_same, at_other}
 
 pub keeps_rest : (t : Trail) → KeepsRest t t

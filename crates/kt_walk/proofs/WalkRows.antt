@@ -1,10 +1,10 @@
 -- A walk takes one more row.
-use Rattle.std.proofs.Common.{◌≡◌, ◌≢◌, ℕ, zero, suc, ◌+◌, ◌<◌, ◌≤◌, ◌&&◌, true, false, Option, Some, None, option_map, List, [], ◌∷◌, ◌++◌, length, take, replicate, refl, sym, ap, subst, ◌∙◌, arith, inl, inr, length-append}
+use Rattle.std.proofs.Common.{◌≡◌, ◌≢◌, ℕ, zero, suc, ◌+◌, ◌<◌, ◌≤◌, true, Option, Some, None, option_map, List, [], ◌∷◌, ◌++◌, length, take, replicate, refl, sym, ap, subst, ◌∙◌, arith, inl, inr, length-append}
 use Rattle.std.specs.List.{slice_get, list_all}
 use Rattle.std.specs.Option.{option_flatten}
 use Rattle.std.proofs.lemmas.Bool.{cases_eq, cases_lt}
 use Rattle.std.proofs.lemmas.List.{get_or-replicate, length-replicate}
-use Rattle.std.proofs.lemmas.Option.{slice_get_past, slice_get-get_or}
+use Rattle.std.proofs.lemmas.Option.{slice_get_past, slice_get-get_or, slice_get_within}
 use Rattle.kt_spacetime.specs.declared.event.Event.{Event}
 use Rattle.kt_cuts.specs.declared.deeds.Deed.TheVariants as deed
 use Rattle.kt_cuts.specs.declared.instances.Instance.{Instance}
@@ -18,7 +18,7 @@ use Rattle.kt_cuts.specs.Tests.{is_after}
 use Rattle.kt_walk.specs.Keeping.{parties_in}
 use Rattle.kt_walk.specs.TrailParts.{TrailParts}
 use Rattle.kt_walk.specs.PartsOf.{ShowsWalker, ShowsWalkers, PartsOf}
-use Rattle.kt_cuts.proofs.Items.{get_left, get_seam, item_there}
+use Rattle.kt_cuts.proofs.Items.{get_left, get_seam}
 use Rattle.kt_cuts.proofs.Lists.{deed_place}
 use Rattle.kt_cuts.proofs.SortedFacts.{some_same}
 use Rattle.kt_cuts.proofs.LatestFacts.{later_is_after}
@@ -97,6 +97,15 @@ walker_start v p long permanent open_in up dropped = record {
   open_in = open_in;
   up = up;
   dropped = λ q l. rw dropped (slice_get-get_or (replicate 64 None) q None (omega (arith, l, length-replicate {A = Option ℕ} 64 None)) ∙ ap Some (get_or-replicate 64 q None None l));
+}
+
+pub walkers_start : (w : Walker) → ((p : ℕ) → ShowsWalker w start p) → ShowsWalkers (replicate 64 w) start
+walkers_start w h = record {
+  each = λ p v e.
+      let low : p < 64 = omega (arith, slice_get_within (replicate 64 w) p v e, length-replicate {A = Walker} 64 w) in
+      let there : slice_get (replicate 64 w) p ≡ Some w = slice_get-get_or (replicate 64 w) p w (omega (arith, low, length-replicate {A = Walker} 64 w)) ∙ ap Some (get_or-replicate 64 p w w low) in
+      subst (λ (x : Walker). ShowsWalker x start p) (some_same (sym there ∙ e)) (h p);
+  all = length-replicate {A = Walker} 64 w;
 }
 
 -- a walk before the first row

@@ -34,9 +34,7 @@ fn opening_walkers(alloc: Global) -> Result<Vec<Walker>, Memory>
     ensures { IfOk result (λ ws. ShowsWalkers ws.items start) }
 {
     let mut walkers = Vec::new(alloc);
-    for _number in 0..ProcNo::COUNT {
-        walkers.push(Walker::new())?;
-    }
+    walkers.resize(ProcNo::COUNT as usize, Walker::new())?;
     Ok(walkers)
 }
 
@@ -111,11 +109,11 @@ impl Trail {
 
     /// The least rule that the next row would break. Whether the message that it takes is on its way is given, and whether
     /// it comes after all that the live history received from its sender.
-    pub(crate) fn broken_rule(&self, row: &Event, is_waiting: bool, follows: bool) -> Option<Rule>
-        ensures { (rows : List Event) → TrailOf self.now rows → is_waiting ≡ waits (past rows) row.now → follows ≡ follows (past rows) row.now → result ≡ broken_rule (past rows) row.now }
+    pub(crate) fn broken_rule(&self, row: &Event, is_waiting: bool, in_turn: bool) -> Option<Rule>
+        ensures { (rows : List Event) → TrailOf self.now rows → is_waiting ≡ waits (past rows) row.now → in_turn ≡ follows (past rows) row.now → result ≡ broken_rule (past rows) row.now }
     {
         let message_kept = is_waiting || !takes_message(row);
-        let order_kept = self.keeps_order(row, follows);
+        let order_kept = self.keeps_order(row, in_turn);
         let grounds = self.grounds(row.process());
         grounds.broken_rule(row, message_kept, order_kept)
     }
@@ -129,10 +127,10 @@ impl Trail {
 
     /// Whether a row in which this process receives a message that is on its way breaks no rule; whether it comes after all
     /// that the live history received from its sender is given.
-    pub(crate) fn may_receive(&self, p: ProcNo, from: ProcNo, msg: MsgNo, follows: bool) -> bool
-        ensures { (rows : List Event) → TrailOf self.now rows → is_undelivered (past rows) p from msg ≡ true → follows ≡ list_all (is_later from msg) ((past rows).live p) → result ≡ is_none (broken_rule (past rows) (event.Received p from msg)) }
+    pub(crate) fn may_receive(&self, p: ProcNo, from: ProcNo, msg: MsgNo, in_turn: bool) -> bool
+        ensures { (rows : List Event) → TrailOf self.now rows → is_undelivered (past rows) p from msg ≡ true → in_turn ≡ list_all (is_later from msg) ((past rows).live p) → result ≡ is_none (broken_rule (past rows) (event.Received p from msg)) }
     {
-        let order_kept = follows && self.follows_dropped(p, from, msg);
+        let order_kept = in_turn && self.follows_dropped(p, from, msg);
         self.grounds(p).may_receive(p, from, true, order_kept)
     }
 
@@ -149,12 +147,12 @@ impl Trail {
         }
     }
 
-    fn keeps_order(&self, row: &Event, follows: bool) -> bool
-        ensures { (rows : List Event) → TrailOf self.now rows → follows ≡ follows (past rows) row.now → result ≡ keeps_order (past rows) row.now }
+    fn keeps_order(&self, row: &Event, in_turn: bool) -> bool
+        ensures { (rows : List Event) → TrailOf self.now rows → in_turn ≡ follows (past rows) row.now → result ≡ keeps_order (past rows) row.now }
     {
         match *row {
             Event::Received { p, from, msg } | Event::Dropped { p, from, msg } => {
-                follows && self.follows_dropped(p, from, msg)
+                in_turn && self.follows_dropped(p, from, msg)
             }
             _ => true,
         }

@@ -82,8 +82,8 @@ impl Walk {
         let Some((index, message)) = self.pairs.find(p, from, msg) else {
             return self.feed_any(&Event::Received { p, from, msg });
         };
-        let follows = is_after(msg, self.pairs.last(p, from));
-        if !self.trail.may_receive(p, from, msg, follows) {
+        let in_turn = is_after(msg, self.pairs.last(p, from));
+        if !self.trail.may_receive(p, from, msg, in_turn) {
             return self.feed_any(&Event::Received { p, from, msg });
         }
         self.receive(p, from, index, message)?;
@@ -99,8 +99,8 @@ impl Walk {
         ensures unchanged { OnErr result (self.new ≡ self.old) }
     {
         let is_waiting = self.waits(row);
-        let follows = self.follows(row);
-        if let Some(rule) = self.trail.broken_rule(row, is_waiting, follows) {
+        let in_turn = self.follows(row);
+        if let Some(rule) = self.trail.broken_rule(row, is_waiting, in_turn) {
             return Err(LegalFault::Broken(self.trail.next_row(), rule));
         }
         self.add(row)?;

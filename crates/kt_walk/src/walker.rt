@@ -5,7 +5,7 @@ ghost use Rattle.std.specs.Prelude.{◌≡◌, ◌<◌, ◌≤◌, ◌+◌, ◌^
 use kt_base::{InstNo, MsgNo, ProcNo};
 
 /// A process after the rows so far.
-#[derive(Drop)]
+#[derive(Clone, Copy)]
 pub(crate) struct Walker {
     /// The length of its live history.
     pub(crate) length: u32,
@@ -49,7 +49,9 @@ impl Walker {
     pub(crate) fn cut_back(&mut self)
         ensures { self.old.permanent ≤ self.old.length → self.new ≡ record self.old { length = self.old.permanent } }
     {
-        self.length = self.permanent as u32;
+        if self.permanent < self.length as usize {
+            self.length = self.permanent as u32;
+        }
     }
 
     /// Is in no instance; where that was a committed rollback, is up, and forgets what it dropped.
