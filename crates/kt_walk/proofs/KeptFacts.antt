@@ -11,13 +11,12 @@ use Rattle.kt_cuts.specs.Past.{Past, at_one}
 use Rattle.kt_cuts.specs.Legal.{is_deed, has_deed, is_undelivered}
 use Rattle.kt_cuts.specs.Orphans.{is_within}
 use Rattle.kt_cuts.specs.Traces.{place_of}
-use Rattle.kt_walk.specs.Keeping.{is_covered, kept_between, uncovered, unsent, unreceived, is_on_the_way}
+use Rattle.kt_walk.specs.Keeping.{kept_between}
 use Rattle.kt_walk.specs.Stages.{with_permanent, with_live}
 use Rattle.kt_cuts.proofs.SortedFacts.{some_same}
-use Rattle.kt_cuts.proofs.DeedFacts.{has_at}
+use Rattle.kt_cuts.proofs.DeedFacts.{has_at, same_deed}
 use Rattle.kt_cuts.proofs.Shown.{at_same, at_other}
 use Rattle.kt_cuts.proofs.Traced.{place_none}
-use Rattle.kt_walk.proofs.StepLists.{place_push, place_last}
 
 -- what is kept of a message with these places, of which these lie within permanent positions
 abbrev pub kept_of : (dropped : Bool) (p q : ℕ) (a b : Option ℕ) (within_a within_b : Bool) → Option Trace

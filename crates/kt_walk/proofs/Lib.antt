@@ -10,6 +10,7 @@ pub mod ItemPlaces
 pub mod ChannelFacts
 pub mod ArrivalFacts
 pub mod UsedFacts
+pub mod FitFacts
 pub mod WalkMessages
 pub mod WalkLinks
 pub mod PairFacts

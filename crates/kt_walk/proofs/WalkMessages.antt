@@ -33,7 +33,7 @@ use Rattle.kt_walk.specs.WalkOf.{WalkOf, IsFoundAt}
 use Rattle.kt_walk.proofs.ArrivalFacts.{shows_quiet}
 use Rattle.kt_cuts.proofs.Items.{item_there}
 use Rattle.kt_cuts.proofs.SortedFacts.{some_same, sent_more}
-use Rattle.kt_cuts.proofs.DeedFacts.{place_of_deed, rises_push, sent_source, sent_rises_take}
+use Rattle.kt_cuts.proofs.DeedFacts.{rises_push, sent_source, sent_rises_take}
 use Rattle.kt_cuts.proofs.InstanceSteps.{if_front, ready_member, ready_of_checkpoint, new_of_rollback}
 use Rattle.kt_cuts.proofs.LegalLogs.{kept, past_push, past_induction, legal_last}
 use Rattle.kt_walk.proofs.KeptFacts.{absent, kept_waiting}
