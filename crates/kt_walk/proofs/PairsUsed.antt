@@ -144,9 +144,6 @@ pub record AreRemarked (cs : List Link) (used : List ℕ) (before now : List Boo
   pub done : (k i : ℕ) → k < n → slice_get used k ≡ Some i → slice_get now i ≡ Some (is_in_use cs i)
   pub rest : (i : ℕ) → ((k : ℕ) → k < n → slice_get used k ≡ Some i → ⊥) → slice_get now i ≡ slice_get before i
 
-pub remarked_start : (cs : List Link) (used : List ℕ) (marks : List Bool) → AreRemarked cs used marks marks 0
-remarked_start cs used marks = record { done = λ k i l e. absurd (omega (arith, l)); rest = λ i none. refl }
-
 pub remarked_next : (cs : List Link) (used : List ℕ) (before now : List Bool) (n i : ℕ) (b : Bool) → slice_get used n ≡ Some i → i < length now → b ≡ is_in_use cs i → AreRemarked cs used before now n → AreRemarked cs used before (set now i b) (n + 1)
 remarked_next cs used before now n i b next low is h = record {
   done = λ k j l e. elim (cases_eq j i) [
