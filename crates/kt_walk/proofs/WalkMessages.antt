@@ -1,25 +1,22 @@
 -- What a walk keeps of the messages.
-use Rattle.std.proofs.Common.{◌≡◌, ℕ, ◌+◌, ◌<◌, ◌≤◌, not, Bool, true, false, Option, Some, None, unwrap_or, IfSome, IfNone, List, [], ◌∷◌, ◌++◌, length, refl, sym, ap, subst, ◌∙◌, arith, append-nil}
+use Rattle.std.proofs.Common.{is_some, map, ◌==◌, ◌*◌, ◌≢◌, ◌≡◌, ℕ, ◌+◌, ◌<◌, ◌≤◌, not, Bool, true, false, Option, Some, None, unwrap_or, IfSome, IfNone, List, [], ◌∷◌, ◌++◌, length, refl, sym, ap, subst, ◌∙◌, arith, append-nil}
 use Rattle.std.specs.List.{slice_get, slice_index}
-use Rattle.std.specs.Prelude.{Result, Ok, Err, OnOk, OnErr}
-use Rattle.std.proofs.lemmas.Bool.{and_parts}
+use Rattle.std.specs.Prelude.{Result, Ok, Err, OnErr}
+use Rattle.std.proofs.lemmas.Bool.{eq-eqb}
 use Rattle.kt_base.specs.declared.words.Kind.TheVariants.{Checkpoint, Rollback}
 use Rattle.kt_spacetime.specs.declared.event.Event.{Event}
 use Rattle.kt_spacetime.specs.declared.event.Event.TheVariants.{Sent, Received, Dropped, Began, Took, Ready, Unwilling, Decided, Closed, Failed, Refused}
 use Rattle.kt_walk.specs.declared.queue.Arrival.{Arrival}
-use Rattle.kt_cuts.specs.declared.deeds.Deed.{Deed}
 use Rattle.kt_cuts.specs.declared.deeds.Deed.TheVariants as deed
-use Rattle.kt_cuts.specs.declared.histories.Trace.{Trace}
 use Rattle.kt_cuts.specs.declared.instances.Instance.{Instance}
 use Rattle.kt_walk.specs.declared.trail.Trail.{Trail}
 use Rattle.kt_walk.specs.declared.walker.Walker.{Walker}
 use Rattle.kt_cuts.specs.Past.{Past, start, past, after}
-use Rattle.kt_cuts.specs.Legal.{IsLegal, broken_rule, has_deed}
+use Rattle.kt_cuts.specs.Legal.{IsLegal, broken_rule, is_undelivered}
 use Rattle.kt_cuts.specs.Lists.{Rises, sent_in}
 use Rattle.kt_cuts.specs.Cuts.{IsOrphan}
 use Rattle.kt_cuts.specs.Orphans.{IsOrphanBetween, IsAtMost}
 use Rattle.kt_cuts.specs.Standing.{ShowsInstances, IsInOrder, IsAllowed, at_number, new_shown, ready_shown}
-use Rattle.kt_cuts.specs.Traces.{place_of}
 use Rattle.kt_walk.specs.Arrivals.{IsByPair, RollsBack, MakesPermanent, KeepsPermanent}
 use Rattle.kt_traffic.specs.declared.waiting.Sent.{Sent as Waiting}
 use Rattle.kt_walk.specs.Pairs.{Link, traffic_of, IsFit, ShowsPairs, IsEachOnce, AreNotDropped, leaves_messages}
@@ -30,21 +27,17 @@ use Rattle.kt_walk.specs.PartsOf.{PartsOf, ShowsWalkers, is_plain}
 use Rattle.kt_walk.specs.TrailOf.{parts_of}
 use Rattle.kt_walk.specs.WalkParts.{WalkParts, walk_parts}
 use Rattle.kt_walk.specs.WalkOf.{WalkOf, IsFoundAt}
-use Rattle.kt_walk.proofs.ArrivalFacts.{shows_quiet}
 use Rattle.kt_cuts.proofs.Items.{item_there}
 use Rattle.kt_cuts.proofs.SortedFacts.{some_same, sent_more}
 use Rattle.kt_cuts.proofs.DeedFacts.{rises_push, sent_source, sent_rises_take}
 use Rattle.kt_cuts.proofs.InstanceSteps.{if_front, ready_member, ready_of_checkpoint, new_of_rollback}
-use Rattle.kt_cuts.proofs.LegalLogs.{kept, past_push, past_induction, legal_last}
-use Rattle.kt_walk.proofs.KeptFacts.{absent, kept_waiting}
+use Rattle.kt_cuts.proofs.LegalLogs.{kept, past_push, past_induction, legal_last, rows_length}
 use Rattle.kt_walk.proofs.Orderly.{orderly}
 use Rattle.kt_cuts.proofs.OrphanFacts.{between_of, orphan_of}
 use Rattle.kt_cuts.proofs.Places.{SentPlaces, sent_places_start, sent_places_keep}
 use Rattle.kt_cuts.proofs.Positions.{positions}
 use Rattle.kt_cuts.proofs.RowRules.{may_decide}
 use Rattle.kt_cuts.proofs.Steps.{each_history}
-use Rattle.kt_cuts.proofs.Traced.{place_none, place_at}
-use Rattle.kt_walk.proofs.WalkRows.{sent_parties, sound}
 
 -- the sends of each history rise
 record SendsRise (s : Past) : Type 0 where

@@ -16,20 +16,6 @@ use kt_traffic::Sent;
 use std::alloc::Global;
 
 impl Pairs {
-    pub(crate) fn new(alloc: Global) -> Result<Pairs, Memory>
-        ensures { IfOk result (λ ps. ShowsPairs ps start) }
-    {
-        Err(Memory)
-    }
-
-    pub(crate) fn lose(&mut self, p: ProcNo, from: ProcNo, index: usize, message: Sent) -> Result<(), Memory>
-        requires { (v : Link) → slice_get self.old (p * 64 + from) ≡ Some v → slice_get v.waiting index ≡ Some message }
-        ensures ok { OnOk result ((s : Past) → ShowsPairs self.old s → IsFit s → ShowsPairs self.new (after s (event.Dropped p from message.msg))) }
-        ensures err { OnErr result (self.new ≡ self.old) }
-    {
-        Ok(())
-    }
-
     pub(crate) fn trace(&self, msg: MsgNo) -> Option<Trace>
         ensures { (rows : List Event) → IsLegal rows → ShowsPairs self.now (past rows) → result ≡ kept_trace rows msg }
     {
