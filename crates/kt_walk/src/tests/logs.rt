@@ -1,7 +1,7 @@
 //! Worked logs.
 
 /// Logs that are legal; what each of them shows is said before it.
-pub const LOGS: [&[u8]; 30] = [
+pub const LOGS: [&[u8]; 31] = [
     // A checkpoint of two.
     b"kt,2,-,-
 sent,0,1,5
@@ -409,5 +409,32 @@ decided,0,1,commit
 closed,0,1,-
 closed,1,1,-
 received,1,2,1
+",
+    // What a rollback undoes is received again, but for what is permanent.
+    b"kt,2,-,-
+sent,0,1,1
+sent,0,1,2
+sent,0,1,3
+received,1,0,1
+began,1,1,checkpoint
+took,1,1,-
+decided,1,1,commit
+closed,1,1,-
+received,1,0,2
+received,1,0,3
+began,1,2,rollback
+ready,1,2,-
+decided,1,2,commit
+closed,1,2,-
+received,1,0,2
+failed,1,-,-
+dropped,1,0,3
+began,1,3,rollback
+ready,1,3,-
+decided,1,3,commit
+closed,1,3,-
+received,1,0,2
+sent,0,1,4
+received,1,0,23
 ",
 ];

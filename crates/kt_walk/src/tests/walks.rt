@@ -120,7 +120,10 @@ pub(super) fn agrees_after(
         let msg = message(number)?;
         let kept = walk.trace(msg);
         if let Some(trace) = kept {
-            assert_eq!(rt; histories.trace(msg), Some(trace));
+            let (from, to) = (trace.from, trace.to);
+            assert_eq!(rt; histories.trace(msg), kept);
+            assert_eq!(rt; walk.trace_between(from, to, msg), kept);
+            assert_eq!(rt; walk.trace_between(to, from, msg), None);
             held = held.saturating_add(1);
         }
     }
