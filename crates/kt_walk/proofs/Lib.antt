@@ -22,3 +22,5 @@ pub mod PairsUsed
 pub mod PairsFacts
 pub mod TraceFacts
 pub mod SettleFacts
+pub mod FitFacts
+pub mod FoundFacts

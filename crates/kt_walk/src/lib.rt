@@ -9,6 +9,7 @@ mod entry;
 mod feeding;
 mod kept;
 mod last;
+mod looking;
 mod numbered;
 mod pair;
 mod pairs;

@@ -1,0 +1,89 @@
+//! Messages are looked for among those of pairs of processes, and counted.
+
+ghost use Rattle.std.specs.Prelude.{◌≡◌, ◌≤◌, ◌<◌, ◌^◌, ℕ, nat_lt, length, slice_get, Some, None, IfSome, IfNone};
+ghost use Rattle.kt_spacetime.specs.declared.event.Event.{Event};
+ghost use Rattle.kt_cuts.specs.declared.histories.Trace.{Trace};
+ghost use Rattle.kt_cuts.specs.Past.{past};
+ghost use Rattle.kt_cuts.specs.Legal.{IsLegal};
+ghost use Rattle.kt_traffic.specs.OnTheWay.{IsInOrder};
+ghost use Rattle.kt_walk.specs.declared.queue.Arrival.{Arrival};
+ghost use Rattle.kt_walk.specs.declared.channel.Undone.{Undone};
+ghost use Rattle.kt_walk.specs.Arrivals.{Has, IsRising, Parts};
+ghost use Rattle.kt_walk.specs.Pairs.{Link, AreListed, ShowsPairs};
+ghost use Rattle.kt_walk.specs.Links.{entries_of, entries_through, number_of, AreAmongAll};
+ghost use Rattle.kt_walk.specs.Keeping.{kept_trace, held_of};
+
+use crate::channel::Undone;
+use crate::pair::Pair;
+use crate::pairs::Pairs;
+use crate::queue::Arrival;
+use kt_base::{MsgNo, ProcNo};
+use kt_cuts::Trace;
+
+impl Pair {
+    /// What is kept of a message, if there is one of this number.
+    pub(crate) fn trace(&self, msg: MsgNo) -> Option<Trace>
+        ensures found { IfSome result (λ t. Has (entries_of self.now) (msg, t)) }
+        ensures none { IfNone result (IsInOrder self.now.waiting → IsRising self.now.traffic.arrivals → (t : Trace) → Has (entries_of self.now) (msg, t) → ⊥) }
+    {
+        if let Some((_, message)) = self.find(msg) {
+            return Some(self.placed(Some(message.place as usize + 1), None));
+        }
+        if let Some(arrival) = find_arrival(self.channel.arrivals(), msg) {
+            let sent = arrival.sent as usize + 1;
+            return Some(self.placed(Some(sent), Some(arrival.received as usize + 1)));
+        }
+        let undone = find_undone(self.channel.undone(), msg)?;
+        Some(self.placed(None, Some(undone.received as usize + 1)))
+    }
+
+    // A message with these places.
+    fn placed(&self, sent: Option<usize>, received: Option<usize>) -> Trace
+        ensures { result ≡ record { from = self.now.traffic.sender; to = self.now.traffic.receiver; sent = sent; received = received } }
+    {
+        Trace {
+            from: self.channel.sender(),
+            to: self.channel.receiver(),
+            sent,
+            received,
+        }
+    }
+}
+
+// How many of rising arrivals have lower numbers.
+fn count_below(arrivals: &[Arrival], msg: MsgNo) -> usize
+    ensures bound { result ≤ length arrivals.now }
+    ensures parts { IsRising arrivals.now → Parts number_of arrivals.now msg result }
+{
+    arrivals.partition_point(
+        |arrival: &Arrival| -> bool
+            ensures { result ≡ nat_lt arrival.now.msg msg }
+        { arrival.msg.get() < msg.get() },
+    )
+}
+
+// The one of rising arrivals that has this number.
+fn find_arrival(arrivals: &[Arrival], msg: MsgNo) -> Option<Arrival>
+    ensures found { IfSome result (λ a. Has arrivals.now a × (a.msg ≡ msg)) }
+    ensures none { IfNone result (IsRising arrivals.now → (k : ℕ) (a : Arrival) → slice_get arrivals.now k ≡ Some a → a.msg ≡ msg → ⊥) }
+{
+    let arrival = arrivals.get(count_below(arrivals, msg)).copied()?;
+    if arrival.msg.get() == msg.get() {
+        Some(arrival)
+    } else {
+        None
+    }
+}
+
+// The message of this number among those whose sends were undone.
+fn find_undone(undone: &[Undone], msg: MsgNo) -> Option<Undone>
+    ensures found { IfSome result (λ u. Has undone.now u × (u.msg ≡ msg)) }
+    ensures none { IfNone result ((k : ℕ) (u : Undone) → slice_get undone.now k ≡ Some u → u.msg ≡ msg → ⊥) }
+{
+    for message in undone {
+        if message.msg.get() == msg.get() {
+            return Some(*message);
+        }
+    }
+    None
+}
