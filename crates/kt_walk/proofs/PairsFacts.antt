@@ -8,7 +8,7 @@ use Rattle.std.proofs.lemmas.List.{take-take}
 use Rattle.std.proofs.lemmas.Bool.Decides.{nat_tests}
 use Rattle.std.proofs.lemmas.Option.{slice_get_within}
 use Rattle.kt_spacetime.specs.declared.event.Event.{Event}
-use Rattle.kt_spacetime.specs.declared.event.Event.TheVariants.{Sent, Received, Dropped, Decided}
+use Rattle.kt_spacetime.specs.declared.event.Event.TheVariants.{Sent, Received, Dropped, Began, Took, Ready, Unwilling, Decided, Closed, Failed, Refused}
 use Rattle.kt_cuts.specs.declared.deeds.Deed.{Deed}
 use Rattle.kt_cuts.specs.declared.deeds.Deed.TheVariants as deed
 use Rattle.kt_cuts.specs.Past.{Past, after, at_one}
@@ -22,7 +22,7 @@ use Rattle.kt_cuts.proofs.Items.{get_set_same, get_set_other, set_mapped}
 use Rattle.kt_traffic.specs.declared.waiting.Sent.{Sent as Waiting}
 use Rattle.kt_walk.specs.declared.queue.Arrival.{Arrival}
 use Rattle.kt_walk.specs.Arrivals.{Traffic, IsByPair, ShowsArrivals, ShowsTraffic, RollsBack, MakesPermanent, KeepsPermanent, cut_back, is_empty}
-use Rattle.kt_walk.specs.Pairs.{Link, traffic_of, IsLink, IsWay, ShowsLink, ShowsWay, IsFit, ShowsPairs, IsEachOnce, AreNotDropped, IsPairCutBack, IsPairSettled, is_idle, away_in}
+use Rattle.kt_walk.specs.Pairs.{Link, traffic_of, IsLink, IsWay, ShowsLink, ShowsWay, IsFit, ShowsPairs, IsEachOnce, AreNotDropped, IsPairCutBack, IsPairSettled, IsStillOpen, is_idle, away_in, leaves_messages}
 use Rattle.kt_walk.proofs.ItemPlaces.{get_mapped, mapped_get, place_or_lacks}
 use Rattle.kt_walk.proofs.ChannelFacts.{IsOrphanOf, no_item, traffic_settled}
 use Rattle.kt_cuts.specs.Orphans.{IsOrphanBetween, IsAtMost}
@@ -32,7 +32,7 @@ use Rattle.kt_traffic.specs.LastReceived.{IsLastFrom}
 use Rattle.kt_traffic.specs.OnTheWay.{IsInOrder as AreInOrder}
 use Rattle.kt_traffic.proofs.LastFacts.{IsFound, later_than_last}
 use Rattle.kt_cuts.specs.Legal.{has_deed, is_undelivered, is_later}
-use Rattle.kt_cuts.proofs.Lists.{get_take, get_in_take}
+use Rattle.kt_cuts.proofs.Lists.{get_take, get_in_take, get_push}
 use Rattle.kt_cuts.proofs.DeedFacts.{has_at, place_of_deed}
 use Rattle.kt_walk.proofs.ArrivalFacts.{by_pair_each, by_pair_set, least_of_channels, shows_after, shows_quiet, shows_received}
 use Rattle.kt_walk.proofs.WayRows.{way_more, way_sent, way_received, way_dropped, way_dropped_elsewhere}
@@ -58,6 +58,14 @@ who ls i v pairs at =
     let there : slice_get (map traffic_of ls) i ≡ Some v.traffic = mapped_get traffic_of ls i v at in
     (pairs.place i v.traffic there, pairs.receiver i v.traffic there, pairs.sender i v.traffic there)
 
+-- one pair is changed, and each still has no settled message
+open_set : (ls : List Link) (s t : Past) (n : ℕ) (v w : Link) → slice_get ls n ≡ Some v → IsStillOpen w t → ((u : Link) → IsStillOpen u s → IsStillOpen u t)
+    → ((i : ℕ) (u : Link) → slice_get ls i ≡ Some u → IsStillOpen u s) → (i : ℕ) (u : Link) → slice_get (set ls n w) i ≡ Some u → IsStillOpen u t
+open_set ls s t n v w at here keeps h i u e = elim (cases_eq i n) [
+  | inl same ↦ subst (λ (x : Link). IsStillOpen x t) (set_there ls n i v w u at e same) here
+  | inr other ↦ keeps u (h i u (sym (get_set_other ls n i w other) ∙ e))
+]
+
 -- a message is sent
 pub sent_pairs : (ls : List Link) (s : Past) (p to n : ℕ) (body : _) (v w : Link) → IsByPair (map traffic_of ls) → p < 64 → to < 64 → p ≢ to → n ≡ to * 64 + p → slice_get ls n ≡ Some v
     → w ≡ record v { waiting = v.waiting ++ record { msg = s.rows + 1; place = length (s.live p) } ∷ [] } → IsFit s → ShowsPairs ls s → ShowsPairs (set ls n w) (after s (Sent p to body))
@@ -67,6 +75,7 @@ sent_pairs ls s p to n body v w pairs low_p low_to apart index at new fit h = re
     | inl same ↦ subst (λ (x : Link). ShowsWay x (after s (Sent p to body))) (sym new ∙ set_there ls n i v w u at e same) here
     | inr other ↦ elsewhere i u other (sym (get_set_other ls n i w other) ∙ e)
   ];
+  still_open = open_set ls s (after s (Sent p to body)) n v w at (subst (λ (x : Link). IsStillOpen x s) (sym new) (h.still_open n v at)) (λ u o. o) h.still_open;
 }
   where
     known : (v.traffic.receiver * 64 + v.traffic.sender ≡ n) × (v.traffic.receiver < 64) × (v.traffic.sender < 64)
@@ -123,6 +132,7 @@ received_pairs ls s p from n k a v w pairs low_p low_from apart index at new fou
     | inl same ↦ subst (λ (x : Link). ShowsWay x (after s (Received p from a.msg))) (sym new ∙ set_there ls n i v w u at e same) here
     | inr other ↦ elsewhere i u other (sym (get_set_other ls n i w other) ∙ e)
   ];
+  still_open = open_set ls s (after s (Received p from a.msg)) n v w at (subst (λ (x : Link). IsStillOpen x s) (sym new) open_here) (λ u o. o) h.still_open;
 }
   where
     known : (v.traffic.receiver * 64 + v.traffic.sender ≡ n) × (v.traffic.receiver < 64) × (v.traffic.sender < 64)
@@ -142,6 +152,15 @@ received_pairs ls s p from n k a v w pairs low_p low_from apart index at new fou
 
     way : ShowsWay v s
     way = h.each n v at
+
+    open_here : IsStillOpen grown s
+    open_here k b e low = elim (get_push v.traffic.arrivals a k b e) [
+      | inl was ↦ h.still_open n v at k b was low
+      | inr last ↦
+          let end : b.received ≡ length (s.live p) = ap (λ (x : Arrival). x.received) (sym last.1) ∙ place in
+          let same : s.permanent v.traffic.receiver ≡ s.permanent p = ap s.permanent is_receiver in
+          omega (arith, end, same, fit.within p)
+    ]
 
     in_place : IsWay (record v { waiting = remove v.waiting k; last = Some a.msg }) (s.live v.traffic.receiver ++ deed.Received a.msg v.traffic.sender ∷ []) (s.live v.traffic.sender) s.dropped (s.permanent v.traffic.receiver)
     in_place = way_received v (s.live v.traffic.receiver) (s.live v.traffic.sender) s.dropped (s.permanent v.traffic.receiver) k (record { msg = a.msg; place = a.sent }) (fit.within v.traffic.receiver) found late way
@@ -186,6 +205,7 @@ dropped_pairs ls s p from n k x v w pairs low_p low_from index at new found fit 
         let was = sym (get_set_other ls n i w other) ∙ e in
         way_dropped_elsewhere u (s.live u.traffic.receiver) (s.live u.traffic.sender) s.dropped (s.permanent u.traffic.receiver) x.msg (λ j sent. other (same_pair i u was j sent)) (h.each i u was)
   ];
+  still_open = open_set ls s (after s (Dropped p from x.msg)) n v w at (subst (λ (y : Link). IsStillOpen y s) (sym new) (h.still_open n v at)) (λ u o. o) h.still_open;
 }
   where
     known : (v.traffic.receiver * 64 + v.traffic.sender ≡ n) × (v.traffic.receiver < 64) × (v.traffic.sender < 64)
@@ -196,6 +216,21 @@ dropped_pairs ls s p from n k x v w pairs low_p low_from index at new found fit 
         let place = who ls i u pairs was in
         let both = fit.one_sender u.traffic.sender u.traffic.receiver v.traffic.sender v.traffic.receiver x.msg j x.place sent ((h.each n v at).waiting.live k x found) in
         omega (arith, place.0, known.0, both.0, both.1)
+
+-- each other row
+pub quiet_pairs : (ls : List Link) (s : Past) (row : Event) → leaves_messages row ≡ true → ShowsPairs ls s → ShowsPairs ls (after s row)
+quiet_pairs ls s (Sent p to body) quiet h = absurd (cc)
+quiet_pairs ls s (Received p from msg) quiet h = absurd (cc)
+quiet_pairs ls s (Dropped p from msg) quiet h = absurd (cc)
+quiet_pairs ls s (Began p k kind) quiet h = record { arrivals = shows_quiet (map traffic_of ls) s (Began p k kind) refl h.arrivals; each = h.each; still_open = h.still_open }
+quiet_pairs ls s (Took p k) quiet h = record { arrivals = shows_quiet (map traffic_of ls) s (Took p k) refl h.arrivals; each = h.each; still_open = h.still_open }
+quiet_pairs ls s (Ready p k) quiet h = record { arrivals = shows_quiet (map traffic_of ls) s (Ready p k) refl h.arrivals; each = h.each; still_open = h.still_open }
+quiet_pairs ls s (Unwilling p k cause) quiet h = record { arrivals = shows_quiet (map traffic_of ls) s (Unwilling p k cause) refl h.arrivals; each = h.each; still_open = h.still_open }
+quiet_pairs ls s (Decided p k true) quiet h = absurd (cc)
+quiet_pairs ls s (Decided p k false) quiet h = record { arrivals = shows_quiet (map traffic_of ls) s (Decided p k false) refl h.arrivals; each = h.each; still_open = h.still_open }
+quiet_pairs ls s (Closed p k) quiet h = record { arrivals = shows_quiet (map traffic_of ls) s (Closed p k) refl h.arrivals; each = h.each; still_open = h.still_open }
+quiet_pairs ls s (Failed p) quiet h = record { arrivals = shows_quiet (map traffic_of ls) s (Failed p) refl h.arrivals; each = h.each; still_open = h.still_open }
+quiet_pairs ls s (Refused p verb cause) quiet h = record { arrivals = shows_quiet (map traffic_of ls) s (Refused p verb cause) refl h.arrivals; each = h.each; still_open = h.still_open }
 
 -- what a pair's lists are of, in two parts
 pub link_of : (v : Link) (s : Past) → ShowsTraffic v.traffic s → ShowsWay v s → ShowsLink v s
@@ -216,8 +251,9 @@ pairs_kept ls ds pairs count same =
 -- pairs that each show what is known after a decision
 pub shows_decided : (ls ds : List Link) (s : Past) (p k : ℕ) (commit : Bool) → IsByPair (map traffic_of ls) → length ds ≡ length ls
     → ((i : ℕ) (w : Link) → slice_get ds i ≡ Some w → (v : Link) × (slice_get ls i ≡ Some v) × (w.traffic.receiver ≡ v.traffic.receiver) × (w.traffic.sender ≡ v.traffic.sender))
-    → ((i : ℕ) (w : Link) → slice_get ds i ≡ Some w → ShowsLink w (after s (Decided p k commit))) → ShowsPairs ls s → ShowsPairs ds (after s (Decided p k commit))
-shows_decided ls ds s p k commit pairs count same each h = record {
+    → ((i : ℕ) (w : Link) → slice_get ds i ≡ Some w → ShowsLink w (after s (Decided p k commit))) → ((i : ℕ) (w : Link) → slice_get ds i ≡ Some w → IsStillOpen w (after s (Decided p k commit))) → ShowsPairs ls s
+    → ShowsPairs ds (after s (Decided p k commit))
+shows_decided ls ds s p k commit pairs count same each settled h = record {
   arrivals = shows_after (map traffic_of ls) (map traffic_of ds) s (Decided p k commit) h.arrivals
       (pairs_kept ls ds pairs count same)
       (λ x y m e. absurd (cc)) (λ i w e.
@@ -226,6 +262,7 @@ shows_decided ls ds s p k commit pairs count same each h = record {
   each = λ i w e.
       let link = each i w e in
       record { waiting = link.waiting; last = link.last; settled = link.settled };
+  still_open = settled;
 }
 
 -- the same histories and positions under other names
@@ -238,7 +275,7 @@ pub rolled_pairs : (ls ds : List Link) (s : Past) (p k members : ℕ) (lengths :
     → ((i : ℕ) (w : Link) → slice_get ds i ≡ Some w → (v : Link) × (slice_get ls i ≡ Some v) × IsPairCutBack members lengths v w)
     → ((q : ℕ) → IsEachOnce (s.live q)) → ((q r : ℕ) → AreNotDropped r (s.live q) s.dropped) → ShowsPairs ls s → IsInOrder s → RollsBack s k members lengths → ShowsPairs ds (after s (Decided p k true))
 rolled_pairs ls ds s p k members lengths pairs count each once not_dropped h order rolls =
-    shows_decided ls ds s p k true pairs count (λ i w e. let v = each i w e in (v.0, v.1, v.2.receiver, v.2.sender)) (λ i w e. rolled i w (each i w e)) h
+    shows_decided ls ds s p k true pairs count (λ i w e. let v = each i w e in (v.0, v.1, v.2.receiver, v.2.sender)) (λ i w e. rolled i w (each i w e)) (λ i w e. still_open i w (each i w e)) h
   where
     t : Past
     t = after s (Decided p k true)
@@ -257,12 +294,18 @@ rolled_pairs ls ds s p k members lengths pairs count each once not_dropped h ord
         same_link w _ _ _ _ s.dropped _ _ _ _ (live r w.traffic.receiver place.1 cut.receiver) (live q w.traffic.sender place.2 cut.sender) (permanent r w.traffic.receiver cut.receiver) (permanent q w.traffic.sender cut.sender)
         (cut.link (s.live r) (s.live q) s.dropped (s.permanent r) (s.permanent q) (order.sent q) (once r) (not_dropped r q) (sym (rolls.permanent r place.1)) (sym (rolls.permanent q place.2)) (shown_link ls s i v h at))
 
+    still_open : (i : ℕ) (w : Link) → (v : Link) × (slice_get ls i ≡ Some v) × IsPairCutBack members lengths v w → IsStillOpen w t
+    still_open i w (v, at, cut) k a e low =
+        let received = permanent v.traffic.receiver w.traffic.receiver cut.receiver in
+        let sent = permanent v.traffic.sender w.traffic.sender cut.sender in
+        omega (arith, received, h.still_open i v at k a (cut.left k a e) (omega (arith, sent, low)))
+
 -- a committed checkpoint
 pub settled_pairs : (ls ds : List Link) (s : Past) (p k : ℕ) (lengths : List ℕ) → IsByPair (map traffic_of ls) → length ds ≡ length ls
     → ((i : ℕ) (w : Link) → slice_get ds i ≡ Some w → (v : Link) × (slice_get ls i ≡ Some v) × IsPairSettled lengths v w)
     → ShowsPairs ls s → MakesPermanent s k lengths → ShowsPairs ds (after s (Decided p k true))
 settled_pairs ls ds s p k lengths pairs count each h makes =
-    shows_decided ls ds s p k true pairs count (λ i w e. let v = each i w e in (v.0, v.1, v.2.receiver, v.2.sender)) (λ i w e. settled i w (each i w e)) h
+    shows_decided ls ds s p k true pairs count (λ i w e. let v = each i w e in (v.0, v.1, v.2.receiver, v.2.sender)) (λ i w e. settled i w (each i w e)) (λ i w e. still_open i w (each i w e)) h
   where
     t : Past
     t = after s (Decided p k true)
@@ -280,6 +323,17 @@ settled_pairs ls ds s p k lengths pairs count each h makes =
         let q = v.traffic.sender in
         same_link w _ _ _ _ s.dropped _ _ _ _ (live r w.traffic.receiver grown.receiver) (live q w.traffic.sender grown.sender) (permanent r w.traffic.receiver place.1 grown.receiver) (permanent q w.traffic.sender place.2 grown.sender)
         (grown.link (s.live r) (s.live q) s.dropped (s.permanent r) (s.permanent q) (makes.grows r place.1) (makes.grows q place.2) (shown_link ls s i v h at))
+
+    still_open : (i : ℕ) (w : Link) → (v : Link) × (slice_get ls i ≡ Some v) × IsPairSettled lengths v w → IsStillOpen w t
+    still_open i w (v, at, grown) k a e low =
+        let place = who ls i v pairs at in
+        let received : slice_index lengths w.traffic.receiver ≡ t.permanent w.traffic.receiver = permanent w.traffic.receiver w.traffic.receiver (omega (arith, place.1, grown.receiver)) refl in
+        let sent : slice_index lengths w.traffic.sender ≡ t.permanent w.traffic.sender = permanent w.traffic.sender w.traffic.sender (omega (arith, place.2, grown.sender)) refl in
+        let rising = (h.arrivals.each i v.traffic (mapped_get traffic_of ls i v at)).rising in
+        elim (cases_lt a.received (slice_index lengths w.traffic.receiver)) [
+          | inl within ↦ absurd ((grown.none rising).none k a e (record { sent = omega (arith, sent, low); received = within }))
+          | inr past ↦ omega (arith, received, past)
+        ]
 
 -- a pair without messages stays as it is where histories are cut back
 pub both_none : (v : Link) → is_idle v ≡ true → (length v.traffic.arrivals ≡ 0) × (length v.traffic.undone ≡ 0) × (length v.waiting ≡ 0)
@@ -362,6 +416,7 @@ idle_cut_back members lengths v idle = record {
     };
     settled = subst (λ (deeds : List Deed). IsLastFrom v.settled v.traffic.sender deeds) (sym (same_part (has members v.traffic.receiver) rs i at_receiver)) l.settled;
   };
+  left = λ k a e. e;
 }
   where
     n : ℕ

@@ -103,7 +103,7 @@ IsStillOpen v s = (k : ℕ) (a : Arrival) → slice_get v.traffic.arrivals k ≡
 pub record ShowsPairs (links : List Link) (s : Past) : Type 0 where
   pub arrivals : ShowsArrivals (map traffic_of links) s
   pub each : (i : ℕ) (v : Link) → slice_get links i ≡ Some v → ShowsWay v s
-  pub open : (i : ℕ) (v : Link) → slice_get links i ≡ Some v → IsStillOpen v s
+  pub still_open : (i : ℕ) (v : Link) → slice_get links i ≡ Some v → IsStillOpen v s
 
 -- a row that neither sends, receives nor drops a message, and is no commit
 abbrev pub leaves_messages : Event → Bool
@@ -120,6 +120,7 @@ pub record IsPairCutBack (set : ℕ) (lengths : List ℕ) (old new : Link) : Typ
   pub link : (received sent : List Deed) (dropped : ℕ → Bool) (i j : ℕ) → Rises (sent_in sent) → IsEachOnce received → AreNotDropped old.traffic.sender received dropped
       → i ≡ slice_index lengths old.traffic.receiver → j ≡ slice_index lengths old.traffic.sender → IsLink old received sent dropped i j
       → IsLink new (cut_back set lengths old.traffic.receiver received) (cut_back set lengths old.traffic.sender sent) dropped i j
+  pub left : (k : ℕ) (a : Arrival) → slice_get new.traffic.arrivals k ≡ Some a → slice_get old.traffic.arrivals k ≡ Some a
 
 -- the same, when permanent parts grow to these lengths
 pub record IsPairSettled (lengths : List ℕ) (old new : Link) : Type 0 where

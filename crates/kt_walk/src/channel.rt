@@ -138,6 +138,7 @@ impl Channel {
         ensures receiver { self.new.receiver ≡ self.old.receiver }
         ensures sender { self.new.sender ≡ self.old.sender }
         ensures fewer { length self.new.arrivals ≤ length self.old.arrivals }
+        ensures left { (k : ℕ) (a : Arrival) → slice_get self.new.arrivals k ≡ Some a → slice_get self.old.arrivals k ≡ Some a }
         ensures traffic { (received sent : List Deed) (i j : ℕ) → Rises (sent_in sent) → j ≤ place → IsTraffic self.old received sent i j → IsTraffic self.new received (take place sent) i j }
     {
         let arrivals = self.arrivals.as_slice();

@@ -190,6 +190,7 @@ impl Pair {
         ensures sender { self.new.traffic.sender ≡ self.old.traffic.sender }
         ensures link { (received sent : List Deed) (dropped : ℕ → Bool) (i j : ℕ) → Rises (sent_in sent) → j ≤ slice_index lengths.now self.old.traffic.sender
             → IsLink self.old received sent dropped i j → IsLink self.new received (cut_back members lengths.now self.old.traffic.sender sent) dropped i j }
+        ensures left { (k : ℕ) (a : Arrival) → slice_get self.new.traffic.arrivals k ≡ Some a → slice_get self.old.traffic.arrivals k ≡ Some a }
     {
         let sender = self.channel.sender();
         if members.has(sender) {
@@ -203,6 +204,7 @@ impl Pair {
         ensures sender { self.new.traffic.sender ≡ self.old.traffic.sender }
         ensures link { (received sent : List Deed) (dropped : ℕ → Bool) (i j : ℕ) → Rises (sent_in sent) → IsEachOnce received → AreNotDropped self.old.traffic.sender received dropped → i ≡ slice_index lengths.now self.old.traffic.receiver
             → IsLink self.old received sent dropped i j → IsLink self.new (cut_back members lengths.now self.old.traffic.receiver received) sent dropped i j }
+        ensures left { (k : ℕ) (a : Arrival) → slice_get self.new.traffic.arrivals k ≡ Some a → slice_get self.old.traffic.arrivals k ≡ Some a }
     {
         let receiver = self.channel.receiver();
         if members.has(receiver) {
@@ -216,6 +218,7 @@ impl Pair {
         ensures sender { self.new.traffic.sender ≡ self.old.traffic.sender }
         ensures link { (received sent : List Deed) (dropped : ℕ → Bool) (j : ℕ) → Rises (sent_in sent) → IsEachOnce received → AreNotDropped self.old.traffic.sender received dropped
             → IsLink self.old received sent dropped place j → IsLink self.new (take place received) sent dropped place j }
+        ensures left { (k : ℕ) (a : Arrival) → slice_get self.new.traffic.arrivals k ≡ Some a → slice_get self.old.traffic.arrivals k ≡ Some a }
     {
         let arrivals = self.channel.arrivals();
         let kept = count_received_before(arrivals, place);
@@ -230,6 +233,7 @@ impl Pair {
         ensures sender { self.new.traffic.sender ≡ self.old.traffic.sender }
         ensures link { (received sent : List Deed) (dropped : ℕ → Bool) (i j : ℕ) → Rises (sent_in sent) → j ≤ place
             → IsLink self.old received sent dropped i j → IsLink self.new received (take place sent) dropped i j }
+        ensures left { (k : ℕ) (a : Arrival) → slice_get self.new.traffic.arrivals k ≡ Some a → slice_get self.old.traffic.arrivals k ≡ Some a }
     {
         self.waiting.truncate(self.waiting.count_before(place));
         self.channel.cut_sender(place);

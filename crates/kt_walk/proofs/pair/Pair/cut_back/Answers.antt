@@ -16,4 +16,5 @@ returns c = record {
       let two = c.cut_receiver_back.ensures.link rs cut dropped i j (sent_rises_cut c.args.members lengths c.args.self.now.traffic.sender ss r) once
       (subst (λ (q : ℕ). AreNotDropped q rs dropped) (sym c.cut_sender_back.ensures.sender) not_dropped) (at_receiver ∙ ap (slice_index lengths) (sym c.cut_sender_back.ensures.receiver)) one in
       subst (λ (p : ℕ). IsLink c.cut_receiver_back.new.self (cut_back c.args.members lengths p rs) cut dropped i j) c.cut_sender_back.ensures.receiver two;
+  left = λ k a e. c.cut_sender_back.ensures.left k a (c.cut_receiver_back.ensures.left k a e);
 }
