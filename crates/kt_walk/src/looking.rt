@@ -1,6 +1,6 @@
 //! Messages are looked for among those of pairs of processes, and counted.
 
-ghost use Rattle.std.specs.Prelude.{◌≡◌, ◌≤◌, ◌<◌, ◌^◌, ℕ, nat_lt, length, slice_get, Some, None, IfSome, IfNone};
+ghost use Rattle.std.specs.Prelude.{◌≡◌, ◌≤◌, ◌<◌, ◌^◌, ℕ, List, nat_lt, length, slice_get, Some, None, IfSome, IfNone};
 ghost use Rattle.kt_spacetime.specs.declared.event.Event.{Event};
 ghost use Rattle.kt_cuts.specs.declared.histories.Trace.{Trace};
 ghost use Rattle.kt_cuts.specs.Past.{past};
@@ -47,6 +47,17 @@ impl Pair {
             sent,
             received,
         }
+    }
+}
+
+impl Pairs {
+    /// What is kept of a message from one process to another.
+    pub(crate) fn trace_between(&self, from: ProcNo, to: ProcNo, msg: MsgNo) -> Option<Trace>
+        ensures found { IfSome result (λ t. (rows : List Event) → IsLegal rows → ShowsPairs self.now (past rows) → (kept_trace rows msg ≡ Some t) × (t.from ≡ from) × (t.to ≡ to)) }
+        ensures none { IfNone result ((rows : List Event) (t : Trace) → IsLegal rows → ShowsPairs self.now (past rows) → kept_trace rows msg ≡ Some t → t.from ≡ from → t.to ≡ to → ⊥) }
+    {
+        let place = to.get() as usize * 64 + from.get() as usize;
+        self.pairs[place].trace(msg)
     }
 }
 
