@@ -24,3 +24,4 @@ pub mod TraceFacts
 pub mod SettleFacts
 pub mod FitFacts
 pub mod FoundFacts
+pub mod HeldFacts

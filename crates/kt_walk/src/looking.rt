@@ -10,7 +10,7 @@ ghost use Rattle.kt_walk.specs.declared.queue.Arrival.{Arrival};
 ghost use Rattle.kt_walk.specs.declared.channel.Undone.{Undone};
 ghost use Rattle.kt_walk.specs.Arrivals.{Has, IsRising, Parts};
 ghost use Rattle.kt_walk.specs.Pairs.{Link, AreListed, ShowsPairs};
-ghost use Rattle.kt_walk.specs.Links.{entries_of, entries_through, number_of, AreAmongAll};
+ghost use Rattle.kt_walk.specs.Links.{entries_of, entries_through, number_of, AreAmongAll, AreUndoneOnce};
 ghost use Rattle.kt_walk.specs.Keeping.{kept_trace, held_of};
 
 use crate::channel::Undone;
@@ -59,6 +59,47 @@ impl Pairs {
         let place = to.get() as usize * 64 + from.get() as usize;
         self.pairs[place].trace(msg)
     }
+
+    /// What is kept of a message.
+    pub(crate) fn trace(&self, msg: MsgNo) -> Option<Trace>
+        ensures { (rows : List Event) → IsLegal rows → AreAmongAll rows → ShowsPairs self.now (past rows) → result ≡ kept_trace rows msg }
+    {
+        first_trace(&self.pairs, &self.used, msg)
+    }
+
+    /// How many messages are kept.
+    pub(crate) fn count(&self) -> usize
+        ensures { (rows : List Event) → IsLegal rows → AreAmongAll rows → AreUndoneOnce self.now → ShowsPairs self.now (past rows) → held_of rows < 2 ^ 64 → result ≡ held_of rows }
+    {
+        count_all(&self.pairs, &self.used)
+    }
+}
+
+// What is kept of a message by the pairs that have messages.
+fn first_trace(pairs: &[Pair], used: &[usize], msg: MsgNo) -> Option<Trace>
+    requires { AreListed pairs.now used.now }
+    ensures found { IfSome result (λ t. (i : ℕ) × (v : Link) × (slice_get pairs.now i ≡ Some v) × Has (entries_of v) (msg, t)) }
+    ensures none { IfNone result ((i : ℕ) (v : Link) (t : Trace) → slice_get pairs.now i ≡ Some v → IsInOrder v.waiting → IsRising v.traffic.arrivals → Has (entries_of v) (msg, t) → ⊥) }
+{
+    for place in used {
+        let found = pairs[*place].trace(msg);
+        if found.is_some() {
+            return found;
+        }
+    }
+    None
+}
+
+// How many messages these pairs have.
+fn count_all(pairs: &[Pair], used: &[usize]) -> usize
+    requires { AreListed pairs.now used.now }
+    ensures { length (entries_through pairs.now used.now) < 2 ^ 64 → result ≡ length (entries_through pairs.now used.now) }
+{
+    let mut count: usize = 0;
+    for place in used {
+        count = count.saturating_add(pairs[*place].count());
+    }
+    count
 }
 
 // How many of rising arrivals have lower numbers.
