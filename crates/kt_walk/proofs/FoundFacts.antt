@@ -24,7 +24,7 @@ use Rattle.kt_walk.proofs.FitFacts.{each_once, not_dropped}
 use Rattle.kt_walk.proofs.ItemPlaces.{get_joined, has_left, has_right, get_mapped, mapped_get}
 use Rattle.kt_walk.proofs.KeptFacts.{kept_of}
 use Rattle.kt_walk.proofs.TraceFacts.{way_kept, arrival_kept, undone_kept, nothing_kept}
-use Rattle.kt_walk.proofs.WalkArrivals.{in_order}
+use Rattle.kt_walk.proofs.WalkMessages.{in_order}
 use Rattle.kt_walk.proofs.WalkRows.{sound}
 
 -- where a message of a pair of processes stands

@@ -1,7 +1,4 @@
-pub mod StepLists
-pub mod NumberedFacts
 pub mod KeptFacts
-pub mod RecentFacts
 pub mod TrailSteps
 pub mod TrailLoops
 pub mod Orderly
@@ -13,8 +10,8 @@ pub mod ItemPlaces
 pub mod ChannelFacts
 pub mod ArrivalFacts
 pub mod UsedFacts
-pub mod SettledFacts
-pub mod WalkArrivals
+pub mod FitFacts
+pub mod WalkMessages
 pub mod WalkLinks
 pub mod PairFacts
 pub mod WayRows
@@ -22,6 +19,5 @@ pub mod PairsUsed
 pub mod PairsFacts
 pub mod TraceFacts
 pub mod SettleFacts
-pub mod FitFacts
 pub mod FoundFacts
 pub mod HeldFacts

@@ -1,5 +1,5 @@
 -- Messages that are received no more are put back.
-use Rattle.std.proofs.Common.{◌≡◌, ◌≢◌, ℕ, zero, suc, ◌+◌, ◌-◌, ◌<◌, ◌≤◌, ◌==◌, ◌&&◌, ◌||◌, Bool, true, false, Option, Some, None, List, [], ◌∷◌, ◌++◌, length, take, drop, refl, sym, ap, ◌∙◌, subst, arith, inl, inr, length-append}
+use Rattle.std.proofs.Common.{◌≡◌, ℕ, zero, suc, ◌+◌, ◌-◌, ◌<◌, ◌≤◌, ◌==◌, ◌&&◌, ◌||◌, Bool, true, false, Option, Some, None, List, [], ◌∷◌, ◌++◌, length, take, drop, refl, sym, ap, ◌∙◌, subst, arith, inl, inr, length-append}
 use Rattle.std.specs.Prelude.{not, nat_lt, IfSome, if◌then◌else◌, slice_index}
 use Rattle.kt_base.specs.Sets.{has}
 use Rattle.std.specs.List.{slice_get, list_any, filter}
@@ -76,9 +76,10 @@ from_item (y ∷ xs) (suc n) x e = from_item xs n x e
 -- the first items without the last of them, and where that one stands
 pub one_shorter : {X : Type 0} (xs ys : List X) (x : X) → take (length (ys ++ x ∷ [])) xs ≡ ys ++ x ∷ [] → (take (length ys) xs ≡ ys) × (slice_get xs (length ys) ≡ Some x)
 one_shorter xs ys x e =
-    let more : length (ys ++ x ∷ []) ≡ length ys + 1 = length-append ys (x ∷ []) in
-    (sym (take-take (length ys) (length (ys ++ x ∷ [])) xs (omega (arith, more))) ∙ (ap (take (length ys)) e ∙ take-append_seam ys (x ∷ [])),
-    (get_take (length (ys ++ x ∷ [])) xs (length ys) x (ap (λ (l : List _). slice_get l (length ys)) e ∙ get_last ys x)).0)
+    let more : length (ys ++ x ∷ []) ≡ length ys + 1 = length-append ys (x ∷ []) in (
+      sym (take-take (length ys) (length (ys ++ x ∷ [])) xs (omega (arith, more))) ∙ (ap (take (length ys)) e ∙ take-append_seam ys (x ∷ [])),
+      (get_take (length (ys ++ x ∷ [])) xs (length ys) x (ap (λ (l : List _). slice_get l (length ys)) e ∙ get_last ys x)).0,
+    )
 
 -- an arrival's number is not among those after it
 pub later_ones : (xs : List Arrival) (n : ℕ) (a : Arrival) → IsRising xs → slice_get xs n ≡ Some a → list_any (λ b. b.msg == a.msg) (drop (suc n) xs) ≡ false

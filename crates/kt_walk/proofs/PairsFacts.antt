@@ -11,7 +11,7 @@ use Rattle.kt_spacetime.specs.declared.event.Event.{Event}
 use Rattle.kt_spacetime.specs.declared.event.Event.TheVariants.{Sent, Received, Dropped, Began, Took, Ready, Unwilling, Decided, Closed, Failed, Refused}
 use Rattle.kt_cuts.specs.declared.deeds.Deed.{Deed}
 use Rattle.kt_cuts.specs.declared.deeds.Deed.TheVariants as deed
-use Rattle.kt_cuts.specs.Past.{Past, after, at_one}
+use Rattle.kt_cuts.specs.Past.{Past, start, after, at_one}
 use Rattle.kt_cuts.specs.Tests.{is_after}
 use Rattle.kt_cuts.specs.Standing.{IsInOrder, IsAllowed}
 use Rattle.kt_cuts.proofs.Shown.{at_same, at_other}
@@ -21,8 +21,8 @@ use Rattle.kt_cuts.proofs.SortedFacts.{some_same}
 use Rattle.kt_cuts.proofs.Items.{get_set_same, get_set_other, set_mapped}
 use Rattle.kt_traffic.specs.declared.waiting.Sent.{Sent as Waiting}
 use Rattle.kt_walk.specs.declared.queue.Arrival.{Arrival}
-use Rattle.kt_walk.specs.Arrivals.{Traffic, IsByPair, ShowsArrivals, ShowsTraffic, RollsBack, MakesPermanent, KeepsPermanent, cut_back, is_empty}
-use Rattle.kt_walk.specs.Pairs.{Link, traffic_of, IsLink, IsWay, ShowsLink, ShowsWay, IsFit, ShowsPairs, IsEachOnce, AreNotDropped, IsPairCutBack, IsPairSettled, IsStillOpen, is_idle, away_in, leaves_messages}
+use Rattle.kt_walk.specs.Arrivals.{Traffic, IsByPair, ShowsArrivals, ShowsTraffic, RollsBack, MakesPermanent, KeepsPermanent, cut_back, is_empty, Has}
+use Rattle.kt_walk.specs.Pairs.{Link, traffic_of, IsLink, IsWay, ShowsLink, ShowsWay, IsFit, ShowsPairs, IsEachOnce, AreNotDropped, IsPairCutBack, IsPairSettled, IsStillOpen, is_idle, away_in, leaves_messages, AreListed, ArePairsOpened, new_link}
 use Rattle.kt_walk.proofs.ItemPlaces.{get_mapped, mapped_get, place_or_lacks}
 use Rattle.kt_walk.proofs.ChannelFacts.{IsOrphanOf, no_item, traffic_settled}
 use Rattle.kt_cuts.specs.Orphans.{IsOrphanBetween, IsAtMost}
@@ -526,18 +526,6 @@ found_there ls vs n i msg v (Some r) same index at found = λ u e.
     let is : v ≡ u = some_same (sym at ∙ ((λ t. slice_get (same t) (index t)) ∙ e)) in
     subst (λ (x : Link). (slice_get x.waiting r.0 ≡ Some r.1) × (r.1.msg ≡ msg)) is found
 
--- a pair has a message more
-pub busy_after : (v w : Link) (m : Waiting) → w ≡ record v { waiting = v.waiting ++ m ∷ [] } → is_idle w ≡ false
-busy_after v w m new = ap is_idle new ∙ not_empty (is_empty v.traffic) (length (v.waiting ++ m ∷ [])) (omega (arith, length-append v.waiting (m ∷ [])))
-  where
-    not_empty : (b : Bool) (n : ℕ) → 0 < n → (b && (n == 0)) ≡ false
-    not_empty true n l = grind (arith, nat_tests)
-    not_empty false n l = refl
-
-pub as_busy : {X E : Type 0} (r : Result X E) (v w : Link) (m : Waiting) → is_idle v ≡ false → OnOk r (w ≡ record v { waiting = v.waiting ++ m ∷ [] }) → OnErr r (w ≡ v) → is_idle w ≡ is_idle v
-as_busy (Ok x) v w m busy ok err = busy_after v w m ok ∙ sym busy
-as_busy (Err e) v w m busy ok err = ap is_idle err
-
 pub sent_ends : {X E : Type 0} (r : Result X E) (v w : Link) (m : Waiting) → OnOk r (w ≡ record v { waiting = v.waiting ++ m ∷ [] }) → OnErr r (w ≡ v) → traffic_of w ≡ traffic_of v
 sent_ends (Ok x) v w m ok err = ap traffic_of ok
 sent_ends (Err e) v w m ok err = ap traffic_of err
@@ -559,17 +547,11 @@ busy_way v k x at = not_empty (is_empty v.traffic) (length v.waiting) (omega (ar
     not_empty true n l = grind (arith, nat_tests)
     not_empty false n l = refl
 
--- a pair that received a message
-pub busy_received : (v w : Link) (k : ℕ) (a : Arrival) → w ≡ record v { traffic = record v.traffic { arrivals = v.traffic.arrivals ++ a ∷ [] }; waiting = remove v.waiting k; last = Some a.msg } → is_idle w ≡ false
-busy_received v w k a new = ap is_idle new ∙ not_empty (length (v.traffic.arrivals ++ a ∷ [])) (length v.traffic.undone) (length (remove v.waiting k)) (omega (arith, length-append v.traffic.arrivals (a ∷ [])))
-  where
-    not_empty : (m n o : ℕ) → 0 < m → (((m == 0) && (n == 0)) && (o == 0)) ≡ false
-    not_empty m n o l = grind (arith, nat_tests)
-
-pub as_received : {X E : Type 0} (r : Result X E) (v w : Link) (k : ℕ) (a : Arrival) → is_idle v ≡ false → OnOk r (w ≡ record v { traffic = record v.traffic { arrivals = v.traffic.arrivals ++ a ∷ [] }; waiting = remove v.waiting k; last = Some a.msg }) → OnErr r (w ≡ v)
-    → (is_idle w ≡ is_idle v) × (w.traffic.receiver ≡ v.traffic.receiver) × (w.traffic.sender ≡ v.traffic.sender)
-as_received (Ok x) v w k a busy ok err = (busy_received v w k a ok ∙ sym busy, ap (λ (u : Link). u.traffic.receiver) ok, ap (λ (u : Link). u.traffic.sender) ok)
-as_received (Err e) v w k a busy ok err = (ap is_idle err, ap (λ (u : Link). u.traffic.receiver) err, ap (λ (u : Link). u.traffic.sender) err)
+-- the two processes of a pair stay
+pub as_received : {X E : Type 0} (r : Result X E) (v w : Link) (k : ℕ) (a : Arrival) → OnOk r (w ≡ record v { traffic = record v.traffic { arrivals = v.traffic.arrivals ++ a ∷ [] }; waiting = remove v.waiting k; last = Some a.msg }) → OnErr r (w ≡ v)
+    → (w.traffic.receiver ≡ v.traffic.receiver) × (w.traffic.sender ≡ v.traffic.sender)
+as_received (Ok x) v w k a ok err = (ap (λ (u : Link). u.traffic.receiver) ok, ap (λ (u : Link). u.traffic.sender) ok)
+as_received (Err e) v w k a ok err = (ap (λ (u : Link). u.traffic.receiver) err, ap (λ (u : Link). u.traffic.sender) err)
 
 pub pairs_set : (ls : List Link) (n : ℕ) (v w : Link) → IsByPair (map traffic_of ls) → slice_get ls n ≡ Some v → w.traffic.receiver ≡ v.traffic.receiver → w.traffic.sender ≡ v.traffic.sender → IsByPair (map traffic_of (set ls n w))
 pairs_set ls n v w pairs at a b = subst IsByPair (sym (map_set traffic_of ls n w)) (by_pair_set (map traffic_of ls) n v.traffic w.traffic pairs (mapped_get traffic_of ls n v at) a b)
@@ -596,3 +578,84 @@ received_by_call ls s p from n k a v w pairs low_p low_from index at new found h
         not_itself : (b : Bool) → not b ≡ true → b ≡ true → ⊥
         not_itself true e f = cc e
         not_itself false e f = cc f
+
+-- the place of a pair that has messages is listed
+pub listed_place : (ls : List Link) (used : List ℕ) (n k : ℕ) (v : Link) (x : Waiting) → slice_get ls n ≡ Some v → slice_get v.waiting k ≡ Some x → AreListed ls used → Has used n
+listed_place ls used n k v x at found h = h.all n v at (busy_way v k x found)
+
+pub lost_ends : {X E : Type 0} (r : Result X E) (v w : Link) (k : ℕ) → OnOk r (w ≡ record v { waiting = remove v.waiting k }) → OnErr r (w ≡ v) → traffic_of w ≡ traffic_of v
+lost_ends (Ok x) v w k ok err = ap traffic_of ok
+lost_ends (Err e) v w k ok err = ap traffic_of err
+
+-- one pair more is opened
+pub pair_opened : (ls ds : List Link) (p q n m : ℕ) (v : Link) → ArePairsOpened ls n → n ≡ p * 64 + q → m ≡ n + 1 → p < 64 → q < 64 → v ≡ new_link p q → ds ≡ ls ++ v ∷ [] → ArePairsOpened ds m
+pair_opened ls ds p q n m v h at next low_p low_q is new = subst (λ (l : List Link). ArePairsOpened l m) (sym new) (record {
+  count = omega (arith, length-append ls (v ∷ []), h.count, next);
+  place = λ i w e. elim (get_push ls v i w e) [
+    | inl was ↦ h.place i w was
+    | inr last ↦ subst (λ (x : Link). x.traffic.receiver * 64 + x.traffic.sender ≡ i) (sym is ∙ last.1) (omega (arith, at, last.0, h.count))
+  ];
+  receiver = λ i w e. elim (get_push ls v i w e) [
+    | inl was ↦ h.receiver i w was
+    | inr last ↦ subst (λ (x : Link). x.traffic.receiver < 64) (sym is ∙ last.1) low_p
+  ];
+  sender = λ i w e. elim (get_push ls v i w e) [
+    | inl was ↦ h.sender i w was
+    | inr last ↦ subst (λ (x : Link). x.traffic.sender < 64) (sym is ∙ last.1) low_q
+  ];
+  empty = λ i w e. elim (get_push ls v i w e) [
+    | inl was ↦ h.empty i w was
+    | inr last ↦ subst (λ (x : Link). x ≡ new_link x.traffic.receiver x.traffic.sender) (sym is ∙ last.1) refl
+  ];
+})
+
+-- all pairs are opened
+pub opened_by_pair : (ls : List Link) → ArePairsOpened ls 4096 → IsByPair (map traffic_of ls)
+opened_by_pair ls h = record {
+  count = mapped_length traffic_of ls ∙ h.count;
+  place = λ i v e. let there = get_mapped traffic_of ls i v e in subst (λ (x : Traffic). x.receiver * 64 + x.sender ≡ i) (sym there.2) (h.place i there.0 there.1);
+  receiver = λ i v e. let there = get_mapped traffic_of ls i v e in subst (λ (x : Traffic). x.receiver < 64) (sym there.2) (h.receiver i there.0 there.1);
+  sender = λ i v e. let there = get_mapped traffic_of ls i v e in subst (λ (x : Traffic). x.sender < 64) (sym there.2) (h.sender i there.0 there.1);
+}
+
+pub opened_idle : (ls : List Link) (n : ℕ) → ArePairsOpened ls n → (i : ℕ) (v : Link) → slice_get ls i ≡ Some v → is_idle v ≡ true
+opened_idle ls n h i v e = ap is_idle (h.empty i v e)
+
+-- before the first row there are no messages
+pub pairs_start : (ls : List Link) → ArePairsOpened ls 4096 → ShowsPairs ls start
+pairs_start ls h = record {
+  arrivals = record {
+    by_pair = opened_by_pair ls h;
+    each = λ i v e.
+        let there = get_mapped traffic_of ls i v e in
+        subst (λ (x : Traffic). ShowsTraffic x start) (sym there.2) (subst (λ (x : Link). ShowsTraffic x.traffic start) (sym (h.empty i there.0 there.1)) (no_traffic there.0.traffic.receiver there.0.traffic.sender));
+    numbered = λ p i d e. absurd (cc e);
+    receivers = λ p i m q e. absurd (cc e);
+    senders = λ p i m q e. absurd (cc e);
+  };
+  each = λ i v e. subst (λ (x : Link). ShowsWay x start) (sym (h.empty i v e)) (no_way v.traffic.receiver v.traffic.sender);
+  still_open = λ i v e. subst (λ (x : Link). IsStillOpen x start) (sym (h.empty i v e)) (λ k a at low. absurd (cc at));
+}
+  where
+    no_traffic : (p q : ℕ) → ShowsTraffic (record { receiver = p; sender = q; arrivals = []; undone = [] }) start
+    no_traffic p q = record {
+      arrived = λ k a e. absurd (cc e);
+      live = λ k a e. absurd (cc e);
+      rising = record { each = λ j k a b l e f. absurd (cc e) };
+      there = λ k u e. absurd (cc e);
+      unsent = λ k u e. absurd (cc e);
+      all_arrivals = λ m i j e f. absurd (cc e);
+      all_undone = λ m j e. absurd (cc e);
+    }
+
+    no_way : (p q : ℕ) → ShowsWay (new_link p q) start
+    no_way p q = record {
+      waiting = record {
+        in_order = record { each = λ j k a b l e f. absurd (cc e) };
+        live = λ k w e. absurd (cc e);
+        here = λ k w e. absurd (cc e);
+        all = λ m j e lacks. absurd (cc e);
+      };
+      last = record { there = tt; most = λ x y e. absurd (cc e) };
+      settled = record { there = tt; most = λ x y e. absurd (cc e) };
+    }

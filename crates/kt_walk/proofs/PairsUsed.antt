@@ -1,13 +1,12 @@
 -- The pairs of processes that have messages are listed, and only these change.
-use Rattle.std.proofs.Common.{◌≡◌, ◌≢◌, ◌⊎◌, ℕ, zero, suc, ◌+◌, ◌<◌, ◌≤◌, Bool, true, false, Some, List, [], ◌∷◌, ◌++◌, length, set, refl, sym, ap, ◌∙◌, subst, arith, inl, inr, cond, length-append}
-use Rattle.std.specs.List.{slice_get, slice_index, filter}
-use Rattle.std.specs.Prelude.{◌==◌, ◌&&◌, not, if◌then◌else◌, take, Result, Ok, Err, OnOk, OnErr}
+use Rattle.std.proofs.Common.{◌≡◌, ◌≢◌, ◌⊎◌, ℕ, zero, suc, ◌+◌, ◌<◌, ◌≤◌, Bool, true, false, Option, Some, List, [], ◌∷◌, ◌++◌, length, replicate, set, refl, sym, ap, ◌∙◌, subst, arith, inl, inr, cond}
+use Rattle.std.specs.List.{slice_get, filter}
+use Rattle.std.specs.Prelude.{unwrap_or, not}
 use Rattle.std.proofs.lemmas.Bool.{cases_eq}
-use Rattle.std.proofs.lemmas.Bool.Decides.{nat_tests}
 use Rattle.std.proofs.lemmas.List.{length-set}
 use Rattle.std.proofs.lemmas.Option.{slice_get_within}
 use Rattle.kt_walk.specs.Arrivals.{Has}
-use Rattle.kt_walk.specs.Pairs.{Link, AreListed, AreInUse, is_idle, is_in_use, has_messages}
+use Rattle.kt_walk.specs.Pairs.{Link, AreListed, AreMarked, is_idle, is_in_use, is_marked, has_messages}
 use Rattle.kt_cuts.proofs.Items.{get_set_same, get_set_other}
 use Rattle.kt_cuts.proofs.Lists.{get_push, get_last}
 use Rattle.kt_cuts.proofs.SortedFacts.{some_same}
@@ -112,57 +111,66 @@ still_listed R before now used n count listed h = record {
 }
 
 -- the places without messages are listed no more
-pub listed_filtered : (cs : List Link) (used : List ℕ) → AreListed cs used → AreListed cs (filter (is_in_use cs) used)
-listed_filtered cs used h = record {
+pub listed_filtered : (test : ℕ → Bool) (cs : List Link) (used : List ℕ) → ((k i : ℕ) → slice_get used k ≡ Some i → test i ≡ is_in_use cs i) → AreListed cs used → AreListed cs (filter test used)
+listed_filtered test cs used same h = record {
   all = λ i v at full.
       let there = h.all i v at full in
-      filter_keeps (is_in_use cs) used there.0 i there.1 (ap has_messages at ∙ ap not full);
-  once = filter_once (is_in_use cs) used h.once;
-  within = λ k i e. let was = get_filtered (is_in_use cs) used k i e in h.within was.0 i was.1;
+      filter_keeps test used there.0 i there.1 (same there.0 i there.1 ∙ (ap has_messages at ∙ ap not full));
+  once = filter_once test used h.once;
+  within = λ k i e. let was = get_filtered test used k i e in h.within was.0 i was.1;
 }
 
-pub in_use_filtered : (cs : List Link) (used : List ℕ) → AreInUse cs (filter (is_in_use cs) used)
-in_use_filtered cs used = record {
-  each = λ k i v e at.
-      let was = get_filtered (is_in_use cs) used k i e in
-      not_true (is_idle v) (sym (ap has_messages at) ∙ was.2);
+-- and marked no more
+pub marked_filtered : (cs : List Link) (used : List ℕ) (before now : List Bool) → length now ≡ length before → ((k i : ℕ) → slice_get used k ≡ Some i → slice_get now i ≡ Some (is_in_use cs i))
+    → ((i : ℕ) → ((k : ℕ) → slice_get used k ≡ Some i → ⊥) → slice_get now i ≡ slice_get before i) → AreMarked before used → AreMarked now (filter (is_marked now) used)
+marked_filtered cs used before now count busy rest h = record {
+  count = count ∙ h.count;
+  has = λ i e. elim (place_or_none used i) [
+    | inl there ↦ filter_keeps (is_marked now) used there.0 i there.1 (ap (λ (o : Option Bool). unwrap_or o false) e)
+    | inr none ↦ absurd (none (h.has i (sym (rest i (λ k at. none (k, at))) ∙ e)))
+  ];
+  each = λ k i e.
+      let was = get_filtered (is_marked now) used k i e in
+      let at = busy was.0 i was.1 in
+      at ∙ ap Some (sym (ap (λ (o : Option Bool). unwrap_or o false) at) ∙ was.2);
 }
-  where
-    not_true : (b : Bool) → not b ≡ true → b ≡ false
-    not_true true e = cc
-    not_true false e = refl
 
--- a channel is changed, and has messages as before
-pub listed_set : (cs : List Link) (used : List ℕ) (n : ℕ) (v w : Link) → slice_get cs n ≡ Some v → is_idle w ≡ is_idle v → AreListed cs used → AreListed (set cs n w) used
-listed_set cs used n v w here same h = record {
+-- the mark of a place is that of its pair
+pub marked_busy : (cs : List Link) (used : List ℕ) (now : List Bool) → ((k i : ℕ) → slice_get used k ≡ Some i → slice_get now i ≡ Some (is_in_use cs i)) → (k i : ℕ) → slice_get used k ≡ Some i → is_marked now i ≡ is_in_use cs i
+marked_busy cs used now busy k i e = ap (λ (o : Option Bool). unwrap_or o false) (busy k i e)
+
+-- the marks of the first so many places of a list are those of their pairs
+pub record AreRemarked (cs : List Link) (used : List ℕ) (before now : List Bool) (n : ℕ) : Type 0 where
+  pub done : (k i : ℕ) → k < n → slice_get used k ≡ Some i → slice_get now i ≡ Some (is_in_use cs i)
+  pub rest : (i : ℕ) → ((k : ℕ) → k < n → slice_get used k ≡ Some i → ⊥) → slice_get now i ≡ slice_get before i
+
+pub remarked_next : (cs : List Link) (used : List ℕ) (before now : List Bool) (n i : ℕ) (b : Bool) → slice_get used n ≡ Some i → i < length now → b ≡ is_in_use cs i → AreRemarked cs used before now n → AreRemarked cs used before (set now i b) (n + 1)
+remarked_next cs used before now n i b next low is h = record {
+  done = λ k j l e. elim (cases_eq j i) [
+    | inl same ↦ ap (slice_get (set now i b)) same ∙ (get_set_same now i b low ∙ (ap Some is ∙ ap (λ (x : ℕ). Some (is_in_use cs x)) (sym same)))
+    | inr other ↦
+        let before_it : k ≢ n = λ last. other (some_same (sym e ∙ (ap (slice_get used) last ∙ next))) in
+        get_set_other now i j b other ∙ h.done k j (omega (arith, l, before_it)) e
+  ];
+  rest = λ j none.
+      let other : j ≢ i = λ same. none n (omega arith) (next ∙ ap Some (sym same)) in
+      get_set_other now i j b other ∙ h.rest j (λ k l e. none k (omega (arith, l)) e);
+}
+
+-- a listed pair is changed
+pub listed_set : (cs : List Link) (used : List ℕ) (n : ℕ) (w : Link) → Has used n → AreListed cs used → AreListed (set cs n w) used
+listed_set cs used n w there h = record {
   all = λ i u at full. elim (cases_eq i n) [
-    | inl place ↦
-        let is : w ≡ u = some_same (sym (get_set_same cs n w (slice_get_within cs n v here)) ∙ subst (λ (z : ℕ). slice_get (set cs n w) z ≡ Some u) place at) in
-        h.all i v (ap (slice_get cs) place ∙ here) (sym same ∙ (ap is_idle is ∙ full))
+    | inl place ↦ (there.0, there.1 ∙ ap Some (sym place))
     | inr other ↦ h.all i u (sym (get_set_other cs n i w other) ∙ at) full
   ];
   once = h.once;
   within = λ k i e. omega (arith, h.within k i e, length-set cs n w);
 }
 
-pub in_use_set : (cs : List Link) (used : List ℕ) (n : ℕ) (v w : Link) → slice_get cs n ≡ Some v → is_idle w ≡ is_idle v → AreInUse cs used → AreInUse (set cs n w) used
-in_use_set cs used n v w here same h = record {
-  each = λ k i u e at. elim (cases_eq i n) [
-    | inl place ↦
-        let is : w ≡ u = some_same (sym (get_set_same cs n w (slice_get_within cs n v here)) ∙ subst (λ (z : ℕ). slice_get (set cs n w) z ≡ Some u) place at) in
-        sym (ap is_idle is) ∙ (same ∙ h.each k i v e (ap (slice_get cs) place ∙ here))
-    | inr other ↦ h.each k i u e (sym (get_set_other cs n i w other) ∙ at)
-  ];
-}
-
--- a channel has its first message, and its place is listed
-not_in_use : (cs : List Link) (used : List ℕ) (n k i : ℕ) (v : Link) → slice_get cs n ≡ Some v → is_idle v ≡ true → AreInUse cs used → slice_get used k ≡ Some i → i ≡ n → ⊥
-not_in_use cs used n k i v here empty h e same =
-    let full = h.each k i v e (ap (slice_get cs) same ∙ here) in
-    absurd (cc (empty, full))
-
-pub listed_push : (cs : List Link) (used : List ℕ) (n : ℕ) (v w : Link) → slice_get cs n ≡ Some v → is_idle v ≡ true → AreListed cs used → AreInUse cs used → AreListed (set cs n w) (used ++ n ∷ [])
-listed_push cs used n v w here empty h in_use = record {
+-- a pair's place is listed
+pub listed_push : (cs : List Link) (used : List ℕ) (n : ℕ) (w : Link) → n < length cs → (Has used n → ⊥) → AreListed cs used → AreListed (set cs n w) (used ++ n ∷ [])
+listed_push cs used n w low none h = record {
   all = λ i u at full. elim (cases_eq i n) [
     | inl place ↦ (length used, get_last used n ∙ ap Some (sym place))
     | inr other ↦ has_left used (n ∷ []) i (h.all i u (sym (get_set_other cs n i w other) ∙ at) full)
@@ -170,28 +178,59 @@ listed_push cs used n v w here empty h in_use = record {
   once = λ j k i e f. elim (get_push used n j i e) [
     | inl one ↦ elim (get_push used n k i f) [
       | inl two ↦ h.once j k i one two
-      | inr last ↦ absurd (not_in_use cs used n j i v here empty in_use one (sym last.1))
+      | inr last ↦ absurd (none (j, one ∙ ap Some (sym last.1)))
     ]
     | inr first ↦ elim (get_push used n k i f) [
-      | inl two ↦ absurd (not_in_use cs used n k i v here empty in_use two (sym first.1))
+      | inl two ↦ absurd (none (k, two ∙ ap Some (sym first.1)))
       | inr last ↦ first.0 ∙ sym last.0
     ]
   ];
   within = λ k i e. elim (get_push used n k i e) [
     | inl was ↦ omega (arith, h.within k i was, length-set cs n w)
-    | inr last ↦ omega (arith, last.1, slice_get_within cs n v here, length-set cs n w)
+    | inr last ↦ omega (arith, last.1, low, length-set cs n w)
   ];
 }
 
-pub in_use_push : (cs : List Link) (used : List ℕ) (n : ℕ) (v w : Link) → slice_get cs n ≡ Some v → is_idle v ≡ true → is_idle w ≡ false → AreInUse cs used → AreInUse (set cs n w) (used ++ n ∷ [])
-in_use_push cs used n v w here empty full h = record {
-  each = λ k i u e at. elim (cases_eq i n) [
-    | inl place ↦
-        let is : w ≡ u = some_same (sym (get_set_same cs n w (slice_get_within cs n v here)) ∙ subst (λ (z : ℕ). slice_get (set cs n w) z ≡ Some u) place at) in
-        sym (ap is_idle is) ∙ full
+-- and marked
+pub marked_push : (marks : List Bool) (used : List ℕ) (n : ℕ) → n < 4096 → AreMarked marks used → AreMarked (set marks n true) (used ++ n ∷ [])
+marked_push marks used n low h = record {
+  count = length-set marks n true ∙ h.count;
+  has = λ i e. elim (cases_eq i n) [
+    | inl place ↦ (length used, get_last used n ∙ ap Some (sym place))
+    | inr other ↦ has_left used (n ∷ []) i (h.has i (sym (get_set_other marks n i true other) ∙ e))
+  ];
+  each = λ k i e. elim (cases_eq i n) [
+    | inl place ↦ ap (slice_get (set marks n true)) place ∙ get_set_same marks n true (omega (arith, low, h.count))
     | inr other ↦ elim (get_push used n k i e) [
-      | inl was ↦ h.each k i u was (sym (get_set_other cs n i w other) ∙ at)
+      | inl was ↦ get_set_other marks n i true other ∙ h.each k i was
       | inr last ↦ absurd (other (sym last.1))
     ]
   ];
 }
+
+-- a place without a mark is not listed
+pub not_listed : (marks : List Bool) (used : List ℕ) (n : ℕ) → slice_get marks n ≡ Some false → AreMarked marks used → Has used n → ⊥
+not_listed marks used n e h there = let clash : false ≡ true = some_same (sym e ∙ h.each there.0 n there.1) in cc clash
+
+-- no place is listed, and none marked
+pub none_listed : (cs : List Link) → ((i : ℕ) (v : Link) → slice_get cs i ≡ Some v → is_idle v ≡ true) → AreListed cs []
+none_listed cs idle = record {
+  all = λ i v at full. let clash : true ≡ false = sym (idle i v at) ∙ full in absurd (cc clash);
+  once = λ j k i e f. absurd (cc e);
+  within = λ k i e. absurd (cc e);
+}
+
+pub none_marked : (marks : List Bool) → length marks ≡ 4096 → ((i : ℕ) (b : Bool) → slice_get marks i ≡ Some b → b ≡ false) → AreMarked marks []
+none_marked marks count unmarked = record {
+  count = count;
+  has = λ i e. let clash : true ≡ false = unmarked i true e in absurd (cc clash);
+  each = λ k i e. absurd (cc e);
+}
+
+pub replicated : {X : Type 0} (n i : ℕ) (x y : X) → slice_get (replicate n x) i ≡ Some y → y ≡ x
+replicated zero i x y e = absurd (cc e)
+replicated (suc n) zero x y e = sym (some_same e)
+replicated (suc n) (suc i) x y e = replicated n i x y e
+
+pub marked_within : (marks : List Bool) (used : List ℕ) (k i : ℕ) → slice_get used k ≡ Some i → AreMarked marks used → i < length marks
+marked_within marks used k i e h = slice_get_within marks i true (h.each k i e)

@@ -1,7 +1,6 @@
 -- Decisions, process by process.
-use Rattle.std.proofs.Common.{◌≡◌, ◌≢◌, ◌⊎◌, ℕ, zero, suc, ◌+◌, ◌-◌, ◌<◌, ◌≤◌, ◌&&◌, nat_lt, if◌then◌else◌, Bool, true, false, Option, Some, List, [], ◌∷◌, length, take, refl, sym, ap, subst, ◌∙◌, arith, inl, inr, length-take}
+use Rattle.std.proofs.Common.{◌≡◌, ◌≢◌, ℕ, ◌+◌, ◌≤◌, ◌&&◌, nat_lt, if◌then◌else◌, Bool, true, false, List, length, take, refl, sym, ap, subst, ◌∙◌, arith, inl, inr, length-take}
 use Rattle.std.specs.Prelude.{slice_index_or}
-use Rattle.std.specs.List.{slice_get}
 use Rattle.std.proofs.lemmas.Bool.{cases_eq}
 use Rattle.std.proofs.lemmas.Bool.Decides.{nat_tests}
 use Rattle.kt_base.specs.Sets.{has}
@@ -10,97 +9,31 @@ use Rattle.kt_cuts.specs.declared.instances.Instance.{Instance}
 use Rattle.kt_walk.specs.declared.trail.Trail.{Trail}
 use Rattle.kt_walk.specs.declared.walker.Walker.{Walker}
 use Rattle.kt_cuts.specs.Past.{Past, at_one}
-use Rattle.kt_walk.specs.Stages.{with_permanent, with_live, settled_below, settled_at, undone_below, undone_at, IsWithin, AreInPlace}
-use Rattle.kt_walk.specs.TrailOf.{ShowsTrail, KeepsInstances, KeepsRest}
-use Rattle.kt_walk.specs.PartsOf.{ShowsWalker, ShowsWalkers}
-use Rattle.kt_cuts.proofs.Lists.{get_take}
+use Rattle.kt_walk.specs.Stages.{with_permanent, with_live, settled_below, settled_at, undone_below, undone_at, IsWithin}
+use Rattle.kt_walk.specs.TrailOf.{KeepsRest}
+use Rattle.kt_walk.specs.PartsOf.{ShowsWalkers}
 use Rattle.kt_cuts.proofs.Shown.{at_same, at_other}
 
-pub keeps_all : (t : Trail) → KeepsInstances t t
-keeps_all t = record { rows = refl; instances = refl; beginning = refl }
-
-pub keeps_both : (t u v : Trail) → KeepsInstances t u → KeepsInstances u v → KeepsInstances t v
-keeps_both t u v a b = record { rows = b.rows ∙ a.rows; instances = b.instances ∙ a.instances; beginning = b.beginning ∙ a.beginning }
-
 pub keeps_rest : (t : Trail) → KeepsRest t t
-keeps_rest t = record { rows = refl; instances = refl; beginning = refl; kept = refl }
+keeps_rest t = record { rows = refl; instances = refl; beginning = refl }
 
 pub keeps_rest_twice : (t u v : Trail) → KeepsRest t u → KeepsRest u v → KeepsRest t v
-keeps_rest_twice t u v a b = record { rows = b.rows ∙ a.rows; instances = b.instances ∙ a.instances; beginning = b.beginning ∙ a.beginning; kept = b.kept ∙ a.kept }
+keeps_rest_twice t u v a b = record { rows = b.rows ∙ a.rows; instances = b.instances ∙ a.instances; beginning = b.beginning ∙ a.beginning }
 
 -- the same positions, and the same histories
 pub same_permanent : (ws : List Walker) (s : Past) (f g : ℕ → ℕ) → ((q : ℕ) → f q ≡ g q) → ShowsWalkers ws (with_permanent s f) → ShowsWalkers ws (with_permanent s g)
 same_permanent ws s f g e h = subst (λ (x : ℕ → ℕ). ShowsWalkers ws (with_permanent s x)) (λ i q. e q i) h
 
-pub same_live : (t : Trail) (between : ℕ → Option (ℕ × ℕ)) (s : Past) (f g : ℕ → List Deed) → ((q : ℕ) → f q ≡ g q) → ShowsTrail t between (with_live s f) → ShowsTrail t between (with_live s g)
-same_live t between s f g e h = subst (λ (x : ℕ → List Deed). ShowsTrail t between (with_live s x)) (λ i q. e q i) h
+pub same_live : (ws : List Walker) (s : Past) (f g : ℕ → List Deed) → ((q : ℕ) → f q ≡ g q) → ShowsWalkers ws (with_live s f) → ShowsWalkers ws (with_live s g)
+same_live ws s f g e h = subst (λ (x : ℕ → List Deed). ShowsWalkers ws (with_live s x)) (λ i q. e q i) h
 
-pub one_same : {X : Type 0} (p : ℕ) (x : X) (f : ℕ → X) → f p ≡ x → (q : ℕ) → f q ≡ at_one p x f q
-one_same p x f e q = elim (cases_eq q p) [
-  | inl same ↦ ap f same ∙ (e ∙ (sym (at_same p x f) ∙ ap (at_one p x f) (sym same)))
-  | inr other ↦ sym (at_other p q x f other)
-]
-
-pub one_twice : {X : Type 0} (p : ℕ) (x y : X) (f : ℕ → X) (q : ℕ) → at_one p x (at_one p y f) q ≡ at_one p x f q
-one_twice p x y f q = elim (cases_eq q p) [
-  | inl same ↦ ap (at_one p x (at_one p y f)) same ∙ (at_same p x (at_one p y f) ∙ (sym (at_same p x f) ∙ ap (at_one p x f) (sym same)))
-  | inr other ↦ at_other p q x (at_one p y f) other ∙ (at_other p q y f other ∙ sym (at_other p q x f other))
-]
-
--- histories that are cut back past their permanent positions
-IsCutBack : (ℕ → ℕ) → (ℕ → List Deed) → (ℕ → List Deed) → Type 0
-IsCutBack permanent live cut = (q : ℕ) → (cut q ≡ live q) ⊎ ((n : ℕ) × (cut q ≡ take n (live q)) × (permanent q ≤ n))
-
-cut_get : (permanent : ℕ → ℕ) (live cut : ℕ → List Deed) → IsCutBack permanent live cut → (q i : ℕ) (d : Deed) → slice_get (cut q) i ≡ Some d → slice_get (live q) i ≡ Some d
-unfolding IsCutBack
-cut_get permanent live cut h q i d e = elim (h q) [
-  | inl same ↦ ap (λ (l : List Deed). slice_get l i) (sym same) ∙ e
-  | inr front ↦ (get_take front.0 (live q) i d (ap (λ (l : List Deed). slice_get l i) (sym front.1) ∙ e)).0
-]
-
-sound_cut : (between : ℕ → Option (ℕ × ℕ)) (permanent : ℕ → ℕ) (live cut : ℕ → List Deed) → AreInPlace between permanent live → IsCutBack permanent live cut → AreInPlace between permanent cut
-unfolding IsCutBack
-sound_cut between permanent live cut g h = record {
-  once = λ p i j d e f. g.once p i j d (cut_get permanent live cut h p i d e) (cut_get permanent live cut h p j d f);
-  sent = λ p i m to e. g.sent p i m to (cut_get permanent live cut h p i _ e);
-  received = λ p i m f e. g.received p i m f (cut_get permanent live cut h p i _ e);
-  within = λ p. elim (h p) [
-    | inl same ↦ omega (arith, g.within p, ap length same)
-    | inr front ↦ omega (arith, g.within p, ap length front.1, length-take front.0 (live p), front.2)
-  ];
-}
-
-pub sound_one : (between : ℕ → Option (ℕ × ℕ)) (permanent : ℕ → ℕ) (live : ℕ → List Deed) (p n : ℕ) → AreInPlace between permanent live → permanent p ≤ n → AreInPlace between permanent (at_one p (take n (live p)) live)
-unfolding IsCutBack
-sound_one between permanent live p n g low = sound_cut between permanent live (at_one p (take n (live p)) live) g (λ q. elim (cases_eq q p) [
-  | inl same ↦
-      inr (n, subst (λ (x : ℕ). at_one p (take n (live p)) live x ≡ take n (live x)) (sym same) (at_same p (take n (live p)) live), omega (arith, low, ap permanent same))
-  | inr other ↦ inl (at_other p q (take n (live p)) live other)
-])
-
-pub sound_below : (between : ℕ → Option (ℕ × ℕ)) (permanent : ℕ → ℕ) (live : ℕ → List Deed) (n : ℕ) (v : Instance) → AreInPlace between permanent live → AreInPlace between permanent (undone_below n v permanent live)
-unfolding IsCutBack
-sound_below between permanent live n v g = sound_cut between permanent live (undone_below n v permanent live) g (λ q. at_test q (nat_lt q n && has v.joined q))
+-- no permanent position lies past the end where histories are cut back to them
+pub within_below : (n : ℕ) (v : Instance) (s : Past) → ((q : ℕ) → s.permanent q ≤ length (s.live q)) → (q : ℕ) → s.permanent q ≤ length (undone_below n v s.permanent s.live q)
+within_below n v s within q = at_test (nat_lt q n && has v.joined q)
   where
-    at_test : (q : ℕ) (b : Bool) → ((if b then take (permanent q) (live q) else live q) ≡ live q) ⊎ ((n : ℕ) × ((if b then take (permanent q) (live q) else live q) ≡ take n (live q)) × (permanent q ≤ n))
-    at_test q true = inr (permanent q, refl, omega arith)
-    at_test q false = inl refl
-
--- how many deeds past the permanent position a process has
-pub recent_count : (v : Walker) (s : Past) (p : ℕ) → ShowsWalker v s p → v.length - v.permanent ≡ length (s.live p) - s.permanent p
-recent_count v s p g = λ i. g.length i - g.permanent i
-
--- one front of another
-pub front_once : (l : List Deed) (n m : ℕ) → n < length l → m ≡ n + 1 → take (length (take (length l - n) l) - 1) (take (length l - n) l) ≡ take (length l - m) l
-front_once l n m low e =
-    let count : length (take (length l - n) l) - 1 ≡ length l - m = omega (arith, low, e, length-take (length l - n) l) in
-    ap (λ (k : ℕ). take k (take (length l - n) l)) count ∙ take_take (length l - m) (length l - n) l (omega (arith, e))
-  where
-    take_take : (a b : ℕ) (l : List Deed) → a ≤ b → take a (take b l) ≡ take a l
-    take_take zero b l g = refl
-    take_take (suc a) zero l g = absurd (omega (arith, g))
-    take_take (suc a) (suc b) [] g = refl
-    take_take (suc a) (suc b) (x ∷ l) g = ap (λ (t : List Deed). x ∷ t) (take_take a b l (omega (arith, g)))
+    at_test : (b : Bool) → s.permanent q ≤ length (if b then take (s.permanent q) (s.live q) else s.live q)
+    at_test true = omega (arith, within q, length-take (s.permanent q) (s.live q))
+    at_test false = within q
 
 -- a process more
 pub settled_none : (v : Instance) (permanent : ℕ → ℕ) (q : ℕ) → permanent q ≡ settled_below 0 v permanent q

@@ -1,7 +1,6 @@
 -- A walk after a decision.
-use Rattle.std.proofs.Common.{◌≡◌, ℕ, zero, suc, ◌+◌, ◌<◌, ◌≤◌, nat_lt, ◌⊎◌, ◌&&◌, if◌then◌else◌, Bool, true, false, Option, Some, None, unwrap_or, List, [], ◌∷◌, ◌++◌, length, take, refl, sym, ap, subst, ◌∙◌, arith, inl, inr}
+use Rattle.std.proofs.Common.{◌≡◌, ℕ, zero, suc, ◌+◌, ◌<◌, ◌≤◌, nat_lt, ◌&&◌, if◌then◌else◌, Bool, true, false, Option, Some, None, unwrap_or, List, [], ◌∷◌, ◌++◌, length, take, refl, sym, ap, ◌∙◌, arith, inl, inr}
 use Rattle.std.specs.Prelude.{slice_index_or}
-use Rattle.std.specs.List.{slice_get, slice_index}
 use Rattle.std.proofs.lemmas.Bool.{cases_lt}
 use Rattle.std.proofs.lemmas.Bool.Decides.{nat_tests}
 use Rattle.std.proofs.lemmas.Option.{slice_get_within}
@@ -10,30 +9,21 @@ use Rattle.kt_base.specs.Sets.{has}
 use Rattle.kt_spacetime.specs.declared.event.Event.{Event}
 use Rattle.kt_spacetime.specs.declared.event.Event.TheVariants as event
 use Rattle.kt_cuts.specs.declared.deeds.Deed.{Deed}
-use Rattle.kt_cuts.specs.declared.deeds.Deed.TheVariants as deed
-use Rattle.kt_cuts.specs.declared.histories.Trace.{Trace}
 use Rattle.kt_cuts.specs.declared.instances.Instance.{Instance}
 use Rattle.kt_walk.specs.declared.walker.Walker.{Walker}
 use Rattle.kt_cuts.specs.Changes.{IsDecided}
 use Rattle.kt_cuts.specs.Past.{Past, past, after}
 use Rattle.kt_cuts.specs.Legal.{broken_rule}
-use Rattle.kt_cuts.specs.Lists.{received_in, last_of}
 use Rattle.kt_cuts.specs.Standing.{at_number, new_shown, ready_shown}
-use Rattle.kt_walk.specs.Keeping.{kept_at, kept_between, parties_in, uncovered}
-use Rattle.kt_walk.specs.Stages.{with_permanent, with_live, settled_below, undone_below, IsWithin, AreInPlace}
-use Rattle.kt_cuts.specs.Traces.{place_of}
+use Rattle.kt_walk.specs.Stages.{with_permanent, with_live, settled_below, undone_below, IsWithin}
 use Rattle.kt_walk.specs.TrailParts.{TrailParts}
-use Rattle.kt_walk.specs.PartsOf.{ShowsWalkers, HasKept, PartsOf}
-use Rattle.kt_cuts.proofs.Items.{item_there}
+use Rattle.kt_walk.specs.PartsOf.{ShowsWalkers, PartsOf}
 use Rattle.kt_cuts.proofs.SortedFacts.{some_same}
 use Rattle.kt_cuts.proofs.InstanceSteps.{begun_there, decided_instances, new_member, not_new, ready_member, ready_of_checkpoint, new_of_rollback}
-use Rattle.kt_walk.proofs.KeptFacts.{same_kept}
-use Rattle.kt_walk.proofs.SettledFacts.{uncovered_kept}
 use Rattle.kt_cuts.proofs.Positions.{positions}
-use Rattle.kt_walk.proofs.RecentFacts.{recent_same}
 use Rattle.kt_cuts.proofs.RowRules.{may_decide}
 use Rattle.kt_walk.proofs.TrailSteps.{walkers_same}
-use Rattle.kt_walk.proofs.WalkRows.{parties_quiet, sound, next_walk, grown_kept, quiet_kept}
+use Rattle.kt_walk.proofs.WalkRows.{next_walk}
 
 -- an instance that is decided has begun
 pub decided_instance : (w : TrailParts) (rows : List Event) (p k : ℕ) (commit : Bool) → PartsOf w rows → broken_rule (past rows) (event.Decided p k commit) ≡ None → (v : Instance) × (at_number w.instances k ≡ Some v)
@@ -41,17 +31,17 @@ decided_instance w rows p k commit h unbroken = begun_there w.instances (past ro
 
 pub aborted_row : (w : TrailParts) (rows : List Event) (p k : ℕ) (commit : Bool) (is : List Instance) → PartsOf w rows → broken_rule (past rows) (event.Decided p k commit) ≡ None → commit ≡ false
     → ((v : Instance) → at_number w.instances k ≡ Some v → IsDecided w.instances is k commit v)
-    → PartsOf (record { rows = w.rows + 1; walkers = w.walkers; instances = is; beginning = None; kept = w.kept }) (rows ++ event.Decided p k commit ∷ [])
+    → PartsOf (record { rows = w.rows + 1; walkers = w.walkers; instances = is; beginning = None }) (rows ++ event.Decided p k commit ∷ [])
 aborted_row w rows p k true is h unbroken abort decided = absurd (cc)
 aborted_row w rows p k false is h unbroken abort decided =
     let s : Past = past rows in
     let row : Event = event.Decided p k false in
     let t : Past = after s row in
     let there = decided_instance w rows p k false h unbroken in
-    next_walk w rows row (w.rows + 1) _ _ _ w.kept h unbroken refl
-    (walkers_same w.walkers s t h.of_walkers (λ q u x. record { length = x.length; permanent = x.permanent; open_in = x.open_in; up = x.up; recent = x.recent; received = x.received; dropped = x.dropped }))
+    next_walk w rows row (w.rows + 1) _ _ _ h unbroken refl
+    (walkers_same w.walkers s t h.of_walkers (λ q u x. record { length = x.length; permanent = x.permanent; open_in = x.open_in; up = x.up; dropped = x.dropped }))
     (decided_instances w.instances is s p k false there.0 h.of_instances (decided there.0 there.1)) refl
-    (quiet_kept w.kept rows row t h.of_kept refl (λ m. refl) (λ q. refl) (λ q. refl)) h.no_more
+    h.no_more
 
 member_position : (v : Instance) (q n : ℕ) → v.kind ≡ Checkpoint → q < 64 → unwrap_or (new_shown (Some v) q) n ≡ (if nat_lt q 64 && has v.joined q then slice_index_or v.positions q 0 else n)
 member_position v q n of_kind low = at_test (has v.joined q) refl
@@ -60,23 +50,12 @@ member_position v q n of_kind low = at_test (has v.joined q) refl
     at_test true e = ap (λ (o : Option ℕ). unwrap_or o n) (new_member v q of_kind e) ∙ grind (arith, nat_tests, low, e)
     at_test false e = ap (λ (o : Option ℕ). unwrap_or o n) (not_new v q e) ∙ grind (arith, nat_tests, low, e)
 
--- what a commit leaves of what was kept, with those that permanent parts have or without them
-settled_kept : (es fs : List (ℕ × Trace)) (between : ℕ → Option (ℕ × ℕ)) (t : Past) (f : ℕ → ℕ) → ((fs ≡ es) ⊎ ((m : ℕ) → kept_at fs m ≡ uncovered f (kept_at es m))) → ((q : ℕ) → q < 64 → f q ≡ t.permanent q) → ((q : ℕ) → 64 ≤ q → t.live q ≡ [])
-    → HasKept es between t → HasKept fs between t
-settled_kept es fs between t f left low none h = elim left [
-  | inl same ↦ subst (λ (l : List (ℕ × Trace)). HasKept l between t) (sym same) h
-  | inr out ↦
-      record { settled = t.permanent; earlier = λ q. omega arith; shown = record { each = λ m. out m ∙ uncovered_kept es between t f h low none m } }
-]
-
-pub checkpoint_row : (w : TrailParts) (rows : List Event) (p k : ℕ) (commit : Bool) (is : List Instance) (x : Instance) (ws : List Walker) (es : List (ℕ × Trace)) (lengths : List ℕ) → PartsOf w rows → broken_rule (past rows) (event.Decided p k commit) ≡ None → commit ≡ true
+pub checkpoint_row : (w : TrailParts) (rows : List Event) (p k : ℕ) (commit : Bool) (is : List Instance) (x : Instance) (ws : List Walker) → PartsOf w rows → broken_rule (past rows) (event.Decided p k commit) ≡ None → commit ≡ true
     → ((v : Instance) → at_number w.instances k ≡ Some v → IsDecided w.instances is k commit v) → ((v : Instance) → at_number w.instances k ≡ Some v → Some x ≡ Some (record v { verdict = Some commit })) → x.kind ≡ Checkpoint
     → ((s : Past) → ShowsWalkers w.walkers s → IsWithin x s → ShowsWalkers ws (with_permanent s (settled_below 64 x s.permanent)))
-    → ((q : ℕ) (u : Walker) → slice_get ws q ≡ Some u → slice_index lengths q ≡ u.permanent)
-    → ((es ≡ w.kept) ⊎ ((m : ℕ) → kept_at es m ≡ uncovered (slice_index lengths) (kept_at w.kept m)))
-    → PartsOf (record { rows = w.rows + 1; walkers = ws; instances = is; beginning = None; kept = es }) (rows ++ event.Decided p k commit ∷ [])
-checkpoint_row w rows p k false is x ws es lengths h unbroken commits decided same of_kind settles each left = absurd (cc)
-checkpoint_row w rows p k true is x ws es lengths h unbroken commits decided same of_kind settles each left =
+    → PartsOf (record { rows = w.rows + 1; walkers = ws; instances = is; beginning = None }) (rows ++ event.Decided p k commit ∷ [])
+checkpoint_row w rows p k false is x ws h unbroken commits decided same of_kind settles = absurd (cc)
+checkpoint_row w rows p k true is x ws h unbroken commits decided same of_kind settles =
     let s : Past = past rows in
     let row : Event = event.Decided p k true in
     let t : Past = after s row in
@@ -96,11 +75,8 @@ checkpoint_row w rows p k true is x ws es lengths h unbroken commits decided sam
     let place : slice_index_or v.positions q 0 ≡ slice_index_or x.positions q 0 = ap (λ (y : Instance). slice_index_or y.positions q 0) (sym is_x) in
     (omega (arith, bounds.0, place), omega (arith, bounds.1, place)) in
     let done = settles s h.of_walkers within in
-    let low_lengths : (q : ℕ) → q < 64 → slice_index lengths q ≡ f q = λ q low.
-    let there = item_there ws q (omega (arith, low, done.all)) in
-    each q there.0 there.1 ∙ (done.each q there.0 there.1).permanent in
     let none : (q : ℕ) → 64 ≤ q → t.live q ≡ [] = λ q g. live q ∙ h.no_more q g in
-    next_walk w rows row (w.rows + 1) _ _ _ es h unbroken refl
+    next_walk w rows row (w.rows + 1) _ _ _ h unbroken refl
     (record {
       each = λ q u at.
           let low : q < 64 = omega (arith, slice_get_within ws q u at, done.all) in
@@ -110,25 +86,12 @@ checkpoint_row w rows p k true is x ws es lengths h unbroken commits decided sam
             permanent = g.permanent ∙ sym (permanent q low);
             open_in = g.open_in;
             up = g.up;
-            recent = recent_same u.recent (f q) (t.permanent q) (s.live q) (t.live q) s.dropped t.dropped (sym (permanent q low)) (sym (live q)) (λ m e. e) g.recent;
-            received = λ y l. g.received y l ∙ ap (λ (z : List Deed). Some (last_of (received_in y z))) (sym (live q));
             dropped = g.dropped;
           };
       all = done.all;
     })
     (decided_instances w.instances is s p k true v h.of_instances (decided v there.1)) refl
-    (settled_kept w.kept es (parties_in (rows ++ row ∷ [])) t (slice_index lengths) left (λ q low. low_lengths q low ∙ sym (permanent q low)) none
-    (grown_kept w.kept rows row t h.of_kept refl (λ m. refl) live (λ q. grows q (s.new k q) refl)))
     none
-  where
-    grows : (q : ℕ) (o : Option ℕ) → (past rows).new k q ≡ o → (past rows).permanent q ≤ (after (past rows) (event.Decided p k true)).permanent q
-    grows q None e =
-        let same : (after (past rows) (event.Decided p k true)).permanent q ≡ (past rows).permanent q = ap (λ (o : Option ℕ). unwrap_or o ((past rows).permanent q)) e in
-        omega (arith, same)
-    grows q (Some n) e =
-        let same : (after (past rows) (event.Decided p k true)).permanent q ≡ n = ap (λ (o : Option ℕ). unwrap_or o ((past rows).permanent q)) e in
-        let bounds = (positions rows h.legal).within q k n (may_decide (past rows) p k true unbroken).undecided e in
-        omega (arith, same, bounds.0)
 
 take_none : (n : ℕ) (l : List Deed) → l ≡ [] → take n l ≡ []
 take_none zero l e = ap (take 0) e
@@ -151,12 +114,12 @@ cut_same v permanent live q none = elim (cases_lt q 64) [
         at_limit true e = take_none (permanent q) (live q) e
         at_limit false e = e
 
-pub rollback_row : (w : TrailParts) (rows : List Event) (p k : ℕ) (commit : Bool) (is : List Instance) (x : Instance) (ws : List Walker) (es : List (ℕ × Trace)) → PartsOf w rows → broken_rule (past rows) (event.Decided p k commit) ≡ None → commit ≡ true
+pub rollback_row : (w : TrailParts) (rows : List Event) (p k : ℕ) (commit : Bool) (is : List Instance) (x : Instance) (ws : List Walker) → PartsOf w rows → broken_rule (past rows) (event.Decided p k commit) ≡ None → commit ≡ true
     → ((v : Instance) → at_number w.instances k ≡ Some v → IsDecided w.instances is k commit v) → ((v : Instance) → at_number w.instances k ≡ Some v → Some x ≡ Some (record v { verdict = Some commit })) → x.kind ≡ Rollback
-    → ((s : Past) (between : ℕ → Option (ℕ × ℕ)) → ShowsWalkers w.walkers s → HasKept w.kept between s → AreInPlace between s.permanent s.live → ShowsWalkers ws (with_live s (undone_below 64 x s.permanent s.live)) × HasKept es between (with_live s (undone_below 64 x s.permanent s.live)))
-    → PartsOf (record { rows = w.rows + 1; walkers = ws; instances = is; beginning = None; kept = es }) (rows ++ event.Decided p k commit ∷ [])
-rollback_row w rows p k false is x ws es h unbroken commits decided same of_kind undoes = absurd (cc)
-rollback_row w rows p k true is x ws es h unbroken commits decided same of_kind undoes =
+    → ((s : Past) → ShowsWalkers w.walkers s → ((q : ℕ) → s.permanent q ≤ length (s.live q)) → ShowsWalkers ws (with_live s (undone_below 64 x s.permanent s.live)))
+    → PartsOf (record { rows = w.rows + 1; walkers = ws; instances = is; beginning = None }) (rows ++ event.Decided p k commit ∷ [])
+rollback_row w rows p k false is x ws h unbroken commits decided same of_kind undoes = absurd (cc)
+rollback_row w rows p k true is x ws h unbroken commits decided same of_kind undoes =
     let s : Past = past rows in
     let row : Event = event.Decided p k true in
     let t : Past = after s row in
@@ -168,26 +131,16 @@ rollback_row w rows p k true is x ws es h unbroken commits decided same of_kind 
     let ready : (q : ℕ) → s.ready k q ≡ has v.joined q = λ q. sym (h.of_instances.ready k q) ∙ (ap (λ (o : Option Instance). ready_shown o q) there.1 ∙ ready_member v q kind_v) in
     let live : (q : ℕ) → t.live q ≡ f q = λ q. ap (λ (y : Bool). if y then take (s.permanent q) (s.live q) else s.live q) (ready q) ∙ (cut_same v s.permanent s.live q (h.no_more q) ∙ ap (λ (y : Instance). undone_below 64 y s.permanent s.live q) (sym is_x)) in
     let permanent : (q : ℕ) → t.permanent q ≡ s.permanent q = λ q. ap (λ (o : Option ℕ). unwrap_or o (s.permanent q)) (sym (h.of_instances.new k q) ∙ (ap (λ (o : Option Instance). new_shown o q) there.1 ∙ new_of_rollback v q kind_v)) in
-    let done = undoes s (parties_in rows) h.of_walkers h.of_kept (sound rows h.legal) in
-    next_walk w rows row (w.rows + 1) _ _ _ es h unbroken refl
-    (walkers_same ws (with_live s f) t done.0 (λ q u g. record {
+    let done = undoes s h.of_walkers (positions rows h.legal).permanent_within in
+    next_walk w rows row (w.rows + 1) _ _ _ h unbroken refl
+    (walkers_same ws (with_live s f) t done (λ q u g. record {
       length = g.length ∙ ap length (sym (live q));
       permanent = g.permanent ∙ sym (permanent q);
       open_in = g.open_in;
       up = g.up;
-      recent = recent_same u.recent (s.permanent q) (t.permanent q) (f q) (t.live q) s.dropped t.dropped (sym (permanent q)) (sym (live q)) (λ m e. e) g.recent;
-      received = λ y l. g.received y l ∙ ap (λ (z : List Deed). Some (last_of (received_in y z))) (sym (live q));
       dropped = g.dropped;
     }))
     (decided_instances w.instances is s p k true v h.of_instances (decided v there.1)) refl
-    (record {
-      settled = done.1.settled;
-      earlier = λ q. omega (arith, done.1.earlier q, permanent q);
-      shown = record {
-        each = λ m. done.1.shown.each m ∙ (ap (kept_between (with_permanent (with_live s f) done.1.settled) m) (sym (parties_quiet rows row m refl))
-            ∙ sym (same_kept (with_permanent (with_live s f) done.1.settled) (with_permanent t done.1.settled) m (parties_in (rows ++ row ∷ []) m) refl (λ a b e. ap (place_of (deed.Sent m b)) (live a)) (λ a b e. ap (place_of (deed.Received m a)) (live b)) (λ q. refl)));
-      };
-    })
     (λ q g. if_none (s.ready k q) q (h.no_more q g))
   where
     if_none : (b : Bool) (q : ℕ) → (past rows).live q ≡ [] → (if b then take ((past rows).permanent q) ((past rows).live q) else (past rows).live q) ≡ []

@@ -4,7 +4,6 @@ pub use Rattle.kt_cuts.specs.Cuts
 pub use Rattle.kt_cuts.specs.Traces
 pub mod Positive
 pub mod Keeping
-pub mod RecentSteps
 pub mod TrailParts
 pub mod PartsOf
 pub mod TrailOf

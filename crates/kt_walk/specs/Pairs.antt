@@ -1,5 +1,5 @@
 -- What is kept of the messages from one process to another.
-use Rattle.std.specs.Prelude.{◌≡◌, ℕ, ◌+◌, ◌<◌, ◌≤◌, ◌==◌, ◌&&◌, ◌||◌, not, Bool, true, false, Option, None, Some, List, length, map, slice_index, take, slice_get}
+use Rattle.std.specs.Prelude.{◌≡◌, ℕ, ◌+◌, ◌*◌, ◌<◌, ◌≤◌, ◌==◌, ◌&&◌, ◌||◌, not, Bool, true, false, Option, None, Some, List, length, map, slice_index, take, slice_get, unwrap_or, []}
 use Rattle.std.specs.List.{list_any}
 use Rattle.kt_spacetime.specs.declared.event.Event.{Event}
 use Rattle.kt_spacetime.specs.declared.event.Event.TheVariants as event
@@ -82,9 +82,15 @@ pub record AreListed (links : List Link) (used : List ℕ) : Type 0 where
   pub once : (j k i : ℕ) → slice_get used j ≡ Some i → slice_get used k ≡ Some i → j ≡ k
   pub within : (k i : ℕ) → slice_get used k ≡ Some i → i < length links
 
--- each of these pairs of processes has messages
-pub record AreInUse (links : List Link) (used : List ℕ) : Type 0 where
-  pub each : (k i : ℕ) (v : Link) → slice_get used k ≡ Some i → slice_get links i ≡ Some v → is_idle v ≡ false
+-- the pairs of processes whose places are in a list are marked, and no other
+pub record AreMarked (marks : List Bool) (used : List ℕ) : Type 0 where
+  pub count : length marks ≡ 4096
+  pub has : (i : ℕ) → slice_get marks i ≡ Some true → Has used i
+  pub each : (k i : ℕ) → slice_get used k ≡ Some i → slice_get marks i ≡ Some true
+
+-- whether a place is marked
+abbrev pub is_marked : List Bool → ℕ → Bool
+is_marked marks place = unwrap_or (slice_get marks place) false
 
 -- there is a pair, and it has messages
 abbrev pub has_messages : Option Link → Bool
@@ -129,3 +135,15 @@ pub record IsPairSettled (lengths : List ℕ) (old new : Link) : Type 0 where
   pub link : (received sent : List Deed) (dropped : ℕ → Bool) (i j : ℕ) → i ≤ slice_index lengths old.traffic.receiver → j ≤ slice_index lengths old.traffic.sender
       → IsLink old received sent dropped i j → IsLink new received sent dropped (slice_index lengths old.traffic.receiver) (slice_index lengths old.traffic.sender)
   pub none : IsRising old.traffic.arrivals → IsOpen lengths new.traffic
+
+-- no message yet, from one process to another
+abbrev pub new_link : ℕ → ℕ → Link
+new_link receiver sender = record { traffic = record { receiver = receiver; sender = sender; arrivals = []; undone = [] }; waiting = []; last = None; settled = None }
+
+-- no message yet, of each of the first so many pairs of processes
+pub record ArePairsOpened (links : List Link) (number : ℕ) : Type 0 where
+  pub count : length links ≡ number
+  pub place : (i : ℕ) (v : Link) → slice_get links i ≡ Some v → v.traffic.receiver * 64 + v.traffic.sender ≡ i
+  pub receiver : (i : ℕ) (v : Link) → slice_get links i ≡ Some v → v.traffic.receiver < 64
+  pub sender : (i : ℕ) (v : Link) → slice_get links i ≡ Some v → v.traffic.sender < 64
+  pub empty : (i : ℕ) (v : Link) → slice_get links i ≡ Some v → v ≡ new_link v.traffic.receiver v.traffic.sender

@@ -1,6 +1,5 @@
--- What a walk knows, but for the arrivals.
+-- What a walk knows, but for the messages.
 use Rattle.std.specs.Prelude.{ℕ, Option, List}
-use Rattle.kt_cuts.specs.declared.histories.Trace.{Trace}
 use Rattle.kt_walk.specs.declared.walker.Walker.{Walker}
 use Rattle.kt_cuts.specs.declared.instances.Instance.{Instance}
 
@@ -10,4 +9,3 @@ pub record TrailParts : Type 0 where
   pub walkers : List Walker
   pub instances : List Instance
   pub beginning : Option (ℕ × ℕ)
-  pub kept : List (ℕ × Trace)

@@ -11,14 +11,15 @@ ghost use Rattle.kt_cuts.specs.Orphans.{IsOrphanBetween, IsAtMost};
 ghost use Rattle.kt_cuts.specs.Standing.{IsInOrder, IsAllowed};
 ghost use Rattle.kt_traffic.specs.declared.waiting.Sent.{Sent};
 ghost use Rattle.kt_walk.specs.Arrivals.{ShowsTraffic, RollsBack, MakesPermanent, KeepsPermanent};
-ghost use Rattle.kt_walk.specs.Pairs.{Link, AreListed, AreInUse, is_in_use, IsPairCutBack, IsPairSettled, IsFit, IsEachOnce, AreNotDropped, ShowsPairs};
+ghost use Rattle.kt_walk.specs.Pairs.{Link, AreListed, AreMarked, ArePairsOpened, is_in_use, is_marked, IsPairCutBack, IsPairSettled, IsFit, IsEachOnce, AreNotDropped, ShowsPairs};
 
 use crate::pair::Pair;
 use crate::queue::Arrival;
 use kt_base::{Memory, MsgNo, ProcNo, ProcSet};
 use kt_cuts::Cut;
-use kt_cuts::orphans::earlier;
+use kt_cuts::orphans::{earlier, process_no};
 use kt_traffic::Sent;
+use std::alloc::Global;
 use std::marker::Model;
 
 /// The messages that each process has sent to each other and that can still matter.
@@ -26,23 +27,43 @@ use std::marker::Model;
 pub(crate) struct Pairs {
     // By receiver and then by sender.
     pub(crate) pairs: Vec<Pair>,
-    // The places of the pairs that have messages, each once.
+    // The places of the pairs that have messages, each once; others may be among them.
     pub(crate) used: Vec<usize>,
+    // Of each pair, whether its place is among these.
+    pub(crate) listed: Vec<bool>,
 }
+
+// How many pairs there are.
+const PAIRS: usize = 4_096;
 
 impl Model for Pairs {
     ghost use Rattle.std.specs.Prelude.{List, map};
     ghost use Rattle.kt_walk.specs.Arrivals.{IsByPair};
-    ghost use Rattle.kt_walk.specs.Pairs.{Link, traffic_of, AreListed, AreInUse};
+    ghost use Rattle.kt_walk.specs.Pairs.{Link, traffic_of, AreListed, AreMarked};
 
     ghost Value = { List Link };
 
     ghost view = { λ a. a.pairs.items };
 
-    ghost invariant = { λ a. IsByPair (map traffic_of a.pairs.items) × AreListed a.pairs.items a.used.items × AreInUse a.pairs.items a.used.items };
+    ghost invariant = { λ a. IsByPair (map traffic_of a.pairs.items) × AreListed a.pairs.items a.used.items × AreMarked a.listed.items a.used.items };
 }
 
 impl Pairs {
+    /// No messages, before the first row.
+    pub(crate) fn new(alloc: Global) -> Result<Pairs, Memory>
+        ensures { IfOk result (λ ps. ShowsPairs ps start) }
+    {
+        let mut pairs = Vec::with_capacity(alloc, PAIRS)?;
+        for number in 0..ProcNo::COUNT {
+            open_pairs(alloc, &mut pairs, process_no(number))?;
+        }
+        Ok(Pairs {
+            pairs,
+            used: Vec::new(alloc),
+            listed: vec![in alloc; false; PAIRS]?,
+        })
+    }
+
     /// A message, if it is on its way to this process, and its place among those that are.
     pub(crate) fn find(&self, p: ProcNo, from: ProcNo, msg: MsgNo) -> Option<(usize, Sent)>
         ensures is { (s : Past) → ShowsPairs self.now s → is_some result ≡ is_undelivered s p from msg }
@@ -66,24 +87,48 @@ impl Pairs {
     {
         let index = index_of(to, p);
         let pair = &mut self.pairs[index];
-        if !pair.is_idle() {
+        if self.listed[index] {
             return pair.send(message);
         }
         self.used.reserve(1)?;
         pair.send(message)?;
         self.used.push_reserved(index);
+        self.listed[index] = true;
         Ok(())
     }
 
     /// A process, p, receives a message that is on its way to it, at this place among those that are; unchanged where
     /// there is no memory.
-    pub(crate) fn receive(&mut self, p: ProcNo, from: ProcNo, index: usize, arrival: Arrival) -> Result<(), Memory>
+    pub(crate) fn receive(
+        &mut self,
+        p: ProcNo,
+        from: ProcNo,
+        index: usize,
+        arrival: Arrival,
+    ) -> Result<(), Memory>
         requires { (v : Link) → slice_get self.old (p * 64 + from) ≡ Some v → slice_get v.waiting index ≡ Some (record { msg = arrival.msg; place = arrival.sent }) }
         ensures ok { OnOk result ((s : Past) → ShowsPairs self.old s → IsFit s → IsInOrder s → IsAllowed s (event.Received p from arrival.msg) → arrival.received ≡ length (s.live p) → ShowsPairs self.new (after s (event.Received p from arrival.msg))) }
         ensures err { OnErr result (self.new ≡ self.old) }
     {
         let place = index_of(p, from);
         self.pairs[place].receive(index, arrival)
+    }
+
+    /// A process, p, drops a message that is on its way to it, at this place among those that are; unchanged where there
+    /// is no memory.
+    pub(crate) fn lose(
+        &mut self,
+        p: ProcNo,
+        from: ProcNo,
+        index: usize,
+        message: Sent,
+    ) -> Result<(), Memory>
+        requires { (v : Link) → slice_get self.old (p * 64 + from) ≡ Some v → slice_get v.waiting index ≡ Some message }
+        ensures ok { OnOk result ((s : Past) → ShowsPairs self.old s → IsFit s → ShowsPairs self.new (after s (event.Dropped p from message.msg))) }
+        ensures err { OnErr result (self.new ≡ self.old) }
+    {
+        let place = index_of(p, from);
+        self.pairs[place].lose(index)
     }
 
     /// The least orphan of a cut that keeps the permanent parts.
@@ -99,7 +144,7 @@ impl Pairs {
         ensures { (s : Past) (p k : ℕ) → ShowsPairs self.old s → ((q : ℕ) → IsEachOnce (s.live q)) → ((q r : ℕ) → AreNotDropped r (s.live q) s.dropped) → IsInOrder s → RollsBack s k members permanent.now → ShowsPairs self.new (after s (event.Decided p k true)) }
     {
         cut_all_back(&mut self.pairs, &self.used, members, permanent);
-        drop_idle(&mut self.used, &self.pairs);
+        drop_idle(&mut self.used, &mut self.listed, &self.pairs);
     }
 
     /// A committed checkpoint leaves these permanent lengths. Messages that both permanent parts have are forgotten.
@@ -107,7 +152,7 @@ impl Pairs {
         ensures { (s : Past) (p k : ℕ) → ShowsPairs self.old s → MakesPermanent s k permanent.now → ShowsPairs self.new (after s (event.Decided p k true)) }
     {
         settle_all(&mut self.pairs, &self.used, permanent);
-        drop_idle(&mut self.used, &self.pairs);
+        drop_idle(&mut self.used, &mut self.listed, &self.pairs);
     }
 }
 
@@ -158,24 +203,47 @@ fn first_orphan_of(pairs: &[Pair], used: &[usize], cut: &Cut) -> Option<MsgNo>
 }
 
 // Lists the pairs no more that came to have no messages.
-fn drop_idle(used: &mut Vec<usize>, pairs: &[Pair])
-    requires { AreListed pairs.now used.old.items }
+fn drop_idle(used: &mut Vec<usize>, marks: &mut [bool], pairs: &[Pair])
+    requires listed { AreListed pairs.now used.old.items }
+    requires marked { AreMarked marks.old used.old.items }
     ensures listed { AreListed pairs.now used.new.items }
-    ensures in_use { AreInUse pairs.now used.new.items }
+    ensures marked { AreMarked marks.new used.new.items }
 {
+    mark_busy(marks, used, pairs);
     used.retain(
         |place: &usize| -> bool
-            ensures { result ≡ is_in_use pairs.entry.now place.now }
-        { is_in_use(pairs, *place) },
+            ensures { result ≡ is_marked marks.entry.now place.now }
+        { is_marked(marks, *place) },
     );
 }
 
-// There is a pair at a place, and it has messages.
-fn is_in_use(pairs: &[Pair], place: usize) -> bool
-    ensures { result ≡ is_in_use pairs.now place }
+// Marks those of the listed pairs that have messages, and no other of them.
+fn mark_busy(marks: &mut [bool], used: &[usize], pairs: &[Pair])
+    requires listed { AreListed pairs.now used.now }
+    requires marked { AreMarked marks.old used.now }
+    ensures count { length marks.new ≡ length marks.old }
+    ensures busy { (k i : ℕ) → slice_get used.now k ≡ Some i → slice_get marks.new i ≡ Some (is_in_use pairs.now i) }
+    ensures rest { (i : ℕ) → ((k : ℕ) → slice_get used.now k ≡ Some i → ⊥) → slice_get marks.new i ≡ slice_get marks.old i }
 {
-    let Some(pair) = pairs.get(place) else {
-        return false;
-    };
-    !pair.is_idle()
+    for place in used {
+        marks[*place] = !pairs[*place].is_idle();
+    }
+}
+
+// A place is marked.
+fn is_marked(marks: &[bool], place: usize) -> bool
+    ensures { result ≡ is_marked marks.now place }
+{
+    marks.get(place).copied().unwrap_or(false)
+}
+
+// Adds the pairs of a receiver, one with each sender.
+fn open_pairs(alloc: Global, pairs: &mut Vec<Pair>, receiver: ProcNo) -> Result<(), Memory>
+    requires { ArePairsOpened pairs.old.items (receiver * 64) }
+    ensures { OnOk result (ArePairsOpened pairs.new.items (receiver * 64 + 64)) }
+{
+    for number in 0..ProcNo::COUNT {
+        pairs.push(Pair::new(alloc, receiver, process_no(number)))?;
+    }
+    Ok(())
 }

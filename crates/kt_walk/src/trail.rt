@@ -1,33 +1,22 @@
 //! What a walk knows after the rows so far, without the rows.
 
-ghost use Rattle.std.specs.Prelude.{◌≡◌, ◌||◌, not, None, is_some, is_none, ◌<◌, ◌+◌, ◌^◌, [], ℕ, Some, List, length, slice_get, slice_index, IfOk};
+ghost use Rattle.std.specs.Prelude.{◌≡◌, ◌||◌, not, is_none, ◌<◌, ◌+◌, ◌^◌, [], ℕ, Some, true, List, length, slice_get, slice_index, IfOk};
 ghost use Rattle.std.specs.Option.{option_copied};
+ghost use Rattle.std.specs.List.{list_all};
 ghost use Rattle.kt_spacetime.specs.declared.event.Event.{Event};
 ghost use Rattle.kt_spacetime.specs.declared.event.Event.TheVariants as event;
-ghost use Rattle.kt_cuts.specs.declared.deeds.Deed.TheVariants as deed;
 ghost use Rattle.kt_cuts.specs.Past.{Past, start};
-ghost use Rattle.kt_cuts.specs.Legal.{keeps_message};
-ghost use Rattle.kt_walk.specs.Keeping.{is_on_the_way, waits, sent_index, IsSentAt};
-ghost use Rattle.kt_walk.specs.PartsOf.{ShowsWalkers};
+ghost use Rattle.kt_cuts.specs.Legal.{keeps_message, is_later};
+ghost use Rattle.kt_walk.specs.PartsOf.{ShowsWalkers, waits, follows};
 
-use crate::entry::Place;
-use crate::kept::Kept;
 use crate::walker::Walker;
 use kt_base::{InstNo, Memory, MsgNo, ProcNo, RowNo};
 use kt_cuts::grounds::Grounds;
 use kt_cuts::instances::Instance;
-use kt_cuts::{Rule, Trace, is_after};
+use kt_cuts::{Rule, is_after};
 use kt_spacetime::Event;
 use std::alloc::Global;
-
-/// A message that a row takes.
-#[derive(Clone, Copy)]
-pub(crate) struct Waiting {
-    /// The place of its send, if it is on its way.
-    pub(crate) sent: Place,
-    /// Where it is looked for first among the messages kept.
-    pub(crate) kept_in: usize,
-}
+use std::marker::Model;
 
 /// What is known after the rows so far.
 #[derive(Drop)]
@@ -37,7 +26,6 @@ pub(crate) struct Trail {
     pub(crate) instances: Vec<Instance>,
     /// Who began which instance in the last row.
     pub(crate) beginning: Option<(ProcNo, InstNo)>,
-    pub(crate) kept: Kept,
     ghost walkers_there: { length walkers.items ≡ 64 },
 }
 
@@ -46,9 +34,7 @@ fn opening_walkers(alloc: Global) -> Result<Vec<Walker>, Memory>
     ensures { IfOk result (λ ws. ShowsWalkers ws.items start) }
 {
     let mut walkers = Vec::new(alloc);
-    for _number in 0..ProcNo::COUNT {
-        walkers.push(Walker::new(alloc))?;
-    }
+    walkers.resize(ProcNo::COUNT as usize, Walker::new())?;
     Ok(walkers)
 }
 
@@ -71,7 +57,6 @@ impl Trail {
             walkers,
             instances: Vec::new(alloc),
             beginning: None,
-            kept: Kept::new(alloc),
         })
     }
 
@@ -122,24 +107,13 @@ impl Trail {
         }
     }
 
-    /// The send of the message that a row takes, if it is on its way to the row's process.
-    pub(crate) fn waiting(&self, row: &Event) -> Waiting
-        ensures is { (rows : List Event) → TrailOf self.now rows → is_some result.sent ≡ waits (past rows) row.now }
-        ensures place { (rows : List Event) → TrailOf self.now rows → broken_rule (past rows) row.now ≡ None → IsSentAt (sent_index result.sent) (past rows) row.now }
-    {
-        match *row {
-            Event::Received { p, from, msg } => self.undelivered(p, from, msg),
-            Event::Dropped { p, from, msg } => self.undelivered(p, from, msg),
-            _ => not_waiting(),
-        }
-    }
-
-    /// The least rule that the next row would break; whether the message that it takes is on its way is given.
-    pub(crate) fn broken_rule(&self, row: &Event, is_waiting: bool) -> Option<Rule>
-        ensures { (rows : List Event) → TrailOf self.now rows → is_waiting ≡ waits (past rows) row.now → result ≡ broken_rule (past rows) row.now }
+    /// The least rule that the next row would break. Whether the message that it takes is on its way is given, and whether
+    /// it comes after all that the live history received from its sender.
+    pub(crate) fn broken_rule(&self, row: &Event, is_waiting: bool, in_turn: bool) -> Option<Rule>
+        ensures { (rows : List Event) → TrailOf self.now rows → is_waiting ≡ waits (past rows) row.now → in_turn ≡ follows (past rows) row.now → result ≡ broken_rule (past rows) row.now }
     {
         let message_kept = is_waiting || !takes_message(row);
-        let order_kept = self.keeps_order(row);
+        let order_kept = self.keeps_order(row, in_turn);
         let grounds = self.grounds(row.process());
         grounds.broken_rule(row, message_kept, order_kept)
     }
@@ -151,12 +125,13 @@ impl Trail {
         self.grounds(p).may_send(p, to)
     }
 
-    /// Whether a row in which this process receives a message breaks no rule; whether it is on its way is given.
-    pub(crate) fn may_receive(&self, p: ProcNo, from: ProcNo, msg: MsgNo, is_waiting: bool) -> bool
-        ensures { (rows : List Event) → TrailOf self.now rows → is_waiting ≡ is_undelivered (past rows) p from msg → result ≡ is_none (broken_rule (past rows) (event.Received p from msg)) }
+    /// Whether a row in which this process receives a message that is on its way breaks no rule; whether it comes after all
+    /// that the live history received from its sender is given.
+    pub(crate) fn may_receive(&self, p: ProcNo, from: ProcNo, msg: MsgNo, in_turn: bool) -> bool
+        ensures { (rows : List Event) → TrailOf self.now rows → is_undelivered (past rows) p from msg ≡ true → in_turn ≡ list_all (is_later from msg) ((past rows).live p) → result ≡ is_none (broken_rule (past rows) (event.Received p from msg)) }
     {
-        let order_kept = self.is_latest(p, from, msg);
-        self.grounds(p).may_receive(p, from, is_waiting, order_kept)
+        let order_kept = in_turn && self.follows_dropped(p, from, msg);
+        self.grounds(p).may_receive(p, from, true, order_kept)
     }
 
     // What the rules ask of the instances and of this process.
@@ -172,52 +147,22 @@ impl Trail {
         }
     }
 
-    /// The send of a message, if it is on its way.
-    pub(crate) fn undelivered(&self, p: ProcNo, from: ProcNo, msg: MsgNo) -> Waiting
-        ensures is { (rows : List Event) → TrailOf self.now rows → is_some result.sent ≡ is_undelivered (past rows) p from msg }
-        ensures place { (rows : List Event) → TrailOf self.now rows → broken_rule (past rows) (event.Received p from msg) ≡ None → slice_get ((past rows).live from) (sent_index result.sent) ≡ Some (deed.Sent msg p) }
-    {
-        let Some(found) = self.kept.find(msg) else {
-            return not_waiting();
-        };
-        if is_on_the_way(&found.1.trace(), from, p) {
-            Waiting {
-                sent: found.1.sent(),
-                kept_in: found.0,
-            }
-        } else {
-            not_waiting()
-        }
-    }
-
-    fn keeps_order(&self, row: &Event) -> bool
-        ensures { (rows : List Event) → TrailOf self.now rows → result ≡ keeps_order (past rows) row.now }
+    fn keeps_order(&self, row: &Event, in_turn: bool) -> bool
+        ensures { (rows : List Event) → TrailOf self.now rows → in_turn ≡ follows (past rows) row.now → result ≡ keeps_order (past rows) row.now }
     {
         match *row {
             Event::Received { p, from, msg } | Event::Dropped { p, from, msg } => {
-                self.is_latest(p, from, msg)
+                in_turn && self.follows_dropped(p, from, msg)
             }
             _ => true,
         }
     }
 
-    fn is_latest(&self, p: ProcNo, from: ProcNo, msg: MsgNo) -> bool
-        ensures { (rows : List Event) → TrailOf self.now rows → result ≡ is_latest (past rows) p from msg }
+    // Whether a message comes after all that this process dropped from its sender.
+    fn follows_dropped(&self, p: ProcNo, from: ProcNo, msg: MsgNo) -> bool
+        ensures { (rows : List Event) → TrailOf self.now rows → result ≡ list_all (is_later from msg) ((past rows).dropped_since p) }
     {
-        let walker = self.walker(p);
-        let received = walker.last_received(from);
-        let dropped = walker.last_dropped(from);
-        is_after(msg, received) && is_after(msg, dropped)
-    }
-}
-
-// No message.
-fn not_waiting() -> Waiting
-    ensures { result.sent ≡ None }
-{
-    Waiting {
-        sent: Place::none(),
-        kept_in: 0,
+        is_after(msg, self.walker(p).last_dropped(from))
     }
 }
 
@@ -229,11 +174,4 @@ fn takes_message(row: &Event) -> bool
         Event::Received { .. } | Event::Dropped { .. } => true,
         _ => false,
     }
-}
-
-// Whether a message is live and not received, from the one process to the other.
-fn is_on_the_way(trace: &Trace, from: ProcNo, to: ProcNo) -> bool
-    ensures { result ≡ is_on_the_way trace.now from to }
-{
-    trace.from == from && trace.to == to && trace.sent.is_some() && trace.received.is_none()
 }

@@ -1,37 +1,39 @@
 //! A reader of a log row by row, which keeps no rows.
 
-ghost use Rattle.std.specs.Prelude.{◌≡◌, ◌<◌, ◌^◌, ◌++◌, ◌∷◌, [], ℕ, List, length, IfOk, OnOk, OnErr, IfNone, IfSome, Err, None, Some, true, slice_get, slice_index, ◌≤◌};
+ghost use Rattle.std.specs.Prelude.{◌≡◌, ◌<◌, ◌^◌, ◌++◌, ◌∷◌, [], ℕ, List, length, IfOk, OnOk, OnErr, IfNone, IfSome, Err, None, Some, true, slice_index, ◌≤◌};
 ghost use Rattle.kt_spacetime.specs.declared.event.Event.{Event};
 ghost use Rattle.kt_spacetime.specs.declared.event.Event.TheVariants as event;
+ghost use Rattle.kt_cuts.specs.declared.histories.Trace.{Trace};
 ghost use Rattle.kt_cuts.specs.declared.rules.Rule.{Rule};
-ghost use Rattle.kt_cuts.specs.declared.deeds.Deed.TheVariants as deed;
 ghost use Rattle.kt_cuts.specs.declared.legality.LegalFault.TheVariants as fault;
 ghost use Rattle.kt_cuts.specs.Past.{past};
 ghost use Rattle.kt_cuts.specs.Legal.{IsLegal, broken_rule, first_broken};
-ghost use Rattle.kt_walk.specs.Keeping.{kept_trace, held_of, is_covered, sent_index, IsSentAt};
 ghost use Rattle.kt_cuts.specs.Cuts.{IsOrphan};
+ghost use Rattle.kt_traffic.specs.declared.waiting.Sent.{Sent};
+ghost use Rattle.kt_walk.specs.Keeping.{kept_trace, held_of};
 ghost use Rattle.kt_walk.specs.Arrivals.{KeepsPermanent};
-ghost use Rattle.kt_walk.specs.WalkOf.{WalkOf};
+ghost use Rattle.kt_walk.specs.PartsOf.{waits, follows};
+ghost use Rattle.kt_walk.specs.WalkOf.{WalkOf, IsFoundAt};
 
-use crate::arrivals::Arrivals;
-use crate::trail::{Trail, Waiting};
+use crate::pairs::Pairs;
+use crate::queue::Arrival;
+use crate::trail::Trail;
 use kt_base::{InstNo, Memory, MsgNo, ProcNo};
-use kt_cuts::orphans::is_within;
-use kt_cuts::{Cut, LegalFault, Trace};
+use kt_cuts::{Cut, LegalFault, Trace, is_after};
 use kt_spacetime::Event;
+use kt_traffic::Sent;
 use std::alloc::Global;
 use std::marker::Model;
 
 /// A reader of a log row by row, which keeps no rows: what is known after the rows fed so far.
 ///
 /// Where it stands for some rows, its answers are what these rows say. It keeps a message only while it was not
-/// dropped, is live or in its receiver's live history, and one of its rows lies past the permanent positions; the room
-/// of those that it keeps no more is given back now and then.
-/// Of the messages that are received it keeps the places too, to find orphans, and forgets them at checkpoints.
+/// dropped, is live or in its receiver's live history, and one of its rows lies past the permanent positions. The
+/// messages from one process to another are kept together.
 #[derive(Drop)]
 pub struct Walk {
     trail: Trail,
-    arrivals: Arrivals,
+    pairs: Pairs,
 }
 
 impl Model for Walk {
@@ -39,7 +41,7 @@ impl Model for Walk {
 
     ghost Value = { WalkParts };
 
-    ghost view = { λ w. walk_parts w.trail w.arrivals };
+    ghost view = { λ w. walk_parts w.trail w.pairs };
 }
 
 impl Walk {
@@ -48,8 +50,8 @@ impl Walk {
         ensures { IfOk result (λ w. WalkOf w []) }
     {
         let trail = Trail::new(alloc)?;
-        let arrivals = Arrivals::new(alloc)?;
-        Ok(Walk { trail, arrivals })
+        let pairs = Pairs::new(alloc)?;
+        Ok(Walk { trail, pairs })
     }
 
     /// Takes one more row, where it breaks no rule of a legal log; else the number of this row and the least rule that
@@ -77,11 +79,14 @@ impl Walk {
         ensures broken { (number : ℕ) (rule : Rule) → result ≡ Err (fault.Broken number rule) → (rows : List Event) → WalkOf self.old rows → IsLegal rows × (first_broken (rows ++ event.Received p from msg ∷ []) ≡ Some (number, rule)) }
         ensures unchanged { OnErr result (self.new ≡ self.old) }
     {
-        let waiting = self.trail.undelivered(p, from, msg);
-        if !self.trail.may_receive(p, from, msg, waiting.sent.is_some()) {
+        let Some((index, message)) = self.pairs.find(p, from, msg) else {
+            return self.feed_any(&Event::Received { p, from, msg });
+        };
+        let in_turn = is_after(msg, self.pairs.last(p, from));
+        if !self.trail.may_receive(p, from, msg, in_turn) {
             return self.feed_any(&Event::Received { p, from, msg });
         }
-        self.receive(p, from, msg, waiting)?;
+        self.receive(p, from, index, message)?;
         Ok(())
     }
 
@@ -93,12 +98,55 @@ impl Walk {
         ensures broken { (number : ℕ) (rule : Rule) → result ≡ Err (fault.Broken number rule) → (rows : List Event) → WalkOf self.old rows → IsLegal rows × (first_broken (rows ++ row.now ∷ []) ≡ Some (number, rule)) }
         ensures unchanged { OnErr result (self.new ≡ self.old) }
     {
-        let waiting = self.trail.waiting(row);
-        if let Some(rule) = self.trail.broken_rule(row, waiting.sent.is_some()) {
+        let is_waiting = self.waits(row);
+        let in_turn = self.follows(row);
+        if let Some(rule) = self.trail.broken_rule(row, is_waiting, in_turn) {
             return Err(LegalFault::Broken(self.trail.next_row(), rule));
         }
-        self.add(row, waiting)?;
+        self.add(row)?;
         Ok(())
+    }
+
+    // Whether a row takes a message that is on its way to the row's process.
+    fn waits(&self, row: &Event) -> bool
+        ensures { (rows : List Event) → WalkOf self.now rows → result ≡ waits (past rows) row.now }
+    {
+        match *row {
+            Event::Received { p, from, msg } | Event::Dropped { p, from, msg } => {
+                self.pairs.find(p, from, msg).is_some()
+            }
+            _ => false,
+        }
+    }
+
+    // Whether the message that a row takes comes after all that the live history received from its sender.
+    fn follows(&self, row: &Event) -> bool
+        ensures { (rows : List Event) → WalkOf self.now rows → result ≡ follows (past rows) row.now }
+    {
+        match *row {
+            Event::Received { p, from, msg } | Event::Dropped { p, from, msg } => {
+                is_after(msg, self.pairs.last(p, from))
+            }
+            _ => true,
+        }
+    }
+
+    // Takes one more row that breaks no rule.
+    fn add(&mut self, row: &Event) -> Result<(), Memory>
+        requires few { self.old.rows < 2 ^ 24 }
+        ensures fed { OnOk result ((rows : List Event) → WalkOf self.old rows → broken_rule (past rows) row.now ≡ None → WalkOf self.new (rows ++ row.now ∷ [])) }
+        ensures unchanged { OnErr result (self.new ≡ self.old) }
+    {
+        match *row {
+            Event::Sent { p, to, .. } => self.send(p, to),
+            Event::Received { p, from, msg } => self.take(p, from, msg),
+            Event::Dropped { p, from, msg } => self.lose(p, from, msg),
+            Event::Decided { inst, commit, .. } => {
+                self.trail.decide(&mut self.pairs, inst, commit);
+                Ok(())
+            }
+            _ => self.trail.add(row),
+        }
     }
 
     // A process sends a message to another one, which breaks no rule.
@@ -107,39 +155,56 @@ impl Walk {
         ensures fed { OnOk result ((rows : List Event) (body : _) → WalkOf self.old rows → broken_rule (past rows) (event.Sent p to body) ≡ None → WalkOf self.new (rows ++ event.Sent p to body ∷ [])) }
         ensures unchanged { OnErr result (self.new ≡ self.old) }
     {
-        self.trail.send(p, to)
+        let message = Sent {
+            msg: self.trail.next_message(),
+            place: self.trail.walker(p).length,
+        };
+        self.pairs.send(p, to, message)?;
+        self.trail.extend(p);
+        Ok(())
     }
 
-    // A process receives a message that is waiting, which breaks no rule.
-    fn receive(
-        &mut self,
-        p: ProcNo,
-        from: ProcNo,
-        msg: MsgNo,
-        waiting: Waiting,
-    ) -> Result<(), Memory>
+    // A process receives a message, which breaks no rule.
+    fn take(&mut self, p: ProcNo, from: ProcNo, msg: MsgNo) -> Result<(), Memory>
         requires few { self.old.rows < 2 ^ 24 }
-        ensures fed { OnOk result ((rows : List Event) → WalkOf self.old rows → broken_rule (past rows) (event.Received p from msg) ≡ None → slice_get ((past rows).live from) (sent_index waiting.sent) ≡ Some (deed.Sent msg p) → WalkOf self.new (rows ++ event.Received p from msg ∷ [])) }
+        ensures fed { OnOk result ((rows : List Event) → WalkOf self.old rows → broken_rule (past rows) (event.Received p from msg) ≡ None → WalkOf self.new (rows ++ event.Received p from msg ∷ [])) }
         ensures unchanged { OnErr result (self.new ≡ self.old) }
     {
-        self.trail
-            .receive(&mut self.arrivals, p, from, msg, waiting)
+        let Some((index, message)) = self.pairs.find(p, from, msg) else {
+            return Ok(());
+        };
+        self.receive(p, from, index, message)
     }
 
-    // Takes one more row that breaks no rule; the message that it receives is given.
-    fn add(&mut self, row: &Event, waiting: Waiting) -> Result<(), Memory>
+    // A process receives a message, which breaks no rule, at this place among those on their way.
+    fn receive(&mut self, p: ProcNo, from: ProcNo, index: usize, message: Sent) -> Result<(), Memory>
         requires few { self.old.rows < 2 ^ 24 }
-        ensures fed { OnOk result ((rows : List Event) → WalkOf self.old rows → broken_rule (past rows) row.now ≡ None → IsSentAt (sent_index waiting.sent) (past rows) row.now → WalkOf self.new (rows ++ row.now ∷ [])) }
+        requires found { IsFoundAt self.old.links p from index message }
+        ensures fed { OnOk result ((rows : List Event) → WalkOf self.old rows → broken_rule (past rows) (event.Received p from message.msg) ≡ None → WalkOf self.new (rows ++ event.Received p from message.msg ∷ [])) }
         ensures unchanged { OnErr result (self.new ≡ self.old) }
     {
-        match *row {
-            Event::Received { p, from, msg } => self.receive(p, from, msg, waiting),
-            Event::Decided { inst, commit, .. } => {
-                self.trail.decide(&mut self.arrivals, inst, commit);
-                Ok(())
-            }
-            _ => self.trail.add(row),
-        }
+        let arrival = Arrival {
+            msg: message.msg,
+            sent: message.place,
+            received: self.trail.walker(p).length,
+        };
+        self.pairs.receive(p, from, index, arrival)?;
+        self.trail.extend(p);
+        Ok(())
+    }
+
+    // A process drops a message, which breaks no rule.
+    fn lose(&mut self, p: ProcNo, from: ProcNo, msg: MsgNo) -> Result<(), Memory>
+        requires few { self.old.rows < 2 ^ 24 }
+        ensures fed { OnOk result ((rows : List Event) → WalkOf self.old rows → broken_rule (past rows) (event.Dropped p from msg) ≡ None → WalkOf self.new (rows ++ event.Dropped p from msg ∷ [])) }
+        ensures unchanged { OnErr result (self.new ≡ self.old) }
+    {
+        let Some((index, message)) = self.pairs.find(p, from, msg) else {
+            return Ok(());
+        };
+        self.pairs.lose(p, from, index, message)?;
+        self.trail.lose(p, from, message.msg);
+        Ok(())
     }
 
     /// How many rows were fed.
@@ -171,31 +236,27 @@ impl Walk {
         self.trail.instance(inst)?.position(p)
     }
 
-    /// A message and its places, counted from 1; None where it is not kept.
+    /// A message and its places, counted from 1; None where it is not kept. It looks through all pairs of processes that
+    /// have messages.
     pub fn trace(&self, msg: MsgNo) -> Option<Trace>
         ensures { (rows : List Event) → WalkOf self.now rows → result ≡ kept_trace rows msg }
     {
-        let trace = self.trail.kept.get(msg)?;
-        if self.is_settled(&trace) {
-            None
-        } else {
-            Some(trace)
-        }
+        self.pairs.trace(msg)
     }
 
-    // Whether both rows of a message lie within the permanent parts.
-    fn is_settled(&self, trace: &Trace) -> bool
-        ensures { (rows : List Event) → WalkOf self.now rows → result ≡ is_covered (past rows).permanent trace.now }
+    /// The same of a message from the one process to the other; None also where it is one between others.
+    pub fn trace_between(&self, from: ProcNo, to: ProcNo, msg: MsgNo) -> Option<Trace>
+        ensures found { IfSome result (λ t. (rows : List Event) → WalkOf self.now rows → (kept_trace rows msg ≡ Some t) × (t.from ≡ from) × (t.to ≡ to)) }
+        ensures none { IfNone result ((rows : List Event) (t : Trace) → WalkOf self.now rows → kept_trace rows msg ≡ Some t → t.from ≡ from → t.to ≡ to → ⊥) }
     {
-        is_within(trace.sent, self.permanent(trace.from))
-            && is_within(trace.received, self.permanent(trace.to))
+        self.pairs.trace_between(from, to, msg)
     }
 
     /// How many messages are kept.
     pub fn held(&self) -> usize
         ensures { (rows : List Event) → WalkOf self.now rows → result ≡ held_of rows }
     {
-        self.trail.kept.count_open(&self.trail.permanent_lengths())
+        self.pairs.count()
     }
 
     /// The least orphan of a cut: a message that is received within its receiver's part and not sent within its
@@ -205,6 +266,6 @@ impl Walk {
         ensures orphan { IfSome result (λ msg. (rows : List Event) → WalkOf self.now rows → IsOrphan (past rows) (slice_index cut.now) msg) }
         ensures least { IfSome result (λ msg. (rows : List Event) (other : ℕ) → WalkOf self.now rows → KeepsPermanent (past rows) cut.now → IsOrphan (past rows) (slice_index cut.now) other → msg ≤ other) }
     {
-        self.arrivals.orphan(cut)
+        self.pairs.orphan(cut)
     }
 }

@@ -1,16 +1,7 @@
-use Rattle.std.proofs.Common.{ℕ, ◌+◌, ◌∷◌, [], length, ap, inl, inr, arith, ◌∙◌, length-append}
-use Rattle.kt_cuts.proofs.Items.{get_push}
-use Rattle.kt_walk.proofs.WalkRows.{walker_start}
+use Rattle.kt_walk.proofs.WalkRows.{walker_start, walkers_start}
 use Rattle.kt_walk.proofs.trail.opening_walkers.Goals as goal
 
-pub loop-number-preserved : goal.loop-number-preserved
-loop-number-preserved c =
+pub returns : goal.returns
+returns c =
     let fresh = c.new.ensures in
-    record {
-      count = ap length c.in_ok-push.ensures.items ∙ (length-append c.loop-number.walkers.items (c.new.result ∷ []) ∙ ap (λ (n : ℕ). n + 1) c.loop-number.invariant.count);
-      low = omega (arith, c.loop-number-test.true);
-      each = λ p v e. elim (get_push _ _ p v (rw c.in_ok-push.ensures.items at e)) [
-        | inl old ↦ c.loop-number.invariant.each p v old
-        | inr new ↦ rw new.1 (walker_start _ p fresh.0 fresh.1 fresh.2 fresh.3 fresh.4 fresh.5 fresh.6)
-      ];
-    }
+    rw (c.in_ok-resize.ensures.items, c.new-walkers.ensures.items, c.new-walkers.ensures.len) (walkers_start c.new.result (λ p. walker_start c.new.result p fresh.0 fresh.1 fresh.2 fresh.3 fresh.4))

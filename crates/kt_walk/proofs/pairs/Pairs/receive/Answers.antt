@@ -1,10 +1,10 @@
-use Rattle.std.proofs.Common.{◌+◌, ◌*◌, Some, List, arith, sym, ap, subst, ◌∙◌}
+use Rattle.std.proofs.Common.{◌+◌, ◌*◌, List, arith, sym, ap, subst, ◌∙◌}
 use Rattle.std.specs.List.{slice_get}
 use Rattle.std.proofs.lemmas.Option.{slice_get_read, slice_get_within}
 use Rattle.kt_walk.specs.Pairs.{Link, ShowsPairs}
 use Rattle.kt_walk.proofs.ArrivalFacts.{ok_gives}
-use Rattle.kt_walk.proofs.PairsFacts.{mapped_length, pairs_set, as_received, busy_way, received_by_call}
-use Rattle.kt_walk.proofs.PairsUsed.{listed_set, in_use_set}
+use Rattle.kt_walk.proofs.PairsFacts.{mapped_length, pairs_set, as_received, listed_place, received_by_call}
+use Rattle.kt_walk.proofs.PairsUsed.{listed_set}
 use Rattle.kt_walk.proofs.pairs.Pairs.receive.Goals as goal
 
 pub receive-requires : goal.receive-requires
@@ -21,10 +21,11 @@ invariant_of-self c =
     let inv = c.self.invariant in
     let at = slice_get_read c.self.inside.pairs.items 4096 c.index_of-place.result c.index_mut.result.now (sym inv.0.count ∙ mapped_length _ c.self.inside.pairs.items) (omega (arith, index.value, index.receiver_in_range, index.sender_in_range)) c.index_mut.ensures.value in
     let found = c.requires c.index_mut.result.now (ap (λ (x : List Link). slice_get x (c.args.p * 64 + c.args.from)) (sym c.self.view_is) ∙ (ap (slice_get c.self.inside.pairs.items) (sym index.value) ∙ at)) in
-    let same = as_received c.receive.result c.index_mut.result.now c.receive.new.self c.args.index c.args.arrival (busy_way c.index_mut.result.now c.args.index _ found) c.receive.ensures.ok c.receive.ensures.err in (
-      pairs_set c.self.inside.pairs.items c.index_of-place.result c.index_mut.result.now c.receive.new.self inv.0 at same.1 same.2,
-      listed_set c.self.inside.pairs.items c.self.inside.used.items c.index_of-place.result c.index_mut.result.now c.receive.new.self at same.0 inv.1,
-      in_use_set c.self.inside.pairs.items c.self.inside.used.items c.index_of-place.result c.index_mut.result.now c.receive.new.self at same.0 inv.2,
+    let there = listed_place c.self.inside.pairs.items c.self.inside.used.items c.index_of-place.result c.args.index c.index_mut.result.now _ at found inv.1 in
+    let same = as_received c.receive.result c.index_mut.result.now c.receive.new.self c.args.index c.args.arrival c.receive.ensures.ok c.receive.ensures.err in (
+      pairs_set c.self.inside.pairs.items c.index_of-place.result c.index_mut.result.now c.receive.new.self inv.0 at same.0 same.1,
+      listed_set c.self.inside.pairs.items c.self.inside.used.items c.index_of-place.result c.receive.new.self there inv.1,
+      inv.2,
     )
 
 pub returns-clause-ok : goal.returns-clause-ok

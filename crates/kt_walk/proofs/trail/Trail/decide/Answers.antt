@@ -2,7 +2,7 @@ use Rattle.std.proofs.Common.{◌≡◌, Option, Some, None, sym, ap, ◌∙◌,
 use Rattle.kt_spacetime.specs.declared.event.Event.TheVariants as event
 use Rattle.kt_cuts.specs.declared.instances.Instance.{Instance}
 use Rattle.kt_cuts.proofs.Items.{written}
-use Rattle.kt_walk.proofs.WalkArrivals.{quiet_arrivals, abort_is_quiet, settled_arrivals, rolled_back_arrivals}
+use Rattle.kt_walk.proofs.WalkMessages.{same_messages, abort_leaves, settled_messages, rolled_back_messages}
 use Rattle.kt_walk.proofs.WalkDecides.{decided_instance, aborted_row, checkpoint_row, rollback_row}
 use Rattle.kt_walk.proofs.trail.Trail.decide.Goals as goal
 
@@ -15,8 +15,8 @@ returns-in_default-clause-fed c = λ rows p h unbroken shown.
     let none = (rw c.deref_mut.ensures.value at c.in_default.ensures.none) in
     absurd (nothing _ _ there.1 none)
 
-pub returns-in_default-clause-arrived : goal.returns-in_default-clause-arrived
-returns-in_default-clause-arrived c = λ rows p h unbroken shown.
+pub returns-in_default-clause-messages : goal.returns-in_default-clause-messages
+returns-in_default-clause-messages c = λ rows p h unbroken shown.
     let there = decided_instance _ rows p c.args.inst c.args.commit h unbroken in
     let none = (rw c.deref_mut.ensures.value at c.in_default.ensures.none) in
     absurd (nothing _ _ there.1 none)
@@ -28,9 +28,9 @@ returns-then-not-commit-clause-fed c = λ rows p h unbroken shown.
     let whole = written c.args.self.now.instances.len c.judge.new.instances c.args.self.now.instances.items long in
     rw (c.pass-then-not-commit.ensures, whole) (aborted_row _ rows p c.args.inst c.args.commit _ h unbroken c.if-not-commit.true (rw was at c.judge.ensures.decided))
 
-pub returns-then-not-commit-clause-arrived : goal.returns-then-not-commit-clause-arrived
-returns-then-not-commit-clause-arrived c = λ rows p h unbroken shown.
-    quiet_arrivals c.args.arrivals.now rows (event.Decided p c.args.inst c.args.commit) (abort_is_quiet p c.args.inst c.args.commit c.if-not-commit.true) shown
+pub returns-then-not-commit-clause-messages : goal.returns-then-not-commit-clause-messages
+returns-then-not-commit-clause-messages c = λ rows p h unbroken shown.
+    same_messages c.args.pairs.now rows (event.Decided p c.args.inst c.args.commit) (abort_leaves p c.args.inst c.args.commit c.if-not-commit.true) shown
 
 pub returns-in-Checkpoint-clause-fed : goal.returns-in-Checkpoint-clause-fed
 returns-in-Checkpoint-clause-fed c = λ rows p h unbroken shown.
@@ -38,11 +38,11 @@ returns-in-Checkpoint-clause-fed c = λ rows p h unbroken shown.
     let long : length c.judge.new.instances ≡ c.args.self.now.instances.len = c.judge.auto.instances ∙ (ap length was ∙ sym c.args.self.now.instances.ok.0) in
     let whole = written c.args.self.now.instances.len c.judge.new.instances c.args.self.now.instances.items long in
     let rest = c.settle_members.ensures.rest in
-    rw (c.pass-in-Checkpoint.ensures, rest.rows, rest.instances, whole) (checkpoint_row _ rows p c.args.inst c.args.commit _ c.in-Some.instance _ _ c.permanent_lengths-permanent.result h unbroken c.if-not-commit.false (rw was at c.judge.ensures.decided) (rw was at c.in-Some.ensures.instance) c.in-Checkpoint.is
-    (λ s a w. c.settle_members.ensures.settled s a w) c.permanent_lengths-permanent.ensures (rw rest.kept at c.settle-in-Checkpoint.ensures))
+    rw (c.pass-in-Checkpoint.ensures, rest.rows, rest.instances, whole) (checkpoint_row _ rows p c.args.inst c.args.commit _ c.in-Some.instance _ h unbroken c.if-not-commit.false (rw was at c.judge.ensures.decided) (rw was at c.in-Some.ensures.instance) c.in-Checkpoint.is
+    (λ s a w. c.settle_members.ensures.settled s a w))
 
-pub returns-in-Checkpoint-clause-arrived : goal.returns-in-Checkpoint-clause-arrived
-returns-in-Checkpoint-clause-arrived c = λ rows p h unbroken shown.
+pub returns-in-Checkpoint-clause-messages : goal.returns-in-Checkpoint-clause-messages
+returns-in-Checkpoint-clause-messages c = λ rows p h unbroken shown.
     let was = c.deref_mut.ensures.value in
     let long : length c.judge.new.instances ≡ c.args.self.now.instances.len = c.judge.auto.instances ∙ (ap length was ∙ sym c.args.self.now.instances.ok.0) in
     let whole = written c.args.self.now.instances.len c.judge.new.instances c.args.self.now.instances.items long in
@@ -50,30 +50,28 @@ returns-in-Checkpoint-clause-arrived c = λ rows p h unbroken shown.
     let there = decided_instance _ rows p c.args.inst c.args.commit h unbroken in
     let decided = rw was at (c.judge.ensures.decided there.0 (rw was there.1)) in
     let same = c.in-Some.ensures.instance there.0 (rw was there.1) in
-    settled_arrivals _ rows p c.args.inst c.args.commit c.in-Some.instance c.permanent_lengths-permanent.result c.args.arrivals.now c.settle.new.self (returns-in-Checkpoint-clause-fed c rows p h unbroken shown) c.if-not-commit.false
+    settled_messages _ rows p c.args.inst c.args.commit c.in-Some.instance c.permanent_lengths-permanent.result c.args.pairs.now c.settle.new.self (returns-in-Checkpoint-clause-fed c rows p h unbroken shown) c.if-not-commit.false
     (rw (c.pass-in-Checkpoint.ensures, rest.instances, whole) (decided.now ∙ sym same)) c.in-Checkpoint.is
-    (rw c.pass-in-Checkpoint.ensures c.permanent_lengths-permanent.ensures) c.settle.ensures.shows shown
+    (rw c.pass-in-Checkpoint.ensures c.permanent_lengths-permanent.ensures) c.settle.ensures shown
 
 pub returns-in-Rollback-clause-fed : goal.returns-in-Rollback-clause-fed
 returns-in-Rollback-clause-fed c = λ rows p h unbroken shown.
     let was = c.deref_mut.ensures.value in
     let long : length c.judge.new.instances ≡ c.args.self.now.instances.len = c.judge.auto.instances ∙ (ap length was ∙ sym c.args.self.now.instances.ok.0) in
     let whole = written c.args.self.now.instances.len c.judge.new.instances c.args.self.now.instances.items long in
-    let rest = c.undo_members.ensures.kept in
-    rw (c.pass-in-Rollback.ensures, rest.rows, rest.instances, whole) (rollback_row _ rows p c.args.inst c.args.commit _ c.in-Some.instance _ _ h unbroken c.if-not-commit.false (rw was at c.judge.ensures.decided) (rw was at c.in-Some.ensures.instance) c.in-Rollback.is
-    (λ s between a b g.
-    let done = c.undo_members.ensures.undone s between (record { of_walkers = a; of_kept = b }) g in
-    (done.of_walkers, done.of_kept)))
+    let rest = c.undo_members.ensures.rest in
+    rw (c.pass-in-Rollback.ensures, rest.rows, rest.instances, whole) (rollback_row _ rows p c.args.inst c.args.commit _ c.in-Some.instance _ h unbroken c.if-not-commit.false (rw was at c.judge.ensures.decided) (rw was at c.in-Some.ensures.instance) c.in-Rollback.is
+    (λ s a w. c.undo_members.ensures.undone s a w))
 
-pub returns-in-Rollback-clause-arrived : goal.returns-in-Rollback-clause-arrived
-returns-in-Rollback-clause-arrived c = λ rows p h unbroken shown.
+pub returns-in-Rollback-clause-messages : goal.returns-in-Rollback-clause-messages
+returns-in-Rollback-clause-messages c = λ rows p h unbroken shown.
     let was = c.deref_mut.ensures.value in
     let long : length c.judge.new.instances ≡ c.args.self.now.instances.len = c.judge.auto.instances ∙ (ap length was ∙ sym c.args.self.now.instances.ok.0) in
     let whole = written c.args.self.now.instances.len c.judge.new.instances c.args.self.now.instances.items long in
-    let rest = c.undo_members.ensures.kept in
+    let rest = c.undo_members.ensures.rest in
     let there = decided_instance _ rows p c.args.inst c.args.commit h unbroken in
     let decided = rw was at (c.judge.ensures.decided there.0 (rw was there.1)) in
     let same = c.in-Some.ensures.instance there.0 (rw was there.1) in
-    rolled_back_arrivals _ rows p c.args.inst c.args.commit c.in-Some.instance c.permanent_lengths-permanent-in-Rollback.result c.args.arrivals.now c.roll_back.new.self (returns-in-Rollback-clause-fed c rows p h unbroken shown) c.if-not-commit.false
+    rolled_back_messages _ rows p c.args.inst c.args.commit c.in-Some.instance c.permanent_lengths-permanent-in-Rollback.result c.args.pairs.now c.roll_back.new.self (returns-in-Rollback-clause-fed c rows p h unbroken shown) c.if-not-commit.false
     (rw (c.pass-in-Rollback.ensures, rest.instances, whole) (decided.now ∙ sym same)) c.in-Rollback.is
     (rw c.pass-in-Rollback.ensures c.permanent_lengths-permanent-in-Rollback.ensures) c.roll_back.ensures shown

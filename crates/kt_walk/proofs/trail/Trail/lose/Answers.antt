@@ -8,4 +8,4 @@ returns c = λ rows h unbroken.
     let low : c.args.p < 64 = omega (arith, c.get.ensures.value, c.get.ensures.in_range) in
     let low_from : c.args.from < 64 = omega (arith, c.get-2.ensures.value, c.get-2.ensures.in_range) in
     let at = slice_get_read c.args.self.now.walkers.items 64 c.get.result c.index_mut-walker.result.now (sym c.args.self.now.walkers_there) c.get.ensures.in_range c.index_mut-walker.ensures.value in
-    c.lose_send.ensures _ (rw (c.pass.ensures, c.get.ensures.value, c.get-2.ensures.value) (dropped_row _ rows c.args.p c.args.from c.args.msg _ _ h unbroken low low_from (rw c.get.ensures.value at at) c.remove.ensures))
+    rw (c.pass.ensures, c.get.ensures.value, c.get-2.ensures.value) (dropped_row _ rows c.args.p c.args.from c.args.msg _ h unbroken low low_from (rw c.get.ensures.value at at))
