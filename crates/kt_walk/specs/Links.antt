@@ -1,12 +1,10 @@
 -- The messages of pairs of processes, with their numbers and their traces.
-use Rattle.std.specs.Prelude.{◌≡◌, ℕ, ◌+◌, ◌<◌, Option, Some, None, List, [], ◌∷◌, ◌++◌, map, slice_get}
-use Rattle.kt_spacetime.specs.declared.event.Event.{Event}
+use Rattle.std.specs.Prelude.{ℕ, ◌+◌, Option, Some, None, List, [], ◌∷◌, ◌++◌, map, slice_get}
 use Rattle.kt_cuts.specs.declared.histories.Trace.{Trace}
 use Rattle.kt_traffic.specs.declared.waiting.Sent.{Sent}
 use Rattle.kt_walk.specs.declared.queue.Arrival.{Arrival}
 use Rattle.kt_walk.specs.declared.channel.Undone.{Undone}
 use Rattle.kt_walk.specs.Arrivals.{Traffic}
-use Rattle.kt_walk.specs.Keeping.{parties_in}
 use Rattle.kt_walk.specs.Pairs.{Link}
 
 -- a message on its way; places of traces count from 1
@@ -38,11 +36,3 @@ entries_there (Some v) = entries_of v
 abbrev pub entries_through : List Link → List ℕ → List (ℕ × Trace)
 entries_through links [] = []
 entries_through links (place ∷ places) = entries_there (slice_get links place) ++ entries_through links places
-
--- each message of these rows is from one of the processes to one of them
-pub record AreAmongAll (rows : List Event) : Type 0 where
-  pub each : (m p q : ℕ) → parties_in rows m ≡ Some (p, q) → (p < 64) × (q < 64)
-
--- each message whose send was undone stands once in its list
-pub record AreUndoneOnce (links : List Link) : Type 0 where
-  pub each : (i : ℕ) (v : Link) → slice_get links i ≡ Some v → (j k : ℕ) (a b : Undone) → slice_get v.traffic.undone j ≡ Some a → slice_get v.traffic.undone k ≡ Some b → a.msg ≡ b.msg → j ≡ k

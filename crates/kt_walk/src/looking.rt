@@ -10,7 +10,7 @@ ghost use Rattle.kt_walk.specs.declared.queue.Arrival.{Arrival};
 ghost use Rattle.kt_walk.specs.declared.channel.Undone.{Undone};
 ghost use Rattle.kt_walk.specs.Arrivals.{Has, IsRising, Parts};
 ghost use Rattle.kt_walk.specs.Pairs.{Link, AreListed, ShowsPairs};
-ghost use Rattle.kt_walk.specs.Links.{entries_of, entries_through, number_of, AreAmongAll, AreUndoneOnce};
+ghost use Rattle.kt_walk.specs.Links.{entries_of, entries_through, number_of};
 ghost use Rattle.kt_walk.specs.Keeping.{kept_trace, held_of};
 
 use crate::channel::Undone;
@@ -62,14 +62,14 @@ impl Pairs {
 
     /// What is kept of a message.
     pub(crate) fn trace(&self, msg: MsgNo) -> Option<Trace>
-        ensures { (rows : List Event) → IsLegal rows → AreAmongAll rows → ShowsPairs self.now (past rows) → result ≡ kept_trace rows msg }
+        ensures { (rows : List Event) → IsLegal rows → ShowsPairs self.now (past rows) → result ≡ kept_trace rows msg }
     {
         first_trace(&self.pairs, &self.used, msg)
     }
 
     /// How many messages are kept.
     pub(crate) fn count(&self) -> usize
-        ensures { (rows : List Event) → IsLegal rows → AreAmongAll rows → AreUndoneOnce self.now → ShowsPairs self.now (past rows) → held_of rows < 2 ^ 64 → result ≡ held_of rows }
+        ensures { (rows : List Event) → IsLegal rows → ShowsPairs self.now (past rows) → held_of rows < 2 ^ 64 → result ≡ held_of rows }
     {
         count_all(&self.pairs, &self.used)
     }
