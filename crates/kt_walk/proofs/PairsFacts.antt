@@ -525,11 +525,15 @@ last_in_pairs ls s p from n msg v pairs low index at h =
     subst (λ (q : ℕ). list_all (is_later q msg) (s.live p) ≡ is_after msg v.last) ends.1 (subst (λ (q : ℕ). list_all (is_later v.traffic.sender msg) (s.live q) ≡ is_after msg v.last) ends.0 (later_than_last v.last v.traffic.sender msg (s.live v.traffic.receiver) (h.each n v at).last))
 
 pub found_there : (ls vs : List Link) (n i msg : ℕ) (v : Link) (o : Option (ℕ × Waiting)) → ls ≡ vs → n ≡ i → slice_get ls n ≡ Some v → IfSome o (λ r. (slice_get v.waiting r.0 ≡ Some r.1) × (r.1.msg ≡ msg))
-    → IfSome o (λ r. (u : Link) → slice_get vs i ≡ Some u → (slice_get u.waiting r.0 ≡ Some r.1) × (r.1.msg ≡ msg))
+    → IfSome o (λ r. (u : Link) → slice_get vs i ≡ Some u → slice_get u.waiting r.0 ≡ Some r.1)
 found_there ls vs n i msg v None same index at found = tt
 found_there ls vs n i msg v (Some r) same index at found = λ u e.
     let is : v ≡ u = some_same (sym at ∙ ((λ t. slice_get (same t) (index t)) ∙ e)) in
-    subst (λ (x : Link). (slice_get x.waiting r.0 ≡ Some r.1) × (r.1.msg ≡ msg)) is found
+    subst (λ (x : Link). slice_get x.waiting r.0 ≡ Some r.1) is found.0
+
+pub found_message : (msg : ℕ) (v : Link) (o : Option (ℕ × Waiting)) → IfSome o (λ r. (slice_get v.waiting r.0 ≡ Some r.1) × (r.1.msg ≡ msg)) → IfSome o (λ r. r.1.msg ≡ msg)
+found_message msg v None found = tt
+found_message msg v (Some r) found = found.1
 
 pub sent_ends : {X E : Type 0} (r : Result X E) (v w : Link) (m : Waiting) → OnOk r (w ≡ record v { waiting = v.waiting ++ m ∷ [] }) → OnErr r (w ≡ v) → traffic_of w ≡ traffic_of v
 sent_ends (Ok x) v w m ok err = ap traffic_of ok

@@ -91,17 +91,14 @@ apart s p to body unbroken same = not_itself (to == p) (kept s (Sent p to body) 
     not_itself true e f = cc e
     not_itself false e f = cc f
 
--- a message is found at the place of its pair
-pub found_at : (links : List Link) (p from msg : ℕ) (o : Option (ℕ × Waiting)) (r : ℕ × Waiting) → IfSome o (λ x. (v : Link) → slice_get links (p * 64 + from) ≡ Some v → (slice_get v.waiting x.0 ≡ Some x.1) × (x.1.msg ≡ msg)) → o ≡ Some r → IsFoundAt links p from r.0 r.1
-found_at links p from msg None r found is = absurd (cc is)
-found_at links p from msg (Some x) r found is = λ v at. subst (λ (y : ℕ × Waiting). slice_get v.waiting y.0 ≡ Some y.1) (some_same is) (found v at).0
+-- a message is found at the place of its pair, and is the one that is looked for
+pub found_at : (links : List Link) (p from : ℕ) (o : Option (ℕ × Waiting)) (r : ℕ × Waiting) → IfSome o (λ x. (v : Link) → slice_get links (p * 64 + from) ≡ Some v → slice_get v.waiting x.0 ≡ Some x.1) → o ≡ Some r → IsFoundAt links p from r.0 r.1
+found_at links p from None r found is = absurd (cc is)
+found_at links p from (Some x) r found is = λ v at. subst (λ (y : ℕ × Waiting). slice_get v.waiting y.0 ≡ Some y.1) (some_same is) (found v at)
 
--- the message found is the one that is looked for
-pub found_number : (links : List Link) (s : Past) (p from msg : ℕ) (o : Option (ℕ × Waiting)) (r : ℕ × Waiting) → IsByPair (map traffic_of links) → p < 64 → from < 64 → IfSome o (λ x. (v : Link) → slice_get links (p * 64 + from) ≡ Some v → (slice_get v.waiting x.0 ≡ Some x.1) × (x.1.msg ≡ msg)) → o ≡ Some r → r.1.msg ≡ msg
-found_number links s p from msg None r pairs low low_from found is = absurd (cc is)
-found_number links s p from msg (Some x) r pairs low low_from found is =
-    let there = item_there links (p * 64 + from) (omega (arith, pairs.count, mapped_length traffic_of links, low, low_from)) in
-    subst (λ (y : ℕ × Waiting). y.1.msg ≡ msg) (some_same is) (found there.0 there.1).1
+pub found_number : (msg : ℕ) (o : Option (ℕ × Waiting)) (r : ℕ × Waiting) → IfSome o (λ x. x.1.msg ≡ msg) → o ≡ Some r → r.1.msg ≡ msg
+found_number msg None r found is = absurd (cc is)
+found_number msg (Some x) r found is = subst (λ (y : ℕ × Waiting). y.1.msg ≡ msg) (some_same is) found
 
 -- messages after a send
 pub sends_message : (ls ds : List Link) (rows : List Event) (p to : ℕ) (body : _) (m : Waiting)

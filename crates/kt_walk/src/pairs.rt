@@ -67,7 +67,8 @@ impl Pairs {
     /// A message, if it is on its way to this process, and its place among those that are.
     pub(crate) fn find(&self, p: ProcNo, from: ProcNo, msg: MsgNo) -> Option<(usize, Sent)>
         ensures is { (s : Past) → ShowsPairs self.now s → is_some result ≡ is_undelivered s p from msg }
-        ensures found { IfSome result (λ r. (v : Link) → slice_get self.now (p * 64 + from) ≡ Some v → (slice_get v.waiting r.0 ≡ Some r.1) × (r.1.msg ≡ msg)) }
+        ensures found { IfSome result (λ r. (v : Link) → slice_get self.now (p * 64 + from) ≡ Some v → (slice_get v.waiting r.0 ≡ Some r.1)) }
+        ensures number { IfSome result (λ r. r.1.msg ≡ msg) }
     {
         self.pairs[index_of(p, from)].find(msg)
     }

@@ -203,7 +203,7 @@ impl Walk {
             return Ok(());
         };
         self.pairs.lose(p, from, index, message)?;
-        self.trail.lose(p, from, message.msg);
+        self.trail.lose(p, from, msg);
         Ok(())
     }
 
@@ -211,6 +211,7 @@ impl Walk {
     pub fn rows(&self) -> usize
         ensures count { (rows : List Event) → WalkOf self.now rows → result ≡ length rows }
         ensures rows { result ≡ self.now.rows }
+        ensures range { result < 2 ^ 64 }
     {
         self.trail.rows
     }
@@ -256,7 +257,7 @@ impl Walk {
     pub fn held(&self) -> usize
         ensures { (rows : List Event) → WalkOf self.now rows → result ≡ held_of rows }
     {
-        self.pairs.count()
+        self.pairs.count().min(self.rows())
     }
 
     /// The least orphan of a cut: a message that is received within its receiver's part and not sent within its

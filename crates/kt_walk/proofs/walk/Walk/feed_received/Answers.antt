@@ -1,16 +1,20 @@
-use Rattle.std.proofs.Common.{◌≡◌, None, sym, subst, ◌∙◌}
+use Rattle.std.proofs.Common.{◌≡◌, ℕ, is_some, true, None, [], ◌∷◌, ◌++◌, sym, ap, subst, ◌∙◌}
 use Rattle.kt_spacetime.specs.declared.event.Event.TheVariants as event
 use Rattle.kt_cuts.specs.Past.{past}
-use Rattle.kt_cuts.specs.Legal.{broken_rule}
-use Rattle.kt_walk.specs.PartsOf.{PartsOf}
-use Rattle.kt_walk.specs.WalkParts.{WalkParts, trail_of}
+use Rattle.kt_cuts.specs.Legal.{broken_rule, is_undelivered}
+use Rattle.kt_walk.specs.WalkOf.{WalkOf}
+use Rattle.kt_walk.specs.WalkParts.{WalkParts}
 use Rattle.kt_cuts.proofs.RowRules.{none_from}
+use Rattle.kt_walk.proofs.WalkMessages.{found_number}
 use Rattle.kt_walk.proofs.walk.Walk.feed_received.Goals as goal
 
 pub returns-clause-fed : goal.returns-clause-fed
 returns-clause-fed c = λ rows h.
-    let trail = subst (λ (w : WalkParts). PartsOf (trail_of w) rows) (sym c.self.view_is) h.trail in
-    let asked = c.may_receive.ensures rows trail (c.is_some.ensures ∙ c.undelivered-waiting.ensures.is rows trail) in
+    let here = subst (λ (w : WalkParts). WalkOf w rows) (sym c.self.view_is) h in
+    let waiting : is_undelivered (past rows) c.args.p c.args.from c.args.msg ≡ true = sym (c.find.ensures.is (past rows) here.messages) ∙ ap is_some c.in-Some.is in
+    let asked = c.may_receive.ensures rows here.trail waiting (c.is_after-in_turn.ensures ∙ sym (c.last.ensures.is (past rows) c.args.msg here.messages)) in
     let unbroken : broken_rule (past rows) (event.Received c.args.p c.args.from c.args.msg) ≡ None = none_from _ (sym asked ∙ c.if-not-may_receive.false) in
-    let fed = c.in_ok-receive.ensures.fed rows h unbroken (c.undelivered-waiting.ensures.place rows trail unbroken) in
+    let same = found_number c.args.msg c.find.result (c.in-Some.index, c.in-Some.message) c.find.ensures.number c.in-Some.is in
+    let fed = subst (λ (m : ℕ). WalkOf c.receive.new.self (rows ++ event.Received c.args.p c.args.from m ∷ [])) same
+        (c.in_ok-receive.ensures.fed rows h (subst (λ (m : ℕ). broken_rule (past rows) (event.Received c.args.p c.args.from m) ≡ None) (sym same) unbroken)) in
     (fed.trail.legal, fed)
