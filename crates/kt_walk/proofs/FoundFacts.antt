@@ -1,14 +1,13 @@
 -- The messages that pairs of processes have are those that are kept.
-use Rattle.std.proofs.Common.{◌≡◌, ◌≢◌, ◌⊎◌, ℕ, zero, suc, ◌+◌, ◌*◌, ◌<◌, ◌≤◌, ◌&&◌, ◌||◌, Bool, true, false, Option, Some, None, List, [], ◌∷◌, ◌++◌, length, map, not, if◌then◌else◌, refl, sym, ap, subst, ◌∙◌, arith, inl, inr}
+use Rattle.std.proofs.Common.{◌≡◌, ◌≢◌, ◌⊎◌, ℕ, zero, suc, ◌+◌, ◌*◌, ◌<◌, ◌&&◌, ◌||◌, Bool, true, false, Option, Some, None, List, [], ◌∷◌, ◌++◌, map, not, if◌then◌else◌, sym, ap, subst, ◌∙◌, arith, inl, inr}
 use Rattle.std.specs.Prelude.{IfNone, IfSome, is_some}
 use Rattle.std.specs.List.{slice_get}
-use Rattle.std.proofs.lemmas.Bool.{cases_eq, cases_lt}
+use Rattle.std.proofs.lemmas.Bool.{cases_eq}
 use Rattle.kt_spacetime.specs.declared.event.Event.{Event}
 use Rattle.kt_cuts.specs.declared.deeds.Deed.TheVariants as deed
 use Rattle.kt_cuts.specs.declared.histories.Trace.{Trace}
 use Rattle.kt_cuts.specs.Past.{Past, past}
 use Rattle.kt_cuts.specs.Legal.{IsLegal}
-use Rattle.kt_cuts.specs.Lists.{Rises, sent_in}
 use Rattle.kt_cuts.specs.Orphans.{is_within}
 use Rattle.kt_cuts.specs.Traces.{place_of}
 use Rattle.kt_cuts.proofs.SortedFacts.{some_same}
@@ -22,7 +21,6 @@ use Rattle.kt_walk.specs.Pairs.{Link, ShowsWay, ShowsPairs, IsStillOpen, traffic
 use Rattle.kt_walk.specs.Links.{way_entry, arrival_entry, undone_entry, entries_of}
 use Rattle.kt_walk.proofs.FitFacts.{each_once, not_dropped}
 use Rattle.kt_walk.proofs.ItemPlaces.{get_joined, has_left, has_right, get_mapped, mapped_get}
-use Rattle.kt_walk.proofs.KeptFacts.{kept_of}
 use Rattle.kt_walk.proofs.TraceFacts.{way_kept, arrival_kept, undone_kept, nothing_kept}
 use Rattle.kt_walk.proofs.WalkMessages.{in_order}
 use Rattle.kt_walk.proofs.WalkRows.{sound}

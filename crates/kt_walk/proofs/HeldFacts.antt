@@ -1,11 +1,9 @@
 -- The messages of all pairs of processes are the messages that are kept, each once.
-use Rattle.std.proofs.Common.{◌≡◌, ◌≢◌, ℕ, zero, suc, ◌+◌, ◌-◌, ◌*◌, ◌<◌, ◌≤◌, ◌^◌, ◌==◌, ◌&&◌, ◌||◌, ◌⊎◌, if◌then◌else◌, not, nat_eq, Bool, true, false, Option, Some, None, List, [], ◌∷◌, ◌++◌, length, map, refl, sym, ap, subst, ◌∙◌, arith, inl, inr, length-append}
+use Rattle.std.proofs.Common.{◌≡◌, ℕ, zero, suc, ◌+◌, ◌*◌, ◌<◌, ◌^◌, ◌==◌, ◌&&◌, ◌||◌, ◌⊎◌, if◌then◌else◌, not, nat_eq, Bool, true, false, Option, Some, None, List, [], ◌∷◌, ◌++◌, length, map, refl, sym, ap, subst, ◌∙◌, arith, inl, inr, length-append}
 use Rattle.std.specs.Prelude.{IfNone, IfSome, is_some, take}
-use Rattle.std.specs.List.{slice_get, list_any, AllByRecursion, IsDistinct}
-use Rattle.std.specs.Map.{lookup, keys_of}
-use Rattle.std.proofs.lemmas.Bool.{cases_eq, cases_lt}
+use Rattle.std.specs.List.{slice_get, AllByRecursion, IsDistinct}
+use Rattle.std.specs.Map.{keys_of}
 use Rattle.std.proofs.lemmas.Bool.Decides.{nat_tests}
-use Rattle.std.proofs.lemmas.List.{length-map}
 use Rattle.std.proofs.lemmas.Cmp.{nat_eq_equiv}
 use Rattle.std.proofs.lemmas.Map.Entries.{place_from_lookup, lookup_from_place}
 use Rattle.std.proofs.lemmas.Option.{slice_get_within}
@@ -16,18 +14,15 @@ use Rattle.kt_cuts.specs.Past.{Past, past}
 use Rattle.kt_cuts.specs.Orphans.{is_within}
 use Rattle.kt_cuts.specs.Traces.{place_of}
 use Rattle.kt_cuts.specs.Legal.{IsLegal}
-use Rattle.kt_cuts.proofs.Items.{get_left, get_right, item_there, take_item}
+use Rattle.kt_cuts.proofs.Items.{item_there, take_item}
 use Rattle.kt_cuts.proofs.SortedFacts.{some_same}
 use Rattle.kt_cuts.proofs.Traced.{place_none}
-use Rattle.kt_traffic.specs.declared.waiting.Sent.{Sent}
 use Rattle.kt_traffic.specs.OnTheWay.{IsInOrder}
-use Rattle.kt_walk.specs.declared.queue.Arrival.{Arrival}
-use Rattle.kt_walk.specs.declared.channel.Undone.{Undone}
 use Rattle.kt_walk.specs.Arrivals.{Has, IsRising, IsByPair}
 use Rattle.kt_walk.specs.Keeping.{kept_at, kept_trace, kept_between, parties_in, held_of}
 use Rattle.kt_walk.specs.Pairs.{Link, AreListed, ShowsPairs, is_idle, count_of, traffic_of}
 use Rattle.kt_walk.specs.Links.{way_entry, arrival_entry, undone_entry, entries_of, entries_there, entries_through}
-use Rattle.kt_walk.proofs.FoundFacts.{IsEntry, on_way, is_here, is_dead, entry_at, entry_kept, entry_ends, IsShown, shown_at, kept_parties, kept_entry, ends_at, same_places}
+use Rattle.kt_walk.proofs.FoundFacts.{IsEntry, on_way, is_here, is_dead, entry_at, entry_kept, entry_ends, IsShown, shown_at, kept_parties, kept_entry, ends_at}
 use Rattle.kt_walk.proofs.HeldCounts.{held_count}
 use Rattle.kt_walk.proofs.ItemPlaces.{get_joined, has_left, has_right, get_mapped, mapped_get, place_or_lacks}
 use Rattle.kt_walk.proofs.KeptFacts.{absent}

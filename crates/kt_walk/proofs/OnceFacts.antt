@@ -1,5 +1,5 @@
 -- Items that each stand once in a list, by a number of theirs.
-use Rattle.std.proofs.Common.{◌≡◌, ℕ, zero, suc, ◌+◌, ◌-◌, ◌<◌, ◌≤◌, Bool, true, false, Some, List, [], ◌∷◌, ◌++◌, length, map, refl, sym, ap, ◌∙◌, arith, inl, inr, cond}
+use Rattle.std.proofs.Common.{◌≡◌, ℕ, zero, suc, ◌-◌, ◌<◌, ◌≤◌, Bool, true, false, Some, List, [], ◌∷◌, ◌++◌, length, map, refl, sym, ap, ◌∙◌, arith, inl, inr, cond}
 use Rattle.std.specs.List.{slice_get, filter}
 use Rattle.std.proofs.lemmas.Bool.{cases_lt}
 use Rattle.kt_cuts.proofs.Items.{get_left, get_right}
