@@ -1,5 +1,5 @@
 -- Traffic while its two histories grow and are cut back.
-use Rattle.std.proofs.Common.{◌≡◌, ℕ, ◌+◌, ◌-◌, ◌<◌, ◌≤◌, true, false, Option, Some, None, IfSome, List, [], ◌∷◌, ◌++◌, length, map, take, drop, sym, ap, ◌∙◌, subst, arith, inl, inr}
+use Rattle.std.proofs.Common.{◌≡◌, ℕ, ◌+◌, ◌-◌, ◌<◌, ◌≤◌, true, false, Option, Some, None, IfSome, List, [], ◌∷◌, ◌++◌, length, map, take, drop, refl, sym, ap, ◌∙◌, subst, arith, inl, inr}
 use Rattle.std.specs.List.{slice_get, slice_index, filter}
 use Rattle.std.specs.Prelude.{nat_lt, min}
 use Rattle.std.proofs.lemmas.Bool.{cases_lt}
@@ -19,6 +19,7 @@ use Rattle.kt_cuts.proofs.Lists.{get_push, get_kept, get_last, get_take, get_in_
 use Rattle.kt_cuts.proofs.DeedFacts.{has_at, has_front}
 use Rattle.kt_cuts.proofs.OrphanFacts.{get_from_drop, received_of, some_earlier, some_weaker, at_most_first, at_most_second}
 use Rattle.kt_cuts.proofs.Consistency.{filter_keeps}
+use Rattle.kt_walk.proofs.OnceFacts.{once_rising, once_mapped, once_joined, once_filtered}
 use Rattle.kt_walk.proofs.ItemPlaces.{get_joined, has_left, has_right, get_mapped, mapped_get, get_filtered, rising_take, rising_drop, rising_push, one_send, sent_before, lacks_past, lacks_part, past_it, lacks_push, place_or_lacks}
 
 pub is_below : (a b : ℕ) → nat_lt a b ≡ true → a < b
@@ -55,6 +56,14 @@ traffic_sender_cut v rs ss np nq n c r settled parts t = record {
         let was = get_mapped undo (drop c v.arrivals) new.0 u new.1 in
         subst (λ (x : Undone). slice_get rs x.received ≡ Some (deed.Received x.msg v.sender)) (sym was.2) (t.arrived (c + new.0) was.0 (get_drop c v.arrivals new.0 was.0 was.1))
   ];
+  undone_once = once_joined (λ u. u.msg) v.undone (map undo (drop c v.arrivals)) t.undone_once
+      (once_mapped (λ a. a.msg) (λ u. u.msg) undo (drop c v.arrivals) (λ a. refl) (once_rising (λ a. a.msg) (drop c v.arrivals) (λ j k a b l e f. ((rising_drop c v.arrivals t.rising).each j k a b l e f).msg)))
+      (λ j k a b e f same.
+      let was = get_mapped undo (drop c v.arrivals) k b f in
+      let sent : has_deed (deed.Sent was.0.msg v.receiver) ss ≡ true = has_at (deed.Sent was.0.msg v.receiver) ss was.0.sent (t.live (c + k) was.0 (get_drop c v.arrivals k was.0 was.1)) in
+      let number : a.msg ≡ was.0.msg = same ∙ ap (λ (x : Undone). x.msg) was.2 in
+      let lacks : has_deed (deed.Sent was.0.msg v.receiver) ss ≡ false = subst (λ (x : ℕ). has_deed (deed.Sent x v.receiver) ss ≡ false) number (t.unsent j a e) in
+      absurd (cc (sym sent ∙ lacks)));
   unsent = λ k u e. elim (get_joined v.undone (map undo (drop c v.arrivals)) k u e) [
     | inl old ↦ lacks_part (deed.Sent u.msg v.receiver) n ss (t.unsent k u old)
     | inr new ↦
@@ -91,6 +100,7 @@ traffic_receiver_cut v rs ss np nq n c parts t = record {
   there = λ k u e.
       let old = get_filtered (λ u. nat_lt u.received n) v.undone k u e in
       get_in_take n rs u.received (deed.Received u.msg v.sender) (t.there old.0 u old.1) (is_below u.received n old.2);
+  undone_once = once_filtered (λ u. u.msg) (λ u. nat_lt u.received n) v.undone t.undone_once;
   unsent = λ k u e.
       let old = get_filtered (λ u. nat_lt u.received n) v.undone k u e in
       t.unsent old.0 u old.1;
@@ -128,6 +138,7 @@ traffic_settled v rs ss np nq mp mq l m t = record {
   live = t.live;
   rising = t.rising;
   there = t.there;
+  undone_once = t.undone_once;
   unsent = t.unsent;
   all_arrivals = λ msg i j e f h. t.all_arrivals msg i j e f (λ low. omega (arith, l, m, low, h));
   all_undone = t.all_undone;
@@ -141,6 +152,7 @@ traffic_forgotten v rs ss np nq n c d sent received low_c low_d t = record {
   live = λ k a e. t.live (n + k) a (get_drop n v.arrivals k a e);
   rising = rising_drop n v.arrivals t.rising;
   there = t.there;
+  undone_once = t.undone_once;
   unsent = t.unsent;
   all_arrivals = λ msg i j e f h.
       let a : Arrival = record { msg = msg; sent = i; received = j } in
@@ -162,6 +174,7 @@ traffic_receiver_more v rs ss np nq d other t = record {
   live = t.live;
   rising = t.rising;
   there = λ k u e. get_kept rs d u.received (deed.Received u.msg v.sender) (t.there k u e);
+  undone_once = t.undone_once;
   unsent = t.unsent;
   all_arrivals = λ msg i j e f h. elim (get_push rs d j (deed.Received msg v.sender) f) [
     | inl old ↦ t.all_arrivals msg i j e old h
@@ -181,6 +194,7 @@ traffic_sender_more v rs ss np nq d other t = record {
   live = λ k a e. get_kept ss d a.sent (deed.Sent a.msg v.receiver) (t.live k a e);
   rising = t.rising;
   there = t.there;
+  undone_once = t.undone_once;
   unsent = λ k u e. lacks_push (deed.Sent u.msg v.receiver) d ss (t.unsent k u e) (λ same. other u.msg u.received (t.there k u e) same);
   all_arrivals = λ msg i j e f h. elim (get_push ss d i (deed.Sent msg v.receiver) e) [
     | inl old ↦ t.all_arrivals msg i j old f h
@@ -210,6 +224,7 @@ traffic_received v rs ss np nq m i j r sent place later t = record {
         received = omega (arith, place, slice_get_within rs a.received (deed.Received a.msg v.sender) (t.arrived k a e));
       });
   there = λ k u e. get_kept rs new u.received (deed.Received u.msg v.sender) (t.there k u e);
+  undone_once = t.undone_once;
   unsent = t.unsent;
   all_arrivals = λ x a b e f h. elim (get_push rs new b (deed.Received x v.sender) f) [
     | inl old ↦ has_left v.arrivals (here ∷ []) (record { msg = x; sent = a; received = b }) (t.all_arrivals x a b e old h)

@@ -7,6 +7,7 @@ pub mod WalkSteps
 pub mod WalkDecides
 pub mod HeldCounts
 pub mod ItemPlaces
+pub mod OnceFacts
 pub mod ChannelFacts
 pub mod ArrivalFacts
 pub mod UsedFacts
@@ -15,7 +16,10 @@ pub mod WalkMessages
 pub mod WalkLinks
 pub mod PairFacts
 pub mod WayRows
+pub mod SendsFacts
 pub mod PairsUsed
 pub mod PairsFacts
 pub mod TraceFacts
 pub mod SettleFacts
+pub mod FoundFacts
+pub mod HeldFacts

@@ -35,6 +35,7 @@ use Rattle.kt_cuts.specs.Legal.{has_deed, is_undelivered, is_later}
 use Rattle.kt_cuts.proofs.Lists.{get_take, get_in_take, get_push}
 use Rattle.kt_cuts.proofs.DeedFacts.{has_at, place_of_deed}
 use Rattle.kt_walk.proofs.ArrivalFacts.{by_pair_each, by_pair_set, least_of_channels, shows_after, shows_quiet, shows_received}
+use Rattle.kt_walk.proofs.SendsFacts.{sends_after, sent_among}
 use Rattle.kt_walk.proofs.WayRows.{way_more, way_sent, way_received, way_dropped, way_dropped_elsewhere}
 
 -- one item of a list is changed, and mapped
@@ -76,6 +77,7 @@ sent_pairs ls s p to n body v w pairs low_p low_to apart index at new fit h = re
     | inr other ↦ elsewhere i u other (sym (get_set_other ls n i w other) ∙ e)
   ];
   still_open = open_set ls s (after s (Sent p to body)) n v w at (subst (λ (x : Link). IsStillOpen x s) (sym new) (h.still_open n v at)) (λ u o. o) h.still_open;
+  sends = sends_after s (Sent p to body) (sent_among p to body low_p low_to) h.sends;
 }
   where
     known : (v.traffic.receiver * 64 + v.traffic.sender ≡ n) × (v.traffic.receiver < 64) × (v.traffic.sender < 64)
@@ -133,6 +135,7 @@ received_pairs ls s p from n k a v w pairs low_p low_from apart index at new fou
     | inr other ↦ elsewhere i u other (sym (get_set_other ls n i w other) ∙ e)
   ];
   still_open = open_set ls s (after s (Received p from a.msg)) n v w at (subst (λ (x : Link). IsStillOpen x s) (sym new) open_here) (λ u o. o) h.still_open;
+  sends = sends_after s (Received p from a.msg) (λ q t b e. absurd (cc e)) h.sends;
 }
   where
     known : (v.traffic.receiver * 64 + v.traffic.sender ≡ n) × (v.traffic.receiver < 64) × (v.traffic.sender < 64)
@@ -206,6 +209,7 @@ dropped_pairs ls s p from n k x v w pairs low_p low_from index at new found fit 
         way_dropped_elsewhere u (s.live u.traffic.receiver) (s.live u.traffic.sender) s.dropped (s.permanent u.traffic.receiver) x.msg (λ j sent. other (same_pair i u was j sent)) (h.each i u was)
   ];
   still_open = open_set ls s (after s (Dropped p from x.msg)) n v w at (subst (λ (y : Link). IsStillOpen y s) (sym new) (h.still_open n v at)) (λ u o. o) h.still_open;
+  sends = sends_after s (Dropped p from x.msg) (λ q t b e. absurd (cc e)) h.sends;
 }
   where
     known : (v.traffic.receiver * 64 + v.traffic.sender ≡ n) × (v.traffic.receiver < 64) × (v.traffic.sender < 64)
@@ -222,15 +226,15 @@ pub quiet_pairs : (ls : List Link) (s : Past) (row : Event) → leaves_messages 
 quiet_pairs ls s (Sent p to body) quiet h = absurd (cc)
 quiet_pairs ls s (Received p from msg) quiet h = absurd (cc)
 quiet_pairs ls s (Dropped p from msg) quiet h = absurd (cc)
-quiet_pairs ls s (Began p k kind) quiet h = record { arrivals = shows_quiet (map traffic_of ls) s (Began p k kind) refl h.arrivals; each = h.each; still_open = h.still_open }
-quiet_pairs ls s (Took p k) quiet h = record { arrivals = shows_quiet (map traffic_of ls) s (Took p k) refl h.arrivals; each = h.each; still_open = h.still_open }
-quiet_pairs ls s (Ready p k) quiet h = record { arrivals = shows_quiet (map traffic_of ls) s (Ready p k) refl h.arrivals; each = h.each; still_open = h.still_open }
-quiet_pairs ls s (Unwilling p k cause) quiet h = record { arrivals = shows_quiet (map traffic_of ls) s (Unwilling p k cause) refl h.arrivals; each = h.each; still_open = h.still_open }
+quiet_pairs ls s (Began p k kind) quiet h = record { arrivals = shows_quiet (map traffic_of ls) s (Began p k kind) refl h.arrivals; each = h.each; still_open = h.still_open; sends = sends_after s (Began p k kind) (λ q t b e. absurd (cc e)) h.sends }
+quiet_pairs ls s (Took p k) quiet h = record { arrivals = shows_quiet (map traffic_of ls) s (Took p k) refl h.arrivals; each = h.each; still_open = h.still_open; sends = sends_after s (Took p k) (λ q t b e. absurd (cc e)) h.sends }
+quiet_pairs ls s (Ready p k) quiet h = record { arrivals = shows_quiet (map traffic_of ls) s (Ready p k) refl h.arrivals; each = h.each; still_open = h.still_open; sends = sends_after s (Ready p k) (λ q t b e. absurd (cc e)) h.sends }
+quiet_pairs ls s (Unwilling p k cause) quiet h = record { arrivals = shows_quiet (map traffic_of ls) s (Unwilling p k cause) refl h.arrivals; each = h.each; still_open = h.still_open; sends = sends_after s (Unwilling p k cause) (λ q t b e. absurd (cc e)) h.sends }
 quiet_pairs ls s (Decided p k true) quiet h = absurd (cc)
-quiet_pairs ls s (Decided p k false) quiet h = record { arrivals = shows_quiet (map traffic_of ls) s (Decided p k false) refl h.arrivals; each = h.each; still_open = h.still_open }
-quiet_pairs ls s (Closed p k) quiet h = record { arrivals = shows_quiet (map traffic_of ls) s (Closed p k) refl h.arrivals; each = h.each; still_open = h.still_open }
-quiet_pairs ls s (Failed p) quiet h = record { arrivals = shows_quiet (map traffic_of ls) s (Failed p) refl h.arrivals; each = h.each; still_open = h.still_open }
-quiet_pairs ls s (Refused p verb cause) quiet h = record { arrivals = shows_quiet (map traffic_of ls) s (Refused p verb cause) refl h.arrivals; each = h.each; still_open = h.still_open }
+quiet_pairs ls s (Decided p k false) quiet h = record { arrivals = shows_quiet (map traffic_of ls) s (Decided p k false) refl h.arrivals; each = h.each; still_open = h.still_open; sends = sends_after s (Decided p k false) (λ q t b e. absurd (cc e)) h.sends }
+quiet_pairs ls s (Closed p k) quiet h = record { arrivals = shows_quiet (map traffic_of ls) s (Closed p k) refl h.arrivals; each = h.each; still_open = h.still_open; sends = sends_after s (Closed p k) (λ q t b e. absurd (cc e)) h.sends }
+quiet_pairs ls s (Failed p) quiet h = record { arrivals = shows_quiet (map traffic_of ls) s (Failed p) refl h.arrivals; each = h.each; still_open = h.still_open; sends = sends_after s (Failed p) (λ q t b e. absurd (cc e)) h.sends }
+quiet_pairs ls s (Refused p verb cause) quiet h = record { arrivals = shows_quiet (map traffic_of ls) s (Refused p verb cause) refl h.arrivals; each = h.each; still_open = h.still_open; sends = sends_after s (Refused p verb cause) (λ q t b e. absurd (cc e)) h.sends }
 
 -- what a pair's lists are of, in two parts
 pub link_of : (v : Link) (s : Past) → ShowsTraffic v.traffic s → ShowsWay v s → ShowsLink v s
@@ -263,6 +267,7 @@ shows_decided ls ds s p k commit pairs count same each settled h = record {
       let link = each i w e in
       record { waiting = link.waiting; last = link.last; settled = link.settled };
   still_open = settled;
+  sends = sends_after s (Decided p k commit) (λ q t b e. absurd (cc e)) h.sends;
 }
 
 -- the same histories and positions under other names
@@ -639,6 +644,7 @@ pairs_start ls h = record {
   };
   each = λ i v e. subst (λ (x : Link). ShowsWay x start) (sym (h.empty i v e)) (no_way v.traffic.receiver v.traffic.sender);
   still_open = λ i v e. subst (λ (x : Link). IsStillOpen x start) (sym (h.empty i v e)) (λ k a at low. absurd (cc at));
+  sends = λ p i m q e. absurd (cc e);
 }
   where
     no_traffic : (p q : ℕ) → ShowsTraffic (record { receiver = p; sender = q; arrivals = []; undone = [] }) start
@@ -647,6 +653,7 @@ pairs_start ls h = record {
       live = λ k a e. absurd (cc e);
       rising = record { each = λ j k a b l e f. absurd (cc e) };
       there = λ k u e. absurd (cc e);
+      undone_once = λ j k a b e f same. absurd (cc e);
       unsent = λ k u e. absurd (cc e);
       all_arrivals = λ m i j e f. absurd (cc e);
       all_undone = λ m j e. absurd (cc e);

@@ -54,6 +54,7 @@ pub record IsTraffic (v : Traffic) (received sent : List Deed) (received_permane
   pub live : (k : ℕ) (a : Arrival) → slice_get v.arrivals k ≡ Some a → slice_get sent a.sent ≡ Some (deed.Sent a.msg v.receiver)
   pub rising : IsRising v.arrivals
   pub there : (k : ℕ) (u : Undone) → slice_get v.undone k ≡ Some u → slice_get received u.received ≡ Some (deed.Received u.msg v.sender)
+  pub undone_once : (j k : ℕ) (a b : Undone) → slice_get v.undone j ≡ Some a → slice_get v.undone k ≡ Some b → a.msg ≡ b.msg → j ≡ k
   pub unsent : (k : ℕ) (u : Undone) → slice_get v.undone k ≡ Some u → has_deed (deed.Sent u.msg v.receiver) sent ≡ false
   pub all_arrivals : (msg i j : ℕ) → slice_get sent i ≡ Some (deed.Sent msg v.receiver) → slice_get received j ≡ Some (deed.Received msg v.sender)
       → (i < sent_permanent → received_permanent ≤ j) → Has v.arrivals (record { msg = msg; sent = i; received = j })

@@ -10,5 +10,6 @@ pub mod TrailOf
 pub mod Stages
 pub mod Arrivals
 pub mod Pairs
+pub mod Links
 pub mod WalkParts
 pub mod WalkOf

@@ -44,7 +44,7 @@ pub(crate) fn put_all_back(waiting: &mut Waiting, arrivals: &[Arrival])
 #[derive(Drop)]
 pub(crate) struct Pair {
     // Those received, but for those that both permanent parts have.
-    channel: Channel,
+    pub(crate) channel: Channel,
     // Those on their way, with room for those received too.
     waiting: Waiting,
     // What was received last, in the receiver's live history and in its permanent part.
