@@ -177,7 +177,13 @@ impl Walk {
     }
 
     // A process receives a message, which breaks no rule, at this place among those on their way.
-    fn receive(&mut self, p: ProcNo, from: ProcNo, index: usize, message: Sent) -> Result<(), Memory>
+    fn receive(
+        &mut self,
+        p: ProcNo,
+        from: ProcNo,
+        index: usize,
+        message: Sent,
+    ) -> Result<(), Memory>
         requires few { self.old.rows < 2 ^ 24 }
         requires found { IsFoundAt self.old.links p from index message }
         ensures fed { OnOk result ((rows : List Event) → WalkOf self.old rows → broken_rule (past rows) (event.Received p from message.msg) ≡ None → WalkOf self.new (rows ++ event.Received p from message.msg ∷ [])) }
