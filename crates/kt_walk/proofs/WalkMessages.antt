@@ -1,5 +1,5 @@
 -- What a walk keeps of the messages.
-use Rattle.std.proofs.Common.{is_some, map, ◌==◌, ◌*◌, ◌≢◌, ◌≡◌, ℕ, ◌+◌, ◌<◌, ◌≤◌, not, Bool, true, false, Option, Some, None, unwrap_or, IfSome, IfNone, List, [], ◌∷◌, ◌++◌, length, refl, sym, ap, subst, ◌∙◌, arith, append-nil}
+use Rattle.std.proofs.Common.{is_some, ◌==◌, ◌*◌, ◌≢◌, ◌≡◌, ℕ, ◌+◌, ◌<◌, ◌≤◌, not, Bool, true, false, Option, Some, None, unwrap_or, IfSome, IfNone, List, [], ◌∷◌, ◌++◌, length, refl, sym, ap, subst, ◌∙◌, arith, append-nil}
 use Rattle.std.specs.List.{slice_get, slice_index}
 use Rattle.std.specs.Prelude.{Result, Ok, Err, OnErr}
 use Rattle.std.proofs.lemmas.Bool.{eq-eqb}
@@ -17,11 +17,11 @@ use Rattle.kt_cuts.specs.Lists.{Rises, sent_in}
 use Rattle.kt_cuts.specs.Cuts.{IsOrphan}
 use Rattle.kt_cuts.specs.Orphans.{IsOrphanBetween, IsAtMost}
 use Rattle.kt_cuts.specs.Standing.{ShowsInstances, IsInOrder, IsAllowed, at_number, new_shown, ready_shown}
-use Rattle.kt_walk.specs.Arrivals.{IsByPair, RollsBack, MakesPermanent, KeepsPermanent}
+use Rattle.kt_walk.specs.Arrivals.{RollsBack, MakesPermanent, KeepsPermanent}
 use Rattle.kt_traffic.specs.declared.waiting.Sent.{Sent as Waiting}
-use Rattle.kt_walk.specs.Pairs.{Link, traffic_of, IsFit, ShowsPairs, IsEachOnce, AreNotDropped, leaves_messages}
+use Rattle.kt_walk.specs.Pairs.{Link, IsFit, ShowsPairs, IsEachOnce, AreNotDropped, leaves_messages}
 use Rattle.kt_walk.proofs.FitFacts.{fit, each_once, not_dropped}
-use Rattle.kt_walk.proofs.PairsFacts.{quiet_pairs, mapped_length}
+use Rattle.kt_walk.proofs.PairsFacts.{quiet_pairs}
 use Rattle.kt_walk.specs.TrailParts.{TrailParts}
 use Rattle.kt_walk.specs.PartsOf.{PartsOf, ShowsWalkers, is_plain}
 use Rattle.kt_walk.specs.TrailOf.{parts_of}

@@ -1,10 +1,8 @@
 -- A walk after each sort of row.
-use Rattle.std.proofs.Common.{◌≡◌, ◌⊎◌, ℕ, zero, suc, ◌+◌, ◌-◌, ◌<◌, ◌≤◌, not, ◌&&◌, ◌||◌, if◌then◌else◌, Bool, true, false, Option, Some, None, List, [], ◌∷◌, ◌++◌, length, set, take, replicate, refl, sym, ap, subst, ◌∙◌, arith, inl, inr, length-append}
-use Rattle.std.specs.Prelude.{filter}
+use Rattle.std.proofs.Common.{◌≡◌, ℕ, ◌+◌, ◌<◌, ◌≤◌, ◌&&◌, ◌||◌, if◌then◌else◌, Bool, false, Some, None, List, [], ◌∷◌, ◌++◌, length, set, replicate, refl, sym, ap, subst, ◌∙◌, arith, inl, inr, length-append}
 use Rattle.std.specs.List.{slice_get}
-use Rattle.std.proofs.lemmas.Bool.{cases_eq, and_parts}
+use Rattle.std.proofs.lemmas.Bool.{cases_eq}
 use Rattle.std.proofs.lemmas.Option.{slice_get_within}
-use Rattle.std.proofs.Math.Seq.{take-append_seam}
 use Rattle.kt_base.specs.declared.words.Cause.{Cause}
 use Rattle.kt_base.specs.declared.words.Kind.{Kind}
 use Rattle.kt_base.specs.declared.words.Verb.{Verb}
@@ -17,18 +15,16 @@ use Rattle.kt_cuts.specs.declared.instances.Instance.{Instance}
 use Rattle.kt_walk.specs.declared.walker.Walker.{Walker}
 use Rattle.kt_cuts.specs.Past.{Past, past, after, at_one, is_rollback, is_committed}
 use Rattle.kt_cuts.specs.Changes.{IsJoined}
-use Rattle.kt_cuts.specs.Legal.{broken_rule, has_deed}
+use Rattle.kt_cuts.specs.Legal.{broken_rule}
 use Rattle.kt_cuts.specs.Lists.{received_in, last_of}
 use Rattle.kt_cuts.specs.Standing.{at_number, rolled_back_shown}
 use Rattle.kt_walk.specs.TrailParts.{TrailParts}
 use Rattle.kt_walk.specs.PartsOf.{ShowsWalkers, PartsOf}
-use Rattle.kt_cuts.proofs.Items.{get_seam, get_set_same, get_set_other}
-use Rattle.kt_cuts.proofs.SortedFacts.{some_same, received_at, received_else, received_unsent}
-use Rattle.kt_cuts.proofs.DeedFacts.{last_push, place_of_deed}
+use Rattle.kt_cuts.proofs.Items.{get_set_same, get_set_other}
+use Rattle.kt_cuts.proofs.SortedFacts.{received_at, received_else}
+use Rattle.kt_cuts.proofs.DeedFacts.{last_push}
 use Rattle.kt_cuts.proofs.InstanceSteps.{begun_there, took_instances, ready_instances, began_instances, same_instances, closed_dropped, rolled_known}
-use Rattle.kt_cuts.proofs.LegalLogs.{kept, rows_length}
-use Rattle.kt_cuts.proofs.Places.{sent_places}
-use Rattle.kt_cuts.proofs.Positions.{positions}
+use Rattle.kt_cuts.proofs.LegalLogs.{rows_length}
 use Rattle.kt_cuts.proofs.RowRules.{may_take, may_get_ready}
 use Rattle.kt_cuts.proofs.Shown.{at_same, at_other}
 use Rattle.kt_walk.proofs.Orderly.{orderly}
