@@ -3,7 +3,7 @@
 use super::{UNDONE_AND_RECEIVED, histories_of, message, process};
 use crate::Walk;
 use crate::tests::logs::LOGS;
-use kt_base::{InstNo, Kind, ProcNo, RowNo};
+use kt_base::{InstNo, Kind, MsgNo, ProcNo, RowNo};
 use kt_cuts::{LegalFault, Rule, Trace};
 use kt_spacetime::{Event, SpaceTime, read_csv};
 use std::alloc::Global;
@@ -96,6 +96,14 @@ fn agrees(rt: &impl Abort, alloc: Global, log: &SpaceTime) -> Result<(), Fail> {
     Ok(())
 }
 
+// A message that is kept is found between its sender and its receiver, and not the other way round.
+fn found_between(rt: &impl Abort, walk: &Walk, msg: MsgNo, trace: &Trace) -> Result<(), Fail> {
+    let found = walk.trace_between(trace.from, trace.to, msg);
+    assert_eq!(rt; found.ok_or("not found")?.sent, trace.sent);
+    assert_eq!(rt; walk.trace_between(trace.to, trace.from, msg), None);
+    Ok(())
+}
+
 pub(super) fn agrees_after(
     rt: &impl Abort,
     alloc: Global,
@@ -120,10 +128,8 @@ pub(super) fn agrees_after(
         let msg = message(number)?;
         let kept = walk.trace(msg);
         if let Some(trace) = kept {
-            let (from, to) = (trace.from, trace.to);
-            assert_eq!(rt; histories.trace(msg), kept);
-            assert_eq!(rt; walk.trace_between(from, to, msg), kept);
-            assert_eq!(rt; walk.trace_between(to, from, msg), None);
+            assert_eq!(rt; histories.trace(msg), Some(trace));
+            found_between(rt, walk, msg, &trace)?;
             held = held.saturating_add(1);
         }
     }
