@@ -98,13 +98,6 @@ taken_at xs ys n e = subst (λ (i : ℕ). xs ++ drop 1 ys ≡ remove (xs ++ ys) 
     at_seam [] (y ∷ ys) = refl
     at_seam (x ∷ xs) ys = ap (λ (l : _). x ∷ l) (at_seam xs ys)
 
-pub put_at : {X : Type 0} (xs ys : List X) (y : X) (n : ℕ) → length xs ≡ n → xs ++ y ∷ ys ≡ insert (xs ++ ys) n y
-put_at xs ys y n e = subst (λ (i : ℕ). xs ++ y ∷ ys ≡ insert (xs ++ ys) i y) e (at_seam xs ys y)
-  where
-    at_seam : {X : Type 0} (xs ys : List X) (y : X) → xs ++ y ∷ ys ≡ insert (xs ++ ys) (length xs) y
-    at_seam [] ys y = refl
-    at_seam (x ∷ xs) ys y = ap (λ (l : _). x ∷ l) (at_seam xs ys y)
-
 pub take_joined : {X : Type 0} (xs ys : List X) (n : ℕ) → take n xs ++ take (n - length xs) ys ≡ take n (xs ++ ys)
 take_joined [] ys zero = refl
 take_joined [] ys (suc n) =
@@ -145,20 +138,6 @@ sent_before_at xs place i p = record {
 
     above_of : (a b : ℕ) → nat_lt a b ≡ false → b ≤ a
     above_of a b e = grind (arith, nat_tests)
-
--- where the first half goes on past the place, the second one is past it
-pub before_left : (xs ys : List Sent) (place i : ℕ) → IsInOrder (xs ++ ys) → i < length xs → AreSentBefore place xs i → AreSentBefore place (xs ++ ys) i
-before_left xs ys place i o low b = record {
-  before = λ k a l e. b.before k a l (sym (get_left xs ys k (omega (arith, l, low))) ∙ e);
-  not_before = λ k a high e. elim (cases_lt k (length xs)) [
-    | inl left ↦ b.not_before k a high (sym (get_left xs ys k left) ∙ e)
-    | inr right ↦
-        let last : slice_get xs i ≡ Some (get_or xs i a) = slice_get-get_or xs i a low in
-        let past : place ≤ (get_or xs i a).place = b.not_before i (get_or xs i a) (omega arith) last in
-        let before : (get_or xs i a).place < a.place = (o.each i k (get_or xs i a) a (omega (arith, low, right)) (get_left xs ys i low ∙ last) e).place in
-        omega (arith, past, before)
-  ];
-}
 
 -- where the first half was sent before the place, the second one tells the rest
 pub before_right : (xs ys : List Sent) (place i : ℕ) → AreSentBefore place xs (length xs) → AreSentBefore place ys i → AreSentBefore place (xs ++ ys) (length xs + i)

@@ -104,19 +104,6 @@ the_others {X} xs i y j x e =
       | inr second ↦ in_second (take i xs) (y ∷ drop i xs) (suc second.0) x second.1
     ]
 
--- a message comes after another one, if its number is greater
-pub number_before : (ms : List Sent) (j k : ℕ) (a b : Sent) → IsInOrder ms → slice_get ms j ≡ Some a → slice_get ms k ≡ Some b → a.msg < b.msg → j < k
-number_before ms j k a b r e f low = elim (cases_lt j k) [
-  | inl less ↦ less
-  | inr high ↦ elim (cases_eq j k) [
-    | inl same ↦
-        let here : Some a ≡ Some b = sym e ∙ (ap (slice_get ms) same ∙ f) in
-        let number : a.msg ≡ b.msg = cc in
-        absurd (omega (arith, number, low))
-    | inr other ↦ absurd (omega (arith, low, (r.each k j b a (omega (arith, high, other)) f e).msg))
-  ]
-]
-
 -- a message stands once
 pub stands_once : (ms : List Sent) (j k : ℕ) (a b : Sent) → IsInOrder ms → slice_get ms j ≡ Some a → slice_get ms k ≡ Some b → a.msg ≡ b.msg → j ≡ k
 stands_once ms j k a b r e f same = elim (cases_lt j k) [

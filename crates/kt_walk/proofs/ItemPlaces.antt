@@ -1,12 +1,11 @@
 -- Places of items in lists that are cut, joined, mapped and filtered, and places of deeds in histories.
 use Rattle.std.proofs.Common.{length-drop, ◌≡◌, ℕ, zero, suc, ◌+◌, ◌-◌, ◌<◌, ◌≤◌, ◌⊎◌, Bool, true, false, Some, List, [], ◌∷◌, ◌++◌, length, map, get_or, take, drop, refl, sym, ap, ◌∙◌, subst, arith, inl, inr, cond}
-use Rattle.std.specs.List.{slice_get, filter, copy_within}
+use Rattle.std.specs.List.{slice_get, filter}
 use Rattle.std.specs.List.Sorted.{IsPartitionPoint, IsPartitionedBy}
 use Rattle.std.specs.Prelude.{nat_lt}
 use Rattle.std.proofs.lemmas.Bool.{cases_lt, cases_eq}
 use Rattle.std.proofs.lemmas.Bool.Decides.{nat_tests}
 use Rattle.std.proofs.lemmas.List.{take-append-drop, take_all}
-use Rattle.std.proofs.lemmas.List.Edits.{take-paste}
 use Rattle.std.proofs.lemmas.Option.{slice_get_within, slice_get-get_or, get_or_from_slice_get}
 use Rattle.kt_cuts.specs.declared.deeds.Deed.{Deed}
 use Rattle.kt_cuts.specs.declared.deeds.Deed.TheVariants as deed
@@ -55,12 +54,6 @@ get_filtered {X} test (y ∷ xs) k x e = at_test (test y) refl k e (get_filtered
 
 pub take_rest : {X : Type 0} (n : ℕ) (xs : List X) → take (length xs - n) (drop n xs) ≡ drop n xs
 take_rest n xs = take_all (length xs - n) (drop n xs) (omega (arith, length-drop n xs))
-
--- the items from a place on, moved down to the front
-pub moved_down : {X : Type 0} (n : ℕ) (xs : List X) → take (length xs - n) (copy_within xs n (length xs) 0) ≡ drop n xs
-moved_down n xs =
-    let rest : length xs - n ≡ 0 + (length xs - n) = omega arith in
-    ap (λ (k : ℕ). take k (copy_within xs n (length xs) 0)) rest ∙ (take-paste xs 0 (drop n xs) (length xs - n) (omega arith) (omega (arith, length-drop n xs)) ∙ take_rest n xs)
 
 -- where the numbers below a bound end
 pub parts_at : {X : Type 0} (number : X → ℕ) (xs : List X) (bound i : ℕ) → IsPartitionPoint (λ x. nat_lt (number x) bound ≡ true) (λ x. nat_lt (number x) bound ≡ false) xs i → Parts number xs bound i

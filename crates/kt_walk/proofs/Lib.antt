@@ -10,14 +10,14 @@ pub mod ItemPlaces
 pub mod OnceFacts
 pub mod ChannelFacts
 pub mod ArrivalFacts
-pub mod UsedFacts
+pub mod BareFacts
 pub mod FitFacts
 pub mod WalkMessages
 pub mod WalkLinks
 pub mod PairFacts
 pub mod WayRows
 pub mod SendsFacts
-pub mod PairsUsed
+pub mod UsedFacts
 pub mod PairsFacts
 pub mod TraceFacts
 pub mod SettleFacts

@@ -26,7 +26,7 @@ use Rattle.kt_walk.specs.Pairs.{Link, traffic_of, IsLink, IsWay, ShowsLink, Show
 use Rattle.kt_walk.proofs.ItemPlaces.{get_mapped, mapped_get, place_or_lacks}
 use Rattle.kt_walk.proofs.ChannelFacts.{IsOrphanOf, no_item, traffic_settled}
 use Rattle.kt_cuts.specs.Orphans.{IsOrphanBetween, IsAtMost}
-use Rattle.kt_walk.proofs.UsedFacts.{empty_cut_back, full_if_orphan}
+use Rattle.kt_walk.proofs.BareFacts.{empty_cut_back, full_if_orphan}
 use Rattle.kt_walk.proofs.TraceFacts.{or_parts}
 use Rattle.kt_traffic.specs.LastReceived.{IsLastFrom}
 use Rattle.kt_traffic.specs.OnTheWay.{IsInOrder as AreInOrder}

@@ -1,5 +1,5 @@
 -- What a walk keeps of the messages.
-use Rattle.std.proofs.Common.{is_some, ◌==◌, ◌*◌, ◌≢◌, ◌≡◌, ℕ, ◌+◌, ◌<◌, ◌≤◌, not, Bool, true, false, Option, Some, None, unwrap_or, IfSome, IfNone, List, [], ◌∷◌, ◌++◌, length, refl, sym, ap, subst, ◌∙◌, arith, append-nil}
+use Rattle.std.proofs.Common.{is_some, ◌==◌, ◌≢◌, ◌≡◌, ℕ, ◌+◌, ◌<◌, ◌≤◌, not, Bool, true, false, Option, Some, None, unwrap_or, IfSome, IfNone, List, [], ◌∷◌, ◌++◌, length, refl, sym, ap, subst, ◌∙◌, arith, append-nil}
 use Rattle.std.specs.List.{slice_get, slice_index}
 use Rattle.std.specs.Prelude.{Result, Ok, Err, OnErr}
 use Rattle.std.proofs.lemmas.Bool.{eq-eqb}
@@ -26,7 +26,7 @@ use Rattle.kt_walk.specs.TrailParts.{TrailParts}
 use Rattle.kt_walk.specs.PartsOf.{PartsOf, ShowsWalkers, is_plain}
 use Rattle.kt_walk.specs.TrailOf.{parts_of}
 use Rattle.kt_walk.specs.WalkParts.{WalkParts, walk_parts}
-use Rattle.kt_walk.specs.WalkOf.{WalkOf, IsFoundAt}
+use Rattle.kt_walk.specs.WalkOf.{WalkOf}
 use Rattle.kt_cuts.proofs.Items.{item_there}
 use Rattle.kt_cuts.proofs.SortedFacts.{some_same, sent_more}
 use Rattle.kt_cuts.proofs.DeedFacts.{rises_push, sent_source, sent_rises_take}
@@ -91,11 +91,6 @@ apart s p to body unbroken same = not_itself (to == p) (kept s (Sent p to body) 
     not_itself true e f = cc e
     not_itself false e f = cc f
 
--- a message is found at the place of its pair, and is the one that is looked for
-pub found_at : (links : List Link) (p from : ℕ) (o : Option (ℕ × Waiting)) (r : ℕ × Waiting) → IfSome o (λ x. (v : Link) → slice_get links (p * 64 + from) ≡ Some v → slice_get v.waiting x.0 ≡ Some x.1) → o ≡ Some r → IsFoundAt links p from r.0 r.1
-found_at links p from None r found is = absurd (cc is)
-found_at links p from (Some x) r found is = λ v at. subst (λ (y : ℕ × Waiting). slice_get v.waiting y.0 ≡ Some y.1) (some_same is) (found v at)
-
 pub found_number : (msg : ℕ) (o : Option (ℕ × Waiting)) (r : ℕ × Waiting) → IfSome o (λ x. x.1.msg ≡ msg) → o ≡ Some r → r.1.msg ≡ msg
 found_number msg None r found is = absurd (cc is)
 found_number msg (Some x) r found is = subst (λ (y : ℕ × Waiting). y.1.msg ≡ msg) (some_same is) found
@@ -157,10 +152,6 @@ other_row (Refused p verb cause) s a d b = refl
 pub same_walk : {X E : Type 0} (r : Result X E) (t u : Trail) (ls : List Link) (w : WalkParts) → walk_parts t ls ≡ w → OnErr r (parts_of u ≡ parts_of t) → OnErr r (walk_parts u ls ≡ w)
 same_walk (Ok x) t u ls w view same = tt
 same_walk (Err e) t u ls w view same = ap (λ (x : TrailParts). record { rows = x.rows; walkers = x.walkers; instances = x.instances; beginning = x.beginning; links = ls }) same ∙ view
-
-pub same_links : {X E : Type 0} (r : Result X E) (t : Trail) (ls ds : List Link) (w : WalkParts) → walk_parts t ls ≡ w → OnErr r (ds ≡ ls) → OnErr r (walk_parts t ds ≡ w)
-same_links (Ok x) t ls ds w view same = tt
-same_links (Err e) t ls ds w view same = ap (walk_parts t) same ∙ view
 
 -- the permanent lengths after a commit
 permanent_after : (w : TrailParts) (rows : List Event) (p k q : ℕ) (lengths : List ℕ) → PartsOf w (rows ++ Decided p k true ∷ [])

@@ -1,8 +1,7 @@
 -- A walk takes one more row.
-use Rattle.std.proofs.Common.{◌≡◌, ◌≢◌, ℕ, zero, suc, ◌+◌, ◌<◌, ◌≤◌, true, Option, Some, None, option_map, List, [], ◌∷◌, ◌++◌, length, take, replicate, refl, sym, ap, subst, ◌∙◌, arith, inl, inr, length-append}
+use Rattle.std.proofs.Common.{◌≡◌, ℕ, zero, suc, ◌+◌, ◌<◌, ◌≤◌, true, Option, Some, None, option_map, List, [], ◌∷◌, ◌++◌, length, take, replicate, refl, sym, ap, subst, ◌∙◌, arith, length-append}
 use Rattle.std.specs.List.{slice_get, list_all}
 use Rattle.std.specs.Option.{option_flatten}
-use Rattle.std.proofs.lemmas.Bool.{cases_eq, cases_lt}
 use Rattle.std.proofs.lemmas.List.{get_or-replicate, length-replicate}
 use Rattle.std.proofs.lemmas.Option.{slice_get_past, slice_get-get_or, slice_get_within}
 use Rattle.kt_spacetime.specs.declared.event.Event.{Event}
@@ -18,7 +17,7 @@ use Rattle.kt_cuts.specs.Tests.{is_after}
 use Rattle.kt_walk.specs.Keeping.{parties_in}
 use Rattle.kt_walk.specs.TrailParts.{TrailParts}
 use Rattle.kt_walk.specs.PartsOf.{ShowsWalker, ShowsWalkers, PartsOf}
-use Rattle.kt_cuts.proofs.Items.{get_left, get_seam}
+use Rattle.kt_cuts.proofs.Items.{get_seam}
 use Rattle.kt_cuts.proofs.Lists.{deed_place}
 use Rattle.kt_cuts.proofs.SortedFacts.{some_same}
 use Rattle.kt_cuts.proofs.LatestFacts.{later_is_after}
@@ -29,29 +28,9 @@ use Rattle.kt_cuts.proofs.Places.{rowed, sent_places, received_places, deed_once
 use Rattle.kt_cuts.proofs.Positions.{positions}
 use Rattle.kt_walk.proofs.Orderly.{orderly}
 
--- who sent a message, with one more row
-pub parties_old : (rows : List Event) (row : Event) (m : ℕ) → m ≢ length rows + 1 → parties_in (rows ++ row ∷ []) m ≡ parties_in rows m
-parties_old rows row zero n = refl
-parties_old rows row (suc m) n = ap (λ (o : Option Event). option_flatten (option_map parties_of_row o)) (elim (cases_lt m (length rows)) [
-  | inl l ↦ get_left rows (row ∷ []) m l
-  | inr g ↦ slice_get_past (rows ++ row ∷ []) m (omega (arith, g, n, length-append rows (row ∷ []))) ∙ sym (slice_get_past rows m g)
-])
-
-pub parties_new : (rows : List Event) (row : Event) (m : ℕ) → m ≡ length rows + 1 → parties_in (rows ++ row ∷ []) m ≡ parties_of_row row
-parties_new rows row zero e = absurd (omega (arith, e))
-parties_new rows row (suc m) e =
-    let at : m ≡ length rows = omega (arith, e) in
-    ap (λ (o : Option Event). option_flatten (option_map parties_of_row o)) (ap (slice_get (rows ++ row ∷ [])) at ∙ get_seam rows row [])
-
 pub parties_none : (rows : List Event) (m : ℕ) → length rows < m → parties_in rows m ≡ None
 parties_none rows zero l = refl
 parties_none rows (suc m) l = ap (λ (o : Option Event). option_flatten (option_map parties_of_row o)) (slice_get_past rows m (omega (arith, l)))
-
-pub parties_quiet : (rows : List Event) (row : Event) (m : ℕ) → parties_of_row row ≡ None → parties_in (rows ++ row ∷ []) m ≡ parties_in rows m
-parties_quiet rows row m e = elim (cases_eq m (length rows + 1)) [
-  | inl same ↦ parties_new rows row m same ∙ (e ∙ sym (parties_none rows m (omega (arith, same))))
-  | inr other ↦ parties_old rows row m other
-]
 
 -- the parties of a message whose deed is in a live history
 pub sound : (rows : List Event) → IsLegal rows → AreInPlace (parties_in rows) (past rows).permanent (past rows).live

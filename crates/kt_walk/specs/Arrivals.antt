@@ -1,5 +1,5 @@
 -- What is kept of the messages that stand in live histories as received.
-use Rattle.std.specs.Prelude.{◌≡◌, ℕ, ◌+◌, ◌*◌, ◌<◌, ◌≤◌, ◌==◌, ◌&&◌, not, Bool, true, false, None, Some, Option, List, [], length, take, slice_get, slice_index, unwrap_or, if◌then◌else◌}
+use Rattle.std.specs.Prelude.{◌≡◌, ℕ, ◌+◌, ◌*◌, ◌<◌, ◌≤◌, ◌==◌, ◌&&◌, Bool, true, false, None, Some, List, length, take, slice_get, slice_index, unwrap_or, if◌then◌else◌}
 use Rattle.kt_base.specs.Sets.{has}
 use Rattle.kt_spacetime.specs.declared.event.Event.{Event}
 use Rattle.kt_spacetime.specs.declared.event.Event.TheVariants.{Received, Decided}
@@ -76,25 +76,6 @@ pub record IsByPair (channels : List Traffic) : Type 0 where
 abbrev pub is_empty : Traffic → Bool
 is_empty v = (length v.arrivals == 0) && (length v.undone == 0)
 
--- the places of the pairs of processes that have messages, each once; others may be among them
-pub record AreListed (channels : List Traffic) (used : List ℕ) : Type 0 where
-  pub all : (i : ℕ) (v : Traffic) → slice_get channels i ≡ Some v → is_empty v ≡ false → Has used i
-  pub once : (j k i : ℕ) → slice_get used j ≡ Some i → slice_get used k ≡ Some i → j ≡ k
-  pub within : (k i : ℕ) → slice_get used k ≡ Some i → i < length channels
-
--- each of these pairs of processes has messages
-pub record AreInUse (channels : List Traffic) (used : List ℕ) : Type 0 where
-  pub each : (k i : ℕ) (v : Traffic) → slice_get used k ≡ Some i → slice_get channels i ≡ Some v → is_empty v ≡ false
-
--- there is traffic, and it has messages
-abbrev pub has_messages : Option Traffic → Bool
-has_messages None = false
-has_messages (Some v) = not (is_empty v)
-
--- the pair of processes at a place has messages
-abbrev pub is_in_use : List Traffic → ℕ → Bool
-is_in_use channels place = has_messages (slice_get channels place)
-
 -- the message of a deed
 abbrev pub message_of : Deed → ℕ
 message_of (deed.Sent msg to) = msg
@@ -128,15 +109,6 @@ pub record MakesPermanent (s : Past) (k : ℕ) (lengths : List ℕ) : Type 0 whe
 pub record KeepsPermanent (s : Past) (cut : List ℕ) : Type 0 where
   pub each : (q : ℕ) → q < 64 → s.permanent q ≤ slice_index cut q
 
--- no message yet, of each of the first so many pairs of processes
-pub record AreOpened (channels : List Traffic) (number : ℕ) : Type 0 where
-  pub count : length channels ≡ number
-  pub place : (i : ℕ) (v : Traffic) → slice_get channels i ≡ Some v → v.receiver * 64 + v.sender ≡ i
-  pub receiver : (i : ℕ) (v : Traffic) → slice_get channels i ≡ Some v → v.receiver < 64
-  pub sender : (i : ℕ) (v : Traffic) → slice_get channels i ≡ Some v → v.sender < 64
-  pub arrivals : (i : ℕ) (v : Traffic) → slice_get channels i ≡ Some v → v.arrivals ≡ []
-  pub undone : (i : ℕ) (v : Traffic) → slice_get channels i ≡ Some v → v.undone ≡ []
-
 -- traffic whose histories are cut back
 pub record IsCutBack (set : ℕ) (lengths : List ℕ) (old new : Traffic) : Type 0 where
   pub receiver : new.receiver ≡ old.receiver
@@ -153,22 +125,8 @@ pub record IsCovered (lengths : List ℕ) (v : Traffic) (a : Arrival) : Type 0 w
 pub record IsOpen (lengths : List ℕ) (v : Traffic) : Type 0 where
   pub none : (k : ℕ) (a : Arrival) → slice_get v.arrivals k ≡ Some a → IsCovered lengths v a → ⊥
 
--- traffic whose permanent parts grow to these lengths
-pub record IsSettled (lengths : List ℕ) (old new : Traffic) : Type 0 where
-  pub receiver : new.receiver ≡ old.receiver
-  pub sender : new.sender ≡ old.sender
-  pub traffic : (received sent : List Deed) (i j : ℕ) → i ≤ slice_index lengths old.receiver → j ≤ slice_index lengths old.sender → IsTraffic old received sent i j
-      → IsTraffic new received sent (slice_index lengths old.receiver) (slice_index lengths old.sender)
-  pub none : IsRising old.arrivals → IsOpen lengths new
-
 -- a row that is no receive and no commit
 abbrev pub is_quiet : Event → Bool
 is_quiet (Received p from msg) = false
 is_quiet (Decided p k true) = false
 is_quiet row = true
-
--- a row that may change them: a receive or a decision
-abbrev pub needs_arrivals : Event → Bool
-needs_arrivals (Received p from msg) = true
-needs_arrivals (Decided p k commit) = true
-needs_arrivals row = false

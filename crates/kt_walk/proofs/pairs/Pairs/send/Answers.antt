@@ -3,7 +3,7 @@ use Rattle.std.proofs.lemmas.Option.{slice_get_read, slice_get_within}
 use Rattle.kt_walk.specs.Pairs.{Link, ShowsPairs}
 use Rattle.kt_walk.proofs.ArrivalFacts.{ok_gives}
 use Rattle.kt_walk.proofs.PairsFacts.{mapped_length, pairs_same, sent_ends, sent_by_call}
-use Rattle.kt_walk.proofs.PairsUsed.{listed_set, listed_push, marked_push, not_listed}
+use Rattle.kt_walk.proofs.UsedFacts.{listed_set, listed_push, marked_push, not_listed}
 use Rattle.kt_walk.proofs.pairs.Pairs.send.Goals as goal
 
 pub invariant_of-self : goal.invariant_of-self
