@@ -58,7 +58,7 @@ sent_past d l n place e low =
     let there = place_found d l place e in
     has_at d (drop n l) (there.0 - n) (get_from_drop n l there.0 d there.2 (omega (arith, low, there.1)))
 
-received_within : (d : Deed) (l : List Deed) (n place : ℕ) → place_of d l ≡ Some place → place ≤ n → has_deed d (take n l) ≡ true
+pub received_within : (d : Deed) (l : List Deed) (n place : ℕ) → place_of d l ≡ Some place → place ≤ n → has_deed d (take n l) ≡ true
 received_within d l n place e low =
     let there = place_found d l place e in
     has_at d (take n l) there.0 (get_in_take n l there.0 (omega (arith, low, there.1)) ∙ there.2)

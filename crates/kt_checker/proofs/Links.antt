@@ -110,6 +110,80 @@ step_of rows k Rollback at m next l h = subst (Linked rows k Rollback at m) h.2 
 pub kept_link : (rows : List Event) (k : ℕ) (kind : Kind) (at m next : ℕ) → IsLegal rows → (h : Linked rows k kind at m next) → kept_trace rows m ≡ Some h.trace
 kept_link rows k kind at m next l h = link_kept rows l m h.trace h.sent h.received h.traced h.is_sent h.is_received h.late
 
+-- what is kept of a message that one process sent past its permanent position and another one received
+pub received_place : (rows : List Event) (p q m sent received permanent : ℕ) (t : Trace) → trace_of rows m ≡ Some t → t.from ≡ q → t.to ≡ p → t.sent ≡ Some sent → t.received ≡ Some received
+    → permanent ≡ (past rows).permanent q → permanent < sent → LinksRollback (past rows) p q m × (place_of (deed.Received m q) ((past rows).live p) ≡ Some received)
+received_place rows p q m sent received permanent t e from to a b low late =
+    let step = rollback_step rows q m sent received permanent t e a b (low ∙ ap (past rows).permanent (sym from)) late from in (
+      subst (λ (x : ℕ). LinksRollback (past rows) x q m) (step.2 ∙ to) step.1,
+      (λ i. place_of (deed.Received m (sym from i)) ((past rows).live (sym to i))) ∙ (sym (trace_parts rows m t e).1 ∙ b),
+    )
+
+-- it leads on in a checkpoint where it was received within the new position
+pub within_new : (s : Past) (k at m next place position : ℕ) → LinksRollback s at next m → place_of (deed.Received m next) (s.live at) ≡ Some place → s.new k at ≡ Some position → place ≤ position → IsChain s k Checkpoint at (m ∷ []) next
+within_new s k at m next place position link is new low = (
+  next,
+  record {
+    sent = link.sent;
+    member = ap (λ (o : Option ℕ). is_some o) new;
+    received = ap (λ (o : Option ℕ). has_deed (deed.Received m next) (take (unwrap_or o 0) (s.live at))) new ∙ received_within (deed.Received m next) (s.live at) position place is low;
+  },
+  refl,
+)
+
+-- what leads on in a checkpoint was received
+pub received_link : (s : Past) (k at m next : ℕ) → IsChain s k Checkpoint at (m ∷ []) next → LinksRollback s at next m
+received_link s k at m next h =
+    let new = unwrap_or (s.new k at) 0 in
+    let there = place_of_deed (deed.Received m h.0) (take new (s.live at)) h.1.received in
+    let got = has_at (deed.Received m h.0) (s.live at) there.0 (get_take new (s.live at) there.0 (deed.Received m h.0) there.1) in
+    subst (λ (x : ℕ). LinksRollback s at x m) h.2 (record { sent = h.1.sent; received = got })
+
+-- within the new position
+pub new_beyond : (rows : List Event) (k at m next place : ℕ) → IsLegal rows → IsChain (past rows) k Checkpoint at (m ∷ []) next → place_of (deed.Received m next) ((past rows).live at) ≡ Some place
+    → (position : ℕ) × ((past rows).new k at ≡ Some position) × (place ≤ position)
+new_beyond rows k at m next place l h is =
+    let step = step_of rows k Checkpoint at m next l h in
+    let leads = step.leads in
+    let there : place_of (deed.Received m step.trace.from) ((past rows).live step.trace.to) ≡ place_of (deed.Received m next) ((past rows).live at) = λ i. place_of (deed.Received m (leads.1 i)) ((past rows).live (leads.0 i)) in
+    let same : step.received ≡ place = some_same (sym step.is_received ∙ ((trace_parts rows m step.trace step.traced).1 ∙ (there ∙ is))) in
+    (leads.2, leads.3, omega (arith, same, leads.4))
+
+-- a chain of a rollback by its one message
+pub one_link : (s : Past) (k at m next : ℕ) → IsChain s k Rollback at (m ∷ []) next → LinksRollback s next at m
+one_link s k at m next h = subst (λ (x : ℕ). LinksRollback s x at m) h.2 h.1
+
+-- what leads on leads to one of the processes
+pub leads_low : (s : Past) (k : ℕ) (kind : Kind) (at m next : ℕ) → ((p : ℕ) → 64 ≤ p → s.live p ≡ []) → IsChain s k kind at (m ∷ []) next → next < 64
+leads_low s k kind at m next none h = elim (cases_lt next 64) [
+  | inl low ↦ low
+  | inr high ↦ absurd (alive kind h (none next high))
+]
+  where
+    nothing : (l : List Deed) (i : ℕ) (d : Deed) → l ≡ [] → slice_get l i ≡ Some d → ⊥
+    nothing l i d empty e = absurd (cc (sym (ap (λ (x : List Deed). slice_get x i) empty) ∙ e))
+
+    alive : (kind : Kind) → IsChain s k kind at (m ∷ []) next → s.live next ≡ [] → ⊥
+    alive Checkpoint h empty =
+        let gone = (λ i. s.live (h.2 i)) ∙ empty in
+        let there = place_of_deed (deed.Sent m at) (drop (s.permanent h.0) (s.live h.0)) h.1.sent in
+        nothing (s.live h.0) (s.permanent h.0 + there.0) (deed.Sent m at) gone (get_after_drop (s.permanent h.0) (s.live h.0) there.0 (deed.Sent m at) there.1)
+    alive Rollback h empty =
+        let gone = (λ i. s.live (h.2 i)) ∙ empty in
+        let there = place_of_deed (deed.Received m at) (s.live h.0) h.1.received in
+        nothing (s.live h.0) there.0 (deed.Received m at) gone there.1
+
+-- a chain ends with its last message
+pub ending : (s : Past) (k : ℕ) (kind : Kind) (q : ℕ) (xs : List ℕ) (m p : ℕ) → IsChain s k kind q (xs ++ m ∷ []) p → (a : ℕ) × IsChain s k kind q xs a × IsChain s k kind a (m ∷ []) p
+ending s k Checkpoint q [] m p h = (q, refl, h)
+ending s k Checkpoint q (x ∷ xs) m p h =
+    let rest = ending s k Checkpoint h.0 xs m p h.2 in
+    (rest.0, (h.0, h.1, rest.1), rest.2)
+ending s k Rollback q [] m p h = (q, refl, h)
+ending s k Rollback q (x ∷ xs) m p h =
+    let rest = ending s k Rollback h.0 xs m p h.2 in
+    (rest.0, (h.0, h.1, rest.1), rest.2)
+
 -- a message leads from a process to one process
 one_step : (rows : List Event) (k : ℕ) (kind : Kind) (at m x y : ℕ) → IsLegal rows → IsChain (past rows) k kind at (m ∷ []) x → IsChain (past rows) k kind at (m ∷ []) y → x ≡ y
 one_step rows k kind at m x y l g h = same kind (step_of rows k kind at m x l g) (step_of rows k kind at m y l h)
