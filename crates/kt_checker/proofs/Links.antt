@@ -1,8 +1,9 @@
 -- Links of chains over a legal log: each message leads to one process.
-use Rattle.std.proofs.Common.{◌≡◌, ◌≢◌, ℕ, zero, suc, ◌+◌, ◌<◌, ◌≤◌, ◌==◌, not, unwrap_or, is_some, true, false, Option, Some, None, option_map, List, [], ◌∷◌, ◌++◌, take, drop, refl, sym, ap, ◌∙◌, subst, arith}
+use Rattle.std.proofs.Common.{◌≡◌, ◌≢◌, ℕ, zero, suc, ◌+◌, ◌<◌, ◌≤◌, ◌==◌, leb, not, unwrap_or, is_some, true, false, Option, Some, None, option_map, List, [], ◌∷◌, ◌++◌, take, drop, refl, sym, ap, ◌∙◌, subst, arith, inl, inr}
 use Rattle.std.specs.List.{slice_get}
 use Rattle.std.specs.Option.{option_flatten}
 use Rattle.std.proofs.lemmas.Bool.Decides.{nat_tests}
+use Rattle.std.proofs.lemmas.Bool.{cases_lt}
 use Rattle.kt_base.specs.declared.words.Kind.{Kind}
 use Rattle.kt_base.specs.declared.words.Kind.TheVariants.{Checkpoint, Rollback}
 use Rattle.kt_spacetime.specs.declared.event.Event.{Event}
@@ -10,7 +11,7 @@ use Rattle.kt_cuts.specs.declared.deeds.Deed.{Deed}
 use Rattle.kt_cuts.specs.declared.deeds.Deed.TheVariants as deed
 use Rattle.kt_cuts.specs.declared.histories.Trace.{Trace}
 use Rattle.kt_cuts.specs.Past.{Past, past}
-use Rattle.kt_cuts.specs.Legal.{IsLegal}
+use Rattle.kt_cuts.specs.Legal.{IsLegal, has_deed}
 use Rattle.kt_cuts.specs.Chains.{LinksCheckpoint, LinksRollback}
 use Rattle.kt_cuts.specs.Standing.{parties_of_row}
 use Rattle.kt_cuts.specs.Traces.{place_of, trace_between, trace_of}
@@ -18,10 +19,11 @@ use Rattle.kt_walk.specs.Keeping.{kept_trace}
 use Rattle.kt_walk.proofs.WalkLinks.{link_kept}
 use Rattle.kt_cuts.proofs.Items.{get_take, in_take}
 use Rattle.kt_cuts.proofs.SortedFacts.{some_same}
-use Rattle.kt_cuts.proofs.DeedFacts.{place_of_deed}
+use Rattle.kt_cuts.proofs.DeedFacts.{place_of_deed, has_at}
 use Rattle.kt_cuts.proofs.Places.{sent_places, received_places, deed_once, rowed}
 use Rattle.kt_cuts.proofs.Traced.{place_at}
 use Rattle.kt_checker.specs.Passing.{IsChain, IsListOf}
+use Rattle.kt_checker.proofs.Chaining.{trace_parts, received_within, rollback_step}
 
 -- what a trace says of a message that leads from a process of an instance to the next one
 abbrev pub Leads : Past → ℕ → Kind → ℕ → ℕ → Trace → ℕ → Type 0
@@ -256,3 +258,9 @@ around (y ∷ xs) zero x e =
 around (y ∷ xs) (suc i) x e =
     let next : suc i + 1 ≡ suc (i + 1) = omega arith in
     ap (λ (l : List ℕ). y ∷ l) (around xs i x e) ∙ ap (λ (n : ℕ). y ∷ take i xs ++ x ∷ drop n (y ∷ xs)) (sym next)
+
+pub at_most_from : (a b : ℕ) → leb a b ≡ true → a ≤ b
+at_most_from a b e = grind (arith, nat_tests, e)
+
+pub is_at_most : (a b : ℕ) → a ≤ b → leb a b ≡ true
+is_at_most a b e = grind (arith, nat_tests, e)

@@ -1,4 +1,4 @@
-use Rattle.std.proofs.Common.{arith, ap, sym, ◌∙◌}
+use Rattle.std.proofs.Common.{refl, arith, ap, sym, ◌∙◌}
 use Rattle.kt_base.specs.declared.words.Kind.TheVariants.{Rollback}
 use Rattle.kt_cuts.specs.Past.{past}
 use Rattle.kt_cuts.proofs.SortedFacts.{some_same}
