@@ -151,10 +151,6 @@ new_beyond rows k at m next place l h is =
     let same : step.received ≡ place = some_same (sym step.is_received ∙ ((trace_parts rows m step.trace step.traced).1 ∙ (there ∙ is))) in
     (leads.2, leads.3, omega (arith, same, leads.4))
 
--- a chain of a rollback by its one message
-pub one_link : (s : Past) (k at m next : ℕ) → IsChain s k Rollback at (m ∷ []) next → LinksRollback s next at m
-one_link s k at m next h = subst (λ (x : ℕ). LinksRollback s x at m) h.2 h.1
-
 -- what leads on leads to one of the processes
 pub leads_low : (s : Past) (k : ℕ) (kind : Kind) (at m next : ℕ) → ((p : ℕ) → 64 ≤ p → s.live p ≡ []) → IsChain s k kind at (m ∷ []) next → next < 64
 leads_low s k kind at m next none h = elim (cases_lt next 64) [
@@ -227,21 +223,9 @@ no_way rows k kind q xs m ys at p l to never whole =
 pub same_is : (a b : ℕ) → a ≡ b → (a == b) ≡ true
 same_is a b e = grind (arith, nat_tests, e)
 
--- a list is a chain for the initiator where it is empty, for another where it leads there
-pub list_of_initiator : (s : Past) (k : ℕ) (kind : Kind) (initiator p : ℕ) (chain : List ℕ) → p ≡ initiator → (IsListOf s k kind initiator p chain → chain ≡ []) × (chain ≡ [] → IsListOf s k kind initiator p chain)
-list_of_initiator s k kind initiator p chain same = (λ h. h.none same, λ e. record { none = λ again. e; leads = λ other. absurd (other same) })
-
+-- a list is a chain for another than the initiator where it leads there
 pub list_of_other : (s : Past) (k : ℕ) (kind : Kind) (initiator p : ℕ) (chain : List ℕ) → p ≢ initiator → IsChain s k kind initiator chain p → IsListOf s k kind initiator p chain
 list_of_other s k kind initiator p chain other h = record { none = λ same. absurd (other same); leads = λ again. h }
-
-pub same_unless : (a b : ℕ) → false ≡ not (a == b) → a ≡ b
-same_unless a b e = grind (arith, nat_tests, e)
-
-pub other_if : (a b : ℕ) → true ≡ not (a == b) → a ≢ b
-other_if a b e = λ same. absurd (clash (sym (ap not (same_is a b same)) ∙ sym e))
-  where
-    clash : false ≡ true → ⊥
-    clash x = cc
 
 pub other_from : (a b : ℕ) → false ≡ (a == b) → a ≢ b
 other_from a b e = λ same. absurd (clash (e ∙ same_is a b same))

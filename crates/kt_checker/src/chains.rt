@@ -52,7 +52,8 @@ fn is_chain(walk: &Walk, certificate: &Certificate, process: ProcNo, chain: &Cha
     leads(walk, certificate, at, *last, process)
 }
 
-// Where a linking message leads from a process: to its sender in a checkpoint, to its receiver in a rollback.
+// Where a linking message leads from a process: to its sender in a checkpoint, to its receiver in a rollback. Each
+// process is tried, since a walk finds a message by both its ends.
 fn next_in_chain(walk: &Walk, certificate: &Certificate, at: ProcNo, msg: MsgNo) -> Option<ProcNo>
     ensures found { IfSome result (λ next. (rows : List Event) → WalkOf walk.now rows → IsChain (past rows) certificate.now.inst certificate.now.kind at (msg ∷ []) next) }
     ensures none { IfNone result ((rows : List Event) (next : ℕ) → WalkOf walk.now rows → IsLegal rows → IsChain (past rows) certificate.now.inst certificate.now.kind at (msg ∷ []) next → ⊥) }
@@ -66,8 +67,8 @@ fn next_in_chain(walk: &Walk, certificate: &Certificate, at: ProcNo, msg: MsgNo)
     None
 }
 
-// Whether a linking message leads from a process to another one: in a checkpoint the other one sent it and the process
-// received it within its new position, in a rollback the process sent it and the other one received it.
+// Whether a linking message leads from a process to the next one: in a checkpoint the next one sent it and the process
+// received it within its new position, in a rollback the process sent it and the next one received it.
 fn leads(walk: &Walk, certificate: &Certificate, at: ProcNo, msg: MsgNo, next: ProcNo) -> bool
     ensures { (rows : List Event) → WalkOf walk.now rows → IsTrue result ↔ IsChain (past rows) certificate.now.inst certificate.now.kind at (msg ∷ []) next }
 {
