@@ -58,7 +58,7 @@ sent_past d l n place e low =
     let there = place_found d l place e in
     has_at d (drop n l) (there.0 - n) (get_from_drop n l there.0 d there.2 (omega (arith, low, there.1)))
 
-received_within : (d : Deed) (l : List Deed) (n place : ℕ) → place_of d l ≡ Some place → place ≤ n → has_deed d (take n l) ≡ true
+pub received_within : (d : Deed) (l : List Deed) (n place : ℕ) → place_of d l ≡ Some place → place ≤ n → has_deed d (take n l) ≡ true
 received_within d l n place e low =
     let there = place_found d l place e in
     has_at d (take n l) there.0 (get_in_take n l there.0 (omega (arith, low, there.1)) ∙ there.2)
@@ -67,21 +67,6 @@ received_there : (d : Deed) (l : List Deed) (place : ℕ) → place_of d l ≡ S
 received_there d l place e =
     let there = place_found d l place e in
     has_at d l there.0 there.2
-
-pub checkpoint_step : (rows : List Event) (k at m sent received position permanent : ℕ) (t : Trace) → trace_of rows m ≡ Some t → t.sent ≡ Some sent → t.received ≡ Some received
-    → permanent ≡ (past rows).permanent t.from → permanent < sent → (past rows).new k at ≡ Some position → t.to ≡ at → received ≤ position → IsCheckpointChain (past rows) k at (m ∷ []) t.from
-checkpoint_step rows k at m sent received position permanent t e a b p low new to within =
-    let parts = trace_parts rows m t e in
-    let past_it = sent_past (deed.Sent m t.to) ((past rows).live t.from) permanent sent (sym parts.0 ∙ a) low in
-    let got = received_within (deed.Received m t.from) ((past rows).live t.to) position received (sym parts.1 ∙ b) within in (
-      t.from,
-      record {
-        sent = (λ i. has_deed (deed.Sent m (sym to i)) (drop (sym p i) ((past rows).live t.from))) ∙ past_it;
-        member = ap (λ (o : Option ℕ). is_some o) new;
-        received = (λ i. has_deed (deed.Received m t.from) (take (unwrap_or (new i) 0) ((past rows).live (sym to i)))) ∙ got;
-      },
-      refl,
-    )
 
 pub rollback_step : (rows : List Event) (at m sent received permanent : ℕ) (t : Trace) → trace_of rows m ≡ Some t → t.sent ≡ Some sent → t.received ≡ Some received
     → permanent ≡ (past rows).permanent t.from → permanent < sent → t.from ≡ at → IsRollbackChain (past rows) at (m ∷ []) t.to
@@ -97,9 +82,6 @@ rollback_step rows at m sent received permanent t e a b p low from =
       refl,
     )
 
-pub same_from : (a b : ℕ) → true ≡ (a == b) → a ≡ b
-same_from a b e = grind (arith, nat_tests, e)
-
 -- a chain and one more message
 pub chain_more : (s : Past) (k : ℕ) (kind : Kind) (q x y m : ℕ) (chain : List ℕ) → IsChain s k kind q chain x → IsChain s k kind x (m ∷ []) y → IsChain s k kind q (chain ++ m ∷ []) y
 chain_more s k Checkpoint q x y m [] h step = subst (λ (z : ℕ). IsCheckpointChain s k z (m ∷ []) y) (sym h) step
@@ -114,11 +96,6 @@ none_listed ms p never (k, l, e) =
     let listed : slice_get (map (λ m. m.0) ms) k ≡ Some (there.0.0) = slice_get-map (λ m. m.0) ms k ∙ ap (option_map (λ m. m.0)) there.1 in
     let same : there.0.0 ≡ p = some_same (sym listed ∙ (slice_get-get_or (map (λ m. m.0) ms) k p l ∙ ap Some e)) in
     never k there.0.0 there.0.1 there.1 same
-
-pub one_listed : (ms : List (ℕ × List ℕ)) (k q : ℕ) (chain : List ℕ) → slice_get ms k ≡ Some (q, chain) → Contains (map (λ m. m.0) ms) q
-one_listed ms k q chain e =
-    let listed : slice_get (map (λ m. m.0) ms) k ≡ Some q = slice_get-map (λ m. m.0) ms k ∙ ap (option_map (λ m. m.0)) e in
-    (k, slice_get_within (map (λ m. m.0) ms) k q listed, get_or_from_slice_get (map (λ m. m.0) ms) k q q listed)
 
 pub never : false ≡ true → ⊥
 never e = cc

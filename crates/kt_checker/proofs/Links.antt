@@ -1,8 +1,9 @@
 -- Links of chains over a legal log: each message leads to one process.
-use Rattle.std.proofs.Common.{◌≡◌, ◌≢◌, ℕ, zero, suc, ◌+◌, ◌<◌, ◌≤◌, ◌==◌, not, unwrap_or, is_some, true, false, Option, Some, None, option_map, List, [], ◌∷◌, ◌++◌, take, drop, refl, sym, ap, ◌∙◌, subst, arith}
+use Rattle.std.proofs.Common.{◌≡◌, ◌≢◌, ℕ, zero, suc, ◌+◌, ◌<◌, ◌≤◌, ◌==◌, leb, not, unwrap_or, is_some, true, false, Option, Some, None, option_map, List, [], ◌∷◌, ◌++◌, take, drop, refl, sym, ap, ◌∙◌, subst, arith, inl, inr}
 use Rattle.std.specs.List.{slice_get}
 use Rattle.std.specs.Option.{option_flatten}
 use Rattle.std.proofs.lemmas.Bool.Decides.{nat_tests}
+use Rattle.std.proofs.lemmas.Bool.{cases_lt}
 use Rattle.kt_base.specs.declared.words.Kind.{Kind}
 use Rattle.kt_base.specs.declared.words.Kind.TheVariants.{Checkpoint, Rollback}
 use Rattle.kt_spacetime.specs.declared.event.Event.{Event}
@@ -10,7 +11,7 @@ use Rattle.kt_cuts.specs.declared.deeds.Deed.{Deed}
 use Rattle.kt_cuts.specs.declared.deeds.Deed.TheVariants as deed
 use Rattle.kt_cuts.specs.declared.histories.Trace.{Trace}
 use Rattle.kt_cuts.specs.Past.{Past, past}
-use Rattle.kt_cuts.specs.Legal.{IsLegal}
+use Rattle.kt_cuts.specs.Legal.{IsLegal, has_deed}
 use Rattle.kt_cuts.specs.Chains.{LinksCheckpoint, LinksRollback}
 use Rattle.kt_cuts.specs.Standing.{parties_of_row}
 use Rattle.kt_cuts.specs.Traces.{place_of, trace_between, trace_of}
@@ -18,10 +19,11 @@ use Rattle.kt_walk.specs.Keeping.{kept_trace}
 use Rattle.kt_walk.proofs.WalkLinks.{link_kept}
 use Rattle.kt_cuts.proofs.Items.{get_take, in_take}
 use Rattle.kt_cuts.proofs.SortedFacts.{some_same}
-use Rattle.kt_cuts.proofs.DeedFacts.{place_of_deed}
+use Rattle.kt_cuts.proofs.DeedFacts.{place_of_deed, has_at}
 use Rattle.kt_cuts.proofs.Places.{sent_places, received_places, deed_once, rowed}
 use Rattle.kt_cuts.proofs.Traced.{place_at}
 use Rattle.kt_checker.specs.Passing.{IsChain, IsListOf}
+use Rattle.kt_checker.proofs.Chaining.{trace_parts, received_within, rollback_step}
 
 -- what a trace says of a message that leads from a process of an instance to the next one
 abbrev pub Leads : Past → ℕ → Kind → ℕ → ℕ → Trace → ℕ → Type 0
@@ -110,6 +112,76 @@ step_of rows k Rollback at m next l h = subst (Linked rows k Rollback at m) h.2 
 pub kept_link : (rows : List Event) (k : ℕ) (kind : Kind) (at m next : ℕ) → IsLegal rows → (h : Linked rows k kind at m next) → kept_trace rows m ≡ Some h.trace
 kept_link rows k kind at m next l h = link_kept rows l m h.trace h.sent h.received h.traced h.is_sent h.is_received h.late
 
+-- what is kept of a message that one process sent past its permanent position and another one received
+pub received_place : (rows : List Event) (p q m sent received permanent : ℕ) (t : Trace) → trace_of rows m ≡ Some t → t.from ≡ q → t.to ≡ p → t.sent ≡ Some sent → t.received ≡ Some received
+    → permanent ≡ (past rows).permanent q → permanent < sent → LinksRollback (past rows) p q m × (place_of (deed.Received m q) ((past rows).live p) ≡ Some received)
+received_place rows p q m sent received permanent t e from to a b low late =
+    let step = rollback_step rows q m sent received permanent t e a b (low ∙ ap (past rows).permanent (sym from)) late from in (
+      subst (λ (x : ℕ). LinksRollback (past rows) x q m) (step.2 ∙ to) step.1,
+      (λ i. place_of (deed.Received m (sym from i)) ((past rows).live (sym to i))) ∙ (sym (trace_parts rows m t e).1 ∙ b),
+    )
+
+-- it leads on in a checkpoint where it was received within the new position
+pub within_new : (s : Past) (k at m next place position : ℕ) → LinksRollback s at next m → place_of (deed.Received m next) (s.live at) ≡ Some place → s.new k at ≡ Some position → place ≤ position → IsChain s k Checkpoint at (m ∷ []) next
+within_new s k at m next place position link is new low = (
+  next,
+  record {
+    sent = link.sent;
+    member = ap (λ (o : Option ℕ). is_some o) new;
+    received = ap (λ (o : Option ℕ). has_deed (deed.Received m next) (take (unwrap_or o 0) (s.live at))) new ∙ received_within (deed.Received m next) (s.live at) position place is low;
+  },
+  refl,
+)
+
+-- what leads on in a checkpoint was received
+pub received_link : (s : Past) (k at m next : ℕ) → IsChain s k Checkpoint at (m ∷ []) next → LinksRollback s at next m
+received_link s k at m next h =
+    let new = unwrap_or (s.new k at) 0 in
+    let there = place_of_deed (deed.Received m h.0) (take new (s.live at)) h.1.received in
+    let got = has_at (deed.Received m h.0) (s.live at) there.0 (get_take new (s.live at) there.0 (deed.Received m h.0) there.1) in
+    subst (λ (x : ℕ). LinksRollback s at x m) h.2 (record { sent = h.1.sent; received = got })
+
+-- within the new position
+pub new_beyond : (rows : List Event) (k at m next place : ℕ) → IsLegal rows → IsChain (past rows) k Checkpoint at (m ∷ []) next → place_of (deed.Received m next) ((past rows).live at) ≡ Some place
+    → (position : ℕ) × ((past rows).new k at ≡ Some position) × (place ≤ position)
+new_beyond rows k at m next place l h is =
+    let step = step_of rows k Checkpoint at m next l h in
+    let leads = step.leads in
+    let there : place_of (deed.Received m step.trace.from) ((past rows).live step.trace.to) ≡ place_of (deed.Received m next) ((past rows).live at) = λ i. place_of (deed.Received m (leads.1 i)) ((past rows).live (leads.0 i)) in
+    let same : step.received ≡ place = some_same (sym step.is_received ∙ ((trace_parts rows m step.trace step.traced).1 ∙ (there ∙ is))) in
+    (leads.2, leads.3, omega (arith, same, leads.4))
+
+-- what leads on leads to one of the processes
+pub leads_low : (s : Past) (k : ℕ) (kind : Kind) (at m next : ℕ) → ((p : ℕ) → 64 ≤ p → s.live p ≡ []) → IsChain s k kind at (m ∷ []) next → next < 64
+leads_low s k kind at m next none h = elim (cases_lt next 64) [
+  | inl low ↦ low
+  | inr high ↦ absurd (alive kind h (none next high))
+]
+  where
+    nothing : (l : List Deed) (i : ℕ) (d : Deed) → l ≡ [] → slice_get l i ≡ Some d → ⊥
+    nothing l i d empty e = absurd (cc (sym (ap (λ (x : List Deed). slice_get x i) empty) ∙ e))
+
+    alive : (kind : Kind) → IsChain s k kind at (m ∷ []) next → s.live next ≡ [] → ⊥
+    alive Checkpoint h empty =
+        let gone = (λ i. s.live (h.2 i)) ∙ empty in
+        let there = place_of_deed (deed.Sent m at) (drop (s.permanent h.0) (s.live h.0)) h.1.sent in
+        nothing (s.live h.0) (s.permanent h.0 + there.0) (deed.Sent m at) gone (get_after_drop (s.permanent h.0) (s.live h.0) there.0 (deed.Sent m at) there.1)
+    alive Rollback h empty =
+        let gone = (λ i. s.live (h.2 i)) ∙ empty in
+        let there = place_of_deed (deed.Received m at) (s.live h.0) h.1.received in
+        nothing (s.live h.0) there.0 (deed.Received m at) gone there.1
+
+-- a chain ends with its last message
+pub ending : (s : Past) (k : ℕ) (kind : Kind) (q : ℕ) (xs : List ℕ) (m p : ℕ) → IsChain s k kind q (xs ++ m ∷ []) p → (a : ℕ) × IsChain s k kind q xs a × IsChain s k kind a (m ∷ []) p
+ending s k Checkpoint q [] m p h = (q, refl, h)
+ending s k Checkpoint q (x ∷ xs) m p h =
+    let rest = ending s k Checkpoint h.0 xs m p h.2 in
+    (rest.0, (h.0, h.1, rest.1), rest.2)
+ending s k Rollback q [] m p h = (q, refl, h)
+ending s k Rollback q (x ∷ xs) m p h =
+    let rest = ending s k Rollback h.0 xs m p h.2 in
+    (rest.0, (h.0, h.1, rest.1), rest.2)
+
 -- a message leads from a process to one process
 one_step : (rows : List Event) (k : ℕ) (kind : Kind) (at m x y : ℕ) → IsLegal rows → IsChain (past rows) k kind at (m ∷ []) x → IsChain (past rows) k kind at (m ∷ []) y → x ≡ y
 one_step rows k kind at m x y l g h = same kind (step_of rows k kind at m x l g) (step_of rows k kind at m y l h)
@@ -151,21 +223,9 @@ no_way rows k kind q xs m ys at p l to never whole =
 pub same_is : (a b : ℕ) → a ≡ b → (a == b) ≡ true
 same_is a b e = grind (arith, nat_tests, e)
 
--- a list is a chain for the initiator where it is empty, for another where it leads there
-pub list_of_initiator : (s : Past) (k : ℕ) (kind : Kind) (initiator p : ℕ) (chain : List ℕ) → p ≡ initiator → (IsListOf s k kind initiator p chain → chain ≡ []) × (chain ≡ [] → IsListOf s k kind initiator p chain)
-list_of_initiator s k kind initiator p chain same = (λ h. h.none same, λ e. record { none = λ again. e; leads = λ other. absurd (other same) })
-
+-- a list is a chain for another than the initiator where it leads there
 pub list_of_other : (s : Past) (k : ℕ) (kind : Kind) (initiator p : ℕ) (chain : List ℕ) → p ≢ initiator → IsChain s k kind initiator chain p → IsListOf s k kind initiator p chain
 list_of_other s k kind initiator p chain other h = record { none = λ same. absurd (other same); leads = λ again. h }
-
-pub same_unless : (a b : ℕ) → false ≡ not (a == b) → a ≡ b
-same_unless a b e = grind (arith, nat_tests, e)
-
-pub other_if : (a b : ℕ) → true ≡ not (a == b) → a ≢ b
-other_if a b e = λ same. absurd (clash (sym (ap not (same_is a b same)) ∙ sym e))
-  where
-    clash : false ≡ true → ⊥
-    clash x = cc
 
 pub other_from : (a b : ℕ) → false ≡ (a == b) → a ≢ b
 other_from a b e = λ same. absurd (clash (e ∙ same_is a b same))
@@ -182,3 +242,9 @@ around (y ∷ xs) zero x e =
 around (y ∷ xs) (suc i) x e =
     let next : suc i + 1 ≡ suc (i + 1) = omega arith in
     ap (λ (l : List ℕ). y ∷ l) (around xs i x e) ∙ ap (λ (n : ℕ). y ∷ take i xs ++ x ∷ drop n (y ∷ xs)) (sym next)
+
+pub at_most_from : (a b : ℕ) → leb a b ≡ true → a ≤ b
+at_most_from a b e = grind (arith, nat_tests, e)
+
+pub is_at_most : (a b : ℕ) → a ≤ b → leb a b ≡ true
+is_at_most a b e = grind (arith, nat_tests, e)

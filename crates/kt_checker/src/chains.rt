@@ -2,8 +2,11 @@
 
 ghost use Rattle.std.specs.Prelude.{◌≡◌, ◌↔◌, ℕ, ◌<◌, Some, List, [], ◌∷◌, map, Contains, slice_get, slice_index, IsTrue, IfSome, IfNone};
 ghost use Rattle.kt_spacetime.specs.declared.event.Event.{Event};
+ghost use Rattle.kt_cuts.specs.declared.deeds.Deed.TheVariants as deed;
 ghost use Rattle.kt_cuts.specs.Past.{Past, past};
 ghost use Rattle.kt_cuts.specs.Legal.{IsLegal};
+ghost use Rattle.kt_cuts.specs.Chains.{LinksRollback};
+ghost use Rattle.kt_cuts.specs.Traces.{place_of};
 ghost use Rattle.kt_walk.specs.WalkOf.{WalkOf};
 ghost use Rattle.kt_checker.specs.Passing.{IsListOf, HasLists, IsChain, ListsReady, decided_cut};
 
@@ -36,22 +39,59 @@ fn is_chain(walk: &Walk, certificate: &Certificate, process: ProcNo, chain: &Cha
     if process == certificate.initiator {
         return chain.messages().is_empty();
     }
+    let Some((last, earlier)) = chain.messages().split_last() else {
+        return false;
+    };
     let mut at = certificate.initiator;
-    for msg in chain.messages() {
+    for msg in earlier {
         let Some(next) = next_in_chain(walk, certificate, at, *msg) else {
             return false;
         };
         at = next;
     }
-    at == process
+    leads(walk, certificate, at, *last, process)
 }
 
-// Where a linking message leads from a process: to its sender in a checkpoint, to its receiver in a rollback.
+// Where a linking message leads from a process: to its sender in a checkpoint, to its receiver in a rollback. Each
+// process is tried, since a walk finds a message by both its ends.
 fn next_in_chain(walk: &Walk, certificate: &Certificate, at: ProcNo, msg: MsgNo) -> Option<ProcNo>
     ensures found { IfSome result (λ next. (rows : List Event) → WalkOf walk.now rows → IsChain (past rows) certificate.now.inst certificate.now.kind at (msg ∷ []) next) }
     ensures none { IfNone result ((rows : List Event) (next : ℕ) → WalkOf walk.now rows → IsLegal rows → IsChain (past rows) certificate.now.inst certificate.now.kind at (msg ∷ []) next → ⊥) }
 {
-    let Some(trace) = walk.trace(msg) else {
+    for number in 0..ProcNo::COUNT {
+        let next = process_no(number);
+        if leads(walk, certificate, at, msg, next) {
+            return Some(next);
+        }
+    }
+    None
+}
+
+// Whether a linking message leads from a process to the next one: in a checkpoint the next one sent it and the process
+// received it within its new position, in a rollback the process sent it and the next one received it.
+fn leads(walk: &Walk, certificate: &Certificate, at: ProcNo, msg: MsgNo, next: ProcNo) -> bool
+    ensures { (rows : List Event) → WalkOf walk.now rows → IsTrue result ↔ IsChain (past rows) certificate.now.inst certificate.now.kind at (msg ∷ []) next }
+{
+    match certificate.kind {
+        Kind::Checkpoint => {
+            let Some(received) = received_at(walk, next, at, msg) else {
+                return false;
+            };
+            match walk.position(certificate.inst, at) {
+                Some(position) => received <= position,
+                None => false,
+            }
+        }
+        Kind::Rollback => received_at(walk, at, next, msg).is_some(),
+    }
+}
+
+// Where in its history a process received a message that another one sent past its permanent position, counted from 1.
+fn received_at(walk: &Walk, from: ProcNo, to: ProcNo, msg: MsgNo) -> Option<usize>
+    ensures found { IfSome result (λ place. (rows : List Event) → WalkOf walk.now rows → LinksRollback (past rows) to from msg × (place_of (deed.Received msg from) ((past rows).live to) ≡ Some place)) }
+    ensures none { IfNone result ((rows : List Event) → WalkOf walk.now rows → LinksRollback (past rows) to from msg → ⊥) }
+{
+    let Some(trace) = walk.trace_between(from, to, msg) else {
         return None;
     };
     let Some(received) = trace.received else {
@@ -60,30 +100,10 @@ fn next_in_chain(walk: &Walk, certificate: &Certificate, at: ProcNo, msg: MsgNo)
     let Some(sent) = trace.sent else {
         return None;
     };
-    if sent <= walk.permanent(trace.from) {
+    if sent <= walk.permanent(from) {
         return None;
     }
-    match certificate.kind {
-        Kind::Checkpoint => {
-            let Some(position) = walk.position(certificate.inst, at) else {
-                return None;
-            };
-            if trace.to != at {
-                return None;
-            }
-            if received > position {
-                return None;
-            }
-            Some(trace.from)
-        }
-        Kind::Rollback => {
-            if trace.from == at {
-                Some(trace.to)
-            } else {
-                None
-            }
-        }
-    }
+    Some(received)
 }
 
 /// The cut that the decision makes: of a checkpoint the new positions beside the others' permanent ones, of a rollback
