@@ -69,15 +69,17 @@ impl Waiting {
         }
     }
 
-    /// Makes room for so many more.
+    /// Makes room for so many more; where there is too little, for twice as many, so that this is seldom.
     pub fn reserve(&mut self, additional: usize) -> Result<(), Memory>
         ensures messages { self.new.messages ≡ self.old.messages }
         ensures room { self.old.room ≤ self.new.room }
         ensures ok { OnOk result (length self.new.messages + additional ≤ self.new.room) }
         ensures full { OnErr result (self.old.room < length self.old.messages + additional) }
     {
-        self.next
-            .reserve(self.passed.len().saturating_add(additional))?;
+        let wanted = self.passed.len().saturating_add(additional);
+        if self.next.capacity() - self.next.len() < wanted {
+            self.next.reserve(wanted.saturating_mul(2))?;
+        }
         Ok(())
     }
 
