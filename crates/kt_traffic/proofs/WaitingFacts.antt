@@ -1,13 +1,13 @@
 -- Messages in the order of their sends, and where one belongs among them.
 use Rattle.std.proofs.Common.{◌≡◌, ℕ, zero, suc, ◌+◌, ◌-◌, ◌<◌, ◌≤◌, true, false, Some, List, [], ◌∷◌, ◌++◌, length, length-append, get_or, take, drop, refl, sym, ap, ◌∙◌, subst, arith, inl, inr}
-use Rattle.std.specs.List.{slice_get, insert, remove}
+use Rattle.std.specs.List.{slice_get, remove}
 use Rattle.std.specs.List.Sorted.{IsPartitionPoint, IsPartitionedBy}
 use Rattle.std.specs.Prelude.{nat_lt}
 use Rattle.std.proofs.lemmas.Bool.{cases_lt, cases_eq}
 use Rattle.std.proofs.lemmas.Bool.Decides.{nat_tests}
 use Rattle.std.proofs.lemmas.Option.{slice_get_within, slice_get-get_or, get_or_from_slice_get}
 use Rattle.kt_traffic.specs.declared.waiting.Sent.{Sent}
-use Rattle.kt_traffic.specs.OnTheWay.{IsInOrder, Belongs, AreSentBefore}
+use Rattle.kt_traffic.specs.OnTheWay.{IsBySend, Belongs, AreSentBefore}
 
 pub get_left : {X : Type 0} (xs ys : List X) (i : ℕ) → i < length xs → slice_get (xs ++ ys) i ≡ slice_get xs i
 get_left [] ys i l = absurd (omega arith)
@@ -20,18 +20,18 @@ get_right (x ∷ xs) ys i zero e = absurd (omega (arith, e))
 get_right (x ∷ xs) ys i (suc n) e = get_right xs ys i n (omega (arith, e))
 
 -- each half of messages in order is in order
-pub in_order_left : (xs ys : List Sent) → IsInOrder (xs ++ ys) → IsInOrder xs
+pub in_order_left : (xs ys : List Sent) → IsBySend (xs ++ ys) → IsBySend xs
 in_order_left xs ys o = record {
   each = λ j k a b l e f. o.each j k a b l (get_left xs ys j (slice_get_within xs j a e) ∙ e) (get_left xs ys k (slice_get_within xs k b f) ∙ f);
 }
 
-pub in_order_right : (xs ys : List Sent) → IsInOrder (xs ++ ys) → IsInOrder ys
+pub in_order_right : (xs ys : List Sent) → IsBySend (xs ++ ys) → IsBySend ys
 in_order_right xs ys o = record {
   each = λ j k a b l e f. o.each (length xs + j) (length xs + k) a b (omega (arith, l)) (get_right xs ys j (length xs + j) refl ∙ e) (get_right xs ys k (length xs + k) refl ∙ f);
 }
 
 -- messages in order are parted by a number
-pub parted_by : (xs : List Sent) (msg : ℕ) → IsInOrder xs → IsPartitionedBy (λ (a : Sent). nat_lt a.msg msg) xs
+pub parted_by : (xs : List Sent) (msg : ℕ) → IsBySend xs → IsPartitionedBy (λ (a : Sent). nat_lt a.msg msg) xs
 parted_by xs msg o i j d le lt below = elim (cases_eq i j) [
   | inl same ↦ rw same below
   | inr other ↦
@@ -61,7 +61,7 @@ belongs_at xs msg i within p = record {
     above_of a b e = grind (arith, nat_tests)
 
 -- a number that is not below the first of the messages after the cursor belongs before it
-pub belongs_before : (xs ys : List Sent) (msg i : ℕ) → IsInOrder (xs ++ ys) → ((a : Sent) → slice_get ys 0 ≡ Some a → msg ≤ a.msg) → Belongs msg xs i → Belongs msg (xs ++ ys) i
+pub belongs_before : (xs ys : List Sent) (msg i : ℕ) → IsBySend (xs ++ ys) → ((a : Sent) → slice_get ys 0 ≡ Some a → msg ≤ a.msg) → Belongs msg xs i → Belongs msg (xs ++ ys) i
 belongs_before xs ys msg i o first b = record {
   within = omega (arith, b.within, length-append xs ys);
   below = λ k a low e. b.below k a low (sym (get_left xs ys k (omega (arith, low, b.within))) ∙ e);
@@ -78,7 +78,7 @@ belongs_before xs ys msg i o first b = record {
         omega (arith, first (get_or ys 0 a) there, ((in_order_right xs ys o).each 0 (suc j) (get_or ys 0 a) a (omega arith) there e).msg)
 
 -- a number above the first of the messages after the cursor belongs among them
-pub belongs_after : (xs ys : List Sent) (msg i : ℕ) (first : Sent) → IsInOrder (xs ++ ys) → slice_get ys 0 ≡ Some first → first.msg < msg → Belongs msg ys i
+pub belongs_after : (xs ys : List Sent) (msg i : ℕ) (first : Sent) → IsBySend (xs ++ ys) → slice_get ys 0 ≡ Some first → first.msg < msg → Belongs msg ys i
     → Belongs msg (xs ++ ys) (length xs + i)
 belongs_after xs ys msg i first o at low b = record {
   within = omega (arith, b.within, length-append xs ys);
@@ -111,7 +111,7 @@ take_joined (x ∷ xs) ys (suc n) =
     ap (λ (k : ℕ). x ∷ (take n xs ++ take k ys)) one_less ∙ ap (λ (l : _). x ∷ l) (take_joined xs ys n)
 
 -- messages in order are parted by a place
-pub parted_by_place : (xs : List Sent) (place : ℕ) → IsInOrder xs → IsPartitionedBy (λ (a : Sent). nat_lt a.place place) xs
+pub parted_by_place : (xs : List Sent) (place : ℕ) → IsBySend xs → IsPartitionedBy (λ (a : Sent). nat_lt a.place place) xs
 parted_by_place xs place o i j d le lt below = elim (cases_eq i j) [
   | inl same ↦ rw same below
   | inr other ↦

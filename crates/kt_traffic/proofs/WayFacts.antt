@@ -12,10 +12,10 @@ use Rattle.kt_cuts.proofs.Items.{get_left, get_right}
 use Rattle.kt_cuts.proofs.OrphanFacts.{get_from_drop}
 use Rattle.kt_cuts.proofs.Shown.{at_same, at_other}
 use Rattle.kt_traffic.specs.declared.waiting.Sent.{Sent}
-use Rattle.kt_traffic.specs.OnTheWay.{IsBefore, IsInOrder, AreOnTheWay, IsPutBack}
+use Rattle.kt_traffic.specs.OnTheWay.{IsEarlier, IsBySend, AreOnTheWay, IsPutBack}
 
 -- lists in order, joined
-pub joined : (xs ys : List Sent) → IsInOrder xs → IsInOrder ys → ((j k : ℕ) (a b : Sent) → slice_get xs j ≡ Some a → slice_get ys k ≡ Some b → IsBefore a b) → IsInOrder (xs ++ ys)
+pub joined : (xs ys : List Sent) → IsBySend xs → IsBySend ys → ((j k : ℕ) (a b : Sent) → slice_get xs j ≡ Some a → slice_get ys k ≡ Some b → IsEarlier a b) → IsBySend (xs ++ ys)
 joined xs ys r q before = record {
   each = λ j k a b l e f. elim (cases_lt k (length xs)) [
     | inl low ↦ r.each j k a b l (sym (get_left xs ys j (omega (arith, l, low))) ∙ e) (sym (get_left xs ys k low) ∙ f)
@@ -26,13 +26,13 @@ joined xs ys r q before = record {
   ];
 }
 
-pub first_ones : (n : ℕ) (xs : List Sent) → IsInOrder xs → IsInOrder (take n xs)
+pub first_ones : (n : ℕ) (xs : List Sent) → IsBySend xs → IsBySend (take n xs)
 first_ones n xs r = record { each = λ j k a b l e f. r.each j k a b l (get_take n xs j a e).0 (get_take n xs k b f).0 }
 
-pub last_ones : (n : ℕ) (xs : List Sent) → IsInOrder xs → IsInOrder (drop n xs)
+pub last_ones : (n : ℕ) (xs : List Sent) → IsBySend xs → IsBySend (drop n xs)
 last_ones n xs r = record { each = λ j k a b l e f. r.each (n + j) (n + k) a b (omega (arith, l)) (get_drop n xs j a e) (get_drop n xs k b f) }
 
-alone : (x : Sent) → IsInOrder (x ∷ [])
+alone : (x : Sent) → IsBySend (x ∷ [])
 alone x = record { each = λ j k a b l e f. absurd (omega (arith, l, slice_get_within (x ∷ []) k b f)) }
 
 only : (x : Sent) (k : ℕ) (a : Sent) → slice_get (x ∷ []) k ≡ Some a → x ≡ a
@@ -68,17 +68,17 @@ still_there xs i j x e other = elim (cases_lt j i) [
 ]
 
 -- in order with one message less
-pub less_one : (xs : List Sent) (i : ℕ) → IsInOrder xs → IsInOrder (remove xs i)
+pub less_one : (xs : List Sent) (i : ℕ) → IsBySend xs → IsBySend (remove xs i)
 less_one xs i r = joined (take i xs) (drop (suc i) xs) (first_ones i xs r) (last_ones (suc i) xs r)
     (λ j k a b e f. let there = get_take i xs j a e in r.each j (suc i + k) a b (omega (arith, there.1)) there.0 (get_drop (suc i) xs k b f))
 
 -- in order with one message more, which is after those before its place and before the others
-pub more_one : (xs : List Sent) (i : ℕ) (y : Sent) → IsInOrder xs → ((k : ℕ) (a : Sent) → k < i → slice_get xs k ≡ Some a → IsBefore a y) → ((k : ℕ) (a : Sent) → i ≤ k → slice_get xs k ≡ Some a → IsBefore y a) → IsInOrder (insert xs i y)
-more_one xs i y r before after = joined (take i xs) (y ∷ drop i xs) (first_ones i xs r) (joined (y ∷ []) (drop i xs) (alone y) (last_ones i xs r) (λ j k a b e f. subst (λ (z : Sent). IsBefore z b) (only y j a e) (after (i + k) b (omega arith) (get_drop i xs k b f))))
+pub more_one : (xs : List Sent) (i : ℕ) (y : Sent) → IsBySend xs → ((k : ℕ) (a : Sent) → k < i → slice_get xs k ≡ Some a → IsEarlier a y) → ((k : ℕ) (a : Sent) → i ≤ k → slice_get xs k ≡ Some a → IsEarlier y a) → IsBySend (insert xs i y)
+more_one xs i y r before after = joined (take i xs) (y ∷ drop i xs) (first_ones i xs r) (joined (y ∷ []) (drop i xs) (alone y) (last_ones i xs r) (λ j k a b e f. subst (λ (z : Sent). IsEarlier z b) (only y j a e) (after (i + k) b (omega arith) (get_drop i xs k b f))))
     (λ j k a b e f.
     let there = get_take i xs j a e in
     elim (in_parts (y ∷ []) (drop i xs) k b f) [
-      | inl first ↦ subst (λ (z : Sent). IsBefore a z) (only y first.0 b first.1) (before j a there.1 there.0)
+      | inl first ↦ subst (λ (z : Sent). IsEarlier a z) (only y first.0 b first.1) (before j a there.1 there.0)
       | inr second ↦ r.each j (i + second.0) a b (omega (arith, there.1)) there.0 (get_drop i xs second.0 b second.1)
     ])
 
@@ -105,7 +105,7 @@ the_others {X} xs i y j x e =
     ]
 
 -- a message stands once
-pub stands_once : (ms : List Sent) (j k : ℕ) (a b : Sent) → IsInOrder ms → slice_get ms j ≡ Some a → slice_get ms k ≡ Some b → a.msg ≡ b.msg → j ≡ k
+pub stands_once : (ms : List Sent) (j k : ℕ) (a b : Sent) → IsBySend ms → slice_get ms j ≡ Some a → slice_get ms k ≡ Some b → a.msg ≡ b.msg → j ≡ k
 stands_once ms j k a b r e f same = elim (cases_lt j k) [
   | inl less ↦ absurd (omega (arith, same, (r.each j k a b less e f).msg))
   | inr high ↦ elim (cases_lt k j) [
@@ -139,7 +139,7 @@ other_deed ms receiver sent away d other h = record {
 pub one_sent : (ms : List Sent) (receiver : ℕ) (sent : List Deed) (away : ℕ → Bool) (msg : ℕ) → ((k : ℕ) (w : Sent) → slice_get ms k ≡ Some w → w.msg < msg) → away msg ≡ false
     → AreOnTheWay ms receiver sent away → AreOnTheWay (ms ++ record { msg = msg; place = length sent } ∷ []) receiver (sent ++ deed.Sent msg receiver ∷ []) away
 one_sent ms receiver sent away msg less lacks h = record {
-  in_order = joined ms (new ∷ []) h.in_order (alone new) (λ j k a b e f. subst (λ (z : Sent). IsBefore a z) (only new k b f) (before j a e));
+  in_order = joined ms (new ∷ []) h.in_order (alone new) (λ j k a b e f. subst (λ (z : Sent). IsEarlier a z) (only new k b f) (before j a e));
   live = λ k w e. elim (get_push ms new k w e) [
     | inl old ↦ get_kept sent last w.place (deed.Sent w.msg receiver) (h.live k w old)
     | inr now ↦ subst (λ (z : Sent). slice_get (sent ++ last ∷ []) z.place ≡ Some (deed.Sent z.msg receiver)) now.1 (get_last sent last)
@@ -164,7 +164,7 @@ one_sent ms receiver sent away msg less lacks h = record {
     last : Deed
     last = deed.Sent msg receiver
 
-    before : (j : ℕ) (a : Sent) → slice_get ms j ≡ Some a → IsBefore a new
+    before : (j : ℕ) (a : Sent) → slice_get ms j ≡ Some a → IsEarlier a new
     before j a e = record { msg = less j a e; place = slice_get_within sent a.place (deed.Sent a.msg receiver) (h.live j a e) }
 
 -- a message is taken

@@ -10,13 +10,13 @@ pub record OnTheWay : Type 0 where
   pub room : ℕ
 
 -- a message was sent before another one
-pub record IsBefore (a b : Sent) : Type 0 where
+pub record IsEarlier (a b : Sent) : Type 0 where
   pub msg : a.msg < b.msg
   pub place : a.place < b.place
 
 -- messages in the order of their sends
-pub record IsInOrder (messages : List Sent) : Type 0 where
-  pub each : (j k : ℕ) (a b : Sent) → j < k → slice_get messages j ≡ Some a → slice_get messages k ≡ Some b → IsBefore a b
+pub record IsBySend (messages : List Sent) : Type 0 where
+  pub each : (j k : ℕ) (a b : Sent) → j < k → slice_get messages j ≡ Some a → slice_get messages k ≡ Some b → IsEarlier a b
 
 -- so many messages have numbers below this one, and they come first
 pub record Belongs (msg : ℕ) (messages : List Sent) (place : ℕ) : Type 0 where
@@ -27,12 +27,12 @@ pub record Belongs (msg : ℕ) (messages : List Sent) (place : ℕ) : Type 0 whe
 -- a message is put where it belongs
 pub record IsPutBack (message : Sent) (old new : List Sent) : Type 0 where
   pub place : ℕ
-  pub belongs : IsInOrder old → Belongs message.msg old place
+  pub belongs : IsBySend old → Belongs message.msg old place
   pub messages : new ≡ insert old place message
 
 -- the messages that a sender's history, sent, has for a receiver, but for those that are no longer on their way
 pub record AreOnTheWay (messages : List Sent) (receiver : ℕ) (sent : List Deed) (away : ℕ → Bool) : Type 0 where
-  pub in_order : IsInOrder messages
+  pub in_order : IsBySend messages
   pub live : (k : ℕ) (w : Sent) → slice_get messages k ≡ Some w → slice_get sent w.place ≡ Some (deed.Sent w.msg receiver)
   pub here : (k : ℕ) (w : Sent) → slice_get messages k ≡ Some w → away w.msg ≡ false
   pub all : (msg i : ℕ) → slice_get sent i ≡ Some (deed.Sent msg receiver) → away msg ≡ false → (k : ℕ) × (slice_get messages k ≡ Some (record { msg = msg; place = i }))

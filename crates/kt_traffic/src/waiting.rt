@@ -3,7 +3,7 @@
 ghost use Rattle.std.specs.Prelude.{◌≡◌, ◌+◌, ◌<◌, ◌≤◌, ◌++◌, ◌∷◌, [], ℕ, true, false, nat_lt, length, remove, take, slice_get, vec_len, vec_capacity, Some, IfSome, IfNone, OnOk, OnErr};
 ghost use Rattle.std.specs.VecDeque.{deque_len, deque_capacity};
 ghost use Rattle.kt_traffic.specs.declared.waiting.Sent.{Sent};
-ghost use Rattle.kt_traffic.specs.OnTheWay.{IsInOrder, Belongs, IsPutBack, AreSentBefore};
+ghost use Rattle.kt_traffic.specs.OnTheWay.{IsBySend, Belongs, IsPutBack, AreSentBefore};
 
 use kt_base::{Memory, MsgNo};
 use std::alloc::Global;
@@ -95,7 +95,7 @@ impl Waiting {
     pub fn find(&self, msg: MsgNo) -> Option<usize>
         ensures within { IfSome result (λ index. index < length self.now.messages) }
         ensures found { IfSome result (λ index. (a : Sent) × (slice_get self.now.messages index ≡ Some a) × (a.msg ≡ msg)) }
-        ensures none { IfNone result (IsInOrder self.now.messages → (k : ℕ) (a : Sent) → slice_get self.now.messages k ≡ Some a → a.msg ≡ msg → ⊥) }
+        ensures none { IfNone result (IsBySend self.now.messages → (k : ℕ) (a : Sent) → slice_get self.now.messages k ≡ Some a → a.msg ≡ msg → ⊥) }
     {
         let index = self.place_of(msg);
         let message = self.get(index)?;
@@ -143,7 +143,7 @@ impl Waiting {
 
     /// How many messages were sent before this place in their sender's history, which counts from 0.
     pub fn count_before(&self, place: usize) -> usize
-        ensures { IsInOrder self.now.messages → AreSentBefore place self.now.messages result }
+        ensures { IsBySend self.now.messages → AreSentBefore place self.now.messages result }
     {
         let passed = count_sent_before(&self.passed, place);
         if passed < self.passed.len() {
@@ -156,7 +156,7 @@ impl Waiting {
     // Where a message belongs.
     fn place_of(&self, msg: MsgNo) -> usize
         ensures within { result ≤ length self.now.messages }
-        ensures belongs { IsInOrder self.now.messages → Belongs msg self.now.messages result }
+        ensures belongs { IsBySend self.now.messages → Belongs msg self.now.messages result }
     {
         if begins_below(&self.next, msg) {
             self.passed.len() + count_next_below(&self.next, msg)
@@ -179,7 +179,7 @@ fn begins_below(messages: &VecDeque<Sent>, msg: MsgNo) -> bool
 
 // Whether the last message has a lower number, or there is none.
 fn ends_below(messages: &[Sent], msg: MsgNo) -> bool
-    ensures { result ≡ true → IsInOrder messages.now → (k : ℕ) (a : Sent) → slice_get messages.now k ≡ Some a → a.msg < msg }
+    ensures { result ≡ true → IsBySend messages.now → (k : ℕ) (a : Sent) → slice_get messages.now k ≡ Some a → a.msg < msg }
 {
     match messages.last() {
         Some(last) => last.msg.get() < msg.get(),
@@ -190,7 +190,7 @@ fn ends_below(messages: &[Sent], msg: MsgNo) -> bool
 // How many messages have lower numbers.
 fn count_next_below(messages: &VecDeque<Sent>, msg: MsgNo) -> usize
     ensures within { result ≤ length messages.now.items }
-    ensures belongs { IsInOrder messages.now.items → Belongs msg messages.now.items result }
+    ensures belongs { IsBySend messages.now.items → Belongs msg messages.now.items result }
 {
     messages.partition_point(
         |message: &Sent| -> bool
@@ -202,7 +202,7 @@ fn count_next_below(messages: &VecDeque<Sent>, msg: MsgNo) -> usize
 // The same. It looks at the last one first.
 fn count_below(messages: &[Sent], msg: MsgNo) -> usize
     ensures within { result ≤ length messages.now }
-    ensures belongs { IsInOrder messages.now → Belongs msg messages.now result }
+    ensures belongs { IsBySend messages.now → Belongs msg messages.now result }
 {
     if ends_below(messages, msg) {
         return messages.len();
@@ -217,7 +217,7 @@ fn count_below(messages: &[Sent], msg: MsgNo) -> usize
 // How many messages were sent before this place.
 fn count_sent_before(messages: &[Sent], place: usize) -> usize
     ensures within { result ≤ length messages.now }
-    ensures before { IsInOrder messages.now → AreSentBefore place messages.now result }
+    ensures before { IsBySend messages.now → AreSentBefore place messages.now result }
 {
     messages.partition_point(
         |message: &Sent| -> bool
@@ -229,7 +229,7 @@ fn count_sent_before(messages: &[Sent], place: usize) -> usize
 // The same.
 fn count_next_sent_before(messages: &VecDeque<Sent>, place: usize) -> usize
     ensures within { result ≤ length messages.now.items }
-    ensures before { IsInOrder messages.now.items → AreSentBefore place messages.now.items result }
+    ensures before { IsBySend messages.now.items → AreSentBefore place messages.now.items result }
 {
     messages.partition_point(
         |message: &Sent| -> bool

@@ -12,7 +12,7 @@ use Rattle.kt_cuts.specs.Orphans.{is_within}
 use Rattle.kt_cuts.specs.Traces.{place_of}
 use Rattle.kt_cuts.proofs.SortedFacts.{some_same}
 use Rattle.kt_traffic.specs.declared.waiting.Sent.{Sent}
-use Rattle.kt_traffic.specs.OnTheWay.{IsInOrder}
+use Rattle.kt_traffic.specs.OnTheWay.{IsBySend}
 use Rattle.kt_walk.specs.declared.queue.Arrival.{Arrival}
 use Rattle.kt_walk.specs.declared.channel.Undone.{Undone}
 use Rattle.kt_walk.specs.Arrivals.{Has, IsRising, IsByPair, ShowsTraffic}
@@ -85,8 +85,8 @@ found_nowhere v msg t no_way no_arrival no_undone h = at_entry (entry_at v (msg,
     at_entry (is_dead k u e same) = no_undone k u e (ap (λ (x : ℕ × Trace). x.0) (sym same))
 
 pub found_none : (v : Link) (arrivals : List Arrival) (undone : List Undone) (msg : ℕ) → arrivals ≡ v.traffic.arrivals → undone ≡ v.traffic.undone
-    → (IsInOrder v.waiting → (k : ℕ) (w : Sent) → slice_get v.waiting k ≡ Some w → w.msg ≡ msg → ⊥) → (IsRising arrivals → (k : ℕ) (a : Arrival) → slice_get arrivals k ≡ Some a → a.msg ≡ msg → ⊥)
-    → ((k : ℕ) (u : Undone) → slice_get undone k ≡ Some u → u.msg ≡ msg → ⊥) → IsInOrder v.waiting → IsRising v.traffic.arrivals → (t : Trace) → Has (entries_of v) (msg, t) → ⊥
+    → (IsBySend v.waiting → (k : ℕ) (w : Sent) → slice_get v.waiting k ≡ Some w → w.msg ≡ msg → ⊥) → (IsRising arrivals → (k : ℕ) (a : Arrival) → slice_get arrivals k ≡ Some a → a.msg ≡ msg → ⊥)
+    → ((k : ℕ) (u : Undone) → slice_get undone k ≡ Some u → u.msg ≡ msg → ⊥) → IsBySend v.waiting → IsRising v.traffic.arrivals → (t : Trace) → Has (entries_of v) (msg, t) → ⊥
 found_none v arrivals undone msg here dead no_way no_arrival no_undone in_order rising t h = found_nowhere v msg t (no_way in_order)
     (λ k a e. no_arrival (subst IsRising (sym here) rising) k a (ap (λ (xs : List Arrival). slice_get xs k) here ∙ e))
     (λ k u e. no_undone k u (ap (λ (xs : List Undone). slice_get xs k) dead ∙ e)) h
@@ -201,7 +201,7 @@ known_between links i v to from msg t pairs at index low_to low_from has rows l 
     (entry_kept rows v (msg, t) (shown_at links rows i v l h at) entry, ends.0 ∙ places.1, ends.1 ∙ places.0)
 
 pub unknown_between : (links : List Link) (i : ℕ) (v : Link) (to from msg : ℕ) → IsByPair (map traffic_of links) → slice_get links i ≡ Some v → i ≡ to * 64 + from → to < 64 → from < 64
-    → (IsInOrder v.waiting → IsRising v.traffic.arrivals → (t : Trace) → Has (entries_of v) (msg, t) → ⊥)
+    → (IsBySend v.waiting → IsRising v.traffic.arrivals → (t : Trace) → Has (entries_of v) (msg, t) → ⊥)
     → (rows : List Event) (t : Trace) → IsLegal rows → ShowsPairs links (past rows) → kept_trace rows msg ≡ Some t → t.from ≡ from → t.to ≡ to → ⊥
 unknown_between links i v to from msg pairs at index low_to low_from none rows t l h kept is_from is_to =
     let places = ends_at links i v to from pairs at index low_to low_from in
@@ -215,7 +215,7 @@ found_between links now i v to from msg (Some t) same pairs at index low_to low_
     known_between links i v to from msg t pairs at index low_to low_from found rows l (subst (λ (x : List Link). ShowsPairs x (past rows)) (sym same) h)
 
 pub missing_between : (links now : List Link) (i : ℕ) (v : Link) (to from msg : ℕ) (o : Option Trace) → links ≡ now → IsByPair (map traffic_of links) → slice_get links i ≡ Some v → i ≡ to * 64 + from → to < 64 → from < 64
-    → IfNone o (IsInOrder v.waiting → IsRising v.traffic.arrivals → (t : Trace) → Has (entries_of v) (msg, t) → ⊥)
+    → IfNone o (IsBySend v.waiting → IsRising v.traffic.arrivals → (t : Trace) → Has (entries_of v) (msg, t) → ⊥)
     → IfNone o ((rows : List Event) (t : Trace) → IsLegal rows → ShowsPairs now (past rows) → kept_trace rows msg ≡ Some t → t.from ≡ from → t.to ≡ to → ⊥)
 missing_between links now i v to from msg None same pairs at index low_to low_from none = λ rows t l h.
     unknown_between links i v to from msg pairs at index low_to low_from none rows t l (subst (λ (x : List Link). ShowsPairs x (past rows)) (sym same) h)

@@ -17,7 +17,7 @@ use Rattle.kt_cuts.specs.Legal.{IsLegal}
 use Rattle.kt_cuts.proofs.Items.{item_there, take_item}
 use Rattle.kt_cuts.proofs.SortedFacts.{some_same}
 use Rattle.kt_cuts.proofs.Traced.{place_none}
-use Rattle.kt_traffic.specs.OnTheWay.{IsInOrder}
+use Rattle.kt_traffic.specs.OnTheWay.{IsBySend}
 use Rattle.kt_walk.specs.Arrivals.{Has, IsRising, IsByPair}
 use Rattle.kt_walk.specs.Keeping.{kept_at, kept_trace, kept_between, parties_in, held_of}
 use Rattle.kt_walk.specs.Pairs.{Link, AreListed, ShowsPairs, is_idle, count_of, traffic_of}
@@ -85,7 +85,7 @@ kept_pair links rows m t l pairs h kept =
 -- what a look at all pairs tells
 pub all_found : (links now : List Link) (used : List ℕ) (msg : ℕ) (o : Option Trace) → links ≡ now → IsByPair (map traffic_of links)
     → IfSome o (λ t. (i : ℕ) × (v : Link) × (slice_get links i ≡ Some v) × Has (entries_of v) (msg, t))
-    → IfNone o ((i : ℕ) (v : Link) (t : Trace) → slice_get links i ≡ Some v → IsInOrder v.waiting → IsRising v.traffic.arrivals → Has (entries_of v) (msg, t) → ⊥)
+    → IfNone o ((i : ℕ) (v : Link) (t : Trace) → slice_get links i ≡ Some v → IsBySend v.waiting → IsRising v.traffic.arrivals → Has (entries_of v) (msg, t) → ⊥)
     → (rows : List Event) → IsLegal rows → ShowsPairs now (past rows) → o ≡ kept_trace rows msg
 all_found links now used msg (Some t) same pairs found none rows l shows =
     let h : ShowsPairs links (past rows) = subst (λ (x : List Link). ShowsPairs x (past rows)) (sym same) shows in
@@ -103,9 +103,9 @@ all_found links now used msg None same pairs found none rows l shows = at_kept (
         absurd (none there.0 there.1 t there.2 shown.way.waiting.in_order shown.traffic.rising there.3)
 
 -- what a look at one of them tells, where it finds nothing
-pub missed : (o : Option Trace) (b : Bool) (v w : Link) (msg : ℕ) → b ≡ is_some o → b ≡ false → IfNone o (IsInOrder v.waiting → IsRising v.traffic.arrivals → (t : Trace) → Has (entries_of v) (msg, t) → ⊥) → v ≡ w
-    → IsInOrder w.waiting → IsRising w.traffic.arrivals → (t : Trace) → Has (entries_of w) (msg, t) → ⊥
-missed None b v w msg test lacks none same = subst (λ (x : Link). IsInOrder x.waiting → IsRising x.traffic.arrivals → (t : Trace) → Has (entries_of x) (msg, t) → ⊥) same none
+pub missed : (o : Option Trace) (b : Bool) (v w : Link) (msg : ℕ) → b ≡ is_some o → b ≡ false → IfNone o (IsBySend v.waiting → IsRising v.traffic.arrivals → (t : Trace) → Has (entries_of v) (msg, t) → ⊥) → v ≡ w
+    → IsBySend w.waiting → IsRising w.traffic.arrivals → (t : Trace) → Has (entries_of w) (msg, t) → ⊥
+missed None b v w msg test lacks none same = subst (λ (x : Link). IsBySend x.waiting → IsRising x.traffic.arrivals → (t : Trace) → Has (entries_of x) (msg, t) → ⊥) same none
 missed (Some t) b v w msg test lacks none same = absurd (cc)
 
 -- how many messages there are

@@ -29,7 +29,7 @@ use Rattle.kt_cuts.specs.Orphans.{IsOrphanBetween, IsAtMost}
 use Rattle.kt_walk.proofs.BareFacts.{empty_cut_back, full_if_orphan}
 use Rattle.kt_walk.proofs.TraceFacts.{or_parts}
 use Rattle.kt_traffic.specs.LastReceived.{IsLastFrom}
-use Rattle.kt_traffic.specs.OnTheWay.{IsInOrder as AreInOrder}
+use Rattle.kt_traffic.specs.OnTheWay.{IsBySend}
 use Rattle.kt_traffic.proofs.LastFacts.{IsFound, later_than_last}
 use Rattle.kt_cuts.specs.Legal.{has_deed, is_undelivered, is_later}
 use Rattle.kt_cuts.proofs.Lists.{get_take, get_in_take, get_push}
@@ -484,7 +484,7 @@ some_in_pairs ls vs cut (Some m) same h = λ s shows order.
 
 -- a message is found among those on their way where it is undelivered
 pub way_found : (v : Link) (s : Past) (msg : ℕ) (o : Option (ℕ × Waiting)) → ShowsWay v s → IfSome o (λ r. (slice_get v.waiting r.0 ≡ Some r.1) × (r.1.msg ≡ msg))
-    → IfNone o (AreInOrder v.waiting → (k : ℕ) (w : Waiting) → slice_get v.waiting k ≡ Some w → w.msg ≡ msg → ⊥) → is_some o ≡ is_undelivered s v.traffic.receiver v.traffic.sender msg
+    → IfNone o (IsBySend v.waiting → (k : ℕ) (w : Waiting) → slice_get v.waiting k ≡ Some w → w.msg ≡ msg → ⊥) → is_some o ≡ is_undelivered s v.traffic.receiver v.traffic.sender msg
 way_found v s msg (Some r) h found none =
     let at = h.waiting.live r.0 r.1 found.0 in
     let sent : has_deed (deed.Sent msg v.traffic.receiver) (s.live v.traffic.sender) ≡ true = has_at (deed.Sent msg v.traffic.receiver) (s.live v.traffic.sender) r.1.place (at ∙ ap (λ (x : ℕ). Some (deed.Sent x v.traffic.receiver)) found.1) in
@@ -513,7 +513,7 @@ who_at ls p from n v pairs low index at =
     (omega (arith, known.0, known.1, known.2, low, index), omega (arith, known.0, known.1, known.2, low, index))
 
 pub found_in_pairs : (ls : List Link) (s : Past) (p from n msg : ℕ) (v : Link) (o : Option (ℕ × Waiting)) → IsByPair (map traffic_of ls) → from < 64 → n ≡ p * 64 + from → slice_get ls n ≡ Some v → ShowsPairs ls s
-    → IfSome o (λ r. (slice_get v.waiting r.0 ≡ Some r.1) × (r.1.msg ≡ msg)) → IfNone o (AreInOrder v.waiting → (k : ℕ) (w : Waiting) → slice_get v.waiting k ≡ Some w → w.msg ≡ msg → ⊥) → is_some o ≡ is_undelivered s p from msg
+    → IfSome o (λ r. (slice_get v.waiting r.0 ≡ Some r.1) × (r.1.msg ≡ msg)) → IfNone o (IsBySend v.waiting → (k : ℕ) (w : Waiting) → slice_get v.waiting k ≡ Some w → w.msg ≡ msg → ⊥) → is_some o ≡ is_undelivered s p from msg
 found_in_pairs ls s p from n msg v o pairs low index at h found none =
     let ends = who_at ls p from n v pairs low index at in
     subst (λ (q : ℕ). is_some o ≡ is_undelivered s p q msg) ends.1 (subst (λ (q : ℕ). is_some o ≡ is_undelivered s q v.traffic.sender msg) ends.0 (way_found v s msg o (h.each n v at) found none))

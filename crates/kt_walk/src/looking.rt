@@ -5,7 +5,7 @@ ghost use Rattle.kt_spacetime.specs.declared.event.Event.{Event};
 ghost use Rattle.kt_cuts.specs.declared.histories.Trace.{Trace};
 ghost use Rattle.kt_cuts.specs.Past.{past};
 ghost use Rattle.kt_cuts.specs.Legal.{IsLegal};
-ghost use Rattle.kt_traffic.specs.OnTheWay.{IsInOrder};
+ghost use Rattle.kt_traffic.specs.OnTheWay.{IsBySend};
 ghost use Rattle.kt_walk.specs.declared.queue.Arrival.{Arrival};
 ghost use Rattle.kt_walk.specs.declared.channel.Undone.{Undone};
 ghost use Rattle.kt_walk.specs.Arrivals.{Has, IsRising, Parts};
@@ -24,7 +24,7 @@ impl Pair {
     /// What is kept of a message, if there is one of this number.
     pub(crate) fn trace(&self, msg: MsgNo) -> Option<Trace>
         ensures found { IfSome result (λ t. Has (entries_of self.now) (msg, t)) }
-        ensures none { IfNone result (IsInOrder self.now.waiting → IsRising self.now.traffic.arrivals → (t : Trace) → Has (entries_of self.now) (msg, t) → ⊥) }
+        ensures none { IfNone result (IsBySend self.now.waiting → IsRising self.now.traffic.arrivals → (t : Trace) → Has (entries_of self.now) (msg, t) → ⊥) }
     {
         if let Some((_, message)) = self.find(msg) {
             return Some(self.placed(Some(message.place as usize + 1), None));
@@ -79,7 +79,7 @@ impl Pairs {
 fn first_trace(pairs: &[Pair], used: &[usize], msg: MsgNo) -> Option<Trace>
     requires { AreListed pairs.now used.now }
     ensures found { IfSome result (λ t. (i : ℕ) × (v : Link) × (slice_get pairs.now i ≡ Some v) × Has (entries_of v) (msg, t)) }
-    ensures none { IfNone result ((i : ℕ) (v : Link) (t : Trace) → slice_get pairs.now i ≡ Some v → IsInOrder v.waiting → IsRising v.traffic.arrivals → Has (entries_of v) (msg, t) → ⊥) }
+    ensures none { IfNone result ((i : ℕ) (v : Link) (t : Trace) → slice_get pairs.now i ≡ Some v → IsBySend v.waiting → IsRising v.traffic.arrivals → Has (entries_of v) (msg, t) → ⊥) }
 {
     for place in used {
         let found = pairs[*place].trace(msg);

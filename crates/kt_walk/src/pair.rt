@@ -6,8 +6,8 @@ ghost use Rattle.kt_cuts.specs.declared.deeds.Deed.TheVariants as deed;
 ghost use Rattle.kt_cuts.specs.Past.{Past};
 ghost use Rattle.kt_cuts.specs.Lists.{Rises, sent_in};
 ghost use Rattle.kt_cuts.specs.Orphans.{IsOrphanBetween, IsAtMost};
-ghost use Rattle.kt_cuts.specs.Standing.{IsInOrder as IsInOrderPast};
-ghost use Rattle.kt_traffic.specs.OnTheWay.{AreOnTheWay, IsInOrder};
+ghost use Rattle.kt_cuts.specs.Standing.{IsInOrder};
+ghost use Rattle.kt_traffic.specs.OnTheWay.{AreOnTheWay, IsBySend};
 ghost use Rattle.kt_traffic.specs.LastReceived.{IsLastFrom};
 ghost use Rattle.kt_walk.specs.declared.queue.Arrival.{Arrival};
 ghost use Rattle.kt_walk.specs.Arrivals.{IsRising, IsOpen, ShowsTraffic, cut_back};
@@ -85,7 +85,7 @@ impl Pair {
 
     /// The least message that is received within its receiver's part and not sent within its sender's.
     pub(crate) fn orphan(&self, cut: &Cut) -> Option<MsgNo>
-        ensures orphan { IfSome result (λ msg. (s : Past) → IsInOrderPast s → ShowsTraffic self.now.traffic s → IsOrphanBetween s (slice_index cut.now) self.now.traffic.receiver self.now.traffic.sender msg) }
+        ensures orphan { IfSome result (λ msg. (s : Past) → IsInOrder s → ShowsTraffic self.now.traffic s → IsOrphanBetween s (slice_index cut.now) self.now.traffic.receiver self.now.traffic.sender msg) }
         ensures least { (s : Past) (msg : ℕ) → s.permanent self.now.traffic.sender ≤ slice_index cut.now self.now.traffic.sender → ShowsTraffic self.now.traffic s → IsOrphanBetween s (slice_index cut.now) self.now.traffic.receiver self.now.traffic.sender msg → IsAtMost result msg }
     {
         self.channel.orphan(cut)
@@ -111,7 +111,7 @@ impl Pair {
     /// A message, if it is on its way, and its place among those that are.
     pub(crate) fn find(&self, msg: MsgNo) -> Option<(usize, Sent)>
         ensures found { IfSome result (λ r. (slice_get self.now.waiting r.0 ≡ Some r.1) × (r.1.msg ≡ msg)) }
-        ensures none { IfNone result (IsInOrder self.now.waiting → (k : ℕ) (w : Sent) → slice_get self.now.waiting k ≡ Some w → w.msg ≡ msg → ⊥) }
+        ensures none { IfNone result (IsBySend self.now.waiting → (k : ℕ) (w : Sent) → slice_get self.now.waiting k ≡ Some w → w.msg ≡ msg → ⊥) }
     {
         let index = self.waiting.find(msg)?;
         let message = self.waiting.get(index)?;

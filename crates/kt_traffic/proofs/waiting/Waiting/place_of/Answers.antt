@@ -1,6 +1,6 @@
 use Rattle.std.proofs.Common.{rules, of_calls, ◌≡◌, ◌+◌, ◌++◌, List, length, refl, sym, subst}
 use Rattle.kt_traffic.specs.declared.waiting.Sent.{Sent}
-use Rattle.kt_traffic.specs.OnTheWay.{IsInOrder, Belongs}
+use Rattle.kt_traffic.specs.OnTheWay.{IsBySend, Belongs}
 use Rattle.kt_traffic.proofs.WaitingFacts.{in_order_left, in_order_right, belongs_before, belongs_after}
 use Rattle.kt_traffic.proofs.waiting.Waiting.place_of.Goals as goal
 
@@ -21,4 +21,4 @@ returns-else-begins_below-clause-belongs c =
     let same : c.deref.result.now ≡ c.self.inside.passed.items = search (rules, of_calls) in
     rw (← c.self.view_is)
     (λ in_order. belongs_before passed next c.args.msg c.count_below.result in_order (c.if-begins_below.ensures.not_below refl)
-    (subst (λ (xs : List Sent). Belongs c.args.msg xs c.count_below.result) same (c.count_below.ensures.belongs (subst IsInOrder (sym same) (in_order_left passed next in_order)))))
+    (subst (λ (xs : List Sent). Belongs c.args.msg xs c.count_below.result) same (c.count_below.ensures.belongs (subst IsBySend (sym same) (in_order_left passed next in_order)))))
