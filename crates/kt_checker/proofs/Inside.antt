@@ -1,10 +1,10 @@
 -- The cut of an undecided instance keeps the permanent parts.
-use Rattle.std.proofs.Common.{◌≡◌, ℕ, ◌≤◌, ◌<◌, Bool, true, false, Option, Some, None, List, length, if◌then◌else◌, unwrap_or, refl, sym, ap, ◌∙◌, subst, arith}
+use Rattle.std.proofs.Common.{◌≡◌, ℕ, ◌≤◌, ◌<◌, Bool, true, false, Option, Some, None, List, length, if◌then◌else◌, unwrap_or, refl, arith}
 use Rattle.std.specs.List.{slice_index}
 use Rattle.kt_base.specs.declared.words.Kind.{Kind}
 use Rattle.kt_base.specs.declared.words.Kind.TheVariants.{Checkpoint, Rollback}
 use Rattle.kt_spacetime.specs.declared.event.Event.{Event}
-use Rattle.kt_cuts.specs.Past.{Past, past}
+use Rattle.kt_cuts.specs.Past.{past}
 use Rattle.kt_cuts.specs.Legal.{IsLegal, is_undecided}
 use Rattle.kt_walk.specs.Arrivals.{KeepsPermanent}
 use Rattle.kt_walk.proofs.WalkLinks.{new_between, permanent_inside}

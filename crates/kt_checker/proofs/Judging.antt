@@ -1,5 +1,5 @@
 -- What a judge finds row by row.
-use Rattle.std.proofs.Common.{◌≡◌, ℕ, ◌+◌, Bool, true, false, Option, Some, None, List, [], ◌∷◌, ◌++◌, take, drop, refl, sym, ap, ◌∙◌, subst, arith}
+use Rattle.std.proofs.Common.{◌≡◌, ℕ, ◌+◌, Bool, true, Option, Some, None, List, [], ◌∷◌, ◌++◌, take, drop, sym, ap, ◌∙◌, subst}
 use Rattle.std.specs.List.{slice_get}
 use Rattle.std.proofs.lemmas.Bool.{and_parts}
 use Rattle.std.proofs.lemmas.List.{take-append-drop}
@@ -7,7 +7,7 @@ use Rattle.kt_spacetime.specs.declared.event.Event.{Event}
 use Rattle.kt_spacetime.specs.declared.event.Event.TheVariants as event
 use Rattle.kt_cuts.specs.declared.rules.Rule.{Rule}
 use Rattle.kt_cuts.specs.Past.{Past, past, start, after}
-use Rattle.kt_cuts.specs.Legal.{IsLegal, broken_rule, first_broken, first_broken_after, or_later, is_undecided}
+use Rattle.kt_cuts.specs.Legal.{IsLegal, broken_rule, first_broken_after, or_later, is_undecided}
 use Rattle.kt_cuts.specs.Chains.{members}
 use Rattle.kt_cuts.specs.Standing.{at_number}
 use Rattle.kt_cuts.proofs.SortedFacts.{some_same}

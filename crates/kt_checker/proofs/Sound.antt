@@ -1,5 +1,5 @@
 -- A certificate that passes, and what certificates that all pass say of a log.
-use Rattle.std.proofs.Common.{◌≡◌, ℕ, zero, suc, ◌+◌, ◌<◌, ◌≤◌, ◌||◌, not, nat_le, is_some, Bool, true, false, Option, Some, None, option_map, List, [], map, length, take, refl, sym, ap, ◌∙◌, subst, arith}
+use Rattle.std.proofs.Common.{◌≡◌, ℕ, zero, suc, ◌<◌, ◌≤◌, ◌||◌, not, nat_le, is_some, Bool, true, false, Option, Some, None, option_map, List, [], map, length, take, refl, sym, ap, ◌∙◌, subst, arith}
 use Rattle.std.specs.Prelude.{◌↔◌}
 use Rattle.std.specs.List.{slice_get, Contains}
 use Rattle.std.proofs.lemmas.Bool.{and_parts}
@@ -29,7 +29,7 @@ use Rattle.kt_chain.specs.declared.certificate.Certificate.{Certificate}
 use Rattle.kt_checker.specs.declared.decisions.Instance.{Instance}
 use Rattle.kt_checker.specs.declared.decisions.Decision.{Decision}
 use Rattle.kt_checker.specs.Unwilling.{has_unwilling}
-use Rattle.kt_checker.specs.Gathered.{Gathered, IsDecision, beginning_gathered, members_gathered, refused_gathered, decision_gathered}
+use Rattle.kt_checker.specs.Gathered.{Gathered, IsDecision, beginning_gathered, decision_gathered}
 use Rattle.kt_checker.specs.Passing.{Passes, IsPassed, IsAsInLog, IsSecond, IsShownBefore, ListsReadyOf, IsListOf, IsChain, decided_cut}
 use Rattle.kt_checker.proofs.Deciding.{decided_once, members_before, unwilling_before, beginning_stays}
 

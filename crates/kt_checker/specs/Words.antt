@@ -1,5 +1,5 @@
 -- How an answer is written.
-use Rattle.std.specs.Prelude.{ℕ, Option, Some, None, List, [], ◌∷◌, ◌++◌, codes}
+use Rattle.std.specs.Prelude.{ℕ, Option, Some, None, List, [], ◌++◌, codes}
 use Rattle.std.specs.Fmt.{decimal}
 use Rattle.kt_cuts.specs.Rules.{number_of}
 use Rattle.kt_checker.specs.declared.verdict.Verdict.{Verdict}

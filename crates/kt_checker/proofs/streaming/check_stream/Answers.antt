@@ -1,4 +1,4 @@
-use Rattle.std.proofs.Common.{◌≡◌, Option, Some, None, sym, ap, subst, arith}
+use Rattle.std.proofs.Common.{Option, subst}
 use Rattle.std.proofs.lemmas.Result.{err_from_is_err_and}
 use Rattle.kt_spacetime.proofs.GatherFacts.{gathered_to_fault, at_end}
 use Rattle.kt_checker.specs.declared.verdict.Verdict.{Verdict}

@@ -1,8 +1,7 @@
-use Rattle.std.proofs.Common.{◌≡◌, false, true, ◌++◌, ◌∷◌, [], Some, None, length, refl, sym, ap, ◌∙◌, subst, arith}
+use Rattle.std.proofs.Common.{◌≡◌, false, true, ◌++◌, ◌∷◌, [], Some, None, length, sym, ap, ◌∙◌, subst}
 use Rattle.std.specs.Option.{option_copied}
 use Rattle.std.specs.List.{slice_get}
 use Rattle.std.proofs.lemmas.Option.{slice_get_within, slice_get-get_or}
-use Rattle.kt_spacetime.specs.declared.event.Event.TheVariants as event
 use Rattle.kt_spacetime.specs.declared.event.Event.{Event}
 use Rattle.kt_cuts.specs.Standing.{at_number}
 use Rattle.kt_cuts.specs.Past.{past}
