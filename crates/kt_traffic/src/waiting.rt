@@ -1,6 +1,6 @@
 //! Messages on their way.
 
-ghost use Rattle.std.specs.Prelude.{◌≡◌, ◌+◌, ◌<◌, ◌≤◌, ◌++◌, ◌∷◌, [], ℕ, true, false, nat_lt, length, remove, take, slice_get, vec_len, vec_capacity, Some, IfSome, IfNone, OnOk, OnErr};
+ghost use Rattle.std.specs.Prelude.{◌≡◌, ◌+◌, ◌<◌, ◌≤◌, ◌++◌, ◌∷◌, [], ℕ, true, false, nat_lt, length, remove, take, drop, slice_get, vec_len, vec_capacity, Some, IfSome, IfNone, OnOk, OnErr};
 ghost use Rattle.std.specs.VecDeque.{deque_len, deque_capacity};
 ghost use Rattle.kt_traffic.specs.declared.waiting.Sent.{Sent};
 ghost use Rattle.kt_traffic.specs.OnTheWay.{IsBySend, Belongs, IsPutBack, AreSentBefore};
@@ -113,7 +113,7 @@ impl Waiting {
         ensures err { OnErr result (self.new ≡ self.old) }
     {
         seek(&mut self.passed, &mut self.next, index)?;
-        self.next.pop_front();
+        pop_first(&mut self.next);
         Ok(())
     }
 
@@ -255,6 +255,20 @@ fn seek(passed: &mut Vec<Sent>, next: &mut VecDeque<Sent>, index: usize) -> Resu
         move_on(passed, next, index - cursor);
     }
     Ok(())
+}
+
+// Takes the first message. A lone one is taken as the last, so that the next one comes to its place in memory.
+fn pop_first(next: &mut VecDeque<Sent>)
+    requires { 0 < deque_len next.old }
+    ensures rest { next.new.items ≡ drop 1 next.old.items }
+    ensures len { deque_len next.new + 1 ≡ deque_len next.old }
+    ensures capacity { deque_capacity next.new ≡ deque_capacity next.old }
+{
+    if next.len() == 1 {
+        next.pop_back();
+    } else {
+        next.pop_front();
+    }
 }
 
 // Moves the cursor on past so many messages.
