@@ -112,6 +112,10 @@ step_of rows k Rollback at m next l h = subst (Linked rows k Rollback at m) h.2 
 pub kept_link : (rows : List Event) (k : ℕ) (kind : Kind) (at m next : ℕ) → IsLegal rows → (h : Linked rows k kind at m next) → kept_trace rows m ≡ Some h.trace
 kept_link rows k kind at m next l h = link_kept rows l m h.trace h.sent h.received h.traced h.is_sent h.is_received h.late
 
+-- with the places of its send and its receive
+pub kept_places : (rows : List Event) (at m next : ℕ) → IsLegal rows → (h : Linked rows 0 Rollback at m next) → kept_trace rows m ≡ Some (record { from = at; to = next; sent = Some h.sent; received = Some h.received })
+kept_places rows at m next l h = kept_link rows 0 Rollback at m next l h ∙ (λ i. Some (record { from = h.leads.0 i; to = h.leads.1 i; sent = h.is_sent i; received = h.is_received i }))
+
 -- what is kept of a message that one process sent past its permanent position and another one received
 pub received_place : (rows : List Event) (p q m sent received permanent : ℕ) (t : Trace) → trace_of rows m ≡ Some t → t.from ≡ q → t.to ≡ p → t.sent ≡ Some sent → t.received ≡ Some received
     → permanent ≡ (past rows).permanent q → permanent < sent → LinksRollback (past rows) p q m × (place_of (deed.Received m q) ((past rows).live p) ≡ Some received)

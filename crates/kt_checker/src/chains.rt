@@ -91,13 +91,7 @@ fn received_at(walk: &Walk, from: ProcNo, to: ProcNo, msg: MsgNo) -> Option<usiz
     ensures found { IfSome result (λ place. (rows : List Event) → WalkOf walk.now rows → LinksRollback (past rows) to from msg × (place_of (deed.Received msg from) ((past rows).live to) ≡ Some place)) }
     ensures none { IfNone result ((rows : List Event) → WalkOf walk.now rows → LinksRollback (past rows) to from msg → ⊥) }
 {
-    let Some(trace) = walk.trace_between(from, to, msg) else {
-        return None;
-    };
-    let Some(received) = trace.received else {
-        return None;
-    };
-    let Some(sent) = trace.sent else {
+    let Some((sent, received)) = walk.places(from, to, msg) else {
         return None;
     };
     if sent <= walk.permanent(from) {

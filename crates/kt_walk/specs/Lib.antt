@@ -4,6 +4,7 @@ pub use Rattle.kt_cuts.specs.Cuts
 pub use Rattle.kt_cuts.specs.Traces
 pub mod Positive
 pub mod Keeping
+pub mod DropTable
 pub mod TrailParts
 pub mod PartsOf
 pub mod TrailOf

@@ -88,7 +88,8 @@ impl Pairs {
     {
         let index = index_of(to, p);
         let pair = &mut self.pairs[index];
-        if self.listed[index] {
+        // A pair that has messages is listed, so its mark is not read then.
+        if !pair.is_idle() || self.listed[index] {
             return pair.send(message);
         }
         self.used.reserve(1)?;
@@ -157,8 +158,8 @@ impl Pairs {
     }
 }
 
-// The place of the pair of a receiver and a sender.
-fn index_of(receiver: ProcNo, sender: ProcNo) -> usize
+/// The place of the pair of a receiver and a sender.
+pub(crate) fn index_of(receiver: ProcNo, sender: ProcNo) -> usize
     ensures value { result ≡ receiver * 64 + sender }
     ensures receiver_in_range { receiver < 64 }
     ensures sender_in_range { sender < 64 }

@@ -251,12 +251,13 @@ impl Walk {
         self.pairs.trace(msg)
     }
 
-    /// The same of a message from the one process to the other; None also where it is one between others.
-    pub fn trace_between(&self, from: ProcNo, to: ProcNo, msg: MsgNo) -> Option<Trace>
-        ensures found { IfSome result (λ t. (rows : List Event) → WalkOf self.now rows → (kept_trace rows msg ≡ Some t) × (t.from ≡ from) × (t.to ≡ to)) }
-        ensures none { IfNone result ((rows : List Event) (t : Trace) → WalkOf self.now rows → kept_trace rows msg ≡ Some t → t.from ≡ from → t.to ≡ to → ⊥) }
+    /// The places, counted from 1, of the send and the receive of a message from one process to another; None where it is
+    /// not kept, or is not in both live histories.
+    pub fn places(&self, from: ProcNo, to: ProcNo, msg: MsgNo) -> Option<(usize, usize)>
+        ensures found { IfSome result (λ r. (rows : List Event) → WalkOf self.now rows → kept_trace rows msg ≡ Some (record { from = from; to = to; sent = Some r.0; received = Some r.1 })) }
+        ensures none { IfNone result ((rows : List Event) (sent received : ℕ) → WalkOf self.now rows → kept_trace rows msg ≡ Some (record { from = from; to = to; sent = Some sent; received = Some received }) → ⊥) }
     {
-        self.pairs.trace_between(from, to, msg)
+        self.pairs.places(from, to, msg)
     }
 
     /// How many messages are kept.
