@@ -83,6 +83,16 @@ impl Waiting {
         Ok(())
     }
 
+    /// Gives back the room that is not needed for the messages and so many more.
+    pub fn give_back(&mut self, additional: usize)
+        ensures messages { self.new.messages ≡ self.old.messages }
+        ensures room { length self.old.messages + additional ≤ self.old.room → length self.new.messages + additional ≤ self.new.room }
+    {
+        self.passed.shrink_to_fit();
+        let wanted = self.len().saturating_add(additional);
+        self.next.shrink_to(wanted);
+    }
+
     /// Adds a message at the end, where there is room.
     pub fn push(&mut self, message: Sent)
         requires { length self.old.messages < self.old.room }

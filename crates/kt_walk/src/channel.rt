@@ -194,6 +194,15 @@ impl Channel {
         self.arrivals.skip(sent.min(received));
     }
 
+    /// Gives back the room that the messages do not need.
+    pub(crate) fn give_back(&mut self)
+        ensures { self.new ≡ self.old }
+    {
+        self.arrivals.give_back();
+        let wanted = self.undone.len().saturating_add(self.arrivals.len());
+        self.undone.shrink_to(wanted);
+    }
+
     /// The least message that is received within its receiver's part and not sent within its sender's.
     pub(crate) fn orphan(&self, cut: &Cut) -> Option<MsgNo>
         ensures orphan { IfSome result (λ msg. (s : Past) → IsInOrder s → ShowsTraffic self.now s → IsOrphanBetween s (slice_index cut.now) self.now.receiver self.now.sender msg) }

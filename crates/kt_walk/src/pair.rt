@@ -144,6 +144,16 @@ impl Pair {
         self.waiting.take(index)
     }
 
+    /// Gives back the room that was needed, where there are no messages.
+    pub(crate) fn give_back(&mut self)
+        ensures { self.new ≡ self.old }
+    {
+        if self.is_idle() {
+            self.channel.give_back();
+            self.waiting.give_back(self.channel.arrivals().len());
+        }
+    }
+
     /// How many messages there are.
     pub(crate) fn count(&self) -> usize
         ensures { count_of self.now < 2 ^ 64 → result ≡ count_of self.now }

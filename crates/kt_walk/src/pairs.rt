@@ -31,6 +31,8 @@ pub(crate) struct Pairs {
     pub(crate) used: Vec<usize>,
     // Of each pair, whether its place is among these.
     pub(crate) listed: Vec<bool>,
+    // The places that were listed before the last decision.
+    former: Vec<usize>,
 }
 
 // How many pairs there are.
@@ -61,6 +63,7 @@ impl Pairs {
             pairs,
             used: Vec::new(alloc),
             listed: vec![in alloc; false; PAIRS]?,
+            former: Vec::new(alloc),
         })
     }
 
@@ -141,6 +144,17 @@ impl Pairs {
         first_orphan_of(&self.pairs, &self.used, cut)
     }
 
+    /// Gives back the room of the pairs that had messages before the last decision and have none now. Those that have
+    /// messages at each decision keep it, so that it is not asked for again and again.
+    pub(crate) fn give_back(&mut self)
+        ensures { self.new ≡ self.old }
+    {
+        give_back_idle(&mut self.pairs, &self.former);
+        self.former.clear();
+        // Where there is no memory for this list, the room is kept.
+        let _ = self.former.extend_from_slice(&self.used);
+    }
+
     /// A committed rollback cuts the members' histories back to the permanent lengths.
     pub(crate) fn roll_back(&mut self, members: ProcSet, permanent: &[usize; 64])
         ensures { (s : Past) (p k : ℕ) → ShowsPairs self.old s → ((q : ℕ) → IsEachOnce (s.live q)) → ((q r : ℕ) → AreNotDropped r (s.live q) s.dropped) → IsInOrder s → RollsBack s k members permanent.now → ShowsPairs self.new (after s (event.Decided p k true)) }
@@ -202,6 +216,17 @@ fn first_orphan_of(pairs: &[Pair], used: &[usize], cut: &Cut) -> Option<MsgNo>
         least = earlier(least, pairs[*place].orphan(cut));
     }
     least
+}
+
+// Gives back the room of those of these pairs that have no messages.
+fn give_back_idle(pairs: &mut [Pair], places: &[usize])
+    ensures { pairs.new ≡ pairs.old }
+{
+    for place in places {
+        if *place < pairs.len() {
+            pairs[*place].give_back();
+        }
+    }
 }
 
 // Lists the pairs no more that came to have no messages.

@@ -142,6 +142,7 @@ impl Walk {
             Event::Received { p, from, msg } => self.take(p, from, msg),
             Event::Dropped { p, from, msg } => self.lose(p, from, msg),
             Event::Decided { inst, commit, .. } => {
+                self.pairs.give_back();
                 self.trail.decide(&mut self.pairs, inst, commit);
                 Ok(())
             }
