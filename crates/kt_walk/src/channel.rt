@@ -217,11 +217,34 @@ impl Channel {
     }
 }
 
-// How many of rising arrivals are sent before this place.
+// Whether rising arrivals are sent at this place or later, all of them.
+fn all_sent_from(arrivals: &[Arrival], place: usize) -> bool
+    ensures { result ≡ true → IsRising arrivals.now → Parts sent_at arrivals.now place 0 }
+{
+    match arrivals.first() {
+        Some(first) => first.sent as usize >= place,
+        None => true,
+    }
+}
+
+// Whether rising arrivals are received at this place or later, all of them.
+fn all_received_from(arrivals: &[Arrival], place: usize) -> bool
+    ensures { result ≡ true → IsRising arrivals.now → Parts received_at arrivals.now place 0 }
+{
+    match arrivals.first() {
+        Some(first) => first.received as usize >= place,
+        None => true,
+    }
+}
+
+// How many of rising arrivals are sent before this place. It looks at the first one first.
 fn count_sent_before(arrivals: &[Arrival], place: usize) -> usize
     ensures bound { result ≤ length arrivals.now }
     ensures parts { IsRising arrivals.now → Parts sent_at arrivals.now place result }
 {
+    if all_sent_from(arrivals, place) {
+        return 0;
+    }
     arrivals.partition_point(
         |arrival: &Arrival| -> bool
             ensures { result ≡ nat_lt arrival.now.sent place }
@@ -229,11 +252,14 @@ fn count_sent_before(arrivals: &[Arrival], place: usize) -> usize
     )
 }
 
-// How many of rising arrivals are received before this place.
+// How many of rising arrivals are received before this place. It looks at the first one first.
 pub(crate) fn count_received_before(arrivals: &[Arrival], place: usize) -> usize
     ensures bound { result ≤ length arrivals.now }
     ensures parts { IsRising arrivals.now → Parts received_at arrivals.now place result }
 {
+    if all_received_from(arrivals, place) {
+        return 0;
+    }
     arrivals.partition_point(
         |arrival: &Arrival| -> bool
             ensures { result ≡ nat_lt arrival.now.received place }
