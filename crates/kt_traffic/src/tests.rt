@@ -145,6 +145,24 @@ fn the_first_messages_are_kept_on_each_side_of_the_cursor(rt: HostRuntime) -> Re
 }
 
 #[test]
+fn messages_stand_when_room_is_given_back(rt: HostRuntime) -> Result<(), Fail> {
+    let mut waiting = Waiting::new(rt.alloc());
+    waiting.give_back(0);
+    send_all(&mut waiting, &[1, 2, 3, 4, 5, 6, 7])?;
+    receive_all(&mut waiting, &[4, 5])?;
+    waiting.give_back(1);
+    stands(&rt, &waiting, &[1, 2, 3, 6, 7])?;
+    put_back(&mut waiting, 4)?;
+    waiting.give_back(0);
+    stands(&rt, &waiting, &[1, 2, 3, 4, 6, 7])?;
+    receive_all(&mut waiting, &[1, 2, 3, 4, 6, 7])?;
+    waiting.give_back(0);
+    stands(&rt, &waiting, &[])?;
+    send(&mut waiting, 8)?;
+    stands(&rt, &waiting, &[8])
+}
+
+#[test]
 fn many_are_taken_in_order_past_many_that_wait(rt: HostRuntime) -> Result<(), Fail> {
     let mut waiting = Waiting::new(rt.alloc());
     for number in 1..=2 * MANY {
