@@ -1,7 +1,6 @@
 //! The messages of one process that stand in the live history of another.
 
-ghost use Rattle.std.specs.Prelude.{◌≡◌, ◌⊎◌, ◌≤◌, ◌<◌, ◌+◌, ◌-◌, ◌++◌, ◌∷◌, [], ℕ, List, true, nat_lt, length, drop, map, take, vec_len, vec_capacity, slice_get, slice_index, filter, Some, None, OnOk, OnErr, IfSome};
-ghost use Rattle.kt_base.specs.Sets.{has};
+ghost use Rattle.std.specs.Prelude.{◌≡◌, ◌≤◌, ◌<◌, ◌+◌, ◌-◌, ◌++◌, ◌∷◌, [], ℕ, List, true, nat_lt, length, map, take, vec_len, vec_capacity, slice_get, slice_index, Some, None, OnOk, OnErr, IfSome};
 ghost use Rattle.kt_cuts.specs.declared.deeds.Deed.{Deed};
 ghost use Rattle.kt_walk.specs.declared.queue.Arrival.{Arrival};
 ghost use Rattle.kt_walk.specs.declared.channel.Undone.{Undone};
@@ -9,10 +8,10 @@ ghost use Rattle.kt_cuts.specs.Past.{Past};
 ghost use Rattle.kt_cuts.specs.Lists.{Rises, sent_in};
 ghost use Rattle.kt_cuts.specs.Orphans.{IsOrphanBetween, IsAtMost};
 ghost use Rattle.kt_cuts.specs.Standing.{IsInOrder};
-ghost use Rattle.kt_walk.specs.Arrivals.{IsRising, Parts, sent_at, received_at, undo, IsTraffic, ShowsTraffic, IsOpen, is_empty, cut_back};
+ghost use Rattle.kt_walk.specs.Arrivals.{IsRising, Parts, sent_at, received_at, undone_at, undo, AreInTurn, IsTraffic, ShowsTraffic, IsOpen, is_empty};
 
 use crate::queue::{Arrival, Queue};
-use kt_base::{Memory, MsgNo, ProcNo, ProcSet};
+use kt_base::{Memory, MsgNo, ProcNo};
 use kt_cuts::Cut;
 use kt_cuts::orphans::{earlier, if_wanted};
 use std::alloc::Global;
@@ -99,47 +98,13 @@ impl Channel {
         self.sender
     }
 
-    /// Cuts the histories of these processes back to these lengths.
-    pub(crate) fn cut_back(&mut self, members: ProcSet, lengths: &[usize; 64])
-        ensures receiver { self.new.receiver ≡ self.old.receiver }
-        ensures sender { self.new.sender ≡ self.old.sender }
-        ensures traffic { (received sent : List Deed) (i j : ℕ) → Rises (sent_in sent) → j ≤ slice_index lengths.now self.old.sender → IsTraffic self.old received sent i j → IsTraffic self.new (cut_back members lengths.now self.old.receiver received) (cut_back members lengths.now self.old.sender sent) i j }
-    {
-        self.cut_sender_back(members, lengths);
-        self.cut_receiver_back(members, lengths);
-    }
-
-    // Cuts the sender's history back, if it is a member.
-    fn cut_sender_back(&mut self, members: ProcSet, lengths: &[usize; 64])
-        ensures receiver { self.new.receiver ≡ self.old.receiver }
-        ensures sender { self.new.sender ≡ self.old.sender }
-        ensures traffic { (received sent : List Deed) (i j : ℕ) → Rises (sent_in sent) → j ≤ slice_index lengths.now self.old.sender → IsTraffic self.old received sent i j → IsTraffic self.new received (cut_back members lengths.now self.old.sender sent) i j }
-    {
-        let sender = self.sender;
-        if members.has(sender) {
-            self.cut_sender(lengths[sender.get() as usize]);
-        }
-    }
-
-    // Cuts the receiver's history back, if it is a member.
-    fn cut_receiver_back(&mut self, members: ProcSet, lengths: &[usize; 64])
-        ensures receiver { self.new.receiver ≡ self.old.receiver }
-        ensures sender { self.new.sender ≡ self.old.sender }
-        ensures traffic { (received sent : List Deed) (i j : ℕ) → IsTraffic self.old received sent i j → IsTraffic self.new (cut_back members lengths.now self.old.receiver received) sent i j }
-    {
-        let receiver = self.receiver;
-        if members.has(receiver) {
-            self.cut_receiver(lengths[receiver.get() as usize]);
-        }
-    }
-
     /// Cuts the sender's history back.
     pub(crate) fn cut_sender(&mut self, place: usize)
         ensures receiver { self.new.receiver ≡ self.old.receiver }
         ensures sender { self.new.sender ≡ self.old.sender }
         ensures fewer { length self.new.arrivals ≤ length self.old.arrivals }
         ensures left { (k : ℕ) (a : Arrival) → slice_get self.new.arrivals k ≡ Some a → slice_get self.old.arrivals k ≡ Some a }
-        ensures traffic { (received sent : List Deed) (i j : ℕ) → Rises (sent_in sent) → j ≤ place → IsTraffic self.old received sent i j → IsTraffic self.new received (take place sent) i j }
+        ensures traffic { (received sent : List Deed) (i j : ℕ) → Rises (sent_in sent) → j ≡ place → IsTraffic self.old received sent i j → IsTraffic self.new received (take place sent) i j }
     {
         let arrivals = self.arrivals.as_slice();
         let kept = count_sent_before(arrivals, place);
@@ -147,23 +112,15 @@ impl Channel {
         self.arrivals.truncate(kept);
     }
 
-    // Cuts the receiver's history back.
-    fn cut_receiver(&mut self, length: usize)
-        ensures receiver { self.new.receiver ≡ self.old.receiver }
-        ensures sender { self.new.sender ≡ self.old.sender }
-        ensures traffic { (received sent : List Deed) (i j : ℕ) → IsTraffic self.old received sent i j → IsTraffic self.new (take length received) sent i j }
-    {
-        let kept = count_received_before(self.arrivals.as_slice(), length);
-        self.forget_received(kept, length);
-    }
-
     /// Keeps the first so many arrivals, and of those whose send was undone what is received before this place.
     pub(crate) fn forget_received(&mut self, kept: usize, place: usize)
         requires { kept ≤ length self.old.arrivals }
-        ensures { self.new ≡ record self.old { arrivals = take kept self.old.arrivals; undone = filter (λ u. nat_lt u.received place) self.old.undone } }
+        ensures kept { self.new ≡ record self.old { arrivals = take kept self.old.arrivals; undone = take (length self.new.undone) self.old.undone } }
+        ensures undone { AreInTurn self.old.undone → Parts undone_at self.old.undone place (length self.new.undone) }
     {
         self.arrivals.truncate(kept);
-        keep_received_before(&mut self.undone, place);
+        let undone = count_undone_before(&self.undone, place);
+        self.undone.truncate(undone);
     }
 
     /// The messages whose sends are live, in the order of their sends.
@@ -282,17 +239,16 @@ fn undo_all(undone: &mut Vec<Undone>, arrivals: &[Arrival])
     }
 }
 
-// Keeps what is received before this place.
-fn keep_received_before(undone: &mut Vec<Undone>, place: usize)
-    ensures items { undone.new.items ≡ filter (λ u. nat_lt u.received place) undone.old.items }
-    ensures len { vec_len undone.new ≤ vec_len undone.old }
-    ensures capacity { vec_capacity undone.new ≡ vec_capacity undone.old }
+// How many of undone messages in order are received before this place.
+pub(crate) fn count_undone_before(undone: &[Undone], place: usize) -> usize
+    ensures bound { result ≤ length undone.now }
+    ensures parts { AreInTurn undone.now → Parts undone_at undone.now place result }
 {
-    undone.retain(
+    undone.partition_point(
         |message: &Undone| -> bool
             ensures { result ≡ nat_lt message.now.received place }
         { (message.received as usize) < place },
-    );
+    )
 }
 
 // The first of rising arrivals that is not sent before one place, if it is received before another one.
@@ -305,17 +261,11 @@ fn first_past(arrivals: &[Arrival], sent: usize, received: usize) -> Option<MsgN
     if_wanted((first.received as usize) < received, first.msg)
 }
 
-// The least of what was undone that is received before this place.
+// The least of what was undone that is received before this place: the first one, if it is.
 fn first_undone(undone: &[Undone], place: usize) -> Option<MsgNo>
     ensures orphan { IfSome result (λ msg. (k : ℕ) × (u : Undone) × (slice_get undone.now k ≡ Some u) × (u.msg ≡ msg) × (u.received < place)) }
-    ensures least { (k : ℕ) (u : Undone) → slice_get undone.now k ≡ Some u → u.received < place → IsAtMost result u.msg }
+    ensures least { (k : ℕ) (u : Undone) → AreInTurn undone.now → slice_get undone.now k ≡ Some u → u.received < place → IsAtMost result u.msg }
 {
-    let mut least = None;
-    for message in undone {
-        least = earlier(
-            least,
-            if_wanted((message.received as usize) < place, message.msg),
-        );
-    }
-    least
+    let first = undone.first()?;
+    if_wanted((first.received as usize) < place, first.msg)
 }

@@ -198,7 +198,7 @@ impl Pair {
     fn cut_sender_back(&mut self, members: ProcSet, lengths: &[usize; 64])
         ensures receiver { self.new.traffic.receiver ≡ self.old.traffic.receiver }
         ensures sender { self.new.traffic.sender ≡ self.old.traffic.sender }
-        ensures link { (received sent : List Deed) (dropped : ℕ → Bool) (i j : ℕ) → Rises (sent_in sent) → j ≤ slice_index lengths.now self.old.traffic.sender
+        ensures link { (received sent : List Deed) (dropped : ℕ → Bool) (i j : ℕ) → Rises (sent_in sent) → j ≡ slice_index lengths.now self.old.traffic.sender
             → IsLink self.old received sent dropped i j → IsLink self.new received (cut_back members lengths.now self.old.traffic.sender sent) dropped i j }
         ensures left { (k : ℕ) (a : Arrival) → slice_get self.new.traffic.arrivals k ≡ Some a → slice_get self.old.traffic.arrivals k ≡ Some a }
     {
@@ -241,7 +241,7 @@ impl Pair {
     fn cut_sender(&mut self, place: usize)
         ensures receiver { self.new.traffic.receiver ≡ self.old.traffic.receiver }
         ensures sender { self.new.traffic.sender ≡ self.old.traffic.sender }
-        ensures link { (received sent : List Deed) (dropped : ℕ → Bool) (i j : ℕ) → Rises (sent_in sent) → j ≤ place
+        ensures link { (received sent : List Deed) (dropped : ℕ → Bool) (i j : ℕ) → Rises (sent_in sent) → j ≡ place
             → IsLink self.old received sent dropped i j → IsLink self.new received (take place sent) dropped i j }
         ensures left { (k : ℕ) (a : Arrival) → slice_get self.new.traffic.arrivals k ≡ Some a → slice_get self.old.traffic.arrivals k ≡ Some a }
     {
