@@ -1,20 +1,21 @@
 -- Chains as they are spelled: numbers joined by `/`, or `-`.
-use Rattle.std.proofs.Common.{◌≡◌, ◌≢◌, ◌∙◌, ◌<◌, ◌≤◌, ◌^◌, ◌+◌, ◌==◌, ℕ, List, [], ◌∷◌, ◌++◌, ◌%◌, length, map, refl, sym, ap, arith, get_or, take, codes, inl, inr}
-use Rattle.std.specs.Prelude.{All, false}
+use Rattle.std.proofs.Common.{◌≡◌, ◌≢◌, ◌∙◌, ◌<◌, ◌≤◌, ◌^◌, ◌+◌, ◌==◌, ℕ, List, [], ◌∷◌, ◌++◌, ◌%◌, length, map, refl, sym, ap, subst, Option, Some, None, arith, get_or, take, codes, inl, inr}
+use Rattle.std.specs.Prelude.{All, Bool, true, false}
 use Rattle.std.specs.List.{slice_split, join_with_byte}
 use Rattle.std.specs.Fmt.{decimal}
 use Rattle.std.proofs.lemmas.Bool.{ne_eqb}
 use Rattle.std.proofs.lemmas.Fmt.{decimal_by_steps}
-use Rattle.std.proofs.lemmas.List.{get_or-map, map-append, take_more, length-map}
+use Rattle.std.proofs.lemmas.List.{get_or-map, map-append, take_more, length-map, length_push}
+use Rattle.std.proofs.lemmas.List.Sums.{count_by-le-length}
 use Rattle.std.proofs.lemmas.List.Elements.{All-push, All-cons, All-nil, All-head, All-tail, All-weaker}
 use Rattle.std.proofs.lemmas.List.Splits.{slice_split_none, slice_split_at, length-slice_split, join_with_byte-slice_split}
 use Rattle.kt_base.specs.Numbers.{IsMsgNo}
 use Rattle.kt_chain.specs.declared.records.RecordFault.{RecordFault}
 use Rattle.kt_chain.specs.declared.records.RecordFault.TheVariants as fault
-use Rattle.kt_chain.specs.Spelling.{chain_word}
+use Rattle.kt_chain.specs.Spelling.{chain_word, most_messages}
 use Rattle.kt_chain.specs.Texts.{IsMisfit}
 use Rattle.kt_chain.specs.Texts as slot
-use Rattle.kt_chain.specs.Reading.{OrMemory}
+use Rattle.kt_chain.specs.Reading.{OrMemory, IsIfFew}
 
 -- the parts of a text between one `/` and the next
 abbrev pub parts_in : List ℕ → List (List ℕ)
@@ -64,3 +65,30 @@ pub misfit_chain : (text : List ℕ) (parts : List (List ℕ)) (f : RecordFault)
     → OrMemory f ((f ≡ fault.Number) × ((messages : List ℕ) → All IsMsgNo messages → map decimal messages ≢ parts)) → OrMemory f (IsMisfit slot.chain text f)
 misfit_chain text parts f other cut (inl e) = inl e
 misfit_chain text parts f other cut (inr h) = inr (h.0, λ fit. no_chain text other (λ messages all e. h.1 messages all (e ∙ sym cut)) fit.0 fit.1 fit.2)
+
+-- what is kept of the messages that were read: all, or too few of too many
+abbrev pub IsReadSoFar : List ℕ → List ℕ → Bool → Type 0
+IsReadSoFar messages chain false = chain ≡ messages
+IsReadSoFar messages chain true = most_messages < length messages
+
+-- one more message, which is kept
+pub keeps_more : (messages chain : List ℕ) (is_long : Bool) (msg : ℕ) → IsReadSoFar messages chain is_long → IsReadSoFar (messages ++ msg ∷ []) (chain ++ msg ∷ []) is_long
+keeps_more messages chain false msg is = ap (λ (x : List ℕ). x ++ msg ∷ []) is
+keeps_more messages chain true msg is = omega (arith, is, length_push messages msg)
+
+-- one more message than a chain may have
+pub grows_long : (messages chain : List ℕ) (is_long : Bool) (msg : ℕ) → most_messages ≤ length chain → IsReadSoFar messages chain is_long → most_messages < length (messages ++ msg ∷ [])
+grows_long messages chain false msg full is = omega (arith, full, ap length is, length_push messages msg)
+grows_long messages chain true msg full is = omega (arith, is, length_push messages msg)
+
+-- the messages that were kept, where they are all
+pub if_few : (messages chain : List ℕ) (is_long : Bool) (read : Option (List ℕ)) → IsReadSoFar messages chain is_long → (is_long ≡ true → read ≡ None) → (is_long ≡ false → read ≡ Some chain) → IsIfFew messages read
+if_few messages chain false read is none some = subst (IsIfFew messages) (sym (some refl)) is
+if_few messages chain true read is none some = subst (IsIfFew messages) (sym (none refl)) is
+
+-- a chain has no more messages than its text has bytes, and one
+pub no_more_than_bytes : (text messages : List ℕ) → All IsMsgNo messages → text ≡ chain_word messages → length messages ≤ length text + 1
+no_more_than_bytes text [] all e = omega arith
+no_more_than_bytes text (msg ∷ messages) all e =
+    let parts = ap length (parts_back msg messages all) ∙ length-map (msg ∷ messages) decimal in
+    omega (arith, parts, length-slice_split (λ (byte : ℕ). byte == 47) (chain_word (msg ∷ messages)), count_by-le-length (λ (byte : ℕ). byte == 47) (chain_word (msg ∷ messages)), ap length e)

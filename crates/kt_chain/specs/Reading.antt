@@ -1,17 +1,22 @@
 -- What is known while certificates are read.
-use Rattle.std.specs.Prelude.{◌≡◌, ◌≤◌, ◌⊎◌, ℕ, List, [], ◌∷◌, ◌++◌, Option, Some, None, All}
+use Rattle.std.specs.Prelude.{◌≡◌, ◌<◌, ◌≤◌, ◌⊎◌, ℕ, List, [], ◌∷◌, ◌++◌, Option, Some, None, All, length}
 use Rattle.csv.specs.Reading.{default_config, strip_bom, records}
 use Rattle.csv.specs.declared.reader.Reader.{Reader}
 use Rattle.kt_spacetime.specs.Progress.{left_in, ReadsOn}
 use Rattle.kt_chain.specs.declared.certificate.Certificate.{Certificate}
 use Rattle.kt_chain.specs.declared.records.RecordFault.{RecordFault}
 use Rattle.kt_chain.specs.declared.records.RecordFault.TheVariants as fault
-use Rattle.kt_chain.specs.Spelling.{IsInRange, records_of}
+use Rattle.kt_chain.specs.Spelling.{IsInRange, records_of, most_messages}
 use Rattle.kt_chain.specs.Texts.{IsAfter, record_count, most_records}
 
 -- want of memory, or this
 abbrev pub OrMemory : RecordFault → Type 0 → Type 0
 OrMemory f P = (f ≡ fault.Memory) ⊎ P
+
+-- these messages, or none where they are more than a chain may have
+abbrev pub IsIfFew : List ℕ → Option (List ℕ) → Type 0
+IsIfFew messages None = most_messages < length messages
+IsIfFew messages (Some chain) = chain ≡ messages
 
 -- a record was taken: the certificates say it beside what they said
 pub record Takes (old new : List Certificate) (fields : List (List ℕ)) : Type 0 where

@@ -10,7 +10,7 @@ ghost use Rattle.kt_chain.specs.Spelling.{IsInRange, IsMemberInRange, instance_r
 ghost use Rattle.kt_chain.specs.Texts.{IsMisfit, IsInstanceMisfit, IsMemberFault, IsOtherInstance, IsFieldFault, IsRecordFault, fault_at};
 ghost use Rattle.kt_chain.specs.Texts as slot;
 ghost use Rattle.kt_chain.specs.declared.records.RecordFault.TheVariants as fault;
-ghost use Rattle.kt_chain.specs.Reading.{OrMemory, Takes};
+ghost use Rattle.kt_chain.specs.Reading.{IsIfFew, OrMemory, Takes};
 
 use crate::certificate::{Certificate, Chain, Members};
 use crate::fault::CertTextFault;
@@ -121,42 +121,36 @@ fn count(text: &[u8]) -> Result<u32, RecordFault>
     Ok(number)
 }
 
-// The parts of a text between one `/` and the next.
-fn parts_of(alloc: Global, text: &[u8]) -> Result<Vec<&[u8]>, RecordFault>
-    ensures found { IfOk result (λ parts. map (λ part. part.now) parts.items ≡ slice_split (λ byte. byte == 47) text.now) }
-    ensures fault { IfErr result (λ f. f ≡ RecordFault.Memory) }
-{
-    match text.split(|byte| *byte == b'/').collect(alloc) {
-        Ok(parts) => Ok(parts),
-        Err(_) => Err(RecordFault::Memory),
-    }
-}
-
-// The messages that these parts spell, one each.
-fn messages_of(alloc: Global, parts: &[&[u8]]) -> Result<Chain, RecordFault>
-    ensures found { IfOk result (λ messages. All IsMsgNo messages × (map decimal messages ≡ map (λ part. part.now) parts.now)) }
-    ensures fault { IfErr result (λ f. OrMemory f ((f ≡ RecordFault.Number) × ((messages : List ℕ) → All IsMsgNo messages → map decimal messages ≢ map (λ part. part.now) parts.now))) }
+// The messages that the parts of a text between one `/` and the next spell, one each: none where they are more than a
+// chain may have. Every part is looked at, and no message past the greatest length is kept.
+fn messages_of(alloc: Global, text: &[u8]) -> Result<Option<Chain>, RecordFault>
+    ensures found { IfOk result (λ read. (messages : List ℕ) × All IsMsgNo messages × (map decimal messages ≡ slice_split (λ byte. byte == 47) text.now) × IsIfFew messages read) }
+    ensures fault { IfErr result (λ f. OrMemory f ((f ≡ RecordFault.Number) × ((messages : List ℕ) → All IsMsgNo messages → map decimal messages ≢ slice_split (λ byte. byte == 47) text.now))) }
 {
     let mut chain = Chain::new(alloc);
-    for part in parts {
+    let mut is_long = false;
+    for part in text.split(|byte| *byte == b'/') {
         let Some(msg) = message_of(part) else {
             return Err(RecordFault::Number);
         };
-        chain.push(msg)?;
+        if chain.messages().len() < MOST_MESSAGES as usize {
+            chain.push(msg)?;
+        } else {
+            is_long = true;
+        }
     }
-    Ok(chain)
+    Ok(if is_long { None } else { Some(chain) })
 }
 
-// The messages of a chain, joined by `/`, or `-` for none.
-fn chain(alloc: Global, text: &[u8]) -> Result<Chain, RecordFault>
-    ensures found { IfOk result (λ messages. All IsMsgNo messages × (text.now ≡ chain_word messages)) }
+// The messages of a chain, joined by `/`, or `-` for none: none also where they are more than a chain may have.
+fn chain(alloc: Global, text: &[u8]) -> Result<Option<Chain>, RecordFault>
+    ensures found { IfOk result (λ read. (messages : List ℕ) × All IsMsgNo messages × (text.now ≡ chain_word messages) × IsIfFew messages read) }
     ensures fault { IfErr result (λ f. OrMemory f (IsMisfit slot.chain text.now f)) }
 {
     if text == b"-".as_slice() {
-        return Ok(Chain::new(alloc));
+        return Ok(Some(Chain::new(alloc)));
     }
-    let parts = parts_of(alloc, text)?;
-    messages_of(alloc, parts.as_slice())
+    messages_of(alloc, text)
 }
 
 // The certificate of an instance, before any member.
@@ -238,7 +232,9 @@ fn take_member(
     let inst = instance(first)?;
     let process = process(second)?;
     let count = count(third)?;
-    let chain = chain(alloc, fourth)?;
+    let Some(chain) = chain(alloc, fourth)? else {
+        return Err(RecordFault::Place);
+    };
     if chain.messages().len() != count as usize {
         return Err(RecordFault::Place);
     }

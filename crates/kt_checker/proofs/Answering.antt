@@ -143,13 +143,14 @@ passed_of rows certificates v answer is = elim answer [
     no_is_no : {inst row : Option ℕ} {reason : Why} → Yes ≡ No inst row reason → ⊥
     no_is_no e = cc
 
-no_broken : (rows : List Event) (n : ℕ) (rule : Rule) → IsLegal rows → first_broken rows ≡ Some (n, rule) → ⊥
+-- the first broken row of a legal log is none
+pub no_broken : (rows : List Event) (n : ℕ) (rule : Rule) → IsLegal rows → first_broken rows ≡ Some (n, rule) → ⊥
 no_broken rows n rule l e = never (sym (legal_unbroken start rows l) ∙ e)
   where
     never : (let none : Option (ℕ × Rule) = None in none) ≡ Some (n, rule) → ⊥
     never h = cc
 
-not_both : (a b : Bool) → a ≡ b → a ≡ not b → ⊥
+pub not_both : (a b : Bool) → a ≡ b → a ≡ not b → ⊥
 not_both a true e f =
     let never : true ≡ false = sym e ∙ f in
     cc
@@ -166,6 +167,13 @@ not_wrong s joined refused c why.Cause wrong cause shown = not_both refused c.co
 not_wrong s joined refused c why.Members wrong cause shown = wrong.2 (shown wrong.1).members
 not_wrong s joined refused c why.Chain wrong cause shown = wrong.3 (shown wrong.1).lists
 not_wrong s joined refused c why.Orphan wrong cause shown = wrong.4 (shown wrong.1).consistent
+
+-- a certificate that passes is not wrong at its decided row
+pub wrong_passes : (rows : List Event) (c : Certificate) (n : ℕ) (reason : Why) → IsLegal rows → Passes rows c → IsAsInLog rows c n → IsWrong (past (take n rows)) (members rows c.inst) (has_unwilling rows c.inst) c reason → ⊥
+wrong_passes rows c n reason l passes stated wrong =
+    let row = decided_once rows passes.row n passes.instance.process stated.process c.inst c.commit c.commit l passes.instance.decided stated.decided in
+    not_wrong (past (take n rows)) (members rows c.inst) (has_unwilling rows c.inst) c reason wrong passes.cause
+    (λ commit. subst (λ (m : ℕ). IsShownBefore (past (take m rows)) c (members rows c.inst)) row (passes.shown commit))
 
 pub yes_of : (rows : List Event) (certificates : List Certificate) (v : Verdict) → IsAnswer rows certificates v → IsPassed rows certificates → v ≡ Yes
 yes_of rows certificates v answer h = elim answer [
@@ -185,9 +193,3 @@ yes_of rows certificates v answer h = elim answer [
     ]
   ]
 ]
-  where
-    wrong_passes : (c : Certificate) (n : ℕ) (reason : Why) → Passes rows c → IsAsInLog rows c n → IsWrong (past (take n rows)) (members rows c.inst) (has_unwilling rows c.inst) c reason → ⊥
-    wrong_passes c n reason passes stated wrong =
-        let row = decided_once rows passes.row n passes.instance.process stated.process c.inst c.commit c.commit h.legal passes.instance.decided stated.decided in
-        not_wrong (past (take n rows)) (members rows c.inst) (has_unwilling rows c.inst) c reason wrong passes.cause
-        (λ commit. subst (λ (m : ℕ). IsShownBefore (past (take m rows)) c (members rows c.inst)) row (passes.shown commit))

@@ -9,3 +9,4 @@ pub mod FirstPlaces
 pub mod Judging
 pub mod RowByRow
 pub mod Inside
+pub mod OneAnswer

@@ -6,9 +6,11 @@ mod checking;
 mod decisions;
 mod firsts;
 mod judge;
+mod laws;
 mod streaming;
 mod verdict;
 
 pub use checking::check;
+pub use laws::one_answer;
 pub use streaming::check_stream;
 pub use verdict::{Verdict, Why};
