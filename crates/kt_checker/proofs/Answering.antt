@@ -187,7 +187,7 @@ yes_of rows certificates v answer h = elim answer [
             absurd (unknown.1 is.0.row is.0.instance is.1)
         | inr refuted ↦
             let is = h.pass refused.0 refused.1 (slice_get_within certificates refused.0 refused.1 refused.2) refused.2 in
-            absurd (wrong_passes refused.1 refuted.0 refuted.1 is.0 refuted.3 refuted.5)
+            absurd (wrong_passes rows refused.1 refuted.0 refuted.1 h.legal is.0 refuted.3 refuted.5)
       ]
       | inr missing ↦ absurd (missing.7 (h.complete missing.1 missing.2 missing.3 missing.4 missing.6))
     ]

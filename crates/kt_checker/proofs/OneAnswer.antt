@@ -1,10 +1,13 @@
 -- A log and a list of certificates have one answer.
-use Rattle.std.proofs.Common.{◌≡◌, ◌⊎◌, ℕ, ◌+◌, ◌<◌, not, Bool, true, false, Option, Some, None, List, length, take, refl, sym, ap, ◌∙◌, subst, arith}
+use Rattle.std.proofs.Common.{◌≡◌, ◌⊎◌, ℕ, ◌+◌, ◌<◌, Bool, Option, Some, None, List, length, take, refl, sym, ap, ◌∙◌, subst, inl, inr}
+use Rattle.std.specs.Prelude.{◌↔◌, IfSome}
 use Rattle.std.specs.List.{slice_get}
 use Rattle.std.proofs.lemmas.Bool.{cases_order}
 use Rattle.std.proofs.lemmas.Option.{slice_get_within}
 use Rattle.kt_spacetime.specs.declared.event.Event.{Event}
 use Rattle.kt_spacetime.specs.declared.event.Event.TheVariants as event
+use Rattle.kt_spacetime.specs.Texts.{IsLogText}
+use Rattle.kt_spacetime.proofs.TextFacts.{one_log}
 use Rattle.kt_cuts.specs.declared.rules.Rule.{Rule}
 use Rattle.kt_cuts.specs.Past.{Past, past}
 use Rattle.kt_cuts.specs.Legal.{IsLegal}
@@ -16,10 +19,10 @@ use Rattle.kt_checker.specs.declared.verdict.Verdict.TheVariants.{Yes, No}
 use Rattle.kt_checker.specs.declared.verdict.Why.{Why}
 use Rattle.kt_checker.specs.declared.verdict.Why.TheVariants as why
 use Rattle.kt_checker.specs.Unwilling.{has_unwilling}
-use Rattle.kt_checker.specs.Passing.{PassBefore}
+use Rattle.kt_checker.specs.Passing.{PassBefore, IsPassed}
 use Rattle.kt_checker.specs.Order.{IsWrong, IsBadLog, IsUnknown, IsRefuted, IsRefused, IsMissing, IsAnswer}
 use Rattle.kt_checker.proofs.Deciding.{decided_once}
-use Rattle.kt_checker.proofs.Answering.{yes_of, no_broken, not_both, wrong_passes}
+use Rattle.kt_checker.proofs.Answering.{passed_of, yes_of, no_broken, not_both, wrong_passes}
 
 -- the answer that names the first broken row and its rule
 abbrev bad_log : Option (ℕ × Rule) → Verdict
@@ -58,7 +61,7 @@ one_refuted : (log : List Event) (certificates : List Certificate) (i : ℕ) (c 
 one_refuted log certificates i c v w l a b =
     let row : a.0 ≡ b.0 = decided_once log a.0 b.0 a.3.process b.3.process c.inst c.commit c.commit l a.3.decided b.3.decided in
     let reason : a.1 ≡ b.1 = one_why (past (take b.0 log)) (members log c.inst) (has_unwilling log c.inst) c a.1 b.1
-        (subst (λ (n : ℕ). IsWrong (past (take n log)) (members log c.inst) (has_unwilling log c.inst) c a.1) row a.5) b.5 in
+    (subst (λ (n : ℕ). IsWrong (past (take n log)) (members log c.inst) (has_unwilling log c.inst) c a.1) row a.5) b.5 in
     a.2 ∙ ((λ k. No (Some c.inst) (Some (row k + 1)) (reason k)) ∙ sym b.2)
 
 -- two answers to one certificate
@@ -91,7 +94,7 @@ one_refused log certificates v w l a b = elim (cases_order a.0 b.0) [
       let item : a.1 ≡ b.1 = some_same (sym a.2 ∙ (ap (slice_get certificates) same ∙ b.2)) in
       one_refusal log certificates b.0 b.1 v w l
       (subst (λ (c : Certificate). IsUnknown log certificates b.0 c v ⊎ IsRefuted log certificates b.0 c v) item
-        (subst (λ (i : ℕ). IsUnknown log certificates i a.1 v ⊎ IsRefuted log certificates i a.1 v) same a.4)) b.4
+      (subst (λ (i : ℕ). IsUnknown log certificates i a.1 v ⊎ IsRefuted log certificates i a.1 v) same a.4)) b.4
   | inr other ↦ elim other [
     | inl low ↦ absurd (passes_unrefused log certificates b.0 a.0 a.1 v l b.3 low a.2 a.4)
     | inr low ↦ absurd (passes_unrefused log certificates a.0 b.0 b.1 w l a.3 low b.2 b.4)
@@ -132,7 +135,7 @@ pub one_answer : (log : List Event) (certificates : List Certificate) (v w : Ver
 one_answer log certificates v w a b = elim a [
   | inl passed ↦ passed.0 ∙ sym (yes_of log certificates w b passed.1)
   | inr fault ↦ elim b [
-    | inl passed ↦ yes_of log certificates v a passed.1 ∙ sym passed.0
+    | inl passed ↦ yes_of log certificates v (inr fault) passed.1 ∙ sym passed.0
     | inr other ↦ elim fault [
       | inl bad ↦ elim other [
         | inl also ↦ one_bad_log log v w bad also
@@ -145,3 +148,10 @@ one_answer log certificates v w a b = elim a [
     ]
   ]
 ]
+
+-- of the rows that a text says, and of no others, an answer is yes exactly where all passes
+pub passed_exactly : (left : Option (List (List (List ℕ)))) (certificates : List Certificate) (v : Verdict) (rows : List Event) → IfSome left (λ text. IsLogText text rows) → IsAnswer rows certificates v
+    → IfSome left (λ text. (others : List Event) → IsLogText text others → (v ≡ Yes) ↔ IsPassed others certificates)
+passed_exactly None certificates v rows says answer = tt
+passed_exactly (Some text) certificates v rows says answer = λ others also.
+    subst (λ (same : List Event). (v ≡ Yes) ↔ IsPassed same certificates) (one_log text rows others says also) (λ e. passed_of rows certificates v answer e, λ h. yes_of rows certificates v answer h)

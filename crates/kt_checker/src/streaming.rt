@@ -1,8 +1,11 @@
 //! A stored log judged row by row.
 
-ghost use Rattle.std.specs.Prelude.{IfOk, IfErr, IfSome};
+ghost use Rattle.std.specs.Prelude.{◌≡◌, ◌↔◌, List, IfOk, IfErr, IfSome};
+ghost use Rattle.kt_spacetime.specs.declared.event.Event.{Event};
 ghost use Rattle.kt_spacetime.specs.Reading.{rows_unread};
-ghost use Rattle.kt_spacetime.specs.Texts.{IsFirstFault};
+ghost use Rattle.kt_spacetime.specs.Texts.{IsLogText, IsFirstFault};
+ghost use Rattle.kt_checker.specs.declared.verdict.Verdict.TheVariants.{Yes};
+ghost use Rattle.kt_checker.specs.Passing.{IsPassed};
 ghost use Rattle.kt_checker.specs.Streamed.{IsAnswerOf};
 
 use crate::checking::{fed, verdict};
@@ -17,6 +20,20 @@ use std::io::Read;
 ///
 /// A fault in the log's text is answered before any verdict, so reading goes on after a row that breaks a rule.
 pub fn check_stream<R: Read + Drop>(
+    alloc: Global,
+    log_reader: R,
+    certificates: &[Certificate],
+) -> Result<Verdict, LogFault>
+    ensures answer { IfOk result (IsAnswerOf (R.remaining log_reader) certificates.now) }
+    ensures fault { IfErr result (λ e. IfSome (rows_unread (R.remaining log_reader)).left (λ text. IsFirstFault text e)) }
+    // So, where the reader tells its bytes, a yes is answered exactly where all of the rows that they say passes.
+    ensures yes { IfOk result (λ verdict. IfSome (rows_unread (R.remaining log_reader)).left (λ text. (rows : List Event) → IsLogText text rows → (verdict ≡ Yes) ↔ IsPassed rows certificates.now)) }
+{
+    judge_stream(alloc, log_reader, certificates)
+}
+
+// The answer to the rows that the reader gives, or its fault.
+fn judge_stream<R: Read + Drop>(
     alloc: Global,
     log_reader: R,
     certificates: &[Certificate],

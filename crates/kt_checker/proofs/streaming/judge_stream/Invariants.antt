@@ -1,6 +1,6 @@
 use Rattle.std.proofs.Common.{◌-◌}
 use Rattle.kt_checker.proofs.RowByRow.{HasSeen}
-use Rattle.kt_checker.proofs.streaming.check_stream.Given as goal
+use Rattle.kt_checker.proofs.streaming.judge_stream.Given as goal
 
 abbrev pub invariant-loop-rows : goal.invariant-loop-rows
 invariant-loop-rows g l = HasSeen (g.R.Read.remaining l.fn.log_reader) l.rows l.judge l.certificates l.broken
