@@ -1,5 +1,5 @@
 -- What the program answers to a stored log with its certificates.
-use Rattle.std.specs.Prelude.{◌≡◌, ◌≢◌, ℕ, Bool, true, false, Option, List, [], ◌∷◌, ◌++◌, IfSome}
+use Rattle.std.specs.Prelude.{◌≢◌, ℕ, Bool, true, false, Option, List, [], ◌∷◌, ◌++◌, IfSome}
 use Rattle.kt_spacetime.specs.declared.event.Event.{Event}
 use Rattle.kt_spacetime.specs.declared.fault.LogFault.{LogFault}
 use Rattle.kt_spacetime.specs.declared.fault.LogFault.TheVariants as log
@@ -13,8 +13,8 @@ use Rattle.kt_checker.specs.declared.verdict.Verdict.{Verdict}
 use Rattle.kt_checker.specs.declared.verdict.Verdict.TheVariants.{Yes, No}
 use Rattle.kt_checker.specs.Streamed.{IsAnswerOf, SaysRows}
 use Rattle.kt_checker.specs.Words.{verdict_words}
-use Rattle.koo_toueg.specs.declared.fault.AppFault.{AppFault}
-use Rattle.koo_toueg.specs.declared.fault.AppFault.TheVariants as app
+use Rattle.kt_program.specs.declared.fault.AppFault.{AppFault}
+use Rattle.kt_program.specs.declared.fault.AppFault.TheVariants as app
 
 -- the bytes that a reader tells, where it does
 abbrev pub Told : Type 0

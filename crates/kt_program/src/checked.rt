@@ -8,8 +8,8 @@ ghost use Rattle.kt_chain.specs.declared.fault.CertTextFault.{CertTextFault};
 ghost use Rattle.kt_chain.specs.Texts as certs;
 ghost use Rattle.kt_checker.specs.declared.verdict.Verdict.{Verdict};
 ghost use Rattle.kt_checker.specs.Streamed.{IsAnswerOf};
-ghost use Rattle.koo_toueg.specs.declared.fault.AppFault.TheVariants as app;
-ghost use Rattle.koo_toueg.specs.Stored.{IsJudged, IsRefusal, SayCertificates, is_yes, line_of, of_cert, of_log, records_told};
+ghost use Rattle.kt_program.specs.declared.fault.AppFault.TheVariants as app;
+ghost use Rattle.kt_program.specs.Stored.{IsJudged, IsRefusal, SayCertificates, is_yes, line_of, of_cert, of_log, records_told};
 
 use crate::fault::AppFault;
 use kt_chain::{CertTextFault, Certificate, read_certs};

@@ -1,0 +1,44 @@
+-- What the words of a command line lead to.
+use Rattle.std.specs.Prelude.{◌≡◌, ◌≢◌, ◌⊎◌, List, Result, Ok, Err}
+use Rattle.clap.specs.Words.{Text, kind_of, subcommand_of}
+use Rattle.clap.specs.declared.error.Error.{Error}
+use Rattle.clap.specs.declared.error.kind.ErrorKind.{ErrorKind}
+use Rattle.clap.specs.declared.error.kind.ErrorKind.TheVariants.{OutOfMemory, DisplayHelp, DisplayVersion}
+use Rattle.kt_program.specs.declared.ask.AskFault.{AskFault}
+use Rattle.kt_program.specs.declared.ask.AskFault.TheVariants as ask
+use Rattle.kt_program.specs.declared.ending.Done.{Done}
+use Rattle.kt_program.specs.declared.ending.Done.TheVariants.{Judged, Shown}
+use Rattle.kt_program.specs.declared.fault.ProgramFault.{ProgramFault}
+use Rattle.kt_program.specs.declared.fault.ProgramFault.TheVariants as program
+use Rattle.kt_program.specs.declared.line.Asked.{Asked}
+use Rattle.kt_program.specs.Program.{IsErrorFor, Names, program as definition}
+
+-- why nothing is asked for: an error that clap's definition gives for the words, or no memory
+abbrev pub IsUnasked : List Text → AskFault → Type 0
+IsUnasked words (ask.Line e) = IsErrorFor words e
+IsUnasked words ask.Memory = Unit {0}
+
+-- clap answers a request for help or for the version by such an error
+abbrev pub IsRequest : ErrorKind → Type 0
+IsRequest kind = (kind ≡ DisplayHelp) ⊎ (kind ≡ DisplayVersion)
+
+abbrev pub IsMistake : ErrorKind → Type 0
+IsMistake kind = (kind ≢ OutOfMemory) × (kind ≢ DisplayHelp) × (kind ≢ DisplayVersion)
+
+-- words that clap's definition answers by an error of such a kind
+abbrev pub AreAnswered : List Text → (ErrorKind → Type 0) → Type 0
+AreAnswered words P = (e : Error) × IsErrorFor words e × P (kind_of e)
+
+-- what is done for words: a run judged where they name that; help shown where they ask for it; they are refused where
+-- they are a mistake; other faults come with any words
+abbrev pub DoneFor : List Text → Done → Type 0
+DoneFor words (Judged passed) = (asked : Asked) × Names (subcommand_of definition words) asked
+DoneFor words Shown = AreAnswered words IsRequest
+
+abbrev pub RefusedFor : List Text → ProgramFault → Type 0
+RefusedFor words program.Line = AreAnswered words IsMistake
+RefusedFor words (program.App fault) = Unit {0}
+
+abbrev pub EndsFor : List Text → Result Done ProgramFault → Type 0
+EndsFor words (Ok what) = DoneFor words what
+EndsFor words (Err fault) = RefusedFor words fault

@@ -1,0 +1,57 @@
+-- The command line as clap reads it.
+use Rattle.std.specs.Prelude.{◌≡◌, ◌⊎◌, List, Option, Some, None, codes, true, false}
+use Rattle.clap.specs.Words.{App, Rule, Row, Text, rule_of, app_of, new_app, new_rule, with_rule, with_subcommand, first_of, subcommand_of}
+use Rattle.clap.specs.Words.{Kinds, HasKind, fault_of, kind_of}
+use Rattle.clap.specs.declared.error.Error.{Error}
+use Rattle.clap.specs.declared.error.kind.ErrorKind.TheVariants.{MissingSubcommand}
+use Rattle.clap.specs.declared.builder.command.Command.TheViews.{out-Command as fields_of}
+use Rattle.clap.specs.declared.builder.command.Command.{Command}
+use Rattle.clap.specs.declared.builder.arg.Arg.{Arg}
+use Rattle.kt_program.specs.declared.line.Asked.{Asked}
+use Rattle.kt_program.specs.declared.line.Asked.TheVariants.{Check}
+
+-- a word that has to be there, with a name in help
+abbrev pub wanted : Text → Rule
+wanted id = record (new_rule id) { required = true; value_names = 1 }
+
+abbrev pub check : App
+check = with_rule (with_rule (new_app (codes "check")) (wanted (codes "log"))) (wanted (codes "cert"))
+
+-- a command with a version
+abbrev pub with_version : App → App
+with_version app = record app { top = record app.top { has_version = true } }
+
+-- the program's command line
+abbrev pub program : App
+program = with_subcommand (with_version (new_app (codes "koo_toueg"))) check.top
+
+-- an argument that clap reads as this rule
+pub record IsRule (rule : Rule) (a : Arg) : Type 0 where
+  pub read : rule_of a ≡ rule
+  pub local : a.global ≡ false
+
+-- a command that clap reads as this definition
+pub record IsDefined (app : App) (c : Command) : Type 0 where
+  pub shape : app_of c ≡ app
+  pub globals : (fields_of c).has_globals ≡ false
+
+-- what a subcommand's matches name
+abbrev pub NamesIn : Text → List Row → Asked → Type 0
+NamesIn name rows (Check log cert) = (name ≡ codes "check") × (first_of (codes "log") rows ≡ Some log.now) × (first_of (codes "cert") rows ≡ Some cert.now)
+
+-- what is asked for names the subcommand and its texts
+abbrev pub Names : Option (Text × List Row) → Asked → Type 0
+Names None asked = ⊥
+Names (Some p) asked = NamesIn p.0 p.1 asked
+
+-- the kinds of error that clap gives for words: none where it takes them
+abbrev pub faults_of : List Text → Kinds
+faults_of words = fault_of program words
+
+-- words that clap takes, but that name nothing to do
+abbrev pub NamesNothing : List Text → Type 0
+NamesNothing words = (asked : Asked) → ¬ Names (subcommand_of program words) asked
+
+-- an error of clap is one that its definition gives for the words, or there was no memory; else a subcommand is missing
+abbrev pub IsErrorFor : List Text → Error → Type 0
+IsErrorFor words e = HasKind (faults_of words) e ⊎ ((kind_of e ≡ MissingSubcommand) × NamesNothing words)

@@ -1,0 +1,20 @@
+-- Exit statuses.
+use Rattle.std.specs.Prelude.{ℕ, Bool, true, false, Result, Ok, Err}
+use Rattle.kt_program.specs.declared.ending.Done.{Done}
+use Rattle.kt_program.specs.declared.ending.Done.TheVariants.{Judged, Shown}
+use Rattle.kt_program.specs.declared.fault.ProgramFault.{ProgramFault}
+use Rattle.kt_program.specs.Faults.{refusal_status}
+
+-- 0 yes, 1 no
+abbrev pub answer_status : Bool → ℕ
+answer_status true = 0
+answer_status false = 1
+
+abbrev pub done_status : Done → ℕ
+done_status (Judged passed) = answer_status passed
+done_status Shown = 0
+
+-- 0 done or yes, 1 no, 2 refused input, 3 a read or write fault, 4 want of memory
+abbrev pub status_of : Result Done ProgramFault → ℕ
+status_of (Ok what) = done_status what
+status_of (Err fault) = refusal_status fault

@@ -1,0 +1,165 @@
+//! The command line, by clap.
+
+ghost use Rattle.std.specs.Prelude.{◌≡◌, IfOk, IfErr, IfSome, IfNone, Some, option_map};
+ghost use Rattle.clap.specs.Words.{first_of, kind_of, subcommand_of, subcommand_rows_of, rows_of, found_of};
+ghost use Rattle.kt_program.specs.Program.{program, check, wanted, IsRule, IsDefined, Names, NamesIn};
+ghost use Rattle.clap.specs.declared.error.kind.ErrorKind.TheVariants.{MissingSubcommand};
+ghost use Rattle.kt_program.specs.declared.line.Asked.{Asked};
+ghost use Rattle.kt_program.specs.Asking.{IsUnasked};
+ghost use Rattle.kt_program.specs.declared.ask.AskFault.TheVariants.{Line, Memory as OutOfMemory};
+
+use crate::line::Asked;
+use crate::words::Words;
+use clap::error::ErrorKind;
+use clap::{Arg, ArgMatches, Command, Error};
+use std::alloc::{AllocError, Global};
+
+const VERSION: &str = "0.1.0";
+
+const ABOUT: &str = "Judges stored runs of a checkpoint and rollback-recovery manager";
+
+const ABOUT_CHECK: &str = "Judges a stored log with its certificates";
+
+const LONG_ABOUT_CHECK: &str =
+    "Judges a stored log with its certificates, and prints one line: yes, or no with
+the instance, the row and the reason. A yes means that each committed instance
+took the least set of processes.";
+
+const ABOUT_LOG: &str = "The log, a CSV file with a record of four fields for each row";
+
+const LONG_ABOUT_LOG: &str = "The log, a CSV file with a record of four fields for each row.
+In format 2 the record kt,2,-,- comes first, and there are up to
+2^24 rows; in format 1 there is no such record, and there are up
+to 2^20 rows.";
+
+const ABOUT_CERT: &str = "The certificates, a CSV file with records of five fields";
+
+const LONG_ABOUT_CERT: &str = "The certificates, a CSV file with records of five fields: a cert
+record for each decided instance, followed by its member records.
+There are up to 2^19 records.";
+
+const STATUSES: &str = "Exit status:
+  0  done; the answer of check is yes
+  1  the answer of check is no
+  2  the command line, the log or the certificates are refused
+  3  a file cannot be read, or the output not be written
+  4  there is not enough memory";
+
+/// Why a command line was refused.
+#[derive(Debug, Drop)]
+pub enum AskFault {
+    /// As clap says; want of memory has the kind `OutOfMemory`, and a request for help is one that clap answers.
+    Line(Error),
+    /// There was no memory for the definition of the command line.
+    Memory,
+}
+
+impl From<AllocError> for AskFault {
+    ghost from_gives = { λ _ e. e ≡ OutOfMemory };
+
+    fn from(_fault: AllocError) -> AskFault {
+        AskFault::Memory
+    }
+}
+
+impl From<Error> for AskFault {
+    ghost from_gives = { λ e f. f ≡ Line e };
+
+    fn from(error: Error) -> AskFault {
+        AskFault::Line(error)
+    }
+}
+
+// A word that has to be there, with its name and its texts in help.
+fn wanted_word<'a>(
+    alloc: Global,
+    id: &'a str,
+    name: &'a str,
+    help: &'a str,
+    long_help: &'a str,
+) -> Arg<'a>
+    ensures { IsRule (wanted id.entry.now) result }
+{
+    Arg::new(alloc, id)
+        .required(true)
+        .value_name(name)
+        .help(help)
+        .long_help(long_help)
+}
+
+fn check_command<'a>(alloc: Global) -> Result<Command<'a>, AllocError>
+    ensures { IfOk result (IsDefined check) }
+{
+    let command = Command::new(alloc, "check")
+        .about(ABOUT_CHECK)
+        .long_about(LONG_ABOUT_CHECK)
+        .after_help(STATUSES)
+        .arg(wanted_word(alloc, "log", "LOG", ABOUT_LOG, LONG_ABOUT_LOG))?
+        .arg(wanted_word(alloc, "cert", "CERT", ABOUT_CERT, LONG_ABOUT_CERT))?;
+    Ok(command)
+}
+
+fn program_command<'a>(alloc: Global) -> Result<Command<'a>, AllocError>
+    ensures { IfOk result (IsDefined program) }
+{
+    let command = Command::new(alloc, "koo_toueg")
+        .version(VERSION)
+        .about(ABOUT)
+        .after_help(STATUSES)
+        .subcommand(check_command(alloc)?)?;
+    Ok(command)
+}
+
+// The text that the matches have for an argument.
+fn text_of<'a>(matches: &ArgMatches<'a>, id: &str) -> Option<&'a str>
+    ensures { option_map (λ s. s.now) result ≡ first_of id.now (rows_of (found_of matches.now)) }
+{
+    matches.get_str(id)
+}
+
+// What the matches of a subcommand of this name ask for.
+fn asked_of<'a>(name: &str, matches: &ArgMatches<'a>) -> Option<Asked<'a>>
+    ensures named { IfSome result (NamesIn name.now (rows_of (found_of matches.now))) }
+    ensures nothing { IfNone result ((asked : Asked) → ¬ NamesIn name.now (rows_of (found_of matches.now)) asked) }
+{
+    let log = text_of(matches, "log");
+    let cert = text_of(matches, "cert");
+    match name {
+        "check" => Some(Asked::Check {
+            log: log?,
+            cert: cert?,
+        }),
+        _ => None,
+    }
+}
+
+// What the matches of the program ask for.
+fn asked_in<'a>(matches: &ArgMatches<'a>) -> Option<Asked<'a>>
+    ensures named { IfSome result (Names (subcommand_rows_of matches.now)) }
+    ensures nothing { IfNone result ((asked : Asked) → ¬ Names (subcommand_rows_of matches.now) asked) }
+{
+    let (name, inner) = matches.subcommand()?;
+    asked_of(name, inner)
+}
+
+// The error of words that name nothing to do.
+fn nothing_asked(alloc: Global) -> Result<Error, AllocError>
+    ensures { IfOk result (λ e. kind_of e ≡ MissingSubcommand) }
+{
+    let mut command = program_command(alloc)?;
+    command.error(ErrorKind::MissingSubcommand, "a subcommand is missing")
+}
+
+/// What the words ask for.
+pub fn asked<'a>(alloc: Global, words: &'a Words) -> Result<Asked<'a>, AskFault>
+    // What it names is what clap's definition of the command line gives for the words.
+    ensures named { IfOk result (Names (subcommand_of program words.entry.now)) }
+    // It refuses words as that definition does, and those that name nothing.
+    ensures refused { IfErr result (IsUnasked words.entry.now) }
+{
+    let matches = program_command(alloc)?.try_get_matches_from(words.list())?;
+    match asked_in(&matches) {
+        Some(asked) => Ok(asked),
+        None => Err(AskFault::Line(nothing_asked(alloc)?)),
+    }
+}

@@ -1,0 +1,90 @@
+//! Why the program could not do what it was asked.
+
+ghost use Rattle.std.specs.Prelude.{◌≡◌};
+ghost use Rattle.kt_program.specs.declared.fault.AppFault.TheVariants as app;
+ghost use Rattle.kt_program.specs.declared.fault.ProgramFault.TheVariants as program;
+ghost use Rattle.kt_program.specs.Faults.{fault_status, refusal_status};
+
+use kt_base::Memory;
+use kt_chain::CertTextFault;
+use kt_spacetime::LogFault;
+use thiserror::Error;
+
+/// Why a stored run was not judged.
+#[derive(Clone, Copy, Debug, PartialEq, Eq, Hash, Error)]
+pub enum AppFault {
+    /// The log's text was refused.
+    #[error(transparent)]
+    Log(LogFault),
+    /// The certificates' text was refused.
+    #[error(transparent)]
+    Cert(CertTextFault),
+    /// A writer failed.
+    #[error("write fault")]
+    Write,
+    /// There was no memory.
+    #[error("memory")]
+    Memory,
+}
+
+impl AppFault {
+    /// The program's exit status: 2 for refused input, 3 for a read or write fault, 4 for want of memory.
+    pub fn status(self) -> u8
+        ensures { result ≡ fault_status self }
+    {
+        match self {
+            AppFault::Log(LogFault::Read) | AppFault::Cert(CertTextFault::Read) => 3,
+            AppFault::Log(LogFault::Memory) | AppFault::Cert(CertTextFault::Memory) => 4,
+            AppFault::Log(_) | AppFault::Cert(_) => 2,
+            AppFault::Write => 3,
+            AppFault::Memory => 4,
+        }
+    }
+}
+
+impl From<Memory> for AppFault {
+    ghost from_gives = { λ _ f. f ≡ app.Memory };
+
+    fn from(_fault: Memory) -> AppFault {
+        AppFault::Memory
+    }
+}
+
+/// Why the program did not do what it was asked. Its text is the program's fault line, without the program's name.
+#[derive(Clone, Copy, Debug, PartialEq, Eq, Hash, Error)]
+pub enum ProgramFault {
+    /// The words of the command line were refused.
+    #[error("command line refused")]
+    Line,
+    /// A stored run was not judged, or there was no memory for the words, or what was asked for was not written.
+    #[error(transparent)]
+    App(AppFault),
+}
+
+impl ProgramFault {
+    /// The program's exit status: 2 for refused input, 3 for a read or write fault, 4 for want of memory.
+    pub fn status(self) -> u8
+        ensures { result ≡ refusal_status self }
+    {
+        match self {
+            ProgramFault::Line => 2,
+            ProgramFault::App(fault) => fault.status(),
+        }
+    }
+}
+
+impl From<AppFault> for ProgramFault {
+    ghost from_gives = { λ fault f. f ≡ program.App fault };
+
+    fn from(fault: AppFault) -> ProgramFault {
+        ProgramFault::App(fault)
+    }
+}
+
+impl From<Memory> for ProgramFault {
+    ghost from_gives = { λ _ f. f ≡ program.App app.Memory };
+
+    fn from(_fault: Memory) -> ProgramFault {
+        ProgramFault::App(AppFault::Memory)
+    }
+}

@@ -1,0 +1,142 @@
+//! What the program does, whatever gives its words, its files and its writers.
+
+ghost use Rattle.std.specs.Prelude.{◌≡◌, ◌≢◌, IfOk, IfErr};
+ghost use Rattle.std.specs.IoError.{error_kind};
+ghost use Rattle.std.specs.declared.io.ErrorKind.TheVariants as io;
+ghost use Rattle.clap.specs.Words.{kind_of};
+ghost use Rattle.kt_program.specs.declared.ending.Done.TheVariants.{Shown};
+ghost use Rattle.kt_program.specs.declared.fault.AppFault.TheVariants as app;
+ghost use Rattle.kt_program.specs.declared.fault.ProgramFault.TheVariants as program;
+ghost use Rattle.kt_program.specs.Asking.{EndsFor, IsMistake, IsRequest};
+ghost use Rattle.kt_program.specs.Ending.{Ends, Leaves, LeavesAnswer};
+
+use crate::ask::{AskFault, asked};
+use crate::checked::check_bytes;
+use crate::ending::{Done, end};
+use crate::fault::{AppFault, ProgramFault};
+use crate::line::Asked;
+use crate::words::Words;
+use clap::Error;
+use clap::error::ErrorKind;
+use kt_chain::CertTextFault;
+use kt_spacetime::LogFault;
+use std::alloc::Global;
+use std::io::Write;
+use std::rt::{Env, Files};
+use std::{env, fs, io};
+
+/// Does what the words of the command line ask, writes the answer to `out` and a fault's line to `err`, and gives the exit
+/// status.
+pub fn run<V: Env, F: Files, O: Write, E: Write>(
+    env: &V,
+    files: &F,
+    alloc: Global,
+    out: &mut O,
+    err: &mut E,
+) -> u8
+    ensures { Ends result (O.contents out.old) (O.contents out.new)
+        (E.contents err.old) (E.contents err.new) }
+{
+    let outcome = done(env, files, alloc, out);
+    end(outcome, err)
+}
+
+// Does what the words of the command line ask.
+fn done<V: Env, F: Files, O: Write>(
+    env: &V,
+    files: &F,
+    alloc: Global,
+    out: &mut O,
+) -> Result<Done, ProgramFault>
+    ensures { Leaves result (O.contents out.old) (O.contents out.new) }
+{
+    let words = words_of(env, alloc)?;
+    carry_out(files, alloc, &words, out)
+}
+
+/// Does what these words ask, and writes the answer or the help to `out`.
+pub fn carry_out<F: Files, O: Write>(
+    files: &F,
+    alloc: Global,
+    words: &Words,
+    out: &mut O,
+) -> Result<Done, ProgramFault>
+    // What is done, or that the words are refused, is what clap's definition of the command line gives for them.
+    ensures words { EndsFor words.now result }
+    ensures output { Leaves result (O.contents out.old) (O.contents out.new) }
+{
+    match asked(alloc, words) {
+        Ok(Asked::Check { log, cert }) => match check_files(files, alloc, log, cert, out) {
+            Ok(passed) => Ok(Done::Judged(passed)),
+            Err(fault) => Err(ProgramFault::App(fault)),
+        },
+        Err(AskFault::Line(error)) => shown(out, &error),
+        Err(AskFault::Memory) => Err(ProgramFault::App(AppFault::Memory)),
+    }
+}
+
+// The words that the program was called with.
+fn words_of<V: Env>(env: &V, alloc: Global) -> Result<Words, ProgramFault> {
+    let mut words = Words::new(alloc);
+    match env::args(&(env, alloc)) {
+        Ok(arguments) => {
+            for word in arguments {
+                words.push(word.as_str())?;
+            }
+            Ok(words)
+        }
+        Err(error) => Err(words_refused(&error)),
+    }
+}
+
+// Why the words were not given: there was no memory, or a word is no text.
+fn words_refused(error: &io::Error) -> ProgramFault
+    ensures memory { error_kind error.now ≡ io.OutOfMemory → result ≡ program.App app.Memory }
+    ensures line { error_kind error.now ≢ io.OutOfMemory → result ≡ program.Line }
+{
+    match error.kind() {
+        io::ErrorKind::OutOfMemory => ProgramFault::App(AppFault::Memory),
+        _ => ProgramFault::Line,
+    }
+}
+
+// Judges the log and the certificates in these files; true for a yes.
+fn check_files<F: Files, O: Write>(
+    files: &F,
+    alloc: Global,
+    log: &str,
+    cert: &str,
+    out: &mut O,
+) -> Result<bool, AppFault>
+    ensures { LeavesAnswer result (O.contents out.old) (O.contents out.new) }
+{
+    let Ok(log) = fs::open(files, log) else {
+        return Err(AppFault::Log(LogFault::Read));
+    };
+    let Ok(cert) = fs::open(files, cert) else {
+        return Err(AppFault::Cert(CertTextFault::Read));
+    };
+    check_bytes(alloc, log, cert, out)
+}
+
+// Writes the help or the version that was asked for. Any other error of clap is a refusal, or want of memory.
+fn shown<O: Write>(out: &mut O, error: &Error) -> Result<Done, ProgramFault>
+    ensures shown { IfOk result (λ what. (what ≡ Shown) × IsRequest (kind_of error.now)) }
+    ensures refused { IfErr result (λ fault. fault ≡ program.Line → IsMistake (kind_of error.now)) }
+    ensures output { Leaves result (O.contents out.old) (O.contents out.new) }
+{
+    match error.kind() {
+        ErrorKind::DisplayHelp | ErrorKind::DisplayVersion => match write_text(out, error) {
+            Ok(()) => Ok(Done::Shown),
+            Err(_) => Err(ProgramFault::App(AppFault::Write)),
+        },
+        ErrorKind::OutOfMemory => Err(ProgramFault::App(AppFault::Memory)),
+        _ => Err(ProgramFault::Line),
+    }
+}
+
+// Writes clap's text.
+fn write_text<O: Write>(out: &mut O, error: &Error) -> io::Result<()> {
+    write!(out, "{error}")?;
+    out.flush()
+}
