@@ -23,7 +23,7 @@ loop-part-preserved-in_ok-push c =
       before.0 ++ msg ∷ [],
       All-push IsMsgNo before.0 msg before.1 c.in-Some-message_of.ensures.found.0,
       reads_more before.0 (parts_in c.args.text.now) (length c.loop-part.yielded) msg c.in-Some.part.now before.2 turn.0 (sym turn.1) c.in-Some-message_of.ensures.found.1
-      ∙ ap (λ (n : ℕ). take n (parts_in c.args.text.now)) (sym (length_push c.loop-part.yielded c.in-Some.part)),
+          ∙ ap (λ (n : ℕ). take n (parts_in c.args.text.now)) (sym (length_push c.loop-part.yielded c.in-Some.part)),
       rw c.in_ok-push.ensures.ok (keeps_more before.0 c.loop-part.chain c.loop-part.is_long msg before.3),
     )
 
@@ -37,7 +37,7 @@ loop-part-preserved c =
       before.0 ++ msg ∷ [],
       All-push IsMsgNo before.0 msg before.1 c.in-Some-message_of.ensures.found.0,
       reads_more before.0 (parts_in c.args.text.now) (length c.loop-part.yielded) msg c.in-Some.part.now before.2 turn.0 (sym turn.1) c.in-Some-message_of.ensures.found.1
-      ∙ ap (λ (n : ℕ). take n (parts_in c.args.text.now)) (sym (length_push c.loop-part.yielded c.in-Some.part)),
+          ∙ ap (λ (n : ℕ). take n (parts_in c.args.text.now)) (sym (length_push c.loop-part.yielded c.in-Some.part)),
       grows_long before.0 c.loop-part.chain c.loop-part.is_long msg full before.3,
     )
 
