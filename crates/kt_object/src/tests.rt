@@ -219,6 +219,63 @@ fn a_dropped_object_gives_its_own_slot_back(rt: HostRuntime) -> Result<(), Fail>
 }
 
 #[test]
+fn a_slot_past_the_number_of_those_out_is_freed(rt: HostRuntime) -> Result<(), Fail> {
+    let mut book = SlotBook::new(rt.alloc());
+    let first = book.open()?;
+    let second = book.open()?;
+    let third = book.open()?;
+    drop(first);
+    frees(&rt, &mut book, 1, 2);
+    drop(third);
+    frees(&rt, &mut book, 1, 1);
+    drop(second);
+    frees(&rt, &mut book, 1, 0);
+    Ok(())
+}
+
+/// Opens eight slots, drops those of these numbers one by one and sees each freed, opens as many again, and gives all up.
+fn frees_in_this_order(
+    rt: &impl Abort,
+    alloc: Global,
+    book: &mut SlotBook,
+    order: &[usize],
+) -> Result<(), Fail> {
+    let mut guards = Vec::new(alloc);
+    for _ in 0..8u8 {
+        guards.push(Some(book.open()?))?;
+    }
+    for (dropped, number) in order.iter().enumerate() {
+        let guard = guards.get_mut(*number).ok_or("no such slot")?;
+        drop(guard.take());
+        frees(rt, book, 1, 7 - dropped);
+    }
+    for _ in order {
+        let guard = book.open()?;
+        assert!(rt; guard.number() < 8);
+        guards.push(Some(guard))?;
+    }
+    assert_eq!(rt; book.out(), 8);
+    drop(guards);
+    frees(rt, book, 8, 0);
+    Ok(())
+}
+
+#[test]
+fn slots_are_freed_in_any_order(rt: HostRuntime) -> Result<(), Fail> {
+    let mut book = SlotBook::new(rt.alloc());
+    for order in [
+        [0, 1, 2, 3, 4, 5, 6, 7].as_slice(),
+        &[7, 6, 5, 4, 3, 2, 1, 0],
+        &[0, 7, 1, 6, 2, 5, 3, 4],
+        &[3, 4, 0, 7],
+        &[6],
+    ] {
+        frees_in_this_order(&rt, rt.alloc(), &mut book, order)?;
+    }
+    Ok(())
+}
+
+#[test]
 fn a_guard_may_outlive_its_book(rt: HostRuntime) -> Result<(), Fail> {
     let mut book = SlotBook::new(rt.alloc());
     let guard = book.open()?;

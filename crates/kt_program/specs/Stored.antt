@@ -1,5 +1,5 @@
 -- What the program answers to a stored log with its certificates.
-use Rattle.std.specs.Prelude.{◌≢◌, ℕ, Bool, true, false, Option, List, [], ◌∷◌, ◌++◌, IfSome}
+use Rattle.std.specs.Prelude.{◌≡◌, ◌≢◌, ◌↔◌, ℕ, Bool, true, false, Option, List, [], ◌∷◌, ◌++◌, IfSome}
 use Rattle.kt_spacetime.specs.declared.event.Event.{Event}
 use Rattle.kt_spacetime.specs.declared.fault.LogFault.{LogFault}
 use Rattle.kt_spacetime.specs.declared.fault.LogFault.TheVariants as log
@@ -11,6 +11,7 @@ use Rattle.kt_chain.specs.declared.fault.CertTextFault.TheVariants as cert
 use Rattle.kt_chain.specs.Texts as certs
 use Rattle.kt_checker.specs.declared.verdict.Verdict.{Verdict}
 use Rattle.kt_checker.specs.declared.verdict.Verdict.TheVariants.{Yes, No}
+use Rattle.kt_checker.specs.Passing.{IsPassed}
 use Rattle.kt_checker.specs.Streamed.{IsAnswerOf, SaysRows}
 use Rattle.kt_checker.specs.Words.{verdict_words}
 use Rattle.kt_program.specs.declared.fault.AppFault.{AppFault}
@@ -37,6 +38,12 @@ pub record IsJudged (log cert : Told) (verdict : Verdict) : Type 0 where
   pub certificates : List Certificate
   pub certificates_said : SayCertificates cert certificates
   pub answer : IsAnswerOf log certificates verdict
+
+-- it is true exactly where all passes of the rows and the certificates that the bytes say, where both are told
+abbrev pub IsExact : Told → Told → Bool → Type 0
+IsExact log cert passed =
+    IfSome (records_told log) (λ text. (rows : List Event) → rows.IsLogText text rows
+        → IfSome (records_told cert) (λ also. (certificates : List Certificate) → certs.IsCertText also certificates → (passed ≡ true) ↔ IsPassed rows certificates))
 
 -- the line of an answer
 abbrev pub line_of : Verdict → List ℕ

@@ -9,7 +9,7 @@ ghost use Rattle.kt_chain.specs.Texts as certs;
 ghost use Rattle.kt_checker.specs.declared.verdict.Verdict.{Verdict};
 ghost use Rattle.kt_checker.specs.Streamed.{IsAnswerOf};
 ghost use Rattle.kt_program.specs.declared.fault.AppFault.TheVariants as app;
-ghost use Rattle.kt_program.specs.Stored.{IsJudged, IsRefusal, SayCertificates, is_yes, line_of, of_cert, of_log, records_told};
+ghost use Rattle.kt_program.specs.Stored.{IsExact, IsJudged, IsRefusal, SayCertificates, is_yes, line_of, of_cert, of_log, records_told};
 
 use crate::fault::AppFault;
 use kt_chain::{CertTextFault, Certificate, read_certs};
@@ -32,6 +32,8 @@ pub fn check_bytes<L: Read + Drop, C: Read + Drop, W: Write>(
     ensures answer { IfOk result (λ passed. (verdict : Verdict) × (passed ≡ is_yes verdict)
         × IsJudged (L.remaining log_reader) (C.remaining cert_reader) verdict
         × Appends (W.contents writer.old) (W.contents writer.new) (line_of verdict)) }
+    // So, where both readers tell their bytes, it is true exactly where all that they say passes.
+    ensures yes { IfOk result (IsExact (L.remaining log_reader) (C.remaining cert_reader)) }
     // A fault is the first of the log, else that of the certificates, else one of the writer.
     ensures fault { IfErr result (IsRefusal (L.remaining log_reader) (C.remaining cert_reader)) }
     ensures unwritten { IfErr result (λ e. e ≢ app.Write → W.contents writer.new ≡ W.contents writer.old) }
