@@ -3,9 +3,10 @@ use Rattle.std.proofs.Common.{◌≡◌, ◌∙◌, ◌<◌, ◌≤◌, ◌+◌,
 use Rattle.std.specs.Prelude.{All}
 use Rattle.std.proofs.lemmas.List.Elements.{All-weaker}
 use Rattle.csv.specs.Reading.{default_config, strip_bom, records}
-use Rattle.kt_spacetime.specs.Progress.{Takes as TakesRecord}
+use Rattle.kt_text.specs.Records.{Takes as TakesRecord}
 use Rattle.kt_chain.specs.declared.certificate.Certificate.{Certificate}
 use Rattle.kt_chain.specs.declared.fault.CertTextFault.{CertTextFault}
+use Rattle.kt_chain.specs.declared.fault.CertTextFault.TheVariants.{TooLong}
 use Rattle.kt_chain.specs.declared.records.RecordFault.{RecordFault}
 use Rattle.kt_chain.specs.declared.records.RecordFault.TheVariants as fault
 use Rattle.kt_chain.specs.Spelling.{Member, IsInRange, IsMemberInRange, HasShortChains, most_messages, records_of}
@@ -52,6 +53,17 @@ pub record_fault : (source : Option (List ℕ)) (left rest : Option Records) (ce
     → TakesRecord left rest fields → n ≡ record_count certificates + 1 → record_count certificates < most_records → IsRecordFault certificates fields f
     → IfSome source (λ bytes. IsFirstFault (records default_config (strip_bom bytes)) (fault_at f n))
 record_fault source left rest certificates fields n f b t e few h = first_fault source left certificates (fault_at f n) b (wrong_record left rest certificates fields n f t e few h)
+
+-- a record comes after as many as there may be
+one_too_many : (left rest : Option Records) (certificates : List Certificate) (fields : List (List ℕ)) → TakesRecord left rest fields → record_count certificates ≡ most_records
+    → IfSome left (λ left. IsFaultAfter certificates left TooLong)
+one_too_many None rest certificates fields t full = tt
+one_too_many (Some left) None certificates fields t full = absurd t
+one_too_many (Some left) (Some rest) certificates fields t full = (full, fields, rest, t)
+
+pub too_long : (source : Option (List ℕ)) (left rest : Option Records) (certificates : List Certificate) (fields : List (List ℕ)) → Begins source left certificates → TakesRecord left rest fields
+    → record_count certificates ≡ most_records → IfSome source (λ bytes. IsFirstFault (records default_config (strip_bom bytes)) TooLong)
+too_long source left rest certificates fields b t full = first_fault source left certificates TooLong b (one_too_many left rest certificates fields t full)
 
 -- certificates in range have short chains
 pub short : (certificates : List Certificate) → All IsInRange certificates → All HasShortChains certificates

@@ -8,9 +8,8 @@ use Rattle.std.proofs.lemmas.List.Elements.{All-nil, All-cons, All-append, All-h
 use Rattle.kt_base.specs.Numbers.{IsMsgNo}
 use Rattle.kt_base.specs.declared.words.Kind.{Kind}
 use Rattle.kt_base.specs.declared.words.Kind.TheVariants.{Checkpoint, Rollback}
-use Rattle.kt_spacetime.specs.Words.{kind_word, verdict_word}
-use Rattle.kt_spacetime.proofs.SpellingFacts.{field_1, field_2, field_3, field_4}
-use Rattle.kt_spacetime.proofs.TextFacts.{Records, first_and_rest}
+use Rattle.kt_text.specs.Words.{kind_word, verdict_word}
+use Rattle.kt_text.proofs.FieldFacts.{Records, first_and_rest, field_1, field_2, field_3, field_4}
 use Rattle.kt_chain.specs.declared.certificate.Certificate.{Certificate}
 use Rattle.kt_chain.specs.Spelling.{Member, chain_word, instance_record, member_record, certificate_records, records_of, IsMemberInRange, IsInRange}
 use Rattle.kt_chain.proofs.ChainFacts.{parts_in, parts_back, digits}

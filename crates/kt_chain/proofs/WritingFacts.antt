@@ -3,11 +3,10 @@ use Rattle.std.proofs.Common.{◌≡◌, ◌∙◌, ◌<◌, ◌+◌, ℕ, List,
 use Rattle.std.proofs.lemmas.List.{take_more, map-append, append-nil}
 use Rattle.std.proofs.lemmas.List.Concat.{flat_map-append}
 use Rattle.std.specs.Fmt.{decimal}
-use Rattle.csv.proofs.WriteFacts.{appends-more}
-use Rattle.kt_spacetime.specs.Writing.{line_of, text_of}
+use Rattle.kt_text.specs.Writing.{line_of, text_of, Sends}
+use Rattle.kt_text.proofs.PieceFacts.{sends_more, sends_gathered, sends_nothing, text_more}
 use Rattle.kt_chain.specs.declared.certificate.Certificate.{Certificate}
 use Rattle.kt_chain.specs.Spelling.{Member, member_record, certificate_records, records_of, chain_word}
-use Rattle.kt_chain.specs.Writing.{Sends}
 
 -- a chain with one more number
 chain_more : (first : ℕ) (others : List ℕ) (msg : ℕ) → chain_word (first ∷ (others ++ msg ∷ [])) ≡ chain_word (first ∷ others) ++ 47 ∷ decimal msg
@@ -24,32 +23,9 @@ gathers_number text old new messages others first i msg e within at was more =
     more ∙ ap (λ (x : List ℕ). x ++ 47 ∷ decimal msg) (was ∙ ap (λ (x : List ℕ). text ++ 44 ∷ chain_word x) before) ∙ append_assoc text (44 ∷ chain_word (first ∷ take i others)) (47 ∷ decimal msg)
     ∙ ap (λ (x : List ℕ). text ++ 44 ∷ x) (sym (chain_more first (take i others) msg)) ∙ ap (λ (x : List ℕ). text ++ 44 ∷ chain_word x) (sym (after ∙ ap (λ (x : List ℕ). first ∷ x) step))
 
--- one text is sent after another
-pub sends_more : (a b c : Option (List ℕ)) (x y z s t : List ℕ) → Sends a b x y s → Sends b c y z t → Sends a c x z (s ++ t)
-sends_more a b c x y z s t p q = record {
-  gone = p.gone ++ q.gone;
-  written = appends-more a b c p.gone q.gone p.written q.written;
-  is = append_assoc p.gone q.gone z ∙ ap (λ (u : List ℕ). p.gone ++ u) q.is ∙ sym (append_assoc p.gone y t) ∙ ap (λ (u : List ℕ). u ++ t) p.is ∙ append_assoc x s t;
-}
-
--- a text is gathered after what was sent
-sends_gathered : (a b : Option (List ℕ)) (x y z s t : List ℕ) → Sends a b x y s → z ≡ y ++ t → Sends a b x z (s ++ t)
-sends_gathered a b x y z s t p e = record {
-  gone = p.gone;
-  written = p.written;
-  is = ap (λ (u : List ℕ). p.gone ++ u) e ∙ sym (append_assoc p.gone y t) ∙ ap (λ (u : List ℕ). u ++ t) p.is ∙ append_assoc x s t;
-}
-
--- nothing more is sent
-pub sends_nothing : (a b c : Option (List ℕ)) (x y z s : List ℕ) → Sends a b x y s → Sends b c y z [] → Sends a c x z s
-sends_nothing a b c x y z s p q = rw append-nil at (sends_more a b c x y z s [] p q)
-
 -- the records of a certificate with some of its members
 abbrev pub records_to : Certificate → List Member → List (List (List ℕ))
 records_to c members = certificate_records (record { inst = c.inst; kind = c.kind; initiator = c.initiator; commit = c.commit; members = members })
-
-text_more : (before : List (List (List ℕ))) (fields : List (List ℕ)) → text_of (before ++ fields ∷ []) ≡ text_of before ++ line_of fields
-text_more before fields = flat_map-append line_of before (fields ∷ []) ∙ ap (λ (x : List ℕ). text_of before ++ x) (append-nil (line_of fields))
 
 -- one more member is sent
 pub sends_member : (a b d : Option (List ℕ)) (x y z u : List ℕ) (c : Certificate) (i : ℕ) (member : Member) → i < length c.members → get_or c.members i member ≡ member

@@ -1,4 +1,3 @@
 pub mod Spelling
 pub mod Texts
 pub mod Reading
-pub mod Writing

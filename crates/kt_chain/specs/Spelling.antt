@@ -3,7 +3,7 @@ use Rattle.std.specs.Prelude.{◌≤◌, ℕ, List, [], ◌∷◌, codes, map, l
 use Rattle.std.specs.List.{flat_map, join_with_byte}
 use Rattle.std.specs.Fmt.{decimal}
 use Rattle.kt_base.specs.Numbers.{IsProcNo, IsMsgNo, IsInstNo}
-use Rattle.kt_spacetime.specs.Words.{kind_word, verdict_word}
+use Rattle.kt_text.specs.Words.{kind_word, verdict_word}
 use Rattle.kt_chain.specs.declared.certificate.Certificate.{Certificate}
 
 -- a member and the messages of its chain

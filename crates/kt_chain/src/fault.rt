@@ -1,10 +1,11 @@
 //! Why a certificate text was refused.
 
-ghost use Rattle.std.specs.Prelude.{◌≡◌, if◌then◌else◌};
-ghost use Rattle.csv.specs.Reading.{error_kind, is_io};
+ghost use Rattle.std.specs.Prelude.{◌≡◌};
+ghost use Rattle.kt_text.specs.declared.fault.ReadFault.TheVariants as read;
 ghost use Rattle.kt_chain.specs.declared.fault.CertTextFault.TheVariants as fault;
 
 use kt_base::Memory;
+use kt_text::ReadFault;
 use std::alloc::AllocFailed;
 use thiserror::Error;
 
@@ -50,14 +51,13 @@ impl<T: Drop> From<AllocFailed<T>> for CertTextFault {
     }
 }
 
-impl From<csv::Error> for CertTextFault {
-    ghost from_gives = { λ e f. f ≡ (if is_io (error_kind e) then fault.Read else fault.Memory) };
+impl From<ReadFault> for CertTextFault {
+    ghost from_gives = { λ e f. (e ≡ read.Read → f ≡ fault.Read) × (e ≡ read.Memory → f ≡ fault.Memory) };
 
-    fn from(error: csv::Error) -> CertTextFault {
-        if error.is_io_error() {
-            CertTextFault::Read
-        } else {
-            CertTextFault::Memory
+    fn from(fault: ReadFault) -> CertTextFault {
+        match fault {
+            ReadFault::Read => CertTextFault::Read,
+            ReadFault::Memory => CertTextFault::Memory,
         }
     }
 }

@@ -1,35 +1,20 @@
 //! Certificates read from their text.
 
-ghost use Rattle.std.specs.Prelude.{◌≡◌, ◌⊎◌, [], true, false, All, IfOk, IfErr, IfSome};
+ghost use Rattle.std.specs.Prelude.{All, IfOk, IfErr, IfSome};
 ghost use Rattle.csv.specs.Reading.{default_config, strip_bom, records};
-ghost use Rattle.csv.specs.Records.{fields_of};
-ghost use Rattle.kt_spacetime.specs.Progress.{left_in, ReadsOn, Takes};
 ghost use Rattle.kt_chain.specs.Spelling.{IsInRange, HasShortChains};
 ghost use Rattle.kt_chain.specs.Texts.{IsCertText, IsFirstFault};
 
 use crate::certificate::Certificate;
 use crate::fault::CertTextFault;
 use crate::records::take_record;
-use csv::{ByteRecord, Reader, ReaderBuilder};
+use csv::{ByteRecord, ReaderBuilder};
+use kt_text::records::next_record;
 use std::alloc::Global;
 use std::io::Read;
 
 /// How many records a certificate text may have.
 const MOST_RECORDS: u32 = 524_288;
-
-// The next record into `current`, and whether there was one.
-fn next_record<R: Read>(
-    records: &mut Reader<R>,
-    current: &mut ByteRecord,
-) -> Result<bool, CertTextFault>
-    requires { ReadsOn records.old }
-    ensures found { IfOk result (λ found. found ≡ true → ReadsOn records.new × Takes (left_in R.remaining records.old) (left_in R.remaining records.new) (fields_of current.new)) }
-    ensures ended { IfOk result (λ found. found ≡ false → IfSome (left_in R.remaining records.old) (λ left. left ≡ [])) }
-    ensures fault { IfErr result (λ e. (e ≡ CertTextFault.Read) ⊎ (e ≡ CertTextFault.Memory)) }
-{
-    let found = records.read_byte_record(current)?;
-    Ok(found)
-}
 
 /// The certificates of a text, in order.
 ///

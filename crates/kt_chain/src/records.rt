@@ -5,7 +5,7 @@ ghost use Rattle.std.specs.List.{slice_split};
 ghost use Rattle.std.specs.Fmt.{decimal};
 ghost use Rattle.csv.specs.Records.{fields_of};
 ghost use Rattle.kt_base.specs.Numbers.{IsProcNo, IsMsgNo, IsInstNo};
-ghost use Rattle.kt_spacetime.specs.Words.{kind_word, verdict_word};
+ghost use Rattle.kt_text.specs.Words.{kind_word, verdict_word};
 ghost use Rattle.kt_chain.specs.Spelling.{IsInRange, IsMemberInRange, instance_record, member_record, chain_word, most_messages};
 ghost use Rattle.kt_chain.specs.Texts.{IsMisfit, IsInstanceMisfit, IsMemberFault, IsOtherInstance, IsFieldFault, IsRecordFault, fault_at};
 ghost use Rattle.kt_chain.specs.Texts as slot;
@@ -16,7 +16,7 @@ use crate::certificate::{Certificate, Chain, Members};
 use crate::fault::CertTextFault;
 use csv::ByteRecord;
 use kt_base::{InstNo, Kind, Memory, ProcNo};
-use kt_spacetime::fields::{instance_of, kind_of, message_of, number_of, process_of, verdict_of};
+use kt_text::fields::{instance_of, kind_of, message_of, number_of, process_of, verdict_of};
 use std::alloc::{AllocFailed, Global};
 
 /// The greatest length of a chain.

@@ -3,19 +3,16 @@
 ghost use Rattle.std.specs.Prelude.{◌≡◌, ◌<◌, [], ◌∷◌, ◌++◌, codes, map, length, All, OnOk};
 ghost use Rattle.std.specs.Io.KnownBytes.{Appends};
 ghost use Rattle.std.specs.Fmt.{decimal};
-ghost use Rattle.kt_spacetime.specs.Writing.{joined, line_of, text_of};
+ghost use Rattle.kt_text.specs.Writing.{Sends, line_of, text_of};
 ghost use Rattle.kt_chain.specs.Spelling.{Member, instance_record, member_record, certificate_records, records_of, chain_word, HasShortChains};
-ghost use Rattle.kt_chain.specs.Writing.{Sends};
 
 use crate::certificate::{Certificate, Chain};
 use kt_base::{InstNo, Memory, MsgNo, ProcNo};
-use kt_spacetime::WriteFault;
-use kt_spacetime::fields::{kind_text, verdict_text};
+use kt_text::WriteFault;
+use kt_text::fields::{kind_text, verdict_text};
+use kt_text::pieces::{push_field, write_full, write_rest};
 use std::alloc::Global;
 use std::io::Write;
-
-// A text goes out once this many bytes of it are gathered.
-const PIECE: usize = 32_768;
 
 /// Writes certificates as text: for each a record `cert`, then a record `member` for each of its members, each ended
 /// by a line feed. No chain may have more than 63 numbers.
@@ -34,11 +31,7 @@ pub fn write_certs<W: Write>(
     for certificate in certificates {
         write_certificate(&mut text, certificate, writer)?;
     }
-    write_piece(&mut text, writer)?;
-    match writer.flush() {
-        Ok(()) => Ok(()),
-        Err(_) => Err(WriteFault::Write),
-    }
+    write_rest(&mut text, writer)
 }
 
 // Writes or gathers the records of a certificate.
@@ -56,28 +49,6 @@ fn write_certificate<W: Write>(
         push_member(text, certificate.inst, member)?;
     }
     write_full(text, writer)
-}
-
-// Writes what is gathered, if that is a piece.
-fn write_full<W: Write>(text: &mut Vec<u8>, writer: &mut W) -> Result<(), WriteFault>
-    ensures { OnOk result (Sends (W.contents writer.old) (W.contents writer.new) text.old.items text.new.items []) }
-{
-    if text.len() < PIECE {
-        return Ok(());
-    }
-    write_piece(text, writer)
-}
-
-// Writes what is gathered, so that nothing is.
-fn write_piece<W: Write>(text: &mut Vec<u8>, writer: &mut W) -> Result<(), WriteFault>
-    ensures written { OnOk result (Appends (W.contents writer.old) (W.contents writer.new) text.old.items) }
-    ensures taken { OnOk result (text.new.items ≡ []) }
-{
-    if writer.write_all(text.as_slice()).is_err() {
-        return Err(WriteFault::Write);
-    }
-    text.clear();
-    Ok(())
 }
 
 // The record of an instance.
@@ -120,15 +91,6 @@ fn push_chain(text: &mut Vec<u8>, messages: &[MsgNo]) -> Result<(), Memory>
     for msg in others {
         push_number(text, b'/', msg.get())?;
     }
-    Ok(())
-}
-
-// A comma and a field.
-fn push_field(text: &mut Vec<u8>, field: &[u8]) -> Result<(), Memory>
-    ensures { OnOk result (text.new.items ≡ text.old.items ++ 44 ∷ field.now) }
-{
-    text.push(b',')?;
-    text.extend_from_slice(field)?;
     Ok(())
 }
 

@@ -6,8 +6,8 @@ use Rattle.std.proofs.lemmas.Bool.{cases_order}
 use Rattle.std.proofs.lemmas.Option.{slice_get_within}
 use Rattle.kt_spacetime.specs.declared.event.Event.{Event}
 use Rattle.kt_spacetime.specs.declared.event.Event.TheVariants as event
-use Rattle.kt_spacetime.specs.Texts.{IsLogText}
-use Rattle.kt_spacetime.proofs.TextFacts.{one_log}
+use Rattle.kt_log_text.specs.Texts.{IsLogText}
+use Rattle.kt_log_text.proofs.TextFacts.{one_log}
 use Rattle.kt_cuts.specs.declared.rules.Rule.{Rule}
 use Rattle.kt_cuts.specs.Past.{Past, past}
 use Rattle.kt_cuts.specs.Legal.{IsLegal}

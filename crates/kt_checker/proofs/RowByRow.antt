@@ -1,9 +1,9 @@
 -- A log judged while its rows are read.
 use Rattle.std.proofs.Common.{◌≡◌, ◌++◌, ◌∷◌, [], ℕ, List, Option, Some, None, IfSome, refl, sym, subst, arith, inl, inr}
 use Rattle.kt_spacetime.specs.declared.event.Event.{Event}
-use Rattle.kt_spacetime.specs.Reading.{RowsRead, GivesRow, MeetsEnd, rows_unread}
-use Rattle.kt_spacetime.specs.Progress.{Gathers}
-use Rattle.kt_spacetime.proofs.GatherFacts.{gathers_more, gathers_none, gathered_all, most_rows_le}
+use Rattle.kt_log_text.specs.Reading.{RowsRead, GivesRow, MeetsEnd, rows_unread}
+use Rattle.kt_log_text.specs.Progress.{Gathers}
+use Rattle.kt_log_text.proofs.GatherFacts.{gathers_more, gathers_none, gathered_all, most_rows_le}
 use Rattle.kt_chain.specs.declared.certificate.Certificate.{Certificate}
 use Rattle.kt_checker.specs.declared.judge.Judge.{Judge}
 use Rattle.kt_checker.specs.declared.verdict.Verdict.{Verdict}

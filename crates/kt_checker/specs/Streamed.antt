@@ -1,8 +1,8 @@
 -- The checker's answer to the bytes of a log.
 use Rattle.std.specs.Prelude.{◌≡◌, ℕ, Option, List, IfSome}
 use Rattle.kt_spacetime.specs.declared.event.Event.{Event}
-use Rattle.kt_spacetime.specs.Reading.{rows_unread}
-use Rattle.kt_spacetime.specs.Texts.{IsLogText}
+use Rattle.kt_log_text.specs.Reading.{rows_unread}
+use Rattle.kt_log_text.specs.Texts.{IsLogText}
 use Rattle.kt_chain.specs.declared.certificate.Certificate.{Certificate}
 use Rattle.kt_checker.specs.declared.verdict.Verdict.{Verdict}
 use Rattle.kt_checker.specs.declared.verdict.Verdict.TheVariants.{Yes}

@@ -2,8 +2,8 @@
 
 ghost use Rattle.std.specs.Prelude.{◌≡◌, ◌↔◌, List, IfOk, IfErr, IfSome};
 ghost use Rattle.kt_spacetime.specs.declared.event.Event.{Event};
-ghost use Rattle.kt_spacetime.specs.Reading.{rows_unread};
-ghost use Rattle.kt_spacetime.specs.Texts.{IsLogText, IsFirstFault};
+ghost use Rattle.kt_log_text.specs.Reading.{rows_unread};
+ghost use Rattle.kt_log_text.specs.Texts.{IsLogText, IsFirstFault};
 ghost use Rattle.kt_checker.specs.declared.verdict.Verdict.TheVariants.{Yes};
 ghost use Rattle.kt_checker.specs.Passing.{IsPassed};
 ghost use Rattle.kt_checker.specs.Streamed.{IsAnswerOf};
@@ -12,7 +12,7 @@ use crate::checking::{fed, verdict};
 use crate::judge::Judge;
 use crate::verdict::Verdict;
 use kt_chain::Certificate;
-use kt_spacetime::{LogFault, RowReader};
+use kt_log_text::{LogFault, RowReader};
 use std::alloc::Global;
 use std::io::Read;
 

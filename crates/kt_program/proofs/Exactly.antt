@@ -1,9 +1,9 @@
 -- The program says yes exactly where all passes.
-use Rattle.std.proofs.Common.{◌≡◌, ℕ, Bool, true, Option, Some, None, List, refl, subst}
+use Rattle.std.proofs.Common.{◌≡◌, ℕ, Bool, true, Option, Some, None, List, refl, sym, subst}
 use Rattle.std.specs.Prelude.{◌↔◌, IfSome}
 use Rattle.kt_spacetime.specs.declared.event.Event.{Event}
-use Rattle.kt_spacetime.specs.Texts.{IsLogText}
-use Rattle.kt_spacetime.proofs.TextFacts.{one_log}
+use Rattle.kt_log_text.specs.Texts.{IsLogText}
+use Rattle.kt_log_text.proofs.TextFacts.{one_log}
 use Rattle.kt_chain.specs.declared.certificate.Certificate.{Certificate}
 use Rattle.kt_chain.specs.Texts.{IsCertText}
 use Rattle.kt_chain.proofs.TextFacts.{one_text}
@@ -23,7 +23,7 @@ yes_is Yes e = refl
 yes_is (No inst row why) e = cc e
 
 is_yes_of : (v : Verdict) → v ≡ Yes → is_yes v ≡ true
-is_yes_of v e = subst (λ (w : Verdict). is_yes w ≡ true) ((λ i. e (~ i))) refl
+is_yes_of v e = subst (λ (w : Verdict). is_yes w ≡ true) (sym e) refl
 
 passes_or_not : (rows : List Event) (certificates : List Certificate) (v : Verdict) → IsAnswer rows certificates v → (is_yes v ≡ true) ↔ IsPassed rows certificates
 passes_or_not rows certificates v answer = (λ e. passed_of rows certificates v answer (yes_is v e), λ h. is_yes_of v (yes_of rows certificates v answer h))

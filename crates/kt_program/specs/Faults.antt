@@ -1,7 +1,7 @@
 -- Exit statuses of faults, and the line of a fault.
 use Rattle.std.specs.Prelude.{ℕ, List, [], ◌∷◌, ◌++◌, codes}
-use Rattle.kt_spacetime.specs.declared.fault.LogFault.{LogFault}
-use Rattle.kt_spacetime.specs.declared.fault.LogFault.TheVariants as log
+use Rattle.kt_log_text.specs.declared.fault.LogFault.{LogFault}
+use Rattle.kt_log_text.specs.declared.fault.LogFault.TheVariants as log
 use Rattle.kt_chain.specs.declared.fault.CertTextFault.{CertTextFault}
 use Rattle.kt_chain.specs.declared.fault.CertTextFault.TheVariants as cert
 use Rattle.kt_program.specs.declared.fault.AppFault.{AppFault}

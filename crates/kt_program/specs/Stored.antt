@@ -1,10 +1,10 @@
 -- What the program answers to a stored log with its certificates.
 use Rattle.std.specs.Prelude.{◌≡◌, ◌≢◌, ◌↔◌, ℕ, Bool, true, false, Option, List, [], ◌∷◌, ◌++◌, IfSome}
 use Rattle.kt_spacetime.specs.declared.event.Event.{Event}
-use Rattle.kt_spacetime.specs.declared.fault.LogFault.{LogFault}
-use Rattle.kt_spacetime.specs.declared.fault.LogFault.TheVariants as log
-use Rattle.kt_spacetime.specs.Reading.{rows_unread}
-use Rattle.kt_spacetime.specs.Texts as rows
+use Rattle.kt_log_text.specs.declared.fault.LogFault.{LogFault}
+use Rattle.kt_log_text.specs.declared.fault.LogFault.TheVariants as log
+use Rattle.kt_log_text.specs.Reading.{rows_unread}
+use Rattle.kt_log_text.specs.Texts as rows
 use Rattle.kt_chain.specs.declared.certificate.Certificate.{Certificate}
 use Rattle.kt_chain.specs.declared.fault.CertTextFault.{CertTextFault}
 use Rattle.kt_chain.specs.declared.fault.CertTextFault.TheVariants as cert
@@ -42,8 +42,8 @@ pub record IsJudged (log cert : Told) (verdict : Verdict) : Type 0 where
 -- it is true exactly where all passes of the rows and the certificates that the bytes say, where both are told
 abbrev pub IsExact : Told → Told → Bool → Type 0
 IsExact log cert passed =
-    IfSome (records_told log) (λ text. (rows : List Event) → rows.IsLogText text rows
-        → IfSome (records_told cert) (λ also. (certificates : List Certificate) → certs.IsCertText also certificates → (passed ≡ true) ↔ IsPassed rows certificates))
+    IfSome (records_told log) (λ text. (read : List Event) → rows.IsLogText text read
+    → IfSome (records_told cert) (λ also. (certificates : List Certificate) → certs.IsCertText also certificates → (passed ≡ true) ↔ IsPassed read certificates))
 
 -- the line of an answer
 abbrev pub line_of : Verdict → List ℕ

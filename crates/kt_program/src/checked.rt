@@ -2,8 +2,8 @@
 
 ghost use Rattle.std.specs.Prelude.{◌≡◌, ◌≢◌, IfOk, IfErr, IfSome, OnOk};
 ghost use Rattle.std.specs.Io.KnownBytes.{Appends};
-ghost use Rattle.kt_spacetime.specs.declared.fault.LogFault.{LogFault};
-ghost use Rattle.kt_spacetime.specs.Texts as rows;
+ghost use Rattle.kt_log_text.specs.declared.fault.LogFault.{LogFault};
+ghost use Rattle.kt_log_text.specs.Texts as rows;
 ghost use Rattle.kt_chain.specs.declared.fault.CertTextFault.{CertTextFault};
 ghost use Rattle.kt_chain.specs.Texts as certs;
 ghost use Rattle.kt_checker.specs.declared.verdict.Verdict.{Verdict};
@@ -14,7 +14,7 @@ ghost use Rattle.kt_program.specs.Stored.{IsExact, IsJudged, IsRefusal, SayCerti
 use crate::fault::AppFault;
 use kt_chain::{CertTextFault, Certificate, read_certs};
 use kt_checker::{Verdict, check_stream};
-use kt_spacetime::LogFault;
+use kt_log_text::LogFault;
 use std::alloc::Global;
 use std::io::{Read, Write};
 

@@ -7,7 +7,7 @@ ghost use Rattle.kt_program.specs.Faults.{fault_status, refusal_status};
 
 use kt_base::Memory;
 use kt_chain::CertTextFault;
-use kt_spacetime::LogFault;
+use kt_log_text::LogFault;
 use thiserror::Error;
 
 /// Why a stored run was not judged.

@@ -19,7 +19,7 @@ use crate::words::Words;
 use clap::Error;
 use clap::error::ErrorKind;
 use kt_chain::CertTextFault;
-use kt_spacetime::LogFault;
+use kt_log_text::LogFault;
 use std::alloc::Global;
 use std::io::Write;
 use std::rt::{Env, Files};

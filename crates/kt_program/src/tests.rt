@@ -2,21 +2,17 @@ mod faults;
 mod handles;
 mod lines;
 mod long;
-mod runs;
 
 use crate::checked::check_bytes;
 use crate::ending::{Done, end};
 use crate::fault::{AppFault, ProgramFault};
 use kt_chain::read_certs;
 use kt_checker::check;
-use kt_spacetime::read_csv;
-use runs::RUNS;
+use kt_log_text::read_csv;
 use std::alloc::Global;
 use std::io::{Read, Write};
 use std::process::Abort;
 use std::test::Fail;
-
-const FORMAT: &str = "kt,2,-,-\n";
 
 const TWO_PROCESSES: &str = "sent,0,1,5
 received,1,0,1
@@ -185,15 +181,6 @@ fn expect_refusals<R: Abort + AllocGlobal>(
 }
 
 #[test]
-fn worked_runs_get_a_yes_in_both_formats(rt: HostRuntime) -> Result<(), Fail> {
-    for (name, log, cert) in RUNS {
-        let rows = log.strip_prefix(FORMAT).ok_or(name)?;
-        expect_answers(&rt, 0, &[(log, cert, "yes"), (rows, cert, "yes")])?;
-    }
-    Ok(())
-}
-
-#[test]
 fn the_formats_are_told_apart(rt: HostRuntime) -> Result<(), Fail> {
     expect_answers(
         &rt,
@@ -296,50 +283,6 @@ fn a_second_certificate_of_an_instance_is_unknown(rt: HostRuntime) -> Result<(),
     let twice =
         "cert,1,checkpoint,1,commit\nmember,1,1,0,-\nmember,1,0,1,1\ncert,1,checkpoint,1,commit\nmember,1,1,0,-\nmember,1,0,1,1\n";
     expect_answers(&rt, 1, &[(TWO_PROCESSES, twice, "no instance 1 Unknown")])
-}
-
-#[test]
-fn each_rule_is_the_first_broken_in_one_log(rt: HostRuntime) -> Result<(), Fail> {
-    expect_answers(
-        &rt,
-        1,
-        &[
-            ("received,1,0,1", "", "no row 1 BadLog 2"),
-            ("began,0,2,checkpoint", "", "no row 1 BadLog 1"),
-            (
-                "sent,0,1,5\nreceived,1,0,1\nreceived,1,0,1",
-                "",
-                "no row 3 BadLog 2",
-            ),
-            (
-                "sent,0,1,1\nsent,0,1,2\nreceived,1,0,2\nreceived,1,0,1",
-                "",
-                "no row 4 BadLog 3",
-            ),
-            (
-                "began,0,1,checkpoint\ntook,0,1,-\nsent,0,1,5",
-                "",
-                "no row 3 BadLog 4",
-            ),
-            (
-                "sent,0,1,5\nfailed,1,-,-\nreceived,1,0,1",
-                "",
-                "no row 3 BadLog 5",
-            ),
-            ("began,0,1,checkpoint\nsent,1,0,5", "", "no row 2 BadLog 6"),
-            (
-                "began,0,1,checkpoint\ntook,0,1,-\ndecided,1,1,commit",
-                "",
-                "no row 3 BadLog 7",
-            ),
-            (
-                "began,0,1,checkpoint\ntook,0,1,-\nclosed,0,1,-",
-                "",
-                "no row 3 BadLog 8",
-            ),
-            ("failed,0,-,-\nfailed,0,-,-", "", "no row 2 BadLog 9"),
-        ],
-    )
 }
 
 // What is to be answered to the rollback's first bytes: where they end after so many whole rows, the status and the words,

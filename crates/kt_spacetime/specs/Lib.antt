@@ -1,11 +1,3 @@
 pub use Rattle.kt_base.specs.Numbers
 pub mod Events
 pub mod Logs
-pub mod Words
-pub mod Slot
-pub mod Spelling
-pub mod Records
-pub mod Texts
-pub mod Writing
-pub mod Reading
-pub mod Progress

@@ -1,7 +1,7 @@
 use super::EVERY_WORD;
 use super::texts::TEXTS;
 use crate::{read_certs, write_certs};
-use kt_spacetime::WriteFault;
+use kt_text::WriteFault;
 use std::alloc::Global;
 use std::io;
 use std::io::Write;

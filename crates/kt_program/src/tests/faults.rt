@@ -6,7 +6,7 @@ use crate::ending::end;
 use crate::fault::{AppFault, ProgramFault};
 use kt_base::RowNo;
 use kt_chain::CertTextFault;
-use kt_spacetime::LogFault;
+use kt_log_text::LogFault;
 use std::test::Fail;
 
 #[test]

@@ -1,5 +1,5 @@
 use Rattle.std.proofs.Common.{refl, arith}
-use Rattle.kt_spacetime.proofs.FieldFacts.{one_number}
+use Rattle.kt_text.proofs.FieldFacts.{one_number}
 use Rattle.kt_chain.proofs.records.count.Goals as goal
 
 pub returns-then-number-gt-MOST_MESSAGES-clause-fault : goal.returns-then-number-gt-MOST_MESSAGES-clause-fault

@@ -1,5 +1,5 @@
 use Rattle.std.proofs.Common.{◌≡◌, ◌≢◌, ◌<◌, ◌^◌, ◌∙◌, refl, ap, subst, inl, inr, arith, tests, rules, length}
-use Rattle.kt_spacetime.proofs.FieldFacts.{one_number}
+use Rattle.kt_text.proofs.FieldFacts.{one_number}
 use Rattle.kt_chain.proofs.ChainFacts.{no_more_than_bytes}
 use Rattle.kt_chain.specs.Reading.{IsIfFew}
 use Rattle.kt_chain.proofs.records.take_member.Goals as goal

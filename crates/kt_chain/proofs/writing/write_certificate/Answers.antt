@@ -1,9 +1,10 @@
 use Rattle.std.proofs.Common.{rules, arith, ◌≡◌, ◌<◌, ◌∙◌, List, length, get_or, take, ap, sym}
 use Rattle.std.proofs.lemmas.List.{take_all}
 use Rattle.std.proofs.lemmas.Result.{on_ok_weaker}
-use Rattle.kt_spacetime.specs.Writing.{text_of}
+use Rattle.kt_text.specs.Writing.{text_of}
 use Rattle.kt_chain.specs.Spelling.{Member}
-use Rattle.kt_chain.proofs.WritingFacts.{sends_member, sends_nothing, records_to}
+use Rattle.kt_chain.proofs.WritingFacts.{sends_member, records_to}
+use Rattle.kt_text.proofs.PieceFacts.{sends_nothing}
 use Rattle.kt_chain.proofs.writing.write_certificate.Goals as goal
 
 pub loop-member-preserved : goal.loop-member-preserved

@@ -1,7 +1,7 @@
 use Rattle.std.proofs.Common.{◌∷◌, map, take}
-use Rattle.kt_spacetime.specs.Writing.{text_of}
+use Rattle.kt_text.specs.Writing.{text_of}
 use Rattle.kt_chain.specs.Spelling.{instance_record, member_record}
-use Rattle.kt_chain.specs.Writing.{Sends}
+use Rattle.kt_text.specs.Writing.{Sends}
 use Rattle.kt_chain.proofs.writing.write_certificate.Given as goal
 
 abbrev pub invariant-loop-member : goal.invariant-loop-member

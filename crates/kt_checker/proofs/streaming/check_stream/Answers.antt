@@ -1,5 +1,5 @@
 use Rattle.std.proofs.lemmas.Result.{IfOk-weaker}
-use Rattle.kt_spacetime.specs.Reading.{rows_unread}
+use Rattle.kt_log_text.specs.Reading.{rows_unread}
 use Rattle.kt_checker.proofs.OneAnswer.{passed_exactly}
 use Rattle.kt_checker.proofs.streaming.check_stream.Goals as goal
 

@@ -1,0 +1,9 @@
+pub use Rattle.kt_spacetime.specs.Events
+pub use Rattle.kt_spacetime.specs.Logs
+pub use Rattle.kt_text.specs.Words
+pub use Rattle.kt_text.specs.Writing
+pub mod Slot
+pub mod Spelling
+pub mod Texts
+pub mod Reading
+pub mod Progress

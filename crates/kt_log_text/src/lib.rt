@@ -1,0 +1,16 @@
+//! The text of a log: read, row by row or whole, and written.
+#![tactic(auto)]
+
+mod fault;
+mod laws;
+mod reading;
+mod rows;
+mod writing;
+
+pub use fault::LogFault;
+pub use laws::{faults_are_real, one_spelling};
+pub use reading::{RowReader, read_csv};
+pub use writing::write_csv;
+
+#[cfg(test)]
+mod tests;

@@ -1,0 +1,5 @@
+pub mod FieldFacts
+pub mod NumberFacts
+pub mod RecordFacts
+pub mod ReaderFacts
+pub mod PieceFacts

@@ -1,0 +1,4 @@
+pub use Rattle.kt_base.specs.Numbers
+pub mod Words
+pub mod Records
+pub mod Writing

@@ -1,0 +1,29 @@
+-- The records of a text that a reader has left.
+use Rattle.std.specs.Prelude.{◌≡◌, ◌+◌, ℕ, List, ◌∷◌, Option, Some, None, option_map, true, false, length}
+use Rattle.csv.specs.Reading.{records_from, default_config, source_of, reader_config, reader_trim, reader_state, is_flexible, has_failed, Ready}
+use Rattle.csv.specs.declared.parser.Config.{Config}
+use Rattle.csv.specs.declared.parser.State.{State}
+use Rattle.csv.specs.declared.reader.Reader.{Reader}
+use Rattle.csv.specs.declared.reader.Trim.TheVariants as trim
+
+-- from a state of the reader on
+abbrev pub records_left : Config → State → List ℕ → List (List (List ℕ))
+records_left config state bytes = records_from config (length bytes + 1) state bytes
+
+-- the records that a reader has left, where its bytes are known
+abbrev pub left_in : {R : Type 0} → (R → Option (List ℕ)) → Reader R → Option (List (List (List ℕ)))
+left_in remaining records = option_map (λ bytes. records_left default_config (reader_state records) bytes) (source_of remaining records)
+
+-- how a reader that reads on is set up
+pub record ReadsOn {R : Type 0} (records : Reader R) : Type 0 where
+  pub config : reader_config records ≡ default_config
+  pub trim : reader_trim records ≡ trim.None
+  pub ready : Ready records
+  pub flexible : is_flexible records ≡ true
+  pub going : has_failed records ≡ false
+
+-- known records of which the first has these fields
+abbrev pub Takes : Option (List (List (List ℕ))) → Option (List (List (List ℕ))) → List (List ℕ) → Type 0
+Takes None new fields = Unit {0}
+Takes (Some left) None fields = ⊥
+Takes (Some left) (Some rest) fields = left ≡ fields ∷ rest
