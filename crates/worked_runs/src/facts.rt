@@ -37,7 +37,7 @@ fn show_position<R: Print>(rt: &R, walk: &Walk, row: &Event) -> Result<()> {
 }
 
 /// Shows lengths and positions after each row of a legal log, and whether both readers tell the same.
-pub fn show_facts<R: Print + AllocGlobal>(rt: &R, log: &SpaceTime) -> Result<()> {
+pub(crate) fn show_facts<R: Print + AllocGlobal>(rt: &R, log: &SpaceTime) -> Result<()> {
     let count = process_count(log);
     let mut walk = Walk::new(rt.alloc())?;
     let mut same = true;

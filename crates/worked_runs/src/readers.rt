@@ -11,7 +11,7 @@ use std::alloc::Global;
 const SHARES: usize = 4;
 
 /// What the first rows of a legal log say.
-pub fn histories_of(alloc: Global, log: &SpaceTime, upto: usize) -> Result<Histories> {
+pub(crate) fn histories_of(alloc: Global, log: &SpaceTime, upto: usize) -> Result<Histories> {
     legal(alloc, log)?;
     if upto > log.rows().len() {
         bail!("no such row");
@@ -20,7 +20,7 @@ pub fn histories_of(alloc: Global, log: &SpaceTime, upto: usize) -> Result<Histo
 }
 
 /// Whether both readers tell the same of the rows so far.
-pub fn is_same_after(walk: &Walk, histories: &Histories) -> bool {
+pub(crate) fn is_same_after(walk: &Walk, histories: &Histories) -> bool {
     has_same_processes(walk, histories)
         && has_same_messages(walk, histories)
         && (0..SHARES + 1).all(|shares| has_same_orphans(walk, histories, shares))

@@ -35,7 +35,7 @@ fn show_answer<R: Print + AllocGlobal>(rt: &R, log: &[u8], cert: &[u8]) -> Resul
 }
 
 /// Shows the checker's answer in format 2 and in format 1, and whether the texts are written as they were read.
-pub fn show_texts<R: Print + AllocGlobal>(
+pub(crate) fn show_texts<R: Print + AllocGlobal>(
     rt: &R,
     log: &SpaceTime,
     text: &[u8],
