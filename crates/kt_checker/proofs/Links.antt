@@ -9,7 +9,7 @@ use Rattle.kt_base.specs.declared.words.Kind.TheVariants.{Checkpoint, Rollback}
 use Rattle.kt_spacetime.specs.declared.event.Event.{Event}
 use Rattle.kt_cuts.specs.declared.deeds.Deed.{Deed}
 use Rattle.kt_cuts.specs.declared.deeds.Deed.TheVariants as deed
-use Rattle.kt_cuts.specs.declared.histories.Trace.{Trace}
+use Rattle.kt_cuts.specs.declared.traces.Trace.{Trace}
 use Rattle.kt_cuts.specs.Past.{Past, past}
 use Rattle.kt_cuts.specs.Legal.{IsLegal, has_deed}
 use Rattle.kt_cuts.specs.Chains.{LinksCheckpoint, LinksRollback}

@@ -1,8 +1,6 @@
 pub mod Items
-pub mod ListFacts
 pub mod Replayed
 pub mod SortedFacts
-pub mod ProcessFacts
 pub mod DeedFacts
 pub mod LatestFacts
 pub mod Traced

@@ -1,39 +1,14 @@
 -- Marks in the table of messages, members and verdicts in the table of instances.
-use Rattle.std.proofs.Common.{◌≡◌, ◌≢◌, ℕ, zero, suc, ◌+◌, ◌-◌, ◌<◌, ◌≤◌, Bool, true, Option, Some, None, List, [], ◌∷◌, ◌++◌, ◌⊎◌, map, length, take, subst, get_or, set, refl, sym, ap, ◌∙◌, arith}
-use Rattle.std.specs.List.{slice_get, Contains}
-use Rattle.std.specs.Option.{option_flatten}
-use Rattle.std.proofs.lemmas.Option.{slice_get_read, slice_get_past}
-use Rattle.kt_cuts.specs.declared.tables.Message.{Message}
-use Rattle.kt_cuts.specs.Tables.{with_received, with_dropped}
+use Rattle.std.proofs.Common.{◌≡◌, ◌≢◌, ℕ, zero, suc, ◌+◌, ◌-◌, ◌<◌, ◌≤◌, Bool, true, Some, List, [], ◌∷◌, ◌++◌, ◌⊎◌, length, get_or, set, refl, sym, ap, ◌∙◌, arith}
+use Rattle.std.specs.List.{slice_get}
+use Rattle.std.proofs.lemmas.Option.{slice_get_read}
 use Rattle.std.proofs.lemmas.List.{length-set}
-use Rattle.std.proofs.lemmas.List.Elements.{Contains-push_cases}
 use Rattle.kt_base.specs.Sets.{has}
 use Rattle.kt_cuts.specs.declared.instances.Instance.{Instance}
 use Rattle.kt_cuts.specs.Changes.{IsJoined, IsDecided}
-use Rattle.kt_cuts.specs.Standing.{message_at, at_number, parties, beginning_shown}
-use Rattle.kt_cuts.proofs.Items.{set_mapped, get_set_same, get_set_other, take_item}
+use Rattle.kt_cuts.specs.Standing.{at_number, beginning_shown}
+use Rattle.kt_cuts.proofs.Items.{set_mapped, get_set_same, get_set_other}
 use Rattle.kt_cuts.proofs.SortedFacts.{some_same}
-
-pub marked_parties : (ms : List (Option Message)) (i : ℕ) (x y : Option Message) → i < length ms → x ≡ get_or ms i x → parties y ≡ parties x → map parties (set ms i y) ≡ map parties ms
-marked_parties ms i x y l e s = set_mapped parties ms i x y (slice_get_read ms (length ms) i x refl l e) s
-
-pub received_parties : (place : ℕ) (o : Option Message) → parties (with_received place o) ≡ parties o
-received_parties place None = refl
-received_parties place (Some v) = refl
-
-pub dropped_parties : (o : Option Message) → parties (with_dropped o) ≡ parties o
-dropped_parties None = refl
-dropped_parties (Some v) = refl
-
-past_end : (ms : List (Option Message)) (m : ℕ) → length ms ≤ m - 1 → message_at ms m ≡ None
-past_end ms zero l = refl
-past_end ms (suc m) l = ap option_flatten (slice_get_past ms m (omega (arith, l)))
-
-pub received_past : (place : ℕ) (ms : List (Option Message)) (m : ℕ) → length ms ≤ m - 1 → message_at ms m ≡ with_received place (message_at ms m)
-received_past place ms m l = past_end ms m l ∙ ap (with_received place) (sym (past_end ms m l))
-
-pub dropped_past : (ms : List (Option Message)) (m : ℕ) → length ms ≤ m - 1 → message_at ms m ≡ with_dropped (message_at ms m)
-dropped_past ms m l = past_end ms m l ∙ ap with_dropped (sym (past_end ms m l))
 
 pub number_set_same : {X : Type 0} (xs : List X) (i k : ℕ) (x : X) → i ≡ k - 1 → 1 ≤ k → i < length xs → at_number (set xs i x) k ≡ Some x
 number_set_same xs i zero x e l b = absurd (omega (arith, l))
@@ -89,9 +64,3 @@ judged_item js i k commit u v r e l b rd a is =
     let list : List Instance = set js i (record u { verdict = Some commit }) in
     let read : slice_get list i ≡ Some r = slice_get_read list (length js) i r (sym (length-set js i (record u { verdict = Some commit }))) b is in
     sym read ∙ (get_set_same js i (record u { verdict = Some commit }) b ∙ ap (λ (x : Instance). Some (record x { verdict = Some commit })) same)
-
--- what the first items and one more have
-pub contains_more : (xs : List ℕ) (i x m : ℕ) → i < length xs → x ≡ get_or xs i x → Contains (take (i + 1) xs) m → Contains (take i xs) m ⊎ (x ≡ m)
-contains_more xs i x m l e h =
-    let more : take (i + 1) xs ≡ take i xs ++ x ∷ [] = take_item xs i (i + 1) x refl (slice_get_read xs (length xs) i x refl l e) in
-    Contains-push_cases (take i xs) x m (subst (λ (t : List ℕ). Contains t m) more h)

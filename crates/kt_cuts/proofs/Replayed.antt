@@ -1,26 +1,8 @@
 -- Rows replayed one after another.
-use Rattle.std.proofs.Common.{◌≡◌, ℕ, ◌+◌, ◌<◌, ◌∷◌, [], ◌++◌, List, Some, None, take, length, get_or, arith, ap, refl, sym, ◌∙◌, length-take}
+use Rattle.std.proofs.Common.{◌≡◌, ℕ, ◌+◌, ◌<◌, ◌∷◌, [], ◌++◌, List, Some, length, get_or, refl, ◌∙◌}
 use Rattle.std.specs.List.{slice_get}
 use Rattle.std.proofs.lemmas.Option.{slice_get_read}
-use Rattle.std.proofs.lemmas.List.{map-append}
 use Rattle.kt_spacetime.specs.declared.event.Event.{Event}
-use Rattle.kt_cuts.specs.declared.replay.Replay.{Replay}
-use Rattle.kt_cuts.specs.Past.{past, after}
-use Rattle.kt_cuts.specs.Legal.{broken_rule}
-use Rattle.kt_cuts.specs.Standing.{StandsFor, ShowsPast, IsAllowed, parties_shown, parties_of_row}
-use Rattle.kt_cuts.proofs.LegalLogs.{past_push, rows_length}
 
 pub row_read : (rows : List Event) (i : ℕ) (row : Event) → i < length rows → row ≡ get_or rows i row → slice_get rows i ≡ Some row
 row_read rows i row l e = slice_get_read rows (length rows) i row refl l e
-
--- the rows before one more are as many as the messages kept
-pub next_number : (r : Replay) (rows : List Event) (i : ℕ) → i < length rows → StandsFor r (take i rows) → length r.messages.items + 1 ≡ i + 1
-next_number r rows i l h = ap (λ (n : ℕ). n + 1) (h.shows.rows ∙ (rows_length (take i rows) ∙ omega (arith, length-take i rows, l)))
-
--- a row that is added to what stands for rows
-pub replayed : (r t : Replay) (rows : List Event) (row : Event) → StandsFor r rows → broken_rule (past rows) row ≡ None
-    → (ShowsPast r (past rows) → IsAllowed (past rows) row → ShowsPast t (after (past rows) row)) → parties_shown t ≡ parties_shown r ++ parties_of_row row ∷ [] → StandsFor t (rows ++ row ∷ [])
-replayed r t rows row h unbroken shows parties = record {
-  shows = rw (past_push rows row) (shows h.shows (record { unbroken = unbroken }));
-  messages = parties ∙ (ap (λ (l : _). l ++ parties_of_row row ∷ []) h.messages ∙ sym (map-append parties_of_row rows (row ∷ [])));
-}

@@ -5,10 +5,10 @@ use Rattle.std.specs.Prelude.{not, is_none, is_some, ◌&&◌, ◌||◌}
 use Rattle.std.proofs.lemmas.Bool.Decides.{nat_tests}
 use Rattle.kt_base.specs.declared.words.Kind.{Kind}
 use Rattle.kt_base.specs.declared.words.Kind.TheVariants.{Checkpoint, Rollback}
-use Rattle.kt_spacetime.specs.declared.event.Event.TheVariants.{Sent, Received, Began, Took, Ready, Decided, Closed}
+use Rattle.kt_spacetime.specs.declared.event.Event.TheVariants.{Received, Began, Took, Ready, Decided, Closed}
 use Rattle.kt_cuts.specs.declared.deeds.Deed.TheVariants as deed
 use Rattle.kt_cuts.specs.Past.{Past, is_checkpoint, is_rollback, initiator_of}
-use Rattle.kt_cuts.specs.Legal.{has_deed, is_later, is_instance, is_in_none, is_rolling, has_begun, broken_rule}
+use Rattle.kt_cuts.specs.Legal.{has_deed, is_later, is_instance, is_rolling, has_begun, broken_rule}
 use Rattle.kt_cuts.proofs.LegalLogs.{kept}
 
 pub none_from : {X : Type 0} (o : Option X) → is_none o ≡ true → o ≡ None
@@ -35,17 +35,6 @@ neither false b e = (refl, e)
 pub none_from_not_some : {X : Type 0} (o : Option X) → is_some o ≡ false → o ≡ None
 none_from_not_some None e = refl
 none_from_not_some (Some x) e = absurd (cc)
-
--- a process that sends is up, and in no open instance
-pub record MaySend (s : Past) (p : ℕ) : Type 0 where
-  pub up : s.up p ≡ true
-  pub idle : s.open_in p ≡ None
-
-pub may_send : (s : Past) (p to : ℕ) (body : _) → broken_rule s (Sent p to body) ≡ None → MaySend s p
-may_send s p to body e =
-    let k = kept s (Sent p to body) e in
-    let a = both (s.up p) (is_in_none s p) k.sending in
-    record { up = a.0; idle = none_from (s.open_in p) a.1 }
 
 -- a message that a process receives is sent to it and live, not received, and later than what it has of that sender
 pub record MayReceive (s : Past) (p from msg : ℕ) : Type 0 where

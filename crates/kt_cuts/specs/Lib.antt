@@ -3,7 +3,6 @@ pub use Rattle.kt_spacetime.specs.Logs
 pub use Rattle.kt_base.specs.Numbers
 pub mod Rules
 pub mod Lists
-pub mod Sorted
 pub mod Past
 pub mod Legal
 pub mod Cuts
@@ -14,7 +13,6 @@ pub mod Changes
 pub mod Tests
 pub mod Grounds
 pub mod Traces
-pub mod HistoriesOf
 pub mod Orphans
 pub mod InCheckpoint
 pub mod Least

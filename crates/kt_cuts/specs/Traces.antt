@@ -4,7 +4,7 @@ use Rattle.std.specs.Option.{option_flatten}
 use Rattle.kt_spacetime.specs.declared.event.Event.{Event}
 use Rattle.kt_cuts.specs.declared.deeds.Deed.{Deed}
 use Rattle.kt_cuts.specs.declared.deeds.Deed.TheVariants as deed
-use Rattle.kt_cuts.specs.declared.histories.Trace.{Trace}
+use Rattle.kt_cuts.specs.declared.traces.Trace.{Trace}
 use Rattle.kt_cuts.specs.Past.{Past, past}
 use Rattle.kt_cuts.specs.Legal.{is_deed}
 use Rattle.kt_cuts.specs.Messages.{row_at}

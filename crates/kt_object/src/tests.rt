@@ -247,7 +247,7 @@ fn frees_in_this_order(
     for (dropped, number) in order.iter().enumerate() {
         let guard = guards.get_mut(*number).ok_or("no such slot")?;
         drop(guard.take());
-        frees(rt, book, 1, 7 - dropped);
+        frees(rt, book, 1, 7_usize.saturating_sub(dropped));
     }
     for _ in order {
         let guard = book.open()?;

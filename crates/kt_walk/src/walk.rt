@@ -3,7 +3,7 @@
 ghost use Rattle.std.specs.Prelude.{◌≡◌, ◌<◌, ◌^◌, ◌++◌, ◌∷◌, [], ℕ, List, length, IfOk, OnOk, OnErr, IfNone, IfSome, Err, None, Some, true, slice_index, ◌≤◌};
 ghost use Rattle.kt_spacetime.specs.declared.event.Event.{Event};
 ghost use Rattle.kt_spacetime.specs.declared.event.Event.TheVariants as event;
-ghost use Rattle.kt_cuts.specs.declared.histories.Trace.{Trace};
+ghost use Rattle.kt_cuts.specs.declared.traces.Trace.{Trace};
 ghost use Rattle.kt_cuts.specs.declared.rules.Rule.{Rule};
 ghost use Rattle.kt_cuts.specs.declared.legality.LegalFault.TheVariants as fault;
 ghost use Rattle.kt_cuts.specs.Past.{past};

@@ -8,7 +8,8 @@ mod texts;
 
 use anyhow::Result;
 use facts::show_facts;
-use kt_cuts::{LegalFault, legal};
+use kt_cuts::LegalFault;
+use kt_histories::legal;
 use kt_log_text::read_csv;
 use std::fs;
 use std::rt::Files;

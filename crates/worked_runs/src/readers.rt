@@ -2,7 +2,8 @@
 
 use anyhow::{Result, bail};
 use kt_base::{InstNo, MsgNo, ProcNo};
-use kt_cuts::{Cut, Histories, legal};
+use kt_cuts::Cut;
+use kt_histories::{Histories, legal};
 use kt_spacetime::SpaceTime;
 use kt_walk::Walk;
 use std::alloc::Global;

@@ -1,6 +1,6 @@
 use Rattle.std.proofs.Common.{◌≡◌, Some, refl, arith, ap, sym, ◌∙◌}
 use Rattle.kt_base.specs.declared.words.Kind.TheVariants.{Rollback}
-use Rattle.kt_cuts.specs.declared.histories.Trace.{Trace}
+use Rattle.kt_cuts.specs.declared.traces.Trace.{Trace}
 use Rattle.kt_cuts.specs.Past.{past}
 use Rattle.kt_cuts.proofs.SortedFacts.{some_same}
 use Rattle.kt_walk.specs.Keeping.{kept_trace}

@@ -1,6 +1,0 @@
-use Rattle.std.proofs.Common.{take}
-use Rattle.kt_cuts.specs.Standing.{StandsFor}
-use Rattle.kt_cuts.proofs.histories.Histories.of.Given as goal
-
-abbrev pub invariant-loop-row : goal.invariant-loop-row
-invariant-loop-row l = StandsFor l.replay (take l.row-index l.row-items)

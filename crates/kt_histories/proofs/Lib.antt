@@ -1,0 +1,12 @@
+pub mod ListFacts
+pub mod Replayed
+pub mod SortedFacts
+pub mod ProcessFacts
+pub mod LatestFacts
+pub mod Traced
+pub mod OrphanFacts
+pub mod MessageTables
+pub mod Shown
+pub mod Steps
+pub mod InstanceSteps
+pub mod RowRules
