@@ -244,8 +244,7 @@ impl Walk {
         self.trail.instance(inst)?.position(p)
     }
 
-    /// A message and its places, counted from 1; None where it is not kept. It looks through all pairs of processes that
-    /// have messages.
+    /// A message and its places, counted from 1; None where it is not kept. It looks through all pairs of processes.
     pub fn trace(&self, msg: MsgNo) -> Option<Trace>
         ensures { (rows : List Event) → WalkOf self.now rows → result ≡ kept_trace rows msg }
     {
