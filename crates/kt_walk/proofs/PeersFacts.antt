@@ -1,5 +1,5 @@
 -- Sets of pairs of processes, bit by bit.
-use Rattle.std.proofs.Common.{◌≡◌, ◌≢◌, ℕ, zero, suc, ◌+◌, ◌-◌, ◌*◌, ◌/◌, ◌%◌, ◌^◌, ◌<◌, ◌≤◌, Bool, true, false, List, length, replicate, get_or, set, refl, sym, ap, ◌∙◌, subst, arith, inl, inr, w64, get_or-set_same, get_or-set_other, bit_and, bit_or}
+use Rattle.std.proofs.Common.{◌≡◌, ◌≢◌, ℕ, zero, suc, ◌+◌, ◌-◌, ◌*◌, ◌/◌, ◌%◌, ◌^◌, ◌<◌, ◌≤◌, Bool, true, false, List, length, replicate, get_or, set, refl, sym, ap, ◌∙◌, arith, inl, inr, w64, get_or-set_same, get_or-set_other, bit_and, bit_or}
 use Rattle.std.specs.Prelude.{◌==◌, ◌&&◌, ◌||◌}
 use Prim.Native.Nat.{min}
 use Rattle.std.specs.Int.{bit_at, bit_not, trailing_zeros}
@@ -7,7 +7,7 @@ use Rattle.std.proofs.lemmas.Bool.{cases_eq, cases_lt}
 use Rattle.std.proofs.lemmas.Bool.Decides.{nat_tests}
 use Rattle.std.proofs.lemmas.List.{length-set}
 use Rattle.std.proofs.lemmas.Nat.{shr-shr, shr_le}
-use Rattle.std.proofs.lemmas.Nat.Bits.{shr_and_one, bit_at_set_same, bit_at_set_other, bit_at_clear_same, bit_at_clear_other, bit_at-trailing_zeros, bit_at_and, bit_at-lt, bit_at-zero, bit_at_above}
+use Rattle.std.proofs.lemmas.Nat.Bits.{bit_at_set_same, bit_at_set_other, bit_at_clear_same, bit_at_clear_other, bit_at-trailing_zeros, bit_at_and, bit_at-lt, bit_at-zero, bit_at_above}
 use Rattle.kt_base.specs.Sets.{has}
 use Rattle.kt_walk.specs.Peers.{is_in}
 

@@ -1,4 +1,3 @@
-use Rattle.std.proofs.Common.{arith}
 use Rattle.kt_walk.proofs.PeersFacts.{none_moved, first_moved}
 use Rattle.kt_walk.proofs.peers.first_bit.Goals as goal
 

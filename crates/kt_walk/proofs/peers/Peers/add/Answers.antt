@@ -1,4 +1,4 @@
-use Rattle.std.proofs.Common.{ap, sym, ◌∙◌}
+use Rattle.std.proofs.Common.{ap, ◌∙◌}
 use Rattle.kt_walk.specs.Peers.{is_in}
 use Rattle.kt_walk.proofs.PeersFacts.{added, added_others}
 use Rattle.kt_walk.proofs.peers.Peers.add.Goals as goal

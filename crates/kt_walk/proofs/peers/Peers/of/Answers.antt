@@ -1,4 +1,4 @@
-use Rattle.std.proofs.Common.{◌≡◌, ◌<◌, ◌&&◌, ◌||◌, ◌/◌, ◌%◌, true, false, not, Bool, refl, arith, sym, ap, subst, ◌∙◌}
+use Rattle.std.proofs.Common.{◌<◌, ◌&&◌, ◌||◌, ◌/◌, ◌%◌, refl, arith, sym, ap, subst, ◌∙◌}
 use Rattle.kt_base.specs.Sets.{has}
 use Rattle.kt_walk.specs.Peers.{is_in}
 use Rattle.kt_walk.proofs.PeersFacts.{AreOfMembers, word_of_others, word_of_member, of_members}

@@ -1,4 +1,4 @@
-use Rattle.std.proofs.Common.{ap, sym, ◌∙◌}
+use Rattle.std.proofs.Common.{ap, ◌∙◌}
 use Rattle.kt_walk.specs.Peers.{is_in}
 use Rattle.kt_walk.proofs.PeersFacts.{removed, removed_others}
 use Rattle.kt_walk.proofs.peers.Peers.remove.Goals as goal
