@@ -23,3 +23,4 @@ pub mod TraceFacts
 pub mod SettleFacts
 pub mod FoundFacts
 pub mod HeldFacts
+pub mod PeersFacts

@@ -10,6 +10,7 @@ pub mod PartsOf
 pub mod TrailOf
 pub mod Stages
 pub mod Arrivals
+pub mod Peers
 pub mod Pairs
 pub mod Links
 pub mod WalkParts

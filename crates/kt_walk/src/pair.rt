@@ -11,13 +11,13 @@ ghost use Rattle.kt_traffic.specs.OnTheWay.{AreOnTheWay, IsBySend};
 ghost use Rattle.kt_traffic.specs.LastReceived.{IsLastFrom};
 ghost use Rattle.kt_walk.specs.declared.queue.Arrival.{Arrival};
 ghost use Rattle.kt_walk.specs.Arrivals.{IsRising, IsOpen, ShowsTraffic, cut_back};
-ghost use Rattle.kt_walk.specs.Pairs.{but_for, count_of, is_idle, IsPairCutBack, IsLink, IsEachOnce, AreNotDropped};
+ghost use Rattle.kt_walk.specs.Pairs.{but_for, count_of, is_idle, IsPairCutBack, IsPairCommitted, IsLink, IsEachOnce, AreNotDropped};
 
 use crate::channel::{Channel, count_received_before};
 use crate::earlier::Earlier;
 use crate::last::{last_arrival, last_undone, latest};
 use crate::queue::Arrival;
-use kt_base::{Memory, MsgNo, ProcNo, ProcSet};
+use kt_base::{Kind, Memory, MsgNo, ProcNo, ProcSet};
 use kt_cuts::Cut;
 use kt_traffic::{Sent, Waiting};
 use std::alloc::Global;
@@ -165,7 +165,7 @@ impl Pair {
     }
 
     /// Forgets what both permanent parts have, of these lengths by process.
-    pub(crate) fn release(&mut self, permanent: &[usize; 64])
+    fn release(&mut self, permanent: &[usize; 64])
         ensures receiver { self.new.traffic.receiver ≡ self.old.traffic.receiver }
         ensures sender { self.new.traffic.sender ≡ self.old.traffic.sender }
         ensures link { (received sent : List Deed) (dropped : ℕ → Bool) (i j : ℕ) → i ≤ slice_index permanent.now self.old.traffic.receiver → j ≤ slice_index permanent.now self.old.traffic.sender
@@ -186,8 +186,18 @@ impl Pair {
         latest(self.settled.get(), latest(arrived, undone))
     }
 
+    /// An instance of these members is committed, which leaves these permanent lengths.
+    pub(crate) fn commit(&mut self, kind: Kind, members: ProcSet, permanent: &[usize; 64])
+        ensures { IsPairCommitted kind members permanent.now self.old self.new }
+    {
+        match kind {
+            Kind::Checkpoint => self.release(permanent),
+            Kind::Rollback => self.cut_back(members, permanent),
+        }
+    }
+
     /// Cuts the histories of these processes back to their permanent parts, of these lengths.
-    pub(crate) fn cut_back(&mut self, members: ProcSet, lengths: &[usize; 64])
+    fn cut_back(&mut self, members: ProcSet, lengths: &[usize; 64])
         ensures { IsPairCutBack members lengths.now self.old self.new }
     {
         self.cut_sender_back(members, lengths);

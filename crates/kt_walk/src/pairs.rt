@@ -1,6 +1,6 @@
 //! The messages of each pair of processes that can still matter.
 
-ghost use Rattle.std.specs.Prelude.{◌≡◌, ◌≢◌, ◌≤◌, ◌<◌, ◌+◌, ◌*◌, ℕ, List, Some, true, is_some, length, slice_get, slice_index, OnOk, OnErr, IfOk, IfSome};
+ghost use Rattle.std.specs.Prelude.{◌≡◌, ◌≢◌, ◌≤◌, ◌<◌, ◌+◌, ◌*◌, ℕ, List, Some, true, is_some, length, map, slice_get, slice_index, OnOk, OnErr, IfOk, IfSome};
 ghost use Rattle.kt_spacetime.specs.declared.event.Event.TheVariants as event;
 ghost use Rattle.kt_cuts.specs.declared.deeds.Deed.TheVariants as deed;
 ghost use Rattle.kt_cuts.specs.Past.{Past, start, after};
@@ -10,12 +10,13 @@ ghost use Rattle.kt_cuts.specs.Tests.{is_after};
 ghost use Rattle.kt_cuts.specs.Orphans.{IsOrphanBetween, IsAtMost};
 ghost use Rattle.kt_cuts.specs.Standing.{IsInOrder, IsAllowed};
 ghost use Rattle.kt_traffic.specs.declared.waiting.Sent.{Sent};
-ghost use Rattle.kt_walk.specs.Arrivals.{ShowsTraffic, RollsBack, MakesPermanent, KeepsPermanent};
-ghost use Rattle.kt_walk.specs.Pairs.{Link, AreListed, AreMarked, ArePairsOpened, is_in_use, is_marked, IsPairCutBack, IsPairSettled, IsFit, IsEachOnce, AreNotDropped, ShowsPairs};
+ghost use Rattle.kt_walk.specs.Arrivals.{IsByPair, ShowsTraffic, RollsBack, MakesPermanent, KeepsPermanent};
+ghost use Rattle.kt_walk.specs.Pairs.{Link, traffic_of, AreInUse, ArePairsOpened, IsPairCommitted, IsFit, IsEachOnce, AreNotDropped, ShowsPairs};
 
 use crate::pair::Pair;
+use crate::peers::Peers;
 use crate::queue::Arrival;
-use kt_base::{Memory, MsgNo, ProcNo, ProcSet};
+use kt_base::{Kind, Memory, MsgNo, ProcNo, ProcSet};
 use kt_cuts::Cut;
 use kt_cuts::orphans::{earlier, process_no};
 use kt_traffic::Sent;
@@ -27,12 +28,10 @@ use std::marker::Model;
 pub(crate) struct Pairs {
     // By receiver and then by sender.
     pub(crate) pairs: Vec<Pair>,
-    // The places of the pairs that have messages, each once; others may be among them.
-    pub(crate) used: Vec<usize>,
-    // Of each pair, whether its place is among these.
-    pub(crate) listed: Vec<bool>,
-    // The places that were listed before the last decision.
-    former: Vec<usize>,
+    // Those that have messages; others may be among them.
+    pub(crate) used: Peers,
+    // Those that came to have no messages, and may still have room.
+    resting: Peers,
 }
 
 // How many pairs there are.
@@ -41,13 +40,13 @@ const PAIRS: usize = 4_096;
 impl Model for Pairs {
     ghost use Rattle.std.specs.Prelude.{List, map};
     ghost use Rattle.kt_walk.specs.Arrivals.{IsByPair};
-    ghost use Rattle.kt_walk.specs.Pairs.{Link, traffic_of, AreListed, AreMarked};
+    ghost use Rattle.kt_walk.specs.Pairs.{Link, traffic_of, AreInUse};
 
     ghost Value = { List Link };
 
     ghost view = { λ a. a.pairs.items };
 
-    ghost invariant = { λ a. IsByPair (map traffic_of a.pairs.items) × AreListed a.pairs.items a.used.items × AreMarked a.listed.items a.used.items };
+    ghost invariant = { λ a. IsByPair (map traffic_of a.pairs.items) × AreInUse a.pairs.items a.used };
 }
 
 impl Pairs {
@@ -61,9 +60,8 @@ impl Pairs {
         }
         Ok(Pairs {
             pairs,
-            used: Vec::new(alloc),
-            listed: vec![in alloc; false; PAIRS]?,
-            former: Vec::new(alloc),
+            used: Peers::new(),
+            resting: Peers::new(),
         })
     }
 
@@ -89,16 +87,9 @@ impl Pairs {
         ensures ok { OnOk result ((s : Past) (body : _) → ShowsPairs self.old s → IsFit s → p ≢ to → message.msg ≡ s.rows + 1 → message.place ≡ length (s.live p) → ShowsPairs self.new (after s (event.Sent p to body))) }
         ensures err { OnErr result (self.new ≡ self.old) }
     {
-        let index = index_of(to, p);
-        let pair = &mut self.pairs[index];
-        // A pair that has messages is listed, so its mark is not read then.
-        if !pair.is_idle() || self.listed[index] {
-            return pair.send(message);
-        }
-        self.used.reserve(1)?;
-        pair.send(message)?;
-        self.used.push_reserved(index);
-        self.listed[index] = true;
+        let place = index_of(to, p);
+        self.pairs[place].send(message)?;
+        self.used.add(place);
         Ok(())
     }
 
@@ -133,7 +124,13 @@ impl Pairs {
         ensures err { OnErr result (self.new ≡ self.old) }
     {
         let place = index_of(p, from);
-        self.pairs[place].lose(index)
+        let pair = &mut self.pairs[place];
+        pair.lose(index)?;
+        if pair.is_idle() {
+            self.used.remove(place);
+            self.resting.add(place);
+        }
+        Ok(())
     }
 
     /// The least orphan of a cut that keeps the permanent parts.
@@ -144,31 +141,42 @@ impl Pairs {
         first_orphan_of(&self.pairs, &self.used, cut)
     }
 
-    /// Gives back the room of the pairs that had messages before the last decision and have none now. Those that have
-    /// messages at each decision keep it, so that it is not asked for again and again.
+    /// Gives back the room of the pairs that came to have no messages at the last decision or after it, and have none
+    /// now. Those that have messages at each decision keep it, so that it is not asked for again and again.
     pub(crate) fn give_back(&mut self)
         ensures { self.new ≡ self.old }
     {
-        give_back_idle(&mut self.pairs, &self.former);
-        self.former.clear();
-        // Where there is no memory for this list, the room is kept.
-        let _ = self.former.extend_from_slice(&self.used);
+        give_back_all(&mut self.pairs, &self.resting);
+        self.resting = Peers::new();
     }
 
     /// A committed rollback cuts the members' histories back to the permanent lengths.
     pub(crate) fn roll_back(&mut self, members: ProcSet, permanent: &[usize; 64])
         ensures { (s : Past) (p k : ℕ) → ShowsPairs self.old s → ((q : ℕ) → IsEachOnce (s.live q)) → ((q r : ℕ) → AreNotDropped r (s.live q) s.dropped) → IsInOrder s → RollsBack s k members permanent.now → ShowsPairs self.new (after s (event.Decided p k true)) }
     {
-        cut_all_back(&mut self.pairs, &self.used, members, permanent);
-        drop_idle(&mut self.used, &mut self.listed, &self.pairs);
+        commit_all(
+            &mut self.pairs,
+            &mut self.used,
+            &mut self.resting,
+            Kind::Rollback,
+            members,
+            permanent,
+        );
     }
 
-    /// A committed checkpoint leaves these permanent lengths. Messages that both permanent parts have are forgotten.
-    pub(crate) fn settle(&mut self, permanent: &[usize; 64])
-        ensures { (s : Past) (p k : ℕ) → ShowsPairs self.old s → MakesPermanent s k permanent.now → ShowsPairs self.new (after s (event.Decided p k true)) }
+    /// A committed checkpoint of these members leaves these permanent lengths. Messages that both permanent parts have
+    /// are forgotten.
+    pub(crate) fn settle(&mut self, members: ProcSet, permanent: &[usize; 64])
+        ensures { (s : Past) (p k : ℕ) → ShowsPairs self.old s → MakesPermanent s k members permanent.now → ShowsPairs self.new (after s (event.Decided p k true)) }
     {
-        settle_all(&mut self.pairs, &self.used, permanent);
-        drop_idle(&mut self.used, &mut self.listed, &self.pairs);
+        commit_all(
+            &mut self.pairs,
+            &mut self.used,
+            &mut self.resting,
+            Kind::Checkpoint,
+            members,
+            permanent,
+        );
     }
 }
 
@@ -181,87 +189,61 @@ pub(crate) fn index_of(receiver: ProcNo, sender: ProcNo) -> usize
     receiver.get() as usize * 64 + sender.get() as usize
 }
 
-// Cuts the histories of these processes back to their permanent parts, in each pair that has messages.
-fn cut_all_back(pairs: &mut [Pair], used: &[usize], members: ProcSet, lengths: &[usize; 64])
-    requires { AreListed pairs.old used.now }
+// An instance of these members is committed, in each pair that has messages and a member. Those that come to have no
+// messages are in use no more, and rest.
+fn commit_all(
+    pairs: &mut [Pair],
+    used: &mut Peers,
+    resting: &mut Peers,
+    kind: Kind,
+    members: ProcSet,
+    permanent: &[usize; 64],
+)
+    requires by_pair { IsByPair (map traffic_of pairs.old) }
+    requires in_use { AreInUse pairs.old used.old }
     ensures count { length pairs.new ≡ length pairs.old }
-    ensures each { (i : ℕ) (w : Link) → slice_get pairs.new i ≡ Some w → (v : Link) × (slice_get pairs.old i ≡ Some v) × IsPairCutBack members lengths.now v w }
-    ensures listed { AreListed pairs.new used.now }
+    ensures each { (i : ℕ) (w : Link) → slice_get pairs.new i ≡ Some w → (v : Link) × (slice_get pairs.old i ≡ Some v) × IsPairCommitted kind members permanent.now v w }
+    ensures in_use { AreInUse pairs.new used.new }
 {
-    for place in used {
-        pairs[*place].cut_back(members, lengths);
+    let places = used.of(members);
+    let mut next = 0;
+    while let Some(place) = places.first_from(next) {
+        let pair = &mut pairs[place];
+        pair.commit(kind, members, permanent);
+        if pair.is_idle() {
+            used.remove(place);
+            resting.add(place);
+        }
+        next = place + 1;
     }
 }
 
-// Forgets what both permanent parts have, in each pair that has messages.
-fn settle_all(pairs: &mut [Pair], used: &[usize], permanent: &[usize; 64])
-    requires { AreListed pairs.old used.now }
-    ensures count { length pairs.new ≡ length pairs.old }
-    ensures each { (i : ℕ) (w : Link) → slice_get pairs.new i ≡ Some w → (v : Link) × (slice_get pairs.old i ≡ Some v) × IsPairSettled permanent.now v w }
-    ensures listed { AreListed pairs.new used.now }
+// Gives back the room of those of these pairs that have no messages.
+fn give_back_all(pairs: &mut [Pair], places: &Peers)
+    requires { length pairs.old ≡ 4096 }
+    ensures { pairs.new ≡ pairs.old }
 {
-    for place in used {
-        pairs[*place].release(permanent);
+    let mut next = 0;
+    while let Some(place) = places.first_from(next) {
+        pairs[place].give_back();
+        next = place + 1;
     }
 }
 
 // The least orphan of the pairs that have messages.
-fn first_orphan_of(pairs: &[Pair], used: &[usize], cut: &Cut) -> Option<MsgNo>
-    requires { AreListed pairs.now used.now }
+fn first_orphan_of(pairs: &[Pair], used: &Peers, cut: &Cut) -> Option<MsgNo>
+    requires count { length pairs.now ≡ 4096 }
+    requires in_use { AreInUse pairs.now used.now }
     ensures orphan { IfSome result (λ msg. (k : ℕ) × (v : Link) × (slice_get pairs.now k ≡ Some v) × ((s : Past) → IsInOrder s → ShowsTraffic v.traffic s → IsOrphanBetween s (slice_index cut.now) v.traffic.receiver v.traffic.sender msg)) }
     ensures least { (k : ℕ) (v : Link) (s : Past) (msg : ℕ) → slice_get pairs.now k ≡ Some v → s.permanent v.traffic.sender ≤ slice_index cut.now v.traffic.sender → ShowsTraffic v.traffic s → IsOrphanBetween s (slice_index cut.now) v.traffic.receiver v.traffic.sender msg → IsAtMost result msg }
 {
     let mut least = None;
-    for place in used {
-        least = earlier(least, pairs[*place].orphan(cut));
+    let mut next = 0;
+    while let Some(place) = used.first_from(next) {
+        least = earlier(least, pairs[place].orphan(cut));
+        next = place + 1;
     }
     least
-}
-
-// Gives back the room of those of these pairs that have no messages.
-fn give_back_idle(pairs: &mut [Pair], places: &[usize])
-    ensures { pairs.new ≡ pairs.old }
-{
-    for place in places {
-        if *place < pairs.len() {
-            pairs[*place].give_back();
-        }
-    }
-}
-
-// Lists the pairs no more that came to have no messages.
-fn drop_idle(used: &mut Vec<usize>, marks: &mut [bool], pairs: &[Pair])
-    requires listed { AreListed pairs.now used.old.items }
-    requires marked { AreMarked marks.old used.old.items }
-    ensures listed { AreListed pairs.now used.new.items }
-    ensures marked { AreMarked marks.new used.new.items }
-{
-    mark_busy(marks, used, pairs);
-    used.retain(
-        |place: &usize| -> bool
-            ensures { result ≡ is_marked marks.entry.now place.now }
-        { is_marked(marks, *place) },
-    );
-}
-
-// Marks those of the listed pairs that have messages, and no other of them.
-fn mark_busy(marks: &mut [bool], used: &[usize], pairs: &[Pair])
-    requires listed { AreListed pairs.now used.now }
-    requires marked { AreMarked marks.old used.now }
-    ensures count { length marks.new ≡ length marks.old }
-    ensures busy { (k i : ℕ) → slice_get used.now k ≡ Some i → slice_get marks.new i ≡ Some (is_in_use pairs.now i) }
-    ensures rest { (i : ℕ) → ((k : ℕ) → slice_get used.now k ≡ Some i → ⊥) → slice_get marks.new i ≡ slice_get marks.old i }
-{
-    for place in used {
-        marks[*place] = !pairs[*place].is_idle();
-    }
-}
-
-// A place is marked.
-fn is_marked(marks: &[bool], place: usize) -> bool
-    ensures { result ≡ is_marked marks.now place }
-{
-    marks.get(place).copied().unwrap_or(false)
 }
 
 // Adds the pairs of a receiver, one with each sender.

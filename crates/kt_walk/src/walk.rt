@@ -1,6 +1,6 @@
 //! A reader of a log row by row, which keeps no rows.
 
-ghost use Rattle.std.specs.Prelude.{◌≡◌, ◌<◌, ◌^◌, ◌++◌, ◌∷◌, [], ℕ, List, length, IfOk, OnOk, OnErr, IfNone, IfSome, Err, None, Some, true, slice_index, ◌≤◌};
+ghost use Rattle.std.specs.Prelude.{◌≡◌, ◌<◌, ◌^◌, ◌++◌, ◌∷◌, [], ℕ, List, length, IfOk, OnOk, OnErr, IfNone, IfSome, Err, None, Some, true, false, slice_index, ◌≤◌};
 ghost use Rattle.kt_spacetime.specs.declared.event.Event.{Event};
 ghost use Rattle.kt_spacetime.specs.declared.event.Event.TheVariants as event;
 ghost use Rattle.kt_cuts.specs.declared.traces.Trace.{Trace};
@@ -12,7 +12,7 @@ ghost use Rattle.kt_cuts.specs.Cuts.{IsOrphan};
 ghost use Rattle.kt_traffic.specs.declared.waiting.Sent.{Sent};
 ghost use Rattle.kt_walk.specs.Keeping.{kept_trace, held_of};
 ghost use Rattle.kt_walk.specs.Arrivals.{KeepsPermanent};
-ghost use Rattle.kt_walk.specs.PartsOf.{waits, follows};
+ghost use Rattle.kt_walk.specs.PartsOf.{waits, follows, extends_history};
 ghost use Rattle.kt_walk.specs.WalkOf.{WalkOf, IsFoundAt};
 
 use crate::pairs::Pairs;
@@ -63,12 +63,19 @@ impl Walk {
         ensures unchanged { OnErr result (self.new ≡ self.old) }
     {
         match *row {
-            Event::Sent { p, to, .. } if self.trail.may_send(p, to) => {
+            Event::Sent { p, to, .. } => {
+                if !self.trail.may_send(p, to) {
+                    self.test(row)?;
+                }
                 self.send(p, to)?;
                 Ok(())
             }
             Event::Received { p, from, msg } => self.feed_received(p, from, msg),
-            _ => self.feed_any(row),
+            _ => {
+                self.test(row)?;
+                self.add(row)?;
+                Ok(())
+            }
         }
     }
 
@@ -80,31 +87,30 @@ impl Walk {
         ensures unchanged { OnErr result (self.new ≡ self.old) }
     {
         let Some((index, message)) = self.pairs.find(p, from, msg) else {
-            return self.feed_any(&Event::Received { p, from, msg });
+            // The message is not on its way, so the row breaks a rule.
+            return self.test(&Event::Received { p, from, msg });
         };
         let in_turn = is_after(msg, self.pairs.last(p, from));
         if !self.trail.may_receive(p, from, msg, in_turn) {
-            return self.feed_any(&Event::Received { p, from, msg });
+            self.test(&Event::Received { p, from, msg })?;
         }
         self.receive(p, from, index, message)?;
         Ok(())
     }
 
-    // Takes a row of any kind, rule by rule.
+    // The number of the next row and the least rule that it breaks, where it breaks one; it is tested rule by rule.
     #[inline(never)]
-    fn feed_any(&mut self, row: &Event) -> Result<(), LegalFault>
-        requires few { self.old.rows < 2 ^ 24 }
-        ensures fed { OnOk result ((rows : List Event) → WalkOf self.old rows → IsLegal (rows ++ row.now ∷ []) × WalkOf self.new (rows ++ row.now ∷ [])) }
-        ensures broken { (number : ℕ) (rule : Rule) → result ≡ Err (fault.Broken number rule) → (rows : List Event) → WalkOf self.old rows → IsLegal rows × (first_broken (rows ++ row.now ∷ []) ≡ Some (number, rule)) }
-        ensures unchanged { OnErr result (self.new ≡ self.old) }
+    fn test(&self, row: &Event) -> Result<(), LegalFault>
+        requires few { self.now.rows < 2 ^ 24 }
+        ensures unbroken { OnOk result ((rows : List Event) → WalkOf self.now rows → broken_rule (past rows) row.now ≡ None) }
+        ensures broken { (number : ℕ) (rule : Rule) → result ≡ Err (fault.Broken number rule) → (rows : List Event) → WalkOf self.now rows → IsLegal rows × (first_broken (rows ++ row.now ∷ []) ≡ Some (number, rule)) }
     {
         let is_waiting = self.waits(row);
         let in_turn = self.follows(row);
-        if let Some(rule) = self.trail.broken_rule(row, is_waiting, in_turn) {
-            return Err(LegalFault::Broken(self.trail.next_row(), rule));
+        match self.trail.broken_rule(row, is_waiting, in_turn) {
+            Some(rule) => Err(LegalFault::Broken(self.trail.next_row(), rule)),
+            None => Ok(()),
         }
-        self.add(row)?;
-        Ok(())
     }
 
     // Whether a row takes a message that is on its way to the row's process.
@@ -131,15 +137,14 @@ impl Walk {
         }
     }
 
-    // Takes one more row that breaks no rule.
+    // Takes one more row that breaks no rule, and neither sends nor receives a message.
     fn add(&mut self, row: &Event) -> Result<(), Memory>
         requires few { self.old.rows < 2 ^ 24 }
+        requires other { extends_history row.now ≡ false }
         ensures fed { OnOk result ((rows : List Event) → WalkOf self.old rows → broken_rule (past rows) row.now ≡ None → WalkOf self.new (rows ++ row.now ∷ [])) }
         ensures unchanged { OnErr result (self.new ≡ self.old) }
     {
         match *row {
-            Event::Sent { p, to, .. } => self.send(p, to),
-            Event::Received { p, from, msg } => self.take(p, from, msg),
             Event::Dropped { p, from, msg } => self.lose(p, from, msg),
             Event::Decided { inst, commit, .. } => {
                 self.pairs.give_back();
@@ -163,18 +168,6 @@ impl Walk {
         self.pairs.send(p, to, message)?;
         self.trail.extend(p);
         Ok(())
-    }
-
-    // A process receives a message, which breaks no rule.
-    fn take(&mut self, p: ProcNo, from: ProcNo, msg: MsgNo) -> Result<(), Memory>
-        requires few { self.old.rows < 2 ^ 24 }
-        ensures fed { OnOk result ((rows : List Event) → WalkOf self.old rows → broken_rule (past rows) (event.Received p from msg) ≡ None → WalkOf self.new (rows ++ event.Received p from msg ∷ [])) }
-        ensures unchanged { OnErr result (self.new ≡ self.old) }
-    {
-        let Some((index, message)) = self.pairs.find(p, from, msg) else {
-            return Ok(());
-        };
-        self.receive(p, from, index, message)
     }
 
     // A process receives a message, which breaks no rule, at this place among those on their way.
@@ -244,8 +237,7 @@ impl Walk {
         self.trail.instance(inst)?.position(p)
     }
 
-    /// A message and its places, counted from 1; None where it is not kept. It looks through all pairs of processes that
-    /// have messages.
+    /// A message and its places, counted from 1; None where it is not kept. It looks through all pairs of processes.
     pub fn trace(&self, msg: MsgNo) -> Option<Trace>
         ensures { (rows : List Event) → WalkOf self.now rows → result ≡ kept_trace rows msg }
     {

@@ -1,0 +1,10 @@
+use Rattle.std.proofs.Common.{ap, ◌∙◌}
+use Rattle.kt_walk.specs.Peers.{is_in}
+use Rattle.kt_walk.proofs.PeersFacts.{added, added_others}
+use Rattle.kt_walk.proofs.peers.Peers.add.Goals as goal
+
+pub returns-clause-added : goal.returns-clause-added
+returns-clause-added c = added c.self.inside.senders c.args.place c.self.invariant c.requires
+
+pub returns-clause-others : goal.returns-clause-others
+returns-clause-others c = λ i other. added_others c.self.inside.senders c.args.place i c.self.invariant c.requires other ∙ ap (λ (l : _). is_in l i) c.self.view_is
