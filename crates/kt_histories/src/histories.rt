@@ -5,11 +5,10 @@ ghost use Rattle.kt_spacetime.specs.declared.event.Event.{Event};
 ghost use Rattle.kt_cuts.specs.Past.{Past, past};
 ghost use Rattle.kt_cuts.specs.Legal.{IsLegal};
 
-use kt_cuts::Deed;
 use crate::replay::Replay;
 use crate::tables::Message;
 use kt_base::{InstNo, Kind, Memory, MsgNo, ProcNo};
-use kt_cuts::Trace;
+use kt_cuts::{Deed, Trace};
 use kt_spacetime::SpaceTime;
 use std::alloc::Global;
 

@@ -4,9 +4,9 @@ ghost use Rattle.std.specs.Prelude.{◌≡◌, ◌≤◌, ◌<◌, ◌++◌, ◌
 ghost use Rattle.kt_cuts.specs.declared.deeds.Deed.TheVariants as deed;
 ghost use Rattle.kt_cuts.specs.Lists.{last_of, Rises, sent_in, received_in};
 
-use kt_cuts::Deed;
 use crate::messages::Messages;
 use kt_base::{Memory, MsgNo, ProcNo};
+use kt_cuts::Deed;
 use std::alloc::Global;
 use std::marker::Model;
 

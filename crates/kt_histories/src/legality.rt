@@ -7,13 +7,11 @@ ghost use Rattle.kt_cuts.specs.declared.legality.LegalFault.TheVariants as fault
 ghost use Rattle.kt_cuts.specs.Legal.{IsLegal, first_broken};
 ghost use Rattle.kt_cuts.specs.Tests.{is_after};
 
-use kt_cuts::Deed;
-use kt_cuts::grounds::Grounds;
 use crate::replay::Replay;
-use kt_cuts::Rule;
 use crate::tables::Message;
 use kt_base::{MsgNo, ProcNo};
-use kt_cuts::{LegalFault, is_after};
+use kt_cuts::grounds::Grounds;
+use kt_cuts::{Deed, LegalFault, Rule, is_after};
 use kt_spacetime::{Event, SpaceTime};
 use std::alloc::Global;
 

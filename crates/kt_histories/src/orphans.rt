@@ -8,10 +8,10 @@ ghost use Rattle.kt_cuts.specs.Legal.{has_deed};
 ghost use Rattle.kt_cuts.specs.Cuts.{IsOrphan};
 ghost use Rattle.kt_cuts.specs.Orphans.{IsOrphanBetween, IsAtMost, earlier, is_within};
 
-use kt_cuts::Cut;
 use crate::histories::Histories;
 use crate::replay::Replay;
 use kt_base::{MsgNo, ProcNo};
+use kt_cuts::Cut;
 use kt_cuts::orphans::{earlier, if_wanted, is_within, process_no};
 
 impl Histories {

@@ -5,10 +5,10 @@ ghost use Rattle.kt_cuts.specs.declared.deeds.Deed.TheVariants as deed;
 ghost use Rattle.kt_cuts.specs.Past.{start};
 ghost use Rattle.kt_histories.specs.Standing.{ShowsProcesses};
 
-use kt_cuts::Deed;
 use crate::history::History;
 use crate::messages::Messages;
 use kt_base::{InstNo, Memory, MsgNo, ProcNo};
+use kt_cuts::Deed;
 use std::alloc::Global;
 
 /// A process, after the rows so far.

@@ -4,11 +4,11 @@ ghost use Rattle.std.specs.Prelude.{◌≡◌, ◌<◌, ◌≤◌, ◌+◌, ◌^
 ghost use Rattle.std.specs.Option.{option_copied};
 ghost use Rattle.kt_spacetime.specs.declared.event.Event.TheVariants as event;
 
-use kt_cuts::instances::{Instance, enter, judge};
 use crate::messages::Messages;
 use crate::process::{Process, opening_processes};
 use crate::tables::{Message, bury, make_permanent, mark_dropped, mark_received, roll_back};
 use kt_base::{InstNo, Kind, Memory, MsgNo, ProcNo, ProcSet, RowNo};
+use kt_cuts::instances::{Instance, enter, judge};
 use kt_spacetime::Event;
 use std::alloc::Global;
 

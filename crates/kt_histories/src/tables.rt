@@ -5,11 +5,11 @@ ghost use Rattle.kt_base.specs.Sets.{has};
 ghost use Rattle.kt_cuts.specs.declared.deeds.Deed.TheVariants as deed;
 ghost use Rattle.kt_histories.specs.declared.process.Process.{Process};
 
-use kt_cuts::Deed;
-use kt_cuts::instances::Instance;
 use crate::messages::Messages;
 use crate::process::Process;
 use kt_base::{Memory, MsgNo, ProcNo};
+use kt_cuts::Deed;
+use kt_cuts::instances::Instance;
 
 /// A message, from its `sent` row on. Places in a history count from 0 here.
 #[derive(Clone, Copy)]
