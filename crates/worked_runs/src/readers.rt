@@ -47,14 +47,14 @@ fn has_same_positions(walk: &Walk, histories: &Histories, p: ProcNo) -> bool {
 
 // Whether each message that the walk keeps has its places, and it holds as many as it tells.
 fn has_same_messages(walk: &Walk, histories: &Histories) -> bool {
-    let mut kept = 0;
+    let mut kept: usize = 0;
     for number in 1..1_000 {
         let Some(msg) = MsgNo::new(number) else {
             return false;
         };
         let trace = walk.trace(msg);
         if trace.is_some() {
-            kept += 1;
+            kept = kept.saturating_add(1);
             if trace != histories.trace(msg) {
                 return false;
             }
