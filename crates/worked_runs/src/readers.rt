@@ -48,7 +48,7 @@ fn has_same_positions(walk: &Walk, histories: &Histories, p: ProcNo) -> bool {
 // Whether each message that the walk keeps has its places, and it holds as many as it tells.
 fn has_same_messages(walk: &Walk, histories: &Histories) -> bool {
     let mut kept: usize = 0;
-    for number in 1..1_000 {
+    for number in 1..100 {
         let Some(msg) = MsgNo::new(number) else {
             return false;
         };
