@@ -10,8 +10,5 @@ mod words;
 pub use counters::Labels;
 pub use faults::Memory;
 pub use numbers::{InstNo, Label, MsgNo, ProcNo, RowNo};
-pub use sets::{ProcSet, same_members};
+pub use sets::{ProcSet, members_in_range, same_members};
 pub use words::{Cause, Kind, Standing, Verb};
-
-#[cfg(test)]
-mod tests;

@@ -1,6 +1,6 @@
 //! Numbers in range: processes, labels, messages, rows and instances.
 
-ghost use Rattle.std.specs.Prelude.{◌≡◌, ◌<◌, ◌≤◌, ◌↔◌, IsSome, IfSome};
+ghost use Rattle.std.specs.Prelude.{◌≡◌, ◌+◌, ◌^◌, ◌<◌, ◌≤◌, ◌↔◌, IsSome, IfSome};
 ghost use Rattle.kt_base.specs.Numbers.{IsProcNo, IsLabel, IsMsgNo, IsRowNo, IsInstNo};
 
 use std::fmt;
@@ -41,12 +41,28 @@ impl ProcNo {
         }
     }
 
+    /// The process of this number, 0 to 63.
+    pub fn nth(number: u8) -> ProcNo
+        requires { IsProcNo number }
+        ensures { result ≡ number }
+    {
+        ProcNo { number }
+    }
+
     /// The number, 0 to 63.
     pub fn get(self) -> u8
         ensures value { result ≡ self }
         ensures in_range { IsProcNo result }
     {
         self.number
+    }
+
+    /// The number as an index into a list with an element for each process, 0 to 63.
+    pub fn index(self) -> usize
+        ensures value { result ≡ self }
+        ensures in_range { IsProcNo result }
+    {
+        usize::from(self.number)
     }
 }
 
@@ -82,14 +98,14 @@ impl Model for Label {
 
 impl Label {
     /// The greatest label.
-    pub const MOST: u64 = 281_474_976_710_655;
+    pub const MAX: u64 = 281_474_976_710_655;
 
     /// The label with this number; None from 2^48 on.
     pub fn new(number: u64) -> Option<Label>
         ensures valid { IsSome result ↔ IsLabel number }
         ensures value { IfSome result (λ l. l ≡ number) }
     {
-        if number <= Self::MOST {
+        if number <= Self::MAX {
             Some(Label { number })
         } else {
             None
@@ -126,17 +142,27 @@ impl Model for MsgNo {
 
 impl MsgNo {
     /// The greatest number of a message.
-    pub const MOST: u32 = 16_777_216;
+    pub const MAX: u32 = 16_777_216;
 
     /// The message with this number; None for 0 and above 2^24.
     pub fn new(number: u32) -> Option<MsgNo>
         ensures valid { IsSome result ↔ IsMsgNo number }
         ensures value { IfSome result (λ m. m ≡ number) }
     {
-        if number >= 1 && number <= Self::MOST {
+        if number >= 1 && number <= Self::MAX {
             Some(MsgNo { number })
         } else {
             None
+        }
+    }
+
+    /// The message that the row after so many rows sends, if it sends one.
+    pub fn after(rows: usize) -> MsgNo
+        requires { rows < 2 ^ 24 }
+        ensures { result ≡ rows + 1 }
+    {
+        MsgNo {
+            number: rows as u32 + 1,
         }
     }
 
@@ -146,6 +172,14 @@ impl MsgNo {
         ensures in_range { IsMsgNo result }
     {
         self.number
+    }
+
+    /// The index of its row in a list of all rows, from 0.
+    pub fn index(self) -> usize
+        ensures value { result + 1 ≡ self }
+        ensures in_range { IsMsgNo (result + 1) }
+    {
+        self.number as usize - 1
     }
 }
 
@@ -181,17 +215,27 @@ impl Model for RowNo {
 
 impl RowNo {
     /// The greatest number of a row.
-    pub const MOST: u32 = 16_777_216;
+    pub const MAX: u32 = 16_777_216;
 
     /// The row with this number; None for 0 and above 2^24.
     pub fn new(number: u32) -> Option<RowNo>
         ensures valid { IsSome result ↔ IsRowNo number }
         ensures value { IfSome result (λ r. r ≡ number) }
     {
-        if number >= 1 && number <= Self::MOST {
+        if number >= 1 && number <= Self::MAX {
             Some(RowNo { number })
         } else {
             None
+        }
+    }
+
+    /// The row after so many rows.
+    pub fn after(rows: usize) -> RowNo
+        requires { rows < 2 ^ 24 }
+        ensures { result ≡ rows + 1 }
+    {
+        RowNo {
+            number: rows as u32 + 1,
         }
     }
 
@@ -236,14 +280,14 @@ impl Model for InstNo {
 
 impl InstNo {
     /// The greatest number of an instance.
-    pub const MOST: u16 = 4096;
+    pub const MAX: u16 = 4096;
 
     /// The instance with this number; None for 0 and above 4,096.
     pub fn new(number: u16) -> Option<InstNo>
         ensures valid { IsSome result ↔ IsInstNo number }
         ensures value { IfSome result (λ k. k ≡ number) }
     {
-        if number >= 1 && number <= Self::MOST {
+        if number >= 1 && number <= Self::MAX {
             Some(InstNo { number })
         } else {
             None
@@ -256,6 +300,14 @@ impl InstNo {
         ensures in_range { IsInstNo result }
     {
         self.number
+    }
+
+    /// Its index in a list of all instances in order of beginning, from 0.
+    pub fn index(self) -> usize
+        ensures value { result + 1 ≡ self }
+        ensures in_range { IsInstNo (result + 1) }
+    {
+        usize::from(self.number) - 1
     }
 }
 

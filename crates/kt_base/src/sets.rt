@@ -1,6 +1,7 @@
 //! Sets of processes.
 
-ghost use Rattle.std.specs.Prelude.{◌≡◌, ◌≢◌, ℕ, true, false};
+ghost use Rattle.std.specs.Prelude.{◌≡◌, ◌≢◌, ◌<◌, ◌^◌, ℕ, true, false};
+ghost use Rattle.kt_base.specs.Numbers.{IsProcNo};
 ghost use Rattle.kt_base.specs.Sets.{has, count_of};
 
 use crate::numbers::ProcNo;
@@ -76,4 +77,9 @@ impl ProcSet {
 /// Sets with the same members are the same set: a law, with nothing to run.
 pub fn same_members()
     ensures { (a b : ℕ) → ((q : ℕ) → has a q ≡ has b q) → a ≡ b }
+{}
+
+/// The members of a set are numbers of processes: a law, with nothing to run.
+pub fn members_in_range()
+    ensures { (set q : ℕ) → set < 2 ^ 64 → has set q ≡ true → IsProcNo q }
 {}

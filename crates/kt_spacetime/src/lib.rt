@@ -6,6 +6,3 @@ mod log;
 
 pub use event::Event;
 pub use log::SpaceTime;
-
-#[cfg(test)]
-mod tests;

@@ -8,9 +8,6 @@ use kt_base::Memory;
 use std::alloc::Global;
 use std::marker::Model;
 
-/// How many rows a log may have.
-pub const MOST_ROWS: usize = 16_777_216;
-
 /// The rows of a log in order, numbered from 1, at most 2^24, with room set aside for some more.
 #[derive(Debug, Drop)]
 pub struct SpaceTime {
