@@ -8,7 +8,7 @@ use Rattle.kt_chain.specs.declared.fault.CertTextFault.{CertTextFault}
 use Rattle.kt_chain.specs.declared.records.RecordFault.{RecordFault}
 use Rattle.kt_chain.specs.declared.records.RecordFault.TheVariants as fault
 use Rattle.kt_chain.specs.Spelling.{records_of}
-use Rattle.kt_chain.specs.Texts.{Slot, IsFirstMisfit, IsFieldFault, IsFaultAfter, IsAfter, IsFirstFault, IsOfText, record_count, most_records, fault_at}
+use Rattle.kt_chain.specs.Texts.{Slot, IsFirstMisfit, IsFieldFault, IsFaultAfter, IsAfter, IsFirstFault, IsOfText, record_count, max_records, fault_at}
 use Rattle.kt_chain.specs.Texts as slot
 use Rattle.kt_chain.proofs.SpellingFacts.{field_5, two_words, one_list}
 use Rattle.kt_chain.proofs.TextFacts.{none_wrong, InFields, record_kinds, none_wrong_in, right_next, IsRight, HasTooMany, HasWrong, kinds}
@@ -38,7 +38,7 @@ one_in_fields before w x y z u f g (inl p) (inl q) = p.0 ∙ sym q.0
 one_in_fields before w x y z u f g (inl p) (inr (inl q)) = absurd (p.1 q.0)
 one_in_fields before w x y z u f g (inl p) (inr (inr q)) = absurd (p.2 q.0)
 one_in_fields before w x y z u f g (inr (inl p)) (inl q) = absurd (q.1 p.0)
-one_in_fields before w x y z u f g (inr (inl p)) (inr (inl q)) = one_misfit slot.instance slot.kind slot.process slot.verdict x y z u f g p.1 q.1
+one_in_fields before w x y z u f g (inr (inl p)) (inr (inl q)) = one_misfit slot.instance slot.kind slot.process slot.decision x y z u f g p.1 q.1
 one_in_fields before w x y z u f g (inr (inl p)) (inr (inr q)) = absurd (two_words (sym p.0 ∙ q.0))
 one_in_fields before w x y z u f g (inr (inr p)) (inl q) = absurd (q.2 p.0)
 one_in_fields before w x y z u f g (inr (inr p)) (inr (inl q)) = absurd (two_words (sym q.0 ∙ p.0))

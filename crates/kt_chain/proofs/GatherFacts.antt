@@ -10,7 +10,7 @@ use Rattle.kt_chain.specs.declared.fault.CertTextFault.TheVariants.{TooLong}
 use Rattle.kt_chain.specs.declared.records.RecordFault.{RecordFault}
 use Rattle.kt_chain.specs.declared.records.RecordFault.TheVariants as fault
 use Rattle.kt_chain.specs.Spelling.{Member, IsInRange, IsMemberInRange, HasShortChains, most_messages, records_of}
-use Rattle.kt_chain.specs.Texts.{IsRecordFault, IsFaultAfter, IsFirstFault, record_count, most_records, fault_at}
+use Rattle.kt_chain.specs.Texts.{IsRecordFault, IsFaultAfter, IsFirstFault, record_count, max_records, fault_at}
 use Rattle.kt_chain.specs.Reading.{Begins, Takes}
 
 abbrev Records : Type 0
@@ -21,7 +21,7 @@ pub count_more : (old new : List Certificate) (fields : List (List ℕ)) → Tak
 count_more old new fields taken = ap length taken.spelled ∙ length-append (records_of old) (fields ∷ [])
 
 pub begins_more : (source : Option (List ℕ)) (left rest : Option Records) (old new : List Certificate) (fields : List (List ℕ)) → Begins source left old → TakesRecord left rest fields → Takes old new fields
-    → record_count old < most_records → Begins source rest new
+    → record_count old < max_records → Begins source rest new
 begins_more None left rest old new fields b t taken few = tt
 begins_more (Some bytes) None rest old new fields b t taken few = absurd b
 begins_more (Some bytes) (Some left) None old new fields b t taken few = absurd t
@@ -40,7 +40,7 @@ first_fault (Some bytes) (Some left) certificates fault b h = record { before = 
 
 -- a record is wrong
 wrong_record : (left rest : Option Records) (certificates : List Certificate) (fields : List (List ℕ)) (n : ℕ) (f : RecordFault) → TakesRecord left rest fields → n ≡ record_count certificates + 1
-    → record_count certificates < most_records → IsRecordFault certificates fields f → IfSome left (λ left. IsFaultAfter certificates left (fault_at f n))
+    → record_count certificates < max_records → IsRecordFault certificates fields f → IfSome left (λ left. IsFaultAfter certificates left (fault_at f n))
 wrong_record None rest certificates fields n f t e few h = tt
 wrong_record (Some left) None certificates fields n f t e few h = absurd t
 wrong_record (Some left) (Some rest) certificates fields n fault.Memory t e few h = tt
@@ -50,19 +50,19 @@ wrong_record (Some left) (Some rest) certificates fields n fault.Number t e few 
 wrong_record (Some left) (Some rest) certificates fields n fault.Place t e few h = (e, few, fields, rest, t, h)
 
 pub record_fault : (source : Option (List ℕ)) (left rest : Option Records) (certificates : List Certificate) (fields : List (List ℕ)) (n : ℕ) (f : RecordFault) → Begins source left certificates
-    → TakesRecord left rest fields → n ≡ record_count certificates + 1 → record_count certificates < most_records → IsRecordFault certificates fields f
+    → TakesRecord left rest fields → n ≡ record_count certificates + 1 → record_count certificates < max_records → IsRecordFault certificates fields f
     → IfSome source (λ bytes. IsFirstFault (records default_config (strip_bom bytes)) (fault_at f n))
 record_fault source left rest certificates fields n f b t e few h = first_fault source left certificates (fault_at f n) b (wrong_record left rest certificates fields n f t e few h)
 
 -- a record comes after as many as there may be
-one_too_many : (left rest : Option Records) (certificates : List Certificate) (fields : List (List ℕ)) → TakesRecord left rest fields → record_count certificates ≡ most_records
+one_too_many : (left rest : Option Records) (certificates : List Certificate) (fields : List (List ℕ)) → TakesRecord left rest fields → record_count certificates ≡ max_records
     → IfSome left (λ left. IsFaultAfter certificates left TooLong)
 one_too_many None rest certificates fields t full = tt
 one_too_many (Some left) None certificates fields t full = absurd t
 one_too_many (Some left) (Some rest) certificates fields t full = (full, fields, rest, t)
 
 pub too_long : (source : Option (List ℕ)) (left rest : Option Records) (certificates : List Certificate) (fields : List (List ℕ)) → Begins source left certificates → TakesRecord left rest fields
-    → record_count certificates ≡ most_records → IfSome source (λ bytes. IsFirstFault (records default_config (strip_bom bytes)) TooLong)
+    → record_count certificates ≡ max_records → IfSome source (λ bytes. IsFirstFault (records default_config (strip_bom bytes)) TooLong)
 too_long source left rest certificates fields b t full = first_fault source left certificates TooLong b (one_too_many left rest certificates fields t full)
 
 -- certificates in range have short chains

@@ -8,7 +8,7 @@ use Rattle.std.proofs.lemmas.List.Elements.{All-nil, All-cons, All-append, All-h
 use Rattle.kt_base.specs.Numbers.{IsMsgNo}
 use Rattle.kt_base.specs.declared.words.Kind.{Kind}
 use Rattle.kt_base.specs.declared.words.Kind.TheVariants.{Checkpoint, Rollback}
-use Rattle.kt_text.specs.Words.{kind_word, verdict_word}
+use Rattle.kt_text.specs.Words.{kind_word, decision_word}
 use Rattle.kt_text.proofs.FieldFacts.{Records, first_and_rest, field_1, field_2, field_3, field_4}
 use Rattle.kt_chain.specs.declared.certificate.Certificate.{Certificate}
 use Rattle.kt_chain.specs.Spelling.{Member, chain_word, instance_record, member_record, certificate_records, records_of, IsMemberInRange, IsInRange}
@@ -28,7 +28,7 @@ first_byte (byte ∷ rest) = byte
 pub two_words : codes "cert" ≡ codes "member" → ⊥
 two_words e = let t : 99 ≡ 109 = ap first_byte e in omega (arith, t)
 
--- a text is one kind, one verdict
+-- a text is one kind, one decision
 abbrev kind_in : List ℕ → Kind
 kind_in text = if bytes_eq text (codes "checkpoint") then Checkpoint else Rollback
 
@@ -39,12 +39,12 @@ kind_back Rollback = refl
 one_kind : (k l : Kind) → kind_word k ≡ kind_word l → k ≡ l
 one_kind k l e = sym (kind_back k) ∙ ap kind_in e ∙ kind_back l
 
-verdict_back : (commit : Bool) → bytes_eq (verdict_word commit) (codes "commit") ≡ commit
-verdict_back true = refl
-verdict_back false = refl
+decision_back : (commit : Bool) → bytes_eq (decision_word commit) (codes "commit") ≡ commit
+decision_back true = refl
+decision_back false = refl
 
-one_verdict : (a b : Bool) → verdict_word a ≡ verdict_word b → a ≡ b
-one_verdict a b e = sym (verdict_back a) ∙ ap (λ (text : List ℕ). bytes_eq text (codes "commit")) e ∙ verdict_back b
+one_decision : (a b : Bool) → decision_word a ≡ decision_word b → a ≡ b
+one_decision a b e = sym (decision_back a) ∙ ap (λ (text : List ℕ). bytes_eq text (codes "commit")) e ∙ decision_back b
 
 -- numbers that are spelled alike are the same
 one_messages : (messages others : List ℕ) → All IsMsgNo messages → All IsMsgNo others → map decimal messages ≡ map decimal others → messages ≡ others
@@ -135,7 +135,7 @@ one_list (c ∷ cs) (d ∷ ds) r s e =
     let at_inst = subst (λ (k : ℕ). map (member_record c.inst) c.members ++ records_of cs ≡ map (member_record k) d.members ++ records_of ds) (sym inst) split.1 in
     let members = one_members c.inst c.members d.members cs ds p.members q.members at_inst in
     let initiator : c.initiator ≡ d.initiator = decimal_injective c.initiator d.initiator (omega (arith, p.initiator)) (omega (arith, q.initiator)) (ap field_4 split.0) in
-    let same = same_parts c d inst (one_kind c.kind d.kind (ap field_3 split.0)) initiator (one_verdict c.commit d.commit (ap field_5 split.0)) members.0 in
+    let same = same_parts c d inst (one_kind c.kind d.kind (ap field_3 split.0)) initiator (one_decision c.commit d.commit (ap field_5 split.0)) members.0 in
     let rest = one_list cs ds (All-tail IsInRange c cs r) (All-tail IsInRange d ds s) members.1 in
     ap (λ (x : Certificate). x ∷ cs) same ∙ ap (λ (x : List Certificate). d ∷ x) rest
 

@@ -10,7 +10,7 @@ use Rattle.kt_chain.specs.declared.fault.CertTextFault.TheVariants.{Read, TooLon
 use Rattle.kt_chain.specs.declared.records.RecordFault.{RecordFault}
 use Rattle.kt_chain.specs.declared.records.RecordFault.TheVariants as fault
 use Rattle.kt_chain.specs.Spelling.{Member, instance_record, member_record, records_of, IsMemberInRange, IsInRange}
-use Rattle.kt_chain.specs.Texts.{Slot, Fits, IsFirstMisfit, IsFieldFault, IsRecordFault, IsWrongAt, IsFaultAfter, IsCertText, IsFirstFault, IsOfText, record_count, most_records, fault_at}
+use Rattle.kt_chain.specs.Texts.{Slot, Fits, IsFirstMisfit, IsFieldFault, IsRecordFault, IsWrongAt, IsFaultAfter, IsCertText, IsFirstFault, IsOfText, record_count, max_records, fault_at}
 use Rattle.kt_chain.specs.Texts as slot
 use Rattle.kt_chain.proofs.SpellingFacts.{field_5, two_words, no_instance, one_inst, no_member, one_chain, one_list}
 
@@ -71,7 +71,7 @@ none_wrong w x y z a b c d f p q r s (inr (inr (inr h))) = h.3.1 s
 right_instance : (before : List Certificate) (c : Certificate) (w x y z u : List ℕ) (f : RecordFault) → IsInRange c → w ∷ x ∷ y ∷ z ∷ u ∷ [] ≡ instance_record c → IsFieldFault before w x y z u f → ⊥
 right_instance before c w x y z u f is e (inl h) = h.1 (ap field_1 e)
 right_instance before c w x y z u f is e (inr (inl h)) =
-    none_wrong slot.instance slot.kind slot.process slot.verdict x y z u f (c.inst, is.inst, ap field_2 e) (c.kind, ap field_3 e) (c.initiator, is.initiator, ap field_4 e) (c.commit, ap field_5 e) h.1
+    none_wrong slot.instance slot.kind slot.process slot.decision x y z u f (c.inst, is.inst, ap field_2 e) (c.kind, ap field_3 e) (c.initiator, is.initiator, ap field_4 e) (c.commit, ap field_5 e) h.1
 right_instance before c w x y z u f is e (inr (inr h)) = two_words (sym (ap field_1 e) ∙ h.0)
 
 -- some certificates have one last one
@@ -129,7 +129,7 @@ none_wrong_in before fields f o all right wrong = go right (record_kinds before 
 
 -- a fault of the text itself is that there are too many records, or that one is wrong
 abbrev pub HasTooMany : List Certificate → Records → CertTextFault → Type 0
-HasTooMany before left fault = (fault ≡ TooLong) × (record_count before ≡ most_records) × (fields : List (List ℕ)) × (rest : Records) × (left ≡ fields ∷ rest)
+HasTooMany before left fault = (fault ≡ TooLong) × (record_count before ≡ max_records) × (fields : List (List ℕ)) × (rest : Records) × (left ≡ fields ∷ rest)
 
 abbrev pub HasWrong : List Certificate → Records → CertTextFault → Type 0
 HasWrong before left found = (n : ℕ) × (f : RecordFault) × (found ≡ fault_at f n) × (f ≢ fault.Memory) × IsWrongAt before left n f

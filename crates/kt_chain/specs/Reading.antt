@@ -7,7 +7,7 @@ use Rattle.kt_chain.specs.declared.certificate.Certificate.{Certificate}
 use Rattle.kt_chain.specs.declared.records.RecordFault.{RecordFault}
 use Rattle.kt_chain.specs.declared.records.RecordFault.TheVariants as fault
 use Rattle.kt_chain.specs.Spelling.{IsInRange, records_of, most_messages}
-use Rattle.kt_chain.specs.Texts.{IsAfter, record_count, most_records}
+use Rattle.kt_chain.specs.Texts.{IsAfter, record_count, max_records}
 
 -- want of memory, or this
 abbrev pub OrMemory : RecordFault → Type 0 → Type 0
@@ -35,4 +35,4 @@ pub record Gathers {R : Type 0} (remaining : R → Option (List ℕ)) (source : 
   pub begins : Begins (remaining source) (left_in remaining reader) certificates
   pub in_range : All IsInRange certificates
   pub counted : count ≡ record_count certificates
-  pub few : count ≤ most_records
+  pub few : count ≤ max_records

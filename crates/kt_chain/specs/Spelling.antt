@@ -3,7 +3,7 @@ use Rattle.std.specs.Prelude.{◌≤◌, ℕ, List, [], ◌∷◌, codes, map, l
 use Rattle.std.specs.List.{flat_map, join_with_byte}
 use Rattle.std.specs.Fmt.{decimal}
 use Rattle.kt_base.specs.Numbers.{IsProcNo, IsMsgNo, IsInstNo}
-use Rattle.kt_text.specs.Words.{kind_word, verdict_word}
+use Rattle.kt_text.specs.Words.{kind_word, decision_word}
 use Rattle.kt_chain.specs.declared.certificate.Certificate.{Certificate}
 
 -- a member and the messages of its chain
@@ -17,7 +17,7 @@ chain_word (msg ∷ messages) = join_with_byte 47 (map decimal (msg ∷ messages
 
 -- the record of an instance: its number, its kind, its initiator and how it was decided
 abbrev pub instance_record : Certificate → List (List ℕ)
-instance_record c = codes "cert" ∷ decimal c.inst ∷ kind_word c.kind ∷ decimal c.initiator ∷ verdict_word c.commit ∷ []
+instance_record c = codes "cert" ∷ decimal c.inst ∷ kind_word c.kind ∷ decimal c.initiator ∷ decision_word c.commit ∷ []
 
 -- the record of a member of an instance: the instance, the process, the length of its chain and the chain
 abbrev pub member_record : ℕ → Member → List (List ℕ)

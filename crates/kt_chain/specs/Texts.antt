@@ -3,7 +3,7 @@ use Rattle.std.specs.Prelude.{◌≡◌, ◌≢◌, ◌⊎◌, ◌≤◌, ◌<�
 use Rattle.std.specs.Fmt.{decimal}
 use Rattle.kt_base.specs.Numbers.{IsProcNo, IsMsgNo, IsInstNo}
 use Rattle.kt_base.specs.declared.words.Kind.{Kind}
-use Rattle.kt_text.specs.Words.{kind_word, verdict_word}
+use Rattle.kt_text.specs.Words.{kind_word, decision_word}
 use Rattle.kt_chain.specs.declared.certificate.Certificate.{Certificate}
 use Rattle.kt_chain.specs.declared.fault.CertTextFault.{CertTextFault}
 use Rattle.kt_chain.specs.declared.fault.CertTextFault.TheVariants.{Read, TooLong, Fields, Word, Number, Place, Memory}
@@ -12,8 +12,8 @@ use Rattle.kt_chain.specs.declared.records.RecordFault.TheVariants as fault
 use Rattle.kt_chain.specs.Spelling.{IsInRange, records_of, chain_word, most_messages}
 
 -- how many records a text has at most
-abbrev pub most_records : ℕ
-most_records = 2 ^ 19
+abbrev pub max_records : ℕ
+max_records = 2 ^ 19
 
 -- how many records some certificates have
 abbrev pub record_count : List Certificate → ℕ
@@ -23,14 +23,14 @@ record_count certificates = length (records_of certificates)
 pub record IsCertText (text : List (List (List ℕ))) (certificates : List Certificate) : Type 0 where
   pub spelled : text ≡ records_of certificates
   pub in_range : All IsInRange certificates
-  pub few : record_count certificates ≤ most_records
+  pub few : record_count certificates ≤ max_records
 
 -- what may stand in a field after a record's word
 pub data Slot : Type 0 where
   instance : Slot
   kind : Slot
   process : Slot
-  verdict : Slot
+  decision : Slot
   count : Slot
   chain : Slot
 
@@ -39,7 +39,7 @@ abbrev pub Fits : Slot → List ℕ → Type 0
 Fits instance text = (k : ℕ) × IsInstNo k × (text ≡ decimal k)
 Fits kind text = (k : Kind) × (text ≡ kind_word k)
 Fits process text = (p : ℕ) × IsProcNo p × (text ≡ decimal p)
-Fits verdict text = (commit : Bool) × (text ≡ verdict_word commit)
+Fits decision text = (commit : Bool) × (text ≡ decision_word commit)
 Fits count text = (n : ℕ) × (n ≤ most_messages) × (text ≡ decimal n)
 Fits chain text = (messages : List ℕ) × All IsMsgNo messages × (text ≡ chain_word messages)
 
@@ -48,7 +48,7 @@ abbrev pub misfit : Slot → RecordFault
 misfit instance = fault.Number
 misfit kind = fault.Word
 misfit process = fault.Number
-misfit verdict = fault.Word
+misfit decision = fault.Word
 misfit count = fault.Number
 misfit chain = fault.Number
 
@@ -63,7 +63,7 @@ IsFirstMisfit w x y z a b c d f =
 
 -- a field after the word of a record of an instance does not fit
 abbrev pub IsInstanceMisfit : List ℕ → List ℕ → List ℕ → List ℕ → RecordFault → Type 0
-IsInstanceMisfit a b c d f = IsFirstMisfit instance kind process verdict a b c d f
+IsInstanceMisfit a b c d f = IsFirstMisfit instance kind process decision a b c d f
 
 -- a field after the word of a member's record does not fit
 abbrev pub IsMemberMisfit : List ℕ → List ℕ → List ℕ → List ℕ → RecordFault → Type 0
@@ -115,7 +115,7 @@ fault_at fault.Memory n = Memory
 -- the record of this number is the one after these certificates, and this is wrong in it
 abbrev pub IsWrongAt : List Certificate → List (List (List ℕ)) → ℕ → RecordFault → Type 0
 IsWrongAt before left n f =
-    (n ≡ record_count before + 1) × (record_count before < most_records)
+    (n ≡ record_count before + 1) × (record_count before < max_records)
     × (fields : List (List ℕ)) × (rest : List (List (List ℕ))) × (left ≡ fields ∷ rest) × IsRecordFault before fields f
 
 -- after these certificates, what is first wrong in the records that are left; nothing is said of when a reader or
@@ -123,7 +123,7 @@ IsWrongAt before left n f =
 abbrev pub IsFaultAfter : List Certificate → List (List (List ℕ)) → CertTextFault → Type 0
 IsFaultAfter before left Read = Unit {0}
 IsFaultAfter before left Memory = Unit {0}
-IsFaultAfter before left TooLong = (record_count before ≡ most_records) × (fields : List (List ℕ)) × (rest : List (List (List ℕ))) × (left ≡ fields ∷ rest)
+IsFaultAfter before left TooLong = (record_count before ≡ max_records) × (fields : List (List ℕ)) × (rest : List (List (List ℕ))) × (left ≡ fields ∷ rest)
 IsFaultAfter before left (Fields n) = IsWrongAt before left n fault.Fields
 IsFaultAfter before left (Word n) = IsWrongAt before left n fault.Word
 IsFaultAfter before left (Number n) = IsWrongAt before left n fault.Number
@@ -133,7 +133,7 @@ IsFaultAfter before left (Place n) = IsWrongAt before left n fault.Place
 pub record IsAfter (before : List Certificate) (left text : List (List (List ℕ))) : Type 0 where
   pub spelled : text ≡ records_of before ++ left
   pub in_range : All IsInRange before
-  pub few : record_count before ≤ most_records
+  pub few : record_count before ≤ max_records
 
 -- the first fault of a text: certificates that are said, and then what is wrong
 pub record IsFirstFault (text : List (List (List ℕ))) (fault : CertTextFault) : Type 0 where

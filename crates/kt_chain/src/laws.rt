@@ -9,12 +9,16 @@ ghost use Rattle.kt_chain.specs.Texts.{IsCertText, IsFirstFault, IsOfText};
 /// Certificates are spelled by records of five fields, and these records spell those certificates alone.
 pub fn one_spelling()
     ensures fields { (certificates : List claims) → All (λ fields. length fields ≡ 5) (records_of certificates) }
-    ensures alone { (certificates others : List claims) → All IsInRange certificates → All IsInRange others → records_of certificates ≡ records_of others → certificates ≡ others }
+    ensures alone { (certificates others : List claims) → All IsInRange certificates → All IsInRange others
+        → records_of certificates ≡ records_of others → certificates ≡ others }
 {}
 
 /// A text says one list of certificates at most, or has one first fault of its own; it never has both.
 pub fn faults_are_real()
-    ensures one_list { (text : List (List (List ℕ))) (certificates others : List claims) → IsCertText text certificates → IsCertText text others → certificates ≡ others }
-    ensures no_list { (text : List (List (List ℕ))) (certificates : List claims) (fault : text_faults) → IsOfText fault → IsFirstFault text fault → IsCertText text certificates → ⊥ }
-    ensures one_fault { (text : List (List (List ℕ))) (fault other : text_faults) → IsOfText fault → IsOfText other → IsFirstFault text fault → IsFirstFault text other → fault ≡ other }
+    ensures one_list { (text : List (List (List ℕ))) (certificates others : List claims)
+        → IsCertText text certificates → IsCertText text others → certificates ≡ others }
+    ensures no_list { (text : List (List (List ℕ))) (certificates : List claims) (fault : text_faults)
+        → IsOfText fault → IsFirstFault text fault → IsCertText text certificates → ⊥ }
+    ensures one_fault { (text : List (List (List ℕ))) (fault other : text_faults) → IsOfText fault → IsOfText other
+        → IsFirstFault text fault → IsFirstFault text other → fault ≡ other }
 {}

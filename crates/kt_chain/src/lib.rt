@@ -13,6 +13,3 @@ pub use fault::CertTextFault;
 pub use laws::{faults_are_real, one_spelling};
 pub use reading::read_certs;
 pub use writing::write_certs;
-
-#[cfg(test)]
-mod tests;

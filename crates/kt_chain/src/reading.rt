@@ -14,7 +14,7 @@ use std::alloc::Global;
 use std::io::Read;
 
 /// How many records a certificate text may have.
-const MOST_RECORDS: u32 = 524_288;
+const MAX_RECORDS: u32 = 524_288;
 
 /// The certificates of a text, in order.
 ///
@@ -37,7 +37,7 @@ pub fn read_certs<R: Read + Drop>(
     let mut certificates = Vec::new(alloc);
     let mut count = 0;
     while next_record(&mut records, &mut current)? {
-        if count == MOST_RECORDS {
+        if count == MAX_RECORDS {
             return Err(CertTextFault::TooLong);
         }
         count += 1;

@@ -5,7 +5,7 @@ ghost use Rattle.std.specs.List.{slice_split};
 ghost use Rattle.std.specs.Fmt.{decimal};
 ghost use Rattle.csv.specs.Records.{fields_of};
 ghost use Rattle.kt_base.specs.Numbers.{IsProcNo, IsMsgNo, IsInstNo};
-ghost use Rattle.kt_text.specs.Words.{kind_word, verdict_word};
+ghost use Rattle.kt_text.specs.Words.{kind_word, decision_word};
 ghost use Rattle.kt_chain.specs.Spelling.{IsInRange, IsMemberInRange, instance_record, member_record, chain_word, most_messages};
 ghost use Rattle.kt_chain.specs.Texts.{IsMisfit, IsInstanceMisfit, IsMemberFault, IsOtherInstance, IsFieldFault, IsRecordFault, fault_at};
 ghost use Rattle.kt_chain.specs.Texts as slot;
@@ -16,11 +16,11 @@ use crate::certificate::{Certificate, Chain, Members};
 use crate::fault::CertTextFault;
 use csv::ByteRecord;
 use kt_base::{InstNo, Kind, Memory, ProcNo};
-use kt_text::fields::{instance_of, kind_of, message_of, number_of, process_of, verdict_of};
+use kt_text::fields::{decision_of, instance_of, kind_of, message_of, number_of, process_of};
 use std::alloc::{AllocFailed, Global};
 
 /// The greatest length of a chain.
-const MOST_MESSAGES: u32 = 63;
+const MAX_MESSAGES: u32 = 63;
 
 /// What is first wrong in a record.
 #[derive(Clone, Copy, Debug, PartialEq, Eq)]
@@ -100,11 +100,11 @@ fn kind(text: &[u8]) -> Result<Kind, RecordFault>
     kind_of(text).ok_or(RecordFault::Word)
 }
 
-fn verdict(text: &[u8]) -> Result<bool, RecordFault>
-    ensures found { IfOk result (λ commit. text.now ≡ verdict_word commit) }
-    ensures fault { IfErr result (IsMisfit slot.verdict text.now) }
+fn decision(text: &[u8]) -> Result<bool, RecordFault>
+    ensures found { IfOk result (λ commit. text.now ≡ decision_word commit) }
+    ensures fault { IfErr result (IsMisfit slot.decision text.now) }
 {
-    verdict_of(text).ok_or(RecordFault::Word)
+    decision_of(text).ok_or(RecordFault::Word)
 }
 
 // How many messages a member's record says that its chain has.
@@ -115,7 +115,7 @@ fn count(text: &[u8]) -> Result<u32, RecordFault>
     let Some(number) = number_of(text) else {
         return Err(RecordFault::Number);
     };
-    if number > MOST_MESSAGES {
+    if number > MAX_MESSAGES {
         return Err(RecordFault::Number);
     }
     Ok(number)
@@ -124,8 +124,11 @@ fn count(text: &[u8]) -> Result<u32, RecordFault>
 // The messages that the parts of a text between one `/` and the next spell, one each: none where they are more than a
 // chain may have. Every part is looked at, and no message past the greatest length is kept.
 fn messages_of(alloc: Global, text: &[u8]) -> Result<Option<Chain>, RecordFault>
-    ensures found { IfOk result (λ read. (messages : List ℕ) × All IsMsgNo messages × (map decimal messages ≡ slice_split (λ byte. byte == 47) text.now) × IsIfFew messages read) }
-    ensures fault { IfErr result (λ f. OrMemory f ((f ≡ RecordFault.Number) × ((messages : List ℕ) → All IsMsgNo messages → map decimal messages ≢ slice_split (λ byte. byte == 47) text.now))) }
+    ensures found { IfOk result (λ read. (messages : List ℕ) × All IsMsgNo messages
+        × (map decimal messages ≡ slice_split (λ byte. byte == 47) text.now) × IsIfFew messages read) }
+    ensures fault { IfErr result (λ f. OrMemory f ((f ≡ RecordFault.Number)
+        × ((messages : List ℕ) → All IsMsgNo messages
+        → map decimal messages ≢ slice_split (λ byte. byte == 47) text.now))) }
 {
     let mut chain = Chain::new(alloc);
     let mut is_long = false;
@@ -133,7 +136,7 @@ fn messages_of(alloc: Global, text: &[u8]) -> Result<Option<Chain>, RecordFault>
         let Some(msg) = message_of(part) else {
             return Err(RecordFault::Number);
         };
-        if chain.messages().len() < MOST_MESSAGES as usize {
+        if chain.messages().len() < MAX_MESSAGES as usize {
             chain.push(msg)?;
         } else {
             is_long = true;
@@ -144,7 +147,8 @@ fn messages_of(alloc: Global, text: &[u8]) -> Result<Option<Chain>, RecordFault>
 
 // The messages of a chain, joined by `/`, or `-` for none: none also where they are more than a chain may have.
 fn chain(alloc: Global, text: &[u8]) -> Result<Option<Chain>, RecordFault>
-    ensures found { IfOk result (λ read. (messages : List ℕ) × All IsMsgNo messages × (text.now ≡ chain_word messages) × IsIfFew messages read) }
+    ensures found { IfOk result (λ read. (messages : List ℕ) × All IsMsgNo messages
+        × (text.now ≡ chain_word messages) × IsIfFew messages read) }
     ensures fault { IfErr result (λ f. OrMemory f (IsMisfit slot.chain text.now f)) }
 {
     if text == b"-".as_slice() {
@@ -169,7 +173,7 @@ fn certificate(
     let inst = instance(first)?;
     let kind = kind(second)?;
     let initiator = process(third)?;
-    let commit = verdict(fourth)?;
+    let commit = decision(fourth)?;
     Ok(Certificate {
         inst,
         kind,
@@ -186,8 +190,10 @@ fn place(
     process: ProcNo,
     chain: Chain,
 ) -> Result<(), RecordFault>
-    ensures placed { OnOk result (IsMemberInRange (process, chain) → Takes certificates.old.items certificates.new.items (member_record inst (process, chain))) }
-    ensures fault { IfErr result (λ f. OrMemory f ((f ≡ RecordFault.Place) × ((certificates.old.items ≡ []) ⊎ IsOtherInstance certificates.old.items (decimal inst)))) }
+    ensures placed { OnOk result (IsMemberInRange (process, chain)
+        → Takes certificates.old.items certificates.new.items (member_record inst (process, chain))) }
+    ensures fault { IfErr result (λ f. OrMemory f ((f ≡ RecordFault.Place)
+        × ((certificates.old.items ≡ []) ⊎ IsOtherInstance certificates.old.items (decimal inst)))) }
 {
     let Some(mut last) = certificates.pop() else {
         return Err(RecordFault::Place);

@@ -9,7 +9,7 @@ ghost use Rattle.kt_chain.specs.Spelling.{Member, instance_record, member_record
 use crate::certificate::{Certificate, Chain};
 use kt_base::{InstNo, Memory, MsgNo, ProcNo};
 use kt_text::WriteFault;
-use kt_text::fields::{kind_text, verdict_text};
+use kt_text::fields::{decision_text, kind_text};
 use kt_text::pieces::{push_field, write_full, write_rest};
 use std::alloc::Global;
 use std::io::Write;
@@ -59,7 +59,7 @@ fn push_instance(text: &mut Vec<u8>, certificate: &Certificate) -> Result<(), Me
     push_number(text, b',', u32::from(certificate.inst.get()))?;
     push_field(text, kind_text(certificate.kind))?;
     push_number(text, b',', u32::from(certificate.initiator.get()))?;
-    push_field(text, verdict_text(certificate.commit))?;
+    push_field(text, decision_text(certificate.commit))?;
     text.push(b'\n')?;
     Ok(())
 }

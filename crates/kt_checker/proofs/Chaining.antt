@@ -1,6 +1,8 @@
 -- Chains and cuts of a certificate, by what histories answer.
 use Rattle.std.proofs.Common.{◌≡◌, ◌≢◌, ℕ, zero, suc, ◌+◌, ◌-◌, ◌<◌, ◌≤◌, if◌then◌else◌, Bool, true, false, Option, Some, None, option_map, List, [], ◌∷◌, ◌++◌, map, length, take, drop, refl, sym, ap, ◌∙◌, subst, arith, inl, inr}
 use Rattle.std.specs.List.{slice_get, Contains}
+use Rattle.std.specs.Prelude.{◌||◌, ◌↔◌, not, is_some, IsTrue, IfSome, IfNone}
+use Rattle.kt_base.specs.Sets.{has}
 use Rattle.std.specs.Option.{option_flatten}
 use Rattle.std.proofs.lemmas.Bool.{cases_lt}
 use Rattle.std.proofs.lemmas.Option.{slice_get-get_or, slice_get-map}
@@ -15,14 +17,15 @@ use Rattle.kt_cuts.specs.Past.{Past, past}
 use Rattle.kt_cuts.specs.Legal.{is_deed, has_deed}
 use Rattle.kt_cuts.specs.Chains.{IsCheckpointChain, IsRollbackChain}
 use Rattle.kt_cuts.specs.Cuts.{part, IsOrphan, IsConsistent}
+use Rattle.kt_cuts.specs.Orphans.{IsOrphanBetween}
 use Rattle.kt_cuts.specs.Messages.{row_at}
 use Rattle.kt_cuts.specs.Standing.{parties_of_row}
 use Rattle.kt_cuts.specs.Traces.{place_of, trace_between, trace_of}
 use Rattle.kt_cuts.proofs.Items.{get_in_take, item_there}
 use Rattle.kt_cuts.proofs.SortedFacts.{some_same}
 use Rattle.kt_cuts.proofs.DeedFacts.{same_deed, has_at}
-use Rattle.kt_cuts.proofs.Consistency.{consistent_from, consistent_sent, consistent_without}
-use Rattle.kt_cuts.proofs.OrphanFacts.{get_from_drop}
+use Rattle.kt_cuts.proofs.Consistency.{consistent_from, consistent_sent, consistent_without, no_orphan}
+use Rattle.kt_cuts.proofs.OrphanFacts.{between_of, get_from_drop, orphan_of}
 use Rattle.kt_checker.specs.Passing.{IsChain}
 
 -- a place that is found, counted from 1
@@ -112,15 +115,46 @@ take_none : (n : ℕ) → take n (let l : List Deed = [] in l) ≡ []
 take_none zero = refl
 take_none (suc n) = refl
 
+-- cuts that agree on a process keep the same part of it
+same_part : (s : Past) (a b : ℕ → ℕ) (p : ℕ) → (p < 64 → a p ≡ b p) → (64 ≤ p → s.live p ≡ []) → part s a p ≡ part s b p
+same_part s a b p same none = elim (cases_lt p 64) [
+  | inl low ↦ ap (λ (n : ℕ). take n (s.live p)) (same low)
+  | inr high ↦ ap (take (a p)) (none high) ∙ (take_none (a p) ∙ (sym (take_none (b p)) ∙ ap (take (b p)) (sym (none high))))
+]
+
 -- cuts that agree on the processes have the same orphans
 pub consistent_of : (s : Past) (a b : ℕ → ℕ) → ((p : ℕ) → p < 64 → a p ≡ b p) → ((p : ℕ) → 64 ≤ p → s.live p ≡ []) → ((msg : ℕ) → IsOrphan s a msg → ⊥) → IsConsistent s b
-consistent_of s a b same none no_orphan = consistent_from s b (λ p q i msg e. agree q (has_deed (deed.Sent msg p)) (consistent_sent s a (consistent_without s a no_orphan) p q i msg (sym (ap (λ (l : List Deed). slice_get l i) (parts p)) ∙ e)))
+consistent_of s a b same none no_orphan = consistent_from s b (λ p q i msg e. agree q (has_deed (deed.Sent msg p)) (consistent_sent s a (consistent_without s a no_orphan) p q i msg (ap (λ (l : List Deed). slice_get l i) (parts p) ∙ e)))
   where
-    parts : (p : ℕ) → part s b p ≡ part s a p
-    parts p = elim (cases_lt p 64) [
-      | inl low ↦ ap (λ (n : ℕ). take n (s.live p)) (sym (same p low))
-      | inr high ↦ ap (take (b p)) (none p high) ∙ (take_none (b p) ∙ (sym (take_none (a p)) ∙ ap (take (a p)) (sym (none p high))))
-    ]
+    parts : (p : ℕ) → part s a p ≡ part s b p
+    parts p = same_part s a b p (same p) (none p)
 
     agree : (q : ℕ) (test : List Deed → Bool) → test (part s a q) ≡ true → test (part s b q) ≡ true
-    agree q test e = ap test (parts q) ∙ e
+    agree q test e = ap test (sym (parts q)) ∙ e
+
+-- where a cut differs from a consistent one in some processes alone, each orphan has one of these as receiver or sender
+pub orphan_at_changed : (s : Past) (a b : ℕ → ℕ) (changed : ℕ) → IsConsistent s b → ((p : ℕ) → p < 64 → has changed p ≡ false → a p ≡ b p) → ((p : ℕ) → 64 ≤ p → s.live p ≡ [])
+    → ((p q m : ℕ) → (has changed p || has changed q) ≡ true → IsOrphanBetween s a p q m → ⊥) → (m : ℕ) → IsOrphan s a m → ⊥
+orphan_at_changed s a b changed consistent same none at_changed m orphan = at_ends (has changed o.0) refl (has changed o.1) refl
+  where
+    o : (p : ℕ) × (q : ℕ) × IsOrphanBetween s a p q m
+    o = between_of s a m orphan
+
+    parts : (p : ℕ) → has changed p ≡ false → part s a p ≡ part s b p
+    parts p other = same_part s a b p (λ low. same p low other) (none p)
+
+    at_ends : (x : Bool) → has changed o.0 ≡ x → (y : Bool) → has changed o.1 ≡ y → ⊥
+    at_ends true e y f = at_changed o.0 o.1 m (ap (λ (x : Bool). x || has changed o.1) e) o.2
+    at_ends false e true f = at_changed o.0 o.1 m (λ i. e i || f i) o.2
+    at_ends false e false f = no_orphan s b consistent m (orphan_of s b o.0 o.1 m (record {
+      place = o.2.place;
+      received = ap (λ (l : List Deed). slice_get l o.2.place) (sym (parts o.0 e)) ∙ o.2.received;
+      unsent = ap (has_deed (deed.Sent m o.0)) (sym (parts o.1 f)) ∙ o.2.unsent;
+    }))
+
+-- whether a cut is consistent, by a search for an orphan
+pub exact_search : (o : Option ℕ) (found : Bool) (P : Type 0) (Q : ℕ → Type 0) (C : Type 0) → is_some o ≡ not found → IfNone o P → IfSome o Q → (P → C) → ((m : ℕ) → Q m → C → ⊥) → IsTrue found ↔ C
+exact_search None true P Q C is none some held refuted = (λ t. held none, λ c. refl)
+exact_search None false P Q C is none some held refuted = absurd (never is)
+exact_search (Some m) true P Q C is none some held refuted = absurd (never (sym is))
+exact_search (Some m) false P Q C is none some held refuted = (λ t. absurd (never t), λ c. absurd (refuted m some c))

@@ -17,35 +17,35 @@ use Rattle.kt_cuts.proofs.Traced.{next_unbroken}
 use Rattle.kt_cuts.proofs.Positions.{begun_kept}
 use Rattle.kt_checker.specs.Unwilling.{is_unwilling, has_unwilling}
 
-verdict_stays : (s : Past) (row : Event) (k : ℕ) → is_some (s.verdict k) ≡ true → is_some ((after s row).verdict k) ≡ true
-verdict_stays s (event.Decided p j commit) k e = elim (cases_eq k j) [
+decision_stays : (s : Past) (row : Event) (k : ℕ) → is_some (s.decision k) ≡ true → is_some ((after s row).decision k) ≡ true
+decision_stays s (event.Decided p j commit) k e = elim (cases_eq k j) [
   | inl same ↦ grind (arith, nat_tests, same)
   | inr other ↦ grind (arith, nat_tests, other, e)
 ]
-verdict_stays s (event.Sent p to body) k e = e
-verdict_stays s (event.Received p from msg) k e = e
-verdict_stays s (event.Dropped p from msg) k e = e
-verdict_stays s (event.Began p j kind) k e = e
-verdict_stays s (event.Took p j) k e = e
-verdict_stays s (event.Ready p j) k e = e
-verdict_stays s (event.Unwilling p j cause) k e = e
-verdict_stays s (event.Closed p j) k e = e
-verdict_stays s (event.Failed p) k e = e
-verdict_stays s (event.Refused p verb cause) k e = e
+decision_stays s (event.Sent p to body) k e = e
+decision_stays s (event.Received p from msg) k e = e
+decision_stays s (event.Dropped p from msg) k e = e
+decision_stays s (event.Began p j kind) k e = e
+decision_stays s (event.Took p j) k e = e
+decision_stays s (event.Ready p j) k e = e
+decision_stays s (event.Unwilling p j cause) k e = e
+decision_stays s (event.Closed p j) k e = e
+decision_stays s (event.Failed p) k e = e
+decision_stays s (event.Refused p verb cause) k e = e
 
-verdict_after_decision : (s : Past) (log : List Event) (n p k : ℕ) (commit : Bool) → slice_get log n ≡ Some (event.Decided p k commit) → is_some ((fold after s log).verdict k) ≡ true
-verdict_after_decision s [] n p k commit e = absurd (cc)
-verdict_after_decision s (row ∷ rows) zero p k commit e =
+decided_after_decision : (s : Past) (log : List Event) (n p k : ℕ) (commit : Bool) → slice_get log n ≡ Some (event.Decided p k commit) → is_some ((fold after s log).decision k) ≡ true
+decided_after_decision s [] n p k commit e = absurd (cc)
+decided_after_decision s (row ∷ rows) zero p k commit e =
     let same : row ≡ event.Decided p k commit = some_same e in
-    let here : is_some ((after s row).verdict k) ≡ true = rw same (decided_now s p k commit) in
-    past_induction (λ t. is_some (t.verdict k) ≡ true) (λ t r h. verdict_stays t r k h) (after s row) rows here
+    let here : is_some ((after s row).decision k) ≡ true = rw same (decided_now s p k commit) in
+    past_induction (λ t. is_some (t.decision k) ≡ true) (λ t r h. decision_stays t r k h) (after s row) rows here
   where
-    decided_now : (s : Past) (p k : ℕ) (commit : Bool) → is_some ((after s (event.Decided p k commit)).verdict k) ≡ true
+    decided_now : (s : Past) (p k : ℕ) (commit : Bool) → is_some ((after s (event.Decided p k commit)).decision k) ≡ true
     decided_now s p k commit = grind (arith, nat_tests)
-verdict_after_decision s (row ∷ rows) (suc n) p k commit e = verdict_after_decision (after s row) rows n p k commit e
+decided_after_decision s (row ∷ rows) (suc n) p k commit e = decided_after_decision (after s row) rows n p k commit e
 
-not_undecided : (s : Past) (k : ℕ) → is_some (s.verdict k) ≡ true → is_undecided s k ≡ true → ⊥
-not_undecided s k e u = clash (s.verdict k) e (and_parts (has_begun s k) (is_none (s.verdict k)) u).1
+not_undecided : (s : Past) (k : ℕ) → is_some (s.decision k) ≡ true → is_undecided s k ≡ true → ⊥
+not_undecided s k e u = clash (s.decision k) e (and_parts (has_begun s k) (is_none (s.decision k)) u).1
   where
     clash : (o : Option Bool) → is_some o ≡ true → is_none o ≡ true → ⊥
     clash None a b = cc
@@ -60,7 +60,7 @@ get_of_take (y ∷ log) (suc n) (suc m) x e l = get_of_take log n m x e (omega (
 -- an instance is decided once
 decided_before : (log : List Event) (n m p q k : ℕ) (a b : Bool) → IsLegal log → slice_get log n ≡ Some (event.Decided p k a) → slice_get log m ≡ Some (event.Decided q k b) → n < m → ⊥
 decided_before log n m p q k a b l e f low =
-    let was = verdict_after_decision start (take m log) n p k a (get_of_take log n m (event.Decided p k a) e low) in
+    let was = decided_after_decision start (take m log) n p k a (get_of_take log n m (event.Decided p k a) e low) in
     let deciding = (kept (past (take m log)) (event.Decided q k b) (next_unbroken log m (event.Decided q k b) l f)).deciding in
     not_undecided (past (take m log)) k was (and_parts _ (is_undecided (past (take m log)) k) deciding).1
 
@@ -74,7 +74,7 @@ decided_once log n m p q k a b l e f = elim (cases_order n m) [
 ]
 
 -- nobody joins a decided instance
-no_join : (s : Past) (row : Event) (k : ℕ) → broken_rule s row ≡ None → is_some (s.verdict k) ≡ true → joins k row ≡ None
+no_join : (s : Past) (row : Event) (k : ℕ) → broken_rule s row ≡ None → is_some (s.decision k) ≡ true → joins k row ≡ None
 no_join s (event.Took p j) k e v = elim (cases_eq j k) [
   | inl same ↦
       let may = (and_parts _ _ (kept s (event.Took p j) e).joining).0 in
@@ -99,15 +99,15 @@ no_join s (event.Closed p j) k e v = refl
 no_join s (event.Failed p) k e v = refl
 no_join s (event.Refused p verb cause) k e v = refl
 
-no_joins : (s : Past) (rows : List Event) (k : ℕ) → IsLegalAfter s rows → is_some (s.verdict k) ≡ true → filter_map (joins k) rows ≡ []
+no_joins : (s : Past) (rows : List Event) (k : ℕ) → IsLegalAfter s rows → is_some (s.decision k) ≡ true → filter_map (joins k) rows ≡ []
 no_joins s [] k l v = refl
-no_joins s (row ∷ rows) k l v = ap (λ (o : Option ℕ). cons_option o (filter_map (joins k) rows)) (no_join s row k l.0 v) ∙ no_joins (after s row) rows k l.1 (verdict_stays s row k v)
+no_joins s (row ∷ rows) k l v = ap (λ (o : Option ℕ). cons_option o (filter_map (joins k) rows)) (no_join s row k l.0 v) ∙ no_joins (after s row) rows k l.1 (decision_stays s row k v)
 
 members_to : (s : Past) (log : List Event) (n p k : ℕ) (commit : Bool) → IsLegalAfter s log → slice_get log n ≡ Some (event.Decided p k commit) → filter_map (joins k) log ≡ filter_map (joins k) (take n log)
 members_to s [] n p k commit l e = absurd (cc)
 members_to s (row ∷ rows) zero p k commit l e =
     let same : row ≡ event.Decided p k commit = some_same e in
-    let decided : is_some ((after s row).verdict k) ≡ true = verdict_after_decision s (row ∷ []) 0 p k commit e in
+    let decided : is_some ((after s row).decision k) ≡ true = decided_after_decision s (row ∷ []) 0 p k commit e in
     ap (λ (o : Option ℕ). cons_option o (filter_map (joins k) rows)) (ap (joins k) same) ∙ no_joins (after s row) rows k l.1 decided
 members_to s (row ∷ rows) (suc n) p k commit l e = ap (λ (t : List ℕ). cons_option (joins k row) t) (members_to (after s row) rows n p k commit l.1 e)
 
@@ -116,7 +116,7 @@ pub members_before : (log : List Event) (n p k : ℕ) (commit : Bool) → IsLega
 members_before log n p k commit l e = members_to start log n p k commit l e
 
 -- nobody is unwilling to join a decided instance
-no_refusal : (s : Past) (row : Event) (k : ℕ) → broken_rule s row ≡ None → is_some (s.verdict k) ≡ true → is_unwilling k row ≡ false
+no_refusal : (s : Past) (row : Event) (k : ℕ) → broken_rule s row ≡ None → is_some (s.decision k) ≡ true → is_unwilling k row ≡ false
 no_refusal s (event.Unwilling p j cause) k e v = elim (cases_eq j k) [
   | inl same ↦
       let open_yet : is_undecided s j ≡ true = (and_parts (is_undecided s j) _ (kept s (event.Unwilling p j cause) e).causes).0 in
@@ -134,15 +134,15 @@ no_refusal s (event.Closed p j) k e v = refl
 no_refusal s (event.Failed p) k e v = refl
 no_refusal s (event.Refused p verb cause) k e v = refl
 
-no_refusals : (s : Past) (rows : List Event) (k : ℕ) → IsLegalAfter s rows → is_some (s.verdict k) ≡ true → has_unwilling rows k ≡ false
+no_refusals : (s : Past) (rows : List Event) (k : ℕ) → IsLegalAfter s rows → is_some (s.decision k) ≡ true → has_unwilling rows k ≡ false
 no_refusals s [] k l v = refl
-no_refusals s (row ∷ rows) k l v = ap (λ (b : Bool). b || has_unwilling rows k) (no_refusal s row k l.0 v) ∙ no_refusals (after s row) rows k l.1 (verdict_stays s row k v)
+no_refusals s (row ∷ rows) k l v = ap (λ (b : Bool). b || has_unwilling rows k) (no_refusal s row k l.0 v) ∙ no_refusals (after s row) rows k l.1 (decision_stays s row k v)
 
 unwilling_to : (s : Past) (log : List Event) (n p k : ℕ) (commit : Bool) → IsLegalAfter s log → slice_get log n ≡ Some (event.Decided p k commit) → has_unwilling log k ≡ has_unwilling (take n log) k
 unwilling_to s [] n p k commit l e = absurd (cc)
 unwilling_to s (row ∷ rows) zero p k commit l e =
     let same : row ≡ event.Decided p k commit = some_same e in
-    let decided : is_some ((after s row).verdict k) ≡ true = verdict_after_decision s (row ∷ []) 0 p k commit e in
+    let decided : is_some ((after s row).decision k) ≡ true = decided_after_decision s (row ∷ []) 0 p k commit e in
     ap (λ (b : Bool). b || has_unwilling rows k) (ap (is_unwilling k) same) ∙ no_refusals (after s row) rows k l.1 decided
 unwilling_to s (row ∷ rows) (suc n) p k commit l e = ap (λ (b : Bool). is_unwilling k row || b) (unwilling_to (after s row) rows n p k commit l.1 e)
 

@@ -10,7 +10,7 @@ use Rattle.kt_cuts.proofs.Items.{get_set_same, get_set_other}
 use Rattle.kt_cuts.proofs.SortedFacts.{some_same}
 use Rattle.kt_chain.specs.declared.certificate.Certificate.{Certificate}
 use Rattle.kt_checker.specs.Passing.{IsSecond}
-use Rattle.kt_checker.specs.Judged.{IsFirst, AreFirsts}
+use Rattle.kt_checker.specs.Judged.{IsFirst, AreFirsts, IsFirstCertificate}
 
 -- one more certificate, which is not the first of this instance
 first_next : (certificates : List Certificate) (n k : ℕ) (place : Option ℕ) (c : Certificate) → IsFirst certificates n k place → slice_get certificates n ≡ Some c → (place ≡ None → c.inst ≡ k → ⊥) → IsFirst certificates (n + 1) k place
@@ -82,3 +82,7 @@ none_yet places certificates none all = record {
 pub none_cloned : (is_clone : Option ℕ → Type 0) → ((n : ℕ) → is_clone (Some n) → ⊥) → (place : Option ℕ) → is_clone place → place ≡ None
 none_cloned is_clone never None h = refl
 none_cloned is_clone never (Some n) h = absurd (never n h)
+
+-- the certificate at the place of an instance's first one is this
+pub first_of : (certificates : List Certificate) (k place : ℕ) (o : Option Certificate) → o ≡ slice_get certificates place → IsFirst certificates (length certificates) k (Some place) → IsFirstCertificate certificates k o
+first_of certificates k place o is first = subst (IsFirstCertificate certificates k) (sym (is ∙ first.1)) (place, first.1, first.2, first.4)

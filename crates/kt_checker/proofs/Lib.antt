@@ -10,3 +10,4 @@ pub mod Judging
 pub mod RowByRow
 pub mod Inside
 pub mod OneAnswer
+pub mod Following

@@ -1,9 +1,9 @@
 -- Links of chains over a legal log: each message leads to one process.
-use Rattle.std.proofs.Common.{◌≡◌, ◌≢◌, ℕ, zero, suc, ◌+◌, ◌<◌, ◌≤◌, ◌==◌, leb, unwrap_or, is_some, true, false, Option, Some, None, option_map, List, [], ◌∷◌, ◌++◌, take, drop, refl, sym, ap, ◌∙◌, subst, arith, inl, inr}
+use Rattle.std.proofs.Common.{◌≡◌, ◌≢◌, ℕ, zero, suc, ◌+◌, ◌<◌, ◌≤◌, ◌==◌, leb, not, unwrap_or, is_some, true, false, Option, Some, None, option_map, List, [], ◌∷◌, ◌++◌, take, drop, refl, sym, ap, ◌∙◌, subst, arith, inl, inr}
 use Rattle.std.specs.List.{slice_get}
 use Rattle.std.specs.Option.{option_flatten}
 use Rattle.std.proofs.lemmas.Bool.Decides.{nat_tests}
-use Rattle.std.proofs.lemmas.Bool.{cases_lt}
+use Rattle.std.proofs.lemmas.Bool.{cases_eq, cases_lt}
 use Rattle.kt_base.specs.declared.words.Kind.{Kind}
 use Rattle.kt_base.specs.declared.words.Kind.TheVariants.{Checkpoint, Rollback}
 use Rattle.kt_spacetime.specs.declared.event.Event.{Event}
@@ -16,7 +16,7 @@ use Rattle.kt_cuts.specs.Chains.{LinksCheckpoint, LinksRollback}
 use Rattle.kt_cuts.specs.Standing.{parties_of_row}
 use Rattle.kt_cuts.specs.Traces.{place_of, trace_between, trace_of}
 use Rattle.kt_walk.specs.Keeping.{kept_trace}
-use Rattle.kt_walk.proofs.WalkLinks.{link_kept}
+use Rattle.kt_walk.proofs.WalkLinks.{pair_state_kept}
 use Rattle.kt_cuts.proofs.Items.{get_take, in_take}
 use Rattle.kt_cuts.proofs.SortedFacts.{some_same}
 use Rattle.kt_cuts.proofs.DeedFacts.{place_of_deed, has_at}
@@ -110,7 +110,7 @@ step_of rows k Rollback at m next l h = subst (Linked rows k Rollback at m) h.2 
 
 -- a message that leads on is kept
 pub kept_link : (rows : List Event) (k : ℕ) (kind : Kind) (at m next : ℕ) → IsLegal rows → (h : Linked rows k kind at m next) → kept_trace rows m ≡ Some h.trace
-kept_link rows k kind at m next l h = link_kept rows l m h.trace h.sent h.received h.traced h.is_sent h.is_received h.late
+kept_link rows k kind at m next l h = pair_state_kept rows l m h.trace h.sent h.received h.traced h.is_sent h.is_received h.late
 
 -- with the places of its send and its receive
 pub kept_places : (rows : List Event) (at m next : ℕ) → IsLegal rows → (h : Linked rows 0 Rollback at m next) → kept_trace rows m ≡ Some (record { from = at; to = next; sent = Some h.sent; received = Some h.received })
@@ -226,6 +226,19 @@ no_way rows k kind q xs m ys at p l to never whole =
 
 pub same_is : (a b : ℕ) → a ≡ b → (a == b) ≡ true
 same_is a b e = grind (arith, nat_tests, e)
+
+-- numbers that are not told apart are the same
+pub same_from : (a b : ℕ) → false ≡ not (a == b) → a ≡ b
+same_from a b e = elim (cases_eq a b) [
+  | inl same ↦ same
+  | inr other ↦ absurd (clash (e ∙ ap not (told_apart other)))
+]
+  where
+    clash : false ≡ true → ⊥
+    clash x = cc
+
+    told_apart : a ≢ b → (a == b) ≡ false
+    told_apart n = grind (arith, nat_tests, n)
 
 -- a list is a chain for another than the initiator where it leads there
 pub list_of_other : (s : Past) (k : ℕ) (kind : Kind) (initiator p : ℕ) (chain : List ℕ) → p ≢ initiator → IsChain s k kind initiator chain p → IsListOf s k kind initiator p chain

@@ -34,7 +34,7 @@ seen_none source reader judge certificates e h = record {
 
 -- there is room for one more row
 pub seen_few : {source : Option (List ℕ)} {certificates : List Certificate} (old new : RowsRead) (judge : Judge) (row : Event) → HasSeen source old judge certificates None → GivesRow old new row → IsFew judge
-seen_few old new judge row h s = omega (arith, (h.judged refl).walk.trail.number, h.gathers.count, s.few, most_rows_le s.format)
+seen_few old new judge row h s = omega (arith, (h.judged refl).walk.control.number, h.gathers.count, s.few, most_rows_le s.format)
 
 bad_now : (broken : Option Verdict) (judge : Judge) (certificates : List Certificate) (rows : List Event) (row : Event) → IfSome broken (λ v. (rows : List Event) → JudgeOf judge certificates rows → IsBadLog (rows ++ row ∷ []) v)
     → JudgeOf judge certificates rows → IfSome broken (IsBadLog (rows ++ row ∷ []))

@@ -34,7 +34,7 @@ use Rattle.kt_checker.specs.Passing.{Passes, IsPassed, IsAsInLog, IsSecond, IsSh
 use Rattle.kt_checker.proofs.Deciding.{decided_once, members_before, unwilling_before, beginning_stays}
 
 -- how an instance began, as gathered
-beginning_listed : {certs : List Certificate} (list : List Instance) (rows : List Event) (k : ℕ) → Gathered certs list rows → beginning_of (past rows) k ≡ option_map beginning_gathered (at_number list k)
+pub beginning_listed : {certs : List Certificate} (list : List Instance) (rows : List Event) (k : ℕ) → Gathered certs list rows → beginning_of (past rows) k ≡ option_map beginning_gathered (at_number list k)
 beginning_listed {certs} list rows zero h = refl
 beginning_listed {certs} list rows (suc k) h = ap (λ (l : List Beginning). slice_get l k) (sym h.begun) ∙ slice_get-map beginning_gathered list k
 
@@ -152,13 +152,13 @@ listed rows n p k commit ms q l e same member =
     let is_q : there.0.0 ≡ q = some_same (sym first ∙ (slice_get-get_or (map (λ m. m.0) ms) in_all.0 q in_all.1 ∙ ap Some in_all.2)) in
     (in_all.0, there.0.1, there.1 ∙ ap (λ (x : ℕ). Some (x, there.0.1)) is_q)
 
-checkpoint_kind : (o : Option Kind) (kind : Kind) → o ≡ Some kind → is_checkpoint_kind o ≡ true → kind ≡ Checkpoint
+pub checkpoint_kind : (o : Option Kind) (kind : Kind) → o ≡ Some kind → is_checkpoint_kind o ≡ true → kind ≡ Checkpoint
 checkpoint_kind o Checkpoint e h = refl
 checkpoint_kind o Rollback e h =
     let never : false ≡ true = sym (ap is_checkpoint_kind e) ∙ h in
     absurd (cc)
 
-rollback_kind : (o : Option Kind) (kind : Kind) → o ≡ Some kind → is_rollback_kind o ≡ true → kind ≡ Rollback
+pub rollback_kind : (o : Option Kind) (kind : Kind) → o ≡ Some kind → is_rollback_kind o ≡ true → kind ≡ Rollback
 rollback_kind o Rollback e h = refl
 rollback_kind o Checkpoint e h =
     let never : false ≡ true = sym (ap is_rollback_kind e) ∙ h in

@@ -1,6 +1,7 @@
 -- What a judge knows after some rows.
-use Rattle.std.specs.Prelude.{◌≡◌, ◌<◌, ◌+◌, ◌^◌, ℕ, Option, Some, None, List, length, slice_get}
+use Rattle.std.specs.Prelude.{◌≡◌, ◌<◌, ◌+◌, ◌^◌, ℕ, true, Option, Some, None, List, length, slice_get}
 use Rattle.kt_spacetime.specs.declared.event.Event.{Event}
+use Rattle.kt_cuts.specs.Throughout.{HasConsistentDecisions}
 use Rattle.kt_walk.specs.WalkOf.{WalkOf}
 use Rattle.kt_chain.specs.declared.certificate.Certificate.{Certificate}
 use Rattle.kt_checker.specs.declared.judge.Judge.{Judge}
@@ -11,6 +12,11 @@ use Rattle.kt_checker.specs.Passing.{IsSecond}
 abbrev pub IsFirst : List Certificate → ℕ → ℕ → Option ℕ → Type 0
 IsFirst certificates n k None = (i : ℕ) (c : Certificate) → i < n → slice_get certificates i ≡ Some c → c.inst ≡ k → ⊥
 IsFirst certificates n k (Some i) = (c : Certificate) × (slice_get certificates i ≡ Some c) × (c.inst ≡ k) × (i < n) × (IsSecond certificates i c → ⊥)
+
+-- the first certificate of an instance in a list, or that there is none
+abbrev pub IsFirstCertificate : List Certificate → ℕ → Option Certificate → Type 0
+IsFirstCertificate certificates k None = (i : ℕ) (c : Certificate) → slice_get certificates i ≡ Some c → c.inst ≡ k → ⊥
+IsFirstCertificate certificates k (Some c) = (i : ℕ) × (slice_get certificates i ≡ Some c) × (c.inst ≡ k) × (IsSecond certificates i c → ⊥)
 
 -- by instance, from 1 on, the place of its first certificate among the first of a list
 pub record AreFirsts (places : List (Option ℕ)) (certificates : List Certificate) (n : ℕ) : Type 0 where
@@ -26,3 +32,4 @@ pub record JudgeOf (judge : Judge) (certificates : List Certificate) (rows : Lis
   pub walk : WalkOf judge.walk rows
   pub gathered : Gathered certificates judge.instances.list.items rows
   pub firsts : AreFirsts judge.firsts.places.items certificates (length certificates)
+  pub consistent : judge.is_consistent ≡ true → HasConsistentDecisions rows

@@ -11,4 +11,5 @@ pub mod Missing
 pub mod Words
 pub mod Soundness
 pub mod Judged
+pub mod Followed
 pub mod Streamed

@@ -6,7 +6,7 @@ use Rattle.kt_spacetime.specs.declared.event.Event.{Event}
 use Rattle.kt_spacetime.specs.declared.event.Event.TheVariants.{Decided}
 use Rattle.kt_cuts.specs.Past.{Past, past, kind_of, initiator_of}
 use Rattle.kt_cuts.specs.Legal.{IsLegal}
-use Rattle.kt_cuts.specs.Cuts.{IsConsistent, checkpoint_cut, rollback_cut}
+use Rattle.kt_cuts.specs.Cuts.{IsConsistent, permanent_cut, present_cut, checkpoint_cut, rollback_cut}
 use Rattle.kt_cuts.specs.Chains.{members, IsCheckpointChain, IsRollbackChain}
 use Rattle.kt_chain.specs.declared.certificate.Certificate.{Certificate}
 use Rattle.kt_checker.specs.Unwilling.{has_unwilling}
@@ -15,6 +15,11 @@ use Rattle.kt_checker.specs.Unwilling.{has_unwilling}
 abbrev pub decided_cut : Past → ℕ → Kind → ℕ → ℕ
 decided_cut s k Checkpoint = checkpoint_cut s k
 decided_cut s k Rollback = rollback_cut s k
+
+-- the cut that a committed decision of this kind begins with
+abbrev pub earlier_cut : Past → Kind → ℕ → ℕ
+earlier_cut s Checkpoint = permanent_cut s
+earlier_cut s Rollback = present_cut s
 
 -- a chain from a process to another, of an instance of this kind
 abbrev pub IsChain : Past → ℕ → Kind → ℕ → List ℕ → ℕ → Type 0

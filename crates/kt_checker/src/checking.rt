@@ -43,33 +43,43 @@ pub fn check(
 
     // A yes knows that the log is legal, that each certificate passes, and that each decided instance has one.
     ensures legal { IfOk result (λ verdict. verdict ≡ Yes → IsLegal log.now.rows) }
-    ensures passes { IfOk result (λ verdict. verdict ≡ Yes → (i : ℕ) (certificate : Certificate) → slice_get certificates.now i ≡ Some certificate → Passes log.now.rows certificate) }
+    ensures passes { IfOk result (λ verdict. verdict ≡ Yes → (i : ℕ) (certificate : Certificate)
+        → slice_get certificates.now i ≡ Some certificate → Passes log.now.rows certificate) }
     ensures complete { IfOk result (λ verdict. verdict ≡ Yes → AreComplete log.now.rows certificates.now) }
 
     // So it means that each committed instance took the least set,
-    ensures checkpoints { IfOk result (λ verdict. verdict ≡ Yes → (n p k : ℕ) → slice_get log.now.rows n ≡ Some (Decided p k true) →
+    ensures checkpoints { IfOk result (λ verdict. verdict ≡ Yes → (n p k : ℕ)
+        → slice_get log.now.rows n ≡ Some (Decided p k true) →
         is_checkpoint (past (take n log.now.rows)) k ≡ true → IsLeastCheckpointSet (past (take n log.now.rows)) k) }
-    ensures rollbacks { IfOk result (λ verdict. verdict ≡ Yes → (n p k : ℕ) → slice_get log.now.rows n ≡ Some (Decided p k true) →
+    ensures rollbacks { IfOk result (λ verdict. verdict ≡ Yes → (n p k : ℕ)
+        → slice_get log.now.rows n ≡ Some (Decided p k true) →
         is_rollback (past (take n log.now.rows)) k ≡ true → IsLeastRollbackSet (past (take n log.now.rows)) k) }
 
     // that each aborted instance has an unwilling row and no committed one has,
-    ensures aborts { IfOk result (λ verdict. verdict ≡ Yes → (n p k : ℕ) (commit : Bool) → slice_get log.now.rows n ≡ Some (Decided p k commit) →
+    ensures aborts { IfOk result (λ verdict. verdict ≡ Yes → (n p k : ℕ) (commit : Bool)
+        → slice_get log.now.rows n ≡ Some (Decided p k commit) →
         has_unwilling log.now.rows k ≡ not commit) }
 
     // and that at every row neither the permanent cut nor the present one has an orphan.
-    ensures permanent { IfOk result (λ verdict. verdict ≡ Yes → (n : ℕ) → IsConsistent (past (take n log.now.rows)) (permanent_cut (past (take n log.now.rows)))) }
-    ensures present { IfOk result (λ verdict. verdict ≡ Yes → (n : ℕ) → IsConsistent (past (take n log.now.rows)) (present_cut (past (take n log.now.rows)))) }
+    ensures permanent { IfOk result (λ verdict. verdict ≡ Yes → (n : ℕ)
+        → IsConsistent (past (take n log.now.rows)) (permanent_cut (past (take n log.now.rows)))) }
+    ensures present { IfOk result (λ verdict. verdict ≡ Yes → (n : ℕ)
+        → IsConsistent (past (take n log.now.rows)) (present_cut (past (take n log.now.rows)))) }
 {
-    judged(alloc, log, certificates)
+    judge_rows(alloc, log, certificates)
 }
 
 // The first fault in that order, or yes.
-fn judged(alloc: Global, log: &SpaceTime, certificates: &[Certificate]) -> Result<Verdict, Memory>
+fn judge_rows(
+    alloc: Global,
+    log: &SpaceTime,
+    certificates: &[Certificate],
+) -> Result<Verdict, Memory>
     ensures { IfOk result (λ verdict. IsAnswer log.now.rows certificates.now verdict) }
 {
     let mut judge = Judge::new(alloc, certificates)?;
     for row in log.rows() {
-        if let Some(verdict) = fed(&mut judge, certificates, row)? {
+        if let Some(verdict) = feed_row(&mut judge, certificates, row)? {
             return Ok(verdict);
         }
     }
@@ -77,14 +87,16 @@ fn judged(alloc: Global, log: &SpaceTime, certificates: &[Certificate]) -> Resul
 }
 
 /// One more row; the answer where it breaks a rule.
-pub(crate) fn fed(
+pub(crate) fn feed_row(
     judge: &mut Judge,
     certificates: &[Certificate],
     row: &Event,
 ) -> Result<Option<Verdict>, Memory>
     requires few { IsFew judge.old }
-    ensures fed { IfOk result (λ answer. answer ≡ None → (rows : List Event) → JudgeOf judge.old certificates.now rows → JudgeOf judge.new certificates.now (rows ++ row.now ∷ [])) }
-    ensures bad { IfOk result (λ answer. IfSome answer (λ v. (rows : List Event) → JudgeOf judge.old certificates.now rows → IsBadLog (rows ++ row.now ∷ []) v)) }
+    ensures fed { IfOk result (λ answer. answer ≡ None → (rows : List Event)
+        → JudgeOf judge.old certificates.now rows → JudgeOf judge.new certificates.now (rows ++ row.now ∷ [])) }
+    ensures bad { IfOk result (λ answer. IfSome answer (λ v. (rows : List Event)
+        → JudgeOf judge.old certificates.now rows → IsBadLog (rows ++ row.now ∷ []) v)) }
 {
     let Err(fault) = judge.feed(certificates, row) else {
         return Ok(None);
@@ -92,7 +104,7 @@ pub(crate) fn fed(
     let LegalFault::Broken(number, rule) = fault else {
         return Err(Memory);
     };
-    Ok(Some(no(None, Some(number), Why::BadLog(rule))))
+    Ok(Some(no_verdict(None, Some(number), Why::BadLog(rule))))
 }
 
 /// The answer to a legal log, of what was gathered from all its rows.
@@ -101,31 +113,32 @@ pub(crate) fn verdict(
     instances: &Instances,
     certificates: &[Certificate],
 ) -> Result<Verdict, Memory>
-    ensures { IfOk result (λ verdict. (rows : List Event) → IsLegal rows → Gathered certificates.now instances.now.list.items rows → IsAnswer rows certificates.now verdict) }
+    ensures { IfOk result (λ verdict. (rows : List Event) → IsLegal rows
+        → Gathered certificates.now instances.now.list.items rows → IsAnswer rows certificates.now verdict) }
 {
     let mut seen = vec![in alloc; false; instances.len()]?;
     for certificate in certificates {
         let is_seen = is_marked(&seen, certificate.inst);
-        if let Some(verdict) = refuted(instances, is_seen, certificate) {
+        if let Some(verdict) = refutation(instances, is_seen, certificate) {
             return Ok(verdict);
         }
         mark(&mut seen, certificate.inst);
     }
-    Ok(missing(instances, &seen))
+    Ok(missing_verdict(instances, &seen))
 }
 
 // The answer where every certificate passed.
-fn missing(instances: &Instances, seen: &[bool]) -> Verdict
+fn missing_verdict(instances: &Instances, seen: &[bool]) -> Verdict
     requires { length seen.now ≡ length instances.now.list.items }
     ensures { AnswersMissing instances.now.list.items seen.now result }
 {
     match instances.first_missing(seen) {
-        Some(lacks) => no(Some(lacks.inst), Some(lacks.row), Why::Missing),
+        Some(lacks) => no_verdict(Some(lacks.inst), Some(lacks.row), Why::Missing),
         None => Verdict::Yes,
     }
 }
 
-fn no(inst: Option<InstNo>, row: Option<RowNo>, why: Why) -> Verdict
+fn no_verdict(inst: Option<InstNo>, row: Option<RowNo>, why: Why) -> Verdict
     ensures { result ≡ No inst row why }
 {
     Verdict::No { inst, row, why }
@@ -152,30 +165,33 @@ fn mark(seen: &mut [bool], inst: InstNo)
 }
 
 // The answer to a certificate that does not pass, after those before it.
-fn refuted(instances: &Instances, is_seen: bool, certificate: &Certificate) -> Option<Verdict>
-    ensures passes { result ≡ None → (certificates : List Certificate) (rows : List Event) (i : ℕ) → IsLegal rows → Gathered certificates instances.now.list.items rows
-        → slice_get certificates i ≡ Some certificate.now → (IsTrue is_seen ↔ IsSecond certificates i certificate.now) → Passes rows certificate.now }
+fn refutation(instances: &Instances, is_seen: bool, certificate: &Certificate) -> Option<Verdict>
+    ensures passes { result ≡ None → (certificates : List Certificate) (rows : List Event) (i : ℕ) → IsLegal rows
+        → Gathered certificates instances.now.list.items rows
+        → slice_get certificates i ≡ Some certificate.now
+        → (IsTrue is_seen ↔ IsSecond certificates i certificate.now) → Passes rows certificate.now }
     ensures listed { result ≡ None → certificate.now.inst ≤ length instances.now.list.items }
     ensures fresh { result ≡ None → IsTrue is_seen → ⊥ }
-    ensures refused { IfSome result (λ v. (certificates : List Certificate) (rows : List Event) (i : ℕ) → IsLegal rows → Gathered certificates instances.now.list.items rows
+    ensures refused { IfSome result (λ v. (certificates : List Certificate) (rows : List Event) (i : ℕ)
+        → IsLegal rows → Gathered certificates instances.now.list.items rows
         → slice_get certificates i ≡ Some certificate.now → (IsTrue is_seen ↔ IsSecond certificates i certificate.now)
         → IsUnknown rows certificates i certificate.now v ⊎ IsRefuted rows certificates i certificate.now v) }
 {
     let inst = certificate.inst;
     let Some(instance) = instances.get(inst) else {
-        return Some(no(Some(inst), None, Why::Unknown));
+        return Some(no_verdict(Some(inst), None, Why::Unknown));
     };
     let Some(decision) = instance.decision else {
-        return Some(no(Some(inst), None, Why::Unknown));
+        return Some(no_verdict(Some(inst), None, Why::Unknown));
     };
     if is_seen {
-        return Some(no(Some(inst), None, Why::Unknown));
+        return Some(no_verdict(Some(inst), None, Why::Unknown));
     }
     if !is_as_certified(instance, &decision, certificate) {
-        return Some(no(Some(inst), None, Why::Unknown));
+        return Some(no_verdict(Some(inst), None, Why::Unknown));
     }
     match decision.fault {
-        Some(why) => Some(no(Some(inst), Some(decision.row), why)),
+        Some(why) => Some(no_verdict(Some(inst), Some(decision.row), why)),
         None => None,
     }
 }
@@ -186,7 +202,8 @@ fn is_as_certified(instance: &Instance, decision: &Decision, certificate: &Certi
     ensures initiator { IsTrue result → instance.now.initiator ≡ certificate.now.initiator }
     ensures verdict { IsTrue result → decision.now.commit ≡ certificate.now.commit }
     ensures no_members { IsTrue result → certificate.now.commit ≡ false → certificate.now.members ≡ [] }
-    ensures all { instance.now.kind ≡ certificate.now.kind → instance.now.initiator ≡ certificate.now.initiator → decision.now.commit ≡ certificate.now.commit
+    ensures all { instance.now.kind ≡ certificate.now.kind → instance.now.initiator ≡ certificate.now.initiator
+        → decision.now.commit ≡ certificate.now.commit
         → (certificate.now.commit ≡ false → certificate.now.members ≡ []) → IsTrue result }
 {
     instance.kind == certificate.kind

@@ -71,7 +71,7 @@ impl Instances {
         ensures missing { IfSome result (IsUnseen self.now.list.items seen.now) }
     {
         for index in 0..self.list.len() {
-            if let Some(decision) = lacking(&self.list[index], seen[index]) {
+            if let Some(decision) = missing_decision(&self.list[index], seen[index]) {
                 return Some(decision);
             }
         }
@@ -92,8 +92,11 @@ impl Instances {
         row: &Event,
         fault: Option<Why>,
     ) -> Result<(), Memory>
-        ensures { OnOk result ((certificates : List Certificate) (rows : List Event) → Gathered certificates self.old.list.items rows → number ≡ length rows + 1 → IsLegal (rows ++ row.now ∷ [])
-            → ((p k : ℕ) (commit : Bool) → row.now ≡ event.Decided p k commit → IsFoundFirst certificates rows k commit fault)
+        ensures { OnOk result ((certificates : List Certificate) (rows : List Event)
+            → Gathered certificates self.old.list.items rows → number ≡ length rows + 1
+            → IsLegal (rows ++ row.now ∷ [])
+            → ((p k : ℕ) (commit : Bool) → row.now ≡ event.Decided p k commit
+            → IsFoundFirst certificates rows k commit fault)
             → Gathered certificates self.new.list.items (rows ++ row.now ∷ [])) }
     {
         match *row {
@@ -133,7 +136,9 @@ impl Instances {
     }
 
     fn begin(&mut self, initiator: ProcNo, kind: Kind) -> Result<(), Memory>
-        ensures { OnOk result ((certificates : List Certificate) (rows : List Event) (inst : ℕ) → Gathered certificates self.old.list.items rows → Gathered certificates self.new.list.items (rows ++ event.Began initiator inst kind ∷ [])) }
+        ensures { OnOk result ((certificates : List Certificate) (rows : List Event) (inst : ℕ)
+            → Gathered certificates self.old.list.items rows
+            → Gathered certificates self.new.list.items (rows ++ event.Began initiator inst kind ∷ [])) }
     {
         self.list.push(Instance {
             kind,
@@ -147,7 +152,7 @@ impl Instances {
 }
 
 // The decision of an instance that no certificate was seen of.
-fn lacking(instance: &Instance, is_seen: bool) -> Option<Decision>
+fn missing_decision(instance: &Instance, is_seen: bool) -> Option<Decision>
     ensures none { IfNone result ((d : Decision) → instance.now.decision ≡ Some d → IsTrue is_seen) }
     ensures decided { IfSome result (λ d. instance.now.decision ≡ Some d) }
     ensures unseen { IfSome result (λ d. IsTrue is_seen → ⊥) }
@@ -160,8 +165,12 @@ fn lacking(instance: &Instance, is_seen: bool) -> Option<Decision>
 }
 
 fn join(list: &mut [Instance], p: ProcNo, inst: InstNo) -> Result<(), Memory>
-    ensures took { OnOk result ((certificates : List Certificate) (rows : List Event) → Gathered certificates list.old rows → IsLegal (rows ++ event.Took p inst ∷ []) → Gathered certificates list.new (rows ++ event.Took p inst ∷ [])) }
-    ensures ready { OnOk result ((certificates : List Certificate) (rows : List Event) → Gathered certificates list.old rows → IsLegal (rows ++ event.Ready p inst ∷ []) → Gathered certificates list.new (rows ++ event.Ready p inst ∷ [])) }
+    ensures took { OnOk result ((certificates : List Certificate) (rows : List Event)
+        → Gathered certificates list.old rows → IsLegal (rows ++ event.Took p inst ∷ [])
+        → Gathered certificates list.new (rows ++ event.Took p inst ∷ [])) }
+    ensures ready { OnOk result ((certificates : List Certificate) (rows : List Event)
+        → Gathered certificates list.old rows → IsLegal (rows ++ event.Ready p inst ∷ [])
+        → Gathered certificates list.new (rows ++ event.Ready p inst ∷ [])) }
 {
     let index = inst.get() as usize - 1;
     if index < list.len() {
@@ -171,7 +180,9 @@ fn join(list: &mut [Instance], p: ProcNo, inst: InstNo) -> Result<(), Memory>
 }
 
 fn refuse(list: &mut [Instance], inst: InstNo)
-    ensures { (certificates : List Certificate) (rows : List Event) (p : ℕ) (cause : Cause) → Gathered certificates list.old rows → IsLegal (rows ++ event.Unwilling p inst cause ∷ []) → Gathered certificates list.new (rows ++ event.Unwilling p inst cause ∷ []) }
+    ensures { (certificates : List Certificate) (rows : List Event) (p : ℕ) (cause : Cause)
+        → Gathered certificates list.old rows → IsLegal (rows ++ event.Unwilling p inst cause ∷ [])
+        → Gathered certificates list.new (rows ++ event.Unwilling p inst cause ∷ []) }
 {
     let index = inst.get() as usize - 1;
     if index < list.len() {
@@ -180,8 +191,10 @@ fn refuse(list: &mut [Instance], inst: InstNo)
 }
 
 fn decide(list: &mut [Instance], decision: &Decision)
-    ensures { (certificates : List Certificate) (rows : List Event) (p : ℕ) → Gathered certificates list.old rows → decision.now.row ≡ length rows + 1
-        → IsLegal (rows ++ event.Decided p decision.now.inst decision.now.commit ∷ []) → IsFoundFirst certificates rows decision.now.inst decision.now.commit decision.now.fault
+    ensures { (certificates : List Certificate) (rows : List Event) (p : ℕ) → Gathered certificates list.old rows
+        → decision.now.row ≡ length rows + 1
+        → IsLegal (rows ++ event.Decided p decision.now.inst decision.now.commit ∷ [])
+        → IsFoundFirst certificates rows decision.now.inst decision.now.commit decision.now.fault
         → Gathered certificates list.new (rows ++ event.Decided p decision.now.inst decision.now.commit ∷ []) }
 {
     let index = decision.inst.get() as usize - 1;

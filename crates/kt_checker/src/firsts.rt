@@ -25,23 +25,26 @@ impl Firsts {
     {
         let mut places = vec![in alloc; None; INSTANCES]?;
         for index in 0..certificates.len() {
-            enter(&mut places, certificates[index].inst, index);
+            note_first(&mut places, certificates[index].inst, index);
         }
         Ok(Firsts { places })
     }
 
     /// The place of the first certificate of an instance.
     pub(crate) fn get(&self, inst: InstNo) -> Option<usize>
-        ensures { (certificates : List Certificate) → AreFirsts self.now.places.items certificates (length certificates) → IsFirst certificates (length certificates) inst result }
+        ensures { (certificates : List Certificate)
+            → AreFirsts self.now.places.items certificates (length certificates)
+            → IsFirst certificates (length certificates) inst result }
     {
         *self.places.get(inst.get() as usize - 1)?
     }
 }
 
 // Notes the place of a certificate of an instance, unless there is an earlier one.
-fn enter(places: &mut [Option<usize>], inst: InstNo, place: usize)
+fn note_first(places: &mut [Option<usize>], inst: InstNo, place: usize)
     requires { length places.old ≡ 4096 }
-    ensures { (certificates : List Certificate) (c : Certificate) → AreFirsts places.old certificates place → slice_get certificates place ≡ Some c → c.inst ≡ inst → AreFirsts places.new certificates (place + 1) }
+    ensures { (certificates : List Certificate) (c : Certificate) → AreFirsts places.old certificates place
+        → slice_get certificates place ≡ Some c → c.inst ≡ inst → AreFirsts places.new certificates (place + 1) }
 {
     let index = inst.get() as usize - 1;
     if places[index].is_none() {

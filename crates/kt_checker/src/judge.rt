@@ -1,21 +1,25 @@
 //! A log judged row by row.
 
-ghost use Rattle.std.specs.Prelude.{◌≡◌, ◌<◌, ◌+◌, ◌^◌, ◌↔◌, ◌++◌, ◌∷◌, [], ℕ, Bool, true, Some, Err, List, length, map, IfOk, IsTrue, OnOk};
+ghost use Rattle.std.specs.Prelude.{◌≡◌, ◌<◌, ◌+◌, ◌^◌, ◌↔◌, ◌++◌, ◌∷◌, [], ℕ, Bool, true, Some, Err, List, length, map, slice_get, IfOk, IsTrue, OnOk};
 ghost use Rattle.kt_spacetime.specs.declared.event.Event.{Event};
 ghost use Rattle.kt_spacetime.specs.declared.event.Event.TheVariants as event;
 ghost use Rattle.kt_cuts.specs.declared.rules.Rule.{Rule};
 ghost use Rattle.kt_cuts.specs.declared.legality.LegalFault.TheVariants as fault;
 ghost use Rattle.kt_walk.specs.WalkOf.{WalkOf};
-ghost use Rattle.kt_cuts.specs.Past.{past};
+ghost use Rattle.kt_cuts.specs.Past.{past, kind_of};
+ghost use Rattle.kt_cuts.specs.Throughout.{HasConsistentDecisions};
 ghost use Rattle.kt_cuts.specs.Legal.{IsLegal, first_broken, is_undecided};
 ghost use Rattle.kt_checker.specs.Gathered.{IsFinding, IsFoundFirst};
-ghost use Rattle.kt_checker.specs.Judged.{IsFew, JudgeOf};
+ghost use Rattle.kt_checker.specs.Judged.{AreFirsts, IsFew, IsFirstCertificate, JudgeOf};
+ghost use Rattle.kt_checker.specs.Passing.{IsSecond};
+ghost use Rattle.kt_chain.specs.declared.certificate.Certificate.{Certificate as Certificates};
+ghost use Rattle.std.specs.Option.{option_copied};
 
-use crate::chains::{cut_of, has_chains};
+use crate::chains::{has_chains, leaves_consistent};
 use crate::decisions::{Instance, Instances};
 use crate::firsts::Firsts;
 use crate::verdict::Why;
-use kt_base::{Memory, RowNo};
+use kt_base::{InstNo, Memory, RowNo};
 use kt_chain::Certificate;
 use kt_cuts::LegalFault;
 use kt_spacetime::Event;
@@ -28,6 +32,8 @@ pub(crate) struct Judge {
     pub(crate) walk: Walk,
     pub(crate) instances: Instances,
     pub(crate) firsts: Firsts,
+    /// Whether each committed decision so far was found to leave a consistent cut.
+    pub(crate) is_consistent: bool,
 }
 
 impl Judge {
@@ -41,6 +47,7 @@ impl Judge {
             walk,
             instances: Instances::new(alloc),
             firsts,
+            is_consistent: true,
         })
     }
 
@@ -51,19 +58,25 @@ impl Judge {
         row: &Event,
     ) -> Result<(), LegalFault>
         requires few { IsFew self.old }
-        ensures fed { OnOk result ((rows : List Event) → JudgeOf self.old certificates.now rows → JudgeOf self.new certificates.now (rows ++ row.now ∷ [])) }
-        ensures broken { (n : ℕ) (rule : Rule) → result ≡ Err (fault.Broken n rule) → (rows : List Event) → JudgeOf self.old certificates.now rows → first_broken (rows ++ row.now ∷ []) ≡ Some (n, rule) }
+        ensures fed { OnOk result ((rows : List Event) → JudgeOf self.old certificates.now rows
+            → JudgeOf self.new certificates.now (rows ++ row.now ∷ [])) }
+        ensures broken { (n : ℕ) (rule : Rule) → result ≡ Err (fault.Broken n rule) → (rows : List Event)
+            → JudgeOf self.old certificates.now rows → first_broken (rows ++ row.now ∷ []) ≡ Some (n, rule) }
     {
-        let number = row_no(self.walk.rows());
+        let number = RowNo::after(self.walk.rows());
         let fault = self.fault_at(certificates, row);
+        let stays_consistent = self.stays_consistent(certificates, row, fault);
         self.walk.feed(row)?;
         self.instances.add(number, row, fault)?;
+        self.is_consistent = stays_consistent;
         Ok(())
     }
 
     // What is first wrong with the first certificate of the instance that the next row decides.
     fn fault_at(&self, certificates: &[Certificate], row: &Event) -> Option<Why>
-        ensures { (rows : List Event) (p k : ℕ) (commit : Bool) → JudgeOf self.now certificates.now rows → IsLegal (rows ++ row.now ∷ []) → row.now ≡ event.Decided p k commit → IsFoundFirst certificates.now rows k commit result }
+        ensures { (rows : List Event) (p k : ℕ) (commit : Bool) → JudgeOf self.now certificates.now rows
+            → IsLegal (rows ++ row.now ∷ []) → row.now ≡ event.Decided p k commit
+            → IsFoundFirst certificates.now rows k commit result }
     {
         let Event::Decided { inst, commit, .. } = *row else {
             return None;
@@ -71,13 +84,69 @@ impl Judge {
         let Some(instance) = self.instances.get(inst) else {
             return None;
         };
+        let Some(certificate) = self.first_certificate(certificates, inst) else {
+            return None;
+        };
+        fault_in(
+            &self.walk,
+            self.is_consistent,
+            instance,
+            commit,
+            certificate,
+        )
+    }
+
+    // Whether each committed decision is found to leave a consistent cut, with that of the next row. This was found of
+    // its first certificate, whose cut was tested if nothing is wrong with it, and is the instance's if it has its kind.
+    fn stays_consistent(
+        &self,
+        certificates: &[Certificate],
+        row: &Event,
+        fault: Option<Why>,
+    ) -> bool
+        ensures { (rows : List Event) → JudgeOf self.now certificates.now rows
+            → ((p k : ℕ) (commit : Bool) → row.now ≡ event.Decided p k commit
+            → IsFoundFirst certificates.now rows k commit fault)
+            → IsTrue result → HasConsistentDecisions (rows ++ row.now ∷ []) }
+    {
+        let Event::Decided { inst, commit, .. } = *row else {
+            return self.is_consistent;
+        };
+        self.is_consistent
+            && (!commit || (fault.is_none() && self.is_of_its_kind(certificates, inst)))
+    }
+
+    // Whether the first certificate of an instance is there and has its kind.
+    fn is_of_its_kind(&self, certificates: &[Certificate], inst: InstNo) -> bool
+        ensures { (rows : List Event) → JudgeOf self.now certificates.now rows → IsTrue result
+            → (i : ℕ) × (c : Certificates) × (slice_get certificates.now i ≡ Some c) × (c.inst ≡ inst)
+            × (IsSecond certificates.now i c → ⊥) × (kind_of (past rows) inst ≡ Some c.kind) }
+    {
+        let Some(instance) = self.instances.get(inst) else {
+            return false;
+        };
+        let Some(certificate) = self.first_certificate(certificates, inst) else {
+            return false;
+        };
+        has_kind_of(certificate, instance)
+    }
+
+    // The first certificate of an instance.
+    fn first_certificate<'c>(
+        &self,
+        certificates: &'c [Certificate],
+        inst: InstNo,
+    ) -> Option<&'c Certificate>
+        ensures { AreFirsts self.now.firsts.places.items certificates.now (length certificates.now)
+            → IsFirstCertificate certificates.now inst (option_copied result) }
+    {
         let Some(place) = self.firsts.get(inst) else {
             return None;
         };
         let Some(certificate) = certificates.get(place) else {
             return None;
         };
-        fault_in(&self.walk, instance, commit, certificate)
+        Some(certificate)
     }
 }
 
@@ -85,11 +154,14 @@ impl Judge {
 // decision.
 fn fault_in(
     walk: &Walk,
+    is_consistent: bool,
     instance: &Instance,
     commit: bool,
     certificate: &Certificate,
 ) -> Option<Why>
-    ensures { (rows : List Event) → WalkOf walk.now rows → is_undecided (past rows) certificate.now.inst ≡ true → IsFinding (past rows) instance.now.members.items instance.now.refused commit certificate.now result }
+    ensures { (rows : List Event) → WalkOf walk.now rows → (IsTrue is_consistent → HasConsistentDecisions rows)
+        → is_undecided (past rows) certificate.now.inst ≡ true
+        → IsFinding (past rows) instance.now.members.items instance.now.refused commit certificate.now result }
 {
     if commit == instance.refused {
         return Some(Why::Cause);
@@ -103,11 +175,17 @@ fn fault_in(
     if !has_chains(walk, certificate) {
         return Some(Why::Chain);
     }
-    let cut = cut_of(walk, certificate);
-    match walk.orphan(&cut) {
-        Some(_) => Some(Why::Orphan),
-        None => None,
+    if !leaves_consistent(walk, is_consistent, certificate) {
+        return Some(Why::Orphan);
     }
+    None
+}
+
+// Whether a certificate is of the instance's kind.
+fn has_kind_of(certificate: &Certificate, instance: &Instance) -> bool
+    ensures { IsTrue result → instance.now.kind ≡ certificate.now.kind }
+{
+    instance.kind == certificate.kind
 }
 
 // Whether a certificate lists the members in the order in which they joined.
@@ -124,15 +202,4 @@ fn lists_members(instance: &Instance, certificate: &Certificate) -> bool
         }
     }
     true
-}
-
-// The number of the row after this many.
-fn row_no(count: usize) -> RowNo
-    requires { count < 2 ^ 24 }
-    ensures { result ≡ count + 1 }
-{
-    match RowNo::new(count as u32 + 1) {
-        Some(row) => row,
-        None => unreachable!(),
-    }
 }

@@ -8,5 +8,6 @@ ghost use Rattle.kt_checker.specs.Order.{IsAnswer};
 
 /// A log and a list of certificates have one answer: two that are right are equal.
 pub fn one_answer()
-    ensures { (log : List events) (certificates : List claims) (answer other : answers) → IsAnswer log certificates answer → IsAnswer log certificates other → answer ≡ other }
+    ensures { (log : List events) (certificates : List claims) (answer other : answers)
+        → IsAnswer log certificates answer → IsAnswer log certificates other → answer ≡ other }
 {}

@@ -7,6 +7,7 @@ mod decisions;
 mod firsts;
 mod judge;
 mod laws;
+mod path;
 mod streaming;
 mod verdict;
 

@@ -8,7 +8,7 @@ ghost use Rattle.kt_checker.specs.declared.verdict.Verdict.TheVariants.{Yes};
 ghost use Rattle.kt_checker.specs.Passing.{IsPassed};
 ghost use Rattle.kt_checker.specs.Streamed.{IsAnswerOf};
 
-use crate::checking::{fed, verdict};
+use crate::checking::{feed_row, verdict};
 use crate::judge::Judge;
 use crate::verdict::Verdict;
 use kt_chain::Certificate;
@@ -46,7 +46,7 @@ fn judge_stream<R: Read + Drop>(
     let mut broken = None;
     while let Some(row) = rows.next()? {
         if broken.is_none() {
-            broken = fed(&mut judge, certificates, &row)?;
+            broken = feed_row(&mut judge, certificates, &row)?;
         }
     }
     match broken {

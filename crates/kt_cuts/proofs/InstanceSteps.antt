@@ -14,9 +14,9 @@ use Rattle.kt_cuts.specs.declared.instances.Instance.{Instance}
 use Rattle.kt_cuts.specs.Past.{Past, Beginning, after, at_one, at_pair, kind_of, beginning_of, is_checkpoint, is_rollback, is_committed, is_checkpoint_kind, is_rollback_kind}
 use Rattle.kt_cuts.specs.Legal.{has_begun}
 use Rattle.kt_cuts.specs.Lists.{Rises, received_in}
-use Rattle.kt_cuts.specs.Tables.{is_committed_verdict}
+use Rattle.kt_cuts.specs.Tables.{is_committed_decision}
 use Rattle.kt_cuts.specs.Changes.{IsJoined, IsDecided}
-use Rattle.kt_cuts.specs.Standing.{ShowsInstances, at_number, beginning_shown, verdict_shown, new_shown, ready_shown, kind_shown, rolled_back_shown}
+use Rattle.kt_cuts.specs.Standing.{ShowsInstances, at_number, beginning_shown, decision_shown, new_shown, ready_shown, kind_shown, rolled_back_shown}
 use Rattle.kt_cuts.proofs.Items.{get_left, get_seam, get_set_same, item_there}
 use Rattle.kt_cuts.proofs.SortedFacts.{some_same}
 use Rattle.kt_cuts.proofs.LegalLogs.{kept}
@@ -51,10 +51,10 @@ pub no_item : {X : Type 0} (xs : List X) (k : ℕ) → length xs < k → at_numb
 no_item xs zero l = refl
 no_item xs (suc k) l = slice_get_past xs k (omega (arith, l))
 
-pub same_instances : (js : List Instance) (s t : Past) → ShowsInstances js s → t.begun ≡ s.begun → t.verdict ≡ s.verdict → t.new ≡ s.new → t.ready ≡ s.ready → ShowsInstances js t
+pub same_instances : (js : List Instance) (s t : Past) → ShowsInstances js s → t.begun ≡ s.begun → t.decision ≡ s.decision → t.new ≡ s.new → t.ready ≡ s.ready → ShowsInstances js t
 same_instances js s t h b v n r = record {
   begun = h.begun ∙ sym b;
-  verdict = λ k. h.verdict k ∙ ap (λ (f : ℕ → Option Bool). f k) (sym v);
+  decision = λ k. h.decision k ∙ ap (λ (f : ℕ → Option Bool). f k) (sym v);
   new = λ k p. h.new k p ∙ ap (λ (f : ℕ → ℕ → Option ℕ). f k p) (sym n);
   ready = λ k p. h.ready k p ∙ ap (λ (f : ℕ → ℕ → Bool). f k p) (sym r);
   positions = h.positions;
@@ -66,14 +66,14 @@ not_new v q e = grind (arith, e)
 pub not_ready : (v : Instance) (q : ℕ) → has v.joined q ≡ false → ready_shown (Some v) q ≡ false
 not_ready v q e = grind (arith, e)
 
-pub began_instances : (js : List Instance) (s : Past) (p k : ℕ) (kind : Kind) (v : Instance) → ShowsInstances js s → v.initiator ≡ p → v.kind ≡ kind → v.verdict ≡ None → ((q : ℕ) → has v.joined q ≡ false) → length v.positions ≡ 64
+pub began_instances : (js : List Instance) (s : Past) (p k : ℕ) (kind : Kind) (v : Instance) → ShowsInstances js s → v.initiator ≡ p → v.kind ≡ kind → v.decision ≡ None → ((q : ℕ) → has v.joined q ≡ false) → length v.positions ≡ 64
     → ShowsInstances (js ++ v ∷ []) (after s (event.Began p k kind))
 began_instances js s p k kind v h initiator of_kind undecided empty positions = record {
   begun = map-append beginning_shown js (v ∷ []) ∙ (λ i. h.begun i ++ record { initiator = initiator i; kind = of_kind i } ∷ []);
-  verdict = λ j. elim (cases_eq j (length js + 1)) [
+  decision = λ j. elim (cases_eq j (length js + 1)) [
     | inl e ↦
-        ap verdict_shown (new_item js v j e) ∙ (undecided ∙ (sym (ap verdict_shown (no_item js j (omega (arith, e)))) ∙ h.verdict j))
-    | inr n ↦ ap verdict_shown (old_item js v j n) ∙ h.verdict j
+        ap decision_shown (new_item js v j e) ∙ (undecided ∙ (sym (ap decision_shown (no_item js j (omega (arith, e)))) ∙ h.decision j))
+    | inr n ↦ ap decision_shown (old_item js v j n) ∙ h.decision j
   ];
   new = λ j q. elim (cases_eq j (length js + 1)) [
     | inl e ↦
@@ -152,11 +152,11 @@ new_other v w q a b c = λ i. if is_checkpoint_kind (Some (a i)) && b i then Som
 ready_other : (v w : Instance) (q : ℕ) → w.kind ≡ v.kind → has w.joined q ≡ has v.joined q → ready_shown (Some w) q ≡ ready_shown (Some v) q
 ready_other v w q a b = λ i. is_rollback_kind (Some (a i)) && b i
 
-joined_verdict : (js is : List Instance) (s : Past) (k p position : ℕ) (v w : Instance) → ShowsInstances js s → IsJoined js is k p position v w → (j : ℕ) → verdict_shown (at_number is j) ≡ s.verdict j
-joined_verdict js is s k p position v w h x j = elim (cases_eq j k) [
+joined_decision : (js is : List Instance) (s : Past) (k p position : ℕ) (v w : Instance) → ShowsInstances js s → IsJoined js is k p position v w → (j : ℕ) → decision_shown (at_number is j) ≡ s.decision j
+joined_decision js is s k p position v w h x j = elim (cases_eq j k) [
   | inl e ↦
-      ap (λ (n : ℕ). verdict_shown (at_number is n)) e ∙ (ap verdict_shown x.now ∙ (x.verdict ∙ (sym (ap verdict_shown x.was) ∙ (h.verdict k ∙ ap s.verdict (sym e)))))
-  | inr n ↦ ap verdict_shown (x.others j n) ∙ h.verdict j
+      ap (λ (n : ℕ). decision_shown (at_number is n)) e ∙ (ap decision_shown x.now ∙ (x.decision ∙ (sym (ap decision_shown x.was) ∙ (h.decision k ∙ ap s.decision (sym e)))))
+  | inr n ↦ ap decision_shown (x.others j n) ∙ h.decision j
 ]
 
 joined_positions : (js is : List Instance) (s : Past) (k p position : ℕ) (v w : Instance) → ShowsInstances js s → IsJoined js is k p position v w → (j : ℕ) (u : Instance) → at_number is j ≡ Some u → length u.positions ≡ 64
@@ -184,7 +184,7 @@ pub took_instances : (js is : List Instance) (s : Past) (p k position : ℕ) (u 
     → ShowsInstances is (after s (event.Took p k))
 took_instances js is s p k position u w h checkpoint low same x = record {
   begun = x.beginnings ∙ h.begun;
-  verdict = joined_verdict js is s k p position u w h x;
+  decision = joined_decision js is s k p position u w h x;
   new = λ j q. elim (cases_eq j k) [
     | inl e ↦ elim (cases_eq q p) [
       | inl here ↦
@@ -213,7 +213,7 @@ pub ready_instances : (js is : List Instance) (s : Past) (p k position : ℕ) (u
     → ShowsInstances is (after s (event.Ready p k))
 ready_instances js is s p k position u w h rollback low x = record {
   begun = x.beginnings ∙ h.begun;
-  verdict = joined_verdict js is s k p position u w h x;
+  decision = joined_decision js is s k p position u w h x;
   new = λ j q. elim (cases_eq j k) [
     | inl e ↦
         (λ i. new_shown (at_number is (e i)) q) ∙ (ap (λ (o : Option Instance). new_shown o q) x.now ∙ (new_of_rollback w q (x.kind ∙ rolling_kind js s k u h rollback is p position w x) ∙ (sym (new_of_rollback u q (rolling_kind js s k u h rollback is p position w x))
@@ -238,10 +238,10 @@ ready_instances js is s p k position u w h rollback low x = record {
 pub decided_instances : (js is : List Instance) (s : Past) (p k : ℕ) (commit : Bool) (v : Instance) → ShowsInstances js s → IsDecided js is k commit v → ShowsInstances is (after s (event.Decided p k commit))
 decided_instances js is s p k commit v h x = record {
   begun = x.beginnings ∙ h.begun;
-  verdict = λ j. elim (cases_eq j k) [
+  decision = λ j. elim (cases_eq j k) [
     | inl e ↦
-        (λ i. verdict_shown (at_number is (e i))) ∙ (ap verdict_shown x.now ∙ (sym (at_same k (Some commit) s.verdict) ∙ ap (at_one k (Some commit) s.verdict) (sym e)))
-    | inr n ↦ ap verdict_shown (x.others j n) ∙ (h.verdict j ∙ sym (at_other k j (Some commit) s.verdict n))
+        (λ i. decision_shown (at_number is (e i))) ∙ (ap decision_shown x.now ∙ (sym (at_same k (Some commit) s.decision) ∙ ap (at_one k (Some commit) s.decision) (sym e)))
+    | inr n ↦ ap decision_shown (x.others j n) ∙ (h.decision j ∙ sym (at_other k j (Some commit) s.decision n))
   ];
   new = λ j q. elim (cases_eq j k) [
     | inl e ↦
@@ -255,7 +255,7 @@ decided_instances js is s p k commit v h x = record {
   ];
   positions = λ j u e. elim (cases_eq j k) [
     | inl same ↦
-        let here : record v { verdict = Some commit } ≡ u = some_same (sym x.now ∙ (ap (at_number is) (sym same) ∙ e)) in
+        let here : record v { decision = Some commit } ≡ u = some_same (sym x.now ∙ (ap (at_number is) (sym same) ∙ e)) in
         subst (λ (y : Instance). length y.positions ≡ 64) here (h.positions k v x.was)
     | inr n ↦ h.positions j u (sym (x.others j n) ∙ e)
   ];
@@ -280,12 +280,12 @@ if_front P false n l whole front = whole
 -- what the close of an instance finds
 pub rolled_known : (js : List Instance) (s : Past) (k : ℕ) → ShowsInstances js s → rolled_back_shown (at_number js k) ≡ (is_rollback s k && is_committed s k)
 rolled_known js s k h =
-    shown (at_number js k) ∙ (λ i. is_rollback_kind (sym (kind_known js s k h) i) && unwrap_or (h.verdict k i) false)
+    shown (at_number js k) ∙ (λ i. is_rollback_kind (sym (kind_known js s k h) i) && unwrap_or (h.decision k i) false)
   where
-    shown : (o : Option Instance) → rolled_back_shown o ≡ (is_rollback_kind (kind_shown o) && unwrap_or (verdict_shown o) false)
+    shown : (o : Option Instance) → rolled_back_shown o ≡ (is_rollback_kind (kind_shown o) && unwrap_or (decision_shown o) false)
     shown None = refl
-    shown (Some v) = ap (λ (y : Bool). is_rollback_kind (Some v.kind) && y) (committed v.verdict)
+    shown (Some v) = ap (λ (y : Bool). is_rollback_kind (Some v.kind) && y) (committed v.decision)
       where
-        committed : (o : Option Bool) → is_committed_verdict o ≡ unwrap_or o false
+        committed : (o : Option Bool) → is_committed_decision o ≡ unwrap_or o false
         committed None = refl
         committed (Some y) = refl

@@ -161,7 +161,7 @@ members_choice log k p commit l =
       inside = λ q e. omega arith;
     }
   where
-    short : (s : Past) → Positions s → s.verdict k ≡ None → (q : ℕ) → checkpoint_cut s k q ≤ length (s.live q)
+    short : (s : Past) → Positions s → s.decision k ≡ None → (q : ℕ) → checkpoint_cut s k q ≤ length (s.live q)
     short s g v q = at_new (s.new k q) refl
       where
         at_new : (o : Option ℕ) → s.new k q ≡ o → unwrap_or o (s.permanent q) ≤ length (s.live q)

@@ -1,4 +1,4 @@
--- Marks in the table of messages, members and verdicts in the table of instances.
+-- Marks in the table of messages, members and decisions in the table of instances.
 use Rattle.std.proofs.Common.{◌≡◌, ◌≢◌, ℕ, zero, suc, ◌+◌, ◌-◌, ◌<◌, ◌≤◌, Bool, true, Some, List, [], ◌∷◌, ◌++◌, ◌⊎◌, length, get_or, set, refl, sym, ap, ◌∙◌, arith}
 use Rattle.std.specs.List.{slice_get}
 use Rattle.std.proofs.lemmas.Option.{slice_get_read}
@@ -30,9 +30,9 @@ pub same_item : {X : Type 0} (xs : List X) (i k : ℕ) (u v : X) → i ≡ k - 1
 same_item xs i k u v e l b r a = some_same (sym (slice_get_read xs (length xs) i u refl b r) ∙ (sym (number_at xs i k e l) ∙ a))
 
 pub is_joined : (js : List Instance) (i k p position : ℕ) (u v w : Instance) → i ≡ k - 1 → 1 ≤ k → i < length js → u ≡ get_or js i u → at_number js k ≡ Some v
-    → w.initiator ≡ u.initiator → w.kind ≡ u.kind → w.verdict ≡ u.verdict → has w.joined p ≡ true → ((q : ℕ) → q ≢ p → has w.joined q ≡ has u.joined q) → w.positions ≡ set u.positions p position
+    → w.initiator ≡ u.initiator → w.kind ≡ u.kind → w.decision ≡ u.decision → has w.joined p ≡ true → ((q : ℕ) → q ≢ p → has w.joined q ≡ has u.joined q) → w.positions ≡ set u.positions p position
     → IsJoined js (set js i w) k p position v w
-is_joined js i k p position u v w e l b r a initiator of_kind verdict joined others positions =
+is_joined js i k p position u v w e l b r a initiator of_kind decision joined others positions =
     let same : u ≡ v = same_item js i k u v e l b r a in
     record {
       was = a;
@@ -40,27 +40,27 @@ is_joined js i k p position u v w e l b r a initiator of_kind verdict joined oth
       others = λ j n. number_set_other js i k j w e l n;
       beginnings = set_mapped beginning_shown js i u w (slice_get_read js (length js) i u refl b r) (λ j. record { initiator = initiator j; kind = of_kind j });
       kind = of_kind ∙ ap (λ (x : Instance). x.kind) same;
-      verdict = verdict ∙ ap (λ (x : Instance). x.verdict) same;
+      decision = decision ∙ ap (λ (x : Instance). x.decision) same;
       joined = joined;
       not_joined = λ q n. others q n ∙ ap (λ (x : Instance). has x.joined q) same;
       positions = positions ∙ ap (λ (x : Instance). set x.positions p position) same;
     }
 
 pub is_decided : (js : List Instance) (i k : ℕ) (commit : Bool) (u v : Instance) → i ≡ k - 1 → 1 ≤ k → i < length js → u ≡ get_or js i u → at_number js k ≡ Some v
-    → IsDecided js (set js i (record u { verdict = Some commit })) k commit v
+    → IsDecided js (set js i (record u { decision = Some commit })) k commit v
 is_decided js i k commit u v e l b r a =
     let same : u ≡ v = same_item js i k u v e l b r a in
     record {
       was = a;
-      now = number_set_same js i k _ e l b ∙ ap (λ (x : Instance). Some (record x { verdict = Some commit })) same;
+      now = number_set_same js i k _ e l b ∙ ap (λ (x : Instance). Some (record x { decision = Some commit })) same;
       others = λ j n. number_set_other js i k j _ e l n;
       beginnings = set_mapped beginning_shown js i u _ (slice_get_read js (length js) i u refl b r) refl;
     }
 
 pub judged_item : (js : List Instance) (i k : ℕ) (commit : Bool) (u v r : Instance) → i ≡ k - 1 → 1 ≤ k → i < length js → u ≡ get_or js i u → at_number js k ≡ Some v
-    → r ≡ get_or (set js i (record u { verdict = Some commit })) i r → Some r ≡ Some (record v { verdict = Some commit })
+    → r ≡ get_or (set js i (record u { decision = Some commit })) i r → Some r ≡ Some (record v { decision = Some commit })
 judged_item js i k commit u v r e l b rd a is =
     let same : u ≡ v = same_item js i k u v e l b rd a in
-    let list : List Instance = set js i (record u { verdict = Some commit }) in
-    let read : slice_get list i ≡ Some r = slice_get_read list (length js) i r (sym (length-set js i (record u { verdict = Some commit }))) b is in
-    sym read ∙ (get_set_same js i (record u { verdict = Some commit }) b ∙ ap (λ (x : Instance). Some (record x { verdict = Some commit })) same)
+    let list : List Instance = set js i (record u { decision = Some commit }) in
+    let read : slice_get list i ≡ Some r = slice_get_read list (length js) i r (sym (length-set js i (record u { decision = Some commit }))) b is in
+    sym read ∙ (get_set_same js i (record u { decision = Some commit }) b ∙ ap (λ (x : Instance). Some (record x { decision = Some commit })) same)

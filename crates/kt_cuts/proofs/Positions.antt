@@ -56,12 +56,12 @@ one_kind s k c r = at_kind (kind_of s k) c r
 
 -- what is so of positions after a legal log
 pub record Positions (s : Past) : Type 0 where
-  pub took_inside : (q k n : ℕ) → s.verdict k ≡ None → s.new k q ≡ Some n → s.open_in q ≡ Some k
-  pub ready_inside : (q k : ℕ) → s.verdict k ≡ None → s.ready k q ≡ true → s.open_in q ≡ Some k
+  pub took_inside : (q k n : ℕ) → s.decision k ≡ None → s.new k q ≡ Some n → s.open_in q ≡ Some k
+  pub ready_inside : (q k : ℕ) → s.decision k ≡ None → s.ready k q ≡ true → s.open_in q ≡ Some k
   pub took_kind : (q k n : ℕ) → s.new k q ≡ Some n → is_checkpoint s k ≡ true
   pub ready_kind : (q k : ℕ) → s.ready k q ≡ true → is_rollback s k ≡ true
   pub inside_member : (q k : ℕ) → s.open_in q ≡ Some k → is_member s k q ≡ true
-  pub within : (q k n : ℕ) → s.verdict k ≡ None → s.new k q ≡ Some n → (s.permanent q ≤ n) × (n ≤ length (s.live q))
+  pub within : (q k n : ℕ) → s.decision k ≡ None → s.new k q ≡ Some n → (s.permanent q ≤ n) × (n ≤ length (s.live q))
   pub permanent_within : (q : ℕ) → s.permanent q ≤ length (s.live q)
 
 positions_start : Positions start
@@ -145,7 +145,7 @@ keeps_abort s p k g = record {
   permanent_within = g.permanent_within;
 }
 
-keeps_commit : (s : Past) (p k : ℕ) → s.verdict k ≡ None → Positions s → Positions (after s (Decided p k true))
+keeps_commit : (s : Past) (p k : ℕ) → s.decision k ≡ None → Positions s → Positions (after s (Decided p k true))
 keeps_commit s p k d g = record {
   took_inside = λ q j n v t. grind (arith, nat_tests, g.took_inside q j n);
   ready_inside = λ q j v r. grind (arith, nat_tests, g.ready_inside q j);
@@ -214,7 +214,7 @@ pub positions : (log : List Event) → IsLegal log → Positions (past log)
 positions log l = legal_induction Positions keeps start log l positions_start
 
 -- a member of an undecided instance is in it
-pub member_inside : (s : Past) → Positions s → (k p : ℕ) → s.verdict k ≡ None → is_member s k p ≡ true → s.open_in p ≡ Some k
+pub member_inside : (s : Past) → Positions s → (k p : ℕ) → s.decision k ≡ None → is_member s k p ≡ true → s.open_in p ≡ Some k
 member_inside s g k p v m = at_new (s.new k p) refl m
   where
     at_new : (o : Option ℕ) → s.new k p ≡ o → (is_some o || s.ready k p) ≡ true → s.open_in p ≡ Some k
@@ -242,7 +242,7 @@ unfolding Grows
 one_more_grows s q p d = at_one_all (λ r l. Grows (s.live r) l) q (s.live q ++ d ∷ []) s.live (d ∷ [], refl) (λ r. stays (s.live r)) p
 
 -- no rollback that is decided cuts it
-not_cut : (s : Past) → Positions s → (k p j : ℕ) → IsInCheckpoint s k p → s.verdict j ≡ None → s.ready j p ≡ false
+not_cut : (s : Past) → Positions s → (k p j : ℕ) → IsInCheckpoint s k p → s.decision j ≡ None → s.ready j p ≡ false
 not_cut s g k p j h v = at_test (s.ready j p) refl
   where
     at_test : (b : Bool) → s.ready j p ≡ b → s.ready j p ≡ false
@@ -268,7 +268,7 @@ live_grows s (Failed q) g e k p h = stays (s.live p)
 live_grows s (Refused q verb cause) g e k p h = stays (s.live p)
 
 -- its permanent position moves by that instance's decision alone
-no_other_new : (s : Past) → Positions s → (k p j : ℕ) → IsInCheckpoint s k p → s.verdict j ≡ None → (j == k) ≡ false → s.new j p ≡ None
+no_other_new : (s : Past) → Positions s → (k p j : ℕ) → IsInCheckpoint s k p → s.decision j ≡ None → (j == k) ≡ false → s.new j p ≡ None
 no_other_new s g k p j h v d = at_new (s.new j p) refl
   where
     at_new : (o : Option ℕ) → s.new j p ≡ o → s.new j p ≡ None

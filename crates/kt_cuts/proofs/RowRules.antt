@@ -61,7 +61,7 @@ pub record MayTake (s : Past) (p k : ℕ) : Type 0 where
   pub not_new : s.new k p ≡ None
   pub not_ready : s.ready k p ≡ false
   pub begun : has_begun s k ≡ true
-  pub undecided : s.verdict k ≡ None
+  pub undecided : s.decision k ≡ None
   pub is_kind : is_checkpoint s k ≡ true
   pub up : s.up p ≡ true
 
@@ -83,7 +83,7 @@ pub record MayGetReady (s : Past) (p k : ℕ) : Type 0 where
   pub not_new : s.new k p ≡ None
   pub not_ready : s.ready k p ≡ false
   pub begun : has_begun s k ≡ true
-  pub undecided : s.verdict k ≡ None
+  pub undecided : s.decision k ≡ None
   pub is_kind : is_rollback s k ≡ true
 
 pub may_get_ready : (s : Past) (p k : ℕ) → broken_rule s (Ready p k) ≡ None → MayGetReady s p k
@@ -102,7 +102,7 @@ pub record MayDecide (s : Past) (p k : ℕ) : Type 0 where
   pub is_initiator : initiator_of s k ≡ Some p
   pub inside : s.open_in p ≡ Some k
   pub begun : has_begun s k ≡ true
-  pub undecided : s.verdict k ≡ None
+  pub undecided : s.decision k ≡ None
 
 pub may_decide : (s : Past) (p k : ℕ) (commit : Bool) → broken_rule s (Decided p k commit) ≡ None → MayDecide s p k
 may_decide s p k commit e =
@@ -115,7 +115,7 @@ may_decide s p k commit e =
 -- a process that closes an instance
 pub record MayClose (s : Past) (p k : ℕ) : Type 0 where
   pub inside : s.open_in p ≡ Some k
-  pub decided : is_some (s.verdict k) ≡ true
+  pub decided : is_some (s.decision k) ≡ true
 
 pub may_close : (s : Past) (p k : ℕ) → broken_rule s (Closed p k) ≡ None → MayClose s p k
 may_close s p k e =

@@ -11,14 +11,14 @@ pub record IsJoined (js is : List Instance) (k p : ℕ) (position : ℕ) (v w : 
   pub others : (j : ℕ) → j ≢ k → at_number is j ≡ at_number js j
   pub beginnings : map beginning_shown is ≡ map beginning_shown js
   pub kind : w.kind ≡ v.kind
-  pub verdict : w.verdict ≡ v.verdict
+  pub decision : w.decision ≡ v.decision
   pub joined : has w.joined p ≡ true
   pub not_joined : (q : ℕ) → q ≢ p → has w.joined q ≡ has v.joined q
   pub positions : w.positions ≡ slice_set v.positions p position
 
--- an instance's tables with a verdict
+-- an instance's tables with a decision
 pub record IsDecided (js is : List Instance) (k : ℕ) (commit : Bool) (v : Instance) : Type 0 where
   pub was : at_number js k ≡ Some v
-  pub now : at_number is k ≡ Some (record v { verdict = Some commit })
+  pub now : at_number is k ≡ Some (record v { decision = Some commit })
   pub others : (j : ℕ) → j ≢ k → at_number is j ≡ at_number js j
   pub beginnings : map beginning_shown is ≡ map beginning_shown js

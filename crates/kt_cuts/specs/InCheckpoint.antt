@@ -7,7 +7,7 @@ use Rattle.kt_cuts.specs.Past.{Past, is_checkpoint}
 -- a process is in an open checkpoint instance that is undecided
 pub record IsInCheckpoint (s : Past) (k p : ℕ) : Type 0 where
   pub inside : s.open_in p ≡ Some k
-  pub undecided : s.verdict k ≡ None
+  pub undecided : s.decision k ≡ None
   pub is_kind : is_checkpoint s k ≡ true
 
 -- whether a row decides an instance

@@ -30,7 +30,7 @@ abbrev pub has_begun : Past → ℕ → Bool
 has_begun s k = nat_le 1 k && nat_le k (length s.begun)
 
 abbrev pub is_undecided : Past → ℕ → Bool
-is_undecided s k = has_begun s k && is_none (s.verdict k)
+is_undecided s k = has_begun s k && is_none (s.decision k)
 
 abbrev pub is_instance : Option ℕ → ℕ → Bool
 is_instance None k = false
@@ -134,7 +134,7 @@ keeps_deciding s _ = true
 
 -- closing: in the open instance, which is decided
 abbrev pub keeps_closing : Past → Event → Bool
-keeps_closing s (Closed p k) = is_in s p k && is_some (s.verdict k)
+keeps_closing s (Closed p k) = is_in s p k && is_some (s.decision k)
 keeps_closing s _ = true
 
 -- causes: why a process may be unwilling to join an instance

@@ -11,7 +11,7 @@ pub mod Standing
 pub mod Tables
 pub mod Changes
 pub mod Tests
-pub mod Grounds
+pub mod RuleContext
 pub mod Traces
 pub mod Orphans
 pub mod InCheckpoint

@@ -27,7 +27,7 @@ pub record Past : Type 0 where
   -- the instances, in the order in which they began
   pub begun : List Beginning
   -- whether a decided instance is committed
-  pub verdict : ℕ → Option Bool
+  pub decision : ℕ → Option Bool
   -- the open instance that a process is in
   pub open_in : ℕ → Option ℕ
   -- whether a process is up
@@ -47,7 +47,7 @@ start = record {
   new = λ k p. None;
   ready = λ k p. false;
   begun = [];
-  verdict = λ k. None;
+  decision = λ k. None;
   open_in = λ p. None;
   up = λ p. true;
   dropped = λ m. false;
@@ -91,7 +91,7 @@ abbrev pub is_rollback : Past → ℕ → Bool
 is_rollback s k = is_rollback_kind (kind_of s k)
 
 abbrev pub is_committed : Past → ℕ → Bool
-is_committed s k = unwrap_or (s.verdict k) false
+is_committed s k = unwrap_or (s.decision k) false
 
 -- whether a process has a took or ready row of an instance
 abbrev pub is_member : Past → ℕ → ℕ → Bool
@@ -121,9 +121,9 @@ abbrev pub begun_after : Past → Event → List Beginning
 begun_after s (Began p k kind) = s.begun ++ record { initiator = p; kind = kind } ∷ []
 begun_after s _ = s.begun
 
-abbrev pub verdict_after : Past → Event → ℕ → Option Bool
-verdict_after s (Decided p k commit) = at_one k (Some commit) s.verdict
-verdict_after s _ = s.verdict
+abbrev pub decision_after : Past → Event → ℕ → Option Bool
+decision_after s (Decided p k commit) = at_one k (Some commit) s.decision
+decision_after s _ = s.decision
 
 abbrev pub open_after : Past → Event → ℕ → Option ℕ
 open_after s (Took p k) = at_one p (Some k) s.open_in
@@ -155,7 +155,7 @@ after s row = record {
   new = new_after s row;
   ready = ready_after s row;
   begun = begun_after s row;
-  verdict = verdict_after s row;
+  decision = decision_after s row;
   open_in = open_after s row;
   up = up_after s row;
   dropped = dropped_after s row;

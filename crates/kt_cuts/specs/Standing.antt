@@ -7,7 +7,7 @@ use Rattle.kt_spacetime.specs.declared.event.Event.TheVariants.{Sent, Began}
 use Rattle.kt_cuts.specs.declared.instances.Instance.{Instance}
 use Rattle.kt_cuts.specs.Past.{Past, Beginning, is_checkpoint_kind, is_rollback_kind}
 use Rattle.kt_cuts.specs.Legal.{broken_rule}
-use Rattle.kt_cuts.specs.Tables.{is_committed_verdict}
+use Rattle.kt_cuts.specs.Tables.{is_committed_decision}
 use Rattle.kt_cuts.specs.Lists.{Rises, sent_in, received_in}
 
 -- the item of a number; numbers begin at 1
@@ -18,9 +18,9 @@ at_number xs (suc n) = slice_get xs n
 abbrev pub beginning_shown : Instance → Beginning
 beginning_shown v = record { initiator = v.initiator; kind = v.kind }
 
-abbrev pub verdict_shown : Option Instance → Option Bool
-verdict_shown None = None
-verdict_shown (Some v) = v.verdict
+abbrev pub decision_shown : Option Instance → Option Bool
+decision_shown None = None
+decision_shown (Some v) = v.decision
 
 abbrev pub new_shown : Option Instance → ℕ → Option ℕ
 new_shown None p = None
@@ -36,12 +36,12 @@ kind_shown (Some v) = Some v.kind
 
 abbrev pub rolled_back_shown : Option Instance → Bool
 rolled_back_shown None = false
-rolled_back_shown (Some v) = is_rollback_kind (Some v.kind) && is_committed_verdict v.verdict
+rolled_back_shown (Some v) = is_rollback_kind (Some v.kind) && is_committed_decision v.decision
 
 -- the instances' tables are what is known of them
 pub record ShowsInstances (instances : List Instance) (s : Past) : Type 0 where
   pub begun : map beginning_shown instances ≡ s.begun
-  pub verdict : (k : ℕ) → verdict_shown (at_number instances k) ≡ s.verdict k
+  pub decision : (k : ℕ) → decision_shown (at_number instances k) ≡ s.decision k
   pub new : (k p : ℕ) → new_shown (at_number instances k) p ≡ s.new k p
   pub ready : (k p : ℕ) → ready_shown (at_number instances k) p ≡ s.ready k p
   pub positions : (k : ℕ) (v : Instance) → at_number instances k ≡ Some v → length v.positions ≡ 64

@@ -13,7 +13,7 @@ pub struct Instance {
     /// Whether it is a checkpoint or a rollback.
     pub kind: Kind,
     /// Whether it was committed; None before its decision.
-    pub verdict: Option<bool>,
+    pub decision: Option<bool>,
     /// Who has joined it.
     pub joined: ProcSet,
     /// By process: the length of its live history when it joined; nothing is said of who has not joined.
@@ -26,14 +26,14 @@ ghost use Rattle.kt_cuts.specs.Standing.{at_number};
 
 impl Instance {
     ghost use Rattle.kt_cuts.specs.Past.{is_rollback_kind};
-    ghost use Rattle.kt_cuts.specs.Tables.{is_committed_verdict};
+    ghost use Rattle.kt_cuts.specs.Tables.{is_committed_decision};
     ghost use Rattle.kt_cuts.specs.Standing.{new_shown};
 
     // One more member, whose history has this length.
     fn add(&mut self, p: ProcNo, position: usize)
         ensures initiator { self.new.initiator ≡ self.old.initiator }
         ensures kind { self.new.kind ≡ self.old.kind }
-        ensures verdict { self.new.verdict ≡ self.old.verdict }
+        ensures decision { self.new.decision ≡ self.old.decision }
         ensures joined { has self.new.joined p ≡ true }
         ensures others { (q : ℕ) → q ≢ p → has self.new.joined q ≡ has self.old.joined q }
         ensures positions { self.new.positions ≡ slice_set self.old.positions p position }
@@ -59,24 +59,22 @@ impl Instance {
         requires { number < 64 }
         ensures { result ≡ has self.now.joined number }
     {
-        match ProcNo::new(number) {
-            Some(p) => self.joined.has(p),
-            None => unreachable!(),
-        }
+        self.joined.has(ProcNo::nth(number))
     }
 
     /// Whether it is a committed rollback.
     pub fn is_committed_rollback(&self) -> bool
-        ensures { result ≡ (is_rollback_kind (Some self.now.kind) && is_committed_verdict self.now.verdict) }
+        ensures { result ≡ (is_rollback_kind (Some self.now.kind) && is_committed_decision self.now.decision) }
     {
-        self.kind == Kind::Rollback && self.verdict == Some(true)
+        self.kind == Kind::Rollback && self.decision == Some(true)
     }
 }
 
 /// One more member of an instance that has begun, whose live history has this length. The list has the instances by
 /// number, from 1.
-pub fn enter(instances: &mut [Instance], inst: InstNo, p: ProcNo, position: usize)
-    ensures { (v : Instance) → at_number instances.old inst ≡ Some v → (w : Instance) × IsJoined instances.old instances.new inst p position v w }
+pub fn join(instances: &mut [Instance], inst: InstNo, p: ProcNo, position: usize)
+    ensures { (v : Instance) → at_number instances.old inst ≡ Some v → (w : Instance)
+        × IsJoined instances.old instances.new inst p position v w }
 {
     let index = inst.get() as usize - 1;
     if index < instances.len() {
@@ -84,17 +82,19 @@ pub fn enter(instances: &mut [Instance], inst: InstNo, p: ProcNo, position: usiz
     }
 }
 
-/// Gives an instance that has begun a verdict, and answers the instance then; None where it has not begun. The list has
+/// Gives an instance that has begun a decision, and answers the instance then; None where it has not begun. The list has
 /// the instances by number, from 1.
-pub fn judge(instances: &mut [Instance], inst: InstNo, commit: bool) -> Option<Instance>
-    ensures decided { (v : Instance) → at_number instances.old inst ≡ Some v → IsDecided instances.old instances.new inst commit v }
-    ensures instance { (v : Instance) → at_number instances.old inst ≡ Some v → result ≡ Some (record v { verdict = Some commit }) }
+pub fn decide(instances: &mut [Instance], inst: InstNo, commit: bool) -> Option<Instance>
+    ensures decided { (v : Instance) → at_number instances.old inst ≡ Some v
+        → IsDecided instances.old instances.new inst commit v }
+    ensures instance { (v : Instance) → at_number instances.old inst ≡ Some v
+        → result ≡ Some (record v { decision = Some commit }) }
     ensures none { IfNone result (at_number instances.old inst ≡ None) }
 {
     let index = inst.get() as usize - 1;
     if index >= instances.len() {
         return None;
     }
-    instances[index].verdict = Some(commit);
+    instances[index].decision = Some(commit);
     Some(instances[index])
 }

@@ -40,7 +40,7 @@ pub fn positions_of_legal_logs()
 
     // The members of an undecided instance are in it, and who is in an instance is a member.
     ensures inside { (log : List Event) → IsLegal log → (k p : ℕ) →
-        (past log).verdict k ≡ None → is_member (past log) k p ≡ true → (past log).open_in p ≡ Some k }
+        (past log).decision k ≡ None → is_member (past log) k p ≡ true → (past log).open_in p ≡ Some k }
     ensures joined { (log : List Event) → IsLegal log → (k p : ℕ) →
         (past log).open_in p ≡ Some k → is_member (past log) k p ≡ true }
 

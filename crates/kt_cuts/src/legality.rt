@@ -11,7 +11,7 @@ use thiserror::Error;
 #[derive(Clone, Copy, Debug, PartialEq, Eq, Hash, Error)]
 pub enum LegalFault {
     /// This row is the first that breaks a rule, and this the least rule that it breaks.
-    #[error("row {0} breaks a rule")]
+    #[error("row {0} breaks rule {1}")]
     Broken(RowNo, Rule),
     /// There was no memory for the tables.
     #[error("memory")]

@@ -3,11 +3,11 @@
 
 mod cut;
 mod deeds;
-pub mod grounds;
 pub mod instances;
 mod laws;
 mod legality;
 pub mod orphans;
+pub mod rule_context;
 mod rules;
 mod traces;
 mod worked;
@@ -22,6 +22,3 @@ pub use legality::{LegalFault, is_after};
 pub use rules::Rule;
 pub use traces::Trace;
 pub use worked::worked_rows;
-
-#[cfg(test)]
-mod tests;

@@ -3,7 +3,7 @@
 ghost use Rattle.std.specs.Prelude.{◌≡◌, ◌<◌, Some, None, if◌then◌else◌};
 ghost use Rattle.kt_cuts.specs.Orphans.{earlier, is_within};
 
-use kt_base::{MsgNo, ProcNo};
+use kt_base::MsgNo;
 
 /// Whether there is a place, from 1, and it is within a part of this length.
 pub fn is_within(place: Option<usize>, length: usize) -> bool
@@ -29,16 +29,5 @@ pub fn earlier(a: Option<MsgNo>, b: Option<MsgNo>) -> Option<MsgNo>
     match (a, b) {
         (None, other) | (other, None) => other,
         (Some(one), Some(other)) => Some(if one <= other { one } else { other }),
-    }
-}
-
-/// The process of this number, at most 63.
-pub fn process_no(number: u8) -> ProcNo
-    requires { number < 64 }
-    ensures { result ≡ number }
-{
-    match ProcNo::new(number) {
-        Some(p) => p,
-        None => unreachable!(),
     }
 }

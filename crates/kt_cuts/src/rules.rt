@@ -3,6 +3,8 @@
 ghost use Rattle.std.specs.Prelude.{◌≡◌};
 ghost use Rattle.kt_cuts.specs.Rules.{number_of};
 
+use std::fmt;
+
 /// The rules that each row of a legal log keeps, in the order in which they are tested.
 #[derive(Clone, Copy, Debug, PartialEq, Eq, Hash)]
 pub enum Rule {
@@ -42,5 +44,17 @@ impl Rule {
             Rule::Closing => 8,
             Rule::Causes => 9,
         }
+    }
+}
+
+impl fmt::Display for Rule {
+    ghost use Rattle.std.specs.Prelude.{Some};
+    ghost use Rattle.std.specs.Fmt.{decimal};
+    ghost use Rattle.kt_cuts.specs.Rules.{number_of};
+
+    ghost output = { λ rule. Some (decimal (number_of rule)) };
+
+    fn fmt<W: fmt::Write>(&self, f: &mut fmt::Formatter<W>) -> fmt::Result {
+        self.number().fmt(f)
     }
 }

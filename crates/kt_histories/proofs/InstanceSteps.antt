@@ -74,7 +74,7 @@ shows_failed ps ms js d b s p v h low at =
     (same_instances js s t h.of_instances refl refl refl refl) (λ q. refl) (λ m. refl) h.in_order.dropped refl refl
 
 pub shows_began : (ps : List Process) (ms : List (Option Message)) (js : List Instance) (d : List ℕ) (b : Option (ℕ × ℕ)) (s : Past) (p k : ℕ) (kind : Kind) (v : Instance)
-    → Shows ps ms js d b s → v.initiator ≡ p → v.kind ≡ kind → v.verdict ≡ None → ((q : ℕ) → has v.joined q ≡ false) → length v.positions ≡ 64
+    → Shows ps ms js d b s → v.initiator ≡ p → v.kind ≡ kind → v.decision ≡ None → ((q : ℕ) → has v.joined q ≡ false) → length v.positions ≡ 64
     → Shows ps (ms ++ None ∷ []) (js ++ v ∷ []) d (Some (p, k)) (after s (event.Began p k kind))
 shows_began ps ms js d b s p k kind v h initiator of_kind undecided empty positions =
     let t : Past = after s (event.Began p k kind) in
@@ -333,20 +333,20 @@ decides_abort ps ms js is d b s p k false h allowed no_commit decided =
 
 pub decides_checkpoint : (ps qs : List Process) (ms : List (Option Message)) (js is : List Instance) (d : List ℕ) (b : Option (ℕ × ℕ)) (s : Past) (p k : ℕ) (commit : Bool) (w : Instance)
     → Shows ps ms js d b s → IsAllowed s (event.Decided p k commit) → commit ≡ true → ((v : Instance) → at_number js k ≡ Some v → IsDecided js is k commit v)
-    → ((v : Instance) → at_number js k ≡ Some v → Some w ≡ Some (record v { verdict = Some commit })) → w.kind ≡ Checkpoint → length qs ≡ 64
+    → ((v : Instance) → at_number js k ≡ Some v → Some w ≡ Some (record v { decision = Some commit })) → w.kind ≡ Checkpoint → length qs ≡ 64
     → ((q : ℕ) (u : Process) → slice_get ps q ≡ Some u → slice_get qs q ≡ Some (promoted w q u))
     → Shows qs (ms ++ None ∷ []) is d None (after s (event.Decided p k commit))
 decides_checkpoint ps qs ms js is d b s p k false w h allowed yes_commit decided same of_kind all changed = absurd (cc)
 decides_checkpoint ps qs ms js is d b s p k true w h allowed yes_commit decided same of_kind all changed =
     let there = decided_there ps ms js d b s p k true h allowed in
     let v : Instance = there.0 in
-    let e : w ≡ record v { verdict = Some true } = some_same (same v there.1) in
+    let e : w ≡ record v { decision = Some true } = some_same (same v there.1) in
     shows_committed_checkpoint ps qs ms js is d b s p k v h (decided v there.1) (ap (λ (x : Instance). x.kind) (sym e) ∙ of_kind) all
     (λ q u a. changed q u a ∙ ap (λ (x : Instance). Some (promoted x q u)) e)
 
 pub decides_rollback : (ps qs : List Process) (ms : List (Option Message)) (js is : List Instance) (d c undone : List ℕ) (b : Option (ℕ × ℕ)) (s : Past) (p k : ℕ) (commit : Bool) (w : Instance)
     → Shows ps ms js d b s → IsAllowed s (event.Decided p k commit) → commit ≡ true → ((v : Instance) → at_number js k ≡ Some v → IsDecided js is k commit v)
-    → ((v : Instance) → at_number js k ≡ Some v → Some w ≡ Some (record v { verdict = Some commit })) → w.kind ≡ Rollback → length qs ≡ 64
+    → ((v : Instance) → at_number js k ≡ Some v → Some w ≡ Some (record v { decision = Some commit })) → w.kind ≡ Rollback → length qs ≡ 64
     → ((q : ℕ) (u : Process) → slice_get ps q ≡ Some u → slice_get qs q ≡ Some (rolled w q u))
     → ((q i m to : ℕ) (u : Process) → slice_get ps q ≡ Some u → has w.joined q ≡ true → slice_get u.history i ≡ Some (deed.Sent m to) → u.permanent ≤ i → Contains undone m)
     → ((m : ℕ) → Contains d m → Contains c m)
@@ -356,7 +356,7 @@ decides_rollback ps qs ms js is d c undone b s p k false w h allowed yes_commit 
 decides_rollback ps qs ms js is d c undone b s p k true w h allowed yes_commit decided same of_kind all changed undid kept buried =
     let there = decided_there ps ms js d b s p k true h allowed in
     let v : Instance = there.0 in
-    let e : w ≡ record v { verdict = Some true } = some_same (same v there.1) in
+    let e : w ≡ record v { decision = Some true } = some_same (same v there.1) in
     shows_committed_rollback ps qs ms js is d c undone b s p k v h (decided v there.1) (ap (λ (x : Instance). x.kind) (sym e) ∙ of_kind) all
     (λ q u a. changed q u a ∙ ap (λ (x : Instance). Some (rolled x q u)) e)
     (λ q i m to u a j sent low. undid q i m to u a (ap (λ (x : Instance). has x.joined q) e ∙ j) sent low) kept buried

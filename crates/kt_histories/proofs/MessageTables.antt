@@ -1,4 +1,4 @@
--- Marks in the table of messages, members and verdicts in the table of instances.
+-- Marks in the table of messages, members and decisions in the table of instances.
 use Rattle.std.proofs.Common.{◌≡◌, ◌≢◌, ℕ, zero, suc, ◌+◌, ◌-◌, ◌<◌, ◌≤◌, Option, Some, None, List, [], ◌∷◌, ◌++◌, ◌⊎◌, map, length, take, subst, get_or, set, refl, sym, ap, ◌∙◌, arith}
 use Rattle.std.specs.List.{Contains}
 use Rattle.std.specs.Option.{option_flatten}

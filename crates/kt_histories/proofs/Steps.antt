@@ -105,7 +105,7 @@ shows_sent ps ms js d b s p to body v m h low at number =
       };
       of_instances = record {
         begun = h.of_instances.begun;
-        verdict = h.of_instances.verdict;
+        decision = h.of_instances.decision;
         new = h.of_instances.new;
         ready = h.of_instances.ready;
         positions = h.of_instances.positions;
@@ -224,7 +224,7 @@ shows_received ps ms os js d b s p f m v h allowed low at marked others same =
       };
       of_instances = record {
         begun = h.of_instances.begun;
-        verdict = h.of_instances.verdict;
+        decision = h.of_instances.decision;
         new = h.of_instances.new;
         ready = h.of_instances.ready;
         positions = h.of_instances.positions;
@@ -313,7 +313,7 @@ shows_dropped ps ms os js d b s p f m v h allowed low low_f at marked others sam
       };
       of_instances = record {
         begun = h.of_instances.begun;
-        verdict = h.of_instances.verdict;
+        decision = h.of_instances.decision;
         new = h.of_instances.new;
         ready = h.of_instances.ready;
         positions = h.of_instances.positions;

@@ -83,7 +83,8 @@ impl Replay {
 
     // The place of a message's send in its sender's history, counted from 1.
     pub(crate) fn sent_place(&self, msg: MsgNo, message: &Message) -> Option<usize>
-        ensures { (s : Past) → ShowsPast self.now s → message_at self.now.messages.items msg ≡ Some message.now → result ≡ place_of (deed.Sent msg message.now.to) (s.live message.now.from) }
+        ensures { (s : Past) → ShowsPast self.now s → message_at self.now.messages.items msg ≡ Some message.now
+            → result ≡ place_of (deed.Sent msg message.now.to) (s.live message.now.from) }
     {
         let to = message.to;
         let process = self.process(message.from);
@@ -94,7 +95,8 @@ impl Replay {
 
     // The place of a message's receive in its receiver's history, counted from 1.
     pub(crate) fn received_place(&self, msg: MsgNo, message: &Message) -> Option<usize>
-        ensures { (s : Past) → ShowsPast self.now s → message_at self.now.messages.items msg ≡ Some message.now → result ≡ place_of (deed.Received msg message.now.from) (s.live message.now.to) }
+        ensures { (s : Past) → ShowsPast self.now s → message_at self.now.messages.items msg ≡ Some message.now
+            → result ≡ place_of (deed.Received msg message.now.from) (s.live message.now.to) }
     {
         let Some(place) = message.received else {
             return None;

@@ -9,8 +9,8 @@ ghost use Rattle.kt_cuts.specs.Tests.{is_after};
 
 use crate::replay::Replay;
 use crate::tables::Message;
-use kt_base::{MsgNo, ProcNo};
-use kt_cuts::grounds::Grounds;
+use kt_base::{MsgNo, ProcNo, RowNo};
+use kt_cuts::rule_context::RuleContext;
 use kt_cuts::{Deed, LegalFault, Rule, is_after};
 use kt_spacetime::{Event, SpaceTime};
 use std::alloc::Global;
@@ -19,12 +19,13 @@ use std::alloc::Global;
 /// that it breaks.
 pub fn legal(alloc: Global, log: &SpaceTime) -> Result<(), LegalFault>
     ensures legal { OnOk result (IsLegal log.now.rows) }
-    ensures broken { (row : ℕ) (rule : Rule) → result ≡ Err (fault.Broken row rule) → first_broken log.now.rows ≡ Some (row, rule) }
+    ensures broken { (row : ℕ) (rule : Rule) → result ≡ Err (fault.Broken row rule)
+        → first_broken log.now.rows ≡ Some (row, rule) }
 {
     let mut replay = Replay::new(alloc)?;
     for row in log.rows() {
         if let Some(rule) = replay.broken_rule(row) {
-            return Err(LegalFault::Broken(replay.next_row(), rule));
+            return Err(LegalFault::Broken(RowNo::after(replay.messages.len()), rule));
         }
         replay.add(row)?;
     }
@@ -34,7 +35,7 @@ pub fn legal(alloc: Global, log: &SpaceTime) -> Result<(), LegalFault>
 impl Replay {
     ghost use Rattle.kt_cuts.specs.Past.{Past};
     ghost use Rattle.kt_cuts.specs.Legal.{broken_rule, keeps_message, keeps_order, is_undelivered, is_latest, has_deed};
-    ghost use Rattle.kt_cuts.specs.Grounds.{ShowsGrounds};
+    ghost use Rattle.kt_cuts.specs.RuleContext.{ShowsRuleContext};
     ghost use Rattle.kt_histories.specs.Standing.{ShowsPast, message_at};
     ghost use Rattle.kt_cuts.specs.declared.deeds.Deed.TheVariants as deed;
 
@@ -44,16 +45,16 @@ impl Replay {
     {
         let message_kept = self.keeps_message(row);
         let order_kept = self.keeps_order(row);
-        let grounds = self.grounds(row.process());
-        grounds.broken_rule(row, message_kept, order_kept)
+        let rule_context = self.rule_context(row.process());
+        rule_context.broken_rule(row, message_kept, order_kept)
     }
 
     // What the rules ask of the instances and of this process.
-    fn grounds(&self, p: ProcNo) -> Grounds<'_>
-        ensures { (s : Past) → ShowsPast self.now s → ShowsGrounds result s p }
+    fn rule_context(&self, p: ProcNo) -> RuleContext<'_>
+        ensures { (s : Past) → ShowsPast self.now s → ShowsRuleContext result s p }
     {
         let process = self.process(p);
-        Grounds {
+        RuleContext {
             instances: self.instances.as_slice(),
             beginning: self.beginning,
             open_in: process.open_in,
@@ -75,7 +76,8 @@ impl Replay {
 
     // Whether the message's send is in its sender's history.
     fn is_live(&self, msg: MsgNo, message: &Message) -> bool
-        ensures { (s : Past) → ShowsPast self.now s → message_at self.now.messages.items msg ≡ Some message.now → result ≡ has_deed (deed.Sent msg message.now.to) (s.live message.now.from) }
+        ensures { (s : Past) → ShowsPast self.now s → message_at self.now.messages.items msg ≡ Some message.now
+            → result ≡ has_deed (deed.Sent msg message.now.to) (s.live message.now.from) }
     {
         let to = message.to;
         let process = self.process(message.from);
@@ -86,7 +88,8 @@ impl Replay {
 
     // Whether the message's receive is in its receiver's history.
     fn is_received(&self, msg: MsgNo, message: &Message) -> bool
-        ensures { (s : Past) → ShowsPast self.now s → message_at self.now.messages.items msg ≡ Some message.now → result ≡ has_deed (deed.Received msg message.now.from) (s.live message.now.to) }
+        ensures { (s : Past) → ShowsPast self.now s → message_at self.now.messages.items msg ≡ Some message.now
+            → result ≡ has_deed (deed.Received msg message.now.from) (s.live message.now.to) }
     {
         let Some(place) = message.received else {
             return false;

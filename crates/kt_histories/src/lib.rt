@@ -13,6 +13,3 @@ mod tables;
 
 pub use histories::Histories;
 pub use legality::legal;
-
-#[cfg(test)]
-mod tests;

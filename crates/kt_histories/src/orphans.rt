@@ -12,7 +12,7 @@ use crate::histories::Histories;
 use crate::replay::Replay;
 use kt_base::{MsgNo, ProcNo};
 use kt_cuts::Cut;
-use kt_cuts::orphans::{earlier, if_wanted, is_within, process_no};
+use kt_cuts::orphans::{earlier, if_wanted, is_within};
 
 impl Histories {
     ghost use Rattle.kt_histories.specs.HistoriesOf.{HistoriesOf};
@@ -20,9 +20,12 @@ impl Histories {
     /// The least orphan of a cut: a message that is received within its receiver's part and not sent within its
     /// sender's. No part is longer than the history.
     pub fn first_orphan(&self, cut: &Cut) -> Option<MsgNo>
-        ensures none { IfNone result ((rows : List Event) (msg : ℕ) → HistoriesOf self.now rows → IsOrphan (past rows) (slice_index cut.now) msg → ⊥) }
-        ensures orphan { IfSome result (λ msg. (rows : List Event) → HistoriesOf self.now rows → IsOrphan (past rows) (slice_index cut.now) msg) }
-        ensures least { IfSome result (λ msg. (rows : List Event) (other : ℕ) → HistoriesOf self.now rows → IsOrphan (past rows) (slice_index cut.now) other → msg ≤ other) }
+        ensures none { IfNone result ((rows : List Event) (msg : ℕ) → HistoriesOf self.now rows
+            → IsOrphan (past rows) (slice_index cut.now) msg → ⊥) }
+        ensures orphan { IfSome result (λ msg. (rows : List Event) → HistoriesOf self.now rows
+            → IsOrphan (past rows) (slice_index cut.now) msg) }
+        ensures least { IfSome result (λ msg. (rows : List Event) (other : ℕ) → HistoriesOf self.now rows
+            → IsOrphan (past rows) (slice_index cut.now) other → msg ≤ other) }
     {
         self.replay.first_orphan(cut)
     }
@@ -32,20 +35,24 @@ impl Replay {
     ghost use Rattle.kt_histories.specs.Standing.{ShowsPast};
 
     fn first_orphan(&self, cut: &Cut) -> Option<MsgNo>
-        ensures orphan { IfSome result (λ msg. (s : Past) → ShowsPast self.now s → (p : ℕ) × (q : ℕ) × IsOrphanBetween s (slice_index cut.now) p q msg) }
-        ensures least { (s : Past) (p q msg : ℕ) → ShowsPast self.now s → IsOrphanBetween s (slice_index cut.now) p q msg → IsAtMost result msg }
+        ensures orphan { IfSome result (λ msg. (s : Past) → ShowsPast self.now s → (p : ℕ) × (q : ℕ)
+            × IsOrphanBetween s (slice_index cut.now) p q msg) }
+        ensures least { (s : Past) (p q msg : ℕ) → ShowsPast self.now s
+            → IsOrphanBetween s (slice_index cut.now) p q msg → IsAtMost result msg }
     {
         let mut least = self.first_dead(cut);
         for number in 0..ProcNo::COUNT {
-            least = earlier(least, self.first_of_receiver(cut, process_no(number)));
+            least = earlier(least, self.first_of_receiver(cut, ProcNo::nth(number)));
         }
         least
     }
 
     // The least orphan of those that were undone.
     fn first_dead(&self, cut: &Cut) -> Option<MsgNo>
-        ensures orphan { IfSome result (λ msg. (s : Past) → ShowsPast self.now s → (p : ℕ) × (q : ℕ) × IsOrphanBetween s (slice_index cut.now) p q msg) }
-        ensures least { (s : Past) (p q msg : ℕ) → ShowsPast self.now s → Contains self.now.dead msg → IsOrphanBetween s (slice_index cut.now) p q msg → IsAtMost result msg }
+        ensures orphan { IfSome result (λ msg. (s : Past) → ShowsPast self.now s → (p : ℕ) × (q : ℕ)
+            × IsOrphanBetween s (slice_index cut.now) p q msg) }
+        ensures least { (s : Past) (p q msg : ℕ) → ShowsPast self.now s → Contains self.now.dead msg
+            → IsOrphanBetween s (slice_index cut.now) p q msg → IsAtMost result msg }
     {
         let mut least = None;
         for msg in self.dead.numbers() {
@@ -56,20 +63,26 @@ impl Replay {
 
     // The least orphan that a process received and whose send is live.
     fn first_of_receiver(&self, cut: &Cut, p: ProcNo) -> Option<MsgNo>
-        ensures orphan { IfSome result (λ msg. (s : Past) → ShowsPast self.now s → (q : ℕ) × IsOrphanBetween s (slice_index cut.now) p q msg) }
-        ensures least { (s : Past) (q msg : ℕ) → ShowsPast self.now s → IsOrphanBetween s (slice_index cut.now) p q msg → has_deed (deed.Sent msg p) (s.live q) ≡ true → IsAtMost result msg }
+        ensures orphan { IfSome result (λ msg. (s : Past) → ShowsPast self.now s → (q : ℕ)
+            × IsOrphanBetween s (slice_index cut.now) p q msg) }
+        ensures least { (s : Past) (q msg : ℕ) → ShowsPast self.now s
+            → IsOrphanBetween s (slice_index cut.now) p q msg → has_deed (deed.Sent msg p) (s.live q) ≡ true
+            → IsAtMost result msg }
     {
         let mut least = None;
         for number in 0..ProcNo::COUNT {
-            least = earlier(least, self.first_between(cut, p, process_no(number)));
+            least = earlier(least, self.first_between(cut, p, ProcNo::nth(number)));
         }
         least
     }
 
     // The least orphan that a process received from a sender and whose send is live.
     fn first_between(&self, cut: &Cut, p: ProcNo, q: ProcNo) -> Option<MsgNo>
-        ensures orphan { IfSome result (λ msg. (s : Past) → ShowsPast self.now s → IsOrphanBetween s (slice_index cut.now) p q msg) }
-        ensures least { (s : Past) (msg : ℕ) → ShowsPast self.now s → IsOrphanBetween s (slice_index cut.now) p q msg → has_deed (deed.Sent msg p) (s.live q) ≡ true → IsAtMost result msg }
+        ensures orphan { IfSome result (λ msg. (s : Past) → ShowsPast self.now s
+            → IsOrphanBetween s (slice_index cut.now) p q msg) }
+        ensures least { (s : Past) (msg : ℕ) → ShowsPast self.now s
+            → IsOrphanBetween s (slice_index cut.now) p q msg → has_deed (deed.Sent msg p) (s.live q) ≡ true
+            → IsAtMost result msg }
     {
         let sender = self.process(q);
         let receiver = self.process(p);
@@ -88,7 +101,8 @@ impl Replay {
 
     // Whether a message stands in the part of its receiver.
     fn is_received_within(&self, cut: &Cut, p: ProcNo, msg: MsgNo) -> bool
-        ensures { (s : Past) (q i : ℕ) → ShowsPast self.now s → slice_get (s.live p) i ≡ Some (deed.Received msg q) → (IsTrue result ↔ (i < slice_index cut.now p)) }
+        ensures { (s : Past) (q i : ℕ) → ShowsPast self.now s → slice_get (s.live p) i ≡ Some (deed.Received msg q)
+            → (IsTrue result ↔ (i < slice_index cut.now p)) }
     {
         let Some(message) = self.message(msg) else {
             return false;
@@ -101,7 +115,8 @@ impl Replay {
 
     // Whether a message is an orphan.
     fn is_orphan(&self, cut: &Cut, msg: MsgNo) -> bool
-        ensures { (s : Past) → ShowsPast self.now s → (IsTrue result ↔ ((p : ℕ) × (q : ℕ) × IsOrphanBetween s (slice_index cut.now) p q msg)) }
+        ensures { (s : Past) → ShowsPast self.now s → (IsTrue result
+            ↔ ((p : ℕ) × (q : ℕ) × IsOrphanBetween s (slice_index cut.now) p q msg)) }
     {
         let Some(message) = self.message(msg) else {
             return false;

@@ -25,7 +25,8 @@ pub(crate) struct Process {
 impl Process {
     /// A process before the first row.
     pub(crate) fn new(alloc: Global) -> Result<Process, Memory>
-        ensures { IfOk result (λ p. (p.history ≡ []) × (p.permanent ≡ 0) × (p.open_in ≡ None) × (p.up ≡ true) × (p.last_dropped ≡ replicate 64 None)) }
+        ensures { IfOk result (λ p. (p.history ≡ []) × (p.permanent ≡ 0) × (p.open_in ≡ None) × (p.up ≡ true)
+            × (p.last_dropped ≡ replicate 64 None)) }
     {
         let history = History::new(alloc)?;
         Ok(Process {
@@ -63,7 +64,8 @@ impl Process {
     /// Cuts the history back to the permanent position, and adds the sends that this undoes to a list.
     pub(crate) fn cut_back(&mut self, undone: &mut Messages) -> Result<(), Memory>
         ensures process { OnOk result (self.new ≡ record self.old { history = take self.old.permanent self.old.history }) }
-        ensures undone { OnOk result ((i m to : ℕ) → slice_get self.old.history i ≡ Some (deed.Sent m to) → self.old.permanent ≤ i → Contains undone.new m) }
+        ensures undone { OnOk result ((i m to : ℕ) → slice_get self.old.history i ≡ Some (deed.Sent m to)
+            → self.old.permanent ≤ i → Contains undone.new m) }
         ensures kept { OnOk result ((m : ℕ) → Contains undone.old m → Contains undone.new m) }
     {
         while self.history.len() > self.permanent {
@@ -88,7 +90,7 @@ fn add_sent(list: &mut Messages, last: &Deed) -> Result<(), Memory>
 }
 
 /// The 64 processes before the first row.
-pub(crate) fn opening_processes(alloc: Global) -> Result<Vec<Process>, Memory>
+pub(crate) fn initial_processes(alloc: Global) -> Result<Vec<Process>, Memory>
     ensures { IfOk result (λ ps. ShowsProcesses ps.items start) }
 {
     let mut processes = Vec::new(alloc);

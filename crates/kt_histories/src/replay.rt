@@ -5,10 +5,12 @@ ghost use Rattle.std.specs.Option.{option_copied};
 ghost use Rattle.kt_spacetime.specs.declared.event.Event.TheVariants as event;
 
 use crate::messages::Messages;
-use crate::process::{Process, opening_processes};
-use crate::tables::{Message, bury, make_permanent, mark_dropped, mark_received, roll_back};
-use kt_base::{InstNo, Kind, Memory, MsgNo, ProcNo, ProcSet, RowNo};
-use kt_cuts::instances::{Instance, enter, judge};
+use crate::process::{Process, initial_processes};
+use crate::tables::{
+    Message, add_undone_received, make_permanent, mark_dropped, mark_received, roll_back,
+};
+use kt_base::{InstNo, Kind, Memory, MsgNo, ProcNo, ProcSet};
+use kt_cuts::instances::{Instance, decide, join};
 use kt_spacetime::Event;
 use std::alloc::Global;
 
@@ -36,7 +38,7 @@ impl Replay {
     pub(crate) fn new(alloc: Global) -> Result<Replay, Memory>
         ensures { IfOk result (λ r. StandsFor r []) }
     {
-        let processes = opening_processes(alloc)?;
+        let processes = initial_processes(alloc)?;
         Ok(Replay {
             alloc,
             processes,
@@ -50,13 +52,14 @@ impl Replay {
     /// One more row.
     pub(crate) fn add(&mut self, row: &Event) -> Result<(), Memory>
         requires { vec_len self.old.messages < 2 ^ 24 }
-        ensures shows { OnOk result ((s : Past) → ShowsPast self.old s → IsAllowed s row.now → ShowsPast self.new (after s row.now)) }
+        ensures shows { OnOk result ((s : Past) → ShowsPast self.old s → IsAllowed s row.now
+            → ShowsPast self.new (after s row.now)) }
         ensures parties { OnOk result (parties_shown self.new ≡ parties_shown self.old ++ parties_of_row row.now ∷ []) }
     {
         match *row {
             Event::Sent { p, to, .. } => self.send(p, to),
             Event::Received { p, from, msg } => self.receive(p, from, msg),
-            Event::Dropped { p, from, msg } => self.lose(p, from, msg),
+            Event::Dropped { p, from, msg } => self.drop_message(p, from, msg),
             Event::Began { p, inst, kind } => self.begin(p, inst, kind),
             Event::Took { p, inst } => self.join(p, inst),
             Event::Ready { p, inst } => self.join(p, inst),
@@ -64,11 +67,11 @@ impl Replay {
             Event::Closed { p, inst } => self.close(p, inst),
             Event::Failed { p } => self.fail(p),
             Event::Unwilling { .. } => {
-                self.pass()?;
+                self.count_row()?;
                 Ok(())
             }
             Event::Refused { .. } => {
-                self.pass()?;
+                self.count_row()?;
                 Ok(())
             }
         }
@@ -105,34 +108,13 @@ impl Replay {
         }
     }
 
-    /// The number of the next row.
-    pub(crate) fn next_row(&self) -> RowNo
-        requires { vec_len self.now.messages < 2 ^ 24 }
-        ensures { result ≡ length self.now.messages.items + 1 }
-    {
-        match RowNo::new(self.messages.len() as u32 + 1) {
-            Some(row) => row,
-            None => unreachable!(),
-        }
-    }
-
-    // The number of the next row, as that of a message.
-    fn next_message(&self) -> MsgNo
-        requires { vec_len self.now.messages < 2 ^ 24 }
-        ensures { result ≡ length self.now.messages.items + 1 }
-    {
-        match MsgNo::new(self.messages.len() as u32 + 1) {
-            Some(msg) => msg,
-            None => unreachable!(),
-        }
-    }
-
     fn send(&mut self, p: ProcNo, to: ProcNo) -> Result<(), Memory>
         requires { vec_len self.old.messages < 2 ^ 24 }
-        ensures shows { OnOk result ((s : Past) (body : _) → ShowsPast self.old s → IsAllowed s (event.Sent p to body) → ShowsPast self.new (after s (event.Sent p to body))) }
+        ensures shows { OnOk result ((s : Past) (body : _) → ShowsPast self.old s
+            → IsAllowed s (event.Sent p to body) → ShowsPast self.new (after s (event.Sent p to body))) }
         ensures parties { OnOk result (parties_shown self.new ≡ parties_shown self.old ++ Some (p, to) ∷ []) }
     {
-        let msg = self.next_message();
+        let msg = MsgNo::after(self.messages.len());
         let process = &mut self.processes[p.get() as usize];
         let sent = process.history.len();
         process.history.send(msg, to)?;
@@ -148,107 +130,116 @@ impl Replay {
     }
 
     fn receive(&mut self, p: ProcNo, from: ProcNo, msg: MsgNo) -> Result<(), Memory>
-        ensures shows { OnOk result ((s : Past) → ShowsPast self.old s → IsAllowed s (event.Received p from msg) → ShowsPast self.new (after s (event.Received p from msg))) }
+        ensures shows { OnOk result ((s : Past) → ShowsPast self.old s → IsAllowed s (event.Received p from msg)
+            → ShowsPast self.new (after s (event.Received p from msg))) }
         ensures parties { OnOk result (parties_shown self.new ≡ parties_shown self.old ++ None ∷ []) }
     {
         let process = &mut self.processes[p.get() as usize];
         let place = process.history.len();
         process.history.receive(msg, from)?;
         mark_received(&mut self.messages, msg, place);
-        self.pass()?;
+        self.count_row()?;
         Ok(())
     }
 
-    fn lose(&mut self, p: ProcNo, from: ProcNo, msg: MsgNo) -> Result<(), Memory>
-        ensures shows { OnOk result ((s : Past) → ShowsPast self.old s → IsAllowed s (event.Dropped p from msg) → ShowsPast self.new (after s (event.Dropped p from msg))) }
+    fn drop_message(&mut self, p: ProcNo, from: ProcNo, msg: MsgNo) -> Result<(), Memory>
+        ensures shows { OnOk result ((s : Past) → ShowsPast self.old s → IsAllowed s (event.Dropped p from msg)
+            → ShowsPast self.new (after s (event.Dropped p from msg))) }
         ensures parties { OnOk result (parties_shown self.new ≡ parties_shown self.old ++ None ∷ []) }
     {
         let process = &mut self.processes[p.get() as usize];
         process.last_dropped[from.get() as usize] = Some(msg);
         mark_dropped(&mut self.messages, msg);
-        self.pass()?;
+        self.count_row()?;
         Ok(())
     }
 
     fn begin(&mut self, p: ProcNo, inst: InstNo, kind: Kind) -> Result<(), Memory>
-        ensures shows { OnOk result ((s : Past) → ShowsPast self.old s → IsAllowed s (event.Began p inst kind) → ShowsPast self.new (after s (event.Began p inst kind))) }
+        ensures shows { OnOk result ((s : Past) → ShowsPast self.old s → IsAllowed s (event.Began p inst kind)
+            → ShowsPast self.new (after s (event.Began p inst kind))) }
         ensures parties { OnOk result (parties_shown self.new ≡ parties_shown self.old ++ None ∷ []) }
     {
         self.instances.push(Instance {
             initiator: p,
             kind,
-            verdict: None,
+            decision: None,
             joined: ProcSet::empty(),
             positions: [0; 64],
         })?;
-        self.pass()?;
+        self.count_row()?;
         self.beginning = Some((p, inst));
         Ok(())
     }
 
     fn join(&mut self, p: ProcNo, inst: InstNo) -> Result<(), Memory>
-        ensures took { OnOk result ((s : Past) → ShowsPast self.old s → IsAllowed s (event.Took p inst) → ShowsPast self.new (after s (event.Took p inst))) }
-        ensures ready { OnOk result ((s : Past) → ShowsPast self.old s → IsAllowed s (event.Ready p inst) → ShowsPast self.new (after s (event.Ready p inst))) }
+        ensures took { OnOk result ((s : Past) → ShowsPast self.old s → IsAllowed s (event.Took p inst)
+            → ShowsPast self.new (after s (event.Took p inst))) }
+        ensures ready { OnOk result ((s : Past) → ShowsPast self.old s → IsAllowed s (event.Ready p inst)
+            → ShowsPast self.new (after s (event.Ready p inst))) }
         ensures parties { OnOk result (parties_shown self.new ≡ parties_shown self.old ++ None ∷ []) }
     {
         let process = &mut self.processes[p.get() as usize];
         let position = process.history.len();
         process.open_in = Some(inst);
-        enter(&mut self.instances, inst, p, position);
-        self.pass()?;
+        join(&mut self.instances, inst, p, position);
+        self.count_row()?;
         Ok(())
     }
 
     fn decide(&mut self, inst: InstNo, commit: bool) -> Result<(), Memory>
-        ensures shows { OnOk result ((s : Past) (p : ℕ) → ShowsPast self.old s → IsAllowed s (event.Decided p inst commit) → ShowsPast self.new (after s (event.Decided p inst commit))) }
+        ensures shows { OnOk result ((s : Past) (p : ℕ) → ShowsPast self.old s
+            → IsAllowed s (event.Decided p inst commit)
+            → ShowsPast self.new (after s (event.Decided p inst commit))) }
         ensures parties { OnOk result (parties_shown self.new ≡ parties_shown self.old ++ None ∷ []) }
     {
-        let Some(instance) = judge(&mut self.instances, inst, commit) else {
-            return self.pass();
+        let Some(instance) = decide(&mut self.instances, inst, commit) else {
+            return self.count_row();
         };
         if !commit {
-            self.pass()?;
+            self.count_row()?;
             return Ok(());
         }
         match instance.kind {
             Kind::Checkpoint => {
                 make_permanent(&mut self.processes, &instance);
-                self.pass()?;
+                self.count_row()?;
                 Ok(())
             }
             Kind::Rollback => {
                 let mut undone = Messages::new(self.alloc);
                 roll_back(&mut self.processes, &instance, &mut undone)?;
-                bury(&mut self.dead, &undone, &self.processes, &self.messages)?;
-                self.pass()?;
+                add_undone_received(&mut self.dead, &undone, &self.processes, &self.messages)?;
+                self.count_row()?;
                 Ok(())
             }
         }
     }
 
     fn close(&mut self, p: ProcNo, inst: InstNo) -> Result<(), Memory>
-        ensures shows { OnOk result ((s : Past) → ShowsPast self.old s → IsAllowed s (event.Closed p inst) → ShowsPast self.new (after s (event.Closed p inst))) }
+        ensures shows { OnOk result ((s : Past) → ShowsPast self.old s → IsAllowed s (event.Closed p inst)
+            → ShowsPast self.new (after s (event.Closed p inst))) }
         ensures parties { OnOk result (parties_shown self.new ≡ parties_shown self.old ++ None ∷ []) }
     {
         let was_rolled_back = self.was_rolled_back(inst);
         let process = &mut self.processes[p.get() as usize];
         process.close(was_rolled_back);
-        self.pass()?;
+        self.count_row()?;
         Ok(())
     }
 
     fn fail(&mut self, p: ProcNo) -> Result<(), Memory>
-        ensures shows { OnOk result ((s : Past) → ShowsPast self.old s → IsAllowed s (event.Failed p) → ShowsPast self.new (after s (event.Failed p))) }
+        ensures shows { OnOk result ((s : Past) → ShowsPast self.old s → IsAllowed s (event.Failed p)
+            → ShowsPast self.new (after s (event.Failed p))) }
         ensures parties { OnOk result (parties_shown self.new ≡ parties_shown self.old ++ None ∷ []) }
     {
         let process = &mut self.processes[p.get() as usize];
         process.up = false;
-        self.pass()?;
+        self.count_row()?;
         Ok(())
     }
 
     // A row that neither sends a message nor begins an instance.
-    fn pass(&mut self) -> Result<(), Memory>
+    fn count_row(&mut self) -> Result<(), Memory>
         ensures processes { OnOk result (self.new.processes ≡ self.old.processes) }
         ensures messages { OnOk result (self.new.messages.items ≡ self.old.messages.items ++ None ∷ []) }
         ensures instances { OnOk result (self.new.instances ≡ self.old.instances) }

@@ -74,7 +74,8 @@ fn dropped(message: Option<Message>) -> Option<Message>
 pub(crate) fn make_permanent(processes: &mut [Process], instance: &Instance)
     requires { length processes.old ≡ 64 }
     ensures all { length processes.new ≡ 64 }
-    ensures each { (q : ℕ) (v : Process) → slice_get processes.old q ≡ Some v → slice_get processes.new q ≡ Some (promoted instance.now q v) }
+    ensures each { (q : ℕ) (v : Process) → slice_get processes.old q ≡ Some v
+        → slice_get processes.new q ≡ Some (promoted instance.now q v) }
 {
     for number in 0..ProcNo::COUNT {
         if instance.has_joined(number) {
@@ -91,8 +92,11 @@ pub(crate) fn roll_back(
 ) -> Result<(), Memory>
     requires { length processes.old ≡ 64 }
     ensures all { length processes.new ≡ 64 }
-    ensures each { OnOk result ((q : ℕ) (v : Process) → slice_get processes.old q ≡ Some v → slice_get processes.new q ≡ Some (rolled instance.now q v)) }
-    ensures undone { OnOk result ((q i m to : ℕ) (v : Process) → slice_get processes.old q ≡ Some v → has instance.now.joined q ≡ true → slice_get v.history i ≡ Some (deed.Sent m to) → v.permanent ≤ i → Contains undone.new m) }
+    ensures each { OnOk result ((q : ℕ) (v : Process) → slice_get processes.old q ≡ Some v
+        → slice_get processes.new q ≡ Some (rolled instance.now q v)) }
+    ensures undone { OnOk result ((q i m to : ℕ) (v : Process) → slice_get processes.old q ≡ Some v
+        → has instance.now.joined q ≡ true → slice_get v.history i ≡ Some (deed.Sent m to) → v.permanent ≤ i
+        → Contains undone.new m) }
 {
     for number in 0..ProcNo::COUNT {
         let is_member = instance.has_joined(number);
@@ -104,7 +108,9 @@ pub(crate) fn roll_back(
 // Cuts a member's history back.
 fn cut_back_if(is_member: bool, process: &mut Process, undone: &mut Messages) -> Result<(), Memory>
     ensures process { OnOk result (process.new ≡ (if is_member then record process.old { history = take process.old.permanent process.old.history } else process.old)) }
-    ensures undone { OnOk result ((i m to : ℕ) → is_member ≡ true → slice_get process.old.history i ≡ Some (deed.Sent m to) → process.old.permanent ≤ i → Contains undone.new m) }
+    ensures undone { OnOk result ((i m to : ℕ) → is_member ≡ true
+        → slice_get process.old.history i ≡ Some (deed.Sent m to) → process.old.permanent ≤ i
+        → Contains undone.new m) }
     ensures kept { OnOk result ((m : ℕ) → Contains undone.old m → Contains undone.new m) }
 {
     if is_member {
@@ -131,7 +137,9 @@ pub(crate) fn received_place(
     msg: MsgNo,
 ) -> Option<usize>
     requires { length processes.now ≡ 64 }
-    ensures there { (p i q : ℕ) (v : Process) → receiving (message_at messages.now msg) ≡ Some (p, q, Some i) → slice_get processes.now p ≡ Some v → slice_get v.history i ≡ Some (deed.Received msg q) → result ≡ Some i }
+    ensures there { (p i q : ℕ) (v : Process) → receiving (message_at messages.now msg) ≡ Some (p, q, Some i)
+        → slice_get processes.now p ≡ Some v → slice_get v.history i ≡ Some (deed.Received msg q)
+        → result ≡ Some i }
 {
     let message = (*messages.get(msg.get() as usize - 1)?)?;
     let place = message.received?;
@@ -145,7 +153,7 @@ pub(crate) fn received_place(
 }
 
 /// Adds what of a list of undone messages still stands in its receiver's history to the dead ones.
-pub(crate) fn bury(
+pub(crate) fn add_undone_received(
     dead: &mut Messages,
     undone: &Messages,
     processes: &[Process],
@@ -153,7 +161,9 @@ pub(crate) fn bury(
 ) -> Result<(), Memory>
     requires { length processes.now ≡ 64 }
     ensures kept { OnOk result ((m : ℕ) → Contains dead.old m → Contains dead.new m) }
-    ensures buried { OnOk result ((p i m q : ℕ) (v : Process) → Contains undone.now m → receiving (message_at messages.now m) ≡ Some (p, q, Some i) → slice_get processes.now p ≡ Some v → slice_get v.history i ≡ Some (deed.Received m q) → Contains dead.new m) }
+    ensures buried { OnOk result ((p i m q : ℕ) (v : Process) → Contains undone.now m
+        → receiving (message_at messages.now m) ≡ Some (p, q, Some i) → slice_get processes.now p ≡ Some v
+        → slice_get v.history i ≡ Some (deed.Received m q) → Contains dead.new m) }
 {
     for msg in undone.numbers() {
         let is_received = received_place(processes, messages, *msg).is_some();

@@ -12,7 +12,7 @@ use Rattle.kt_log_text.specs.declared.rows.RowWord.{RowWord}
 use Rattle.kt_log_text.specs.declared.rows.RowWord.TheVariants as row
 use Rattle.kt_log_text.specs.Slot.{Slot}
 use Rattle.kt_log_text.specs.Slot as slot
-use Rattle.kt_log_text.specs.Spelling.{spelling, most_rows, IsFirstMisfit, IsFaultAfter, IsFieldFault}
+use Rattle.kt_log_text.specs.Spelling.{spelling, max_rows, IsFirstMisfit, IsFaultAfter, IsFieldFault}
 use Rattle.kt_log_text.specs.Texts.{AreInFormat, IsRowFault, IsFirstFault, IsOfText}
 use Rattle.kt_log_text.proofs.SpellingFacts.{one_word}
 use Rattle.kt_text.proofs.FieldFacts.{Records, first_and_rest, field_1, field_2, field_3, field_4}
@@ -38,7 +38,7 @@ one_after format row.Began a b c f g p q = one_misfit format slot.process slot.i
 one_after format row.Took a b c f g p q = one_misfit format slot.process slot.instance slot.nothing a b c f g p q
 one_after format row.Ready a b c f g p q = one_misfit format slot.process slot.instance slot.nothing a b c f g p q
 one_after format row.Unwilling a b c f g p q = one_misfit format slot.process slot.instance slot.cause a b c f g p q
-one_after format row.Decided a b c f g p q = one_misfit format slot.process slot.instance slot.verdict a b c f g p q
+one_after format row.Decided a b c f g p q = one_misfit format slot.process slot.instance slot.decision a b c f g p q
 one_after format row.Closed a b c f g p q = one_misfit format slot.process slot.instance slot.nothing a b c f g p q
 one_after format row.Failed a b c f g p q = one_misfit format slot.process slot.nothing slot.nothing a b c f g p q
 one_after format row.Refused a b c f g p q = one_misfit format slot.process slot.verb slot.cause a b c f g p q
@@ -101,7 +101,7 @@ same_left (x ∷ xs) (y ∷ ys) left rest n e =
 
 -- a text has one first row that is wrong
 one_wrong_row : (format : Format) (before others : List Event) (left rest : Records) (f g : LogFault) → map spelling before ++ left ≡ map spelling others ++ rest
-    → AreInFormat format before → length before ≤ most_rows format → AreInFormat format others → length others ≤ most_rows format
+    → AreInFormat format before → length before ≤ max_rows format → AreInFormat format others → length others ≤ max_rows format
     → IsRowFault format (length before) left f → IsRowFault format (length others) rest g → f ≡ g
 one_wrong_row format before others left rest f g e m few n fewer p q =
     elim (cases_lt (length before) (length others)) [

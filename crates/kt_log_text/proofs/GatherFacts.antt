@@ -10,7 +10,7 @@ use Rattle.kt_log_text.specs.declared.fault.LogFault.TheVariants.{Memory}
 use Rattle.kt_log_text.specs.declared.rows.Format.{Format}
 use Rattle.kt_log_text.specs.declared.rows.Format.TheVariants.{One, Two}
 use Rattle.kt_spacetime.specs.Events.{IsInRange}
-use Rattle.kt_log_text.specs.Spelling.{spelling, most_rows, IsInFormat}
+use Rattle.kt_log_text.specs.Spelling.{spelling, max_rows, IsInFormat}
 use Rattle.kt_log_text.specs.Texts.{IsTextOf, IsFaultFrom, IsEndedFrom, IsAfterRows, AreInFormat, IsLogText, IsFirstFault}
 use Rattle.kt_log_text.specs.Reading.{RowsRead, TakesRow, GivesRow, MeetsEnd, MeetsFault, Steps, rows_unread}
 use Rattle.kt_log_text.specs.Progress.{Begins, Gathers}
@@ -21,7 +21,7 @@ Known = Option (List (List (List ℕ)))
 all_none : (P : Event → Type 0) → All P []
 all_none P = λ k d h. absurd (omega (arith, h))
 
-pub most_rows_le : (format : Format) → most_rows format ≤ 2 ^ 24
+pub most_rows_le : (format : Format) → max_rows format ≤ 2 ^ 24
 most_rows_le One = omega arith
 most_rows_le Two = omega arith
 
@@ -36,7 +36,7 @@ numbers_more format rows row numbers range inside = record {
 }
 
 begins_more : (text left rest : Known) (known : Option Format) (format : Format) (rows : List Event) (row : Event) → Begins text left known rows → TakesRow known format left rest row
-    → IsInRange row → IsInFormat format row → length rows < most_rows format → Begins text rest (Some format) (rows ++ row ∷ [])
+    → IsInRange row → IsInFormat format row → length rows < max_rows format → Begins text rest (Some format) (rows ++ row ∷ [])
 begins_more None left rest known format rows row b t range inside few = tt
 begins_more (Some text) None rest known format rows row b t range inside few = absurd b
 begins_more (Some text) (Some left) None known format rows row b t range inside few = absurd t

@@ -22,7 +22,7 @@ use Rattle.kt_log_text.specs.declared.rows.RowWord.TheVariants as row
 use Rattle.kt_log_text.specs.Slot.{Slot}
 use Rattle.kt_log_text.specs.Slot as slot
 use Rattle.kt_spacetime.specs.Events.{IsInRange, IsCauseInRange}
-use Rattle.kt_text.specs.Words.{kind_word, verdict_word}
+use Rattle.kt_text.specs.Words.{kind_word, decision_word}
 use Rattle.kt_text.proofs.FieldFacts.{field_1, field_2, field_3, field_4}
 use Rattle.kt_log_text.specs.Spelling.{spelling, row_word, verb_word, cause_word, IsInFormat, Fits, IsFirstMisfit, IsFaultAfter, IsFieldFault}
 
@@ -104,7 +104,7 @@ small (negsuc n) f = search (rules, f)
 one_body : (y z : ℤ) → FitsSigned w64 y → FitsSigned w64 z → signed_decimal y ≡ signed_decimal z → y ≡ z
 one_body y z r s e = signed_decimal_injective y z (small y r) (small z s) e
 
--- a text is one kind, one verdict, one verb, one cause
+-- a text is one kind, one decision, one verb, one cause
 abbrev kind_in : List ℕ → Kind
 kind_in text = if bytes_eq text (codes "checkpoint") then Checkpoint else Rollback
 
@@ -115,15 +115,15 @@ kind_back Rollback = refl
 one_kind : (k l : Kind) → kind_word k ≡ kind_word l → k ≡ l
 one_kind k l e = sym (kind_back k) ∙ ap kind_in e ∙ kind_back l
 
-abbrev verdict_in : List ℕ → Bool
-verdict_in text = bytes_eq text (codes "commit")
+abbrev decision_in : List ℕ → Bool
+decision_in text = bytes_eq text (codes "commit")
 
-verdict_back : (commit : Bool) → verdict_in (verdict_word commit) ≡ commit
-verdict_back true = refl
-verdict_back false = refl
+decision_back : (commit : Bool) → decision_in (decision_word commit) ≡ commit
+decision_back true = refl
+decision_back false = refl
 
-one_verdict : (a b : Bool) → verdict_word a ≡ verdict_word b → a ≡ b
-one_verdict a b e = sym (verdict_back a) ∙ ap verdict_in e ∙ verdict_back b
+one_decision : (a b : Bool) → decision_word a ≡ decision_word b → a ≡ b
+one_decision a b e = sym (decision_back a) ∙ ap decision_in e ∙ decision_back b
 
 abbrev verb_in : List ℕ → Verb
 verb_in text =
@@ -175,7 +175,7 @@ one_row (Ready p inst) (Ready q i) r s e = cc (one_process p q r.0 s.0 (ap field
 one_row (Unwilling p inst cause) (Unwilling q i other) r s e =
     cc (one_process p q r.0 s.0 (ap field_2 e), one_instance inst i r.1 s.1 (ap field_3 e), one_cause cause other r.2 s.2 (ap field_4 e))
 one_row (Decided p inst commit) (Decided q i other) r s e =
-    cc (one_process p q r.0 s.0 (ap field_2 e), one_instance inst i r.1 s.1 (ap field_3 e), one_verdict commit other (ap field_4 e))
+    cc (one_process p q r.0 s.0 (ap field_2 e), one_instance inst i r.1 s.1 (ap field_3 e), one_decision commit other (ap field_4 e))
 one_row (Closed p inst) (Closed q i) r s e = cc (one_process p q r.0 s.0 (ap field_2 e), one_instance inst i r.1 s.1 (ap field_3 e))
 one_row (Failed p) (Failed q) r s e = ap Failed (one_process p q r s (ap field_2 e))
 one_row (Refused p verb cause) (Refused q v other) r s e =
@@ -198,7 +198,7 @@ right_after format (Began p inst kind) f r n h = none_wrong format slot.process 
 right_after format (Took p inst) f r n h = none_wrong format slot.process slot.instance slot.nothing _ _ _ f (p, r.0, refl) (inst, r.1, refl) refl h
 right_after format (Ready p inst) f r n h = none_wrong format slot.process slot.instance slot.nothing _ _ _ f (p, r.0, refl) (inst, r.1, refl) refl h
 right_after format (Unwilling p inst cause) f r n h = none_wrong format slot.process slot.instance slot.cause _ _ _ f (p, r.0, refl) (inst, r.1, refl) (cause, r.2, refl) h
-right_after format (Decided p inst commit) f r n h = none_wrong format slot.process slot.instance slot.verdict _ _ _ f (p, r.0, refl) (inst, r.1, refl) (commit, refl) h
+right_after format (Decided p inst commit) f r n h = none_wrong format slot.process slot.instance slot.decision _ _ _ f (p, r.0, refl) (inst, r.1, refl) (commit, refl) h
 right_after format (Closed p inst) f r n h = none_wrong format slot.process slot.instance slot.nothing _ _ _ f (p, r.0, refl) (inst, r.1, refl) refl h
 right_after format (Failed p) f r n h = none_wrong format slot.process slot.nothing slot.nothing _ _ _ f (p, r, refl) refl refl h
 right_after format (Refused p verb cause) f r n h = none_wrong format slot.process slot.verb slot.cause _ _ _ f (p, r.0, refl) (verb, refl) (cause, r.1, refl) h

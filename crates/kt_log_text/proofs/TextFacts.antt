@@ -10,7 +10,7 @@ use Rattle.kt_log_text.specs.declared.rows.Format.{Format}
 use Rattle.kt_log_text.specs.declared.rows.Format.TheVariants.{One, Two}
 use Rattle.kt_log_text.specs.declared.rows.RowFault.TheVariants as row
 use Rattle.kt_spacetime.specs.Events.{IsInRange}
-use Rattle.kt_log_text.specs.Spelling.{spelling, most_rows, IsInFormat}
+use Rattle.kt_log_text.specs.Spelling.{spelling, max_rows, IsInFormat}
 use Rattle.kt_log_text.specs.Texts.{header, IsUnmarked, BeginsUnmarked, IsTextOf, IsTextFrom, IsOtherVersion, AreInFormat, IsLogText, IsRowFault, IsFaultFrom, IsAfterRows, IsFirstFault, IsOfText}
 use Rattle.kt_text.proofs.FieldFacts.{Records, first_and_rest}
 use Rattle.kt_log_text.proofs.SpellingFacts.{one_row, none_wrong_in, four_fields}
@@ -69,7 +69,7 @@ has_record format count left (Number k) h = (h.2 ∷ h.3 ∷ h.4 ∷ h.5 ∷ [],
 
 -- where rows go on, none is wrong
 pub no_wrong_row : (format : Format) (before rows : List Event) (left more : Records) (fault : LogFault) → map spelling before ++ left ≡ map spelling rows ++ more
-    → length before < length rows → AreInFormat format rows → length rows ≤ most_rows format → IsRowFault format (length before) left fault → ⊥
+    → length before < length rows → AreInFormat format rows → length rows ≤ max_rows format → IsRowFault format (length before) left fault → ⊥
 no_wrong_row format before rows left more Read e less n few h = h
 no_wrong_row format before rows left more Memory e less n few h = h
 no_wrong_row format before rows left more Version e less n few h = h
@@ -106,7 +106,7 @@ kinds known count left (Number k) o h = inr h
 pub record IsWhole (format : Format) (before : List Event) (rest text : Records) : Type 0 where
   pub spelled : IsTextOf format (map spelling before ++ rest) text
   pub numbers : AreInFormat format before
-  pub few : length before ≤ most_rows format
+  pub few : length before ≤ max_rows format
 
 pub whole : (known : Option Format) (format : Format) (before : List Event) (left rest text : Records) → IsAfterRows known before left text → IsTextFrom known format rest left → IsWhole format before rest text
 whole None format before left rest text a t =

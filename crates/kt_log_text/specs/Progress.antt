@@ -12,7 +12,7 @@ use Rattle.kt_log_text.specs.declared.reading.RowReader.TheInside.{Inside}
 use Rattle.kt_text.specs.Records.{left_in, ReadsOn}
 use Rattle.kt_log_text.specs.Reading.{RowsRead, TakesRow, rows_unread}
 use Rattle.kt_spacetime.specs.Events.{IsInRange}
-use Rattle.kt_log_text.specs.Spelling.{most_rows, IsInFormat}
+use Rattle.kt_log_text.specs.Spelling.{max_rows, IsInFormat}
 use Rattle.kt_log_text.specs.Texts.{header, IsTextFrom, IsUnmarked, IsOtherVersion, IsAfterRows}
 
 abbrev pub left_at : {R : Type 0} → (R → Option (List ℕ)) → Reader R → Progress → Option (List (List (List ℕ)))
@@ -48,7 +48,7 @@ IsReading records (Failed fault) = Unit {0}
 -- no more rows than the format allows; none before the format is known
 abbrev pub IsCount : Option Format → ℕ → Type 0
 IsCount None count = count ≡ 0
-IsCount (Some format) count = count ≤ most_rows format
+IsCount (Some format) count = count ≤ max_rows format
 
 abbrev pub IsSetUp : {R : Type 0} → Inside R → Type 0
 IsSetUp r = IsReading r.records r.progress × IsCount r.format r.count × (r.count ≤ 2 ^ 24)
@@ -97,4 +97,4 @@ pub record ReadsRow (old new : Option Format) (count : ℕ) (before after : Opti
   pub takes : TakesRow old format before after row
   pub in_range : IsInRange row
   pub in_format : IsInFormat format row
-  pub few : count < most_rows format
+  pub few : count < max_rows format

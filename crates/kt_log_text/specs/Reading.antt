@@ -5,7 +5,7 @@ use Rattle.kt_spacetime.specs.declared.event.Event.{Event}
 use Rattle.kt_log_text.specs.declared.fault.LogFault.{LogFault}
 use Rattle.kt_log_text.specs.declared.rows.Format.{Format}
 use Rattle.kt_spacetime.specs.Events.{IsInRange}
-use Rattle.kt_log_text.specs.Spelling.{spelling, most_rows, IsInFormat}
+use Rattle.kt_log_text.specs.Spelling.{spelling, max_rows, IsInFormat}
 use Rattle.kt_log_text.specs.Texts.{IsTextFrom, IsEndedFrom, IsFaultFrom}
 
 -- the records that are left, where the reader tells its bytes; the format, once it is known; how many rows it gave;
@@ -40,7 +40,7 @@ pub record GivesRow (old new : RowsRead) (row : Event) : Type 0 where
   pub takes : TakesRow old.format format old.left new.left row
   pub in_range : IsInRange row
   pub in_format : IsInFormat format row
-  pub few : old.count < most_rows format
+  pub few : old.count < max_rows format
   pub counted : new.count ≡ old.count + 1
   pub going : (old.fault ≡ None) × (new.fault ≡ None) × (new.ended ≡ false)
 

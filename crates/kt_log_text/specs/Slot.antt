@@ -8,6 +8,6 @@ pub data Slot : Type 0 where
   body : Slot
   nothing : Slot
   kind : Slot
-  verdict : Slot
+  decision : Slot
   verb : Slot
   cause : Slot

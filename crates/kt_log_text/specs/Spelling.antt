@@ -20,7 +20,7 @@ use Rattle.kt_log_text.specs.declared.rows.RowWord.TheVariants as row
 use Rattle.kt_log_text.specs.Slot.{Slot}
 use Rattle.kt_log_text.specs.Slot as slot
 use Rattle.kt_spacetime.specs.Events.{IsCauseInRange}
-use Rattle.kt_text.specs.Words.{kind_word, verdict_word}
+use Rattle.kt_text.specs.Words.{kind_word, decision_word}
 
 -- the word of a command
 abbrev pub verb_word : Verb → List ℕ
@@ -58,31 +58,31 @@ spelling (Began p inst kind) = codes "began" ∷ decimal p ∷ decimal inst ∷ 
 spelling (Took p inst) = codes "took" ∷ decimal p ∷ decimal inst ∷ codes "-" ∷ []
 spelling (Ready p inst) = codes "ready" ∷ decimal p ∷ decimal inst ∷ codes "-" ∷ []
 spelling (Unwilling p inst cause) = codes "unwilling" ∷ decimal p ∷ decimal inst ∷ cause_word cause ∷ []
-spelling (Decided p inst commit) = codes "decided" ∷ decimal p ∷ decimal inst ∷ verdict_word commit ∷ []
+spelling (Decided p inst commit) = codes "decided" ∷ decimal p ∷ decimal inst ∷ decision_word commit ∷ []
 spelling (Closed p inst) = codes "closed" ∷ decimal p ∷ decimal inst ∷ codes "-" ∷ []
 spelling (Failed p) = codes "failed" ∷ decimal p ∷ codes "-" ∷ codes "-" ∷ []
 spelling (Refused p verb cause) = codes "refused" ∷ decimal p ∷ verb_word verb ∷ cause_word cause ∷ []
 
 -- how many rows a text of a format has at most, which is also its greatest number of a message
-abbrev pub most_rows : Format → ℕ
-most_rows One = 2 ^ 20
-most_rows Two = 2 ^ 24
+abbrev pub max_rows : Format → ℕ
+max_rows One = 2 ^ 20
+max_rows Two = 2 ^ 24
 
 -- the numbers of a row are in the range of a format
 abbrev pub IsInFormat : Format → Event → Type 0
-IsInFormat format (Received p from msg) = msg ≤ most_rows format
-IsInFormat format (Dropped p from msg) = msg ≤ most_rows format
+IsInFormat format (Received p from msg) = msg ≤ max_rows format
+IsInFormat format (Dropped p from msg) = msg ≤ max_rows format
 IsInFormat format _ = Unit {0}
 
 -- a text spells what may stand in a field
 abbrev pub Fits : Format → Slot → List ℕ → Type 0
 Fits format slot.process text = (p : ℕ) × IsProcNo p × (text ≡ decimal p)
 Fits format slot.instance text = (k : ℕ) × IsInstNo k × (text ≡ decimal k)
-Fits format slot.message text = (m : ℕ) × (1 ≤ m) × (m ≤ most_rows format) × (text ≡ decimal m)
+Fits format slot.message text = (m : ℕ) × (1 ≤ m) × (m ≤ max_rows format) × (text ≡ decimal m)
 Fits format slot.body text = (z : ℤ) × FitsSigned w64 z × (text ≡ signed_decimal z)
 Fits format slot.nothing text = text ≡ codes "-"
 Fits format slot.kind text = (k : Kind) × (text ≡ kind_word k)
-Fits format slot.verdict text = (commit : Bool) × (text ≡ verdict_word commit)
+Fits format slot.decision text = (commit : Bool) × (text ≡ decision_word commit)
 Fits format slot.verb text = (v : Verb) × (text ≡ verb_word v)
 Fits format slot.cause text = (c : Cause) × IsCauseInRange c × (text ≡ cause_word c)
 
@@ -94,7 +94,7 @@ misfit slot.message text = fault.Number
 misfit slot.body text = fault.Number
 misfit slot.nothing text = fault.Word
 misfit slot.kind text = fault.Word
-misfit slot.verdict text = fault.Word
+misfit slot.decision text = fault.Word
 misfit slot.verb text = fault.Word
 misfit slot.cause text = if starts_with nat_eq text (codes "busy-") then fault.Number else fault.Word
 
@@ -116,7 +116,7 @@ IsFaultAfter format row.Began a b c f = IsFirstMisfit format slot.process slot.i
 IsFaultAfter format row.Took a b c f = IsFirstMisfit format slot.process slot.instance slot.nothing a b c f
 IsFaultAfter format row.Ready a b c f = IsFirstMisfit format slot.process slot.instance slot.nothing a b c f
 IsFaultAfter format row.Unwilling a b c f = IsFirstMisfit format slot.process slot.instance slot.cause a b c f
-IsFaultAfter format row.Decided a b c f = IsFirstMisfit format slot.process slot.instance slot.verdict a b c f
+IsFaultAfter format row.Decided a b c f = IsFirstMisfit format slot.process slot.instance slot.decision a b c f
 IsFaultAfter format row.Closed a b c f = IsFirstMisfit format slot.process slot.instance slot.nothing a b c f
 IsFaultAfter format row.Failed a b c f = IsFirstMisfit format slot.process slot.nothing slot.nothing a b c f
 IsFaultAfter format row.Refused a b c f = IsFirstMisfit format slot.process slot.verb slot.cause a b c f

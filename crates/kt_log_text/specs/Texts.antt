@@ -8,7 +8,7 @@ use Rattle.kt_log_text.specs.declared.rows.Format.TheVariants.{One, Two}
 use Rattle.kt_log_text.specs.declared.rows.RowFault.{RowFault}
 use Rattle.kt_log_text.specs.declared.rows.RowFault.TheVariants as row
 use Rattle.kt_spacetime.specs.Events.{IsInRange}
-use Rattle.kt_log_text.specs.Spelling.{spelling, most_rows, IsInFormat, IsFieldFault}
+use Rattle.kt_log_text.specs.Spelling.{spelling, max_rows, IsInFormat, IsFieldFault}
 
 -- the record that a text of format 2 begins with
 abbrev pub header : List (List ℕ)
@@ -52,7 +52,7 @@ pub record IsLogText (text : List (List (List ℕ))) (rows : List Event) : Type 
   pub format : Format
   pub spelled : IsTextOf format (map spelling rows) text
   pub numbers : AreInFormat format rows
-  pub few : length rows ≤ most_rows format
+  pub few : length rows ≤ max_rows format
 
 -- the fault of a log whose row has a wrong field
 abbrev pub fault_at_row : RowFault → ℕ → LogFault
@@ -64,13 +64,13 @@ abbrev pub IsRowFault : Format → ℕ → List (List (List ℕ)) → LogFault �
 IsRowFault format count left Read = ⊥
 IsRowFault format count left Memory = ⊥
 IsRowFault format count left Version = ⊥
-IsRowFault format count left TooLong = (count ≡ most_rows format) × (fields : List (List ℕ)) × (rest : List (List (List ℕ))) × (left ≡ fields ∷ rest)
+IsRowFault format count left TooLong = (count ≡ max_rows format) × (fields : List (List ℕ)) × (rest : List (List (List ℕ))) × (left ≡ fields ∷ rest)
 IsRowFault format count left (Fields n) =
-    (n ≡ count + 1) × (count < most_rows format) × (fields : List (List ℕ)) × (rest : List (List (List ℕ))) × (left ≡ fields ∷ rest) × (length fields ≢ 4)
+    (n ≡ count + 1) × (count < max_rows format) × (fields : List (List ℕ)) × (rest : List (List (List ℕ))) × (left ≡ fields ∷ rest) × (length fields ≢ 4)
 IsRowFault format count left (Word n) =
-    (n ≡ count + 1) × (count < most_rows format) × (w a b c : List ℕ) × (rest : List (List (List ℕ))) × (left ≡ (w ∷ a ∷ b ∷ c ∷ []) ∷ rest) × IsFieldFault format w a b c row.Word
+    (n ≡ count + 1) × (count < max_rows format) × (w a b c : List ℕ) × (rest : List (List (List ℕ))) × (left ≡ (w ∷ a ∷ b ∷ c ∷ []) ∷ rest) × IsFieldFault format w a b c row.Word
 IsRowFault format count left (Number n) =
-    (n ≡ count + 1) × (count < most_rows format) × (w a b c : List ℕ) × (rest : List (List (List ℕ))) × (left ≡ (w ∷ a ∷ b ∷ c ∷ []) ∷ rest) × IsFieldFault format w a b c row.Number
+    (n ≡ count + 1) × (count < max_rows format) × (w a b c : List ℕ) × (rest : List (List (List ℕ))) × (left ≡ (w ∷ a ∷ b ∷ c ∷ []) ∷ rest) × IsFieldFault format w a b c row.Number
 
 -- after this many rows, what is first wrong from here on; nothing is said of when a reader or memory fails
 abbrev pub IsFaultFrom : Option Format → ℕ → List (List (List ℕ)) → LogFault → Type 0
@@ -82,7 +82,7 @@ IsFaultFrom known count text fault = (format : Format) × (left : List (List (Li
 -- a text begins with these rows, and this is left: all of it before the first row
 abbrev pub IsAfterRows : Option Format → List Event → List (List (List ℕ)) → List (List (List ℕ)) → Type 0
 IsAfterRows None rows left text = (rows ≡ []) × (left ≡ text)
-IsAfterRows (Some format) rows left text = IsTextOf format (map spelling rows ++ left) text × AreInFormat format rows × (length rows ≤ most_rows format)
+IsAfterRows (Some format) rows left text = IsTextOf format (map spelling rows ++ left) text × AreInFormat format rows × (length rows ≤ max_rows format)
 
 -- no row is left
 abbrev pub IsEndedFrom : Option Format → List (List (List ℕ)) → Type 0

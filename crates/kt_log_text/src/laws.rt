@@ -10,12 +10,16 @@ ghost use Rattle.kt_log_text.specs.Texts.{IsLogText, IsFirstFault, IsOfText};
 /// A row is spelled by four fields, and these fields spell that row alone.
 pub fn one_spelling()
     ensures fields { (row : events) → length (spelling row) ≡ 4 }
-    ensures alone { (row other : events) → IsInRange row → IsInRange other → spelling row ≡ spelling other → row ≡ other }
+    ensures alone { (row other : events) → IsInRange row → IsInRange other → spelling row ≡ spelling other
+        → row ≡ other }
 {}
 
 /// A text says the rows of one log at most, or has one first fault of its own; it never has both.
 pub fn faults_are_real()
-    ensures one_log { (text : List (List (List ℕ))) (rows others : List events) → IsLogText text rows → IsLogText text others → rows ≡ others }
-    ensures no_log { (text : List (List (List ℕ))) (rows : List events) (fault : log_faults) → IsOfText fault → IsFirstFault text fault → IsLogText text rows → ⊥ }
-    ensures one_fault { (text : List (List (List ℕ))) (fault other : log_faults) → IsOfText fault → IsOfText other → IsFirstFault text fault → IsFirstFault text other → fault ≡ other }
+    ensures one_log { (text : List (List (List ℕ))) (rows others : List events) → IsLogText text rows
+        → IsLogText text others → rows ≡ others }
+    ensures no_log { (text : List (List (List ℕ))) (rows : List events) (fault : log_faults) → IsOfText fault
+        → IsFirstFault text fault → IsLogText text rows → ⊥ }
+    ensures one_fault { (text : List (List (List ℕ))) (fault other : log_faults) → IsOfText fault → IsOfText other
+        → IsFirstFault text fault → IsFirstFault text other → fault ≡ other }
 {}

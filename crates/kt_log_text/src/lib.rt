@@ -11,6 +11,3 @@ pub use fault::LogFault;
 pub use laws::{faults_are_real, one_spelling};
 pub use reading::{RowReader, read_csv};
 pub use writing::write_csv;
-
-#[cfg(test)]
-mod tests;

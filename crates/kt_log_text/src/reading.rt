@@ -4,7 +4,7 @@ ghost use Rattle.std.specs.Prelude.{◌≡◌, ◌≢◌, ◌⊎◌, ◌<◌, �
 ghost use Rattle.csv.specs.Reading.{default_config, strip_bom, records};
 ghost use Rattle.csv.specs.Records.{fields_of};
 ghost use Rattle.kt_spacetime.specs.Events.{IsInRange};
-ghost use Rattle.kt_log_text.specs.Spelling.{spelling, most_rows, IsInFormat};
+ghost use Rattle.kt_log_text.specs.Spelling.{spelling, max_rows, IsInFormat};
 ghost use Rattle.kt_log_text.specs.Texts.{header, IsMarked, IsUnmarked, IsOtherVersion, IsRowFault, IsFaultFrom, IsEndedFrom, IsLogText, IsFirstFault};
 ghost use Rattle.kt_log_text.specs.Reading.{Steps, rows_unread};
 ghost use Rattle.kt_text.specs.Records.{left_in, ReadsOn};
@@ -88,11 +88,13 @@ fn format_of(current: &ByteRecord) -> Result<Format, LogFault>
 
 // The row that a record says, after `count` rows.
 fn row_in(current: &ByteRecord, format: Format, count: u32) -> Result<Event, LogFault>
-    requires { count ≤ most_rows format }
-    ensures found { IfOk result (λ row. (spelling row ≡ fields_of current.now) × IsInRange row × IsInFormat format row × (count < most_rows format)) }
-    ensures fault { IfErr result (λ e. (rest : List (List (List ℕ))) → IsRowFault format count (fields_of current.now ∷ rest) e) }
+    requires { count ≤ max_rows format }
+    ensures found { IfOk result (λ row. (spelling row ≡ fields_of current.now) × IsInRange row
+        × IsInFormat format row × (count < max_rows format)) }
+    ensures fault { IfErr result (λ e. (rest : List (List (List ℕ)))
+        → IsRowFault format count (fields_of current.now ∷ rest) e) }
 {
-    if count >= format.most_rows() {
+    if count >= format.max_rows() {
         return Err(LogFault::TooLong);
     }
     let row = RowNo::new(count + 1).unwrap();
@@ -111,7 +113,8 @@ fn begin<R: Read>(
     current: &mut ByteRecord,
 ) -> Result<Option<Format>, LogFault>
     requires { ReadsOn records.old }
-    ensures found { IfOk result (λ o. IfSome o (λ format. ReadsOn records.new × TakesFields None format (left_in R.remaining records.old) (left_in R.remaining records.new) (fields_of current.new))) }
+    ensures found { IfOk result (λ o. IfSome o (λ format. ReadsOn records.new
+        × TakesFields None format (left_in R.remaining records.old) (left_in R.remaining records.new) (fields_of current.new))) }
     ensures ended { IfOk result (λ o. IfNone o (IfSome (left_in R.remaining records.old) (IsEndedFrom None))) }
     ensures fault { IfErr result (λ e. IfSome (left_in R.remaining records.old) (λ left. IsHeadFault None left e)) }
 {
@@ -137,7 +140,8 @@ fn advance<R: Read>(
     format: Option<Format>,
 ) -> Result<Option<Format>, LogFault>
     requires { ReadsOn records.old }
-    ensures found { IfOk result (λ o. IfSome o (λ found. ReadsOn records.new × Keeps format found × TakesFields format found (left_in R.remaining records.old) (left_in R.remaining records.new) (fields_of current.new))) }
+    ensures found { IfOk result (λ o. IfSome o (λ found. ReadsOn records.new × Keeps format found
+        × TakesFields format found (left_in R.remaining records.old) (left_in R.remaining records.new) (fields_of current.new))) }
     ensures ended { IfOk result (λ o. IfNone o (IfSome (left_in R.remaining records.old) (IsEndedFrom format))) }
     ensures fault { IfErr result (λ e. IfSome (left_in R.remaining records.old) (λ left. IsHeadFault format left e)) }
 {

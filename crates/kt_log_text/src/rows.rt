@@ -7,15 +7,15 @@ ghost use Rattle.kt_base.specs.Numbers.{IsProcNo, IsInstNo, IsMsgNo};
 ghost use Rattle.kt_log_text.specs.declared.rows.Format.TheVariants.{One};
 ghost use Rattle.kt_log_text.specs.declared.rows.RowWord.{RowWord as row_words};
 ghost use Rattle.kt_spacetime.specs.Events.{IsInRange, IsCauseInRange};
-ghost use Rattle.kt_text.specs.Words.{kind_word, verdict_word};
-ghost use Rattle.kt_log_text.specs.Spelling.{spelling, row_word, verb_word, cause_word, most_rows, IsInFormat, IsMisfit, IsFirstMisfit, IsFaultAfter, IsFieldFault};
+ghost use Rattle.kt_text.specs.Words.{kind_word, decision_word};
+ghost use Rattle.kt_log_text.specs.Spelling.{spelling, row_word, verb_word, cause_word, max_rows, IsInFormat, IsMisfit, IsFirstMisfit, IsFaultAfter, IsFieldFault};
 ghost use Rattle.kt_log_text.specs.Texts.{fault_at_row};
 ghost use Rattle.kt_log_text.specs.Slot as slot;
 
 use crate::fault::LogFault;
 use kt_base::{Cause, InstNo, Kind, MsgNo, ProcNo, RowNo, Verb};
 use kt_spacetime::Event;
-use kt_text::fields::{body_of, instance_of, kind_of, message_of, process_of, verdict_of};
+use kt_text::fields::{body_of, decision_of, instance_of, kind_of, message_of, process_of};
 
 /// The two formats of a log's text, which differ in their limits.
 #[derive(Clone, Copy, Debug, PartialEq, Eq)]
@@ -26,8 +26,8 @@ pub(crate) enum Format {
 
 impl Format {
     /// How many rows a text has at most, and the greatest number of a message in it.
-    pub(crate) fn most_rows(self) -> u32
-        ensures value { result ≡ most_rows self }
+    pub(crate) fn max_rows(self) -> u32
+        ensures value { result ≡ max_rows self }
         ensures few { result ≤ 2 ^ 24 }
     {
         match self {
@@ -87,13 +87,13 @@ fn instance(text: &[u8]) -> Result<InstNo, RowFault>
 }
 
 fn message(text: &[u8], format: Format) -> Result<MsgNo, RowFault>
-    ensures found { IfOk result (λ m. IsMsgNo m × (m ≤ most_rows format) × (text.now ≡ decimal m)) }
+    ensures found { IfOk result (λ m. IsMsgNo m × (m ≤ max_rows format) × (text.now ≡ decimal m)) }
     ensures fault { IfErr result (IsMisfit format slot.message text.now) }
 {
     let Some(msg) = message_of(text) else {
         return Err(RowFault::Number);
     };
-    if msg.get() > format.most_rows() {
+    if msg.get() > format.max_rows() {
         return Err(RowFault::Number);
     }
     Ok(msg)
@@ -124,11 +124,11 @@ fn kind(text: &[u8]) -> Result<Kind, RowFault>
     kind_of(text).ok_or(RowFault::Word)
 }
 
-fn verdict(text: &[u8]) -> Result<bool, RowFault>
-    ensures found { IfOk result (λ commit. text.now ≡ verdict_word commit) }
-    ensures fault { IfErr result (IsMisfit One slot.verdict text.now) }
+fn decision(text: &[u8]) -> Result<bool, RowFault>
+    ensures found { IfOk result (λ commit. text.now ≡ decision_word commit) }
+    ensures fault { IfErr result (IsMisfit One slot.decision text.now) }
 {
-    verdict_of(text).ok_or(RowFault::Word)
+    decision_of(text).ok_or(RowFault::Word)
 }
 
 fn verb(text: &[u8]) -> Result<Verb, RowFault>
@@ -170,8 +170,9 @@ fn cause(text: &[u8]) -> Result<Cause, RowFault>
 }
 
 // A process and an instance, with nothing after them.
-fn joined(first: &[u8], second: &[u8], third: &[u8]) -> Result<(ProcNo, InstNo), RowFault>
-    ensures found { IfOk result (λ r. IsProcNo r.0 × IsInstNo r.1 × (first.now ≡ decimal r.0) × (second.now ≡ decimal r.1) × (third.now ≡ codes "-")) }
+fn parse_joined(first: &[u8], second: &[u8], third: &[u8]) -> Result<(ProcNo, InstNo), RowFault>
+    ensures found { IfOk result (λ r. IsProcNo r.0 × IsInstNo r.1 × (first.now ≡ decimal r.0)
+        × (second.now ≡ decimal r.1) × (third.now ≡ codes "-")) }
     ensures fault { IfErr result (IsFirstMisfit One slot.process slot.instance slot.nothing first.now second.now third.now) }
 {
     let p = process(first)?;
@@ -181,13 +182,14 @@ fn joined(first: &[u8], second: &[u8], third: &[u8]) -> Result<(ProcNo, InstNo),
 }
 
 // The process, the sender and the message of a row that takes one.
-fn taken(
+fn parse_taken(
     first: &[u8],
     second: &[u8],
     third: &[u8],
     format: Format,
 ) -> Result<(ProcNo, ProcNo, MsgNo), RowFault>
-    ensures found { IfOk result (λ r. IsProcNo r.0 × IsProcNo r.1 × IsMsgNo r.2 × (r.2 ≤ most_rows format) × (first.now ≡ decimal r.0) × (second.now ≡ decimal r.1) × (third.now ≡ decimal r.2)) }
+    ensures found { IfOk result (λ r. IsProcNo r.0 × IsProcNo r.1 × IsMsgNo r.2 × (r.2 ≤ max_rows format)
+        × (first.now ≡ decimal r.0) × (second.now ≡ decimal r.1) × (third.now ≡ decimal r.2)) }
     ensures fault { IfErr result (IsFirstMisfit format slot.process slot.process slot.message first.now second.now third.now) }
 {
     let p = process(first)?;
@@ -196,8 +198,9 @@ fn taken(
     Ok((p, from, msg))
 }
 
-fn sent(first: &[u8], second: &[u8], third: &[u8]) -> Result<Event, RowFault>
-    ensures found { IfOk result (λ e. (spelling e ≡ codes "sent" ∷ first.now ∷ second.now ∷ third.now ∷ []) × IsInRange e × IsInFormat One e) }
+fn parse_sent(first: &[u8], second: &[u8], third: &[u8]) -> Result<Event, RowFault>
+    ensures found { IfOk result (λ e. (spelling e ≡ codes "sent" ∷ first.now ∷ second.now ∷ third.now ∷ [])
+        × IsInRange e × IsInFormat One e) }
     ensures fault { IfErr result (IsFirstMisfit One slot.process slot.process slot.body first.now second.now third.now) }
 {
     let p = process(first)?;
@@ -206,8 +209,9 @@ fn sent(first: &[u8], second: &[u8], third: &[u8]) -> Result<Event, RowFault>
     Ok(Event::Sent { p, to, body })
 }
 
-fn began(first: &[u8], second: &[u8], third: &[u8]) -> Result<Event, RowFault>
-    ensures found { IfOk result (λ e. (spelling e ≡ codes "began" ∷ first.now ∷ second.now ∷ third.now ∷ []) × IsInRange e × IsInFormat One e) }
+fn parse_began(first: &[u8], second: &[u8], third: &[u8]) -> Result<Event, RowFault>
+    ensures found { IfOk result (λ e. (spelling e ≡ codes "began" ∷ first.now ∷ second.now ∷ third.now ∷ [])
+        × IsInRange e × IsInFormat One e) }
     ensures fault { IfErr result (IsFirstMisfit One slot.process slot.instance slot.kind first.now second.now third.now) }
 {
     let p = process(first)?;
@@ -216,8 +220,9 @@ fn began(first: &[u8], second: &[u8], third: &[u8]) -> Result<Event, RowFault>
     Ok(Event::Began { p, inst, kind })
 }
 
-fn unwilling(first: &[u8], second: &[u8], third: &[u8]) -> Result<Event, RowFault>
-    ensures found { IfOk result (λ e. (spelling e ≡ codes "unwilling" ∷ first.now ∷ second.now ∷ third.now ∷ []) × IsInRange e × IsInFormat One e) }
+fn parse_unwilling(first: &[u8], second: &[u8], third: &[u8]) -> Result<Event, RowFault>
+    ensures found { IfOk result (λ e. (spelling e ≡ codes "unwilling" ∷ first.now ∷ second.now ∷ third.now ∷ [])
+        × IsInRange e × IsInFormat One e) }
     ensures fault { IfErr result (IsFirstMisfit One slot.process slot.instance slot.cause first.now second.now third.now) }
 {
     let p = process(first)?;
@@ -226,18 +231,20 @@ fn unwilling(first: &[u8], second: &[u8], third: &[u8]) -> Result<Event, RowFaul
     Ok(Event::Unwilling { p, inst, cause })
 }
 
-fn decided(first: &[u8], second: &[u8], third: &[u8]) -> Result<Event, RowFault>
-    ensures found { IfOk result (λ e. (spelling e ≡ codes "decided" ∷ first.now ∷ second.now ∷ third.now ∷ []) × IsInRange e × IsInFormat One e) }
-    ensures fault { IfErr result (IsFirstMisfit One slot.process slot.instance slot.verdict first.now second.now third.now) }
+fn parse_decided(first: &[u8], second: &[u8], third: &[u8]) -> Result<Event, RowFault>
+    ensures found { IfOk result (λ e. (spelling e ≡ codes "decided" ∷ first.now ∷ second.now ∷ third.now ∷ [])
+        × IsInRange e × IsInFormat One e) }
+    ensures fault { IfErr result (IsFirstMisfit One slot.process slot.instance slot.decision first.now second.now third.now) }
 {
     let p = process(first)?;
     let inst = instance(second)?;
-    let commit = verdict(third)?;
+    let commit = decision(third)?;
     Ok(Event::Decided { p, inst, commit })
 }
 
-fn failed(first: &[u8], second: &[u8], third: &[u8]) -> Result<Event, RowFault>
-    ensures found { IfOk result (λ e. (spelling e ≡ codes "failed" ∷ first.now ∷ second.now ∷ third.now ∷ []) × IsInRange e × IsInFormat One e) }
+fn parse_failed(first: &[u8], second: &[u8], third: &[u8]) -> Result<Event, RowFault>
+    ensures found { IfOk result (λ e. (spelling e ≡ codes "failed" ∷ first.now ∷ second.now ∷ third.now ∷ [])
+        × IsInRange e × IsInFormat One e) }
     ensures fault { IfErr result (IsFirstMisfit One slot.process slot.nothing slot.nothing first.now second.now third.now) }
 {
     let p = process(first)?;
@@ -246,8 +253,9 @@ fn failed(first: &[u8], second: &[u8], third: &[u8]) -> Result<Event, RowFault>
     Ok(Event::Failed { p })
 }
 
-fn refused(first: &[u8], second: &[u8], third: &[u8]) -> Result<Event, RowFault>
-    ensures found { IfOk result (λ e. (spelling e ≡ codes "refused" ∷ first.now ∷ second.now ∷ third.now ∷ []) × IsInRange e × IsInFormat One e) }
+fn parse_refused(first: &[u8], second: &[u8], third: &[u8]) -> Result<Event, RowFault>
+    ensures found { IfOk result (λ e. (spelling e ≡ codes "refused" ∷ first.now ∷ second.now ∷ third.now ∷ [])
+        × IsInRange e × IsInFormat One e) }
     ensures fault { IfErr result (IsFirstMisfit One slot.process slot.verb slot.cause first.now second.now third.now) }
 {
     let p = process(first)?;
@@ -286,7 +294,8 @@ pub(crate) fn event_of(
     third: &[u8],
     format: Format,
 ) -> Result<Event, RowFault>
-    ensures found { IfOk result (λ e. (spelling e ≡ word.now ∷ first.now ∷ second.now ∷ third.now ∷ []) × IsInRange e × IsInFormat format e) }
+    ensures found { IfOk result (λ e. (spelling e ≡ word.now ∷ first.now ∷ second.now ∷ third.now ∷ [])
+        × IsInRange e × IsInFormat format e) }
     ensures fault { IfErr result (IsFieldFault format word.now first.now second.now third.now) }
 {
     let Some(word) = word_of(word) else {
@@ -303,35 +312,36 @@ fn event_after(
     third: &[u8],
     format: Format,
 ) -> Result<Event, RowFault>
-    ensures found { IfOk result (λ e. (spelling e ≡ row_word word ∷ first.now ∷ second.now ∷ third.now ∷ []) × IsInRange e × IsInFormat format e) }
+    ensures found { IfOk result (λ e. (spelling e ≡ row_word word ∷ first.now ∷ second.now ∷ third.now ∷ [])
+        × IsInRange e × IsInFormat format e) }
     ensures fault { IfErr result (IsFaultAfter format word first.now second.now third.now) }
 {
     match word {
-        RowWord::Sent => sent(first, second, third),
+        RowWord::Sent => parse_sent(first, second, third),
         RowWord::Received => {
-            let (p, from, msg) = taken(first, second, third, format)?;
+            let (p, from, msg) = parse_taken(first, second, third, format)?;
             Ok(Event::Received { p, from, msg })
         }
         RowWord::Dropped => {
-            let (p, from, msg) = taken(first, second, third, format)?;
+            let (p, from, msg) = parse_taken(first, second, third, format)?;
             Ok(Event::Dropped { p, from, msg })
         }
-        RowWord::Began => began(first, second, third),
+        RowWord::Began => parse_began(first, second, third),
         RowWord::Took => {
-            let (p, inst) = joined(first, second, third)?;
+            let (p, inst) = parse_joined(first, second, third)?;
             Ok(Event::Took { p, inst })
         }
         RowWord::Ready => {
-            let (p, inst) = joined(first, second, third)?;
+            let (p, inst) = parse_joined(first, second, third)?;
             Ok(Event::Ready { p, inst })
         }
-        RowWord::Unwilling => unwilling(first, second, third),
-        RowWord::Decided => decided(first, second, third),
+        RowWord::Unwilling => parse_unwilling(first, second, third),
+        RowWord::Decided => parse_decided(first, second, third),
         RowWord::Closed => {
-            let (p, inst) = joined(first, second, third)?;
+            let (p, inst) = parse_joined(first, second, third)?;
             Ok(Event::Closed { p, inst })
         }
-        RowWord::Failed => failed(first, second, third),
-        RowWord::Refused => refused(first, second, third),
+        RowWord::Failed => parse_failed(first, second, third),
+        RowWord::Refused => parse_refused(first, second, third),
     }
 }

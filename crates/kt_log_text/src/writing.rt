@@ -10,7 +10,7 @@ ghost use Rattle.kt_text.specs.Writing.{joined, line_of, text_of};
 use kt_base::{Cause, InstNo, Memory, MsgNo, ProcNo, Verb};
 use kt_spacetime::{Event, SpaceTime};
 use kt_text::WriteFault;
-use kt_text::fields::{kind_text, verdict_text};
+use kt_text::fields::{decision_text, kind_text};
 use kt_text::pieces::{push_field, write_full, write_rest};
 use std::alloc::Global;
 use std::io::Write;
@@ -58,7 +58,7 @@ fn push_fields(text: &mut Vec<u8>, row: Event) -> Result<(), Memory>
         Event::Ready { p, inst } => push_joined(text, b"ready", p, inst, b"-"),
         Event::Unwilling { p, inst, cause } => push_unwilling(text, p, inst, cause),
         Event::Decided { p, inst, commit } => {
-            push_joined(text, b"decided", p, inst, verdict_text(commit))
+            push_joined(text, b"decided", p, inst, decision_text(commit))
         }
         Event::Closed { p, inst } => push_joined(text, b"closed", p, inst, b"-"),
         Event::Failed { p } => push_four(text, b"failed", p, b"-", b"-"),

@@ -38,19 +38,20 @@ pub fn check_bytes<L: Read + Drop, C: Read + Drop, W: Write>(
     ensures fault { IfErr result (IsRefusal (L.remaining log_reader) (C.remaining cert_reader)) }
     ensures unwritten { IfErr result (λ e. e ≢ app.Write → W.contents writer.new ≡ W.contents writer.old) }
 {
-    let verdict = judged(alloc, log_reader, cert_reader)?;
+    let verdict = judge_texts(alloc, log_reader, cert_reader)?;
     write_line(writer, &verdict)?;
     Ok(is_yes(&verdict))
 }
 
 // The answer to what the readers tell.
-fn judged<L: Read + Drop, C: Read + Drop>(
+fn judge_texts<L: Read + Drop, C: Read + Drop>(
     alloc: Global,
     log_reader: L,
     cert_reader: C,
 ) -> Result<Verdict, AppFault>
     ensures answer { IfOk result (IsJudged (L.remaining log_reader) (C.remaining cert_reader)) }
-    ensures fault { IfErr result (λ e. (e ≢ app.Write) × IsRefusal (L.remaining log_reader) (C.remaining cert_reader) e) }
+    ensures fault { IfErr result (λ e. (e ≢ app.Write)
+        × IsRefusal (L.remaining log_reader) (C.remaining cert_reader) e) }
 {
     let certificates = read_certificates(alloc, cert_reader);
     if let Err(AppFault::Memory) = certificates {
@@ -72,27 +73,29 @@ fn judge_log<L: Read + Drop>(
     certificates: &[Certificate],
 ) -> Result<Verdict, AppFault>
     ensures answer { IfOk result (IsAnswerOf (L.remaining reader) certificates.now) }
-    ensures fault { IfErr result (λ e. (f : LogFault) × (e ≡ of_log f) × IfSome (records_told (L.remaining reader)) (λ text. rows.IsFirstFault text f)) }
+    ensures fault { IfErr result (λ e. (f : LogFault) × (e ≡ of_log f)
+        × IfSome (records_told (L.remaining reader)) (λ text. rows.IsFirstFault text f)) }
 {
     match check_stream(alloc, reader, certificates) {
         Ok(verdict) => Ok(verdict),
-        Err(fault) => Err(log_refused(fault)),
+        Err(fault) => Err(log_fault(fault)),
     }
 }
 
 // The certificates that the reader tells.
 fn read_certificates<C: Read + Drop>(alloc: Global, reader: C) -> Result<Vec<Certificate>, AppFault>
     ensures certificates { IfOk result (λ certificates. SayCertificates (C.remaining reader) certificates.items) }
-    ensures fault { IfErr result (λ e. (f : CertTextFault) × (e ≡ of_cert f) × IfSome (records_told (C.remaining reader)) (λ text. certs.IsFirstFault text f)) }
+    ensures fault { IfErr result (λ e. (f : CertTextFault) × (e ≡ of_cert f)
+        × IfSome (records_told (C.remaining reader)) (λ text. certs.IsFirstFault text f)) }
 {
     match read_certs(alloc, reader) {
         Ok(certificates) => Ok(certificates),
-        Err(fault) => Err(certificates_refused(fault)),
+        Err(fault) => Err(certificates_fault(fault)),
     }
 }
 
 // A fault of a log; its want of memory is the program's own.
-fn log_refused(fault: LogFault) -> AppFault
+fn log_fault(fault: LogFault) -> AppFault
     ensures { result ≡ of_log fault }
 {
     match fault {
@@ -102,7 +105,7 @@ fn log_refused(fault: LogFault) -> AppFault
 }
 
 // A fault of certificates; its want of memory is the program's own.
-fn certificates_refused(fault: CertTextFault) -> AppFault
+fn certificates_fault(fault: CertTextFault) -> AppFault
     ensures { result ≡ of_cert fault }
 {
     match fault {

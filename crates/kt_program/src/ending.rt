@@ -38,12 +38,12 @@ pub fn end<E: Write>(outcome: Result<Done, ProgramFault>, err: &mut E) -> u8
 {
     match outcome {
         Ok(done) => done.status(),
-        Err(fault) => failed(fault, err),
+        Err(fault) => report_fault(fault, err),
     }
 }
 
 // Writes the line of a fault, and gives its exit status.
-fn failed<E: Write>(fault: ProgramFault, err: &mut E) -> u8
+fn report_fault<E: Write>(fault: ProgramFault, err: &mut E) -> u8
     ensures { result ≡ refusal_status fault }
 {
     let status = fault.status();

@@ -7,8 +7,6 @@ pub mod ending;
 pub mod fault;
 pub mod line;
 pub mod program;
-#[cfg(test)]
-mod tests;
 pub mod words;
 
 pub use ask::{AskFault, asked};

@@ -37,12 +37,12 @@ pub fn run<V: Env, F: Files, O: Write, E: Write>(
     ensures { Ends result (O.contents out.old) (O.contents out.new)
         (E.contents err.old) (E.contents err.new) }
 {
-    let outcome = done(env, files, alloc, out);
+    let outcome = do_words(env, files, alloc, out);
     end(outcome, err)
 }
 
 // Does what the words of the command line ask.
-fn done<V: Env, F: Files, O: Write>(
+fn do_words<V: Env, F: Files, O: Write>(
     env: &V,
     files: &F,
     alloc: Global,
@@ -70,7 +70,7 @@ pub fn carry_out<F: Files, O: Write>(
             Ok(passed) => Ok(Done::Judged(passed)),
             Err(fault) => Err(ProgramFault::App(fault)),
         },
-        Err(AskFault::Line(error)) => shown(out, &error),
+        Err(AskFault::Line(error)) => show_text(out, &error),
         Err(AskFault::Memory) => Err(ProgramFault::App(AppFault::Memory)),
     }
 }
@@ -85,12 +85,12 @@ fn words_of<V: Env>(env: &V, alloc: Global) -> Result<Words, ProgramFault> {
             }
             Ok(words)
         }
-        Err(error) => Err(words_refused(&error)),
+        Err(error) => Err(words_fault(&error)),
     }
 }
 
 // Why the words were not given: there was no memory, or a word is no text.
-fn words_refused(error: &io::Error) -> ProgramFault
+fn words_fault(error: &io::Error) -> ProgramFault
     ensures memory { error_kind error.now ≡ io.OutOfMemory → result ≡ program.App app.Memory }
     ensures line { error_kind error.now ≢ io.OutOfMemory → result ≡ program.Line }
 {
@@ -120,7 +120,7 @@ fn check_files<F: Files, O: Write>(
 }
 
 // Writes the help or the version that was asked for. Any other error of clap is a refusal, or want of memory.
-fn shown<O: Write>(out: &mut O, error: &Error) -> Result<Done, ProgramFault>
+fn show_text<O: Write>(out: &mut O, error: &Error) -> Result<Done, ProgramFault>
     ensures shown { IfOk result (λ what. (what ≡ Shown) × IsRequest (kind_of error.now)) }
     ensures refused { IfErr result (λ fault. fault ≡ program.Line → IsMistake (kind_of error.now)) }
     ensures output { Leaves result (O.contents out.old) (O.contents out.new) }

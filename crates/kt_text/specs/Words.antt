@@ -10,9 +10,9 @@ kind_word Checkpoint = codes "checkpoint"
 kind_word Rollback = codes "rollback"
 
 -- the word of a commit or an abort
-abbrev pub verdict_word : Bool → List ℕ
-verdict_word true = codes "commit"
-verdict_word false = codes "abort"
+abbrev pub decision_word : Bool → List ℕ
+decision_word true = codes "commit"
+decision_word false = codes "abort"
 
 -- a text begins with a digit, which is not 0 where more follow
 abbrev pub BeginsAsNumber : List ℕ → Type 0

@@ -8,7 +8,7 @@ ghost use Rattle.std.specs.Fmt.{decimal, signed_decimal};
 ghost use Rattle.std.specs.Str.Parse.{AllDigits, digits_value};
 ghost use Rattle.kt_base.specs.Numbers.{IsProcNo, IsMsgNo, IsInstNo};
 ghost use Rattle.kt_base.specs.declared.words.Kind.{Kind};
-ghost use Rattle.kt_text.specs.Words.{BeginsAsNumber, BeginsAsBody, kind_word, verdict_word};
+ghost use Rattle.kt_text.specs.Words.{BeginsAsNumber, BeginsAsBody, kind_word, decision_word};
 
 use kt_base::{InstNo, Kind, MsgNo, ProcNo};
 
@@ -149,9 +149,9 @@ pub fn kind_of(text: &[u8]) -> Option<Kind>
 }
 
 /// Whether a text names a commit (`commit`) or an abort (`abort`).
-pub fn verdict_of(text: &[u8]) -> Option<bool>
-    ensures found { IfSome result (λ commit. text.now ≡ verdict_word commit) }
-    ensures none { IfNone result ((commit : Bool) → text.now ≢ verdict_word commit) }
+pub fn decision_of(text: &[u8]) -> Option<bool>
+    ensures found { IfSome result (λ commit. text.now ≡ decision_word commit) }
+    ensures none { IfNone result ((commit : Bool) → text.now ≢ decision_word commit) }
 {
     if text == b"commit".as_slice() {
         return Some(true);
@@ -172,9 +172,9 @@ pub fn kind_text(kind: Kind) -> &'static [u8]
     }
 }
 
-/// The word of a verdict: `commit` or `abort`.
-pub fn verdict_text(commit: bool) -> &'static [u8]
-    ensures { result.now ≡ verdict_word commit }
+/// The word of a decision: `commit` or `abort`.
+pub fn decision_text(commit: bool) -> &'static [u8]
+    ensures { result.now ≡ decision_word commit }
 {
     if commit { b"commit" } else { b"abort" }
 }

@@ -7,6 +7,3 @@ pub mod pieces;
 pub mod records;
 
 pub use fault::{ReadFault, WriteFault};
-
-#[cfg(test)]
-mod tests;

@@ -14,8 +14,10 @@ pub fn next_record<R: Read>(
     current: &mut ByteRecord,
 ) -> Result<bool, ReadFault>
     requires { ReadsOn records.old }
-    ensures found { IfOk result (λ found. found ≡ true → ReadsOn records.new × Takes (left_in R.remaining records.old) (left_in R.remaining records.new) (fields_of current.new)) }
-    ensures ended { IfOk result (λ found. found ≡ false → IfSome (left_in R.remaining records.old) (λ left. left ≡ [])) }
+    ensures found { IfOk result (λ found. found ≡ true → ReadsOn records.new
+        × Takes (left_in R.remaining records.old) (left_in R.remaining records.new) (fields_of current.new)) }
+    ensures ended { IfOk result (λ found. found ≡ false
+        → IfSome (left_in R.remaining records.old) (λ left. left ≡ [])) }
 {
     let found = records.read_byte_record(current)?;
     Ok(found)

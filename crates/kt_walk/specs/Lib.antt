@@ -5,13 +5,13 @@ pub use Rattle.kt_cuts.specs.Traces
 pub mod Positive
 pub mod Keeping
 pub mod DropTable
-pub mod TrailParts
+pub mod ControlParts
 pub mod PartsOf
-pub mod TrailOf
+pub mod ControlOf
 pub mod Stages
 pub mod Arrivals
 pub mod Peers
 pub mod Pairs
-pub mod Links
+pub mod TraceEntries
 pub mod WalkParts
 pub mod WalkOf

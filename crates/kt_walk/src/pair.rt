@@ -7,33 +7,35 @@ ghost use Rattle.kt_cuts.specs.Past.{Past};
 ghost use Rattle.kt_cuts.specs.Lists.{Rises, sent_in};
 ghost use Rattle.kt_cuts.specs.Orphans.{IsOrphanBetween, IsAtMost};
 ghost use Rattle.kt_cuts.specs.Standing.{IsInOrder};
-ghost use Rattle.kt_traffic.specs.OnTheWay.{AreOnTheWay, IsBySend};
-ghost use Rattle.kt_traffic.specs.LastReceived.{IsLastFrom};
+ghost use Rattle.kt_transit.specs.TransitList.{AreInTransit, IsBySend};
+ghost use Rattle.kt_transit.specs.LastReceived.{IsLastFrom};
 ghost use Rattle.kt_walk.specs.declared.queue.Arrival.{Arrival};
-ghost use Rattle.kt_walk.specs.Arrivals.{IsRising, IsOpen, ShowsTraffic, cut_back};
-ghost use Rattle.kt_walk.specs.Pairs.{but_for, count_of, is_idle, IsPairCutBack, IsPairCommitted, IsLink, IsEachOnce, AreNotDropped};
+ghost use Rattle.kt_walk.specs.Arrivals.{IsRising, IsUncovered, ShowsReceived, cut_back};
+ghost use Rattle.kt_walk.specs.Pairs.{but_for, count_of, is_idle, IsPairCutBack, IsPairCommitted, IsPairState, IsEachOnce, AreNotDropped};
 
-use crate::channel::{Channel, count_received_before};
-use crate::earlier::Earlier;
 use crate::last::{last_arrival, last_undone, latest};
+use crate::opt_msg_no::OptMsgNo;
 use crate::queue::Arrival;
+use crate::received_from::{ReceivedFrom, count_received_before};
 use kt_base::{Kind, Memory, MsgNo, ProcNo, ProcSet};
 use kt_cuts::Cut;
-use kt_traffic::{Sent, Waiting};
+use kt_transit::{InTransit, Sent};
 use std::alloc::Global;
 use std::marker::Model;
 
 // Puts messages back that are received no more.
-pub(crate) fn put_all_back(waiting: &mut Waiting, arrivals: &[Arrival])
-    requires { length waiting.old.messages + length arrivals.now ≤ waiting.old.room }
-    ensures count { length waiting.new.messages ≡ length waiting.old.messages + length arrivals.now }
-    ensures room { waiting.old.room ≤ waiting.new.room }
-    ensures waiting { (receiver : ℕ) (sent : List Deed) (away : ℕ → Bool) → Rises (sent_in sent) → AreOnTheWay waiting.old.messages receiver sent away
-        → IsRising arrivals.now → ((k : ℕ) (a : Arrival) → slice_get arrivals.now k ≡ Some a → (slice_get sent a.sent ≡ Some (deed.Sent a.msg receiver)) × (away a.msg ≡ true))
-        → AreOnTheWay waiting.new.messages receiver sent (but_for arrivals.now away) }
+pub(crate) fn put_all_back(in_transit: &mut InTransit, arrivals: &[Arrival])
+    requires { length in_transit.old.messages + length arrivals.now ≤ in_transit.old.room }
+    ensures count { length in_transit.new.messages ≡ length in_transit.old.messages + length arrivals.now }
+    ensures room { in_transit.old.room ≤ in_transit.new.room }
+    ensures in_transit { (receiver : ℕ) (sent : List Deed) (away : ℕ → Bool) → Rises (sent_in sent)
+        → AreInTransit in_transit.old.messages receiver sent away
+        → IsRising arrivals.now → ((k : ℕ) (a : Arrival) → slice_get arrivals.now k ≡ Some a
+        → (slice_get sent a.sent ≡ Some (deed.Sent a.msg receiver)) × (away a.msg ≡ true))
+        → AreInTransit in_transit.new.messages receiver sent (but_for arrivals.now away) }
 {
     for arrival in arrivals.iter().rev() {
-        waiting.put_back(Sent {
+        in_transit.put_back(Sent {
             msg: arrival.msg,
             place: arrival.sent,
         });
@@ -44,35 +46,35 @@ pub(crate) fn put_all_back(waiting: &mut Waiting, arrivals: &[Arrival])
 #[derive(Drop)]
 pub(crate) struct Pair {
     // Those received, but for those that both permanent parts have.
-    pub(crate) channel: Channel,
-    // Those on their way, with room for those received too.
-    waiting: Waiting,
+    pub(crate) received_from: ReceivedFrom,
+    // Those in transit, with room for those received too.
+    in_transit: InTransit,
     // What was received last, in the receiver's live history and in its permanent part.
-    last: Earlier,
-    settled: Earlier,
+    last: OptMsgNo,
+    last_permanent: OptMsgNo,
 }
 
 impl Model for Pair {
     ghost use Rattle.std.specs.Prelude.{◌+◌, ◌≤◌, length};
-    ghost use Rattle.kt_walk.specs.Pairs.{Link};
+    ghost use Rattle.kt_walk.specs.Pairs.{PairState};
 
-    ghost Value = { Link };
+    ghost Value = { PairState };
 
-    ghost view = { λ p. record { traffic = p.channel; waiting = p.waiting.messages; last = p.last; settled = p.settled } };
+    ghost view = { λ p. record { received_from = p.received_from; in_transit = p.in_transit.messages; last = p.last; last_permanent = p.last_permanent } };
 
-    ghost invariant = { λ p. length p.waiting.messages + length p.channel.arrivals ≤ p.waiting.room };
+    ghost invariant = { λ p. length p.in_transit.messages + length p.received_from.arrivals ≤ p.in_transit.room };
 }
 
 impl Pair {
     /// No message.
     pub(crate) fn new(alloc: Global, receiver: ProcNo, sender: ProcNo) -> Pair
-        ensures { result ≡ record { traffic = record { receiver = receiver; sender = sender; arrivals = []; undone = [] }; waiting = []; last = None; settled = None } }
+        ensures { result ≡ record { received_from = record { receiver = receiver; sender = sender; arrivals = []; undone = [] }; in_transit = []; last = None; last_permanent = None } }
     {
         Pair {
-            channel: Channel::new(alloc, receiver, sender),
-            waiting: Waiting::new(alloc),
-            last: Earlier::of(None),
-            settled: Earlier::of(None),
+            received_from: ReceivedFrom::new(alloc, receiver, sender),
+            in_transit: InTransit::new(alloc),
+            last: OptMsgNo::of(None),
+            last_permanent: OptMsgNo::of(None),
         }
     }
 
@@ -80,15 +82,19 @@ impl Pair {
     pub(crate) fn is_idle(&self) -> bool
         ensures { result ≡ is_idle self.now }
     {
-        self.channel.is_empty() && self.waiting.len() == 0
+        self.received_from.is_empty() && self.in_transit.len() == 0
     }
 
     /// The least message that is received within its receiver's part and not sent within its sender's.
     pub(crate) fn orphan(&self, cut: &Cut) -> Option<MsgNo>
-        ensures orphan { IfSome result (λ msg. (s : Past) → IsInOrder s → ShowsTraffic self.now.traffic s → IsOrphanBetween s (slice_index cut.now) self.now.traffic.receiver self.now.traffic.sender msg) }
-        ensures least { (s : Past) (msg : ℕ) → s.permanent self.now.traffic.sender ≤ slice_index cut.now self.now.traffic.sender → ShowsTraffic self.now.traffic s → IsOrphanBetween s (slice_index cut.now) self.now.traffic.receiver self.now.traffic.sender msg → IsAtMost result msg }
+        ensures orphan { IfSome result (λ msg. (s : Past) → IsInOrder s → ShowsReceived self.now.received_from s
+            → IsOrphanBetween s (slice_index cut.now) self.now.received_from.receiver self.now.received_from.sender msg) }
+        ensures least { (s : Past) (msg : ℕ)
+            → s.permanent self.now.received_from.sender ≤ slice_index cut.now self.now.received_from.sender
+            → ShowsReceived self.now.received_from s
+            → IsOrphanBetween s (slice_index cut.now) self.now.received_from.receiver self.now.received_from.sender msg → IsAtMost result msg }
     {
-        self.channel.orphan(cut)
+        self.received_from.orphan(cut)
     }
 
     /// What was received last, in the live history.
@@ -100,57 +106,59 @@ impl Pair {
 
     /// One more message is sent; unchanged where there is no memory.
     pub(crate) fn send(&mut self, message: Sent) -> Result<(), Memory>
-        ensures ok { OnOk result (self.new ≡ record self.old { waiting = self.old.waiting ++ message ∷ [] }) }
+        ensures ok { OnOk result (self.new ≡ record self.old { in_transit = self.old.in_transit ++ message ∷ [] }) }
         ensures err { OnErr result (self.new ≡ self.old) }
     {
-        self.waiting.reserve(self.channel.arrivals().len() + 1)?;
-        self.waiting.push(message);
+        self.in_transit
+            .reserve(self.received_from.arrivals().len() + 1)?;
+        self.in_transit.push(message);
         Ok(())
     }
 
-    /// A message, if it is on its way, and its place among those that are.
+    /// A message, if it is in transit, and its place among those that are.
     pub(crate) fn find(&self, msg: MsgNo) -> Option<(usize, Sent)>
-        ensures found { IfSome result (λ r. (slice_get self.now.waiting r.0 ≡ Some r.1) × (r.1.msg ≡ msg)) }
-        ensures none { IfNone result (IsBySend self.now.waiting → (k : ℕ) (w : Sent) → slice_get self.now.waiting k ≡ Some w → w.msg ≡ msg → ⊥) }
+        ensures found { IfSome result (λ r. (slice_get self.now.in_transit r.0 ≡ Some r.1) × (r.1.msg ≡ msg)) }
+        ensures none { IfNone result (IsBySend self.now.in_transit → (k : ℕ) (w : Sent)
+            → slice_get self.now.in_transit k ≡ Some w → w.msg ≡ msg → ⊥) }
     {
-        let index = self.waiting.find(msg)?;
-        let message = self.waiting.get(index)?;
+        let index = self.in_transit.find(msg)?;
+        let message = self.in_transit.get(index)?;
         Some((index, message))
     }
 
-    /// The message at this place among those on their way is received; unchanged where there is no memory.
+    /// The message at this place among those in transit is received; unchanged where there is no memory.
     pub(crate) fn receive(&mut self, index: usize, arrival: Arrival) -> Result<(), Memory>
-        requires { index < length self.old.waiting }
-        ensures ok { OnOk result (self.new ≡ record self.old { traffic = record self.old.traffic { arrivals = self.old.traffic.arrivals ++ arrival ∷ [] }; waiting = remove self.old.waiting index; last = Some arrival.msg }) }
+        requires { index < length self.old.in_transit }
+        ensures ok { OnOk result (self.new ≡ record self.old { received_from = record self.old.received_from { arrivals = self.old.received_from.arrivals ++ arrival ∷ [] }; in_transit = remove self.old.in_transit index; last = Some arrival.msg }) }
         ensures err { OnErr result (self.new ≡ self.old) }
     {
-        let last = Earlier::of(Some(arrival.msg));
-        self.channel.receive(arrival)?;
-        let taken = self.waiting.take(index);
+        let last = OptMsgNo::of(Some(arrival.msg));
+        self.received_from.receive(arrival)?;
+        let taken = self.in_transit.take(index);
         if taken.is_err() {
-            self.channel.forget_last();
+            self.received_from.forget_last();
             return taken;
         }
         self.last = last;
         Ok(())
     }
 
-    /// The message at this place among those on their way is dropped; unchanged where there is no memory.
-    pub(crate) fn lose(&mut self, index: usize) -> Result<(), Memory>
-        requires { index < length self.old.waiting }
-        ensures ok { OnOk result (self.new ≡ record self.old { waiting = remove self.old.waiting index }) }
+    /// The message at this place among those in transit is dropped; unchanged where there is no memory.
+    pub(crate) fn drop_message(&mut self, index: usize) -> Result<(), Memory>
+        requires { index < length self.old.in_transit }
+        ensures ok { OnOk result (self.new ≡ record self.old { in_transit = remove self.old.in_transit index }) }
         ensures err { OnErr result (self.new ≡ self.old) }
     {
-        self.waiting.take(index)
+        self.in_transit.take(index)
     }
 
     /// Gives back the room that was needed, where there are no messages.
-    pub(crate) fn give_back(&mut self)
+    pub(crate) fn shrink(&mut self)
         ensures { self.new ≡ self.old }
     {
         if self.is_idle() {
-            self.channel.give_back();
-            self.waiting.give_back(self.channel.arrivals().len());
+            self.received_from.shrink();
+            self.in_transit.shrink(self.received_from.arrivals().len());
         }
     }
 
@@ -158,32 +166,37 @@ impl Pair {
     pub(crate) fn count(&self) -> usize
         ensures { count_of self.now < 2 ^ 64 → result ≡ count_of self.now }
     {
-        self.waiting
+        self.in_transit
             .len()
-            .saturating_add(self.channel.arrivals().len())
-            .saturating_add(self.channel.undone().len())
+            .saturating_add(self.received_from.arrivals().len())
+            .saturating_add(self.received_from.undone().len())
     }
 
     /// Forgets what both permanent parts have, of these lengths by process.
-    fn release(&mut self, permanent: &[usize; 64])
-        ensures receiver { self.new.traffic.receiver ≡ self.old.traffic.receiver }
-        ensures sender { self.new.traffic.sender ≡ self.old.traffic.sender }
-        ensures link { (received sent : List Deed) (dropped : ℕ → Bool) (i j : ℕ) → i ≤ slice_index permanent.now self.old.traffic.receiver → j ≤ slice_index permanent.now self.old.traffic.sender
-            → IsLink self.old received sent dropped i j → IsLink self.new received sent dropped (slice_index permanent.now self.old.traffic.receiver) (slice_index permanent.now self.old.traffic.sender) }
-        ensures none { IsRising self.old.traffic.arrivals → IsOpen permanent.now self.new.traffic }
+    fn forget_permanent(&mut self, permanent: &[usize; 64])
+        ensures receiver { self.new.received_from.receiver ≡ self.old.received_from.receiver }
+        ensures sender { self.new.received_from.sender ≡ self.old.received_from.sender }
+        ensures pair_state { (received sent : List Deed) (dropped : ℕ → Bool) (i j : ℕ)
+            → i ≤ slice_index permanent.now self.old.received_from.receiver
+            → j ≤ slice_index permanent.now self.old.received_from.sender
+            → IsPairState self.old received sent dropped i j
+            → IsPairState self.new received sent dropped (slice_index permanent.now self.old.received_from.receiver) (slice_index permanent.now self.old.received_from.sender) }
+        ensures none { IsRising self.old.received_from.arrivals → IsUncovered permanent.now self.new.received_from }
     {
-        let place = permanent[self.channel.receiver().get() as usize];
-        self.settled = Earlier::of(self.last_before(place));
-        self.channel.release(permanent);
+        let place = permanent[self.received_from.receiver().get() as usize];
+        self.last_permanent = OptMsgNo::of(self.last_before(place));
+        self.received_from.forget_permanent(permanent);
     }
 
     // What was received last before this place, which is not before the permanent part ends.
     fn last_before(&self, place: usize) -> Option<MsgNo>
-        ensures { (received sent : List Deed) (dropped : ℕ → Bool) (i j : ℕ) → i ≤ place → IsLink self.now received sent dropped i j → IsLastFrom result self.now.traffic.sender (take place received) }
+        ensures { (received sent : List Deed) (dropped : ℕ → Bool) (i j : ℕ) → i ≤ place
+            → IsPairState self.now received sent dropped i j
+            → IsLastFrom result self.now.received_from.sender (take place received) }
     {
-        let arrived = last_arrival(self.channel.arrivals(), place);
-        let undone = last_undone(self.channel.undone(), place);
-        latest(self.settled.get(), latest(arrived, undone))
+        let arrived = last_arrival(self.received_from.arrivals(), place);
+        let undone = last_undone(self.received_from.undone(), place);
+        latest(self.last_permanent.get(), latest(arrived, undone))
     }
 
     /// An instance of these members is committed, which leaves these permanent lengths.
@@ -191,7 +204,7 @@ impl Pair {
         ensures { IsPairCommitted kind members permanent.now self.old self.new }
     {
         match kind {
-            Kind::Checkpoint => self.release(permanent),
+            Kind::Checkpoint => self.forget_permanent(permanent),
             Kind::Rollback => self.cut_back(members, permanent),
         }
     }
@@ -206,13 +219,16 @@ impl Pair {
 
     // Cuts the sender's history back, if it is a member.
     fn cut_sender_back(&mut self, members: ProcSet, lengths: &[usize; 64])
-        ensures receiver { self.new.traffic.receiver ≡ self.old.traffic.receiver }
-        ensures sender { self.new.traffic.sender ≡ self.old.traffic.sender }
-        ensures link { (received sent : List Deed) (dropped : ℕ → Bool) (i j : ℕ) → Rises (sent_in sent) → j ≡ slice_index lengths.now self.old.traffic.sender
-            → IsLink self.old received sent dropped i j → IsLink self.new received (cut_back members lengths.now self.old.traffic.sender sent) dropped i j }
-        ensures left { (k : ℕ) (a : Arrival) → slice_get self.new.traffic.arrivals k ≡ Some a → slice_get self.old.traffic.arrivals k ≡ Some a }
+        ensures receiver { self.new.received_from.receiver ≡ self.old.received_from.receiver }
+        ensures sender { self.new.received_from.sender ≡ self.old.received_from.sender }
+        ensures pair_state { (received sent : List Deed) (dropped : ℕ → Bool) (i j : ℕ) → Rises (sent_in sent)
+            → j ≡ slice_index lengths.now self.old.received_from.sender
+            → IsPairState self.old received sent dropped i j
+            → IsPairState self.new received (cut_back members lengths.now self.old.received_from.sender sent) dropped i j }
+        ensures left { (k : ℕ) (a : Arrival) → slice_get self.new.received_from.arrivals k ≡ Some a
+            → slice_get self.old.received_from.arrivals k ≡ Some a }
     {
-        let sender = self.channel.sender();
+        let sender = self.received_from.sender();
         if members.has(sender) {
             self.cut_sender(lengths[sender.get() as usize]);
         }
@@ -220,13 +236,17 @@ impl Pair {
 
     // Cuts the receiver's history back, if it is a member.
     fn cut_receiver_back(&mut self, members: ProcSet, lengths: &[usize; 64])
-        ensures receiver { self.new.traffic.receiver ≡ self.old.traffic.receiver }
-        ensures sender { self.new.traffic.sender ≡ self.old.traffic.sender }
-        ensures link { (received sent : List Deed) (dropped : ℕ → Bool) (i j : ℕ) → Rises (sent_in sent) → IsEachOnce received → AreNotDropped self.old.traffic.sender received dropped → i ≡ slice_index lengths.now self.old.traffic.receiver
-            → IsLink self.old received sent dropped i j → IsLink self.new (cut_back members lengths.now self.old.traffic.receiver received) sent dropped i j }
-        ensures left { (k : ℕ) (a : Arrival) → slice_get self.new.traffic.arrivals k ≡ Some a → slice_get self.old.traffic.arrivals k ≡ Some a }
+        ensures receiver { self.new.received_from.receiver ≡ self.old.received_from.receiver }
+        ensures sender { self.new.received_from.sender ≡ self.old.received_from.sender }
+        ensures pair_state { (received sent : List Deed) (dropped : ℕ → Bool) (i j : ℕ) → Rises (sent_in sent)
+            → IsEachOnce received → AreNotDropped self.old.received_from.sender received dropped
+            → i ≡ slice_index lengths.now self.old.received_from.receiver
+            → IsPairState self.old received sent dropped i j
+            → IsPairState self.new (cut_back members lengths.now self.old.received_from.receiver received) sent dropped i j }
+        ensures left { (k : ℕ) (a : Arrival) → slice_get self.new.received_from.arrivals k ≡ Some a
+            → slice_get self.old.received_from.arrivals k ≡ Some a }
     {
-        let receiver = self.channel.receiver();
+        let receiver = self.received_from.receiver();
         if members.has(receiver) {
             self.cut_receiver(lengths[receiver.get() as usize]);
         }
@@ -234,28 +254,35 @@ impl Pair {
 
     /// Cuts the receiver's history back to its permanent part, of this length.
     fn cut_receiver(&mut self, place: usize)
-        ensures receiver { self.new.traffic.receiver ≡ self.old.traffic.receiver }
-        ensures sender { self.new.traffic.sender ≡ self.old.traffic.sender }
-        ensures link { (received sent : List Deed) (dropped : ℕ → Bool) (j : ℕ) → Rises (sent_in sent) → IsEachOnce received → AreNotDropped self.old.traffic.sender received dropped
-            → IsLink self.old received sent dropped place j → IsLink self.new (take place received) sent dropped place j }
-        ensures left { (k : ℕ) (a : Arrival) → slice_get self.new.traffic.arrivals k ≡ Some a → slice_get self.old.traffic.arrivals k ≡ Some a }
+        ensures receiver { self.new.received_from.receiver ≡ self.old.received_from.receiver }
+        ensures sender { self.new.received_from.sender ≡ self.old.received_from.sender }
+        ensures pair_state { (received sent : List Deed) (dropped : ℕ → Bool) (j : ℕ) → Rises (sent_in sent)
+            → IsEachOnce received → AreNotDropped self.old.received_from.sender received dropped
+            → IsPairState self.old received sent dropped place j
+            → IsPairState self.new (take place received) sent dropped place j }
+        ensures left { (k : ℕ) (a : Arrival) → slice_get self.new.received_from.arrivals k ≡ Some a
+            → slice_get self.old.received_from.arrivals k ≡ Some a }
     {
-        let arrivals = self.channel.arrivals();
+        let arrivals = self.received_from.arrivals();
         let kept = count_received_before(arrivals, place);
-        put_all_back(&mut self.waiting, &arrivals[kept..]);
-        self.channel.forget_received(kept, place);
-        self.last = self.settled;
+        put_all_back(&mut self.in_transit, &arrivals[kept..]);
+        self.received_from.forget_received(kept, place);
+        self.last = self.last_permanent;
     }
 
     /// Cuts the sender's history back.
     fn cut_sender(&mut self, place: usize)
-        ensures receiver { self.new.traffic.receiver ≡ self.old.traffic.receiver }
-        ensures sender { self.new.traffic.sender ≡ self.old.traffic.sender }
-        ensures link { (received sent : List Deed) (dropped : ℕ → Bool) (i j : ℕ) → Rises (sent_in sent) → j ≡ place
-            → IsLink self.old received sent dropped i j → IsLink self.new received (take place sent) dropped i j }
-        ensures left { (k : ℕ) (a : Arrival) → slice_get self.new.traffic.arrivals k ≡ Some a → slice_get self.old.traffic.arrivals k ≡ Some a }
+        ensures receiver { self.new.received_from.receiver ≡ self.old.received_from.receiver }
+        ensures sender { self.new.received_from.sender ≡ self.old.received_from.sender }
+        ensures pair_state { (received sent : List Deed) (dropped : ℕ → Bool) (i j : ℕ) → Rises (sent_in sent)
+            → j ≡ place
+            → IsPairState self.old received sent dropped i j
+            → IsPairState self.new received (take place sent) dropped i j }
+        ensures left { (k : ℕ) (a : Arrival) → slice_get self.new.received_from.arrivals k ≡ Some a
+            → slice_get self.old.received_from.arrivals k ≡ Some a }
     {
-        self.waiting.truncate(self.waiting.count_before(place));
-        self.channel.cut_sender(place);
+        self.in_transit
+            .truncate(self.in_transit.count_before(place));
+        self.received_from.cut_sender(place);
     }
 }

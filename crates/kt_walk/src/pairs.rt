@@ -1,6 +1,6 @@
 //! The messages of each pair of processes that can still matter.
 
-ghost use Rattle.std.specs.Prelude.{◌≡◌, ◌≢◌, ◌≤◌, ◌<◌, ◌+◌, ◌*◌, ℕ, List, Some, true, is_some, length, map, slice_get, slice_index, OnOk, OnErr, IfOk, IfSome};
+ghost use Rattle.std.specs.Prelude.{◌≡◌, ◌≢◌, ◌≤◌, ◌<◌, ◌+◌, ◌*◌, ◌||◌, ℕ, List, Some, true, is_some, length, map, slice_get, slice_index, OnOk, OnErr, IfOk, IfSome};
 ghost use Rattle.kt_spacetime.specs.declared.event.Event.TheVariants as event;
 ghost use Rattle.kt_cuts.specs.declared.deeds.Deed.TheVariants as deed;
 ghost use Rattle.kt_cuts.specs.Past.{Past, start, after};
@@ -9,17 +9,19 @@ ghost use Rattle.kt_cuts.specs.Legal.{is_undelivered, is_later};
 ghost use Rattle.kt_cuts.specs.Tests.{is_after};
 ghost use Rattle.kt_cuts.specs.Orphans.{IsOrphanBetween, IsAtMost};
 ghost use Rattle.kt_cuts.specs.Standing.{IsInOrder, IsAllowed};
-ghost use Rattle.kt_traffic.specs.declared.waiting.Sent.{Sent};
-ghost use Rattle.kt_walk.specs.Arrivals.{IsByPair, ShowsTraffic, RollsBack, MakesPermanent, KeepsPermanent};
-ghost use Rattle.kt_walk.specs.Pairs.{Link, traffic_of, AreInUse, ArePairsOpened, IsPairCommitted, IsFit, IsEachOnce, AreNotDropped, ShowsPairs};
+ghost use Rattle.kt_transit.specs.declared.in_transit.Sent.{Sent};
+ghost use Rattle.kt_walk.specs.Arrivals.{IsByPair, ShowsReceived, RollsBack, MakesPermanent, KeepsPermanent};
+ghost use Rattle.kt_base.specs.Sets.{has};
+ghost use Rattle.kt_walk.specs.Peers.{is_in};
+ghost use Rattle.kt_walk.specs.Pairs.{PairState, received_from_of, AreInUse, AreInitialPairs, IsPairCommitted, IsFit, IsEachOnce, AreNotDropped, ShowsPairs};
 
 use crate::pair::Pair;
 use crate::peers::Peers;
 use crate::queue::Arrival;
 use kt_base::{Kind, Memory, MsgNo, ProcNo, ProcSet};
 use kt_cuts::Cut;
-use kt_cuts::orphans::{earlier, process_no};
-use kt_traffic::Sent;
+use kt_cuts::orphans::earlier;
+use kt_transit::Sent;
 use std::alloc::Global;
 use std::marker::Model;
 
@@ -40,13 +42,15 @@ const PAIRS: usize = 4_096;
 impl Model for Pairs {
     ghost use Rattle.std.specs.Prelude.{List, map};
     ghost use Rattle.kt_walk.specs.Arrivals.{IsByPair};
-    ghost use Rattle.kt_walk.specs.Pairs.{Link, traffic_of, AreInUse};
+    ghost use Rattle.kt_base.specs.Sets.{has};
+    ghost use Rattle.kt_walk.specs.Peers.{is_in};
+    ghost use Rattle.kt_walk.specs.Pairs.{PairState, received_from_of, AreInUse};
 
-    ghost Value = { List Link };
+    ghost Value = { List PairState };
 
     ghost view = { λ a. a.pairs.items };
 
-    ghost invariant = { λ a. IsByPair (map traffic_of a.pairs.items) × AreInUse a.pairs.items a.used };
+    ghost invariant = { λ a. IsByPair (map received_from_of a.pairs.items) × AreInUse a.pairs.items a.used };
 }
 
 impl Pairs {
@@ -56,7 +60,7 @@ impl Pairs {
     {
         let mut pairs = Vec::with_capacity(alloc, PAIRS)?;
         for number in 0..ProcNo::COUNT {
-            open_pairs(alloc, &mut pairs, process_no(number))?;
+            add_initial_pairs(alloc, &mut pairs, ProcNo::nth(number))?;
         }
         Ok(Pairs {
             pairs,
@@ -65,10 +69,11 @@ impl Pairs {
         })
     }
 
-    /// A message, if it is on its way to this process, and its place among those that are.
+    /// A message, if it is in transit to this process, and its place among those that are.
     pub(crate) fn find(&self, p: ProcNo, from: ProcNo, msg: MsgNo) -> Option<(usize, Sent)>
         ensures is { (s : Past) → ShowsPairs self.now s → is_some result ≡ is_undelivered s p from msg }
-        ensures found { IfSome result (λ r. (v : Link) → slice_get self.now (p * 64 + from) ≡ Some v → (slice_get v.waiting r.0 ≡ Some r.1)) }
+        ensures found { IfSome result (λ r. (v : PairState) → slice_get self.now (p * 64 + from) ≡ Some v
+            → (slice_get v.in_transit r.0 ≡ Some r.1)) }
         ensures number { IfSome result (λ r. r.1.msg ≡ msg) }
     {
         self.pairs[index_of(p, from)].find(msg)
@@ -76,15 +81,18 @@ impl Pairs {
 
     /// What this process received last of the other one, in its live history.
     pub(crate) fn last(&self, p: ProcNo, from: ProcNo) -> Option<MsgNo>
-        ensures is { (s : Past) (msg : ℕ) → ShowsPairs self.now s → list_all (is_later from msg) (s.live p) ≡ is_after msg result }
-        ensures known { (v : Link) → slice_get self.now (p * 64 + from) ≡ Some v → v.last ≡ result }
+        ensures is { (s : Past) (msg : ℕ) → ShowsPairs self.now s
+            → list_all (is_later from msg) (s.live p) ≡ is_after msg result }
+        ensures known { (v : PairState) → slice_get self.now (p * 64 + from) ≡ Some v → v.last ≡ result }
     {
         self.pairs[index_of(p, from)].last()
     }
 
     /// A process, p, sends a message to another one; unchanged where there is no memory.
     pub(crate) fn send(&mut self, p: ProcNo, to: ProcNo, message: Sent) -> Result<(), Memory>
-        ensures ok { OnOk result ((s : Past) (body : _) → ShowsPairs self.old s → IsFit s → p ≢ to → message.msg ≡ s.rows + 1 → message.place ≡ length (s.live p) → ShowsPairs self.new (after s (event.Sent p to body))) }
+        ensures ok { OnOk result ((s : Past) (body : _) → ShowsPairs self.old s → IsFit s → p ≢ to
+            → message.msg ≡ s.rows + 1 → message.place ≡ length (s.live p)
+            → ShowsPairs self.new (after s (event.Sent p to body))) }
         ensures err { OnErr result (self.new ≡ self.old) }
     {
         let place = index_of(to, p);
@@ -93,7 +101,7 @@ impl Pairs {
         Ok(())
     }
 
-    /// A process, p, receives a message that is on its way to it, at this place among those that are; unchanged where
+    /// A process, p, receives a message that is in transit to it, at this place among those that are; unchanged where
     /// there is no memory.
     pub(crate) fn receive(
         &mut self,
@@ -102,30 +110,35 @@ impl Pairs {
         index: usize,
         arrival: Arrival,
     ) -> Result<(), Memory>
-        requires { (v : Link) → slice_get self.old (p * 64 + from) ≡ Some v → slice_get v.waiting index ≡ Some (record { msg = arrival.msg; place = arrival.sent }) }
-        ensures ok { OnOk result ((s : Past) → ShowsPairs self.old s → IsFit s → IsInOrder s → IsAllowed s (event.Received p from arrival.msg) → arrival.received ≡ length (s.live p) → ShowsPairs self.new (after s (event.Received p from arrival.msg))) }
+        requires { (v : PairState) → slice_get self.old (p * 64 + from) ≡ Some v
+            → slice_get v.in_transit index ≡ Some (record { msg = arrival.msg; place = arrival.sent }) }
+        ensures ok { OnOk result ((s : Past) → ShowsPairs self.old s → IsFit s → IsInOrder s
+            → IsAllowed s (event.Received p from arrival.msg) → arrival.received ≡ length (s.live p)
+            → ShowsPairs self.new (after s (event.Received p from arrival.msg))) }
         ensures err { OnErr result (self.new ≡ self.old) }
     {
         let place = index_of(p, from);
         self.pairs[place].receive(index, arrival)
     }
 
-    /// A process, p, drops a message that is on its way to it, at this place among those that are; unchanged where there
+    /// A process, p, drops a message that is in transit to it, at this place among those that are; unchanged where there
     /// is no memory.
-    pub(crate) fn lose(
+    pub(crate) fn drop_message(
         &mut self,
         p: ProcNo,
         from: ProcNo,
         index: usize,
         message: Sent,
     ) -> Result<(), Memory>
-        requires { (v : Link) → slice_get self.old (p * 64 + from) ≡ Some v → slice_get v.waiting index ≡ Some message }
-        ensures ok { OnOk result ((s : Past) → ShowsPairs self.old s → IsFit s → ShowsPairs self.new (after s (event.Dropped p from message.msg))) }
+        requires { (v : PairState) → slice_get self.old (p * 64 + from) ≡ Some v
+            → slice_get v.in_transit index ≡ Some message }
+        ensures ok { OnOk result ((s : Past) → ShowsPairs self.old s → IsFit s
+            → ShowsPairs self.new (after s (event.Dropped p from message.msg))) }
         ensures err { OnErr result (self.new ≡ self.old) }
     {
         let place = index_of(p, from);
         let pair = &mut self.pairs[place];
-        pair.lose(index)?;
+        pair.drop_message(index)?;
         if pair.is_idle() {
             self.used.remove(place);
             self.resting.add(place);
@@ -135,24 +148,39 @@ impl Pairs {
 
     /// The least orphan of a cut that keeps the permanent parts.
     pub(crate) fn orphan(&self, cut: &Cut) -> Option<MsgNo>
-        ensures orphan { IfSome result (λ msg. (s : Past) → ShowsPairs self.now s → IsInOrder s → (p : ℕ) × (q : ℕ) × IsOrphanBetween s (slice_index cut.now) p q msg) }
-        ensures least { (s : Past) (p q msg : ℕ) → ShowsPairs self.now s → KeepsPermanent s cut.now → IsOrphanBetween s (slice_index cut.now) p q msg → IsAtMost result msg }
+        ensures orphan { IfSome result (λ msg. (s : Past) → ShowsPairs self.now s → IsInOrder s → (p : ℕ) × (q : ℕ)
+            × IsOrphanBetween s (slice_index cut.now) p q msg) }
+        ensures least { (s : Past) (p q msg : ℕ) → ShowsPairs self.now s → KeepsPermanent s cut.now
+            → IsOrphanBetween s (slice_index cut.now) p q msg → IsAtMost result msg }
     {
-        first_orphan_of(&self.pairs, &self.used, cut)
+        least_orphan_of(&self.pairs, &self.used, cut)
+    }
+
+    /// The least orphan, of a cut that keeps the permanent parts, between two processes of which one is a member.
+    pub(crate) fn orphan_among(&self, members: ProcSet, cut: &Cut) -> Option<MsgNo>
+        ensures orphan { IfSome result (λ msg. (s : Past) → ShowsPairs self.now s → IsInOrder s → (p : ℕ) × (q : ℕ)
+            × IsOrphanBetween s (slice_index cut.now) p q msg) }
+        ensures least { (s : Past) (p q msg : ℕ) → ShowsPairs self.now s → KeepsPermanent s cut.now
+            → (has members p || has members q) ≡ true → IsOrphanBetween s (slice_index cut.now) p q msg
+            → IsAtMost result msg }
+    {
+        least_orphan_of(&self.pairs, &self.used.of(members), cut)
     }
 
     /// Gives back the room of the pairs that came to have no messages at the last decision or after it, and have none
     /// now. Those that have messages at each decision keep it, so that it is not asked for again and again.
-    pub(crate) fn give_back(&mut self)
+    pub(crate) fn shrink(&mut self)
         ensures { self.new ≡ self.old }
     {
-        give_back_all(&mut self.pairs, &self.resting);
+        shrink_all(&mut self.pairs, &self.resting);
         self.resting = Peers::new();
     }
 
     /// A committed rollback cuts the members' histories back to the permanent lengths.
     pub(crate) fn roll_back(&mut self, members: ProcSet, permanent: &[usize; 64])
-        ensures { (s : Past) (p k : ℕ) → ShowsPairs self.old s → ((q : ℕ) → IsEachOnce (s.live q)) → ((q r : ℕ) → AreNotDropped r (s.live q) s.dropped) → IsInOrder s → RollsBack s k members permanent.now → ShowsPairs self.new (after s (event.Decided p k true)) }
+        ensures { (s : Past) (p k : ℕ) → ShowsPairs self.old s → ((q : ℕ) → IsEachOnce (s.live q))
+            → ((q r : ℕ) → AreNotDropped r (s.live q) s.dropped) → IsInOrder s → RollsBack s k members permanent.now
+            → ShowsPairs self.new (after s (event.Decided p k true)) }
     {
         commit_all(
             &mut self.pairs,
@@ -166,8 +194,9 @@ impl Pairs {
 
     /// A committed checkpoint of these members leaves these permanent lengths. Messages that both permanent parts have
     /// are forgotten.
-    pub(crate) fn settle(&mut self, members: ProcSet, permanent: &[usize; 64])
-        ensures { (s : Past) (p k : ℕ) → ShowsPairs self.old s → MakesPermanent s k members permanent.now → ShowsPairs self.new (after s (event.Decided p k true)) }
+    pub(crate) fn commit_checkpoint(&mut self, members: ProcSet, permanent: &[usize; 64])
+        ensures { (s : Past) (p k : ℕ) → ShowsPairs self.old s → MakesPermanent s k members permanent.now
+            → ShowsPairs self.new (after s (event.Decided p k true)) }
     {
         commit_all(
             &mut self.pairs,
@@ -199,10 +228,11 @@ fn commit_all(
     members: ProcSet,
     permanent: &[usize; 64],
 )
-    requires by_pair { IsByPair (map traffic_of pairs.old) }
+    requires by_pair { IsByPair (map received_from_of pairs.old) }
     requires in_use { AreInUse pairs.old used.old }
     ensures count { length pairs.new ≡ length pairs.old }
-    ensures each { (i : ℕ) (w : Link) → slice_get pairs.new i ≡ Some w → (v : Link) × (slice_get pairs.old i ≡ Some v) × IsPairCommitted kind members permanent.now v w }
+    ensures each { (i : ℕ) (w : PairState) → slice_get pairs.new i ≡ Some w → (v : PairState)
+        × (slice_get pairs.old i ≡ Some v) × IsPairCommitted kind members permanent.now v w }
     ensures in_use { AreInUse pairs.new used.new }
 {
     let places = used.of(members);
@@ -219,27 +249,33 @@ fn commit_all(
 }
 
 // Gives back the room of those of these pairs that have no messages.
-fn give_back_all(pairs: &mut [Pair], places: &Peers)
+fn shrink_all(pairs: &mut [Pair], places: &Peers)
     requires { length pairs.old ≡ 4096 }
     ensures { pairs.new ≡ pairs.old }
 {
     let mut next = 0;
     while let Some(place) = places.first_from(next) {
-        pairs[place].give_back();
+        pairs[place].shrink();
         next = place + 1;
     }
 }
 
-// The least orphan of the pairs that have messages.
-fn first_orphan_of(pairs: &[Pair], used: &Peers, cut: &Cut) -> Option<MsgNo>
-    requires count { length pairs.now ≡ 4096 }
-    requires in_use { AreInUse pairs.now used.now }
-    ensures orphan { IfSome result (λ msg. (k : ℕ) × (v : Link) × (slice_get pairs.now k ≡ Some v) × ((s : Past) → IsInOrder s → ShowsTraffic v.traffic s → IsOrphanBetween s (slice_index cut.now) v.traffic.receiver v.traffic.sender msg)) }
-    ensures least { (k : ℕ) (v : Link) (s : Past) (msg : ℕ) → slice_get pairs.now k ≡ Some v → s.permanent v.traffic.sender ≤ slice_index cut.now v.traffic.sender → ShowsTraffic v.traffic s → IsOrphanBetween s (slice_index cut.now) v.traffic.receiver v.traffic.sender msg → IsAtMost result msg }
+// The least orphan of the pairs at these places.
+fn least_orphan_of(pairs: &[Pair], places: &Peers, cut: &Cut) -> Option<MsgNo>
+    requires { length pairs.now ≡ 4096 }
+    ensures orphan { IfSome result (λ msg. (k : ℕ) × (v : PairState) × (slice_get pairs.now k ≡ Some v)
+        × ((s : Past) → IsInOrder s → ShowsReceived v.received_from s
+        → IsOrphanBetween s (slice_index cut.now) v.received_from.receiver v.received_from.sender msg)) }
+    ensures least { (k : ℕ) (v : PairState) (s : Past) (msg : ℕ) → is_in places.now k ≡ true
+        → slice_get pairs.now k ≡ Some v
+        → s.permanent v.received_from.sender ≤ slice_index cut.now v.received_from.sender
+        → ShowsReceived v.received_from s
+        → IsOrphanBetween s (slice_index cut.now) v.received_from.receiver v.received_from.sender msg
+        → IsAtMost result msg }
 {
     let mut least = None;
     let mut next = 0;
-    while let Some(place) = used.first_from(next) {
+    while let Some(place) = places.first_from(next) {
         least = earlier(least, pairs[place].orphan(cut));
         next = place + 1;
     }
@@ -247,12 +283,12 @@ fn first_orphan_of(pairs: &[Pair], used: &Peers, cut: &Cut) -> Option<MsgNo>
 }
 
 // Adds the pairs of a receiver, one with each sender.
-fn open_pairs(alloc: Global, pairs: &mut Vec<Pair>, receiver: ProcNo) -> Result<(), Memory>
-    requires { ArePairsOpened pairs.old.items (receiver * 64) }
-    ensures { OnOk result (ArePairsOpened pairs.new.items (receiver * 64 + 64)) }
+fn add_initial_pairs(alloc: Global, pairs: &mut Vec<Pair>, receiver: ProcNo) -> Result<(), Memory>
+    requires { AreInitialPairs pairs.old.items (receiver * 64) }
+    ensures { OnOk result (AreInitialPairs pairs.new.items (receiver * 64 + 64)) }
 {
     for number in 0..ProcNo::COUNT {
-        pairs.push(Pair::new(alloc, receiver, process_no(number)))?;
+        pairs.push(Pair::new(alloc, receiver, ProcNo::nth(number)))?;
     }
     Ok(())
 }

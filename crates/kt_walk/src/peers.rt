@@ -5,7 +5,6 @@ ghost use Rattle.kt_base.specs.Sets.{has};
 ghost use Rattle.kt_walk.specs.Peers.{is_in};
 
 use kt_base::{ProcNo, ProcSet};
-use kt_cuts::orphans::process_no;
 use std::marker::Model;
 
 /// For each process, those that it has messages from: a set of pairs, by their places, from 0 on, by receiver and then
@@ -56,12 +55,13 @@ impl Peers {
 
     /// The pairs that have one of these processes as receiver or as sender.
     pub(crate) fn of(&self, members: ProcSet) -> Peers
-        ensures { (i : ℕ) → i < 4096 → is_in result i ≡ (is_in self.now i && (has members (i / 64) || has members (i % 64))) }
+        ensures { (i : ℕ) → i < 4096
+            → is_in result i ≡ (is_in self.now i && (has members (i / 64) || has members (i % 64))) }
     {
         let bits = bits_of(members);
         let mut senders = self.senders;
         for number in 0..ProcNo::COUNT {
-            if !members.has(process_no(number)) {
+            if !members.has(ProcNo::nth(number)) {
                 senders[number as usize] &= bits;
             }
         }
@@ -70,7 +70,8 @@ impl Peers {
 
     /// The place of the first pair from this place on.
     pub(crate) fn first_from(&self, place: usize) -> Option<usize>
-        ensures found { IfSome result (λ i. (place ≤ i) × (i < 4096) × (is_in self.now i ≡ true) × ((k : ℕ) → place ≤ k → k < i → is_in self.now k ≡ false)) }
+        ensures found { IfSome result (λ i. (place ≤ i) × (i < 4096) × (is_in self.now i ≡ true)
+            × ((k : ℕ) → place ≤ k → k < i → is_in self.now k ≡ false)) }
         ensures none { IfNone result ((k : ℕ) → place ≤ k → k < 4096 → is_in self.now k ≡ false) }
     {
         let mut start = place % 64;
@@ -90,7 +91,7 @@ fn bits_of(members: ProcSet) -> u64
 {
     let mut bits = 0;
     for number in 0..ProcNo::COUNT {
-        if members.has(process_no(number)) {
+        if members.has(ProcNo::nth(number)) {
             bits |= 1 << number;
         }
     }
@@ -100,7 +101,8 @@ fn bits_of(members: ProcSet) -> u64
 // The first bit that is set, from this one on.
 fn first_bit(bits: u64, start: usize) -> Option<usize>
     requires { start < 64 }
-    ensures found { IfSome result (λ q. (start ≤ q) × (q < 64) × (has bits q ≡ true) × ((k : ℕ) → start ≤ k → k < q → has bits k ≡ false)) }
+    ensures found { IfSome result (λ q. (start ≤ q) × (q < 64) × (has bits q ≡ true)
+        × ((k : ℕ) → start ≤ k → k < q → has bits k ≡ false)) }
     ensures none { IfNone result ((k : ℕ) → start ≤ k → k < 64 → has bits k ≡ false) }
 {
     let rest = bits >> start;

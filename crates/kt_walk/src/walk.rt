@@ -1,6 +1,6 @@
 //! A reader of a log row by row, which keeps no rows.
 
-ghost use Rattle.std.specs.Prelude.{◌≡◌, ◌<◌, ◌^◌, ◌++◌, ◌∷◌, [], ℕ, List, length, IfOk, OnOk, OnErr, IfNone, IfSome, Err, None, Some, true, false, slice_index, ◌≤◌};
+ghost use Rattle.std.specs.Prelude.{◌≡◌, ◌<◌, ◌^◌, ◌++◌, ◌∷◌, ◌||◌, [], ℕ, List, length, IfOk, OnOk, OnErr, IfNone, IfSome, Err, None, Some, true, false, slice_index, ◌≤◌};
 ghost use Rattle.kt_spacetime.specs.declared.event.Event.{Event};
 ghost use Rattle.kt_spacetime.specs.declared.event.Event.TheVariants as event;
 ghost use Rattle.kt_cuts.specs.declared.traces.Trace.{Trace};
@@ -8,20 +8,22 @@ ghost use Rattle.kt_cuts.specs.declared.rules.Rule.{Rule};
 ghost use Rattle.kt_cuts.specs.declared.legality.LegalFault.TheVariants as fault;
 ghost use Rattle.kt_cuts.specs.Past.{past};
 ghost use Rattle.kt_cuts.specs.Legal.{IsLegal, broken_rule, first_broken};
+ghost use Rattle.kt_base.specs.Sets.{has};
 ghost use Rattle.kt_cuts.specs.Cuts.{IsOrphan};
-ghost use Rattle.kt_traffic.specs.declared.waiting.Sent.{Sent};
+ghost use Rattle.kt_cuts.specs.Orphans.{IsOrphanBetween};
+ghost use Rattle.kt_transit.specs.declared.in_transit.Sent.{Sent};
 ghost use Rattle.kt_walk.specs.Keeping.{kept_trace, held_of};
 ghost use Rattle.kt_walk.specs.Arrivals.{KeepsPermanent};
-ghost use Rattle.kt_walk.specs.PartsOf.{waits, follows, extends_history};
+ghost use Rattle.kt_walk.specs.PartsOf.{takes_in_transit, follows, extends_history};
 ghost use Rattle.kt_walk.specs.WalkOf.{WalkOf, IsFoundAt};
 
+use crate::control::ControlState;
 use crate::pairs::Pairs;
 use crate::queue::Arrival;
-use crate::trail::Trail;
-use kt_base::{InstNo, Memory, MsgNo, ProcNo};
+use kt_base::{InstNo, Memory, MsgNo, ProcNo, ProcSet, RowNo};
 use kt_cuts::{Cut, LegalFault, Trace, is_after};
 use kt_spacetime::Event;
-use kt_traffic::Sent;
+use kt_transit::Sent;
 use std::alloc::Global;
 use std::marker::Model;
 
@@ -32,7 +34,7 @@ use std::marker::Model;
 /// messages from one process to another are kept together.
 #[derive(Drop)]
 pub struct Walk {
-    trail: Trail,
+    control: ControlState,
     pairs: Pairs,
 }
 
@@ -41,7 +43,7 @@ impl Model for Walk {
 
     ghost Value = { WalkParts };
 
-    ghost view = { λ w. walk_parts w.trail w.pairs };
+    ghost view = { λ w. walk_parts w.control w.pairs };
 }
 
 impl Walk {
@@ -49,22 +51,24 @@ impl Walk {
     pub fn new(alloc: Global) -> Result<Walk, Memory>
         ensures { IfOk result (λ w. WalkOf w []) }
     {
-        let trail = Trail::new(alloc)?;
+        let control = ControlState::new(alloc)?;
         let pairs = Pairs::new(alloc)?;
-        Ok(Walk { trail, pairs })
+        Ok(Walk { control, pairs })
     }
 
     /// Takes one more row, where it breaks no rule of a legal log; else the number of this row and the least rule that
     /// it breaks. A walk that refuses a row, or lacks the memory for it, is unchanged.
     pub fn feed(&mut self, row: &Event) -> Result<(), LegalFault>
         requires few { self.old.rows < 2 ^ 24 }
-        ensures fed { OnOk result ((rows : List Event) → WalkOf self.old rows → IsLegal (rows ++ row.now ∷ []) × WalkOf self.new (rows ++ row.now ∷ [])) }
-        ensures broken { (number : ℕ) (rule : Rule) → result ≡ Err (fault.Broken number rule) → (rows : List Event) → WalkOf self.old rows → IsLegal rows × (first_broken (rows ++ row.now ∷ []) ≡ Some (number, rule)) }
+        ensures fed { OnOk result ((rows : List Event) → WalkOf self.old rows → IsLegal (rows ++ row.now ∷ [])
+            × WalkOf self.new (rows ++ row.now ∷ [])) }
+        ensures broken { (number : ℕ) (rule : Rule) → result ≡ Err (fault.Broken number rule) → (rows : List Event)
+            → WalkOf self.old rows → IsLegal rows × (first_broken (rows ++ row.now ∷ []) ≡ Some (number, rule)) }
         ensures unchanged { OnErr result (self.new ≡ self.old) }
     {
         match *row {
             Event::Sent { p, to, .. } => {
-                if !self.trail.may_send(p, to) {
+                if !self.control.may_send(p, to) {
                     self.test(row)?;
                 }
                 self.send(p, to)?;
@@ -82,16 +86,20 @@ impl Walk {
     // Takes a row that receives a message.
     fn feed_received(&mut self, p: ProcNo, from: ProcNo, msg: MsgNo) -> Result<(), LegalFault>
         requires few { self.old.rows < 2 ^ 24 }
-        ensures fed { OnOk result ((rows : List Event) → WalkOf self.old rows → IsLegal (rows ++ event.Received p from msg ∷ []) × WalkOf self.new (rows ++ event.Received p from msg ∷ [])) }
-        ensures broken { (number : ℕ) (rule : Rule) → result ≡ Err (fault.Broken number rule) → (rows : List Event) → WalkOf self.old rows → IsLegal rows × (first_broken (rows ++ event.Received p from msg ∷ []) ≡ Some (number, rule)) }
+        ensures fed { OnOk result ((rows : List Event) → WalkOf self.old rows
+            → IsLegal (rows ++ event.Received p from msg ∷ [])
+            × WalkOf self.new (rows ++ event.Received p from msg ∷ [])) }
+        ensures broken { (number : ℕ) (rule : Rule) → result ≡ Err (fault.Broken number rule) → (rows : List Event)
+            → WalkOf self.old rows → IsLegal rows
+            × (first_broken (rows ++ event.Received p from msg ∷ []) ≡ Some (number, rule)) }
         ensures unchanged { OnErr result (self.new ≡ self.old) }
     {
         let Some((index, message)) = self.pairs.find(p, from, msg) else {
-            // The message is not on its way, so the row breaks a rule.
+            // The message is not in transit, so the row breaks a rule.
             return self.test(&Event::Received { p, from, msg });
         };
         let in_turn = is_after(msg, self.pairs.last(p, from));
-        if !self.trail.may_receive(p, from, msg, in_turn) {
+        if !self.control.may_receive(p, from, msg, in_turn) {
             self.test(&Event::Received { p, from, msg })?;
         }
         self.receive(p, from, index, message)?;
@@ -102,20 +110,22 @@ impl Walk {
     #[inline(never)]
     fn test(&self, row: &Event) -> Result<(), LegalFault>
         requires few { self.now.rows < 2 ^ 24 }
-        ensures unbroken { OnOk result ((rows : List Event) → WalkOf self.now rows → broken_rule (past rows) row.now ≡ None) }
-        ensures broken { (number : ℕ) (rule : Rule) → result ≡ Err (fault.Broken number rule) → (rows : List Event) → WalkOf self.now rows → IsLegal rows × (first_broken (rows ++ row.now ∷ []) ≡ Some (number, rule)) }
+        ensures unbroken { OnOk result ((rows : List Event) → WalkOf self.now rows
+            → broken_rule (past rows) row.now ≡ None) }
+        ensures broken { (number : ℕ) (rule : Rule) → result ≡ Err (fault.Broken number rule) → (rows : List Event)
+            → WalkOf self.now rows → IsLegal rows × (first_broken (rows ++ row.now ∷ []) ≡ Some (number, rule)) }
     {
-        let is_waiting = self.waits(row);
+        let is_in_transit = self.takes_in_transit(row);
         let in_turn = self.follows(row);
-        match self.trail.broken_rule(row, is_waiting, in_turn) {
-            Some(rule) => Err(LegalFault::Broken(self.trail.next_row(), rule)),
+        match self.control.broken_rule(row, is_in_transit, in_turn) {
+            Some(rule) => Err(LegalFault::Broken(RowNo::after(self.control.rows), rule)),
             None => Ok(()),
         }
     }
 
-    // Whether a row takes a message that is on its way to the row's process.
-    fn waits(&self, row: &Event) -> bool
-        ensures { (rows : List Event) → WalkOf self.now rows → result ≡ waits (past rows) row.now }
+    // Whether a row takes a message that is in transit to the row's process.
+    fn takes_in_transit(&self, row: &Event) -> bool
+        ensures { (rows : List Event) → WalkOf self.now rows → result ≡ takes_in_transit (past rows) row.now }
     {
         match *row {
             Event::Received { p, from, msg } | Event::Dropped { p, from, msg } => {
@@ -141,36 +151,39 @@ impl Walk {
     fn add(&mut self, row: &Event) -> Result<(), Memory>
         requires few { self.old.rows < 2 ^ 24 }
         requires other { extends_history row.now ≡ false }
-        ensures fed { OnOk result ((rows : List Event) → WalkOf self.old rows → broken_rule (past rows) row.now ≡ None → WalkOf self.new (rows ++ row.now ∷ [])) }
+        ensures fed { OnOk result ((rows : List Event) → WalkOf self.old rows
+            → broken_rule (past rows) row.now ≡ None → WalkOf self.new (rows ++ row.now ∷ [])) }
         ensures unchanged { OnErr result (self.new ≡ self.old) }
     {
         match *row {
-            Event::Dropped { p, from, msg } => self.lose(p, from, msg),
+            Event::Dropped { p, from, msg } => self.drop_message(p, from, msg),
             Event::Decided { inst, commit, .. } => {
-                self.pairs.give_back();
-                self.trail.decide(&mut self.pairs, inst, commit);
+                self.pairs.shrink();
+                self.control.decide(&mut self.pairs, inst, commit);
                 Ok(())
             }
-            _ => self.trail.add(row),
+            _ => self.control.add(row),
         }
     }
 
     // A process sends a message to another one, which breaks no rule.
     fn send(&mut self, p: ProcNo, to: ProcNo) -> Result<(), Memory>
         requires few { self.old.rows < 2 ^ 24 }
-        ensures fed { OnOk result ((rows : List Event) (body : _) → WalkOf self.old rows → broken_rule (past rows) (event.Sent p to body) ≡ None → WalkOf self.new (rows ++ event.Sent p to body ∷ [])) }
+        ensures fed { OnOk result ((rows : List Event) (body : _) → WalkOf self.old rows
+            → broken_rule (past rows) (event.Sent p to body) ≡ None
+            → WalkOf self.new (rows ++ event.Sent p to body ∷ [])) }
         ensures unchanged { OnErr result (self.new ≡ self.old) }
     {
         let message = Sent {
-            msg: self.trail.next_message(),
-            place: self.trail.walker(p).length,
+            msg: MsgNo::after(self.control.rows),
+            place: self.control.process_state(p).length,
         };
         self.pairs.send(p, to, message)?;
-        self.trail.extend(p);
+        self.control.extend(p);
         Ok(())
     }
 
-    // A process receives a message, which breaks no rule, at this place among those on their way.
+    // A process receives a message, which breaks no rule, at this place among those in transit.
     fn receive(
         &mut self,
         p: ProcNo,
@@ -179,31 +192,35 @@ impl Walk {
         message: Sent,
     ) -> Result<(), Memory>
         requires few { self.old.rows < 2 ^ 24 }
-        requires found { IsFoundAt self.old.links p from index message }
-        ensures fed { OnOk result ((rows : List Event) → WalkOf self.old rows → broken_rule (past rows) (event.Received p from message.msg) ≡ None → WalkOf self.new (rows ++ event.Received p from message.msg ∷ [])) }
+        requires found { IsFoundAt self.old.pair_states p from index message }
+        ensures fed { OnOk result ((rows : List Event) → WalkOf self.old rows
+            → broken_rule (past rows) (event.Received p from message.msg) ≡ None
+            → WalkOf self.new (rows ++ event.Received p from message.msg ∷ [])) }
         ensures unchanged { OnErr result (self.new ≡ self.old) }
     {
         let arrival = Arrival {
             msg: message.msg,
             sent: message.place,
-            received: self.trail.walker(p).length,
+            received: self.control.process_state(p).length,
         };
         self.pairs.receive(p, from, index, arrival)?;
-        self.trail.extend(p);
+        self.control.extend(p);
         Ok(())
     }
 
     // A process drops a message, which breaks no rule.
-    fn lose(&mut self, p: ProcNo, from: ProcNo, msg: MsgNo) -> Result<(), Memory>
+    fn drop_message(&mut self, p: ProcNo, from: ProcNo, msg: MsgNo) -> Result<(), Memory>
         requires few { self.old.rows < 2 ^ 24 }
-        ensures fed { OnOk result ((rows : List Event) → WalkOf self.old rows → broken_rule (past rows) (event.Dropped p from msg) ≡ None → WalkOf self.new (rows ++ event.Dropped p from msg ∷ [])) }
+        ensures fed { OnOk result ((rows : List Event) → WalkOf self.old rows
+            → broken_rule (past rows) (event.Dropped p from msg) ≡ None
+            → WalkOf self.new (rows ++ event.Dropped p from msg ∷ [])) }
         ensures unchanged { OnErr result (self.new ≡ self.old) }
     {
         let Some((index, message)) = self.pairs.find(p, from, msg) else {
             return Ok(());
         };
-        self.pairs.lose(p, from, index, message)?;
-        self.trail.lose(p, from, msg);
+        self.pairs.drop_message(p, from, index, message)?;
+        self.control.drop_message(p, from, msg);
         Ok(())
     }
 
@@ -213,28 +230,28 @@ impl Walk {
         ensures rows { result ≡ self.now.rows }
         ensures range { result < 2 ^ 64 }
     {
-        self.trail.rows
+        self.control.rows
     }
 
     /// The length of a process's live history.
     pub fn length(&self, p: ProcNo) -> usize
         ensures { (rows : List Event) → WalkOf self.now rows → result ≡ length ((past rows).live p) }
     {
-        self.trail.walker(p).length as usize
+        self.control.process_state(p).length as usize
     }
 
     /// A process's permanent position.
     pub fn permanent(&self, p: ProcNo) -> usize
         ensures { (rows : List Event) → WalkOf self.now rows → result ≡ (past rows).permanent p }
     {
-        self.trail.walker(p).permanent
+        self.control.process_state(p).permanent
     }
 
     /// The new position of a process in an instance; None where it has no `took` row of it.
     pub fn position(&self, inst: InstNo, p: ProcNo) -> Option<usize>
         ensures { (rows : List Event) → WalkOf self.now rows → result ≡ (past rows).new inst p }
     {
-        self.trail.instance(inst)?.position(p)
+        self.control.instance(inst)?.position(p)
     }
 
     /// A message and its places, counted from 1; None where it is not kept. It looks through all pairs of processes.
@@ -247,8 +264,10 @@ impl Walk {
     /// The places, counted from 1, of the send and the receive of a message from one process to another; None where it is
     /// not kept, or is not in both live histories.
     pub fn places(&self, from: ProcNo, to: ProcNo, msg: MsgNo) -> Option<(usize, usize)>
-        ensures found { IfSome result (λ r. (rows : List Event) → WalkOf self.now rows → kept_trace rows msg ≡ Some (record { from = from; to = to; sent = Some r.0; received = Some r.1 })) }
-        ensures none { IfNone result ((rows : List Event) (sent received : ℕ) → WalkOf self.now rows → kept_trace rows msg ≡ Some (record { from = from; to = to; sent = Some sent; received = Some received }) → ⊥) }
+        ensures found { IfSome result (λ r. (rows : List Event) → WalkOf self.now rows
+            → kept_trace rows msg ≡ Some (record { from = from; to = to; sent = Some r.0; received = Some r.1 })) }
+        ensures none { IfNone result ((rows : List Event) (sent received : ℕ) → WalkOf self.now rows
+            → kept_trace rows msg ≡ Some (record { from = from; to = to; sent = Some sent; received = Some received }) → ⊥) }
     {
         self.pairs.places(from, to, msg)
     }
@@ -263,10 +282,28 @@ impl Walk {
     /// The least orphan of a cut: a message that is received within its receiver's part and not sent within its
     /// sender's. No part is longer than the history, or shorter than its permanent part.
     pub fn orphan(&self, cut: &Cut) -> Option<MsgNo>
-        ensures none { IfNone result ((rows : List Event) (msg : ℕ) → WalkOf self.now rows → KeepsPermanent (past rows) cut.now → IsOrphan (past rows) (slice_index cut.now) msg → ⊥) }
-        ensures orphan { IfSome result (λ msg. (rows : List Event) → WalkOf self.now rows → IsOrphan (past rows) (slice_index cut.now) msg) }
-        ensures least { IfSome result (λ msg. (rows : List Event) (other : ℕ) → WalkOf self.now rows → KeepsPermanent (past rows) cut.now → IsOrphan (past rows) (slice_index cut.now) other → msg ≤ other) }
+        ensures none { IfNone result ((rows : List Event) (msg : ℕ) → WalkOf self.now rows
+            → KeepsPermanent (past rows) cut.now → IsOrphan (past rows) (slice_index cut.now) msg → ⊥) }
+        ensures orphan { IfSome result (λ msg. (rows : List Event) → WalkOf self.now rows
+            → IsOrphan (past rows) (slice_index cut.now) msg) }
+        ensures least { IfSome result (λ msg. (rows : List Event) (other : ℕ) → WalkOf self.now rows
+            → KeepsPermanent (past rows) cut.now → IsOrphan (past rows) (slice_index cut.now) other → msg ≤ other) }
     {
         self.pairs.orphan(cut)
+    }
+
+    /// An orphan of a cut, the least of those between two processes of which one is a member: no other pair is looked at.
+    /// No part is longer than the history, or shorter than its permanent part.
+    pub fn orphan_among(&self, members: ProcSet, cut: &Cut) -> Option<MsgNo>
+        ensures none { IfNone result ((rows : List Event) (p q msg : ℕ) → WalkOf self.now rows
+            → KeepsPermanent (past rows) cut.now → (has members p || has members q) ≡ true
+            → IsOrphanBetween (past rows) (slice_index cut.now) p q msg → ⊥) }
+        ensures orphan { IfSome result (λ msg. (rows : List Event) → WalkOf self.now rows
+            → IsOrphan (past rows) (slice_index cut.now) msg) }
+        ensures least { IfSome result (λ msg. (rows : List Event) (p q other : ℕ) → WalkOf self.now rows
+            → KeepsPermanent (past rows) cut.now → (has members p || has members q) ≡ true
+            → IsOrphanBetween (past rows) (slice_index cut.now) p q other → msg ≤ other) }
+    {
+        self.pairs.orphan_among(members, cut)
     }
 }

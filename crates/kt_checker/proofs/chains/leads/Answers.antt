@@ -24,7 +24,7 @@ returns-in-Some-position c = λ rows h.
           subst (λ kind. IsChain (past rows) k kind c.args.at (c.args.msg ∷ []) c.args.next) (sym c.in-Checkpoint.is) step,
       λ chain.
           let there = subst (λ kind. IsChain (past rows) k kind c.args.at (c.args.msg ∷ []) c.args.next) c.in-Checkpoint.is chain in
-          let beyond = new_beyond rows k c.args.at c.args.msg c.args.next c.in-Some.received h.trail.legal there found.1 in
+          let beyond = new_beyond rows k c.args.at c.args.msg c.args.next c.in-Some.received h.control.legal there found.1 in
           let same = some_same (sym new ∙ beyond.1) in
           is_at_most c.in-Some.received c.in-Some-position.position (omega (arith, same, beyond.2)),
     )

@@ -16,13 +16,13 @@ returns-clause-found c = λ rows h.
 
 pub returns-in_default-clause-none : goal.returns-in_default-clause-none
 returns-in_default-clause-none c = λ rows h link.
-    let step = step_of rows 0 Rollback c.args.from c.args.msg c.args.to h.trail.legal (c.args.to, link, refl) in
-    c.in_default.ensures.none rows step.sent step.received h (kept_places rows c.args.from c.args.msg c.args.to h.trail.legal step)
+    let step = step_of rows 0 Rollback c.args.from c.args.msg c.args.to h.control.legal (c.args.to, link, refl) in
+    c.in_default.ensures.none rows step.sent step.received h (kept_places rows c.args.from c.args.msg c.args.to h.control.legal step)
 
 pub returns-then-sent-permanent-clause-none : goal.returns-then-sent-permanent-clause-none
 returns-then-sent-permanent-clause-none c = λ rows h link.
-    let step = step_of rows 0 Rollback c.args.from c.args.msg c.args.to h.trail.legal (c.args.to, link, refl) in
-    let same = some_same (sym (c.in-Some.ensures.found rows h) ∙ kept_places rows c.args.from c.args.msg c.args.to h.trail.legal step) in
+    let step = step_of rows 0 Rollback c.args.from c.args.msg c.args.to h.control.legal (c.args.to, link, refl) in
+    let same = some_same (sym (c.in-Some.ensures.found rows h) ∙ kept_places rows c.args.from c.args.msg c.args.to h.control.legal step) in
     let at = some_same (ap (λ (t : Trace). t.sent) same) in
     let from = c.permanent.ensures rows h in
     let low = ap (past rows).permanent step.leads.0 in

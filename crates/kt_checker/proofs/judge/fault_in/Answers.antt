@@ -1,17 +1,15 @@
-use Rattle.std.proofs.Common.{ap, sym, subst, ◌∙◌}
+use Rattle.std.proofs.Common.{ap, sym, subst, refl, ◌∙◌}
 use Rattle.std.specs.Prelude.{not}
-use Rattle.std.specs.List.{slice_index}
 use Rattle.kt_cuts.specs.Past.{past}
 use Rattle.kt_cuts.proofs.SortedFacts.{some_same}
-use Rattle.kt_checker.specs.Passing.{ListsReadyOf, decided_cut}
+use Rattle.kt_checker.specs.Passing.{ListsReadyOf}
 use Rattle.kt_checker.specs.Order.{IsWrong}
-use Rattle.kt_checker.proofs.Chaining.{consistent_of}
-use Rattle.kt_checker.proofs.Answering.{refused_not, orphan_refutes}
-use Rattle.kt_checker.proofs.Inside.{keeps_permanent}
+use Rattle.kt_checker.proofs.Chaining.{never}
+use Rattle.kt_checker.proofs.Answering.{refused_not}
 use Rattle.kt_checker.proofs.judge.fault_in.Goals as goal
 
-pub returns-in-Some : goal.returns-in-Some
-returns-in-Some c = λ rows hist undecided.
+pub returns-then-not-leaves_consistent : goal.returns-then-not-leaves_consistent
+returns-then-not-leaves_consistent c = λ rows hist before undecided.
     let certificate = c.args.certificate.now in
     let same = c.lists_members.ensures.0 c.if-not-lists_members.false in
     record {
@@ -24,13 +22,12 @@ returns-in-Some c = λ rows hist undecided.
             sym commit ∙ c.if-not-commit.false,
             same,
             c.has_chains.ensures.lists rows hist c.if-not-has_chains.false,
-            orphan_refutes (past rows) (slice_index c.cut_of-cut.result) (decided_cut (past rows) certificate.inst certificate.kind) c.in-Some.field-0
-                (λ p low. c.cut_of-cut.ensures rows p hist listed low) hist.trail.no_more (c.in-Some.ensures.orphan rows hist),
+            λ consistent. never (sym c.if-not-leaves_consistent.true ∙ (c.leaves_consistent.ensures rows hist before undecided listed).1 consistent),
           );
     }
 
-pub returns-in-None : goal.returns-in-None
-returns-in-None c = λ rows hist undecided.
+pub returns : goal.returns
+returns c = λ rows hist before undecided.
     let certificate = c.args.certificate.now in
     let same = c.lists_members.ensures.0 c.if-not-lists_members.false in
     record {
@@ -40,8 +37,7 @@ returns-in-None c = λ rows hist undecided.
           record {
             members = same;
             lists = c.has_chains.ensures.lists rows hist c.if-not-has_chains.false;
-            consistent = consistent_of (past rows) (slice_index c.cut_of-cut.result) (decided_cut (past rows) certificate.inst certificate.kind)
-                (λ p low. c.cut_of-cut.ensures rows p hist listed low) hist.trail.no_more (λ msg orphan. c.in-None.ensures.none rows msg hist (keeps_permanent rows certificate.inst certificate.kind c.cut_of-cut.result hist.trail.legal undecided (λ p low. c.cut_of-cut.ensures rows p hist listed low)) orphan);
+            consistent = (c.leaves_consistent.ensures rows hist before undecided listed).0 c.if-not-leaves_consistent.false;
           };
       wrong = λ why is. absurd (cc);
     }

@@ -15,8 +15,8 @@ returns-in_err-row-clause-fault g c =
     rw (p.1, p.2)
     (gathered_to_fault (g.R.Read.remaining c.args.log_reader) c.loop-rows.rows c.next.new.self c.loop-rows.invariant.seen c.in_err-row.field-0.0 c.loop-rows.invariant.gathers c.in_err-row.ensures.steps)
 
-pub fed-requires : goal.fed-requires
-fed-requires g c =
+pub feed_row-requires : goal.feed_row-requires
+feed_row-requires g c =
     let none = none_of c.loop-rows.broken c.if-is_none.ensures in
     let seen = subst (λ (o : Option Verdict). HasSeen (g.R.Read.remaining c.args.log_reader) c.loop-rows.rows c.loop-rows.judge c.args.certificates.now o) none c.loop-rows.invariant in
     record { few = seen_few c.loop-rows.rows c.next.new.self c.loop-rows.judge c.in-Some.row seen (rw c.in-Some.is at c.in_ok-row.ensures.steps) }
@@ -25,7 +25,7 @@ pub loop-rows-preserved-then-is_none : goal.loop-rows-preserved-then-is_none
 loop-rows-preserved-then-is_none g c =
     let none = none_of c.loop-rows.broken c.if-is_none.ensures in
     let seen = subst (λ (o : Option Verdict). HasSeen (g.R.Read.remaining c.args.log_reader) c.loop-rows.rows c.loop-rows.judge c.args.certificates.now o) none c.loop-rows.invariant in
-    seen_fed c.loop-rows.rows c.next.new.self c.loop-rows.judge c.fed.new.judge c.args.certificates.now c.in_ok-broken.broken c.in-Some.row seen (rw c.in-Some.is at c.in_ok-row.ensures.steps) c.in_ok-broken.ensures.fed c.in_ok-broken.ensures.bad
+    seen_fed c.loop-rows.rows c.next.new.self c.loop-rows.judge c.feed_row.new.judge c.args.certificates.now c.in_ok-broken.broken c.in-Some.row seen (rw c.in-Some.is at c.in_ok-row.ensures.steps) c.in_ok-broken.ensures.fed c.in_ok-broken.ensures.bad
 
 pub loop-rows-preserved : goal.loop-rows-preserved
 loop-rows-preserved g c =
@@ -41,4 +41,4 @@ pub returns-clause-answer : goal.returns-clause-answer
 returns-clause-answer g c =
     let seen = subst (λ (o : Option Verdict). HasSeen (g.R.Read.remaining c.args.log_reader) c.loop-rows.rows c.loop-rows.judge c.args.certificates.now o) c.in-None.is c.loop-rows.invariant in
     legal_answer c.loop-rows.rows c.next.new.self c.loop-rows.judge c.args.certificates.now _ seen (at_end c.in_ok-row.field-0 c.in_default.not-Some c.in_ok-row.ensures.steps)
-    (λ rows h. c.in_ok-verdict-in-None.ensures rows h.walk.trail.legal h.gathered)
+    (λ rows h. c.in_ok-verdict-in-None.ensures rows h.walk.control.legal h.gathered)

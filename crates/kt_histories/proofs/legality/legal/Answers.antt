@@ -1,4 +1,4 @@
-use Rattle.std.proofs.Common.{◌≡◌, ◌+◌, Some, arith, refl, sym, ◌∙◌}
+use Rattle.std.proofs.Common.{◌≡◌, ◌+◌, length, rules, Some, arith, refl, sym, ◌∙◌}
 use Rattle.kt_cuts.specs.Past.{start}
 use Rattle.kt_cuts.proofs.Items.{take_item}
 use Rattle.kt_cuts.proofs.LegalLogs.{first_broken_at, legal_push}
@@ -13,9 +13,10 @@ returns-in-Some-clause-broken c = λ row rule e.
     let at = row_read _ _ _ c.loop-row-test.true c.row-item.is in
     let breaks = sym (c.broken_rule.ensures _ inv.stands.shows) ∙ c.in-Some.is in
     let first = first_broken_at start c.rows-row-items.result.now c.loop-row.row-index c.row-item.result c.in-Some.rule inv.legal at breaks in
-    let number : c.next_row.result ≡ row = cc in
+    let number : c.after.result ≡ row = cc in
     let same : c.in-Some.rule ≡ rule = cc in
-    let counted = c.next_row.ensures ∙ next_number _ _ _ c.loop-row-test.true inv.stands in
+    let next : c.after.result ≡ length c.loop-row.replay.messages.items + 1 = search rules in
+    let counted = next ∙ next_number _ _ _ c.loop-row-test.true inv.stands in
     let here : 0 + (c.loop-row.row-index + 1) ≡ row = omega (arith, counted, number) in
     rw (← rows) (first ∙ (λ i. Some (here i, same i)))
 

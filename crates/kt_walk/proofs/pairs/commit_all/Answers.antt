@@ -2,7 +2,7 @@ use Rattle.std.proofs.Common.{◌≡◌, ℕ, ◌≤◌, ◌<◌, Some, refl, ar
 use Rattle.std.specs.List.{slice_get}
 use Rattle.std.proofs.lemmas.List.{length-set}
 use Rattle.std.proofs.lemmas.Option.{slice_get-get_or}
-use Rattle.kt_walk.specs.Pairs.{Link, IsPairCommitted, traffic_of}
+use Rattle.kt_walk.specs.Pairs.{PairState, IsPairCommitted, received_from_of}
 use Rattle.kt_walk.proofs.PairsFacts.{mapped_length}
 use Rattle.kt_walk.proofs.UsedFacts.{swept_start, swept_to, swept_next, swept_all, in_use_kept, in_use_removed, stays, used_if_among}
 use Rattle.kt_walk.proofs.pairs.commit_all.Goals as goal
@@ -22,7 +22,7 @@ loop-place-preserved c =
     let inv = c.loop-place.invariant in
     let found = c.in-Some.ensures.found in
     let place = c.in-Some.place in
-    let here = slice_get-get_or c.loop-place.pairs place c.index-pairs-place.result (omega (arith, found.1, inv.count, c.requires.by_pair.count, mapped_length traffic_of c.args.pairs.now)) in
+    let here = slice_get-get_or c.loop-place.pairs place c.index-pairs-place.result (omega (arith, found.1, inv.count, c.requires.by_pair.count, mapped_length received_from_of c.args.pairs.now)) in
     let there = inv.ahead place found.0 ∙ used_if_among c.args.members c.args.used.now c.of-places.result place found.1 c.of-places.ensures found.2 in
     record {
       count = length-set _ _ _ ∙ inv.count;
@@ -43,6 +43,6 @@ loop-place-preserved c =
 pub returns-clause-each : goal.returns-clause-each
 returns-clause-each c =
     let inv = c.loop-place.invariant in
-    swept_all (IsPairCommitted c.args.kind c.args.members c.args.permanent.now) c.args.pairs.now c.loop-place.pairs 4096 (omega (arith, inv.count, c.requires.by_pair.count, mapped_length traffic_of c.args.pairs.now))
+    swept_all (IsPairCommitted c.args.kind c.args.members c.args.permanent.now) c.args.pairs.now c.loop-place.pairs 4096 (omega (arith, inv.count, c.requires.by_pair.count, mapped_length received_from_of c.args.pairs.now))
     (swept_to (IsPairCommitted c.args.kind c.args.members c.args.permanent.now) c.args.pairs.now c.loop-place.pairs c.loop-place.next 4096 inv.low
     (λ i v from below at. stays c.args.kind c.args.members c.args.permanent.now c.args.pairs.now c.args.used.now c.of-places.result i v c.requires.by_pair c.requires.in_use c.of-places.ensures at (c.in_default.ensures.none i from below)) inv.swept)

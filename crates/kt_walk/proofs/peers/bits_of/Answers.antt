@@ -12,7 +12,7 @@ loop-number-init c = record { same = λ q below. absurd (omega (arith, below)); 
 pub loop-number-preserved : goal.loop-number-preserved
 loop-number-preserved c =
     let low : c.loop-number.number < 64 = omega (arith, c.loop-number-test.true) in
-    let is = c.has.ensures ∙ ap (has c.args.members) c.process_no.ensures in
+    let is = c.has.ensures ∙ ap (has c.args.members) c.nth.ensures in
     elim c.if-has.branch [
       | then-has w ↦ rw w.bits-is (bit_more c.loop-number.bits c.args.members c.loop-number.number low (sym is ∙ w.if-has.true) c.loop-number.invariant)
       | else-has w ↦ rw w.bits-is (bit_less c.loop-number.bits c.args.members c.loop-number.number low (sym is ∙ w.if-has.false) c.loop-number.invariant)

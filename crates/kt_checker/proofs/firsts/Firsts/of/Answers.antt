@@ -13,8 +13,8 @@ loop-index-init c =
     let items = c.in_ok-places.ensures.items_if_clones_equal (none_cloned _ (λ n f. f)) in
     none_yet c.in_ok-places.places.items c.args.certificates.now (rw items (All-replicate (λ (place : Option ℕ). place ≡ None) 4096 None refl)) (sym c.in_ok-places.places.ok.0 ∙ c.in_ok-places.ensures.len)
 
-pub enter-requires : goal.enter-requires
-enter-requires c = ap length c.deref_mut.ensures.value ∙ c.loop-index.invariant.all
+pub note_first-requires : goal.note_first-requires
+note_first-requires c = ap length c.deref_mut.ensures.value ∙ c.loop-index.invariant.all
 
 pub loop-index-preserved : goal.loop-index-preserved
 loop-index-preserved c =
@@ -24,6 +24,6 @@ loop-index-preserved c =
     let at : slice_get items index ≡ Some item = slice_get_read items (length items) index item refl c.loop-index-test.true c.index-certificates-index.is in
     let old = c.loop-index.places.items in
     let value = c.deref_mut.ensures.value in
-    let entered = c.enter.ensures items item (subst (λ ps. AreFirsts ps items index) (sym value) c.loop-index.invariant) at (ap (λ (x : Certificate). x.inst) c.index-certificates-index.is) in
-    let many : length c.enter.new.places ≡ c.loop-index.places.len = c.enter.auto.places ∙ (ap length value ∙ sym c.loop-index.places.ok.0) in
-    subst (λ ps. AreFirsts ps items (index + 1)) (sym (written c.loop-index.places.len c.enter.new.places old many)) entered
+    let entered = c.note_first.ensures items item (subst (λ ps. AreFirsts ps items index) (sym value) c.loop-index.invariant) at (ap (λ (x : Certificate). x.inst) c.index-certificates-index.is) in
+    let many : length c.note_first.new.places ≡ c.loop-index.places.len = c.note_first.auto.places ∙ (ap length value ∙ sym c.loop-index.places.ok.0) in
+    subst (λ ps. AreFirsts ps items (index + 1)) (sym (written c.loop-index.places.len c.note_first.new.places old many)) entered

@@ -7,4 +7,4 @@ pub returns-clause-shows : goal.returns-clause-shows
 returns-clause-shows c = λ s h allowed.
     let low : c.args.p < 64 = omega (arith, c.get.ensures.value, c.get.ensures.in_range) in
     let at = slice_get_read c.args.self.now.processes.items 64 c.get.result c.index_mut-process.result.now (sym c.args.self.now.processes_there) c.get.ensures.in_range c.index_mut-process.ensures.value in
-    rw (c.in_ok-pass.ensures.processes, c.in_ok-pass.ensures.messages, c.in_ok-pass.ensures.instances, c.in_ok-pass.ensures.dead, c.in_ok-pass.ensures.beginning, c.close.ensures, c.get.ensures.value) (shows_closed _ _ _ _ _ s c.args.p c.args.inst _ _ h low (rw c.get.ensures.value at at) c.was_rolled_back-was_rolled_back.ensures)
+    rw (c.in_ok-count_row.ensures.processes, c.in_ok-count_row.ensures.messages, c.in_ok-count_row.ensures.instances, c.in_ok-count_row.ensures.dead, c.in_ok-count_row.ensures.beginning, c.close.ensures, c.get.ensures.value) (shows_closed _ _ _ _ _ s c.args.p c.args.inst _ _ h low (rw c.get.ensures.value at at) c.was_rolled_back-was_rolled_back.ensures)

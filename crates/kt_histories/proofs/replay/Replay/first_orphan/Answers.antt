@@ -11,13 +11,13 @@ use Rattle.kt_histories.proofs.replay.Replay.first_orphan.Goals as goal
 
 pub loop-number-preserved : goal.loop-number-preserved
 loop-number-preserved c = rw c.earlier-least.ensures (record {
-  orphan = some_earlier (IsOrphanShown c.args.self.now (slice_index c.args.cut.now)) _ _ c.loop-number.invariant.orphan (some_weaker (IsOrphanShownOf c.args.self.now (slice_index c.args.cut.now) c.process_no.result) (IsOrphanShown c.args.self.now (slice_index c.args.cut.now)) _ (λ m f s h. let o = f s h in (c.process_no.result, o.0, o.1)) c.first_of_receiver.ensures.orphan);
+  orphan = some_earlier (IsOrphanShown c.args.self.now (slice_index c.args.cut.now)) _ _ c.loop-number.invariant.orphan (some_weaker (IsOrphanShownOf c.args.self.now (slice_index c.args.cut.now) c.nth.result) (IsOrphanShown c.args.self.now (slice_index c.args.cut.now)) _ (λ m f s h. let o = f s h in (c.nth.result, o.0, o.1)) c.first_of_receiver.ensures.orphan);
   dead = λ s p q msg h x o. at_most_first _ _ msg (c.loop-number.invariant.dead s p q msg h x o);
   live = λ s p q msg l h o e. elim (cases_eq p c.loop-number.number) [
     | inl same ↦
-        let receiver : p ≡ c.process_no.result = same ∙ sym c.process_no.ensures in
-        let here : IsOrphanBetween s (slice_index c.args.cut.now) c.process_no.result q msg = subst (λ (x : ℕ). IsOrphanBetween s (slice_index c.args.cut.now) x q msg) receiver o in
-        let sent : has_deed (deed.Sent msg c.process_no.result) (s.live q) ≡ true = subst (λ (x : ℕ). has_deed (deed.Sent msg x) (s.live q) ≡ true) receiver e in
+        let receiver : p ≡ c.nth.result = same ∙ sym c.nth.ensures in
+        let here : IsOrphanBetween s (slice_index c.args.cut.now) c.nth.result q msg = subst (λ (x : ℕ). IsOrphanBetween s (slice_index c.args.cut.now) x q msg) receiver o in
+        let sent : has_deed (deed.Sent msg c.nth.result) (s.live q) ≡ true = subst (λ (x : ℕ). has_deed (deed.Sent msg x) (s.live q) ≡ true) receiver e in
         at_most_second _ _ msg (c.first_of_receiver.ensures.least s q msg h here sent)
     | inr other ↦ at_most_first _ _ msg (c.loop-number.invariant.live s p q msg (omega (arith, l, other)) h o e)
   ];

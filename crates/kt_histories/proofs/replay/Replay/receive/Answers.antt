@@ -12,5 +12,5 @@ returns-clause-shows c = λ s h allowed.
     let was = c.deref_mut.ensures.value in
     let long : length c.mark_received.new.messages ≡ c.args.self.now.messages.len = c.mark_received.auto.messages ∙ (ap length was ∙ sym c.args.self.now.messages.ok.0) in
     let whole = written c.args.self.now.messages.len c.mark_received.new.messages c.args.self.now.messages.items long in
-    rw (c.in_ok-pass.ensures.processes, c.in_ok-pass.ensures.messages, whole, c.in_ok-pass.ensures.instances, c.in_ok-pass.ensures.dead, c.in_ok-pass.ensures.beginning, c.in_ok-receive.ensures, c.get.ensures.value)
+    rw (c.in_ok-count_row.ensures.processes, c.in_ok-count_row.ensures.messages, whole, c.in_ok-count_row.ensures.instances, c.in_ok-count_row.ensures.dead, c.in_ok-count_row.ensures.beginning, c.in_ok-receive.ensures, c.get.ensures.value)
     (shows_received _ _ _ _ _ _ s c.args.p c.args.from c.args.msg _ h allowed low (rw c.get.ensures.value at at) (rw (was, c.len-place.ensures) at marks.marked) (rw was at marks.others) (c.mark_received.auto.messages ∙ ap length was))

@@ -11,7 +11,7 @@ loop-number-init c = record { count = c.self.invariant; done = λ r q below low.
 pub loop-number-preserved : goal.loop-number-preserved
 loop-number-preserved c =
     let low : c.loop-number.number < 64 = omega (arith, c.loop-number-test.true) in
-    let is = c.has.ensures ∙ ap (has c.args.members) c.process_no.ensures in
+    let is = c.has.ensures ∙ ap (has c.args.members) c.nth.ensures in
     elim c.if-not-has.branch [
       | then-not-has w ↦ rw w.senders-is (word_of_others c.self.inside.senders c.loop-number.senders c.args.members c.bits_of-bits.result c.loop-number.number low (sym is ∙ w.if-not-has.true) c.bits_of-bits.ensures c.loop-number.invariant)
       | else-not-has w ↦ rw w.senders-is (word_of_member c.self.inside.senders c.loop-number.senders c.args.members c.loop-number.number (sym is ∙ w.if-not-has.false) c.loop-number.invariant)

@@ -15,7 +15,7 @@ returns-in_ok-send-in-Sent-clause-fed c = λ rows h.
     let row = event.Sent c.in-Sent.p c.in-Sent.to c.in-Sent.body in
     let unbroken : broken_rule (past rows) row ≡ None = elim c.if-not-may_send.branch [
       | then-not-may_send+in_ok-test-in-Sent w ↦ subst (λ (x : Event). broken_rule (past rows) x ≡ None) c.in-Sent.is (w.in_ok-test-in-Sent.ensures.unbroken rows h)
-      | else-not-may_send w ↦ none_from _ (sym (c.may_send.ensures rows c.in-Sent.body here.trail) ∙ w.if-not-may_send.false)
+      | else-not-may_send w ↦ none_from _ (sym (c.may_send.ensures rows c.in-Sent.body here.control) ∙ w.if-not-may_send.false)
     ] in
     let fed = c.in_ok-send-in-Sent.ensures.fed rows c.in-Sent.body h unbroken in
-    subst (λ (x : Event). IsLegal (rows ++ x ∷ []) × WalkOf c.send.new.self (rows ++ x ∷ [])) (sym c.in-Sent.is) (fed.trail.legal, fed)
+    subst (λ (x : Event). IsLegal (rows ++ x ∷ []) × WalkOf c.send.new.self (rows ++ x ∷ [])) (sym c.in-Sent.is) (fed.control.legal, fed)

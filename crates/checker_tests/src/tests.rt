@@ -1,0 +1,10 @@
+mod base;
+mod chain;
+mod cuts;
+mod histories;
+mod log_text;
+mod program;
+mod spacetime;
+mod text;
+mod transit;
+mod walk;

@@ -1,0 +1,79 @@
+//! Logs with so many rows that a scan for each row or cut would not end in time.
+
+use super::{add, message, process};
+use kt_base::RowNo;
+use kt_cuts::{Cut, LegalFault, Rule};
+use kt_histories::{Histories, legal};
+use kt_spacetime::{Event, SpaceTime};
+use std::alloc::Global;
+use std::test::Fail;
+
+const MESSAGES: u32 = 524_288;
+
+// How many sends and receives each process makes.
+const DEEDS: usize = 16_384;
+
+// Messages round a ring of 64, each received before the next one is sent.
+fn messages_round_a_ring(alloc: Global) -> Result<SpaceTime, Fail> {
+    let mut log = SpaceTime::new(alloc);
+    for index in 0..MESSAGES {
+        let p = index as usize % 64;
+        let to = (index as usize + 1) % 64;
+        add(
+            &mut log,
+            Event::Sent {
+                p: process(p)?,
+                to: process(to)?,
+                body: 1,
+            },
+        )?;
+        add(
+            &mut log,
+            Event::Received {
+                p: process(to)?,
+                from: process(p)?,
+                msg: message(2 * index + 1)?,
+            },
+        )?;
+    }
+    Ok(log)
+}
+
+#[test]
+fn a_large_log_is_judged(rt: HostRuntime) -> Result<(), Fail> {
+    let mut log = messages_round_a_ring(rt.alloc())?;
+    assert_eq!(rt; legal(rt.alloc(), &log), Ok(()));
+    add(
+        &mut log,
+        Event::Received {
+            p: process(1)?,
+            from: process(0)?,
+            msg: message(1)?,
+        },
+    )?;
+    let row = RowNo::new(2 * MESSAGES + 1).ok_or("no row")?;
+    assert_eq!(rt;
+        legal(rt.alloc(), &log),
+        Err(LegalFault::Broken(row, Rule::Message))
+    );
+    Ok(())
+}
+
+#[test]
+fn many_cuts_of_a_large_log_are_tested(rt: HostRuntime) -> Result<(), Fail> {
+    let log = messages_round_a_ring(rt.alloc())?;
+    legal(rt.alloc(), &log)?;
+    let found = Histories::of(rt.alloc(), &log, log.rows().len())?;
+    assert_eq!(rt; found.first_orphan(&Cut::new([DEEDS; 64])), None);
+    for number in 1..64_u32 {
+        for step in 0..4096_u32 {
+            // Each process but the first receives and sends in turn.
+            let sent = 2 * step;
+            let mut cut = Cut::new([DEEDS; 64]);
+            cut.set(process(number as usize)?, 2 * sent as usize);
+            let orphan = message(2 * (number + 64 * sent) + 1)?;
+            assert_eq!(rt; found.first_orphan(&cut), Some(orphan), "{number}, {sent}");
+        }
+    }
+    Ok(())
+}

@@ -1,3 +1,0 @@
-pub mod WaitingFacts
-pub mod WayFacts
-pub mod LastFacts

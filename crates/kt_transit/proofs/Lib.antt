@@ -1,0 +1,3 @@
+pub mod TransitFacts
+pub mod InTransitFacts
+pub mod LastFacts

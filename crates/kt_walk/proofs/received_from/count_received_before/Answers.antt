@@ -1,0 +1,11 @@
+use Rattle.std.proofs.Common.{rules, of_calls, nat_lt}
+use Rattle.std.proofs.lemmas.Fn.{always_returns_same}
+use Rattle.kt_walk.specs.declared.queue.Arrival.{Arrival}
+use Rattle.kt_walk.specs.Arrivals.{received_at}
+use Rattle.kt_walk.proofs.ItemPlaces.{parts_at, parted_by}
+use Rattle.kt_walk.proofs.received_from.count_received_before.Goals as goal
+
+pub returns-clause-parts : goal.returns-clause-parts
+returns-clause-parts c = λ rising.
+    let parted = parted_by received_at c.args.arrivals.now c.args.place (λ i j a b l e f. (rising.each i j a b l e f).received) in
+    parts_at received_at c.args.arrivals.now c.args.place c.partition_point.result (c.partition_point.ensures.partitioned (λ (a : Arrival). nat_lt a.received c.args.place) (always_returns_same _ _ _ (λ a r f k. search (rules, of_calls))) parted)
