@@ -13,7 +13,7 @@ pub record Wires : Type 0 where
 abbrev pub queue : Wires → ℕ → ℕ → Queue
 queue w from to = if nat_lt from w.processes && nat_lt to w.processes then slice_index_or w.queues (from * w.processes + to) no_queue else no_queue
 
--- the parcels on their way from one process to another, the oldest first
+-- the parcels in transit from one process to another, the oldest first
 abbrev pub channel : Wires → ℕ → ℕ → List Parcel
 channel w from to = (queue w from to).parcels
 

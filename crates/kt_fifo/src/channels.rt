@@ -33,7 +33,7 @@ impl Model for Channels {
     ghost invariant = { λ c. IsWired (record { processes = c.processes; queues = c.fifos.items }) c.senders.items };
 }
 
-/// The senders to a receiver, once it is known whether one of them has a parcel on its way.
+/// The senders to a receiver, once it is known whether one of them has a parcel in transit.
 fn noted(senders: ProcSet, from: ProcNo, waits: bool) -> ProcSet
     ensures here { has result from ≡ waits }
     ensures others { (q : ℕ) → q ≢ from → has result q ≡ has senders q }
@@ -83,7 +83,7 @@ impl Channels {
         from.get() as usize * self.processes + to.get() as usize
     }
 
-    /// How many parcels are on their way from one process to another.
+    /// How many parcels are in transit from one process to another.
     pub fn len(&self, from: ProcNo, to: ProcNo) -> usize
         requires from { from < self.now.processes }
         requires to { to < self.now.processes }
@@ -101,7 +101,7 @@ impl Channels {
         self.fifos[self.place(from, to)].spare()
     }
 
-    /// The processes that have a parcel on its way to this one.
+    /// The processes that have a parcel in transit to this one.
     pub fn senders(&self, to: ProcNo) -> ProcSet
         requires { to < self.now.processes }
         ensures { (from : ℕ) → has result from ≡ has_parcel (channel self.now from to) }

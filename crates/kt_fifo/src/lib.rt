@@ -7,6 +7,3 @@ mod parcels;
 
 pub use channels::Channels;
 pub use parcels::Parcel;
-
-#[cfg(test)]
-mod tests;

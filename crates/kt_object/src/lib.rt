@@ -19,6 +19,3 @@ pub use objects::{Object, Recoverable};
 pub use slots::{SlotBook, SlotGuard};
 pub use sums::Sum;
 pub use tails::Tail;
-
-#[cfg(test)]
-mod tests;

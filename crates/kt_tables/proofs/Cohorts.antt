@@ -1,8 +1,9 @@
 -- The peers of a table, in a list, and how many they are.
-use Rattle.std.specs.Prelude.{◌==◌, not, if◌then◌else◌}
+use Rattle.std.specs.Prelude.{◌==◌, not, if◌then◌else◌, All}
 use Rattle.std.proofs.Common.{◌≡◌, ◌≢◌, ℕ, zero, suc, ◌+◌, ◌≤◌, ◌<◌, Bool, true, false, [], ◌∷◌, ◌++◌, length, get_or, map, take, drop, refl, arith, sym, ap, subst, ◌∙◌, inl, inr}
 use Rattle.std.proofs.lemmas.Bool.{cases_lt, cases_eq}
 use Rattle.std.proofs.lemmas.Bool.Decides.{nat_tests}
+use Rattle.std.proofs.lemmas.List.Elements.{All-map}
 use Rattle.std.proofs.lemmas.List.{length-map, get_or-map, get_or_default, take_more, map-append}
 use Rattle.kt_tables.specs.Peers.{find_label, IsTable, count_peers, IsCohort}
 use Rattle.kt_tables.specs.Walks.{place_of, head_label}
@@ -72,6 +73,15 @@ cohort_is n ps g h = record {
         (r.0, omega (arith, r.1, length-map ps (beside g)), get_or-map (beside g) ps r.0 (q, l) (q, l) r.1 ∙ e),
   );
 }
+
+table_below : (low n : ℕ) (ps : Pairs) (k : ℕ) (d : ℕ × ℕ) → IsTable low n ps → k < length ps → (get_or ps k d).0 < n
+unfolding IsTable
+table_below low n [] k d h b = absurd (omega arith)
+table_below low n (pair ∷ ps) zero d h b = h.1
+table_below low n (pair ∷ ps) (suc k) d h b = table_below (pair.0 + 1) n ps k d h.3 (omega arith)
+
+pub cohort_below : (n : ℕ) (ps : Pairs) (g : ℕ → ℕ) → IsTable 0 n ps → All (λ pair. pair.0 < n) (map (beside g) ps)
+cohort_below n ps g h = All-map (λ pair. pair.0 < n) (beside g) ps (λ k d b. table_below 0 n ps k d h b)
 
 -- what stands before a peer's place does not matter for that peer and those after it
 pub find_drop : (ps : Pairs) (p q : ℕ) → p ≤ q → find_label (drop (place_of ps p) ps) q ≡ find_label ps q

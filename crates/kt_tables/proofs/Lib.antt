@@ -1,6 +1,8 @@
 pub mod CallParts
 pub mod Cohorts
+pub mod Following
 pub mod Keeping
 pub mod LabelLists
 pub mod Merging
 pub mod Pairs
+pub mod Tests

@@ -32,19 +32,19 @@ table_length low n (pair ∷ ps) h b =
     let r = table_length (pair.0 + 1) n ps h.3 (omega (arith, h.1)) in omega (arith, h.0)
 
 -- the pair of a peer, put in its place
-pub put_pair : Pairs → ℕ → ℕ → Pairs
+unfoldable pub put_pair : Pairs → ℕ → ℕ → Pairs
 put_pair [] q l = (q, l) ∷ []
 put_pair (pair ∷ ps) q l = if nat_lt pair.0 q then pair ∷ put_pair ps q l else (if pair.0 == q then (q, l) ∷ ps else (q, l) ∷ pair ∷ ps)
 
-put_less : (pair : ℕ × ℕ) (ps : Pairs) (q l : ℕ) → pair.0 < q → put_pair (pair ∷ ps) q l ≡ pair ∷ put_pair ps q l
+pub put_less : (pair : ℕ × ℕ) (ps : Pairs) (q l : ℕ) → pair.0 < q → put_pair (pair ∷ ps) q l ≡ pair ∷ put_pair ps q l
 unfolding put_pair
 put_less pair ps q l h = grind (arith, nat_tests)
 
-put_same : (pair : ℕ × ℕ) (ps : Pairs) (q l : ℕ) → pair.0 ≡ q → put_pair (pair ∷ ps) q l ≡ (q, l) ∷ ps
+pub put_same : (pair : ℕ × ℕ) (ps : Pairs) (q l : ℕ) → pair.0 ≡ q → put_pair (pair ∷ ps) q l ≡ (q, l) ∷ ps
 unfolding put_pair
 put_same pair ps q l h = grind (arith, nat_tests)
 
-put_more : (pair : ℕ × ℕ) (ps : Pairs) (q l : ℕ) → q < pair.0 → put_pair (pair ∷ ps) q l ≡ (q, l) ∷ pair ∷ ps
+pub put_more : (pair : ℕ × ℕ) (ps : Pairs) (q l : ℕ) → q < pair.0 → put_pair (pair ∷ ps) q l ≡ (q, l) ∷ pair ∷ ps
 unfolding put_pair
 put_more pair ps q l h = grind (arith, nat_tests)
 

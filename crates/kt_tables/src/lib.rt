@@ -4,7 +4,4 @@
 mod peers;
 mod tables;
 
-pub use tables::{Tables, parts_of_a_list};
-
-#[cfg(test)]
-mod tests;
+pub use tables::{Tables, calls_that_follow, labels_that_follow, parts_of_a_list};

@@ -1,6 +1,6 @@
 //! One table: a label for each peer that has one.
 
-ghost use Rattle.std.specs.Prelude.{◌≡◌, ◌<◌, ℕ, if◌then◌else◌, max, IfOk, ◌≤◌, length, drop};
+ghost use Rattle.std.specs.Prelude.{◌≡◌, ◌<◌, ℕ, if◌then◌else◌, max, IfOk, ◌≤◌, length, drop, All, AllPairs};
 ghost use Rattle.kt_tables.specs.Peers.{label_of, no_label, at_peer, has_one, count_peers, IsCohort};
 ghost use Rattle.kt_tables.specs.Walks.{place_of, after_peer, smaller_head, head_label, stands_at};
 
@@ -228,7 +228,9 @@ impl PeerLabels {
 
     /// The peers that have a label, by rising number, each with its label in another table.
     pub(crate) fn cohort(&self, labels: &PeerLabels) -> Result<Vec<(ProcNo, Label)>, Memory>
-        ensures { IfOk result (λ pairs. IsCohort pairs.items (has_one self.now) (label_of labels.now)) }
+        ensures cohort { IfOk result (λ pairs. IsCohort pairs.items (has_one self.now) (label_of labels.now)) }
+        ensures rising { IfOk result (λ pairs. AllPairs (λ x y. x.0 < y.0) pairs.items) }
+        ensures within { IfOk result (λ pairs. All (λ pair. pair.0 < self.now.peers) pairs.items) }
     {
         let mut cohort = Vec::with_capacity(*self.pairs.allocator(), self.pairs.len())?;
         let mut rest: &[(ProcNo, Label)] = &labels.pairs;

@@ -1,8 +1,11 @@
 //! The tables of one process.
 
-ghost use Rattle.std.specs.Prelude.{◌≡◌, ℕ, ◌<◌, ◌≤◌, ◌+◌, ◌==◌, ◌↔◌, true, false, List, [], ◌∷◌, ◌++◌, IsTrue, IfOk, Contains};
-ghost use Rattle.kt_tables.specs.Calls.{Call, sent, received, on_tentative, on_commit, on_abort, on_rollback, Speaks, parts, sents, receiveds};
+ghost use Rattle.std.specs.Prelude.{◌≡◌, ℕ, ◌<◌, ◌≤◌, ◌+◌, ◌==◌, ◌↔◌, true, false, List, [], ◌∷◌, ◌++◌, IsTrue, IfOk, Contains, All, AllPairs, nat_lt, nat_le};
+ghost use Rattle.std.specs.List.{list_any};
+ghost use Rattle.kt_tables.specs.Calls.{Call, sent, received, on_tentative, on_commit, on_abort, on_rollback, Speaks, parts, parts_after, sents, receiveds};
 ghost use Rattle.kt_tables.specs.Labels.{has_label, greatest};
+ghost use Rattle.kt_tables.specs.States.{State};
+ghost use Rattle.kt_tables.specs.Standing.{StandsFor, CanSend, CanReceive};
 ghost use Rattle.kt_tables.specs.Peers.{label_of, count_peers, IsCohort};
 
 use crate::peers::PeerLabels;
@@ -19,6 +22,33 @@ pub fn parts_of_a_list()
     // While a tentative checkpoint is open.
     ensures opened { (calls : List Call) → (parts calls).is_open ≡ true → calls ≡ (parts calls).cut ++ on_tentative ∷ (parts calls).since }
     ensures aside { (calls : List Call) → (parts calls).is_open ≡ true → (parts calls).aside ≡ (parts (parts calls).cut).since ++ on_tentative ∷ [] }
+{}
+
+/// Which call may follow a list that tables answer for, and what the parts of the longer list are: a law, with nothing
+/// to run.
+pub fn calls_that_follow()
+    ensures parts { (calls : List Call) (c : Call) → parts (calls ++ c ∷ []) ≡ parts_after (parts calls) c }
+
+    // A label that is sent is above all that were sent to the peer, one that is received above all since the last
+    // rollback; nothing is sent while a tentative checkpoint is open.
+    ensures sent { (calls : List Call) (q l : ℕ) → Speaks calls → (parts calls).is_open ≡ false → greatest (sents q calls) < l → Speaks (calls ++ sent q l ∷ []) }
+    ensures received { (calls : List Call) (q l : ℕ) → Speaks calls → greatest (receiveds q (parts calls).since_rollback) < l → Speaks (calls ++ received q l ∷ []) }
+
+    // The other calls may follow every list.
+    ensures tentative { (calls : List Call) → Speaks calls → Speaks (calls ++ on_tentative ∷ []) }
+    ensures commit { (calls : List Call) → Speaks calls → Speaks (calls ++ on_commit ∷ []) }
+    ensures abort { (calls : List Call) → Speaks calls → Speaks (calls ++ on_abort ∷ []) }
+    ensures rollback { (calls : List Call) → Speaks calls → Speaks (calls ++ on_rollback ∷ []) }
+{}
+
+/// Which labels tables take that stand for a list: a law, with nothing to run.
+pub fn labels_that_follow()
+    ensures send { (t : State) (calls : List Call) (q l : ℕ) → StandsFor t calls → (CanSend t q l ↔ (greatest (sents q calls) < l)) }
+    ensures receive { (t : State) (calls : List Call) (q l : ℕ) → StandsFor t calls → greatest (receiveds q (parts calls).since_rollback) < l → CanReceive t q l }
+
+    // What the longer list asks is enough.
+    ensures sent { (t : State) (calls : List Call) (q l : ℕ) → StandsFor t calls → Speaks (calls ++ sent q l ∷ []) → CanSend t q l }
+    ensures received { (t : State) (calls : List Call) (q l : ℕ) → StandsFor t calls → Speaks (calls ++ received q l ∷ []) → CanReceive t q l }
 {}
 
 /// The label tables of one process: of each peer, the labels that decide who takes part in a checkpoint or a rollback.
@@ -153,7 +183,7 @@ impl Tables {
         requires { self.old.is_tentative ≡ false }
         ensures processes { self.new.processes ≡ self.old.processes }
         ensures tentative { self.new.is_tentative ≡ true }
-        ensures stands { (calls : List Call) → StandsFor self.old calls → Speaks (calls ++ on_tentative ∷ []) → StandsFor self.new (calls ++ on_tentative ∷ []) }
+        ensures stands { (calls : List Call) → StandsFor self.old calls → StandsFor self.new (calls ++ on_tentative ∷ []) }
     {
         self.kept_rcvd.take(&mut self.last_rcvd);
         self.kept_sent.take(&mut self.first_sent);
@@ -165,7 +195,7 @@ impl Tables {
         requires { self.old.is_tentative ≡ true }
         ensures processes { self.new.processes ≡ self.old.processes }
         ensures tentative { self.new.is_tentative ≡ false }
-        ensures stands { (calls : List Call) → StandsFor self.old calls → Speaks (calls ++ on_commit ∷ []) → StandsFor self.new (calls ++ on_commit ∷ []) }
+        ensures stands { (calls : List Call) → StandsFor self.old calls → StandsFor self.new (calls ++ on_commit ∷ []) }
     {
         self.kept_rcvd.clear();
         self.kept_sent.clear();
@@ -178,7 +208,7 @@ impl Tables {
         requires { self.old.is_tentative ≡ true }
         ensures processes { self.new.processes ≡ self.old.processes }
         ensures tentative { self.new.is_tentative ≡ false }
-        ensures stands { (calls : List Call) → StandsFor self.old calls → Speaks (calls ++ on_abort ∷ []) → StandsFor self.new (calls ++ on_abort ∷ []) }
+        ensures stands { (calls : List Call) → StandsFor self.old calls → StandsFor self.new (calls ++ on_abort ∷ []) }
     {
         self.first_sent.take(&mut self.kept_sent);
         self.merged.set_to_later(&self.last_rcvd, &self.kept_rcvd);
@@ -192,7 +222,7 @@ impl Tables {
         requires { self.old.is_tentative ≡ false }
         ensures processes { self.new.processes ≡ self.old.processes }
         ensures tentative { self.new.is_tentative ≡ false }
-        ensures stands { (calls : List Call) → StandsFor self.old calls → Speaks (calls ++ on_rollback ∷ []) → StandsFor self.new (calls ++ on_rollback ∷ []) }
+        ensures stands { (calls : List Call) → StandsFor self.old calls → StandsFor self.new (calls ++ on_rollback ∷ []) }
     {
         self.last_rcvd.clear();
         self.first_sent.clear();
@@ -202,8 +232,10 @@ impl Tables {
     /// checkpoint whose label is at most the one that the asker received last.
     pub fn must_take(&self, from: ProcNo, last: Label) -> bool
         requires { from < self.now.processes }
-        ensures { (calls : List Call) → StandsFor self.now calls →
+        ensures decides { (calls : List Call) → StandsFor self.now calls →
             (IsTrue result ↔ ((x : ℕ) × Contains (sents from (parts calls).since) x × (x ≤ last))) }
+        ensures test { (calls : List Call) → StandsFor self.now calls →
+            result ≡ list_any (λ x. nat_le x last) (sents from (parts calls).since) }
     {
         let first = self.first_sent.label(from).get();
         first > 0 && last.get() >= first
@@ -213,8 +245,10 @@ impl Tables {
     /// checkpoint whose label is above the last one that the asker sent before its permanent checkpoint.
     pub fn must_roll(&self, from: ProcNo, last_sent: Label) -> bool
         requires { from < self.now.processes }
-        ensures { (calls : List Call) → StandsFor self.now calls →
+        ensures decides { (calls : List Call) → StandsFor self.now calls →
             (IsTrue result ↔ ((x : ℕ) × Contains (receiveds from (parts calls).since) x × (last_sent < x))) }
+        ensures test { (calls : List Call) → StandsFor self.now calls →
+            result ≡ list_any (λ x. nat_lt last_sent x) (receiveds from (parts calls).since) }
     {
         self.last_rcvd.label(from).get() > last_sent.get()
     }
@@ -222,7 +256,9 @@ impl Tables {
     /// The processes to ask when a checkpoint is taken, by rising number: those that sent a message received since
     /// the last checkpoint, each with the last such label. To be called before `on_tentative`.
     pub fn ckpt_cohort(&self) -> Result<Vec<(ProcNo, Label)>, Memory>
-        ensures { IfOk result (λ pairs. (calls : List Call) → StandsFor self.now calls →
+        ensures rising { IfOk result (λ pairs. AllPairs (λ x y. x.0 < y.0) pairs.items) }
+        ensures within { IfOk result (λ pairs. All (λ pair. pair.0 < self.now.processes) pairs.items) }
+        ensures cohort { IfOk result (λ pairs. (calls : List Call) → StandsFor self.now calls →
             IsCohort pairs.items (λ q. has_label (receiveds q (parts calls).since)) (λ q. greatest (receiveds q (parts calls).since))) }
     {
         self.last_rcvd.cohort(&self.last_rcvd)
@@ -231,7 +267,9 @@ impl Tables {
     /// The processes to ask at a rollback, by rising number: those that a message was sent to since the last
     /// checkpoint, each with the last label sent to it before the permanent one, or 0.
     pub fn roll_cohort(&self) -> Result<Vec<(ProcNo, Label)>, Memory>
-        ensures { IfOk result (λ pairs. (calls : List Call) → StandsFor self.now calls →
+        ensures rising { IfOk result (λ pairs. AllPairs (λ x y. x.0 < y.0) pairs.items) }
+        ensures within { IfOk result (λ pairs. All (λ pair. pair.0 < self.now.processes) pairs.items) }
+        ensures cohort { IfOk result (λ pairs. (calls : List Call) → StandsFor self.now calls →
             IsCohort pairs.items (λ q. has_label (sents q (parts calls).since)) (λ q. greatest (sents q (parts calls).before))) }
     {
         self.first_sent.cohort(&self.last_sent)

@@ -3,7 +3,7 @@ use Rattle.std.proofs.lemmas.List.{take_all}
 use Rattle.kt_tables.specs.Peers.{LabelTable, label_of, find_label, IsTable}
 use Rattle.kt_tables.specs.Walks.{head_label}
 use Rattle.kt_tables.proofs.Pairs.{Pairs}
-use Rattle.kt_tables.proofs.Cohorts.{beside, cohort_is, cohort_more, walking_head, walking_more}
+use Rattle.kt_tables.proofs.Cohorts.{beside, cohort_below, cohort_is, cohort_more, walking_head, walking_more}
 use Rattle.kt_tables.proofs.peers.PeerLabels.cohort.Goals as goal
 
 pub loop-pair-preserved : goal.loop-pair-preserved
@@ -27,12 +27,30 @@ loop-pair-preserved c =
       room = c.push_reserved.ensures.capacity ∙ c.loop-pair.invariant.room;
     }
 
-pub returns : goal.returns
+pub returns-clause-cohort : goal.returns-clause-cohort
 unfolding label_of
-returns c =
+returns-clause-cohort c =
     let ps = c.args.self.now.pairs in
     let i = c.loop-pair.pair-index in
     let same : c.deref-pair-items.result.now ≡ ps = c.deref-pair-items.ensures.value ∙ ap (λ (t : LabelTable). t.pairs) c.self.view_is in
     let past : length ps ≤ i = subst (λ (l : Pairs). length l ≤ i) same c.loop-pair-test.false in
     let table : IsTable 0 c.args.self.now.peers ps = subst (λ (t : LabelTable). IsTable 0 t.peers t.pairs) c.self.view_is c.self.invariant.0 in
     rw (c.loop-pair.invariant.items, take_all i ps past) (cohort_is _ ps (find_label c.args.labels.now.pairs) table)
+
+pub returns-clause-rising : goal.returns-clause-rising
+returns-clause-rising c =
+    let ps = c.args.self.now.pairs in
+    let i = c.loop-pair.pair-index in
+    let same : c.deref-pair-items.result.now ≡ ps = c.deref-pair-items.ensures.value ∙ ap (λ (t : LabelTable). t.pairs) c.self.view_is in
+    let past : length ps ≤ i = subst (λ (l : Pairs). length l ≤ i) same c.loop-pair-test.false in
+    let table : IsTable 0 c.args.self.now.peers ps = subst (λ (t : LabelTable). IsTable 0 t.peers t.pairs) c.self.view_is c.self.invariant.0 in
+    rw (c.loop-pair.invariant.items, take_all i ps past) ((cohort_is _ ps (find_label c.args.labels.now.pairs) table).rising)
+
+pub returns-clause-within : goal.returns-clause-within
+returns-clause-within c =
+    let ps = c.args.self.now.pairs in
+    let i = c.loop-pair.pair-index in
+    let same : c.deref-pair-items.result.now ≡ ps = c.deref-pair-items.ensures.value ∙ ap (λ (t : LabelTable). t.pairs) c.self.view_is in
+    let past : length ps ≤ i = subst (λ (l : Pairs). length l ≤ i) same c.loop-pair-test.false in
+    let table : IsTable 0 c.args.self.now.peers ps = subst (λ (t : LabelTable). IsTable 0 t.peers t.pairs) c.self.view_is c.self.invariant.0 in
+    rw (c.loop-pair.invariant.items, take_all i ps past) (cohort_below _ ps (find_label c.args.labels.now.pairs) table)

@@ -1,0 +1,137 @@
+//! The handlers: each sees one process's tables and part, how the process stands, and one parcel.
+
+ghost use Rattle.std.specs.Prelude.{◌≡◌, ◌<◌, ◌++◌, ◌∷◌, [], List, None, Some, true, false, IfOk, OnOk, OnErr, IfSome, OnSome, IfNone};
+ghost use Rattle.kt_tables.specs.Calls.{Call, on_tentative};
+ghost use Rattle.kt_tables.specs.Standing.{StandsFor};
+ghost use Rattle.kt_parts.specs.Rules.{after_reply, reply_action, settle_action};
+ghost use Rattle.kt_parts.specs.Joins.{Joins};
+ghost use Rattle.kt_parts.specs.Counts.{counts_of, counts_if_joined, no_parcel, one_reply, decisions_to};
+ghost use Rattle.kt_ckpt.specs.Rules.{refusal, decision};
+ghost use Rattle.kt_ckpt.specs.Actions.{AsksCohort, IsStart, IsAnswer};
+
+use kt_base::{Cause, InstNo, Label, Memory, ProcNo, Standing};
+use kt_parts::{Action, Asks, Part as Side};
+use kt_tables::Tables;
+
+/// Why the process takes no checkpoint.
+fn refusal(standing: Standing) -> Option<Cause>
+    ensures { result ≡ refusal standing.in_inst standing.up standing.able }
+{
+    if let Some(inst) = standing.in_inst {
+        return Some(Cause::Busy(inst));
+    }
+    if !standing.up {
+        return Some(Cause::Down);
+    }
+    if !standing.able {
+        return Some(Cause::NoSave);
+    }
+    None
+}
+
+/// The process takes its tentative checkpoint, and asks those from which it received since its last one.
+fn join(tables: &mut Tables, inst: InstNo, parent: Option<ProcNo>) -> Result<(Side, Action), Memory>
+    requires { tables.old.is_tentative ≡ false }
+    ensures err { OnErr result (tables.new ≡ tables.old) }
+    ensures processes { tables.new.processes ≡ tables.old.processes }
+    ensures tentative { OnOk result (tables.new.is_tentative ≡ true) }
+    ensures stands { OnOk result ((calls : List Call) → StandsFor tables.old calls → StandsFor tables.new (calls ++ on_tentative ∷ [])) }
+    ensures joins { IfOk result (λ r. Joins tables.old.processes inst parent r.0 r.1) }
+    ensures cohort { IfOk result (λ r. (calls : List Call) → StandsFor tables.old calls → AsksCohort calls r.1) }
+{
+    let pairs = tables.ckpt_cohort()?;
+    tables.on_tentative();
+    Ok(Side::join(inst, parent, Asks::new(pairs)))
+}
+
+/// The process is to begin an instance: it takes its tentative checkpoint, or refuses.
+pub fn start(
+    tables: &mut Tables,
+    inst: InstNo,
+    standing: Standing,
+) -> Result<(Option<Side>, Action), Memory>
+    requires { standing.in_inst ≡ None → tables.old.is_tentative ≡ false }
+    ensures err { OnErr result (tables.new ≡ tables.old) }
+    ensures processes { tables.new.processes ≡ tables.old.processes }
+    ensures rule { IfOk result (λ r. IsStart standing r.0 r.1) }
+    ensures counts { IfOk result (λ r. counts_of r.1 ≡ counts_if_joined no_parcel r.0) }
+
+    // Who refuses leaves its tables as they were.
+    ensures refused { IfOk result (λ r. IfNone r.0 (tables.new ≡ tables.old)) }
+
+    // Who joins asks its cohort, and makes one call on its tables.
+    ensures joins { IfOk result (λ r. IfSome r.0 (λ side. Joins tables.old.processes inst None side r.1)) }
+    ensures cohort { IfOk result (λ r. OnSome r.0 ((calls : List Call) → StandsFor tables.old calls → AsksCohort calls r.1)) }
+    ensures tentative { IfOk result (λ r. OnSome r.0 (tables.new.is_tentative ≡ true)) }
+    ensures stands { IfOk result (λ r. OnSome r.0 ((calls : List Call) → StandsFor tables.old calls → StandsFor tables.new (calls ++ on_tentative ∷ []))) }
+{
+    if let Some(cause) = refusal(standing) {
+        return Ok((None, Action::Refuse(cause)));
+    }
+    let (side, action) = join(tables, inst, None)?;
+    Ok((Some(side), action))
+}
+
+/// A process asks this one to take part in an instance: it replies, or takes its tentative checkpoint.
+pub fn on_ask(
+    tables: &mut Tables,
+    standing: Standing,
+    from: ProcNo,
+    inst: InstNo,
+    label: Label,
+) -> Result<(Option<Side>, Action), Memory>
+    requires free { standing.in_inst ≡ None → tables.old.is_tentative ≡ false }
+    requires from { from < tables.old.processes }
+    ensures err { OnErr result (tables.new ≡ tables.old) }
+    ensures processes { tables.new.processes ≡ tables.old.processes }
+    ensures rule { IfOk result (λ r. (calls : List Call) → StandsFor tables.old calls → IsAnswer calls standing inst from label r.0 r.1) }
+    ensures counts { IfOk result (λ r. counts_of r.1 ≡ counts_if_joined one_reply r.0) }
+
+    // Who stays outside, or is in an instance already, leaves its tables as they were.
+    ensures replied { IfOk result (λ r. IfNone r.0 (tables.new ≡ tables.old)) }
+
+    // Who joins asks its cohort, and makes one call on its tables.
+    ensures joins { IfOk result (λ r. IfSome r.0 (λ side. Joins tables.old.processes inst (Some from) side r.1)) }
+    ensures cohort { IfOk result (λ r. OnSome r.0 ((calls : List Call) → StandsFor tables.old calls → AsksCohort calls r.1)) }
+    ensures tentative { IfOk result (λ r. OnSome r.0 (tables.new.is_tentative ≡ true)) }
+    ensures stands { IfOk result (λ r. OnSome r.0 ((calls : List Call) → StandsFor tables.old calls → StandsFor tables.new (calls ++ on_tentative ∷ []))) }
+{
+    if let Some(current) = standing.in_inst {
+        return Ok((None, Action::reply_in(current, inst, from)));
+    }
+    if !tables.must_take(from, label) {
+        return Ok((None, Action::willing(from)));
+    }
+    if let Some(cause) = refusal(standing) {
+        return Ok((None, Action::unwilling(from, cause)));
+    }
+    let (side, action) = join(tables, inst, Some(from))?;
+    Ok((Some(side), action))
+}
+
+/// A reply to one of its asks has come: the last one is followed by a reply to the parent, or by the decision. A reply
+/// that is not awaited changes nothing.
+pub fn on_reply(side: &mut Side, willing: bool) -> Action
+    ensures side { side.new ≡ after_reply side.old willing }
+    ensures action { result ≡ reply_action side.old willing }
+{
+    side.take_reply(willing)
+}
+
+/// The decision of its instance has come, or is its own: its tentative checkpoint becomes permanent or is undone, and it
+/// tells the decision to those that it asked.
+pub fn on_decide(tables: &mut Tables, side: Side, commit: bool) -> Action
+    requires { tables.old.is_tentative ≡ true }
+    ensures processes { tables.new.processes ≡ tables.old.processes }
+    ensures tentative { tables.new.is_tentative ≡ false }
+    ensures stands { (calls : List Call) → StandsFor tables.old calls → StandsFor tables.new (calls ++ decision commit ∷ []) }
+    ensures action { result ≡ settle_action side commit }
+    ensures counts { counts_of result ≡ decisions_to side.asked }
+{
+    if commit {
+        tables.on_commit();
+    } else {
+        tables.on_abort();
+    }
+    side.settle(commit)
+}

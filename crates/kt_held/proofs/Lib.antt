@@ -1,0 +1,3 @@
+pub mod Acted
+pub mod CastFacts
+pub mod Lists

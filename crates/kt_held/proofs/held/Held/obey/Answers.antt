@@ -1,0 +1,30 @@
+use Rattle.std.proofs.Common.{◌≡◌, ◌∙◌, ◌∷◌, [], List, Bool, sym, ap, length, get_or, arith, length-drop}
+use Rattle.std.specs.Prelude.{Result, Ok, Err, OnErr}
+use Rattle.kt_held.specs.Fits.{is_up_after, has_tentative_after}
+use Rattle.kt_held.proofs.Acted.{both_done, one_done, is_some-map, leads_up, leads_tentative, both_fit, two_of}
+use Rattle.kt_held.proofs.held.Held.obey.Goals as goal
+
+on_err : {T E : Type 0} (r : Result T E) (P : Type 0) → P → OnErr r P
+on_err (Ok value) P p = tt
+on_err (Err fault) P p = p
+
+pub returns-in_err-act-2-clause-err : goal.returns-in_err-act-2-clause-err
+returns-in_err-act-2-clause-err g c =
+    let is = two_of c.args.acts c.index-acts-0.result c.index-acts-1.result (omega arith) in
+    on_err c.from_residual-in_err-act-2.result _
+    (1, omega arith, λ h held. one_done c.args.acts _ _ h _ _ _ _ _ _ is c.in_ok-act.ensures.leads c.in_err-act-2.ensures.err_object c.in_err-act-2.ensures.err_depot held)
+
+pub returns-clause-does : goal.returns-clause-does
+returns-clause-does g c =
+    let is = two_of c.args.acts c.index-acts-0.result c.index-acts-1.result (omega arith) in
+    λ h held. both_done c.args.acts _ _ h _ _ _ _ _ _ is c.in_ok-act.ensures.leads c.in_ok-act-2.ensures.leads held
+
+pub returns-clause-fits : goal.returns-clause-fits
+returns-clause-fits g c =
+    let acts = c.args.acts in
+    let first = get_or acts 0 c.index-acts-0.result in
+    let is = two_of acts c.index-acts-0.result c.index-acts-1.result (omega arith) in
+    both_fit acts _ _ _ _ _ _ _ _ _ is c.in_ok-act.ensures.fits c.in_ok-act-2.ensures.fits
+    (sym (is_some-map _ c.act.new.self.present) ∙ (leads_up first _ _ _ _ c.in_ok-act.ensures.leads ∙ ap (λ (up : Bool). is_up_after up first) (is_some-map _ c.args.self.now.present)))
+    (leads_tentative first _ _ _ _ c.in_ok-act.ensures.leads)
+    (ap length c.in_ok-act.ensures.spares ∙ length-drop _ c.args.self.now.spares.items)

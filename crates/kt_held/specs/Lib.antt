@@ -1,0 +1,3 @@
+pub mod Holdings
+pub mod Fits
+pub mod Casts

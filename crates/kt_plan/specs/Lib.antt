@@ -1,0 +1,3 @@
+pub use Rattle.kt_base.specs.Numbers
+pub mod Names
+pub mod Limits

@@ -1,0 +1,2 @@
+pub mod NoteLists
+pub mod Rulings

@@ -1,0 +1,4 @@
+pub mod Actions
+pub mod Notes
+pub mod Rules
+pub mod Sides

@@ -1,0 +1,16 @@
+use Rattle.std.proofs.Common.{◌≤◌, ◌+◌, length}
+use Rattle.std.specs.Prelude.{option_map}
+use Rattle.kt_scenario.specs.Draft.{said_of}
+use Rattle.kt_scenario.specs.Lines.{lines_of, lines_left}
+use Rattle.kt_scenario.specs.Said.{nothing_said}
+use Rattle.kt_scenario.specs.Scenario.{Says}
+use Rattle.kt_scenario.proofs.LineFacts.{Gathers, bytes_left}
+use Rattle.kt_scenario.proofs.scenario.read_lines.Given as goal
+
+abbrev pub invariant-loop-left : goal.invariant-loop-left
+invariant-loop-left l =
+    Gathers Says nothing_said (lines_of l.fn.text) (said_of l.draft) (lines_left (option_map (λ text. text.now) l.left)) l.number
+    × (l.draft.phase ≤ l.number) × (l.number + bytes_left (option_map (λ text. text.now) l.left) ≤ length l.fn.text + 1)
+
+abbrev pub decreases-loop-left : goal.decreases-loop-left
+decreases-loop-left l = bytes_left (option_map (λ text. text.now) l.left)

@@ -1,0 +1,4 @@
+mod fifo;
+mod object;
+mod scenario;
+mod tables;

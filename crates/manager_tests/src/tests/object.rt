@@ -1,0 +1,357 @@
+mod callers;
+mod stubborn;
+
+use callers::{answer_of, boxed_sum, saved_state, take_over};
+use kt_base::{Memory, ProcNo};
+use kt_object::{
+    Depot, Last, Object, Recoverable, RestoreFault, SaveFault, SlotBook, SlotGuard, Sum, Tail,
+};
+use std::alloc::{AllocError, Global};
+use std::process::Abort;
+use std::test::Fail;
+use stubborn::Stubborn;
+
+const SUM_AT_5: [u8; 10] = [0, 1, 0, 0, 0, 0, 0, 0, 0, 5];
+
+const LAST_AT_THE_END: [u8; 10] = [1, 1, 0x7f, 0xff, 0xff, 0xff, 0xff, 0xff, 0xff, 0xff];
+
+fn object_of(alloc: Global, kind: u8) -> Result<Object, Fail> {
+    let guard = SlotBook::new(alloc).open()?;
+    Ok(match kind {
+        0 => Box::new(alloc, Sum::new(guard))?,
+        1 => Box::new(alloc, Last::new(guard))?,
+        _ => Box::new(alloc, Tail::new(guard))?,
+    })
+}
+
+fn apply_all(object: &mut Object, bodies: &[i64]) {
+    if let Some(from) = ProcNo::new(3) {
+        for body in bodies {
+            object.apply(from, *body);
+        }
+    }
+}
+
+/// Applies these bodies to an object of this kind, and sees what it offers and its saved state; a spare that was restored
+/// from that has the same.
+fn is_saved_as(
+    rt: &impl Abort,
+    alloc: Global,
+    kind: u8,
+    bodies: &[i64],
+    offered: i64,
+    bytes: &[u8],
+) -> Result<(), Fail> {
+    let mut object = object_of(alloc, kind)?;
+    assert_eq!(rt; object.kind(), kind);
+    apply_all(&mut object, bodies);
+    assert_eq!(rt; object.offer(), offered);
+    let saved = saved_state(alloc, &object)?;
+    assert_eq!(rt; saved.as_slice(), bytes);
+    let mut spare = object_of(alloc, kind)?;
+    take_over(&mut spare, &object, &saved)?;
+    assert_eq!(rt; spare.offer(), offered);
+    assert_eq!(rt; saved_state(alloc, &spare)?.as_slice(), bytes);
+    Ok(())
+}
+
+#[test]
+fn a_sum_at_5_is_saved_and_restored(rt: HostRuntime) -> Result<(), Fail> {
+    is_saved_as(&rt, rt.alloc(), 0, &[7, -2], 5, &SUM_AT_5)
+}
+
+#[test]
+fn a_last_at_the_end_of_i64_is_saved_and_restored(rt: HostRuntime) -> Result<(), Fail> {
+    is_saved_as(
+        &rt,
+        rt.alloc(),
+        1,
+        &[3, i64::MAX],
+        i64::MAX,
+        &LAST_AT_THE_END,
+    )
+}
+
+#[test]
+fn a_tail_is_saved_and_restored(rt: HostRuntime) -> Result<(), Fail> {
+    let alloc = rt.alloc();
+    is_saved_as(&rt, alloc, 2, &[], 0, &[2, 0])?;
+    let mut bytes = vec![in alloc; 2, 8]?;
+    for body in 2..10u8 {
+        bytes.extend_from_slice(&[0, 0, 0, 0, 0, 0, 0, body])?;
+    }
+    assert_eq!(rt; bytes.len(), 66);
+    is_saved_as(&rt, alloc, 2, &[1, 2, 3, 4, 5, 6, 7, 8, 9], 9, &bytes)
+}
+
+#[test]
+fn a_sum_saturates_at_both_ends(rt: HostRuntime) -> Result<(), Fail> {
+    for (bodies, offered) in [
+        ([i64::MAX, 1], i64::MAX),
+        ([i64::MIN, -1], i64::MIN),
+        ([i64::MAX, -1], i64::MAX - 1),
+        ([i64::MIN, i64::MAX], -1),
+    ] {
+        let mut sum = object_of(rt.alloc(), 0)?;
+        apply_all(&mut sum, &bodies);
+        assert_eq!(rt; sum.offer(), offered);
+    }
+    Ok(())
+}
+
+#[test]
+fn a_caller_knows_the_trait_alone(rt: HostRuntime) -> Result<(), Fail> {
+    let alloc = rt.alloc();
+    let mut sum = boxed_sum(alloc, SlotBook::new(alloc).open()?)?;
+    let from = ProcNo::new(0).ok_or("no process")?;
+    assert_eq!(rt; answer_of(&mut sum, from, 4), 4);
+    assert_eq!(rt; answer_of(&mut sum, from, 5), 9);
+    Ok(())
+}
+
+#[test]
+fn a_save_comes_after_what_is_there(rt: HostRuntime) -> Result<(), Fail> {
+    let last = object_of(rt.alloc(), 1)?;
+    let mut out = vec![in rt.alloc(); 9, 9]?;
+    last.save(&mut out)?;
+    assert_eq!(rt;
+        out.as_slice(),
+        [9, 9, 1, 1, 0, 0, 0, 0, 0, 0, 0, 0].as_slice()
+    );
+    Ok(())
+}
+
+/// Sees that these bytes are refused, and the object is as it was.
+fn refuses(rt: &impl Abort, object: &mut Object, saved: &[u8]) {
+    let offered = object.offer();
+    assert_eq!(rt; object.restore(saved), Err(RestoreFault::Form), "{saved:?}");
+    assert_eq!(rt; object.offer(), offered);
+}
+
+#[test]
+fn other_bytes_are_no_saved_state(rt: HostRuntime) -> Result<(), Fail> {
+    for kind in 0..3u8 {
+        let mut object = object_of(rt.alloc(), kind)?;
+        apply_all(&mut object, &[6]);
+        let mut saved = [kind, 1, 0, 0, 0, 0, 0, 0, 0, 5, 0];
+        for end in 0..10 {
+            refuses(&rt, &mut object, &saved[..end]);
+        }
+        refuses(&rt, &mut object, &saved);
+        for other in [kind ^ 1, 3, 255] {
+            saved[0] = other;
+            refuses(&rt, &mut object, &saved[..10]);
+        }
+    }
+    Ok(())
+}
+
+#[test]
+fn only_a_tail_has_no_number_or_many(rt: HostRuntime) -> Result<(), Fail> {
+    let mut saved = [0u8; 74];
+    for kind in 0..3u8 {
+        let mut object = object_of(rt.alloc(), kind)?;
+        saved[0] = kind;
+        for count in 0..10u8 {
+            saved[1] = count;
+            let good = if kind == 2 { count <= 8 } else { count == 1 };
+            let end = 2 + 8 * usize::from(count);
+            assert_eq!(rt;
+                object.restore(&saved[..end]).is_ok(),
+                good,
+                "{kind} {count}"
+            );
+        }
+    }
+    Ok(())
+}
+
+#[test]
+fn an_object_may_be_unable_to_save(rt: HostRuntime) -> Result<(), Fail> {
+    let alloc = rt.alloc();
+    let sum = Sum::new(SlotBook::new(alloc).open()?);
+    let mut object: Object = Box::new(alloc, Stubborn::unable_at(2, sum))?;
+    apply_all(&mut object, &[5]);
+    let mut out = Vec::new(alloc);
+    object.save(&mut out)?;
+    assert_eq!(rt; object.save(&mut out), Err(SaveFault::Unable));
+    assert_eq!(rt; out.as_slice(), SUM_AT_5.as_slice());
+    object.save(&mut out)?;
+    assert_eq!(rt; out.len(), 2 * SUM_AT_5.len());
+    Ok(())
+}
+
+#[test]
+fn an_object_may_take_no_saved_state(rt: HostRuntime) -> Result<(), Fail> {
+    let alloc = rt.alloc();
+    let sum = Sum::new(SlotBook::new(alloc).open()?);
+    let mut object: Object = Box::new(alloc, Stubborn::taking_nothing(sum))?;
+    refuses(&rt, &mut object, &SUM_AT_5);
+    Ok(())
+}
+
+/// Sees that so many slots are freed and so many are out then.
+fn frees(rt: &impl Abort, book: &mut SlotBook, freed: usize, out: usize) {
+    assert_eq!(rt; book.collect(), freed);
+    assert_eq!(rt; book.out(), out);
+    assert_eq!(rt; book.collect(), 0);
+}
+
+fn guarded(alloc: Global, book: &mut SlotBook) -> Result<Object, Fail> {
+    let sum = Sum::new(book.open()?);
+    Ok(Box::new(alloc, sum)?)
+}
+
+#[test]
+fn a_dropped_object_gives_its_own_slot_back(rt: HostRuntime) -> Result<(), Fail> {
+    let alloc = rt.alloc();
+    let mut book = SlotBook::new(alloc);
+    frees(&rt, &mut book, 0, 0);
+    let first = guarded(alloc, &mut book)?;
+    let second = guarded(alloc, &mut book)?;
+    let third = guarded(alloc, &mut book)?;
+    frees(&rt, &mut book, 0, 3);
+    drop(second);
+    frees(&rt, &mut book, 1, 2);
+    let again = guarded(alloc, &mut book)?;
+    assert_eq!(rt; [first.slot(), again.slot(), third.slot()], [0, 1, 2]);
+    Ok(())
+}
+
+#[test]
+fn a_slot_past_the_number_of_those_out_is_freed(rt: HostRuntime) -> Result<(), Fail> {
+    let mut book = SlotBook::new(rt.alloc());
+    let first = book.open()?;
+    let second = book.open()?;
+    let third = book.open()?;
+    drop(first);
+    frees(&rt, &mut book, 1, 2);
+    drop(third);
+    frees(&rt, &mut book, 1, 1);
+    drop(second);
+    frees(&rt, &mut book, 1, 0);
+    Ok(())
+}
+
+/// Opens eight slots, drops those of these numbers one by one and sees each freed, opens as many again, and gives all up.
+fn frees_in_this_order(
+    rt: &impl Abort,
+    alloc: Global,
+    book: &mut SlotBook,
+    order: &[usize],
+) -> Result<(), Fail> {
+    let mut guards = Vec::new(alloc);
+    for _ in 0..8u8 {
+        guards.push(Some(book.open()?))?;
+    }
+    for (dropped, number) in order.iter().enumerate() {
+        let guard = guards.get_mut(*number).ok_or("no such slot")?;
+        drop(guard.take());
+        frees(rt, book, 1, 7_usize.saturating_sub(dropped));
+    }
+    for _ in order {
+        let guard = book.open()?;
+        assert!(rt; guard.number() < 8);
+        guards.push(Some(guard))?;
+    }
+    assert_eq!(rt; book.out(), 8);
+    drop(guards);
+    frees(rt, book, 8, 0);
+    Ok(())
+}
+
+#[test]
+fn slots_are_freed_in_any_order(rt: HostRuntime) -> Result<(), Fail> {
+    let mut book = SlotBook::new(rt.alloc());
+    for order in [
+        [0, 1, 2, 3, 4, 5, 6, 7].as_slice(),
+        &[7, 6, 5, 4, 3, 2, 1, 0],
+        &[0, 7, 1, 6, 2, 5, 3, 4],
+        &[3, 4, 0, 7],
+        &[6],
+    ] {
+        frees_in_this_order(&rt, rt.alloc(), &mut book, order)?;
+    }
+    Ok(())
+}
+
+#[test]
+fn a_guard_may_outlive_its_book(rt: HostRuntime) -> Result<(), Fail> {
+    let mut book = SlotBook::new(rt.alloc());
+    let guard = book.open()?;
+    drop(book);
+    assert_eq!(rt; guard.number(), 0);
+    Ok(())
+}
+
+/// Opens a slot, or sees that want of memory opens none.
+fn opens_or_leaves(rt: &impl Abort, book: &mut SlotBook) -> Option<SlotGuard> {
+    let out = book.out();
+    match book.open() {
+        Ok(guard) => {
+            assert!(rt; book.out() > out);
+            Some(guard)
+        }
+        Err(Memory) => {
+            assert_eq!(rt; book.out(), out);
+            None
+        }
+    }
+}
+
+/// Saves an object, or sees that want of memory leaves `out` as it was.
+fn saves_or_leaves<R: Recoverable>(rt: &impl Abort, object: &R, out: &mut Vec<u8>) {
+    let len = out.len();
+    match object.save(out) {
+        Ok(()) => assert!(rt; out.len() > len),
+        Err(fault) => {
+            assert_eq!(rt; fault, SaveFault::Memory);
+            assert_eq!(rt; out.len(), len);
+        }
+    }
+}
+
+/// Ends well whichever one growth is refused: to be run with each allocation failing in turn, which the gate does not do.
+#[test]
+fn want_of_memory_leaves_all_as_it_was(rt: HostRuntime) {
+    let mut book = SlotBook::new(rt.alloc());
+    let mut out = Vec::new(rt.alloc());
+    if let Some(guard) = opens_or_leaves(&rt, &mut book) {
+        saves_or_leaves(&rt, &Sum::new(guard), &mut out);
+    }
+    if let Some(guard) = opens_or_leaves(&rt, &mut book) {
+        saves_or_leaves(&rt, &Tail::new(guard), &mut out);
+    }
+    let opened = book.out();
+    assert_eq!(rt; book.collect(), opened);
+}
+
+/// Sees what a depot keeps.
+fn keeps(rt: &impl Abort, depot: &Depot, permanent: &[u8], tentative: Option<&[u8]>) {
+    assert_eq!(rt; depot.permanent(), permanent);
+    assert_eq!(rt; depot.tentative(), tentative);
+}
+
+#[test]
+fn a_depot_promotes_or_discards(rt: HostRuntime) -> Result<(), AllocError> {
+    let alloc = rt.alloc();
+    let mut depot = Depot::new(vec![in alloc; 1, 2]?);
+    keeps(&rt, &depot, &[1, 2], None);
+    depot.keep_tentative(vec![in alloc; 3]?);
+    keeps(&rt, &depot, &[1, 2], Some(&[3]));
+    depot.discard();
+    keeps(&rt, &depot, &[1, 2], None);
+    depot.keep_tentative(vec![in alloc; 4]?);
+    depot.promote();
+    keeps(&rt, &depot, &[4], None);
+    Ok(())
+}
+
+#[test]
+fn faults_have_words(rt: HostRuntime) -> Result<(), AllocError> {
+    let faults = format!(in rt.alloc(); "{}, {}", SaveFault::Unable, SaveFault::Memory)?;
+    assert_eq!(rt; faults.as_str(), "not able to save, memory");
+    let faults = format!(in rt.alloc(); "{}, {}", RestoreFault::Form, RestoreFault::Memory)?;
+    assert_eq!(rt; faults.as_str(), "not a saved state of this kind, memory");
+    Ok(())
+}
