@@ -1,6 +1,6 @@
 //! The counter that labels come from.
 
-ghost use Rattle.std.specs.Prelude.{◌≡◌, ◌<◌, ◌+◌, ◌^◌, ◌-◌, ◌↔◌, IsSome, IfSome, IfNone};
+ghost use Rattle.std.specs.Prelude.{◌≡◌, ◌<◌, ◌≤◌, ◌+◌, ◌^◌, ◌-◌, ◌↔◌, IsSome, IsTrue, IfSome, IfNone};
 
 use crate::numbers::Label;
 use std::marker::Model;
@@ -25,6 +25,13 @@ impl Labels {
         ensures { result ≡ used }
     {
         Labels { used }
+    }
+
+    /// Whether the greatest label was given, so that none follows.
+    pub fn is_spent(&self) -> bool
+        ensures { IsTrue result ↔ (2 ^ 48 - 1 ≤ self.now) }
+    {
+        self.used.get() >= Label::MAX
     }
 
     /// The label after the last one; None, and nothing changes, once 2^48 - 1 was given.

@@ -1,6 +1,6 @@
 //! Sets of processes.
 
-ghost use Rattle.std.specs.Prelude.{◌≡◌, ◌≢◌, ◌<◌, ◌^◌, ℕ, true, false};
+ghost use Rattle.std.specs.Prelude.{◌≡◌, ◌≢◌, ◌<◌, ◌^◌, ℕ, true, false, IfSome, IfNone};
 ghost use Rattle.kt_base.specs.Numbers.{IsProcNo};
 ghost use Rattle.kt_base.specs.Sets.{has, count_of};
 
@@ -58,6 +58,18 @@ impl ProcSet {
         ProcSet {
             bits: self.bits & !(1 << p.get()),
         }
+    }
+
+    /// The process with the least number in the set; None where the set is empty.
+    pub fn first(self) -> Option<ProcNo>
+        ensures member { IfSome result (λ p. has self p ≡ true) }
+        ensures least { IfSome result (λ p. (q : ℕ) → q < p → has self q ≡ false) }
+        ensures none { IfNone result ((q : ℕ) → has self q ≡ false) }
+    {
+        if self.bits == 0 {
+            return None;
+        }
+        Some(ProcNo::nth(self.bits.trailing_zeros() as u8))
     }
 
     /// How many processes are in the set.

@@ -2,7 +2,6 @@
 use Rattle.std.proofs.Common.{◌≡◌, ℕ, Bool, true, false, List, refl, ap, sym, ◌∙◌}
 use Rattle.std.specs.Prelude.{Option, Some, None}
 use Rattle.kt_base.specs.declared.words.Cause.{Cause}
-use Rattle.kt_base.specs.declared.words.Cause.TheVariants.{Busy, Down, NoSave}
 use Rattle.kt_base.specs.declared.words.Standing.{Standing}
 use Rattle.kt_tables.specs.Calls.{Call}
 use Rattle.kt_parts.specs.Answers.{replies, joins}

@@ -6,7 +6,7 @@ use Rattle.kt_tables.specs.Peers.{IsCohort}
 use Rattle.kt_parts.specs.Shares.{Share}
 use Rattle.kt_parts.specs.Answers.{replies, joins}
 use Rattle.kt_parts.specs.declared.actions.Action.{Action}
-use Rattle.kt_parts.specs.declared.actions.Action.TheVariants.{Nothing, Refuse, Join, Reply, Settle}
+use Rattle.kt_parts.specs.declared.actions.Action.TheVariants.{Refuse, Join, Reply}
 use Rattle.kt_ckpt.specs.Rules.{is_asked, asked_label, must_join, refusal, answer}
 
 -- it asks exactly its cohort

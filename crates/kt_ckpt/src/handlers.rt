@@ -1,10 +1,13 @@
 //! The handlers: each sees one process's tables and part, how the process stands, and one parcel.
 
-ghost use Rattle.std.specs.Prelude.{◌≡◌, ◌<◌, ◌++◌, ◌∷◌, [], List, None, Some, true, false, IfOk, OnOk, OnErr, IfSome, OnSome, IfNone};
+ghost use Rattle.std.specs.Prelude.{◌≡◌, ◌<◌, ◌++◌, ◌∷◌, [], List, None, Some, true, false, IfOk, OnOk, OnErr, IfSome, OnSome, IfNone, ℕ};
+ghost use Rattle.kt_base.specs.Sets.{has};
+ghost use Rattle.kt_tables.specs.Peers.{has_one};
 ghost use Rattle.kt_tables.specs.Calls.{Call, on_tentative};
-ghost use Rattle.kt_tables.specs.Standing.{StandsFor};
+ghost use Rattle.kt_tables.specs.Standing.{StandsFor, must_take};
 ghost use Rattle.kt_parts.specs.Rules.{after_reply, reply_action, settle_action};
 ghost use Rattle.kt_parts.specs.Joins.{Joins};
+ghost use Rattle.kt_parts.specs.Replies.{IsReplyTo};
 ghost use Rattle.kt_parts.specs.Counts.{counts_of, counts_if_joined, no_parcel, one_reply, decisions_to};
 ghost use Rattle.kt_ckpt.specs.Rules.{refusal, decision};
 ghost use Rattle.kt_ckpt.specs.Actions.{AsksCohort, IsStart, IsAnswer};
@@ -38,6 +41,8 @@ fn join(tables: &mut Tables, inst: InstNo, parent: Option<ProcNo>) -> Result<(Si
     ensures stands { OnOk result ((calls : List Call) → StandsFor tables.old calls → StandsFor tables.new (calls ++ on_tentative ∷ [])) }
     ensures joins { IfOk result (λ r. Joins tables.old.processes inst parent r.0 r.1) }
     ensures cohort { IfOk result (λ r. (calls : List Call) → StandsFor tables.old calls → AsksCohort calls r.1) }
+    ensures asked { IfOk result (λ r. (q : ℕ) → has r.0.asked q ≡ true → has_one tables.old.last_rcvd q ≡ true) }
+    ensures last_out { tables.new.last_out ≡ tables.old.last_out }
 {
     let pairs = tables.ckpt_cohort()?;
     tables.on_tentative();
@@ -64,6 +69,10 @@ pub fn start(
     ensures cohort { IfOk result (λ r. OnSome r.0 ((calls : List Call) → StandsFor tables.old calls → AsksCohort calls r.1)) }
     ensures tentative { IfOk result (λ r. OnSome r.0 (tables.new.is_tentative ≡ true)) }
     ensures stands { IfOk result (λ r. OnSome r.0 ((calls : List Call) → StandsFor tables.old calls → StandsFor tables.new (calls ++ on_tentative ∷ []))) }
+
+    // By the labels kept: whom it asks, and that the last labels sent stay.
+    ensures asked { IfOk result (λ r. IfSome r.0 (λ side. (q : ℕ) → has side.asked q ≡ true → has_one tables.old.last_rcvd q ≡ true)) }
+    ensures last_out { tables.new.last_out ≡ tables.old.last_out }
 {
     if let Some(cause) = refusal(standing) {
         return Ok((None, Action::Refuse(cause)));
@@ -95,6 +104,15 @@ pub fn on_ask(
     ensures cohort { IfOk result (λ r. OnSome r.0 ((calls : List Call) → StandsFor tables.old calls → AsksCohort calls r.1)) }
     ensures tentative { IfOk result (λ r. OnSome r.0 (tables.new.is_tentative ≡ true)) }
     ensures stands { IfOk result (λ r. OnSome r.0 ((calls : List Call) → StandsFor tables.old calls → StandsFor tables.new (calls ++ on_tentative ∷ []))) }
+
+    // Who doesn't join replies to the asker.
+    ensures replies { IfOk result (λ r. IfNone r.0 (IsReplyTo from r.1)) }
+
+    // By the labels kept: who joins, whom it asks, and that the last labels sent stay.
+    ensures joined { IfOk result (λ r. OnSome r.0 (
+        (standing.in_inst ≡ None) × (standing.up ≡ true) × (standing.able ≡ true) × (must_take tables.old from label ≡ true))) }
+    ensures asked { IfOk result (λ r. IfSome r.0 (λ side. (q : ℕ) → has side.asked q ≡ true → has_one tables.old.last_rcvd q ≡ true)) }
+    ensures last_out { tables.new.last_out ≡ tables.old.last_out }
 {
     if let Some(current) = standing.in_inst {
         return Ok((None, Action::reply_in(current, inst, from)));
@@ -125,6 +143,7 @@ pub fn on_decide(tables: &mut Tables, side: Side, commit: bool) -> Action
     ensures processes { tables.new.processes ≡ tables.old.processes }
     ensures tentative { tables.new.is_tentative ≡ false }
     ensures stands { (calls : List Call) → StandsFor tables.old calls → StandsFor tables.new (calls ++ decision commit ∷ []) }
+    ensures last_out { tables.new.last_out ≡ tables.old.last_out }
     ensures action { result ≡ settle_action side commit }
     ensures counts { counts_of result ≡ decisions_to side.asked }
 {

@@ -107,48 +107,85 @@ spare_freed w from to i x y h r e =
     spare_changed w from to i x y (λ q. q.spare + (length q.parcels - length (channel (written w i y) from to))) h r
     (e ∙ ap (λ (l : List Parcel). x.spare + (length x.parcels - length l)) (sym (channel_here w from to i y h)))
 
-exact_written : (w : Wires) (senders : List ℕ) (from to i s : ℕ) (y : Queue) → IsWired w senders → IsPlace w from to i →
-    has s from ≡ has_parcel y.parcels → ((p : ℕ) → p ≢ from → has s p ≡ has (slice_index senders to) p) →
-    (p q : ℕ) → q < w.processes → has (slice_index (set senders to s) q) p ≡ has_parcel (channel (written w i y) p q)
-exact_written w senders from to i s y k h here others p q b =
-    let e : channel (written w i y) p q ≡ at_pair from to y.parcels (channel w) p q = ap (λ (f : ℕ → ℕ → List Parcel). f p q) (channel_written w from to i y h) in
-    let long : to < length senders = omega (arith, h.to_in, k.receivers) in
-    let old = k.exact p q b in
-    rw e (elim (cases_eq q to) [
-      | inl same ↦ elim (cases_eq p from) [
-        | inl it ↦
-            rw (same, get_or-set_same senders to s 0 long, it) (here ∙ ap has_parcel (sym (at_both from to y.parcels (channel w from to))))
-        | inr other ↦
-            rw (same, get_or-set_same senders to s 0 long)
-            (others p other ∙ subst (λ (t : ℕ). has (slice_index senders t) p ≡ has_parcel (channel w p t)) same old ∙ ap has_parcel (sym (off_first p from to y.parcels (channel w p to) other)))
-      ]
-      | inr other ↦
-          rw (get_or-set_other senders to q s 0 other) (old ∙ ap has_parcel (sym (off_second p q from to y.parcels (channel w p q) other)))
+-- what the code finds where a pair's list becomes l: s, the senders to the receiver, and f, the receivers
+pub record NotesSender (senders : List ℕ) (receivers from to s f : ℕ) (l : List Parcel) : Type 0 where
+  pub here : has s from ≡ has_parcel l
+  pub others : (p : ℕ) → p ≢ from → has s p ≡ has (slice_index senders to) p
+  pub some : has f to ≡ true → (p : ℕ) × (has s p ≡ true)
+  pub none : has f to ≡ false → (p : ℕ) → has s p ≡ false
+  pub apart : (q : ℕ) → q ≢ to → has f q ≡ has receivers q
+
+at_both : (p q : ℕ) (x y : List Parcel) → (if nat_eq p p && nat_eq q q then x else y) ≡ x
+at_both p q x y = grind (arith, nat_tests)
+
+off_first : (p from q : ℕ) (x y : List Parcel) → p ≢ from → (if nat_eq p from && nat_eq q q then x else y) ≡ y
+off_first p from q x y n = grind (arith, nat_tests)
+
+off_second : (p q from to : ℕ) (x y : List Parcel) → q ≢ to → (if nat_eq p from && nat_eq q to then x else y) ≡ y
+off_second p q from to x y n = grind (arith, nat_tests)
+
+-- the lists to another receiver stay
+apart_written : (w : Wires) (from to i : ℕ) (y : Queue) → IsPlace w from to i → (p q : ℕ) → q ≢ to → channel (written w i y) p q ≡ channel w p q
+apart_written w from to i y h p q other =
+    ap (λ (f : ℕ → ℕ → List Parcel). f p q) (channel_written w from to i y h) ∙ off_second p q from to y.parcels (channel w p q) other
+
+-- the senders to the receiver of the pair
+here_written : (w : Wires) (senders : List ℕ) (receivers from to i s f : ℕ) (y : Queue) → IsWired w senders receivers → IsPlace w from to i →
+    NotesSender senders receivers from to s f y.parcels → (p : ℕ) → has s p ≡ has_parcel (channel (written w i y) p to)
+here_written w senders receivers from to i s f y k h n p =
+    let e : channel (written w i y) p to ≡ at_pair from to y.parcels (channel w) p to = ap (λ (g : ℕ → ℕ → List Parcel). g p to) (channel_written w from to i y h) in
+    rw e (elim (cases_eq p from) [
+      | inl it ↦ rw it (n.here ∙ ap has_parcel (sym (at_both from to y.parcels (channel w from to))))
+      | inr other ↦ n.others p other ∙ (k.exact p to h.to_in ∙ ap has_parcel (sym (off_first p from to y.parcels (channel w p to) other)))
     ])
-  where
-    at_both : (p q : ℕ) (x y : List Parcel) → (if nat_eq p p && nat_eq q q then x else y) ≡ x
-    at_both p q x y = grind (arith, nat_tests)
 
-    off_first : (p from q : ℕ) (x y : List Parcel) → p ≢ from → (if nat_eq p from && nat_eq q q then x else y) ≡ y
-    off_first p from q x y n = grind (arith, nat_tests)
+no_parcel : (l : List Parcel) → has_parcel l ≡ false → l ≡ []
+no_parcel [] e = refl
+no_parcel (x ∷ xs) e = cc
 
-    off_second : (p q from to : ℕ) (x y : List Parcel) → q ≢ to → (if nat_eq p from && nat_eq q to then x else y) ≡ y
-    off_second p q from to x y n = grind (arith, nat_tests)
-
--- a write at one place, with the senders to its receiver
-pub wired_written : (w : Wires) (senders : List ℕ) (from to i r s t : ℕ) (y : Queue) → IsWired w senders → IsPlace w from to i →
-    r ≡ to → t ≡ get_or senders r t → has s from ≡ has_parcel y.parcels → ((p : ℕ) → p ≢ from → has s p ≡ has t p) →
-    IsWired (written w i y) (set senders r s)
-wired_written w senders from to i r s t y k h it read here others =
-    let long : to < length senders = omega (arith, h.to_in, k.receivers) in
-    let old : t ≡ slice_index senders to = subst (λ (j : ℕ). t ≡ get_or senders j t) it read ∙ get_or_default senders to t 0 long in
-    let rest = λ (p : ℕ) (n : p ≢ from). others p n ∙ ap (λ (x : ℕ). has x p) old in
-    subst (λ (j : ℕ). IsWired (written w i y) (set senders j s)) (sym it) (record {
+noted_written : (w : Wires) (senders : List ℕ) (receivers from to i s f : ℕ) (y : Queue) → IsWired w senders receivers → IsPlace w from to i →
+    NotesSender senders receivers from to s f y.parcels → IsWired (written w i y) (set senders to s) f
+noted_written w senders receivers from to i s f y k h n =
+    let long : to < length senders = omega (arith, h.to_in, k.one_each) in
+    let here = here_written w senders receivers from to i s f y k h n in
+    let apart = apart_written w from to i y h in
+    record {
       few = k.few;
       square = length-set w.queues i y ∙ k.square;
-      receivers = length-set senders to s ∙ k.receivers;
-      exact = exact_written w senders from to i s y k h here rest;
-    })
+      one_each = length-set senders to s ∙ k.one_each;
+      exact = λ p q b. elim (cases_eq q to) [
+        | inl same ↦ rw (same, get_or-set_same senders to s 0 long) (here p)
+        | inr other ↦ rw (get_or-set_other senders to q s 0 other) (k.exact p q b ∙ ap has_parcel (sym (apart p q other)))
+      ];
+      some = λ q e. elim (cases_eq q to) [
+        | inl same ↦
+            let r = n.some (ap (has f) (sym same) ∙ e) in
+            (r.0, subst (λ (t : ℕ). has_parcel (channel (written w i y) r.0 t) ≡ true) (sym same) (sym (here r.0) ∙ r.1))
+        | inr other ↦
+            let r = k.some q (sym (n.apart q other) ∙ e) in
+            (r.0, ap has_parcel (apart r.0 q other) ∙ r.1)
+      ];
+      none = λ p q e. elim (cases_eq q to) [
+        | inl same ↦ rw same (no_parcel _ (sym (here p) ∙ n.none (ap (has f) (sym same) ∙ e) p))
+        | inr other ↦ apart p q other ∙ k.none p q (sym (n.apart q other) ∙ e)
+      ];
+    }
+
+-- a write at one place, with the senders to its receiver and the receivers
+pub wired_written : (w : Wires) (senders : List ℕ) (receivers from to i r s t f : ℕ) (y : Queue) → IsWired w senders receivers → IsPlace w from to i →
+    r ≡ to → t ≡ get_or senders r t → has s from ≡ has_parcel y.parcels → ((p : ℕ) → p ≢ from → has s p ≡ has t p) →
+    (has f to ≡ true → (p : ℕ) × (has s p ≡ true)) → (has f to ≡ false → (p : ℕ) → has s p ≡ false) → ((q : ℕ) → q ≢ to → has f q ≡ has receivers q) →
+    IsWired (written w i y) (set senders r s) f
+wired_written w senders receivers from to i r s t f y k h it read here others some none apart =
+    let long : to < length senders = omega (arith, h.to_in, k.one_each) in
+    let old : t ≡ slice_index senders to = subst (λ (j : ℕ). t ≡ get_or senders j t) it read ∙ get_or_default senders to t 0 long in
+    subst (λ (j : ℕ). IsWired (written w i y) (set senders j s) f) (sym it) (noted_written w senders receivers from to i s f y k h (record {
+      here = here;
+      others = λ p n. others p n ∙ ap (λ (x : ℕ). has x p) old;
+      some = some;
+      none = none;
+      apart = apart;
+    }))
 
 -- the place that the code finds
 pub place_of : (w v : Wires) (from to i : ℕ) → w ≡ v → length w.queues ≡ w.processes * w.processes → from < v.processes → to < v.processes → i ≡ from * v.processes + to → IsPlace w from to i

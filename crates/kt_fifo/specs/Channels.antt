@@ -1,5 +1,5 @@
 -- One list of parcels, with room, for each ordered pair of processes.
-use Rattle.std.specs.Prelude.{◌≡◌, ℕ, ◌+◌, ◌*◌, ◌≤◌, ◌<◌, ◌==◌, ◌&&◌, nat_lt, if◌then◌else◌, true, List, [], length, slice_index_or, slice_index}
+use Rattle.std.specs.Prelude.{◌≡◌, ℕ, ◌+◌, ◌*◌, ◌≤◌, ◌<◌, ◌==◌, ◌&&◌, nat_lt, if◌then◌else◌, true, false, List, [], length, slice_index_or, slice_index}
 use Rattle.kt_base.specs.Sets.{has}
 use Rattle.kt_fifo.specs.declared.parcels.Parcel.{Parcel}
 use Rattle.kt_fifo.specs.Queues.{Queue, no_queue, has_parcel}
@@ -33,9 +33,12 @@ nothing from to = []
 abbrev pub IsTarget : ℕ → ℕ → ℕ → ℕ → Type 0
 IsTarget from targets p q = (p ≡ from) × (has targets q ≡ true)
 
--- a queue for each pair; and for each receiver the set of those whose list to it is not empty
-pub record IsWired (w : Wires) (senders : List ℕ) : Type 0 where
+-- a queue for each pair; for each receiver the set of those whose list to it is not empty; and the set of those to whom
+-- some list is not empty
+pub record IsWired (w : Wires) (senders : List ℕ) (receivers : ℕ) : Type 0 where
   pub few : w.processes ≤ 64
   pub square : length w.queues ≡ w.processes * w.processes
-  pub receivers : length senders ≡ w.processes
+  pub one_each : length senders ≡ w.processes
   pub exact : (from to : ℕ) → to < w.processes → has (slice_index senders to) from ≡ has_parcel (channel w from to)
+  pub some : (to : ℕ) → has receivers to ≡ true → (from : ℕ) × (has_parcel (channel w from to) ≡ true)
+  pub none : (from to : ℕ) → has receivers to ≡ false → channel w from to ≡ []

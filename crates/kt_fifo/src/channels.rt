@@ -1,6 +1,6 @@
 //! Channels between all pairs of processes.
 
-ghost use Rattle.std.specs.Prelude.{◌≡◌, ◌≢◌, ℕ, ◌<◌, ◌≤◌, ◌+◌, ◌-◌, ◌*◌, true, List, [], ◌∷◌, ◌++◌, length, drop, slice_get, IfOk, OnOk, OnErr};
+ghost use Rattle.std.specs.Prelude.{◌≡◌, ◌≢◌, ℕ, ◌<◌, ◌≤◌, ◌+◌, ◌-◌, ◌*◌, true, false, List, [], ◌∷◌, ◌++◌, length, drop, slice_get, IfOk, OnOk, OnErr};
 ghost use Rattle.std.specs.Option.{option_copied};
 ghost use Rattle.kt_base.specs.Sets.{has};
 ghost use Rattle.kt_fifo.specs.Queues.{has_parcel};
@@ -21,6 +21,7 @@ pub struct Channels {
     processes: usize,
     fifos: Vec<Fifo>,
     senders: Vec<ProcSet>,
+    receivers: ProcSet,
 }
 
 impl Model for Channels {
@@ -30,19 +31,28 @@ impl Model for Channels {
 
     ghost view = { λ c. record { processes = c.processes; queues = c.fifos.items } };
 
-    ghost invariant = { λ c. IsWired (record { processes = c.processes; queues = c.fifos.items }) c.senders.items };
+    ghost invariant = { λ c. IsWired (record { processes = c.processes; queues = c.fifos.items }) c.senders.items c.receivers };
 }
 
-/// The senders to a receiver, once it is known whether one of them has a parcel in transit.
-fn noted(senders: ProcSet, from: ProcNo, waits: bool) -> ProcSet
-    ensures here { has result from ≡ waits }
-    ensures others { (q : ℕ) → q ≢ from → has result q ≡ has senders q }
+/// A set, once it is known whether one process is in it.
+fn noted(set: ProcSet, p: ProcNo, is_member: bool) -> ProcSet
+    ensures here { has result p ≡ is_member }
+    ensures others { (q : ℕ) → q ≢ p → has result q ≡ has set q }
 {
-    if waits {
-        senders.with(from)
+    if is_member {
+        set.with(p)
     } else {
-        senders.without(from)
+        set.without(p)
     }
+}
+
+/// Notes whether a process is among the receivers, once the senders to it are known.
+fn note_receiver(receivers: &mut ProcSet, to: ProcNo, senders: ProcSet)
+    ensures some { has receivers.new to ≡ true → (from : ℕ) × (has senders from ≡ true) }
+    ensures none { has receivers.new to ≡ false → (from : ℕ) → has senders from ≡ false }
+    ensures others { (q : ℕ) → q ≢ to → has receivers.new q ≡ has receivers.old q }
+{
+    *receivers = noted(*receivers, to, senders.first().is_some());
 }
 
 impl Channels {
@@ -62,6 +72,7 @@ impl Channels {
             processes,
             fifos,
             senders,
+            receivers: ProcSet::empty(),
         })
     }
 
@@ -107,6 +118,15 @@ impl Channels {
         ensures { (from : ℕ) → has result from ≡ has_parcel (channel self.now from to) }
     {
         self.senders[to.get() as usize]
+    }
+
+    /// The processes to which a parcel is in transit.
+    pub fn receivers(&self) -> ProcSet
+        ensures some { (to : ℕ) → has result to ≡ true → (from : ℕ) × (has_parcel (channel self.now from to) ≡ true) }
+        ensures none { (from to : ℕ) → has result to ≡ false → channel self.now from to ≡ [] }
+        ensures within { (to : ℕ) → has result to ≡ true → to < self.now.processes }
+    {
+        self.receivers
     }
 
     /// The oldest parcel from one process to another.
@@ -171,7 +191,9 @@ impl Channels {
         let fifo = &mut self.fifos[place];
         fifo.push_reserved(parcel);
         let receiver = to.get() as usize;
-        self.senders[receiver] = noted(self.senders[receiver], from, true);
+        let senders = noted(self.senders[receiver], from, true);
+        self.senders[receiver] = senders;
+        note_receiver(&mut self.receivers, to, senders);
     }
 
     /// Takes the oldest parcel from one process to another; its room is spare room again.
@@ -182,13 +204,16 @@ impl Channels {
         ensures front { result ≡ slice_get (channel self.old from to) 0 }
         ensures lists { channel self.new ≡ at_pair from to (drop 1 (channel self.old from to)) (channel self.old) }
         ensures spare { spare_of self.new ≡ at_pair from to (spare_of self.old from to + (length (channel self.old from to) - length (channel self.new from to))) (spare_of self.old) }
+        ensures grows { (p q : ℕ) → spare_of self.old p q ≤ spare_of self.new p q }
     {
         let place = self.place(from, to);
         let fifo = &mut self.fifos[place];
         let parcel = fifo.pop();
         let waits = fifo.has_parcel();
         let receiver = to.get() as usize;
-        self.senders[receiver] = noted(self.senders[receiver], from, waits);
+        let senders = noted(self.senders[receiver], from, waits);
+        self.senders[receiver] = senders;
+        note_receiver(&mut self.receivers, to, senders);
         parcel
     }
 
@@ -199,13 +224,16 @@ impl Channels {
         ensures processes { self.new.processes ≡ self.old.processes }
         ensures lists { channel self.new ≡ at_pair from to (without_above label (channel self.old from to)) (channel self.old) }
         ensures spare { spare_of self.new ≡ at_pair from to (spare_of self.old from to + (length (channel self.old from to) - length (channel self.new from to))) (spare_of self.old) }
+        ensures grows { (p q : ℕ) → spare_of self.old p q ≤ spare_of self.new p q }
     {
         let place = self.place(from, to);
         let fifo = &mut self.fifos[place];
         fifo.drop_above(label);
         let waits = fifo.has_parcel();
         let receiver = to.get() as usize;
-        self.senders[receiver] = noted(self.senders[receiver], from, waits);
+        let senders = noted(self.senders[receiver], from, waits);
+        self.senders[receiver] = senders;
+        note_receiver(&mut self.receivers, to, senders);
     }
 
     /// Sets the other's list of a pair before this one's, in room made beforehand, and leaves the other's empty.
@@ -230,7 +258,11 @@ impl Channels {
         fifo.put_before(&mut other.fifos[other_place]);
         let waits = fifo.has_parcel();
         let receiver = to.get() as usize;
-        self.senders[receiver] = noted(self.senders[receiver], from, waits);
-        other.senders[receiver] = noted(other.senders[receiver], from, false);
+        let senders = noted(self.senders[receiver], from, waits);
+        self.senders[receiver] = senders;
+        note_receiver(&mut self.receivers, to, senders);
+        let other_senders = noted(other.senders[receiver], from, false);
+        other.senders[receiver] = other_senders;
+        note_receiver(&mut other.receivers, to, other_senders);
     }
 }

@@ -1,6 +1,6 @@
 -- Notes by rising process.
-use Rattle.std.specs.Prelude.{◌==◌, if◌then◌else◌, insert, Option, Some, None}
-use Rattle.std.proofs.Common.{◌≡◌, ◌≢◌, ℕ, ◌+◌, ◌≤◌, ◌<◌, true, false, List, [], ◌∷◌, ◌++◌, length, get_or, take, drop, refl, arith, sym, ap, subst, ◌∙◌, inl, inr, length-append, length-take, length-drop}
+use Rattle.std.specs.Prelude.{insert, Some, None}
+use Rattle.std.proofs.Common.{◌≡◌, ◌≢◌, ℕ, ◌+◌, ◌≤◌, ◌<◌, false, [], ◌∷◌, length, get_or, take, drop, arith, sym, ap, subst, ◌∙◌, inl, inr, length-append, length-take, length-drop}
 use Rattle.std.proofs.lemmas.Bool.{cases_lt, cases_eq}
 use Rattle.std.proofs.lemmas.Bool.Decides.{nat_tests}
 use Rattle.std.proofs.lemmas.List.{at_drop_more, at_drop_all}

@@ -1,10 +1,13 @@
 //! The handlers: each sees one process's tables and part, how the process stands, and one parcel.
 
-ghost use Rattle.std.specs.Prelude.{◌≡◌, ◌<◌, ◌++◌, List, Bool, None, Some, true, false, IfOk, OnErr, IfSome, OnSome};
+ghost use Rattle.std.specs.Prelude.{◌≡◌, ◌<◌, ◌++◌, List, Bool, None, Some, true, false, IfOk, OnErr, IfSome, OnSome, IfNone, ℕ};
+ghost use Rattle.kt_base.specs.Sets.{has};
+ghost use Rattle.kt_tables.specs.Peers.{has_one};
 ghost use Rattle.kt_tables.specs.Calls.{Call};
-ghost use Rattle.kt_tables.specs.Standing.{StandsFor};
+ghost use Rattle.kt_tables.specs.Standing.{StandsFor, must_roll};
 ghost use Rattle.kt_parts.specs.Rules.{after_reply, reply_action, settle_action};
 ghost use Rattle.kt_parts.specs.Joins.{Joins};
+ghost use Rattle.kt_parts.specs.Replies.{IsReplyTo};
 ghost use Rattle.kt_parts.specs.Counts.{counts_of, counts_if_joined, no_parcel, one_reply, decisions_to};
 ghost use Rattle.kt_roll.specs.Notes.{note_of, no_note, with_note};
 ghost use Rattle.kt_roll.specs.Sides.{part_of, HasRoom, IsLeft};
@@ -23,6 +26,7 @@ fn join(tables: &Tables, inst: InstNo, parent: Option<ProcNo>) -> Result<(Side, 
     ensures noted { IfOk result (λ r. note_of r.0.notes ≡ no_note) }
     ensures joins { IfOk result (λ r. Joins tables.now.processes inst parent r.0.part r.1) }
     ensures cohort { IfOk result (λ r. (calls : List Call) → StandsFor tables.now calls → AsksCohort calls r.1) }
+    ensures asked { IfOk result (λ r. (q : ℕ) → has r.0.part.asked q ≡ true → has_one tables.now.first_sent q ≡ true) }
 {
     let pairs = tables.roll_cohort()?;
     let notes = Notes::new(*pairs.allocator(), tables.processes())?;
@@ -44,6 +48,9 @@ pub fn start(
     ensures cohort { IfOk result (λ r. OnSome r.0 ((calls : List Call) → StandsFor tables.now calls → AsksCohort calls r.1)) }
     ensures noted { IfOk result (λ r. IfSome r.0 (λ side. note_of side.notes ≡ no_note)) }
     ensures room { IfOk result (λ r. IfSome r.0 (λ side. side.notes.processes ≡ tables.now.processes)) }
+
+    // By the labels kept: whom it asks.
+    ensures asked { IfOk result (λ r. IfSome r.0 (λ side. (q : ℕ) → has side.part.asked q ≡ true → has_one tables.now.first_sent q ≡ true)) }
 {
     if let Some(current) = standing.in_inst {
         return Ok((None, Action::Refuse(Cause::Busy(current))));
@@ -78,6 +85,13 @@ fn answer(
     ensures cohort { IfOk result (λ r. OnSome r.0 ((calls : List Call) → StandsFor tables.now calls → AsksCohort calls r.1)) }
     ensures noted { IfOk result (λ r. IfSome r.0 (λ side. note_of side.notes ≡ with_note from label no_note)) }
     ensures room { IfOk result (λ r. IfSome r.0 (λ side. side.notes.processes ≡ tables.now.processes)) }
+
+    // Who doesn't join replies to the asker.
+    ensures replies { IfOk result (λ r. IfNone r.0 (IsReplyTo from r.1)) }
+
+    // By the labels kept: who joins, and whom it asks.
+    ensures joined { IfOk result (λ r. OnSome r.0 ((standing.in_inst ≡ None) × (must_roll tables.now from label ≡ true))) }
+    ensures asked { IfOk result (λ r. IfSome r.0 (λ side. (q : ℕ) → has side.part.asked q ≡ true → has_one tables.now.first_sent q ≡ true)) }
 {
     if let Some(current) = standing.in_inst {
         return Ok((None, Action::reply_in(current, inst, from)));
@@ -115,6 +129,13 @@ pub fn on_ask(
     ensures cohort { IfOk result (λ r. OnSome r.0 ((calls : List Call) → StandsFor tables.now calls → AsksCohort calls r.1)) }
     ensures noted { IfOk result (λ r. IfSome r.0 (λ side. note_of side.notes ≡ with_note from label no_note)) }
     ensures room { IfOk result (λ r. IfSome r.0 (λ side. side.notes.processes ≡ tables.now.processes)) }
+
+    // Who doesn't join replies to the asker.
+    ensures replies { IfOk result (λ r. IfNone r.0 (IsReplyTo from r.1)) }
+
+    // By the labels kept: who joins, and whom it asks.
+    ensures joined { IfOk result (λ r. OnSome r.0 ((standing.in_inst ≡ None) × (must_roll tables.now from label ≡ true))) }
+    ensures asked { IfOk result (λ r. IfSome r.0 (λ side. (q : ℕ) → has side.part.asked q ≡ true → has_one tables.now.first_sent q ≡ true)) }
 {
     match side {
         Some(side) => {
@@ -143,6 +164,7 @@ pub fn on_decide(tables: &mut Tables, side: Side, commit: bool) -> Action
     ensures tentative { tables.new.is_tentative ≡ false }
     ensures aborted { commit ≡ false → tables.new ≡ tables.old }
     ensures stands { (calls : List Call) → StandsFor tables.old calls → StandsFor tables.new (calls ++ decision commit) }
+    ensures last_out { tables.new.last_out ≡ tables.old.last_out }
     ensures action { result ≡ settle_action side.part commit }
     ensures counts { counts_of result ≡ decisions_to side.part.asked }
 {

@@ -1,10 +1,13 @@
--- The peers of a table, in a list, and how many they are.
-use Rattle.std.specs.Prelude.{◌==◌, not, if◌then◌else◌, All}
-use Rattle.std.proofs.Common.{◌≡◌, ◌≢◌, ℕ, zero, suc, ◌+◌, ◌≤◌, ◌<◌, Bool, true, false, [], ◌∷◌, ◌++◌, length, get_or, map, take, drop, refl, arith, sym, ap, subst, ◌∙◌, inl, inr}
+-- The peers of a table, in a list and in a set, and how many they are.
+use Rattle.std.specs.Prelude.{◌==◌, not, if◌then◌else◌, All, Contains}
+use Rattle.std.specs.List.{list_any}
+use Rattle.std.proofs.Common.{◌≡◌, ◌≢◌, ℕ, zero, suc, ◌+◌, ◌≤◌, ◌<◌, Bool, true, false, List, [], ◌∷◌, ◌++◌, length, get_or, map, take, drop, refl, arith, sym, ap, subst, ◌∙◌, inl, inr, below_more}
 use Rattle.std.proofs.lemmas.Bool.{cases_lt, cases_eq}
 use Rattle.std.proofs.lemmas.Bool.Decides.{nat_tests}
 use Rattle.std.proofs.lemmas.List.Elements.{All-map}
+use Rattle.std.proofs.lemmas.List.Folds.{Any-from_list_any}
 use Rattle.std.proofs.lemmas.List.{length-map, get_or-map, get_or_default, take_more, map-append}
+use Rattle.kt_base.specs.Sets.{has}
 use Rattle.kt_tables.specs.Peers.{find_label, IsTable, count_peers, IsCohort}
 use Rattle.kt_tables.specs.Walks.{place_of, head_label}
 use Rattle.kt_tables.proofs.Pairs.{Pairs, table_lower, find_below, place_less, place_stop, find_same, find_other, find_head}
@@ -182,3 +185,58 @@ pub count_most : (n : ℕ) (f : ℕ → Bool) → count_peers n f ≤ n
 unfolding count_peers
 count_most zero f = omega arith
 count_most (suc n) f = let h = count_most n f in grind (arith, nat_tests)
+
+-- whoever stands in a cohort passes its test
+pub cohort_passes : (pairs : List (ℕ × ℕ)) (test : ℕ → Bool) (label : ℕ → ℕ) → IsCohort pairs test label → (q : ℕ) → list_any (λ pair. pair.0 == q) pairs ≡ true → test q ≡ true
+cohort_passes pairs test label cohort q e =
+    let f = Any-from_list_any (λ pair. pair.0 == q) pairs e in
+    let same : f.1.0 ≡ q = grind (arith, nat_tests, f.4) in
+    let P : ℕ → Type 0 = λ p. Contains pairs (p, f.1.1) in
+    ((cohort.members q f.1.1).0 (subst P same (f.0, f.2, f.3))).0
+
+-- a set has exactly the peers of the first i pairs
+pub record Gathers (ps : Pairs) (i set : ℕ) : Type 0 where
+  pub has_each : (k : ℕ) → k < i → has set (get_or ps k (0, 0)).0 ≡ true
+  pub no_other : (q : ℕ) → has set q ≡ true → (k : ℕ) × (k < i) × ((get_or ps k (0, 0)).0 ≡ q)
+
+pub gathers_none : (ps : Pairs) (set : ℕ) → ((q : ℕ) → has set q ≡ false) → Gathers ps 0 set
+gathers_none ps set none = record {
+  has_each = λ k b. absurd (omega arith);
+  no_other = λ q e. absurd (cc (none q, e));
+}
+
+pub gathers_more : (ps : Pairs) (i set more : ℕ) (x : ℕ × ℕ) → Gathers ps i set → i < length ps → x ≡ get_or ps i x →
+    has more x.0 ≡ true → ((q : ℕ) → q ≢ x.0 → has more q ≡ has set q) → Gathers ps (i + 1) more
+gathers_more ps i set more x h b r added others =
+    let here : x.0 ≡ (get_or ps i (0, 0)).0 = ap (λ (t : ℕ × ℕ). t.0) (at_place ps i x b r) in
+    record {
+      has_each = below_more _ _ (λ k c. elim (cases_eq (get_or ps k (0, 0)).0 x.0) [
+        | inl same ↦ ap (has more) same ∙ added
+        | inr other ↦ others _ other ∙ h.has_each k c
+      ]) (ap (has more) (sym here) ∙ added);
+      no_other = λ q e. elim (cases_eq q x.0) [
+        | inl same ↦ (i, omega arith, sym here ∙ sym same)
+        | inr other ↦ let m = h.no_other q (sym (others q other) ∙ e) in (m.0, omega (arith, m.1), m.2)
+      ];
+    }
+
+-- the set of all peers with a label
+pub gathers_all : (n : ℕ) (ps : Pairs) (i set : ℕ) → IsTable 0 n ps → Gathers ps i set → i ≤ length ps → length ps ≤ i →
+    (q : ℕ) → has set q ≡ not (find_label ps q == 0)
+gathers_all n ps i set t h most past q = both (has set q) (not (find_label ps q == 0))
+    (λ e.
+    let m = h.no_other q e in
+    not_zero (find_label ps q) (subst (λ (x : ℕ). 0 < find_label ps x) m.2 (find_at 0 n ps m.0 (0, 0) t (omega (arith, m.1)))))
+    (λ e.
+    let m = find_in ps q (0, 0) (above_zero (find_label ps q) e) in
+    ap (has set) (sym m.2) ∙ h.has_each m.0 (omega (arith, m.1)))
+  where
+    both : (a b : Bool) → (a ≡ true → b ≡ true) → (b ≡ true → a ≡ true) → a ≡ b
+    both true b f g = sym (f refl)
+    both false true f g = g refl
+    both false false f g = refl
+
+pub gathers_below : (n : ℕ) (ps : Pairs) (i set : ℕ) → IsTable 0 n ps → Gathers ps i set → i ≤ length ps → (q : ℕ) → has set q ≡ true → q < n
+gathers_below n ps i set t h most q e =
+    let m = h.no_other q e in
+    subst (λ (x : ℕ). x < n) m.2 (table_below 0 n ps m.0 (0, 0) t (omega (arith, m.1)))

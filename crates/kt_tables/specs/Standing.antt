@@ -1,5 +1,5 @@
 -- Which lists of calls the tables of a process stand for.
-use Rattle.std.specs.Prelude.{◌≡◌, ◌≤◌, ◌<◌, ℕ, List}
+use Rattle.std.specs.Prelude.{◌≡◌, ◌≤◌, ◌<◌, ℕ, nat_lt, nat_le, ◌&&◌, Bool, List}
 use Rattle.kt_tables.specs.Labels.{least, greatest}
 use Rattle.kt_tables.specs.Calls.{Call, Parts, parts, sents, receiveds, Speaks}
 use Rattle.kt_tables.specs.Peers.{LabelTable, label_of}
@@ -38,3 +38,10 @@ CanSend t to label = label_of t.last_out to < label
 -- a label that may be received from a peer: above 0, above the last one received from it, and above the one kept aside
 abbrev pub CanReceive : State → ℕ → ℕ → Type 0
 CanReceive t from label = (label_of t.last_rcvd from < label) × (label_of t.kept_rcvd from < label)
+
+-- by the labels kept: whether an ask to checkpoint, or to roll back, makes the process take part
+abbrev pub must_take : State → ℕ → ℕ → Bool
+must_take t from last = nat_lt 0 (label_of t.first_sent from) && nat_le (label_of t.first_sent from) last
+
+abbrev pub must_roll : State → ℕ → ℕ → Bool
+must_roll t from last_sent = nat_lt last_sent (label_of t.last_rcvd from)

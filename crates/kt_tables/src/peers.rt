@@ -1,10 +1,11 @@
 //! One table: a label for each peer that has one.
 
-ghost use Rattle.std.specs.Prelude.{◌≡◌, ◌<◌, ℕ, if◌then◌else◌, max, IfOk, ◌≤◌, length, drop, All, AllPairs};
+ghost use Rattle.std.specs.Prelude.{◌≡◌, ◌<◌, ℕ, true, if◌then◌else◌, max, IfOk, ◌≤◌, length, drop, All, AllPairs};
+ghost use Rattle.kt_base.specs.Sets.{has};
 ghost use Rattle.kt_tables.specs.Peers.{label_of, no_label, at_peer, has_one, count_peers, IsCohort};
 ghost use Rattle.kt_tables.specs.Walks.{place_of, after_peer, smaller_head, head_label, stands_at};
 
-use kt_base::{Label, Memory, ProcNo};
+use kt_base::{Label, Memory, ProcNo, ProcSet};
 use std::alloc::Global;
 use std::marker::Model;
 use std::mem;
@@ -196,6 +197,18 @@ impl PeerLabels {
         ensures { result ≡ count_peers self.now.peers (has_one self.now) }
     {
         self.pairs.len()
+    }
+
+    /// The peers that have a label.
+    pub(crate) fn peers(&self) -> ProcSet
+        ensures peers { (q : ℕ) → has result q ≡ has_one self.now q }
+        ensures within { (q : ℕ) → has result q ≡ true → q < self.now.peers }
+    {
+        let mut peers = ProcSet::empty();
+        for pair in &self.pairs {
+            peers = peers.with(pair.0);
+        }
+        peers
     }
 
     /// Takes over the labels of another table.

@@ -2,14 +2,15 @@
 
 ghost use Rattle.std.specs.Prelude.{◌≡◌, ℕ, ◌<◌, ◌≤◌, ◌+◌, ◌==◌, ◌↔◌, true, false, List, [], ◌∷◌, ◌++◌, IsTrue, IfOk, Contains, All, AllPairs, nat_lt, nat_le};
 ghost use Rattle.std.specs.List.{list_any};
+ghost use Rattle.kt_base.specs.Sets.{has};
 ghost use Rattle.kt_tables.specs.Calls.{Call, sent, received, on_tentative, on_commit, on_abort, on_rollback, Speaks, parts, parts_after, sents, receiveds};
 ghost use Rattle.kt_tables.specs.Labels.{has_label, greatest};
 ghost use Rattle.kt_tables.specs.States.{State};
 ghost use Rattle.kt_tables.specs.Standing.{StandsFor, CanSend, CanReceive};
-ghost use Rattle.kt_tables.specs.Peers.{label_of, count_peers, IsCohort};
+ghost use Rattle.kt_tables.specs.Peers.{label_of, no_label, at_peer, has_one, count_peers, IsCohort};
 
 use crate::peers::PeerLabels;
-use kt_base::{Label, Memory, ProcNo};
+use kt_base::{Label, Memory, ProcNo, ProcSet};
 use std::alloc::Global;
 use std::marker::Model;
 
@@ -98,7 +99,7 @@ impl Model for Tables {
 }
 
 impl Tables {
-    ghost use Rattle.kt_tables.specs.Standing.{StandsFor, CanSend, CanReceive};
+    ghost use Rattle.kt_tables.specs.Standing.{StandsFor, CanSend, CanReceive, must_take, must_roll};
 
     /// Empty tables for a process among that many, at most 64. All room is taken here: no later call but the two
     /// cohort lists takes memory.
@@ -107,6 +108,7 @@ impl Tables {
         ensures processes { IfOk result (λ t. t.processes ≡ processes) }
         ensures tentative { IfOk result (λ t. t.is_tentative ≡ false) }
         ensures stands { IfOk result (λ t. StandsFor t []) }
+        ensures last_out { IfOk result (λ t. label_of t.last_out ≡ no_label) }
     {
         Ok(Tables {
             processes,
@@ -161,6 +163,7 @@ impl Tables {
         requires rises { CanSend self.old to label }
         ensures processes { self.new.processes ≡ self.old.processes }
         ensures tentative { self.new.is_tentative ≡ self.old.is_tentative }
+        ensures last_out { label_of self.new.last_out ≡ at_peer to label (label_of self.old.last_out) }
         ensures stands { (calls : List Call) → StandsFor self.old calls → Speaks (calls ++ sent to label ∷ []) → StandsFor self.new (calls ++ sent to label ∷ []) }
     {
         self.first_sent.put_first(to, label);
@@ -173,6 +176,7 @@ impl Tables {
         requires rises { CanReceive self.old from label }
         ensures processes { self.new.processes ≡ self.old.processes }
         ensures tentative { self.new.is_tentative ≡ self.old.is_tentative }
+        ensures last_out { self.new.last_out ≡ self.old.last_out }
         ensures stands { (calls : List Call) → StandsFor self.old calls → Speaks (calls ++ received from label ∷ []) → StandsFor self.new (calls ++ received from label ∷ []) }
     {
         self.last_rcvd.put(from, label);
@@ -183,6 +187,7 @@ impl Tables {
         requires { self.old.is_tentative ≡ false }
         ensures processes { self.new.processes ≡ self.old.processes }
         ensures tentative { self.new.is_tentative ≡ true }
+        ensures last_out { self.new.last_out ≡ self.old.last_out }
         ensures stands { (calls : List Call) → StandsFor self.old calls → StandsFor self.new (calls ++ on_tentative ∷ []) }
     {
         self.kept_rcvd.take(&mut self.last_rcvd);
@@ -195,6 +200,7 @@ impl Tables {
         requires { self.old.is_tentative ≡ true }
         ensures processes { self.new.processes ≡ self.old.processes }
         ensures tentative { self.new.is_tentative ≡ false }
+        ensures last_out { self.new.last_out ≡ self.old.last_out }
         ensures stands { (calls : List Call) → StandsFor self.old calls → StandsFor self.new (calls ++ on_commit ∷ []) }
     {
         self.kept_rcvd.clear();
@@ -208,6 +214,7 @@ impl Tables {
         requires { self.old.is_tentative ≡ true }
         ensures processes { self.new.processes ≡ self.old.processes }
         ensures tentative { self.new.is_tentative ≡ false }
+        ensures last_out { self.new.last_out ≡ self.old.last_out }
         ensures stands { (calls : List Call) → StandsFor self.old calls → StandsFor self.new (calls ++ on_abort ∷ []) }
     {
         self.first_sent.take(&mut self.kept_sent);
@@ -222,6 +229,7 @@ impl Tables {
         requires { self.old.is_tentative ≡ false }
         ensures processes { self.new.processes ≡ self.old.processes }
         ensures tentative { self.new.is_tentative ≡ false }
+        ensures last_out { self.new.last_out ≡ self.old.last_out }
         ensures stands { (calls : List Call) → StandsFor self.old calls → StandsFor self.new (calls ++ on_rollback ∷ []) }
     {
         self.last_rcvd.clear();
@@ -236,6 +244,7 @@ impl Tables {
             (IsTrue result ↔ ((x : ℕ) × Contains (sents from (parts calls).since) x × (x ≤ last))) }
         ensures test { (calls : List Call) → StandsFor self.now calls →
             result ≡ list_any (λ x. nat_le x last) (sents from (parts calls).since) }
+        ensures labels { result ≡ must_take self.now from last }
     {
         let first = self.first_sent.label(from).get();
         first > 0 && last.get() >= first
@@ -249,6 +258,7 @@ impl Tables {
             (IsTrue result ↔ ((x : ℕ) × Contains (receiveds from (parts calls).since) x × (last_sent < x))) }
         ensures test { (calls : List Call) → StandsFor self.now calls →
             result ≡ list_any (λ x. nat_lt last_sent x) (receiveds from (parts calls).since) }
+        ensures labels { result ≡ must_roll self.now from last_sent }
     {
         self.last_rcvd.label(from).get() > last_sent.get()
     }
@@ -260,6 +270,7 @@ impl Tables {
         ensures within { IfOk result (λ pairs. All (λ pair. pair.0 < self.now.processes) pairs.items) }
         ensures cohort { IfOk result (λ pairs. (calls : List Call) → StandsFor self.now calls →
             IsCohort pairs.items (λ q. has_label (receiveds q (parts calls).since)) (λ q. greatest (receiveds q (parts calls).since))) }
+        ensures labels { IfOk result (λ pairs. IsCohort pairs.items (has_one self.now.last_rcvd) (label_of self.now.last_rcvd)) }
     {
         self.last_rcvd.cohort(&self.last_rcvd)
     }
@@ -271,8 +282,31 @@ impl Tables {
         ensures within { IfOk result (λ pairs. All (λ pair. pair.0 < self.now.processes) pairs.items) }
         ensures cohort { IfOk result (λ pairs. (calls : List Call) → StandsFor self.now calls →
             IsCohort pairs.items (λ q. has_label (sents q (parts calls).since)) (λ q. greatest (sents q (parts calls).before))) }
+        ensures labels { IfOk result (λ pairs. IsCohort pairs.items (has_one self.now.first_sent) (label_of self.now.last_sent)) }
     {
         self.first_sent.cohort(&self.last_sent)
+    }
+
+    /// The processes that `ckpt_cohort` lists, in a set: those that sent a message received since the last checkpoint.
+    /// It takes no memory. To be called before `on_tentative`.
+    pub fn ckpt_peers(&self) -> ProcSet
+        ensures peers { (calls : List Call) → StandsFor self.now calls →
+            (q : ℕ) → has result q ≡ has_label (receiveds q (parts calls).since) }
+        ensures labels { (q : ℕ) → has result q ≡ has_one self.now.last_rcvd q }
+        ensures within { (q : ℕ) → has result q ≡ true → q < self.now.processes }
+    {
+        self.last_rcvd.peers()
+    }
+
+    /// The processes that `roll_cohort` lists, in a set: those that a message was sent to since the last checkpoint.
+    /// It takes no memory.
+    pub fn roll_peers(&self) -> ProcSet
+        ensures peers { (calls : List Call) → StandsFor self.now calls →
+            (q : ℕ) → has result q ≡ has_label (sents q (parts calls).since) }
+        ensures labels { (q : ℕ) → has result q ≡ has_one self.now.first_sent q }
+        ensures within { (q : ℕ) → has result q ≡ true → q < self.now.processes }
+    {
+        self.first_sent.peers()
     }
 
     /// How many labels of messages received and sent since the last checkpoint are kept: one for each peer and kind.

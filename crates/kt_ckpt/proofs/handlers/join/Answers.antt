@@ -1,8 +1,10 @@
-use Rattle.std.proofs.Common.{sym, subst, List, ℕ}
+use Rattle.std.proofs.Common.{sym, subst, ◌∙◌, List, ℕ}
+use Rattle.kt_tables.specs.Peers.{has_one, label_of}
 use Rattle.kt_tables.specs.Peers.{IsCohort}
 use Rattle.kt_parts.specs.declared.actions.Action.{Action}
 use Rattle.kt_ckpt.specs.Rules.{is_asked, asked_label}
 use Rattle.kt_ckpt.specs.Actions.{AsksCohort}
+use Rattle.kt_tables.proofs.Cohorts.{cohort_passes}
 use Rattle.kt_ckpt.proofs.handlers.join.Goals as goal
 
 pub returns-clause-cohort : goal.returns-clause-cohort
@@ -10,3 +12,9 @@ unfolding is_asked asked_label
 returns-clause-cohort c = λ calls h.
     subst (λ (x : Action). AsksCohort calls x) (sym c.join.ensures.action)
     (subst (λ (l : List (ℕ × ℕ)). IsCohort l (is_asked calls) (asked_label calls)) (sym c.new.ensures) (c.in_ok-pairs.ensures.cohort calls h))
+
+pub returns-clause-asked : goal.returns-clause-asked
+returns-clause-asked c q asked =
+    let table = c.args.tables.now.last_rcvd in
+    let cohort = subst (λ (l : List (ℕ × ℕ)). IsCohort l (has_one table) (label_of table)) (sym c.new.ensures) c.in_ok-pairs.ensures.labels in
+    cohort_passes _ _ _ cohort q (sym (c.join.ensures.part.asked q) ∙ asked)

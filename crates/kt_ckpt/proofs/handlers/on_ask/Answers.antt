@@ -1,4 +1,4 @@
-use Rattle.std.proofs.Common.{◌≡◌, refl, sym, ◌∙◌, true, false}
+use Rattle.std.proofs.Common.{◌≡◌, refl, sym, ◌∙◌}
 use Rattle.kt_ckpt.specs.Rules.{must_join}
 use Rattle.kt_ckpt.proofs.Rulings.{outside, refused, joined, join_answers}
 use Rattle.kt_ckpt.proofs.handlers.on_ask.Goals as goal

@@ -1,4 +1,3 @@
-use Rattle.std.proofs.Common.{true, false}
 use Rattle.kt_ckpt.proofs.handlers.on_decide.Goals as goal
 use Rattle.kt_ckpt.proofs.handlers.on_decide.Goals.{then-commit, else-commit}
 

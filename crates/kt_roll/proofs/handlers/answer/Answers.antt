@@ -1,4 +1,4 @@
-use Rattle.std.proofs.Common.{◌≡◌, refl, true, false}
+use Rattle.std.proofs.Common.{◌≡◌, refl}
 use Rattle.kt_roll.specs.Rules.{must_join}
 use Rattle.kt_roll.proofs.Rulings.{outside, joined, join_answers}
 use Rattle.kt_roll.proofs.handlers.answer.Goals as goal

@@ -1,6 +1,8 @@
-use Rattle.std.proofs.Common.{◌≡◌, ◌<◌, sym, subst, List, ℕ}
+use Rattle.std.proofs.Common.{◌<◌, ◌∙◌, sym, subst, ap, List, ℕ}
 use Rattle.std.specs.Prelude.{All}
-use Rattle.kt_tables.specs.Peers.{IsCohort}
+use Rattle.kt_base.specs.Sets.{has}
+use Rattle.kt_tables.specs.Peers.{IsCohort, has_one, label_of}
+use Rattle.kt_tables.proofs.Cohorts.{cohort_passes}
 use Rattle.kt_parts.specs.Joins.{Joins}
 use Rattle.kt_parts.specs.Shares.{Share}
 use Rattle.kt_parts.specs.declared.actions.Action.{Action}
@@ -19,3 +21,10 @@ unfolding is_asked asked_label
 returns-clause-cohort c = λ calls h.
     subst (λ (x : Action). AsksCohort calls x) (sym c.join-part.ensures.action)
     (subst (λ (l : List (ℕ × ℕ)). IsCohort l (is_asked calls) (asked_label calls)) (sym c.new-2.ensures) (c.in_ok-pairs.ensures.cohort calls h))
+
+pub returns-clause-asked : goal.returns-clause-asked
+returns-clause-asked c q asked =
+    let tables = c.args.tables.now in
+    let cohort = subst (λ (l : List (ℕ × ℕ)). IsCohort l (has_one tables.first_sent) (label_of tables.last_sent)) (sym c.new-2.ensures) c.in_ok-pairs.ensures.labels in
+    let same = ap (λ (x : Share). has x.asked q) c.new-3.ensures.part in
+    cohort_passes _ _ _ cohort q (sym (c.join-part.ensures.part.asked q) ∙ (sym same ∙ asked))

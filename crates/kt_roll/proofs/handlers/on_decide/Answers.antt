@@ -1,4 +1,4 @@
-use Rattle.std.proofs.Common.{◌≡◌, sym, ap, subst, true, false, List, ◌++◌, []}
+use Rattle.std.proofs.Common.{sym, subst, List}
 use Rattle.std.proofs.lemmas.List.{append-nil}
 use Rattle.kt_tables.specs.Calls.{Call}
 use Rattle.kt_tables.specs.Standing.{StandsFor}

@@ -8,13 +8,13 @@ use Rattle.kt_fifo.proofs.channels.Channels.put_before.Goals as goal
 pub invariant_of-self : goal.invariant_of-self
 invariant_of-self c =
     let at = place_of _ _ _ _ _ c.self.view_is c.self.invariant.square c.requires.from c.requires.to c.place-place.ensures.place in
-    wired_written _ _ _ _ _ _ _ _ _ c.self.invariant at c.get-receiver.ensures.value c.index.ensures (c.noted.ensures.here ∙ c.has_parcel-waits.ensures) c.noted.ensures.others
+    wired_written _ _ _ _ _ _ _ _ _ _ _ c.self.invariant at c.get-receiver.ensures.value c.index.ensures (c.noted-senders.ensures.here ∙ c.has_parcel-waits.ensures) c.noted-senders.ensures.others c.note_receiver.ensures.some c.note_receiver.ensures.none c.note_receiver.ensures.others
 
 pub invariant_of-other : goal.invariant_of-other
 invariant_of-other c =
     let there = place_of _ _ _ _ _ c.other.view_is c.other.invariant.square c.requires.from_there c.requires.to_there c.place-other_place.ensures.place in
-    wired_written _ _ _ _ _ _ _ _ _ c.other.invariant there c.get-receiver.ensures.value c.index-2.ensures
-    (c.noted-2.ensures.here ∙ ap has_parcel (sym c.put_before.ensures.emptied)) c.noted-2.ensures.others
+    wired_written _ _ _ _ _ _ _ _ _ _ _ c.other.invariant there c.get-receiver.ensures.value c.index-2.ensures
+    (c.noted-other_senders.ensures.here ∙ ap has_parcel (sym c.put_before.ensures.emptied)) c.noted-other_senders.ensures.others c.note_receiver-2.ensures.some c.note_receiver-2.ensures.none c.note_receiver-2.ensures.others
 
 pub returns-clause-lists : goal.returns-clause-lists
 returns-clause-lists c =
