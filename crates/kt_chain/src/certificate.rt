@@ -1,6 +1,6 @@
 //! What a certificate says.
 
-ghost use Rattle.std.specs.Prelude.{◌≡◌, [], ◌∷◌, ◌++◌, map, OnOk, OnErr};
+ghost use Rattle.std.specs.Prelude.{◌≡◌, [], ◌∷◌, ◌++◌, map, IfOk, OnOk, OnErr};
 
 use kt_base::{InstNo, Kind, Memory, MsgNo, ProcNo};
 use std::alloc::Global;
@@ -28,6 +28,15 @@ impl Chain {
         Chain {
             messages: Vec::new(alloc),
         }
+    }
+
+    /// The chain with no message, which takes no more memory until it has more messages than `capacity`.
+    pub(crate) fn with_capacity(alloc: Global, capacity: u32) -> Result<Chain, Memory>
+        ensures { IfOk result (λ chain. chain ≡ []) }
+    {
+        Ok(Chain {
+            messages: Vec::with_capacity(alloc, capacity as usize)?,
+        })
     }
 
     /// Adds a message at the end.

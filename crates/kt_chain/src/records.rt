@@ -122,15 +122,16 @@ fn count(text: &[u8]) -> Result<u32, RecordFault>
 }
 
 // The messages that the parts of a text between one `/` and the next spell, one each: none where they are more than a
-// chain may have. Every part is looked at, and no message past the greatest length is kept.
-fn messages_of(alloc: Global, text: &[u8]) -> Result<Option<Chain>, RecordFault>
+// chain may have. Every part is looked at, and no message past the greatest length is kept. There is room for `count`
+// messages from the start.
+fn messages_of(alloc: Global, text: &[u8], count: u32) -> Result<Option<Chain>, RecordFault>
     ensures found { IfOk result (λ read. (messages : List ℕ) × All IsMsgNo messages
         × (map decimal messages ≡ slice_split (λ byte. byte == 47) text.now) × IsIfFew messages read) }
     ensures fault { IfErr result (λ f. OrMemory f ((f ≡ RecordFault.Number)
         × ((messages : List ℕ) → All IsMsgNo messages
         → map decimal messages ≢ slice_split (λ byte. byte == 47) text.now))) }
 {
-    let mut chain = Chain::new(alloc);
+    let mut chain = Chain::with_capacity(alloc, count)?;
     let mut is_long = false;
     for part in text.split(|byte| *byte == b'/') {
         let Some(msg) = message_of(part) else {
@@ -145,8 +146,9 @@ fn messages_of(alloc: Global, text: &[u8]) -> Result<Option<Chain>, RecordFault>
     Ok(if is_long { None } else { Some(chain) })
 }
 
-// The messages of a chain, joined by `/`, or `-` for none: none also where they are more than a chain may have.
-fn chain(alloc: Global, text: &[u8]) -> Result<Option<Chain>, RecordFault>
+// The messages of a chain, joined by `/`, or `-` for none: none also where they are more than a chain may have. There
+// is room for `count` messages from the start.
+fn chain(alloc: Global, text: &[u8], count: u32) -> Result<Option<Chain>, RecordFault>
     ensures found { IfOk result (λ read. (messages : List ℕ) × All IsMsgNo messages
         × (text.now ≡ chain_word messages) × IsIfFew messages read) }
     ensures fault { IfErr result (λ f. OrMemory f (IsMisfit slot.chain text.now f)) }
@@ -154,7 +156,7 @@ fn chain(alloc: Global, text: &[u8]) -> Result<Option<Chain>, RecordFault>
     if text == b"-".as_slice() {
         return Ok(Some(Chain::new(alloc)));
     }
-    messages_of(alloc, text)
+    messages_of(alloc, text, count)
 }
 
 // The certificate of an instance, before any member.
@@ -238,7 +240,7 @@ fn take_member(
     let inst = instance(first)?;
     let process = process(second)?;
     let count = count(third)?;
-    let Some(chain) = chain(alloc, fourth)? else {
+    let Some(chain) = chain(alloc, fourth, count)? else {
         return Err(RecordFault::Place);
     };
     if chain.messages().len() != count as usize {
