@@ -1,4 +1,5 @@
 mod base;
+mod certify;
 mod chain;
 mod cuts;
 mod histories;

@@ -25,3 +25,4 @@ pub mod PermanentFacts
 pub mod FoundFacts
 pub mod HeldFacts
 pub mod PeersFacts
+pub mod LinkFacts

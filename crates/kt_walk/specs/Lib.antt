@@ -10,6 +10,7 @@ pub mod PartsOf
 pub mod ControlOf
 pub mod Stages
 pub mod Arrivals
+pub mod Searching
 pub mod Peers
 pub mod Pairs
 pub mod TraceEntries

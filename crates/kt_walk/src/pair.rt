@@ -10,6 +10,7 @@ ghost use Rattle.kt_cuts.specs.Standing.{IsInOrder};
 ghost use Rattle.kt_transit.specs.TransitList.{AreInTransit, IsBySend};
 ghost use Rattle.kt_transit.specs.LastReceived.{IsLastFrom};
 ghost use Rattle.kt_walk.specs.declared.queue.Arrival.{Arrival};
+ghost use Rattle.kt_walk.specs.Searching.{IsFoundPast};
 ghost use Rattle.kt_walk.specs.Arrivals.{IsRising, IsUncovered, ShowsReceived, cut_back};
 ghost use Rattle.kt_walk.specs.Pairs.{but_for, count_of, is_idle, IsPairCutBack, IsPairCommitted, IsPairState, IsEachOnce, AreNotDropped};
 
@@ -95,6 +96,14 @@ impl Pair {
             → IsOrphanBetween s (slice_index cut.now) self.now.received_from.receiver self.now.received_from.sender msg → IsAtMost result msg }
     {
         self.received_from.orphan(cut)
+    }
+
+    /// The least message in both live histories that was sent at one place or later and received before another one.
+    pub(crate) fn link(&self, sent: usize, received: usize) -> Option<MsgNo>
+        ensures { IsRising self.now.received_from.arrivals
+            → IsFoundPast self.now.received_from.arrivals sent received result }
+    {
+        self.received_from.link(sent, received)
     }
 
     /// What was received last, in the live history.

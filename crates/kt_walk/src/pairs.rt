@@ -10,6 +10,7 @@ ghost use Rattle.kt_cuts.specs.Tests.{is_after};
 ghost use Rattle.kt_cuts.specs.Orphans.{IsOrphanBetween, IsAtMost};
 ghost use Rattle.kt_cuts.specs.Standing.{IsInOrder, IsAllowed};
 ghost use Rattle.kt_transit.specs.declared.in_transit.Sent.{Sent};
+ghost use Rattle.kt_walk.specs.Searching.{IsFoundPast};
 ghost use Rattle.kt_walk.specs.Arrivals.{IsByPair, ShowsReceived, RollsBack, MakesPermanent, KeepsPermanent};
 ghost use Rattle.kt_base.specs.Sets.{has};
 ghost use Rattle.kt_walk.specs.Peers.{is_in};
@@ -86,6 +87,21 @@ impl Pairs {
         ensures known { (v : PairState) → slice_get self.now (p * 64 + from) ≡ Some v → v.last ≡ result }
     {
         self.pairs[index_of(p, from)].last()
+    }
+
+    /// The least message to this process from the other one in both live histories that was sent at one place or later
+    /// and received before another one.
+    pub(crate) fn link(
+        &self,
+        p: ProcNo,
+        from: ProcNo,
+        sent: usize,
+        received: usize,
+    ) -> Option<MsgNo>
+        ensures { (s : Past) → ShowsPairs self.now s → (v : PairState) × (slice_get self.now (p * 64 + from) ≡ Some v)
+            × IsFoundPast v.received_from.arrivals sent received result }
+    {
+        self.pairs[index_of(p, from)].link(sent, received)
     }
 
     /// A process, p, sends a message to another one; unchanged where there is no memory.

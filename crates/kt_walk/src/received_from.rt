@@ -8,6 +8,7 @@ ghost use Rattle.kt_cuts.specs.Past.{Past};
 ghost use Rattle.kt_cuts.specs.Lists.{Rises, sent_in};
 ghost use Rattle.kt_cuts.specs.Orphans.{IsOrphanBetween, IsAtMost};
 ghost use Rattle.kt_cuts.specs.Standing.{IsInOrder};
+ghost use Rattle.kt_walk.specs.Searching.{IsFoundPast};
 ghost use Rattle.kt_walk.specs.Arrivals.{IsRising, Parts, sent_at, received_at, undone_at, undo, AreInTurn, IsReceivedFrom, ShowsReceived, IsUncovered, is_empty};
 
 use crate::queue::{Arrival, Queue};
@@ -163,6 +164,13 @@ impl ReceivedFrom {
         self.arrivals.shrink();
         let wanted = self.undone.len().saturating_add(self.arrivals.len());
         self.undone.shrink_to(wanted);
+    }
+
+    /// The least message whose send is live that was sent at one place or later and received before another one.
+    pub(crate) fn link(&self, sent: usize, received: usize) -> Option<MsgNo>
+        ensures { IsRising self.now.arrivals → IsFoundPast self.now.arrivals sent received result }
+    {
+        first_past(self.arrivals.as_slice(), sent, received)
     }
 
     /// The least message that is received within its receiver's part and not sent within its sender's.

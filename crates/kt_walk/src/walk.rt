@@ -1,6 +1,6 @@
 //! A reader of a log row by row, which keeps no rows.
 
-ghost use Rattle.std.specs.Prelude.{◌≡◌, ◌<◌, ◌^◌, ◌++◌, ◌∷◌, ◌||◌, [], ℕ, List, length, IfOk, OnOk, OnErr, IfNone, IfSome, Err, None, Some, true, false, slice_index, ◌≤◌};
+ghost use Rattle.std.specs.Prelude.{◌≡◌, ◌<◌, ◌^◌, ◌+◌, ◌*◌, ◌++◌, ◌∷◌, ◌||◌, [], ℕ, List, length, IfOk, OnOk, OnErr, IfNone, IfSome, Err, None, Some, true, false, slice_get, slice_index, ◌≤◌};
 ghost use Rattle.kt_spacetime.specs.declared.event.Event.{Event};
 ghost use Rattle.kt_spacetime.specs.declared.event.Event.TheVariants as event;
 ghost use Rattle.kt_cuts.specs.declared.traces.Trace.{Trace};
@@ -15,6 +15,8 @@ ghost use Rattle.kt_transit.specs.declared.in_transit.Sent.{Sent};
 ghost use Rattle.kt_walk.specs.Keeping.{kept_trace, held_of};
 ghost use Rattle.kt_walk.specs.Arrivals.{KeepsPermanent};
 ghost use Rattle.kt_walk.specs.PartsOf.{takes_in_transit, follows, extends_history};
+ghost use Rattle.kt_walk.specs.Pairs.{PairState};
+ghost use Rattle.kt_walk.specs.Searching.{IsFoundPast};
 ghost use Rattle.kt_walk.specs.WalkOf.{WalkOf, IsFoundAt};
 
 use crate::control::ControlState;
@@ -270,6 +272,16 @@ impl Walk {
             → kept_trace rows msg ≡ Some (record { from = from; to = to; sent = Some sent; received = Some received }) → ⊥) }
     {
         self.pairs.places(from, to, msg)
+    }
+
+    /// The least message from one process to another that is in both live histories, was sent at one place or later and
+    /// received before another one, of those that are kept. Places are counted from 0.
+    pub fn link(&self, from: ProcNo, to: ProcNo, sent: usize, received: usize) -> Option<MsgNo>
+        ensures { (rows : List Event) → WalkOf self.now rows
+            → (v : PairState) × (slice_get self.now.pair_states (to * 64 + from) ≡ Some v)
+            × IsFoundPast v.received_from.arrivals sent received result }
+    {
+        self.pairs.link(to, from, sent, received)
     }
 
     /// How many messages are kept.

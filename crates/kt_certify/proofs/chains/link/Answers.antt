@@ -1,0 +1,18 @@
+use Rattle.std.proofs.Common.{◌∙◌, ℕ, Option, unwrap_or, sym, ap, arith}
+use Rattle.kt_base.specs.declared.words.Kind.{Kind}
+use Rattle.kt_cuts.specs.Past.{past}
+use Rattle.kt_certify.specs.Linking.{least_link}
+use Rattle.kt_certify.proofs.Walked.{by_checkpoint, by_rollback}
+use Rattle.kt_certify.proofs.chains.link.Goals as goal
+
+pub returns-in-Checkpoint : goal.returns-in-Checkpoint
+returns-in-Checkpoint c = λ rows h.
+    by_checkpoint c.args.walk.now rows c.args.inst c.args.p c.args.q c.permanent.result c.unwrap_or-bound.result c.link.result h (omega (arith, c.get-p.ensures.value, c.get-p.ensures.in_range)) (omega (arith, c.get-q.ensures.value, c.get-q.ensures.in_range)) (c.permanent.ensures rows h)
+    (c.unwrap_or-bound.ensures ∙ ap (λ (o : Option ℕ). unwrap_or o 0) (c.position.ensures rows h)) (c.link.ensures rows h)
+    ∙ ap (λ (x : Kind). least_link (past rows) c.args.inst x c.args.p c.args.q) (sym c.in-Checkpoint.is)
+
+pub returns-in-Rollback : goal.returns-in-Rollback
+returns-in-Rollback c = λ rows h.
+    by_rollback c.args.walk.now rows c.args.inst c.args.p c.args.q c.permanent-in-Rollback.result c.length.result c.link-in-Rollback.result h (omega (arith, c.get-p.ensures.value, c.get-p.ensures.in_range)) (omega (arith, c.get-q.ensures.value, c.get-q.ensures.in_range)) (c.permanent-in-Rollback.ensures rows h)
+    (c.length.ensures rows h) (c.link-in-Rollback.ensures rows h)
+    ∙ ap (λ (x : Kind). least_link (past rows) c.args.inst x c.args.p c.args.q) (sym c.in-Rollback.is)

@@ -1,0 +1,10 @@
+pub use Rattle.kt_cuts.specs.Past
+pub use Rattle.kt_cuts.specs.Legal
+pub use Rattle.kt_cuts.specs.Chains
+pub mod Linking
+pub mod Certificates
+pub mod Decisions
+pub mod Faults
+pub mod Instances
+pub mod Stops
+pub mod PassOf

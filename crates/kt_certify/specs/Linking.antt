@@ -1,0 +1,53 @@
+-- The messages that link a member of an instance with an earlier one, and the chains that they make.
+use Rattle.std.specs.Prelude.{ℕ, zero, suc, ◌==◌, ◌&&◌, if◌then◌else◌, Bool, true, false, Option, Some, None, is_some, unwrap_or, List, [], ◌∷◌, ◌++◌, fold}
+use Rattle.kt_base.specs.declared.words.Kind.{Kind}
+use Rattle.kt_base.specs.declared.words.Kind.TheVariants.{Checkpoint, Rollback}
+use Rattle.kt_cuts.specs.declared.deeds.Deed.TheVariants as deed
+use Rattle.kt_cuts.specs.Past.{Past}
+use Rattle.kt_cuts.specs.Legal.{has_deed}
+use Rattle.kt_cuts.specs.Chains.{is_sent_past, is_received_within}
+
+-- what was found, or else this number if it passes
+abbrev pub found_or : Option ℕ → Bool → ℕ → Option ℕ
+found_or (Some m) passes n = Some m
+found_or None true n = Some n
+found_or None false n = None
+
+-- the least number, from 1 to a bound, that passes a test
+abbrev pub least_to : (ℕ → Bool) → ℕ → Option ℕ
+least_to test zero = None
+least_to test (suc n) = found_or (least_to test n) (test (suc n)) (suc n)
+
+-- whether a message links a process, p, with a member that joined before it, q: in a checkpoint p sent it past its
+-- permanent position and q received it within its new one, in a rollback q sent it past its permanent position and p has
+-- received it
+abbrev pub links : Past → ℕ → Kind → ℕ → ℕ → ℕ → Bool
+links s k Checkpoint p q msg = is_sent_past s p q msg && (is_some (s.new k q) && is_received_within s k q p msg)
+links s k Rollback p q msg = is_sent_past s q p msg && has_deed (deed.Received msg q) (s.live p)
+
+-- the least-numbered message that does; messages have the numbers of rows
+abbrev pub least_link : Past → ℕ → Kind → ℕ → ℕ → Option ℕ
+least_link s k kind p q = least_to (links s k kind p q) s.rows
+
+-- a chain and the message that leads on from its end, if there is one; or else another chain
+abbrev pub led_on : List ℕ → Option ℕ → Option (List ℕ) → Option (List ℕ)
+led_on chain (Some msg) later = Some (chain ++ msg ∷ [])
+led_on chain None later = later
+
+-- of these members, each with its chain: the chain of the first one with a linking message, followed by the least such
+-- message
+abbrev pub chain_through : (ℕ → Option ℕ) → List (ℕ × List ℕ) → Option (List ℕ)
+chain_through link [] = None
+chain_through link (m ∷ ms) = led_on m.1 (link m.0) (chain_through link ms)
+
+-- a member's chain, by the members that joined before it; the initiator's is empty
+abbrev pub chain_of : Past → ℕ → Kind → ℕ → List (ℕ × List ℕ) → ℕ → Option (List ℕ)
+chain_of s k kind initiator earlier p = if p == initiator then Some [] else chain_through (least_link s k kind p) earlier
+
+-- one more member with its chain, which is empty where it has none
+abbrev pub with_member : Past → ℕ → Kind → ℕ → List (ℕ × List ℕ) → ℕ → List (ℕ × List ℕ)
+with_member s k kind initiator earlier p = earlier ++ (p, unwrap_or (chain_of s k kind initiator earlier p) []) ∷ []
+
+-- these processes, in the order in which they joined, each with its chain
+abbrev pub chained : Past → ℕ → Kind → ℕ → List ℕ → List (ℕ × List ℕ)
+chained s k kind initiator joined = fold (with_member s k kind initiator) [] joined

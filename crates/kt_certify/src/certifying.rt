@@ -1,0 +1,39 @@
+//! The certificates of a log.
+
+ghost use Rattle.std.specs.Prelude.{◌≡◌, ℕ, All, IfOk, IfErr};
+ghost use Rattle.kt_cuts.specs.Legal.{IsLegal};
+ghost use Rattle.kt_chain.specs.Spelling.{HasShortChains, records_of};
+ghost use Rattle.kt_chain.specs.Texts.{IsCertText};
+ghost use Rattle.kt_certify.specs.Certificates.{certificates};
+ghost use Rattle.kt_certify.specs.Faults.{HasNoChain, IsFaultOf};
+
+use crate::fault::CertFault;
+use crate::pass::Pass;
+use kt_chain::Certificate;
+use kt_spacetime::SpaceTime;
+use std::alloc::Global;
+
+/// The certificates of a log, one for each decided instance by rising number, in one pass over its rows; else why there
+/// are none.
+///
+/// A committed instance's certificate lists its members in the order in which they joined, each with its chain: that of
+/// the first earlier member that a message links it with, followed by the least-numbered such message.
+///
+/// Which fault is answered of a log that has several is left open.
+pub fn certify(alloc: Global, log: &SpaceTime) -> Result<Vec<Certificate>, CertFault>
+    // The certificates are those of the log, which is legal and has no member without a chain,
+    ensures certificates { IfOk result (λ list. list.items ≡ certificates log.now.rows) }
+    ensures legal { IfOk result (λ list. IsLegal log.now.rows) }
+    ensures chained { IfOk result (λ list. (k p : ℕ) → HasNoChain log.now.rows k p → ⊥) }
+    // and they can be written, and what is written says them.
+    ensures short { IfOk result (λ list. All HasShortChains list.items) }
+    ensures text { IfOk result (λ list. IsCertText (records_of list.items) list.items) }
+    // Each fault is one of the log.
+    ensures fault { IfErr result (λ f. IsFaultOf log.now.rows f) }
+{
+    let mut pass = Pass::new(alloc)?;
+    for row in log.rows() {
+        pass.feed(row)?;
+    }
+    Ok(pass.found()?)
+}

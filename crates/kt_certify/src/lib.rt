@@ -1,0 +1,13 @@
+//! The certificates of a log, by one pass over its rows.
+#![tactic(auto)]
+
+mod certifying;
+mod chains;
+mod fault;
+mod instance;
+mod laws;
+mod pass;
+
+pub use certifying::certify;
+pub use fault::CertFault;
+pub use laws::certificates_of_logs;

@@ -1,0 +1,176 @@
+//! One pass over the rows of a log.
+
+ghost use Rattle.std.specs.Prelude.{◌≡◌, ◌<◌, ◌^◌, ◌++◌, ◌∷◌, [], ℕ, true, Some, List, IfOk, IfErr, OnOk};
+ghost use Rattle.std.specs.List.{filter_map};
+ghost use Rattle.kt_spacetime.specs.declared.event.Event.{Event};
+ghost use Rattle.kt_spacetime.specs.declared.event.Event.TheVariants as event;
+ghost use Rattle.kt_cuts.specs.Past.{past};
+ghost use Rattle.kt_cuts.specs.Legal.{IsLegal};
+ghost use Rattle.kt_cuts.specs.Standing.{at_number};
+ghost use Rattle.kt_walk.specs.WalkOf.{WalkOf};
+ghost use Rattle.kt_certify.specs.Faults.{IsFaultOf};
+ghost use Rattle.kt_certify.specs.Instances.{InstanceParts, changed, joined_by, decided_as, instances_after};
+ghost use Rattle.kt_certify.specs.Stops.{HasChains, StopsIn, StopsOn};
+ghost use Rattle.kt_certify.specs.PassOf.{PassOf};
+
+use crate::fault::CertFault;
+use crate::instance::Instance;
+use kt_base::{InstNo, Memory, ProcNo};
+use kt_chain::Certificate;
+use kt_cuts::LegalFault;
+use kt_spacetime::Event;
+use kt_walk::Walk;
+use std::alloc::Global;
+
+/// What is known after the rows so far, and the instances by number.
+#[derive(Drop)]
+pub(crate) struct Pass {
+    alloc: Global,
+    walk: Walk,
+    instances: Vec<Instance>,
+}
+
+impl Pass {
+    /// A pass before the first row.
+    pub(crate) fn new(alloc: Global) -> Result<Pass, Memory>
+        ensures { IfOk result (λ pass. PassOf pass []) }
+    {
+        let walk = Walk::new(alloc)?;
+        Ok(Pass {
+            alloc,
+            walk,
+            instances: Vec::new(alloc),
+        })
+    }
+
+    /// One more row. Where it decides an instance, the certificate is made just before it.
+    ///
+    /// After an error a pass stands for no rows.
+    pub(crate) fn feed(&mut self, row: &Event) -> Result<(), CertFault>
+        requires few { self.old.walk.rows < 2 ^ 24 }
+        ensures fed { OnOk result ((rows : List Event) → PassOf self.old rows
+            → PassOf self.new (rows ++ row.now ∷ [])) }
+        ensures fault { IfErr result (λ f. (rows : List Event) → PassOf self.old rows
+            → IsFaultOf (rows ++ row.now ∷ []) f) }
+    {
+        enter(&mut self.instances, self.alloc, &self.walk, row)?;
+        feed(&mut self.walk, row)
+    }
+
+    /// The certificates of the instances that are decided.
+    pub(crate) fn found(&mut self) -> Result<Vec<Certificate>, Memory>
+        ensures { IfOk result (λ list. list.items ≡ filter_map (λ v. v.certificate) self.old.instances.items) }
+    {
+        found(self.alloc, &mut self.instances)
+    }
+}
+
+// One more row; else why the log is not legal.
+fn feed(walk: &mut Walk, row: &Event) -> Result<(), CertFault>
+    requires few { walk.old.rows < 2 ^ 24 }
+    ensures fed { OnOk result ((rows : List Event) → WalkOf walk.old rows → IsLegal (rows ++ row.now ∷ [])
+        × WalkOf walk.new (rows ++ row.now ∷ [])) }
+    ensures fault { IfErr result (λ f. (rows : List Event) → WalkOf walk.old rows
+        → IsFaultOf (rows ++ row.now ∷ []) f) }
+{
+    let Err(fault) = walk.feed(row) else {
+        return Ok(());
+    };
+    let LegalFault::Broken(number, rule) = fault else {
+        return Err(CertFault::Memory);
+    };
+    Err(CertFault::BadLog(number, rule))
+}
+
+// What the next row changes of the instances.
+fn enter(
+    instances: &mut Vec<Instance>,
+    alloc: Global,
+    walk: &Walk,
+    row: &Event,
+) -> Result<(), CertFault>
+    ensures entered { OnOk result ((rows : List Event) → WalkOf walk.now rows
+        → instances.new.items ≡ instances_after (past rows) row.now instances.old.items) }
+    ensures chained { OnOk result ((rows : List Event) (p k : ℕ) (v : InstanceParts) → WalkOf walk.now rows
+        → row.now ≡ event.Decided p k true → at_number instances.old.items k ≡ Some v
+        → HasChains (past rows) k v) }
+    ensures fault { IfErr result (λ f. (rows : List Event) → WalkOf walk.now rows
+        → StopsOn row.now (past rows) instances.old.items f) }
+{
+    match *row {
+        Event::Began { p, kind, .. } => {
+            begin(instances, Instance::new(alloc, p, kind))?;
+            Ok(())
+        }
+        Event::Took { p, inst } => {
+            join(instances, p, inst)?;
+            Ok(())
+        }
+        Event::Ready { p, inst } => {
+            join(instances, p, inst)?;
+            Ok(())
+        }
+        Event::Decided { inst, commit, .. } => decide(instances, alloc, walk, inst, commit),
+        Event::Unwilling { .. } => Ok(()),
+        Event::Sent { .. } => Ok(()),
+        Event::Received { .. } => Ok(()),
+        Event::Dropped { .. } => Ok(()),
+        Event::Closed { .. } => Ok(()),
+        Event::Failed { .. } => Ok(()),
+        Event::Refused { .. } => Ok(()),
+    }
+}
+
+// An instance begins.
+fn begin(instances: &mut Vec<Instance>, begun: Instance) -> Result<(), Memory>
+    ensures { OnOk result (instances.new.items ≡ instances.old.items ++ begun ∷ []) }
+{
+    instances.push(begun)?;
+    Ok(())
+}
+
+// A process joins the instance of this number, if there is one.
+fn join(instances: &mut Vec<Instance>, p: ProcNo, inst: InstNo) -> Result<(), Memory>
+    ensures { OnOk result (instances.new.items ≡ changed inst (joined_by p) instances.old.items) }
+{
+    let index = inst.get() as usize - 1;
+    if index < instances.len() {
+        instances[index].join(p)?;
+    }
+    Ok(())
+}
+
+// The next row decides the instance of this number, if there is one.
+fn decide(
+    instances: &mut Vec<Instance>,
+    alloc: Global,
+    walk: &Walk,
+    inst: InstNo,
+    commit: bool,
+) -> Result<(), CertFault>
+    ensures decided { OnOk result ((rows : List Event) → WalkOf walk.now rows
+        → instances.new.items ≡ changed inst (decided_as (past rows) inst commit) instances.old.items) }
+    ensures chained { OnOk result ((rows : List Event) (v : InstanceParts) → WalkOf walk.now rows → commit ≡ true
+        → at_number instances.old.items inst ≡ Some v → HasChains (past rows) inst v) }
+    ensures fault { IfErr result (λ f. (rows : List Event) → WalkOf walk.now rows
+        → StopsIn commit (past rows) inst instances.old.items f) }
+{
+    let index = inst.get() as usize - 1;
+    if index < instances.len() {
+        instances[index].decide(alloc, walk, inst, commit)?;
+    }
+    Ok(())
+}
+
+// The certificates of these instances, taken out of them.
+fn found(alloc: Global, instances: &mut Vec<Instance>) -> Result<Vec<Certificate>, Memory>
+    ensures { IfOk result (λ list. list.items ≡ filter_map (λ v. v.certificate) instances.old.items) }
+{
+    let mut list = Vec::new(alloc);
+    for index in 0..instances.len() {
+        if let Some(certificate) = instances[index].give() {
+            list.push(certificate)?;
+        }
+    }
+    Ok(list)
+}

@@ -1,0 +1,6 @@
+pub mod Asking
+pub mod Marks
+pub mod Named
+pub mod Ranges
+pub mod Telling
+pub mod Trimmed

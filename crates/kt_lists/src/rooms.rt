@@ -1,0 +1,64 @@
+//! Room made before a step changes anything.
+
+ghost use Rattle.std.specs.Prelude.{◌≡◌, ◌<◌, ◌≤◌, ℕ, OnOk, true, length};
+ghost use Rattle.kt_base.specs.Sets.{has};
+ghost use Rattle.kt_fifo.specs.Channels.{channel, spare_of};
+
+use kt_base::{Memory, ProcNo, ProcSet};
+use kt_fifo::Channels;
+
+/// Room for so many parcels more from a process to another one, if that is wanted.
+fn make_room_to(
+    channels: &mut Channels,
+    p: ProcNo,
+    to: ProcNo,
+    count: usize,
+    is_wanted: bool,
+) -> Result<(), Memory>
+    requires p { p < channels.old.processes }
+    requires to { to < channels.old.processes }
+    ensures processes { channels.new.processes ≡ channels.old.processes }
+    ensures lists { channel channels.new ≡ channel channels.old }
+    ensures grows { (u v : ℕ) → spare_of channels.old u v ≤ spare_of channels.new u v }
+    ensures ok { OnOk result (is_wanted ≡ true → count ≤ spare_of channels.new p to) }
+{
+    if !is_wanted {
+        return Ok(());
+    }
+    channels.reserve_many(p, to, count)
+}
+
+/// Room for so many parcels more from a process to each of a set. What was refused leaves all lists as they were.
+pub fn make_room(
+    channels: &mut Channels,
+    p: ProcNo,
+    targets: ProcSet,
+    count: usize,
+) -> Result<(), Memory>
+    requires { p < channels.old.processes }
+    ensures processes { channels.new.processes ≡ channels.old.processes }
+    ensures lists { channel channels.new ≡ channel channels.old }
+    ensures grows { (u v : ℕ) → spare_of channels.old u v ≤ spare_of channels.new u v }
+    ensures ok { OnOk result ((q : ℕ) → q < channels.old.processes → has targets q ≡ true → count ≤ spare_of channels.new p q) }
+{
+    for number in 0..channels.processes() as u8 {
+        let to = ProcNo::new(number).unwrap();
+        make_room_to(channels, p, to, count, targets.has(to))?;
+    }
+    Ok(())
+}
+
+/// Room to hold all parcels that are kept for a process. What was refused leaves all lists as they were.
+pub fn make_room_back(held: &mut Channels, kept: &Channels, p: ProcNo) -> Result<(), Memory>
+    requires to { p < held.old.processes }
+    requires same { kept.now.processes ≡ held.old.processes }
+    ensures processes { held.new.processes ≡ held.old.processes }
+    ensures lists { channel held.new ≡ channel held.old }
+    ensures ok { OnOk result ((q : ℕ) → q < held.old.processes → length (channel kept.now q p) ≤ spare_of held.new q p) }
+{
+    for number in 0..held.processes() as u8 {
+        let from = ProcNo::new(number).unwrap();
+        make_room_to(held, from, p, kept.len(from, p), true)?;
+    }
+    Ok(())
+}

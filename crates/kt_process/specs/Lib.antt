@@ -1,0 +1,3 @@
+pub mod Persons
+pub mod Sides
+pub mod Turns

@@ -1,0 +1,5 @@
+pub mod SendingFacts
+pub mod AnswerFacts
+pub mod WordFacts
+pub mod ObjectFacts
+pub mod ReportFacts

@@ -1,0 +1,84 @@
+-- The lines of a report.
+use Rattle.std.specs.Prelude.{◌-◌, ◌==◌, ℕ, ℤ, List, [], ◌∷◌, ◌++◌, Option, Some, None, if◌then◌else◌, codes, map, slice_get, slice_index_or}
+use Rattle.std.specs.List.{flat_map, join_with_byte}
+use Rattle.std.specs.Fmt.{decimal, signed_decimal}
+use Rattle.kt_base.specs.declared.words.Cause.{Cause}
+use Rattle.kt_spacetime.specs.declared.event.Event.{Event}
+use Rattle.kt_spacetime.specs.declared.event.Event.TheVariants.{Sent, Unwilling, Refused}
+use Rattle.kt_text.specs.Words.{kind_word, decision_word}
+use Rattle.kt_chain.specs.Spelling.{Member}
+use Rattle.kt_chain.specs.declared.certificate.Certificate.{Certificate}
+use Rattle.kt_log_text.specs.Spelling.{verb_word, cause_word}
+
+-- a process, and why it was unwilling
+abbrev pub Answer : Type 0
+Answer = ℕ × Cause
+
+-- words separated by blanks and ended by a line feed
+abbrev pub line : List (List ℕ) → List ℕ
+line words = join_with_byte 32 words ++ 10 ∷ []
+
+-- the name of a process, or `-` where it has none
+abbrev pub name_of : List (List ℕ) → ℕ → List ℕ
+name_of names p = slice_index_or names p (codes "-")
+
+-- the line of an instance: its number, its kind, its initiator and how it was decided
+abbrev pub instance_line : List (List ℕ) → Certificate → List ℕ
+instance_line names c = line (codes "instance" ∷ decimal c.inst ∷ kind_word c.kind ∷ name_of names c.initiator ∷ decision_word c.commit ∷ [])
+
+-- between whom a message went, as the row that sent it says
+abbrev pub ends_word : List (List ℕ) → Event → List ℕ
+ends_word names (Sent p to body) = 58 ∷ (name_of names p ++ 62 ∷ name_of names to)
+ends_word names _ = []
+
+-- the same of a row that may not be there
+abbrev pub ends_if : List (List ℕ) → Option Event → List ℕ
+ends_if names (Some row) = ends_word names row
+ends_if names None = []
+
+-- a message of a chain: its number and between whom it went
+abbrev pub message_word : List (List ℕ) → List Event → ℕ → List ℕ
+message_word names rows msg = decimal msg ++ ends_if names (slice_get rows (msg - 1))
+
+-- the line of a member: its name and the messages of its chain
+abbrev pub member_line : List (List ℕ) → List Event → Member → List ℕ
+member_line names rows member = line (codes "member" ∷ name_of names member.0 ∷ map (message_word names rows) member.1)
+
+-- the line of a process that was unwilling: its name and why
+abbrev pub unwilling_line : List (List ℕ) → Answer → List ℕ
+unwilling_line names answer = line (codes "unwilling" ∷ name_of names answer.0 ∷ cause_word answer.1 ∷ [])
+
+-- what a row says of who was unwilling to join an instance
+abbrev pub unwilling_in : ℕ → Event → List Answer
+unwilling_in inst (Unwilling p other cause) = if other == inst then (p, cause) ∷ [] else []
+unwilling_in inst _ = []
+
+-- who was unwilling to join an instance, in the order of the rows
+abbrev pub unwilling_of : ℕ → List Event → List Answer
+unwilling_of inst rows = flat_map (unwilling_in inst) rows
+
+-- the lines of who took part in an instance that was committed, or who was unwilling where it was aborted
+abbrev pub part_lines : List (List ℕ) → List Event → Certificate → List ℕ
+part_lines names rows c = if c.commit then flat_map (member_line names rows) c.members else flat_map (unwilling_line names) (unwilling_of c.inst rows)
+
+-- the lines of an instance
+abbrev pub instance_lines : List (List ℕ) → List Event → Certificate → List ℕ
+instance_lines names rows c = instance_line names c ++ part_lines names rows c
+
+-- the line of a row that refuses a command: its process, the command and why; nothing for another row
+abbrev pub refusal_line : List (List ℕ) → Event → List ℕ
+refusal_line names (Refused p verb cause) = line (codes "refused" ∷ name_of names p ∷ verb_word verb ∷ cause_word cause ∷ [])
+refusal_line names _ = []
+
+-- what is said of an object: that it is up and what it offers, or that it is down
+abbrev pub object_words : Option ℤ → List ℕ
+object_words (Some offer) = 32 ∷ (codes "up" ++ 32 ∷ signed_decimal offer)
+object_words None = 32 ∷ codes "down"
+
+-- the line of an object: the name of its process, and what is said of it
+abbrev pub object_line : List ℕ → Option ℤ → List ℕ
+object_line name offer = codes "object" ++ 32 ∷ name ++ object_words offer ++ 10 ∷ []
+
+-- the last line: how many messages were lost and how many dropped
+abbrev pub losses_line : ℕ → ℕ → List ℕ
+losses_line lost dropped = line (codes "lost" ∷ decimal lost ∷ codes "dropped" ∷ decimal dropped ∷ [])

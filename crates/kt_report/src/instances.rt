@@ -1,0 +1,163 @@
+//! The lines of instances.
+
+ghost use Rattle.std.specs.Prelude.{◌≡◌, ◌∷◌, ◌++◌, ℕ, OnOk};
+ghost use Rattle.std.specs.List.{flat_map};
+ghost use Rattle.kt_base.specs.Numbers.{IsInstNo};
+ghost use Rattle.kt_text.specs.Writing.{Sends};
+ghost use Rattle.kt_report.specs.Unwilling.{answers_to};
+ghost use Rattle.kt_report.specs.Lines.{ends_word, instance_line, instance_lines, member_line, message_word, unwilling_line, unwilling_of};
+
+use crate::unwilling::Unwilling;
+use crate::words::{end_line, name_text, push_cause, push_number, push_word};
+use kt_base::{Cause, Memory, MsgNo, ProcNo};
+use kt_chain::{Certificate, Chain};
+use kt_plan::Names;
+use kt_spacetime::Event;
+use kt_text::WriteFault;
+use kt_text::fields::{decision_text, kind_text};
+use kt_text::pieces::write_full;
+use std::io::Write;
+
+/// Writes or gathers the lines of every instance that has a certificate.
+pub(crate) fn write_instances<W: Write>(
+    text: &mut Vec<u8>,
+    names: &Names,
+    rows: &[Event],
+    unwilling: &Unwilling,
+    certificates: &[Certificate],
+    writer: &mut W,
+) -> Result<(), WriteFault>
+    requires { (inst : ℕ) → IsInstNo inst → answers_to unwilling.now inst ≡ unwilling_of inst rows.now }
+    ensures { OnOk result (Sends (W.contents writer.old) (W.contents writer.new) text.old.items text.new.items (flat_map (instance_lines names.now rows.now) certificates.now)) }
+{
+    for certificate in certificates {
+        write_instance(text, names, rows, unwilling, certificate, writer)?;
+    }
+    Ok(())
+}
+
+// Writes or gathers the lines of an instance.
+fn write_instance<W: Write>(
+    text: &mut Vec<u8>,
+    names: &Names,
+    rows: &[Event],
+    unwilling: &Unwilling,
+    certificate: &Certificate,
+    writer: &mut W,
+) -> Result<(), WriteFault>
+    requires { (inst : ℕ) → IsInstNo inst → answers_to unwilling.now inst ≡ unwilling_of inst rows.now }
+    ensures { OnOk result (Sends (W.contents writer.old) (W.contents writer.new) text.old.items text.new.items (instance_lines names.now rows.now certificate.now)) }
+{
+    push_instance(text, names, certificate)?;
+    if certificate.commit {
+        write_members(text, names, rows, certificate, writer)
+    } else {
+        write_unwilling(text, names, unwilling.of(certificate.inst), writer)
+    }
+}
+
+// The line of an instance.
+fn push_instance(text: &mut Vec<u8>, names: &Names, certificate: &Certificate) -> Result<(), Memory>
+    ensures { OnOk result (text.new.items ≡ text.old.items ++ instance_line names.now certificate.now) }
+{
+    text.extend_from_slice(b"instance")?;
+    push_number(text, u32::from(certificate.inst.get()))?;
+    push_word(text, kind_text(certificate.kind))?;
+    push_word(text, name_text(names, certificate.initiator))?;
+    push_word(text, decision_text(certificate.commit))?;
+    end_line(text)
+}
+
+// Writes or gathers the lines of the members of an instance.
+fn write_members<W: Write>(
+    text: &mut Vec<u8>,
+    names: &Names,
+    rows: &[Event],
+    certificate: &Certificate,
+    writer: &mut W,
+) -> Result<(), WriteFault>
+    ensures { OnOk result (Sends (W.contents writer.old) (W.contents writer.new) text.old.items text.new.items (flat_map (member_line names.now rows.now) certificate.now.members)) }
+{
+    for member in certificate.members.list() {
+        push_member(text, names, rows, member)?;
+        write_full(text, writer)?;
+    }
+    Ok(())
+}
+
+// The line of a member.
+fn push_member(
+    text: &mut Vec<u8>,
+    names: &Names,
+    rows: &[Event],
+    member: &(ProcNo, Chain),
+) -> Result<(), Memory>
+    ensures { OnOk result (text.new.items ≡ text.old.items ++ member_line names.now rows.now member.now) }
+{
+    let (process, chain) = member;
+    text.extend_from_slice(b"member")?;
+    push_word(text, name_text(names, *process))?;
+    for msg in chain.messages() {
+        push_message(text, names, rows, *msg)?;
+    }
+    end_line(text)
+}
+
+// A blank and a message of a chain: its number and between whom it went.
+fn push_message(text: &mut Vec<u8>, names: &Names, rows: &[Event], msg: MsgNo) -> Result<(), Memory>
+    ensures { OnOk result (text.new.items ≡ text.old.items ++ 32 ∷ message_word names.now rows.now msg) }
+{
+    push_number(text, msg.get())?;
+    match rows.get(msg.index()) {
+        Some(row) => push_ends(text, names, *row),
+        None => Ok(()),
+    }
+}
+
+// Between whom a message went, if this row sent it.
+fn push_ends(text: &mut Vec<u8>, names: &Names, row: Event) -> Result<(), Memory>
+    ensures { OnOk result (text.new.items ≡ text.old.items ++ ends_word names.now row) }
+{
+    match row {
+        Event::Sent { p, to, .. } => push_pair(text, name_text(names, p), name_text(names, to)),
+        _ => Ok(()),
+    }
+}
+
+// The names of a sender and of a receiver.
+fn push_pair(text: &mut Vec<u8>, sender: &[u8], receiver: &[u8]) -> Result<(), Memory>
+    ensures { OnOk result (text.new.items ≡ text.old.items ++ 58 ∷ (sender.now ++ 62 ∷ receiver.now)) }
+{
+    text.extend_from_slice(b":")?;
+    text.extend_from_slice(sender)?;
+    text.extend_from_slice(b">")?;
+    text.extend_from_slice(receiver)?;
+    Ok(())
+}
+
+// Writes or gathers the lines of those who were unwilling to join an instance.
+fn write_unwilling<W: Write>(
+    text: &mut Vec<u8>,
+    names: &Names,
+    unwilling: &[(ProcNo, Cause)],
+    writer: &mut W,
+) -> Result<(), WriteFault>
+    ensures { OnOk result (Sends (W.contents writer.old) (W.contents writer.new) text.old.items text.new.items (flat_map (unwilling_line names.now) unwilling.now)) }
+{
+    for answer in unwilling {
+        push_unwilling(text, names, *answer)?;
+        write_full(text, writer)?;
+    }
+    Ok(())
+}
+
+// The line of one who was unwilling.
+fn push_unwilling(text: &mut Vec<u8>, names: &Names, answer: (ProcNo, Cause)) -> Result<(), Memory>
+    ensures { OnOk result (text.new.items ≡ text.old.items ++ unwilling_line names.now answer) }
+{
+    let (process, cause) = answer;
+    text.extend_from_slice(b"unwilling")?;
+    push_word(text, name_text(names, process))?;
+    push_cause(text, cause)?;
+    end_line(text)
+}

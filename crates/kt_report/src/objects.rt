@@ -1,0 +1,64 @@
+//! The lines of objects.
+
+ghost use Rattle.std.specs.Prelude.{◌≡◌, ◌++◌, Some, OnOk};
+ghost use Rattle.kt_report.specs.Lines.{object_line, object_words};
+ghost use Rattle.kt_report.specs.Report.{AddsObjects};
+
+use crate::process::Process;
+use crate::words::{end_line, name_at, push_word};
+use kt_base::Memory;
+use kt_plan::Names;
+
+/// Gathers a line for each process.
+pub(crate) fn push_objects(
+    text: &mut Vec<u8>,
+    names: &Names,
+    processes: &[Process],
+) -> Result<(), Memory>
+    ensures { OnOk result (AddsObjects names.now text.old.items text.new.items) }
+{
+    for place in 0..names.len() {
+        let offer = offer_at(processes, place);
+        push_object(text, name_at(names, place), offer)?;
+    }
+    Ok(())
+}
+
+// What the object of a process offers, if it is up.
+fn offer_at(processes: &[Process], place: usize) -> Option<i64> {
+    let process = processes.get(place)?;
+    if process.is_up {
+        Some(process.offers.now)
+    } else {
+        None
+    }
+}
+
+// The line of an object.
+fn push_object(text: &mut Vec<u8>, name: &[u8], offer: Option<i64>) -> Result<(), Memory>
+    ensures { OnOk result (text.new.items ≡ text.old.items ++ object_line name.now offer) }
+{
+    text.extend_from_slice(b"object")?;
+    push_word(text, name)?;
+    push_state(text, offer)?;
+    end_line(text)
+}
+
+// The words of an object: whether it is up, and what it offers then.
+fn push_state(text: &mut Vec<u8>, offer: Option<i64>) -> Result<(), Memory>
+    ensures { OnOk result (text.new.items ≡ text.old.items ++ object_words offer) }
+{
+    match offer {
+        Some(offer) => push_up(text, offer),
+        None => push_word(text, b"down"),
+    }
+}
+
+// The words of an object that is up.
+fn push_up(text: &mut Vec<u8>, offer: i64) -> Result<(), Memory>
+    ensures { OnOk result (text.new.items ≡ text.old.items ++ object_words (Some offer)) }
+{
+    let mut digits = itoa::Buffer::new();
+    push_word(text, b"up")?;
+    push_word(text, digits.format(offer).as_bytes())
+}

@@ -1,0 +1,93 @@
+//! Who was unwilling to join an instance.
+
+ghost use Rattle.std.specs.Prelude.{◌≡◌, ◌<◌, ◌≤◌, ◌++◌, ◌∷◌, ◌≢◌, [], ℕ, length, OnOk, IfOk};
+ghost use Rattle.kt_base.specs.Numbers.{IsInstNo};
+ghost use Rattle.kt_spacetime.specs.declared.event.Event.TheVariants as event;
+ghost use Rattle.kt_report.specs.Lines.{unwilling_in, unwilling_of};
+ghost use Rattle.kt_report.specs.Unwilling.{answers_to};
+
+use kt_base::{Cause, InstNo, Memory, ProcNo};
+use kt_spacetime::Event;
+use std::alloc::Global;
+use std::marker::Model;
+
+/// By instance the processes that were unwilling to join it, each with its cause, in the order of the log.
+#[derive(Debug, Drop)]
+pub(crate) struct Unwilling {
+    lists: Vec<Vec<(ProcNo, Cause)>>,
+}
+
+impl Model for Unwilling {
+    ghost use Rattle.std.specs.Prelude.{List, Vec, map};
+    ghost use Rattle.kt_report.specs.Lines.{Answer};
+
+    ghost Value = { List (List Answer) };
+
+    ghost view = { λ u. map (λ l. l.items) u.lists.items };
+}
+
+impl Unwilling {
+    /// Those of all rows.
+    pub(crate) fn in_rows(alloc: Global, rows: &[Event]) -> Result<Unwilling, Memory>
+        ensures { IfOk result (λ unwilling. (inst : ℕ) → IsInstNo inst → answers_to unwilling inst ≡ unwilling_of inst rows.now) }
+    {
+        let mut unwilling = Unwilling {
+            lists: Vec::new(alloc),
+        };
+        for row in rows {
+            unwilling.note(alloc, *row)?;
+        }
+        Ok(unwilling)
+    }
+
+    /// Those of an instance.
+    pub(crate) fn of(&self, inst: InstNo) -> &[(ProcNo, Cause)]
+        ensures answers { result.now ≡ answers_to self.now inst }
+        ensures in_range { IsInstNo inst }
+    {
+        match self.lists.get(inst.index()) {
+            Some(list) => list.as_slice(),
+            None => &[],
+        }
+    }
+
+    // Notes what a row says.
+    fn note(&mut self, alloc: Global, row: Event) -> Result<(), Memory>
+        ensures { OnOk result ((inst : ℕ) → IsInstNo inst → answers_to self.new inst ≡ answers_to self.old inst ++ unwilling_in inst row) }
+    {
+        match row {
+            Event::Unwilling { p, inst, cause } => self.add(alloc, inst, p, cause),
+            _ => Ok(()),
+        }
+    }
+
+    // Adds one.
+    fn add(&mut self, alloc: Global, inst: InstNo, p: ProcNo, cause: Cause) -> Result<(), Memory>
+        ensures { OnOk result ((other : ℕ) → IsInstNo other → answers_to self.new other ≡ answers_to self.old other ++ unwilling_in other (event.Unwilling p inst cause)) }
+    {
+        self.make_room(alloc, inst)?;
+        self.push(inst, p, cause)
+    }
+
+    // Adds one where there is a list for its instance.
+    fn push(&mut self, inst: InstNo, p: ProcNo, cause: Cause) -> Result<(), Memory>
+        requires { inst ≤ length self.old }
+        ensures { OnOk result ((other : ℕ) → IsInstNo other → answers_to self.new other ≡ answers_to self.old other ++ unwilling_in other (event.Unwilling p inst cause)) }
+    {
+        let place = inst.index();
+        let list = &mut self.lists[place];
+        list.push((p, cause))?;
+        Ok(())
+    }
+
+    // Makes lists up to that of an instance.
+    fn make_room(&mut self, alloc: Global, inst: InstNo) -> Result<(), Memory>
+        ensures room { OnOk result (inst ≤ length self.new) }
+        ensures same { OnOk result ((other : ℕ) → IsInstNo other → answers_to self.new other ≡ answers_to self.old other) }
+    {
+        for _ in self.lists.len()..inst.index() + 1 {
+            self.lists.push(Vec::new(alloc))?;
+        }
+        Ok(())
+    }
+}

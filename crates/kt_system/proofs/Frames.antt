@@ -1,0 +1,80 @@
+-- What stays of a system, part by part.
+use Rattle.std.specs.Prelude.{true, slice_index_or}
+use Rattle.std.proofs.Common.{◌≡◌, ◌<◌, ◌≤◌, ◌+◌, ℕ, List, ap, subst, sym, ◌∙◌, arith, length}
+use Rattle.kt_base.specs.Sets.{has}
+use Rattle.kt_fifo.specs.Channels.{Wires, channel, spare_of}
+use Rattle.kt_parts.specs.declared.actions.Then.{Then}
+use Rattle.kt_process.specs.Persons.{Person, asked_of, is_ready}
+use Rattle.kt_system.specs.Systems.{Whole, person, room_to, HasBack, KeepsParcels, KeepsPeople, KeepsRoom, GivesRoom, UsesRoom, CanJoin, CanClose, Leaves}
+
+person_same : (a b : Whole) → b.people ≡ a.people → (p : ℕ) → person b p ≡ person a p
+unfolding person
+person_same a b e p = ap (λ (people : List Person). person (record a { people = people }) p) e
+
+pub room_same : (a b : Whole) → b.wires ≡ a.wires → (p q : ℕ) → room_to b p q ≡ room_to a p q
+unfolding room_to
+room_same a b e p q = ap (λ (wires : Wires). spare_of wires p q) e
+
+pub back_same : (a b : Whole) → b.size ≡ a.size → b.held ≡ a.held → b.kept ≡ a.kept → (p : ℕ) → HasBack a p → HasBack b p
+back_same a b s e f p h = record {
+  back = subst (λ (n : ℕ). (q : ℕ) → q < n → length (channel b.kept q p) ≤ spare_of b.held q p) (sym s)
+      (subst (λ (held : Wires). (q : ℕ) → q < a.size → length (channel b.kept q p) ≤ spare_of held q p) (sym e)
+      (subst (λ (kept : Wires). (q : ℕ) → q < a.size → length (channel kept q p) ≤ spare_of a.held q p) (sym f) h.back));
+}
+
+-- only the log or the tallies change
+pub keeps_parcels : (a b seen : Whole) → a ≡ seen → b.size ≡ a.size → b.people ≡ a.people → b.wires ≡ a.wires → b.held ≡ a.held → b.kept ≡ a.kept → KeepsParcels seen b
+keeps_parcels a b seen v s e f g k = subst (λ (w : Whole). KeepsParcels w b) v (record {
+  size = s;
+  person = person_same a b e;
+  room = room_same a b f;
+  back = back_same a b s g k;
+})
+
+pub keeps_people : (a b seen : Whole) → a ≡ seen → b.size ≡ a.size → b.people ≡ a.people → KeepsPeople seen b
+keeps_people a b seen v s e = subst (λ (w : Whole). KeepsPeople w b) v (record { size = s; person = person_same a b e })
+
+pub keeps_room : (a b seen : Whole) → a ≡ seen → b.size ≡ a.size → b.people ≡ a.people → b.wires ≡ a.wires → KeepsRoom seen b
+keeps_room a b seen v s e f = subst (λ (w : Whole). KeepsRoom w b) v (record { size = s; person = person_same a b e; room = room_same a b f })
+
+pub gives_room : (a b seen : Whole) → a ≡ seen → b.size ≡ a.size → b.people ≡ a.people → ((p q : ℕ) → spare_of a.wires p q ≤ spare_of b.wires p q) → b.held ≡ a.held → b.kept ≡ a.kept → GivesRoom seen b
+unfolding room_to
+gives_room a b seen v s e f g k = subst (λ (w : Whole). GivesRoom w b) v (record {
+  size = s;
+  person = person_same a b e;
+  room = f;
+  back = back_same a b s g k;
+})
+
+pub uses_room : (a b seen : Whole) (p : ℕ) → a ≡ seen → b.size ≡ a.size → b.people ≡ a.people → ((q : ℕ) → spare_of a.wires p q ≤ spare_of b.wires p q + 1) → b.held ≡ a.held → b.kept ≡ a.kept → UsesRoom seen b p
+unfolding room_to
+uses_room a b seen p v s e f g k = subst (λ (w : Whole). UsesRoom w b p) v (record {
+  size = s;
+  person = person_same a b e;
+  room = f;
+  back = back_same a b s g k;
+})
+
+pub uses_then_keeps : (a b d : Whole) (p : ℕ) → UsesRoom a b p → KeepsParcels b d → UsesRoom a d p
+uses_then_keeps a b d p u k = record {
+  size = k.size ∙ u.size;
+  person = λ q. k.person q ∙ u.person q;
+  room = λ q. let x = u.room q in let y = k.room p q in omega arith;
+  back = λ q h. k.back q (u.back q h);
+}
+
+pub can_join_kept : (a b : Whole) (p : ℕ) (asks : List (ℕ × ℕ)) (goes : Then) → KeepsParcels a b → CanJoin a p asks goes → CanJoin b p asks goes
+can_join_kept a b p asks goes k h = record {
+  within = λ j l. let x = h.within j l in let y = k.size in omega arith;
+  rising = h.rising;
+  asks_fit = λ j l. let x = h.asks_fit j l in let y = k.room p (slice_index_or asks j (0, 0)).0 in omega arith;
+  parcels = λ q e. let x = h.parcels q (sym (ap (λ (z : Person). asked_of z.side q) (k.person p)) ∙ e) in let y = k.room p q in omega arith;
+  answers = λ to e. let x = h.answers to e in let y = k.room p to in let z = k.size in (omega (arith, x.0), omega (arith, x.1));
+  back = λ e r. k.back p (h.back e (sym (ap (λ (z : Person). is_ready z.side) (k.person p)) ∙ r));
+}
+
+pub can_tell : (a b d : Whole) (p set : ℕ) → CanClose a p → KeepsRoom a b → Leaves p set b d → (q : ℕ) → has set q ≡ true → 1 ≤ room_to d p q
+can_tell a b d p set h k l q e =
+    let who : l.before ≡ person a p = l.turn.was ∙ k.person p in
+    let asked : asked_of (person a p).side q ≡ true = ap (λ (z : Person). asked_of z.side q) (sym who) ∙ (sym (l.tell q) ∙ e) in
+    let x = h.parcels q asked in let y = k.room p q in let z = l.turn.room p q in omega arith

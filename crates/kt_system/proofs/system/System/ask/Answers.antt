@@ -1,0 +1,15 @@
+use Rattle.std.specs.Prelude.{slice_index_or}
+use Rattle.std.proofs.Common.{◌≤◌, ◌<◌, ℕ, List, refl, arith, sym, subst, length}
+use Rattle.kt_system.specs.Systems.{Whole, room_to}
+use Rattle.kt_system.proofs.Frames.{uses_room, uses_then_keeps}
+use Rattle.kt_system.proofs.system.System.ask.Goals as goal
+
+pub put_asks-requires-clause-room : goal.put_asks-requires-clause-room
+unfolding room_to
+put_asks-requires-clause-room c =
+    let room = subst (λ (l : List (ℕ × ℕ)). (j : ℕ) → j < length l → 2 ≤ room_to c.args.self.now c.args.p (slice_index_or l j (0, 0)).0) (sym c.list-asks.ensures.asks) c.requires.room in
+    let here = subst (λ (w : Whole). (j : ℕ) → j < length c.list-asks.result.now → 2 ≤ room_to w c.args.p (slice_index_or c.list-asks.result.now j (0, 0)).0) (sym c.self.view_is) room in
+    λ j b. let k = here j b in omega (arith, k)
+
+pub returns-clause-uses : goal.returns-clause-uses
+returns-clause-uses c = uses_then_keeps _ _ _ _ (uses_room _ _ _ c.args.p c.self.view_is refl refl c.put_asks.ensures.room refl refl) c.count.ensures.keeps

@@ -1,0 +1,172 @@
+-- A system of processes, and what a step of it needs of room.
+use Rattle.std.specs.Prelude.{◌≡◌, ℕ, ◌+◌, ◌<◌, ◌≤◌, Bool, true, false, None, List, [], All, length, slice_index_or}
+use Rattle.kt_fifo.specs.Channels.{Wires, channel, spare_of}
+use Rattle.kt_spacetime.specs.Logs.{Log}
+use Rattle.kt_tables.specs.Peers.{LabelTable}
+use Rattle.kt_tables.specs.States.{State}
+use Rattle.kt_parts.specs.Asks.{IsRising}
+use Rattle.kt_parts.specs.declared.actions.Action.{Action}
+use Rattle.kt_parts.specs.declared.actions.Action.TheVariants.{Join, Reply, Settle}
+use Rattle.kt_parts.specs.declared.actions.Then.{Then}
+use Rattle.kt_parts.specs.declared.actions.Then.TheVariants.{Answer, Commit}
+use Rattle.kt_parts.specs.Rules.{after_reply}
+use Rattle.kt_process.specs.Persons.{Person, part_of, is_ready, asked_of}
+use Rattle.kt_process.specs.Turns.{IsBegin, IsHeard, reply_of}
+use Rattle.std.specs.Option.{option_map}
+use Rattle.kt_base.specs.Sets.{has}
+use Rattle.kt_base.specs.declared.words.Kind.{Kind}
+use Rattle.kt_system.specs.declared.system.Tally.{Tally}
+
+-- how many processes it has, and these; the parcels in channels, held, and kept; its log; how many instances began; and
+-- what each one put
+pub record Whole : Type 0 where
+  pub size : ℕ
+  pub people : List Person
+  pub wires : Wires
+  pub held : Wires
+  pub kept : Wires
+  pub rows : Log
+  pub begun : ℕ
+  pub put : List Tally
+
+abbrev pub no_table : LabelTable
+no_table = record { peers = 0; pairs = [] }
+
+abbrev pub no_tables : State
+no_tables = record { processes = 0; is_tentative = false; last_rcvd = no_table; first_sent = no_table; kept_rcvd = no_table; kept_sent = no_table; last_sent = no_table; last_out = no_table }
+
+abbrev pub nobody : Person
+nobody = record { tables = no_tables; side = None; up = false; used = 0 }
+
+-- one of the processes
+unfoldable pub person : Whole → ℕ → Person
+person w p = slice_index_or w.people p nobody
+
+-- how many parcels more there is room for in a channel
+unfoldable pub room_to : Whole → ℕ → ℕ → ℕ
+room_to w p q = spare_of w.wires p q
+
+-- there is room to hold all that is kept for p
+pub record HasBack (w : Whole) (p : ℕ) : Type 0 where
+  pub back : (q : ℕ) → q < w.size → length (channel w.kept q p) ≤ spare_of w.held q p
+
+-- its lists and tables are of all processes
+pub record IsSound (w : Whole) : Type 0 where
+  pub few : w.size ≤ 64
+  pub people : length w.people ≡ w.size
+  pub wires : w.wires.processes ≡ w.size
+  pub held : w.held.processes ≡ w.size
+  pub kept : w.kept.processes ≡ w.size
+  pub begun : w.begun ≤ 4096
+  pub tables : All (λ (x : Person). x.tables.processes ≡ w.size) w.people
+
+-- who has joined may send these asks and go on so
+pub record CanJoin (w : Whole) (p : ℕ) (asks : List (ℕ × ℕ)) (goes : Then) : Type 0 where
+  pub within : (j : ℕ) → j < length asks → (slice_index_or asks j (0, 0)).0 < w.size
+  pub rising : IsRising asks
+  pub asks_fit : (j : ℕ) → j < length asks → 2 ≤ room_to w p (slice_index_or asks j (0, 0)).0
+  pub parcels : (q : ℕ) → asked_of (person w p).side q ≡ true → 2 ≤ room_to w p q
+  pub answers : (to : ℕ) → goes ≡ Answer to → (to < w.size) × (2 ≤ room_to w p to)
+  pub back : goes ≡ Commit → is_ready (person w p).side ≡ true → HasBack w p
+
+-- who closes its instance may tell the decision
+pub record CanClose (w : Whole) (p : ℕ) : Type 0 where
+  pub parcels : (q : ℕ) → asked_of (person w p).side q ≡ true → 1 ≤ room_to w p q
+  pub back : is_ready (person w p).side ≡ true → HasBack w p
+
+-- what follows from a command or an ask has room, where it is a join
+abbrev pub CanCarryOut : Whole → ℕ → Action → Type 0
+CanCarryOut w p (Join asks goes) = CanJoin w p asks goes
+CanCarryOut w p action = Unit {0}
+
+-- what follows from a reply has room
+abbrev pub CanGoOn : Whole → ℕ → Action → Type 0
+CanGoOn w p (Reply to willing cause) = (to < w.size) × (1 ≤ room_to w p to)
+CanGoOn w p (Settle commit tell) = CanClose w p
+CanGoOn w p action = Unit {0}
+
+-- room for two parcels from p to each of a set
+pub record HasRoomFor (w : Whole) (p set : ℕ) : Type 0 where
+  pub room : (q : ℕ) → q < w.size → has set q ≡ true → 2 ≤ room_to w p q
+
+-- only the log changes, or what instances put
+pub record KeepsParcels (old new : Whole) : Type 0 where
+  pub size : new.size ≡ old.size
+  pub person : (p : ℕ) → person new p ≡ person old p
+  pub room : (p q : ℕ) → room_to new p q ≡ room_to old p q
+  pub back : (p : ℕ) → HasBack old p → HasBack new p
+
+-- no process changes
+pub record KeepsPeople (old new : Whole) : Type 0 where
+  pub size : new.size ≡ old.size
+  pub person : (p : ℕ) → person new p ≡ person old p
+
+-- no process changes, and no room shrinks
+pub record GivesRoom (old new : Whole) : Type 0 where
+  pub size : new.size ≡ old.size
+  pub person : (p : ℕ) → person new p ≡ person old p
+  pub room : (p q : ℕ) → room_to old p q ≤ room_to new p q
+  pub back : (p : ℕ) → HasBack old p → HasBack new p
+
+-- no process changes, and no room in a channel
+pub record KeepsRoom (old new : Whole) : Type 0 where
+  pub size : new.size ≡ old.size
+  pub person : (p : ℕ) → person new p ≡ person old p
+  pub room : (p q : ℕ) → room_to new p q ≡ room_to old p q
+
+-- no process changes, and no room of p shrinks by more than one parcel
+pub record UsesRoom (old new : Whole) (p : ℕ) : Type 0 where
+  pub size : new.size ≡ old.size
+  pub person : (q : ℕ) → person new q ≡ person old q
+  pub room : (q : ℕ) → room_to old p q ≤ room_to new p q + 1
+  pub back : (q : ℕ) → HasBack old q → HasBack new q
+
+-- process p alone changes, from before to after
+pub record Turns (old new : Whole) (p : ℕ) (before after : Person) : Type 0 where
+  pub was : before ≡ person old p
+  pub is : person new p ≡ after
+  pub size : new.size ≡ old.size
+  pub room : (u v : ℕ) → room_to new u v ≡ room_to old u v
+  pub back : (q : ℕ) → HasBack old q → HasBack new q
+
+-- process p begins an instance, or refuses
+pub record Begins (kind : Kind) (k p : ℕ) (old new : Whole) (action : Action) : Type 0 where
+  pub before : Person
+  pub after : Person
+  pub turn : Turns old new p before after
+  pub begins : IsBegin kind k before after action
+
+-- process p hears an ask of another one
+pub record Hears (kind : Kind) (able : Bool) (from k label p : ℕ) (old new : Whole) (action : Action) : Type 0 where
+  pub before : Person
+  pub after : Person
+  pub turn : Turns old new p before after
+  pub hears : IsHeard kind able from k label before after action
+
+-- process p hears a reply
+pub record Counts (willing : Bool) (p : ℕ) (old new : Whole) (action : Action) : Type 0 where
+  pub before : Person
+  pub after : Person
+  pub turn : Turns old new p before after
+  pub follows : action ≡ reply_of (part_of before.side) willing
+  pub part : part_of after.side ≡ option_map (λ part. after_reply part willing) (part_of before.side)
+  pub ready : is_ready after.side ≡ is_ready before.side
+
+-- process p leaves its instance, and tells this set
+pub record Leaves (p set : ℕ) (old new : Whole) : Type 0 where
+  pub before : Person
+  pub after : Person
+  pub turn : Turns old new p before after
+  pub tell : (q : ℕ) → has set q ≡ asked_of before.side q
+  pub within : (q : ℕ) → has set q ≡ true → q < old.size
+
+-- the same system, but for spare room
+pub record IsSame (new old : Whole) : Type 0 where
+  pub size : new.size ≡ old.size
+  pub people : new.people ≡ old.people
+  pub wires : channel new.wires ≡ channel old.wires
+  pub held : channel new.held ≡ channel old.held
+  pub kept : channel new.kept ≡ channel old.kept
+  pub rows : new.rows.rows ≡ old.rows.rows
+  pub begun : new.begun ≡ old.begun
+  pub put : new.put ≡ old.put

@@ -1,0 +1,85 @@
+//! The system: what it holds, and what can be read of it.
+
+ghost use Rattle.std.specs.Prelude.{◌≡◌, ◌≤◌, [], IfOk};
+
+use kt_base::{Label, Memory};
+use kt_fifo::Channels;
+use kt_process::Process;
+use kt_spacetime::SpaceTime;
+use std::alloc::Global;
+use std::marker::Model;
+
+mod commands;
+mod instances;
+mod leaves;
+mod messages;
+mod people;
+mod reads;
+mod replies;
+
+/// How many asks, replies and decisions of an instance were put into channels.
+#[derive(Clone, Copy, Debug, PartialEq, Eq)]
+pub struct Tally {
+    pub asks: u32,
+    pub replies: u32,
+    pub decisions: u32,
+}
+
+/// Processes, the parcels in channels between them, those that are held for a process that is in a rollback, those that
+/// each one keeps since its permanent checkpoint, and the log.
+#[derive(Drop)]
+pub struct System {
+    size: usize,
+    processes: Vec<Process>,
+    channels: Channels,
+    held: Channels,
+    kept: Channels,
+    log: SpaceTime,
+    begun: u16,
+    tallies: Vec<Tally>,
+}
+
+impl Model for System {
+    ghost use Rattle.kt_system.specs.Systems.{Whole, IsSound};
+
+    ghost Value = { Whole };
+
+    ghost view = { λ s. record { size = s.size; people = s.processes.items; wires = s.channels; held = s.held; kept = s.kept; rows = s.log; begun = s.begun; put = s.tallies.items } };
+
+    ghost invariant = { λ s. IsSound (record { size = s.size; people = s.processes.items; wires = s.channels; held = s.held; kept = s.kept; rows = s.log; begun = s.begun; put = s.tallies.items }) };
+}
+
+impl System {
+    /// A system of so many processes, at most 64, where nothing was done. Their labels go on after this one, and there is
+    /// room to count what so many instances put.
+    pub fn new(
+        alloc: Global,
+        processes: usize,
+        used: Label,
+        instances: usize,
+    ) -> Result<System, Memory>
+        requires { processes ≤ 64 }
+        ensures size { IfOk result (λ s. s.size ≡ processes) }
+        ensures rows { IfOk result (λ s. s.rows.rows ≡ []) }
+    {
+        let mut list = Vec::with_capacity(alloc, processes)?;
+        for _number in 0..processes {
+            list.push(Process::new(alloc, processes, used)?)?;
+        }
+        let none = Tally {
+            asks: 0,
+            replies: 0,
+            decisions: 0,
+        };
+        Ok(System {
+            size: processes,
+            processes: list,
+            channels: Channels::new(alloc, processes)?,
+            held: Channels::new(alloc, processes)?,
+            kept: Channels::new(alloc, processes)?,
+            log: SpaceTime::new(alloc),
+            begun: 0,
+            tallies: vec![in alloc; none; instances]?,
+        })
+    }
+}

@@ -1,0 +1,238 @@
+//! Commands that begin an instance, and asks to take part in one.
+
+ghost use Rattle.std.specs.Prelude.{◌≡◌, ◌<◌, ◌≤◌, ◌+◌, ◌^◌, ℕ, true, OnErr, IfOk, IfSome, length};
+ghost use Rattle.kt_base.specs.Sets.{has};
+ghost use Rattle.kt_process.specs.Turns.{peers_of};
+ghost use Rattle.kt_system.specs.Systems.{person, room_to, CanCarryOut, KeepsParcels, IsSame};
+
+use super::System;
+use super::messages::NO_ACTS;
+use kt_base::{Cause, InstNo, Kind, Label, Memory, ProcNo, ProcSet, Verb};
+use kt_lists::marks_of;
+use kt_parts::Action;
+use kt_plan::Act;
+use kt_spacetime::Event;
+use std::alloc::Global;
+
+impl System {
+    /// The number of the instance that begins next; None once all were given.
+    fn next_inst(&self) -> Option<InstNo>
+        ensures { IfSome result (λ inst. inst ≡ self.now.begun + 1) }
+    {
+        InstNo::new(self.begun + 1)
+    }
+
+    /// A process begins a checkpoint, or refuses.
+    pub fn begin_checkpoint(
+        &mut self,
+        alloc: Global,
+        p: ProcNo,
+        able: bool,
+    ) -> Result<[Act; 2], Memory>
+        requires p { p < self.old.size }
+        requires few { length self.old.rows.rows + 4 ≤ 2 ^ 24 }
+        ensures size { self.new.size ≡ self.old.size }
+        ensures err { OnErr result (IsSame self.new self.old) }
+    {
+        let Some(inst) = self.next_inst() else {
+            return Ok(NO_ACTS);
+        };
+        let targets = self.process(p).peers(Kind::Checkpoint);
+        self.make_room(p, targets)?;
+        let marks = self.marks(alloc, p)?;
+        let action = self.tell_to_save(p, able, inst, marks)?;
+        Ok(self.begin(p, inst, Kind::Checkpoint, action))
+    }
+
+    /// A process begins a rollback, or refuses.
+    pub fn begin_rollback(&mut self, p: ProcNo) -> Result<[Act; 2], Memory>
+        requires p { p < self.old.size }
+        requires few { length self.old.rows.rows + 4 ≤ 2 ^ 24 }
+        ensures size { self.new.size ≡ self.old.size }
+        ensures err { OnErr result (IsSame self.new self.old) }
+    {
+        let Some(inst) = self.next_inst() else {
+            return Ok(NO_ACTS);
+        };
+        let targets = self.process(p).peers(Kind::Rollback);
+        self.make_room(p, targets)?;
+        self.make_room_back(p)?;
+        let action = self.tell_to_roll(p, inst)?;
+        Ok(self.begin(p, inst, Kind::Rollback, action))
+    }
+
+    /// How many parcels are kept for a process, by sender.
+    fn marks(&self, alloc: Global, p: ProcNo) -> Result<Vec<usize>, Memory>
+        requires { p < self.now.size }
+        ensures { IfOk result (λ marks. length marks.items ≡ self.now.size) }
+    {
+        marks_of(alloc, &self.kept, p)
+    }
+
+    /// An instance begins.
+    fn open(&mut self, p: ProcNo, inst: InstNo, kind: Kind)
+        requires spare { 1 ≤ self.old.rows.spare }
+        requires few { length self.old.rows.rows < 2 ^ 24 }
+        ensures count { length self.new.rows.rows ≡ length self.old.rows.rows + 1 }
+        ensures spare { self.new.rows.spare + 1 ≡ self.old.rows.spare }
+        ensures keeps { KeepsParcels self.old self.new }
+    {
+        self.begun = inst.get();
+        self.log.push_reserved(Event::Began { p, inst, kind });
+    }
+
+    /// What follows from a command to begin an instance.
+    fn begin(&mut self, p: ProcNo, inst: InstNo, kind: Kind, action: Action) -> [Act; 2]
+        requires p { p < self.old.size }
+        requires spare { 4 ≤ self.old.rows.spare }
+        requires few { length self.old.rows.rows + 4 ≤ 2 ^ 24 }
+        requires room { CanCarryOut self.old p action }
+        ensures size { self.new.size ≡ self.old.size }
+    {
+        match action {
+            Action::Refuse(cause) => {
+                self.refuse(p, verb_of(kind), cause);
+                NO_ACTS
+            }
+            Action::Join { ask, goes } => {
+                self.open(p, inst, kind);
+                self.join(p, inst, kind, &ask, goes)
+            }
+            Action::Nothing | Action::Reply { .. } | Action::Settle { .. } => NO_ACTS,
+        }
+    }
+
+    /// To whom a process may put a parcel after an ask: to the asker, and to those that it asks if it joins.
+    fn targets(&self, at: ProcNo, from: ProcNo, kind: Kind, joins: bool) -> ProcSet
+        requires at { at < self.now.size }
+        requires from { from < self.now.size }
+        ensures from { has result from ≡ true }
+        ensures asks { joins ≡ true → (q : ℕ) → peers_of (person self.now at).tables kind q ≡ true → has result q ≡ true }
+    {
+        if joins {
+            return self.process(at).peers(kind).with(from);
+        }
+        ProcSet::empty().with(from)
+    }
+
+    /// A process takes an ask to take part in a checkpoint.
+    fn take_ask_to_save(
+        &mut self,
+        alloc: Global,
+        at: ProcNo,
+        from: ProcNo,
+        inst: InstNo,
+        label: Label,
+        able: bool,
+    ) -> Result<[Act; 2], Memory>
+        requires at { at < self.old.size }
+        requires from { from < self.old.size }
+        requires few { length self.old.rows.rows + 4 ≤ 2 ^ 24 }
+        ensures size { self.new.size ≡ self.old.size }
+        ensures err { OnErr result (IsSame self.new self.old) }
+    {
+        let joins = self.process(at).joins_checkpoint(able, from, label);
+        let targets = self.targets(at, from, Kind::Checkpoint, joins);
+        self.make_room(at, targets)?;
+        let marks = self.marks(alloc, at)?;
+        let action = self.ask_to_save(at, able, from, inst, label, marks)?;
+        self.pop(at, from);
+        Ok(self.answer(at, from, inst, Kind::Checkpoint, action))
+    }
+
+    /// A process takes an ask to take part in a rollback.
+    fn take_ask_to_roll(
+        &mut self,
+        at: ProcNo,
+        from: ProcNo,
+        inst: InstNo,
+        label: Label,
+    ) -> Result<[Act; 2], Memory>
+        requires at { at < self.old.size }
+        requires from { from < self.old.size }
+        requires few { length self.old.rows.rows + 4 ≤ 2 ^ 24 }
+        ensures size { self.new.size ≡ self.old.size }
+        ensures err { OnErr result (IsSame self.new self.old) }
+    {
+        let joins = self.process(at).joins_rollback(from, label);
+        let targets = self.targets(at, from, Kind::Rollback, joins);
+        self.make_room(at, targets)?;
+        let action = self.ask_to_roll(at, from, inst, label)?;
+        self.pop(at, from);
+        Ok(self.answer(at, from, inst, Kind::Rollback, action))
+    }
+
+    /// What follows from an ask.
+    fn answer(
+        &mut self,
+        at: ProcNo,
+        from: ProcNo,
+        inst: InstNo,
+        kind: Kind,
+        action: Action,
+    ) -> [Act; 2]
+        requires at { at < self.old.size }
+        requires from { from < self.old.size }
+        requires spare { 4 ≤ self.old.rows.spare }
+        requires few { length self.old.rows.rows + 4 ≤ 2 ^ 24 }
+        requires reply { 2 ≤ room_to self.old at from }
+        requires room { CanCarryOut self.old at action }
+        ensures size { self.new.size ≡ self.old.size }
+    {
+        match action {
+            Action::Reply {
+                to: _to,
+                willing,
+                cause,
+            } => {
+                self.reply(at, from, inst, willing);
+                self.say_why(at, inst, cause);
+                NO_ACTS
+            }
+            Action::Join { ask, goes } => self.join(at, inst, kind, &ask, goes),
+            Action::Nothing | Action::Refuse(_) | Action::Settle { .. } => NO_ACTS,
+        }
+    }
+
+    /// The row of a process that is unwilling, where there is a cause.
+    fn say_why(&mut self, p: ProcNo, inst: InstNo, cause: Option<Cause>)
+        requires spare { 1 ≤ self.old.rows.spare }
+        requires few { length self.old.rows.rows < 2 ^ 24 }
+        ensures { self.new.size ≡ self.old.size }
+    {
+        if let Some(cause) = cause {
+            self.write(Event::Unwilling { p, inst, cause });
+        }
+    }
+
+    /// A process takes an ask.
+    pub(super) fn take_ask(
+        &mut self,
+        alloc: Global,
+        at: ProcNo,
+        from: ProcNo,
+        inst: InstNo,
+        kind: Kind,
+        label: Label,
+        able: bool,
+    ) -> Result<[Act; 2], Memory>
+        requires at { at < self.old.size }
+        requires from { from < self.old.size }
+        requires few { length self.old.rows.rows + 4 ≤ 2 ^ 24 }
+        ensures size { self.new.size ≡ self.old.size }
+        ensures err { OnErr result (IsSame self.new self.old) }
+    {
+        match kind {
+            Kind::Checkpoint => self.take_ask_to_save(alloc, at, from, inst, label, able),
+            Kind::Rollback => self.take_ask_to_roll(at, from, inst, label),
+        }
+    }
+}
+
+/// The command that begins an instance of a kind.
+fn verb_of(kind: Kind) -> Verb {
+    match kind {
+        Kind::Checkpoint => Verb::Checkpoint,
+        Kind::Rollback => Verb::Rollback,
+    }
+}

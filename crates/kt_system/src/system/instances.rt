@@ -1,0 +1,170 @@
+//! Instances begun, joined and closed.
+
+ghost use Rattle.std.specs.Prelude.{◌≡◌, ◌<◌, ◌≤◌, ◌+◌, ◌^◌, ℕ, true, slice_index_or, length};
+ghost use Rattle.kt_base.specs.Sets.{has};
+ghost use Rattle.kt_process.specs.Persons.{is_ready};
+ghost use Rattle.kt_system.specs.Systems.{person, room_to, HasBack, CanJoin, CanClose, KeepsRoom, UsesRoom};
+
+use super::System;
+use kt_base::{InstNo, Kind, ProcNo, ProcSet};
+use kt_fifo::Parcel;
+use kt_lists::{put_asks, put_decisions, restore, trim};
+use kt_parts::{Asks, Then};
+use kt_plan::Act;
+use kt_spacetime::Event;
+
+impl System {
+    /// What becomes of the lists of parcels kept and held for a process when it closes its instance: by a commit a
+    /// checkpoint's go that were received before it, and a rollback's are held again; by an abort all stays.
+    fn settle_kept(&mut self, p: ProcNo, commit: bool)
+        requires p { p < self.old.size }
+        requires back { is_ready (person self.old p).side ≡ true → HasBack self.old p }
+        ensures rows { self.new.rows ≡ self.old.rows }
+        ensures keeps { KeepsRoom self.old self.new }
+    {
+        if !commit {
+            return;
+        }
+        let process = &self.processes[p.index()];
+        if process.is_ready() {
+            restore(&mut self.held, &mut self.kept, process, p);
+            return;
+        }
+        let marks = process.marks();
+        if marks.len() == self.size {
+            trim(&mut self.kept, p, marks);
+        }
+    }
+
+    /// A process tells a decision to each of a set.
+    fn tell(&mut self, p: ProcNo, inst: InstNo, commit: bool, set: ProcSet)
+        requires p { p < self.old.size }
+        requires within { (q : ℕ) → has set q ≡ true → q < self.old.size }
+        requires room { (q : ℕ) → has set q ≡ true → 1 ≤ room_to self.old p q }
+        ensures size { self.new.size ≡ self.old.size }
+        ensures rows { self.new.rows ≡ self.old.rows }
+    {
+        put_decisions(&mut self.channels, p, inst, commit, set);
+        self.count(inst, 0, 0, set.count());
+    }
+
+    /// A process closes the instance that it is in, and tells the decision to those that it asked. What is to be done to
+    /// its saved states and its object is answered.
+    pub(super) fn close(&mut self, p: ProcNo, inst: InstNo, commit: bool) -> Act
+        requires p { p < self.old.size }
+        requires spare { 1 ≤ self.old.rows.spare }
+        requires few { length self.old.rows.rows < 2 ^ 24 }
+        requires room { CanClose self.old p }
+        ensures size { self.new.size ≡ self.old.size }
+    {
+        let was_ready = self.is_ready(p);
+        self.settle_kept(p, commit);
+        let set = self.leave(p, commit);
+        self.tell(p, inst, commit, set);
+        self.write(Event::Closed { p, inst });
+        closing_act(was_ready, commit)
+    }
+
+    /// A process that has joined an instance asks these, and goes on. What is to be done to its saved states and its
+    /// object is answered.
+    pub(super) fn join(
+        &mut self,
+        p: ProcNo,
+        inst: InstNo,
+        kind: Kind,
+        asks: &Asks,
+        goes: Then,
+    ) -> [Act; 2]
+        requires p { p < self.old.size }
+        requires spare { 3 ≤ self.old.rows.spare }
+        requires few { length self.old.rows.rows + 3 ≤ 2 ^ 24 }
+        requires room { CanJoin self.old p asks.now goes }
+        ensures size { self.new.size ≡ self.old.size }
+    {
+        self.ask(p, inst, kind, asks);
+        self.write(joining_row(p, inst, kind));
+        let first = joining_act(kind);
+        match goes {
+            Then::Wait => [first, Act::Nothing],
+            Then::Answer(to) => {
+                self.reply(p, to, inst, true);
+                [first, Act::Nothing]
+            }
+            Then::Commit => {
+                let second = self.decide(p, inst, true);
+                two_acts(first, second)
+            }
+        }
+    }
+
+    /// A process asks these.
+    fn ask(&mut self, p: ProcNo, inst: InstNo, kind: Kind, asks: &Asks)
+        requires p { p < self.old.size }
+        requires within { (j : ℕ) → j < length asks.now → (slice_index_or asks.now j (0, 0)).0 < self.old.size }
+        requires room { (j : ℕ) → j < length asks.now → 2 ≤ room_to self.old p (slice_index_or asks.now j (0, 0)).0 }
+        ensures rows { self.new.rows ≡ self.old.rows }
+        ensures uses { UsesRoom self.old self.new p }
+    {
+        let asks = asks.list();
+        put_asks(&mut self.channels, p, inst, kind, asks);
+        self.count(inst, asks.len().min(64) as u32, 0, 0);
+    }
+
+    /// An initiator decides its instance, and closes it.
+    pub(super) fn decide(&mut self, p: ProcNo, inst: InstNo, commit: bool) -> Act
+        requires p { p < self.old.size }
+        requires spare { 2 ≤ self.old.rows.spare }
+        requires few { length self.old.rows.rows + 2 ≤ 2 ^ 24 }
+        requires room { CanClose self.old p }
+        ensures size { self.new.size ≡ self.old.size }
+    {
+        self.write(Event::Decided { p, inst, commit });
+        self.close(p, inst, commit)
+    }
+
+    /// A process replies to one that asked it.
+    pub(super) fn reply(&mut self, p: ProcNo, to: ProcNo, inst: InstNo, willing: bool)
+        requires p { p < self.old.size }
+        requires to { to < self.old.size }
+        requires room { 1 ≤ room_to self.old p to }
+        ensures size { self.new.size ≡ self.old.size }
+        ensures rows { self.new.rows ≡ self.old.rows }
+    {
+        self.put(p, to, Parcel::Reply { inst, willing });
+        self.count(inst, 0, 1, 0);
+    }
+}
+
+/// Two acts in order, nothing last.
+fn two_acts(first: Act, second: Act) -> [Act; 2] {
+    match first {
+        Act::Nothing => [second, Act::Nothing],
+        _ => [first, second],
+    }
+}
+
+/// The row of a process that joins an instance.
+fn joining_row(p: ProcNo, inst: InstNo, kind: Kind) -> Event {
+    match kind {
+        Kind::Checkpoint => Event::Took { p, inst },
+        Kind::Rollback => Event::Ready { p, inst },
+    }
+}
+
+/// What a process that joins does to its saved states.
+fn joining_act(kind: Kind) -> Act {
+    match kind {
+        Kind::Checkpoint => Act::Keep,
+        Kind::Rollback => Act::Nothing,
+    }
+}
+
+/// What a process that closes an instance does to its saved states and its object.
+fn closing_act(was_ready: bool, commit: bool) -> Act {
+    match (was_ready, commit) {
+        (true, true) => Act::Restore,
+        (true, false) => Act::Nothing,
+        (false, true) => Act::Promote,
+        (false, false) => Act::Discard,
+    }
+}

@@ -1,0 +1,123 @@
+//! One thing each that a step does to a system, in room made before.
+
+ghost use Rattle.std.specs.Prelude.{◌≡◌, ◌<◌, ◌≤◌, ◌+◌, ◌^◌, ◌++◌, ◌∷◌, [], ℕ, true, OnOk, length};
+ghost use Rattle.kt_base.specs.Sets.{has};
+ghost use Rattle.kt_process.specs.Persons.{is_ready};
+ghost use Rattle.kt_system.specs.Systems.{person, room_to, HasBack, HasRoomFor, KeepsParcels, KeepsPeople, KeepsRoom, GivesRoom, IsSame};
+
+use super::System;
+use kt_base::{InstNo, Memory, ProcNo, ProcSet};
+use kt_fifo::Parcel;
+use kt_lists::{make_room, make_room_back};
+use kt_spacetime::Event;
+
+impl System {
+    /// One row more.
+    pub(super) fn write(&mut self, event: Event)
+        requires spare { 1 ≤ self.old.rows.spare }
+        requires few { length self.old.rows.rows < 2 ^ 24 }
+        ensures rows { self.new.rows.rows ≡ self.old.rows.rows ++ event ∷ [] }
+        ensures count { length self.new.rows.rows ≡ length self.old.rows.rows + 1 }
+        ensures spare { self.new.rows.spare + 1 ≡ self.old.rows.spare }
+        ensures keeps { KeepsParcels self.old self.new }
+    {
+        self.log.push_reserved(event);
+    }
+
+    /// One parcel more in a channel.
+    pub(super) fn put(&mut self, p: ProcNo, to: ProcNo, parcel: Parcel)
+        requires p { p < self.old.size }
+        requires to { to < self.old.size }
+        requires room { 1 ≤ room_to self.old p to }
+        ensures rows { self.new.rows ≡ self.old.rows }
+        ensures keeps { KeepsPeople self.old self.new }
+    {
+        self.channels.push_reserved(p, to, parcel);
+    }
+
+    /// The front of a channel goes.
+    pub(super) fn pop(&mut self, at: ProcNo, from: ProcNo)
+        requires at { at < self.old.size }
+        requires from { from < self.old.size }
+        ensures rows { self.new.rows ≡ self.old.rows }
+        ensures held { self.new.held ≡ self.old.held }
+        ensures gives { GivesRoom self.old self.new }
+    {
+        self.channels.pop(from, at);
+    }
+
+    /// So many asks, replies and decisions of an instance were put.
+    pub(super) fn count(&mut self, inst: InstNo, asks: u32, replies: u32, decisions: u32)
+        ensures rows { self.new.rows ≡ self.old.rows }
+        ensures keeps { KeepsParcels self.old self.new }
+    {
+        let Some(tally) = self.tallies.get_mut(inst.index()) else {
+            return;
+        };
+        tally.asks = tally.asks.saturating_add(asks);
+        tally.replies = tally.replies.saturating_add(replies);
+        tally.decisions = tally.decisions.saturating_add(decisions);
+    }
+
+    /// Room for four rows.
+    pub(super) fn make_room_for_rows(&mut self) -> Result<(), Memory>
+        ensures same { IsSame self.new self.old }
+        ensures count { length self.new.rows.rows ≡ length self.old.rows.rows }
+        ensures ok { OnOk result (4 ≤ self.new.rows.spare) }
+        ensures keeps { KeepsParcels self.old self.new }
+    {
+        self.log.reserve(4)
+    }
+
+    /// Room for four rows, and for two parcels to each of these processes.
+    pub(super) fn make_room(&mut self, p: ProcNo, targets: ProcSet) -> Result<(), Memory>
+        requires { p < self.old.size }
+        ensures same { IsSame self.new self.old }
+        ensures count { length self.new.rows.rows ≡ length self.old.rows.rows }
+        ensures spare { OnOk result (4 ≤ self.new.rows.spare) }
+        ensures parcels { OnOk result (HasRoomFor self.new p targets) }
+        ensures gives { GivesRoom self.old self.new }
+    {
+        self.log.reserve(4)?;
+        make_room(&mut self.channels, p, targets, 2)
+    }
+
+    /// Room for four rows, and for a parcel to a process.
+    pub(super) fn make_room_to(&mut self, p: ProcNo, to: ProcNo) -> Result<(), Memory>
+        requires p { p < self.old.size }
+        requires to { to < self.old.size }
+        ensures same { IsSame self.new self.old }
+        ensures count { length self.new.rows.rows ≡ length self.old.rows.rows }
+        ensures spare { OnOk result (4 ≤ self.new.rows.spare) }
+        ensures parcel { OnOk result (1 ≤ room_to self.new p to) }
+        ensures gives { GivesRoom self.old self.new }
+    {
+        self.log.reserve(4)?;
+        make_room(&mut self.channels, p, ProcSet::empty().with(to), 1)
+    }
+
+    /// Room to hold all parcels that are kept for a process.
+    pub(super) fn make_room_back(&mut self, p: ProcNo) -> Result<(), Memory>
+        requires { p < self.old.size }
+        ensures same { IsSame self.new self.old }
+        ensures rows { self.new.rows ≡ self.old.rows }
+        ensures back { OnOk result (HasBack self.new p) }
+        ensures keeps { KeepsRoom self.old self.new }
+    {
+        make_room_back(&mut self.held, &self.kept, p)
+    }
+
+    /// Room to hold all parcels that are kept for a process, where that is in a rollback.
+    pub(super) fn make_room_back_if_ready(&mut self, p: ProcNo) -> Result<(), Memory>
+        requires { p < self.old.size }
+        ensures same { IsSame self.new self.old }
+        ensures rows { self.new.rows ≡ self.old.rows }
+        ensures back { OnOk result (is_ready (person self.old p).side ≡ true → HasBack self.new p) }
+        ensures keeps { KeepsRoom self.old self.new }
+    {
+        if self.is_ready(p) {
+            return self.make_room_back(p);
+        }
+        Ok(())
+    }
+}

@@ -1,0 +1,149 @@
+//! Application messages, and failures.
+
+ghost use Rattle.std.specs.Prelude.{◌≡◌, ◌<◌, ◌≤◌, ◌+◌, ◌-◌, ◌^◌, ℕ, true, OnErr, length};
+ghost use Rattle.kt_system.specs.Systems.{person, room_to, KeepsParcels, IsSame};
+
+use super::System;
+use kt_base::{Cause, Label, Memory, MsgNo, ProcNo, Verb};
+use kt_fifo::Parcel;
+use kt_plan::Act;
+use kt_spacetime::Event;
+
+/// An application message: its label, its number and its body.
+#[derive(Clone, Copy, Debug, PartialEq, Eq)]
+pub(super) struct Message {
+    pub(super) label: Label,
+    pub(super) msg: MsgNo,
+    pub(super) body: i64,
+}
+
+impl Message {
+    /// The parcel that it is in channels.
+    fn parcel(&self) -> Parcel {
+        Parcel::App {
+            label: self.label,
+            msg: self.msg,
+            body: self.body,
+        }
+    }
+}
+
+/// Nothing to be done to an object.
+pub(super) const NO_ACTS: [Act; 2] = [Act::Nothing, Act::Nothing];
+
+impl System {
+    /// A process sends a message to another one; where its object is down, it refuses. That it may send, and that its
+    /// labels are not spent, was tested before.
+    pub fn send(&mut self, p: ProcNo, to: ProcNo, body: i64) -> Result<[Act; 2], Memory>
+        requires p { p < self.old.size }
+        requires to { to < self.old.size }
+        requires few { length self.old.rows.rows + 4 ≤ 2 ^ 24 }
+        requires left { (person self.old p).up ≡ true → (person self.old p).used < 2 ^ 48 - 1 }
+        ensures size { self.new.size ≡ self.old.size }
+        ensures err { OnErr result (IsSame self.new self.old) }
+    {
+        self.make_room_to(p, to)?;
+        if !self.is_up(p) {
+            self.refuse(p, Verb::Send, Cause::Down);
+            return Ok(NO_ACTS);
+        }
+        let msg = MsgNo::after(self.log.rows().len());
+        let label = self.note_sent(p, to);
+        self.put(p, to, Parcel::App { label, msg, body });
+        self.write(Event::Sent { p, to, body });
+        Ok(NO_ACTS)
+    }
+
+    /// A process's object fails; where it is down already, the process refuses.
+    pub fn fail(&mut self, p: ProcNo) -> Result<[Act; 2], Memory>
+        requires p { p < self.old.size }
+        requires few { length self.old.rows.rows + 4 ≤ 2 ^ 24 }
+        ensures size { self.new.size ≡ self.old.size }
+        ensures err { OnErr result (IsSame self.new self.old) }
+    {
+        self.log.reserve(4)?;
+        if !self.is_up(p) {
+            self.refuse(p, Verb::Fail, Cause::Down);
+            return Ok(NO_ACTS);
+        }
+        self.put_down(p);
+        self.write(Event::Failed { p });
+        Ok([Act::Drop, Act::Nothing])
+    }
+
+    /// A command is refused.
+    pub(super) fn refuse(&mut self, p: ProcNo, verb: Verb, cause: Cause)
+        requires spare { 1 ≤ self.old.rows.spare }
+        requires few { length self.old.rows.rows < 2 ^ 24 }
+        ensures { self.new.size ≡ self.old.size }
+    {
+        self.write(Event::Refused { p, verb, cause });
+    }
+
+    /// A process takes a message from the front of a channel: it holds it where it is in a rollback.
+    pub(super) fn take_message(
+        &mut self,
+        at: ProcNo,
+        from: ProcNo,
+        message: Message,
+    ) -> Result<[Act; 2], Memory>
+        requires at { at < self.old.size }
+        requires from { from < self.old.size }
+        requires few { length self.old.rows.rows + 4 ≤ 2 ^ 24 }
+        ensures size { self.new.size ≡ self.old.size }
+        ensures err { OnErr result (IsSame self.new self.old) }
+    {
+        if self.is_ready(at) {
+            self.held.reserve_many(from, at, 1)?;
+            self.pop(at, from);
+            self.held.push_reserved(from, at, message.parcel());
+            return Ok(NO_ACTS);
+        }
+        self.accept(at, from, message, false)
+    }
+
+    /// A message goes from the front of the channel or of the held list.
+    fn remove(&mut self, at: ProcNo, from: ProcNo, is_held: bool)
+        requires at { at < self.old.size }
+        requires from { from < self.old.size }
+        ensures size { self.new.size ≡ self.old.size }
+        ensures kept { self.new.kept ≡ self.old.kept }
+        ensures rows { self.new.rows ≡ self.old.rows }
+    {
+        if is_held {
+            self.held.pop(from, at);
+        } else {
+            self.channels.pop(from, at);
+        }
+    }
+
+    /// A message that was in the channel, or held, is received and kept; where the object is down, it is dropped.
+    pub(super) fn accept(
+        &mut self,
+        at: ProcNo,
+        from: ProcNo,
+        message: Message,
+        is_held: bool,
+    ) -> Result<[Act; 2], Memory>
+        requires at { at < self.old.size }
+        requires from { from < self.old.size }
+        requires few { length self.old.rows.rows + 4 ≤ 2 ^ 24 }
+        ensures size { self.new.size ≡ self.old.size }
+        ensures err { OnErr result (IsSame self.new self.old) }
+    {
+        self.log.reserve(4)?;
+        let msg = message.msg;
+        if !self.is_up(at) {
+            self.remove(at, from, is_held);
+            self.write(Event::Dropped { p: at, from, msg });
+            return Ok(NO_ACTS);
+        }
+        self.kept.reserve_many(from, at, 1)?;
+        self.remove(at, from, is_held);
+        self.note_received(at, from, message.label);
+        self.kept.push_reserved(from, at, message.parcel());
+        self.write(Event::Received { p: at, from, msg });
+        let body = message.body;
+        Ok([Act::Apply { from, body }, Act::Nothing])
+    }
+}

@@ -1,0 +1,137 @@
+//! One process of a system: how it is read, and each of its turns.
+
+ghost use Rattle.std.specs.Prelude.{◌≡◌, ◌<◌, ◌+◌, ◌-◌, ◌^◌, ℕ, true, OnErr, IfOk, length};
+ghost use Rattle.kt_base.specs.declared.words.Kind.TheVariants as kind;
+ghost use Rattle.kt_system.specs.Systems.{person, Begins, Hears, Counts, Leaves};
+
+use super::System;
+use kt_base::{InstNo, Label, Memory, ProcNo, ProcSet};
+use kt_parts::Action;
+use kt_process::Process;
+
+impl System {
+    /// A process.
+    pub(super) fn process(&self, p: ProcNo) -> &Process
+        requires { p < self.now.size }
+        ensures process { result.now ≡ person self.now p }
+        ensures tables { (person self.now p).tables.processes ≡ self.now.size }
+    {
+        &self.processes[p.index()]
+    }
+
+    /// A process notes that it sends a message, and gives the label.
+    pub(super) fn note_sent(&mut self, p: ProcNo, to: ProcNo) -> Label
+        requires p { p < self.old.size }
+        requires to { to < self.old.size }
+        requires left { (person self.old p).used < 2 ^ 48 - 1 }
+        ensures label { result ≡ (person self.old p).used + 1 }
+        ensures size { self.new.size ≡ self.old.size }
+        ensures rows { self.new.rows ≡ self.old.rows }
+        ensures wires { self.new.wires ≡ self.old.wires }
+    {
+        self.processes[p.index()].send(to)
+    }
+
+    /// A process notes that it receives a message.
+    pub(super) fn note_received(&mut self, p: ProcNo, from: ProcNo, label: Label)
+        requires p { p < self.old.size }
+        requires from { from < self.old.size }
+        ensures size { self.new.size ≡ self.old.size }
+        ensures rows { self.new.rows ≡ self.old.rows }
+        ensures kept { self.new.kept ≡ self.old.kept }
+    {
+        self.processes[p.index()].receive(from, label);
+    }
+
+    /// A process's object fails.
+    pub(super) fn put_down(&mut self, p: ProcNo)
+        requires { p < self.old.size }
+        ensures size { self.new.size ≡ self.old.size }
+        ensures rows { self.new.rows ≡ self.old.rows }
+    {
+        self.processes[p.index()].fail();
+    }
+
+    /// A process is to begin a checkpoint.
+    pub(super) fn tell_to_save(
+        &mut self,
+        p: ProcNo,
+        able: bool,
+        inst: InstNo,
+        marks: Vec<usize>,
+    ) -> Result<Action, Memory>
+        requires p { p < self.old.size }
+        requires marks { length marks.items ≡ self.old.size }
+        ensures err { OnErr result (self.new ≡ self.old) }
+        ensures begins { IfOk result (λ action. Begins kind.Checkpoint inst p self.old self.new action) }
+        ensures rows { self.new.rows ≡ self.old.rows }
+    {
+        self.processes[p.index()].begin_checkpoint(able, inst, marks)
+    }
+
+    /// A process is to begin a rollback.
+    pub(super) fn tell_to_roll(&mut self, p: ProcNo, inst: InstNo) -> Result<Action, Memory>
+        requires { p < self.old.size }
+        ensures err { OnErr result (self.new ≡ self.old) }
+        ensures begins { IfOk result (λ action. Begins kind.Rollback inst p self.old self.new action) }
+        ensures rows { self.new.rows ≡ self.old.rows }
+    {
+        self.processes[p.index()].begin_rollback(inst)
+    }
+
+    /// A process hears an ask to take part in a checkpoint.
+    pub(super) fn ask_to_save(
+        &mut self,
+        p: ProcNo,
+        able: bool,
+        from: ProcNo,
+        inst: InstNo,
+        label: Label,
+        marks: Vec<usize>,
+    ) -> Result<Action, Memory>
+        requires p { p < self.old.size }
+        requires from { from < self.old.size }
+        requires marks { length marks.items ≡ self.old.size }
+        ensures err { OnErr result (self.new ≡ self.old) }
+        ensures hears { IfOk result (λ action. Hears kind.Checkpoint able from inst label p self.old self.new action) }
+        ensures rows { self.new.rows ≡ self.old.rows }
+    {
+        self.processes[p.index()].hear_ask_to_save(able, from, inst, label, marks)
+    }
+
+    /// A process hears an ask to take part in a rollback.
+    pub(super) fn ask_to_roll(
+        &mut self,
+        p: ProcNo,
+        from: ProcNo,
+        inst: InstNo,
+        label: Label,
+    ) -> Result<Action, Memory>
+        requires p { p < self.old.size }
+        requires from { from < self.old.size }
+        ensures err { OnErr result (self.new ≡ self.old) }
+        ensures hears { IfOk result (λ action. Hears kind.Rollback true from inst label p self.old self.new action) }
+        ensures rows { self.new.rows ≡ self.old.rows }
+    {
+        self.processes[p.index()].hear_ask_to_roll(from, inst, label)
+    }
+
+    /// A process hears a reply.
+    pub(super) fn hear_reply(&mut self, p: ProcNo, willing: bool) -> Action
+        requires { p < self.old.size }
+        ensures counts { Counts willing p self.old self.new result }
+        ensures rows { self.new.rows ≡ self.old.rows }
+    {
+        self.processes[p.index()].hear_reply(willing)
+    }
+
+    /// A process leaves its instance, and answers whom it tells the decision.
+    pub(super) fn leave(&mut self, p: ProcNo, commit: bool) -> ProcSet
+        requires { p < self.old.size }
+        ensures leaves { Leaves p result self.old self.new }
+        ensures rows { self.new.rows ≡ self.old.rows }
+        ensures wires { self.new.wires ≡ self.old.wires }
+    {
+        self.processes[p.index()].close(commit)
+    }
+}

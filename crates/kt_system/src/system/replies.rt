@@ -1,0 +1,170 @@
+//! Replies and decisions, and a parcel of any kind.
+
+ghost use Rattle.std.specs.Prelude.{◌≡◌, ◌<◌, ◌≤◌, ◌+◌, ◌^◌, ℕ, true, OnErr, length};
+ghost use Rattle.kt_system.specs.Systems.{person, CanGoOn, IsSame};
+
+use super::System;
+use super::messages::{Message, NO_ACTS};
+use kt_base::{InstNo, Memory, ProcNo};
+use kt_fifo::Parcel;
+use kt_parts::Action;
+use kt_plan::Act;
+use std::alloc::Global;
+
+impl System {
+    /// A process takes a reply: the last one that it awaits is followed by its own reply, or by the decision.
+    fn take_reply(
+        &mut self,
+        at: ProcNo,
+        from: ProcNo,
+        inst: InstNo,
+        willing: bool,
+    ) -> Result<[Act; 2], Memory>
+        requires at { at < self.old.size }
+        requires from { from < self.old.size }
+        requires few { length self.old.rows.rows + 4 ≤ 2 ^ 24 }
+        ensures size { self.new.size ≡ self.old.size }
+        ensures err { OnErr result (IsSame self.new self.old) }
+    {
+        let targets = self.process(at).partners();
+        self.make_room(at, targets)?;
+        self.make_room_back_if_ready(at)?;
+        self.pop(at, from);
+        let action = self.hear_reply(at, willing);
+        Ok(self.go_on(at, inst, &action))
+    }
+
+    /// What follows from a reply.
+    fn go_on(&mut self, p: ProcNo, inst: InstNo, action: &Action) -> [Act; 2]
+        requires p { p < self.old.size }
+        requires spare { 2 ≤ self.old.rows.spare }
+        requires few { length self.old.rows.rows + 2 ≤ 2 ^ 24 }
+        requires room { CanGoOn self.old p action.now }
+        ensures size { self.new.size ≡ self.old.size }
+    {
+        match action {
+            Action::Reply {
+                to,
+                willing,
+                cause: _cause,
+            } => {
+                self.reply(p, *to, inst, *willing);
+                NO_ACTS
+            }
+            Action::Settle {
+                commit,
+                tell: _tell,
+            } => [self.decide(p, inst, *commit), Act::Nothing],
+            Action::Nothing | Action::Refuse(_) | Action::Join { .. } => NO_ACTS,
+        }
+    }
+
+    /// Whether a process is in this instance.
+    fn is_in(&self, p: ProcNo, inst: InstNo) -> bool
+        requires { p < self.now.size }
+    {
+        match self.in_inst(p) {
+            Some(current) => current.get() == inst.get(),
+            None => false,
+        }
+    }
+
+    /// A process takes a decision: in that instance it closes it; else it ignores the decision.
+    fn take_decision(
+        &mut self,
+        at: ProcNo,
+        from: ProcNo,
+        inst: InstNo,
+        commit: bool,
+    ) -> Result<[Act; 2], Memory>
+        requires at { at < self.old.size }
+        requires from { from < self.old.size }
+        requires few { length self.old.rows.rows + 4 ≤ 2 ^ 24 }
+        ensures size { self.new.size ≡ self.old.size }
+        ensures err { OnErr result (IsSame self.new self.old) }
+    {
+        if !self.is_in(at, inst) {
+            self.pop(at, from);
+            return Ok(NO_ACTS);
+        }
+        let targets = self.process(at).asked();
+        self.make_room(at, targets)?;
+        self.make_room_back_if_ready(at)?;
+        self.pop(at, from);
+        Ok([self.close(at, inst, commit), Act::Nothing])
+    }
+
+    /// A process takes the front of a channel.
+    fn take_front(
+        &mut self,
+        alloc: Global,
+        at: ProcNo,
+        from: ProcNo,
+        able: bool,
+    ) -> Result<[Act; 2], Memory>
+        requires at { at < self.old.size }
+        requires from { from < self.old.size }
+        requires few { length self.old.rows.rows + 4 ≤ 2 ^ 24 }
+        ensures size { self.new.size ≡ self.old.size }
+        ensures err { OnErr result (IsSame self.new self.old) }
+    {
+        let Some(parcel) = self.channels.front(from, at).copied() else {
+            return Ok(NO_ACTS);
+        };
+        match parcel {
+            Parcel::App { label, msg, body } => {
+                self.take_message(at, from, Message { label, msg, body })
+            }
+            Parcel::Ask { inst, kind, label } => {
+                self.take_ask(alloc, at, from, inst, kind, label, able)
+            }
+            Parcel::Reply { inst, willing } => self.take_reply(at, from, inst, willing),
+            Parcel::Decide { inst, commit } => self.take_decision(at, from, inst, commit),
+        }
+    }
+
+    /// The first message of another process that is held for this one, where it is in no rollback.
+    fn held_message(&self, at: ProcNo, from: ProcNo) -> Option<Message>
+        requires at { at < self.now.size }
+        requires from { from < self.now.size }
+    {
+        if self.is_ready(at) {
+            return None;
+        }
+        let parcel = self.held.front(from, at)?;
+        message_in(parcel)
+    }
+
+    /// A process takes the next parcel from another one: the first message that is held, where it is in no rollback, else
+    /// the front of the channel. Whether its object can be saved counts where it is asked to take a checkpoint.
+    pub fn take(
+        &mut self,
+        alloc: Global,
+        at: ProcNo,
+        from: ProcNo,
+        able: bool,
+    ) -> Result<[Act; 2], Memory>
+        requires at { at < self.old.size }
+        requires from { from < self.old.size }
+        requires few { length self.old.rows.rows + 4 ≤ 2 ^ 24 }
+        ensures size { self.new.size ≡ self.old.size }
+        ensures err { OnErr result (IsSame self.new self.old) }
+    {
+        match self.held_message(at, from) {
+            Some(message) => self.accept(at, from, message, true),
+            None => self.take_front(alloc, at, from, able),
+        }
+    }
+}
+
+/// The message that a parcel is, if it is one.
+fn message_in(parcel: &Parcel) -> Option<Message> {
+    match parcel {
+        Parcel::App { label, msg, body } => Some(Message {
+            label: *label,
+            msg: *msg,
+            body: *body,
+        }),
+        Parcel::Ask { .. } | Parcel::Reply { .. } | Parcel::Decide { .. } => None,
+    }
+}
