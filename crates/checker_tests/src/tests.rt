@@ -4,7 +4,6 @@ mod chain;
 mod cuts;
 mod histories;
 mod log_text;
-mod program;
 mod spacetime;
 mod text;
 mod transit;

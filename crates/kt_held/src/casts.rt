@@ -2,6 +2,7 @@
 
 ghost use Rattle.std.specs.Prelude.{◌≡◌, ◌≢◌, ◌⊎◌, ◌==◌, ◌≤◌, ◌<◌, ◌+◌, ◌∷◌, [], ℕ, true, false, List, Some, None, IsTrue, IfSome, IfNone, IsSome, IfOk, IfErr, OnOk, Err, All, length, map, slice_index, slice_index_or, vec_len};
 ghost use Rattle.std.specs.List.{AllZip, list_all};
+ghost use Rattle.kt_plan.specs.Limits.{IsPlan};
 ghost use Rattle.kt_held.specs.Casts.{failures_of, HasSizes, HasKind, is_checked};
 ghost use Rattle.kt_held.specs.Holdings.{content, first_holding, Holds};
 
@@ -138,6 +139,9 @@ fn begin_rows(alloc: Global, cast: Cast) -> Result<Vec<Held>, CastFault>
 /// of another kind; both before anything is saved and any memory is taken. `Object` of a process whose object is not able to
 /// be saved.
 pub fn begin_all(alloc: Global, plan: &Plan, cast: Cast) -> Result<Vec<Held>, CastFault>
+    // what the type keeps; a caller learns it from `Plan::size`
+    requires plan { IsPlan plan.now }
+
     // the objects that are asked for
     ensures sizes { OnOk result (HasSizes plan.now.kinds plan.now.commands (map (λ row. map (λ b. kind_of b) row.items) cast.items)) }
     ensures kinds { OnOk result ((p : ℕ) → p < length plan.now.kinds →

@@ -8,4 +8,4 @@ mod rooms;
 
 pub use kept::{marks_of, restore, trim};
 pub use puts::{put_asks, put_decisions};
-pub use rooms::{make_room, make_room_back};
+pub use rooms::{make_room, make_room_back, make_room_to};

@@ -7,8 +7,25 @@ ghost use Rattle.kt_fifo.specs.Channels.{channel, spare_of};
 use kt_base::{Memory, ProcNo, ProcSet};
 use kt_fifo::Channels;
 
+/// Room for so many parcels more from a process to another one. What was refused leaves all lists as they were.
+pub fn make_room_to(
+    channels: &mut Channels,
+    p: ProcNo,
+    to: ProcNo,
+    count: usize,
+) -> Result<(), Memory>
+    requires p { p < channels.old.processes }
+    requires to { to < channels.old.processes }
+    ensures processes { channels.new.processes ≡ channels.old.processes }
+    ensures lists { channel channels.new ≡ channel channels.old }
+    ensures grows { (u v : ℕ) → spare_of channels.old u v ≤ spare_of channels.new u v }
+    ensures ok { OnOk result (count ≤ spare_of channels.new p to) }
+{
+    channels.reserve_many(p, to, count)
+}
+
 /// Room for so many parcels more from a process to another one, if that is wanted.
-fn make_room_to(
+fn make_room_if(
     channels: &mut Channels,
     p: ProcNo,
     to: ProcNo,
@@ -25,7 +42,7 @@ fn make_room_to(
     if !is_wanted {
         return Ok(());
     }
-    channels.reserve_many(p, to, count)
+    make_room_to(channels, p, to, count)
 }
 
 /// Room for so many parcels more from a process to each of a set. What was refused leaves all lists as they were.
@@ -41,9 +58,12 @@ pub fn make_room(
     ensures grows { (u v : ℕ) → spare_of channels.old u v ≤ spare_of channels.new u v }
     ensures ok { OnOk result ((q : ℕ) → q < channels.old.processes → has targets q ≡ true → count ≤ spare_of channels.new p q) }
 {
+    if targets.first().is_none() {
+        return Ok(());
+    }
     for number in 0..channels.processes() as u8 {
         let to = ProcNo::new(number).unwrap();
-        make_room_to(channels, p, to, count, targets.has(to))?;
+        make_room_if(channels, p, to, count, targets.has(to))?;
     }
     Ok(())
 }
@@ -58,7 +78,7 @@ pub fn make_room_back(held: &mut Channels, kept: &Channels, p: ProcNo) -> Result
 {
     for number in 0..held.processes() as u8 {
         let from = ProcNo::new(number).unwrap();
-        make_room_to(held, from, p, kept.len(from, p), true)?;
+        make_room_to(held, from, p, kept.len(from, p))?;
     }
     Ok(())
 }

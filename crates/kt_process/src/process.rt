@@ -259,7 +259,8 @@ impl Process {
         Ok(action)
     }
 
-    /// It is asked to take part in a checkpoint: it replies, or takes its tentative one.
+    /// It is asked to take part in a checkpoint: it replies, or takes its tentative one. The marks count only where it
+    /// joins.
     pub fn hear_ask_to_save(
         &mut self,
         able: bool,
@@ -269,7 +270,7 @@ impl Process {
         marks: Vec<usize>,
     ) -> Result<Action, Memory>
         requires from { from < self.old.tables.processes }
-        requires marks { length marks.items ≡ self.old.tables.processes }
+        requires marks { joins_by self.old kind.Checkpoint able from label ≡ true → length marks.items ≡ self.old.tables.processes }
         ensures err { OnErr result (self.new ≡ self.old) }
         ensures hears { IfOk result (λ action. IsHeard kind.Checkpoint able from inst label self.old self.new action) }
         ensures processes { self.new.tables.processes ≡ self.old.tables.processes }

@@ -1,5 +1,5 @@
 -- The program says yes exactly where all passes.
-use Rattle.std.proofs.Common.{◌≡◌, ℕ, Bool, true, Option, Some, None, List, refl, sym, subst}
+use Rattle.std.proofs.Common.{◌≡◌, ℕ, true, Option, Some, None, List, refl, sym, subst}
 use Rattle.std.specs.Prelude.{◌↔◌, IfSome}
 use Rattle.kt_spacetime.specs.declared.event.Event.{Event}
 use Rattle.kt_log_text.specs.Texts.{IsLogText}

@@ -1,1 +1,4 @@
+pub mod Casting
+pub mod Commands
 pub mod Exactly
+pub mod Reading

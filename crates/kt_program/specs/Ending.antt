@@ -1,13 +1,19 @@
 -- What the program has written where it ends.
-use Rattle.std.specs.Prelude.{◌≡◌, ◌≢◌, ℕ, Bool, Result, Ok, Err, OnOk}
+use Rattle.std.specs.Prelude.{◌≡◌, ◌≢◌, ◌⊎◌, ℕ, Bool, List, Result, Ok, Err, OnOk}
 use Rattle.std.specs.Io.KnownBytes.{Appends}
+use Rattle.clap.specs.Words.{Text}
+use Rattle.kt_spacetime.specs.declared.event.Event.{Event}
+use Rattle.kt_cuts.specs.Legal.{IsLegal}
+use Rattle.kt_certify.specs.Certificates.{certificates}
+use Rattle.kt_report.specs.Report.{WritesReport}
 use Rattle.kt_checker.specs.declared.verdict.Verdict.{Verdict}
 use Rattle.kt_program.specs.declared.ending.Done.{Done}
-use Rattle.kt_program.specs.declared.ending.Done.TheVariants.{Judged, Shown}
+use Rattle.kt_program.specs.declared.ending.Done.TheVariants.{Judged, Played, Shown}
 use Rattle.kt_program.specs.declared.fault.AppFault.{AppFault}
 use Rattle.kt_program.specs.declared.fault.AppFault.TheVariants as app
 use Rattle.kt_program.specs.declared.fault.ProgramFault.{ProgramFault}
 use Rattle.kt_program.specs.declared.fault.ProgramFault.TheVariants as program
+use Rattle.kt_program.specs.Asking.{Ask, IsPlay}
 use Rattle.kt_program.specs.Status.{status_of}
 use Rattle.kt_program.specs.Stored.{Told, is_yes, line_of}
 
@@ -20,19 +26,46 @@ abbrev pub LeavesAnswer : Result Bool AppFault → Told → Told → Type 0
 LeavesAnswer (Ok passed) old new = AppendsAnswer passed old new
 LeavesAnswer (Err fault) old new = fault ≢ app.Write → new ≡ old
 
+-- the report of a run: its rows are legal
+pub record AppendsReport (old new : Told) : Type 0 where
+  pub names : List (List ℕ)
+  pub rows : List Event
+  pub legal : IsLegal rows
+  pub report : WritesReport old new names rows (certificates rows)
+
+-- the run's report; at a fault nothing, unless a writer failed or there was no memory for more of the report
+abbrev pub LeavesPlayed : Result Unit ProgramFault → Told → Told → Type 0
+LeavesPlayed (Ok u) old new = AppendsReport old new
+LeavesPlayed (Err fault) old new = (fault ≢ program.Line) × (fault ≢ program.App app.Write → fault ≢ program.App app.Memory → new ≡ old)
+
+-- a fault of a scenario or of steps, of their files, or of memory
+abbrev pub IsOfInput : ProgramFault → Type 0
+IsOfInput program.Line = ⊥
+IsOfInput (program.Scenario fault) = Unit {0}
+IsOfInput (program.Steps fault) = Unit {0}
+IsOfInput program.Read = Unit {0}
+IsOfInput (program.App fault) = fault ≡ app.Memory
+
 -- the same of all that the program does; nothing is said of the text of help
 abbrev pub LeavesDone : Done → Told → Told → Type 0
 LeavesDone (Judged passed) old new = AppendsAnswer passed old new
+LeavesDone Played old new = AppendsReport old new
 LeavesDone Shown old new = Unit {0}
 
-abbrev pub Leaves : Result Done ProgramFault → Told → Told → Type 0
-Leaves (Ok what) old new = LeavesDone what old new
-Leaves (Err fault) old new = fault ≢ program.App app.Write → new ≡ old
+-- a fault where part of a report may be written: there was no memory for more of it
+abbrev pub IsInReport : List Text → ProgramFault → Type 0
+IsInReport words fault = (fault ≡ program.App app.Memory) × Ask words IsPlay
 
--- how the program ends: with the status of what it did; standard output has what that left, and standard error
--- nothing new unless there was a fault
+-- what these words leave
+abbrev pub Leaves : List Text → Result Done ProgramFault → Told → Told → Type 0
+Leaves words (Ok what) old new = LeavesDone what old new
+Leaves words (Err fault) old new = fault ≢ program.App app.Write → (new ≡ old) ⊎ IsInReport words fault
+
+-- how the program ends: with the status of what it did for its words; standard output has what that left, and standard
+-- error nothing new unless there was a fault
 pub record Ends (status : ℕ) (out_old out_new err_old err_new : Told) : Type 0 where
+  pub words : List Text
   pub outcome : Result Done ProgramFault
   pub status_is : status ≡ status_of outcome
-  pub output : Leaves outcome out_old out_new
+  pub output : Leaves words outcome out_old out_new
   pub quiet : OnOk outcome (err_new ≡ err_old)

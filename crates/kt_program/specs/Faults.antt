@@ -4,12 +4,20 @@ use Rattle.kt_log_text.specs.declared.fault.LogFault.{LogFault}
 use Rattle.kt_log_text.specs.declared.fault.LogFault.TheVariants as log
 use Rattle.kt_chain.specs.declared.fault.CertTextFault.{CertTextFault}
 use Rattle.kt_chain.specs.declared.fault.CertTextFault.TheVariants as cert
+use Rattle.kt_core.specs.declared.faults.StepFault.{StepFault}
+use Rattle.kt_core.specs.declared.faults.StepFault.TheVariants as step
+use Rattle.kt_run.specs.declared.faults.RunFault.{RunFault}
+use Rattle.kt_run.specs.declared.faults.RunFault.TheVariants as run
+use Rattle.kt_scenario.specs.declared.fault.ScenarioFault.{ScenarioFault}
+use Rattle.kt_scenario.specs.declared.fault.ScenarioFault.TheVariants as scenario
+use Rattle.kt_scenario.specs.declared.fault.StepsFault.{StepsFault}
+use Rattle.kt_scenario.specs.declared.fault.StepsFault.TheVariants as steps
 use Rattle.kt_program.specs.declared.fault.AppFault.{AppFault}
 use Rattle.kt_program.specs.declared.fault.AppFault.TheVariants as app
 use Rattle.kt_program.specs.declared.fault.ProgramFault.{ProgramFault}
 use Rattle.kt_program.specs.declared.fault.ProgramFault.TheVariants as program
 
--- 2 refused input, 3 a read or write fault, 4 want of memory
+-- 2 refused input, 3 a read or write fault, 4 want of memory or a run that can't go on
 abbrev pub log_status : LogFault → ℕ
 log_status log.Read = 3
 log_status log.Memory = 4
@@ -20,14 +28,36 @@ cert_status cert.Read = 3
 cert_status cert.Memory = 4
 cert_status _ = 2
 
+-- a step that is not enabled is refused input
+abbrev pub step_status : StepFault → ℕ
+step_status step.NotEnabled = 2
+step_status _ = 4
+
+abbrev pub run_status : RunFault → ℕ
+run_status (run.Step done fault) = step_status fault
+run_status _ = 4
+
 abbrev pub fault_status : AppFault → ℕ
 fault_status (app.Log fault) = log_status fault
 fault_status (app.Cert fault) = cert_status fault
+fault_status (app.Run fault) = run_status fault
+fault_status (app.Uncertified fault) = 4
 fault_status app.Write = 3
 fault_status app.Memory = 4
 
+abbrev pub scenario_status : ScenarioFault → ℕ
+scenario_status scenario.Memory = 4
+scenario_status _ = 2
+
+abbrev pub steps_status : StepsFault → ℕ
+steps_status steps.Memory = 4
+steps_status _ = 2
+
 abbrev pub refusal_status : ProgramFault → ℕ
 refusal_status program.Line = 2
+refusal_status (program.Scenario fault) = scenario_status fault
+refusal_status (program.Steps fault) = steps_status fault
+refusal_status program.Read = 3
 refusal_status (program.App fault) = fault_status fault
 
 -- the program's name, a fault's words and a line feed

@@ -1,6 +1,9 @@
 pub mod Asking
+pub mod CastRows
 pub mod Ending
 pub mod Faults
+pub mod Inputs
+pub mod Played
 pub mod Program
 pub mod Status
 pub mod Stored

@@ -1,5 +1,5 @@
 -- The command line as clap reads it.
-use Rattle.std.specs.Prelude.{◌≡◌, ◌⊎◌, List, Option, Some, None, codes, true, false}
+use Rattle.std.specs.Prelude.{◌≡◌, ◌⊎◌, List, Option, Some, None, option_map, codes, true, false}
 use Rattle.clap.specs.Words.{App, Rule, Row, Text, rule_of, app_of, new_app, new_rule, with_rule, with_subcommand, first_of, subcommand_of}
 use Rattle.clap.specs.Words.{Kinds, HasKind, fault_of, kind_of}
 use Rattle.clap.specs.declared.error.Error.{Error}
@@ -8,11 +8,18 @@ use Rattle.clap.specs.declared.builder.command.Command.TheViews.{out-Command as 
 use Rattle.clap.specs.declared.builder.command.Command.{Command}
 use Rattle.clap.specs.declared.builder.arg.Arg.{Arg}
 use Rattle.kt_program.specs.declared.line.Asked.{Asked}
-use Rattle.kt_program.specs.declared.line.Asked.TheVariants.{Check}
+use Rattle.kt_program.specs.declared.line.Asked.TheVariants.{Check, Play}
 
 -- a word that has to be there, with a name in help
 abbrev pub wanted : Text → Rule
 wanted id = record (new_rule id) { required = true; value_names = 1 }
+
+-- an option with a value, named in help
+abbrev pub optional : Text → Rule
+optional id = record (new_rule id) { long = Some id; value_names = 1 }
+
+abbrev pub play : App
+play = with_rule (with_rule (with_rule (with_rule (new_app (codes "play")) (wanted (codes "scenario"))) (optional (codes "steps"))) (optional (codes "log"))) (optional (codes "cert"))
 
 abbrev pub check : App
 check = with_rule (with_rule (new_app (codes "check")) (wanted (codes "log"))) (wanted (codes "cert"))
@@ -23,7 +30,7 @@ with_version app = record app { top = record app.top { has_version = true } }
 
 -- the program's command line
 abbrev pub program : App
-program = with_subcommand (with_version (new_app (codes "koo_toueg"))) check.top
+program = with_subcommand (with_subcommand (with_version (new_app (codes "koo_toueg"))) play.top) check.top
 
 -- an argument that clap reads as this rule
 pub record IsRule (rule : Rule) (a : Arg) : Type 0 where
@@ -35,8 +42,17 @@ pub record IsDefined (app : App) (c : Command) : Type 0 where
   pub shape : app_of c ≡ app
   pub globals : (fields_of c).has_globals ≡ false
 
+-- what the matches of `play` name: a scenario, and what else is given
+pub record NamesPlay (rows : List Row) (scenario : Text) (steps log cert : Option Text) : Type 0 where
+  pub scenario_is : first_of (codes "scenario") rows ≡ Some scenario
+  pub steps_are : first_of (codes "steps") rows ≡ steps
+  pub log_is : first_of (codes "log") rows ≡ log
+  pub cert_is : first_of (codes "cert") rows ≡ cert
+
 -- what a subcommand's matches name
 abbrev pub NamesIn : Text → List Row → Asked → Type 0
+NamesIn name rows (Play scenario steps log cert) =
+    (name ≡ codes "play") × NamesPlay rows scenario.now (option_map (λ s. s.now) steps) (option_map (λ s. s.now) log) (option_map (λ s. s.now) cert)
 NamesIn name rows (Check log cert) = (name ≡ codes "check") × (first_of (codes "log") rows ≡ Some log.now) × (first_of (codes "cert") rows ≡ Some cert.now)
 
 -- what is asked for names the subcommand and its texts

@@ -56,6 +56,8 @@ IsRefusal of_rows of_certs (app.Log fault) = (fault ≢ log.Memory) × IfSome (r
 IsRefusal of_rows of_certs (app.Cert fault) = (fault ≢ cert.Memory) × IfSome (records_told of_certs) (λ text. certs.IsFirstFault text fault) × (read : List Event) × SaysRows of_rows read
 IsRefusal of_rows of_certs app.Write = (verdict : Verdict) × IsJudged of_rows of_certs verdict
 IsRefusal of_rows of_certs app.Memory = Unit {0}
+IsRefusal of_rows of_certs (app.Run fault) = ⊥
+IsRefusal of_rows of_certs (app.Uncertified fault) = ⊥
 
 -- a fault of a log, as the program answers it
 abbrev pub of_log : LogFault → AppFault

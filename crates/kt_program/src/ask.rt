@@ -1,8 +1,8 @@
 //! The command line, by clap.
 
-ghost use Rattle.std.specs.Prelude.{◌≡◌, IfOk, IfErr, IfSome, IfNone, Some, option_map};
-ghost use Rattle.clap.specs.Words.{first_of, kind_of, subcommand_of, subcommand_rows_of, rows_of, found_of};
-ghost use Rattle.kt_program.specs.Program.{program, check, wanted, IsRule, IsDefined, Names, NamesIn};
+ghost use Rattle.std.specs.Prelude.{◌≡◌, codes, IfOk, IfErr, IfSome, IfNone, Some, option_map};
+ghost use Rattle.clap.specs.Words.{first_of, kind_of, new_app, subcommand_of, subcommand_rows_of, rows_of, found_of};
+ghost use Rattle.kt_program.specs.Program.{program, check, play, optional, wanted, with_version, IsRule, IsDefined, Names, NamesIn};
 ghost use Rattle.clap.specs.declared.error.kind.ErrorKind.TheVariants.{MissingSubcommand};
 ghost use Rattle.kt_program.specs.declared.line.Asked.{Asked};
 ghost use Rattle.kt_program.specs.Asking.{IsUnasked};
@@ -16,7 +16,33 @@ use std::alloc::{AllocError, Global};
 
 const VERSION: &str = "0.1.0";
 
-const ABOUT: &str = "Judges stored runs of a checkpoint and rollback-recovery manager";
+const ABOUT: &str =
+    "Plays scenarios of a checkpoint and rollback-recovery manager, and judges stored runs";
+
+const ABOUT_PLAY: &str = "Plays a scenario, and prints a report of the run";
+
+const LONG_ABOUT_PLAY: &str =
+    "Plays a scenario, and prints a report of the run: its instances, the commands that
+were refused, its objects, and how many messages were lost or dropped.";
+
+const ABOUT_SCENARIO: &str = "The scenario, a text with a line for each object and each command";
+
+const LONG_ABOUT_SCENARIO: &str =
+    "The scenario, a text with a line for each object and each command:
+object NAME KIND (sum, last or tail), send A B BODY (a number, or . for
+what the object of A offers), checkpoint A, rollback A, fail A, and settle
+before commands that wait until all is at rest. A line that begins with #
+says nothing.";
+
+const ABOUT_STEPS: &str = "A text of steps that come first, do A or take AT FROM";
+
+const LONG_ABOUT_STEPS: &str =
+    "A text of steps that come first, a line do A or take AT FROM for each.
+After them the run goes on by default steps until all is at rest.";
+
+const ABOUT_LOG_OUT: &str = "Where the log is written, in format 2";
+
+const ABOUT_CERT_OUT: &str = "Where the certificates are written";
 
 const ABOUT_CHECK: &str = "Judges a stored log with its certificates";
 
@@ -41,9 +67,9 @@ There are up to 2^19 records.";
 const STATUSES: &str = "Exit status:
   0  done; the answer of check is yes
   1  the answer of check is no
-  2  the command line, the log or the certificates are refused
+  2  the command line or what a file says is refused, or a step is not enabled
   3  a file cannot be read, or the output not be written
-  4  there is not enough memory";
+  4  there is not enough memory, or a run cannot go on";
 
 /// Why a command line was refused.
 #[derive(Debug, Drop)]
@@ -87,25 +113,68 @@ fn wanted_word<'a>(
         .long_help(long_help)
 }
 
+// An option with a value, with its texts in help.
+fn optional_word<'a>(alloc: Global, id: &'a str, help: &'a str, long_help: &'a str) -> Arg<'a>
+    ensures { IsRule (optional id.entry.now) result }
+{
+    Arg::new(alloc, id)
+        .long(id)
+        .value_name("FILE")
+        .help(help)
+        .long_help(long_help)
+}
+
+// A command with its texts in help.
+fn command_of<'a>(alloc: Global, name: &'a str, about: &'a str, long_about: &'a str) -> Command<'a>
+    ensures { IsDefined (new_app name.entry.now) result }
+{
+    Command::new(alloc, name)
+        .about(about)
+        .long_about(long_about)
+        .after_help(STATUSES)
+}
+
+fn play_command<'a>(alloc: Global) -> Result<Command<'a>, AllocError>
+    ensures { IfOk result (IsDefined play) }
+{
+    let command = command_of(alloc, "play", ABOUT_PLAY, LONG_ABOUT_PLAY)
+        .arg(wanted_word(
+            alloc,
+            "scenario",
+            "SCENARIO",
+            ABOUT_SCENARIO,
+            LONG_ABOUT_SCENARIO,
+        ))?
+        .arg(optional_word(alloc, "steps", ABOUT_STEPS, LONG_ABOUT_STEPS))?
+        .arg(optional_word(alloc, "log", ABOUT_LOG_OUT, ABOUT_LOG_OUT))?
+        .arg(optional_word(alloc, "cert", ABOUT_CERT_OUT, ABOUT_CERT_OUT))?;
+    Ok(command)
+}
+
 fn check_command<'a>(alloc: Global) -> Result<Command<'a>, AllocError>
     ensures { IfOk result (IsDefined check) }
 {
-    let command = Command::new(alloc, "check")
-        .about(ABOUT_CHECK)
-        .long_about(LONG_ABOUT_CHECK)
-        .after_help(STATUSES)
+    let command = command_of(alloc, "check", ABOUT_CHECK, LONG_ABOUT_CHECK)
         .arg(wanted_word(alloc, "log", "LOG", ABOUT_LOG, LONG_ABOUT_LOG))?
         .arg(wanted_word(alloc, "cert", "CERT", ABOUT_CERT, LONG_ABOUT_CERT))?;
     Ok(command)
 }
 
-fn program_command<'a>(alloc: Global) -> Result<Command<'a>, AllocError>
-    ensures { IfOk result (IsDefined program) }
+// The program's command, without what it may be asked to do.
+fn bare_command<'a>(alloc: Global) -> Command<'a>
+    ensures { IsDefined (with_version (new_app (codes "koo_toueg"))) result }
 {
-    let command = Command::new(alloc, "koo_toueg")
+    Command::new(alloc, "koo_toueg")
         .version(VERSION)
         .about(ABOUT)
         .after_help(STATUSES)
+}
+
+fn program_command<'a>(alloc: Global) -> Result<Command<'a>, AllocError>
+    ensures { IfOk result (IsDefined program) }
+{
+    let command = bare_command(alloc)
+        .subcommand(play_command(alloc)?)?
         .subcommand(check_command(alloc)?)?;
     Ok(command)
 }
@@ -117,18 +186,38 @@ fn text_of<'a>(matches: &ArgMatches<'a>, id: &str) -> Option<&'a str>
     matches.get_str(id)
 }
 
+// What the matches of `play` ask for.
+fn asked_of_play<'a>(matches: &ArgMatches<'a>) -> Option<Asked<'a>>
+    ensures named { IfSome result (NamesIn (codes "play") (rows_of (found_of matches.now))) }
+    ensures nothing { IfNone result ((asked : Asked) → ¬ NamesIn (codes "play") (rows_of (found_of matches.now)) asked) }
+{
+    Some(Asked::Play {
+        scenario: text_of(matches, "scenario")?,
+        steps: text_of(matches, "steps"),
+        log: text_of(matches, "log"),
+        cert: text_of(matches, "cert"),
+    })
+}
+
+// What the matches of `check` ask for.
+fn asked_of_check<'a>(matches: &ArgMatches<'a>) -> Option<Asked<'a>>
+    ensures named { IfSome result (NamesIn (codes "check") (rows_of (found_of matches.now))) }
+    ensures nothing { IfNone result ((asked : Asked) → ¬ NamesIn (codes "check") (rows_of (found_of matches.now)) asked) }
+{
+    Some(Asked::Check {
+        log: text_of(matches, "log")?,
+        cert: text_of(matches, "cert")?,
+    })
+}
+
 // What the matches of a subcommand of this name ask for.
 fn asked_of<'a>(name: &str, matches: &ArgMatches<'a>) -> Option<Asked<'a>>
     ensures named { IfSome result (NamesIn name.now (rows_of (found_of matches.now))) }
     ensures nothing { IfNone result ((asked : Asked) → ¬ NamesIn name.now (rows_of (found_of matches.now)) asked) }
 {
-    let log = text_of(matches, "log");
-    let cert = text_of(matches, "cert");
     match name {
-        "check" => Some(Asked::Check {
-            log: log?,
-            cert: cert?,
-        }),
+        "play" => asked_of_play(matches),
+        "check" => asked_of_check(matches),
         _ => None,
     }
 }

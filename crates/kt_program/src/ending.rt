@@ -15,6 +15,8 @@ use std::io::Write;
 pub enum Done {
     /// It wrote the checker's answer; true for a yes.
     Judged(bool),
+    /// It played a run and wrote its report.
+    Played,
     /// It wrote the help or the version that was asked for.
     Shown,
 }
@@ -25,7 +27,7 @@ impl Done {
         ensures { result ≡ done_status self }
     {
         match self {
-            Done::Judged(true) | Done::Shown => 0,
+            Done::Judged(true) | Done::Played | Done::Shown => 0,
             Done::Judged(false) => 1,
         }
     }

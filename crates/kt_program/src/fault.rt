@@ -6,11 +6,15 @@ ghost use Rattle.kt_program.specs.declared.fault.ProgramFault.TheVariants as pro
 ghost use Rattle.kt_program.specs.Faults.{fault_status, refusal_status};
 
 use kt_base::Memory;
+use kt_certify::CertFault;
 use kt_chain::CertTextFault;
+use kt_core::StepFault;
 use kt_log_text::LogFault;
+use kt_run::RunFault;
+use kt_scenario::{ScenarioFault, StepsFault};
 use thiserror::Error;
 
-/// Why a stored run was not judged.
+/// Why a run was not played, or a stored run not judged.
 #[derive(Clone, Copy, Debug, PartialEq, Eq, Hash, Error)]
 pub enum AppFault {
     /// The log's text was refused.
@@ -19,6 +23,12 @@ pub enum AppFault {
     /// The certificates' text was refused.
     #[error(transparent)]
     Cert(CertTextFault),
+    /// The run came to no end.
+    #[error(transparent)]
+    Run(RunFault),
+    /// The log of the run has no certificates.
+    #[error("run: Uncertified")]
+    Uncertified(CertFault),
     /// A writer failed.
     #[error("write fault")]
     Write,
@@ -28,7 +38,8 @@ pub enum AppFault {
 }
 
 impl AppFault {
-    /// The program's exit status: 2 for refused input, 3 for a read or write fault, 4 for want of memory.
+    /// The program's exit status: 2 for refused input, 3 for a read or write fault, 4 for want of memory or a run that
+    /// can't go on.
     pub fn status(self) -> u8
         ensures { result ≡ fault_status self }
     {
@@ -36,6 +47,8 @@ impl AppFault {
             AppFault::Log(LogFault::Read) | AppFault::Cert(CertTextFault::Read) => 3,
             AppFault::Log(LogFault::Memory) | AppFault::Cert(CertTextFault::Memory) => 4,
             AppFault::Log(_) | AppFault::Cert(_) => 2,
+            AppFault::Run(RunFault::Step(_, StepFault::NotEnabled)) => 2,
+            AppFault::Run(_) | AppFault::Uncertified(_) => 4,
             AppFault::Write => 3,
             AppFault::Memory => 4,
         }
@@ -51,23 +64,38 @@ impl From<Memory> for AppFault {
 }
 
 /// Why the program did not do what it was asked. Its text is the program's fault line, without the program's name.
-#[derive(Clone, Copy, Debug, PartialEq, Eq, Hash, Error)]
+#[derive(Clone, Copy, Debug, PartialEq, Eq, Error)]
 pub enum ProgramFault {
     /// The words of the command line were refused.
     #[error("command line refused")]
     Line,
-    /// A stored run was not judged, or there was no memory for the words, or what was asked for was not written.
+    /// The scenario's text was refused.
+    #[error("scenario {0}")]
+    Scenario(ScenarioFault),
+    /// The text of the steps was refused.
+    #[error("steps {0}")]
+    Steps(StepsFault),
+    /// The scenario or the steps could not be read.
+    #[error("read fault")]
+    Read,
+    /// A run was not played or a stored run not judged, or there was no memory for the words, or what was asked for was
+    /// not written.
     #[error(transparent)]
     App(AppFault),
 }
 
 impl ProgramFault {
-    /// The program's exit status: 2 for refused input, 3 for a read or write fault, 4 for want of memory.
+    /// The program's exit status: 2 for refused input, 3 for a read or write fault, 4 for want of memory or a run that
+    /// can't go on.
     pub fn status(self) -> u8
         ensures { result ≡ refusal_status self }
     {
         match self {
             ProgramFault::Line => 2,
+            ProgramFault::Scenario(ScenarioFault::Memory) => 4,
+            ProgramFault::Steps(StepsFault::Memory) => 4,
+            ProgramFault::Scenario(_) | ProgramFault::Steps(_) => 2,
+            ProgramFault::Read => 3,
             ProgramFault::App(fault) => fault.status(),
         }
     }

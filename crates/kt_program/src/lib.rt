@@ -1,18 +1,27 @@
-//! The program but for its handles: the command line, the stored runs judged, what is printed, the exit statuses.
+//! The program but for its handles: the command line, runs played, stored runs judged, what is printed, the exit
+//! statuses.
 #![tactic(auto)]
 
 pub mod ask;
+pub mod casts;
 pub mod checked;
 pub mod ending;
 pub mod fault;
+pub mod inputs;
 pub mod line;
+mod outputs;
+pub mod played;
+mod playing;
 pub mod program;
 pub mod words;
 
 pub use ask::{AskFault, asked};
+pub use casts::{cast_of, play_objects};
 pub use checked::check_bytes;
 pub use ending::{Done, end, write_fault};
 pub use fault::{AppFault, ProgramFault};
+pub use inputs::{read_scenario, read_steps};
 pub use line::Asked;
+pub use played::play_plan;
 pub use program::{carry_out, run};
 pub use words::Words;

@@ -1,13 +1,13 @@
 //! What the program does, whatever gives its words, its files and its writers.
 
-ghost use Rattle.std.specs.Prelude.{◌≡◌, ◌≢◌, IfOk, IfErr};
+ghost use Rattle.std.specs.Prelude.{◌≡◌, ◌≢◌, List, IfOk, IfErr};
 ghost use Rattle.std.specs.IoError.{error_kind};
 ghost use Rattle.std.specs.declared.io.ErrorKind.TheVariants as io;
-ghost use Rattle.clap.specs.Words.{kind_of};
+ghost use Rattle.clap.specs.Words.{Text, kind_of};
 ghost use Rattle.kt_program.specs.declared.ending.Done.TheVariants.{Shown};
 ghost use Rattle.kt_program.specs.declared.fault.AppFault.TheVariants as app;
 ghost use Rattle.kt_program.specs.declared.fault.ProgramFault.TheVariants as program;
-ghost use Rattle.kt_program.specs.Asking.{EndsFor, IsMistake, IsRequest};
+ghost use Rattle.kt_program.specs.Asking.{EndsFor, IsRequest, IsUnshown};
 ghost use Rattle.kt_program.specs.Ending.{Ends, Leaves, LeavesAnswer};
 
 use crate::ask::{AskFault, asked};
@@ -15,6 +15,7 @@ use crate::checked::check_bytes;
 use crate::ending::{Done, end};
 use crate::fault::{AppFault, ProgramFault};
 use crate::line::Asked;
+use crate::playing::play_files;
 use crate::words::Words;
 use clap::Error;
 use clap::error::ErrorKind;
@@ -48,7 +49,7 @@ fn do_words<V: Env, F: Files, O: Write>(
     alloc: Global,
     out: &mut O,
 ) -> Result<Done, ProgramFault>
-    ensures { Leaves result (O.contents out.old) (O.contents out.new) }
+    ensures { (words : List Text) × Leaves words result (O.contents out.old) (O.contents out.new) }
 {
     let words = words_of(env, alloc)?;
     carry_out(files, alloc, &words, out)
@@ -63,9 +64,20 @@ pub fn carry_out<F: Files, O: Write>(
 ) -> Result<Done, ProgramFault>
     // What is done, or that the words are refused, is what clap's definition of the command line gives for them.
     ensures words { EndsFor words.now result }
-    ensures output { Leaves result (O.contents out.old) (O.contents out.new) }
+    ensures output { Leaves words.now result (O.contents out.old) (O.contents out.new) }
 {
     match asked(alloc, words) {
+        Ok(
+            Asked::Play {
+                scenario,
+                steps,
+                log,
+                cert,
+            },
+        ) => match play_files(files, alloc, scenario, steps, log, cert, out) {
+            Ok(()) => Ok(Done::Played),
+            Err(fault) => Err(fault),
+        },
         Ok(Asked::Check { log, cert }) => match check_files(files, alloc, log, cert, out) {
             Ok(passed) => Ok(Done::Judged(passed)),
             Err(fault) => Err(ProgramFault::App(fault)),
@@ -122,8 +134,8 @@ fn check_files<F: Files, O: Write>(
 // Writes the help or the version that was asked for. Any other error of clap is a refusal, or want of memory.
 fn show_text<O: Write>(out: &mut O, error: &Error) -> Result<Done, ProgramFault>
     ensures shown { IfOk result (λ what. (what ≡ Shown) × IsRequest (kind_of error.now)) }
-    ensures refused { IfErr result (λ fault. fault ≡ program.Line → IsMistake (kind_of error.now)) }
-    ensures output { Leaves result (O.contents out.old) (O.contents out.new) }
+    ensures refused { IfErr result (IsUnshown (kind_of error.now)) }
+    ensures output { IfErr result (λ fault. fault ≢ program.App app.Write → O.contents out.new ≡ O.contents out.old) }
 {
     match error.kind() {
         ErrorKind::DisplayHelp | ErrorKind::DisplayVersion => match write_text(out, error) {

@@ -1,3 +1,5 @@
 pub mod Fits
 pub mod Frames
+pub mod Quiet
+pub mod Takes
 pub mod Turns

@@ -1,5 +1,6 @@
 -- One process of a system, before and after a turn of its own.
-use Rattle.std.proofs.Common.{◌≡◌, ℕ, ◌<◌, List, get_or, set, arith, ap, subst, ◌∙◌}
+use Rattle.std.specs.Prelude.{All}
+use Rattle.std.proofs.Common.{◌≡◌, ℕ, ◌<◌, List, length, get_or, set, arith, ap, subst, ◌∙◌}
 use Rattle.std.proofs.lemmas.List.{get_or-set_same, get_or_default}
 use Rattle.std.proofs.lemmas.List.Elements.{All-get_or}
 use Rattle.kt_process.specs.Persons.{Person}
@@ -12,6 +13,11 @@ unfolding person
 person_at a seen p i x v sound b e was =
     let n = ap (λ (w : Whole). w.size) v in
     was ∙ (ap (λ (j : ℕ). get_or a.people j x) e ∙ (get_or_default a.people p x nobody (let k = sound.people in omega arith) ∙ ap (λ (w : Whole). get_or w.people p nobody) v))
+
+-- what holds of all of them holds of each
+pub each_person : (P : Person → Type 0) (w : Whole) → All P w.people → (p : ℕ) → p < length w.people → P (person w p)
+unfolding person
+each_person P w h p b = All-get_or P w.people p nobody b h
 
 pub tables_at : (a seen : Whole) (p : ℕ) → a ≡ seen → IsSound a → p < seen.size → (person seen p).tables.processes ≡ seen.size
 unfolding person

@@ -1,1 +1,3 @@
+pub mod Reads
 pub mod Systems
+pub mod Takes

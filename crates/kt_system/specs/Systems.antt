@@ -1,7 +1,8 @@
 -- A system of processes, and what a step of it needs of room.
-use Rattle.std.specs.Prelude.{◌≡◌, ℕ, ◌+◌, ◌<◌, ◌≤◌, Bool, true, false, None, List, [], All, length, slice_index_or}
+use Rattle.std.specs.Prelude.{◌≡◌, ℕ, ◌+◌, ◌<◌, ◌≤◌, Bool, true, false, None, List, [], ◌++◌, All, length, slice_index_or}
 use Rattle.kt_fifo.specs.Channels.{Wires, channel, spare_of}
 use Rattle.kt_spacetime.specs.Logs.{Log}
+use Rattle.kt_spacetime.specs.declared.event.Event.{Event}
 use Rattle.kt_tables.specs.Peers.{LabelTable}
 use Rattle.kt_tables.specs.States.{State}
 use Rattle.kt_parts.specs.Asks.{IsRising}
@@ -159,6 +160,12 @@ pub record Leaves (p set : ℕ) (old new : Whole) : Type 0 where
   pub turn : Turns old new p before after
   pub tell : (q : ℕ) → has set q ≡ asked_of before.side q
   pub within : (q : ℕ) → has set q ≡ true → q < old.size
+
+-- the log keeps its rows, and has so many more at most
+pub record Grows (most : ℕ) (old new : Whole) : Type 0 where
+  pub more : List Event
+  pub rows : new.rows.rows ≡ old.rows.rows ++ more
+  pub few : length more ≤ most
 
 -- the same system, but for spare room
 pub record IsSame (new old : Whole) : Type 0 where

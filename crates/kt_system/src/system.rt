@@ -1,6 +1,10 @@
 //! The system: what it holds, and what can be read of it.
 
-ghost use Rattle.std.specs.Prelude.{◌≡◌, ◌≤◌, [], IfOk};
+ghost use Rattle.std.specs.Prelude.{◌≡◌, ◌<◌, ◌≤◌, ℕ, [], IfOk};
+ghost use Rattle.kt_fifo.specs.Channels.{channel};
+ghost use Rattle.kt_process.specs.Turns.{IsFresh};
+ghost use Rattle.kt_system.specs.Systems.{person};
+ghost use Rattle.kt_system.specs.Reads.{tally_of, no_tally};
 
 use kt_base::{Label, Memory};
 use kt_fifo::Channels;
@@ -16,6 +20,7 @@ mod messages;
 mod people;
 mod reads;
 mod replies;
+mod takes;
 
 /// How many asks, replies and decisions of an instance were put into channels.
 #[derive(Clone, Copy, Debug, PartialEq, Eq)]
@@ -61,6 +66,12 @@ impl System {
         requires { processes ≤ 64 }
         ensures size { IfOk result (λ s. s.size ≡ processes) }
         ensures rows { IfOk result (λ s. s.rows.rows ≡ []) }
+        ensures people { IfOk result (λ s. (p : ℕ) → p < processes → IsFresh processes used (person s p)) }
+        ensures wires { IfOk result (λ s. (p q : ℕ) → channel s.wires p q ≡ []) }
+        ensures held { IfOk result (λ s. (p q : ℕ) → channel s.held p q ≡ []) }
+        ensures kept { IfOk result (λ s. (p q : ℕ) → channel s.kept p q ≡ []) }
+        ensures begun { IfOk result (λ s. s.begun ≡ 0) }
+        ensures tallies { IfOk result (λ s. (inst : ℕ) → tally_of s inst ≡ no_tally) }
     {
         let mut list = Vec::with_capacity(alloc, processes)?;
         for _number in 0..processes {

@@ -1,8 +1,10 @@
 //! Shows what is read from each stored run: its first broken rule, or what its histories are after each row, as both
-//! readers tell it, the checker's answer in both formats, and whether what is written is what was read.
+//! readers tell it, the checker's answer in both formats, and whether what is written is what was read. Then plays each
+//! scenario that a stored run is of.
 #![tactic(auto)]
 
 mod facts;
+mod plays;
 mod readers;
 mod texts;
 
@@ -11,6 +13,7 @@ use facts::show_facts;
 use kt_histories::legal;
 use kt_log_text::read_csv;
 use kt_spacetime::SpaceTime;
+use plays::show_plays;
 use std::fs;
 use texts::show_texts;
 
@@ -47,5 +50,5 @@ fn main(rt: HostRuntime) -> Result<()> {
     for name in names.lines() {
         show_stored(&rt, name)?;
     }
-    Ok(())
+    show_plays(&rt, "plays.txt")
 }

@@ -3,7 +3,7 @@
 ghost use Rattle.std.specs.Prelude.{◌≡◌, ◌<◌, ◌≤◌, ◌+◌, ◌^◌, ℕ, true, OnErr, IfOk, IfSome, length};
 ghost use Rattle.kt_base.specs.Sets.{has};
 ghost use Rattle.kt_process.specs.Turns.{peers_of};
-ghost use Rattle.kt_system.specs.Systems.{person, room_to, CanCarryOut, KeepsParcels, IsSame};
+ghost use Rattle.kt_system.specs.Systems.{person, room_to, CanCarryOut, KeepsParcels, IsSame, Grows};
 
 use super::System;
 use super::messages::NO_ACTS;
@@ -33,6 +33,7 @@ impl System {
         requires few { length self.old.rows.rows + 4 ≤ 2 ^ 24 }
         ensures size { self.new.size ≡ self.old.size }
         ensures err { OnErr result (IsSame self.new self.old) }
+        ensures grows { Grows 4 self.old self.new }
     {
         let Some(inst) = self.next_inst() else {
             return Ok(NO_ACTS);
@@ -50,6 +51,7 @@ impl System {
         requires few { length self.old.rows.rows + 4 ≤ 2 ^ 24 }
         ensures size { self.new.size ≡ self.old.size }
         ensures err { OnErr result (IsSame self.new self.old) }
+        ensures grows { Grows 4 self.old self.new }
     {
         let Some(inst) = self.next_inst() else {
             return Ok(NO_ACTS);
@@ -69,6 +71,17 @@ impl System {
         marks_of(alloc, &self.kept, p)
     }
 
+    /// How many parcels are kept for a process, by sender, where it joins an instance; else nothing.
+    fn marks_if(&self, alloc: Global, p: ProcNo, joins: bool) -> Result<Vec<usize>, Memory>
+        requires { p < self.now.size }
+        ensures { joins ≡ true → IfOk result (λ marks. length marks.items ≡ self.now.size) }
+    {
+        if joins {
+            return self.marks(alloc, p);
+        }
+        Ok(Vec::new(alloc))
+    }
+
     /// An instance begins.
     fn open(&mut self, p: ProcNo, inst: InstNo, kind: Kind)
         requires spare { 1 ≤ self.old.rows.spare }
@@ -76,6 +89,7 @@ impl System {
         ensures count { length self.new.rows.rows ≡ length self.old.rows.rows + 1 }
         ensures spare { self.new.rows.spare + 1 ≡ self.old.rows.spare }
         ensures keeps { KeepsParcels self.old self.new }
+        ensures grows { Grows 1 self.old self.new }
     {
         self.begun = inst.get();
         self.log.push_reserved(Event::Began { p, inst, kind });
@@ -88,6 +102,7 @@ impl System {
         requires few { length self.old.rows.rows + 4 ≤ 2 ^ 24 }
         requires room { CanCarryOut self.old p action }
         ensures size { self.new.size ≡ self.old.size }
+        ensures grows { Grows 4 self.old self.new }
     {
         match action {
             Action::Refuse(cause) => {
@@ -130,11 +145,12 @@ impl System {
         requires few { length self.old.rows.rows + 4 ≤ 2 ^ 24 }
         ensures size { self.new.size ≡ self.old.size }
         ensures err { OnErr result (IsSame self.new self.old) }
+        ensures grows { Grows 4 self.old self.new }
     {
         let joins = self.process(at).joins_checkpoint(able, from, label);
         let targets = self.targets(at, from, Kind::Checkpoint, joins);
         self.make_room(at, targets)?;
-        let marks = self.marks(alloc, at)?;
+        let marks = self.marks_if(alloc, at, joins)?;
         let action = self.ask_to_save(at, able, from, inst, label, marks)?;
         self.pop(at, from);
         Ok(self.answer(at, from, inst, Kind::Checkpoint, action))
@@ -153,6 +169,7 @@ impl System {
         requires few { length self.old.rows.rows + 4 ≤ 2 ^ 24 }
         ensures size { self.new.size ≡ self.old.size }
         ensures err { OnErr result (IsSame self.new self.old) }
+        ensures grows { Grows 4 self.old self.new }
     {
         let joins = self.process(at).joins_rollback(from, label);
         let targets = self.targets(at, from, Kind::Rollback, joins);
@@ -178,6 +195,7 @@ impl System {
         requires reply { 2 ≤ room_to self.old at from }
         requires room { CanCarryOut self.old at action }
         ensures size { self.new.size ≡ self.old.size }
+        ensures grows { Grows 4 self.old self.new }
     {
         match action {
             Action::Reply {
@@ -198,7 +216,8 @@ impl System {
     fn say_why(&mut self, p: ProcNo, inst: InstNo, cause: Option<Cause>)
         requires spare { 1 ≤ self.old.rows.spare }
         requires few { length self.old.rows.rows < 2 ^ 24 }
-        ensures { self.new.size ≡ self.old.size }
+        ensures size { self.new.size ≡ self.old.size }
+        ensures grows { Grows 1 self.old self.new }
     {
         if let Some(cause) = cause {
             self.write(Event::Unwilling { p, inst, cause });
@@ -221,6 +240,7 @@ impl System {
         requires few { length self.old.rows.rows + 4 ≤ 2 ^ 24 }
         ensures size { self.new.size ≡ self.old.size }
         ensures err { OnErr result (IsSame self.new self.old) }
+        ensures grows { Grows 4 self.old self.new }
     {
         match kind {
             Kind::Checkpoint => self.take_ask_to_save(alloc, at, from, inst, label, able),

@@ -3,7 +3,7 @@
 ghost use Rattle.std.specs.Prelude.{◌≡◌, ◌<◌, ◌≤◌, ◌+◌, ◌^◌, ℕ, true, slice_index_or, length};
 ghost use Rattle.kt_base.specs.Sets.{has};
 ghost use Rattle.kt_process.specs.Persons.{is_ready};
-ghost use Rattle.kt_system.specs.Systems.{person, room_to, HasBack, CanJoin, CanClose, KeepsRoom, UsesRoom};
+ghost use Rattle.kt_system.specs.Systems.{person, room_to, HasBack, CanJoin, CanClose, KeepsRoom, UsesRoom, Grows};
 
 use super::System;
 use kt_base::{InstNo, Kind, ProcNo, ProcSet};
@@ -56,6 +56,7 @@ impl System {
         requires few { length self.old.rows.rows < 2 ^ 24 }
         requires room { CanClose self.old p }
         ensures size { self.new.size ≡ self.old.size }
+        ensures grows { Grows 1 self.old self.new }
     {
         let was_ready = self.is_ready(p);
         self.settle_kept(p, commit);
@@ -80,6 +81,7 @@ impl System {
         requires few { length self.old.rows.rows + 3 ≤ 2 ^ 24 }
         requires room { CanJoin self.old p asks.now goes }
         ensures size { self.new.size ≡ self.old.size }
+        ensures grows { Grows 3 self.old self.new }
     {
         self.ask(p, inst, kind, asks);
         self.write(joining_row(p, inst, kind));
@@ -117,6 +119,7 @@ impl System {
         requires few { length self.old.rows.rows + 2 ≤ 2 ^ 24 }
         requires room { CanClose self.old p }
         ensures size { self.new.size ≡ self.old.size }
+        ensures grows { Grows 2 self.old self.new }
     {
         self.write(Event::Decided { p, inst, commit });
         self.close(p, inst, commit)

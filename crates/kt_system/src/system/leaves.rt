@@ -8,7 +8,7 @@ ghost use Rattle.kt_system.specs.Systems.{person, room_to, HasBack, HasRoomFor, 
 use super::System;
 use kt_base::{InstNo, Memory, ProcNo, ProcSet};
 use kt_fifo::Parcel;
-use kt_lists::{make_room, make_room_back};
+use kt_lists::{make_room, make_room_back, make_room_to};
 use kt_spacetime::Event;
 
 impl System {
@@ -93,7 +93,7 @@ impl System {
         ensures gives { GivesRoom self.old self.new }
     {
         self.log.reserve(4)?;
-        make_room(&mut self.channels, p, ProcSet::empty().with(to), 1)
+        make_room_to(&mut self.channels, p, to, 1)
     }
 
     /// Room to hold all parcels that are kept for a process.

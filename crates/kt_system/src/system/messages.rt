@@ -1,7 +1,7 @@
 //! Application messages, and failures.
 
 ghost use Rattle.std.specs.Prelude.{◌≡◌, ◌<◌, ◌≤◌, ◌+◌, ◌-◌, ◌^◌, ℕ, true, OnErr, length};
-ghost use Rattle.kt_system.specs.Systems.{person, room_to, KeepsParcels, IsSame};
+ghost use Rattle.kt_system.specs.Systems.{person, room_to, KeepsParcels, IsSame, Grows};
 
 use super::System;
 use kt_base::{Cause, Label, Memory, MsgNo, ProcNo, Verb};
@@ -41,6 +41,7 @@ impl System {
         requires left { (person self.old p).up ≡ true → (person self.old p).used < 2 ^ 48 - 1 }
         ensures size { self.new.size ≡ self.old.size }
         ensures err { OnErr result (IsSame self.new self.old) }
+        ensures grows { Grows 4 self.old self.new }
     {
         self.make_room_to(p, to)?;
         if !self.is_up(p) {
@@ -60,8 +61,9 @@ impl System {
         requires few { length self.old.rows.rows + 4 ≤ 2 ^ 24 }
         ensures size { self.new.size ≡ self.old.size }
         ensures err { OnErr result (IsSame self.new self.old) }
+        ensures grows { Grows 4 self.old self.new }
     {
-        self.log.reserve(4)?;
+        self.make_room_for_rows()?;
         if !self.is_up(p) {
             self.refuse(p, Verb::Fail, Cause::Down);
             return Ok(NO_ACTS);
@@ -75,7 +77,8 @@ impl System {
     pub(super) fn refuse(&mut self, p: ProcNo, verb: Verb, cause: Cause)
         requires spare { 1 ≤ self.old.rows.spare }
         requires few { length self.old.rows.rows < 2 ^ 24 }
-        ensures { self.new.size ≡ self.old.size }
+        ensures size { self.new.size ≡ self.old.size }
+        ensures grows { Grows 1 self.old self.new }
     {
         self.write(Event::Refused { p, verb, cause });
     }
@@ -92,6 +95,7 @@ impl System {
         requires few { length self.old.rows.rows + 4 ≤ 2 ^ 24 }
         ensures size { self.new.size ≡ self.old.size }
         ensures err { OnErr result (IsSame self.new self.old) }
+        ensures grows { Grows 4 self.old self.new }
     {
         if self.is_ready(at) {
             self.held.reserve_many(from, at, 1)?;
@@ -130,8 +134,9 @@ impl System {
         requires few { length self.old.rows.rows + 4 ≤ 2 ^ 24 }
         ensures size { self.new.size ≡ self.old.size }
         ensures err { OnErr result (IsSame self.new self.old) }
+        ensures grows { Grows 4 self.old self.new }
     {
-        self.log.reserve(4)?;
+        self.make_room_for_rows()?;
         let msg = message.msg;
         if !self.is_up(at) {
             self.remove(at, from, is_held);

@@ -2,6 +2,7 @@
 
 ghost use Rattle.std.specs.Prelude.{◌≡◌, ◌<◌, ◌+◌, ◌-◌, ◌^◌, ℕ, true, OnErr, IfOk, length};
 ghost use Rattle.kt_base.specs.declared.words.Kind.TheVariants as kind;
+ghost use Rattle.kt_process.specs.Turns.{joins_by};
 ghost use Rattle.kt_system.specs.Systems.{person, Begins, Hears, Counts, Leaves};
 
 use super::System;
@@ -79,7 +80,7 @@ impl System {
         self.processes[p.index()].begin_rollback(inst)
     }
 
-    /// A process hears an ask to take part in a checkpoint.
+    /// A process hears an ask to take part in a checkpoint. The marks count only where it joins.
     pub(super) fn ask_to_save(
         &mut self,
         p: ProcNo,
@@ -91,7 +92,7 @@ impl System {
     ) -> Result<Action, Memory>
         requires p { p < self.old.size }
         requires from { from < self.old.size }
-        requires marks { length marks.items ≡ self.old.size }
+        requires marks { joins_by (person self.old p) kind.Checkpoint able from label ≡ true → length marks.items ≡ self.old.size }
         ensures err { OnErr result (self.new ≡ self.old) }
         ensures hears { IfOk result (λ action. Hears kind.Checkpoint able from inst label p self.old self.new action) }
         ensures rows { self.new.rows ≡ self.old.rows }

@@ -1,15 +1,18 @@
 //! What can be read of a system.
 
-ghost use Rattle.std.specs.Prelude.{◌≡◌, ◌<◌, ◌≤◌, ◌^◌, ◌-◌, ◌↔◌, [], ℕ, true, false, Some, None, IsTrue, IfSome, IfNone, length, slice_get};
-ghost use Rattle.kt_base.specs.Sets.{has};
+ghost use Rattle.std.specs.Prelude.{◌≡◌, ◌<◌, ◌≤◌, ◌^◌, ◌-◌, ◌↔◌, [], ℕ, true, false, IsTrue, IfSome, IfNone, length, is_none};
+ghost use Rattle.std.specs.List.{list_all};
 ghost use Rattle.kt_base.specs.declared.words.Kind.TheVariants as kind;
 ghost use Rattle.kt_fifo.specs.Channels.{channel};
-ghost use Rattle.kt_process.specs.Persons.{is_ready, inst_of};
+ghost use Rattle.kt_process.specs.Persons.{Person, is_ready, inst_of};
+ghost use Rattle.kt_process.specs.Turns.{joins_by};
 ghost use Rattle.kt_system.specs.Systems.{person};
+ghost use Rattle.kt_system.specs.Reads.{tally_of, held_parcel, next_parcel, can_take, saves_by, would_save, IsQuiet};
 
 use super::{System, Tally};
-use kt_base::{InstNo, Kind, Label, ProcNo, ProcSet};
-use kt_fifo::Parcel;
+use kt_base::{InstNo, Kind, Label, ProcNo};
+use kt_fifo::{Channels, Parcel};
+use kt_process::Process;
 use kt_spacetime::SpaceTime;
 
 impl System {
@@ -77,7 +80,9 @@ impl System {
     }
 
     /// How many asks, replies and decisions of an instance were put into channels.
-    pub fn tally(&self, inst: InstNo) -> Tally {
+    pub fn tally(&self, inst: InstNo) -> Tally
+        ensures { result ≡ tally_of self.now inst }
+    {
         match self.tallies.get(inst.index()) {
             Some(tally) => *tally,
             None => Tally {
@@ -88,18 +93,36 @@ impl System {
         }
     }
 
+    /// The first parcel of another process that is held for this one, where it is in no rollback.
+    pub(super) fn held_parcel(&self, at: ProcNo, from: ProcNo) -> Option<Parcel>
+        requires at { at < self.now.size }
+        requires from { from < self.now.size }
+        ensures { result ≡ held_parcel self.now at from }
+    {
+        if self.is_ready(at) {
+            return None;
+        }
+        self.held.front(from, at).copied()
+    }
+
     /// The parcel that a process would take next from another one: the first that is held, where it is in no rollback,
     /// else the front of the channel.
     pub fn next_parcel(&self, at: ProcNo, from: ProcNo) -> Option<Parcel>
         requires at { at < self.now.size }
         requires from { from < self.now.size }
+        ensures { result ≡ next_parcel self.now at from }
     {
-        if !self.is_ready(at) {
-            if let Some(parcel) = self.held.front(from, at) {
-                return Some(*parcel);
-            }
-        }
-        self.channels.front(from, at).copied()
+        self.held_parcel(at, from)
+            .or(self.channels.front(from, at).copied())
+    }
+
+    /// Whether a process can take a parcel of another one.
+    pub fn can_take(&self, at: ProcNo, from: ProcNo) -> bool
+        requires at { at < self.now.size }
+        requires from { from < self.now.size }
+        ensures { result ≡ can_take self.now at from }
+    {
+        self.next_parcel(at, from).is_some()
     }
 
     /// Whether the next parcel from another process makes this one take its tentative checkpoint, if its object can be
@@ -107,98 +130,54 @@ impl System {
     pub fn would_save(&self, at: ProcNo, from: ProcNo) -> bool
         requires at { at < self.now.size }
         requires from { from < self.now.size }
+        ensures { result ≡ would_save self.now at from }
     {
-        let Some(parcel) = self.next_parcel(at, from) else {
-            return false;
-        };
-        let Some(label) = label_of_ask_to_save(&parcel) else {
-            return false;
-        };
-        self.process(at).joins_checkpoint(true, from, label)
-    }
-
-    /// The least process that can take a parcel that is held for it.
-    fn held_taker(&self) -> Option<ProcNo>
-        ensures { IfSome result (λ at. at < self.now.size) }
-    {
-        let receivers = self.held.receivers();
-        for number in 0..self.processes() as u8 {
-            let at = ProcNo::nth(number);
-            if receivers.has(at) && !self.is_ready(at) {
-                return Some(at);
-            }
-        }
-        None
-    }
-
-    /// The least process to which a parcel is in a channel.
-    fn channel_taker(&self) -> Option<ProcNo>
-        ensures { IfSome result (λ at. at < self.now.size) }
-    {
-        self.channels.receivers().first()
-    }
-
-    /// The least process that can take a parcel.
-    fn taker(&self) -> Option<ProcNo>
-        ensures { IfSome result (λ at. at < self.now.size) }
-    {
-        if self.held.receivers().first().is_none() {
-            return self.channel_taker();
-        }
-        least(self.channel_taker(), self.held_taker())
-    }
-
-    /// The processes of which one has parcels for another, in channels and, where it is in no rollback, held.
-    fn senders(&self, at: ProcNo) -> (ProcSet, ProcSet)
-        requires { at < self.now.size }
-    {
-        if self.is_ready(at) {
-            (self.channels.senders(at), ProcSet::empty())
-        } else {
-            (self.channels.senders(at), self.held.senders(at))
+        match self.next_parcel(at, from) {
+            Some(parcel) => saves_by(self.process(at), from, &parcel),
+            None => false,
         }
     }
 
-    /// The least process that can take a parcel, and the least from which it can.
-    pub fn next_take(&self) -> Option<(ProcNo, ProcNo)>
-        ensures { IfSome result (λ take. take.0 < self.now.size) }
+    /// Whether no process is in an instance.
+    fn all_outside(&self) -> bool
+        ensures { result ≡ list_all (λ (x : Person). is_none (inst_of x.side)) self.now.people }
     {
-        let at = self.taker()?;
-        let (by_channel, held) = self.senders(at);
-        let from = least(by_channel.first(), held.first())?;
-        Some((at, from))
-    }
-
-    /// Whether no parcel is in a channel or held, and no process in an instance.
-    pub fn is_quiet(&self) -> bool {
-        if self.channels.receivers().first().is_some() || self.held.receivers().first().is_some() {
-            return false;
-        }
         self.processes
             .iter()
             .all(|process| process.in_inst().is_none())
     }
-}
 
-/// The lesser of two processes.
-fn least(first: Option<ProcNo>, second: Option<ProcNo>) -> Option<ProcNo>
-    ensures { (n : ℕ) → IfSome first (λ p. p < n) → IfSome second (λ p. p < n) → IfSome result (λ p. p < n) }
-{
-    match (first, second) {
-        (Some(one), Some(other)) => {
-            if one.get() <= other.get() {
-                Some(one)
-            } else {
-                Some(other)
-            }
-        }
-        (Some(one), None) => Some(one),
-        (None, other) => other,
+    /// Whether no parcel is in a channel or held, and no process in an instance.
+    pub fn is_quiet(&self) -> bool
+        ensures { IsTrue result ↔ IsQuiet self.now }
+    {
+        is_empty(&self.channels) && is_empty(&self.held) && self.all_outside()
     }
 }
 
+/// Whether no parcel is in any list.
+fn is_empty(channels: &Channels) -> bool
+    ensures { IsTrue result ↔ ((p q : ℕ) → channel channels.now p q ≡ []) }
+{
+    channels.receivers().first().is_none()
+}
+
+/// Whether a parcel makes a process take its tentative checkpoint, if its object can be saved.
+fn saves_by(process: &Process, from: ProcNo, parcel: &Parcel) -> bool
+    requires { from < process.now.tables.processes }
+    ensures { result ≡ saves_by process.now from parcel.now }
+{
+    let Some(label) = label_of_ask_to_save(parcel) else {
+        return false;
+    };
+    process.joins_checkpoint(true, from, label)
+}
+
 /// The label of an ask to take part in a checkpoint, if a parcel is one.
-fn label_of_ask_to_save(parcel: &Parcel) -> Option<Label> {
+fn label_of_ask_to_save(parcel: &Parcel) -> Option<Label>
+    ensures some { IfSome result (λ label. (x : Person) → (from : ℕ) → saves_by x from parcel.now ≡ joins_by x kind.Checkpoint true from label) }
+    ensures none { IfNone result ((x : Person) → (from : ℕ) → saves_by x from parcel.now ≡ false) }
+{
     match parcel {
         Parcel::Ask { kind, label, .. } => match kind {
             Kind::Checkpoint => Some(*label),

@@ -1,7 +1,7 @@
 //! Replies and decisions, and a parcel of any kind.
 
 ghost use Rattle.std.specs.Prelude.{◌≡◌, ◌<◌, ◌≤◌, ◌+◌, ◌^◌, ℕ, true, OnErr, length};
-ghost use Rattle.kt_system.specs.Systems.{person, CanGoOn, IsSame};
+ghost use Rattle.kt_system.specs.Systems.{person, CanGoOn, IsSame, Grows};
 
 use super::System;
 use super::messages::{Message, NO_ACTS};
@@ -25,6 +25,7 @@ impl System {
         requires few { length self.old.rows.rows + 4 ≤ 2 ^ 24 }
         ensures size { self.new.size ≡ self.old.size }
         ensures err { OnErr result (IsSame self.new self.old) }
+        ensures grows { Grows 4 self.old self.new }
     {
         let targets = self.process(at).partners();
         self.make_room(at, targets)?;
@@ -41,6 +42,7 @@ impl System {
         requires few { length self.old.rows.rows + 2 ≤ 2 ^ 24 }
         requires room { CanGoOn self.old p action.now }
         ensures size { self.new.size ≡ self.old.size }
+        ensures grows { Grows 2 self.old self.new }
     {
         match action {
             Action::Reply {
@@ -82,6 +84,7 @@ impl System {
         requires few { length self.old.rows.rows + 4 ≤ 2 ^ 24 }
         ensures size { self.new.size ≡ self.old.size }
         ensures err { OnErr result (IsSame self.new self.old) }
+        ensures grows { Grows 4 self.old self.new }
     {
         if !self.is_in(at, inst) {
             self.pop(at, from);
@@ -107,6 +110,7 @@ impl System {
         requires few { length self.old.rows.rows + 4 ≤ 2 ^ 24 }
         ensures size { self.new.size ≡ self.old.size }
         ensures err { OnErr result (IsSame self.new self.old) }
+        ensures grows { Grows 4 self.old self.new }
     {
         let Some(parcel) = self.channels.front(from, at).copied() else {
             return Ok(NO_ACTS);
@@ -128,11 +132,8 @@ impl System {
         requires at { at < self.now.size }
         requires from { from < self.now.size }
     {
-        if self.is_ready(at) {
-            return None;
-        }
-        let parcel = self.held.front(from, at)?;
-        message_in(parcel)
+        let parcel = self.held_parcel(at, from)?;
+        message_in(&parcel)
     }
 
     /// A process takes the next parcel from another one: the first message that is held, where it is in no rollback, else
@@ -149,6 +150,7 @@ impl System {
         requires few { length self.old.rows.rows + 4 ≤ 2 ^ 24 }
         ensures size { self.new.size ≡ self.old.size }
         ensures err { OnErr result (IsSame self.new self.old) }
+        ensures grows { Grows 4 self.old self.new }
     {
         match self.held_message(at, from) {
             Some(message) => self.accept(at, from, message, true),

@@ -9,9 +9,9 @@ loop-number-preserved c =
     let p = c.args.p in
     let here : c.unwrap-to.result ≡ n = rw c.unwrap-to.ensures at c.new.ensures.value in
     let i = c.loop-number.invariant in
-    let e = c.make_room_to.ensures in
-    let o = c.in_ok-make_room_to.ensures.ok in
-    let new = c.make_room_to.new.channels in
+    let e = c.make_room_if.ensures in
+    let o = c.in_ok-make_room_if.ensures.ok in
+    let new = c.make_room_if.new.channels in
     record {
       processes = e.processes ∙ i.processes;
       lists = e.lists ∙ i.lists;

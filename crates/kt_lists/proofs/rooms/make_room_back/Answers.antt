@@ -15,7 +15,7 @@ loop-number-preserved c =
       lists = e.lists ∙ i.lists;
       room = below_more (λ q. length (channel c.args.kept.now q p) ≤ spare_of new q p) _
           (λ q b. let a = i.room q b in let g = e.grows q p in omega arith)
-          (subst (λ (q : ℕ). length (channel c.args.kept.now q p) ≤ spare_of new q p) here (let o = c.in_ok-make_room_to.ensures.ok refl in omega (arith, c.len.ensures)));
+          (subst (λ (q : ℕ). length (channel c.args.kept.now q p) ≤ spare_of new q p) here (let o = c.in_ok-make_room_to.ensures.ok in omega (arith, c.len.ensures)));
     }
 
 pub returns-clause-ok : goal.returns-clause-ok

@@ -1,6 +1,9 @@
-use Rattle.std.proofs.Common.{refl}
+use Rattle.std.proofs.Common.{refl, sym, ap, ◌∙◌}
 use Rattle.std.proofs.lemmas.Result.{IfOk-weaker}
-use Rattle.kt_system.proofs.Turns.{turned}
+use Rattle.kt_base.specs.declared.words.Kind.TheVariants as kind
+use Rattle.kt_process.specs.Persons.{Person}
+use Rattle.kt_process.specs.Turns.{joins_by}
+use Rattle.kt_system.proofs.Turns.{turned, person_at, tables_at}
 use Rattle.kt_system.proofs.system.System.ask_to_save.Goals as goal
 
 pub returns-clause-hears : goal.returns-clause-hears
@@ -10,3 +13,9 @@ returns-clause-hears c = IfOk-weaker c.hear_ask_to_save.result _ _ (λ action h.
   turn = turned _ _ _ c.args.p c.index.result c.index_mut.result.now c.hear_ask_to_save.new.self c.self.view_is c.self.invariant c.requires.p c.index.ensures.value c.index_mut.ensures.value refl refl refl refl refl;
   hears = h;
 }) c.hear_ask_to_save.ensures.hears
+
+pub hear_ask_to_save-requires-clause-marks : goal.hear_ask_to_save-requires-clause-marks
+hear_ask_to_save-requires-clause-marks c e =
+    let was = person_at _ _ c.args.p c.index.result c.index_mut.result.now c.self.view_is c.self.invariant c.requires.p c.index.ensures.value c.index_mut.ensures.value in
+    let joins = ap (λ (x : Person). joins_by x kind.Checkpoint c.args.able c.args.from c.args.label) (sym was) ∙ e in
+    c.requires.marks joins ∙ (sym (tables_at _ _ c.args.p c.self.view_is c.self.invariant c.requires.p) ∙ ap (λ (x : Person). x.tables.processes) (sym was))

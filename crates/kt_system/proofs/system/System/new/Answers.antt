@@ -1,8 +1,11 @@
 use Rattle.std.specs.Prelude.{All}
-use Rattle.std.proofs.Common.{◌≡◌, ◌+◌, ℕ, List, ap, sym, subst, ◌∙◌, length}
+use Rattle.std.proofs.Common.{◌≡◌, ◌+◌, ℕ, List, arith, ap, sym, subst, ◌∙◌, length}
 use Rattle.std.proofs.lemmas.List.{length_push}
 use Rattle.std.proofs.lemmas.List.Elements.{All-push}
+use Rattle.kt_fifo.specs.declared.parcels.Parcel.{Parcel}
 use Rattle.kt_process.specs.Persons.{Person}
+use Rattle.kt_process.specs.Turns.{IsFresh}
+use Rattle.kt_system.proofs.Turns.{each_person}
 use Rattle.kt_system.proofs.system.System.new.Goals as goal
 
 pub loop-number-preserved : goal.loop-number-preserved
@@ -10,4 +13,19 @@ loop-number-preserved c = record {
   size = ap (λ (l : List Person). length l) c.in_ok-push.ensures.items ∙ (length_push c.loop-number.list.items c.in_ok-new.field-0 ∙ ap (λ (m : ℕ). m + 1) c.loop-number.invariant.size);
   tables = subst (λ (l : List Person). All (λ (x : Person). x.tables.processes ≡ c.args.processes) l) (sym c.in_ok-push.ensures.items)
       (All-push (λ (x : Person). x.tables.processes ≡ c.args.processes) c.loop-number.list.items c.in_ok-new.field-0 c.loop-number.invariant.tables c.in_ok-new.ensures.processes);
+  fresh = subst (λ (l : List Person). All (λ (x : Person). IsFresh c.args.processes c.args.used x) l) (sym c.in_ok-push.ensures.items)
+      (All-push (λ (x : Person). IsFresh c.args.processes c.args.used x) c.loop-number.list.items c.in_ok-new.field-0 c.loop-number.invariant.fresh c.in_ok-new.ensures);
 }
+
+pub returns-clause-people : goal.returns-clause-people
+returns-clause-people c = λ p b. each_person (λ (x : Person). IsFresh c.args.processes c.args.used x) _ c.loop-number.invariant.fresh p
+    (let size = c.loop-number.invariant.size in let all = c.loop-number-test.false in omega arith)
+
+pub returns-clause-wires : goal.returns-clause-wires
+returns-clause-wires c = λ p q. ap (λ (f : ℕ → ℕ → List Parcel). f p q) c.in_ok-new-2.ensures.lists
+
+pub returns-clause-held : goal.returns-clause-held
+returns-clause-held c = λ p q. ap (λ (f : ℕ → ℕ → List Parcel). f p q) c.in_ok-new-3.ensures.lists
+
+pub returns-clause-kept : goal.returns-clause-kept
+returns-clause-kept c = λ p q. ap (λ (f : ℕ → ℕ → List Parcel). f p q) c.in_ok-new-4.ensures.lists

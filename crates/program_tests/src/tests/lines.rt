@@ -10,11 +10,12 @@ use std::process::Abort;
 use std::rt::Files;
 use std::test::Fail;
 
-const HELP: &str = "Judges stored runs of a checkpoint and rollback-recovery manager
+const HELP: &str = "Plays scenarios of a checkpoint and rollback-recovery manager, and judges stored runs
 
 Usage: koo_toueg [COMMAND]
 
 Commands:
+  play   Plays a scenario, and prints a report of the run
   check  Judges a stored log with its certificates
   help   Print this message or the help of the given subcommand(s)
 
@@ -25,9 +26,9 @@ Options:
 Exit status:
   0  done; the answer of check is yes
   1  the answer of check is no
-  2  the command line, the log or the certificates are refused
+  2  the command line or what a file says is refused, or a step is not enabled
   3  a file cannot be read, or the output not be written
-  4  there is not enough memory
+  4  there is not enough memory, or a run cannot go on
 ";
 
 const SHORT_HELP_OF_CHECK: &str = "Judges a stored log with its certificates
@@ -44,9 +45,9 @@ Options:
 Exit status:
   0  done; the answer of check is yes
   1  the answer of check is no
-  2  the command line, the log or the certificates are refused
+  2  the command line or what a file says is refused, or a step is not enabled
   3  a file cannot be read, or the output not be written
-  4  there is not enough memory
+  4  there is not enough memory, or a run cannot go on
 ";
 
 const HELP_OF_CHECK: &str =
@@ -75,9 +76,9 @@ Options:
 Exit status:
   0  done; the answer of check is yes
   1  the answer of check is no
-  2  the command line, the log or the certificates are refused
+  2  the command line or what a file says is refused, or a step is not enabled
   3  a file cannot be read, or the output not be written
-  4  there is not enough memory
+  4  there is not enough memory, or a run cannot go on
 ";
 
 // What the program prints, called with these words.
@@ -115,7 +116,7 @@ fn other_command_lines_are_refused(rt: HostRuntime) -> Result<(), Fail> {
         &[b"koo_toueg", b"check", b"l.csv", b"c.csv", b"more"],
         &[b"koo_toueg", b"check", b"--log", b"l.csv", b"c.csv"],
         &[b"koo_toueg", b"judge", b"l.csv", b"c.csv"],
-        &[b"koo_toueg", b"play", b"s.txt"],
+        &[b"koo_toueg", b"play", b"--steps", b"s.txt"],
         &[b"koo_toueg", b"check", b"l\xff.csv", b"c.csv"],
         &[b"koo_toueg", b"--help", b"\xff"],
     ];

@@ -1,0 +1,43 @@
+-- The phase that is open.
+use Rattle.std.proofs.Common.{◌≡◌, ◌≤◌, ℕ, sym, ◌∙◌, arith}
+use Rattle.kt_core.specs.Agendas.{Agenda, next_command, place_of, IsDone, IsLeastPhase}
+use Rattle.kt_core.specs.Worlds.{World, Settles}
+use Rattle.kt_system.specs.Reads.{IsQuiet}
+
+-- the next commands are told by the plan and the places
+same_next : (a b : Agenda) (p : ℕ) → b.plan ≡ a.plan → b.next ≡ a.next → next_command b p ≡ next_command a p
+same_next a b p f g = cc
+
+pub least_stays : (a b : Agenda) (phase : ℕ) → b.plan ≡ a.plan → b.next ≡ a.next → IsLeastPhase b phase → IsLeastPhase a phase
+least_stays a b phase f g l = record {
+  least = λ p command low e. l.least p command low (same_next a b p f g ∙ e);
+  process = l.process;
+  command = l.command;
+  there = l.there;
+  is = sym (same_next a b l.process f g) ∙ l.is;
+  attained = l.attained;
+}
+
+pub done_stays : (a b : Agenda) → b.plan ≡ a.plan → b.next ≡ a.next → IsDone b → IsDone a
+done_stays a b f g d = record { none = λ p low. sym (same_next a b p f g) ∙ d.none p low }
+
+-- what settles after a step settles for the step
+pub settles_from : (old mid new : World) → mid.agenda.phase ≡ old.agenda.phase → Settles mid new → Settles old new
+settles_from old mid new e s = record {
+  busy = λ q. s.busy q ∙ e;
+  done = λ d. s.done d ∙ e;
+  stays = λ least l below. s.stays least l (let x = e in omega arith) ∙ e;
+  opens = λ least q l below. s.opens least q l (let x = e in omega arith);
+}
+
+-- the next phase is open, where all is quiet
+pub settles_quiet : (old new : World) → IsQuiet new.system → new.agenda.plan ≡ old.agenda.plan → new.agenda.next ≡ old.agenda.next
+    → (IsDone old.agenda → new.agenda.phase ≡ old.agenda.phase)
+    → ((least : ℕ) → IsLeastPhase old.agenda least → least ≤ old.agenda.phase → new.agenda.phase ≡ old.agenda.phase)
+    → ((least : ℕ) → IsLeastPhase old.agenda least → old.agenda.phase ≤ least → new.agenda.phase ≡ least) → Settles old new
+settles_quiet old new quiet f g done stays opens = record {
+  busy = λ busy. absurd (busy quiet);
+  done = λ d. done (done_stays old.agenda new.agenda f g d);
+  stays = λ least l below. stays least (least_stays old.agenda new.agenda least f g l) below;
+  opens = λ least q l below. opens least (least_stays old.agenda new.agenda least f g l) below;
+}

@@ -1,0 +1,189 @@
+//! Which commands of a plan are done: each process does its own in order, and those of a later phase once that is open.
+
+ghost use Rattle.std.specs.Prelude.{◌≡◌, ◌≢◌, ◌<◌, ◌≤◌, ◌+◌, ◌-◌, ◌↔◌, ◌⊎◌, ℕ, Some, None, IsTrue, IfOk, IfSome, IfNone, length};
+ghost use Rattle.kt_plan.specs.Limits.{IsPlan, IsCommandOf};
+ghost use Rattle.kt_core.specs.Agendas.{place_of, next_command, if_open, open_command, IsNextOf, IsDone, IsLeastPhase, IsLeastBelow, ArePlaces};
+
+use kt_base::{Memory, ProcNo};
+use kt_plan::{Command, Plan};
+use std::alloc::Global;
+use std::marker::Model;
+
+/// The commands of a plan, the place of each process's next one, and the phase that is open.
+#[derive(Debug, Drop)]
+pub(crate) struct Agenda {
+    plan: Plan,
+    next: [usize; 64],
+    following: Vec<usize>,
+    phase: u32,
+}
+
+impl Model for Agenda {
+    ghost use Rattle.kt_core.specs.Agendas.{Agenda, IsAgenda};
+
+    ghost Value = { Agenda };
+
+    ghost view = { λ a. record { plan = a.plan; next = a.next; phase = a.phase } };
+
+    ghost invariant = { λ a. IsAgenda a.plan a.next a.following.items };
+}
+
+impl Agenda {
+    /// Nothing is done, and phase 0 is open.
+    pub(crate) fn new(alloc: Global, plan: Plan) -> Result<Agenda, Memory>
+        ensures plan { IfOk result (λ a. a.plan ≡ plan) }
+        ensures next { IfOk result (λ a. (p : ℕ) → p < 64 → IsNextOf plan.commands p 0 (place_of a p)) }
+        ensures phase { IfOk result (λ a. a.phase ≡ 0) }
+    {
+        let _size = plan.size();
+        let (next, following) = places(alloc, &plan.commands)?;
+        Ok(Agenda {
+            plan,
+            next,
+            following,
+            phase: 0,
+        })
+    }
+
+    /// The plan.
+    pub(crate) fn plan(&self) -> &Plan
+        ensures { result.now ≡ self.now.plan }
+    {
+        &self.plan
+    }
+
+    /// How many processes there are.
+    pub(crate) fn processes(&self) -> usize
+        ensures processes { result ≡ length self.now.plan.names }
+        ensures few { result ≤ 64 }
+    {
+        self.plan.size()
+    }
+
+    /// The place of a process's next command among all commands; their number where it has none.
+    pub(crate) fn place(&self, p: ProcNo) -> usize
+        ensures { result ≡ place_of self.now p }
+    {
+        self.next[p.index()]
+    }
+
+    /// A process's next command, if it has one.
+    fn next_command(&self, p: ProcNo) -> Option<Command>
+        ensures command { result ≡ next_command self.now p }
+        ensures allowed { IfSome result (IsCommandOf (length self.now.plan.names)) }
+        ensures own { IfSome result (λ command. command.by ≡ p) }
+    {
+        self.plan.commands.get(self.place(p)).copied()
+    }
+
+    /// A process's next command, if that is of the open phase.
+    pub(crate) fn open_command(&self, p: ProcNo) -> Option<Command>
+        ensures command { result ≡ open_command self.now p }
+        ensures allowed { IfSome result (IsCommandOf (length self.now.plan.names)) }
+        ensures own { IfSome result (λ command. command.by ≡ p) }
+    {
+        let command = self.next_command(p);
+        self.if_open(command)
+    }
+
+    /// A command, if it is of the open phase.
+    fn if_open(&self, command: Option<Command>) -> Option<Command>
+        ensures result { result ≡ if_open self.now.phase command }
+    {
+        match command {
+            Some(command) => {
+                if command.phase <= self.phase {
+                    Some(command)
+                } else {
+                    None
+                }
+            }
+            None => None,
+        }
+    }
+
+    /// A process's next command is done.
+    pub(crate) fn advance(&mut self, p: ProcNo)
+        ensures plan { self.new.plan ≡ self.old.plan }
+        ensures phase { self.new.phase ≡ self.old.phase }
+        ensures next { place_of self.old p < length self.old.plan.commands → IsNextOf self.old.plan.commands p (place_of self.old p + 1) (place_of self.new p) }
+        ensures others { (q : ℕ) → q ≢ p → place_of self.new q ≡ place_of self.old q }
+    {
+        let place = self.place(p);
+        if place < self.following.len() {
+            self.next[p.index()] = self.following[place];
+        }
+    }
+
+    /// The lesser of a phase and that of a process's next command.
+    fn and_phase(&self, least: Option<u32>, p: ProcNo) -> Option<u32>
+        ensures { IsLeastBelow self.now p least → IsLeastBelow self.now (p + 1) result }
+    {
+        match self.next_command(p) {
+            Some(command) => Some(lesser(least, command.phase)),
+            None => least,
+        }
+    }
+
+    /// The least phase of the commands that are not done, if there are any.
+    fn least_phase(&self) -> Option<u32>
+        ensures none { IfNone result (IsDone self.now) }
+        ensures least { IfSome result (IsLeastPhase self.now) }
+    {
+        let mut least = None;
+        for number in 0..64 {
+            least = self.and_phase(least, ProcNo::nth(number));
+        }
+        least
+    }
+
+    /// Whether all commands are done.
+    pub(crate) fn is_done(&self) -> bool
+        ensures { IsTrue result ↔ IsDone self.now }
+    {
+        self.least_phase().is_none()
+    }
+
+    /// The next phase that has commands opens, where those of the open phase are done.
+    pub(crate) fn open_next(&mut self)
+        ensures plan { self.new.plan ≡ self.old.plan }
+        ensures next { self.new.next ≡ self.old.next }
+        ensures done { IsDone self.old → self.new.phase ≡ self.old.phase }
+        ensures stays { (phase : ℕ) → IsLeastPhase self.old phase → phase ≤ self.old.phase → self.new.phase ≡ self.old.phase }
+        ensures opens { (phase : ℕ) → IsLeastPhase self.old phase → self.old.phase ≤ phase → self.new.phase ≡ phase }
+    {
+        if let Some(phase) = self.least_phase() {
+            self.phase = self.phase.max(phase);
+        }
+    }
+}
+
+/// The place of each process's first command, and by command that of the following one of the same process; the number of
+/// all commands where there is none.
+fn places(alloc: Global, commands: &[Command]) -> Result<([usize; 64], Vec<usize>), Memory>
+    ensures places { IfOk result (λ places. ArePlaces commands.now places.0 places.1.items 0) }
+{
+    let count = commands.len();
+    let mut next = [count; 64];
+    let mut following = vec![in alloc; count; count]?;
+    for back in 0..count {
+        let place = count - 1 - back;
+        let by = commands[place].by.index();
+        following[place] = next[by];
+        next[by] = place;
+    }
+    Ok((next, following))
+}
+
+/// The lesser of two numbers, of which the first may be missing.
+fn lesser(one: Option<u32>, other: u32) -> u32
+    ensures none { IfNone one (result ≡ other) }
+    ensures first { IfSome one (λ n. result ≤ n) }
+    ensures second { result ≤ other }
+    ensures either { IfSome one (λ n. (result ≡ n) ⊎ (result ≡ other)) }
+{
+    match one {
+        Some(one) => one.min(other),
+        None => other,
+    }
+}

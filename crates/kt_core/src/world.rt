@@ -1,0 +1,133 @@
+//! The world: what it holds, and what can be read of it.
+
+ghost use Rattle.std.specs.Prelude.{◌≡◌, ◌<◌, ◌≤◌, ◌^◌, ℕ, IfOk, length, nat_lt};
+ghost use Rattle.kt_fifo.specs.Channels.{channel};
+ghost use Rattle.kt_system.specs.Reads.{tally_of};
+ghost use Rattle.kt_core.specs.Worlds.{IsOpening};
+
+use crate::agenda::Agenda;
+use kt_base::{InstNo, Label, Memory, ProcNo, RowNo};
+use kt_plan::Plan;
+use kt_spacetime::SpaceTime;
+use kt_system::{System, Tally};
+use std::alloc::Global;
+use std::marker::Model;
+
+mod commands;
+mod looks;
+mod steps;
+
+/// A system of processes whose commands are those of a plan: which are done, and which may be done.
+#[derive(Drop)]
+pub struct World {
+    alloc: Global,
+    agenda: Agenda,
+    system: System,
+    limit: usize,
+}
+
+/// How many rows a log has at most.
+const MAX_ROWS: usize = RowNo::MAX as usize;
+
+impl Model for World {
+    ghost use Rattle.kt_core.specs.Worlds.{World, IsWorld};
+
+    ghost Value = { World };
+
+    ghost view = { λ w. record { agenda = w.agenda; system = w.system; limit = w.limit } };
+
+    ghost invariant = { λ w. IsWorld (record { agenda = w.agenda; system = w.system; limit = w.limit }) };
+}
+
+impl World {
+    /// The world in which nothing of a plan is done.
+    pub fn new(alloc: Global, plan: Plan) -> Result<World, Memory>
+        ensures { IfOk result (λ w. IsOpening w plan 0 (2 ^ 24)) }
+    {
+        World::make(alloc, plan, no_label(), MAX_ROWS)
+    }
+
+    /// The world in which nothing of a plan is done, where each process's labels come after `used`.
+    pub fn with_labels(alloc: Global, plan: Plan, used: Label) -> Result<World, Memory>
+        ensures { IfOk result (λ w. IsOpening w plan used (2 ^ 24)) }
+    {
+        World::make(alloc, plan, used, MAX_ROWS)
+    }
+
+    /// The world in which nothing of a plan is done, whose log is full at so many rows.
+    pub fn with_rows(alloc: Global, plan: Plan, limit: RowNo) -> Result<World, Memory>
+        ensures { IfOk result (λ w. IsOpening w plan 0 limit) }
+    {
+        World::make(alloc, plan, no_label(), limit.get() as usize)
+    }
+
+    /// The world in which nothing of a plan is done. There is room to count what instances put, of which there are no more
+    /// than commands.
+    fn make(alloc: Global, plan: Plan, used: Label, limit: usize) -> Result<World, Memory>
+        requires { limit ≤ 2 ^ 24 }
+        ensures { IfOk result (λ w. IsOpening w plan used limit) }
+    {
+        let size = plan.size();
+        let system = System::new(alloc, size, used, plan.commands.len())?;
+        let mut agenda = Agenda::new(alloc, plan)?;
+        agenda.open_next();
+        Ok(World {
+            alloc,
+            agenda,
+            system,
+            limit,
+        })
+    }
+
+    /// The plan.
+    pub fn plan(&self) -> &Plan
+        ensures { result.now ≡ self.now.agenda.plan }
+    {
+        self.agenda.plan()
+    }
+
+    /// The log.
+    pub fn log(&self) -> &SpaceTime
+        ensures { result.now ≡ self.now.system.rows }
+    {
+        self.system.log()
+    }
+
+    /// The log alone.
+    pub fn into_log(self) -> SpaceTime
+        ensures { result ≡ self.system.rows }
+    {
+        self.system.into_log()
+    }
+
+    /// How many parcels are in the channel from one process to another.
+    pub fn in_flight(&self, from: ProcNo, to: ProcNo) -> usize
+        ensures { from < self.now.system.size → to < self.now.system.size → result ≡ length (channel self.now.system.wires from to) }
+    {
+        if !self.is_there(from) || !self.is_there(to) {
+            return 0;
+        }
+        self.system.in_flight(from, to)
+    }
+
+    /// How many asks, replies and decisions of an instance were put into channels.
+    pub fn tally(&self, inst: InstNo) -> Tally
+        ensures { result ≡ tally_of self.now.system inst }
+    {
+        self.system.tally(inst)
+    }
+
+    /// Whether there is such a process.
+    fn is_there(&self, p: ProcNo) -> bool
+        ensures { result ≡ nat_lt p self.now.system.size }
+    {
+        p.index() < self.system.processes()
+    }
+}
+
+/// The label before the first one.
+fn no_label() -> Label
+    ensures { result ≡ 0 }
+{
+    Label::new(0).unwrap()
+}

@@ -1,0 +1,180 @@
+//! Which steps are enabled, and what they need.
+
+ghost use Rattle.std.specs.Prelude.{◌≡◌, ◌<◌, ◌+◌, ◌↔◌, ℕ, true, false, IsTrue, IfSome, IfNone};
+ghost use Rattle.kt_core.specs.Worlds.{enabled, can_do, look, look_of_step, lacks_label, is_send, IsAtRest, IsNextDo, IsFirstBelow, IsDefaultStep, IsNextStepOf, stepper};
+
+use super::World;
+use kt_base::ProcNo;
+use kt_plan::{Job, Look, Step};
+
+impl World {
+    /// Whether a step can be made.
+    pub fn enabled(&self, step: &Step) -> bool
+        ensures { result ≡ enabled self.now step.now }
+    {
+        match *step {
+            Step::Do(p) => self.is_there(p) && self.can_do(p),
+            Step::Take { at, from } => {
+                self.is_there(at) && self.is_there(from) && self.system.can_take(at, from)
+            }
+        }
+    }
+
+    /// Whether a process can do its next command.
+    fn can_do(&self, p: ProcNo) -> bool
+        requires { p < self.now.system.size }
+        ensures { result ≡ can_do self.now p }
+    {
+        let Some(command) = self.agenda.open_command(p) else {
+            return false;
+        };
+        !is_send(&command.job) || self.system.in_inst(p).is_none()
+    }
+
+    /// What a step needs of the process's object.
+    pub fn look(&self, step: &Step) -> Look
+        ensures { result ≡ look self.now step.now }
+    {
+        if !self.enabled(step) {
+            return Look::Idle;
+        }
+        match *step {
+            Step::Do(p) => self.look_at_command(p),
+            Step::Take { at, from } => {
+                if self.system.would_save(at, from) {
+                    Look::NeedsSave
+                } else {
+                    Look::Plain
+                }
+            }
+        }
+    }
+
+    /// What a process's next command needs of its object.
+    fn look_at_command(&self, p: ProcNo) -> Look
+        requires { p < self.now.system.size }
+        ensures { result ≡ look_of_step self.now (Step.Do p) }
+    {
+        let Some(command) = self.agenda.open_command(p) else {
+            return Look::Idle;
+        };
+        match command.job {
+            Job::Send { body: None, .. } => {
+                if self.system.is_up(p) {
+                    Look::NeedsBody
+                } else {
+                    Look::Plain
+                }
+            }
+            Job::Checkpoint => {
+                if self.system.is_up(p) && self.system.in_inst(p).is_none() {
+                    Look::NeedsSave
+                } else {
+                    Look::Plain
+                }
+            }
+            Job::Send { .. } | Job::Rollback | Job::Fail => Look::Plain,
+        }
+    }
+
+    /// Whether a step would send a message for which its sender has no label left.
+    pub(super) fn has_no_label(&self, step: &Step) -> bool
+        requires { enabled self.now step.now ≡ true }
+        ensures { result ≡ lacks_label self.now step.now }
+    {
+        let Step::Do(p) = *step else {
+            return false;
+        };
+        let Some(command) = self.agenda.open_command(p) else {
+            return false;
+        };
+        is_send(&command.job) && self.system.is_up(p) && self.system.is_spent(p)
+    }
+
+    /// Whether all is done: all commands, all channels and held lists are empty, and no process is in an instance.
+    pub fn at_rest(&self) -> bool
+        ensures { IsTrue result ↔ IsAtRest self.now }
+    {
+        self.agenda.is_done() && self.system.is_quiet()
+    }
+
+    /// The step that is made where none is given: the enabled `Take` with the least `at`, then the least `from`; with
+    /// none, the enabled `Do` whose command comes first.
+    pub fn default_step(&self) -> Option<Step>
+        ensures step { IfSome result (IsDefaultStep self.now) }
+        ensures enabled { IfSome result (λ step. enabled self.now step ≡ true) }
+        ensures none { IfNone result ((step : Step) → enabled self.now step ≡ false) }
+    {
+        match self.system.next_take() {
+            Some((at, from)) => Some(Step::Take { at, from }),
+            None => match self.first_do() {
+                Some(p) => Some(Step::Do(p)),
+                None => None,
+            },
+        }
+    }
+
+    /// The step that a process makes next where others make theirs: the enabled `Take` with the least `from`; with none, its
+    /// next command.
+    pub fn next_step_of(&self, p: ProcNo) -> Option<Step>
+        ensures step { IfSome result (IsNextStepOf self.now p) }
+        ensures enabled { IfSome result (λ step. enabled self.now step ≡ true) }
+        ensures none { IfNone result ((step : Step) → stepper step ≡ p → enabled self.now step ≡ false) }
+    {
+        if !self.is_there(p) {
+            return None;
+        }
+        match self.system.sender(p) {
+            Some(from) => Some(Step::Take { at: p, from }),
+            None => {
+                if self.can_do(p) {
+                    Some(Step::Do(p))
+                } else {
+                    None
+                }
+            }
+        }
+    }
+
+    /// The process whose next command comes first among those that can be done.
+    fn first_do(&self) -> Option<ProcNo>
+        ensures first { IfSome result (IsNextDo self.now) }
+        ensures none { IfNone result ((p : ℕ) → p < self.now.system.size → can_do self.now p ≡ false) }
+    {
+        let mut first = None;
+        for number in 0..self.system.processes() as u8 {
+            first = self.earlier(first, ProcNo::nth(number));
+        }
+        first
+    }
+
+    /// The process whose next command comes first: the first so far, or another one, if that can do its next command.
+    fn earlier(&self, first: Option<ProcNo>, p: ProcNo) -> Option<ProcNo>
+        requires { p < self.now.system.size }
+        ensures { IsFirstBelow self.now p first → IsFirstBelow self.now (p + 1) result }
+    {
+        if !self.can_do(p) {
+            return first;
+        }
+        match first {
+            Some(first) => {
+                if self.agenda.place(p) < self.agenda.place(first) {
+                    Some(p)
+                } else {
+                    Some(first)
+                }
+            }
+            None => Some(p),
+        }
+    }
+}
+
+/// Whether a command sends a message.
+fn is_send(job: &Job) -> bool
+    ensures { result ≡ is_send job.now }
+{
+    match job {
+        Job::Send { .. } => true,
+        Job::Checkpoint | Job::Rollback | Job::Fail => false,
+    }
+}

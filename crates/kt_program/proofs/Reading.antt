@@ -1,0 +1,89 @@
+-- What is read of a text, and what is made of it.
+use Rattle.std.proofs.Common.{◌≡◌, ◌<◌, ◌∙◌, ℕ, List, ◌++◌, Some, None, length, refl, sym, ap, subst, arith, inl, inr, append-nil, length-append}
+use Rattle.std.specs.Prelude.{IfSome, ◌≢◌}
+use Rattle.std.specs.Io.KnownBytes.{Consumes, IsAtEnd}
+use Rattle.kt_plan.specs.declared.steps.Step.{Step}
+use Rattle.kt_plan.specs.Limits.{Planned}
+use Rattle.kt_scenario.specs.Scenario.{IsScenario, IsFirstFault, most_bytes}
+use Rattle.kt_scenario.specs.Steps.{AreSteps, IsFirstStepFault, most_step_bytes}
+use Rattle.kt_scenario.specs.declared.fault.ScenarioFault.{ScenarioFault}
+use Rattle.kt_scenario.specs.declared.fault.ScenarioFault.TheVariants as scenario
+use Rattle.kt_scenario.specs.declared.fault.StepsFault.{StepsFault}
+use Rattle.kt_scenario.specs.declared.fault.StepsFault.TheVariants as steps
+use Rattle.kt_program.specs.Inputs.{AreStepsOf, IsRead, IsScenarioOf, IsScenarioRefusal, IsStepsRefusal, of_scenario, of_steps}
+use Rattle.kt_program.specs.Stored.{Told}
+
+-- a text that was read to its end
+pub read_whole : (most : ℕ) (old new : Told) (text : List ℕ) → Consumes old new text → IsAtEnd new → IsRead most old text
+read_whole most None new text c e = tt
+read_whole most (Some all) None text c e = absurd c
+read_whole most (Some all) (Some left) text c e = inl (sym (c ∙ ap (λ (l : List ℕ). text ++ l) e ∙ append-nil text))
+
+-- a text that was read until it was too long
+pub read_long : (most : ℕ) (old new : Told) (text : List ℕ) → Consumes old new text → most < length text → IsRead most old text
+read_long most None new text c l = tt
+read_long most (Some all) None text c l = absurd c
+read_long most (Some all) (Some left) text c l = inr (l, left, c)
+
+longer : (most : ℕ) (text rest whole : List ℕ) → whole ≡ text ++ rest → most < length text → most < length whole
+longer most text rest whole e l = let h = ap length e ∙ length-append text rest in omega (arith, h, l)
+
+-- the plan of what was read is that of the whole text
+pub plan_of_whole : (told : Told) (text : List ℕ) (plan : Planned) → IsRead most_bytes told text → IsScenario text plan → IsScenarioOf told plan
+plan_of_whole None text plan read is = tt
+plan_of_whole (Some whole) text plan (inl e) is = subst (λ (t : List ℕ). IsScenario t plan) e is
+plan_of_whole (Some whole) text plan (inr (l, rest, e)) is = let few = is.few in absurd (omega (arith, few, l))
+
+fault_in_whole : (text rest whole : List ℕ) (fault : ScenarioFault) → most_bytes < length text → whole ≡ text ++ rest → IsFirstFault text fault → IsFirstFault whole fault
+fault_in_whole text rest whole fault l e (inl first) = inl (first.0, longer most_bytes text rest whole e l)
+fault_in_whole text rest whole fault l e (inr first) = let few = first.3 in absurd (omega (arith, few, l))
+
+-- and so is its first fault
+pub fault_of_whole : (told : Told) (text : List ℕ) (fault : ScenarioFault) → IsRead most_bytes told text → IsFirstFault text fault → IfSome told (λ t. IsFirstFault t fault)
+fault_of_whole None text fault read is = tt
+fault_of_whole (Some whole) text fault (inl e) is = subst (λ (t : List ℕ). IsFirstFault t fault) e is
+fault_of_whole (Some whole) text fault (inr (l, rest, e)) is = fault_in_whole text rest whole fault l e is
+
+-- the same of steps
+pub steps_of_whole : (told : Told) (names : List (List ℕ)) (text : List ℕ) (list : List Step) → IsRead most_step_bytes told text → AreSteps names text list → AreStepsOf told names list
+steps_of_whole None names text list read is = tt
+steps_of_whole (Some whole) names text list (inl e) is = subst (λ (t : List ℕ). AreSteps names t list) e is
+steps_of_whole (Some whole) names text list (inr (l, rest, e)) is = let few = is.few in absurd (omega (arith, few, l))
+
+step_fault_in_whole : (names : List (List ℕ)) (text rest whole : List ℕ) (fault : StepsFault) → most_step_bytes < length text → whole ≡ text ++ rest
+    → IsFirstStepFault names text fault → IsFirstStepFault names whole fault
+step_fault_in_whole names text rest whole fault l e (inl first) = inl (first.0, longer most_step_bytes text rest whole e l)
+step_fault_in_whole names text rest whole fault l e (inr first) = let few = first.3 in absurd (omega (arith, few, l))
+
+pub step_fault_of_whole : (told : Told) (names : List (List ℕ)) (text : List ℕ) (fault : StepsFault) → IsRead most_step_bytes told text → IsFirstStepFault names text fault
+    → IfSome told (λ t. IsFirstStepFault names t fault)
+step_fault_of_whole None names text fault read is = tt
+step_fault_of_whole (Some whole) names text fault (inl e) is = subst (λ (t : List ℕ). IsFirstStepFault names t fault) e is
+step_fault_of_whole (Some whole) names text fault (inr (l, rest, e)) is = step_fault_in_whole names text rest whole fault l e is
+
+-- why a scenario is refused, as the program answers it
+pub scenario_refused : (told : Told) (text : List ℕ) (fault : ScenarioFault) → IsRead most_bytes told text → (fault ≢ scenario.Memory → IsFirstFault text fault)
+    → IsScenarioRefusal told (of_scenario fault)
+scenario_refused told text scenario.TooLong read is = (λ e. cc e, fault_of_whole told text scenario.TooLong read (is (λ e. cc e)))
+scenario_refused told text (scenario.Command n) read is = (λ e. cc e, fault_of_whole told text (scenario.Command n) read (is (λ e. cc e)))
+scenario_refused told text (scenario.Words n) read is = (λ e. cc e, fault_of_whole told text (scenario.Words n) read (is (λ e. cc e)))
+scenario_refused told text (scenario.Name n) read is = (λ e. cc e, fault_of_whole told text (scenario.Name n) read (is (λ e. cc e)))
+scenario_refused told text (scenario.Twice n) read is = (λ e. cc e, fault_of_whole told text (scenario.Twice n) read (is (λ e. cc e)))
+scenario_refused told text (scenario.KindWord n) read is = (λ e. cc e, fault_of_whole told text (scenario.KindWord n) read (is (λ e. cc e)))
+scenario_refused told text (scenario.TooManyObjects n) read is = (λ e. cc e, fault_of_whole told text (scenario.TooManyObjects n) read (is (λ e. cc e)))
+scenario_refused told text (scenario.Unknown n) read is = (λ e. cc e, fault_of_whole told text (scenario.Unknown n) read (is (λ e. cc e)))
+scenario_refused told text (scenario.Itself n) read is = (λ e. cc e, fault_of_whole told text (scenario.Itself n) read (is (λ e. cc e)))
+scenario_refused told text (scenario.Number n) read is = (λ e. cc e, fault_of_whole told text (scenario.Number n) read (is (λ e. cc e)))
+scenario_refused told text (scenario.TooManyCommands n) read is = (λ e. cc e, fault_of_whole told text (scenario.TooManyCommands n) read (is (λ e. cc e)))
+scenario_refused told text scenario.Memory read is = refl
+
+-- why steps are refused, as the program answers it
+pub steps_refused : (told : Told) (names : List (List ℕ)) (text : List ℕ) (fault : StepsFault) → IsRead most_step_bytes told text
+    → (fault ≢ steps.Memory → IsFirstStepFault names text fault) → IsStepsRefusal told names (of_steps fault)
+steps_refused told names text steps.TooLong read is = (λ e. cc e, step_fault_of_whole told names text steps.TooLong read (is (λ e. cc e)))
+steps_refused told names text (steps.Command n) read is = (λ e. cc e, step_fault_of_whole told names text (steps.Command n) read (is (λ e. cc e)))
+steps_refused told names text (steps.Words n) read is = (λ e. cc e, step_fault_of_whole told names text (steps.Words n) read (is (λ e. cc e)))
+steps_refused told names text (steps.Unknown n) read is = (λ e. cc e, step_fault_of_whole told names text (steps.Unknown n) read (is (λ e. cc e)))
+steps_refused told names text (steps.Itself n) read is = (λ e. cc e, step_fault_of_whole told names text (steps.Itself n) read (is (λ e. cc e)))
+steps_refused told names text (steps.TooMany n) read is = (λ e. cc e, step_fault_of_whole told names text (steps.TooMany n) read (is (λ e. cc e)))
+steps_refused told names text steps.Memory read is = refl

@@ -1,0 +1,7 @@
+use Rattle.kt_program.proofs.Commands.{subcommand_added}
+use Rattle.kt_program.proofs.ask.program_command.Goals as goal
+
+pub returns : goal.returns
+returns c =
+    let play = subcommand_added _ _ _ _ _ c.bare_command.ensures c.in_ok-play_command.ensures c.in_ok-subcommand.ensures in
+    subcommand_added _ _ _ _ _ play c.in_ok-check_command.ensures c.in_ok-command.ensures

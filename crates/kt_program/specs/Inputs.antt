@@ -1,0 +1,63 @@
+-- What the program makes of the texts of a scenario and of steps.
+use Rattle.std.specs.Prelude.{◌≡◌, ◌≢◌, ◌⊎◌, ◌<◌, ◌++◌, ℕ, List, length, IfSome}
+use Rattle.kt_text.specs.declared.fault.ReadFault.{ReadFault}
+use Rattle.kt_text.specs.declared.fault.ReadFault.TheVariants as read
+use Rattle.kt_plan.specs.declared.steps.Step.{Step}
+use Rattle.kt_plan.specs.Limits.{Planned}
+use Rattle.kt_scenario.specs.Scenario.{IsScenario, IsFirstFault}
+use Rattle.kt_scenario.specs.Steps.{AreSteps, IsFirstStepFault}
+use Rattle.kt_scenario.specs.declared.fault.ScenarioFault.{ScenarioFault}
+use Rattle.kt_scenario.specs.declared.fault.ScenarioFault.TheVariants as scenario
+use Rattle.kt_scenario.specs.declared.fault.StepsFault.{StepsFault}
+use Rattle.kt_scenario.specs.declared.fault.StepsFault.TheVariants as steps
+use Rattle.kt_program.specs.declared.fault.AppFault.TheVariants as app
+use Rattle.kt_program.specs.declared.fault.ProgramFault.{ProgramFault}
+use Rattle.kt_program.specs.declared.fault.ProgramFault.TheVariants as program
+use Rattle.kt_program.specs.Stored.{Told}
+
+-- a text is a whole one, or a part of it from its beginning that has more than so many bytes
+abbrev pub IsWholeOrLong : ℕ → List ℕ → List ℕ → Type 0
+IsWholeOrLong most whole text = (text ≡ whole) ⊎ ((most < length text) × (rest : List ℕ) × (whole ≡ text ++ rest))
+
+-- the text that is read of what a reader tells
+abbrev pub IsRead : ℕ → Told → List ℕ → Type 0
+IsRead most told text = IfSome told (λ whole. IsWholeOrLong most whole text)
+
+-- the bytes say this plan
+abbrev pub IsScenarioOf : Told → Planned → Type 0
+IsScenarioOf told plan = IfSome told (λ text. IsScenario text plan)
+
+-- the bytes say these steps of processes with these names
+abbrev pub AreStepsOf : Told → List (List ℕ) → List Step → Type 0
+AreStepsOf told names list = IfSome told (λ text. AreSteps names text list)
+
+-- why there is no plan: the first fault of the text; nothing is said of when a reader or memory fails
+abbrev pub IsScenarioRefusal : Told → ProgramFault → Type 0
+IsScenarioRefusal told (program.Scenario fault) = (fault ≢ scenario.Memory) × IfSome told (λ text. IsFirstFault text fault)
+IsScenarioRefusal told program.Read = Unit {0}
+IsScenarioRefusal told (program.App fault) = fault ≡ app.Memory
+IsScenarioRefusal told program.Line = ⊥
+IsScenarioRefusal told (program.Steps fault) = ⊥
+
+-- why there are no steps
+abbrev pub IsStepsRefusal : Told → List (List ℕ) → ProgramFault → Type 0
+IsStepsRefusal told names (program.Steps fault) = (fault ≢ steps.Memory) × IfSome told (λ text. IsFirstStepFault names text fault)
+IsStepsRefusal told names program.Read = Unit {0}
+IsStepsRefusal told names (program.App fault) = fault ≡ app.Memory
+IsStepsRefusal told names program.Line = ⊥
+IsStepsRefusal told names (program.Scenario fault) = ⊥
+
+-- why a text was not read, as the program answers it
+abbrev pub of_read : ReadFault → ProgramFault
+of_read read.Read = program.Read
+of_read read.Memory = program.App app.Memory
+
+-- a fault of a scenario, as the program answers it
+abbrev pub of_scenario : ScenarioFault → ProgramFault
+of_scenario scenario.Memory = program.App app.Memory
+of_scenario fault = program.Scenario fault
+
+-- a fault of a text of steps, as the program answers it
+abbrev pub of_steps : StepsFault → ProgramFault
+of_steps steps.Memory = program.App app.Memory
+of_steps fault = program.Steps fault

@@ -1,0 +1,94 @@
+-- What is written of a run.
+use Rattle.std.specs.Prelude.{◌≡◌, ◌≢◌, ◌⊎◌, ◌∷◌, ℕ, List, map}
+use Rattle.std.specs.Io.KnownBytes.{Appends}
+use Rattle.kt_spacetime.specs.declared.event.Event.{Event}
+use Rattle.kt_cuts.specs.Legal.{IsLegal}
+use Rattle.kt_text.specs.Writing.{text_of}
+use Rattle.kt_log_text.specs.Spelling.{spelling}
+use Rattle.kt_log_text.specs.Texts.{header}
+use Rattle.kt_chain.specs.Spelling.{records_of}
+use Rattle.kt_certify.specs.Certificates.{certificates}
+use Rattle.kt_certify.specs.Faults.{HasNoChain, IsFaultOf}
+use Rattle.kt_certify.specs.declared.fault.CertFault.{CertFault}
+use Rattle.kt_certify.specs.declared.fault.CertFault.TheVariants as certify
+use Rattle.kt_report.specs.Report.{WritesReport}
+use Rattle.kt_run.specs.declared.faults.RunFault.{RunFault}
+use Rattle.kt_run.specs.declared.faults.RunFault.TheVariants as run
+use Rattle.kt_program.specs.declared.fault.AppFault.{AppFault}
+use Rattle.kt_program.specs.declared.fault.AppFault.TheVariants as app
+use Rattle.kt_program.specs.Stored.{Told}
+
+-- what the three writers of a run hold, as far as they tell it
+pub record Outputs : Type 0 where
+  pub log : Told
+  pub certificates : Told
+  pub report : Told
+
+abbrev pub outputs : Told → Told → Told → Outputs
+outputs log certificates report = record { log = log; certificates = certificates; report = report }
+
+-- the text of a log of these rows is written
+abbrev pub WritesLog : Told → Told → List Event → Type 0
+WritesLog old new rows = Appends old new (text_of (header ∷ map spelling rows))
+
+-- the text of the certificates of such a log is written
+abbrev pub WritesCertificates : Told → Told → List Event → Type 0
+WritesCertificates old new rows = Appends old new (text_of (records_of (certificates rows)))
+
+-- a log, its certificates and its report are written: all of the same rows, which are legal, and no member of whose
+-- instances lacks a chain
+pub record IsPlayed (names : List (List ℕ)) (old new : Outputs) : Type 0 where
+  pub rows : List Event
+  pub legal : IsLegal rows
+  pub chained : (k p : ℕ) → HasNoChain rows k p → ⊥
+  pub writes_log : WritesLog old.log new.log rows
+  pub writes_certificates : WritesCertificates old.certificates new.certificates rows
+  pub writes_report : WritesReport old.report new.report names rows (certificates rows)
+
+-- a fault of a run, as the program answers it
+abbrev pub of_run : RunFault → AppFault
+of_run run.Memory = app.Memory
+of_run fault = app.Run fault
+
+-- why a log has no certificates, as the program answers it
+abbrev pub of_cert_fault : CertFault → AppFault
+of_cert_fault certify.Memory = app.Memory
+of_cert_fault fault = app.Uncertified fault
+
+-- a fault that comes of writing
+abbrev pub IsOfWriting : AppFault → Type 0
+IsOfWriting fault = (fault ≡ app.Write) ⊎ (fault ≡ app.Memory)
+
+-- nothing is written
+abbrev pub IsUnwritten : Outputs → Outputs → Type 0
+IsUnwritten old new = (new.log ≡ old.log) × (new.certificates ≡ old.certificates) × (new.report ≡ old.report)
+
+-- at most part of the log is written
+abbrev pub StopsInLog : Outputs → Outputs → Type 0
+StopsInLog old new = (new.certificates ≡ old.certificates) × (new.report ≡ old.report)
+
+-- the log is written, and at most part of the certificates
+abbrev pub StopsInCertificates : Outputs → Outputs → Type 0
+StopsInCertificates old new = ((rows : List Event) × WritesLog old.log new.log rows) × (new.report ≡ old.report)
+
+-- the log and the certificates of a legal run are written, and at most part of the report
+abbrev pub StopsInReport : Outputs → Outputs → Type 0
+StopsInReport old new = (rows : List Event) × IsLegal rows × WritesLog old.log new.log rows × WritesCertificates old.certificates new.certificates rows
+
+-- the log is written, which has this fault, and nothing else
+abbrev pub StopsUncertified : CertFault → Outputs → Outputs → Type 0
+StopsUncertified fault old new =
+    (rows : List Event) × IsFaultOf rows fault × WritesLog old.log new.log rows × (new.certificates ≡ old.certificates) × (new.report ≡ old.report)
+
+-- some part of them is written, in order
+abbrev pub StopsWithin : Outputs → Outputs → Type 0
+StopsWithin old new = StopsInLog old new ⊎ (StopsInCertificates old new ⊎ StopsInReport old new)
+
+-- what is written where a run is not played to its end
+abbrev pub StopsAt : Outputs → Outputs → AppFault → Type 0
+StopsAt old new (app.Run fault) = (fault ≢ run.Memory) × IsUnwritten old new
+StopsAt old new (app.Uncertified fault) = (fault ≢ certify.Memory) × StopsUncertified fault old new
+StopsAt old new app.Write = StopsWithin old new
+StopsAt old new app.Memory = StopsWithin old new
+StopsAt old new (app.Log fault) = ⊥
+StopsAt old new (app.Cert fault) = ⊥

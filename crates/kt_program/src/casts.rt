@@ -1,0 +1,140 @@
+//! The objects that a run begins with.
+
+ghost use Rattle.std.specs.Prelude.{◌≡◌, ◌<◌, ◌+◌, ℕ, Ok, IfOk, IfErr, OnOk, All, length, map};
+ghost use Rattle.kt_object.specs.Value.{opening};
+ghost use Rattle.kt_plan.specs.Limits.{IsKind};
+ghost use Rattle.kt_held.specs.Casts.{failures_of, HasSizes, HasKind};
+ghost use Rattle.kt_program.specs.CastRows.{IsCast};
+ghost use Rattle.kt_program.specs.Played.{IsPlayed, StopsAt, outputs};
+
+use crate::fault::AppFault;
+use crate::played::play_plan;
+use kt_base::Memory;
+use kt_held::Cast;
+use kt_object::{Last, Object, Recoverable, SlotBook, Sum, Tail};
+use kt_plan::{Command, Job, Plan, Step};
+use std::alloc::Global;
+use std::io::Write;
+
+/// What a run begins with, by process: what is made for the process, and a spare for each of its failures, each made for
+/// the kind of the process.
+pub fn cast_of<O: Drop, F: FnMut(u8) -> Result<O, Memory>>(
+    alloc: Global,
+    plan: &Plan,
+    mut make: F,
+) -> Result<Vec<Vec<O>>, Memory>
+    requires { (state : F) (kind : ℕ) → F.pre state kind }
+    ensures { IfOk result (λ cast. IsCast (λ kind object. (before after : F) × F.step before kind (Ok object) after)
+        plan.now.kinds plan.now.commands (map (λ row. row.items) cast.items)) }
+{
+    let kinds = plan.kinds.as_slice();
+    let mut cast = Vec::with_capacity(alloc, kinds.len())?;
+    for number in 0..kinds.len() {
+        let spares = failures(&plan.commands, number);
+        let row = row_of(alloc, &mut make, kinds[number], spares)?;
+        cast.push(row)?;
+    }
+    Ok(cast)
+}
+
+// What is made for one process of a kind, with so many spares.
+fn row_of<O: Drop, F: FnMut(u8) -> Result<O, Memory>>(
+    alloc: Global,
+    make: &mut F,
+    kind: u8,
+    spares: usize,
+) -> Result<Vec<O>, Memory>
+    requires { (state : F) (kind : ℕ) → F.pre state kind }
+    ensures count { IfOk result (λ row. length row.items ≡ spares + 1) }
+    ensures made { IfOk result (λ row. All (λ object. (before after : F) × F.step before kind (Ok object) after) row.items) }
+{
+    let mut row = Vec::new(alloc);
+    row.push(make(kind)?)?;
+    for _number in 0..spares {
+        row.push(make(kind)?)?;
+    }
+    Ok(row)
+}
+
+// How often a process is to fail.
+fn failures(commands: &[Command], p: usize) -> usize
+    ensures { result ≡ failures_of commands.now p }
+{
+    commands
+        .iter()
+        .filter(|command| command.by.index() == p && command.job == Job::Fail)
+        .count()
+}
+
+/// Plays a run of a plan as `play_plan` does, over new objects of the plan's kinds.
+pub fn play_objects<L: Write, C: Write, R: Write>(
+    alloc: Global,
+    plan: &Plan,
+    steps: &[Step],
+    log_writer: &mut L,
+    cert_writer: &mut C,
+    report_writer: &mut R,
+) -> Result<(), AppFault>
+    ensures played { OnOk result (IsPlayed plan.now.names
+        (outputs (L.contents log_writer.old) (C.contents cert_writer.old) (R.contents report_writer.old))
+        (outputs (L.contents log_writer.new) (C.contents cert_writer.new) (R.contents report_writer.new))) }
+    ensures stopped { IfErr result (StopsAt
+        (outputs (L.contents log_writer.old) (C.contents cert_writer.old) (R.contents report_writer.old))
+        (outputs (L.contents log_writer.new) (C.contents cert_writer.new) (R.contents report_writer.new))) }
+{
+    let _processes = plan.size();
+    let mut book = SlotBook::new(alloc);
+    let make = |kind: u8| -> Result<Object, Memory>
+        ensures kind { IfOk result (λ object. IsKind kind → kind_of object ≡ kind) }
+        ensures value { IfOk result (λ object. IsKind kind → value_of object ≡ opening kind) }
+    {
+        let guard = book.open()?;
+        match kind {
+            0 => Ok(Box::new(alloc, Sum::new(guard))?),
+            1 => Ok(Box::new(alloc, Last::new(guard))?),
+            _ => Ok(Box::new(alloc, Tail::new(guard))?),
+        }
+    };
+    let cast = cast_of(alloc, plan, make)?;
+    play_cast(
+        alloc,
+        plan,
+        steps,
+        cast,
+        log_writer,
+        cert_writer,
+        report_writer,
+    )
+}
+
+// Plays a run over objects that the plan asks for, at their opening values.
+fn play_cast<L: Write, C: Write, R: Write>(
+    alloc: Global,
+    plan: &Plan,
+    steps: &[Step],
+    cast: Cast,
+    log_writer: &mut L,
+    cert_writer: &mut C,
+    report_writer: &mut R,
+) -> Result<(), AppFault>
+    requires sizes { HasSizes plan.now.kinds plan.now.commands (map (λ row. map (λ b. kind_of b) row.items) cast.items) }
+    requires kinds { (p : ℕ) → p < length plan.now.kinds →
+        HasKind plan.now.kinds (map (λ row. map (λ b. kind_of b) row.items) cast.items) p }
+    requires opening { All (λ row. All (λ b. value_of b ≡ opening (kind_of b)) row.items) cast.items }
+    ensures played { OnOk result (IsPlayed plan.now.names
+        (outputs (L.contents log_writer.old) (C.contents cert_writer.old) (R.contents report_writer.old))
+        (outputs (L.contents log_writer.new) (C.contents cert_writer.new) (R.contents report_writer.new))) }
+    ensures stopped { IfErr result (StopsAt
+        (outputs (L.contents log_writer.old) (C.contents cert_writer.old) (R.contents report_writer.old))
+        (outputs (L.contents log_writer.new) (C.contents cert_writer.new) (R.contents report_writer.new))) }
+{
+    play_plan(
+        alloc,
+        plan,
+        steps,
+        cast,
+        log_writer,
+        cert_writer,
+        report_writer,
+    )
+}

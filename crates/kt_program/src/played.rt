@@ -1,0 +1,156 @@
+//! Runs played: what is written of them.
+
+ghost use Rattle.std.specs.Prelude.{◌≡◌, ◌≢◌, ℕ, IfOk, IfErr, OnOk, All};
+ghost use Rattle.std.specs.Io.KnownBytes.{Appends};
+ghost use Rattle.kt_cuts.specs.Legal.{IsLegal};
+ghost use Rattle.kt_chain.specs.Spelling.{HasShortChains, records_of};
+ghost use Rattle.kt_certify.specs.Certificates.{certificates};
+ghost use Rattle.kt_certify.specs.Faults.{HasNoChain, IsFaultOf};
+ghost use Rattle.kt_report.specs.Report.{WritesReport};
+ghost use Rattle.kt_text.specs.Writing.{text_of};
+ghost use Rattle.kt_certify.specs.declared.fault.CertFault.{CertFault};
+ghost use Rattle.kt_certify.specs.declared.fault.CertFault.TheVariants as certify_fault;
+ghost use Rattle.kt_run.specs.declared.faults.RunFault.{RunFault};
+ghost use Rattle.kt_run.specs.declared.faults.RunFault.TheVariants as run_fault;
+ghost use Rattle.kt_program.specs.declared.fault.AppFault.TheVariants as app;
+ghost use Rattle.kt_program.specs.Played.{IsOfWriting, IsPlayed, StopsAt, WritesLog, WritesCertificates, outputs, of_cert_fault, of_run};
+
+use crate::fault::AppFault;
+use kt_certify::{CertFault, certify};
+use kt_chain::{Certificate, write_certs};
+use kt_held::Cast;
+use kt_log_text::write_csv;
+use kt_plan::{Plan, Step};
+use kt_report::report;
+use kt_run::{RunFault, log_of};
+use kt_spacetime::SpaceTime;
+use kt_text::WriteFault;
+use std::alloc::Global;
+use std::io::Write;
+
+/// Plays a run of a plan over these objects, the steps given first, and writes its log, then its certificates, then its
+/// report. Each writer is flushed.
+///
+/// What was written before a fault stays.
+pub fn play_plan<L: Write, C: Write, R: Write>(
+    alloc: Global,
+    plan: &Plan,
+    steps: &[Step],
+    cast: Cast,
+    log_writer: &mut L,
+    cert_writer: &mut C,
+    report_writer: &mut R,
+) -> Result<(), AppFault>
+    // There is one list of rows, and it is legal, of which all three are written.
+    ensures played { OnOk result (IsPlayed plan.now.names
+        (outputs (L.contents log_writer.old) (C.contents cert_writer.old) (R.contents report_writer.old))
+        (outputs (L.contents log_writer.new) (C.contents cert_writer.new) (R.contents report_writer.new))) }
+    // Where it stops: nothing is written of what comes later, and all of what comes earlier.
+    ensures stopped { IfErr result (StopsAt
+        (outputs (L.contents log_writer.old) (C.contents cert_writer.old) (R.contents report_writer.old))
+        (outputs (L.contents log_writer.new) (C.contents cert_writer.new) (R.contents report_writer.new))) }
+{
+    let log = run_plan(alloc, plan, steps, cast)?;
+    write_log(alloc, &log, log_writer)?;
+    let certificates = log_certificates(alloc, &log)?;
+    write_certificates(alloc, certificates.as_slice(), cert_writer)?;
+    write_report(alloc, plan, &log, certificates.as_slice(), report_writer)
+}
+
+// The log of a run.
+fn run_plan(alloc: Global, plan: &Plan, steps: &[Step], cast: Cast) -> Result<SpaceTime, AppFault>
+    ensures { IfErr result (λ e. (f : RunFault) × (e ≡ of_run f)) }
+{
+    match log_of(alloc, plan, steps, cast) {
+        Ok(log) => Ok(log),
+        Err(fault) => Err(run_fault(fault)),
+    }
+}
+
+// Writes a log.
+fn write_log<L: Write>(alloc: Global, log: &SpaceTime, writer: &mut L) -> Result<(), AppFault>
+    ensures written { OnOk result (WritesLog (L.contents writer.old) (L.contents writer.new) log.now.rows) }
+    ensures fault { IfErr result IsOfWriting }
+{
+    match write_csv(alloc, log, writer) {
+        Ok(()) => Ok(()),
+        Err(fault) => Err(writing_fault(fault)),
+    }
+}
+
+// The certificates of a log.
+fn log_certificates(alloc: Global, log: &SpaceTime) -> Result<Vec<Certificate>, AppFault>
+    ensures certificates { IfOk result (λ list. list.items ≡ certificates log.now.rows) }
+    ensures legal { OnOk result (IsLegal log.now.rows) }
+    ensures chained { OnOk result ((k p : ℕ) → HasNoChain log.now.rows k p → ⊥) }
+    ensures short { IfOk result (λ list. All HasShortChains list.items) }
+    ensures fault { IfErr result (λ e. (f : CertFault) × (e ≡ of_cert_fault f) × IsFaultOf log.now.rows f) }
+{
+    match certify(alloc, log) {
+        Ok(certificates) => Ok(certificates),
+        Err(fault) => Err(certify_fault(fault)),
+    }
+}
+
+// Writes the certificates of a log.
+fn write_certificates<C: Write>(
+    alloc: Global,
+    certificates: &[Certificate],
+    writer: &mut C,
+) -> Result<(), AppFault>
+    requires { All HasShortChains certificates.now }
+    ensures written { OnOk result (Appends (C.contents writer.old) (C.contents writer.new) (text_of (records_of certificates.now))) }
+    ensures fault { IfErr result IsOfWriting }
+{
+    match write_certs(alloc, certificates, writer) {
+        Ok(()) => Ok(()),
+        Err(fault) => Err(writing_fault(fault)),
+    }
+}
+
+// Writes the report of a run.
+fn write_report<R: Write>(
+    alloc: Global,
+    plan: &Plan,
+    log: &SpaceTime,
+    certificates: &[Certificate],
+    writer: &mut R,
+) -> Result<(), AppFault>
+    ensures written { OnOk result (WritesReport (R.contents writer.old) (R.contents writer.new) plan.now.names log.now.rows certificates.now) }
+    ensures fault { IfErr result IsOfWriting }
+{
+    match report(alloc, plan, log, certificates, writer) {
+        Ok(()) => Ok(()),
+        Err(fault) => Err(writing_fault(fault)),
+    }
+}
+
+// A fault of a run; its want of memory is the program's own.
+fn run_fault(fault: RunFault) -> AppFault
+    ensures { result ≡ of_run fault }
+{
+    match fault {
+        RunFault::Memory => AppFault::Memory,
+        _ => AppFault::Run(fault),
+    }
+}
+
+// Why a log has no certificates; want of memory is the program's own.
+fn certify_fault(fault: CertFault) -> AppFault
+    ensures { result ≡ of_cert_fault fault }
+{
+    match fault {
+        CertFault::Memory => AppFault::Memory,
+        _ => AppFault::Uncertified(fault),
+    }
+}
+
+// A fault of a writer; its want of memory is the program's own.
+fn writing_fault(fault: WriteFault) -> AppFault
+    ensures { IsOfWriting result }
+{
+    match fault {
+        WriteFault::Write => AppFault::Write,
+        WriteFault::Memory => AppFault::Memory,
+    }
+}

@@ -1,0 +1,67 @@
+//! A scenario played from its files.
+
+ghost use Rattle.std.specs.Prelude.{◌≡◌, ◌≢◌, IfErr};
+ghost use Rattle.kt_program.specs.declared.fault.AppFault.TheVariants as app;
+ghost use Rattle.kt_program.specs.declared.fault.ProgramFault.TheVariants as program;
+ghost use Rattle.kt_program.specs.Ending.{IsOfInput, LeavesPlayed};
+
+use crate::casts::play_objects;
+use crate::fault::ProgramFault;
+use crate::inputs::{read_scenario, read_steps};
+use crate::outputs::output_of;
+use kt_plan::{Plan, Step};
+use std::alloc::Global;
+use std::fs;
+use std::io::Write;
+use std::rt::Files;
+
+/// Plays the scenario in a file, with the steps of another one first, if that is named, and writes its log and its
+/// certificates into files where these are named, and its report.
+///
+/// Files are made once the scenario and the steps were taken.
+pub(crate) fn play_files<F: Files, O: Write>(
+    files: &F,
+    alloc: Global,
+    scenario: &str,
+    steps: Option<&str>,
+    log: Option<&str>,
+    cert: Option<&str>,
+    out: &mut O,
+) -> Result<(), ProgramFault>
+    ensures { LeavesPlayed result (O.contents out.old) (O.contents out.new) }
+{
+    let plan = scenario_in(files, alloc, scenario)?;
+    let steps = steps_in(files, alloc, steps, &plan)?;
+    let mut log = output_of(files, log)?;
+    let mut cert = output_of(files, cert)?;
+    play_objects(alloc, &plan, steps.as_slice(), &mut log, &mut cert, out)?;
+    Ok(())
+}
+
+// The plan of the scenario in this file.
+fn scenario_in<F: Files>(files: &F, alloc: Global, name: &str) -> Result<Plan, ProgramFault>
+    ensures { IfErr result IsOfInput }
+{
+    let Ok(file) = fs::open(files, name) else {
+        return Err(ProgramFault::Read);
+    };
+    read_scenario(alloc, file)
+}
+
+// The steps in this file; none where none is named.
+fn steps_in<F: Files>(
+    files: &F,
+    alloc: Global,
+    name: Option<&str>,
+    plan: &Plan,
+) -> Result<Vec<Step>, ProgramFault>
+    ensures { IfErr result IsOfInput }
+{
+    let Some(name) = name else {
+        return Ok(Vec::new(alloc));
+    };
+    let Ok(file) = fs::open(files, name) else {
+        return Err(ProgramFault::Read);
+    };
+    read_steps(alloc, file, plan)
+}

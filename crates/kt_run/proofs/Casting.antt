@@ -1,0 +1,24 @@
+-- The faults of the objects that a run begins with.
+use Rattle.std.proofs.Common.{◌≡◌, ◌≢◌, ◌<◌, ℕ, List, false, length, refl}
+use Rattle.kt_held.specs.Casts.{HasSizes, HasKind, is_checked}
+use Rattle.kt_held.specs.declared.faults.CastFault.{CastFault}
+use Rattle.kt_held.specs.declared.faults.CastFault.TheVariants as cast
+use Rattle.kt_plan.specs.Limits.{Planned}
+use Rattle.kt_run.specs.Faults.{Answers, of_cast}
+
+pub answered : (plan : Planned) (given : List (List ℕ)) (fault : CastFault)
+    → (fault ≡ cast.Size → ¬ HasSizes plan.kinds plan.commands given)
+    → (fault ≢ cast.Size → HasSizes plan.kinds plan.commands given)
+    → ((p : ℕ) → fault ≡ cast.Kind p → (p < length plan.kinds) × (¬ HasKind plan.kinds given p))
+    → ((p q : ℕ) → fault ≡ cast.Kind p → q < p → HasKind plan.kinds given q)
+    → (is_checked fault ≡ false → (p : ℕ) → p < length plan.kinds → HasKind plan.kinds given p)
+    → Answers plan given (of_cast fault)
+answered plan given cast.Size size fit kind least later = size refl
+answered plan given (cast.Kind p) size fit kind least later = record {
+  sizes = fit (λ e. absurd (cc e));
+  there = (kind p refl).0;
+  other = (kind p refl).1;
+  least = λ q l. least p q refl l;
+}
+answered plan given (cast.Object p) size fit kind least later = record { sizes = fit (λ e. absurd (cc e)); kinds = later refl }
+answered plan given cast.Memory size fit kind least later = record { sizes = fit (λ e. absurd (cc e)); kinds = later refl }

@@ -1,0 +1,48 @@
+//! Serial runs.
+
+ghost use Rattle.std.specs.Prelude.{map, OnOk, IfErr};
+ghost use Rattle.kt_run.specs.Faults.{IsCast, Answers};
+
+use crate::faults::RunFault;
+use crate::journals::Journals;
+use crate::stage::Stage;
+use kt_held::{Cast, Held};
+use kt_object::Recoverable;
+use kt_plan::{Plan, Step, Told};
+use kt_spacetime::SpaceTime;
+use std::alloc::Global;
+
+/// What is left of a run: its log, what each process was told, each once and in order, and what each one holds.
+#[derive(Drop)]
+pub struct Outcome {
+    pub log: SpaceTime,
+    pub told: Vec<Vec<Told>>,
+    pub objects: Vec<Held>,
+}
+
+/// Runs a plan over these objects: the steps given, then default steps until there is none.
+///
+/// `CastSize` and `CastKind` come before anything is saved and any memory is taken. After a fault the objects are dropped.
+pub fn run(alloc: Global, plan: &Plan, steps: &[Step], cast: Cast) -> Result<Outcome, RunFault>
+    ensures cast { OnOk result (IsCast plan.now (map (λ row. map (λ b. kind_of b) row.items) cast.items)) }
+    ensures fault { IfErr result (Answers plan.now (map (λ row. map (λ b. kind_of b) row.items) cast.items)) }
+{
+    let mut stage = Stage::begin(alloc, plan, cast)?;
+    stage.keep_journals()?;
+    stage.make_all(steps)?;
+    Ok(Outcome {
+        log: stage.world.into_log(),
+        told: stage.journals.lists,
+        objects: stage.objects,
+    })
+}
+
+/// The log of a run as `run` makes it, with no list of what the processes were told.
+pub fn log_of(alloc: Global, plan: &Plan, steps: &[Step], cast: Cast) -> Result<SpaceTime, RunFault>
+    ensures cast { OnOk result (IsCast plan.now (map (λ row. map (λ b. kind_of b) row.items) cast.items)) }
+    ensures fault { IfErr result (Answers plan.now (map (λ row. map (λ b. kind_of b) row.items) cast.items)) }
+{
+    let mut stage = Stage::begin(alloc, plan, cast)?;
+    stage.make_all(steps)?;
+    Ok(stage.world.into_log())
+}

@@ -1,0 +1,131 @@
+-- Which parcels can be taken, and who is the first to take one.
+use Rattle.std.specs.Prelude.{◌⊎◌, ◌||◌, ◌&&◌, not, Option, Some, None, min, if◌then◌else◌, is_some, slice_get, nat_lt, IfSome, IfNone}
+use Rattle.std.specs.Option.{option_or}
+use Rattle.std.proofs.Common.{◌≡◌, ◌<◌, ◌≤◌, ℕ, Bool, true, false, List, [], ◌∷◌, refl, arith, sym, ap, subst, inl, inr, ◌∙◌}
+use Rattle.std.proofs.lemmas.Bool.{cases_lt, cases_eq, ltb-true, or_cases, or_left, or_right, and_from, and_parts, false_from_ne_true}
+use Rattle.kt_base.specs.Sets.{has}
+use Rattle.kt_fifo.specs.Channels.{Wires, channel}
+use Rattle.kt_fifo.specs.Queues.{Queue, no_queue, has_parcel}
+use Rattle.kt_fifo.specs.declared.parcels.Parcel.{Parcel}
+use Rattle.kt_process.specs.Persons.{is_ready}
+use Rattle.kt_system.specs.Systems.{Whole, person}
+use Rattle.kt_system.specs.Reads.{next_parcel, can_take, IsNextTake, HasNoTake}
+use Rattle.kt_system.specs.Takes.{is_sent, is_held, WithSome, IsFirst, lesser}
+
+both_tests : (a b : Bool) (x : Queue) → has_parcel (if a && b then x else no_queue).parcels ≡ true → (a ≡ true) × (b ≡ true)
+both_tests true true x e = (refl, refl)
+both_tests true false x e = absurd (cc)
+both_tests false b x e = absurd (cc)
+
+-- a list that has a parcel is between processes that there are
+pub pair_within : (w : Wires) (from to : ℕ) → has_parcel (channel w from to) ≡ true → (from < w.processes) × (to < w.processes)
+pair_within w from to e =
+    let t = both_tests (nat_lt from w.processes) (nat_lt to w.processes) _ e in
+    (ltb-true from w.processes t.0, ltb-true to w.processes t.1)
+
+none_there : (l : List Parcel) → (has_parcel l ≡ true → l ≡ []) → l ≡ []
+none_there [] f = refl
+none_there (x ∷ xs) f = f refl
+
+-- nothing is in a list to a process that there is not
+pub past_end : (w : Wires) (from to : ℕ) → w.processes ≤ to → channel w from to ≡ []
+past_end w from to h = none_there (channel w from to) (λ e. absurd (let t = pair_within w from to e in omega arith))
+
+-- no list has a parcel, if none does between processes that there are
+pub empty_everywhere : (w : Wires) → ((p q : ℕ) → p < w.processes → q < w.processes → channel w p q ≡ []) → (p q : ℕ) → channel w p q ≡ []
+empty_everywhere w h p q = none_there (channel w p q) (λ e. let t = pair_within w p q e in h p q t.0 t.1)
+
+taken_if : (r : Bool) (held sent : List Parcel) → is_some (option_or (if r then None else slice_get held 0) (slice_get sent 0)) ≡ (has_parcel sent || (not r && has_parcel held))
+taken_if true held [] = refl
+taken_if true held (x ∷ xs) = refl
+taken_if false [] [] = refl
+taken_if false [] (x ∷ xs) = refl
+taken_if false (y ∷ ys) [] = refl
+taken_if false (y ∷ ys) (x ∷ xs) = refl
+
+-- what can be taken is in the channel, or held
+pub can_take_either : (w : Whole) (at from : ℕ) → can_take w at from ≡ (is_sent w at from || is_held w at from)
+unfolding next_parcel
+can_take_either w at from = taken_if (is_ready (person w at).side) (channel w.held from at) (channel w.wires from at)
+
+-- the lesser of the least with one property and the least with another is the least with either
+first_of_either : (P Q R : ℕ → Type 0) (a b : Option ℕ) → ((n : ℕ) → P n → R n) → ((n : ℕ) → Q n → R n) → ((n : ℕ) → R n → P n ⊎ Q n) → IsFirst P a → IsFirst Q b → IsFirst R (lesser a b)
+first_of_either P Q R None None f g h x y = λ n r. elim (h n r) [ inl p ↦ x n p | inr q ↦ y n q ]
+first_of_either P Q R None (Some n) f g h x y = (g n y.0, λ k l r. elim (h k r) [ inl p ↦ x k p | inr q ↦ y.1 k l q ])
+first_of_either P Q R (Some m) None f g h x y = (f m x.0, λ k l r. elim (h k r) [ inl p ↦ x.1 k l p | inr q ↦ y k q ])
+first_of_either P Q R (Some m) (Some n) f g h x y = (
+  elim (cases_lt n m) [
+    | inl l ↦ let e : n ≡ min m n = omega arith in subst R e (g n y.0)
+    | inr l ↦ let e : m ≡ min m n = omega arith in subst R e (f m x.0)
+  ],
+  λ k l r. elim (h k r) [ inl p ↦ x.1 k (omega arith) p | inr q ↦ y.1 k (omega arith) q ],
+)
+
+either : (w : Whole) (at from : ℕ) → can_take w at from ≡ true → (is_sent w at from ≡ true) ⊎ (is_held w at from ≡ true)
+either w at from e = or_cases _ _ (sym (can_take_either w at from) ∙ e)
+
+if_sent : (w : Whole) (at from : ℕ) → is_sent w at from ≡ true → can_take w at from ≡ true
+if_sent w at from e = can_take_either w at from ∙ or_left _ _ e
+
+if_held : (w : Whole) (at from : ℕ) → is_held w at from ≡ true → can_take w at from ≡ true
+if_held w at from e = can_take_either w at from ∙ or_right _ _ e
+
+pub first_taker : (w : Whole) (a b : Option ℕ) → IsFirst (WithSome (is_sent w)) a → IsFirst (WithSome (is_held w)) b → IsFirst (WithSome (can_take w)) (lesser a b)
+first_taker w a b x y = first_of_either (WithSome (is_sent w)) (WithSome (is_held w)) (WithSome (can_take w)) a b
+    (λ n s. (s.0, if_sent w n s.0 s.1)) (λ n s. (s.0, if_held w n s.0 s.1))
+    (λ n s. elim (either w n s.0 s.1) [ inl e ↦ inl (s.0, e) | inr e ↦ inr (s.0, e) ]) x y
+
+pub first_sender : (w : Whole) (at : ℕ) (a b : Option ℕ) → IsFirst (λ from. is_sent w at from ≡ true) a → IsFirst (λ from. is_held w at from ≡ true) b → IsFirst (λ from. can_take w at from ≡ true) (lesser a b)
+first_sender w at a b x y = first_of_either (λ from. is_sent w at from ≡ true) (λ from. is_held w at from ≡ true) (λ from. can_take w at from ≡ true) a b
+    (λ n s. if_sent w at n s) (λ n s. if_held w at n s) (λ n s. either w at n s) x y
+
+pub lesser_within : (n : ℕ) (a b : Option ℕ) → IfSome a (λ p. p < n) → IfSome b (λ p. p < n) → IfSome (lesser a b) (λ p. p < n)
+lesser_within n None b x y = y
+lesser_within n (Some p) None x y = x
+lesser_within n (Some p) (Some q) x y = omega arith
+
+-- the first of a set whose members pass a test
+pub first_of_set : (test : ℕ → Bool) (set : ℕ) (r : Option ℕ) → ((q : ℕ) → has set q ≡ test q) → IfSome r (λ p. has set p ≡ true) → IfSome r (λ p. (q : ℕ) → q < p → has set q ≡ false) → IfNone r ((q : ℕ) → has set q ≡ false) →
+    IsFirst (λ q. test q ≡ true) r
+first_of_set test set None same m l n = λ q e. cc (same q, n q)
+first_of_set test set (Some p) same m l n = (sym (same p) ∙ m, λ q k e. cc (same q, l q k))
+
+receiver_first : (w : Whole) (set : ℕ) (r : Option ℕ) → ((to : ℕ) → has set to ≡ true → (from : ℕ) × (has_parcel (channel w.wires from to) ≡ true)) → ((from to : ℕ) → has set to ≡ false → channel w.wires from to ≡ []) →
+    IfSome r (λ p. has set p ≡ true) → IfSome r (λ p. (q : ℕ) → q < p → has set q ≡ false) → IfNone r ((q : ℕ) → has set q ≡ false) → IsFirst (WithSome (is_sent w)) r
+receiver_first w set None some none m l n = λ q s. cc (s.1, ap has_parcel (none s.0 q (n q)))
+receiver_first w set (Some p) some none m l n = (some p m, λ q k s. cc (s.1, ap has_parcel (none s.0 q (l q k))))
+
+-- the first of those to whom a parcel is in a channel
+pub first_receiver : (w seen : Whole) (set : ℕ) (r : Option ℕ) → w ≡ seen → ((to : ℕ) → has set to ≡ true → (from : ℕ) × (has_parcel (channel w.wires from to) ≡ true)) → ((from to : ℕ) → has set to ≡ false → channel w.wires from to ≡ []) →
+    IfSome r (λ p. has set p ≡ true) → IfSome r (λ p. (q : ℕ) → q < p → has set q ≡ false) → IfNone r ((q : ℕ) → has set q ≡ false) → IsFirst (WithSome (is_sent seen)) r
+first_receiver w seen set r v some none m l n = subst (λ (s : Whole). IsFirst (WithSome (is_sent s)) r) v (receiver_first w set r some none m l n)
+
+pub held_for : (w : Whole) (at from : ℕ) → is_ready (person w at).side ≡ false → has_parcel (channel w.held from at) ≡ true → is_held w at from ≡ true
+held_for w at from r e = and_from _ _ (ap not r) e
+
+pub not_held : (w : Whole) (at : ℕ) → ((from : ℕ) → channel w.held from at ≡ []) → ¬ WithSome (is_held w) at
+not_held w at e s = let t = and_parts (not (is_ready (person w at).side)) (has_parcel (channel w.held s.0 at)) s.1 in cc (t.1, ap has_parcel (e s.0))
+
+pub not_held_if_ready : (w : Whole) (at : ℕ) → is_ready (person w at).side ≡ true → ¬ WithSome (is_held w) at
+not_held_if_ready w at r s = let t = and_parts (not (is_ready (person w at).side)) (has_parcel (channel w.held s.0 at)) s.1 in cc (t.0, ap not r)
+
+-- the least process that can take a parcel, with the least from which it can
+pub next_take_is : (w : Whole) (at from : ℕ) → at < w.size → from < w.size → IsFirst (WithSome (can_take w)) (Some at) → IsFirst (λ q. can_take w at q ≡ true) (Some from) → IsNextTake w at from
+next_take_is w at from a b x y = record {
+  taker = a;
+  sender = b;
+  takeable = y.0;
+  least = λ p q _ _ e. elim (cases_lt at p) [
+    | inl l ↦ inl l
+    | inr l ↦ elim (cases_eq at p) [
+      | inl s ↦ elim (cases_lt q from) [
+        | inl k ↦ absurd (y.1 q k (subst (λ (r : ℕ). can_take w r q ≡ true) (sym s) e))
+        | inr k ↦ inr (s, k)
+      ]
+      | inr n ↦ absurd (x.1 p (omega arith) (q, e))
+    ]
+  ];
+}
+
+pub no_take_is : (w : Whole) → IsFirst (WithSome (can_take w)) None → HasNoTake w
+no_take_is w x = record { none = λ at from _ _. false_from_ne_true _ (λ e. x at (from, e)) }

@@ -1,0 +1,102 @@
+//! Who takes a parcel next.
+
+ghost use Rattle.std.specs.Prelude.{◌≡◌, ◌<◌, ℕ, true, IfSome, IfNone};
+ghost use Rattle.kt_base.specs.Sets.{has};
+ghost use Rattle.kt_system.specs.Reads.{can_take, IsNextTake, HasNoTake};
+ghost use Rattle.kt_system.specs.Takes.{is_sent, is_held, WithSome, IsFirst, lesser};
+
+use super::System;
+use kt_base::{ProcNo, ProcSet};
+
+impl System {
+    /// The least process that can take a parcel that is held for it.
+    fn held_taker(&self) -> Option<ProcNo>
+        ensures within { IfSome result (λ at. at < self.now.size) }
+        ensures first { IsFirst (WithSome (is_held self.now)) result }
+    {
+        let receivers = self.held.receivers();
+        if receivers.first().is_none() {
+            return None;
+        }
+        for number in 0..self.processes() as u8 {
+            let at = ProcNo::nth(number);
+            if receivers.has(at) && !self.is_ready(at) {
+                return Some(at);
+            }
+        }
+        None
+    }
+
+    /// The least process to which a parcel is in a channel.
+    fn channel_taker(&self) -> Option<ProcNo>
+        ensures within { IfSome result (λ at. at < self.now.size) }
+        ensures first { IsFirst (WithSome (is_sent self.now)) result }
+    {
+        self.channels.receivers().first()
+    }
+
+    /// The least process that can take a parcel.
+    fn taker(&self) -> Option<ProcNo>
+        ensures within { IfSome result (λ at. at < self.now.size) }
+        ensures first { IsFirst (WithSome (can_take self.now)) result }
+    {
+        least(self.channel_taker(), self.held_taker())
+    }
+
+    /// The processes of which one has parcels in channels.
+    fn senders(&self, at: ProcNo) -> ProcSet
+        requires { at < self.now.size }
+        ensures sent { (q : ℕ) → has result q ≡ is_sent self.now at q }
+        ensures within { (q : ℕ) → has result q ≡ true → q < self.now.size }
+    {
+        self.channels.senders(at)
+    }
+
+    /// The processes of which parcels are held for one, where it is in no rollback.
+    fn held_senders(&self, at: ProcNo) -> ProcSet
+        requires { at < self.now.size }
+        ensures held { (q : ℕ) → has result q ≡ is_held self.now at q }
+        ensures within { (q : ℕ) → has result q ≡ true → q < self.now.size }
+    {
+        if self.is_ready(at) {
+            return ProcSet::empty();
+        }
+        self.held.senders(at)
+    }
+
+    /// The least process from which one can take a parcel.
+    pub fn sender(&self, at: ProcNo) -> Option<ProcNo>
+        requires { at < self.now.size }
+        ensures within { IfSome result (λ from. from < self.now.size) }
+        ensures first { IsFirst (λ from. can_take self.now at from ≡ true) result }
+    {
+        least(self.senders(at).first(), self.held_senders(at).first())
+    }
+
+    /// The least process that can take a parcel, and the least from which it can.
+    pub fn next_take(&self) -> Option<(ProcNo, ProcNo)>
+        ensures some { IfSome result (λ take. IsNextTake self.now take.0 take.1) }
+        ensures none { IfNone result (HasNoTake self.now) }
+    {
+        let at = self.taker()?;
+        let from = self.sender(at)?;
+        Some((at, from))
+    }
+}
+
+/// The lesser of two processes.
+fn least(first: Option<ProcNo>, second: Option<ProcNo>) -> Option<ProcNo>
+    ensures { result ≡ lesser first second }
+{
+    match (first, second) {
+        (Some(one), Some(other)) => {
+            if one.get() <= other.get() {
+                Some(one)
+            } else {
+                Some(other)
+            }
+        }
+        (Some(one), None) => Some(one),
+        (None, other) => other,
+    }
+}

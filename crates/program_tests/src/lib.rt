@@ -1,0 +1,5 @@
+//! Tests of the program: what no clause says.
+#![tactic(auto)]
+
+#[cfg(test)]
+mod tests;
