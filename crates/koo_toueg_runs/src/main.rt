@@ -9,7 +9,7 @@ use std::alloc::Global;
 use std::io;
 use std::process::ExitCode;
 
-const LINES: [&str; 13] = [
+const LINES: [&str; 27] = [
     "koo_toueg check log.csv cert.csv",
     "koo_toueg check log.csv place.csv",
     "koo_toueg check fields.csv cert.csv",
@@ -22,6 +22,20 @@ const LINES: [&str; 13] = [
     "koo_toueg check log.csv",
     "koo_toueg judge log.csv cert.csv",
     "koo_toueg --version",
+    "koo_toueg play scenario",
+    "koo_toueg play scenario --log played.csv --cert played_cert.csv",
+    "koo_toueg check played.csv played_cert.csv",
+    "koo_toueg check played.csv cert.csv",
+    "koo_toueg play scenario --steps too_early",
+    "koo_toueg play scenario --steps done",
+    "koo_toueg play scenario --steps stranger",
+    "koo_toueg play itself",
+    "koo_toueg play twice",
+    "koo_toueg play missing",
+    "koo_toueg play scenario --steps missing",
+    "koo_toueg play scenario --log no/folder.csv",
+    "koo_toueg play scenario --steps itself",
+    "koo_toueg play",
     "koo_toueg check log.csv empty.csv",
 ];
 
