@@ -10,7 +10,8 @@ use std::process::Abort;
 use std::rt::Files;
 use std::test::Fail;
 
-const HELP: &str = "Plays scenarios of a checkpoint and rollback-recovery manager, and judges stored runs
+const HELP: &str =
+    "Plays scenarios of a checkpoint and rollback-recovery manager, and judges stored runs
 
 Usage: koo_toueg [COMMAND]
 
