@@ -1,22 +1,22 @@
 -- Lists cut, trimmed and put back, one sender after another.
-use Rattle.std.specs.Prelude.{◌==◌, nat_lt, if◌then◌else◌, Option, Some, None}
+use Rattle.std.specs.Prelude.{◌==◌, ◌&&◌, not, nat_lt, if◌then◌else◌, Option, Some, None}
 use Rattle.std.proofs.Common.{◌≡◌, ◌≢◌, ℕ, zero, suc, ◌≤◌, ◌+◌, Bool, true, false, List, [], ◌∷◌, ◌++◌, length, drop, refl, arith, sym, ap, subst, ◌∙◌, inl, inr}
 use Rattle.std.proofs.Math.Path.{fun_ext}
 use Rattle.std.proofs.lemmas.Bool.{cases_eq}
 use Rattle.std.proofs.lemmas.Bool.Decides.{nat_tests}
 use Rattle.kt_fifo.specs.declared.parcels.Parcel.{Parcel}
 use Rattle.kt_fifo.specs.Parcels.{stays, without_above}
+use Rattle.kt_fifo.specs.Queues.{has_parcel}
 use Rattle.kt_fifo.specs.Channels.{Wires, channel, at_pair}
 use Rattle.kt_lists.specs.Puts.{Lists}
-use Rattle.kt_lists.specs.Kept.{trims, low}
-use Rattle.kt_lists.specs.Kept.{put_back, emptied}
-use Rattle.kt_lists.proofs.Trimmed.{trimmed}
+use Rattle.kt_lists.specs.Kept.{low, lowered, put_back, emptied}
+use Rattle.kt_lists.proofs.Trimmed.{Change, changed}
 
 -- nothing stands in the lists of who is not there
 pub outside : (w : Wires) (q u : ℕ) → w.processes ≤ q → channel w q u ≡ []
 outside w q u h = grind (arith, nat_tests)
 
-drop_nil : (k : ℕ) (xs : List Parcel) → xs ≡ [] → drop k xs ≡ []
+pub drop_nil : (k : ℕ) (xs : List Parcel) → xs ≡ [] → drop k xs ≡ []
 drop_nil zero xs e = e
 drop_nil (suc k) [] e = refl
 drop_nil (suc k) (x ∷ xs) e = absurd (cc (e))
@@ -41,19 +41,43 @@ dropped_none f q p = fun_ext (λ u. fun_ext (λ v. at_test u v))
 pub dropped_more : (f : Lists) (q p k : ℕ) → at_pair q p (drop 1 (at_pair q p (drop k (f q p)) f q p)) (at_pair q p (drop k (f q p)) f) ≡ at_pair q p (drop (k + 1) (f q p)) f
 dropped_more f q p k = fun_ext (λ u. fun_ext (λ v. let h = drop_one k (f q p) in grind (arith, nat_tests)))
 
-pub trimmed_none : (p : ℕ) (marks : ℕ → ℕ) (f : Lists) → f ≡ trimmed 0 p marks f
-unfolding trimmed
-trimmed_none p marks f = fun_ext (λ u. fun_ext (λ v. grind (arith, nat_tests)))
+pub no_parcel : (l : List Parcel) → has_parcel l ≡ false → l ≡ []
+no_parcel [] e = refl
+no_parcel (x ∷ xs) e = absurd (cc e)
 
-pub trimmed_more : (n p : ℕ) (marks : ℕ → ℕ) (f : Lists) → at_pair n p (drop (marks n) (trimmed n p marks f n p)) (trimmed n p marks f) ≡ trimmed (n + 1) p marks f
-unfolding trimmed
-trimmed_more n p marks f = fun_ext (λ u. fun_ext (λ v. elim (cases_eq u n) [
-  | inl e ↦ elim (cases_eq v p) [
-    | inl k ↦ rw (e, k) (grind (arith, nat_tests))
-    | inr m ↦ grind (arith, nat_tests)
-  ]
-  | inr m ↦ grind (arith, nat_tests)
+-- a change that leaves no parcel where there is none changes nothing there
+pub still : (k : List Parcel → List Parcel) (l : List Parcel) → k [] ≡ [] → has_parcel l ≡ false → k l ≡ l
+still k l e none = let z = no_parcel l none in ap k z ∙ (e ∙ sym z)
+
+pub changed_none : (set : ℕ → Bool) (p : ℕ) (g : Change) (f : Lists) → ((q : ℕ) → set q ≡ false → g q (f q p) ≡ f q p) → f ≡ changed set p g f
+unfolding changed
+changed_none set p g f h = fun_ext (λ q. fun_ext (λ u. elim (cases_eq u p) [
+  | inl e ↦ subst (λ (u : ℕ). f q u ≡ (if u == p && not (set q) then g q (f q u) else f q u)) (sym e) (at_test q (set q) refl)
+  | inr e ↦ grind (arith, nat_tests)
 ]))
+  where
+    at_test : (q : ℕ) (b : Bool) → set q ≡ b → f q p ≡ (if p == p && not (set q) then g q (f q p) else f q p)
+    at_test q true e = grind (arith, nat_tests, e)
+    at_test q false e = let k = h q e in grind (arith, nat_tests, e, k)
+
+pub unchanged : (set : ℕ → Bool) (p n : ℕ) (g : Change) (f : Lists) → set n ≡ true → changed set p g f n p ≡ f n p
+unfolding changed
+unchanged set p n g f e = grind (arith, nat_tests, e)
+
+pub changed_one : (set left : ℕ → Bool) (p n : ℕ) (g : Change) (f : Lists) → set n ≡ true → left n ≡ false → ((q : ℕ) → q ≢ n → left q ≡ set q) →
+    at_pair n p (g n (changed set p g f n p)) (changed set p g f) ≡ changed left p g f
+unfolding changed
+changed_one set left p n g f e l others = fun_ext (λ q. fun_ext (λ u. elim (cases_eq q n) [
+  | inl same ↦ elim (cases_eq u p) [
+    | inl here ↦ rw (same, here) (grind (arith, nat_tests, e, l))
+    | inr m ↦ rw (same) (grind (arith, nat_tests, e, l))
+  ]
+  | inr m ↦ let o = others q m in grind (arith, nat_tests, o)
+]))
+
+pub changed_all : (set : ℕ → Bool) (p : ℕ) (g : Change) (f : Lists) → ((q : ℕ) → set q ≡ false) → changed set p g f ≡ (λ q u. if u == p then g q (f q u) else f q u)
+unfolding changed
+changed_all set p g f none = fun_ext (λ q. fun_ext (λ u. let e = none q in grind (arith, nat_tests, e)))
 
 not_less : (q n : ℕ) → nat_lt q n ≡ false → n ≤ q
 not_less q n e = grind (arith, nat_tests)
@@ -62,51 +86,7 @@ not_less q n e = grind (arith, nat_tests)
 beyond : (w : Wires) (q u n : ℕ) → w.processes ≤ n → nat_lt q n ≡ false → channel w q u ≡ []
 beyond w q u n h e = outside w q u (omega (arith, not_less q n e))
 
-pub trimmed_all : (n p : ℕ) (marks : ℕ → ℕ) (w : Wires) → w.processes ≤ n → trimmed n p marks (channel w) ≡ trims p marks (channel w)
-unfolding trimmed
-trimmed_all n p marks w h = fun_ext (λ q. fun_ext (λ u. at_test q u (nat_lt q n) refl))
-  where
-    plain : (f : Lists) (q u : ℕ) → nat_lt q n ≡ true → trimmed n p marks f q u ≡ trims p marks f q u
-    plain f q u e = grind (arith, nat_tests)
-
-    none : (f : Lists) (q u : ℕ) → nat_lt q n ≡ false → f q u ≡ [] → trimmed n p marks f q u ≡ trims p marks f q u
-    none f q u e g = let a = drop_nil (marks q) (f q u) g in grind (arith, nat_tests)
-
-    at_test : (q u : ℕ) (b : Bool) → nat_lt q n ≡ b → trimmed n p marks (channel w) q u ≡ trims p marks (channel w) q u
-    at_test q u true e = plain (channel w) q u e
-    at_test q u false e = none (channel w) q u e (beyond w q u n h e)
-
-pub back_none : (p : ℕ) (noted : ℕ → Option ℕ) (kept held : Lists) → held ≡ put_back 0 p noted kept held
-unfolding put_back
-back_none p noted kept held = fun_ext (λ u. fun_ext (λ v. grind (arith, nat_tests)))
-
-pub emptied_none : (p : ℕ) (kept : Lists) → kept ≡ emptied 0 p kept
-unfolding emptied
-emptied_none p kept = fun_ext (λ u. fun_ext (λ v. grind (arith, nat_tests)))
-
-pub back_more : (n p : ℕ) (noted : ℕ → Option ℕ) (kept held : Lists) →
-    at_pair n p (at_pair n p (low (noted n) (emptied n p kept n p)) (emptied n p kept) n p ++ at_pair n p (low (noted n) (put_back n p noted kept held n p)) (put_back n p noted kept held) n p)
-    (at_pair n p (low (noted n) (put_back n p noted kept held n p)) (put_back n p noted kept held)) ≡ put_back (n + 1) p noted kept held
-unfolding put_back emptied
-back_more n p noted kept held = fun_ext (λ u. fun_ext (λ v. elim (cases_eq u n) [
-  | inl e ↦ elim (cases_eq v p) [
-    | inl k ↦ rw (e, k) (grind (arith, nat_tests))
-    | inr m ↦ grind (arith, nat_tests)
-  ]
-  | inr m ↦ grind (arith, nat_tests)
-]))
-
-pub emptied_more : (n p : ℕ) (l : List Parcel) (kept : Lists) → at_pair n p [] (at_pair n p l (emptied n p kept)) ≡ emptied (n + 1) p kept
-unfolding emptied
-emptied_more n p l kept = fun_ext (λ u. fun_ext (λ v. elim (cases_eq u n) [
-  | inl e ↦ elim (cases_eq v p) [
-    | inl k ↦ rw (e, k) (grind (arith, nat_tests))
-    | inr m ↦ grind (arith, nat_tests)
-  ]
-  | inr m ↦ grind (arith, nat_tests)
-]))
-
-low_nil : (note : Option ℕ) → low note [] ≡ []
+pub low_nil : (note : Option ℕ) → low note [] ≡ []
 low_nil None = refl
 low_nil (Some l) = refl
 
@@ -116,6 +96,20 @@ back_in p noted kept held q u = if u == p then low (noted q) (kept q u) ++ low (
 
 abbrev pub gone : ℕ → Lists → Lists
 gone p kept q u = if u == p then [] else kept q u
+
+-- what was kept, without what is above the label noted of its sender, goes in front
+abbrev pub in_front : ℕ → (ℕ → Option ℕ) → Lists → Change
+in_front p noted kept q l = low (noted q) (kept q p) ++ l
+
+abbrev pub nothing_left : Change
+nothing_left q l = []
+
+pub front_of_lowered : (p : ℕ) (noted : ℕ → Option ℕ) (kept held : Lists) → (λ q u. if u == p then in_front p noted kept q (lowered p noted held q u) else lowered p noted held q u) ≡ back_in p noted kept held
+unfolding lowered
+front_of_lowered p noted kept held = fun_ext (λ q. fun_ext (λ u. elim (cases_eq u p) [
+  | inl e ↦ rw (e) (grind (arith, nat_tests))
+  | inr e ↦ grind (arith, nat_tests)
+]))
 
 pub back_all : (n p : ℕ) (noted : ℕ → Option ℕ) (kept held : Wires) → kept.processes ≤ n → held.processes ≤ n → put_back n p noted (channel kept) (channel held) ≡ back_in p noted (channel kept) (channel held)
 unfolding put_back
@@ -171,20 +165,6 @@ more old q p n u v = grind (arith, nat_tests)
 pub grown : (old new : Rooms) (q p n : ℕ) → new ≡ at_pair q p (old q p + n) old → (u v : ℕ) → old u v ≤ new u v
 grown old new q p n e u v = subst (λ (f : Rooms). old u v ≤ f u v) (sym e) (more old q p n u v)
 
--- one sender more, as the calls say it
-pub back_step : (n p m : ℕ) (noted : ℕ → Option ℕ) (note note2 : Option ℕ) (K H kept kept1 held held1 held2 : Lists) → m ≡ n → note ≡ noted n → note2 ≡ noted n → kept ≡ emptied n p K → held ≡ put_back n p noted K H →
-    kept1 ≡ at_pair m p (low note (kept m p)) kept → held1 ≡ at_pair m p (low note2 (held m p)) held → held2 ≡ at_pair m p (kept1 m p ++ held1 m p) held1 → held2 ≡ put_back (n + 1) p noted K H
-back_step n p m noted note note2 K H kept kept1 held held1 held2 here a b e f g i j =
-    let g2 : kept1 ≡ at_pair n p (low (noted n) (emptied n p K n p)) (emptied n p K) =
-    g ∙ (ap (λ (m : ℕ). at_pair m p (low note (kept m p)) kept) here ∙ (ap (λ (x : Option ℕ). at_pair n p (low x (kept n p)) kept) a ∙ ap (λ (f : Lists). at_pair n p (low (noted n) (f n p)) f) e)) in
-    let i2 : held1 ≡ at_pair n p (low (noted n) (put_back n p noted K H n p)) (put_back n p noted K H) =
-    i ∙ (ap (λ (m : ℕ). at_pair m p (low note2 (held m p)) held) here ∙ (ap (λ (x : Option ℕ). at_pair n p (low x (held n p)) held) b ∙ ap (λ (f : Lists). at_pair n p (low (noted n) (f n p)) f) f)) in
-    j ∙ (ap (λ (m : ℕ). at_pair m p (kept1 m p ++ held1 m p) held1) here ∙ (ap (λ (f : Lists). at_pair n p (f n p ++ held1 n p) held1) g2 ∙ (ap (λ (f : Lists). at_pair n p (at_pair n p (low (noted n) (emptied n p K n p)) (emptied n p K) n p ++ f n p) f) i2 ∙ back_more n p noted K H)))
-
-pub emptied_step : (n p m : ℕ) (note : Option ℕ) (K kept kept1 kept2 : Lists) → m ≡ n → kept ≡ emptied n p K → kept1 ≡ at_pair m p (low note (kept m p)) kept → kept2 ≡ at_pair m p [] kept1 → kept2 ≡ emptied (n + 1) p K
-emptied_step n p m note K kept kept1 kept2 here e g j =
-    j ∙ (ap (λ (f : Lists). at_pair m p [] f) (g ∙ ap (λ (f : Lists). at_pair m p (low note (kept m p)) f) e) ∙ (ap (λ (m : ℕ). at_pair m p [] (at_pair m p (low note (kept m p)) (emptied n p K))) here ∙ emptied_more n p (low note (kept n p)) K))
-
 -- the room for this sender's
 pub room_fits : (kept kept1 : Lists) (old held1 : Rooms) (n p m : ℕ) (note : Option ℕ) → m ≡ n → kept1 ≡ at_pair m p (low note (kept m p)) kept → ((u v : ℕ) → old u v ≤ held1 u v) →
     length (kept n p) ≤ old n p → length (kept1 m p) ≤ held1 m p
@@ -198,19 +178,6 @@ room_fits kept kept1 old held1 n p m note here e g room = subst (λ (x : ℕ). l
   where
     own : (l : List Parcel) → at_pair n p l kept n p ≡ l
     own l = grind (arith, nat_tests)
-
--- the room for the senders that are left
-pub room_left : (kept kept1 kept2 : Lists) (old held1 held2 : Rooms) (n p m a : ℕ) (l : List Parcel) → m ≡ n → kept1 ≡ at_pair m p l kept → kept2 ≡ at_pair m p [] kept1 → ((u v : ℕ) → old u v ≤ held1 u v) →
-    held2 ≡ at_pair m p a held1 → (q : ℕ) → n + 1 ≤ q → length (kept q p) ≤ old q p → length (kept2 q p) ≤ held2 q p
-room_left kept kept1 kept2 old held1 held2 n p m a l here e f g i q h room =
-    let x : kept2 q p ≡ kept q p = ap (λ (z : Lists). z q p) f ∙ (other kept1 [] q h ∙ (ap (λ (z : Lists). z q p) e ∙ other kept l q h)) in
-    let y : held2 q p ≡ held1 q p = ap (λ (z : Rooms). z q p) i ∙ other held1 a q h in
-    let k = g q p in
-    let z = ap (λ (l : List Parcel). length l) x in
-    omega arith
-  where
-    other : {X : Type 0} (z : ℕ → ℕ → X) (x : X) (q : ℕ) → n + 1 ≤ q → at_pair m p x z q p ≡ z q p
-    other z x q h = grind (arith, nat_tests)
 
 -- where the room of one pair does not shrink and that of the others stays, none shrinks
 pub grows_all : (old new : Rooms) (p q x : ℕ) → new ≡ at_pair p q x old → old p q ≤ new p q → (u v : ℕ) → old u v ≤ new u v
@@ -227,3 +194,32 @@ grows_all old new p q x e g u v = elim (cases_eq u p) [
 
     left : u ≢ p → old u v ≤ at_pair p q x old u v
     left n = grind (arith, nat_tests)
+
+own_at : (n p : ℕ) (l : List Parcel) (f : Lists) → at_pair n p l f n p ≡ l
+own_at n p l f = grind (arith, nat_tests)
+
+-- one sender more, as the calls say it
+pub held_step : (set left : ℕ → Bool) (p n : ℕ) (note : Option ℕ) (noted : ℕ → Option ℕ) (K L kept kept1 held held1 : Lists) → note ≡ noted n → kept ≡ changed set p nothing_left K → kept1 ≡ at_pair n p (low note (kept n p)) kept →
+    held ≡ changed set p (in_front p noted K) L → held1 ≡ at_pair n p (kept1 n p ++ held n p) held → set n ≡ true → left n ≡ false → ((q : ℕ) → q ≢ n → left q ≡ set q) → held1 ≡ changed left p (in_front p noted K) L
+held_step set left p n note noted K L kept kept1 held held1 a b e f g m gone others =
+    let own : kept1 n p ≡ low note (kept n p) = ap (λ (z : Lists). z n p) e ∙ own_at n p (low note (kept n p)) kept in
+    let same : kept n p ≡ K n p = ap (λ (z : Lists). z n p) b ∙ unchanged set p n nothing_left K m in
+    let moved : kept1 n p ≡ low (noted n) (K n p) = own ∙ (ap (λ (l : List Parcel). low note l) same ∙ ap (λ (x : Option ℕ). low x (K n p)) a) in
+    g
+    ∙ (ap (λ (l : List Parcel). at_pair n p (l ++ held n p) held) moved
+    ∙ (ap (λ (z : Lists). at_pair n p (low (noted n) (K n p) ++ z n p) z) f ∙ changed_one set left p n (in_front p noted K) L m gone others))
+
+pub kept_step : (set left : ℕ → Bool) (p n : ℕ) (note : Option ℕ) (K kept kept1 kept2 : Lists) → kept ≡ changed set p nothing_left K → kept1 ≡ at_pair n p (low note (kept n p)) kept → kept2 ≡ at_pair n p [] kept1 →
+    set n ≡ true → left n ≡ false → ((q : ℕ) → q ≢ n → left q ≡ set q) → kept2 ≡ changed left p nothing_left K
+kept_step set left p n note K kept kept1 kept2 b e g m gone others =
+    g
+    ∙ (ap (λ (z : Lists). at_pair n p [] z) e
+    ∙ (twice n p (low note (kept n p)) kept
+    ∙ (ap (λ (z : Lists). at_pair n p [] z) b ∙ changed_one set left p n nothing_left K m gone others)))
+  where
+    twice : (n p : ℕ) (l : List Parcel) (f : Lists) → at_pair n p [] (at_pair n p l f) ≡ at_pair n p [] f
+    twice n p l f = fun_ext (λ u. fun_ext (λ v. grind (arith, nat_tests)))
+
+-- the room of another pair stays
+pub room_elsewhere : (K : Lists) (old new : Rooms) (n p q x : ℕ) → new ≡ at_pair n p x old → q ≢ n → length (K q p) ≤ old q p → length (K q p) ≤ new q p
+room_elsewhere K old new n p q x e other room = subst (λ (f : Rooms). length (K q p) ≤ f q p) (sym e) (grind (arith, nat_tests))

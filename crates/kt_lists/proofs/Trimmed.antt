@@ -1,6 +1,12 @@
--- Lists trimmed of the first parcels of the senders below a number.
-use Rattle.std.specs.Prelude.{ℕ, ◌==◌, ◌&&◌, nat_lt, if◌then◌else◌, drop}
+-- Lists to a process, of which those of some senders are changed already.
+use Rattle.std.specs.Prelude.{ℕ, ◌==◌, ◌&&◌, not, if◌then◌else◌, Bool, List}
+use Rattle.kt_fifo.specs.declared.parcels.Parcel.{Parcel}
 use Rattle.kt_lists.specs.Puts.{Lists}
 
-unfoldable pub trimmed : ℕ → ℕ → (ℕ → ℕ) → Lists → Lists
-trimmed n p marks kept q u = if u == p && nat_lt q n then drop (marks q) (kept q u) else kept q u
+-- what a list becomes, by its sender
+abbrev pub Change : Type 0
+Change = ℕ → List Parcel → List Parcel
+
+-- the lists to p are changed, but for those of the senders that are left
+unfoldable pub changed : (ℕ → Bool) → ℕ → Change → Lists → Lists
+changed left p g lists q u = if u == p && not (left q) then g q (lists q u) else lists q u

@@ -21,6 +21,10 @@ abbrev pub low : Option ℕ → List Parcel → List Parcel
 low None parcels = parcels
 low (Some most) parcels = without_above most parcels
 
+-- the lists to p without what is above the label that is noted of their senders
+unfoldable pub lowered : ℕ → (ℕ → Option ℕ) → Lists → Lists
+lowered p noted lists q u = if u == p then low (noted q) (lists q u) else lists q u
+
 -- of the senders below n, what is kept for p goes before what is held, both without what is above the noted label
 unfoldable pub put_back : ℕ → ℕ → (ℕ → Option ℕ) → Lists → Lists → Lists
 put_back n p noted kept held q u = if u == p && nat_lt q n then low (noted q) (kept q u) ++ low (noted q) (held q u) else held q u

@@ -3,7 +3,7 @@
 ghost use Rattle.std.specs.Prelude.{◌≡◌, ◌<◌, ◌≤◌, ℕ, length, drop, IfOk};
 ghost use Rattle.kt_fifo.specs.Channels.{channel, spare_of, at_pair};
 ghost use Rattle.kt_process.specs.Turns.{noted_by};
-ghost use Rattle.kt_lists.specs.Kept.{trims, low, put_back, emptied, mark_of, kept_of};
+ghost use Rattle.kt_lists.specs.Kept.{trims, low, lowered, put_back, emptied, mark_of, kept_of};
 
 use kt_base::{Label, Memory, ProcNo};
 use kt_fifo::Channels;
@@ -29,9 +29,10 @@ pub fn trim(channels: &mut Channels, p: ProcNo, marks: &[usize])
     ensures processes { channels.new.processes ≡ channels.old.processes }
     ensures lists { channel channels.new ≡ trims p (mark_of marks.now) (channel channels.old) }
 {
-    for number in 0..channels.processes() as u8 {
-        let from = ProcNo::new(number).unwrap();
-        drop_first(channels, from, p, marks[number as usize]);
+    let mut rest = channels.senders(p);
+    while let Some(from) = rest.first() {
+        drop_first(channels, from, p, marks[from.index()]);
+        rest = rest.without(from);
     }
 }
 
@@ -48,6 +49,20 @@ fn cut(channels: &mut Channels, from: ProcNo, to: ProcNo, noted: &Option<Label>)
     }
 }
 
+/// The application messages of the lists to a process go that are above the label that it noted of their sender.
+fn cut_all(channels: &mut Channels, process: &Process, p: ProcNo)
+    requires to { p < channels.old.processes }
+    ensures processes { channels.new.processes ≡ channels.old.processes }
+    ensures lists { channel channels.new ≡ lowered p (noted_by process.now.side) (channel channels.old) }
+    ensures grows { (u v : ℕ) → spare_of channels.old u v ≤ spare_of channels.new u v }
+{
+    let mut rest = channels.senders(p);
+    while let Some(from) = rest.first() {
+        cut(channels, from, p, &process.noted(from));
+        rest = rest.without(from);
+    }
+}
+
 /// At a committed rollback of a process, the parcels that were kept of each sender go before those that are held, both
 /// without those above the label that it noted of this sender; it then keeps none.
 pub fn restore(held: &mut Channels, kept: &mut Channels, process: &Process, p: ProcNo)
@@ -59,12 +74,12 @@ pub fn restore(held: &mut Channels, kept: &mut Channels, process: &Process, p: P
     ensures held { channel held.new ≡ put_back held.old.processes p (noted_by process.now.side) (channel kept.old) (channel held.old) }
     ensures kept { channel kept.new ≡ emptied held.old.processes p (channel kept.old) }
 {
-    for number in 0..held.processes() as u8 {
-        let from = ProcNo::new(number).unwrap();
-        let noted = process.noted(from);
-        cut(kept, from, p, &noted);
-        cut(held, from, p, &noted);
+    cut_all(held, process, p);
+    let mut rest = kept.senders(p);
+    while let Some(from) = rest.first() {
+        cut(kept, from, p, &process.noted(from));
         held.put_before(kept, from, p);
+        rest = rest.without(from);
     }
 }
 

@@ -17,11 +17,10 @@ pub fn put_decisions(channels: &mut Channels, p: ProcNo, inst: InstNo, commit: b
     ensures processes { channels.new.processes ≡ channels.old.processes }
     ensures lists { channel channels.new ≡ telling (channel channels.old) p inst commit (has tell) }
 {
-    for number in 0..channels.processes() as u8 {
-        let to = ProcNo::new(number).unwrap();
-        if tell.has(to) {
-            channels.push_reserved(p, to, Parcel::Decide { inst, commit });
-        }
+    let mut rest = tell;
+    while let Some(to) = rest.first() {
+        channels.push_reserved(p, to, Parcel::Decide { inst, commit });
+        rest = rest.without(to);
     }
 }
 

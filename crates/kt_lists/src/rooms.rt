@@ -24,27 +24,6 @@ pub fn make_room_to(
     channels.reserve_many(p, to, count)
 }
 
-/// Room for so many parcels more from a process to another one, if that is wanted.
-fn make_room_if(
-    channels: &mut Channels,
-    p: ProcNo,
-    to: ProcNo,
-    count: usize,
-    is_wanted: bool,
-) -> Result<(), Memory>
-    requires p { p < channels.old.processes }
-    requires to { to < channels.old.processes }
-    ensures processes { channels.new.processes ≡ channels.old.processes }
-    ensures lists { channel channels.new ≡ channel channels.old }
-    ensures grows { (u v : ℕ) → spare_of channels.old u v ≤ spare_of channels.new u v }
-    ensures ok { OnOk result (is_wanted ≡ true → count ≤ spare_of channels.new p to) }
-{
-    if !is_wanted {
-        return Ok(());
-    }
-    make_room_to(channels, p, to, count)
-}
-
 /// Room for so many parcels more from a process to each of a set. What was refused leaves all lists as they were.
 pub fn make_room(
     channels: &mut Channels,
@@ -52,18 +31,17 @@ pub fn make_room(
     targets: ProcSet,
     count: usize,
 ) -> Result<(), Memory>
-    requires { p < channels.old.processes }
+    requires p { p < channels.old.processes }
+    requires targets { (q : ℕ) → has targets q ≡ true → q < channels.old.processes }
     ensures processes { channels.new.processes ≡ channels.old.processes }
     ensures lists { channel channels.new ≡ channel channels.old }
     ensures grows { (u v : ℕ) → spare_of channels.old u v ≤ spare_of channels.new u v }
-    ensures ok { OnOk result ((q : ℕ) → q < channels.old.processes → has targets q ≡ true → count ≤ spare_of channels.new p q) }
+    ensures ok { OnOk result ((q : ℕ) → has targets q ≡ true → count ≤ spare_of channels.new p q) }
 {
-    if targets.first().is_none() {
-        return Ok(());
-    }
-    for number in 0..channels.processes() as u8 {
-        let to = ProcNo::new(number).unwrap();
-        make_room_if(channels, p, to, count, targets.has(to))?;
+    let mut rest = targets;
+    while let Some(to) = rest.first() {
+        make_room_to(channels, p, to, count)?;
+        rest = rest.without(to);
     }
     Ok(())
 }
@@ -76,9 +54,10 @@ pub fn make_room_back(held: &mut Channels, kept: &Channels, p: ProcNo) -> Result
     ensures lists { channel held.new ≡ channel held.old }
     ensures ok { OnOk result ((q : ℕ) → q < held.old.processes → length (channel kept.now q p) ≤ spare_of held.new q p) }
 {
-    for number in 0..held.processes() as u8 {
-        let from = ProcNo::new(number).unwrap();
+    let mut rest = kept.senders(p);
+    while let Some(from) = rest.first() {
         make_room_to(held, from, p, kept.len(from, p))?;
+        rest = rest.without(from);
     }
     Ok(())
 }

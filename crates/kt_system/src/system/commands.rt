@@ -123,6 +123,7 @@ impl System {
         requires from { from < self.now.size }
         ensures from { has result from ≡ true }
         ensures asks { joins ≡ true → (q : ℕ) → peers_of (person self.now at).tables kind q ≡ true → has result q ≡ true }
+        ensures within { (q : ℕ) → has result q ≡ true → q < self.now.size }
     {
         if joins {
             return self.process(at).peers(kind).with(from);

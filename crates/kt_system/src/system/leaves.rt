@@ -71,7 +71,8 @@ impl System {
 
     /// Room for four rows, and for two parcels to each of these processes.
     pub(super) fn make_room(&mut self, p: ProcNo, targets: ProcSet) -> Result<(), Memory>
-        requires { p < self.old.size }
+        requires p { p < self.old.size }
+        requires within { (q : ℕ) → has targets q ≡ true → q < self.old.size }
         ensures same { IsSame self.new self.old }
         ensures count { length self.new.rows.rows ≡ length self.old.rows.rows }
         ensures spare { OnOk result (4 ≤ self.new.rows.spare) }

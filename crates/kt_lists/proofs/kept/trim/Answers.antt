@@ -1,32 +1,51 @@
-use Rattle.std.proofs.Common.{◌≡◌, ◌∙◌, ◌≤◌, ap, ℕ, refl, arith, drop}
+use Rattle.std.proofs.Common.{◌∙◌, ◌<◌, ℕ, List, [], ap, sym, refl, inl, inr, rules, drop}
+use Rattle.std.proofs.lemmas.Bool.{cases_eq}
+use Rattle.kt_base.specs.Sets.{has}
+use Rattle.kt_fifo.specs.declared.parcels.Parcel.{Parcel}
 use Rattle.kt_fifo.specs.Channels.{channel, at_pair}
 use Rattle.kt_lists.specs.Puts.{Lists}
 use Rattle.kt_lists.specs.Kept.{mark_of}
-use Rattle.kt_lists.proofs.Ranges.{trimmed_none, trimmed_more, trimmed_all}
+use Rattle.kt_lists.proofs.Rest.{fewer}
+use Rattle.kt_lists.proofs.Ranges.{drop_nil, still, changed_none, changed_one, changed_all}
 use Rattle.kt_lists.proofs.kept.trim.Goals as goal
 
-pub loop-number-init : goal.loop-number-init
-loop-number-init c = record {
-  processes = refl;
-  lists = trimmed_none c.args.p (mark_of c.args.marks.now) (channel c.args.channels.now);
-}
-
-pub loop-number-preserved : goal.loop-number-preserved
-loop-number-preserved c =
-    let n = c.loop-number.number in
-    let p = c.args.p in
-    let marks = c.args.marks.now in
-    let here : c.unwrap-from.result ≡ n = rw c.unwrap-from.ensures at c.new.ensures.value in
+pub loop-from-init : goal.loop-from-init
+loop-from-init c =
+    let f = channel c.args.channels.now in
+    let marks = mark_of c.args.marks.now in
     record {
-      processes = c.drop_first.ensures.processes ∙ c.loop-number.invariant.processes;
+      processes = refl;
+      lists = changed_none (has c.senders-rest.result) c.args.p (λ q l. drop (marks q) l) f (λ q none. still (λ (l : List Parcel). drop (marks q) l) (f q c.args.p) (drop_nil (marks q) [] refl) (sym (c.senders-rest.ensures q) ∙ none));
+      senders = λ q h. sym (c.senders-rest.ensures q) ∙ h;
+    }
+
+pub loop-from-smaller : goal.loop-from-smaller
+loop-from-smaller c =
+    let few : c.in-Some.from < 64 = search rules in
+    fewer c.loop-from.rest c.without-rest.result c.in-Some.from few c.in-Some.ensures.member c.without-rest.ensures.removed c.without-rest.ensures.others
+
+pub loop-from-preserved : goal.loop-from-preserved
+loop-from-preserved c =
+    let i = c.loop-from.invariant in
+    let from = c.in-Some.from in
+    let p = c.args.p in
+    let w = c.without-rest.ensures in
+    let marks = mark_of c.args.marks.now in
+    let f = channel c.args.channels.now in
+    record {
+      processes = c.drop_first.ensures.processes ∙ i.processes;
       lists =
           c.drop_first.ensures.lists
-          ∙ (ap (λ (q : ℕ). at_pair q p (drop (mark_of marks n) (channel c.loop-number.channels q p)) (channel c.loop-number.channels)) here
-          ∙ (ap (λ (f : Lists). at_pair n p (drop (mark_of marks n) (f n p)) f) c.loop-number.invariant.lists
-          ∙ trimmed_more n p (mark_of marks) (channel c.args.channels.now)));
+          ∙ (ap (λ (k : ℕ). at_pair from p (drop (marks k) (channel c.loop-from.channels from p)) (channel c.loop-from.channels)) c.index.ensures.value
+          ∙ (ap (λ (g : Lists). at_pair from p (drop (marks from) (g from p)) g) i.lists
+          ∙ changed_one (has c.loop-from.rest) (has c.without-rest.result) p from (λ q l. drop (marks q) l) f c.in-Some.ensures.member w.removed w.others));
+      senders = λ q h. elim (cases_eq q from) [
+        | inl same ↦ rw (same) (i.senders from c.in-Some.ensures.member)
+        | inr other ↦ i.senders q (sym (w.others q other) ∙ h)
+      ];
     }
 
 pub returns-clause-lists : goal.returns-clause-lists
 returns-clause-lists c =
-    let past : c.args.channels.now.processes ≤ c.loop-number.number = omega arith in
-    c.loop-number.invariant.lists ∙ trimmed_all c.loop-number.number c.args.p (mark_of c.args.marks.now) c.args.channels.now past
+    c.loop-from.invariant.lists
+    ∙ changed_all (has c.loop-from.rest) c.args.p (λ q l. drop (mark_of c.args.marks.now q) l) (channel c.args.channels.now) (search rules)

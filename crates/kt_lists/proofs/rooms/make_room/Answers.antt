@@ -1,27 +1,28 @@
-use Rattle.std.proofs.Common.{◌≡◌, ◌∙◌, ◌≤◌, ℕ, true, subst, arith, below_more}
-use Rattle.kt_base.specs.Sets.{has}
-use Rattle.kt_fifo.specs.Channels.{spare_of}
+use Rattle.std.proofs.Common.{◌∙◌, ◌<◌, sym, arith, inl, inr, rules}
+use Rattle.std.proofs.lemmas.Bool.{cases_eq}
+use Rattle.kt_lists.proofs.Rest.{fewer}
 use Rattle.kt_lists.proofs.rooms.make_room.Goals as goal
 
-pub loop-number-preserved : goal.loop-number-preserved
-loop-number-preserved c =
-    let n = c.loop-number.number in
+pub loop-to-smaller : goal.loop-to-smaller
+loop-to-smaller c =
+    let few : c.in-Some.to < 64 = search rules in
+    fewer c.loop-to.rest c.without-rest.result c.in-Some.to few c.in-Some.ensures.member c.without-rest.ensures.removed c.without-rest.ensures.others
+
+pub loop-to-preserved : goal.loop-to-preserved
+loop-to-preserved c =
+    let i = c.loop-to.invariant in
+    let e = c.make_room_to.ensures in
     let p = c.args.p in
-    let here : c.unwrap-to.result ≡ n = rw c.unwrap-to.ensures at c.new.ensures.value in
-    let i = c.loop-number.invariant in
-    let e = c.make_room_if.ensures in
-    let o = c.in_ok-make_room_if.ensures.ok in
-    let new = c.make_room_if.new.channels in
     record {
       processes = e.processes ∙ i.processes;
       lists = e.lists ∙ i.lists;
       grows = λ u v. let a = i.grows u v in let b = e.grows u v in omega arith;
-      room = below_more (λ q. has c.args.targets q ≡ true → c.args.count ≤ spare_of new p q) _
-          (λ q b h. let a = i.room q b h in let g = e.grows p q in omega arith)
-          (subst (λ (q : ℕ). has c.args.targets q ≡ true → c.args.count ≤ spare_of new p q) here (λ h. o (c.has.ensures ∙ h)));
+      rest = λ q h. elim (cases_eq q c.in-Some.to) [
+        | inl same ↦ rw (same) (i.rest c.in-Some.to c.in-Some.ensures.member)
+        | inr other ↦ i.rest q (sym (c.without-rest.ensures.others q other) ∙ h)
+      ];
+      room = λ q h gone. elim (cases_eq q c.in-Some.to) [
+        | inl same ↦ rw (same) c.in_ok-make_room_to.ensures.ok
+        | inr other ↦ let a = i.room q h (sym (c.without-rest.ensures.others q other) ∙ gone) in let g = e.grows p q in omega arith
+      ];
     }
-
-pub returns-clause-ok : goal.returns-clause-ok
-returns-clause-ok c = λ q b h.
-    let i = c.loop-number.invariant in
-    i.room q (let past = c.loop-number-test.false in let few = c.processes-number-end.ensures.processes in omega arith) h

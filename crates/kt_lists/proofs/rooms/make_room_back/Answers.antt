@@ -1,24 +1,27 @@
-use Rattle.std.proofs.Common.{◌≡◌, ◌∙◌, ◌≤◌, ℕ, refl, subst, arith, below_more, length}
-use Rattle.kt_fifo.specs.Channels.{channel, spare_of}
+use Rattle.std.proofs.Common.{◌∙◌, ◌<◌, sym, arith, inl, inr, rules}
+use Rattle.std.proofs.lemmas.Bool.{cases_eq}
+use Rattle.kt_lists.proofs.Rest.{fewer}
 use Rattle.kt_lists.proofs.rooms.make_room_back.Goals as goal
 
-pub loop-number-preserved : goal.loop-number-preserved
-loop-number-preserved c =
-    let n = c.loop-number.number in
-    let p = c.args.p in
-    let here : c.unwrap-from.result ≡ n = rw c.unwrap-from.ensures at c.new.ensures.value in
-    let i = c.loop-number.invariant in
+pub loop-from-smaller : goal.loop-from-smaller
+loop-from-smaller c =
+    let few : c.in-Some.from < 64 = search rules in
+    fewer c.loop-from.rest c.without-rest.result c.in-Some.from few c.in-Some.ensures.member c.without-rest.ensures.removed c.without-rest.ensures.others
+
+pub loop-from-preserved : goal.loop-from-preserved
+loop-from-preserved c =
+    let i = c.loop-from.invariant in
     let e = c.make_room_to.ensures in
-    let new = c.make_room_to.new.channels in
+    let p = c.args.p in
     record {
       processes = e.processes ∙ i.processes;
       lists = e.lists ∙ i.lists;
-      room = below_more (λ q. length (channel c.args.kept.now q p) ≤ spare_of new q p) _
-          (λ q b. let a = i.room q b in let g = e.grows q p in omega arith)
-          (subst (λ (q : ℕ). length (channel c.args.kept.now q p) ≤ spare_of new q p) here (let o = c.in_ok-make_room_to.ensures.ok in omega (arith, c.len.ensures)));
+      rest = λ q h. elim (cases_eq q c.in-Some.from) [
+        | inl same ↦ rw (same) (i.rest c.in-Some.from c.in-Some.ensures.member)
+        | inr other ↦ i.rest q (sym (c.without-rest.ensures.others q other) ∙ h)
+      ];
+      room = λ q gone. elim (cases_eq q c.in-Some.from) [
+        | inl same ↦ rw (same) (let o = c.in_ok-make_room_to.ensures.ok in omega (arith, c.len.ensures))
+        | inr other ↦ let a = i.room q (sym (c.without-rest.ensures.others q other) ∙ gone) in let g = e.grows q p in omega arith
+      ];
     }
-
-pub returns-clause-ok : goal.returns-clause-ok
-returns-clause-ok c = λ q b.
-    let i = c.loop-number.invariant in
-    i.room q (let past = c.loop-number-test.false in let few = c.processes-number-end.ensures.processes in omega arith)
