@@ -1,10 +1,6 @@
 mod base;
-mod certify;
-mod chain;
 mod cuts;
 mod histories;
-mod log_text;
 mod spacetime;
-mod text;
 mod transit;
 mod walk;

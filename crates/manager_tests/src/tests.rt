@@ -1,4 +1,3 @@
 mod fifo;
 mod object;
-mod scenario;
 mod tables;

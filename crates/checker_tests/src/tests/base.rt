@@ -2,7 +2,7 @@ use kt_base::{InstNo, Label, Labels, Memory, MsgNo, ProcNo, ProcSet, RowNo};
 use std::test::Fail;
 
 #[test]
-fn numbers_end_where_they_should(rt: HostRuntime) {
+fn processes_and_labels_end_where_they_should(rt: HostRuntime) {
     assert_eq!(rt; ProcNo::new(63).map(|p| p.get()), Some(63));
     assert_eq!(rt; ProcNo::new(64), None);
     assert_eq!(rt;
@@ -10,12 +10,20 @@ fn numbers_end_where_they_should(rt: HostRuntime) {
         Some(281_474_976_710_655)
     );
     assert_eq!(rt; Label::new(281_474_976_710_656), None);
+}
+
+#[test]
+fn messages_and_rows_end_where_they_should(rt: HostRuntime) {
     assert_eq!(rt; MsgNo::new(0), None);
     assert_eq!(rt; MsgNo::new(16_777_216).map(|m| m.get()), Some(16_777_216));
     assert_eq!(rt; MsgNo::new(16_777_217), None);
     assert_eq!(rt; RowNo::new(0), None);
     assert_eq!(rt; RowNo::new(16_777_216).map(|r| r.get()), Some(16_777_216));
     assert_eq!(rt; RowNo::new(16_777_217), None);
+}
+
+#[test]
+fn instances_end_where_they_should(rt: HostRuntime) {
     assert_eq!(rt; InstNo::new(0), None);
     assert_eq!(rt; InstNo::new(4096).map(|k| k.get()), Some(4096));
     assert_eq!(rt; InstNo::new(4097), None);

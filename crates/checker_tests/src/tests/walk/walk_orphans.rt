@@ -1,5 +1,6 @@
 //! Walks and the least orphans of cuts.
 
+use super::walks::walked;
 use super::{UNDONE_AND_RECEIVED, histories_of, message, process};
 use kt_base::{InstNo, Kind, ProcNo, ProcSet};
 use kt_cuts::Cut;
@@ -93,21 +94,23 @@ fn a_walk_finds_the_orphans_of_the_plain_reader(rt: HostRuntime) -> Result<(), F
 
 #[test]
 fn an_undone_message_is_an_orphan_of_a_walk(rt: HostRuntime) -> Result<(), Fail> {
-    let log = read_csv(rt.alloc(), UNDONE_AND_RECEIVED)?;
-    let mut walk = Walk::new(rt.alloc())?;
-    for row in log.rows() {
-        take(&mut walk, row)?;
-    }
-    let present = cut_with(&walk, SHARES)?;
-    assert_eq!(rt; walk.orphan(&present), Some(message(6)?));
-    let receiver = ProcSet::empty().with(process(1)?);
-    assert_eq!(rt; walk.orphan_among(receiver, &present), Some(message(6)?));
-    assert_eq!(rt; walk.orphan_among(ProcSet::empty(), &present), None);
-    let mut cut = present;
+    let walk = walked(rt.alloc(), UNDONE_AND_RECEIVED)?;
+    let mut cut = cut_with(&walk, SHARES)?;
+    assert_eq!(rt; walk.orphan(&cut), Some(message(6)?));
     cut.set(process(1)?, 1);
     assert_eq!(rt; walk.orphan(&cut), None);
     let permanent = cut_with(&walk, 0)?;
     assert_eq!(rt; walk.orphan(&permanent), None);
+    Ok(())
+}
+
+#[test]
+fn an_undone_message_is_an_orphan_among_its_receivers(rt: HostRuntime) -> Result<(), Fail> {
+    let walk = walked(rt.alloc(), UNDONE_AND_RECEIVED)?;
+    let present = cut_with(&walk, SHARES)?;
+    let receiver = ProcSet::empty().with(process(1)?);
+    assert_eq!(rt; walk.orphan_among(receiver, &present), Some(message(6)?));
+    assert_eq!(rt; walk.orphan_among(ProcSet::empty(), &present), None);
     Ok(())
 }
 
@@ -149,14 +152,21 @@ fn one_round(rt: &impl Abort, walk: &mut Walk) -> Result<(), Fail> {
     Ok(())
 }
 
+// The permanent cut has no orphan, and what process 1 received is permanent.
+fn is_permanent(rt: &impl Abort, walk: &Walk) -> Result<(), Fail> {
+    let p = process(1)?;
+    assert_eq!(rt; walk.orphan(&cut_with(walk, 0)?), None);
+    assert_eq!(rt; walk.permanent(p), walk.length(p));
+    Ok(())
+}
+
 #[test]
 fn orphans_of_a_long_log_are_found(rt: HostRuntime) -> Result<(), Fail> {
     let mut walk = Walk::new(rt.alloc())?;
     for number in 1..=ROUNDS {
         one_round(&rt, &mut walk)?;
         checkpoint(&mut walk, number)?;
-        assert_eq!(rt; walk.orphan(&cut_with(&walk, 0)?), None);
-        assert_eq!(rt; walk.permanent(process(1)?), walk.length(process(1)?));
+        is_permanent(&rt, &walk)?;
     }
     assert_eq!(rt; walk.rows(), 19_982);
     Ok(())

@@ -3,6 +3,7 @@
 use super::{UNDONE_AND_RECEIVED, histories_of, message, process};
 use kt_base::{InstNo, Kind, MsgNo, ProcNo, RowNo};
 use kt_cuts::{LegalFault, Rule, Trace};
+use kt_histories::Histories;
 use kt_log_text::read_csv;
 use kt_spacetime::{Event, SpaceTime};
 use kt_walk::Walk;
@@ -107,6 +108,32 @@ fn has_places(rt: &impl Abort, walk: &Walk, msg: MsgNo, trace: &Trace) -> Result
     Ok(())
 }
 
+// Of a process, the lengths and positions of the plain reader.
+fn agrees_of(rt: &impl Abort, walk: &Walk, histories: &Histories, p: ProcNo) -> Result<(), Fail> {
+    assert_eq!(rt; walk.length(p), histories.length(p));
+    assert_eq!(rt; walk.permanent(p), histories.permanent(p));
+    for inst in 1..5 {
+        let inst = InstNo::new(inst).ok_or("no instance")?;
+        assert_eq!(rt; walk.position(inst, p), histories.position(inst, p));
+    }
+    Ok(())
+}
+
+// Whether a message is kept; it then has the trace of the plain reader, and its places.
+fn has_trace(
+    rt: &impl Abort,
+    walk: &Walk,
+    histories: &Histories,
+    msg: MsgNo,
+) -> Result<bool, Fail> {
+    let Some(trace) = walk.trace(msg) else {
+        return Ok(false);
+    };
+    assert_eq!(rt; histories.trace(msg), Some(trace));
+    has_places(rt, walk, msg, &trace)?;
+    Ok(true)
+}
+
 pub(super) fn agrees_after(
     rt: &impl Abort,
     alloc: Global,
@@ -117,22 +144,12 @@ pub(super) fn agrees_after(
     let histories = histories_of(alloc, log, upto)?;
     assert_eq!(rt; walk.rows(), upto);
     for number in 0..64 {
-        let p = process(number)?;
-        assert_eq!(rt; walk.length(p), histories.length(p));
-        assert_eq!(rt; walk.permanent(p), histories.permanent(p));
-        for inst in 1..5 {
-            let inst = InstNo::new(inst).ok_or("no instance")?;
-            assert_eq!(rt; walk.position(inst, p), histories.position(inst, p));
-        }
+        agrees_of(rt, walk, &histories, process(number)?)?;
     }
     let mut held = 0_usize;
     let last = u32::try_from(upto).ok().ok_or("no row")?;
     for number in 1..last.saturating_add(3) {
-        let msg = message(number)?;
-        let kept = walk.trace(msg);
-        if let Some(trace) = kept {
-            assert_eq!(rt; histories.trace(msg), Some(trace));
-            has_places(rt, walk, msg, &trace)?;
+        if has_trace(rt, walk, &histories, message(number)?)? {
             held = held.saturating_add(1);
         }
     }
@@ -172,15 +189,21 @@ fn a_walk_keeps_what_was_not_received(rt: HostRuntime) -> Result<(), Fail> {
     counts(&rt, rt.alloc(), DROPPED, &[1, 1, 1, 1, 1, 2, 2, 1])
 }
 
+// The walk of a log.
+pub(super) fn walked(alloc: Global, text: &[u8]) -> Result<Walk, Fail> {
+    let log = read_csv(alloc, text)?;
+    let mut walk = Walk::new(alloc)?;
+    for row in log.rows() {
+        take(&mut walk, row)?;
+    }
+    Ok(walk)
+}
+
 #[test]
 fn a_walk_keeps_an_undone_message_while_it_is_received(rt: HostRuntime) -> Result<(), Fail> {
     let held = [1, 1, 1, 1, 1, 2, 2, 2, 2, 2, 2, 2, 3, 3];
     counts(&rt, rt.alloc(), UNDONE_AND_RECEIVED, &held)?;
-    let log = read_csv(rt.alloc(), UNDONE_AND_RECEIVED)?;
-    let mut walk = Walk::new(rt.alloc())?;
-    for row in log.rows() {
-        take(&mut walk, row)?;
-    }
+    let walk = walked(rt.alloc(), UNDONE_AND_RECEIVED)?;
     let trace = Trace {
         from: process(0)?,
         to: process(1)?,
@@ -196,21 +219,33 @@ fn next(p: ProcNo) -> Result<ProcNo, Fail> {
     process((p.get() as usize + 1) % 64)
 }
 
-#[test]
-fn all_processes_send_and_receive(rt: HostRuntime) -> Result<(), Fail> {
-    let mut walk = Walk::new(rt.alloc())?;
+// Each process sends a message to the next one.
+fn send_round(walk: &mut Walk) -> Result<(), Fail> {
     for number in 0..64 {
         let p = process(number)?;
         let to = next(p)?;
-        take(&mut walk, &Event::Sent { p, to, body: 7 })?;
+        take(walk, &Event::Sent { p, to, body: 7 })?;
     }
-    assert_eq!(rt; walk.held(), 64);
+    Ok(())
+}
+
+// Each process receives the message of the one before.
+fn receive_round(walk: &mut Walk) -> Result<(), Fail> {
     for number in 0..64 {
         let from = process(number)?;
         let msg = message((number as u32).wrapping_add(1))?;
         let p = next(from)?;
-        take(&mut walk, &Event::Received { p, from, msg })?;
+        take(walk, &Event::Received { p, from, msg })?;
     }
+    Ok(())
+}
+
+#[test]
+fn all_processes_send_and_receive(rt: HostRuntime) -> Result<(), Fail> {
+    let mut walk = Walk::new(rt.alloc())?;
+    send_round(&mut walk)?;
+    assert_eq!(rt; walk.held(), 64);
+    receive_round(&mut walk)?;
     assert_eq!(rt; walk.held(), 64);
     assert_eq!(rt; walk.length(process(63)?), 2);
     assert_eq!(rt; walk.length(process(0)?), 2);
@@ -220,19 +255,22 @@ fn all_processes_send_and_receive(rt: HostRuntime) -> Result<(), Fail> {
 // How many messages a long log sends: so many that a look at each one at each row would not end in time.
 const MANY: u32 = 131_072;
 
+// Process 0 sends a message, which process 1 receives.
+fn pass_message(walk: &mut Walk, msg: MsgNo) -> Result<(), Fail> {
+    let (p, q) = (process(0)?, process(1)?);
+    take(walk, &Event::Sent { p, to: q, body: 1 })?;
+    take(walk, &Event::Received { p: q, from: p, msg })
+}
+
 #[test]
 fn a_long_log_is_walked(rt: HostRuntime) -> Result<(), Fail> {
-    let (p, q) = (process(0)?, process(1)?);
     let mut walk = Walk::new(rt.alloc())?;
     for number in 0..MANY {
         let row = number.wrapping_mul(2).wrapping_add(1);
-        let sent = Event::Sent { p, to: q, body: 1 };
-        take(&mut walk, &sent)?;
-        let msg = message(row)?;
-        take(&mut walk, &Event::Received { p: q, from: p, msg })?;
+        pass_message(&mut walk, message(row)?)?;
     }
     assert_eq!(rt; walk.rows(), 262_144);
     assert_eq!(rt; walk.held(), 131_072);
-    assert_eq!(rt; walk.length(q), 131_072);
+    assert_eq!(rt; walk.length(process(1)?), 131_072);
     Ok(())
 }

@@ -1,0 +1,126 @@
+//! What is read of logs, row by row and whole.
+
+use crate::entries::{Entry, entries};
+use crate::failing::FailingReader;
+use crate::long_text::{LongText, parts_of};
+use crate::writing::{Form, show_failing_writes, show_written};
+use anyhow::Result;
+use kt_log_text::{LogFault, RowReader, read_csv};
+use kt_spacetime::Event;
+use std::alloc::Global;
+use std::io::Read;
+
+// What a call for the next row answers.
+type Answer = Result<Option<Event>, LogFault>;
+
+// Shows that there is no row, or why, behind a comma.
+fn show_answer<R: Print>(rt: &R, answer: Answer) -> Result<()> {
+    match answer {
+        Ok(Some(row)) => print!(rt; ", {row:?}")?,
+        Ok(None) => print!(rt; ", the end")?,
+        Err(fault) => print!(rt; ", {fault}")?,
+    }
+    Ok(())
+}
+
+// How many rows are read one by one, and the first answer that is none.
+fn count_rows<R: Read + Drop>(rows: &mut RowReader<R>) -> (u32, Answer) {
+    for count in 0..u32::MAX {
+        match rows.next() {
+            Ok(Some(_)) => {}
+            answer => return (count, answer),
+        }
+    }
+    (u32::MAX, rows.next())
+}
+
+// Shows how many rows are read one by one, and what the next two calls answer.
+fn show_count<R: Print, S: Read + Drop>(rt: &R, rows: &mut RowReader<S>) -> Result<()> {
+    let (count, answer) = count_rows(rows);
+    print!(rt; "{count} rows")?;
+    show_answer(rt, answer)?;
+    show_answer(rt, rows.next())?;
+    println!(rt; "")?;
+    Ok(())
+}
+
+fn is_read_fault(answer: Answer) -> bool {
+    match answer {
+        Ok(_) => false,
+        Err(fault) => fault == LogFault::Read,
+    }
+}
+
+// Whether a reader that fails at this call is a read fault of the whole log.
+fn fails_whole(alloc: Global, text: &[u8], call: usize) -> bool {
+    let read = read_csv(alloc, FailingReader::new(text, call));
+    read.err() == Some(LogFault::Read)
+}
+
+// Whether it is one row by row, and again when the next row is asked for.
+fn fails_again(alloc: Global, text: &[u8], call: usize) -> Result<bool> {
+    let mut rows = RowReader::new(alloc, FailingReader::new(text, call))?;
+    let (_count, first) = count_rows(&mut rows);
+    let second = rows.next();
+    Ok(is_read_fault(first) && is_read_fault(second))
+}
+
+// Shows at how many calls a reader that gives a byte a call and fails there is a read fault.
+fn show_failing_reads<R: Print + AllocGlobal>(rt: &R, text: &[u8]) -> Result<()> {
+    let calls = text.len().saturating_add(1);
+    let mut faults: usize = 0;
+    for call in 0..calls {
+        if fails_whole(rt.alloc(), text, call) && fails_again(rt.alloc(), text, call)? {
+            faults = faults.saturating_add(1);
+        }
+    }
+    println!(rt; "  of {calls} calls that fail {faults} are a read fault, again and again")?;
+    Ok(())
+}
+
+// Shows the rows of a log, what is written of them, and what failing readers and writers make of it.
+fn show_rows<R: Print + AllocGlobal>(rt: &R, entry: &Entry, rows: &[Event]) -> Result<()> {
+    for row in rows {
+        println!(rt; "  {row:?}")?;
+    }
+    show_written(rt, Form::Log, entry.text)?;
+    show_failing_reads(rt, entry.text)?;
+    show_failing_writes(rt, Form::Log, entry.text, 7)
+}
+
+fn show_log<R: Print + AllocGlobal>(rt: &R, entry: &Entry) -> Result<()> {
+    let title = entry.title;
+    print!(rt; "{title}: ")?;
+    show_count(rt, &mut RowReader::new(rt.alloc(), entry.text)?)?;
+    match read_csv(rt.alloc(), entry.text) {
+        Ok(log) => show_rows(rt, entry, log.rows()),
+        Err(fault) => {
+            println!(rt; "  {fault}")?;
+            Ok(())
+        }
+    }
+}
+
+/// Shows what is read of each stored log.
+pub(crate) fn show_logs<R: Print + AllocGlobal>(rt: &R, bytes: &[u8]) -> Result<()> {
+    for entry in entries(rt.alloc(), bytes)?.iter() {
+        show_log(rt, entry)?;
+    }
+    Ok(())
+}
+
+fn show_long_log<R: Print + AllocGlobal>(rt: &R, entry: &Entry) -> Result<()> {
+    let title = entry.title;
+    let parts = parts_of(rt.alloc(), entry)?;
+    let mut rows = RowReader::new(rt.alloc(), LongText::new(parts.as_slice()))?;
+    print!(rt; "{title}: ")?;
+    show_count(rt, &mut rows)
+}
+
+/// Shows how many rows are read of each log that is told.
+pub(crate) fn show_long_logs<R: Print + AllocGlobal>(rt: &R, bytes: &[u8]) -> Result<()> {
+    for entry in entries(rt.alloc(), bytes)?.iter() {
+        show_long_log(rt, entry)?;
+    }
+    Ok(())
+}

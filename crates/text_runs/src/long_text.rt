@@ -1,0 +1,107 @@
+//! Long texts, told by lines that say what stands in them how often.
+//!
+//! `lines 3 x` tells of `x` and a line feed, three times; `bytes 3 x` of `x` alone, three times.
+
+use crate::entries::Entry;
+use anyhow::{Context, Result, bail, ensure};
+use std::alloc::Global;
+use std::io;
+use std::io::Read;
+
+/// What stands in a text so many times.
+#[derive(Drop)]
+pub(crate) struct Part {
+    piece: String,
+    times: u32,
+}
+
+fn part_of(alloc: Global, line: &str) -> Result<Part> {
+    let (word, rest) = line.split_once(' ').context("no word")?;
+    let (times, text) = rest.split_once(' ').context("no count")?;
+    let times = times.parse::<u32>()?;
+    ensure!(times > 0 && !text.is_empty(), "a part without a byte");
+    let piece = match word {
+        "lines" => format!(in alloc; "{text}\n")?,
+        "bytes" => String::from_str(alloc, text)?,
+        _ => bail!("neither lines nor bytes"),
+    };
+    Ok(Part { piece, times })
+}
+
+/// The parts that a stored text tells of.
+pub(crate) fn parts_of(alloc: Global, entry: &Entry) -> Result<Vec<Part>> {
+    let mut parts = Vec::new(alloc);
+    for line in std::str::from_utf8(entry.text)?.lines() {
+        parts.push(part_of(alloc, line)?)?;
+    }
+    Ok(parts)
+}
+
+/// Reads a text that is told, a piece a call at most.
+#[derive(Drop)]
+pub(crate) struct LongText<'a> {
+    parts: &'a [Part],
+    piece: &'a [u8],
+    times: u32,
+    left: &'a [u8],
+}
+
+impl LongText<'_> {
+    pub(crate) fn new(parts: &[Part]) -> LongText<'_> {
+        LongText {
+            parts,
+            piece: b"",
+            times: 0,
+            left: b"",
+        }
+    }
+
+    // Begins the next part, if there is one.
+    fn begin_part(&mut self) {
+        if let Some((part, rest)) = self.parts.split_first() {
+            self.parts = rest;
+            self.piece = part.piece.as_bytes();
+            self.times = part.times;
+        }
+    }
+
+    // What comes after what is given up.
+    fn go_on(&mut self) {
+        if self.times == 0 {
+            self.begin_part();
+        }
+        if self.times > 0 {
+            self.left = self.piece;
+            self.times -= 1;
+        }
+    }
+}
+
+impl Read for LongText<'_> {
+    fn read(&mut self, buf: &mut [u8]) -> io::Result<usize> {
+        if self.left.is_empty() {
+            self.go_on();
+        }
+        let count = self.left.len().min(buf.len());
+        buf[..count].copy_from_slice(&self.left[..count]);
+        self.left = &self.left[count..];
+        Ok(count)
+    }
+}
+
+// Adds a part to a text.
+fn add_part(text: &mut Vec<u8>, part: &Part) -> Result<()> {
+    for _ in 0..part.times {
+        text.extend_from_slice(part.piece.as_bytes())?;
+    }
+    Ok(())
+}
+
+/// The text that a stored one tells.
+pub(crate) fn told(alloc: Global, entry: &Entry) -> Result<Vec<u8>> {
+    let mut text = Vec::new(alloc);
+    for part in parts_of(alloc, entry)?.iter() {
+        add_part(&mut text, part)?;
+    }
+    Ok(text)
+}
