@@ -1,4 +1,4 @@
-//! The program: judges a stored run of a checkpoint and rollback-recovery manager.
+//! The program: runs scenarios of a checkpoint and rollback-recovery manager, and judges stored runs.
 #![tactic(auto)]
 
 use kt_program::run;

@@ -11,7 +11,7 @@ use Rattle.kt_program.specs.declared.ending.Done.TheVariants.{Judged, Played, Sh
 use Rattle.kt_program.specs.declared.fault.ProgramFault.{ProgramFault}
 use Rattle.kt_program.specs.declared.fault.ProgramFault.TheVariants as program
 use Rattle.kt_program.specs.declared.line.Asked.{Asked}
-use Rattle.kt_program.specs.declared.line.Asked.TheVariants.{Check, Play}
+use Rattle.kt_program.specs.declared.line.Asked.TheVariants.{Check, Live, Play}
 use Rattle.kt_program.specs.Program.{IsErrorFor, Names, program as definition}
 
 -- why nothing is asked for: an error that clap's definition gives for the words, or no memory
@@ -30,31 +30,38 @@ IsMistake kind = (kind ≢ OutOfMemory) × (kind ≢ DisplayHelp) × (kind ≢ D
 abbrev pub AreAnswered : List Text → (ErrorKind → Type 0) → Type 0
 AreAnswered words P = (e : Error) × IsErrorFor words e × P (kind_of e)
 
--- whether a run is to be played, or a stored one judged
+-- whether a scenario is to be run, serially with steps that may be given, or by threads; or a stored run judged
+abbrev pub IsRun : Asked → Type 0
+IsRun (Play scenario steps log cert) = Unit {0}
+IsRun (Live scenario log cert) = Unit {0}
+IsRun (Check log cert) = ⊥
+
 abbrev pub IsPlay : Asked → Type 0
 IsPlay (Play scenario steps log cert) = Unit {0}
+IsPlay (Live scenario log cert) = ⊥
 IsPlay (Check log cert) = ⊥
 
 abbrev pub IsCheck : Asked → Type 0
 IsCheck (Play scenario steps log cert) = ⊥
+IsCheck (Live scenario log cert) = ⊥
 IsCheck (Check log cert) = Unit {0}
 
 -- words that name something to do of such a sort
 abbrev pub Ask : List Text → (Asked → Type 0) → Type 0
 Ask words P = (asked : Asked) × Names (subcommand_of definition words) asked × P asked
 
--- what is done for words: a run played or judged where they name that; help shown where they ask for it; they are
--- refused where they are a mistake, and a scenario or steps where they name them; other faults come with any words
+-- what is done for words: a scenario run or a run judged where they name that; help shown where they ask for it; they
+-- are refused where they are a mistake, and a scenario or steps where they name them; other faults come with any words
 abbrev pub DoneFor : List Text → Done → Type 0
 DoneFor words (Judged passed) = Ask words IsCheck
-DoneFor words Played = Ask words IsPlay
+DoneFor words Played = Ask words IsRun
 DoneFor words Shown = AreAnswered words IsRequest
 
 abbrev pub RefusedFor : List Text → ProgramFault → Type 0
 RefusedFor words program.Line = AreAnswered words IsMistake
-RefusedFor words (program.Scenario fault) = Ask words IsPlay
+RefusedFor words (program.Scenario fault) = Ask words IsRun
 RefusedFor words (program.Steps fault) = Ask words IsPlay
-RefusedFor words program.Read = Ask words IsPlay
+RefusedFor words program.Read = Ask words IsRun
 RefusedFor words (program.App fault) = Unit {0}
 
 -- why the text of an error of such a kind is not shown: it is a mistake, or that is a fault of writing or of memory

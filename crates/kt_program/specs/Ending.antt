@@ -13,7 +13,7 @@ use Rattle.kt_program.specs.declared.fault.AppFault.{AppFault}
 use Rattle.kt_program.specs.declared.fault.AppFault.TheVariants as app
 use Rattle.kt_program.specs.declared.fault.ProgramFault.{ProgramFault}
 use Rattle.kt_program.specs.declared.fault.ProgramFault.TheVariants as program
-use Rattle.kt_program.specs.Asking.{Ask, IsPlay}
+use Rattle.kt_program.specs.Asking.{Ask, IsRun}
 use Rattle.kt_program.specs.Status.{status_of}
 use Rattle.kt_program.specs.Stored.{Told, is_yes, line_of}
 
@@ -46,6 +46,14 @@ IsOfInput (program.Steps fault) = Unit {0}
 IsOfInput program.Read = Unit {0}
 IsOfInput (program.App fault) = fault ≡ app.Memory
 
+-- no fault of a text of steps
+abbrev pub IsNotOfSteps : ProgramFault → Type 0
+IsNotOfSteps program.Line = Unit {0}
+IsNotOfSteps (program.Scenario fault) = Unit {0}
+IsNotOfSteps (program.Steps fault) = ⊥
+IsNotOfSteps program.Read = Unit {0}
+IsNotOfSteps (program.App fault) = Unit {0}
+
 -- the same of all that the program does; nothing is said of the text of help
 abbrev pub LeavesDone : Done → Told → Told → Type 0
 LeavesDone (Judged passed) old new = AppendsAnswer passed old new
@@ -54,7 +62,7 @@ LeavesDone Shown old new = Unit {0}
 
 -- a fault where part of a report may be written: there was no memory for more of it
 abbrev pub IsInReport : List Text → ProgramFault → Type 0
-IsInReport words fault = (fault ≡ program.App app.Memory) × Ask words IsPlay
+IsInReport words fault = (fault ≡ program.App app.Memory) × Ask words IsRun
 
 -- what these words leave
 abbrev pub Leaves : List Text → Result Done ProgramFault → Told → Told → Type 0

@@ -41,6 +41,7 @@ abbrev pub fault_status : AppFault → ℕ
 fault_status (app.Log fault) = log_status fault
 fault_status (app.Cert fault) = cert_status fault
 fault_status (app.Run fault) = run_status fault
+fault_status (app.Live fault) = 4
 fault_status (app.Uncertified fault) = 4
 fault_status app.Write = 3
 fault_status app.Memory = 4

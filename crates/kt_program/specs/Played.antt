@@ -14,6 +14,8 @@ use Rattle.kt_certify.specs.declared.fault.CertFault.TheVariants as certify
 use Rattle.kt_report.specs.Report.{WritesReport}
 use Rattle.kt_run.specs.declared.faults.RunFault.{RunFault}
 use Rattle.kt_run.specs.declared.faults.RunFault.TheVariants as run
+use Rattle.kt_threads.specs.declared.faults.LiveFault.{LiveFault}
+use Rattle.kt_threads.specs.declared.faults.LiveFault.TheVariants as live
 use Rattle.kt_program.specs.declared.fault.AppFault.{AppFault}
 use Rattle.kt_program.specs.declared.fault.AppFault.TheVariants as app
 use Rattle.kt_program.specs.Stored.{Told}
@@ -49,6 +51,11 @@ pub record IsPlayed (names : List (List ℕ)) (old new : Outputs) : Type 0 where
 abbrev pub of_run : RunFault → AppFault
 of_run run.Memory = app.Memory
 of_run fault = app.Run fault
+
+-- a fault of a run by threads, as the program answers it
+abbrev pub of_live : LiveFault → AppFault
+of_live live.Memory = app.Memory
+of_live fault = app.Live fault
 
 -- why a log has no certificates, as the program answers it
 abbrev pub of_cert_fault : CertFault → AppFault
@@ -87,6 +94,7 @@ StopsWithin old new = StopsInLog old new ⊎ (StopsInCertificates old new ⊎ St
 -- what is written where a run is not played to its end
 abbrev pub StopsAt : Outputs → Outputs → AppFault → Type 0
 StopsAt old new (app.Run fault) = (fault ≢ run.Memory) × IsUnwritten old new
+StopsAt old new (app.Live fault) = (fault ≢ live.Memory) × IsUnwritten old new
 StopsAt old new (app.Uncertified fault) = (fault ≢ certify.Memory) × StopsUncertified fault old new
 StopsAt old new app.Write = StopsWithin old new
 StopsAt old new app.Memory = StopsWithin old new

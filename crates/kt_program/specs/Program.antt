@@ -8,7 +8,7 @@ use Rattle.clap.specs.declared.builder.command.Command.TheViews.{out-Command as 
 use Rattle.clap.specs.declared.builder.command.Command.{Command}
 use Rattle.clap.specs.declared.builder.arg.Arg.{Arg}
 use Rattle.kt_program.specs.declared.line.Asked.{Asked}
-use Rattle.kt_program.specs.declared.line.Asked.TheVariants.{Check, Play}
+use Rattle.kt_program.specs.declared.line.Asked.TheVariants.{Check, Live, Play}
 
 -- a word that has to be there, with a name in help
 abbrev pub wanted : Text → Rule
@@ -21,6 +21,9 @@ optional id = record (new_rule id) { long = Some id; value_names = 1 }
 abbrev pub play : App
 play = with_rule (with_rule (with_rule (with_rule (new_app (codes "play")) (wanted (codes "scenario"))) (optional (codes "steps"))) (optional (codes "log"))) (optional (codes "cert"))
 
+abbrev pub live : App
+live = with_rule (with_rule (with_rule (new_app (codes "live")) (wanted (codes "scenario"))) (optional (codes "log"))) (optional (codes "cert"))
+
 abbrev pub check : App
 check = with_rule (with_rule (new_app (codes "check")) (wanted (codes "log"))) (wanted (codes "cert"))
 
@@ -30,7 +33,7 @@ with_version app = record app { top = record app.top { has_version = true } }
 
 -- the program's command line
 abbrev pub program : App
-program = with_subcommand (with_subcommand (with_version (new_app (codes "koo_toueg"))) play.top) check.top
+program = with_subcommand (with_subcommand (with_subcommand (with_version (new_app (codes "koo_toueg"))) play.top) live.top) check.top
 
 -- an argument that clap reads as this rule
 pub record IsRule (rule : Rule) (a : Arg) : Type 0 where
@@ -49,10 +52,18 @@ pub record NamesPlay (rows : List Row) (scenario : Text) (steps log cert : Optio
   pub log_is : first_of (codes "log") rows ≡ log
   pub cert_is : first_of (codes "cert") rows ≡ cert
 
+-- what the matches of `live` name
+pub record NamesLive (rows : List Row) (scenario : Text) (log cert : Option Text) : Type 0 where
+  pub scenario_is : first_of (codes "scenario") rows ≡ Some scenario
+  pub log_is : first_of (codes "log") rows ≡ log
+  pub cert_is : first_of (codes "cert") rows ≡ cert
+
 -- what a subcommand's matches name
 abbrev pub NamesIn : Text → List Row → Asked → Type 0
 NamesIn name rows (Play scenario steps log cert) =
     (name ≡ codes "play") × NamesPlay rows scenario.now (option_map (λ s. s.now) steps) (option_map (λ s. s.now) log) (option_map (λ s. s.now) cert)
+NamesIn name rows (Live scenario log cert) =
+    (name ≡ codes "live") × NamesLive rows scenario.now (option_map (λ s. s.now) log) (option_map (λ s. s.now) cert)
 NamesIn name rows (Check log cert) = (name ≡ codes "check") × (first_of (codes "log") rows ≡ Some log.now) × (first_of (codes "cert") rows ≡ Some cert.now)
 
 -- what is asked for names the subcommand and its texts

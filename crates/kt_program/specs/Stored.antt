@@ -57,6 +57,7 @@ IsRefusal of_rows of_certs (app.Cert fault) = (fault ≢ cert.Memory) × IfSome 
 IsRefusal of_rows of_certs app.Write = (verdict : Verdict) × IsJudged of_rows of_certs verdict
 IsRefusal of_rows of_certs app.Memory = Unit {0}
 IsRefusal of_rows of_certs (app.Run fault) = ⊥
+IsRefusal of_rows of_certs (app.Live fault) = ⊥
 IsRefusal of_rows of_certs (app.Uncertified fault) = ⊥
 
 -- a fault of a log, as the program answers it

@@ -2,7 +2,7 @@
 
 ghost use Rattle.std.specs.Prelude.{◌≡◌, codes, IfOk, IfErr, IfSome, IfNone, Some, option_map};
 ghost use Rattle.clap.specs.Words.{first_of, kind_of, new_app, subcommand_of, subcommand_rows_of, rows_of, found_of};
-ghost use Rattle.kt_program.specs.Program.{program, check, play, optional, wanted, with_version, IsRule, IsDefined, Names, NamesIn};
+ghost use Rattle.kt_program.specs.Program.{program, check, live, play, optional, wanted, with_version, IsRule, IsDefined, Names, NamesIn};
 ghost use Rattle.clap.specs.declared.error.kind.ErrorKind.TheVariants.{MissingSubcommand};
 ghost use Rattle.kt_program.specs.declared.line.Asked.{Asked};
 ghost use Rattle.kt_program.specs.Asking.{IsUnasked};
@@ -17,7 +17,7 @@ use std::alloc::{AllocError, Global};
 const VERSION: &str = "0.1.0";
 
 const ABOUT: &str =
-    "Plays scenarios of a checkpoint and rollback-recovery manager, and judges stored runs";
+    "Runs scenarios of a checkpoint and rollback-recovery manager, and judges stored runs";
 
 const ABOUT_PLAY: &str = "Plays a scenario, and prints a report of the run";
 
@@ -43,6 +43,12 @@ After them the run goes on by default steps until all is at rest.";
 const ABOUT_LOG_OUT: &str = "Where the log is written, in format 2";
 
 const ABOUT_CERT_OUT: &str = "Where the certificates are written";
+
+const ABOUT_LIVE: &str = "Runs a scenario in threads, and prints a report of the run";
+
+const LONG_ABOUT_LIVE: &str =
+    "Runs a scenario, each object in a thread of its own, and prints a report of the
+run. Which steps come first is left to the threads.";
 
 const ABOUT_CHECK: &str = "Judges a stored log with its certificates";
 
@@ -151,6 +157,22 @@ fn play_command<'a>(alloc: Global) -> Result<Command<'a>, AllocError>
     Ok(command)
 }
 
+fn live_command<'a>(alloc: Global) -> Result<Command<'a>, AllocError>
+    ensures { IfOk result (IsDefined live) }
+{
+    let command = command_of(alloc, "live", ABOUT_LIVE, LONG_ABOUT_LIVE)
+        .arg(wanted_word(
+            alloc,
+            "scenario",
+            "SCENARIO",
+            ABOUT_SCENARIO,
+            LONG_ABOUT_SCENARIO,
+        ))?
+        .arg(optional_word(alloc, "log", ABOUT_LOG_OUT, ABOUT_LOG_OUT))?
+        .arg(optional_word(alloc, "cert", ABOUT_CERT_OUT, ABOUT_CERT_OUT))?;
+    Ok(command)
+}
+
 fn check_command<'a>(alloc: Global) -> Result<Command<'a>, AllocError>
     ensures { IfOk result (IsDefined check) }
 {
@@ -175,6 +197,7 @@ fn program_command<'a>(alloc: Global) -> Result<Command<'a>, AllocError>
 {
     let command = bare_command(alloc)
         .subcommand(play_command(alloc)?)?
+        .subcommand(live_command(alloc)?)?
         .subcommand(check_command(alloc)?)?;
     Ok(command)
 }
@@ -199,6 +222,18 @@ fn asked_of_play<'a>(matches: &ArgMatches<'a>) -> Option<Asked<'a>>
     })
 }
 
+// What the matches of `live` ask for.
+fn asked_of_live<'a>(matches: &ArgMatches<'a>) -> Option<Asked<'a>>
+    ensures named { IfSome result (NamesIn (codes "live") (rows_of (found_of matches.now))) }
+    ensures nothing { IfNone result ((asked : Asked) → ¬ NamesIn (codes "live") (rows_of (found_of matches.now)) asked) }
+{
+    Some(Asked::Live {
+        scenario: text_of(matches, "scenario")?,
+        log: text_of(matches, "log"),
+        cert: text_of(matches, "cert"),
+    })
+}
+
 // What the matches of `check` ask for.
 fn asked_of_check<'a>(matches: &ArgMatches<'a>) -> Option<Asked<'a>>
     ensures named { IfSome result (NamesIn (codes "check") (rows_of (found_of matches.now))) }
@@ -217,6 +252,7 @@ fn asked_of<'a>(name: &str, matches: &ArgMatches<'a>) -> Option<Asked<'a>>
 {
     match name {
         "play" => asked_of_play(matches),
+        "live" => asked_of_live(matches),
         "check" => asked_of_check(matches),
         _ => None,
     }

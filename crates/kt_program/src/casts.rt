@@ -8,13 +8,15 @@ ghost use Rattle.kt_program.specs.CastRows.{IsCast};
 ghost use Rattle.kt_program.specs.Played.{IsPlayed, StopsAt, outputs};
 
 use crate::fault::AppFault;
-use crate::played::play_plan;
+use crate::played::{live_plan, play_plan};
 use kt_base::Memory;
 use kt_held::Cast;
 use kt_object::{Last, Object, Recoverable, SlotBook, Sum, Tail};
 use kt_plan::{Command, Job, Plan, Step};
 use std::alloc::Global;
 use std::io::Write;
+use std::sync::Wait;
+use std::thread::Threads;
 
 /// What a run begins with, by process: what is made for the process, and a spare for each of its failures, each made for
 /// the kind of the process.
@@ -132,6 +134,79 @@ fn play_cast<L: Write, C: Write, R: Write>(
         alloc,
         plan,
         steps,
+        cast,
+        log_writer,
+        cert_writer,
+        report_writer,
+    )
+}
+
+/// Runs a plan as `live_plan` does, over new objects of the plan's kinds.
+pub fn live_objects<T: Threads + Wait + Sync, L: Write, C: Write, R: Write>(
+    rt: &T,
+    alloc: Global,
+    plan: &Plan,
+    log_writer: &mut L,
+    cert_writer: &mut C,
+    report_writer: &mut R,
+) -> Result<(), AppFault>
+    ensures played { OnOk result (IsPlayed plan.now.names
+        (outputs (L.contents log_writer.old) (C.contents cert_writer.old) (R.contents report_writer.old))
+        (outputs (L.contents log_writer.new) (C.contents cert_writer.new) (R.contents report_writer.new))) }
+    ensures stopped { IfErr result (StopsAt
+        (outputs (L.contents log_writer.old) (C.contents cert_writer.old) (R.contents report_writer.old))
+        (outputs (L.contents log_writer.new) (C.contents cert_writer.new) (R.contents report_writer.new))) }
+{
+    let _processes = plan.size();
+    let mut book = SlotBook::new(alloc);
+    let make = |kind: u8| -> Result<Object, Memory>
+        ensures kind { IfOk result (λ object. IsKind kind → kind_of object ≡ kind) }
+        ensures value { IfOk result (λ object. IsKind kind → value_of object ≡ opening kind) }
+    {
+        let guard = book.open()?;
+        match kind {
+            0 => Ok(Box::new(alloc, Sum::new(guard))?),
+            1 => Ok(Box::new(alloc, Last::new(guard))?),
+            _ => Ok(Box::new(alloc, Tail::new(guard))?),
+        }
+    };
+    let cast = cast_of(alloc, plan, make)?;
+    live_cast(
+        rt,
+        alloc,
+        plan,
+        cast,
+        log_writer,
+        cert_writer,
+        report_writer,
+    )
+}
+
+// Runs a plan in threads, over objects that the plan asks for, at their opening values.
+fn live_cast<T: Threads + Wait + Sync, L: Write, C: Write, R: Write>(
+    rt: &T,
+    alloc: Global,
+    plan: &Plan,
+    cast: Cast,
+    log_writer: &mut L,
+    cert_writer: &mut C,
+    report_writer: &mut R,
+) -> Result<(), AppFault>
+    requires sizes { HasSizes plan.now.kinds plan.now.commands (map (λ row. map (λ b. kind_of b) row.items) cast.items) }
+    requires kinds { (p : ℕ) → p < length plan.now.kinds →
+        HasKind plan.now.kinds (map (λ row. map (λ b. kind_of b) row.items) cast.items) p }
+    requires opening { All (λ row. All (λ b. value_of b ≡ opening (kind_of b)) row.items) cast.items }
+    ensures played { OnOk result (IsPlayed plan.now.names
+        (outputs (L.contents log_writer.old) (C.contents cert_writer.old) (R.contents report_writer.old))
+        (outputs (L.contents log_writer.new) (C.contents cert_writer.new) (R.contents report_writer.new))) }
+    ensures stopped { IfErr result (StopsAt
+        (outputs (L.contents log_writer.old) (C.contents cert_writer.old) (R.contents report_writer.old))
+        (outputs (L.contents log_writer.new) (C.contents cert_writer.new) (R.contents report_writer.new))) }
+{
+    live_plan(
+        rt,
+        alloc,
+        plan,
         cast,
         log_writer,
         cert_writer,

@@ -12,6 +12,7 @@ use kt_core::StepFault;
 use kt_log_text::LogFault;
 use kt_run::RunFault;
 use kt_scenario::{ScenarioFault, StepsFault};
+use kt_threads::LiveFault;
 use thiserror::Error;
 
 /// Why a run was not played, or a stored run not judged.
@@ -26,6 +27,9 @@ pub enum AppFault {
     /// The run came to no end.
     #[error(transparent)]
     Run(RunFault),
+    /// The run by threads came to no end.
+    #[error(transparent)]
+    Live(LiveFault),
     /// The log of the run has no certificates.
     #[error("run: Uncertified")]
     Uncertified(CertFault),
@@ -48,7 +52,7 @@ impl AppFault {
             AppFault::Log(LogFault::Memory) | AppFault::Cert(CertTextFault::Memory) => 4,
             AppFault::Log(_) | AppFault::Cert(_) => 2,
             AppFault::Run(RunFault::Step(_, StepFault::NotEnabled)) => 2,
-            AppFault::Run(_) | AppFault::Uncertified(_) => 4,
+            AppFault::Run(_) | AppFault::Live(_) | AppFault::Uncertified(_) => 4,
             AppFault::Write => 3,
             AppFault::Memory => 4,
         }

@@ -16,12 +16,12 @@ pub mod program;
 pub mod words;
 
 pub use ask::{AskFault, asked};
-pub use casts::{cast_of, play_objects};
+pub use casts::{cast_of, live_objects, play_objects};
 pub use checked::check_bytes;
 pub use ending::{Done, end, write_fault};
 pub use fault::{AppFault, ProgramFault};
 pub use inputs::{read_scenario, read_steps};
 pub use line::Asked;
-pub use played::play_plan;
+pub use played::{live_plan, play_plan};
 pub use program::{carry_out, run};
 pub use words::Words;

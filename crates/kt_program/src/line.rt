@@ -10,6 +10,12 @@ pub enum Asked<'a> {
         log: Option<&'a str>,
         cert: Option<&'a str>,
     },
+    /// Run a scenario, each object in a thread of its own, and write its log and its certificates where that is asked.
+    Live {
+        scenario: &'a str,
+        log: Option<&'a str>,
+        cert: Option<&'a str>,
+    },
     /// Judge a stored log with its certificates.
     Check {
         log: &'a str,

@@ -12,8 +12,9 @@ ghost use Rattle.kt_certify.specs.declared.fault.CertFault.{CertFault};
 ghost use Rattle.kt_certify.specs.declared.fault.CertFault.TheVariants as certify_fault;
 ghost use Rattle.kt_run.specs.declared.faults.RunFault.{RunFault};
 ghost use Rattle.kt_run.specs.declared.faults.RunFault.TheVariants as run_fault;
+ghost use Rattle.kt_threads.specs.declared.faults.LiveFault.{LiveFault};
 ghost use Rattle.kt_program.specs.declared.fault.AppFault.TheVariants as app;
-ghost use Rattle.kt_program.specs.Played.{IsOfWriting, IsPlayed, StopsAt, WritesLog, WritesCertificates, outputs, of_cert_fault, of_run};
+ghost use Rattle.kt_program.specs.Played.{IsOfWriting, IsPlayed, StopsAt, WritesLog, WritesCertificates, outputs, of_cert_fault, of_live, of_run};
 
 use crate::fault::AppFault;
 use kt_certify::{CertFault, certify};
@@ -25,8 +26,11 @@ use kt_report::report;
 use kt_run::{RunFault, log_of};
 use kt_spacetime::SpaceTime;
 use kt_text::WriteFault;
+use kt_threads::{LiveFault, live};
 use std::alloc::Global;
 use std::io::Write;
+use std::sync::Wait;
+use std::thread::Threads;
 
 /// Plays a run of a plan over these objects, the steps given first, and writes its log, then its certificates, then its
 /// report. Each writer is flushed.
@@ -51,10 +55,55 @@ pub fn play_plan<L: Write, C: Write, R: Write>(
         (outputs (L.contents log_writer.new) (C.contents cert_writer.new) (R.contents report_writer.new))) }
 {
     let log = run_plan(alloc, plan, steps, cast)?;
-    write_log(alloc, &log, log_writer)?;
-    let certificates = log_certificates(alloc, &log)?;
+    write_run(alloc, plan, &log, log_writer, cert_writer, report_writer)
+}
+
+/// Runs a plan over these objects, each process in a thread of its own, and writes its log, then its certificates, then its
+/// report. Each writer is flushed.
+///
+/// What was written before a fault stays.
+pub fn live_plan<T: Threads + Wait + Sync, L: Write, C: Write, R: Write>(
+    rt: &T,
+    alloc: Global,
+    plan: &Plan,
+    cast: Cast,
+    log_writer: &mut L,
+    cert_writer: &mut C,
+    report_writer: &mut R,
+) -> Result<(), AppFault>
+    // There is one list of rows, and it is legal, of which all three are written.
+    ensures played { OnOk result (IsPlayed plan.now.names
+        (outputs (L.contents log_writer.old) (C.contents cert_writer.old) (R.contents report_writer.old))
+        (outputs (L.contents log_writer.new) (C.contents cert_writer.new) (R.contents report_writer.new))) }
+    // Where it stops: nothing is written of what comes later, and all of what comes earlier.
+    ensures stopped { IfErr result (StopsAt
+        (outputs (L.contents log_writer.old) (C.contents cert_writer.old) (R.contents report_writer.old))
+        (outputs (L.contents log_writer.new) (C.contents cert_writer.new) (R.contents report_writer.new))) }
+{
+    let log = live_log(rt, alloc, plan, cast)?;
+    write_run(alloc, plan, &log, log_writer, cert_writer, report_writer)
+}
+
+// Writes the log of a run, then its certificates, then its report.
+fn write_run<L: Write, C: Write, R: Write>(
+    alloc: Global,
+    plan: &Plan,
+    log: &SpaceTime,
+    log_writer: &mut L,
+    cert_writer: &mut C,
+    report_writer: &mut R,
+) -> Result<(), AppFault>
+    ensures played { OnOk result (IsPlayed plan.now.names
+        (outputs (L.contents log_writer.old) (C.contents cert_writer.old) (R.contents report_writer.old))
+        (outputs (L.contents log_writer.new) (C.contents cert_writer.new) (R.contents report_writer.new))) }
+    ensures stopped { IfErr result (StopsAt
+        (outputs (L.contents log_writer.old) (C.contents cert_writer.old) (R.contents report_writer.old))
+        (outputs (L.contents log_writer.new) (C.contents cert_writer.new) (R.contents report_writer.new))) }
+{
+    write_log(alloc, log, log_writer)?;
+    let certificates = log_certificates(alloc, log)?;
     write_certificates(alloc, certificates.as_slice(), cert_writer)?;
-    write_report(alloc, plan, &log, certificates.as_slice(), report_writer)
+    write_report(alloc, plan, log, certificates.as_slice(), report_writer)
 }
 
 // The log of a run.
@@ -64,6 +113,21 @@ fn run_plan(alloc: Global, plan: &Plan, steps: &[Step], cast: Cast) -> Result<Sp
     match log_of(alloc, plan, steps, cast) {
         Ok(log) => Ok(log),
         Err(fault) => Err(run_fault(fault)),
+    }
+}
+
+// The log of a run by threads.
+fn live_log<T: Threads + Wait + Sync>(
+    rt: &T,
+    alloc: Global,
+    plan: &Plan,
+    cast: Cast,
+) -> Result<SpaceTime, AppFault>
+    ensures { IfErr result (λ e. (f : LiveFault) × (e ≡ of_live f)) }
+{
+    match live(rt, alloc, plan, cast) {
+        Ok(outcome) => Ok(outcome.log),
+        Err(fault) => Err(live_fault(fault)),
     }
 }
 
@@ -132,6 +196,16 @@ fn run_fault(fault: RunFault) -> AppFault
     match fault {
         RunFault::Memory => AppFault::Memory,
         _ => AppFault::Run(fault),
+    }
+}
+
+// A fault of a run by threads; its want of memory is the program's own.
+fn live_fault(fault: LiveFault) -> AppFault
+    ensures { result ≡ of_live fault }
+{
+    match fault {
+        LiveFault::Memory => AppFault::Memory,
+        _ => AppFault::Live(fault),
     }
 }
 

@@ -1,11 +1,11 @@
-//! A scenario played from its files.
+//! A scenario played, or run by threads, from its files.
 
 ghost use Rattle.std.specs.Prelude.{◌≡◌, ◌≢◌, IfErr};
 ghost use Rattle.kt_program.specs.declared.fault.AppFault.TheVariants as app;
 ghost use Rattle.kt_program.specs.declared.fault.ProgramFault.TheVariants as program;
-ghost use Rattle.kt_program.specs.Ending.{IsOfInput, LeavesPlayed};
+ghost use Rattle.kt_program.specs.Ending.{IsNotOfSteps, IsOfInput, LeavesPlayed};
 
-use crate::casts::play_objects;
+use crate::casts::{live_objects, play_objects};
 use crate::fault::ProgramFault;
 use crate::inputs::{read_scenario, read_steps};
 use crate::outputs::output_of;
@@ -14,6 +14,8 @@ use std::alloc::Global;
 use std::fs;
 use std::io::Write;
 use std::rt::Files;
+use std::sync::Wait;
+use std::thread::Threads;
 
 /// Plays the scenario in a file, with the steps of another one first, if that is named, and writes its log and its
 /// certificates into files where these are named, and its report.
@@ -38,9 +40,32 @@ pub(crate) fn play_files<F: Files, O: Write>(
     Ok(())
 }
 
+/// Runs the scenario in a file, each object in a thread of its own, and writes its log and its certificates into files
+/// where these are named, and its report.
+///
+/// Files are made once the scenario was taken.
+pub(crate) fn live_files<F: Files + Threads + Wait + Sync, O: Write>(
+    rt: &F,
+    alloc: Global,
+    scenario: &str,
+    log: Option<&str>,
+    cert: Option<&str>,
+    out: &mut O,
+) -> Result<(), ProgramFault>
+    ensures output { LeavesPlayed result (O.contents out.old) (O.contents out.new) }
+    ensures fault { IfErr result IsNotOfSteps }
+{
+    let plan = scenario_in(rt, alloc, scenario)?;
+    let mut log = output_of(rt, log)?;
+    let mut cert = output_of(rt, cert)?;
+    live_objects(rt, alloc, &plan, &mut log, &mut cert, out)?;
+    Ok(())
+}
+
 // The plan of the scenario in this file.
 fn scenario_in<F: Files>(files: &F, alloc: Global, name: &str) -> Result<Plan, ProgramFault>
-    ensures { IfErr result IsOfInput }
+    ensures input { IfErr result IsOfInput }
+    ensures fault { IfErr result IsNotOfSteps }
 {
     let Ok(file) = fs::open(files, name) else {
         return Err(ProgramFault::Read);

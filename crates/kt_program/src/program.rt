@@ -15,7 +15,7 @@ use crate::checked::check_bytes;
 use crate::ending::{Done, end};
 use crate::fault::{AppFault, ProgramFault};
 use crate::line::Asked;
-use crate::playing::play_files;
+use crate::playing::{live_files, play_files};
 use crate::words::Words;
 use clap::Error;
 use clap::error::ErrorKind;
@@ -24,11 +24,13 @@ use kt_log_text::LogFault;
 use std::alloc::Global;
 use std::io::Write;
 use std::rt::{Env, Files};
+use std::sync::Wait;
+use std::thread::Threads;
 use std::{env, fs, io};
 
 /// Does what the words of the command line ask, writes the answer to `out` and a fault's line to `err`, and gives the exit
 /// status.
-pub fn run<V: Env, F: Files, O: Write, E: Write>(
+pub fn run<V: Env, F: Files + Threads + Wait + Sync, O: Write, E: Write>(
     env: &V,
     files: &F,
     alloc: Global,
@@ -43,7 +45,7 @@ pub fn run<V: Env, F: Files, O: Write, E: Write>(
 }
 
 // Does what the words of the command line ask.
-fn do_words<V: Env, F: Files, O: Write>(
+fn do_words<V: Env, F: Files + Threads + Wait + Sync, O: Write>(
     env: &V,
     files: &F,
     alloc: Global,
@@ -56,7 +58,7 @@ fn do_words<V: Env, F: Files, O: Write>(
 }
 
 /// Does what these words ask, and writes the answer or the help to `out`.
-pub fn carry_out<F: Files, O: Write>(
+pub fn carry_out<F: Files + Threads + Wait + Sync, O: Write>(
     files: &F,
     alloc: Global,
     words: &Words,
@@ -75,6 +77,16 @@ pub fn carry_out<F: Files, O: Write>(
                 cert,
             },
         ) => match play_files(files, alloc, scenario, steps, log, cert, out) {
+            Ok(()) => Ok(Done::Played),
+            Err(fault) => Err(fault),
+        },
+        Ok(
+            Asked::Live {
+                scenario,
+                log,
+                cert,
+            },
+        ) => match live_files(files, alloc, scenario, log, cert, out) {
             Ok(()) => Ok(Done::Played),
             Err(fault) => Err(fault),
         },

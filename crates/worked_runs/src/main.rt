@@ -1,9 +1,11 @@
 //! Shows what is read from each stored run: its first broken rule, or what its histories are after each row, as both
 //! readers tell it, the checker's answer in both formats, and whether what is written is what was read. Then plays each
-//! scenario that a stored run is of.
+//! scenario that a stored run is of, and runs each in threads.
 #![tactic(auto)]
 
+mod commands;
 mod facts;
+mod lives;
 mod plays;
 mod readers;
 mod texts;
@@ -13,6 +15,7 @@ use facts::show_facts;
 use kt_histories::legal;
 use kt_log_text::read_csv;
 use kt_spacetime::SpaceTime;
+use lives::{show_large_live, show_lives};
 use plays::show_plays;
 use std::fs;
 use texts::show_texts;
@@ -50,5 +53,7 @@ fn main(rt: HostRuntime) -> Result<()> {
     for name in names.lines() {
         show_stored(&rt, name)?;
     }
-    show_plays(&rt, "plays.txt")
+    show_plays(&rt, "plays.txt")?;
+    show_lives(&rt, "lives.txt")?;
+    show_large_live(&rt)
 }

@@ -1,27 +1,11 @@
 //! Plays the scenarios that stored runs are of.
 
+use crate::commands::{CERT, Host, LOG, are_same, carry_out_words, words_of};
 use anyhow::Result;
-use kt_base::Memory;
-use kt_program::{Words, carry_out, end};
-use std::alloc::Global;
-use std::fs;
-
-// Where the log and the certificates of a play are written.
-const LOG: &str = "played.log.csv";
-
-const CERT: &str = "played.cert.csv";
-
-// The words of a command line.
-fn words_of(alloc: Global, list: &[&str]) -> Result<Words, Memory> {
-    let mut words = Words::new(alloc);
-    for word in list {
-        words.push(word)?;
-    }
-    Ok(words)
-}
+use std::{fs, io};
 
 // Plays a scenario, with these steps first where there are some; shows the report and the exit status.
-fn play(rt: &HostRuntime, scenario: &str, steps: Option<&str>) -> Result<()> {
+fn play<R: Host>(rt: &R, scenario: &str, steps: Option<&str>) -> Result<()> {
     let words = match steps {
         Some(steps) => words_of(
             rt.alloc(),
@@ -42,21 +26,13 @@ fn play(rt: &HostRuntime, scenario: &str, steps: Option<&str>) -> Result<()> {
             &["koo_toueg", "play", scenario, "--log", LOG, "--cert", CERT],
         ),
     }?;
-    let outcome = carry_out(rt, rt.alloc(), &words, &mut rt.stdout());
-    let status = end(outcome, &mut rt.stdout());
+    let status = carry_out_words(rt, &words, &mut io::writer(rt));
     println!(rt; "status {status}")?;
     Ok(())
 }
 
-// Whether two files have the same bytes.
-fn are_same(rt: &HostRuntime, left: &str, right: &str) -> Result<bool> {
-    let left = fs::read(rt, left)?;
-    let right = fs::read(rt, right)?;
-    Ok(left.as_slice() == right.as_slice())
-}
-
 // Plays the scenario of the stored run of this name, and shows whether its log and its certificates are those stored.
-fn show_play(rt: &HostRuntime, name: &str, has_steps: bool) -> Result<()> {
+fn show_play<R: Host>(rt: &R, name: &str, has_steps: bool) -> Result<()> {
     let scenario = format!(in rt.alloc(); "{name}.scenario")?;
     let steps = format!(in rt.alloc(); "{name}.steps")?;
     let log = format!(in rt.alloc(); "{name}.log.csv")?;
@@ -75,7 +51,7 @@ fn show_play(rt: &HostRuntime, name: &str, has_steps: bool) -> Result<()> {
 }
 
 /// Plays the scenario of each stored run that a list names; behind a name stands `steps` where some come first.
-pub(crate) fn show_plays(rt: &HostRuntime, list: &str) -> Result<()> {
+pub(crate) fn show_plays<R: Host>(rt: &R, list: &str) -> Result<()> {
     let names = fs::read_to_string(rt, list)?;
     for line in names.lines() {
         match line.strip_suffix(" steps") {

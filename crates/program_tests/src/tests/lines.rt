@@ -8,15 +8,18 @@ use kt_program::program::run;
 use kt_program::words::Words;
 use std::process::Abort;
 use std::rt::Files;
+use std::sync::Wait;
 use std::test::Fail;
+use std::thread::Threads;
 
 const HELP: &str =
-    "Plays scenarios of a checkpoint and rollback-recovery manager, and judges stored runs
+    "Runs scenarios of a checkpoint and rollback-recovery manager, and judges stored runs
 
 Usage: koo_toueg [COMMAND]
 
 Commands:
   play   Plays a scenario, and prints a report of the run
+  live   Runs a scenario in threads, and prints a report of the run
   check  Judges a stored log with its certificates
   help   Print this message or the help of the given subcommand(s)
 
@@ -83,7 +86,10 @@ Exit status:
 ";
 
 // What the program prints, called with these words.
-fn ran<R: Files + AllocGlobal>(rt: &R, words: &[&[u8]]) -> Result<Printed, Fail> {
+fn ran<R: Files + Threads + Wait + Sync + AllocGlobal>(
+    rt: &R,
+    words: &[&[u8]],
+) -> Result<Printed, Fail> {
     let mut out = Vec::new(rt.alloc());
     let mut err = Vec::new(rt.alloc());
     let status = run(&Line { words }, rt, rt.alloc(), &mut out, &mut err);
@@ -163,7 +169,7 @@ fn help_and_the_version_are_shown(rt: HostRuntime) -> Result<(), Fail> {
 
 // What is handed over of the version, and of the fault line, where the writers fail at these calls; and the status.
 fn version(
-    rt: &(impl Files + AllocGlobal),
+    rt: &(impl Files + Threads + Wait + Sync + AllocGlobal),
     out_fails_at: usize,
     err_fails_at: usize,
 ) -> (u8, Holding, Holding) {

@@ -4,4 +4,5 @@ use Rattle.kt_program.proofs.ask.program_command.Goals as goal
 pub returns : goal.returns
 returns c =
     let play = subcommand_added _ _ _ _ _ c.bare_command.ensures c.in_ok-play_command.ensures c.in_ok-subcommand.ensures in
-    subcommand_added _ _ _ _ _ play c.in_ok-check_command.ensures c.in_ok-command.ensures
+    let live = subcommand_added _ _ _ _ _ play c.in_ok-live_command.ensures c.in_ok-subcommand-2.ensures in
+    subcommand_added _ _ _ _ _ live c.in_ok-check_command.ensures c.in_ok-command.ensures

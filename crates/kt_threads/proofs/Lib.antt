@@ -1,0 +1,4 @@
+pub mod Casting
+pub mod Replay
+pub mod Zips
+pub mod Reading

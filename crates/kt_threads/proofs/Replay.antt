@@ -1,0 +1,76 @@
+-- Steps one after another.
+use Rattle.std.proofs.Common.{◌≡◌, ◌∙◌, ◌^◌, List, [], ◌∷◌, ◌++◌, refl, sym, subst, ap, Option, None, Some, Result, Ok, Err, IfSome}
+use Rattle.kt_core.specs.Worlds.{World, IsSameWorld, IsOpening}
+use Rattle.kt_core.specs.declared.faults.StepFault.{StepFault}
+use Rattle.kt_plan.specs.Limits.{Planned}
+use Rattle.kt_plan.specs.declared.steps.Told.{Told}
+use Rattle.kt_system.specs.Systems.{Whole, IsSame}
+use Rattle.kt_threads.specs.Histories.{IsMade, Leads, IsHistory}
+use Rattle.kt_threads.specs.declared.state.Made.{Made}
+
+pub same_system : (s : Whole) → IsSame s s
+same_system s = record { size = refl; people = refl; wires = refl; held = refl; kept = refl; rows = refl; begun = refl; put = refl }
+
+pub same_world : (w : World) → IsSameWorld w w
+same_world w = record { agenda = refl; system = same_system w.system; limit = refl }
+
+pub systems_along : (r s t : Whole) → IsSame r s → IsSame s t → IsSame r t
+systems_along r s t a b = record {
+  size = a.size ∙ b.size;
+  people = a.people ∙ b.people;
+  wires = a.wires ∙ b.wires;
+  held = a.held ∙ b.held;
+  kept = a.kept ∙ b.kept;
+  rows = a.rows ∙ b.rows;
+  begun = a.begun ∙ b.begun;
+  put = a.put ∙ b.put;
+}
+
+pub worlds_along : (u v w : World) → IsSameWorld u v → IsSameWorld v w → IsSameWorld u w
+worlds_along u v w a b = record {
+  agenda = a.agenda ∙ b.agenda;
+  system = systems_along u.system v.system w.system a.system b.system;
+  limit = a.limit ∙ b.limit;
+}
+
+-- but for spare room, the same world is led to
+pub leads_same : (steps : List Made) (old now new : World) → IsSameWorld new now → Leads old steps now → Leads old steps new
+leads_same [] old now new same leads = worlds_along new now old same leads
+leads_same (made ∷ steps) old now new same leads =
+    (leads.0, leads.1, leads.2, leads.3, leads_same steps leads.1 now new same leads.4)
+
+-- one more step
+pub leads_more : (steps : List Made) (made : Made) (old now new : World) → IsMade now made new → Leads old steps now
+    → Leads old (steps ++ made ∷ []) new
+leads_more [] made old now new step leads = (now, new, leads, step, same_world new)
+leads_more (first ∷ steps) made old now new step leads =
+    (leads.0, leads.1, leads.2, leads.3, leads_more steps made leads.1 now new step leads.4)
+
+pub history_begins : (plan : Planned) (world : World) → IsOpening world plan 0 (2 ^ 24) → IsHistory world.agenda.plan [] world
+history_begins plan world opening = record {
+  begin = world;
+  opening = subst (λ (p : Planned). IsOpening world p 0 (2 ^ 24)) (sym opening.plans) opening;
+  leads = same_world world;
+}
+
+pub history_more : (steps : List Made) (made : Made) (now new : World) → IsMade now made new
+    → IsHistory now.agenda.plan steps now → IsHistory new.agenda.plan (steps ++ made ∷ []) new
+history_more steps made now new step h = record {
+  begin = h.begin;
+  opening = subst (λ (p : Planned). IsOpening h.begin p 0 (2 ^ 24)) (sym step.plan) h.opening;
+  leads = leads_more steps made h.begin now new step h.leads;
+}
+
+pub history_same : (steps : List Made) (now new : World) → IsSameWorld new now
+    → IsHistory now.agenda.plan steps now → IsHistory new.agenda.plan steps new
+history_same steps now new same h = record {
+  begin = h.begin;
+  opening = subst (λ (p : Planned). IsOpening h.begin p 0 (2 ^ 24)) (ap (λ a. a.plan) (sym same.agenda)) h.opening;
+  leads = leads_same steps h.begin now new same h.leads;
+}
+
+-- a step that was made was not refused
+pub not_refused : (told : Told) (why : Option StepFault) (result : Result Told StepFault) → result ≡ Ok told
+    → IfSome why (λ fault. result ≡ Err fault) → why ≡ None
+not_refused told None result is h = refl
+not_refused told (Some fault) result is h = absurd (cc (sym is ∙ h))

@@ -1,0 +1,10 @@
+use Rattle.std.proofs.Common.{refl}
+use Rattle.kt_run.proofs.Casting.{answered}
+use Rattle.kt_threads.proofs.Casting.{of_run}
+use Rattle.kt_threads.proofs.outcome.first_objects.Goals as goal
+
+pub returns-in-Err-clause-fault : goal.returns-in-Err-clause-fault
+returns-in-Err-clause-fault g c =
+    rw c.from.ensures
+    (of_run c.args.plan.now _ c.in-Err.fault
+    (answered c.args.plan.now _ c.in-Err.fault (λ e. c.in-Err.ensures.size (rw e refl)) c.in-Err.ensures.fit c.in-Err.ensures.kind c.in-Err.ensures.least c.in-Err.ensures.later))

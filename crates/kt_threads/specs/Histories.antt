@@ -1,0 +1,64 @@
+-- Steps that were made one after another, and the worlds between which they lead.
+use Rattle.std.specs.Prelude.{◌≡◌, ◌<◌, ◌+◌, ◌^◌, ◌==◌, ℕ, List, [], ◌∷◌, Option, Some, None, filter, map, length, slice_get, slice_index_or}
+use Rattle.kt_core.specs.Worlds.{World, IsOpening, IsAtRest, IsSameWorld, HasDone, Settles, numbered_row, refusal, stepper}
+use Rattle.kt_plan.specs.Limits.{Planned}
+use Rattle.kt_plan.specs.declared.steps.Told.{Told}
+use Rattle.kt_spacetime.specs.declared.event.Event.{Event}
+use Rattle.kt_system.specs.Systems.{Grows}
+use Rattle.kt_threads.specs.declared.faults.LiveFault.{LiveFault}
+use Rattle.kt_threads.specs.declared.state.Made.{Made}
+
+-- a step that is not refused leads from one world to another, and tells its rows
+pub record IsMade (old : World) (made : Made) (new : World) : Type 0 where
+  pub allowed : refusal old made.told.step ≡ None
+  pub plan : new.agenda.plan ≡ old.agenda.plan
+  pub limit : new.limit ≡ old.limit
+  pub size : new.system.size ≡ old.system.size
+  pub grows : Grows 4 old.system new.system
+  pub done : HasDone old.agenda new.agenda made.told.step
+  pub settled : Settles old new
+  pub rows : (i : ℕ) → i < 4 → slice_get made.told.rows i
+      ≡ Some (numbered_row new.system.rows.rows (length old.system.rows.rows + i))
+
+-- steps lead one after another from one world to another, where only spare room may come between
+abbrev pub Leads : World → List Made → World → Type 0
+Leads old [] new = IsSameWorld new old
+Leads old (made ∷ steps) new = (before : World) × (after : World) × IsSameWorld before old × IsMade before made after × Leads after steps new
+
+-- steps lead to a world from the one in which nothing of a plan is done
+pub record IsHistory (plan : Planned) (steps : List Made) (world : World) : Type 0 where
+  pub begin : World
+  pub opening : IsOpening begin plan 0 (2 ^ 24)
+  pub leads : Leads begin steps world
+
+-- a world, the steps that led to it, and the first fault
+pub record History : Type 0 where
+  pub world : World
+  pub steps : List Made
+  pub fault : Option LiveFault
+
+abbrev pub first_of : Option LiveFault → LiveFault → Option LiveFault
+first_of None fault = Some fault
+first_of (Some first) fault = Some first
+
+-- what the steps of a process tell, in order
+abbrev pub told_to : ℕ → List Made → List Told
+told_to p steps = map (λ (made : Made). made.told) (filter (λ (made : Made). stepper made.told.step == p) steps)
+
+-- steps lead to a world at rest, with these rows, from the one in which nothing of a plan is done
+pub record IsRun (plan : Planned) (steps : List Made) (rows : List Event) : Type 0 where
+  pub end : World
+  pub history : IsHistory plan steps end
+  pub rest : IsAtRest end
+  pub log : rows ≡ end.system.rows.rows
+
+-- each process is told what its own steps tell
+pub record AreTold (processes : ℕ) (steps : List Made) (told : List (List Told)) : Type 0 where
+  pub count : length told ≡ processes
+  pub each : (p : ℕ) → p < processes → slice_index_or told p [] ≡ told_to p steps
+
+-- there is one order of steps that lead to a world at rest, with these rows, and of which each process is told its own
+pub record IsLived (plan : Planned) (rows : List Event) (told : List (List Told)) : Type 0 where
+  pub steps : List Made
+  pub run : IsRun plan steps rows
+  pub tells : AreTold (length plan.names) steps told

@@ -1,0 +1,138 @@
+//! The lock, and what each thread does at it.
+
+use crate::faults::LiveFault;
+use crate::state::State;
+use kt_base::{Memory, ProcNo};
+use kt_plan::{Give, Look, Step, Told};
+use std::alloc::Global;
+use std::sync::{Condvar, Mutex, Wait};
+
+/// What comes next for a process.
+#[derive(Clone, Copy, Debug, PartialEq, Eq)]
+pub(crate) enum Next {
+    /// Its object is asked for what its next step needs.
+    Ask(Step, Look),
+    /// Its step was made, and told this.
+    Told(Told),
+    /// Another step comes next by now.
+    Again,
+    /// All is done, or a fault ended it.
+    End,
+}
+
+/// A state under a lock, and for each process the news that it can make a step, or that all is over.
+#[derive(Drop)]
+pub(crate) struct Board {
+    state: Mutex<State>,
+    news: Vec<Condvar>,
+}
+
+impl Board {
+    /// A board with this state, for so many processes.
+    pub(crate) fn new(alloc: Global, state: State, processes: usize) -> Result<Board, Memory> {
+        let mut news = Vec::with_capacity(alloc, processes)?;
+        for _ in 0..processes {
+            news.push(Condvar::new())?;
+        }
+        Ok(Board {
+            state: Mutex::new(state),
+            news,
+        })
+    }
+
+    /// Waits until a process can make a step, or all is over. A step that needs nothing of its object is made.
+    pub(crate) fn advance<R: Wait>(&self, rt: &R, me: ProcNo) -> Next {
+        let Some(news) = self.news.get(me.index()) else {
+            return Next::End;
+        };
+        let mut state = news.wait_while(rt, self.state.lock(rt), |state| {
+            state.next_step_of(me).is_none() && !state.is_over()
+        });
+        if state.fault().is_some() {
+            return Next::End;
+        }
+        let Some(step) = state.next_step_of(me) else {
+            return Next::End;
+        };
+        let look = state.look(&step);
+        if look == Look::NeedsSave || look == Look::NeedsBody {
+            return Next::Ask(step, look);
+        }
+        let next = make_in(
+            &mut state,
+            step,
+            Give {
+                able: false,
+                body: 0,
+            },
+        );
+        self.tell(&state);
+        next
+    }
+
+    /// Makes a step for which the process's object was asked, if it still comes next and needs the same.
+    pub(crate) fn make<R: Wait>(
+        &self,
+        rt: &R,
+        me: ProcNo,
+        step: Step,
+        look: Look,
+        give: Give,
+    ) -> Next {
+        let mut state = self.state.lock(rt);
+        if state.fault().is_some() {
+            return Next::End;
+        }
+        if !state.is_next(me, &step, look) {
+            return Next::Again;
+        }
+        let next = make_in(&mut state, step, give);
+        self.tell(&state);
+        next
+    }
+
+    /// No more steps are made.
+    pub(crate) fn stop<R: Wait>(&self, rt: &R, fault: LiveFault) {
+        let mut state = self.state.lock(rt);
+        state.stop(fault);
+        self.tell(&state);
+    }
+
+    /// Wakes each process that can make a step; all of them where all is over.
+    fn tell(&self, state: &State) {
+        let over = state.is_over();
+        for (number, news) in self.news.iter().enumerate() {
+            if over || can_step(state, number) {
+                news.notify_all();
+            }
+        }
+    }
+
+    /// What lay under the lock.
+    pub(crate) fn into_state(self) -> State {
+        let Board { state, news: _ } = self;
+        state.into_inner()
+    }
+}
+
+/// Makes a step under the lock. A step that is refused ends all.
+fn make_in(state: &mut State, step: Step, give: Give) -> Next {
+    match state.make(step, give) {
+        Ok(told) => Next::Told(told),
+        Err(fault) => {
+            state.stop(LiveFault::of_step(fault));
+            Next::End
+        }
+    }
+}
+
+/// Whether the process of this number can make a step.
+fn can_step(state: &State, number: usize) -> bool {
+    let Ok(number) = u8::try_from(number) else {
+        return false;
+    };
+    match ProcNo::new(number) {
+        Some(p) => state.next_step_of(p).is_some(),
+        None => false,
+    }
+}

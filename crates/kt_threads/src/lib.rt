@@ -1,0 +1,15 @@
+//! Each process of a plan in a thread of its own, over one world under a lock.
+#![tactic(auto)]
+
+mod board;
+mod crew;
+mod faults;
+mod outcome;
+mod plans;
+mod seat;
+mod state;
+mod tells;
+
+pub use faults::LiveFault;
+pub use outcome::live;
+pub use state::{Made, State};

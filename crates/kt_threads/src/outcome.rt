@@ -1,0 +1,140 @@
+//! All processes, each in a thread of its own.
+
+ghost use Rattle.std.specs.Prelude.{◌≡◌, false, map, OnOk, IfOk, IfErr};
+ghost use Rattle.kt_run.specs.Faults.{IsCast};
+ghost use Rattle.kt_threads.specs.Faults.{Answers, is_of_cast};
+ghost use Rattle.kt_threads.specs.Histories.{IsRun, IsLived};
+
+use crate::board::Board;
+use crate::crew::{CrewFault, run_all};
+use crate::faults::LiveFault;
+use crate::seat::{Seat, work};
+use crate::state::{Made, State};
+use crate::tells::are_told;
+use kt_base::ProcNo;
+use kt_held::{Cast, Held, begin_all};
+use kt_object::Recoverable;
+use kt_plan::{Plan, Told};
+use kt_run::Outcome;
+use kt_spacetime::SpaceTime;
+use std::alloc::Global;
+use std::sync::Wait;
+use std::thread::Threads;
+
+/// What the processes of a plan hold at first.
+fn first_objects(alloc: Global, plan: &Plan, cast: Cast) -> Result<Vec<Held>, LiveFault>
+    ensures cast { OnOk result (IsCast plan.now (map (λ row. map (λ b. kind_of b) row.items) cast.items)) }
+    ensures fault { IfErr result (Answers plan.now (map (λ row. map (λ b. kind_of b) row.items) cast.items)) }
+{
+    let _size = plan.size();
+    match begin_all(alloc, plan, cast) {
+        Ok(objects) => Ok(objects),
+        Err(fault) => Err(LiveFault::from(fault)),
+    }
+}
+
+/// A seat for each process.
+fn seats_of(alloc: Global, objects: Vec<Held>) -> Result<Vec<Seat>, LiveFault>
+    ensures { IfErr result (λ fault. is_of_cast fault ≡ false) }
+{
+    let mut seats = Vec::with_capacity(alloc, objects.len())?;
+    let mut number = 0u8;
+    for held in objects {
+        let Some(me) = ProcNo::new(number) else {
+            return Err(LiveFault::Differ);
+        };
+        if seats.push(Seat::new(alloc, me, held)).is_err() {
+            return Err(LiveFault::Memory);
+        }
+        number = number.saturating_add(1);
+    }
+    Ok(seats)
+}
+
+/// Each process's thread makes its steps.
+fn work_all<R: Threads + Wait + Sync>(
+    rt: &R,
+    alloc: Global,
+    board: &Board,
+    seats: Vec<Seat>,
+) -> Result<Vec<Seat>, CrewFault> {
+    run_all(
+        rt,
+        alloc,
+        seats,
+        &|seat: Seat| -> Seat { work(rt, alloc, board, seat) },
+        &|| board.stop(rt, LiveFault::Spawn),
+    )
+}
+
+/// The log and the steps of a run of the plan that ended at rest, or the fault that ended it.
+fn finish(state: State, plan: &Plan) -> Result<(SpaceTime, Vec<Made>), LiveFault>
+    ensures run { IfOk result (λ parts. IsRun plan.entry.now parts.1.items parts.0.rows) }
+    ensures fault { IfErr result (λ fault. is_of_cast fault ≡ false) }
+{
+    if let Some(fault) = state.fault() {
+        return Err(fault.of_thread());
+    }
+    if !state.is_of(plan) || !state.at_rest() {
+        return Err(LiveFault::Differ);
+    }
+    Ok(state.into_parts())
+}
+
+/// What each process was told, and what it holds.
+fn leave(alloc: Global, seats: Vec<Seat>) -> Result<(Vec<Vec<Told>>, Vec<Held>), LiveFault>
+    ensures { IfErr result (λ fault. is_of_cast fault ≡ false) }
+{
+    let mut lists = Vec::with_capacity(alloc, seats.len())?;
+    let mut objects = Vec::with_capacity(alloc, seats.len())?;
+    for seat in seats {
+        let Seat { me: _, held, told } = seat;
+        if lists.push(told).is_err() || objects.push(held).is_err() {
+            return Err(LiveFault::Memory);
+        }
+    }
+    Ok((lists, objects))
+}
+
+/// Runs a plan over what its processes hold at first, each in a thread of its own.
+fn live_with<R: Threads + Wait + Sync>(
+    rt: &R,
+    alloc: Global,
+    plan: &Plan,
+    objects: Vec<Held>,
+) -> Result<Outcome, LiveFault>
+    ensures lived { IfOk result (λ o. IsLived plan.now o.log.rows (map (λ list. list.items) o.told.items)) }
+    ensures fault { IfErr result (λ fault. is_of_cast fault ≡ false) }
+{
+    let seats = seats_of(alloc, objects)?;
+    let state = State::new(alloc, plan.copy(alloc)?)?;
+    let board = Board::new(alloc, state, plan.size())?;
+    let seats = match work_all(rt, alloc, &board, seats) {
+        Err(CrewFault::Memory) => return Err(LiveFault::Memory),
+        seats => seats,
+    };
+    let (log, steps) = finish(board.into_state(), plan)?;
+    let (told, objects) = leave(alloc, seats?)?;
+    if !are_told(plan.size(), &steps, &told) {
+        return Err(LiveFault::Differ);
+    }
+    Ok(Outcome { log, told, objects })
+}
+
+/// Runs a plan over these objects, each process in a thread of its own, until all is at rest.
+///
+/// `CastSize` and `CastKind` come before anything is saved and any memory is taken. After a fault the objects are dropped.
+pub fn live<R: Threads + Wait + Sync>(
+    rt: &R,
+    alloc: Global,
+    plan: &Plan,
+    cast: Cast,
+) -> Result<Outcome, LiveFault>
+    ensures lived { IfOk result (λ o. IsLived plan.now o.log.rows (map (λ list. list.items) o.told.items)) }
+    ensures cast { OnOk result (IsCast plan.now (map (λ row. map (λ b. kind_of b) row.items) cast.items)) }
+    ensures fault { IfErr result (Answers plan.now (map (λ row. map (λ b. kind_of b) row.items) cast.items)) }
+{
+    let objects = first_objects(alloc, plan, cast)?;
+    let outcome = live_with(rt, alloc, plan, objects)?;
+    Ok(outcome)
+}

@@ -1,0 +1,153 @@
+//! What lies under the lock: a world, and the steps that led to it.
+
+ghost use Rattle.std.specs.Prelude.{◌≡◌, ◌⊎◌, ◌+◌, ◌^◌, [], ◌∷◌, ◌++◌, None, Some, IfOk, IfErr, IfSome, OnErr, IsTrue, ◌↔◌, true};
+ghost use Rattle.kt_core.specs.Worlds.{refusal, IsAtRest, IsOpening, IsSameWorld};
+ghost use Rattle.kt_threads.specs.Histories.{IsMade, IsHistory, first_of};
+
+use crate::faults::LiveFault;
+use crate::plans::is_same_plan;
+use kt_base::{Memory, ProcNo};
+use kt_core::{StepFault, World};
+use kt_plan::{Give, Look, Plan, Step, Told};
+use kt_spacetime::SpaceTime;
+use std::alloc::Global;
+use std::marker::Model;
+
+/// A step that was made: what it was given, and what it told.
+#[derive(Clone, Copy, Debug, PartialEq, Eq)]
+pub struct Made {
+    pub give: Give,
+    pub told: Told,
+}
+
+/// A world with the steps that led to it from the world in which nothing of its plan is done, and the first fault.
+#[derive(Drop)]
+pub struct State {
+    world: World,
+    steps: Vec<Made>,
+    fault: Option<LiveFault>,
+}
+
+impl Model for State {
+    ghost use Rattle.kt_threads.specs.Histories.{History, IsHistory};
+
+    ghost Value = { History };
+
+    ghost view = { λ s. record { world = s.world; steps = s.steps.items; fault = s.fault } };
+
+    ghost invariant = { λ s. IsHistory s.world.agenda.plan s.steps.items s.world };
+}
+
+impl State {
+    /// Nothing of a plan is done.
+    pub fn new(alloc: Global, plan: Plan) -> Result<State, Memory>
+        ensures opening { IfOk result (λ s. IsOpening s.world plan 0 (2 ^ 24)) }
+        ensures steps { IfOk result (λ s. s.steps ≡ []) }
+        ensures fault { IfOk result (λ s. s.fault ≡ None) }
+    {
+        let world = World::new(alloc, plan)?;
+        Ok(State {
+            world,
+            steps: Vec::new(alloc),
+            fault: None,
+        })
+    }
+
+    /// Makes a step and records it, with what it is given. `give` has what `World::look` says that the step needs.
+    ///
+    /// The room for the record is made before the step; want of it is `Memory`. After a refusal the world and the steps
+    /// are as they were.
+    pub fn make(&mut self, step: Step, give: Give) -> Result<Told, StepFault>
+        ensures steps { IfOk result (λ told. self.new.steps ≡ self.old.steps ++ record { give = give; told = told } ∷ []) }
+        ensures made { IfOk result (λ told. IsMade self.old.world (record { give = give; told = told }) self.new.world) }
+        ensures step { IfOk result (λ told. told.step ≡ step) }
+        ensures refused { IfErr result (λ fault. (fault ≡ StepFault.Memory) ⊎ (refusal self.old.world step ≡ Some fault)) }
+        ensures err_world { OnErr result (IsSameWorld self.new.world self.old.world) }
+        ensures err_steps { OnErr result (self.new.steps ≡ self.old.steps) }
+        ensures fault { self.new.fault ≡ self.old.fault }
+    {
+        let State { world, steps, .. } = self;
+        if steps.reserve(1).is_err() {
+            return Err(StepFault::Memory);
+        }
+        let told = world.step(step, give)?;
+        steps.push_reserved(made_of(&give, &told));
+        Ok(told)
+    }
+
+    /// Keeps the first fault.
+    pub fn stop(&mut self, fault: LiveFault)
+        ensures { self.new ≡ record self.old { fault = first_of self.old.fault fault } }
+    {
+        if self.fault.is_none() {
+            self.fault = Some(fault);
+        }
+    }
+
+    /// The first fault, if there was one.
+    pub(crate) fn fault(&self) -> Option<LiveFault>
+        ensures { result ≡ self.now.fault }
+    {
+        self.fault
+    }
+
+    /// Whether there was a fault, or the world is at rest.
+    pub(crate) fn is_over(&self) -> bool {
+        self.fault.is_some() || self.at_rest()
+    }
+
+    /// Whether the world is at rest.
+    pub(crate) fn at_rest(&self) -> bool
+        ensures { IsTrue result ↔ IsAtRest self.now.world }
+    {
+        self.world.at_rest()
+    }
+
+    /// Whether it is of this plan.
+    pub(crate) fn is_of(&self, plan: &Plan) -> bool
+        ensures { result ≡ true → self.now.world.agenda.plan ≡ plan.now }
+    {
+        is_same_plan(self.world.plan(), plan)
+    }
+
+    /// The step that a process makes next, if it can make one.
+    pub(crate) fn next_step_of(&self, p: ProcNo) -> Option<Step> {
+        self.world.next_step_of(p)
+    }
+
+    /// What a step needs of the process's object.
+    pub(crate) fn look(&self, step: &Step) -> Look {
+        self.world.look(step)
+    }
+
+    /// Whether this is the step that a process makes next, and what it needs.
+    pub(crate) fn is_next(&self, p: ProcNo, step: &Step, look: Look) -> bool {
+        match self.world.next_step_of(p) {
+            Some(next) => next == *step && self.world.look(step) == look,
+            None => false,
+        }
+    }
+
+    /// The log, and the steps.
+    pub(crate) fn into_parts(self) -> (SpaceTime, Vec<Made>)
+        ensures log { result.0 ≡ self.world.system.rows }
+        ensures steps { result.1.items ≡ self.steps }
+        ensures history { IsHistory self.world.agenda.plan self.steps self.world }
+    {
+        let State { world, steps, .. } = self;
+        (world.into_log(), steps)
+    }
+}
+
+/// The record of a step.
+fn made_of(give: &Give, told: &Told) -> Made
+    ensures { result ≡ record { give = give.now; told = told.now } }
+{
+    Made {
+        give: Give {
+            able: give.able,
+            body: give.body,
+        },
+        told: *told,
+    }
+}
