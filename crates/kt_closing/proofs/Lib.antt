@@ -1,0 +1,11 @@
+pub mod MessageLists
+pub mod SameStates
+pub mod KeptLists
+pub mod Messages
+pub mod Joining
+pub mod Deciding
+pub mod Closing
+pub mod KeptSteps
+pub mod WholeSteps
+pub mod OwnHistories
+pub mod OwnSteps

@@ -1,0 +1,11 @@
+pub mod Plans
+pub mod Progress
+pub mod Steps
+pub mod Looks
+pub mod Defaults
+pub mod Order
+pub mod Runs
+pub mod Rows
+pub mod Work
+pub mod Tallies
+pub mod WorkedPlans

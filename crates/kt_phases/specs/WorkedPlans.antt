@@ -1,0 +1,111 @@
+-- Plans that were worked out by hand, and the steps that are made by default.
+use Rattle.std.specs.Prelude.{ℕ, zero, suc, pos, true, Option, Some, None, option_map, List, [], ◌∷◌}
+use Rattle.kt_spacetime.specs.declared.event.Event.{Event}
+use Rattle.kt_spacetime.specs.declared.event.Event.TheVariants.{Sent, Received, Began, Took, Ready, Decided, Closed, Failed}
+use Rattle.kt_base.specs.declared.words.Kind.TheVariants as kind
+use Rattle.kt_phases.specs.Plans.{Job, Command, Plan}
+use Rattle.kt_phases.specs.Plans as job
+use Rattle.kt_phases.specs.Progress.{Progress, start}
+use Rattle.kt_phases.specs.Steps.{Step, Do, Take, Give, after_plan_step}
+use Rattle.kt_phases.specs.Looks.{Look, look}
+use Rattle.kt_phases.specs.Defaults.{default_step}
+use Rattle.kt_phases.specs.Runs.{Move, after_moves}
+
+-- p's command of phase k
+abbrev pub command : ℕ → ℕ → Job → Command
+command p k j = record { by = p; phase = k; job = j }
+
+-- what each object gives here
+abbrev pub given : Give
+given = record { able = true; body = pos 7 }
+
+-- steps, with what is given
+abbrev pub moves_of : List Step → List Move
+moves_of [] = []
+moves_of (x ∷ xs) = record { step = x; give = given } ∷ moves_of xs
+
+-- at most n default steps from here, with the next one
+abbrev pub steps_from : ℕ → Plan → Progress → Option Step → List Step
+steps_from zero plan now next = []
+steps_from (suc n) plan now None = []
+steps_from (suc n) plan now (Some x) = x ∷ steps_from n plan (after_plan_step plan now x given) (default_step plan (after_plan_step plan now x given))
+
+-- and from the start
+abbrev pub default_steps : ℕ → Plan → List Step
+default_steps n plan = steps_from n plan (start plan) (default_step plan (start plan))
+
+-- where some steps lead from the start
+abbrev pub led_to : Plan → List Step → Option Progress
+led_to plan steps = after_moves plan (start plan) (moves_of steps)
+
+-- the log, the open phase, and what another step asks of its object, after some steps
+abbrev pub log_after : Plan → List Step → Option (List Event)
+log_after plan steps = option_map (λ now. now.state.log) (led_to plan steps)
+
+abbrev pub phase_after : Plan → List Step → Option ℕ
+phase_after plan steps = option_map (λ now. now.phase) (led_to plan steps)
+
+abbrev pub look_after : Plan → List Step → Step → Option Look
+look_after plan steps x = option_map (λ now. look plan now x) (led_to plan steps)
+
+-- a message, and two phases later a checkpoint, and a message that has to wait for it
+abbrev pub checkpoint_two_phases_later : Plan
+checkpoint_two_phases_later = record {
+  size = 2;
+  commands = command 0 0 (job.Send 1 (Some (pos 5))) ∷ command 1 2 job.Checkpoint ∷ command 1 2 (job.Send 0 None) ∷ command 0 2 job.Fail ∷ [];
+}
+
+-- its default steps: 1 begins the checkpoint, which 0 joins; 1 sends once it has closed, and 0 fails
+abbrev pub checkpoint_two_phases_later_steps : List Step
+checkpoint_two_phases_later_steps = Do 0 ∷ Take 1 0 ∷ Do 1 ∷ Take 0 1 ∷ Take 1 0 ∷ Take 0 1 ∷ Do 1 ∷ Take 0 1 ∷ Do 0 ∷ []
+
+abbrev pub checkpoint_two_phases_later_log : List Event
+checkpoint_two_phases_later_log =
+    Sent 0 1 (pos 5) ∷
+    Received 1 0 1 ∷
+    Began 1 1 kind.Checkpoint ∷
+    Took 1 1 ∷
+    Took 0 1 ∷
+    Decided 1 1 true ∷
+    Closed 1 1 ∷
+    Closed 0 1 ∷
+    Sent 1 0 (pos 7) ∷
+    Received 0 1 9 ∷
+    Failed 0 ∷
+    []
+
+-- its only command is of a later phase
+abbrev pub late_message : Plan
+late_message = record { size = 2; commands = command 0 3 (job.Send 1 None) ∷ [] }
+
+-- 0 rolls back what it sent; 1 joins, and holds what 2 sent it until it has closed; then 0 begins a checkpoint
+abbrev pub message_held : Plan
+message_held = record {
+  size = 3;
+  commands = command 0 0 (job.Send 1 (Some (pos 1))) ∷ command 0 1 job.Rollback ∷ command 2 1 (job.Send 1 (Some (pos 2))) ∷ command 0 2 job.Checkpoint ∷ [];
+}
+
+-- the message is held; and it is received, and the checkpoint begun
+abbrev pub until_it_is_held : List Step
+until_it_is_held = Do 0 ∷ Take 1 0 ∷ Do 0 ∷ Take 1 0 ∷ Do 2 ∷ Take 1 2 ∷ Take 0 1 ∷ Take 1 0 ∷ []
+
+abbrev pub until_it_is_received : List Step
+until_it_is_received = Do 0 ∷ Take 1 0 ∷ Do 0 ∷ Take 1 0 ∷ Do 2 ∷ Take 1 2 ∷ Take 0 1 ∷ Take 1 0 ∷ Take 1 2 ∷ Do 0 ∷ []
+
+abbrev pub message_held_log : List Event
+message_held_log =
+    Sent 0 1 (pos 1) ∷
+    Received 1 0 1 ∷
+    Began 0 1 kind.Rollback ∷
+    Ready 0 1 ∷
+    Ready 1 1 ∷
+    Sent 2 1 (pos 2) ∷
+    Decided 0 1 true ∷
+    Closed 0 1 ∷
+    Closed 1 1 ∷
+    Received 1 2 6 ∷
+    Began 0 2 kind.Checkpoint ∷
+    Took 0 2 ∷
+    Decided 0 2 true ∷
+    Closed 0 2 ∷
+    []

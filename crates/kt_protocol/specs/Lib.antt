@@ -1,0 +1,15 @@
+pub use Rattle.kt_cuts.specs.Past
+pub mod Parcels
+pub mod Summary
+pub mod States
+pub mod Messages
+pub mod Joining
+pub mod Replies
+pub mod Deciding
+pub mod Steps
+pub mod AtRest
+pub mod Refusals
+pub mod UnderWay
+pub mod SummaryMeaning
+pub mod Logs
+pub mod WorkedRuns
