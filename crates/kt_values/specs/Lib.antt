@@ -1,0 +1,9 @@
+pub use Rattle.kt_cuts.specs.Past
+pub mod Done
+pub mod Values
+pub mod Acts
+pub mod States
+pub mod Offers
+pub mod Things
+pub mod Marks
+pub mod WorkedRuns
