@@ -25,7 +25,7 @@ use Rattle.kt_closing.specs.OnceClosed.{once_closed}
 use Rattle.kt_values.specs.Done.{Done, done, done_after}
 use Rattle.kt_values.specs.Values.{Act, taken_in}
 use Rattle.kt_values.specs.Acts.{stepper}
-use Rattle.kt_values.specs.States.{got_from}
+use Rattle.kt_protocol.specs.UnderWay.{received_of}
 use Rattle.kt_values.proofs.DoneAlong.{done_more, done_past}
 use Rattle.kt_values.proofs.OwnAndLive.{cut_in, moved_in}
 use Rattle.kt_values.proofs.LegalFacts.{sound}
@@ -53,40 +53,40 @@ apps_sieve t (Reply k w ∷ l) = apps_sieve t l
 apps_sieve t (Decide k c ∷ l) = apps_sieve t l
 
 -- where those pass that stand at or past a place, what is past it is left
-pub pick_got : (t : ℕ → Bool) (q k : ℕ) (l : List Deed) → ((i m from : ℕ) → slice_get l i ≡ Some (deed.Received m from) → t m ≡ nat_le k i) → pick t (got_from q l) ≡ got_from q (drop k l)
+pub pick_got : (t : ℕ → Bool) (q k : ℕ) (l : List Deed) → ((i m from : ℕ) → slice_get l i ≡ Some (deed.Received m from) → t m ≡ nat_le k i) → pick t (received_of q l) ≡ received_of q (drop k l)
 unfolding pick
 pick_got t q zero [] f = refl
 pick_got t q (suc k) [] f = refl
 pick_got t q zero (deed.Sent m to ∷ l) f = pick_got t q zero l (λ i n from e. f (suc i) n from e ∙ (let x : nat_le 0 (suc i) ≡ nat_le 0 i = grind (arith, nat_tests) in x))
 pick_got t q zero (deed.Received m from ∷ l) f = go (from == q) (pick_got t q zero l (λ i n g e. f (suc i) n g e ∙ (let x : nat_le 0 (suc i) ≡ nat_le 0 i = grind (arith, nat_tests) in x)))
   where
-    go : (b : Bool) → pick t (got_from q l) ≡ got_from q l → pick t (if b then m ∷ got_from q l else got_from q l) ≡ (if b then m ∷ got_from q l else got_from q l)
+    go : (b : Bool) → pick t (received_of q l) ≡ received_of q l → pick t (if b then m ∷ received_of q l else received_of q l) ≡ (if b then m ∷ received_of q l else received_of q l)
     go false e = e
     go true e = rw (f 0 m from refl) (ap (λ (x : List ℕ). m ∷ x) e)
 pick_got t q (suc k) (deed.Sent m to ∷ l) f = pick_got t q k l (λ i n from e. f (suc i) n from e ∙ (let x : nat_le (suc k) (suc i) ≡ nat_le k i = grind (arith, nat_tests) in x))
 pick_got t q (suc k) (deed.Received m from ∷ l) f = go (from == q) (pick_got t q k l (λ i n g e. f (suc i) n g e ∙ (let x : nat_le (suc k) (suc i) ≡ nat_le k i = grind (arith, nat_tests) in x)))
   where
-    go : (b : Bool) → pick t (got_from q l) ≡ got_from q (drop k l) → pick t (if b then m ∷ got_from q l else got_from q l) ≡ got_from q (drop k l)
+    go : (b : Bool) → pick t (received_of q l) ≡ received_of q (drop k l) → pick t (if b then m ∷ received_of q l else received_of q l) ≡ received_of q (drop k l)
     go false e = e
     go true e =
         let z : nat_le (suc k) 0 ≡ false = grind (arith, nat_tests) in
         rw (f 0 m from refl ∙ z) e
 
 pub record Keeps (d : Done) (y : Lists) : Type 0 where
-  pub each : (p q : ℕ) → messages (y q p) ≡ got_from q (drop (d.permanent p) (d.own p))
+  pub each : (p q : ℕ) → messages (y q p) ≡ received_of q (drop (d.permanent p) (d.own p))
 
 -- a deed of p
-kept_pushed : (d : Done) (g : (u : ℕ) → d.permanent u ≤ length (d.own u)) (y y' : Lists) (p : ℕ) (x : Deed) → ((u v : ℕ) → messages (y' v u) ≡ (if u == p then messages (y v u) ++ got_from v (x ∷ []) else messages (y v u))) → Keeps d y → (u v : ℕ) → messages (y' v u) ≡ got_from v (drop (d.permanent u) (at_one p (d.own p ++ x ∷ []) d.own u))
+kept_pushed : (d : Done) (g : (u : ℕ) → d.permanent u ≤ length (d.own u)) (y y' : Lists) (p : ℕ) (x : Deed) → ((u v : ℕ) → messages (y' v u) ≡ (if u == p then messages (y v u) ++ received_of v (x ∷ []) else messages (y v u))) → Keeps d y → (u v : ℕ) → messages (y' v u) ≡ received_of v (drop (d.permanent u) (at_one p (d.own p ++ x ∷ []) d.own u))
 kept_pushed d g y y' p x e k u v = e u v ∙ go (u == p) refl
   where
-    go : (b : Bool) → (u == p) ≡ b → (if b then messages (y v u) ++ got_from v (x ∷ []) else messages (y v u)) ≡ got_from v (drop (d.permanent u) (if b then d.own p ++ x ∷ [] else d.own u))
+    go : (b : Bool) → (u == p) ≡ b → (if b then messages (y v u) ++ received_of v (x ∷ []) else messages (y v u)) ≡ received_of v (drop (d.permanent u) (if b then d.own p ++ x ∷ [] else d.own u))
     go false z = k.each u v
     go true z =
         let s : u ≡ p = grind (arith, nat_tests) in
-        ap (λ (l : List ℕ). l ++ got_from v (x ∷ [])) (k.each u v)
+        ap (λ (l : List ℕ). l ++ received_of v (x ∷ [])) (k.each u v)
         ∙ (sym (got_append v (drop (d.permanent u) (d.own u)) (x ∷ []))
-        ∙ (ap (got_from v) (sym (drop-append-le (d.permanent u) (d.own u) (x ∷ []) (g u)))
-        ∙ ap (λ (w : ℕ). got_from v (drop (d.permanent u) (d.own w ++ x ∷ []))) s))
+        ∙ (ap (received_of v) (sym (drop-append-le (d.permanent u) (d.own u) (x ∷ []) (g u)))
+        ∙ ap (λ (w : ℕ). received_of v (drop (d.permanent u) (d.own w ++ x ∷ []))) s))
 
 abbrev pub Placed : State → ℕ → Type 0
 Placed s p = (i m t : ℕ) → slice_get (s.so_far.live p) i ≡ Some (deed.Received m t) → s.so_far.received_at m ≡ i
@@ -96,35 +96,35 @@ module _ (s : State) (p k : ℕ) (n : s.so_far ≡ summary s.log) (l : IsLegal s
   inside : (done s.log).past.open_in p ≡ Some k
   inside = (may_close (done s.log).past p k (ap (λ (x : Past). broken_rule x (Closed p k)) (done_past s.log) ∙ e)).inside
 
-  after_closed : (y : Lists) → ((v : ℕ) → messages (y v p) ≡ got_from v (drop (moved_in (done s.log).past k p ((done s.log).permanent p)) (cut_in (done s.log).past k ((done s.log).permanent p) ((done s.log).own p)))) → ((u v : ℕ) → (u == p) ≡ false → y v u ≡ s.kept v u) → Keeps (done_after (done s.log) (Closed p k)) y
+  after_closed : (y : Lists) → ((v : ℕ) → messages (y v p) ≡ received_of v (drop (moved_in (done s.log).past k p ((done s.log).permanent p)) (cut_in (done s.log).past k ((done s.log).permanent p) ((done s.log).own p)))) → ((u v : ℕ) → (u == p) ≡ false → y v u ≡ s.kept v u) → Keeps (done_after (done s.log) (Closed p k)) y
   after_closed y f g = record { each = λ u v. go u v (u == p) refl }
     where
-      go : (u v : ℕ) (t : Bool) → (u == p) ≡ t → messages (y v u) ≡ got_from v (drop (if t then moved_in (done s.log).past k p ((done s.log).permanent p) else (done s.log).permanent u) (if t then cut_in (done s.log).past k ((done s.log).permanent p) ((done s.log).own p) else (done s.log).own u))
+      go : (u v : ℕ) (t : Bool) → (u == p) ≡ t → messages (y v u) ≡ received_of v (drop (if t then moved_in (done s.log).past k p ((done s.log).permanent p) else (done s.log).permanent u) (if t then cut_in (done s.log).past k ((done s.log).permanent p) ((done s.log).own p) else (done s.log).own u))
       go u v true z = let x : u ≡ p = grind (arith, nat_tests) in ap (λ (w : ℕ). messages (y v w)) x ∙ f v
       go u v false z = ap messages (g u v z) ∙ i.each u v
 
   -- nothing is cut or moved
-  stays : is_committed (done s.log).past k ≡ false → (v : ℕ) → messages (s.kept v p) ≡ got_from v (drop (moved_in (done s.log).past k p ((done s.log).permanent p)) (cut_in (done s.log).past k ((done s.log).permanent p) ((done s.log).own p)))
+  stays : is_committed (done s.log).past k ≡ false → (v : ℕ) → messages (s.kept v p) ≡ received_of v (drop (moved_in (done s.log).past k p ((done s.log).permanent p)) (cut_in (done s.log).past k ((done s.log).permanent p) ((done s.log).own p)))
   stays w v = i.each p v ∙ go (is_rollback (done s.log).past k) (is_committed (done s.log).past k) w
     where
-      go : (r c : Bool) → c ≡ false → got_from v (drop ((done s.log).permanent p) ((done s.log).own p)) ≡ got_from v (drop (if c then unwrap_or ((done s.log).past.new k p) ((done s.log).permanent p) else (done s.log).permanent p) (if r && c then take ((done s.log).permanent p) ((done s.log).own p) else (done s.log).own p))
+      go : (r c : Bool) → c ≡ false → received_of v (drop ((done s.log).permanent p) ((done s.log).own p)) ≡ received_of v (drop (if c then unwrap_or ((done s.log).past.new k p) ((done s.log).permanent p) else (done s.log).permanent p) (if r && c then take ((done s.log).permanent p) ((done s.log).own p) else (done s.log).own p))
       go true true w = absurd (cc (w))
       go false true w = absurd (cc (w))
       go true false w = refl
       go false false w = refl
 
   -- all is cut that was kept
-  goes : is_rollback (done s.log).past k ≡ true → is_committed (done s.log).past k ≡ true → (v : ℕ) → [] ≡ got_from v (drop (moved_in (done s.log).past k p ((done s.log).permanent p)) (cut_in (done s.log).past k ((done s.log).permanent p) ((done s.log).own p)))
-  goes r w v = sym (rw (r, w, no_new (done s.log).past (sound s.log l).positions k p r) (ap (got_from v) (drop_all ((done s.log).permanent p) (take ((done s.log).permanent p) ((done s.log).own p)) (let x = length-take ((done s.log).permanent p) ((done s.log).own p) in grind (arith, x)))))
+  goes : is_rollback (done s.log).past k ≡ true → is_committed (done s.log).past k ≡ true → (v : ℕ) → [] ≡ received_of v (drop (moved_in (done s.log).past k p ((done s.log).permanent p)) (cut_in (done s.log).past k ((done s.log).permanent p) ((done s.log).own p)))
+  goes r w v = sym (rw (r, w, no_new (done s.log).past (sound s.log l).positions k p r) (ap (received_of v) (drop_all ((done s.log).permanent p) (take ((done s.log).permanent p) ((done s.log).own p)) (let x = length-take ((done s.log).permanent p) ((done s.log).own p) in grind (arith, x)))))
 
   own_live : is_rollback (done s.log).past k ≡ false → (done s.log).own p ≡ s.so_far.live p
   own_live r = sym (ap (λ (h : Summary). h.live p) n ∙ ((tied_done s.log l).live p ∙ ((sound s.log l).owns.live_in p k inside ∙ rw r refl)))
 
   -- what was received before the tentative checkpoint goes
-  newer_goes : is_rollback (done s.log).past k ≡ false → is_committed (done s.log).past k ≡ true → (v : ℕ) → messages (messages_where (is_newer s p) (s.kept v p)) ≡ got_from v (drop (moved_in (done s.log).past k p ((done s.log).permanent p)) (cut_in (done s.log).past k ((done s.log).permanent p) ((done s.log).own p)))
+  newer_goes : is_rollback (done s.log).past k ≡ false → is_committed (done s.log).past k ≡ true → (v : ℕ) → messages (messages_where (is_newer s p) (s.kept v p)) ≡ received_of v (drop (moved_in (done s.log).past k p ((done s.log).permanent p)) (cut_in (done s.log).past k ((done s.log).permanent p) ((done s.log).own p)))
   newer_goes r w v = go ((done s.log).past.new k p) refl ((sound s.log l).positions.inside_member p k inside)
     where
-      at : (m : ℕ) → (done s.log).past.new k p ≡ Some m → messages (messages_where (is_newer s p) (s.kept v p)) ≡ got_from v (drop m ((done s.log).own p))
+      at : (m : ℕ) → (done s.log).past.new k p ≡ Some m → messages (messages_where (is_newer s p) (s.kept v p)) ≡ received_of v (drop m ((done s.log).own p))
       at m f =
           let t : s.saved_at p ≡ m = b.saved_at p m (ap (taken_in (done s.log).past p) inside ∙ f) in
           let o = (sound s.log l).bounds.over p k m inside f in
@@ -133,12 +133,12 @@ module _ (s : State) (p k : ℕ) (n : s.so_far ≡ summary s.log) (l : IsLegal s
           ∙ (pick_got (is_newer s p) v (m - (done s.log).permanent p) (drop ((done s.log).permanent p) ((done s.log).own p)) (λ x y from g.
           let h = a ((done s.log).permanent p + x) y from (ap (λ (z : List Deed). slice_get z ((done s.log).permanent p + x)) (sym (own_live r)) ∙ get_drop ((done s.log).permanent p) ((done s.log).own p) x (deed.Received y from) g) in
           same_test (s.saved_at p) (s.so_far.received_at y) m ((done s.log).permanent p) x (m - (done s.log).permanent p) t h j)
-          ∙ ap (got_from v) (drop-drop (m - (done s.log).permanent p) ((done s.log).permanent p) ((done s.log).own p) ∙ ap (λ (z : ℕ). drop z ((done s.log).own p)) j)))
+          ∙ ap (received_of v) (drop-drop (m - (done s.log).permanent p) ((done s.log).permanent p) ((done s.log).own p) ∙ ap (λ (z : ℕ). drop z ((done s.log).own p)) j)))
         where
           same_test : (base place m perm x j : ℕ) → base ≡ m → place ≡ perm + x → perm + j ≡ m → nat_le base place ≡ nat_le j x
           same_test base place m perm x j e f g = grind (arith, nat_tests, e, f, g)
 
-      go : (o : Option ℕ) → (done s.log).past.new k p ≡ o → (is_some o || (done s.log).past.ready k p) ≡ true → messages (messages_where (is_newer s p) (s.kept v p)) ≡ got_from v (drop (moved_in (done s.log).past k p ((done s.log).permanent p)) (cut_in (done s.log).past k ((done s.log).permanent p) ((done s.log).own p)))
+      go : (o : Option ℕ) → (done s.log).past.new k p ≡ o → (is_some o || (done s.log).past.ready k p) ≡ true → messages (messages_where (is_newer s p) (s.kept v p)) ≡ received_of v (drop (moved_in (done s.log).past k p ((done s.log).permanent p)) (cut_in (done s.log).past k ((done s.log).permanent p) ((done s.log).own p)))
       go (Some m) f g = at m f ∙ sym (rw (r, w, f) refl)
       go None f g = absurd (let y = (sound s.log l).positions.ready_kind p k g in cc (y, r))
 
@@ -252,7 +252,7 @@ keeps_moves z p = let c = places z p in record {
     opened_placed : (s : State) (roll : Bool) → Placed s p → Placed (after_began s p roll) p
     opened_placed s roll t = t
 
-    decided_own : (s : State) (k : ℕ) (w : Bool) (u v : ℕ) → got_from v (drop ((done s.log).permanent u) ((done s.log).own u)) ≡ got_from v (drop ((done_after (done s.log) (Decided p k w)).permanent u) ((done_after (done s.log) (Decided p k w)).own u))
+    decided_own : (s : State) (k : ℕ) (w : Bool) (u v : ℕ) → received_of v (drop ((done s.log).permanent u) ((done s.log).own u)) ≡ received_of v (drop ((done_after (done s.log) (Decided p k w)).permanent u) ((done_after (done s.log) (Decided p k w)).own u))
     decided_own s k true u v = refl
     decided_own s k false u v = refl
 

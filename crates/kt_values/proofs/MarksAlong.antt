@@ -13,14 +13,14 @@ use Rattle.kt_cuts.specs.Legal.{IsLegal, broken_rule}
 use Rattle.kt_cuts.proofs.LegalLogs.{legal_log_induction}
 use Rattle.kt_cuts.proofs.RowRules.{may_take, may_get_ready, MayTake}
 use Rattle.kt_values.specs.Done.{Done, done, done_after, done_start}
-use Rattle.kt_values.specs.States.{got_from}
+use Rattle.kt_protocol.specs.UnderWay.{received_of}
 use Rattle.kt_values.specs.Marks.{Marked, mark_after, marked_after, marks}
 use Rattle.kt_values.proofs.DoneAlong.{done_past, done_more}
 use Rattle.kt_values.proofs.LegalFacts.{Sound, sound}
 
 -- the mark of who is in a checkpoint
 pub record MarkIs (d : Done) (mark : ℕ → ℕ → ℕ) : Type 0 where
-  pub each : (p q k n : ℕ) → d.past.open_in p ≡ Some k → d.past.new k p ≡ Some n → mark p q ≡ length (got_from q (drop (d.permanent p) (take n (d.own p))))
+  pub each : (p q k n : ℕ) → d.past.open_in p ≡ Some k → d.past.new k p ≡ Some n → mark p q ≡ length (received_of q (drop (d.permanent p) (take n (d.own p))))
 
 same : (a b : ℕ) → (a == b) ≡ true → a ≡ b
 same a b e = grind (arith, nat_tests)
@@ -35,7 +35,7 @@ pushed d s p u n x l = go (u == p) refl
 mark_took : (d : Done) (mark : ℕ → ℕ → ℕ) → Sound d → (p k : ℕ) → MayTake d.past p k → MarkIs d mark → MarkIs (done_after d (Took p k)) (mark_after (record { known = d; mark = mark }) (Took p k))
 mark_took d mark s p k m i = record { each = λ u q j n o t. go u q j n (u == p) refl o t }
   where
-    go : (u q j n : ℕ) (b : Bool) → (u == p) ≡ b → (if b then Some k else d.past.open_in u) ≡ Some j → (if (j == k) && b then Some (length (d.past.live p)) else d.past.new j u) ≡ Some n → (if b then (λ q. length (got_from q (drop (d.permanent p) (d.own p)))) else mark u) q ≡ length (got_from q (drop (d.permanent u) (take n (d.own u))))
+    go : (u q j n : ℕ) (b : Bool) → (u == p) ≡ b → (if b then Some k else d.past.open_in u) ≡ Some j → (if (j == k) && b then Some (length (d.past.live p)) else d.past.new j u) ≡ Some n → (if b then (λ q. length (received_of q (drop (d.permanent p) (d.own p)))) else mark u) q ≡ length (received_of q (drop (d.permanent u) (take n (d.own u))))
     go u q j n false e o t = i.each u q j n o (flat (j == k) t)
       where
         flat : (x : Bool) → (if x && false then Some (length (d.past.live p)) else d.past.new j u) ≡ Some n → d.past.new j u ≡ Some n
@@ -48,15 +48,15 @@ mark_took d mark s p k m i = record { each = λ u q j n o t. go u q j n (u == p)
         let t' : Some (length (d.past.live p)) ≡ Some n = rw h' at t in
         let l : length (d.past.live p) ≡ n = cc (t') in
         let w : length (d.own u) ≡ length (d.past.live p) = ap (λ (v : ℕ). length (d.own v)) x ∙ ap length (sym (s.owns.live_idle p m.idle)) in
-        ap (λ (v : ℕ). length (got_from q (drop (d.permanent v) (d.own v)))) (sym x) ∙ ap (λ (z : List Deed). length (got_from q (drop (d.permanent u) z))) (sym (take_all n (d.own u) (omega (arith, l, w))))
+        ap (λ (v : ℕ). length (received_of q (drop (d.permanent v) (d.own v)))) (sym x) ∙ ap (λ (z : List Deed). length (received_of q (drop (d.permanent u) z))) (sym (take_all n (d.own u) (omega (arith, l, w))))
 
 mark_row : (d : Done) (mark : ℕ → ℕ → ℕ) → Sound d → (row : Event) → broken_rule d.past row ≡ None → MarkIs d mark → MarkIs (done_after d row) (mark_after (record { known = d; mark = mark }) row)
-mark_row d mark s (Sent p to body) e i = record { each = λ u q k n o t. i.each u q k n o t ∙ ap (λ (z : List Deed). length (got_from q (drop (d.permanent u) z))) (sym (pushed d s p u n (deed.Sent (d.past.rows + 1) to) (s.bounds.taken_low u k n o t))) }
-mark_row d mark s (Received p from msg) e i = record { each = λ u q k n o t. i.each u q k n o t ∙ ap (λ (z : List Deed). length (got_from q (drop (d.permanent u) z))) (sym (pushed d s p u n (deed.Received msg from) (s.bounds.taken_low u k n o t))) }
+mark_row d mark s (Sent p to body) e i = record { each = λ u q k n o t. i.each u q k n o t ∙ ap (λ (z : List Deed). length (received_of q (drop (d.permanent u) z))) (sym (pushed d s p u n (deed.Sent (d.past.rows + 1) to) (s.bounds.taken_low u k n o t))) }
+mark_row d mark s (Received p from msg) e i = record { each = λ u q k n o t. i.each u q k n o t ∙ ap (λ (z : List Deed). length (received_of q (drop (d.permanent u) z))) (sym (pushed d s p u n (deed.Received msg from) (s.bounds.taken_low u k n o t))) }
 mark_row d mark s (Took p k) e i = mark_took d mark s p k (may_take d.past p k e) i
 mark_row d mark s (Ready p k) e i = record { each = λ u q j n o t. go u q j n (u == p) refl o t }
   where
-    go : (u q j n : ℕ) (b : Bool) → (u == p) ≡ b → (if b then Some k else d.past.open_in u) ≡ Some j → d.past.new j u ≡ Some n → mark u q ≡ length (got_from q (drop (d.permanent u) (take n (d.own u))))
+    go : (u q j n : ℕ) (b : Bool) → (u == p) ≡ b → (if b then Some k else d.past.open_in u) ≡ Some j → d.past.new j u ≡ Some n → mark u q ≡ length (received_of q (drop (d.permanent u) (take n (d.own u))))
     go u q j n false z o t = i.each u q j n o t
     go u q j n true z o t =
         let m = may_get_ready d.past p k e in
@@ -66,7 +66,7 @@ mark_row d mark s (Ready p k) e i = record { each = λ u q j n o t. go u q j n (
         absurd (cc (y, no))
 mark_row d mark s (Closed p k) e i = record { each = λ u q j n o t. go u q j n (u == p) refl o t }
   where
-    go : (u q j n : ℕ) (b : Bool) → (u == p) ≡ b → (if b then None else d.past.open_in u) ≡ Some j → d.past.new j u ≡ Some n → mark u q ≡ length (got_from q (drop ((done_after d (Closed p k)).permanent u) (take n ((done_after d (Closed p k)).own u))))
+    go : (u q j n : ℕ) (b : Bool) → (u == p) ≡ b → (if b then None else d.past.open_in u) ≡ Some j → d.past.new j u ≡ Some n → mark u q ≡ length (received_of q (drop ((done_after d (Closed p k)).permanent u) (take n ((done_after d (Closed p k)).own u))))
     go u q j n true z o t = absurd (cc (o))
     go u q j n false z o t = i.each u q j n o t ∙ sym (rw z refl)
 mark_row d mark s (Decided p k true) e i = record { each = i.each }

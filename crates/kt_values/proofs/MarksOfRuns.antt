@@ -15,7 +15,7 @@ use Rattle.kt_closing.specs.KeptInOrder.{is_in_checkpoint}
 use Rattle.kt_closing.specs.OnceClosed.{has_to_restore}
 use Rattle.kt_values.specs.Done.{done}
 use Rattle.kt_values.specs.Values.{taken_in, taken_at}
-use Rattle.kt_values.specs.States.{got_from}
+use Rattle.kt_protocol.specs.UnderWay.{received_of}
 use Rattle.kt_values.specs.Marks.{marks}
 use Rattle.kt_values.proofs.LegalFacts.{sound}
 use Rattle.kt_values.proofs.RunActs.{invariant_late, legal_late}
@@ -62,11 +62,11 @@ module _ (n : ℕ) (steps : List Step) (p : ℕ) (e : is_in_checkpoint (late_run
       let j : d.permanent p + (c.saved_at p - d.permanent p) ≡ c.saved_at p = omega (arith, over) in
       let left = apps_sieve (is_newer c p) (c.kept q p) ∙ (ap (pick (is_newer c p)) k ∙ (pick_got (is_newer c p) q (c.saved_at p - d.permanent p) (drop (d.permanent p) (d.own p)) (λ x m from g.
       let h = ((invariant_late n steps).histories.received_is p (d.permanent p + x) m from (ap (λ (z : List Deed). slice_get z (d.permanent p + x)) (own_live n steps p (not_restoring c.so_far p e)) ∙ get_drop (d.permanent p) (d.own p) x (deed.Received m from) g)).2 in
-      same_test (c.saved_at p) (c.so_far.received_at m) (d.permanent p) x (c.saved_at p - d.permanent p) h j) ∙ ap (got_from q) (drop-drop (c.saved_at p - d.permanent p) (d.permanent p) (d.own p) ∙ ap (λ (z : ℕ). drop z (d.own p)) j))) in
+      same_test (c.saved_at p) (c.so_far.received_at m) (d.permanent p) x (c.saved_at p - d.permanent p) h j) ∙ ap (received_of q) (drop-drop (c.saved_at p - d.permanent p) (d.permanent p) (d.own p) ∙ ap (λ (z : ℕ). drop z (d.own p)) j))) in
       let two : drop (d.permanent p) (d.own p) ≡ drop (d.permanent p) (take (c.saved_at p) (d.own p)) ++ drop (c.saved_at p) (d.own p) = ap (drop (d.permanent p)) (sym (take-append-drop (c.saved_at p) (d.own p))) ∙ drop-append-le (d.permanent p) (take (c.saved_at p) (d.own p)) (drop (c.saved_at p) (d.own p)) (let t = length-take (c.saved_at p) (d.own p) in grind (arith, t, low, over)) in
-      let parts : messages (c.kept q p) ≡ got_from q (drop (d.permanent p) (take (c.saved_at p) (d.own p))) ++ got_from q (drop (c.saved_at p) (d.own p)) = k ∙ (ap (got_from q) two ∙ got_append q (drop (d.permanent p) (take (c.saved_at p) (d.own p))) (drop (c.saved_at p) (d.own p))) in
+      let parts : messages (c.kept q p) ≡ received_of q (drop (d.permanent p) (take (c.saved_at p) (d.own p))) ++ received_of q (drop (c.saved_at p) (d.own p)) = k ∙ (ap (received_of q) two ∙ got_append q (drop (d.permanent p) (take (c.saved_at p) (d.own p))) (drop (c.saved_at p) (d.own p))) in
       let m = (marks_are c.log (legal_late n steps)).each p q opened.0 (c.saved_at p) opened.1 opened.2 in
-      left ∙ sym (ap₂ (λ (x : ℕ) (l : List ℕ). drop x l) m parts ∙ drop_at (got_from q (drop (d.permanent p) (take (c.saved_at p) (d.own p)))) (got_from q (drop (c.saved_at p) (d.own p))) (length (got_from q (drop (d.permanent p) (take (c.saved_at p) (d.own p))))) refl)
+      left ∙ sym (ap₂ (λ (x : ℕ) (l : List ℕ). drop x l) m parts ∙ drop_at (received_of q (drop (d.permanent p) (take (c.saved_at p) (d.own p)))) (received_of q (drop (c.saved_at p) (d.own p))) (length (received_of q (drop (d.permanent p) (take (c.saved_at p) (d.own p))))) refl)
     where
       same_test : (base place perm x j : ℕ) → place ≡ perm + x → perm + j ≡ base → nat_le base place ≡ nat_le j x
       same_test base place perm x j f g = grind (arith, nat_tests, f, g)

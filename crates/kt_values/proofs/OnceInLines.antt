@@ -25,7 +25,8 @@ use Rattle.kt_closing.specs.LateClosing.{late_deciding_as, late_deciding, late_c
 use Rattle.kt_closing.specs.OnceClosed.{has_to_restore}
 use Rattle.kt_values.specs.Done.{Done, done, done_after}
 use Rattle.kt_values.specs.Values.{Act}
-use Rattle.kt_values.specs.States.{got_from, line_of}
+use Rattle.kt_protocol.specs.UnderWay.{received_of}
+use Rattle.kt_values.specs.States.{line_of}
 use Rattle.kt_values.proofs.DoneAlong.{done_more, done_past}
 use Rattle.kt_values.proofs.LegalFacts.{sound}
 use Rattle.kt_values.proofs.AddedRows.{decided_log, closed_log}
@@ -76,7 +77,7 @@ has_take d n l e = let p = deed_place d (take n l) e in has_from_place d l p.0 (
 
 -- lists that differ at most in parcels that are no messages
 pub line_same : (own : ℕ → List Deed) (x y x' y' : Lists) → ((u v : ℕ) → messages (x' u v) ≡ messages (x u v)) → ((u v : ℕ) → messages (y' u v) ≡ messages (y u v)) → (u v : ℕ) → line_of own x' y' u v ≡ line_of own x y u v
-line_same own x y x' y' e f u v = ap₂ (λ (a b : List ℕ). got_from u (own v) ++ (a ++ b)) (f u v) (e u v)
+line_same own x y x' y' e f u v = ap₂ (λ (a b : List ℕ). received_of u (own v) ++ (a ++ b)) (f u v) (e u v)
 
 -- a message with a greater number than rows stands in no list
 pub times_rows : (log : List Event) (u v m : ℕ) (l : List Parcel) → AllRows log u v l → length log < m → times m (messages l) ≡ 0
@@ -125,12 +126,12 @@ module _ (s : State) (p q : ℕ) (body : ℤ) (l : IsLegal s.log) (w : Carried s
       let t = times_line (s.so_far.rows + 1) (done s.log).own s.channel s.held u v in
       omega (arith, a, b, c, t)
 
-  pub got_same : (u v : ℕ) → got_from u (at_one p ((done s.log).own p ++ deed.Sent ((done s.log).past.rows + 1) q ∷ []) (done s.log).own v) ≡ got_from u ((done s.log).own v)
+  pub got_same : (u v : ℕ) → received_of u (at_one p ((done s.log).own p ++ deed.Sent ((done s.log).past.rows + 1) q ∷ []) (done s.log).own v) ≡ received_of u ((done s.log).own v)
   got_same u v = go (v == p) refl
     where
-      go : (b : Bool) → (v == p) ≡ b → got_from u (if b then (done s.log).own p ++ deed.Sent ((done s.log).past.rows + 1) q ∷ [] else (done s.log).own v) ≡ got_from u ((done s.log).own v)
+      go : (b : Bool) → (v == p) ≡ b → received_of u (if b then (done s.log).own p ++ deed.Sent ((done s.log).past.rows + 1) q ∷ [] else (done s.log).own v) ≡ received_of u ((done s.log).own v)
       go false e = refl
-      go true e = let x : v ≡ p = grind (arith, nat_tests) in got_append u ((done s.log).own p) (deed.Sent ((done s.log).past.rows + 1) q ∷ []) ∙ (append-nil (got_from u ((done s.log).own p)) ∙ ap (λ (z : ℕ). got_from u ((done s.log).own z)) (sym x))
+      go true e = let x : v ≡ p = grind (arith, nat_tests) in got_append u ((done s.log).own p) (deed.Sent ((done s.log).past.rows + 1) q ∷ []) ∙ (append-nil (received_of u ((done s.log).own p)) ∙ ap (λ (z : ℕ). received_of u ((done s.log).own z)) (sym x))
 
   -- the line grows where the message goes
   times_sent : (m u v : ℕ) → times m (line_of (at_one p ((done s.log).own p ++ deed.Sent ((done s.log).past.rows + 1) q ∷ []) (done s.log).own) (with_parcel s.channel p q (App (s.so_far.rows + 1))) s.held u v) ≡ times m (line_of (done s.log).own s.channel s.held u v) + (if u == p && v == q then (if s.so_far.rows + 1 == m then 1 else 0) else 0)
@@ -251,7 +252,7 @@ module _ (s : State) (p k : ℕ) where
           absurd (cc (r, t))
       go m u v false z r a n =
           let g : (done_after (done s.log) (Closed p k)).own v ≡ (done s.log).own v = rw z refl in
-          ap (times m) (ap₂ (λ (x y : List ℕ). x ++ y) (ap (got_from u) g) (ap₂ (λ (x y : List ℕ). x ++ y) (ap messages (closed_held w u v z)) (closed_chan w u v))) ∙ i.each m u v a n
+          ap (times m) (ap₂ (λ (x y : List ℕ). x ++ y) (ap (received_of u) g) (ap₂ (λ (x y : List ℕ). x ++ y) (ap messages (closed_held w u v z)) (closed_chan w u v))) ∙ i.each m u v a n
 
 lost_line : (d : Done) (x y x' y' : Lists) (n : ℕ) → ((m u v : ℕ) → (n == m) ≡ false → times m (messages (x' u v)) ≡ times m (messages (x u v))) → ((m u v : ℕ) → (n == m) ≡ false → times m (messages (y' u v)) ≡ times m (messages (y u v))) → (m u v : ℕ) → (n == m) ≡ false → times m (line_of d.own x' y' u v) ≡ times m (line_of d.own x y u v)
 lost_line d x y x' y' n e f m u v z =

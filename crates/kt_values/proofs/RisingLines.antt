@@ -24,7 +24,8 @@ use Rattle.kt_closing.specs.OnceClosed.{once_closed}
 use Rattle.kt_values.specs.Done.{Done, done, done_after}
 use Rattle.kt_values.specs.Values.{Act}
 use Rattle.kt_values.specs.Acts.{stepper}
-use Rattle.kt_values.specs.States.{got_from, line_of, IsAbove, IsRising}
+use Rattle.kt_protocol.specs.UnderWay.{received_of}
+use Rattle.kt_values.specs.States.{line_of, IsAbove, IsRising}
 use Rattle.kt_values.proofs.DoneAlong.{done_more}
 use Rattle.kt_values.proofs.OwnAndLive.{cut_in}
 use Rattle.kt_values.proofs.LegalFacts.{sound}
@@ -92,9 +93,9 @@ rises_sent s p q body l w i = record { each = λ u v. subst Rising (sym (grown u
     grown : (u v : ℕ) (b : Bool) → (u == p && v == q) ≡ b → line_of (done_after (done s.log) (Sent p q body)).own (with_parcel s.channel p q (App (s.so_far.rows + 1))) s.held u v ≡ (if b then line_of (done s.log).own s.channel s.held u v ++ (s.so_far.rows + 1) ∷ [] else line_of (done s.log).own s.channel s.held u v)
     grown u v b e = ap₂ (λ (x y : List ℕ). x ++ (messages (s.held u v) ++ y)) (got_same s p q body l w u v) (apps_sending s.channel p q (s.so_far.rows + 1) u v ∙ ap (λ (t : Bool). if t then messages (s.channel u v) ++ (s.so_far.rows + 1) ∷ [] else messages (s.channel u v)) e) ∙ go b
       where
-        go : (b : Bool) → got_from u ((done s.log).own v) ++ (messages (s.held u v) ++ (if b then messages (s.channel u v) ++ (s.so_far.rows + 1) ∷ [] else messages (s.channel u v))) ≡ (if b then line_of (done s.log).own s.channel s.held u v ++ (s.so_far.rows + 1) ∷ [] else line_of (done s.log).own s.channel s.held u v)
+        go : (b : Bool) → received_of u ((done s.log).own v) ++ (messages (s.held u v) ++ (if b then messages (s.channel u v) ++ (s.so_far.rows + 1) ∷ [] else messages (s.channel u v))) ≡ (if b then line_of (done s.log).own s.channel s.held u v ++ (s.so_far.rows + 1) ∷ [] else line_of (done s.log).own s.channel s.held u v)
         go false = refl
-        go true = sym (append_assoc (got_from u ((done s.log).own v)) (messages (s.held u v) ++ messages (s.channel u v)) ((s.so_far.rows + 1) ∷ []) ∙ ap (λ (x : List ℕ). got_from u ((done s.log).own v) ++ x) (append_assoc (messages (s.held u v)) (messages (s.channel u v)) ((s.so_far.rows + 1) ∷ [])))
+        go true = sym (append_assoc (received_of u ((done s.log).own v)) (messages (s.held u v) ++ messages (s.channel u v)) ((s.so_far.rows + 1) ∷ []) ∙ ap (λ (x : List ℕ). received_of u ((done s.log).own v) ++ x) (append_assoc (messages (s.held u v)) (messages (s.channel u v)) ((s.so_far.rows + 1) ∷ [])))
 
 -- closing
 module _ (s : State) (p k : ℕ) (n : s.so_far ≡ summary s.log) (l : IsLegal s.log) (e : broken_rule (past s.log) (Closed p k) ≡ None) (keeps : kept.Keeps (done s.log) s.kept) (i : Rises (done s.log) s.channel s.held) where
@@ -105,23 +106,23 @@ module _ (s : State) (p k : ℕ) (n : s.so_far ≡ summary s.log) (l : IsLegal s
   there : (w : Bool) (u v : ℕ) → (v == p) ≡ false → Thin (line_of (done_after (done s.log) (Closed p k)).own (late_closing s p k w).channel (late_closing s p k w).held u v) (line_of (done s.log).own s.channel s.held u v)
   there w u v z =
       let g : (done_after (done s.log) (Closed p k)).own v ≡ (done s.log).own v = rw z refl in
-      subst (Thin (line_of (done_after (done s.log) (Closed p k)).own (late_closing s p k w).channel (late_closing s p k w).held u v)) (ap₂ (λ (x y : List ℕ). x ++ y) (ap (got_from u) g) (ap₂ (λ (x y : List ℕ). x ++ y) (ap messages (closed_held s p k w u v z)) (closed_chan s p k w u v))) (thin_all _)
+      subst (Thin (line_of (done_after (done s.log) (Closed p k)).own (late_closing s p k w).channel (late_closing s p k w).held u v)) (ap₂ (λ (x y : List ℕ). x ++ y) (ap (received_of u) g) (ap₂ (λ (x y : List ℕ). x ++ y) (ap messages (closed_held s p k w u v z)) (closed_chan s p k w u v))) (thin_all _)
 
   -- at p, where its history and its held lists stay
-  plain : (w : Bool) (u : ℕ) → cut_in (done s.log).past k ((done s.log).permanent p) ((done s.log).own p) ≡ (done s.log).own p → (late_closing s p k w).held u p ≡ s.held u p → Thin (got_from u (cut_in (done s.log).past k ((done s.log).permanent p) ((done s.log).own p)) ++ (messages ((late_closing s p k w).held u p) ++ messages ((late_closing s p k w).channel u p))) (line_of (done s.log).own s.channel s.held u p)
-  plain w u c h = subst (Thin _) (ap₂ (λ (x y : List ℕ). x ++ y) (ap (got_from u) c) (ap₂ (λ (x y : List ℕ). x ++ y) (ap messages h) (closed_chan s p k w u p))) (thin_all _)
+  plain : (w : Bool) (u : ℕ) → cut_in (done s.log).past k ((done s.log).permanent p) ((done s.log).own p) ≡ (done s.log).own p → (late_closing s p k w).held u p ≡ s.held u p → Thin (received_of u (cut_in (done s.log).past k ((done s.log).permanent p) ((done s.log).own p)) ++ (messages ((late_closing s p k w).held u p) ++ messages ((late_closing s p k w).channel u p))) (line_of (done s.log).own s.channel s.held u p)
+  plain w u c h = subst (Thin _) (ap₂ (λ (x y : List ℕ). x ++ y) (ap (received_of u) c) (ap₂ (λ (x y : List ℕ). x ++ y) (ap messages h) (closed_chan s p k w u p))) (thin_all _)
 
   -- where it is cut back
-  cut : (w : Bool) (u : ℕ) → cut_in (done s.log).past k ((done s.log).permanent p) ((done s.log).own p) ≡ take ((done s.log).permanent p) ((done s.log).own p) → (late_closing s p k w).held u p ≡ messages_where (is_within_label s k p u) (s.kept u p) ++ messages_where (is_within_label s k p u) (s.held u p) → Thin (got_from u (cut_in (done s.log).past k ((done s.log).permanent p) ((done s.log).own p)) ++ (messages ((late_closing s p k w).held u p) ++ messages ((late_closing s p k w).channel u p))) (line_of (done s.log).own s.channel s.held u p)
+  cut : (w : Bool) (u : ℕ) → cut_in (done s.log).past k ((done s.log).permanent p) ((done s.log).own p) ≡ take ((done s.log).permanent p) ((done s.log).own p) → (late_closing s p k w).held u p ≡ messages_where (is_within_label s k p u) (s.kept u p) ++ messages_where (is_within_label s k p u) (s.held u p) → Thin (received_of u (cut_in (done s.log).past k ((done s.log).permanent p) ((done s.log).own p)) ++ (messages ((late_closing s p k w).held u p) ++ messages ((late_closing s p k w).channel u p))) (line_of (done s.log).own s.channel s.held u p)
   cut w u c h =
       let t = is_within_label s k p u in
-      let new : got_from u (cut_in (done s.log).past k ((done s.log).permanent p) ((done s.log).own p)) ++ (messages ((late_closing s p k w).held u p) ++ messages ((late_closing s p k w).channel u p)) ≡ got_from u (take ((done s.log).permanent p) ((done s.log).own p)) ++ (messages (messages_where t (s.kept u p)) ++ (messages (messages_where t (s.held u p)) ++ messages (s.channel u p))) =
-      ap₂ (λ (x y : List ℕ). x ++ y) (ap (got_from u) c) (ap₂ (λ (x y : List ℕ). x ++ y) (ap messages h ∙ apps_append (messages_where t (s.kept u p)) (messages_where t (s.held u p))) (closed_chan s p k w u p) ∙ append_assoc (messages (messages_where t (s.kept u p))) (messages (messages_where t (s.held u p))) (messages (s.channel u p))) in
-      let old : line_of (done s.log).own s.channel s.held u p ≡ got_from u (take ((done s.log).permanent p) ((done s.log).own p)) ++ (messages (s.kept u p) ++ (messages (s.held u p) ++ messages (s.channel u p))) =
-      ap (λ (x : List ℕ). x ++ (messages (s.held u p) ++ messages (s.channel u p))) (ap (got_from u) (sym (take-append-drop ((done s.log).permanent p) ((done s.log).own p))) ∙ (got_append u (take ((done s.log).permanent p) ((done s.log).own p)) (drop ((done s.log).permanent p) ((done s.log).own p)) ∙ ap (λ (x : List ℕ). got_from u (take ((done s.log).permanent p) ((done s.log).own p)) ++ x) (sym (keeps.each p u))))
-      ∙ append_assoc (got_from u (take ((done s.log).permanent p) ((done s.log).own p))) (messages (s.kept u p)) (messages (s.held u p) ++ messages (s.channel u p)) in
+      let new : received_of u (cut_in (done s.log).past k ((done s.log).permanent p) ((done s.log).own p)) ++ (messages ((late_closing s p k w).held u p) ++ messages ((late_closing s p k w).channel u p)) ≡ received_of u (take ((done s.log).permanent p) ((done s.log).own p)) ++ (messages (messages_where t (s.kept u p)) ++ (messages (messages_where t (s.held u p)) ++ messages (s.channel u p))) =
+      ap₂ (λ (x y : List ℕ). x ++ y) (ap (received_of u) c) (ap₂ (λ (x y : List ℕ). x ++ y) (ap messages h ∙ apps_append (messages_where t (s.kept u p)) (messages_where t (s.held u p))) (closed_chan s p k w u p) ∙ append_assoc (messages (messages_where t (s.kept u p))) (messages (messages_where t (s.held u p))) (messages (s.channel u p))) in
+      let old : line_of (done s.log).own s.channel s.held u p ≡ received_of u (take ((done s.log).permanent p) ((done s.log).own p)) ++ (messages (s.kept u p) ++ (messages (s.held u p) ++ messages (s.channel u p))) =
+      ap (λ (x : List ℕ). x ++ (messages (s.held u p) ++ messages (s.channel u p))) (ap (received_of u) (sym (take-append-drop ((done s.log).permanent p) ((done s.log).own p))) ∙ (got_append u (take ((done s.log).permanent p) ((done s.log).own p)) (drop ((done s.log).permanent p) ((done s.log).own p)) ∙ ap (λ (x : List ℕ). received_of u (take ((done s.log).permanent p) ((done s.log).own p)) ++ x) (sym (keeps.each p u))))
+      ∙ append_assoc (received_of u (take ((done s.log).permanent p) ((done s.log).own p))) (messages (s.kept u p)) (messages (s.held u p) ++ messages (s.channel u p)) in
       subst (λ (x : List ℕ). Thin x (line_of (done s.log).own s.channel s.held u p)) (sym new) (subst (Thin _) (sym old)
-      (thin_append _ _ _ _ (thin_all (got_from u (take ((done s.log).permanent p) ((done s.log).own p)))) (thin_append _ _ _ _ (thin_messages_where t (s.kept u p)) (thin_append _ _ _ _ (thin_messages_where t (s.held u p)) (thin_all (messages (s.channel u p)))))))
+      (thin_append _ _ _ _ (thin_all (received_of u (take ((done s.log).permanent p) ((done s.log).own p)))) (thin_append _ _ _ _ (thin_messages_where t (s.kept u p)) (thin_append _ _ _ _ (thin_messages_where t (s.held u p)) (thin_all (messages (s.channel u p)))))))
 
   -- the held lists of who closes
   held_then : (w : Bool) (u : ℕ) → s.so_far.is_rollback k ≡ true → (late_closing s p k w).held u p ≡ (if w then messages_where (is_within_label s k p u) (s.kept u p) ++ messages_where (is_within_label s k p u) (s.held u p) else s.held u p)
@@ -138,10 +139,10 @@ module _ (s : State) (p k : ℕ) (n : s.so_far ≡ summary s.log) (l : IsLegal s
       go true = refl
       go false = refl
 
-  here : (w : Bool) (u : ℕ) → s.so_far.is_committed k ≡ w → Thin (got_from u (cut_in (done s.log).past k ((done s.log).permanent p) ((done s.log).own p)) ++ (messages ((late_closing s p k w).held u p) ++ messages ((late_closing s p k w).channel u p))) (line_of (done s.log).own s.channel s.held u p)
+  here : (w : Bool) (u : ℕ) → s.so_far.is_committed k ≡ w → Thin (received_of u (cut_in (done s.log).past k ((done s.log).permanent p) ((done s.log).own p)) ++ (messages ((late_closing s p k w).held u p) ++ messages ((late_closing s p k w).channel u p))) (line_of (done s.log).own s.channel s.held u p)
   here w u v = go (s.so_far.is_rollback k) w refl v
     where
-      go : (r w : Bool) → s.so_far.is_rollback k ≡ r → s.so_far.is_committed k ≡ w → Thin (got_from u (cut_in (done s.log).past k ((done s.log).permanent p) ((done s.log).own p)) ++ (messages ((late_closing s p k w).held u p) ++ messages ((late_closing s p k w).channel u p))) (line_of (done s.log).own s.channel s.held u p)
+      go : (r w : Bool) → s.so_far.is_rollback k ≡ r → s.so_far.is_committed k ≡ w → Thin (received_of u (cut_in (done s.log).past k ((done s.log).permanent p) ((done s.log).own p)) ++ (messages ((late_closing s p k w).held u p) ++ messages ((late_closing s p k w).channel u p))) (line_of (done s.log).own s.channel s.held u p)
       go true true r v = cut true u (rw (kinds.0 ∙ r, kinds.1 ∙ v) refl) (held_then true u r)
       go true false r v = plain false u (rw (kinds.0 ∙ r, kinds.1 ∙ v) refl) (held_then false u r)
       go false w r v = plain w u (rw (kinds.0 ∙ r) refl) (held_stays w u r)
@@ -154,8 +155,8 @@ module _ (s : State) (p k : ℕ) (n : s.so_far ≡ summary s.log) (l : IsLegal s
       go u x true z =
           let y : x ≡ p = grind (arith, nat_tests) in
           let t : (done_after (done s.log) (Closed p k)).own x ≡ cut_in (done s.log).past k ((done s.log).permanent p) ((done s.log).own p) = rw z refl in
-          subst (λ (d : List Deed). Thin (got_from u d ++ (messages ((late_closing s p k w).held u x) ++ messages ((late_closing s p k w).channel u x))) (line_of (done s.log).own s.channel s.held u x)) (sym t)
-          (subst (λ (a : ℕ). Thin (got_from u (cut_in (done s.log).past k ((done s.log).permanent p) ((done s.log).own p)) ++ (messages ((late_closing s p k w).held u a) ++ messages ((late_closing s p k w).channel u a))) (line_of (done s.log).own s.channel s.held u a)) (sym y) (here w u v))
+          subst (λ (d : List Deed). Thin (received_of u d ++ (messages ((late_closing s p k w).held u x) ++ messages ((late_closing s p k w).channel u x))) (line_of (done s.log).own s.channel s.held u x)) (sym t)
+          (subst (λ (a : ℕ). Thin (received_of u (cut_in (done s.log).past k ((done s.log).permanent p) ((done s.log).own p)) ++ (messages ((late_closing s p k w).held u a) ++ messages ((late_closing s p k w).channel u a))) (line_of (done s.log).own s.channel s.held u a)) (sym y) (here w u v))
 
 gone : {p : ℕ} {s : State} {a : List Act} → Here p s a → Gone s a
 gone i = record { keeps = record { places = i.keeps.places; kept = i.keeps.kept }; carried = i.carried; rises = i.rises }
@@ -185,8 +186,8 @@ moves z p = let c = carried z p in let t = kept.keeps_moves z p in record {
   notes = λ s q k l a i. record { keeps = t.notes s q k l a i.keeps; carried = c.notes s q k l a i.carried; rises = i.rises };
   receives = λ s q m rest a y u e n i. record { keeps = t.receives s q m rest a y u e n i.keeps; carried = c.receives s q m rest a y u e n i.carried; rises = risen s (after_receiving s (with_rest s.channel q p rest) s.held p q m) (Received p q m) refl (λ l b g. same_rises (done s.log) (done_after (done s.log) (Received p q m)) s.channel s.held (with_rest s.channel q p rest) s.held (line_received (done s.log).own s.channel s.held p q m rest e n) g) i.rises };
   receives_held = λ s q m rest a y u e i. record { keeps = t.receives_held s q m rest a y u e i.keeps; carried = c.receives_held s q m rest a y u e i.carried; rises = risen s (after_receiving s s.channel (with_rest s.held q p rest) p q m) (Received p q m) refl (λ l b g. same_rises (done s.log) (done_after (done s.log) (Received p q m)) s.channel s.held s.channel (with_rest s.held q p rest) (line_received_held (done s.log).own s.channel s.held p q m rest e) g) i.rises };
-  loses = λ s q m rest a y u e n i. record { keeps = t.loses s q m rest a y u e n i.keeps; carried = c.loses s q m rest a y u e n i.carried; rises = risen s (after_dropping s (with_rest s.channel q p rest) s.held p q m) (Dropped p q m) refl (λ l b g. thin_rises (done s.log) (done_after (done s.log) (Dropped p q m)) s.channel s.held (with_rest s.channel q p rest) s.held (λ u v. thin_append _ _ _ _ (thin_all (got_from u ((done s.log).own v))) (thin_append _ _ _ _ (thin_all (messages (s.held u v))) (thin_popped s.channel q p m rest e u v))) g) i.rises };
-  loses_held = λ s q m rest a y u e i. record { keeps = t.loses_held s q m rest a y u e i.keeps; carried = c.loses_held s q m rest a y u e i.carried; rises = risen s (after_dropping s s.channel (with_rest s.held q p rest) p q m) (Dropped p q m) refl (λ l b g. thin_rises (done s.log) (done_after (done s.log) (Dropped p q m)) s.channel s.held s.channel (with_rest s.held q p rest) (λ u v. thin_append _ _ _ _ (thin_all (got_from u ((done s.log).own v))) (thin_append _ _ _ _ (thin_popped s.held q p m rest e u v) (thin_all (messages (s.channel u v))))) g) i.rises };
+  loses = λ s q m rest a y u e n i. record { keeps = t.loses s q m rest a y u e n i.keeps; carried = c.loses s q m rest a y u e n i.carried; rises = risen s (after_dropping s (with_rest s.channel q p rest) s.held p q m) (Dropped p q m) refl (λ l b g. thin_rises (done s.log) (done_after (done s.log) (Dropped p q m)) s.channel s.held (with_rest s.channel q p rest) s.held (λ u v. thin_append _ _ _ _ (thin_all (received_of u ((done s.log).own v))) (thin_append _ _ _ _ (thin_all (messages (s.held u v))) (thin_popped s.channel q p m rest e u v))) g) i.rises };
+  loses_held = λ s q m rest a y u e i. record { keeps = t.loses_held s q m rest a y u e i.keeps; carried = c.loses_held s q m rest a y u e i.carried; rises = risen s (after_dropping s s.channel (with_rest s.held q p rest) p q m) (Dropped p q m) refl (λ l b g. thin_rises (done s.log) (done_after (done s.log) (Dropped p q m)) s.channel s.held s.channel (with_rest s.held q p rest) (λ u v. thin_append _ _ _ _ (thin_all (received_of u ((done s.log).own v))) (thin_append _ _ _ _ (thin_popped s.held q p m rest e u v) (thin_all (messages (s.channel u v))))) g) i.rises };
   holds = λ s q m rest a y e i. record { keeps = t.holds s q m rest a y e i.keeps; carried = c.holds s q m rest a y e i.carried; rises = λ l. same_rises (done s.log) (done s.log) s.channel s.held (with_rest s.channel q p rest) (with_parcel s.held q p (App m)) (line_held (done s.log).own s.channel s.held p q m rest e) (i.rises l) };
   drops = λ s q x rest a e f i. record { keeps = t.drops s q x rest a e f i.keeps; carried = c.drops s q x rest a e f i.carried; rises = λ l. by_lists (done s.log) s.channel s.held (with_rest s.channel q p rest) s.held (apps_with_rest s.channel q p x rest e (no_app x f)) (λ u v. refl) (i.rises l) };
   replies = λ s q k w a i. record { keeps = t.replies s q k w a i.keeps; carried = c.replies s q k w a i.carried; rises = λ l. by_lists (done s.log) s.channel s.held (with_parcel s.channel p q (Reply k w)) s.held (apps_with_parcel s.channel p q (Reply k w) refl) (λ u v. refl) (i.rises l) };
@@ -217,5 +218,5 @@ gone_of n steps g = run_rises (opening n) steps g (record { keeps = kept.kept_of
 pub rises_of : (n : ℕ) (steps : List Step) → ((xs : List Step) → Invariant (once_closed (late_run (opening n) xs))) → IsLegal (late_run (opening n) steps).log → (p q : ℕ) → IsRising (line_of (done (late_run (opening n) steps).log).own (late_run (opening n) steps).channel (late_run (opening n) steps).held p q)
 rises_of n steps g l p q = rising_same _ (((gone_of n steps g).rises l).each p q)
 
-pub kept_is : (n : ℕ) (steps : List Step) → ((xs : List Step) → Invariant (once_closed (late_run (opening n) xs))) → IsLegal (late_run (opening n) steps).log → (p q : ℕ) → messages ((late_run (opening n) steps).kept q p) ≡ got_from q (drop ((done (late_run (opening n) steps).log).permanent p) ((done (late_run (opening n) steps).log).own p))
+pub kept_is : (n : ℕ) (steps : List Step) → ((xs : List Step) → Invariant (once_closed (late_run (opening n) xs))) → IsLegal (late_run (opening n) steps).log → (p q : ℕ) → messages ((late_run (opening n) steps).kept q p) ≡ received_of q (drop ((done (late_run (opening n) steps).log).permanent p) ((done (late_run (opening n) steps).log).own p))
 kept_is n steps g l p q = ((gone_of n steps g).keeps.kept l).each p q

@@ -20,7 +20,8 @@ use Rattle.kt_closing.specs.OwnHistories.{own_histories, live_once_closed}
 use Rattle.kt_closing.proofs.OwnSteps.{own_after_run}
 use Rattle.kt_values.specs.Done.{done}
 use Rattle.kt_values.specs.Acts.{stepper}
-use Rattle.kt_values.specs.States.{got_from, line_of, StandsOnce}
+use Rattle.kt_protocol.specs.UnderWay.{received_of}
+use Rattle.kt_values.specs.States.{line_of, StandsOnce}
 use Rattle.kt_values.proofs.DoneAlong.{done_past}
 use Rattle.kt_values.proofs.StepWalk.{walk}
 use Rattle.kt_values.proofs.RunActs.{run_more, same_state, invariant_late, legal_late}
@@ -44,13 +45,13 @@ module _ (n : ℕ) (steps : List Step) where
   direct m p q r l d =
       let g = invariant_late n steps in
       let a = got_once p m ((late_run (opening n) steps).so_far.live q) (λ i j e f. sym (g.histories.received_is q i m p e).2 ∙ (g.histories.received_is q j m p f).2) in
-      let a' : times m (got_from p ((done (late_run (opening n) steps).log).own q)) ≡ (if has_deed (deed.Received m p) ((past (late_run (opening n) steps).log).live q) then 1 else 0) =
-      ap (λ (t : List Deed). times m (got_from p t)) (sym (own_live q r)) ∙ (a ∙ ap (λ (t : List Deed). if has_deed (deed.Received m p) t then 1 else 0) ((tied_late n steps).live q ∙ ap (λ (s : Past). s.live q) (done_past (late_run (opening n) steps).log))) in
+      let a' : times m (received_of p ((done (late_run (opening n) steps).log).own q)) ≡ (if has_deed (deed.Received m p) ((past (late_run (opening n) steps).log).live q) then 1 else 0) =
+      ap (λ (t : List Deed). times m (received_of p t)) (sym (own_live q r)) ∙ (a ∙ ap (λ (t : List Deed). if has_deed (deed.Received m p) t then 1 else 0) ((tied_late n steps).live q ∙ ap (λ (s : Past). s.live q) (done_past (late_run (opening n) steps).log))) in
       let b = flying m p q in
       let b' : times m (messages ((late_run (opening n) steps).channel p q)) + times m (messages ((late_run (opening n) steps).held p q)) ≡ (if true && not (has_deed (deed.Received m p) ((past (late_run (opening n) steps).log).live q)) && not false then 1 else 0) =
       ap (λ (t : List Parcel). times m (messages ((late_run (opening n) steps).channel p q)) + times m (messages t)) (sym (held_same p q r)) ∙ (b ∙ ap₂ (λ (x y : Bool). if x && not (has_deed (deed.Received m p) ((past (late_run (opening n) steps).log).live q)) && not y then 1 else 0) l d) in
       let c = times_line m (done (late_run (opening n) steps).log).own (late_run (opening n) steps).channel (late_run (opening n) steps).held p q in
-      sum (has_deed (deed.Received m p) ((past (late_run (opening n) steps).log).live q)) (times m (got_from p ((done (late_run (opening n) steps).log).own q))) (times m (messages ((late_run (opening n) steps).channel p q))) (times m (messages ((late_run (opening n) steps).held p q))) _ c a' b'
+      sum (has_deed (deed.Received m p) ((past (late_run (opening n) steps).log).live q)) (times m (received_of p ((done (late_run (opening n) steps).log).own q))) (times m (messages ((late_run (opening n) steps).channel p q))) (times m (messages ((late_run (opening n) steps).held p q))) _ c a' b'
     where
       sum : (b : Bool) (x y z t : ℕ) → t ≡ x + (z + y) → x ≡ (if b then 1 else 0) → y + z ≡ (if true && not b && not false then 1 else 0) → t ≡ 1
       sum true x y z t e f g = omega (arith, e, f, g)

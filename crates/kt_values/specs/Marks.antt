@@ -4,7 +4,7 @@ use Rattle.kt_spacetime.specs.declared.event.Event.{Event}
 use Rattle.kt_spacetime.specs.declared.event.Event.TheVariants.{Took}
 use Rattle.kt_cuts.specs.Past.{at_one}
 use Rattle.kt_values.specs.Done.{Done, done_after, done_start}
-use Rattle.kt_values.specs.States.{got_from}
+use Rattle.kt_protocol.specs.UnderWay.{received_of}
 
 -- what is known after some rows, and of a process and a sender that count
 pub record Marked : Type 0 where
@@ -13,7 +13,7 @@ pub record Marked : Type 0 where
 
 -- the counts after one more row: a process that takes a checkpoint counts what it received past its own permanent position
 abbrev pub mark_after : Marked → Event → ℕ → ℕ → ℕ
-mark_after m (Took p k) = at_one p (λ q. length (got_from q (drop (m.known.permanent p) (m.known.own p)))) m.mark
+mark_after m (Took p k) = at_one p (λ q. length (received_of q (drop (m.known.permanent p) (m.known.own p)))) m.mark
 mark_after m _ = m.mark
 
 -- one more row

@@ -7,7 +7,7 @@ use Rattle.kt_cuts.specs.declared.deeds.Deed.TheVariants as deed
 use Rattle.kt_cuts.specs.Past.{past, is_rollback, is_committed}
 use Rattle.kt_cuts.specs.Legal.{has_deed}
 use Rattle.kt_protocol.specs.Parcels.{messages, Lists}
-use Rattle.kt_protocol.specs.UnderWay.{times}
+use Rattle.kt_protocol.specs.UnderWay.{times, received_of}
 use Rattle.kt_protocol.specs.States.{State}
 use Rattle.kt_closing.specs.OwnHistories.{own_histories}
 use Rattle.kt_closing.specs.KeptInOrder.{is_in_checkpoint}
@@ -38,15 +38,9 @@ abbrev pub permanent_in : Done → ℕ → Option ℕ → ℕ
 permanent_in d p None = d.permanent p
 permanent_in d p (Some k) = if is_committed d.past k then unwrap_or (d.past.new k p) (d.permanent p) else d.permanent p
 
--- the messages of a sender that a history receives, in order
-abbrev pub got_from : ℕ → List Deed → List ℕ
-got_from p [] = []
-got_from p (deed.Sent m to ∷ deeds) = got_from p deeds
-got_from p (deed.Received m from ∷ deeds) = if from == p then m ∷ got_from p deeds else got_from p deeds
-
 -- the messages of p to q that q has received itself, that it holds, and that are in the channel
 abbrev pub line_of : (ℕ → List Deed) → Lists → Lists → ℕ → ℕ → List ℕ
-line_of own channel held p q = got_from p (own q) ++ (messages (held p q) ++ messages (channel p q))
+line_of own channel held p q = received_of p (own q) ++ (messages (held p q) ++ messages (channel p q))
 
 -- each live message that isn't dropped stands there once
 abbrev pub StandsOnce : List Event → Lists → Lists → Type 0
@@ -54,7 +48,7 @@ StandsOnce log channel held = (m p q : ℕ) → has_deed (deed.Sent m q) ((past 
 
 -- what is kept of a sender is what its receiver has received of it past its own permanent position, in order
 abbrev pub KeepsReceived : List Event → Lists → Type 0
-KeepsReceived log kept = (p q : ℕ) → messages (kept q p) ≡ got_from q (drop ((done log).permanent p) ((done log).own p))
+KeepsReceived log kept = (p q : ℕ) → messages (kept q p) ≡ received_of q (drop ((done log).permanent p) ((done log).own p))
 
 -- each number is above those before it
 abbrev pub IsAbove : ℕ → List ℕ → Type 0
