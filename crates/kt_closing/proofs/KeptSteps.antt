@@ -29,7 +29,7 @@ kept_sending c p q body g d = record { received = λ u a m s w. let x = d.receiv
     low m a e = let x = (g.messages.sent_low m (g.messages.received_low m a).0).1 in absurd (omega (arith, x, e))
 
 -- who is in a checkpoint received what is kept for it
-kept_received : (c : State) (u a i : ℕ) → Invariant (once_closed c) → KeptLists c → is_in_checkpoint c.so_far u ≡ true → 0 < weigh (one_app i) (c.kept a u) → c.so_far.is_received i ≡ true
+pub kept_received : (c : State) (u a i : ℕ) → Invariant (once_closed c) → KeptLists c → is_in_checkpoint c.so_far u ≡ true → 0 < weigh (one_app i) (c.kept a u) → c.so_far.is_received i ≡ true
 kept_received c u a i g d s w = go (has_to_save c.so_far u) refl
   where
     no_roll : (o r x : Bool) → (o && not r) ≡ true → (x && r) ≡ false

@@ -59,7 +59,7 @@ AllQuiet s = (k q p : ℕ) → 0 < k → s.so_far.open_in p ≡ k → s.noted k 
 pub all_quiet : (n : ℕ) (steps : List Step) → AllQuiet (run (opening n) steps)
 all_quiet n steps = λ k q p a b d m rest e. quiet (run (opening n) steps) k p q m rest (all_after_run n steps).noted a d b e
 
-invariant_of : (c i : State) → once_closed c ≡ i → Invariant i → Invariant (once_closed c)
+pub invariant_of : (c i : State) → once_closed c ≡ i → Invariant i → Invariant (once_closed c)
 invariant_of c i e g = subst Invariant (sym e) g
 
 agrees_closing : (c : State) (p k : ℕ) (w : Bool) → 0 < k → c.so_far.open_in p ≡ k → c.so_far.is_decided k ≡ true → c.so_far.is_committed k ≡ w → KeptLists c → Agrees (late_closing c p k w) (after_closing (once_closed c) p k w)
@@ -106,17 +106,17 @@ module _ (c : State) (p q k l : ℕ) (rest : List Parcel) (e : c.channel q p ≡
   undecided : c.so_far.is_decided k ≡ false
   undecided = (ask_facts (once_closed c) q p k l rest e g).2
 
-  noting_same : once_closed (after_noting c p q k l) ≡ after_noting (once_closed c) p q k l
+  pub noting_same : once_closed (after_noting c p q k l) ≡ after_noting (once_closed c) p q k l
   noting_same = once_closed_noting c p q k l undecided
 
-  last_same : c.so_far.open_in p ≡ 0 → c.last_received p q ≡ (once_closed c).last_received p q
+  pub last_same : c.so_far.open_in p ≡ 0 → c.last_received p q ≡ (once_closed c).last_received p q
   last_same o = go (has_to_restore c.so_far p) (closed_no_restore c.so_far p o)
     where
       go : (r : Bool) → r ≡ false → c.last_received p q ≡ (if r then 0 else c.last_received p q)
       go true z = absurd (cc (z))
       go false z = refl
 
-  first_same : c.so_far.open_in p ≡ 0 → c.first_sent p q ≡ (once_closed c).first_sent p q
+  pub first_same : c.so_far.open_in p ≡ 0 → c.first_sent p q ≡ (once_closed c).first_sent p q
   first_same o = go (has_to_restore c.so_far p) (closed_no_restore c.so_far p o)
     where
       go : (r : Bool) → r ≡ false → c.first_sent p q ≡ (if r then 0 else c.first_sent p q)

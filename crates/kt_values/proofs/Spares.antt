@@ -55,7 +55,8 @@ balance r x (Drop ∷ a) e =
     let z : ◌≡◌ {A = ℕ} (if is_none x.object then 1 else 0) 0 = there x.object h.0 in
     omega (arith, i, z)
 
-drops_more : (a b : List Act) → drops (a ++ b) ≡ drops a + drops b
+-- the drops among some acts and some more
+pub drops_more : (a b : List Act) → drops (a ++ b) ≡ drops a + drops b
 drops_more [] b = omega arith
 drops_more (Apply q t ∷ a) b = drops_more a b
 drops_more (Keep ∷ a) b = drops_more a b

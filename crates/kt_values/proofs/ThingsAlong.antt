@@ -57,5 +57,9 @@ module _ {V B : Type 0} (r : Rules V) (s : Saving V B) (i : IsSaving r s) where
       let h = one a d l.0 v l.1 in
       along acts (does r d a) y h.0 (subst (λ (z : Things V B). LeadsAlong r s acts z y) h.1 l.2)
 
+  -- some acts lead from first things to those that are due after them
+  pub things_after : (acts : List Act) (y : Things V B) → LeadsAlong r s acts (first_things r s) y → y ≡ things_for s (does_all r (first_due r) acts)
+  things_after acts y l = along acts (first_due r) y (record { object = some_valid r.opening i.opening; permanent = i.opening; tentative = none_valid }) l
+
   pub things_of_run : (n : ℕ) (steps : List Step) (p : ℕ) (y : Things V B) → LeadsAlong r s (acts_through p (opening n) steps) (first_things r s) y → y ≡ things_for s (due r (done (late_run (opening n) steps).log) p)
-  things_of_run n steps p y l = along (acts_through p (opening n) steps) (first_due r) y (record { object = some_valid r.opening i.opening; permanent = i.opening; tentative = none_valid }) l ∙ ap (things_for s) (whole_run r n steps p)
+  things_of_run n steps p y l = things_after (acts_through p (opening n) steps) y l ∙ ap (things_for s) (whole_run r n steps p)
