@@ -8,26 +8,26 @@ use Rattle.std.proofs.lemmas.List.{append-nil}
 use Rattle.kt_base.specs.declared.words.Kind.{Kind}
 use Rattle.kt_fifo.specs.declared.parcels.Parcel.TheVariants.{Ask}
 use Rattle.kt_fifo.specs.Channels.{at_pair}
-use Rattle.kt_lists.specs.Puts.{Lists}
-use Rattle.kt_lists.specs.Puts.{asks_to, with_asks}
+use Rattle.kt_seen.specs.Seen.{SeenLists}
+use Rattle.kt_seen.specs.InOnePiece.{asks_to, with_asks}
 use Rattle.kt_parts.specs.Asks.{is_asked_in}
 use Rattle.kt_lists.proofs.Named.{Pairs, is_named_push, fresh}
 
-asks_to_push : (kd : Kind) (k v : ℕ) (xs : Pairs) (x : ℕ × ℕ) → asks_to kd k v (xs ++ x ∷ []) ≡ asks_to kd k v xs ++ (if x.0 == v then Ask k kd x.1 ∷ [] else [])
+asks_to_push : (kd : Kind) (k v : ℕ) (xs : Pairs) (x : ℕ × ℕ) → asks_to k kd v (xs ++ x ∷ []) ≡ asks_to k kd v xs ++ (if x.0 == v then Ask k kd x.1 ∷ [] else [])
 asks_to_push kd k v [] x = grind (arith, nat_tests)
 asks_to_push kd k v (y ∷ xs) x = let h = asks_to_push kd k v xs x in grind (arith, nat_tests)
 
-pub with_none : (chan : Lists) (p k : ℕ) (kd : Kind) → chan ≡ with_asks chan p k kd []
+pub with_none : (chan : SeenLists) (p k : ℕ) (kd : Kind) → chan ≡ with_asks chan p k kd []
 unfolding with_asks
 with_none chan p k kd = fun_ext (λ u. fun_ext (λ v. let e = append-nil (chan u v) in grind (arith, nat_tests)))
 
-pub with_more : (chan : Lists) (p k : ℕ) (kd : Kind) (xs : Pairs) (x : ℕ × ℕ) →
+pub with_more : (chan : SeenLists) (p k : ℕ) (kd : Kind) (xs : Pairs) (x : ℕ × ℕ) →
     at_pair p x.0 (with_asks chan p k kd xs p x.0 ++ Ask k kd x.1 ∷ []) (with_asks chan p k kd xs) ≡ with_asks chan p k kd (xs ++ x ∷ [])
 unfolding with_asks
 with_more chan p k kd xs x = fun_ext (λ u. fun_ext (λ v.
     let h = asks_to_push kd k v xs x in
-    let a = append_assoc (chan u v) (asks_to kd k v xs) (Ask k kd x.1 ∷ []) in
-    let b = append-nil (asks_to kd k v xs) in
+    let a = append_assoc (chan u v) (asks_to k kd v xs) (Ask k kd x.1 ∷ []) in
+    let b = append-nil (asks_to k kd v xs) in
     grind (arith, nat_tests)))
 
 -- each of them takes one place

@@ -5,7 +5,7 @@ use Rattle.std.proofs.lemmas.Bool.{cases_eq, cases_lt}
 use Rattle.std.proofs.lemmas.List.{get_or-set_same, get_or-set_other, get_or_past}
 use Rattle.kt_fifo.specs.Channels.{Wires, channel}
 use Rattle.kt_fifo.specs.declared.parcels.Parcel.{Parcel}
-use Rattle.kt_lists.specs.Kept.{mark_of}
+use Rattle.kt_process.specs.Shown.{mark_of}
 use Rattle.kt_lists.specs.Kept.{kept_of}
 use Rattle.kt_lists.proofs.Ranges.{outside}
 

@@ -1,9 +1,11 @@
 //! The parcels that are kept of those received since a process's permanent checkpoint.
 
-ghost use Rattle.std.specs.Prelude.{◌≡◌, ◌<◌, ◌≤◌, ℕ, length, drop, IfOk};
+ghost use Rattle.std.specs.Prelude.{true, ◌≡◌, ◌<◌, ◌≤◌, ℕ, length, drop, IfOk};
 ghost use Rattle.kt_fifo.specs.Channels.{channel, spare_of, at_pair};
 ghost use Rattle.kt_process.specs.Turns.{noted_by};
-ghost use Rattle.kt_lists.specs.Kept.{trims, low, lowered, put_back, emptied, mark_of, kept_of};
+ghost use Rattle.kt_seen.specs.ListChanges.{trims, low};
+ghost use Rattle.kt_lists.specs.Kept.{lowered, put_back, emptied, kept_of};
+ghost use Rattle.kt_process.specs.Shown.{mark_of};
 
 use kt_base::{Label, Memory, ProcNo};
 use kt_fifo::Channels;
@@ -27,7 +29,7 @@ pub fn trim(channels: &mut Channels, p: ProcNo, marks: &[usize])
     requires to { p < channels.old.processes }
     requires marks { length marks.now ≡ channels.old.processes }
     ensures processes { channels.new.processes ≡ channels.old.processes }
-    ensures lists { channel channels.new ≡ trims p (mark_of marks.now) (channel channels.old) }
+    ensures lists { channel channels.new ≡ trims true p (mark_of marks.now) (channel channels.old) }
 {
     let mut rest = channels.senders(p);
     while let Some(from) = rest.first() {

@@ -4,7 +4,8 @@ ghost use Rattle.std.specs.Prelude.{◌≡◌, ◌<◌, ◌≤◌, ◌+◌, ℕ,
 ghost use Rattle.kt_base.specs.Sets.{has};
 ghost use Rattle.kt_fifo.specs.Channels.{channel, spare_of};
 ghost use Rattle.kt_parts.specs.Asks.{IsRising};
-ghost use Rattle.kt_lists.specs.Puts.{telling, with_asks};
+ghost use Rattle.kt_seen.specs.ListChanges.{with_decisions};
+ghost use Rattle.kt_seen.specs.InOnePiece.{with_asks};
 
 use kt_base::{InstNo, Kind, Label, ProcNo, ProcSet};
 use kt_fifo::{Channels, Parcel};
@@ -15,7 +16,7 @@ pub fn put_decisions(channels: &mut Channels, p: ProcNo, inst: InstNo, commit: b
     requires to { (q : ℕ) → has tell q ≡ true → q < channels.old.processes }
     requires room { (q : ℕ) → has tell q ≡ true → 1 ≤ spare_of channels.old p q }
     ensures processes { channels.new.processes ≡ channels.old.processes }
-    ensures lists { channel channels.new ≡ telling (channel channels.old) p inst commit (has tell) }
+    ensures lists { channel channels.new ≡ with_decisions (channel channels.old) p inst commit (has tell) }
 {
     let mut rest = tell;
     while let Some(to) = rest.first() {

@@ -1,3 +1,4 @@
 pub mod Persons
 pub mod Sides
 pub mod Turns
+pub mod Shown

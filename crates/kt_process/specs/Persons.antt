@@ -62,9 +62,16 @@ IsMarked n None = Unit {0}
 IsMarked n (Some (Checkpoint side)) = length side.marks ≡ n
 IsMarked n (Some (Rollback side)) = side.notes.processes ≡ n
 
+-- instances have numbers from 1 on
+abbrev pub IsNumbered : Option Share → Type 0
+IsNumbered None = Unit {0}
+IsNumbered (Some part) = 1 ≤ part.inst
+
 -- tables, part and labels belong together
 pub record Fits (x : Person) : Type 0 where
+  pub few : x.tables.processes ≤ 64
   pub tentative : x.tables.is_tentative ≡ is_saving x.side
   pub near : IsNear x.tables.processes (part_of x.side)
   pub marked : IsMarked x.tables.processes x.side
+  pub numbered : IsNumbered (part_of x.side)
   pub used : (q : ℕ) → label_of x.tables.last_out q ≤ x.used

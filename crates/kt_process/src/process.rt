@@ -8,8 +8,10 @@ ghost use Rattle.kt_tables.specs.Calls.{Call, sent, received, on_tentative, Spea
 ghost use Rattle.kt_tables.specs.Standing.{StandsFor};
 ghost use Rattle.kt_parts.specs.Rules.{after_reply, settle_action};
 ghost use Rattle.kt_roll.specs.Notes.{note_of};
-ghost use Rattle.kt_process.specs.Persons.{Person, part_of, is_saving, is_ready, inst_of, asked_of, IsNear, Fits};
+ghost use Rattle.kt_process.specs.Persons.{Person, part_of, is_saving, is_ready, inst_of, asked_of, IsNear, IsNumbered, Fits};
 ghost use Rattle.kt_process.specs.Turns.{reply_of, HasPartners, IsTold, joins_by, peers_of, marks_of, noted_by, IsFresh, IsBegin, IsHeard};
+ghost use Rattle.kt_seen.specs.Seen.{SeenPerson};
+ghost use Rattle.kt_process.specs.Shown.{IsSeenAs, BeginsAs, HearsAs, counted_as, closed_as, mark_of, no_mark, inst_shown};
 
 use crate::side::{Saving, Side};
 use kt_base::{InstNo, Kind, Label, Labels, Memory, ProcNo, ProcSet, Standing};
@@ -73,7 +75,8 @@ impl Process {
 
     /// The instance that it is in.
     pub fn in_inst(&self) -> Option<InstNo>
-        ensures { result ≡ inst_of self.now.side }
+        ensures inst { result ≡ inst_of self.now.side }
+        ensures numbered { IsNumbered (part_of self.now.side) }
     {
         match self.part() {
             Some(part) => Some(part.inst()),
@@ -83,7 +86,8 @@ impl Process {
 
     /// Whether it is in a rollback.
     pub fn is_ready(&self) -> bool
-        ensures { result ≡ is_ready self.now.side }
+        ensures ready { result ≡ is_ready self.now.side }
+        ensures numbered { IsNumbered (part_of self.now.side) }
     {
         match &self.side {
             Some(Side::Rollback(_)) => true,
@@ -193,6 +197,7 @@ impl Process {
         ensures side { self.new.side ≡ self.old.side }
         ensures up { self.new.up ≡ self.old.up }
         ensures stands { (calls : List Call) → StandsFor self.old.tables calls → Speaks (calls ++ sent to result ∷ []) → StandsFor self.new.tables (calls ++ sent to result ∷ []) }
+        ensures shows { (y : SeenPerson) → IsSeenAs self.old y → Speaks (y.calls ++ sent to (y.used + 1) ∷ []) → IsSeenAs self.new (record y { calls = y.calls ++ sent to (y.used + 1) ∷ []; used = y.used + 1 }) }
     {
         let label = self.labels.next().unwrap();
         self.tables.sent(to, label);
@@ -207,6 +212,7 @@ impl Process {
         ensures side { self.new.side ≡ self.old.side }
         ensures up { self.new.up ≡ self.old.up }
         ensures stands { (calls : List Call) → StandsFor self.old.tables calls → Speaks (calls ++ received from label ∷ []) → StandsFor self.new.tables (calls ++ received from label ∷ []) }
+        ensures shows { (y : SeenPerson) → IsSeenAs self.old y → Speaks (y.calls ++ received from label ∷ []) → IsSeenAs self.new (record y { calls = y.calls ++ received from label ∷ [] }) }
     {
         kt_tables::labels_that_follow();
         if self.tables.can_receive(from, label) {
@@ -216,7 +222,8 @@ impl Process {
 
     /// Its object fails.
     pub fn fail(&mut self)
-        ensures { self.new ≡ record self.old { up = false } }
+        ensures fails { self.new ≡ record self.old { up = false } }
+        ensures shows { (y : SeenPerson) → IsSeenAs self.old y → IsSeenAs self.new (record y { up = false }) }
     {
         self.up = false;
     }
@@ -231,6 +238,7 @@ impl Process {
         requires { length marks.items ≡ self.old.tables.processes }
         ensures err { OnErr result (self.new ≡ self.old) }
         ensures begins { IfOk result (λ action. IsBegin kind.Checkpoint inst self.old self.new action) }
+        ensures shows { IfOk result (λ action. (y : SeenPerson) → IsSeenAs self.old y → BeginsAs kind.Checkpoint able self.old.tables.processes inst (mark_of marks.items) y self.new action) }
         ensures processes { self.new.tables.processes ≡ self.old.tables.processes }
         ensures used { self.new.used ≡ self.old.used }
         ensures up { self.new.up ≡ self.old.up }
@@ -247,6 +255,7 @@ impl Process {
     pub fn begin_rollback(&mut self, inst: InstNo) -> Result<Action, Memory>
         ensures err { OnErr result (self.new ≡ self.old) }
         ensures begins { IfOk result (λ action. IsBegin kind.Rollback inst self.old self.new action) }
+        ensures shows { IfOk result (λ action. (y : SeenPerson) → IsSeenAs self.old y → BeginsAs kind.Rollback true self.old.tables.processes inst no_mark y self.new action) }
         ensures processes { self.new.tables.processes ≡ self.old.tables.processes }
         ensures used { self.new.used ≡ self.old.used }
         ensures up { self.new.up ≡ self.old.up }
@@ -273,6 +282,7 @@ impl Process {
         requires marks { joins_by self.old kind.Checkpoint able from label ≡ true → length marks.items ≡ self.old.tables.processes }
         ensures err { OnErr result (self.new ≡ self.old) }
         ensures hears { IfOk result (λ action. IsHeard kind.Checkpoint able from inst label self.old self.new action) }
+        ensures shows { IfOk result (λ action. (y : SeenPerson) → IsSeenAs self.old y → HearsAs kind.Checkpoint able self.old.tables.processes from inst label (mark_of marks.items) y self.new action) }
         ensures processes { self.new.tables.processes ≡ self.old.tables.processes }
         ensures used { self.new.used ≡ self.old.used }
         ensures up { self.new.up ≡ self.old.up }
@@ -295,6 +305,7 @@ impl Process {
         requires { from < self.old.tables.processes }
         ensures err { OnErr result (self.new ≡ self.old) }
         ensures hears { IfOk result (λ action. IsHeard kind.Rollback true from inst label self.old self.new action) }
+        ensures shows { IfOk result (λ action. (y : SeenPerson) → IsSeenAs self.old y → HearsAs kind.Rollback true self.old.tables.processes from inst label no_mark y self.new action) }
         ensures processes { self.new.tables.processes ≡ self.old.tables.processes }
         ensures used { self.new.used ≡ self.old.used }
         ensures up { self.new.up ≡ self.old.up }
@@ -337,6 +348,7 @@ impl Process {
     pub fn hear_reply(&mut self, willing: bool) -> Action
         ensures action { result ≡ reply_of (part_of self.old.side) willing }
         ensures part { part_of self.new.side ≡ option_map (λ part. after_reply part willing) (part_of self.old.side) }
+        ensures shows { (y : SeenPerson) → IsSeenAs self.old y → IsSeenAs self.new (counted_as willing y) }
         ensures ready { is_ready self.new.side ≡ is_ready self.old.side }
         ensures tables { self.new.tables ≡ self.old.tables }
         ensures used { self.new.used ≡ self.old.used }
@@ -349,7 +361,7 @@ impl Process {
         }
     }
 
-    /// It closes its instance, and answers whom it tells the decision. In none, nothing changes, and it tells nobody.
+    /// It closes its instance, and answers whom it with_row the decision. In none, nothing changes, and it with_row nobody.
     pub fn close(&mut self, commit: bool) -> ProcSet
         ensures tell { (q : ℕ) → has result q ≡ asked_of self.old.side q }
         ensures within { (q : ℕ) → has result q ≡ true → q < self.old.tables.processes }
@@ -357,6 +369,7 @@ impl Process {
         ensures processes { self.new.tables.processes ≡ self.old.tables.processes }
         ensures used { self.new.used ≡ self.old.used }
         ensures up { self.new.up ≡ (self.old.up || (commit && is_ready self.old.side)) }
+        ensures shows { (y : SeenPerson) → IsSeenAs self.old y → (inst_of self.old.side ≡ None → ⊥) → IsSeenAs self.new (closed_as commit y) }
     {
         match self.side.take() {
             Some(Side::Checkpoint(side)) => {
@@ -385,7 +398,7 @@ fn partners_of(part: &Part) -> ProcSet
     }
 }
 
-/// Whom an action tells a decision.
+/// Whom an action with_row a decision.
 fn told(action: Action) -> ProcSet
     ensures { IsTold action result }
 {

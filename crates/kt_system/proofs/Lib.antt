@@ -3,3 +3,9 @@ pub mod Frames
 pub mod Quiet
 pub mod Takes
 pub mod Turns
+pub mod Showing
+pub mod Closing
+pub mod Messages
+pub mod Replying
+pub mod Commands
+pub mod Taking

@@ -1,3 +1,4 @@
 pub mod Reads
 pub mod Systems
 pub mod Takes
+pub mod Shown

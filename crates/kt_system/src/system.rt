@@ -5,6 +5,8 @@ ghost use Rattle.kt_fifo.specs.Channels.{channel};
 ghost use Rattle.kt_process.specs.Turns.{IsFresh};
 ghost use Rattle.kt_system.specs.Systems.{person};
 ghost use Rattle.kt_system.specs.Reads.{tally_of, no_tally};
+ghost use Rattle.kt_system.specs.Shown.{Shows};
+ghost use Rattle.kt_seen.specs.Transition.{opening_seen};
 
 use kt_base::{Label, Memory};
 use kt_fifo::Channels;
@@ -72,6 +74,7 @@ impl System {
         ensures kept { IfOk result (λ s. (p q : ℕ) → channel s.kept p q ≡ []) }
         ensures begun { IfOk result (λ s. s.begun ≡ 0) }
         ensures tallies { IfOk result (λ s. (inst : ℕ) → tally_of s inst ≡ no_tally) }
+        ensures shows { IfOk result (λ s. Shows s (opening_seen processes used)) }
     {
         let mut list = Vec::with_capacity(alloc, processes)?;
         for _number in 0..processes {

@@ -1,9 +1,18 @@
 //! Commands that begin an instance, and asks to take part in one.
 
-ghost use Rattle.std.specs.Prelude.{◌≡◌, ◌<◌, ◌≤◌, ◌+◌, ◌^◌, ℕ, true, OnErr, IfOk, IfSome, length};
+ghost use Rattle.std.specs.Prelude.{◌≡◌, ◌<◌, ◌≤◌, ◌+◌, ◌^◌, ℕ, true, OnErr, IfOk, IfSome, IfNone, length};
 ghost use Rattle.kt_base.specs.Sets.{has};
 ghost use Rattle.kt_process.specs.Turns.{peers_of};
 ghost use Rattle.kt_system.specs.Systems.{person, room_to, CanCarryOut, KeepsParcels, IsSame, Grows};
+ghost use Rattle.std.specs.Prelude.{Bool, false, Some, drop, OnOk};
+ghost use Rattle.kt_fifo.specs.Channels.{channel};
+ghost use Rattle.kt_lists.specs.Kept.{kept_of};
+ghost use Rattle.kt_protocol.specs.States.{Begin as BeginStep};
+ghost use Rattle.kt_process.specs.Shown.{mark_of};
+ghost use Rattle.kt_seen.specs.Seen.{Seen};
+ghost use Rattle.kt_seen.specs.Transition.{transition, seen_ask};
+ghost use Rattle.kt_cuts.specs.Past.{is_rollback_kind};
+ghost use Rattle.kt_system.specs.Shown.{Shows, JoinsAs, with_instance, begun_as, answered_as, with_cause, begin_verb};
 
 use super::System;
 use super::messages::NO_ACTS;
@@ -17,7 +26,8 @@ use std::alloc::Global;
 impl System {
     /// The number of the instance that begins next; None once all were given.
     fn next_inst(&self) -> Option<InstNo>
-        ensures { IfSome result (λ inst. inst ≡ self.now.begun + 1) }
+        ensures some { IfSome result (λ inst. inst ≡ self.now.begun + 1) }
+        ensures none { IfNone result (4096 ≤ self.now.begun) }
     {
         InstNo::new(self.begun + 1)
     }
@@ -34,6 +44,8 @@ impl System {
         ensures size { self.new.size ≡ self.old.size }
         ensures err { OnErr result (IsSame self.new self.old) }
         ensures grows { Grows 4 self.old self.new }
+        ensures shows { (v : Seen) → Shows self.old v → self.old.begun < 4096 → OnOk result (Shows self.new (transition v (BeginStep p false able))) }
+        ensures spent { 4096 ≤ self.old.begun → IsSame self.new self.old }
     {
         let Some(inst) = self.next_inst() else {
             return Ok(NO_ACTS);
@@ -52,6 +64,8 @@ impl System {
         ensures size { self.new.size ≡ self.old.size }
         ensures err { OnErr result (IsSame self.new self.old) }
         ensures grows { Grows 4 self.old self.new }
+        ensures shows { (v : Seen) (able : Bool) → Shows self.old v → self.old.begun < 4096 → OnOk result (Shows self.new (transition v (BeginStep p true able))) }
+        ensures spent { 4096 ≤ self.old.begun → IsSame self.new self.old }
     {
         let Some(inst) = self.next_inst() else {
             return Ok(NO_ACTS);
@@ -66,7 +80,8 @@ impl System {
     /// How many parcels are kept for a process, by sender.
     fn marks(&self, alloc: Global, p: ProcNo) -> Result<Vec<usize>, Memory>
         requires { p < self.now.size }
-        ensures { IfOk result (λ marks. length marks.items ≡ self.now.size) }
+        ensures length { IfOk result (λ marks. length marks.items ≡ self.now.size) }
+        ensures marks { IfOk result (λ marks. mark_of marks.items ≡ kept_of (channel self.now.kept) p) }
     {
         marks_of(alloc, &self.kept, p)
     }
@@ -74,7 +89,8 @@ impl System {
     /// How many parcels are kept for a process, by sender, where it joins an instance; else nothing.
     fn marks_if(&self, alloc: Global, p: ProcNo, joins: bool) -> Result<Vec<usize>, Memory>
         requires { p < self.now.size }
-        ensures { joins ≡ true → IfOk result (λ marks. length marks.items ≡ self.now.size) }
+        ensures length { joins ≡ true → IfOk result (λ marks. length marks.items ≡ self.now.size) }
+        ensures marks { joins ≡ true → IfOk result (λ marks. mark_of marks.items ≡ kept_of (channel self.now.kept) p) }
     {
         if joins {
             return self.marks(alloc, p);
@@ -90,6 +106,7 @@ impl System {
         ensures spare { self.new.rows.spare + 1 ≡ self.old.rows.spare }
         ensures keeps { KeepsParcels self.old self.new }
         ensures grows { Grows 1 self.old self.new }
+        ensures shows { (v : Seen) → Shows self.old v → Shows self.new (with_instance v p inst kind) }
     {
         self.begun = inst.get();
         self.log.push_reserved(Event::Began { p, inst, kind });
@@ -103,6 +120,7 @@ impl System {
         requires room { CanCarryOut self.old p action }
         ensures size { self.new.size ≡ self.old.size }
         ensures grows { Grows 4 self.old self.new }
+        ensures shows { (v : Seen) (test : ℕ → Bool) (label : ℕ → ℕ) → Shows self.old v → JoinsAs self.old v p test label action → Shows self.new (begun_as v p inst kind test label action) }
     {
         match action {
             Action::Refuse(cause) => {
@@ -147,6 +165,7 @@ impl System {
         ensures size { self.new.size ≡ self.old.size }
         ensures err { OnErr result (IsSame self.new self.old) }
         ensures grows { Grows 4 self.old self.new }
+        ensures shows { (v : Seen) → Shows self.old v → OnOk result (Shows self.new (seen_ask v at from able inst false label (drop 1 (v.channel from at)))) }
     {
         let joins = self.process(at).joins_checkpoint(able, from, label);
         let targets = self.targets(at, from, Kind::Checkpoint, joins);
@@ -171,6 +190,7 @@ impl System {
         ensures size { self.new.size ≡ self.old.size }
         ensures err { OnErr result (IsSame self.new self.old) }
         ensures grows { Grows 4 self.old self.new }
+        ensures shows { (v : Seen) (able : Bool) → Shows self.old v → OnOk result (Shows self.new (seen_ask v at from able inst true label (drop 1 (v.channel from at)))) }
     {
         let joins = self.process(at).joins_rollback(from, label);
         let targets = self.targets(at, from, Kind::Rollback, joins);
@@ -197,6 +217,7 @@ impl System {
         requires room { CanCarryOut self.old at action }
         ensures size { self.new.size ≡ self.old.size }
         ensures grows { Grows 4 self.old self.new }
+        ensures shows { (v : Seen) (test : ℕ → Bool) (label : ℕ → ℕ) → Shows self.old v → JoinsAs self.old v at test label action → Shows self.new (answered_as v at from inst kind test label action) }
     {
         match action {
             Action::Reply {
@@ -219,6 +240,7 @@ impl System {
         requires few { length self.old.rows.rows < 2 ^ 24 }
         ensures size { self.new.size ≡ self.old.size }
         ensures grows { Grows 1 self.old self.new }
+        ensures shows { (v : Seen) → Shows self.old v → Shows self.new (with_cause v p inst cause) }
     {
         if let Some(cause) = cause {
             self.write(Event::Unwilling { p, inst, cause });
@@ -242,6 +264,7 @@ impl System {
         ensures size { self.new.size ≡ self.old.size }
         ensures err { OnErr result (IsSame self.new self.old) }
         ensures grows { Grows 4 self.old self.new }
+        ensures shows { (v : Seen) → Shows self.old v → OnOk result (Shows self.new (seen_ask v at from able inst (is_rollback_kind (Some kind)) label (drop 1 (v.channel from at)))) }
     {
         match kind {
             Kind::Checkpoint => self.take_ask_to_save(alloc, at, from, inst, label, able),
@@ -251,7 +274,9 @@ impl System {
 }
 
 /// The command that begins an instance of a kind.
-fn verb_of(kind: Kind) -> Verb {
+fn verb_of(kind: Kind) -> Verb
+    ensures { result ≡ begin_verb kind }
+{
     match kind {
         Kind::Checkpoint => Verb::Checkpoint,
         Kind::Rollback => Verb::Rollback,

@@ -4,6 +4,14 @@ ghost use Rattle.std.specs.Prelude.{◌≡◌, ◌<◌, ◌≤◌, ◌+◌, ◌^
 ghost use Rattle.kt_base.specs.Sets.{has};
 ghost use Rattle.kt_process.specs.Persons.{is_ready};
 ghost use Rattle.kt_system.specs.Systems.{person, room_to, HasBack, CanJoin, CanClose, KeepsRoom, UsesRoom, Grows};
+ghost use Rattle.std.specs.Prelude.{Bool};
+ghost use Rattle.kt_fifo.specs.declared.parcels.Parcel.TheVariants as parcel;
+ghost use Rattle.kt_tables.specs.Peers.{IsCohort};
+ghost use Rattle.kt_seen.specs.Seen.{Seen};
+ghost use Rattle.kt_seen.specs.ListChanges.{with_parcel, with_decisions, with_asks_where};
+ghost use Rattle.kt_seen.specs.SeenClosing.{seen_deciding, seen_closing};
+ghost use Rattle.kt_process.specs.Shown.{goes_on};
+ghost use Rattle.kt_system.specs.Shown.{Shows, IsInside, lists_closed, joined_row, asking_and_settling};
 
 use super::System;
 use kt_base::{InstNo, Kind, ProcNo, ProcSet};
@@ -21,6 +29,7 @@ impl System {
         requires back { is_ready (person self.old p).side ≡ true → HasBack self.old p }
         ensures rows { self.new.rows ≡ self.old.rows }
         ensures keeps { KeepsRoom self.old self.new }
+        ensures shows { (v : Seen) → Shows self.old v → IsInside self.old p → Shows self.new (lists_closed v p commit) }
     {
         if !commit {
             return;
@@ -43,6 +52,7 @@ impl System {
         requires room { (q : ℕ) → has set q ≡ true → 1 ≤ room_to self.old p q }
         ensures size { self.new.size ≡ self.old.size }
         ensures rows { self.new.rows ≡ self.old.rows }
+        ensures shows { (v : Seen) → Shows self.old v → Shows self.new (record v { channel = with_decisions v.channel p inst commit (has set) }) }
     {
         put_decisions(&mut self.channels, p, inst, commit, set);
         self.count(inst, 0, 0, set.count());
@@ -57,6 +67,7 @@ impl System {
         requires room { CanClose self.old p }
         ensures size { self.new.size ≡ self.old.size }
         ensures grows { Grows 1 self.old self.new }
+        ensures shows { (v : Seen) → Shows self.old v → IsInside self.old p → Shows self.new (seen_closing v p inst commit) }
     {
         let was_ready = self.is_ready(p);
         self.settle_kept(p, commit);
@@ -82,6 +93,8 @@ impl System {
         requires room { CanJoin self.old p asks.now goes }
         ensures size { self.new.size ≡ self.old.size }
         ensures grows { Grows 3 self.old self.new }
+        ensures shows { (v : Seen) (test : ℕ → Bool) (label : ℕ → ℕ) → Shows self.old v → IsCohort asks.now test label → goes ≡ goes_on (v.people p).part → (v.people p).part.willing ≡ true → IsInside self.old p →
+            Shows self.new (asking_and_settling v p inst kind test label) }
     {
         self.ask(p, inst, kind, asks);
         self.write(joining_row(p, inst, kind));
@@ -106,6 +119,7 @@ impl System {
         requires room { (j : ℕ) → j < length asks.now → 2 ≤ room_to self.old p (slice_index_or asks.now j (0, 0)).0 }
         ensures rows { self.new.rows ≡ self.old.rows }
         ensures uses { UsesRoom self.old self.new p }
+        ensures shows { (v : Seen) (test : ℕ → Bool) (label : ℕ → ℕ) → Shows self.old v → IsCohort asks.now test label → Shows self.new (record v { channel = with_asks_where v.channel p inst kind test label }) }
     {
         let asks = asks.list();
         put_asks(&mut self.channels, p, inst, kind, asks);
@@ -120,6 +134,7 @@ impl System {
         requires room { CanClose self.old p }
         ensures size { self.new.size ≡ self.old.size }
         ensures grows { Grows 2 self.old self.new }
+        ensures shows { (v : Seen) → Shows self.old v → IsInside self.old p → Shows self.new (seen_closing (seen_deciding v p inst commit) p inst commit) }
     {
         self.write(Event::Decided { p, inst, commit });
         self.close(p, inst, commit)
@@ -132,6 +147,7 @@ impl System {
         requires room { 1 ≤ room_to self.old p to }
         ensures size { self.new.size ≡ self.old.size }
         ensures rows { self.new.rows ≡ self.old.rows }
+        ensures shows { (v : Seen) → Shows self.old v → Shows self.new (record v { channel = with_parcel v.channel p to (parcel.Reply inst willing) }) }
     {
         self.put(p, to, Parcel::Reply { inst, willing });
         self.count(inst, 0, 1, 0);
@@ -147,7 +163,9 @@ fn two_acts(first: Act, second: Act) -> [Act; 2] {
 }
 
 /// The row of a process that joins an instance.
-fn joining_row(p: ProcNo, inst: InstNo, kind: Kind) -> Event {
+fn joining_row(p: ProcNo, inst: InstNo, kind: Kind) -> Event
+    ensures { result ≡ joined_row kind p inst }
+{
     match kind {
         Kind::Checkpoint => Event::Took { p, inst },
         Kind::Rollback => Event::Ready { p, inst },

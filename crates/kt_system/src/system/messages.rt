@@ -2,6 +2,15 @@
 
 ghost use Rattle.std.specs.Prelude.{◌≡◌, ◌<◌, ◌≤◌, ◌+◌, ◌-◌, ◌^◌, ℕ, true, OnErr, length};
 ghost use Rattle.kt_system.specs.Systems.{person, room_to, KeepsParcels, IsSame, Grows};
+ghost use Rattle.std.specs.Prelude.{[], ◌∷◌, ◌++◌, Bool, false, drop, OnOk, if◌then◌else◌};
+ghost use Rattle.kt_fifo.specs.declared.parcels.Parcel.TheVariants as parcel;
+ghost use Rattle.kt_tables.specs.Calls.{received, Speaks};
+ghost use Rattle.kt_protocol.specs.States.{Send as SendStep, Fail as FailStep};
+ghost use Rattle.kt_seen.specs.Seen.{Seen};
+ghost use Rattle.kt_seen.specs.ListChanges.{with_rest};
+ghost use Rattle.kt_seen.specs.SeenMessages.{seen_refusal, seen_arrival, seen_holding};
+ghost use Rattle.kt_seen.specs.Transition.{transition, is_seen_ready};
+ghost use Rattle.kt_system.specs.Shown.{Shows, channel_without, held_without};
 
 use super::System;
 use kt_base::{Cause, Label, Memory, MsgNo, ProcNo, Verb};
@@ -19,7 +28,9 @@ pub(super) struct Message {
 
 impl Message {
     /// The parcel that it is in channels.
-    fn parcel(&self) -> Parcel {
+    fn parcel(&self) -> Parcel
+        ensures { result ≡ parcel.App self.now.label self.now.msg self.now.body }
+    {
         Parcel::App {
             label: self.label,
             msg: self.msg,
@@ -42,6 +53,7 @@ impl System {
         ensures size { self.new.size ≡ self.old.size }
         ensures err { OnErr result (IsSame self.new self.old) }
         ensures grows { Grows 4 self.old self.new }
+        ensures shows { (v : Seen) → Shows self.old v → (v.people p).inst ≡ 0 → (to ≡ p → ⊥) → Speaks (((transition v (SendStep p to body)).people p).calls) → OnOk result (Shows self.new (transition v (SendStep p to body))) }
     {
         self.make_room_to(p, to)?;
         if !self.is_up(p) {
@@ -62,6 +74,7 @@ impl System {
         ensures size { self.new.size ≡ self.old.size }
         ensures err { OnErr result (IsSame self.new self.old) }
         ensures grows { Grows 4 self.old self.new }
+        ensures shows { (v : Seen) → Shows self.old v → OnOk result (Shows self.new (transition v (FailStep p))) }
     {
         self.make_room_for_rows()?;
         if !self.is_up(p) {
@@ -79,6 +92,7 @@ impl System {
         requires few { length self.old.rows.rows < 2 ^ 24 }
         ensures size { self.new.size ≡ self.old.size }
         ensures grows { Grows 1 self.old self.new }
+        ensures shows { (v : Seen) → Shows self.old v → Shows self.new (seen_refusal v p verb cause) }
     {
         self.write(Event::Refused { p, verb, cause });
     }
@@ -96,6 +110,9 @@ impl System {
         ensures size { self.new.size ≡ self.old.size }
         ensures err { OnErr result (IsSame self.new self.old) }
         ensures grows { Grows 4 self.old self.new }
+        ensures shows { (v : Seen) → Shows self.old v → (is_seen_ready v at ≡ false → (v.people at).up ≡ true → Speaks ((v.people at).calls ++ received from message.label ∷ [])) →
+            OnOk result (Shows self.new (if is_seen_ready v at then seen_holding v at from (parcel.App message.label message.msg message.body) (drop 1 (v.channel from at))
+            else seen_arrival v (with_rest v.channel from at (drop 1 (v.channel from at))) v.held at from message.label message.msg message.body)) }
     {
         if self.is_ready(at) {
             self.held.reserve_many(from, at, 1)?;
@@ -113,6 +130,7 @@ impl System {
         ensures size { self.new.size ≡ self.old.size }
         ensures kept { self.new.kept ≡ self.old.kept }
         ensures rows { self.new.rows ≡ self.old.rows }
+        ensures shows { (v : Seen) → Shows self.old v → Shows self.new (record v { channel = channel_without is_held v at from; held = held_without is_held v at from }) }
     {
         if is_held {
             self.held.pop(from, at);
@@ -135,6 +153,8 @@ impl System {
         ensures size { self.new.size ≡ self.old.size }
         ensures err { OnErr result (IsSame self.new self.old) }
         ensures grows { Grows 4 self.old self.new }
+        ensures shows { (v : Seen) → Shows self.old v → ((v.people at).up ≡ true → Speaks ((v.people at).calls ++ received from message.label ∷ [])) →
+            OnOk result (Shows self.new (seen_arrival v (channel_without is_held v at from) (held_without is_held v at from) at from message.label message.msg message.body)) }
     {
         self.make_room_for_rows()?;
         let msg = message.msg;

@@ -4,7 +4,7 @@ ghost use Rattle.std.specs.Prelude.{◌≡◌, ◌<◌, ◌≤◌, ◌^◌, ◌-
 ghost use Rattle.std.specs.List.{list_all};
 ghost use Rattle.kt_base.specs.declared.words.Kind.TheVariants as kind;
 ghost use Rattle.kt_fifo.specs.Channels.{channel};
-ghost use Rattle.kt_process.specs.Persons.{Person, is_ready, inst_of};
+ghost use Rattle.kt_process.specs.Persons.{Person, part_of, is_ready, inst_of, IsNumbered};
 ghost use Rattle.kt_process.specs.Turns.{joins_by};
 ghost use Rattle.kt_system.specs.Systems.{person};
 ghost use Rattle.kt_system.specs.Reads.{tally_of, held_parcel, next_parcel, can_take, saves_by, would_save, IsQuiet};
@@ -41,7 +41,8 @@ impl System {
     /// The instance that a process is in.
     pub fn in_inst(&self, p: ProcNo) -> Option<InstNo>
         requires { p < self.now.size }
-        ensures { result ≡ inst_of (person self.now p).side }
+        ensures inst { result ≡ inst_of (person self.now p).side }
+        ensures numbered { IsNumbered (part_of (person self.now p).side) }
     {
         self.process(p).in_inst()
     }
@@ -57,7 +58,8 @@ impl System {
     /// Whether a process is in a rollback.
     pub fn is_ready(&self, p: ProcNo) -> bool
         requires { p < self.now.size }
-        ensures { result ≡ is_ready (person self.now p).side }
+        ensures ready { result ≡ is_ready (person self.now p).side }
+        ensures numbered { IsNumbered (part_of (person self.now p).side) }
     {
         self.process(p).is_ready()
     }
@@ -97,7 +99,8 @@ impl System {
     pub(super) fn held_parcel(&self, at: ProcNo, from: ProcNo) -> Option<Parcel>
         requires at { at < self.now.size }
         requires from { from < self.now.size }
-        ensures { result ≡ held_parcel self.now at from }
+        ensures parcel { result ≡ held_parcel self.now at from }
+        ensures numbered { IsNumbered (part_of (person self.now at).side) }
     {
         if self.is_ready(at) {
             return None;

@@ -2,6 +2,13 @@
 
 ghost use Rattle.std.specs.Prelude.{◌≡◌, ◌<◌, ◌≤◌, ◌+◌, ◌^◌, ℕ, true, OnErr, length};
 ghost use Rattle.kt_system.specs.Systems.{person, CanGoOn, IsSame, Grows};
+ghost use Rattle.std.specs.Prelude.{Bool, drop, OnOk, ◌==◌, ◌∷◌};
+ghost use Rattle.kt_tables.specs.Calls.{Speaks};
+ghost use Rattle.kt_protocol.specs.States.{Take as TakeStep};
+ghost use Rattle.kt_seen.specs.Transition.{transition, seen_front, seen_take};
+ghost use Rattle.kt_parts.specs.declared.actions.Action.TheVariants as what;
+ghost use Rattle.kt_seen.specs.Seen.{Seen};
+ghost use Rattle.kt_system.specs.Shown.{Shows, IsInside, gone_on, after_reply_taken, after_decision_taken};
 
 use super::System;
 use super::messages::{Message, NO_ACTS};
@@ -26,6 +33,7 @@ impl System {
         ensures size { self.new.size ≡ self.old.size }
         ensures err { OnErr result (IsSame self.new self.old) }
         ensures grows { Grows 4 self.old self.new }
+        ensures shows { (v : Seen) → Shows self.old v → OnOk result (Shows self.new (after_reply_taken v at from inst willing (drop 1 (v.channel from at)))) }
     {
         let targets = self.process(at).partners();
         self.make_room(at, targets)?;
@@ -43,6 +51,7 @@ impl System {
         requires room { CanGoOn self.old p action.now }
         ensures size { self.new.size ≡ self.old.size }
         ensures grows { Grows 2 self.old self.new }
+        ensures shows { (v : Seen) → Shows self.old v → ((commit : Bool) (tell : ℕ) → action.now ≡ what.Settle commit tell → IsInside self.old p) → Shows self.new (gone_on v p inst action.now) }
     {
         match action {
             Action::Reply {
@@ -64,6 +73,8 @@ impl System {
     /// Whether a process is in this instance.
     fn is_in(&self, p: ProcNo, inst: InstNo) -> bool
         requires { p < self.now.size }
+        ensures inside { result ≡ true → IsInside self.now p }
+        ensures shows { (v : Seen) → Shows self.now v → result ≡ ((v.people p).inst == inst) }
     {
         match self.in_inst(p) {
             Some(current) => current.get() == inst.get(),
@@ -85,6 +96,7 @@ impl System {
         ensures size { self.new.size ≡ self.old.size }
         ensures err { OnErr result (IsSame self.new self.old) }
         ensures grows { Grows 4 self.old self.new }
+        ensures shows { (v : Seen) → Shows self.old v → OnOk result (Shows self.new (after_decision_taken v at from inst commit (drop 1 (v.channel from at)))) }
     {
         if !self.is_in(at, inst) {
             self.pop(at, from);
@@ -111,6 +123,7 @@ impl System {
         ensures size { self.new.size ≡ self.old.size }
         ensures err { OnErr result (IsSame self.new self.old) }
         ensures grows { Grows 4 self.old self.new }
+        ensures shows { (v : Seen) → Shows self.old v → Speaks (((seen_front v at from able (v.channel from at)).people at).calls) → OnOk result (Shows self.new (seen_front v at from able (v.channel from at))) }
     {
         let Some(parcel) = self.channels.front(from, at).copied() else {
             return Ok(NO_ACTS);
@@ -127,13 +140,23 @@ impl System {
         }
     }
 
-    /// The first message of another process that is held for this one, where it is in no rollback.
-    fn held_message(&self, at: ProcNo, from: ProcNo) -> Option<Message>
-        requires at { at < self.now.size }
-        requires from { from < self.now.size }
+    /// A process takes the first message of another process that is held for it.
+    fn take_held(&mut self, at: ProcNo, from: ProcNo, parcel: Parcel) -> Result<[Act; 2], Memory>
+        requires at { at < self.old.size }
+        requires from { from < self.old.size }
+        requires few { length self.old.rows.rows + 4 ≤ 2 ^ 24 }
+        ensures size { self.new.size ≡ self.old.size }
+        ensures err { OnErr result (IsSame self.new self.old) }
+        ensures grows { Grows 4 self.old self.new }
+        ensures shows { (v : Seen) (able : Bool) → Shows self.old v → v.held from at ≡ parcel ∷ drop 1 (v.held from at) →
+            Speaks (((seen_take v at from able (v.held from at)).people at).calls) → OnOk result (Shows self.new (seen_take v at from able (v.held from at))) }
     {
-        let parcel = self.held_parcel(at, from)?;
-        message_in(&parcel)
+        match parcel {
+            Parcel::App { label, msg, body } => {
+                self.accept(at, from, Message { label, msg, body }, true)
+            }
+            Parcel::Ask { .. } | Parcel::Reply { .. } | Parcel::Decide { .. } => Ok(NO_ACTS),
+        }
     }
 
     /// A process takes the next parcel from another one: the first message that is held, where it is in no rollback, else
@@ -151,22 +174,11 @@ impl System {
         ensures size { self.new.size ≡ self.old.size }
         ensures err { OnErr result (IsSame self.new self.old) }
         ensures grows { Grows 4 self.old self.new }
+        ensures shows { (v : Seen) → Shows self.old v → Speaks (((transition v (TakeStep at from able)).people at).calls) → OnOk result (Shows self.new (transition v (TakeStep at from able))) }
     {
-        match self.held_message(at, from) {
-            Some(message) => self.accept(at, from, message, true),
+        match self.held_parcel(at, from) {
+            Some(parcel) => self.take_held(at, from, parcel),
             None => self.take_front(alloc, at, from, able),
         }
-    }
-}
-
-/// The message that a parcel is, if it is one.
-fn message_in(parcel: &Parcel) -> Option<Message> {
-    match parcel {
-        Parcel::App { label, msg, body } => Some(Message {
-            label: *label,
-            msg: *msg,
-            body: *body,
-        }),
-        Parcel::Ask { .. } | Parcel::Reply { .. } | Parcel::Decide { .. } => None,
     }
 }

@@ -3,8 +3,9 @@ use Rattle.std.proofs.lemmas.Bool.{cases_eq}
 use Rattle.kt_base.specs.Sets.{has}
 use Rattle.kt_fifo.specs.Channels.{channel, at_pair}
 use Rattle.kt_process.specs.Turns.{noted_by}
-use Rattle.kt_lists.specs.Puts.{Lists}
-use Rattle.kt_lists.specs.Kept.{low, lowered}
+use Rattle.kt_seen.specs.Seen.{SeenLists}
+use Rattle.kt_seen.specs.ListChanges.{low}
+use Rattle.kt_lists.specs.Kept.{lowered}
 use Rattle.kt_lists.proofs.Rest.{fewer}
 use Rattle.kt_lists.proofs.Ranges.{low_nil, still, changed_none, changed_one, changed_all}
 use Rattle.kt_lists.proofs.kept.cut_all.Goals as goal
@@ -38,7 +39,7 @@ loop-from-preserved c =
       lists =
           c.cut.ensures.lists
           ∙ (ap (λ note. at_pair from p (low note (channel c.loop-from.channels from p)) (channel c.loop-from.channels)) c.noted.ensures
-          ∙ (ap (λ (g : Lists). at_pair from p (low (noted from) (g from p)) g) i.lists
+          ∙ (ap (λ (g : SeenLists). at_pair from p (low (noted from) (g from p)) g) i.lists
           ∙ changed_one (has c.loop-from.rest) (has c.without-rest.result) p from (λ q l. low (noted q) l) f c.in-Some.ensures.member w.removed w.others));
       senders = λ q h. elim (cases_eq q from) [
         | inl same ↦ rw (same) (i.senders from c.in-Some.ensures.member)

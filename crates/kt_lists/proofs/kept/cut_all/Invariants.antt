@@ -3,7 +3,7 @@ use Rattle.kt_base.specs.Sets.{has, count_of}
 use Rattle.kt_fifo.specs.Queues.{has_parcel}
 use Rattle.kt_fifo.specs.Channels.{channel, spare_of}
 use Rattle.kt_process.specs.Turns.{noted_by}
-use Rattle.kt_lists.specs.Kept.{low}
+use Rattle.kt_seen.specs.ListChanges.{low}
 use Rattle.kt_lists.proofs.Trimmed.{changed}
 use Rattle.kt_lists.proofs.kept.cut_all.Given as goal
 

@@ -1,6 +1,6 @@
 use Rattle.std.proofs.Common.{◌≡◌, ◌∙◌, ap, ℕ, refl, arith, drop}
 use Rattle.kt_fifo.specs.Channels.{channel, at_pair}
-use Rattle.kt_lists.specs.Puts.{Lists}
+use Rattle.kt_seen.specs.Seen.{SeenLists}
 use Rattle.kt_lists.proofs.Ranges.{dropped_none, dropped_more}
 use Rattle.kt_lists.proofs.kept.drop_first.Goals as goal
 
@@ -13,7 +13,7 @@ loop-one-init c = record {
 pub loop-one-preserved : goal.loop-one-preserved
 loop-one-preserved c = record {
   processes = c.pop.ensures.processes ∙ c.loop-one.invariant.processes;
-  lists = c.pop.ensures.lists ∙ (ap (λ (f : Lists). at_pair c.args.from c.args.to (drop 1 (f c.args.from c.args.to)) f) c.loop-one.invariant.lists
+  lists = c.pop.ensures.lists ∙ (ap (λ (f : SeenLists). at_pair c.args.from c.args.to (drop 1 (f c.args.from c.args.to)) f) c.loop-one.invariant.lists
       ∙ dropped_more (channel c.args.channels.now) c.args.from c.args.to c.loop-one._one);
 }
 

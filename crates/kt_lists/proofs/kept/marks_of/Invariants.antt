@@ -1,6 +1,6 @@
 use Rattle.std.proofs.Common.{◌≡◌, ◌<◌, ℕ, length}
 use Rattle.kt_fifo.specs.Channels.{channel}
-use Rattle.kt_lists.specs.Kept.{mark_of}
+use Rattle.kt_process.specs.Shown.{mark_of}
 use Rattle.kt_lists.proofs.kept.marks_of.Given as goal
 
 abbrev pub invariant-loop-number : goal.invariant-loop-number

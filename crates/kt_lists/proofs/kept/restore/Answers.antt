@@ -4,8 +4,9 @@ use Rattle.kt_base.specs.Sets.{has}
 use Rattle.kt_fifo.specs.declared.parcels.Parcel.{Parcel}
 use Rattle.kt_fifo.specs.Channels.{channel, spare_of}
 use Rattle.kt_process.specs.Turns.{noted_by}
-use Rattle.kt_lists.specs.Puts.{Lists}
-use Rattle.kt_lists.specs.Kept.{low, lowered}
+use Rattle.kt_seen.specs.Seen.{SeenLists}
+use Rattle.kt_seen.specs.ListChanges.{low}
+use Rattle.kt_lists.specs.Kept.{lowered}
 use Rattle.kt_lists.proofs.Rest.{fewer}
 use Rattle.kt_lists.proofs.Ranges.{low_nil, no_parcel, changed_none, unchanged, changed_all, in_front, nothing_left, front_of_lowered, back_all, gone_all, room_fits, held_step, kept_step, room_elsewhere}
 use Rattle.kt_lists.proofs.kept.restore.Goals as goal
@@ -39,7 +40,7 @@ put_before-requires-clause-room c =
     let from = c.in-Some.from in
     let p = c.args.p in
     let K = channel c.args.kept.now in
-    let same : channel c.loop-from.kept from p ≡ K from p = ap (λ (f : Lists). f from p) i.kept ∙ unchanged (has c.loop-from.rest) p from nothing_left K c.in-Some.ensures.member in
+    let same : channel c.loop-from.kept from p ≡ K from p = ap (λ (f : SeenLists). f from p) i.kept ∙ unchanged (has c.loop-from.rest) p from nothing_left K c.in-Some.ensures.member in
     let long = ap (λ (l : List Parcel). length l) same in
     let room = i.room from c.in-Some.ensures.member in
     room_fits (channel c.loop-from.kept) (channel c.cut.new.channels) (spare_of c.loop-from.held) (spare_of c.loop-from.held) from p from _ refl c.cut.ensures.lists (λ u v. omega arith) (omega (arith, long, room))

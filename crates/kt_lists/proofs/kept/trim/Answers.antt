@@ -3,8 +3,8 @@ use Rattle.std.proofs.lemmas.Bool.{cases_eq}
 use Rattle.kt_base.specs.Sets.{has}
 use Rattle.kt_fifo.specs.declared.parcels.Parcel.{Parcel}
 use Rattle.kt_fifo.specs.Channels.{channel, at_pair}
-use Rattle.kt_lists.specs.Puts.{Lists}
-use Rattle.kt_lists.specs.Kept.{mark_of}
+use Rattle.kt_seen.specs.Seen.{SeenLists}
+use Rattle.kt_process.specs.Shown.{mark_of}
 use Rattle.kt_lists.proofs.Rest.{fewer}
 use Rattle.kt_lists.proofs.Ranges.{drop_nil, still, changed_none, changed_one, changed_all}
 use Rattle.kt_lists.proofs.kept.trim.Goals as goal
@@ -37,7 +37,7 @@ loop-from-preserved c =
       lists =
           c.drop_first.ensures.lists
           ∙ (ap (λ (k : ℕ). at_pair from p (drop (marks k) (channel c.loop-from.channels from p)) (channel c.loop-from.channels)) c.index.ensures.value
-          ∙ (ap (λ (g : Lists). at_pair from p (drop (marks from) (g from p)) g) i.lists
+          ∙ (ap (λ (g : SeenLists). at_pair from p (drop (marks from) (g from p)) g) i.lists
           ∙ changed_one (has c.loop-from.rest) (has c.without-rest.result) p from (λ q l. drop (marks q) l) f c.in-Some.ensures.member w.removed w.others));
       senders = λ q h. elim (cases_eq q from) [
         | inl same ↦ rw (same) (i.senders from c.in-Some.ensures.member)

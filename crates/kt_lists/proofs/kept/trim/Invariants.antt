@@ -2,7 +2,7 @@ use Rattle.std.proofs.Common.{◌≡◌, ℕ, true, drop}
 use Rattle.kt_base.specs.Sets.{has, count_of}
 use Rattle.kt_fifo.specs.Queues.{has_parcel}
 use Rattle.kt_fifo.specs.Channels.{channel}
-use Rattle.kt_lists.specs.Kept.{mark_of}
+use Rattle.kt_process.specs.Shown.{mark_of}
 use Rattle.kt_lists.proofs.Trimmed.{changed}
 use Rattle.kt_lists.proofs.kept.trim.Given as goal
 

@@ -3,8 +3,8 @@ use Rattle.std.proofs.Common.{◌≡◌, ◌∙◌, ◌≤◌, ◌+◌, ap, sym,
 use Rattle.std.proofs.lemmas.List.{take_more, get_or_default}
 use Rattle.kt_fifo.specs.declared.parcels.Parcel.TheVariants.{Ask}
 use Rattle.kt_fifo.specs.Channels.{channel, spare_of}
-use Rattle.kt_lists.specs.Puts.{Lists}
-use Rattle.kt_lists.specs.Puts.{with_asks}
+use Rattle.kt_seen.specs.Seen.{SeenLists}
+use Rattle.kt_seen.specs.InOnePiece.{with_asks}
 use Rattle.kt_parts.specs.Asks.{is_asked_in}
 use Rattle.kt_lists.proofs.Telling.{put}
 use Rattle.kt_lists.proofs.Named.{fresh}
@@ -38,7 +38,7 @@ loop-ask-preserved c =
       processes = c.push_reserved.ensures.processes ∙ c.loop-ask.invariant.processes;
       lists =
           c.push_reserved.ensures.lists
-          ∙ (ap (λ (f : Lists). put f c.args.p x.0 (Ask c.args.inst c.args.kind x.1)) c.loop-ask.invariant.lists
+          ∙ (ap (λ (f : SeenLists). put f c.args.p x.0 (Ask c.args.inst c.args.kind x.1)) c.loop-ask.invariant.lists
           ∙ (with_more (channel c.args.channels.now) c.args.p c.args.inst c.args.kind done x ∙ ap (λ (l : List (ℕ × ℕ)). with_asks (channel c.args.channels.now) c.args.p c.args.inst c.args.kind l) (sym e)));
       room = λ q. subst (λ (l : List (ℕ × ℕ)). spare_of c.args.channels.now c.args.p q ≤ spare_of c.push_reserved.new.self c.args.p q + (if is_asked_in l q then 1 else 0)) (sym e)
           (place_taken (spare_of c.loop-ask.channels) (spare_of c.args.channels.now) (spare_of c.push_reserved.new.self) c.args.p asks i x c.requires.rising c.loop-ask-test.true c.ask-item.is c.push_reserved.ensures.spare c.loop-ask.invariant.room q);

@@ -1,7 +1,7 @@
 use Rattle.std.proofs.Common.{◌≡◌, ◌≤◌, ◌+◌, ℕ, take}
 use Rattle.std.specs.Prelude.{if◌then◌else◌}
 use Rattle.kt_fifo.specs.Channels.{channel, spare_of}
-use Rattle.kt_lists.specs.Puts.{with_asks}
+use Rattle.kt_seen.specs.InOnePiece.{with_asks}
 use Rattle.kt_parts.specs.Asks.{is_asked_in}
 use Rattle.kt_lists.proofs.puts.put_asks.Given as goal
 

@@ -3,7 +3,7 @@ use Rattle.std.proofs.lemmas.Bool.{cases_eq}
 use Rattle.kt_base.specs.Sets.{has}
 use Rattle.kt_fifo.specs.declared.parcels.Parcel.TheVariants.{Decide}
 use Rattle.kt_fifo.specs.Channels.{channel, spare_of}
-use Rattle.kt_lists.specs.Puts.{Lists}
+use Rattle.kt_seen.specs.Seen.{SeenLists}
 use Rattle.kt_lists.proofs.Rest.{fewer}
 use Rattle.kt_lists.proofs.Telling.{put, told_none, told_one, told_all, room_told}
 use Rattle.kt_lists.proofs.puts.put_decisions.Goals as goal
@@ -31,7 +31,7 @@ loop-to-preserved c =
       processes = e.processes ∙ i.processes;
       lists =
           e.lists
-          ∙ (ap (λ (f : Lists). put f c.args.p to (Decide c.args.inst c.args.commit)) i.lists
+          ∙ (ap (λ (f : SeenLists). put f c.args.p to (Decide c.args.inst c.args.commit)) i.lists
           ∙ told_one (channel c.args.channels.now) c.args.p c.args.inst to c.args.commit (has c.args.tell) (has c.loop-to.rest) (has c.without-rest.result) (i.rest to c.in-Some.ensures.member) c.in-Some.ensures.member w.removed w.others);
       rest = λ q h. elim (cases_eq q to) [
         | inl same ↦ rw (same) (i.rest to c.in-Some.ensures.member)

@@ -1,3 +1,10 @@
+use Rattle.std.proofs.Common.{Bool, ap, ◌∙◌}
+use Rattle.kt_seen.specs.Seen.{SeenLists}
+use Rattle.kt_seen.specs.ListChanges.{with_asks_where}
+use Rattle.kt_seen.specs.InOnePiece.{with_asks}
+use Rattle.kt_seen.proofs.Cohorts.{with_cohort}
+use Rattle.kt_system.proofs.Showing.{shows_wires}
+use Rattle.kt_fifo.specs.Channels.{channel}
 use Rattle.std.specs.Prelude.{slice_index_or}
 use Rattle.std.proofs.Common.{◌≤◌, ◌<◌, ℕ, List, refl, arith, sym, subst, length}
 use Rattle.kt_system.specs.Systems.{Whole, room_to}
@@ -13,3 +20,9 @@ put_asks-requires-clause-room c =
 
 pub returns-clause-uses : goal.returns-clause-uses
 returns-clause-uses c = uses_then_keeps _ _ _ _ (uses_room _ _ _ c.args.p c.self.view_is refl refl c.put_asks.ensures.room refl refl) c.count.ensures.keeps
+
+pub returns-clause-shows : goal.returns-clause-shows
+returns-clause-shows c = λ v test label h cohort.
+    let lists = channel c.self.inside.channels in
+    let put = c.put_asks.ensures.lists ∙ (ap (λ (l : List (ℕ × ℕ)). with_asks lists c.args.p c.args.inst c.args.kind l) c.list-asks.ensures.asks ∙ with_cohort lists c.args.p c.args.inst c.args.kind c.args.asks.now test label cohort) in
+    c.count.ensures.shows _ (shows_wires _ _ _ v (λ (f : SeenLists). with_asks_where f c.args.p c.args.inst c.args.kind test label) c.self.view_is refl refl refl refl refl refl put h)

@@ -1,5 +1,26 @@
+use Rattle.std.proofs.Common.{ap, subst, sym, ◌∙◌}
+use Rattle.std.proofs.Math.Path.{fun_ext}
+use Rattle.kt_base.specs.Sets.{has}
+use Rattle.kt_seen.specs.Seen.{Seen}
+use Rattle.kt_process.specs.Persons.{Person, asked_of, inst_of}
+use Rattle.kt_process.specs.Shown.{closed_as}
+use Rattle.kt_system.specs.Shown.{Shows, lists_closed}
+use Rattle.kt_system.proofs.Showing.{shows_turned}
+use Rattle.kt_system.proofs.Closing.{asked_is, closes_as}
+use Rattle.std.proofs.Common.{arith}
 use Rattle.kt_system.proofs.Frames.{can_tell}
 use Rattle.kt_system.proofs.system.System.close.Goals as goal
 
 pub tell-requires-clause-room : goal.tell-requires-clause-room
 tell-requires-clause-room c = can_tell _ _ _ _ _ c.requires.room c.settle_kept.ensures.keeps c.leave-set.ensures.leaves
+
+pub returns-clause-shows : goal.returns-clause-shows
+returns-clause-shows c = λ v h there.
+    let p = c.args.p in
+    let one = c.settle_kept.ensures.shows v h there in
+    let mid = one.people p (let k = c.settle_kept.ensures.keeps.size in let b = c.requires.p in omega arith) in
+    let left = c.leave-set.ensures.shows (lists_closed v p c.args.commit) one (λ e. there (sym (ap (λ (x : Person). inst_of x.side) (c.settle_kept.ensures.keeps.person p)) ∙ e)) in
+    let two = shows_turned _ _ (lists_closed v p c.args.commit) p (closed_as c.args.commit (v.people p)) c.leave-set.ensures.turned left one in
+    let four = c.write.ensures.shows _ (c.tell.ensures.shows _ two) in
+    let set = fun_ext (λ q. c.leave-set.ensures.leaves.tell q ∙ (ap (λ (x : Person). asked_of x.side q) c.leave-set.ensures.leaves.turn.was ∙ asked_is _ _ mid q)) in
+    subst (λ (z : Seen). Shows c.write.new.self z) (closes_as v p c.args.inst c.args.commit (has c.leave-set.result) set) four

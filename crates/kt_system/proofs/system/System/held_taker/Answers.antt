@@ -12,14 +12,14 @@ pub returns-then-not-is_ready-clause-first : goal.returns-then-not-is_ready-clau
 returns-then-not-is_ready-clause-first c =
     let some = c.receivers-receivers.ensures.some c.nth-at.result (sym c.has.ensures ∙ c.if-has.true) in
     let there = subst (λ (w : Whole). has_parcel (channel w.held some.0 c.nth-at.result) ≡ true) c.self.view_is some.1 in (
-      (some.0, held_for c.args.self.now c.nth-at.result some.0 (sym c.is_ready.ensures ∙ c.if-not-is_ready.true) there),
+      (some.0, held_for c.args.self.now c.nth-at.result some.0 (sym c.is_ready.ensures.ready ∙ c.if-not-is_ready.true) there),
       λ n l. c.loop-number.invariant n (let e = c.nth-at.ensures in omega arith),
     )
 
 pub loop-number-preserved : goal.loop-number-preserved
 loop-number-preserved c =
     let here : ¬ WithSome (is_held c.args.self.now) c.nth-at.result = elim c.else-has.branch [
-      | else-has-via-then-has+else-not-is_ready w ↦ not_held_if_ready c.args.self.now c.nth-at.result (sym w.is_ready.ensures ∙ w.if-not-is_ready.false)
+      | else-has-via-then-has+else-not-is_ready w ↦ not_held_if_ready c.args.self.now c.nth-at.result (sym w.is_ready.ensures.ready ∙ w.if-not-is_ready.false)
       | else-has-via-else-has w ↦ not_held c.args.self.now c.nth-at.result
           (λ from. subst (λ (v : Whole). channel v.held from c.nth-at.result ≡ []) c.self.view_is (c.receivers-receivers.ensures.none from c.nth-at.result (sym c.has.ensures ∙ w.if-has.false)))
     ] in

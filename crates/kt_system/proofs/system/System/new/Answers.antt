@@ -1,10 +1,12 @@
-use Rattle.std.specs.Prelude.{All}
-use Rattle.std.proofs.Common.{◌≡◌, ◌+◌, ℕ, List, arith, ap, sym, subst, ◌∙◌, length}
+use Rattle.std.specs.Prelude.{All, true}
+use Rattle.std.proofs.Common.{◌≡◌, refl, [], ◌+◌, ℕ, List, arith, ap, sym, subst, ◌∙◌, length}
 use Rattle.std.proofs.lemmas.List.{length_push}
 use Rattle.std.proofs.lemmas.List.Elements.{All-push}
 use Rattle.kt_fifo.specs.declared.parcels.Parcel.{Parcel}
 use Rattle.kt_process.specs.Persons.{Person}
 use Rattle.kt_process.specs.Turns.{IsFresh}
+use Rattle.kt_process.specs.Shown.{IsSeenAs, inst_shown, part_shown}
+use Rattle.kt_seen.specs.Seen.{no_part}
 use Rattle.kt_system.proofs.Turns.{each_person}
 use Rattle.kt_system.proofs.system.System.new.Goals as goal
 
@@ -29,3 +31,17 @@ returns-clause-held c = λ p q. ap (λ (f : ℕ → ℕ → List Parcel). f p q)
 
 pub returns-clause-kept : goal.returns-clause-kept
 returns-clause-kept c = λ p q. ap (λ (f : ℕ → ℕ → List Parcel). f p q) c.in_ok-new-4.ensures.lists
+
+fresh_seen : (n first : ℕ) (x : Person) → IsFresh n first x → IsSeenAs x (record { calls = []; used = first; inst = 0; part = no_part; up = true })
+fresh_seen n first x f = record { stands = f.stands; inst = ap inst_shown f.side; part = ap part_shown f.side; up = f.up; used = f.used }
+
+pub returns-clause-shows : goal.returns-clause-shows
+returns-clause-shows c = record {
+  processes = refl;
+  people = λ p b. fresh_seen c.args.processes c.args.used _ (returns-clause-people c p b);
+  wires = c.in_ok-new-2.ensures.lists;
+  held = c.in_ok-new-3.ensures.lists;
+  kept = c.in_ok-new-4.ensures.lists;
+  log = c.new-5.ensures.rows;
+  begun = refl;
+}

@@ -11,4 +11,4 @@ pub returns : goal.returns
 unfolding next_parcel
 returns c =
     let sent = c.copied.ensures ∙ (c.front.ensures ∙ ap (λ (w : Whole). slice_get (channel w.wires c.args.from c.args.at) 0) c.self.view_is) in
-    c.or.ensures ∙ (ap (λ (o : Option Parcel). option_or o c.copied.result) c.held_parcel.ensures ∙ ap (λ (o : Option Parcel). option_or (held_parcel c.args.self.now c.args.at c.args.from) o) sent)
+    c.or.ensures ∙ (ap (λ (o : Option Parcel). option_or o c.copied.result) c.held_parcel.ensures.parcel ∙ ap (λ (o : Option Parcel). option_or (held_parcel c.args.self.now c.args.at c.args.from) o) sent)

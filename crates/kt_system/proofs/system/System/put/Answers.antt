@@ -1,3 +1,7 @@
+use Rattle.std.proofs.Common.{◌∙◌}
+use Rattle.kt_seen.specs.Seen.{SeenLists}
+use Rattle.kt_seen.specs.ListChanges.{with_parcel}
+use Rattle.kt_system.proofs.Showing.{shows_wires, pushed_is}
 use Rattle.std.proofs.Common.{◌≤◌, refl, sym, subst}
 use Rattle.kt_system.specs.Systems.{Whole, room_to}
 use Rattle.kt_system.proofs.Frames.{keeps_people}
@@ -9,3 +13,7 @@ push_reserved-requires-clause-room c = subst (λ (w : Whole). 1 ≤ room_to w c.
 
 pub returns-clause-keeps : goal.returns-clause-keeps
 returns-clause-keeps c = keeps_people _ _ _ c.self.view_is refl refl
+
+pub returns-clause-shows : goal.returns-clause-shows
+returns-clause-shows c = λ v h. shows_wires _ _ _ v (λ (f : SeenLists). with_parcel f c.args.p c.args.to c.args.parcel) c.self.view_is refl refl refl refl refl refl
+    (c.push_reserved.ensures.lists ∙ pushed_is _ c.args.p c.args.to c.args.parcel) h

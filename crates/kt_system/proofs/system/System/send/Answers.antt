@@ -1,3 +1,15 @@
+use Rattle.std.specs.Prelude.{ℤ}
+use Rattle.std.specs.Int.{w64}
+use Rattle.std.proofs.lemmas.Int.{to_z-of_z}
+use Rattle.kt_spacetime.specs.declared.event.Event.TheVariants.{Sent}
+use Rattle.std.proofs.Common.{Bool, true, false, ℕ, arith, ap, subst, sym, ◌∙◌, ◌≡◌, ◌<◌, ◌+◌, length, List, [], ◌∷◌, ◌++◌}
+use Rattle.kt_fifo.specs.declared.parcels.Parcel.TheVariants as parcel
+use Rattle.kt_spacetime.specs.declared.event.Event.{Event}
+use Rattle.kt_seen.specs.Seen.{Seen}
+use Rattle.kt_seen.specs.ListChanges.{with_parcel}
+use Rattle.kt_system.specs.Shown.{Shows, turned_to, with_row}
+use Rattle.kt_system.proofs.Showing.{shows_same, shows_turned}
+use Rattle.kt_system.proofs.Messages.{sends_up, sends_down, speaks_sent}
 use Rattle.std.proofs.Common.{◌≡◌, ◌<◌, true, arith, rules, sym, subst, ◌∙◌}
 use Rattle.kt_process.specs.Persons.{Person}
 use Rattle.kt_system.proofs.Frames.{room_same}
@@ -14,3 +26,41 @@ put-requires-clause-room c =
     let same = room_same c.make_room_to.new.self c.note_sent-label.new.self c.note_sent-label.ensures.wires c.args.p c.args.to in
     let room = c.in_ok-make_room_to.ensures.parcel in
     omega (arith, same, room)
+
+pub returns-then-not-is_up-clause-shows : goal.returns-then-not-is_up-clause-shows
+returns-then-not-is_up-clause-shows c = λ v h free other speaks.
+    let p = c.args.p in
+    let one = shows_same _ _ v c.make_room_to.ensures.same h in
+    let size = c.make_room_to.ensures.same.size in
+    let seen = one.people p (let b = c.requires.p in omega (arith, b, size)) in
+    let down : (v.people p).up ≡ false = sym seen.up ∙ (sym c.is_up.ensures ∙ c.if-not-is_up.true) in
+    let n = h.processes in
+    let a : p < v.processes = (let b = c.requires.p in omega (arith, b, n)) in
+    let b : c.args.to < v.processes = (let k = c.requires.to in omega (arith, k, n)) in
+    subst (λ (z : Seen). Shows c.refuse.new.self z) (sends_down v p c.args.to c.args.body a b free other down) (c.refuse.ensures.shows v one)
+
+pub returns-clause-shows : goal.returns-clause-shows
+returns-clause-shows c = λ v h free other speaks.
+    let p = c.args.p in
+    let to = c.args.to in
+    let one = shows_same _ _ v c.make_room_to.ensures.same h in
+    let size = c.make_room_to.ensures.same.size in
+    let seen = one.people p (let b = c.requires.p in omega (arith, b, size)) in
+    let up : (v.people p).up ≡ true = sym seen.up ∙ (sym c.is_up.ensures ∙ c.if-not-is_up.false) in
+    let n = h.processes in
+    let a : p < v.processes = (let b = c.requires.p in omega (arith, b, n)) in
+    let b : to < v.processes = (let k = c.requires.to in omega (arith, k, n)) in
+    let sent = c.note_sent-label.ensures.shows v one (speaks_sent v p to c.args.body a b free other up speaks) in
+    let y = record (v.people p) { calls = (v.people p).calls ++ Rattle.kt_tables.specs.Calls.sent to ((v.people p).used + 1) ∷ []; used = (v.people p).used + 1 } in
+    let state = turned_to v p y in
+    let two = shows_turned _ _ v p y c.note_sent-label.ensures.turned sent one in
+    let three = c.put.ensures.shows _ two in
+    let label : c.note_sent-label.result ≡ (v.people p).used + 1 = c.note_sent-label.ensures.label ∙ ap (λ (n : ℕ). n + 1) seen.used in
+    let i = subst (λ (w : _). Shows w v) (sym c.self.view_is) one in
+    let msg : c.after-msg.result ≡ length v.log + 1 = c.after-msg.ensures ∙ ap (λ (l : List Event). length l + 1) (c.rows.ensures.rows ∙ i.log) in
+    let fits = to_z-of_z w64 c.args.body c.ranges.body in
+    let four = subst (λ (l : ℕ). Shows c.put.new.self (record state { channel = with_parcel v.channel p to (parcel.App l (length v.log + 1) c.args.body) })) label
+    (subst (λ (m : ℕ). Shows c.put.new.self (record state { channel = with_parcel v.channel p to (parcel.App c.note_sent-label.result m c.args.body) })) msg
+    (subst (λ (z : ℤ). Shows c.put.new.self (record state { channel = with_parcel v.channel p to (parcel.App c.note_sent-label.result c.after-msg.result z) })) fits three)) in
+    let five = subst (λ (z : ℤ). Shows c.write.new.self (with_row (record state { channel = with_parcel v.channel p to (parcel.App ((v.people p).used + 1) (length v.log + 1) c.args.body) }) (Sent p to z))) fits (c.write.ensures.shows _ four) in
+    subst (λ (z : Seen). Shows c.write.new.self z) (sends_up v p to c.args.body a b free other up) five

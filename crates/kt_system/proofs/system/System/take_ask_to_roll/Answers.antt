@@ -1,3 +1,13 @@
+use Rattle.std.proofs.Common.{◌≡◌, ℕ, ◌+◌, List, length, drop, true, ap, subst, sym, ◌∙◌}
+use Rattle.kt_parts.specs.declared.actions.Then.{Then}
+use Rattle.kt_lists.specs.Kept.{kept_of}
+use Rattle.kt_process.specs.Shown.{BeginsAs, HearsAs, asked_by, label_by, mark_of, no_mark}
+use Rattle.kt_seen.specs.Seen.{Seen, SeenLists}
+use Rattle.kt_system.specs.Systems.{person}
+use Rattle.kt_system.specs.Shown.{Shows, begun_as, answered_as}
+use Rattle.kt_system.proofs.Showing.{shows_same}
+use Rattle.kt_process.specs.Persons.{Person, inst_of}
+use Rattle.kt_system.proofs.Commands.{heard_by, hear_shows, hear_joins, hears_inside, hears_joins, hears_marked, heard_channel, asked_by_front, hears_checkpoint, hears_rollback}
 use Rattle.std.proofs.Common.{true, ap, ◌∙◌}
 use Rattle.kt_base.specs.declared.words.Kind.TheVariants as kind
 use Rattle.kt_process.specs.Persons.{Person}
@@ -11,3 +21,24 @@ answer-requires-clause-room c =
     c.in_ok-make_room.ensures.parcels c.targets-targets.ensures.from c.requires.from c.process.ensures.tables
     (c.joins_rollback-joins.ensures true ∙ ap (λ (x : Person). joins_by x kind.Rollback true c.args.from c.args.label) c.process.ensures.process)
     c.targets-targets.ensures.asks c.make_room.ensures.gives c.in_ok-action.ensures.hears c.pop.ensures.gives
+
+pub returns-clause-shows : goal.returns-clause-shows
+returns-clause-shows c = λ v able h.
+    let at = c.args.at in
+    let from = c.args.from in
+    let k = c.args.inst in
+    let label = c.args.label in
+    let action = c.in_ok-action.action in
+    let after = c.ask_to_roll.new.self in
+    let marks : ℕ → ℕ = no_mark in
+    let calls = (v.people at).calls in
+    let rest = drop 1 (v.channel from at) in
+    let one = shows_same _ _ v c.make_room.ensures.same h in
+    let s = c.in_ok-action.ensures.shows v one in
+    let state = heard_by kind.Rollback from k label marks v at action in
+    let two = hear_shows _ after v at from k label kind.Rollback true marks action one c.ask_to_roll.ensures.turned s in
+    let three = subst (λ (f : SeenLists). Shows c.pop.new.self (asked_by_front state at from (drop 1 (f from at)))) (heard_channel kind.Rollback from k label marks v at action) (c.pop.ensures.shows state two) in
+    let joins = hear_joins after c.pop.new.self v at from k label kind.Rollback true marks action rest s
+    (λ asks goes e i. hears_inside _ after kind.Rollback true from k label at action asks goes c.in_ok-action.ensures.hears e (sym (ap (λ (x : Person). inst_of x.side) (c.pop.ensures.gives.person at)) ∙ i)) in
+    let four = c.answer.ensures.shows (asked_by_front state at from rest) (asked_by kind.Rollback calls) (label_by kind.Rollback calls) three joins in
+    subst (λ (z : Seen). Shows c.answer.new.self z) (hears_rollback after v at from k label able no_mark action rest s) four

@@ -1,3 +1,14 @@
+use Rattle.kt_parts.specs.declared.actions.Action.TheVariants.{Join}
+use Rattle.std.proofs.Common.{◌≡◌, ℕ, ◌+◌, List, length, drop, true, ap, subst, sym, ◌∙◌}
+use Rattle.kt_parts.specs.declared.actions.Then.{Then}
+use Rattle.kt_lists.specs.Kept.{kept_of}
+use Rattle.kt_process.specs.Shown.{BeginsAs, HearsAs, asked_by, label_by, mark_of, no_mark}
+use Rattle.kt_seen.specs.Seen.{Seen, SeenLists}
+use Rattle.kt_system.specs.Systems.{person}
+use Rattle.kt_system.specs.Shown.{Shows, begun_as, answered_as}
+use Rattle.kt_system.proofs.Showing.{shows_same}
+use Rattle.kt_process.specs.Persons.{Person, inst_of}
+use Rattle.kt_system.proofs.Commands.{heard_by, hear_shows, hear_joins, hears_inside, hears_joins, hears_marked, heard_channel, asked_by_front, hears_checkpoint, hears_rollback}
 use Rattle.std.proofs.Common.{ap, ◌∙◌}
 use Rattle.kt_base.specs.declared.words.Kind.TheVariants as kind
 use Rattle.kt_process.specs.Persons.{Person}
@@ -11,3 +22,29 @@ answer-requires-clause-room c =
     c.in_ok-make_room.ensures.parcels c.targets-targets.ensures.from c.requires.from c.process.ensures.tables
     (c.joins_checkpoint-joins.ensures ∙ ap (λ (x : Person). joins_by x kind.Checkpoint c.args.able c.args.from c.args.label) c.process.ensures.process)
     c.targets-targets.ensures.asks c.make_room.ensures.gives c.in_ok-action.ensures.hears c.pop.ensures.gives
+
+pub returns-clause-shows : goal.returns-clause-shows
+returns-clause-shows c = λ v h.
+    let at = c.args.at in
+    let from = c.args.from in
+    let k = c.args.inst in
+    let label = c.args.label in
+    let action = c.in_ok-action.action in
+    let after = c.ask_to_save.new.self in
+    let marks : ℕ → ℕ = λ q. length (v.kept q at) in
+    let calls = (v.people at).calls in
+    let rest = drop 1 (v.channel from at) in
+    let one = shows_same _ _ v c.make_room.ensures.same h in
+    let joins_too : (asks : List (ℕ × ℕ)) (goes : Then) → action ≡ Join asks goes → c.joins_checkpoint-joins.result ≡ true = λ asks goes e.
+    c.joins_checkpoint-joins.ensures ∙ (ap (λ (x : Person). joins_by x kind.Checkpoint c.args.able from label) (c.process.ensures.process ∙ sym (c.make_room.ensures.gives.person at))
+    ∙ hears_joins _ after kind.Checkpoint c.args.able from k label at action asks goes c.in_ok-action.ensures.hears e) in
+    let marked : (asks : List (ℕ × ℕ)) (goes : Then) → action ≡ Join asks goes → mark_of c.in_ok-marks.marks.items ≡ marks = λ asks goes e.
+    c.in_ok-marks.ensures.marks (joins_too asks goes e) ∙ ap (λ (f : SeenLists). kept_of f at) one.kept in
+    let s = hears_marked kind.Checkpoint c.args.able v.processes from k label (mark_of c.in_ok-marks.marks.items) marks (v.people at) (person after at) action marked (c.in_ok-action.ensures.shows v one) in
+    let state = heard_by kind.Checkpoint from k label marks v at action in
+    let two = hear_shows _ after v at from k label kind.Checkpoint c.args.able marks action one c.ask_to_save.ensures.turned s in
+    let three = subst (λ (f : SeenLists). Shows c.pop.new.self (asked_by_front state at from (drop 1 (f from at)))) (heard_channel kind.Checkpoint from k label marks v at action) (c.pop.ensures.shows state two) in
+    let joins = hear_joins after c.pop.new.self v at from k label kind.Checkpoint c.args.able marks action rest s
+    (λ asks goes e i. hears_inside _ after kind.Checkpoint c.args.able from k label at action asks goes c.in_ok-action.ensures.hears e (sym (ap (λ (x : Person). inst_of x.side) (c.pop.ensures.gives.person at)) ∙ i)) in
+    let four = c.answer.ensures.shows (asked_by_front state at from rest) (asked_by kind.Checkpoint calls) (label_by kind.Checkpoint calls) three joins in
+    subst (λ (z : Seen). Shows c.answer.new.self z) (hears_checkpoint after v at from k label c.args.able action rest s) four

@@ -1,0 +1,137 @@
+-- A process that is to begin an instance, as the machine has it.
+use Rattle.std.proofs.Common.{◌≡◌, ℕ, zero, suc, ◌+◌, ◌<◌, ◌≤◌, Bool, true, false, List, [], ◌∷◌, ◌++◌, length, refl, arith, sym, ap, subst, ◌∙◌}
+use Rattle.std.specs.Prelude.{Option, Some, None, ◌==◌, ◌&&◌, not, if◌then◌else◌}
+use Rattle.std.proofs.lemmas.Bool.Decides.{nat_tests}
+use Rattle.kt_base.specs.Sets.{has}
+use Rattle.kt_base.specs.declared.words.Cause.{Cause}
+use Rattle.kt_base.specs.declared.words.Cause.TheVariants.{Busy, Down, NoSave}
+use Rattle.kt_base.specs.declared.words.Kind.TheVariants as kind
+use Rattle.kt_base.specs.declared.words.Standing.{Standing}
+use Rattle.kt_tables.specs.Calls.{Call, on_tentative}
+use Rattle.kt_tables.specs.Standing.{StandsFor}
+use Rattle.kt_tables.specs.States.{State}
+use Rattle.kt_parts.specs.Joins.{Joins}
+use Rattle.kt_parts.specs.Rules.{way_on, way_alone}
+use Rattle.kt_parts.specs.Shares.{Share}
+use Rattle.kt_parts.specs.declared.actions.Action.{Action}
+use Rattle.kt_parts.specs.declared.actions.Action.TheVariants.{Nothing, Refuse, Join, Reply, Settle}
+use Rattle.kt_parts.specs.declared.actions.Then.{Then}
+use Rattle.kt_ckpt.specs.Rules as ckpt
+use Rattle.kt_ckpt.specs.Actions as ckpt_actions
+use Rattle.kt_roll.specs.Rules as roll
+use Rattle.kt_roll.specs.Actions as roll_actions
+use Rattle.kt_roll.specs.Notes.{note_of}
+use Rattle.kt_roll.specs.Sides.{RollSide}
+use Rattle.kt_seen.specs.Seen.{SeenPart, no_part, SeenPerson}
+use Rattle.kt_seen.specs.SeenJoining.{no_note, new_part}
+use Rattle.kt_seen.specs.CallTests.{is_asked_in_checkpoint, is_asked_in_rollback}
+use Rattle.kt_process.specs.Persons.{Person, part_of, inst_of, IsNumbered}
+use Rattle.kt_process.specs.declared.side.Side.{Side}
+use Rattle.kt_process.specs.declared.side.Side.TheVariants as side
+use Rattle.kt_process.specs.Shown.{IsSeenAs, BeginsAs, IsJoined, begin_cause, mark_of, no_mark, inst_shown, part_as, goes_on, joined_as}
+use Rattle.kt_process.proofs.Cohorts.{made_part}
+
+pub is_some : (n : ℕ) → 1 ≤ n → (n == 0) ≡ false
+is_some n h = grind (arith, nat_tests)
+
+-- why it does not begin a checkpoint
+pub save_cause : (x : Option Side) (able up : Bool) (y : SeenPerson) → IsNumbered (part_of x) → inst_shown x ≡ y.inst → up ≡ y.up → ckpt.refusal (inst_of x) up able ≡ begin_cause kind.Checkpoint able y
+save_cause x able up y h i u = rw (← i, ← u) (at_side x able up h)
+  where
+    busy : (n : ℕ) (up able : Bool) → 1 ≤ n → Some (Busy n) ≡ (if not (n == 0) then Some (Busy n) else if able && up then None else Some (Rattle.kt_protocol.specs.Replies.unable_cause up))
+    busy n up able h = rw (is_some n h) refl
+
+    at_side : (x : Option Side) (able up : Bool) → IsNumbered (part_of x) →
+        ckpt.refusal (inst_of x) up able ≡ (if not (inst_shown x == 0) then Some (Busy (inst_shown x)) else if able && up then None else Some (Rattle.kt_protocol.specs.Replies.unable_cause up))
+    at_side None true true h = refl
+    at_side None true false h = refl
+    at_side None false true h = refl
+    at_side None false false h = refl
+    at_side (Some (side.Checkpoint s)) able up h = busy s.part.inst up able h
+    at_side (Some (side.Rollback s)) able up h = busy s.part.inst up able h
+
+cause_as : (s : Standing) (x : Option Side) (able : Bool) (y : SeenPerson) → s.able ≡ able → IsNumbered (part_of x) → s.in_inst ≡ inst_of x → inst_shown x ≡ y.inst → s.up ≡ y.up → ckpt.refusal s.in_inst s.up s.able ≡ begin_cause kind.Checkpoint able y
+cause_as s x able y a num i j u = rw (i, a) (save_cause x able s.up y num j u)
+
+-- why it does not begin a rollback
+pub roll_cause : (x : Option Side) (able : Bool) (y : SeenPerson) → IsNumbered (part_of x) → inst_shown x ≡ y.inst → roll.refusal (inst_of x) ≡ begin_cause kind.Rollback able y
+roll_cause x able y h i = rw (← i) (at_side x h)
+  where
+    busy : (n : ℕ) → 1 ≤ n → Some (Busy n) ≡ (if not (n == 0) then Some (Busy n) else None)
+    busy n h = rw (is_some n h) refl
+
+    at_side : (x : Option Side) → IsNumbered (part_of x) → roll.refusal (inst_of x) ≡ (if not (inst_shown x == 0) then Some (Busy (inst_shown x)) else None)
+    at_side None h = refl
+    at_side (Some (side.Checkpoint s)) h = busy s.part.inst h
+    at_side (Some (side.Rollback s)) h = busy s.part.inst h
+
+-- it takes its tentative checkpoint
+pub joined_save_as : (x : Person) (y : SeenPerson) (t : State) (part : Share) (marks : List ℕ) (n k : ℕ) (parent : Option ℕ) (noted : ℕ → Option ℕ) (asks : List (ℕ × ℕ)) (goes : Then) →
+    IsSeenAs x y → n ≤ 64 → Joins n k parent part (Join asks goes) → ((calls : List Call) → StandsFor x.tables calls → ckpt_actions.AsksCohort calls (Join asks goes)) →
+    ((calls : List Call) → StandsFor x.tables calls → StandsFor t (calls ++ on_tentative ∷ [])) →
+    IsJoined kind.Checkpoint n k parent (mark_of marks) noted y (record { tables = t; side = Some (side.Checkpoint (record { part = part; marks = marks })); up = x.up; used = x.used }) asks goes
+unfolding ckpt.is_asked ckpt.asked_label is_asked_in_checkpoint Rattle.kt_seen.specs.CallTests.checkpoint_label
+joined_save_as x y t part marks n k parent noted asks goes h few joins cohort stands =
+    let made : part_as false part no_note (mark_of marks) ≡ new_part n false parent (is_asked_in_checkpoint y.calls) no_note (mark_of marks) =
+    made_part n k false parent no_note (mark_of marks) part asks _ _ few joins.0 (cohort y.calls h.stands) in
+    record {
+      process = record { stands = stands y.calls h.stands; inst = joins.0.part.inst; part = made; up = h.up; used = h.used };
+      cohort = cohort y.calls h.stands;
+      way = joins.1 ∙ ap (λ (r : SeenPart). goes_on r) made;
+    }
+
+pub begins_save : (x : Person) (y : SeenPerson) (t : State) (s : Standing) (able : Bool) (part : Share) (marks : List ℕ) (n k : ℕ) (action : Action) → s.able ≡ able → IsSeenAs x y → IsNumbered (part_of x.side) → n ≤ 64 →
+    s.in_inst ≡ inst_of x.side → s.up ≡ x.up → ckpt_actions.IsStart s (Some part) action → Joins n k None part action → ((calls : List Call) → StandsFor x.tables calls → ckpt_actions.AsksCohort calls action) →
+    ((calls : List Call) → StandsFor x.tables calls → StandsFor t (calls ++ on_tentative ∷ [])) →
+    BeginsAs kind.Checkpoint able n k (mark_of marks) y (record { tables = t; side = Some (side.Checkpoint (record { part = part; marks = marks })); up = x.up; used = x.used }) action
+begins_save x y t s able part marks n k (Join asks goes) a h num few i u start joins cohort stands = (
+  sym (cause_as s x.side able y a num i h.inst (u ∙ h.up)) ∙ start,
+  joined_save_as x y t part marks n k None no_note asks goes h few joins cohort stands,
+)
+begins_save x y t s able part marks n k Nothing a h num few i u start joins cohort stands = absurd start
+begins_save x y t s able part marks n k (Refuse cause) a h num few i u start joins cohort stands = absurd start
+begins_save x y t s able part marks n k (Reply to willing cause) a h num few i u start joins cohort stands = absurd start
+begins_save x y t s able part marks n k (Settle commit tell) a h num few i u start joins cohort stands = absurd start
+
+-- it refuses
+pub refuses_save : (x : Person) (y : SeenPerson) (s : Standing) (able : Bool) (marks : ℕ → ℕ) (n k : ℕ) (action : Action) → s.able ≡ able → IsSeenAs x y → IsNumbered (part_of x.side) →
+    s.in_inst ≡ inst_of x.side → s.up ≡ x.up → ckpt_actions.IsStart s None action → BeginsAs kind.Checkpoint able n k marks y x action
+refuses_save x y s able marks n k (Refuse cause) a h num i u start = (sym (cause_as s x.side able y a num i h.inst (u ∙ h.up)) ∙ start, h)
+refuses_save x y s able marks n k Nothing a h num i u start = absurd start
+refuses_save x y s able marks n k (Join asks goes) a h num i u start = absurd start
+refuses_save x y s able marks n k (Reply to willing cause) a h num i u start = absurd start
+refuses_save x y s able marks n k (Settle commit tell) a h num i u start = absurd start
+
+-- it gets ready
+pub joined_roll_as : (x : Person) (y : SeenPerson) (r : RollSide) (n k : ℕ) (parent : Option ℕ) (marks : ℕ → ℕ) (noted : ℕ → Option ℕ) (asks : List (ℕ × ℕ)) (goes : Then) →
+    IsSeenAs x y → n ≤ 64 → Joins n k parent r.part (Join asks goes) → ((calls : List Call) → StandsFor x.tables calls → roll_actions.AsksCohort calls (Join asks goes)) →
+    note_of r.notes ≡ noted → IsJoined kind.Rollback n k parent marks noted y (record x { side = Some (side.Rollback r) }) asks goes
+unfolding roll.is_asked roll.asked_label is_asked_in_rollback Rattle.kt_seen.specs.CallTests.rollback_label
+joined_roll_as x y r n k parent marks noted asks goes h few joins cohort notes =
+    let made : part_as true r.part (note_of r.notes) no_mark ≡ new_part n true parent (is_asked_in_rollback y.calls) noted no_mark =
+    ap (λ (f : ℕ → Option ℕ). part_as true r.part f no_mark) notes ∙ made_part n k true parent noted no_mark r.part asks _ _ few joins.0 (cohort y.calls h.stands) in
+    record {
+      process = record { stands = h.stands; inst = joins.0.part.inst; part = made; up = h.up; used = h.used };
+      cohort = cohort y.calls h.stands;
+      way = joins.1 ∙ ap (λ (r : SeenPart). goes_on r) made;
+    }
+
+pub begins_roll : (x : Person) (y : SeenPerson) (s : Standing) (r : RollSide) (marks : ℕ → ℕ) (n k : ℕ) (action : Action) → IsSeenAs x y → IsNumbered (part_of x.side) → n ≤ 64 →
+    s.in_inst ≡ inst_of x.side → roll_actions.IsStart s (Some r) action → Joins n k None r.part action → ((calls : List Call) → StandsFor x.tables calls → roll_actions.AsksCohort calls action) →
+    note_of r.notes ≡ no_note → BeginsAs kind.Rollback true n k marks y (record x { side = Some (side.Rollback r) }) action
+begins_roll x y s r marks n k (Join asks goes) h num few i start joins cohort notes = (
+  sym (ap (λ (o : Option ℕ). roll.refusal o) i ∙ roll_cause x.side true y num h.inst) ∙ start,
+  joined_roll_as x y r n k None marks no_note asks goes h few joins cohort notes,
+)
+begins_roll x y s r marks n k Nothing h num few i start joins cohort notes = absurd start
+begins_roll x y s r marks n k (Refuse cause) h num few i start joins cohort notes = absurd start
+begins_roll x y s r marks n k (Reply to willing cause) h num few i start joins cohort notes = absurd start
+begins_roll x y s r marks n k (Settle commit tell) h num few i start joins cohort notes = absurd start
+
+pub refuses_roll : (x : Person) (y : SeenPerson) (s : Standing) (marks : ℕ → ℕ) (n k : ℕ) (action : Action) → IsSeenAs x y → IsNumbered (part_of x.side) →
+    s.in_inst ≡ inst_of x.side → roll_actions.IsStart s None action → BeginsAs kind.Rollback true n k marks y x action
+refuses_roll x y s marks n k (Refuse cause) h num i start = (sym (ap (λ (o : Option ℕ). roll.refusal o) i ∙ roll_cause x.side true y num h.inst) ∙ start, h)
+refuses_roll x y s marks n k Nothing h num i start = absurd start
+refuses_roll x y s marks n k (Join asks goes) h num i start = absurd start
+refuses_roll x y s marks n k (Reply to willing cause) h num i start = absurd start
+refuses_roll x y s marks n k (Settle commit tell) h num i start = absurd start

@@ -1,0 +1,3 @@
+pub mod Cohorts
+pub mod Beginning
+pub mod Hearing

@@ -1,0 +1,14 @@
+pub use Rattle.kt_cuts.specs.Past
+pub mod Labelling
+pub mod Seen
+pub mod ListChanges
+pub mod CallTests
+pub mod SeenMessages
+pub mod SeenJoining
+pub mod SeenReplies
+pub mod SeenClosing
+pub mod Transition
+pub mod InOnePiece
+pub mod Messages
+pub mod TableLabels
+pub mod WorkedRuns

@@ -1,0 +1,30 @@
+use Rattle.std.proofs.Common.{◌≡◌, ℕ, ◌+◌, List, length, ap, subst, ◌∙◌}
+use Rattle.kt_parts.specs.declared.actions.Then.{Then}
+use Rattle.kt_lists.specs.Kept.{kept_of}
+use Rattle.kt_base.specs.declared.words.Kind.TheVariants as which
+use Rattle.kt_process.specs.Shown.{BeginsAs, HearsAs, asked_by, label_by, mark_of, no_mark}
+use Rattle.kt_seen.specs.Seen.{Seen, SeenLists}
+use Rattle.kt_system.specs.Systems.{person}
+use Rattle.kt_system.specs.Shown.{Shows, begun_as, answered_as}
+use Rattle.kt_system.proofs.Showing.{shows_same}
+use Rattle.kt_system.proofs.Commands.{turned_by, begin_shows, begin_joins, begins_checkpoint, begins_inside}
+use Rattle.kt_system.proofs.system.System.begin_checkpoint.Goals as goal
+
+pub returns-clause-shows : goal.returns-clause-shows
+returns-clause-shows c = λ v h few.
+    let p = c.args.p in
+    let action = c.in_ok-action.action in
+    let after = c.tell_to_save.new.self in
+    let marks : ℕ → ℕ = λ q. length (v.kept q p) in
+    let calls = (v.people p).calls in
+    let one = shows_same _ _ v c.make_room.ensures.same h in
+    let inst : c.in-Some.inst ≡ v.begun + 1 = c.in-Some.ensures.some ∙ ap (λ (n : ℕ). n + 1) h.begun in
+    let marked : mark_of c.in_ok-marks.marks.items ≡ marks = c.in_ok-marks.ensures.marks ∙ ap (λ (f : SeenLists). kept_of f p) one.kept in
+    let s = subst (λ (k : ℕ). BeginsAs which.Checkpoint c.args.able v.processes k marks (v.people p) (person after p) action) inst
+    (subst (λ (m : ℕ → ℕ). BeginsAs which.Checkpoint c.args.able v.processes c.in-Some.inst m (v.people p) (person after p) action) marked (c.in_ok-action.ensures.shows v one)) in
+    let state = turned_by which.Checkpoint (v.begun + 1) marks v p action in
+    let two = begin_shows _ after v p (v.begun + 1) which.Checkpoint c.args.able marks action one c.tell_to_save.ensures.turned s in
+    let joins = begin_joins after v p (v.begun + 1) which.Checkpoint c.args.able marks action s (λ asks goes e. begins_inside _ after which.Checkpoint c.in-Some.inst p action asks goes c.in_ok-action.ensures.begins e) in
+    let three = c.begin.ensures.shows state (asked_by which.Checkpoint calls) (label_by which.Checkpoint calls) two joins in
+    subst (λ (z : Seen). Shows c.begin.new.self z) (begins_checkpoint after v p c.args.able action s)
+    (subst (λ (k : ℕ). Shows c.begin.new.self (begun_as state p k which.Checkpoint (asked_by which.Checkpoint calls) (label_by which.Checkpoint calls) action)) inst three)

@@ -1,0 +1,22 @@
+use Rattle.std.proofs.Common.{◌≡◌, Bool, true, false, drop, arith, ap, subst, sym, ◌∙◌}
+use Rattle.std.specs.Prelude.{◌==◌, None}
+use Rattle.kt_seen.specs.Seen.{Seen}
+use Rattle.kt_process.specs.Persons.{Person, inst_of}
+use Rattle.kt_system.specs.Shown.{Shows}
+use Rattle.kt_system.proofs.Showing.{shows_same}
+use Rattle.kt_system.proofs.Replying.{decides, decides_not}
+use Rattle.kt_system.proofs.system.System.take_decision.Goals as goal
+
+pub returns-clause-shows : goal.returns-clause-shows
+returns-clause-shows c = λ v h.
+    let at = c.args.at in
+    let from = c.args.from in
+    let rest = drop 1 (v.channel from at) in
+    let here : ((v.people at).inst == c.args.inst) ≡ true = sym (c.is_in.ensures.shows v h) ∙ c.if-not-is_in.false in
+    let one = shows_same _ _ v c.make_room.ensures.same h in
+    let two = shows_same _ _ v c.make_room_back_if_ready.ensures.same one in
+    let three = c.pop-2.ensures.shows v two in
+    let same = c.pop-2.ensures.gives.person at ∙ (c.make_room_back_if_ready.ensures.keeps.person at ∙ c.make_room.ensures.gives.person at) in
+    let inside = c.is_in.ensures.inside c.if-not-is_in.false in
+    subst (λ (z : Seen). Shows c.close.new.self z) (decides v at from c.args.inst c.args.commit rest here)
+    (c.close.ensures.shows _ three (λ e. inside (sym (ap (λ (x : Person). inst_of x.side) same) ∙ e)))
