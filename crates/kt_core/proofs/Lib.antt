@@ -1,2 +1,3 @@
 pub mod Nexts
 pub mod Phases
+pub mod Reaching

@@ -1,2 +1,3 @@
 pub mod Agendas
 pub mod Worlds
+pub mod Reached

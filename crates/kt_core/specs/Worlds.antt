@@ -15,6 +15,7 @@ use Rattle.kt_process.specs.Turns.{IsFresh}
 use Rattle.kt_spacetime.specs.declared.event.Event.{Event}
 use Rattle.kt_system.specs.Systems.{Whole, person, IsSame}
 use Rattle.kt_system.specs.Reads.{can_take, would_save, tally_of, no_tally, IsQuiet, IsNextTake, HasNoTake}
+use Rattle.kt_core.specs.Reached.{IsReached}
 use Rattle.kt_core.specs.Agendas.{Agenda, place_of, open_command, IsDone, IsLeastPhase, IsNextOf}
 use Rattle.kt_core.specs.declared.faults.StepFault.{StepFault}
 use Rattle.kt_core.specs.declared.faults.StepFault.TheVariants.{NotEnabled, LogFull, LabelsSpent}
@@ -25,8 +26,9 @@ pub record World : Type 0 where
   pub system : Whole
   pub limit : ℕ
 
--- the processes are those of the plan
+-- the processes are those of the plan, and steps of the protocol have led to what they keep
 pub record IsWorld (w : World) : Type 0 where
+  pub reached : IsReached w.system
   pub size : w.system.size ≡ length w.agenda.plan.names
   pub rows : w.limit ≤ 2 ^ 24
 

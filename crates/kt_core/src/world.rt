@@ -3,6 +3,11 @@
 ghost use Rattle.std.specs.Prelude.{◌≡◌, ◌<◌, ◌≤◌, ◌^◌, ℕ, IfOk, length, nat_lt};
 ghost use Rattle.kt_fifo.specs.Channels.{channel};
 ghost use Rattle.kt_system.specs.Reads.{tally_of};
+ghost use Rattle.std.specs.Prelude.{take};
+ghost use Rattle.kt_cuts.specs.Past.{past};
+ghost use Rattle.kt_cuts.specs.Legal.{IsLegal};
+ghost use Rattle.kt_cuts.specs.Cuts.{IsConsistent, permanent_cut, present_cut};
+ghost use Rattle.kt_protocol.specs.Logs.{HasLinkedDecisions, HasLeastDecisions, AbortsWhereUnwilling, AbortsChangeNothing, JustifiesUnwilling};
 ghost use Rattle.kt_core.specs.Worlds.{IsOpening};
 
 use crate::agenda::Agenda;
@@ -86,10 +91,29 @@ impl World {
         self.agenda.plan()
     }
 
-    /// The log.
+    /// The log: that of a run of the protocol, whatever steps were made in whatever order.
     pub fn log(&self) -> &SpaceTime
-        ensures { result.now ≡ self.now.system.rows }
+        ensures log { result.now ≡ self.now.system.rows }
+
+        // Each row keeps every rule.
+        ensures legal { IsLegal result.now.rows }
+
+        // The members of each committed instance are the least set; each but the initiator has a linking message with an
+        // earlier one.
+        ensures least_decisions { HasLeastDecisions result.now.rows }
+        ensures linked_decisions { HasLinkedDecisions result.now.rows }
+
+        // At every row neither the permanent cut nor the present cut has an orphan.
+        ensures permanent_cuts { (t : ℕ) → IsConsistent (past (take t result.now.rows)) (permanent_cut (past (take t result.now.rows))) }
+        ensures present_cuts { (t : ℕ) → IsConsistent (past (take t result.now.rows)) (present_cut (past (take t result.now.rows))) }
+
+        // An instance is aborted exactly where a process was unwilling, and that was asked by a message; the decision of an
+        // aborted one changes no live history and no permanent position.
+        ensures aborts { AbortsWhereUnwilling result.now.rows }
+        ensures justified { JustifiesUnwilling result.now.rows }
+        ensures unchanged { AbortsChangeNothing result.now.rows }
     {
+        kt_closing::logs_of_late_runs();
         self.system.log()
     }
 

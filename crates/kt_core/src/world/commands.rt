@@ -2,6 +2,7 @@
 
 ghost use Rattle.std.specs.Prelude.{◌≡◌, ◌<◌, ◌≤◌, ◌+◌, ◌^◌, ◌-◌, None, OnOk, OnErr, true, length};
 ghost use Rattle.kt_plan.specs.Limits.{IsJobOf};
+ghost use Rattle.kt_process.specs.Persons.{inst_of};
 ghost use Rattle.kt_system.specs.Systems.{person, IsSame, Grows};
 ghost use Rattle.kt_core.specs.Worlds.{refusal, is_send, IsSameWorld, HasDone};
 
@@ -35,6 +36,7 @@ impl World {
         requires job { IsJobOf self.old.system.size p job.now }
         requires few { length self.old.system.rows.rows + 4 ≤ 2 ^ 24 }
         requires left { is_send job.now ≡ true → (person self.old.system p).up ≡ true → (person self.old.system p).used < 2 ^ 48 - 1 }
+        requires free { is_send job.now ≡ true → inst_of (person self.old.system p).side ≡ None }
         ensures agenda { self.new.agenda ≡ self.old.agenda }
         ensures limit { self.new.limit ≡ self.old.limit }
         ensures size { self.new.system.size ≡ self.old.system.size }

@@ -33,7 +33,7 @@ impl World {
         if let Some(fault) = self.refusal(&step) {
             return Err(fault);
         }
-        let count = self.log().rows().len();
+        let count = self.system.log().rows().len();
         let acts = self.make_step(&step, give)?;
         self.settle();
         Ok(Told {
@@ -50,7 +50,7 @@ impl World {
         if !self.enabled(step) {
             return Some(StepFault::NotEnabled);
         }
-        if self.log().rows().len() + 4 > self.limit {
+        if self.system.log().rows().len() + 4 > self.limit {
             return Some(StepFault::LogFull);
         }
         if self.has_no_label(step) {
@@ -106,7 +106,7 @@ impl World {
     fn row(&self, count: usize) -> Option<(RowNo, Event)>
         ensures { result ≡ numbered_row self.now.system.rows.rows count }
     {
-        let event = self.log().rows().get(count)?;
+        let event = self.system.log().rows().get(count)?;
         Some((RowNo::after(count), *event))
     }
 }

@@ -1,3 +1,6 @@
+use Rattle.std.proofs.Common.{ap, length}
+use Rattle.kt_plan.specs.Limits.{Planned}
+use Rattle.std.proofs.Common.{[]}
 use Rattle.std.proofs.Common.{◌∙◌, ℕ, List, arith, sym, subst, refl, slice_index_or}
 use Rattle.kt_process.specs.Turns.{IsFresh}
 use Rattle.kt_system.specs.Systems.{person}
@@ -22,4 +25,15 @@ returns c =
       begun = system.begun;
       tallies = system.tallies;
       full = refl;
+    }
+
+pub invariant_of-result : goal.invariant_of-result
+invariant_of-result c =
+    let made = c.in_ok-agenda.ensures in
+    let opened = c.open_next.ensures in
+    let system = c.in_ok-system.ensures in
+    record {
+      reached = (_, c.args.used, [], system.shows);
+      size = system.size ∙ (c.size-size.ensures.size ∙ ap (λ (plan : Planned). length plan.names) (sym (opened.plan ∙ made.plan)));
+      rows = c.requires;
     }
