@@ -1,0 +1,11 @@
+pub mod ChainLinks
+pub mod MadeLists
+pub mod LedLists
+pub mod LinkedDecisions
+pub mod Passing
+pub mod Claims
+pub mod ShortLists
+pub mod NamedMessages
+pub mod Runs
+pub mod WholePass
+pub mod FirstArrivals

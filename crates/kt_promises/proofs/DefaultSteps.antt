@@ -1,0 +1,131 @@
+-- Rest, default steps, and processes that are unwilling, of each run.
+use Rattle.std.proofs.Common.{◌≡◌, ℕ, ℤ, ◌≤◌, Bool, true, false, List, [], length, refl, sym, ap, subst, ◌∙◌, Some, None}
+use Rattle.std.specs.Prelude.{◌⊎◌, is_some, if◌then◌else◌, slice_get}
+use Rattle.kt_base.specs.declared.words.Cause.{Cause}
+use Rattle.kt_base.specs.declared.words.Cause.TheVariants.{Busy, Down, NoSave}
+use Rattle.kt_spacetime.specs.declared.event.Event.TheVariants.{Unwilling}
+use Rattle.kt_cuts.specs.Legal.{IsLegal}
+use Rattle.kt_protocol.specs.Parcels.{Parcel}
+use Rattle.kt_protocol.specs.States.{State, opening}
+use Rattle.kt_protocol.specs.Summary.{Summary, summary}
+use Rattle.kt_protocol.specs.States as machine
+use Rattle.kt_protocol.specs.Refusals as protocol_refusals
+use Rattle.kt_protocol.specs.AtRest as protocol_at_rest
+use Rattle.kt_protocol.proofs.SummaryTies.{tied}
+use Rattle.kt_protocol.proofs.LawfulSteps.{lawful_after_run}
+use Rattle.kt_protocol.proofs.Walk.{invariant_after_run}
+use Rattle.kt_closing.specs.LateSteps.{late_run}
+use Rattle.kt_closing.proofs.WholeSteps.{same_log, agrees_after_run}
+use Rattle.kt_seen.specs.Seen.{seen_parcels, seen}
+use Rattle.kt_phases.specs.Plans.{Plan, IsPlan}
+use Rattle.kt_phases.specs.Progress.{Progress}
+use Rattle.kt_phases.specs.Steps.{Step, Do, Take, Give}
+use Rattle.kt_phases.specs.Looks as plan_looks
+use Rattle.kt_phases.specs.Order as plan_order
+use Rattle.kt_phases.specs.Rows as plan_rows
+use Rattle.kt_phases.proofs.RunFacts.{RunFacts, run_facts}
+use Rattle.kt_phases.proofs.AtRest.{rests, idle_at_rest}
+use Rattle.kt_phases.proofs.DefaultSteps.{none_is, is_none, some_is}
+use Rattle.kt_phases.proofs.UnwillingSteps.{unwilling}
+use Rattle.kt_phases.proofs.GivesUsed as plan_gives
+use Rattle.kt_promises.specs.World.{World, world_of, commands_left}
+use Rattle.kt_promises.specs.Steps.{enabled, world_after, is_at_rest}
+use Rattle.kt_promises.specs.Looks.{look}
+use Rattle.kt_promises.specs.Defaults.{default_step}
+use Rattle.kt_promises.specs.Runs.{IsReachedWorld}
+use Rattle.kt_promises.specs.Order.{comes_before}
+use Rattle.kt_promises.specs.AtRest.{HasNothingUnderWay}
+use Rattle.kt_promises.specs.Unwilling.{MayBeUnwilling, IsUnwillingStep}
+use Rattle.kt_promises.proofs.SameSteps.{enabled_same, rest_same, default_same, after_same}
+use Rattle.kt_promises.proofs.SameLooks.{look_same}
+use Rattle.kt_promises.proofs.ReachedWorlds.{carry}
+use Rattle.kt_promises.proofs.RunSteps.{nothing_on}
+
+known : (n : ℕ) (steps : List machine.Step) → (late_run (opening n) steps).so_far ≡ summary (late_run (opening n) steps).log
+known n steps = subst (λ (s : State). s.so_far ≡ summary s.log) (sym (agrees_after_run n steps).same) (invariant_after_run n steps).histories.of_log
+
+-- the state's summary is that of its log
+pub numbers_are : (plan : Plan) (g : Progress) (k : RunFacts plan g) → g.state.so_far ≡ summary g.state.log
+numbers_are plan g k = subst (λ (s : State). s.so_far ≡ summary s.log) (sym k.state_is) (known plan.size k.steps)
+
+pub legal_progress : (plan : Plan) (g : Progress) (k : RunFacts plan g) → IsLegal g.state.log
+legal_progress plan g k = subst IsLegal (sym (ap (λ (s : State). s.log) k.state_is ∙ same_log plan.size k.steps)) (lawful_after_run plan.size k.steps).legal
+
+-- rest
+none_seen : (label : ℕ → ℕ) (body : ℕ → ℤ) (roll : ℕ → Bool) (l : List Parcel) → l ≡ [] → seen_parcels label body roll l ≡ []
+unfolding seen_parcels
+none_seen label body roll l e = ap (seen_parcels label body roll) e
+
+quiet_of_progress : (plan : Plan) (first : ℕ) (g : Progress) → RunFacts plan g → protocol_at_rest.IsAtRest g.state → HasNothingUnderWay (seen first g.state)
+quiet_of_progress plan first g k a = record {
+  decided = λ j pos low. ap is_some ((tied g.state.log (legal_progress plan g k)).decision j) ∙ some (j) (ap (λ (h : Summary). h.is_decided j) (sym (numbers_are plan g k)) ∙ a.decided j pos low);
+  closed = a.closed;
+  no_parcel = λ p q. none_seen _ _ _ (g.state.channel p q) (a.no_parcel p q);
+  none_held = λ p q. none_seen _ _ _ (g.state.held p q) (a.none_held p q);
+}
+  where
+    some : (j : ℕ) → (summary g.state.log).is_decided j ≡ true → is_some (if (summary g.state.log).is_decided j then Some ((summary g.state.log).is_committed j) else None) ≡ true
+    some j e = rw e refl
+
+pub quiet_seen_at_rest : (plan : Plan) (first : ℕ) (w : World) → IsPlan plan → IsReachedWorld plan first w → ((x : Step) → enabled plan w x ≡ false) → HasNothingUnderWay w.now
+quiet_seen_at_rest plan first w i r = carry plan first w (λ v. ((x : Step) → enabled plan v x ≡ false) → HasNothingUnderWay v.now) i r
+    (λ g s n. let k = run_facts plan g i s in quiet_of_progress plan first g k (rests plan g k (nothing_on plan first g n)).machine)
+
+pub done_seen : (plan : Plan) (first : ℕ) (w : World) (p : ℕ) → IsPlan plan → IsReachedWorld plan first w → ((x : Step) → enabled plan w x ≡ false) → commands_left plan w p ≡ []
+done_seen plan first w p i r = carry plan first w (λ v. ((x : Step) → enabled plan v x ≡ false) → commands_left plan v p ≡ []) i r
+    (λ g s n. (rests plan g (run_facts plan g i s) (nothing_on plan first g n)).none_left p)
+
+-- the default step
+pub nothing_default : (plan : Plan) (first : ℕ) (w : World) → IsPlan plan → IsReachedWorld plan first w → default_step plan w ≡ None → (x : Step) → enabled plan w x ≡ false
+nothing_default plan first w i r = carry plan first w (λ v. default_step plan v ≡ None → (x : Step) → enabled plan v x ≡ false) i r
+    (λ g s e x. enabled_same plan first g x ∙ none_is plan g (sym (default_same plan first g) ∙ e) x)
+
+pub default_nothing : (plan : Plan) (first : ℕ) (w : World) → IsPlan plan → IsReachedWorld plan first w → ((x : Step) → enabled plan w x ≡ false) → default_step plan w ≡ None
+default_nothing plan first w i r = carry plan first w (λ v. ((x : Step) → enabled plan v x ≡ false) → default_step plan v ≡ None) i r
+    (λ g s n. default_same plan first g ∙ is_none plan g (nothing_on plan first g n))
+
+pub rest_default : (plan : Plan) (first : ℕ) (w : World) → IsPlan plan → IsReachedWorld plan first w → is_at_rest plan w ≡ true → default_step plan w ≡ None
+rest_default plan first w i r = carry plan first w (λ v. is_at_rest plan v ≡ true → default_step plan v ≡ None) i r
+    (λ g s a. default_same plan first g ∙ is_none plan g (idle_at_rest plan g (sym (rest_same plan first g) ∙ a)))
+
+pub default_on : (plan : Plan) (first : ℕ) (w : World) (x : Step) → IsPlan plan → IsReachedWorld plan first w → default_step plan w ≡ Some x → enabled plan w x ≡ true
+default_on plan first w x i r = carry plan first w (λ v. default_step plan v ≡ Some x → enabled plan v x ≡ true) i r
+    (λ g s e. enabled_same plan first g x ∙ (some_is plan g x (sym (default_same plan first g) ∙ e)).on)
+
+before_same : (plan : Plan) (first : ℕ) (g : Progress) (x y : Step) → comes_before plan (world_of first g) x y ≡ plan_order.comes_before plan g x y
+before_same plan first g (Take p q) (Take u v) = refl
+before_same plan first g (Take p q) (Do u) = refl
+before_same plan first g (Do p) (Take u v) = refl
+before_same plan first g (Do p) (Do u) = refl
+
+pub default_first : (plan : Plan) (first : ℕ) (w : World) (x y : Step) → IsPlan plan → IsReachedWorld plan first w → default_step plan w ≡ Some x → enabled plan w y ≡ true → (x ≡ y) ⊎ (comes_before plan w x y ≡ true)
+default_first plan first w x y i r = carry plan first w (λ v. default_step plan v ≡ Some x → enabled plan v y ≡ true → (x ≡ y) ⊎ (comes_before plan v x y ≡ true)) i r
+    (λ g s e b. subst (λ (z : Bool). (x ≡ y) ⊎ (z ≡ true)) (sym (before_same plan first g x y)) ((some_is plan g x (sym (default_same plan first g) ∙ e)).first y (sym (enabled_same plan first g y) ∙ b)))
+
+-- what of a give counts
+pub gives_same : (plan : Plan) (first : ℕ) (w : World) (x : Step) (a b : Give) → IsPlan plan → IsReachedWorld plan first w → enabled plan w x ≡ true → (plan_looks.uses_able (look plan w x) ≡ true → a.able ≡ b.able) → (plan_looks.uses_body (look plan w x) ≡ true → a.body ≡ b.body) → world_after plan w x a ≡ world_after plan w x b
+gives_same plan first w x a b i r = carry plan first w (λ v. enabled plan v x ≡ true → (plan_looks.uses_able (look plan v x) ≡ true → a.able ≡ b.able) → (plan_looks.uses_body (look plan v x) ≡ true → a.body ≡ b.body) → world_after plan v x a ≡ world_after plan v x b) i r
+    (λ g s e f h. let k = run_facts plan g i s in
+    sym (after_same plan first g x a k (sym (enabled_same plan first g x) ∙ e)) ∙ (ap (world_of first) (plan_gives.gives_same plan g x a b (sym (enabled_same plan first g x) ∙ e)
+    (λ u. f (ap plan_looks.uses_able (look_same plan first g x k) ∙ u)) (λ u. h (ap plan_looks.uses_body (look_same plan first g x k) ∙ u)))
+    ∙ after_same plan first g x b k (sym (enabled_same plan first g x) ∙ e)))
+
+-- a step that may be unwilling
+refuse_seen : (first : ℕ) (s : State) (p q k : ℕ) (able : Bool) (c : Cause) → protocol_refusals.MayBeUnwilling s p q k able c → MayBeUnwilling s.so_far (seen first s) p q k able c
+refuse_seen first s p q k able (Busy j) m = record { member = m.member; undecided = m.undecided; cause = (let b = m.cause in record { positive = b.positive; open_in = b.open_in; other = b.other; received = b.received; sent = b.sent }) }
+refuse_seen first s p q k able Down m = record { member = m.member; undecided = m.undecided; cause = (let f = m.cause.0 in record { checkpoint = f.checkpoint; closed = f.closed; has_to = f.has_to }, m.cause.1) }
+refuse_seen first s p q k able NoSave m = record { member = m.member; undecided = m.undecided; cause = (let f = m.cause.0 in record { checkpoint = f.checkpoint; closed = f.closed; has_to = f.has_to }, m.cause.1, m.cause.2) }
+
+unwilling_progress : (plan : Plan) (first : ℕ) (g : Progress) (x : Step) (give : Give) (t p k : ℕ) (c : Cause) → RunFacts plan g → plan_rows.IsUnwillingStep g x give t p k c → IsUnwillingStep (world_of first g) x give t p k c
+unwilling_progress plan first g x give t p k c h u = record {
+  from = u.from;
+  step = u.step;
+  row = u.row;
+  justified = subst (λ (y : Summary). MayBeUnwilling y (seen first g.state) p u.from k give.able c) (numbers_are plan g h) (refuse_seen first g.state p u.from k give.able c u.justified);
+}
+
+pub unwilling_seen : (plan : Plan) (first : ℕ) (w : World) (x : Step) (give : Give) (t p k : ℕ) (c : Cause) → IsPlan plan → IsReachedWorld plan first w → enabled plan w x ≡ true →
+    slice_get (world_after plan w x give).now.log t ≡ Some (Unwilling p k c) → length w.now.log ≤ t → IsUnwillingStep w x give t p k c
+unwilling_seen plan first w x give t p k c i r = carry plan first w (λ v. enabled plan v x ≡ true → slice_get (world_after plan v x give).now.log t ≡ Some (Unwilling p k c) → length v.now.log ≤ t → IsUnwillingStep v x give t p k c) i r
+    (λ g s b e l. let h = run_facts plan g i s in unwilling_progress plan first g x give t p k c h
+    (unwilling plan g x give t p k c h (sym (enabled_same plan first g x) ∙ b) (ap (λ (v : World). slice_get v.now.log t) (after_same plan first g x give h (sym (enabled_same plan first g x) ∙ b)) ∙ e) l))

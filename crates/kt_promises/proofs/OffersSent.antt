@@ -1,0 +1,60 @@
+-- What an object offers is the body of the one row that its step adds.
+use Rattle.std.proofs.Common.{◌≡◌, ℕ, ℤ, Bool, true, false, List, [], ◌∷◌, refl, ap, Some, None}
+use Rattle.std.specs.Prelude.{◌==◌, ◌&&◌, if◌then◌else◌, Option}
+use Rattle.kt_base.specs.declared.words.Cause.TheVariants.{Down}
+use Rattle.kt_spacetime.specs.declared.event.Event.{Event}
+use Rattle.kt_spacetime.specs.declared.event.Event.TheVariants.{Sent}
+use Rattle.kt_seen.specs.Seen.{Seen}
+use Rattle.kt_phases.specs.Plans.{Plan, Job, Command, IsPlan}
+use Rattle.kt_phases.specs.Steps.{Step, Do, Give}
+use Rattle.kt_phases.specs.Looks.{Look, Idle, NeedsBody, NeedsSave, Plain, look_of_job}
+use Rattle.kt_phases.specs.Rows.{AreRowsOfCommand}
+use Rattle.kt_phases.specs.Plans as job
+use Rattle.kt_promises.specs.World.{World, next_command}
+use Rattle.kt_promises.specs.Steps.{enabled}
+use Rattle.kt_promises.specs.Looks.{look, look_of_step, look_of_command}
+use Rattle.kt_promises.specs.Runs.{IsReachedWorld}
+use Rattle.kt_promises.specs.StepActs.{rows_added}
+use Rattle.kt_promises.specs.Rows.{refusal_cause, AreRowsOfDo}
+use Rattle.kt_promises.proofs.RowsFit.{fits}
+
+is_it : Look → Bool
+is_it Idle = false
+is_it NeedsSave = false
+is_it NeedsBody = true
+is_it Plain = false
+
+save_not : (b : Bool) → is_it (if b then NeedsSave else Plain) ≡ false
+unfolding is_it
+save_not true = refl
+save_not false = refl
+
+not_it : (l : Look) → is_it l ≡ false → l ≡ NeedsBody → ⊥
+unfolding is_it
+not_it l e f = let x = ap is_it f in cc (x, e)
+
+job_offered : (v : Seen) (p k : ℕ) (able : Bool) (j : Job) (z : ℤ) (l : List Event) → look_of_job ((v.people p).inst == 0) (v.people p).up j ≡ NeedsBody → AreRowsOfCommand k p j z (refusal_cause (v.people p) able j) l → (q : ℕ) × (l ≡ Sent p q z ∷ [])
+job_offered v p k able (job.Send q None) z l e f = go (v.people p).up e f
+  where
+    go : (u : Bool) → (if u then NeedsBody else Plain) ≡ NeedsBody → AreRowsOfCommand k p (job.Send q None) z (if u then None else Some Down) l → (q : ℕ) × (l ≡ Sent p q z ∷ [])
+    go true e f = (q, f)
+    go false e f = absurd (cc (e))
+job_offered v p k able (job.Send q (Some b)) z l e f = absurd (cc (e))
+job_offered v p k able job.Checkpoint z l e f = absurd (not_it _ (save_not ((v.people p).inst == 0 && (v.people p).up)) e)
+job_offered v p k able job.Rollback z l e f = absurd (cc (e))
+job_offered v p k able job.Fail z l e f = absurd (cc (e))
+
+-- a step that asks for something is enabled
+looked : (plan : Plan) (w : World) (x : Step) → look plan w x ≡ NeedsBody → (enabled plan w x ≡ true) × (look_of_step plan w x ≡ NeedsBody)
+looked plan w x = go (enabled plan w x)
+  where
+    go : (b : Bool) → (if b then look_of_step plan w x else Idle) ≡ NeedsBody → (b ≡ true) × (look_of_step plan w x ≡ NeedsBody)
+    go true e = (refl, e)
+    go false e = absurd (cc (e))
+
+command_offered : (w : World) (p : ℕ) (give : Give) (o : Option Command) (l : List Event) → look_of_command w p o ≡ NeedsBody → AreRowsOfDo w.now p give o l → (q : ℕ) × (l ≡ Sent p q give.body ∷ [])
+command_offered w p give None l e f = absurd (cc (e))
+command_offered w p give (Some c) l e f = job_offered w.now p _ give.able c.job give.body l e f
+
+pub offered_seen : (plan : Plan) (first : ℕ) (w : World) (p : ℕ) (give : Give) → IsPlan plan → IsReachedWorld plan first w → look plan w (Do p) ≡ NeedsBody → (q : ℕ) × (rows_added plan w (Do p) give ≡ Sent p q give.body ∷ [])
+offered_seen plan first w p give i r e = let h = looked plan w (Do p) e in command_offered w p give (next_command plan w p) (rows_added plan w (Do p) give) h.1 (fits plan first w (Do p) give i r h.0).fit

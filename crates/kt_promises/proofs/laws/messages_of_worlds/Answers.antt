@@ -1,0 +1,27 @@
+use Rattle.kt_values.specs.States.{IsRising}
+use Rattle.kt_promises.specs.Lines.{line, EachStandsOnce, KeepsReceived}
+use Rattle.kt_promises.proofs.ReachedWorlds.{seen_of}
+use Rattle.kt_promises.proofs.LinesOfRuns.{once_seen, rising_seen, keeps_seen}
+use Rattle.kt_promises.proofs.PeopleKeep.{channel_seen, held_seen, held_to_seen, kept_seen}
+use Rattle.kt_promises.proofs.laws.messages_of_worlds.Goals as goal
+
+pub returns-clause-once : goal.returns-clause-once
+returns-clause-once c = λ plan first w i r. seen_of plan first w EachStandsOnce i r (once_seen plan.size first)
+
+pub returns-clause-rising : goal.returns-clause-rising
+returns-clause-rising c = λ plan first w p q i r. seen_of plan first w (λ v. IsRising (line v p q)) i r (λ s. rising_seen plan.size first s p q)
+
+pub returns-clause-kept_lists : goal.returns-clause-kept_lists
+returns-clause-kept_lists c = λ plan first w i r. seen_of plan first w KeepsReceived i r (keeps_seen plan.size first)
+
+pub returns-clause-in_channels : goal.returns-clause-in_channels
+returns-clause-in_channels c = λ plan first w p q i r. channel_seen plan first w i r p q
+
+pub returns-clause-held : goal.returns-clause-held
+returns-clause-held c = λ plan first w p q i r. held_seen plan first w i r p q
+
+pub returns-clause-held_by_receiver : goal.returns-clause-held_by_receiver
+returns-clause-held_by_receiver c = λ plan first w p q i r e. held_to_seen plan first w i r p q e
+
+pub returns-clause-kept : goal.returns-clause-kept
+returns-clause-kept c = λ plan first w p q i r. kept_seen plan first w i r p q

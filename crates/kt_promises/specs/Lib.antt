@@ -1,0 +1,17 @@
+pub mod Tallies
+pub mod World
+pub mod Steps
+pub mod Looks
+pub mod Defaults
+pub mod Runs
+pub mod Order
+pub mod AtRest
+pub mod Unwilling
+pub mod StepActs
+pub mod Work
+pub mod Lines
+pub mod Rows
+pub mod Failures
+pub mod Told
+pub mod Offers
+pub mod WorkedWorlds

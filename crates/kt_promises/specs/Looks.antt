@@ -1,0 +1,40 @@
+-- What a step asks of the object of its process, by what code has.
+use Rattle.std.specs.Prelude.{ℕ, ◌==◌, ◌&&◌, not, if◌then◌else◌, Option, Some, None, List, [], ◌∷◌}
+use Rattle.kt_fifo.specs.declared.parcels.Parcel.{Parcel}
+use Rattle.kt_fifo.specs.declared.parcels.Parcel.TheVariants.{App, Ask, Reply, Decide}
+use Rattle.kt_cuts.specs.Past.{is_rollback_kind}
+use Rattle.kt_seen.specs.Seen.{Seen}
+use Rattle.kt_seen.specs.Transition.{is_seen_ready}
+use Rattle.kt_seen.specs.CallTests.{must_take}
+use Rattle.kt_phases.specs.Plans.{Command, Plan}
+use Rattle.kt_phases.specs.Steps.{Step, Do, Take}
+use Rattle.kt_phases.specs.Looks.{Look, Idle, NeedsSave, Plain, look_of_job}
+use Rattle.kt_promises.specs.Tallies.{has_parcel}
+use Rattle.kt_promises.specs.World.{World, next_command}
+use Rattle.kt_promises.specs.Steps.{enabled}
+
+-- of p's command, if it has one
+abbrev pub look_of_command : World → ℕ → Option Command → Look
+look_of_command w p None = Plain
+look_of_command w p (Some c) = look_of_job ((w.now.people p).inst == 0) (w.now.people p).up c.job
+
+-- of what is in front in the channel from q: an ask that makes p take a checkpoint needs to know whether its object can
+-- be saved
+abbrev pub look_of_front : Seen → ℕ → ℕ → List Parcel → Look
+look_of_front v p q (Ask k kind l ∷ rest) =
+    if ((v.people p).inst == 0 && not (is_rollback_kind (Some kind)))
+    && (must_take (v.people p).calls q l && (v.people p).up) then NeedsSave else Plain
+look_of_front v p q (App l m body ∷ rest) = Plain
+look_of_front v p q (Reply k w ∷ rest) = Plain
+look_of_front v p q (Decide k c ∷ rest) = Plain
+look_of_front v p q [] = Plain
+
+-- of an enabled step: a message that is held asks for nothing
+abbrev pub look_of_step : Plan → World → Step → Look
+look_of_step plan w (Do p) = look_of_command w p (next_command plan w p)
+look_of_step plan w (Take p q) =
+    if not (is_seen_ready w.now p) && has_parcel (w.now.held q p) then Plain else look_of_front w.now p q (w.now.channel q p)
+
+-- what a step asks of the object
+abbrev pub look : Plan → World → Step → Look
+look plan w x = if enabled plan w x then look_of_step plan w x else Idle

@@ -1,0 +1,70 @@
+-- Runs of a plan, by what code has: steps one after another, each enabled when it is made.
+use Rattle.std.specs.Prelude.{◌≡◌, ℕ, zero, suc, if◌then◌else◌, Option, Some, None, List, [], ◌∷◌}
+use Rattle.kt_protocol.specs.States as machine
+use Rattle.kt_seen.specs.Transition.{run_seen, opening_seen}
+use Rattle.kt_phases.specs.Plans.{Plan, Command}
+use Rattle.kt_phases.specs.Steps.{Step, Do, Take, Give, protocol_step}
+use Rattle.kt_phases.specs.Runs.{Move}
+use Rattle.kt_promises.specs.World.{World, start_world, next_command}
+use Rattle.kt_promises.specs.Steps.{enabled, world_after}
+use Rattle.kt_promises.specs.Defaults.{default_step}
+
+-- where some moves lead, if each step is enabled in its turn
+abbrev pub after_moves : Plan → World → List Move → Option World
+after_moves plan w [] = Some w
+after_moves plan w (x ∷ xs) =
+    if enabled plan w x.step then after_moves plan (world_after plan w x.step x.give) xs else None
+
+-- a run of the plan leads here
+pub record IsReachedWorld (plan : Plan) (first : ℕ) (w : World) : Type 0 where
+  pub moves : List Move
+  pub leads : after_moves plan (start_world plan first) moves ≡ Some w
+
+-- where the default step leads, if there is one
+abbrev pub next_default : (Step → World) → World → Option Step → World
+next_default next w None = w
+next_default next w (Some x) = next x
+
+-- at most n default steps, with what objects give at each
+abbrev pub after_defaults : ℕ → Plan → (World → Step → Give) → World → World
+after_defaults zero plan give w = w
+after_defaults (suc n) plan give w =
+    next_default (λ x. after_defaults n plan give (world_after plan w x (give w x))) w (default_step plan w)
+
+-- each of these moves is the default step where it is made
+abbrev pub AreDefaultMoves : Plan → World → List Move → Type 0
+AreDefaultMoves plan w [] = Unit {0}
+AreDefaultMoves plan w (x ∷ xs) =
+    (default_step plan w ≡ Some x.step) × AreDefaultMoves plan (world_after plan w x.step x.give) xs
+
+-- a run begins with the given moves and goes on by default steps, which lead to w
+pub record GoesOn (plan : Plan) (first : ℕ) (given more : List Move) (w : World) : Type 0 where
+  pub begun : World
+  pub begins : after_moves plan (start_world plan first) given ≡ Some begun
+  pub default : AreDefaultMoves plan begun more
+  pub leads : after_moves plan begun more ≡ Some w
+
+-- default steps, one with each give as far as there are any
+abbrev pub after_gives : Plan → World → List Give → World
+after_gives plan w [] = w
+after_gives plan w (x ∷ xs) = next_default (λ s. after_gives plan (world_after plan w s x) xs) w (default_step plan w)
+
+-- all but the open phase is the same
+pub record IsSameButPhase (w w' : World) : Type 0 where
+  pub now : w'.now ≡ w.now
+  pub done : w'.done ≡ w.done
+  pub put : w'.put ≡ w.put
+
+-- the protocol's step for p's command, if there is one
+abbrev pub steps_of_command : ℕ → Give → Option Command → List machine.Step
+steps_of_command p give None = []
+steps_of_command p give (Some c) = protocol_step p c.job give ∷ []
+
+-- the protocol's step for a step of the plan: one, where it is enabled
+abbrev pub protocol_steps : Plan → World → Step → Give → List machine.Step
+protocol_steps plan w (Do p) give = steps_of_command p give (next_command plan w p)
+protocol_steps plan w (Take p q) give = machine.Take p q give.able ∷ []
+
+-- what is seen is where these steps of the protocol lead
+abbrev pub IsAfterSteps : Plan → ℕ → List machine.Step → World → Type 0
+IsAfterSteps plan first steps w = w.now ≡ run_seen (opening_seen plan.size first) steps

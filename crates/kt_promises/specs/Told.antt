@@ -1,0 +1,56 @@
+-- What the steps of a run tell each process.
+use Rattle.std.specs.Prelude.{ℕ, ◌==◌, if◌then◌else◌, List, [], ◌∷◌, ◌++◌}
+use Rattle.kt_spacetime.specs.declared.event.Event.{Event}
+use Rattle.kt_spacetime.specs.Events.{process_of}
+use Rattle.kt_values.specs.Values.{Act}
+use Rattle.kt_phases.specs.Plans.{Plan}
+use Rattle.kt_phases.specs.Steps.{Step, Give, stepper}
+use Rattle.kt_phases.specs.Runs.{Move}
+use Rattle.kt_promises.specs.World.{World}
+use Rattle.kt_promises.specs.Steps.{world_after}
+use Rattle.kt_promises.specs.StepActs.{rows_added, acts_of_step}
+
+-- a step, what was given at it, the rows that it adds, and the acts of its process
+pub record Told : Type 0 where
+  pub step : Step
+  pub give : Give
+  pub rows : List Event
+  pub acts : List Act
+
+-- what a move tells here
+abbrev pub told_at : Plan → World → Move → Told
+told_at plan w x = record {
+  step = x.step;
+  give = x.give;
+  rows = rows_added plan w x.step x.give;
+  acts = acts_of_step plan w x.step x.give (stepper x.step);
+}
+
+-- what p is told by a move: nothing by another process's one
+abbrev pub told_by_move : Plan → World → ℕ → Move → List Told
+told_by_move plan w p x = if p == stepper x.step then told_at plan w x ∷ [] else []
+
+-- and by some moves, in order
+abbrev pub told_by : Plan → World → ℕ → List Move → List Told
+told_by plan w p [] = []
+told_by plan w p (x ∷ xs) = told_by_move plan w p x ++ told_by plan (world_after plan w x.step x.give) p xs
+
+-- all acts that are told, in order
+abbrev pub acts_told : List Told → List Act
+acts_told [] = []
+acts_told (x ∷ xs) = x.acts ++ acts_told xs
+
+-- all rows
+abbrev pub rows_told : List Told → List Event
+rows_told [] = []
+rows_told (x ∷ xs) = x.rows ++ rows_told xs
+
+-- the rows of p among some rows
+abbrev pub rows_by : ℕ → List Event → List Event
+rows_by p [] = []
+rows_by p (row ∷ rows) = if p == process_of row then row ∷ rows_by p rows else rows_by p rows
+
+-- the rows that some moves add
+abbrev pub rows_along : Plan → World → List Move → List Event
+rows_along plan w [] = []
+rows_along plan w (x ∷ xs) = rows_added plan w x.step x.give ++ rows_along plan (world_after plan w x.step x.give) xs
