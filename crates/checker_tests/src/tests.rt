@@ -2,5 +2,3 @@ mod base;
 mod cuts;
 mod histories;
 mod spacetime;
-mod transit;
-mod walk;

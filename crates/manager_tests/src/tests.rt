@@ -1,3 +1,1 @@
-mod fifo;
 mod object;
-mod tables;

@@ -1,11 +1,17 @@
-mod large;
+//! Logs with so many rows that a scan for each row or cut would not end in time.
 
-use kt_base::{InstNo, Kind, MsgNo, ProcNo};
-use kt_cuts::{Cut, Trace};
+use kt_base::{MsgNo, ProcNo, RowNo};
+use kt_cuts::{Cut, LegalFault, Rule};
 use kt_histories::{Histories, legal};
 use kt_spacetime::{Event, SpaceTime};
 use std::alloc::Global;
 use std::test::Fail;
+
+// How many messages are passed.
+const MESSAGES: u32 = 524_288;
+
+// How many sends and receives each process makes.
+const DEEDS: usize = 16_384;
 
 fn process(number: usize) -> Result<ProcNo, Fail> {
     let number = u8::try_from(number).ok().ok_or("no process")?;
@@ -26,98 +32,67 @@ fn add(log: &mut SpaceTime, row: Event) -> Result<(), Fail> {
     Ok(())
 }
 
-// What the first rows of a legal log say.
-fn histories_of(alloc: Global, log: &SpaceTime, upto: usize) -> Result<Histories, Fail> {
-    legal(alloc, log)?;
-    if upto > log.rows().len() {
-        return Err("no such row".into());
-    }
-    Ok(Histories::of(alloc, log, upto)?)
-}
-
-// Adds the rows of a checkpoint, or of a rollback, of one process alone.
-fn add_instance(log: &mut SpaceTime, p: ProcNo, number: u16, kind: Kind) -> Result<(), Fail> {
-    let inst = InstNo::new(number).ok_or("no instance")?;
-    add(log, Event::Began { p, inst, kind })?;
-    match kind {
-        Kind::Checkpoint => add(log, Event::Took { p, inst })?,
-        Kind::Rollback => add(log, Event::Ready { p, inst })?,
-    }
-    let commit = true;
-    add(log, Event::Decided { p, inst, commit })?;
-    add(log, Event::Closed { p, inst })
-}
-
-// Process 0 takes a checkpoint after its first message and alone undoes its second, which process 1 has received.
-fn undone_and_received(alloc: Global) -> Result<SpaceTime, Fail> {
-    let (from, p) = (process(0)?, process(1)?);
-    let sent = Event::Sent {
-        p: from,
-        to: p,
-        body: 1,
-    };
+// Messages round a ring of 64, each received before the next one is sent.
+fn messages_round_a_ring(alloc: Global) -> Result<SpaceTime, Fail> {
     let mut log = SpaceTime::new(alloc);
-    add(&mut log, sent)?;
-    add_instance(&mut log, from, 1, Kind::Checkpoint)?;
-    add(&mut log, sent)?;
-    for number in [1, 6] {
-        let msg = message(number)?;
-        add(&mut log, Event::Received { p, from, msg })?;
+    for index in 0..MESSAGES {
+        let p = index as usize % 64;
+        let to = (index as usize + 1) % 64;
+        add(
+            &mut log,
+            Event::Sent {
+                p: process(p)?,
+                to: process(to)?,
+                body: 1,
+            },
+        )?;
+        add(
+            &mut log,
+            Event::Received {
+                p: process(to)?,
+                from: process(p)?,
+                msg: message(2 * index + 1)?,
+            },
+        )?;
     }
-    add_instance(&mut log, from, 2, Kind::Rollback)?;
-    add(&mut log, sent)?;
-    let msg = message(13)?;
-    add(&mut log, Event::Received { p, from, msg })?;
     Ok(log)
 }
 
 #[test]
-fn an_undone_message_is_still_received(rt: HostRuntime) -> Result<(), Fail> {
-    let log = undone_and_received(rt.alloc())?;
-    let histories = histories_of(rt.alloc(), &log, 14)?;
-    let table: [(u32, Option<usize>, Option<usize>); 3] = [
-        (1, Some(1), Some(1)),
-        (6, None, Some(2)),
-        (13, Some(2), Some(3)),
-    ];
-    for (number, sent, received) in table {
-        let trace = Trace {
+fn a_large_log_is_judged(rt: HostRuntime) -> Result<(), Fail> {
+    let mut log = messages_round_a_ring(rt.alloc())?;
+    assert_eq!(rt; legal(rt.alloc(), &log), Ok(()));
+    add(
+        &mut log,
+        Event::Received {
+            p: process(1)?,
             from: process(0)?,
-            to: process(1)?,
-            sent,
-            received,
-        };
-        assert_eq!(rt; histories.trace(message(number)?), Some(trace));
-    }
-    assert_eq!(rt; histories.trace(message(2)?), None);
-    assert_eq!(rt; histories.trace(message(15)?), None);
+            msg: message(1)?,
+        },
+    )?;
+    let row = RowNo::new(2 * MESSAGES + 1).ok_or("no row")?;
+    assert_eq!(rt;
+        legal(rt.alloc(), &log),
+        Err(LegalFault::Broken(row, Rule::Message))
+    );
     Ok(())
 }
 
 #[test]
-fn an_undone_message_is_an_orphan_of_the_present_cut(rt: HostRuntime) -> Result<(), Fail> {
-    let log = undone_and_received(rt.alloc())?;
-    let histories = histories_of(rt.alloc(), &log, 14)?;
-    let table: [(usize, usize, u32); 8] = [
-        (2, 3, 6),
-        (2, 2, 6),
-        (2, 1, 0),
-        (1, 3, 6),
-        (1, 1, 0),
-        (0, 3, 1),
-        (0, 1, 1),
-        (0, 0, 0),
-    ];
-    for (sender, receiver, orphan) in table {
-        let mut cut = Cut::new([0; 64]);
-        cut.set(process(0)?, sender);
-        cut.set(process(1)?, receiver);
-        assert_eq!(rt; cut.length(process(1)?), receiver);
-        assert_eq!(rt;
-            histories.first_orphan(&cut),
-            MsgNo::new(orphan),
-            "{sender}, {receiver}"
-        );
+fn many_cuts_of_a_large_log_are_tested(rt: HostRuntime) -> Result<(), Fail> {
+    let log = messages_round_a_ring(rt.alloc())?;
+    legal(rt.alloc(), &log)?;
+    let found = Histories::of(rt.alloc(), &log, log.rows().len())?;
+    assert_eq!(rt; found.first_orphan(&Cut::new([DEEDS; 64])), None);
+    for number in 1..64_u32 {
+        for step in 0..4096_u32 {
+            // Each process but the first receives and sends in turn.
+            let sent = 2 * step;
+            let mut cut = Cut::new([DEEDS; 64]);
+            cut.set(process(number as usize)?, 2 * sent as usize);
+            let orphan = message(2 * (number + 64 * sent) + 1)?;
+            assert_eq!(rt; found.first_orphan(&cut), Some(orphan), "{number}, {sent}");
+        }
     }
     Ok(())
 }

@@ -1,0 +1,172 @@
+//! Runs over sums of which one has a trouble, and over objects that a plan does not ask for.
+
+use crate::texts::{Host, plan_in};
+use crate::troubled::{Trouble, Troubled};
+use anyhow::Result;
+use kt_base::Memory;
+use kt_held::Cast;
+use kt_object::{Last, Object, RestoreFault, SaveFault, SlotBook, Sum};
+use kt_plan::Plan;
+use kt_program::{AppFault, cast_of, live_plan, play_plan};
+use std::io::Write;
+use std::{fs, io};
+
+// A trouble, by its three words: `save` or `restore`, at which such call, and what that answers.
+fn trouble_of(call: &str, at: &str, answer: &str) -> Option<Trouble> {
+    let at = at.parse::<u64>().ok()?;
+    match (call, answer) {
+        ("save", "unable") => Some(Trouble::Save(at, SaveFault::Unable)),
+        ("save", "memory") => Some(Trouble::Save(at, SaveFault::Memory)),
+        ("restore", "form") => Some(Trouble::Restore(at, RestoreFault::Form)),
+        ("restore", "memory") => Some(Trouble::Restore(at, RestoreFault::Memory)),
+        _ => None,
+    }
+}
+
+// Makes the objects that a plan asks for, all of them sums, of which one has a trouble.
+fn cast_with<R: Host>(
+    rt: &R,
+    plan: &Plan,
+    book: &mut SlotBook,
+    object: u64,
+    trouble: Option<Trouble>,
+) -> Result<Cast, Memory> {
+    let mut made: u64 = 0;
+    cast_of(rt.alloc(), plan, |_kind: u8| -> Result<Object, Memory> {
+        made = made.saturating_add(1);
+        let trouble = if made == object { trouble } else { None };
+        let sum = Sum::new(book.open()?);
+        Ok(Box::new(rt.alloc(), Troubled::new(sum, trouble))?)
+    })
+}
+
+// Shows how a run ended, and its log.
+fn show_end<R: Host>(rt: &R, ended: Result<(), AppFault>, log: &[u8]) -> Result<()> {
+    match ended {
+        Ok(()) => {
+            println!(rt; "done")?;
+            io::writer(rt).write_all(log)?;
+        }
+        Err(fault) => println!(rt; "{fault}")?,
+    }
+    Ok(())
+}
+
+// Shows how many slots were opened, and how many come free now.
+fn show_slots<R: Host>(rt: &R, book: &mut SlotBook) -> Result<()> {
+    let opened = book.out();
+    let freed = book.collect();
+    println!(rt; "of {opened} slots {freed} freed")?;
+    Ok(())
+}
+
+// Plays a scenario over such objects.
+fn show_play<R: Host>(rt: &R, plan: &Plan, object: u64, trouble: Option<Trouble>) -> Result<()> {
+    let mut book = SlotBook::new(rt.alloc());
+    let cast = cast_with(rt, plan, &mut book, object, trouble)?;
+    let mut log = Vec::new(rt.alloc());
+    let mut cert = Vec::new(rt.alloc());
+    let mut report = Vec::new(rt.alloc());
+    let ended = play_plan(
+        rt.alloc(),
+        plan,
+        &[],
+        cast,
+        &mut log,
+        &mut cert,
+        &mut report,
+    );
+    show_end(rt, ended, log.as_slice())?;
+    show_slots(rt, &mut book)
+}
+
+// Runs a scenario in threads over such objects.
+fn show_live<R: Host>(rt: &R, plan: &Plan, object: u64, trouble: Option<Trouble>) -> Result<()> {
+    let mut book = SlotBook::new(rt.alloc());
+    let cast = cast_with(rt, plan, &mut book, object, trouble)?;
+    let mut log = Vec::new(rt.alloc());
+    let mut cert = Vec::new(rt.alloc());
+    let mut report = Vec::new(rt.alloc());
+    let ended = live_plan(rt, rt.alloc(), plan, cast, &mut log, &mut cert, &mut report);
+    show_end(rt, ended, log.as_slice())?;
+    show_slots(rt, &mut book)
+}
+
+// Shows a scenario played and in threads.
+fn show_both<R: Host>(rt: &R, scenario: &str, object: u64, trouble: Option<Trouble>) -> Result<()> {
+    let plan = plan_in(rt, scenario)?;
+    println!(rt; "play")?;
+    show_play(rt, &plan, object, trouble)?;
+    println!(rt; "live")?;
+    show_live(rt, &plan, object, trouble)
+}
+
+// Shows a run over the objects of another plan.
+fn show_others<R: Host>(rt: &R, scenario: &str, other: &str) -> Result<()> {
+    let plan = plan_in(rt, scenario)?;
+    let other_plan = plan_in(rt, other)?;
+    println!(rt; "{scenario} over the objects of {other}")?;
+    let mut book = SlotBook::new(rt.alloc());
+    let cast = cast_with(rt, &other_plan, &mut book, 0, None)?;
+    let mut log = Vec::new(rt.alloc());
+    let mut cert = Vec::new(rt.alloc());
+    let mut report = Vec::new(rt.alloc());
+    let ended = live_plan(
+        rt,
+        rt.alloc(),
+        &plan,
+        cast,
+        &mut log,
+        &mut cert,
+        &mut report,
+    );
+    show_end(rt, ended, log.as_slice())?;
+    show_slots(rt, &mut book)
+}
+
+// Shows a run over last numbers in the place of sums.
+fn show_other_kinds<R: Host>(rt: &R, scenario: &str) -> Result<()> {
+    let plan = plan_in(rt, scenario)?;
+    println!(rt; "{scenario} over last numbers")?;
+    let mut book = SlotBook::new(rt.alloc());
+    let cast = cast_of(rt.alloc(), &plan, |_kind: u8| -> Result<Object, Memory> {
+        Ok(Box::new(rt.alloc(), Last::new(book.open()?))?)
+    })?;
+    let mut log = Vec::new(rt.alloc());
+    let mut cert = Vec::new(rt.alloc());
+    let mut report = Vec::new(rt.alloc());
+    let ended = play_plan(
+        rt.alloc(),
+        &plan,
+        &[],
+        cast,
+        &mut log,
+        &mut cert,
+        &mut report,
+    );
+    show_end(rt, ended, log.as_slice())?;
+    show_slots(rt, &mut book)
+}
+
+// Shows the runs of a line: a scenario, the number of the object that has a trouble, counted from 1 in the order of the
+// processes, each with its spares behind it, and the trouble.
+fn show_case<R: Host>(rt: &R, line: &str) -> Result<()> {
+    let mut words = line.split(' ');
+    let scenario = words.next().unwrap_or("");
+    let object = words.next().unwrap_or("").parse::<u64>().unwrap_or(0);
+    let call = words.next().unwrap_or("");
+    let at = words.next().unwrap_or("");
+    let answer = words.next().unwrap_or("");
+    println!(rt; "{line}")?;
+    show_both(rt, scenario, object, trouble_of(call, at, answer))
+}
+
+/// Shows runs over objects of which one has a trouble, for each line of a file, and over others than the plan asks for.
+pub(crate) fn show_faults<R: Host>(rt: &R) -> Result<()> {
+    let cases = fs::read_to_string(rt, "cases")?;
+    for line in cases.lines() {
+        show_case(rt, line)?;
+    }
+    show_others(rt, "failure", "checkpoint")?;
+    show_other_kinds(rt, "checkpoint")
+}

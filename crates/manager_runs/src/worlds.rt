@@ -1,0 +1,149 @@
+//! Worlds at their limits, and how many parcels instances put.
+
+use crate::texts::{Host, plan_in};
+use anyhow::Result;
+use kt_base::{InstNo, Label, ProcNo, RowNo};
+use kt_core::{StepFault, World};
+use kt_plan::{Give, Plan, Step};
+use kt_scenario::parse;
+use kt_spacetime::Event;
+use std::alloc::Global;
+
+// How many rows a log has at most.
+const LIMIT: u32 = 1_048_576;
+
+// How many default steps are made at most.
+const MOST: u32 = 100_000_000;
+
+const GIVE: Give = Give {
+    able: true,
+    body: 0,
+};
+
+// Makes default steps until there is none, or one is refused.
+fn step_on(world: &mut World) -> Result<(), StepFault> {
+    for _ in 0..MOST {
+        let Some(step) = world.default_step() else {
+            return Ok(());
+        };
+        match world.step(step, GIVE) {
+            Ok(_) => {}
+            Err(fault) => return Err(fault),
+        }
+    }
+    Ok(())
+}
+
+// How many instances a log has that were aborted.
+fn aborts(world: &World) -> u32 {
+    let mut count: u32 = 0;
+    for row in world.log().rows() {
+        if matches!(row, Event::Decided { commit: false, .. }) {
+            count = count.saturating_add(1);
+        }
+    }
+    count
+}
+
+// Shows how a world ends by default steps.
+fn show_end<R: Host>(rt: &R, mut world: World) -> Result<()> {
+    match step_on(&mut world) {
+        Ok(()) => println!(rt; "at rest: {}", world.at_rest())?,
+        Err(fault) => println!(rt; "{fault}")?,
+    }
+    let rows = world.log().rows().len();
+    let aborts = aborts(&world);
+    println!(rt; "{rows} rows, {aborts} aborts")?;
+    Ok(())
+}
+
+// A scenario of 64 processes whose instances all abort: half of the processes send to all of the other half, and fail;
+// then the process to which the rest of that half has sent begins one instance after another.
+fn scenario_of_aborts(alloc: Global) -> Result<String> {
+    let mut text = String::new(alloc);
+    for p in 0..64u32 {
+        text.push_str(format!(in alloc; "object p{p} sum\n")?.as_str())?;
+    }
+    for p in 1..32u32 {
+        text.push_str(format!(in alloc; "send p{p} p0 1\n")?.as_str())?;
+    }
+    for pair in 0..1024u32 {
+        let (p, q) = (32 + pair / 32, pair % 32);
+        text.push_str(format!(in alloc; "send p{p} p{q} 1\n")?.as_str())?;
+    }
+    for p in 32..64u32 {
+        text.push_str(format!(in alloc; "fail p{p}\n")?.as_str())?;
+    }
+    for _ in 0..961u32 {
+        text.push_str("checkpoint p0\n")?;
+    }
+    Ok(text)
+}
+
+// The plan of that scenario.
+fn plan_of_aborts(alloc: Global) -> Result<Plan> {
+    let text = scenario_of_aborts(alloc)?;
+    Ok(parse(alloc, text.as_bytes())?)
+}
+
+// Shows a log that is full, and one that is not.
+fn show_full_log<R: Host>(rt: &R) -> Result<()> {
+    let alloc = rt.alloc();
+    println!(rt; "aborts in a log of {LIMIT} rows at most")?;
+    if let Some(limit) = RowNo::new(LIMIT) {
+        show_end(rt, World::with_rows(alloc, plan_of_aborts(alloc)?, limit)?)?;
+    }
+    println!(rt; "aborts")?;
+    show_end(rt, World::new(alloc, plan_of_aborts(alloc)?)?)
+}
+
+// Shows a send by a process that has no label left.
+fn show_spent_labels<R: Host>(rt: &R) -> Result<()> {
+    println!(rt; "a send with no label left")?;
+    if let Some(last) = Label::new(281_474_976_710_655) {
+        let plan = plan_in(rt, "checkpoint")?;
+        show_end(rt, World::with_labels(rt.alloc(), plan, last)?)?;
+    }
+    println!(rt; "a send with one label left")?;
+    if let Some(label) = Label::new(281_474_976_710_654) {
+        let plan = plan_in(rt, "checkpoint")?;
+        show_end(rt, World::with_labels(rt.alloc(), plan, label)?)?;
+    }
+    Ok(())
+}
+
+// Shows a step that is not enabled.
+fn show_idle_step<R: Host>(rt: &R) -> Result<()> {
+    let mut world = World::new(rt.alloc(), plan_in(rt, "checkpoint")?)?;
+    let (at, from) = (ProcNo::nth(1), ProcNo::nth(0));
+    println!(rt; "a take of nothing")?;
+    match world.step(Step::Take { at, from }, GIVE) {
+        Ok(_) => println!(rt; "done")?,
+        Err(fault) => println!(rt; "{fault}")?,
+    }
+    println!(rt; "{} rows", world.log().rows().len())?;
+    Ok(())
+}
+
+// Shows how many parcels the first instance of a scenario puts.
+fn show_tally<R: Host>(rt: &R, scenario: &str) -> Result<()> {
+    let mut world = World::new(rt.alloc(), plan_in(rt, scenario)?)?;
+    step_on(&mut world)?;
+    if let Some(inst) = InstNo::new(1) {
+        let tally = world.tally(inst);
+        println!(rt;
+            "{scenario}: {} asks, {} replies, {} decisions",
+            tally.asks, tally.replies, tally.decisions
+        )?;
+    }
+    Ok(())
+}
+
+/// Shows worlds whose log is full, whose labels are spent, a step that is not enabled, and how many parcels instances put.
+pub(crate) fn show_worlds<R: Host>(rt: &R) -> Result<()> {
+    show_idle_step(rt)?;
+    show_spent_labels(rt)?;
+    show_tally(rt, "all_to_all")?;
+    show_tally(rt, "ring")?;
+    show_full_log(rt)
+}

@@ -1,0 +1,183 @@
+//! Answers to the questions of scripts.
+
+use crate::cuts::{permanent, present, present_but};
+use crate::readers::{are_same, histories_of};
+use crate::rounds::show_rounds;
+use crate::run::Run;
+use crate::words::Words;
+use anyhow::{Context, Result, bail};
+use kt_base::{MsgNo, ProcNo, ProcSet};
+use kt_cuts::{Cut, Trace};
+use kt_walk::Walk;
+
+/// Shows a message, or that there is none.
+pub(crate) fn show_message<R: Print>(rt: &R, msg: Option<MsgNo>) -> Result<()> {
+    match msg {
+        Some(msg) => print!(rt; "{msg}")?,
+        None => print!(rt; "none")?,
+    }
+    Ok(())
+}
+
+fn show_number<R: Print>(rt: &R, number: usize) -> Result<()> {
+    print!(rt; "{number}")?;
+    Ok(())
+}
+
+fn show_trace<R: Print>(rt: &R, trace: Option<Trace>) -> Result<()> {
+    match trace {
+        Some(trace) => {
+            let (sent, received) = (trace.sent, trace.received);
+            print!(rt;
+                "{} to {}, sent {sent:?}, received {received:?}",
+                trace.from, trace.to
+            )?;
+        }
+        None => print!(rt; "none")?,
+    }
+    Ok(())
+}
+
+// Shows the trace of a message as the walk keeps it, and as the plain reader tells it.
+fn show_traces<R: Print + AllocGlobal>(rt: &R, run: &Run, msg: MsgNo) -> Result<()> {
+    let histories = histories_of(rt.alloc(), run)?;
+    print!(rt; "walk ")?;
+    show_trace(rt, run.walk.trace(msg))?;
+    print!(rt; "; plain reader ")?;
+    show_trace(rt, histories.trace(msg))
+}
+
+// Shows the orphan that the walk finds and the one that the plain reader finds.
+fn show_orphan<R: Print + AllocGlobal>(rt: &R, run: &Run, cut: &Cut) -> Result<()> {
+    let histories = histories_of(rt.alloc(), run)?;
+    print!(rt; "walk ")?;
+    show_message(rt, run.walk.orphan(cut))?;
+    print!(rt; ", plain reader ")?;
+    show_message(rt, histories.first_orphan(cut))
+}
+
+// Shows the orphan that the plain reader finds in a cut of processes 0 and 1.
+fn show_plain<R: Print + AllocGlobal>(rt: &R, run: &Run, words: &mut Words) -> Result<()> {
+    let mut cut = Cut::new([0; 64]);
+    for number in 0..2 {
+        let p = ProcNo::new(number).context("no process")?;
+        cut.set(p, words.number()? as usize);
+    }
+    let histories = histories_of(rt.alloc(), run)?;
+    show_message(rt, histories.first_orphan(&cut))
+}
+
+// Shows whether both readers tell the same.
+fn show_readers<R: Print + AllocGlobal>(rt: &R, run: &Run) -> Result<()> {
+    if are_same(rt.alloc(), run)? {
+        print!(rt; "same")?;
+    } else {
+        print!(rt; "not the same")?;
+    }
+    Ok(())
+}
+
+// The least and the greatest length of a history.
+fn lengths(walk: &Walk) -> (usize, usize) {
+    let mut least = usize::MAX;
+    let mut greatest = 0;
+    for number in 0..64 {
+        if let Some(p) = ProcNo::new(number) {
+            least = least.min(walk.length(p));
+            greatest = greatest.max(walk.length(p));
+        }
+    }
+    (least, greatest)
+}
+
+fn show_lengths<R: Print>(rt: &R, walk: &Walk) -> Result<()> {
+    let (least, greatest) = lengths(walk);
+    print!(rt; "{least} to {greatest}")?;
+    Ok(())
+}
+
+// Shows the orphans of the cuts that are the present one, but of a process no more than each even number of events.
+fn show_shorter<R: Print>(rt: &R, walk: &Walk, p: ProcNo) -> Result<()> {
+    for half in 0..walk.length(p) / 2 {
+        print!(rt; " ")?;
+        show_message(
+            rt,
+            walk.orphan(&present_but(walk, p, half.saturating_mul(2))),
+        )?;
+    }
+    Ok(())
+}
+
+// Shows these orphans for each process, in a line each.
+fn show_all_shorter<R: Print>(rt: &R, walk: &Walk) -> Result<()> {
+    print!(rt; "orphans")?;
+    for number in 0..64 {
+        let p = ProcNo::new(number).context("no process")?;
+        print!(rt; "\n  {p}:")?;
+        show_shorter(rt, walk, p)?;
+    }
+    Ok(())
+}
+
+// Shows the orphan of the present cut among the processes that are named, as the walk finds it.
+fn show_among<R: Print>(rt: &R, walk: &Walk, words: &mut Words) -> Result<()> {
+    let mut members = ProcSet::empty();
+    for _ in 0..words.number()? {
+        members = members.with(words.process()?);
+    }
+    show_message(rt, walk.orphan_among(members, &present(walk)))
+}
+
+fn show_of_process<R: Print>(rt: &R, walk: &Walk, word: &str, p: ProcNo) -> Result<()> {
+    match word {
+        "length" => show_number(rt, walk.length(p)),
+        "permanent" => show_number(rt, walk.permanent(p)),
+        _ => bail!("no question"),
+    }
+}
+
+fn show_of_cut<R: Print + AllocGlobal>(rt: &R, run: &Run, words: &mut Words) -> Result<()> {
+    match words.word() {
+        "present" => show_orphan(rt, run, &present(&run.walk)),
+        "permanent" => show_orphan(rt, run, &permanent(&run.walk)),
+        _ => {
+            let (p, length) = (words.process()?, words.number()?);
+            show_orphan(rt, run, &present_but(&run.walk, p, length as usize))
+        }
+    }
+}
+
+// Shows the answer to a question about what was fed.
+fn show_one<R: Print + AllocGlobal>(
+    rt: &R,
+    run: &Run,
+    word: &str,
+    words: &mut Words,
+) -> Result<()> {
+    match word {
+        "rows" => show_number(rt, run.walk.rows()),
+        "held" => show_number(rt, run.walk.held()),
+        "lengths" => show_lengths(rt, &run.walk),
+        "trace" => show_traces(rt, run, words.message()?),
+        "readers" => show_readers(rt, run),
+        "shorter" => show_all_shorter(rt, &run.walk),
+        "among" => show_among(rt, &run.walk, words),
+        "plain" => show_plain(rt, run, words),
+        "orphan" => show_of_cut(rt, run, words),
+        _ => show_of_process(rt, &run.walk, word, words.process()?),
+    }
+}
+
+/// Shows the answer to a question, in a line.
+pub(crate) fn show_answer<R: Print + AllocGlobal>(
+    rt: &R,
+    run: &mut Run,
+    words: &mut Words,
+) -> Result<()> {
+    match words.word() {
+        "rounds" => show_rounds(rt, run, words)?,
+        word => show_one(rt, run, word, words)?,
+    }
+    println!(rt; "")?;
+    Ok(())
+}

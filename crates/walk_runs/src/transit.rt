@@ -1,0 +1,108 @@
+//! Messages in transit, as stored lists of calls put them in and take them out.
+
+use crate::words::Words;
+use anyhow::{Context, Result, bail, ensure};
+use kt_base::MsgNo;
+use kt_transit::{InTransit, Sent};
+
+// A message of this number, sent at the place that is half of it.
+fn message_of(number: u32) -> Result<Sent> {
+    let msg = MsgNo::new(number).context("no message")?;
+    let place = number / 2;
+    Ok(Sent { msg, place })
+}
+
+fn send(in_transit: &mut InTransit, number: u32) -> Result<()> {
+    in_transit.reserve(1)?;
+    in_transit.push(message_of(number)?);
+    Ok(())
+}
+
+fn put_back(in_transit: &mut InTransit, number: u32) -> Result<()> {
+    in_transit.reserve(1)?;
+    in_transit.put_back(message_of(number)?);
+    Ok(())
+}
+
+fn receive(in_transit: &mut InTransit, number: u32) -> Result<()> {
+    let sent = message_of(number)?;
+    let index = in_transit.find(sent.msg).context("not in transit")?;
+    in_transit.take(index)?;
+    Ok(())
+}
+
+// Makes a call with a number.
+fn make_call(in_transit: &mut InTransit, word: &str, number: u32) -> Result<()> {
+    match word {
+        "send" => send(in_transit, number)?,
+        "receive" => receive(in_transit, number)?,
+        "put-back" => put_back(in_transit, number)?,
+        "pass" => {
+            send(in_transit, number)?;
+            receive(in_transit, number)?;
+        }
+        "truncate" => in_transit.truncate(number as usize),
+        "shrink" => in_transit.shrink(number as usize),
+        _ => bail!("no call"),
+    }
+    Ok(())
+}
+
+// Makes a call with each number from one to another, the last one first where that is less.
+fn make_calls(in_transit: &mut InTransit, words: &mut Words) -> Result<()> {
+    let word = words.word();
+    let (from, to) = (words.number()?, words.number()?);
+    for step in 0..from.abs_diff(to).saturating_add(1) {
+        let number = if from <= to {
+            from.saturating_add(step)
+        } else {
+            from.saturating_sub(step)
+        };
+        make_call(in_transit, word, number)?;
+    }
+    Ok(())
+}
+
+// Shows each message in transit, in order, with its place, and whether it is found where it stands.
+fn show_messages<R: Print>(rt: &R, in_transit: &InTransit) -> Result<()> {
+    let count = in_transit.len();
+    print!(rt; "{count} in transit")?;
+    for index in 0..count {
+        let sent = in_transit.get(index).context("too few")?;
+        ensure!(in_transit.find(sent.msg) == Some(index), "found elsewhere");
+        print!(rt; ", {} at {}", sent.msg, sent.place)?;
+    }
+    ensure!(in_transit.get(count).is_none(), "too many");
+    println!(rt; "")?;
+    Ok(())
+}
+
+// Shows what a line asks, or makes its calls.
+fn show_call<R: Print>(rt: &R, in_transit: &mut InTransit, line: &str) -> Result<()> {
+    if line == "?" {
+        return show_messages(rt, in_transit);
+    }
+    match line.strip_prefix("? ") {
+        Some("count") => {
+            println!(rt; "{} in transit", in_transit.len())?;
+            Ok(())
+        }
+        Some(number) => {
+            let sent = message_of(number.parse::<u32>()?)?;
+            println!(rt; "{number} is found at {:?}", in_transit.find(sent.msg))?;
+            Ok(())
+        }
+        None => make_calls(in_transit, &mut Words::new(line)),
+    }
+}
+
+/// Shows what a list of calls makes of messages in transit.
+pub(crate) fn show_list<R: Print + AllocGlobal>(rt: &R, list: &str) -> Result<()> {
+    let (title, lines) = list.split_once('\n').context("no title")?;
+    println!(rt; "{title}")?;
+    let mut in_transit = InTransit::new(rt.alloc());
+    for line in lines.lines() {
+        show_call(rt, &mut in_transit, line)?;
+    }
+    Ok(())
+}
