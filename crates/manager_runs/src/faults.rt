@@ -4,12 +4,18 @@ use crate::texts::{Host, plan_in};
 use crate::troubled::{Trouble, Troubled};
 use anyhow::Result;
 use kt_base::Memory;
-use kt_held::Cast;
 use kt_object::{Last, Object, RestoreFault, SaveFault, SlotBook, Sum};
 use kt_plan::Plan;
 use kt_program::{AppFault, cast_of, live_plan, play_plan};
 use std::io::Write;
 use std::{fs, io};
+
+// One after another, or each process in a thread.
+#[derive(Clone, Copy)]
+enum Way {
+    Play,
+    Live,
+}
 
 // A trouble, by its three words: `save` or `restore`, at which such call, and what that answers.
 fn trouble_of(call: &str, at: &str, answer: &str) -> Option<Trouble> {
@@ -21,23 +27,6 @@ fn trouble_of(call: &str, at: &str, answer: &str) -> Option<Trouble> {
         ("restore", "memory") => Some(Trouble::Restore(at, RestoreFault::Memory)),
         _ => None,
     }
-}
-
-// Makes the objects that a plan asks for, all of them sums, of which one has a trouble.
-fn cast_with<R: Host>(
-    rt: &R,
-    plan: &Plan,
-    book: &mut SlotBook,
-    object: u64,
-    trouble: Option<Trouble>,
-) -> Result<Cast, Memory> {
-    let mut made: u64 = 0;
-    cast_of(rt.alloc(), plan, |_kind: u8| -> Result<Object, Memory> {
-        made = made.saturating_add(1);
-        let trouble = if made == object { trouble } else { None };
-        let sum = Sum::new(book.open()?);
-        Ok(Box::new(rt.alloc(), Troubled::new(sum, trouble))?)
-    })
 }
 
 // Shows how a run ended, and its log.
@@ -60,34 +49,32 @@ fn show_slots<R: Host>(rt: &R, book: &mut SlotBook) -> Result<()> {
     Ok(())
 }
 
-// Plays a scenario over such objects.
-fn show_play<R: Host>(rt: &R, plan: &Plan, object: u64, trouble: Option<Trouble>) -> Result<()> {
-    let mut book = SlotBook::new(rt.alloc());
-    let cast = cast_with(rt, plan, &mut book, object, trouble)?;
-    let mut log = Vec::new(rt.alloc());
-    let mut cert = Vec::new(rt.alloc());
-    let mut report = Vec::new(rt.alloc());
-    let ended = play_plan(
-        rt.alloc(),
-        plan,
-        &[],
-        cast,
-        &mut log,
-        &mut cert,
-        &mut report,
-    );
-    show_end(rt, ended, log.as_slice())?;
-    show_slots(rt, &mut book)
-}
-
-// Runs a scenario in threads over such objects.
-fn show_live<R: Host>(rt: &R, plan: &Plan, object: u64, trouble: Option<Trouble>) -> Result<()> {
-    let mut book = SlotBook::new(rt.alloc());
-    let cast = cast_with(rt, plan, &mut book, object, trouble)?;
-    let mut log = Vec::new(rt.alloc());
-    let mut cert = Vec::new(rt.alloc());
-    let mut report = Vec::new(rt.alloc());
-    let ended = live_plan(rt, rt.alloc(), plan, cast, &mut log, &mut cert, &mut report);
+// Runs a plan in one way over the objects that some plan asks for, all of them sums, of which one has a trouble. Shows how
+// that ends.
+fn show_run<R: Host>(
+    rt: &R,
+    way: Way,
+    plan: &Plan,
+    asked: &Plan,
+    object: u64,
+    trouble: Option<Trouble>,
+) -> Result<()> {
+    let alloc = rt.alloc();
+    let mut book = SlotBook::new(alloc);
+    let mut made: u64 = 0;
+    let cast = cast_of(alloc, asked, |_kind: u8| -> Result<Object, Memory> {
+        made = made.saturating_add(1);
+        let trouble = if made == object { trouble } else { None };
+        let sum = Sum::new(book.open()?);
+        Ok(Box::new(alloc, Troubled::new(sum, trouble))?)
+    })?;
+    let mut log = Vec::new(alloc);
+    let mut cert = Vec::new(alloc);
+    let mut report = Vec::new(alloc);
+    let ended = match way {
+        Way::Play => play_plan(alloc, plan, &[], cast, &mut log, &mut cert, &mut report),
+        Way::Live => live_plan(rt, alloc, plan, cast, &mut log, &mut cert, &mut report),
+    };
     show_end(rt, ended, log.as_slice())?;
     show_slots(rt, &mut book)
 }
@@ -96,9 +83,9 @@ fn show_live<R: Host>(rt: &R, plan: &Plan, object: u64, trouble: Option<Trouble>
 fn show_both<R: Host>(rt: &R, scenario: &str, object: u64, trouble: Option<Trouble>) -> Result<()> {
     let plan = plan_in(rt, scenario)?;
     println!(rt; "play")?;
-    show_play(rt, &plan, object, trouble)?;
+    show_run(rt, Way::Play, &plan, &plan, object, trouble)?;
     println!(rt; "live")?;
-    show_live(rt, &plan, object, trouble)
+    show_run(rt, Way::Live, &plan, &plan, object, trouble)
 }
 
 // Shows a run over the objects of another plan.
@@ -106,22 +93,7 @@ fn show_others<R: Host>(rt: &R, scenario: &str, other: &str) -> Result<()> {
     let plan = plan_in(rt, scenario)?;
     let other_plan = plan_in(rt, other)?;
     println!(rt; "{scenario} over the objects of {other}")?;
-    let mut book = SlotBook::new(rt.alloc());
-    let cast = cast_with(rt, &other_plan, &mut book, 0, None)?;
-    let mut log = Vec::new(rt.alloc());
-    let mut cert = Vec::new(rt.alloc());
-    let mut report = Vec::new(rt.alloc());
-    let ended = live_plan(
-        rt,
-        rt.alloc(),
-        &plan,
-        cast,
-        &mut log,
-        &mut cert,
-        &mut report,
-    );
-    show_end(rt, ended, log.as_slice())?;
-    show_slots(rt, &mut book)
+    show_run(rt, Way::Live, &plan, &other_plan, 0, None)
 }
 
 // Shows a run over last numbers in the place of sums.
