@@ -9,3 +9,4 @@ pub mod Messages
 pub mod Replying
 pub mod Commands
 pub mod Taking
+pub mod Acting

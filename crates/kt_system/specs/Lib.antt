@@ -2,3 +2,4 @@ pub mod Reads
 pub mod Systems
 pub mod Takes
 pub mod Shown
+pub mod ShownActs

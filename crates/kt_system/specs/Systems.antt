@@ -11,7 +11,7 @@ use Rattle.kt_parts.specs.declared.actions.Action.TheVariants.{Join, Reply, Sett
 use Rattle.kt_parts.specs.declared.actions.Then.{Then}
 use Rattle.kt_parts.specs.declared.actions.Then.TheVariants.{Answer, Commit}
 use Rattle.kt_parts.specs.Rules.{after_reply}
-use Rattle.kt_process.specs.Persons.{Person, part_of, is_ready, asked_of}
+use Rattle.kt_process.specs.Persons.{Person, part_of, is_ready, asked_of, IsNumbered}
 use Rattle.kt_process.specs.Turns.{IsBegin, IsHeard, reply_of}
 use Rattle.std.specs.Option.{option_map}
 use Rattle.kt_base.specs.Sets.{has}
@@ -51,7 +51,7 @@ room_to w p q = spare_of w.wires p q
 pub record HasBack (w : Whole) (p : ℕ) : Type 0 where
   pub back : (q : ℕ) → q < w.size → length (channel w.kept q p) ≤ spare_of w.held q p
 
--- its lists and tables are of all processes
+-- its lists and tables are of all processes, and the instances that these are in have numbers from 1 on
 pub record IsSound (w : Whole) : Type 0 where
   pub few : w.size ≤ 64
   pub people : length w.people ≡ w.size
@@ -60,6 +60,7 @@ pub record IsSound (w : Whole) : Type 0 where
   pub kept : w.kept.processes ≡ w.size
   pub begun : w.begun ≤ 4096
   pub tables : All (λ (x : Person). x.tables.processes ≡ w.size) w.people
+  pub numbered : All (λ (x : Person). IsNumbered (part_of x.side)) w.people
 
 -- who has joined may send these asks and go on so
 pub record CanJoin (w : Whole) (p : ℕ) (asks : List (ℕ × ℕ)) (goes : Then) : Type 0 where

@@ -29,3 +29,4 @@ pub mod ThingsAlong
 pub mod FourRows
 pub mod MarksAlong
 pub mod MarksOfRuns
+pub mod SeenActs

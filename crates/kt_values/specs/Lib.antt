@@ -2,6 +2,7 @@ pub use Rattle.kt_cuts.specs.Past
 pub mod Done
 pub mod Values
 pub mod Acts
+pub mod SeenActs
 pub mod States
 pub mod Offers
 pub mod Things

@@ -12,9 +12,11 @@ ghost use Rattle.kt_closing.specs.LateClosing.{is_newer};
 ghost use Rattle.kt_closing.specs.LateSteps.{late_step, late_run};
 ghost use Rattle.kt_closing.specs.KeptInOrder.{is_in_checkpoint};
 ghost use Rattle.kt_closing.specs.OwnHistories.{own_histories};
+ghost use Rattle.kt_seen.specs.Seen.{seen};
 ghost use Rattle.kt_values.specs.Done.{done};
 ghost use Rattle.kt_values.specs.Values.{Rules, due, first_due, does_all, can_all, spares, acts_along, closing, Apply, Keep, Promote, Discard, Restore, Drop};
 ghost use Rattle.kt_values.specs.Acts.{acts, acts_by, acts_through, stepper, failures};
+ghost use Rattle.kt_values.specs.SeenActs.{seen_acts};
 ghost use Rattle.kt_values.specs.States.{due_in, IsSent, live_in, permanent_in, line_of, StandsOnce, KeepsReceived, IsRising};
 ghost use Rattle.kt_values.specs.Marks.{marks};
 ghost use Rattle.kt_values.specs.Offers.{SendsOffers, HasOffers};
@@ -70,6 +72,13 @@ pub fn values_of_runs<V>()
         length (late_run (opening n) steps).log ≤ i →
         is_committed (past (late_step (late_run (opening n) steps) x).log) k ≡ false →
         (due r (done (late_step (late_run (opening n) steps) x).log) u).permanent ≡ (due r (done (late_run (opening n) steps).log) u).permanent }
+{}
+
+/// After every list of steps: the acts of a step by what code keeps of the state, whichever label counters begin after, are
+/// its acts.
+pub fn acts_as_seen()
+    ensures { (n first : ℕ) (steps : List Step) (x : Step) →
+        acts (late_run (opening n) steps) x ≡ seen_acts (seen first (late_run (opening n) steps)) x }
 {}
 
 /// What a process itself has done, and the acts of steps.

@@ -4,7 +4,7 @@ ghost use Rattle.std.specs.Prelude.{◌≡◌, ◌<◌, ◌≤◌, ◌+◌, ◌^
 ghost use Rattle.kt_base.specs.Sets.{has};
 ghost use Rattle.kt_process.specs.Turns.{peers_of};
 ghost use Rattle.kt_system.specs.Systems.{person, room_to, CanCarryOut, KeepsParcels, IsSame, Grows};
-ghost use Rattle.std.specs.Prelude.{Bool, false, Some, drop, OnOk};
+ghost use Rattle.std.specs.Prelude.{[], Bool, false, Some, drop, OnOk};
 ghost use Rattle.kt_fifo.specs.Channels.{channel};
 ghost use Rattle.kt_lists.specs.Kept.{kept_of};
 ghost use Rattle.kt_protocol.specs.States.{Begin as BeginStep};
@@ -12,7 +12,10 @@ ghost use Rattle.kt_process.specs.Shown.{mark_of};
 ghost use Rattle.kt_seen.specs.Seen.{Seen};
 ghost use Rattle.kt_seen.specs.Transition.{transition, seen_ask};
 ghost use Rattle.kt_cuts.specs.Past.{is_rollback_kind};
+ghost use Rattle.kt_process.specs.Persons.{is_ready};
+ghost use Rattle.kt_values.specs.SeenActs.{seen_acts, seen_acts_asked};
 ghost use Rattle.kt_system.specs.Shown.{Shows, JoinsAs, with_instance, begun_as, answered_as, with_cause, begin_verb};
+ghost use Rattle.kt_system.specs.ShownActs.{acts_shown, acts_carried_out};
 
 use super::System;
 use super::messages::NO_ACTS;
@@ -45,7 +48,9 @@ impl System {
         ensures err { OnErr result (IsSame self.new self.old) }
         ensures grows { Grows 4 self.old self.new }
         ensures shows { (v : Seen) → Shows self.old v → self.old.begun < 4096 → OnOk result (Shows self.new (transition v (BeginStep p false able))) }
+        ensures acts { (v : Seen) → Shows self.old v → self.old.begun < 4096 → IfOk result (λ acts. acts_shown acts ≡ seen_acts v (BeginStep p false able)) }
         ensures spent { 4096 ≤ self.old.begun → IsSame self.new self.old }
+        ensures spent_acts { 4096 ≤ self.old.begun → IfOk result (λ acts. acts_shown acts ≡ []) }
     {
         let Some(inst) = self.next_inst() else {
             return Ok(NO_ACTS);
@@ -65,7 +70,9 @@ impl System {
         ensures err { OnErr result (IsSame self.new self.old) }
         ensures grows { Grows 4 self.old self.new }
         ensures shows { (v : Seen) (able : Bool) → Shows self.old v → self.old.begun < 4096 → OnOk result (Shows self.new (transition v (BeginStep p true able))) }
+        ensures acts { (v : Seen) (able : Bool) → Shows self.old v → self.old.begun < 4096 → IfOk result (λ acts. acts_shown acts ≡ seen_acts v (BeginStep p true able)) }
         ensures spent { 4096 ≤ self.old.begun → IsSame self.new self.old }
+        ensures spent_acts { 4096 ≤ self.old.begun → IfOk result (λ acts. acts_shown acts ≡ []) }
     {
         let Some(inst) = self.next_inst() else {
             return Ok(NO_ACTS);
@@ -121,6 +128,7 @@ impl System {
         ensures size { self.new.size ≡ self.old.size }
         ensures grows { Grows 4 self.old self.new }
         ensures shows { (v : Seen) (test : ℕ → Bool) (label : ℕ → ℕ) → Shows self.old v → JoinsAs self.old v p test label action → Shows self.new (begun_as v p inst kind test label action) }
+        ensures acts { acts_shown result ≡ acts_carried_out kind (is_ready (person self.old p).side) action }
     {
         match action {
             Action::Refuse(cause) => {
@@ -166,6 +174,7 @@ impl System {
         ensures err { OnErr result (IsSame self.new self.old) }
         ensures grows { Grows 4 self.old self.new }
         ensures shows { (v : Seen) → Shows self.old v → OnOk result (Shows self.new (seen_ask v at from able inst false label (drop 1 (v.channel from at)))) }
+        ensures acts { (v : Seen) → Shows self.old v → IfOk result (λ acts. acts_shown acts ≡ seen_acts_asked v at from able inst false label) }
     {
         let joins = self.process(at).joins_checkpoint(able, from, label);
         let targets = self.targets(at, from, Kind::Checkpoint, joins);
@@ -191,6 +200,7 @@ impl System {
         ensures err { OnErr result (IsSame self.new self.old) }
         ensures grows { Grows 4 self.old self.new }
         ensures shows { (v : Seen) (able : Bool) → Shows self.old v → OnOk result (Shows self.new (seen_ask v at from able inst true label (drop 1 (v.channel from at)))) }
+        ensures acts { (v : Seen) (able : Bool) → Shows self.old v → IfOk result (λ acts. acts_shown acts ≡ seen_acts_asked v at from able inst true label) }
     {
         let joins = self.process(at).joins_rollback(from, label);
         let targets = self.targets(at, from, Kind::Rollback, joins);
@@ -218,6 +228,7 @@ impl System {
         ensures size { self.new.size ≡ self.old.size }
         ensures grows { Grows 4 self.old self.new }
         ensures shows { (v : Seen) (test : ℕ → Bool) (label : ℕ → ℕ) → Shows self.old v → JoinsAs self.old v at test label action → Shows self.new (answered_as v at from inst kind test label action) }
+        ensures acts { acts_shown result ≡ acts_carried_out kind (is_ready (person self.old at).side) action }
     {
         match action {
             Action::Reply {
@@ -265,6 +276,7 @@ impl System {
         ensures err { OnErr result (IsSame self.new self.old) }
         ensures grows { Grows 4 self.old self.new }
         ensures shows { (v : Seen) → Shows self.old v → OnOk result (Shows self.new (seen_ask v at from able inst (is_rollback_kind (Some kind)) label (drop 1 (v.channel from at)))) }
+        ensures acts { (v : Seen) → Shows self.old v → IfOk result (λ acts. acts_shown acts ≡ seen_acts_asked v at from able inst (is_rollback_kind (Some kind)) label) }
     {
         match kind {
             Kind::Checkpoint => self.take_ask_to_save(alloc, at, from, inst, label, able),

@@ -4,14 +4,16 @@ ghost use Rattle.std.specs.Prelude.{◌≡◌, ◌<◌, ◌≤◌, ◌+◌, ◌^
 ghost use Rattle.kt_base.specs.Sets.{has};
 ghost use Rattle.kt_process.specs.Persons.{is_ready};
 ghost use Rattle.kt_system.specs.Systems.{person, room_to, HasBack, CanJoin, CanClose, KeepsRoom, UsesRoom, Grows};
-ghost use Rattle.std.specs.Prelude.{Bool};
+ghost use Rattle.std.specs.Prelude.{Bool, ◌++◌};
 ghost use Rattle.kt_fifo.specs.declared.parcels.Parcel.TheVariants as parcel;
 ghost use Rattle.kt_tables.specs.Peers.{IsCohort};
 ghost use Rattle.kt_seen.specs.Seen.{Seen};
 ghost use Rattle.kt_seen.specs.ListChanges.{with_parcel, with_decisions, with_asks_where};
 ghost use Rattle.kt_seen.specs.SeenClosing.{seen_deciding, seen_closing};
 ghost use Rattle.kt_process.specs.Shown.{goes_on};
+ghost use Rattle.kt_values.specs.Values.{closing};
 ghost use Rattle.kt_system.specs.Shown.{Shows, IsInside, lists_closed, joined_row, asking_and_settling};
+ghost use Rattle.kt_system.specs.ShownActs.{act_shown, acts_shown, acts_joining, acts_going_on};
 
 use super::System;
 use kt_base::{InstNo, Kind, ProcNo, ProcSet};
@@ -68,6 +70,7 @@ impl System {
         ensures size { self.new.size ≡ self.old.size }
         ensures grows { Grows 1 self.old self.new }
         ensures shows { (v : Seen) → Shows self.old v → IsInside self.old p → Shows self.new (seen_closing v p inst commit) }
+        ensures acts { act_shown result ≡ closing (is_ready (person self.old p).side) commit }
     {
         let was_ready = self.is_ready(p);
         self.settle_kept(p, commit);
@@ -95,6 +98,7 @@ impl System {
         ensures grows { Grows 3 self.old self.new }
         ensures shows { (v : Seen) (test : ℕ → Bool) (label : ℕ → ℕ) → Shows self.old v → IsCohort asks.now test label → goes ≡ goes_on (v.people p).part → (v.people p).part.willing ≡ true → IsInside self.old p →
             Shows self.new (asking_and_settling v p inst kind test label) }
+        ensures acts { acts_shown result ≡ acts_joining kind ++ acts_going_on (is_ready (person self.old p).side) goes }
     {
         self.ask(p, inst, kind, asks);
         self.write(joining_row(p, inst, kind));
@@ -135,6 +139,7 @@ impl System {
         ensures size { self.new.size ≡ self.old.size }
         ensures grows { Grows 2 self.old self.new }
         ensures shows { (v : Seen) → Shows self.old v → IsInside self.old p → Shows self.new (seen_closing (seen_deciding v p inst commit) p inst commit) }
+        ensures acts { act_shown result ≡ closing (is_ready (person self.old p).side) commit }
     {
         self.write(Event::Decided { p, inst, commit });
         self.close(p, inst, commit)
@@ -155,7 +160,9 @@ impl System {
 }
 
 /// Two acts in order, nothing last.
-fn two_acts(first: Act, second: Act) -> [Act; 2] {
+fn two_acts(first: Act, second: Act) -> [Act; 2]
+    ensures { acts_shown result ≡ act_shown first ++ act_shown second }
+{
     match first {
         Act::Nothing => [second, Act::Nothing],
         _ => [first, second],
@@ -173,7 +180,9 @@ fn joining_row(p: ProcNo, inst: InstNo, kind: Kind) -> Event
 }
 
 /// What a process that joins does to its saved states.
-fn joining_act(kind: Kind) -> Act {
+fn joining_act(kind: Kind) -> Act
+    ensures { act_shown result ≡ acts_joining kind }
+{
     match kind {
         Kind::Checkpoint => Act::Keep,
         Kind::Rollback => Act::Nothing,
@@ -181,7 +190,9 @@ fn joining_act(kind: Kind) -> Act {
 }
 
 /// What a process that closes an instance does to its saved states and its object.
-fn closing_act(was_ready: bool, commit: bool) -> Act {
+fn closing_act(was_ready: bool, commit: bool) -> Act
+    ensures { act_shown result ≡ closing was_ready commit }
+{
     match (was_ready, commit) {
         (true, true) => Act::Restore,
         (true, false) => Act::Nothing,

@@ -2,7 +2,7 @@
 
 ghost use Rattle.std.specs.Prelude.{◌≡◌, ◌<◌, ◌≤◌, ◌+◌, ◌-◌, ◌^◌, ℕ, true, OnErr, length};
 ghost use Rattle.kt_system.specs.Systems.{person, room_to, KeepsParcels, IsSame, Grows};
-ghost use Rattle.std.specs.Prelude.{[], ◌∷◌, ◌++◌, Bool, false, drop, OnOk, if◌then◌else◌};
+ghost use Rattle.std.specs.Prelude.{[], ◌∷◌, ◌++◌, Bool, false, drop, OnOk, IfOk, if◌then◌else◌};
 ghost use Rattle.kt_fifo.specs.declared.parcels.Parcel.TheVariants as parcel;
 ghost use Rattle.kt_tables.specs.Calls.{received, Speaks};
 ghost use Rattle.kt_protocol.specs.States.{Send as SendStep, Fail as FailStep};
@@ -10,7 +10,9 @@ ghost use Rattle.kt_seen.specs.Seen.{Seen};
 ghost use Rattle.kt_seen.specs.ListChanges.{with_rest};
 ghost use Rattle.kt_seen.specs.SeenMessages.{seen_refusal, seen_arrival, seen_holding};
 ghost use Rattle.kt_seen.specs.Transition.{transition, is_seen_ready};
+ghost use Rattle.kt_values.specs.SeenActs.{seen_acts, seen_acts_arriving};
 ghost use Rattle.kt_system.specs.Shown.{Shows, channel_without, held_without};
+ghost use Rattle.kt_system.specs.ShownActs.{acts_shown};
 
 use super::System;
 use kt_base::{Cause, Label, Memory, MsgNo, ProcNo, Verb};
@@ -54,6 +56,7 @@ impl System {
         ensures err { OnErr result (IsSame self.new self.old) }
         ensures grows { Grows 4 self.old self.new }
         ensures shows { (v : Seen) → Shows self.old v → (v.people p).inst ≡ 0 → (to ≡ p → ⊥) → Speaks (((transition v (SendStep p to body)).people p).calls) → OnOk result (Shows self.new (transition v (SendStep p to body))) }
+        ensures acts { (v : Seen) → IfOk result (λ acts. acts_shown acts ≡ seen_acts v (SendStep p to body)) }
     {
         self.make_room_to(p, to)?;
         if !self.is_up(p) {
@@ -75,6 +78,7 @@ impl System {
         ensures err { OnErr result (IsSame self.new self.old) }
         ensures grows { Grows 4 self.old self.new }
         ensures shows { (v : Seen) → Shows self.old v → OnOk result (Shows self.new (transition v (FailStep p))) }
+        ensures acts { (v : Seen) → Shows self.old v → IfOk result (λ acts. acts_shown acts ≡ seen_acts v (FailStep p)) }
     {
         self.make_room_for_rows()?;
         if !self.is_up(p) {
@@ -113,6 +117,7 @@ impl System {
         ensures shows { (v : Seen) → Shows self.old v → (is_seen_ready v at ≡ false → (v.people at).up ≡ true → Speaks ((v.people at).calls ++ received from message.label ∷ [])) →
             OnOk result (Shows self.new (if is_seen_ready v at then seen_holding v at from (parcel.App message.label message.msg message.body) (drop 1 (v.channel from at))
             else seen_arrival v (with_rest v.channel from at (drop 1 (v.channel from at))) v.held at from message.label message.msg message.body)) }
+        ensures acts { (v : Seen) → Shows self.old v → IfOk result (λ acts. acts_shown acts ≡ (if is_seen_ready v at then [] else seen_acts_arriving v at from message.body)) }
     {
         if self.is_ready(at) {
             self.held.reserve_many(from, at, 1)?;
@@ -155,6 +160,7 @@ impl System {
         ensures grows { Grows 4 self.old self.new }
         ensures shows { (v : Seen) → Shows self.old v → ((v.people at).up ≡ true → Speaks ((v.people at).calls ++ received from message.label ∷ [])) →
             OnOk result (Shows self.new (seen_arrival v (channel_without is_held v at from) (held_without is_held v at from) at from message.label message.msg message.body)) }
+        ensures acts { (v : Seen) → Shows self.old v → IfOk result (λ acts. acts_shown acts ≡ seen_acts_arriving v at from message.body) }
     {
         self.make_room_for_rows()?;
         let msg = message.msg;

@@ -20,6 +20,7 @@ impl System {
     pub fn processes(&self) -> usize
         ensures processes { result ≡ self.now.size }
         ensures few { result ≤ 64 }
+        ensures numbered { (p : ℕ) → p < self.now.size → IsNumbered (part_of (person self.now p).side) }
     {
         self.channels.processes()
     }

@@ -2,13 +2,16 @@
 
 ghost use Rattle.std.specs.Prelude.{◌≡◌, ◌<◌, ◌≤◌, ◌+◌, ◌^◌, ℕ, true, OnErr, length};
 ghost use Rattle.kt_system.specs.Systems.{person, CanGoOn, IsSame, Grows};
-ghost use Rattle.std.specs.Prelude.{Bool, drop, OnOk, ◌==◌, ◌∷◌};
+ghost use Rattle.std.specs.Prelude.{Bool, drop, OnOk, IfOk, ◌==◌, ◌∷◌};
 ghost use Rattle.kt_tables.specs.Calls.{Speaks};
 ghost use Rattle.kt_protocol.specs.States.{Take as TakeStep};
 ghost use Rattle.kt_seen.specs.Transition.{transition, seen_front, seen_take};
 ghost use Rattle.kt_parts.specs.declared.actions.Action.TheVariants as what;
 ghost use Rattle.kt_seen.specs.Seen.{Seen};
+ghost use Rattle.kt_process.specs.Persons.{is_ready};
+ghost use Rattle.kt_values.specs.SeenActs.{seen_acts, seen_acts_replied, seen_acts_decided, seen_acts_taking, seen_acts_taking_held};
 ghost use Rattle.kt_system.specs.Shown.{Shows, IsInside, gone_on, after_reply_taken, after_decision_taken};
+ghost use Rattle.kt_system.specs.ShownActs.{acts_shown, acts_gone_on};
 
 use super::System;
 use super::messages::{Message, NO_ACTS};
@@ -34,6 +37,7 @@ impl System {
         ensures err { OnErr result (IsSame self.new self.old) }
         ensures grows { Grows 4 self.old self.new }
         ensures shows { (v : Seen) → Shows self.old v → OnOk result (Shows self.new (after_reply_taken v at from inst willing (drop 1 (v.channel from at)))) }
+        ensures acts { (v : Seen) → Shows self.old v → IfOk result (λ acts. acts_shown acts ≡ seen_acts_replied v at willing) }
     {
         let targets = self.process(at).partners();
         self.make_room(at, targets)?;
@@ -52,6 +56,7 @@ impl System {
         ensures size { self.new.size ≡ self.old.size }
         ensures grows { Grows 2 self.old self.new }
         ensures shows { (v : Seen) → Shows self.old v → ((commit : Bool) (tell : ℕ) → action.now ≡ what.Settle commit tell → IsInside self.old p) → Shows self.new (gone_on v p inst action.now) }
+        ensures acts { acts_shown result ≡ acts_gone_on (is_ready (person self.old p).side) action.now }
     {
         match action {
             Action::Reply {
@@ -97,6 +102,7 @@ impl System {
         ensures err { OnErr result (IsSame self.new self.old) }
         ensures grows { Grows 4 self.old self.new }
         ensures shows { (v : Seen) → Shows self.old v → OnOk result (Shows self.new (after_decision_taken v at from inst commit (drop 1 (v.channel from at)))) }
+        ensures acts { (v : Seen) → Shows self.old v → IfOk result (λ acts. acts_shown acts ≡ seen_acts_decided v at inst commit) }
     {
         if !self.is_in(at, inst) {
             self.pop(at, from);
@@ -124,6 +130,7 @@ impl System {
         ensures err { OnErr result (IsSame self.new self.old) }
         ensures grows { Grows 4 self.old self.new }
         ensures shows { (v : Seen) → Shows self.old v → Speaks (((seen_front v at from able (v.channel from at)).people at).calls) → OnOk result (Shows self.new (seen_front v at from able (v.channel from at))) }
+        ensures acts { (v : Seen) → Shows self.old v → IfOk result (λ acts. acts_shown acts ≡ seen_acts_taking v at from able (v.channel from at)) }
     {
         let Some(parcel) = self.channels.front(from, at).copied() else {
             return Ok(NO_ACTS);
@@ -150,6 +157,8 @@ impl System {
         ensures grows { Grows 4 self.old self.new }
         ensures shows { (v : Seen) (able : Bool) → Shows self.old v → v.held from at ≡ parcel ∷ drop 1 (v.held from at) →
             Speaks (((seen_take v at from able (v.held from at)).people at).calls) → OnOk result (Shows self.new (seen_take v at from able (v.held from at))) }
+        ensures acts { (v : Seen) (able : Bool) → Shows self.old v → v.held from at ≡ parcel ∷ drop 1 (v.held from at) →
+            IfOk result (λ acts. acts_shown acts ≡ seen_acts_taking_held v at from able (v.held from at)) }
     {
         match parcel {
             Parcel::App { label, msg, body } => {
@@ -175,6 +184,7 @@ impl System {
         ensures err { OnErr result (IsSame self.new self.old) }
         ensures grows { Grows 4 self.old self.new }
         ensures shows { (v : Seen) → Shows self.old v → Speaks (((transition v (TakeStep at from able)).people at).calls) → OnOk result (Shows self.new (transition v (TakeStep at from able))) }
+        ensures acts { (v : Seen) → Shows self.old v → IfOk result (λ acts. acts_shown acts ≡ seen_acts v (TakeStep at from able)) }
     {
         match self.held_parcel(at, from) {
             Some(parcel) => self.take_held(at, from, parcel),

@@ -1,14 +1,13 @@
-use Rattle.std.proofs.Common.{◌≡◌, ℕ, ◌+◌, List, length, ap, subst, ◌∙◌}
+use Rattle.std.proofs.Common.{◌≡◌, ℕ, ◌+◌, ap, subst, ◌∙◌}
 use Rattle.std.specs.Prelude.{true}
-use Rattle.kt_parts.specs.declared.actions.Then.{Then}
-use Rattle.kt_lists.specs.Kept.{kept_of}
 use Rattle.kt_base.specs.declared.words.Kind.TheVariants as which
-use Rattle.kt_process.specs.Shown.{BeginsAs, HearsAs, asked_by, label_by, mark_of, no_mark}
-use Rattle.kt_seen.specs.Seen.{Seen, SeenLists}
+use Rattle.kt_process.specs.Shown.{BeginsAs, asked_by, label_by, no_mark}
+use Rattle.kt_seen.specs.Seen.{Seen}
 use Rattle.kt_system.specs.Systems.{person}
-use Rattle.kt_system.specs.Shown.{Shows, begun_as, answered_as}
+use Rattle.kt_system.specs.Shown.{Shows, begun_as}
 use Rattle.kt_system.proofs.Showing.{shows_same}
 use Rattle.kt_system.proofs.Commands.{turned_by, begin_shows, begin_joins, begins_rollback, begins_inside}
+use Rattle.kt_system.proofs.Acting.{begin_acts_roll}
 use Rattle.kt_system.proofs.system.System.begin_rollback.Goals as goal
 
 pub returns-clause-shows : goal.returns-clause-shows
@@ -26,3 +25,9 @@ returns-clause-shows c = λ v able h few.
     let three = c.begin.ensures.shows state (asked_by which.Rollback calls) (label_by which.Rollback calls) two joins in
     subst (λ (z : Seen). Shows c.begin.new.self z) (begins_rollback after v p able no_mark action s)
     (subst (λ (k : ℕ). Shows c.begin.new.self (begun_as state p k which.Rollback (asked_by which.Rollback calls) (label_by which.Rollback calls) action)) inst three)
+
+pub returns-clause-acts : goal.returns-clause-acts
+returns-clause-acts c = λ v able h few.
+    let p = c.args.p in
+    let one = shows_same _ _ v c.make_room_back.ensures.same (shows_same _ _ v c.make_room.ensures.same h) in
+    c.begin.ensures.acts ∙ begin_acts_roll (person c.tell_to_roll.new.self p) v p c.in-Some.inst no_mark able c.in_ok-action.action (c.in_ok-action.ensures.shows v one)

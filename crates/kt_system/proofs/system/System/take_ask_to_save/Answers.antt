@@ -1,19 +1,22 @@
 use Rattle.kt_parts.specs.declared.actions.Action.TheVariants.{Join}
-use Rattle.std.proofs.Common.{◌≡◌, ℕ, ◌+◌, List, length, drop, true, ap, subst, sym, ◌∙◌}
+use Rattle.std.proofs.Common.{◌≡◌, ℕ, List, length, drop, true, ap, subst, sym, ◌∙◌}
 use Rattle.kt_parts.specs.declared.actions.Then.{Then}
 use Rattle.kt_lists.specs.Kept.{kept_of}
-use Rattle.kt_process.specs.Shown.{BeginsAs, HearsAs, asked_by, label_by, mark_of, no_mark}
+use Rattle.kt_process.specs.Shown.{asked_by, label_by, mark_of}
 use Rattle.kt_seen.specs.Seen.{Seen, SeenLists}
 use Rattle.kt_system.specs.Systems.{person}
-use Rattle.kt_system.specs.Shown.{Shows, begun_as, answered_as}
+use Rattle.kt_system.specs.Shown.{Shows}
 use Rattle.kt_system.proofs.Showing.{shows_same}
 use Rattle.kt_process.specs.Persons.{Person, inst_of}
-use Rattle.kt_system.proofs.Commands.{heard_by, hear_shows, hear_joins, hears_inside, hears_joins, hears_marked, heard_channel, asked_by_front, hears_checkpoint, hears_rollback}
+use Rattle.kt_system.proofs.Commands.{heard_by, hear_shows, hear_joins, hears_inside, hears_joins, hears_marked, heard_channel, asked_by_front, hears_checkpoint}
 use Rattle.std.proofs.Common.{ap, ◌∙◌}
 use Rattle.kt_base.specs.declared.words.Kind.TheVariants as kind
 use Rattle.kt_process.specs.Persons.{Person}
 use Rattle.kt_process.specs.Turns.{joins_by}
 use Rattle.kt_system.proofs.Fits.{hears_fit}
+use Rattle.kt_process.specs.Persons.{is_ready}
+use Rattle.kt_system.specs.ShownActs.{acts_carried_out}
+use Rattle.kt_system.proofs.Acting.{hear_acts_save}
 use Rattle.kt_system.proofs.system.System.take_ask_to_save.Goals as goal
 
 pub answer-requires-clause-room : goal.answer-requires-clause-room
@@ -48,3 +51,11 @@ returns-clause-shows c = λ v h.
     (λ asks goes e i. hears_inside _ after kind.Checkpoint c.args.able from k label at action asks goes c.in_ok-action.ensures.hears e (sym (ap (λ (x : Person). inst_of x.side) (c.pop.ensures.gives.person at)) ∙ i)) in
     let four = c.answer.ensures.shows (asked_by_front state at from rest) (asked_by kind.Checkpoint calls) (label_by kind.Checkpoint calls) three joins in
     subst (λ (z : Seen). Shows c.answer.new.self z) (hears_checkpoint after v at from k label c.args.able action rest s) four
+
+pub returns-clause-acts : goal.returns-clause-acts
+returns-clause-acts c = λ v h.
+    let at = c.args.at in
+    let from = c.args.from in
+    let one = shows_same _ _ v c.make_room.ensures.same h in
+    c.answer.ensures.acts ∙ (ap (λ (x : Person). acts_carried_out kind.Checkpoint (is_ready x.side) c.in_ok-action.action) (c.pop.ensures.gives.person at)
+    ∙ hear_acts_save (person c.ask_to_save.new.self at) v at c.args.inst (mark_of c.in_ok-marks.marks.items) from c.args.label c.args.able c.in_ok-action.action (c.in_ok-action.ensures.shows v one))
