@@ -1,5 +1,5 @@
 -- Where nothing is enabled, the plan is at rest.
-use Rattle.std.proofs.Common.{◌≡◌, ℕ, ◌≤◌, ◌<◌, Bool, true, false, List, [], ◌∷◌, refl, arith, subst, ◌∙◌}
+use Rattle.std.proofs.Common.{◌≡◌, ℕ, ◌≤◌, ◌<◌, Bool, true, false, List, [], ◌∷◌, refl, arith, ap, subst, ◌∙◌, Some}
 use Rattle.std.specs.Prelude.{◌==◌, ◌&&◌, ◌||◌, not, nat_lt}
 use Rattle.std.proofs.lemmas.Bool.Decides.{nat_tests}
 use Rattle.kt_closing.proofs.WholeSteps.{once_closed_rest}
@@ -11,10 +11,10 @@ use Rattle.kt_protocol.specs.Parcels.{Parcel, has_parcel}
 use Rattle.kt_protocol.specs.States.{State, is_ready, can_take}
 use Rattle.kt_protocol.proofs.NeverStuck as stuck
 use Rattle.kt_phases.specs.Plans.{Command, Job, Plan, commands_of, first_command, has_command, has_phase, last_phase}
-use Rattle.kt_phases.specs.Progress.{Progress, commands_left, is_phase_done, is_quiet}
+use Rattle.kt_phases.specs.Progress.{Progress, commands_left, is_phase_done, is_quiet, next_command}
 use Rattle.kt_phases.specs.Steps.{Do, Step, Take, enabled, is_at_rest, may_do, may_do_job}
 use Rattle.kt_phases.specs.Plans as job
-use Rattle.kt_phases.proofs.PhaseOrder.{Ordered, up_to_last, up_to_of, up_to_drop, none_left, none_of_if}
+use Rattle.kt_phases.proofs.PhaseOrder.{Ordered, up_to_last, up_to_of, up_to_drop, none_left, none_of_if, somebody}
 use Rattle.kt_phases.proofs.RunFacts.{RunFacts}
 use Rattle.kt_phases.proofs.StateFacts.{StateFacts, state_facts, can_take_same}
 
@@ -182,3 +182,33 @@ idle_at_rest plan g r (Take p q) = go (nat_lt p plan.size) (nat_lt q plan.size) 
     go true true e f = none (low p plan.size e) (low q plan.size f)
     go true false e f = refl
     go false b e f = refl
+
+-- where all is quiet and a command is left, somebody's next one is of the open phase
+pub attained : (plan : Plan) (g : Progress) (p : ℕ) (c : Command) → RunFacts plan g → is_quiet plan.size g.state ≡ true → next_command plan g p ≡ Some c →
+    (q : ℕ) × (d : Command) × (q < plan.size) × (next_command plan g q ≡ Some d) × (d.phase ≡ g.phase)
+attained plan g p c k quiet e = go (is_phase_done plan g) refl
+  where
+    open_in : ℕ → Bool
+    open_in q = has_phase g.phase (commands_left plan g q)
+
+    found : (q : ℕ) → q < plan.size → (cs : List Command) → commands_left plan g q ≡ cs → has_phase g.phase cs ≡ true → (q : ℕ) × (d : Command) × (q < plan.size) × (next_command plan g q ≡ Some d) × (d.phase ≡ g.phase)
+    found q low [] is h = absurd (cc (h))
+    found q low (d ∷ ds) is h = (q, d, low, ap first_command is, (let t = first_in plan.size q g.phase d ds (subst (λ (x : List Command). Ordered plan.size q g.phase x) is (k.ahead q)) h in grind (arith, nat_tests, t)))
+
+    low : (cs : List Command) → first_command cs ≡ Some c → Ordered plan.size p g.phase cs → p < plan.size
+    low [] f o = absurd (cc (f))
+    low (x ∷ xs) f o = o.0
+
+    late : (a b : ℕ) → nat_lt a b ≡ false → b ≤ a
+    late a b h = grind (arith, nat_tests, h)
+
+    left : (cs : List Command) → first_command cs ≡ Some c → has_command cs ≡ false → ⊥
+    left [] f h = cc (f)
+    left (x ∷ xs) f h = cc (h)
+
+    go : (b : Bool) → is_phase_done plan g ≡ b → (q : ℕ) × (d : Command) × (q < plan.size) × (next_command plan g q ≡ Some d) × (d.phase ≡ g.phase)
+    go false done = let s = somebody plan.size open_in done in found s.0 s.1 (commands_left plan g s.0) refl s.2
+    go true done =
+        let shut = second (is_quiet plan.size g.state) (nat_lt g.phase (last_phase plan.commands)) quiet (second (is_phase_done plan g) _ done k.shut) in
+        let none = none_left plan.size p g.phase (last_phase plan.commands) (commands_left plan g p) (k.ahead p) (up_to_drop (last_phase plan.commands) (g.done p) (commands_of p plan.commands) (up_to_of (last_phase plan.commands) p plan.commands (up_to_last plan.commands))) (late g.phase (last_phase plan.commands) shut) (none_is plan.size open_in done p (low (commands_left plan g p) e (k.ahead p))) in
+        absurd (left (commands_left plan g p) e none)

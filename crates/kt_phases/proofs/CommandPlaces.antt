@@ -48,3 +48,19 @@ place_is (suc k) p (d ∷ l) c (suc i) e m r = go (place_is k p l c i e m) (plac
     go : (length (commands_of p (take i l)) ≡ k → place_of_command k p l ≡ i) → (length (commands_of p (take i l)) ≡ suc k → place_of_command (suc k) p l ≡ i) → (b : Bool) → (d.by == p) ≡ b → length (if b then d ∷ commands_of p (take i l) else commands_of p (take i l)) ≡ suc k → (if b then suc (place_of_command k p l) else suc (place_of_command (suc k) p l)) ≡ suc i
     go h t true x r = ap suc (h (let y = r in omega (arith, y)))
     go h t false x r = ap suc (t r)
+
+-- the command there is the first after k of p's
+pub place_get : (k p : ℕ) (l : List Command) → slice_get l (place_of_command k p l) ≡ first_command (drop k (commands_of p l))
+place_get zero p [] = refl
+place_get (suc k) p [] = refl
+place_get zero p (d ∷ l) = go (place_get zero p l) (d.by == p)
+  where
+    go : slice_get l (place_of_command zero p l) ≡ first_command (commands_of p l) → (b : Bool) → slice_get (d ∷ l) (if b then 0 else suc (place_of_command zero p l)) ≡ first_command (if b then d ∷ commands_of p l else commands_of p l)
+    go r true = refl
+    go r false = r
+place_get (suc k) p (d ∷ l) = go (place_get k p l) (place_get (suc k) p l) (d.by == p)
+  where
+    go : slice_get l (place_of_command k p l) ≡ first_command (drop k (commands_of p l)) → slice_get l (place_of_command (suc k) p l) ≡ first_command (drop (suc k) (commands_of p l)) →
+        (b : Bool) → slice_get (d ∷ l) (if b then suc (place_of_command k p l) else suc (place_of_command (suc k) p l)) ≡ first_command (drop (suc k) (if b then d ∷ commands_of p l else commands_of p l))
+    go r t true = r
+    go r t false = t

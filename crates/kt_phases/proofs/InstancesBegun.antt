@@ -1,6 +1,6 @@
 -- No more instances begin than there are commands for, and each puts few parcels.
 use Rattle.std.proofs.Common.{◌≡◌, ℕ, ◌+◌, ◌≤◌, ◌<◌, Bool, true, false, List, [], ◌∷◌, length, refl, arith, sym, ap, subst, ◌∙◌, drop, Some, None, inl, inr}
-use Rattle.std.specs.Prelude.{◌==◌, ◌&&◌, not, nat_lt, if◌then◌else◌, ◌*◌, ◌-◌, Option}
+use Rattle.std.specs.Prelude.{◌==◌, ◌&&◌, not, nat_lt, if◌then◌else◌, ◌*◌, ◌-◌, Option, pos}
 use Rattle.std.proofs.lemmas.Bool.{cases_eq}
 use Rattle.kt_closing.specs.LateSteps.{late_step}
 use Rattle.kt_closing.specs.OnceClosed.{once_closed}
@@ -15,6 +15,7 @@ use Rattle.kt_phases.specs.Runs.{IsReached}
 use Rattle.kt_phases.specs.Steps.{Do, Give, Step, Take, after_command, after_plan_step, enabled, may_do, protocol_step}
 use Rattle.kt_phases.specs.Work.{begins_instance, count_begins, count_left, total_below}
 use Rattle.kt_phases.specs.Plans as job
+use Rattle.kt_phases.proofs.PhaseOrder.{Ordered}
 use Rattle.kt_phases.proofs.PhasesOpen.{Opened}
 use Rattle.kt_phases.proofs.RunFacts.{RunFacts, facts_at_start, facts_after, bare_command, bare_take, opened_command, opened_take, after_front, left_next, moves_keep}
 use Rattle.kt_phases.proofs.StateFacts.{StateFacts, state_facts}
@@ -22,7 +23,7 @@ use Rattle.kt_phases.proofs.StepRows.{turn_of}
 use Rattle.kt_phases.proofs.Totals as totals
 use Rattle.kt_phases.proofs.Totals.{spike, bit}
 use Rattle.kt_phases.proofs.AccountedSteps.{job_accounted}
-use Rattle.kt_phases.proofs.StepBounds.{falls, nothing, opened_start, count_at_start}
+use Rattle.kt_phases.proofs.StepBounds.{falls, less_left, nothing, opened_start, count_at_start}
 
 pub begins_left : Plan → Progress → ℕ
 begins_left plan g = total_below plan.size (λ p. count_begins (commands_left plan g p))
@@ -111,6 +112,16 @@ begun_at_start plan i = record {
 
 pub few_instances : (plan : Plan) (g : Progress) → IsPlan plan → IsReached plan g → g.state.instances ≤ count_begins plan.commands
 few_instances plan g i r = let b = (moves_keep plan (Begun plan) (λ g x give b e. begun_after plan g x give b e) r.moves (start plan) g (begun_at_start plan i) r.leads).begun in omega (arith, b)
+
+-- as long as a command is left, fewer instances have begun than there are commands
+pub fewer_begun : (plan : Plan) (g : Progress) (p : ℕ) (c : Command) → IsPlan plan → IsReached plan g → next_command plan g p ≡ Some c → g.state.instances < length plan.commands
+fewer_begun plan g p c i r e =
+    let k = moves_keep plan (Begun plan) (λ g x give b e. begun_after plan g x give b e) r.moves (start plan) g (begun_at_start plan i) r.leads in
+    let b = k.few in
+    let x = after_front plan g p c e in
+    let l = (subst (λ (cs : List Command). Ordered plan.size p g.phase cs) x.1 (k.run_facts.ahead p)).0 in
+    let f = less_left plan g p (record { able = false; body = pos 0 }) c l e in
+    omega (arith, b, f)
 
 -- the parcels of an instance
 module _ (n : ℕ) (s : State) (r : StateFacts n s) where

@@ -1,5 +1,5 @@
 -- What is known of every run of a plan.
-use Rattle.std.proofs.Common.{◌≡◌, ℕ, suc, ◌+◌, ◌≤◌, Bool, true, false, List, [], ◌∷◌, ◌++◌, refl, arith, sym, ap, subst, ◌∙◌, drop, Some, None}
+use Rattle.std.proofs.Common.{◌≡◌, ℕ, suc, ◌+◌, ◌≤◌, ◌<◌, Bool, true, false, List, [], ◌∷◌, ◌++◌, refl, arith, sym, ap, subst, ◌∙◌, drop, Some, None}
 use Rattle.std.specs.Prelude.{◌==◌, if◌then◌else◌, Option, unwrap_or}
 use Rattle.std.proofs.lemmas.Bool.Decides.{nat_tests}
 use Rattle.kt_cuts.specs.Past.{at_one}
@@ -95,3 +95,6 @@ run_facts plan g i r = moves_keep plan (RunFacts plan) (λ g x give k _. facts_a
 
 pub next_ahead : (plan : Plan) (g : Progress) (p : ℕ) (c : Command) → RunFacts plan g → next_command plan g p ≡ Some c → g.phase ≤ c.phase
 next_ahead plan g p c k e = let x = after_front plan g p c e in (subst (λ (l : List Command). Ordered plan.size p g.phase l) x.1 (k.ahead p)).2
+
+pub next_there : (plan : Plan) (g : Progress) (p : ℕ) (c : Command) → RunFacts plan g → next_command plan g p ≡ Some c → p < plan.size
+next_there plan g p c k e = let x = after_front plan g p c e in (subst (λ (l : List Command). Ordered plan.size p g.phase l) x.1 (k.ahead p)).0

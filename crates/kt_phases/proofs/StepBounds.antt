@@ -60,7 +60,7 @@ falls_opened plan g g' g'' s f = record {
     left_is : count_left plan g'' ≡ count_left plan g'
     left_is = ap (λ (d : ℕ → ℕ). total_below plan.size (λ p. length (drop (d p) (commands_of p plan.commands)))) s.done
 
-less_left : (plan : Plan) (g : Progress) (p : ℕ) (give : Give) (c : Command) → p < plan.size → next_command plan g p ≡ Some c → count_left plan g ≡ count_left plan (bare_command g p give c) + 1
+pub less_left : (plan : Plan) (g : Progress) (p : ℕ) (give : Give) (c : Command) → p < plan.size → next_command plan g p ≡ Some c → count_left plan g ≡ count_left plan (bare_command g p give c) + 1
 less_left plan g p give c l e = total_less plan.size p (λ v. length (commands_left plan g v)) (λ v. length (commands_left plan (bare_command g p give c) v)) l here others
   where
     x : (cs : List Command) × (commands_left plan g p ≡ c ∷ cs)

@@ -3,8 +3,9 @@ use Rattle.std.proofs.Common.{◌≡◌, ℕ, ◌≤◌, ◌<◌, true, false, s
 use Rattle.kt_phases.specs.Plans.{Plan, Command, IsPlan}
 use Rattle.kt_phases.specs.Steps.{Step, Do, Give}
 use Rattle.kt_phases.specs.Steps as plan_steps
-use Rattle.kt_phases.proofs.RunFacts.{run_facts, next_ahead}
+use Rattle.kt_phases.proofs.RunFacts.{run_facts, next_ahead, next_there}
 use Rattle.kt_phases.proofs.OpenPhase.{in_phase, quiet_between}
+use Rattle.kt_phases.proofs.AtRest.{attained}
 use Rattle.kt_promises.specs.World.{World, next_command, opens_next, is_quiet}
 use Rattle.kt_promises.specs.Steps.{enabled, world_after}
 use Rattle.kt_promises.specs.Runs.{IsReachedWorld}
@@ -27,3 +28,11 @@ quiet_seen plan first w x give i r = carry plan first w (λ v. enabled plan v x 
     (λ g s e. let k = run_facts plan g i s in let b = sym (enabled_same plan first g x) ∙ e in
     subst (λ (v : World). (g.phase ≤ v.phase) × (g.phase < v.phase → is_quiet plan.size v.now ≡ true)) (after_same plan first g x give k b)
     (let q = quiet_between plan g x give k b in (q.0, λ l. quiet_same plan.size first (plan_steps.after_plan_step plan g x give).state ∙ q.1 l)))
+
+pub attained_seen : (plan : Plan) (first : ℕ) (w : World) (p : ℕ) (c : Command) → IsPlan plan → IsReachedWorld plan first w → is_quiet plan.size w.now ≡ true → next_command plan w p ≡ Some c →
+    (q : ℕ) × (d : Command) × (q < plan.size) × (next_command plan w q ≡ Some d) × (d.phase ≡ w.phase)
+attained_seen plan first w p c i r = carry plan first w (λ v. is_quiet plan.size v.now ≡ true → next_command plan v p ≡ Some c → (q : ℕ) × (d : Command) × (q < plan.size) × (next_command plan v q ≡ Some d) × (d.phase ≡ v.phase)) i r
+    (λ g s quiet. attained plan g p c (run_facts plan g i s) (sym (quiet_same plan.size first g.state) ∙ quiet))
+
+pub next_there_seen : (plan : Plan) (first : ℕ) (w : World) (p : ℕ) (c : Command) → IsPlan plan → IsReachedWorld plan first w → next_command plan w p ≡ Some c → p < plan.size
+next_there_seen plan first w p c i r = carry plan first w (λ v. next_command plan v p ≡ Some c → p < plan.size) i r (λ g s e. next_there plan g p c (run_facts plan g i s) e)

@@ -10,16 +10,20 @@ use Rattle.kt_seen.specs.Transition.{transition, run_seen, opening_seen}
 use Rattle.kt_seen.proofs.Runs.{seen_after_run}
 use Rattle.kt_values.specs.Done.{done}
 use Rattle.kt_values.specs.Values.{acts_along}
-use Rattle.kt_values.specs.Acts.{acts_by}
+use Rattle.kt_values.specs.Acts.{acts, acts_by, stepper}
+use Rattle.kt_values.specs.SeenActs.{seen_acts}
+use Rattle.kt_values.proofs.SeenActs.{acts_seen}
 use Rattle.kt_values.proofs.StepRows.{told}
 use Rattle.kt_phases.specs.Plans.{Plan, Command, IsPlan}
 use Rattle.kt_phases.specs.Steps.{Step, Do, Take, Give, protocol_step}
-use Rattle.kt_phases.proofs.RunFacts.{run_more as run_state_more}
+use Rattle.kt_protocol.proofs.Updates.{is_same}
+use Rattle.kt_phases.proofs.RunFacts.{run_facts, run_more as run_state_more}
 use Rattle.kt_promises.specs.World.{World, start_world, next_command}
 use Rattle.kt_promises.specs.Steps.{may_do, enabled, world_after}
 use Rattle.kt_promises.specs.Runs.{IsReachedWorld, steps_of_command, protocol_steps, IsAfterSteps}
 use Rattle.kt_promises.specs.StepActs.{rows_added, acts_of_step}
 use Rattle.kt_promises.proofs.PhasesOpen.{opening_is, takes_is, does_is}
+use Rattle.kt_promises.proofs.ReachedWorlds.{carry}
 use Rattle.kt_promises.proofs.ActsOfSteps.{log_grows}
 
 run_more : (v : Seen) (xs : List machine.Step) (x : machine.Step) → run_seen v (xs ++ x ∷ []) ≡ transition (run_seen v xs) x
@@ -68,3 +72,19 @@ steps_acts plan first w steps x give y p i r m e a =
 
     log_then : (world_after plan w x give).now.log ≡ (late_step (late_run (opening plan.size) steps) y).log
     log_then = ap (λ (v : Seen). v.log) (steps_seen plan first (world_after plan w x give) (steps ++ y ∷ []) (subst (λ (l : List machine.Step). IsAfterSteps plan first (steps ++ l) (world_after plan w x give)) a (steps_next plan first w steps x give m e))) ∙ ap (λ (s : State). s.log) more
+
+-- steps of the protocol lead to what is seen wherever a run leads
+steps_behind : (plan : Plan) (first : ℕ) (w : World) → IsPlan plan → IsReachedWorld plan first w → (steps : List machine.Step) × IsAfterSteps plan first steps w
+steps_behind plan first w i r = carry plan first w (λ v. (steps : List machine.Step) × IsAfterSteps plan first steps v) i r
+    (λ g s. let k = run_facts plan g i s in (k.steps, ap (seen first) k.state_is ∙ seen_after_run plan.size first k.steps))
+
+own_acts : (s : State) (y : machine.Step) → acts_by (stepper y) s y ≡ acts s y
+own_acts s y = let e = is_same (stepper y) in rw e refl
+
+-- the acts of a step, by what is seen
+pub seen_acts_are : (plan : Plan) (first : ℕ) (w : World) (x : Step) (give : Give) (y : machine.Step) → IsPlan plan → IsReachedWorld plan first w → enabled plan w x ≡ true → protocol_steps plan w x give ≡ y ∷ [] → acts_of_step plan w x give (stepper y) ≡ seen_acts w.now y
+seen_acts_are plan first w x give y i r e a =
+    let b = steps_behind plan first w i r in
+    steps_acts plan first w b.0 x give y (stepper y) i r b.1 e a
+    ∙ (own_acts (late_run (opening plan.size) b.0) y
+    ∙ (acts_seen plan.size first b.0 y ∙ ap (λ (v : Seen). seen_acts v y) (sym (steps_seen plan first w b.0 b.1))))

@@ -3,7 +3,7 @@ use Rattle.std.proofs.Common.{◌≡◌, ℕ, zero, suc, ◌+◌, ◌-◌, ◌*�
 use Rattle.std.specs.Prelude.{Option}
 use Rattle.kt_seen.specs.Labelling.{labelling}
 use Rattle.kt_seen.proofs.Parcels.{parcels_length}
-use Rattle.kt_phases.specs.Plans.{Plan, IsPlan}
+use Rattle.kt_phases.specs.Plans.{Command, Plan, IsPlan}
 use Rattle.kt_phases.specs.Progress.{Progress}
 use Rattle.kt_phases.specs.Steps.{Step, Give}
 use Rattle.kt_phases.specs.Work.{total_below, most_steps, count_begins}
@@ -17,9 +17,9 @@ use Rattle.kt_phases.proofs.StateFacts.{state_facts}
 use Rattle.kt_phases.proofs.DefaultSteps.{some_is}
 use Rattle.kt_phases.proofs.StepBounds.{work_falls}
 use Rattle.kt_phases.proofs.DefaultRuns.{defaults_run, defaults_rest, start_rests}
-use Rattle.kt_phases.proofs.InstancesBegun.{few_instances, asks_most, replies_most, decisions_most, none_unbegun}
+use Rattle.kt_phases.proofs.InstancesBegun.{few_instances, fewer_begun, asks_most, replies_most, decisions_most, none_unbegun}
 use Rattle.kt_phases.proofs.TalliedSteps.{tallied}
-use Rattle.kt_promises.specs.World.{World, world_of, start_world}
+use Rattle.kt_promises.specs.World.{World, next_command, world_of, start_world}
 use Rattle.kt_promises.specs.Steps.{enabled, world_after, is_at_rest}
 use Rattle.kt_promises.specs.Runs.{IsReachedWorld, after_defaults, next_default}
 use Rattle.kt_promises.specs.Work.{work_left}
@@ -74,6 +74,9 @@ start_rests_seen n plan first rows give i l b = let e = defaults_same n plan fir
 module _ (plan : Plan) (first : ℕ) (w : World) (i : IsPlan plan) (r : IsReachedWorld plan first w) where
   pub few_begun : w.now.begun ≤ count_begins plan.commands
   few_begun = carry plan first w (λ v. v.now.begun ≤ count_begins plan.commands) i r (λ g s. few_instances plan g i s)
+
+  pub fewer_begun_seen : (p : ℕ) (c : Command) → next_command plan w p ≡ Some c → w.now.begun < length plan.commands
+  fewer_begun_seen p c = carry plan first w (λ v. next_command plan v p ≡ Some c → v.now.begun < length plan.commands) i r (λ g s e. fewer_begun plan g p c i s e)
 
   pub none_put : (k : ℕ) → w.now.begun < k → w.put.asks k ≡ 0
   none_put k = carry plan first w (λ v. v.now.begun < k → v.put.asks k ≡ 0) i r (λ g s h. none_unbegun plan.size g.state (state_facts plan g (run_facts plan g i s)) k h)

@@ -5,6 +5,7 @@ pub mod Looks
 pub mod Defaults
 pub mod Runs
 pub mod Order
+pub mod Headline
 pub mod AtRest
 pub mod Unwilling
 pub mod StepActs

@@ -36,6 +36,8 @@ ghost use Rattle.kt_values.specs.Done.{done, done_start};
 ghost use Rattle.kt_values.specs.Values.{Rules, due, first_due, does_all, can_all, spares, acts_along, closing, Apply, Keep, Promote, Discard, Restore};
 ghost use Rattle.kt_values.specs.Things.{Things, Saving, IsSaving, first_things, LeadsAlong, things_for};
 ghost use Rattle.kt_values.specs.Acts.{acts_by};
+ghost use Rattle.kt_values.specs.Acts as values_acts;
+ghost use Rattle.kt_values.specs.SeenActs.{seen_acts};
 ghost use Rattle.kt_values.specs.States.{IsRising};
 ghost use Rattle.kt_values.specs.WorkedRuns.{all_bodies};
 ghost use Rattle.kt_phases.specs.Runs.{Move, IsReached};
@@ -52,6 +54,7 @@ ghost use Rattle.kt_phases.specs.Defaults as plan_defaults;
 ghost use Rattle.kt_phases.specs.WorkedPlans.{given, moves_of};
 ghost use Rattle.kt_promises.specs.Tallies.{no_tally, IsRaised};
 ghost use Rattle.kt_promises.specs.Failures.{failures_of};
+ghost use Rattle.kt_promises.specs.Headline.{IsPromised};
 ghost use Rattle.kt_promises.specs.Rows.{AreRowsOfStep, IsRefusedStep, is_offer_step};
 ghost use Rattle.kt_promises.specs.Lines.{line, EachStandsOnce, KeepsReceived, messages};
 ghost use Rattle.kt_promises.specs.World.{World, world_of, commands_left, next_command, opens_next, is_quiet, start_world};
@@ -60,7 +63,7 @@ ghost use Rattle.kt_promises.specs.Looks.{look};
 ghost use Rattle.kt_promises.specs.Defaults.{default_step};
 ghost use Rattle.kt_promises.specs.Runs.{after_moves, IsReachedWorld, protocol_steps, IsAfterSteps, IsSameButPhase, GoesOn, after_gives, after_defaults};
 ghost use Rattle.kt_promises.specs.Work.{work_left};
-ghost use Rattle.kt_promises.specs.Order.{comes_before, AreOfOthers};
+ghost use Rattle.kt_promises.specs.Order.{comes_before, next_place, AreOfOthers};
 ghost use Rattle.kt_promises.specs.AtRest.{HasNothingUnderWay};
 ghost use Rattle.kt_promises.specs.Unwilling.{IsUnwillingStep};
 ghost use Rattle.kt_promises.specs.StepActs.{rows_added, acts_of_step, keeps_only_first};
@@ -85,6 +88,14 @@ pub fn worlds_of_plans()
         look plan (world_of first now) x ≡ plan_looks.look plan now x }
 {}
 
+/// Where the next command of a process stands in its plan; and a process that has one is there.
+pub fn places_of_commands()
+    ensures next { (plan : Plan) (w : World) (p : ℕ) →
+        slice_get plan.commands (next_place plan w p) ≡ next_command plan w p }
+    ensures there { (plan : Plan) (first : ℕ) (w : World) (p : ℕ) (c : Command) → IsPlan plan →
+        IsReachedWorld plan first w → next_command plan w p ≡ Some c → p < plan.size }
+{}
+
 /// Which worlds a run of a plan reaches.
 pub fn runs_of_worlds()
     // The start is reached, and so is what each enabled step makes of what is reached.
@@ -101,6 +112,10 @@ pub fn runs_of_worlds()
 
 /// For every run of every plan: what its log is.
 pub fn logs_of_worlds()
+    // All that is promised of it.
+    ensures promised { (plan : Plan) (first : ℕ) (w : World) → IsPlan plan → IsReachedWorld plan first w →
+        IsPromised w.now.log }
+
     // Each row keeps every rule.
     ensures legal { (plan : Plan) (first : ℕ) (w : World) → IsPlan plan → IsReachedWorld plan first w →
         IsLegal w.now.log }
@@ -192,6 +207,12 @@ pub fn protocol_of_worlds()
         (y : machine.Step) (p : ℕ) → IsPlan plan → IsReachedWorld plan first w → IsAfterSteps plan first steps w →
         enabled plan w x ≡ true → protocol_steps plan w x give ≡ y ∷ [] →
         acts_of_step plan w x give p ≡ acts_by p (late_run (opening plan.size) steps) y }
+
+    // By what code has: the acts of the process that steps.
+    ensures seen_acts { (plan : Plan) (first : ℕ) (w : World) (x : Step) (give : Give) (y : machine.Step) →
+        IsPlan plan → IsReachedWorld plan first w → enabled plan w x ≡ true →
+        protocol_steps plan w x give ≡ y ∷ [] →
+        acts_of_step plan w x give (values_acts.stepper y) ≡ seen_acts w.now y }
 {}
 
 /// For every run of every plan: its phases.
@@ -202,6 +223,11 @@ pub fn phases_of_worlds()
         IsReachedWorld plan first w → next_command plan w p ≡ Some c → w.phase ≤ c.phase }
     ensures shut { (plan : Plan) (first : ℕ) (w : World) → IsPlan plan → IsReachedWorld plan first w →
         opens_next plan w ≡ false }
+
+    // Where all is quiet and a command is left, somebody's next one is of the open phase.
+    ensures attained { (plan : Plan) (first : ℕ) (w : World) (p : ℕ) (c : Command) → IsPlan plan →
+        IsReachedWorld plan first w → is_quiet plan.size w.now ≡ true → next_command plan w p ≡ Some c →
+        (q : ℕ) × (d : Command) × (q < plan.size) × (next_command plan w q ≡ Some d) × (d.phase ≡ w.phase) }
 
     // Only commands of the open phase are enabled. No step goes back to an earlier phase; and where one opens a later
     // phase, no parcel is under way and nobody is in an instance.
@@ -540,10 +566,12 @@ pub fn tallies_of_worlds()
         IsReachedWorld plan first w → enabled plan w x ≡ true →
         IsRaised plan.size w.now x (world_after plan w x give).now w.put (world_after plan w x give).put }
 
-    // There are at most as many instances as commands that may begin one. One that has not begun has put nothing, and
-    // each has put few.
+    // There are at most as many instances as commands that may begin one, and as long as a command is left, fewer than
+    // commands. One that has not begun has put nothing, and each has put few.
     ensures instances { (plan : Plan) (first : ℕ) (w : World) → IsPlan plan → IsReachedWorld plan first w →
         w.now.begun ≤ count_begins plan.commands }
+    ensures fewer { (plan : Plan) (first : ℕ) (w : World) (p : ℕ) (c : Command) → IsPlan plan →
+        IsReachedWorld plan first w → next_command plan w p ≡ Some c → w.now.begun < length plan.commands }
     ensures unbegun { (plan : Plan) (first : ℕ) (w : World) (k : ℕ) → IsPlan plan → IsReachedWorld plan first w →
         w.now.begun < k → w.put.asks k ≡ 0 }
     ensures asks { (plan : Plan) (first : ℕ) (w : World) (k : ℕ) → IsPlan plan → IsReachedWorld plan first w →

@@ -1,4 +1,4 @@
-use Rattle.std.proofs.Common.{List, ◌+◌, false, refl, ap, ◌∙◌, take}
+use Rattle.std.proofs.Common.{inl, List, ◌+◌, false, refl, ap, ◌∙◌, take}
 use Rattle.kt_spacetime.specs.declared.event.Event.{Event}
 use Rattle.kt_spacetime.specs.declared.event.Event.TheVariants.{Decided}
 use Rattle.kt_cuts.proofs.Items.{take_item}
@@ -9,11 +9,14 @@ use Rattle.kt_cuts.specs.Cuts.{IsConsistent, permanent_cut, present_cut}
 use Rattle.kt_cuts.specs.Throughout.{HasConsistentDecisions}
 use Rattle.kt_protocol.specs.States.{opening}
 use Rattle.kt_protocol.specs.Steps.{run}
-use Rattle.kt_protocol.specs.Logs.{HasLinkedDecisions, HasLeastDecisions, AbortsWhereUnwilling, JustifiesUnwilling}
+use Rattle.kt_protocol.specs.Logs.{HasLinkedDecisions, HasLeastDecisions, AbortsWhereUnwilling, AbortsChangeNothing, JustifiesUnwilling}
 use Rattle.kt_protocol.proofs.Walk.{invariant_after_run}
 use Rattle.kt_protocol.proofs.LawfulSteps.{lawful_after_run}
 use Rattle.kt_protocol.proofs.JustifiedRows.{justified}
-use Rattle.kt_protocol.proofs.LogMeaning.{all_consistent, all_linked, all_least, permanent_consistent, present_consistent, aborts}
+use Rattle.kt_protocol.proofs.LogMeaning.{all_consistent, all_linked, all_least, permanent_consistent, present_consistent, aborts, aborts_change_nothing}
+use Rattle.kt_certs.specs.DecidedWell.{IsDecidedWell}
+use Rattle.kt_certs.proofs.Passing.{passed, only_memory}
+use Rattle.kt_certs.proofs.Runs.{decided_well}
 use Rattle.kt_promises.proofs.ReachedWorlds.{log_of}
 use Rattle.kt_promises.proofs.laws.logs_of_worlds.Goals as goal
 
@@ -46,3 +49,18 @@ returns-clause-aborted_live c = λ plan first w n p k q i r e. ap (λ (l : List 
 
 pub returns-clause-aborted_permanents : goal.returns-clause-aborted_permanents
 returns-clause-aborted_permanents c = λ plan first w n p k q i r e. ap (λ (l : List Event). (past l).permanent q) (take_item w.now.log n (n + 1) (Decided p k false) refl e) ∙ (abort_row (take n w.now.log) p k q).1
+
+pub returns-clause-promised : goal.returns-clause-promised
+returns-clause-promised c = λ plan first w i r. record {
+  legal = returns-clause-legal c plan first w i r;
+  least_decisions = returns-clause-least_decisions c plan first w i r;
+  linked_decisions = returns-clause-linked_decisions c plan first w i r;
+  permanent_cuts = λ t. returns-clause-permanent_cuts c plan first w t i r;
+  present_cuts = λ t. returns-clause-present_cuts c plan first w t i r;
+  aborts = returns-clause-aborts c plan first w i r;
+  justified = returns-clause-justified c plan first w i r;
+  unchanged = log_of plan first w (λ log. AbortsChangeNothing log) i r (λ s. aborts_change_nothing (run (opening plan.size) s).log);
+  certified = λ f is. only_memory w.now.log f (log_of plan first w IsDecidedWell i r (decided_well plan.size)) is;
+  passed = passed w.now.log (log_of plan first w IsDecidedWell i r (decided_well plan.size));
+  answer = inl (refl, passed w.now.log (log_of plan first w IsDecidedWell i r (decided_well plan.size)));
+}

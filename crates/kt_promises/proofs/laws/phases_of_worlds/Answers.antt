@@ -1,4 +1,4 @@
-use Rattle.kt_promises.proofs.OpenPhase.{ahead_seen, shut_seen, in_phase_seen, quiet_seen}
+use Rattle.kt_promises.proofs.OpenPhase.{ahead_seen, shut_seen, attained_seen, in_phase_seen, quiet_seen}
 use Rattle.kt_promises.proofs.laws.phases_of_worlds.Goals as goal
 
 pub returns-clause-ahead : goal.returns-clause-ahead
@@ -15,3 +15,6 @@ returns-clause-forward c = λ plan first w x give i r e. (quiet_seen plan first 
 
 pub returns-clause-quiet : goal.returns-clause-quiet
 returns-clause-quiet c = λ plan first w x give i r e. (quiet_seen plan first w x give i r e).1
+
+pub returns-clause-attained : goal.returns-clause-attained
+returns-clause-attained c = attained_seen

@@ -1,4 +1,4 @@
-use Rattle.kt_promises.proofs.ProtocolSteps.{one_step, steps_at_start, steps_next, steps_seen, steps_acts}
+use Rattle.kt_promises.proofs.ProtocolSteps.{one_step, steps_at_start, steps_next, steps_seen, steps_acts, seen_acts_are}
 use Rattle.kt_promises.proofs.laws.protocol_of_worlds.Goals as goal
 
 pub returns-clause-start : goal.returns-clause-start
@@ -15,3 +15,6 @@ returns-clause-seen c = steps_seen
 
 pub returns-clause-acts : goal.returns-clause-acts
 returns-clause-acts c = steps_acts
+
+pub returns-clause-seen_acts : goal.returns-clause-seen_acts
+returns-clause-seen_acts c = seen_acts_are

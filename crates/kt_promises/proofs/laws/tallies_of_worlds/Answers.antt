@@ -1,4 +1,4 @@
-use Rattle.kt_promises.proofs.RunsEnd.{raised_seen, few_begun, none_put, few_asks, few_replies, few_decisions}
+use Rattle.kt_promises.proofs.RunsEnd.{raised_seen, few_begun, fewer_begun_seen, none_put, few_asks, few_replies, few_decisions}
 use Rattle.kt_promises.proofs.laws.tallies_of_worlds.Goals as goal
 
 pub returns-clause-instances : goal.returns-clause-instances
@@ -18,3 +18,6 @@ returns-clause-decisions c = λ plan first w k i r. few_decisions plan first w i
 
 pub returns-clause-raised : goal.returns-clause-raised
 returns-clause-raised c = raised_seen
+
+pub returns-clause-fewer : goal.returns-clause-fewer
+returns-clause-fewer c = λ plan first w p d i r e. fewer_begun_seen plan first w i r p d e

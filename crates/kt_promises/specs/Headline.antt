@@ -1,0 +1,31 @@
+-- What is promised of the log of every run.
+use Rattle.std.specs.Prelude.{◌≡◌, ℕ, List, take}
+use Rattle.kt_spacetime.specs.declared.event.Event.{Event}
+use Rattle.kt_cuts.specs.Past.{past}
+use Rattle.kt_cuts.specs.Legal.{IsLegal}
+use Rattle.kt_cuts.specs.Cuts.{IsConsistent, permanent_cut, present_cut}
+use Rattle.kt_checker.specs.Passing.{IsPassed}
+use Rattle.kt_checker.specs.Order.{IsAnswer}
+use Rattle.kt_checker.specs.declared.verdict.Verdict.TheVariants.{Yes}
+use Rattle.kt_certify.specs.Certificates.{certificates}
+use Rattle.kt_certify.specs.Faults.{IsFaultOf}
+use Rattle.kt_certify.specs.declared.fault.CertFault.{CertFault}
+use Rattle.kt_certify.specs.declared.fault.CertFault.TheVariants.{Memory}
+use Rattle.kt_protocol.specs.Logs.{HasLeastDecisions, HasLinkedDecisions, AbortsWhereUnwilling, AbortsChangeNothing, JustifiesUnwilling}
+
+-- each row keeps every rule; the members of each committed instance are the least set, and each but the initiator has a
+-- linking message with an earlier one; at no row the permanent cut or the present cut has an orphan; an instance is aborted
+-- exactly where a process was unwilling, which a message asked for; an abort changes no live history and no permanent
+-- position; and it has certificates, of which the checker says yes
+pub record IsPromised (log : List Event) : Type 0 where
+  pub legal : IsLegal log
+  pub least_decisions : HasLeastDecisions log
+  pub linked_decisions : HasLinkedDecisions log
+  pub permanent_cuts : (t : ℕ) → IsConsistent (past (take t log)) (permanent_cut (past (take t log)))
+  pub present_cuts : (t : ℕ) → IsConsistent (past (take t log)) (present_cut (past (take t log)))
+  pub aborts : AbortsWhereUnwilling log
+  pub justified : JustifiesUnwilling log
+  pub unchanged : AbortsChangeNothing log
+  pub certified : (f : CertFault) → IsFaultOf log f → f ≡ Memory
+  pub passed : IsPassed log (certificates log)
+  pub answer : IsAnswer log (certificates log) Yes
