@@ -1,3 +1,10 @@
+pub mod Looks
+pub mod Defaults
+pub mod Leading
+pub mod ShownPlans
+pub mod Quiet
+pub mod Enabled
+pub mod Places
 pub mod Nexts
 pub mod Phases
 pub mod Reaching

@@ -1,8 +1,9 @@
 -- The phase that is open.
 use Rattle.std.proofs.Common.{◌≡◌, ◌≤◌, ℕ, sym, ◌∙◌, arith}
 use Rattle.kt_core.specs.Agendas.{Agenda, next_command, place_of, IsDone, IsLeastPhase}
-use Rattle.kt_core.specs.Worlds.{World, Settles}
+use Rattle.kt_system.specs.Systems.{Whole}
 use Rattle.kt_system.specs.Reads.{IsQuiet}
+use Rattle.kt_core.specs.Worlds.{SettlesIn}
 
 -- the next commands are told by the plan and the places
 same_next : (a b : Agenda) (p : ℕ) → b.plan ≡ a.plan → b.next ≡ a.next → next_command b p ≡ next_command a p
@@ -22,8 +23,8 @@ pub done_stays : (a b : Agenda) → b.plan ≡ a.plan → b.next ≡ a.next → 
 done_stays a b f g d = record { none = λ p low. sym (same_next a b p f g) ∙ d.none p low }
 
 -- what settles after a step settles for the step
-pub settles_from : (old mid new : World) → mid.agenda.phase ≡ old.agenda.phase → Settles mid new → Settles old new
-settles_from old mid new e s = record {
+pub settles_from : (system : Whole) (old mid new : Agenda) → mid.phase ≡ old.phase → SettlesIn system mid new → SettlesIn system old new
+settles_from system old mid new e s = record {
   busy = λ q. s.busy q ∙ e;
   done = λ d. s.done d ∙ e;
   stays = λ least l below. s.stays least l (let x = e in omega arith) ∙ e;
@@ -31,13 +32,13 @@ settles_from old mid new e s = record {
 }
 
 -- the next phase is open, where all is quiet
-pub settles_quiet : (old new : World) → IsQuiet new.system → new.agenda.plan ≡ old.agenda.plan → new.agenda.next ≡ old.agenda.next
-    → (IsDone old.agenda → new.agenda.phase ≡ old.agenda.phase)
-    → ((least : ℕ) → IsLeastPhase old.agenda least → least ≤ old.agenda.phase → new.agenda.phase ≡ old.agenda.phase)
-    → ((least : ℕ) → IsLeastPhase old.agenda least → old.agenda.phase ≤ least → new.agenda.phase ≡ least) → Settles old new
-settles_quiet old new quiet f g done stays opens = record {
+pub settles_quiet : (system : Whole) (old new : Agenda) → IsQuiet system → new.plan ≡ old.plan → new.next ≡ old.next
+    → (IsDone old → new.phase ≡ old.phase)
+    → ((least : ℕ) → IsLeastPhase old least → least ≤ old.phase → new.phase ≡ old.phase)
+    → ((least : ℕ) → IsLeastPhase old least → old.phase ≤ least → new.phase ≡ least) → SettlesIn system old new
+settles_quiet system old new quiet f g done stays opens = record {
   busy = λ busy. absurd (busy quiet);
-  done = λ d. done (done_stays old.agenda new.agenda f g d);
-  stays = λ least l below. stays least (least_stays old.agenda new.agenda least f g l) below;
-  opens = λ least q l below. opens least (least_stays old.agenda new.agenda least f g l) below;
+  done = λ d. done (done_stays old new f g d);
+  stays = λ least l below. stays least (least_stays old new least f g l) below;
+  opens = λ least q l below. opens least (least_stays old new least f g l) below;
 }

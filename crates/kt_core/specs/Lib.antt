@@ -1,3 +1,3 @@
 pub mod Agendas
 pub mod Worlds
-pub mod Reached
+pub mod Shown

@@ -15,8 +15,8 @@ use Rattle.kt_process.specs.Turns.{IsFresh}
 use Rattle.kt_spacetime.specs.declared.event.Event.{Event}
 use Rattle.kt_system.specs.Systems.{Whole, person, IsSame}
 use Rattle.kt_system.specs.Reads.{can_take, would_save, tally_of, no_tally, IsQuiet, IsNextTake, HasNoTake}
-use Rattle.kt_core.specs.Reached.{IsReached}
 use Rattle.kt_core.specs.Agendas.{Agenda, place_of, open_command, IsDone, IsLeastPhase, IsNextOf}
+use Rattle.kt_core.specs.Shown.{IsReached}
 use Rattle.kt_core.specs.declared.faults.StepFault.{StepFault}
 use Rattle.kt_core.specs.declared.faults.StepFault.TheVariants.{NotEnabled, LogFull, LabelsSpent}
 
@@ -26,9 +26,9 @@ pub record World : Type 0 where
   pub system : Whole
   pub limit : ℕ
 
--- the processes are those of the plan, and steps of the protocol have led to what they keep
+-- the processes are those of the plan, and a run of it leads here
 pub record IsWorld (w : World) : Type 0 where
-  pub reached : IsReached w.system
+  pub reached : IsReached w.agenda w.system
   pub size : w.system.size ≡ length w.agenda.plan.names
   pub rows : w.limit ≤ 2 ^ 24
 
@@ -155,9 +155,13 @@ pub record IsOpening (w : World) (plan : Planned) (used limit : ℕ) : Type 0 wh
   pub tallies : (inst : ℕ) → tally_of w.system inst ≡ no_tally
   pub full : w.limit ≡ limit
 
--- once all is quiet, and what is done so far leaves nothing of the open phase, the next phase that has commands is open
-pub record Settles (old new : World) : Type 0 where
-  pub busy : ¬ IsQuiet new.system → new.agenda.phase ≡ old.agenda.phase
-  pub done : IsDone new.agenda → new.agenda.phase ≡ old.agenda.phase
-  pub stays : (least : ℕ) → IsLeastPhase new.agenda least → least ≤ old.agenda.phase → new.agenda.phase ≡ old.agenda.phase
-  pub opens : (least : ℕ) → IsQuiet new.system → IsLeastPhase new.agenda least → old.agenda.phase ≤ least → new.agenda.phase ≡ least
+-- once all is quiet in a system, and what is done so far leaves nothing of the open phase, the next phase that has commands
+-- is open
+pub record SettlesIn (system : Whole) (old new : Agenda) : Type 0 where
+  pub busy : ¬ IsQuiet system → new.phase ≡ old.phase
+  pub done : IsDone new → new.phase ≡ old.phase
+  pub stays : (least : ℕ) → IsLeastPhase new least → least ≤ old.phase → new.phase ≡ old.phase
+  pub opens : (least : ℕ) → IsQuiet system → IsLeastPhase new least → old.phase ≤ least → new.phase ≡ least
+
+abbrev pub Settles : World → World → Type 0
+Settles old new = SettlesIn new.system old.agenda new.agenda

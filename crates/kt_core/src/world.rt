@@ -8,7 +8,10 @@ ghost use Rattle.kt_cuts.specs.Past.{past};
 ghost use Rattle.kt_cuts.specs.Legal.{IsLegal};
 ghost use Rattle.kt_cuts.specs.Cuts.{IsConsistent, permanent_cut, present_cut};
 ghost use Rattle.kt_protocol.specs.Logs.{HasLinkedDecisions, HasLeastDecisions, AbortsWhereUnwilling, AbortsChangeNothing, JustifiesUnwilling};
+ghost use Rattle.kt_promises.specs.World.{start_world};
+ghost use Rattle.kt_promises.specs.Headline.{IsPromised};
 ghost use Rattle.kt_core.specs.Worlds.{IsOpening};
+ghost use Rattle.kt_core.specs.Shown.{IsRun, IsReached, plan_shown};
 
 use crate::agenda::Agenda;
 use kt_base::{InstNo, Label, Memory, ProcNo, RowNo};
@@ -45,23 +48,26 @@ impl Model for World {
 }
 
 impl World {
-    /// The world in which nothing of a plan is done.
+    /// The world in which nothing of a plan is done: where each run of the plan starts.
     pub fn new(alloc: Global, plan: Plan) -> Result<World, Memory>
-        ensures { IfOk result (λ w. IsOpening w plan 0 (2 ^ 24)) }
+        ensures opening { IfOk result (λ w. IsOpening w plan 0 (2 ^ 24)) }
+        ensures starts { IfOk result (λ w. IsRun w.agenda w.system 0 (start_world (plan_shown plan) 0)) }
     {
         World::make(alloc, plan, no_label(), MAX_ROWS)
     }
 
     /// The world in which nothing of a plan is done, where each process's labels come after `used`.
     pub fn with_labels(alloc: Global, plan: Plan, used: Label) -> Result<World, Memory>
-        ensures { IfOk result (λ w. IsOpening w plan used (2 ^ 24)) }
+        ensures opening { IfOk result (λ w. IsOpening w plan used (2 ^ 24)) }
+        ensures starts { IfOk result (λ w. IsRun w.agenda w.system used (start_world (plan_shown plan) used)) }
     {
         World::make(alloc, plan, used, MAX_ROWS)
     }
 
     /// The world in which nothing of a plan is done, whose log is full at so many rows.
     pub fn with_rows(alloc: Global, plan: Plan, limit: RowNo) -> Result<World, Memory>
-        ensures { IfOk result (λ w. IsOpening w plan 0 limit) }
+        ensures opening { IfOk result (λ w. IsOpening w plan 0 limit) }
+        ensures starts { IfOk result (λ w. IsRun w.agenda w.system 0 (start_world (plan_shown plan) 0)) }
     {
         World::make(alloc, plan, no_label(), limit.get() as usize)
     }
@@ -70,10 +76,12 @@ impl World {
     /// than commands.
     fn make(alloc: Global, plan: Plan, used: Label, limit: usize) -> Result<World, Memory>
         requires { limit ≤ 2 ^ 24 }
-        ensures { IfOk result (λ w. IsOpening w plan used limit) }
+        ensures opening { IfOk result (λ w. IsOpening w plan used limit) }
+        ensures starts { IfOk result (λ w. IsRun w.agenda w.system used (start_world (plan_shown plan) used)) }
     {
         let size = plan.size();
         let system = System::new(alloc, size, used, plan.commands.len())?;
+        let _processes = system.processes();
         let mut agenda = Agenda::new(alloc, plan)?;
         agenda.open_next();
         Ok(World {
@@ -94,6 +102,9 @@ impl World {
     /// The log: that of a run of the protocol, whatever steps were made in whatever order.
     pub fn log(&self) -> &SpaceTime
         ensures log { result.now ≡ self.now.system.rows }
+
+        // A run of the plan leads here.
+        ensures reached { IsReached self.now.agenda self.now.system }
 
         // Each row keeps every rule.
         ensures legal { IsLegal result.now.rows }
@@ -117,10 +128,12 @@ impl World {
         self.system.log()
     }
 
-    /// The log alone.
+    /// The log alone, of which all is so that is promised of a run's.
     pub fn into_log(self) -> SpaceTime
-        ensures { result ≡ self.system.rows }
+        ensures log { result ≡ self.system.rows }
+        ensures promised { IsPromised result.rows }
     {
+        kt_promises::logs_of_worlds();
         self.system.into_log()
     }
 

@@ -1,17 +1,31 @@
 //! Commands.
 
-ghost use Rattle.std.specs.Prelude.{◌≡◌, ◌<◌, ◌≤◌, ◌+◌, ◌^◌, ◌-◌, None, OnOk, OnErr, true, length};
+ghost use Rattle.std.specs.Prelude.{◌≡◌, ◌<◌, ◌≤◌, ◌+◌, ◌^◌, ◌-◌, ℕ, None, IfOk, OnOk, OnErr, true, length};
 ghost use Rattle.kt_plan.specs.Limits.{IsJobOf};
 ghost use Rattle.kt_process.specs.Persons.{inst_of};
+ghost use Rattle.kt_tables.specs.Calls.{Speaks};
+ghost use Rattle.kt_seen.specs.Seen.{Seen};
+ghost use Rattle.kt_seen.specs.Transition.{transition};
 ghost use Rattle.kt_system.specs.Systems.{person, IsSame, Grows};
-ghost use Rattle.kt_core.specs.Worlds.{refusal, is_send, IsSameWorld, HasDone};
+ghost use Rattle.kt_system.specs.Shown.{Shows};
+ghost use Rattle.kt_system.specs.ShownActs.{acts_shown};
+ghost use Rattle.kt_values.specs.SeenActs.{seen_acts};
+ghost use Rattle.kt_phases.specs.Steps.{protocol_step};
+ghost use Rattle.kt_promises.specs.World as run_world;
+ghost use Rattle.kt_promises.specs.Steps.{world_after};
+ghost use Rattle.kt_promises.specs.StepActs.{acts_of_step};
+ghost use Rattle.kt_core.specs.Worlds.{refusal, is_send, IsSameWorld, HasDone, Settles};
+ghost use Rattle.kt_core.specs.Shown.{IsRun, plan_shown, step_shown, give_shown, job_shown};
 
 use super::World;
+use super::steps::settle;
 use kt_base::{Memory, ProcNo};
 use kt_plan::{Act, Give, Job, Step};
+use kt_system::System;
+use std::alloc::Global;
 
 impl World {
-    /// A process does its next command.
+    /// A process does its next command; then the next phase may open.
     pub(super) fn do_next(&mut self, p: ProcNo, give: Give) -> Result<[Act; 2], Memory>
         requires { refusal self.old (Step.Do p) ≡ None }
         ensures plan { self.new.agenda.plan ≡ self.old.agenda.plan }
@@ -20,34 +34,48 @@ impl World {
         ensures err { OnErr result (IsSameWorld self.new self.old) }
         ensures grows { Grows 4 self.old.system self.new.system }
         ensures done { OnOk result (HasDone self.old.agenda self.new.agenda (Step.Do p)) }
-        ensures phase { self.new.agenda.phase ≡ self.old.agenda.phase }
+        ensures settled { OnOk result (Settles self.old self.new) }
+        ensures leads { (first : ℕ) (v : run_world.World) → IsRun self.old.agenda self.old.system first v →
+            OnOk result (IsRun self.new.agenda self.new.system first (world_after (plan_shown self.old.agenda.plan) v (step_shown (Step.Do p)) (give_shown give))) }
+        ensures acts { (first : ℕ) (v : run_world.World) → IsRun self.old.agenda self.old.system first v →
+            IfOk result (λ acts. acts_shown acts ≡ acts_of_step (plan_shown self.old.agenda.plan) v (step_shown (Step.Do p)) (give_shown give) p) }
     {
         let Some(command) = self.agenda.open_command(p) else {
             return Ok([Act::Nothing, Act::Nothing]);
         };
-        let acts = self.do_job(p, &command.job, give)?;
+        let acts = do_job(self.alloc, &mut self.system, p, &command.job, give)?;
         self.agenda.advance(p);
+        settle(&mut self.agenda, &self.system);
         Ok(acts)
     }
+}
 
-    /// A process does a job.
-    fn do_job(&mut self, p: ProcNo, job: &Job, give: Give) -> Result<[Act; 2], Memory>
-        requires p { p < self.old.system.size }
-        requires job { IsJobOf self.old.system.size p job.now }
-        requires few { length self.old.system.rows.rows + 4 ≤ 2 ^ 24 }
-        requires left { is_send job.now ≡ true → (person self.old.system p).up ≡ true → (person self.old.system p).used < 2 ^ 48 - 1 }
-        requires free { is_send job.now ≡ true → inst_of (person self.old.system p).side ≡ None }
-        ensures agenda { self.new.agenda ≡ self.old.agenda }
-        ensures limit { self.new.limit ≡ self.old.limit }
-        ensures size { self.new.system.size ≡ self.old.system.size }
-        ensures grows { Grows 4 self.old.system self.new.system }
-        ensures err { OnErr result (IsSame self.new.system self.old.system) }
-    {
-        match *job {
-            Job::Send { to, body } => self.system.send(p, to, body.unwrap_or(give.body)),
-            Job::Checkpoint => self.system.begin_checkpoint(self.alloc, p, give.able),
-            Job::Rollback => self.system.begin_rollback(p),
-            Job::Fail => self.system.fail(p),
-        }
+/// A process does a job.
+fn do_job(
+    alloc: Global,
+    system: &mut System,
+    p: ProcNo,
+    job: &Job,
+    give: Give,
+) -> Result<[Act; 2], Memory>
+    requires p { p < system.old.size }
+    requires job { IsJobOf system.old.size p job.now }
+    requires few { length system.old.rows.rows + 4 ≤ 2 ^ 24 }
+    requires left { is_send job.now ≡ true → (person system.old p).up ≡ true → (person system.old p).used < 2 ^ 48 - 1 }
+    requires free { is_send job.now ≡ true → inst_of (person system.old p).side ≡ None }
+    ensures size { system.new.size ≡ system.old.size }
+    ensures grows { Grows 4 system.old system.new }
+    ensures err { OnErr result (IsSame system.new system.old) }
+    ensures shows { (v : Seen) → Shows system.old v → system.old.begun < 4096 →
+        Speaks (((transition v (protocol_step p (job_shown job.now) (give_shown give))).people p).calls) →
+        OnOk result (Shows system.new (transition v (protocol_step p (job_shown job.now) (give_shown give)))) }
+    ensures acts { (v : Seen) → Shows system.old v → system.old.begun < 4096 →
+        IfOk result (λ acts. acts_shown acts ≡ seen_acts v (protocol_step p (job_shown job.now) (give_shown give))) }
+{
+    match *job {
+        Job::Send { to, body } => system.send(p, to, body.unwrap_or(give.body)),
+        Job::Checkpoint => system.begin_checkpoint(alloc, p, give.able),
+        Job::Rollback => system.begin_rollback(p),
+        Job::Fail => system.fail(p),
     }
 }

@@ -2,6 +2,12 @@
 
 ghost use Rattle.std.specs.Prelude.{◌≡◌, ◌<◌, ◌+◌, ◌↔◌, ℕ, true, false, IsTrue, IfSome, IfNone};
 ghost use Rattle.kt_core.specs.Worlds.{enabled, can_do, look, look_of_step, lacks_label, is_send, IsAtRest, IsNextDo, IsFirstBelow, IsDefaultStep, IsNextStepOf, stepper};
+ghost use Rattle.std.specs.Option.{option_map};
+ghost use Rattle.kt_promises.specs.World as run_world;
+ghost use Rattle.kt_promises.specs.Steps as run_steps;
+ghost use Rattle.kt_promises.specs.Looks as run_looks;
+ghost use Rattle.kt_promises.specs.Defaults as run_defaults;
+ghost use Rattle.kt_core.specs.Shown.{IsRun, IsReached, plan_shown, step_shown, look_shown};
 
 use super::World;
 use kt_base::ProcNo;
@@ -10,6 +16,15 @@ use kt_plan::{Job, Look, Step};
 impl World {
     /// Whether a step can be made.
     pub fn enabled(&self, step: &Step) -> bool
+        ensures enabled { result ≡ enabled self.now step.now }
+        ensures in_runs { (first : ℕ) (v : run_world.World) → IsRun self.now.agenda self.now.system first v →
+            result ≡ run_steps.enabled (plan_shown self.now.agenda.plan) v (step_shown step.now) }
+    {
+        self.can_make(step)
+    }
+
+    /// Whether a step can be made.
+    fn can_make(&self, step: &Step) -> bool
         ensures { result ≡ enabled self.now step.now }
     {
         match *step {
@@ -33,6 +48,15 @@ impl World {
 
     /// What a step needs of the process's object.
     pub fn look(&self, step: &Step) -> Look
+        ensures look { result ≡ look self.now step.now }
+        ensures in_runs { (first : ℕ) (v : run_world.World) → IsRun self.now.agenda self.now.system first v →
+            look_shown result ≡ run_looks.look (plan_shown self.now.agenda.plan) v (step_shown step.now) }
+    {
+        self.needs(step)
+    }
+
+    /// What a step needs of the process's object.
+    fn needs(&self, step: &Step) -> Look
         ensures { result ≡ look self.now step.now }
     {
         if !self.enabled(step) {
@@ -93,7 +117,20 @@ impl World {
 
     /// Whether all is done: all commands, all channels and held lists are empty, and no process is in an instance.
     pub fn at_rest(&self) -> bool
-        ensures { IsTrue result ↔ IsAtRest self.now }
+        ensures rest { IsTrue result ↔ IsAtRest self.now }
+        ensures in_runs { (first : ℕ) (v : run_world.World) → IsRun self.now.agenda self.now.system first v →
+            result ≡ run_steps.is_at_rest (plan_shown self.now.agenda.plan) v }
+
+        // Never stuck: where no step is enabled, all is done.
+        ensures stuck { ((step : Step) → enabled self.now step ≡ false) → IsTrue result }
+    {
+        self.is_over()
+    }
+
+    /// Whether all is done.
+    fn is_over(&self) -> bool
+        ensures rest { IsTrue result ↔ IsAtRest self.now }
+        ensures reached { IsReached self.now.agenda self.now.system }
     {
         self.agenda.is_done() && self.system.is_quiet()
     }
@@ -101,6 +138,17 @@ impl World {
     /// The step that is made where none is given: the enabled `Take` with the least `at`, then the least `from`; with
     /// none, the enabled `Do` whose command comes first.
     pub fn default_step(&self) -> Option<Step>
+        ensures step { IfSome result (IsDefaultStep self.now) }
+        ensures enabled { IfSome result (λ step. enabled self.now step ≡ true) }
+        ensures none { IfNone result ((step : Step) → enabled self.now step ≡ false) }
+        ensures in_runs { (first : ℕ) (v : run_world.World) → IsRun self.now.agenda self.now.system first v →
+            option_map step_shown result ≡ run_defaults.default_step (plan_shown self.now.agenda.plan) v }
+    {
+        self.first_step()
+    }
+
+    /// The step that is made where none is given.
+    fn first_step(&self) -> Option<Step>
         ensures step { IfSome result (IsDefaultStep self.now) }
         ensures enabled { IfSome result (λ step. enabled self.now step ≡ true) }
         ensures none { IfNone result ((step : Step) → enabled self.now step ≡ false) }

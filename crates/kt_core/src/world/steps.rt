@@ -1,14 +1,22 @@
 //! Steps.
 
 ghost use Rattle.std.specs.Prelude.{◌≡◌, ◌⊎◌, ◌<◌, ◌≤◌, ◌+◌, ◌^◌, ℕ, Some, None, Err, IfSome, IfOk, IfErr, OnOk, OnErr, length, slice_get};
-ghost use Rattle.kt_system.specs.Systems.{Grows};
-ghost use Rattle.kt_core.specs.Worlds.{enabled, refusal, IsSameWorld, HasDone, Settles, numbered_row};
+ghost use Rattle.kt_process.specs.Persons.{part_of, IsNumbered};
+ghost use Rattle.kt_system.specs.Systems.{person, Grows};
+ghost use Rattle.kt_promises.specs.World as run_world;
+ghost use Rattle.kt_system.specs.ShownActs.{acts_shown};
+ghost use Rattle.kt_promises.specs.Steps.{world_after};
+ghost use Rattle.kt_promises.specs.StepActs.{acts_of_step};
+ghost use Rattle.kt_core.specs.Worlds.{enabled, refusal, IsSameWorld, HasDone, Settles, SettlesIn, numbered_row, stepper};
+ghost use Rattle.kt_core.specs.Shown.{IsRun, plan_shown, step_shown, give_shown};
 
 use super::World;
+use crate::agenda::Agenda;
 use crate::faults::StepFault;
-use kt_base::{Memory, RowNo};
+use kt_base::{Memory, ProcNo, RowNo};
 use kt_plan::{Act, Give, Step, Told};
 use kt_spacetime::Event;
+use kt_system::System;
 
 impl World {
     /// Makes a step, and tells its rows and what is to be done to the process's object. `give` has what `look` says that
@@ -27,6 +35,10 @@ impl World {
         ensures err { OnErr result (IsSameWorld self.new self.old) }
         ensures done { OnOk result (HasDone self.old.agenda self.new.agenda step) }
         ensures settled { OnOk result (Settles self.old self.new) }
+        ensures leads { (first : ℕ) (v : run_world.World) → IsRun self.old.agenda self.old.system first v →
+            OnOk result (IsRun self.new.agenda self.new.system first (world_after (plan_shown self.old.agenda.plan) v (step_shown step) (give_shown give))) }
+        ensures acts { (first : ℕ) (v : run_world.World) → IsRun self.old.agenda self.old.system first v →
+            IfOk result (λ told. acts_shown told.acts ≡ acts_of_step (plan_shown self.old.agenda.plan) v (step_shown step) (give_shown give) (stepper step)) }
         ensures step { IfOk result (λ told. told.step ≡ step) }
         ensures told { IfOk result (λ told. (i : ℕ) → i < 4 → slice_get told.rows i ≡ Some (numbered_row self.new.system.rows.rows (length self.old.system.rows.rows + i))) }
     {
@@ -35,7 +47,6 @@ impl World {
         }
         let count = self.system.log().rows().len();
         let acts = self.make_step(&step, give)?;
-        self.settle();
         Ok(Told {
             step,
             rows: self.rows_after(count),
@@ -68,25 +79,36 @@ impl World {
         ensures err { OnErr result (IsSameWorld self.new self.old) }
         ensures grows { Grows 4 self.old.system self.new.system }
         ensures done { OnOk result (HasDone self.old.agenda self.new.agenda step.now) }
-        ensures phase { self.new.agenda.phase ≡ self.old.agenda.phase }
+        ensures settled { OnOk result (Settles self.old self.new) }
+        ensures leads { (first : ℕ) (v : run_world.World) → IsRun self.old.agenda self.old.system first v →
+            OnOk result (IsRun self.new.agenda self.new.system first (world_after (plan_shown self.old.agenda.plan) v (step_shown step.now) (give_shown give))) }
+        ensures acts { (first : ℕ) (v : run_world.World) → IsRun self.old.agenda self.old.system first v →
+            IfOk result (λ acts. acts_shown acts ≡ acts_of_step (plan_shown self.old.agenda.plan) v (step_shown step.now) (give_shown give) (stepper step.now)) }
     {
         match *step {
             Step::Do(p) => self.do_next(p, give),
-            Step::Take { at, from } => self.system.take(self.alloc, at, from, give.able),
+            Step::Take { at, from } => self.take(at, from, give),
         }
     }
 
-    /// The next phase opens, where the open one is done and nothing is under way.
-    fn settle(&mut self)
+    /// A process takes a parcel of another one; then the next phase may open.
+    fn take(&mut self, at: ProcNo, from: ProcNo, give: Give) -> Result<[Act; 2], Memory>
+        requires { refusal self.old (Step.Take at from) ≡ None }
         ensures plan { self.new.agenda.plan ≡ self.old.agenda.plan }
-        ensures next { self.new.agenda.next ≡ self.old.agenda.next }
-        ensures settled { Settles self.old self.new }
-        ensures system { self.new.system ≡ self.old.system }
         ensures limit { self.new.limit ≡ self.old.limit }
+        ensures size { self.new.system.size ≡ self.old.system.size }
+        ensures err { OnErr result (IsSameWorld self.new self.old) }
+        ensures grows { Grows 4 self.old.system self.new.system }
+        ensures done { OnOk result (HasDone self.old.agenda self.new.agenda (Step.Take at from)) }
+        ensures settled { OnOk result (Settles self.old self.new) }
+        ensures leads { (first : ℕ) (v : run_world.World) → IsRun self.old.agenda self.old.system first v →
+            OnOk result (IsRun self.new.agenda self.new.system first (world_after (plan_shown self.old.agenda.plan) v (step_shown (Step.Take at from)) (give_shown give))) }
+        ensures acts { (first : ℕ) (v : run_world.World) → IsRun self.old.agenda self.old.system first v →
+            IfOk result (λ acts. acts_shown acts ≡ acts_of_step (plan_shown self.old.agenda.plan) v (step_shown (Step.Take at from)) (give_shown give) at) }
     {
-        if self.system.is_quiet() {
-            self.agenda.open_next();
-        }
+        let acts = self.system.take(self.alloc, at, from, give.able)?;
+        settle(&mut self.agenda, &self.system);
+        Ok(acts)
     }
 
     /// The rows after the first so many, four at most, with their numbers.
@@ -108,5 +130,18 @@ impl World {
     {
         let event = self.system.log().rows().get(count)?;
         Some((RowNo::after(count), *event))
+    }
+}
+
+/// The next phase opens, where the open one is done and nothing is under way.
+pub(super) fn settle(agenda: &mut Agenda, system: &System)
+    ensures plan { agenda.new.plan ≡ agenda.old.plan }
+    ensures next { agenda.new.next ≡ agenda.old.next }
+    ensures settled { SettlesIn system.now agenda.old agenda.new }
+    ensures numbered { (p : ℕ) → p < system.now.size → IsNumbered (part_of (person system.now p).side) }
+{
+    let _processes = system.processes();
+    if system.is_quiet() {
+        agenda.open_next();
     }
 }

@@ -1,15 +1,20 @@
 use Rattle.std.proofs.Common.{ap, length}
-use Rattle.kt_plan.specs.Limits.{Planned}
+use Rattle.kt_plan.specs.Limits.{Planned, IsPlan}
 use Rattle.std.proofs.Common.{[]}
 use Rattle.std.proofs.Common.{◌∙◌, ℕ, List, arith, sym, subst, refl, slice_index_or}
 use Rattle.kt_process.specs.Turns.{IsFresh}
 use Rattle.kt_system.specs.Systems.{person}
-use Rattle.kt_core.specs.Agendas.{IsNextOf}
+use Rattle.kt_seen.specs.Transition.{opening_seen}
+use Rattle.kt_system.specs.Shown.{Shows}
+use Rattle.kt_promises.specs.World.{start_world}
+use Rattle.kt_core.specs.Agendas.{IsNextOf, place_of}
+use Rattle.kt_core.specs.Shown.{IsRun, plan_shown}
+use Rattle.kt_core.proofs.Leading.{start_leads}
 use Rattle.kt_core.proofs.Phases.{least_stays}
 use Rattle.kt_core.proofs.world.World.make.Goals as goal
 
-pub returns : goal.returns
-returns c =
+pub returns-clause-opening : goal.returns-clause-opening
+returns-clause-opening c =
     let made = c.in_ok-agenda.ensures in
     let opened = c.open_next.ensures in
     let system = c.in_ok-system.ensures in
@@ -27,13 +32,27 @@ returns c =
       full = refl;
     }
 
+pub returns-clause-starts : goal.returns-clause-starts
+returns-clause-starts c =
+    let made = c.in_ok-agenda.ensures in
+    let opened = c.open_next.ensures in
+    let first = c.in_ok-agenda.agenda in
+    let last = c.open_next.new.self in
+    let size = c.size-size.ensures in
+    subst (λ (plan : Planned). IsRun last c.in_ok-system.system c.args.used (start_world (plan_shown plan) c.args.used)) made.plan
+    (start_leads first last c.in_ok-system.system c.args.used (subst (λ (plan : Planned). IsPlan plan) (sym made.plan) size.plan) (c.in_ok-system.ensures.size ∙ (size.size ∙ ap (λ (plan : Planned). length plan.names) (sym made.plan))) c.processes-processes.ensures.numbered
+    (subst (λ (n : ℕ). Shows c.in_ok-system.system (opening_seen n c.args.used)) (size.size ∙ ap (λ (plan : Planned). length plan.names) (sym made.plan)) c.in_ok-system.ensures.shows)
+    (λ p low. subst (λ (plan : Planned). IsNextOf plan.commands p 0 (place_of first p)) (sym made.plan) (made.next p low))
+    opened.plan opened.next
+    (λ least l. opened.opens least (least_stays first last least opened.plan opened.next l) (let zero = made.phase in omega (arith, zero))))
+
 pub invariant_of-result : goal.invariant_of-result
 invariant_of-result c =
     let made = c.in_ok-agenda.ensures in
     let opened = c.open_next.ensures in
     let system = c.in_ok-system.ensures in
     record {
-      reached = (_, c.args.used, [], system.shows);
+      reached = (c.args.used, start_world (plan_shown c.args.plan) c.args.used, returns-clause-starts c);
       size = system.size ∙ (c.size-size.ensures.size ∙ ap (λ (plan : Planned). length plan.names) (sym (opened.plan ∙ made.plan)));
       rows = c.requires;
     }

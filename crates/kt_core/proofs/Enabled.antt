@@ -1,0 +1,98 @@
+-- Which steps can be made, as the laws have it.
+use Rattle.std.specs.Prelude.{◌==◌, ◌&&◌, ◌||◌, not, nat_lt, nat_le, if◌then◌else◌, Option, option_map, is_none}
+use Rattle.std.proofs.Common.{◌≡◌, ◌<◌, ◌≤◌, ℕ, Bool, true, false, Some, None, length, refl, sym, arith, ap, subst, ◌∙◌}
+use Rattle.std.proofs.lemmas.Bool.Decides.{nat_tests}
+use Rattle.kt_plan.specs.declared.commands.Command.{Command}
+use Rattle.kt_plan.specs.declared.commands.Job.{Job}
+use Rattle.kt_plan.specs.declared.commands.Job.TheVariants.{Send, Checkpoint, Rollback, Fail}
+use Rattle.kt_plan.specs.declared.steps.Step.{Step}
+use Rattle.kt_plan.specs.declared.steps.Step.TheVariants.{Do, Take}
+use Rattle.kt_process.specs.Persons.{inst_of}
+use Rattle.kt_system.specs.Systems.{person}
+use Rattle.kt_system.specs.Reads.{can_take}
+use Rattle.kt_phases.specs.Plans as run
+use Rattle.kt_phases.specs.Steps as run_steps
+use Rattle.kt_promises.specs.World as run_world
+use Rattle.kt_promises.specs.Steps as run_after
+use Rattle.kt_promises.proofs.OpenPhase.{ahead_seen}
+use Rattle.kt_core.specs.Agendas.{next_command, if_open}
+use Rattle.kt_core.specs.Worlds.{World, is_send, may_do, can_do, enabled, refusal, is_full, lacks_label}
+use Rattle.kt_core.specs.declared.faults.StepFault.{StepFault}
+use Rattle.kt_core.specs.declared.faults.StepFault.TheVariants.{NotEnabled, LogFull, LabelsSpent}
+use Rattle.kt_core.specs.Shown.{IsRun, command_shown, plan_shown, job_shown, step_shown}
+use Rattle.kt_core.proofs.Places.{next_is, next_shown}
+use Rattle.kt_core.proofs.ShownPlans.{plan_is}
+use Rattle.kt_core.proofs.Quiet.{AreNumbered, closed_is, can_take_is}
+
+and_same : (a b c d : Bool) → a ≡ c → (a ≡ true → b ≡ d) → (a && b) ≡ (c && d)
+and_same true b true d e f = f refl
+and_same true b false d e f = absurd (cc (e))
+and_same false b true d e f = absurd (cc (e))
+and_same false b false d e f = refl
+
+and_both : (a b c d e f : Bool) → a ≡ d → b ≡ e → (a ≡ true → b ≡ true → c ≡ f) → (a && (b && c)) ≡ ((d && e) && f)
+and_both true true c true true f x y g = g refl refl
+and_both true true c true false f x y g = absurd (cc (y))
+and_both true false c true true f x y g = absurd (cc (y))
+and_both true false c true false f x y g = refl
+and_both true b c false e f x y g = absurd (cc (x))
+and_both false b c true e f x y g = absurd (cc (x))
+and_both false b c false e f x y g = refl
+
+pub below : (p n : ℕ) → nat_lt p n ≡ true → p < n
+below p n e = grind (arith, nat_tests, e)
+
+phase_test : (c a v : ℕ) → a ≡ v → v ≤ c → (c == v) ≡ nat_le c a
+phase_test c a v e h = go (nat_le c a) refl
+  where
+    go : (b : Bool) → nat_le c a ≡ b → (c == v) ≡ b
+    go true f = (let k : (c == v) ≡ true = grind (arith, nat_tests, e, h, f) in k)
+    go false f = (let k : (c == v) ≡ false = grind (arith, nat_tests, e, h, f) in k)
+
+module _ (w : World) (first : ℕ) (v : run_world.World) (r : IsRun w.agenda w.system first v) where
+  size : w.system.size ≡ length w.agenda.plan.names
+  size = r.size
+
+  num : AreNumbered w.system
+  num = r.numbered
+
+  pub few : (p : ℕ) → p < w.system.size → p < 64
+  few p l = let f = r.limits.names.few in omega (arith, l, size, f)
+
+  may_do_job : (p : ℕ) → p < w.system.size → (j : Job) → (not (is_send j) || is_none (inst_of (person w.system p).side)) ≡ run_steps.may_do_job ((v.now.people p).inst == 0) (job_shown j)
+  may_do_job p l (Send to body) = closed_is (person w.system p) (v.now.people p) (r.now.people p l) (num p l)
+  may_do_job p l Checkpoint = refl
+  may_do_job p l Rollback = refl
+  may_do_job p l Fail = refl
+
+  may_do_is : (p : ℕ) → p < w.system.size → (o : Option Command) → next_command w.agenda p ≡ o → may_do (person w.system p) (if_open w.agenda.phase o) ≡ run_after.may_do v p (option_map command_shown o)
+  may_do_is p l None e = refl
+  may_do_is p l (Some c) e =
+      let ahead = ahead_seen (plan_shown w.agenda.plan) first v p (command_shown c) (plan_is w.agenda.plan r.limits) r.reached (next_shown w.agenda v p c r.places (few p l) e) in
+      go (nat_le c.phase w.agenda.phase) (phase_test c.phase w.agenda.phase v.phase (r.phase p c (few p l) e) ahead)
+    where
+      go : (b : Bool) → (c.phase == v.phase) ≡ b → may_do (person w.system p) (if b then Some c else None) ≡ ((c.phase == v.phase) && run_steps.may_do_job ((v.now.people p).inst == 0) (job_shown c.job))
+      go true f = rw f (may_do_job p l c.job)
+      go false f = rw f refl
+
+  pub enabled_is : (x : Step) → enabled w x ≡ run_after.enabled (plan_shown w.agenda.plan) v (step_shown x)
+  enabled_is (Do p) = and_same (nat_lt p w.system.size) (can_do w p) (nat_lt p (length w.agenda.plan.names)) _ (ap (λ (n : ℕ). nat_lt p n) size)
+      (λ e. let l = below p w.system.size e in may_do_is p l (next_command w.agenda p) refl ∙ ap (λ (o : Option run.Command). run_after.may_do v p o) (next_is w.agenda v p r.places (few p l)))
+  enabled_is (Take p q) = and_both (nat_lt p w.system.size) (nat_lt q w.system.size) (can_take w.system p q) (nat_lt p (length w.agenda.plan.names)) (nat_lt q (length w.agenda.plan.names)) (run_after.can_take v.now p q)
+      (ap (λ (n : ℕ). nat_lt p n) size) (ap (λ (n : ℕ). nat_lt q n) size) (λ e f. can_take_is w.system v.now p q r.now num (below p w.system.size e))
+
+-- what is refused for nothing but want of memory is enabled
+pub enabled_if : (w : World) (x : Step) → refusal w x ≡ None → enabled w x ≡ true
+enabled_if w x e = go (enabled w x) e
+  where
+    go : (b : Bool) → (if not b then Some NotEnabled else if is_full w then Some LogFull else if lacks_label w x then Some LabelsSpent else None) ≡ None → b ≡ true
+    go true f = refl
+    go false f = absurd (cc (f))
+
+-- who does a command is there
+pub does_there : (w : World) (p : ℕ) → refusal w (Do p) ≡ None → p < w.system.size
+does_there w p e = below p w.system.size (left (nat_lt p w.system.size) (can_do w p) (enabled_if w (Do p) e))
+  where
+    left : (a b : Bool) → (a && b) ≡ true → a ≡ true
+    left true b f = refl
+    left false b f = absurd (cc (f))

@@ -1,0 +1,63 @@
+use Rattle.std.proofs.Common.{◌≡◌, ◌<◌, ℕ, None, length, ap, subst, sym, ◌∙◌}
+use Rattle.kt_plan.specs.Limits.{Planned}
+use Rattle.kt_plan.specs.declared.steps.Step.TheVariants.{Take}
+use Rattle.kt_phases.specs.Steps as run_steps
+use Rattle.kt_promises.specs.World as run_world
+use Rattle.kt_system.specs.ShownActs.{acts_shown}
+use Rattle.kt_promises.specs.Steps.{world_after}
+use Rattle.kt_promises.specs.StepActs.{acts_of_step}
+use Rattle.kt_core.specs.Worlds.{World, refusal}
+use Rattle.kt_core.specs.Shown.{IsRun, plan_shown, give_shown}
+use Rattle.kt_core.proofs.Enabled.{enabled_is, enabled_if}
+use Rattle.kt_core.proofs.Leading.{take_acts, take_leads, run_same}
+use Rattle.kt_core.proofs.world.World.take.Goals as goal
+
+pub invariant_of-self : goal.invariant_of-self
+invariant_of-self c =
+    let r = c.self.invariant.reached in
+    record {
+      reached = (r.0, r.1, run_same c.self.inside.agenda c.self.inside.system c.take.new.self r.0 r.1 c.in_err-acts.ensures.err r.2);
+      size = c.take.ensures.size ∙ c.self.invariant.size;
+      rows = c.self.invariant.rows;
+    }
+
+pub invariant_of-self-2 : goal.invariant_of-self-2
+invariant_of-self-2 c =
+    let r = c.self.invariant.reached in
+    let a = c.self.inside.agenda in
+    let w : World = record { agenda = a; system = c.self.inside.system; limit = c.self.inside.limit } in
+    let allowed = subst (λ (z : World). refusal z (Take c.args.at c.args.from) ≡ None) (sym c.self.view_is) c.requires in
+    let size = c.self.invariant.size in
+    let opened = c.settle.ensures in
+    record {
+      reached = (
+        r.0,
+        world_after (plan_shown a.plan) r.1 (run_steps.Take c.args.at c.args.from) (give_shown c.args.give),
+        take_leads a c.settle.new.agenda c.self.inside.system c.take.new.self c.args.at c.args.from c.args.give r.0 r.1 r.2
+            (sym (enabled_is w r.0 r.1 r.2 (Take c.args.at c.args.from)) ∙ enabled_if w (Take c.args.at c.args.from) allowed)
+            (λ h says. c.in_ok-acts.ensures.shows r.1.now h says) opened.plan opened.next opened.settled (c.take.ensures.size ∙ size) opened.numbered,
+      );
+      size = c.take.ensures.size ∙ (size ∙ ap (λ (plan : Planned). length plan.names) (sym opened.plan));
+      rows = c.self.invariant.rows;
+    }
+
+pub returns-clause-leads : goal.returns-clause-leads
+returns-clause-leads c =
+    let a = c.self.inside.agenda in
+    let w : World = record { agenda = a; system = c.self.inside.system; limit = c.self.inside.limit } in
+    let allowed = subst (λ (z : World). refusal z (Take c.args.at c.args.from) ≡ None) (sym c.self.view_is) c.requires in
+    let size = c.self.invariant.size in
+    let opened = c.settle.ensures in
+    subst (λ (z : World). (first : ℕ) (v : run_world.World) → IsRun z.agenda z.system first v → IsRun c.settle.new.agenda c.take.new.self first (world_after (plan_shown z.agenda.plan) v (run_steps.Take c.args.at c.args.from) (give_shown c.args.give))) c.self.view_is
+    (λ first v r. take_leads a c.settle.new.agenda c.self.inside.system c.take.new.self c.args.at c.args.from c.args.give first v r
+    (sym (enabled_is w first v r (Take c.args.at c.args.from)) ∙ enabled_if w (Take c.args.at c.args.from) allowed)
+    (λ h says. c.in_ok-acts.ensures.shows v.now h says) opened.plan opened.next opened.settled (c.take.ensures.size ∙ size) opened.numbered)
+
+pub returns-clause-acts : goal.returns-clause-acts
+returns-clause-acts c =
+    let a = c.self.inside.agenda in
+    let w : World = record { agenda = a; system = c.self.inside.system; limit = c.self.inside.limit } in
+    let allowed = subst (λ (z : World). refusal z (Take c.args.at c.args.from) ≡ None) (sym c.self.view_is) c.requires in
+    subst (λ (z : World). (first : ℕ) (v : run_world.World) → IsRun z.agenda z.system first v → acts_shown c.in_ok-acts.acts ≡ acts_of_step (plan_shown z.agenda.plan) v (run_steps.Take c.args.at c.args.from) (give_shown c.args.give) c.args.at) c.self.view_is
+    (λ first v r. take_acts a c.self.inside.system c.args.at c.args.from c.args.give first v (acts_shown c.in_ok-acts.acts) r
+    (sym (enabled_is w first v r (Take c.args.at c.args.from)) ∙ enabled_if w (Take c.args.at c.args.from) allowed) (λ h. c.in_ok-acts.ensures.acts v.now h))

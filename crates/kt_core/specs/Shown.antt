@@ -1,0 +1,62 @@
+-- A plan, its steps and its worlds as the laws of plans have them.
+use Rattle.std.specs.Prelude.{◌≡◌, ◌<◌, ℕ, Option, Some, None, length, map}
+use Rattle.kt_plan.specs.Limits.{Planned, IsPlan}
+use Rattle.kt_plan.specs.declared.commands.Command.{Command}
+use Rattle.kt_plan.specs.declared.commands.Job.{Job}
+use Rattle.kt_plan.specs.declared.commands.Job.TheVariants.{Send, Checkpoint, Rollback, Fail}
+use Rattle.kt_plan.specs.declared.steps.Step.{Step}
+use Rattle.kt_plan.specs.declared.steps.Step.TheVariants.{Do, Take}
+use Rattle.kt_plan.specs.declared.steps.Give.{Give}
+use Rattle.kt_plan.specs.declared.steps.Look.{Look}
+use Rattle.kt_plan.specs.declared.steps.Look.TheVariants.{Idle, NeedsSave, NeedsBody, Plain}
+use Rattle.kt_process.specs.Persons.{part_of, IsNumbered}
+use Rattle.kt_system.specs.Systems.{Whole, person}
+use Rattle.kt_system.specs.Shown.{Shows}
+use Rattle.kt_phases.specs.Plans as run
+use Rattle.kt_phases.specs.Steps as run_steps
+use Rattle.kt_phases.specs.Looks as run_looks
+use Rattle.kt_promises.specs.World as run_world
+use Rattle.kt_promises.specs.Order.{next_place}
+use Rattle.kt_promises.specs.Runs.{IsReachedWorld}
+use Rattle.kt_core.specs.Agendas.{Agenda, place_of, next_command}
+
+abbrev pub job_shown : Job → run.Job
+job_shown (Send to body) = run.Send to body
+job_shown Checkpoint = run.Checkpoint
+job_shown Rollback = run.Rollback
+job_shown Fail = run.Fail
+
+abbrev pub command_shown : Command → run.Command
+command_shown c = record { by = c.by; phase = c.phase; job = job_shown c.job }
+
+-- as many processes as there are names
+abbrev pub plan_shown : Planned → run.Plan
+plan_shown plan = record { size = length plan.names; commands = map command_shown plan.commands }
+
+abbrev pub step_shown : Step → run_steps.Step
+step_shown (Do p) = run_steps.Do p
+step_shown (Take at from) = run_steps.Take at from
+
+abbrev pub give_shown : Give → run_steps.Give
+give_shown give = record { able = give.able; body = give.body }
+
+abbrev pub look_shown : Look → run_looks.Look
+look_shown Idle = run_looks.Idle
+look_shown NeedsSave = run_looks.NeedsSave
+look_shown NeedsBody = run_looks.NeedsBody
+look_shown Plain = run_looks.Plain
+
+-- a run of the plan, where counters of labels begin after this one, leads to v; and that is what the processes keep, which
+-- commands are done, and, as long as one is left, which phase is open
+pub record IsRun (a : Agenda) (s : Whole) (first : ℕ) (v : run_world.World) : Type 0 where
+  pub limits : IsPlan a.plan
+  pub size : s.size ≡ length a.plan.names
+  pub numbered : (p : ℕ) → p < s.size → IsNumbered (part_of (person s p).side)
+  pub reached : IsReachedWorld (plan_shown a.plan) first v
+  pub now : Shows s v.now
+  pub places : (p : ℕ) → p < 64 → place_of a p ≡ next_place (plan_shown a.plan) v p
+  pub phase : (p : ℕ) (c : Command) → p < 64 → next_command a p ≡ Some c → a.phase ≡ v.phase
+
+-- some run does
+abbrev pub IsReached : Agenda → Whole → Type 0
+IsReached a s = (first : ℕ) × (v : run_world.World) × IsRun a s first v
