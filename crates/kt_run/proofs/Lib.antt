@@ -1,1 +1,2 @@
 pub mod Casting
+pub mod Running

@@ -1,7 +1,9 @@
 //! Serial runs.
 
-ghost use Rattle.std.specs.Prelude.{map, OnOk, IfErr};
+ghost use Rattle.std.specs.Prelude.{map, OnOk, IfOk, IfErr};
+ghost use Rattle.kt_promises.specs.Headline.{IsPromised};
 ghost use Rattle.kt_run.specs.Faults.{IsCast, Answers};
+ghost use Rattle.kt_run.specs.Runs.{IsRunOf};
 
 use crate::faults::RunFault;
 use crate::journals::Journals;
@@ -26,6 +28,11 @@ pub struct Outcome {
 pub fn run(alloc: Global, plan: &Plan, steps: &[Step], cast: Cast) -> Result<Outcome, RunFault>
     ensures cast { OnOk result (IsCast plan.now (map (λ row. map (λ b. kind_of b) row.items) cast.items)) }
     ensures fault { IfErr result (Answers plan.now (map (λ row. map (λ b. kind_of b) row.items) cast.items)) }
+
+    // The log is that of a run of the plan which begins with the steps given, goes on by default steps, and comes to rest;
+    // and all is so of it that is promised of a run's.
+    ensures run { IfOk result (λ outcome. IsRunOf plan.now steps.now outcome.log.rows) }
+    ensures promised { IfOk result (λ outcome. IsPromised outcome.log.rows) }
 {
     let mut stage = Stage::begin(alloc, plan, cast)?;
     stage.keep_journals()?;
@@ -41,6 +48,11 @@ pub fn run(alloc: Global, plan: &Plan, steps: &[Step], cast: Cast) -> Result<Out
 pub fn log_of(alloc: Global, plan: &Plan, steps: &[Step], cast: Cast) -> Result<SpaceTime, RunFault>
     ensures cast { OnOk result (IsCast plan.now (map (λ row. map (λ b. kind_of b) row.items) cast.items)) }
     ensures fault { IfErr result (Answers plan.now (map (λ row. map (λ b. kind_of b) row.items) cast.items)) }
+
+    // It is that of a run of the plan which begins with the steps given, goes on by default steps, and comes to rest; and
+    // all is so of it that is promised of a run's.
+    ensures run { IfOk result (λ log. IsRunOf plan.now steps.now log.rows) }
+    ensures promised { IfOk result (λ log. IsPromised log.rows) }
 {
     let mut stage = Stage::begin(alloc, plan, cast)?;
     stage.make_all(steps)?;

@@ -1,7 +1,9 @@
 //! A world with the objects of its processes.
 
-ghost use Rattle.std.specs.Prelude.{◌≡◌, false, map, OnOk, IfErr};
+ghost use Rattle.std.specs.Prelude.{◌≡◌, List, false, map, OnOk, IfOk, IfErr};
+ghost use Rattle.kt_plan.specs.declared.steps.Step.{Step};
 ghost use Rattle.kt_run.specs.Faults.{IsCast, Answers, is_of_cast};
+ghost use Rattle.kt_run.specs.Runs.{StepsTo, Starts, Begins, Rests};
 
 use crate::faults::RunFault;
 use crate::journals::{Journals, process_of};
@@ -30,6 +32,8 @@ impl Stage {
     pub(crate) fn begin(alloc: Global, plan: &Plan, cast: Cast) -> Result<Stage, RunFault>
         ensures cast { OnOk result (IsCast plan.now (map (λ row. map (λ b. kind_of b) row.items) cast.items)) }
         ensures fault { IfErr result (Answers plan.now (map (λ row. map (λ b. kind_of b) row.items) cast.items)) }
+        ensures starts { IfOk result (λ stage. Starts plan.now stage.world) }
+        ensures plan { IfOk result (λ stage. stage.world.agenda.plan ≡ plan.now) }
     {
         let objects = first_objects(alloc, plan, cast)?;
         let world = first_world(alloc, plan)?;
@@ -45,6 +49,7 @@ impl Stage {
     /// From now on, what the processes are told is kept.
     pub(crate) fn keep_journals(&mut self) -> Result<(), RunFault>
         ensures fault { IfErr result (λ fault. fault ≡ RunFault.Memory) }
+        ensures world { self.new.world ≡ self.old.world }
     {
         self.journals = Journals::of(self.alloc, self.objects.len())?;
         Ok(())
@@ -52,11 +57,32 @@ impl Stage {
 
     /// The steps given, then default steps until there is none.
     pub(crate) fn make_all(&mut self, steps: &[Step]) -> Result<(), RunFault>
+        requires { Starts self.old.world.agenda.plan self.old.world }
         ensures fault { IfErr result (λ fault. is_of_cast fault ≡ false) }
+        ensures rests { OnOk result (Rests self.old.world.agenda.plan steps.now self.new.world) }
+    {
+        self.make_given(steps)?;
+        self.go_on()
+    }
+
+    /// The steps given.
+    fn make_given(&mut self, steps: &[Step]) -> Result<(), RunFault>
+        requires { Starts self.old.world.agenda.plan self.old.world }
+        ensures fault { IfErr result (λ fault. is_of_cast fault ≡ false) }
+        ensures plan { self.new.world.agenda.plan ≡ self.old.world.agenda.plan }
+        ensures begun { OnOk result (Begins self.old.world.agenda.plan steps.now self.new.world) }
     {
         for step in steps {
             self.make(*step)?;
         }
+        Ok(())
+    }
+
+    /// Default steps until there is none.
+    fn go_on(&mut self) -> Result<(), RunFault>
+        ensures fault { IfErr result (λ fault. is_of_cast fault ≡ false) }
+        ensures rests { (steps : List Step) → Begins self.old.world.agenda.plan steps self.old.world → OnOk result (Rests self.old.world.agenda.plan steps self.new.world) }
+    {
         for _number in 0..MAX_STEPS {
             let Some(step) = self.world.default_step() else {
                 return Ok(());
@@ -69,6 +95,8 @@ impl Stage {
     /// Makes a step: asks the process's object for what it needs, notes what is told, and does it.
     fn make(&mut self, step: Step) -> Result<(), RunFault>
         ensures fault { IfErr result (λ fault. is_of_cast fault ≡ false) }
+        ensures plan { self.new.world.agenda.plan ≡ self.old.world.agenda.plan }
+        ensures leads { OnOk result (StepsTo self.old.world step self.new.world) }
     {
         let p = process_of(&step);
         let Some(held) = self.objects.get_mut(p.index()) else {
@@ -100,6 +128,8 @@ fn step_once(
     done: usize,
 ) -> Result<[Act; 2], RunFault>
     ensures fault { IfErr result (λ fault. is_of_cast fault ≡ false) }
+    ensures plan { world.new.agenda.plan ≡ world.old.agenda.plan }
+    ensures leads { OnOk result (StepsTo world.old step world.new) }
 {
     let p = process_of(&step);
     let told = match world.step(step, give) {
@@ -133,6 +163,8 @@ fn first_objects(alloc: Global, plan: &Plan, cast: Cast) -> Result<Vec<Held>, Ru
 /// The world in which nothing of a plan is done.
 fn first_world(alloc: Global, plan: &Plan) -> Result<World, RunFault>
     ensures fault { IfErr result (λ fault. fault ≡ RunFault.Memory) }
+    ensures starts { IfOk result (λ world. Starts plan.now world) }
+    ensures plan { IfOk result (λ world. world.agenda.plan ≡ plan.now) }
 {
     let world = World::new(alloc, plan.copy(alloc)?)?;
     Ok(world)
