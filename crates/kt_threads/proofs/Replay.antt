@@ -1,10 +1,17 @@
 -- Steps one after another.
-use Rattle.std.proofs.Common.{◌≡◌, ◌∙◌, ◌^◌, List, [], ◌∷◌, ◌++◌, refl, sym, subst, ap, Option, None, Some, Result, Ok, Err, IfSome}
-use Rattle.kt_core.specs.Worlds.{World, IsSameWorld, IsOpening}
+use Rattle.std.proofs.Common.{◌≡◌, ◌∙◌, ◌<◌, ◌+◌, ◌^◌, ℕ, List, [], ◌∷◌, ◌++◌, length, refl, sym, subst, ap, Option, None, Some, Result, Ok, Err, IfSome}
+use Rattle.std.specs.Prelude.{slice_get}
+use Rattle.kt_core.specs.Shown.{IsRun, plan_shown, step_shown, give_shown}
+use Rattle.kt_core.specs.Worlds.{World, IsSameWorld, IsOpening, HasDone, Settles, numbered_row, refusal}
 use Rattle.kt_core.specs.declared.faults.StepFault.{StepFault}
 use Rattle.kt_plan.specs.Limits.{Planned}
+use Rattle.kt_plan.specs.declared.steps.Give.{Give}
+use Rattle.kt_plan.specs.declared.steps.Step.{Step}
 use Rattle.kt_plan.specs.declared.steps.Told.{Told}
-use Rattle.kt_system.specs.Systems.{Whole, IsSame}
+use Rattle.kt_promises.specs.Steps.{world_after}
+use Rattle.kt_promises.specs.World as run_world
+use Rattle.kt_promises.specs.World.{start_world}
+use Rattle.kt_system.specs.Systems.{Whole, IsSame, Grows}
 use Rattle.kt_threads.specs.Histories.{IsMade, Leads, IsHistory}
 use Rattle.kt_threads.specs.declared.state.Made.{Made}
 
@@ -46,18 +53,12 @@ leads_more [] made old now new step leads = (now, new, leads, step, same_world n
 leads_more (first ∷ steps) made old now new step leads =
     (leads.0, leads.1, leads.2, leads.3, leads_more steps made leads.1 now new step leads.4)
 
-pub history_begins : (plan : Planned) (world : World) → IsOpening world plan 0 (2 ^ 24) → IsHistory world.agenda.plan [] world
-history_begins plan world opening = record {
-  begin = world;
-  opening = subst (λ (p : Planned). IsOpening world p 0 (2 ^ 24)) (sym opening.plans) opening;
-  leads = same_world world;
-}
-
 pub history_more : (steps : List Made) (made : Made) (now new : World) → IsMade now made new
     → IsHistory now.agenda.plan steps now → IsHistory new.agenda.plan (steps ++ made ∷ []) new
 history_more steps made now new step h = record {
   begin = h.begin;
   opening = subst (λ (p : Planned). IsOpening h.begin p 0 (2 ^ 24)) (sym step.plan) h.opening;
+  starts = subst (λ (p : Planned). IsRun h.begin.agenda h.begin.system 0 (start_world (plan_shown p) 0)) (sym step.plan) h.starts;
   leads = leads_more steps made h.begin now new step h.leads;
 }
 
@@ -66,11 +67,34 @@ pub history_same : (steps : List Made) (now new : World) → IsSameWorld new now
 history_same steps now new same h = record {
   begin = h.begin;
   opening = subst (λ (p : Planned). IsOpening h.begin p 0 (2 ^ 24)) (ap (λ a. a.plan) (sym same.agenda)) h.opening;
+  starts = subst (λ (p : Planned). IsRun h.begin.agenda h.begin.system 0 (start_world (plan_shown p) 0)) (ap (λ a. a.plan) (sym same.agenda)) h.starts;
   leads = leads_same steps h.begin now new same h.leads;
 }
 
 -- a step that was made was not refused
-pub not_refused : (told : Told) (why : Option StepFault) (result : Result Told StepFault) → result ≡ Ok told
+pub not_refused : (why : Option StepFault) (result : Result Told StepFault) (told : Told) → result ≡ Ok told
     → IfSome why (λ fault. result ≡ Err fault) → why ≡ None
-not_refused told None result is h = refl
-not_refused told (Some fault) result is h = absurd (cc (sym is ∙ h))
+not_refused None result told is h = refl
+not_refused (Some fault) result told is h = absurd (cc (sym is ∙ h))
+
+-- a step leads from one world to another, and tells that it was made
+pub makes : (old new : World) (step : Step) (give : Give) (told : Told) → told.step ≡ step → refusal old step ≡ None
+    → new.agenda.plan ≡ old.agenda.plan → new.limit ≡ old.limit → new.system.size ≡ old.system.size → Grows 4 old.system new.system
+    → HasDone old.agenda new.agenda step → Settles old new → length told.rows ≡ 4
+    → ((i : ℕ) → i < 4 → slice_get told.rows i ≡ Some (numbered_row new.system.rows.rows (length old.system.rows.rows + i)))
+    → ((first : ℕ) (v : run_world.World) → IsRun old.agenda old.system first v
+    → IsRun new.agenda new.system first (world_after (plan_shown old.agenda.plan) v (step_shown step) (give_shown give)))
+    → IsMade old (record { give = give; told = told }) new
+makes old new step give told is allowed plan limit size grows done settled four rows leads = record {
+  allowed = subst (λ (s : Step). refusal old s ≡ None) (sym is) allowed;
+  plan = plan;
+  limit = limit;
+  size = size;
+  grows = grows;
+  done = subst (λ (s : Step). HasDone old.agenda new.agenda s) (sym is) done;
+  settled = settled;
+  four = four;
+  rows = rows;
+  leads = λ first v r. subst (λ (s : Step). IsRun new.agenda new.system first (world_after (plan_shown old.agenda.plan) v (step_shown s) (give_shown give))) (sym is)
+      (leads first v r);
+}

@@ -1,14 +1,21 @@
 -- Steps that were made one after another, and the worlds between which they lead.
 use Rattle.std.specs.Prelude.{◌≡◌, ◌<◌, ◌+◌, ◌^◌, ◌==◌, ℕ, List, [], ◌∷◌, Option, Some, None, filter, map, length, slice_get, slice_index_or}
+use Rattle.kt_core.specs.Shown as core
+use Rattle.kt_core.specs.Shown.{plan_shown, step_shown, give_shown}
 use Rattle.kt_core.specs.Worlds.{World, IsOpening, IsAtRest, IsSameWorld, HasDone, Settles, numbered_row, refusal, stepper}
 use Rattle.kt_plan.specs.Limits.{Planned}
 use Rattle.kt_plan.specs.declared.steps.Told.{Told}
+use Rattle.kt_promises.specs.Steps.{world_after}
+use Rattle.kt_promises.specs.World as run_world
 use Rattle.kt_spacetime.specs.declared.event.Event.{Event}
 use Rattle.kt_system.specs.Systems.{Grows}
 use Rattle.kt_threads.specs.declared.faults.LiveFault.{LiveFault}
 use Rattle.kt_threads.specs.declared.state.Made.{Made}
+use Rattle.kt_threads.specs.Moves.{IsRunOf}
+use Rattle.kt_threads.specs.Telling.{AreToldAsInRun}
 
--- a step that is not refused leads from one world to another, and tells its rows
+-- a step that is not refused leads from one world to another, and tells its rows; a run of the plan that leads to the one
+-- goes on by this step to the other
 pub record IsMade (old : World) (made : Made) (new : World) : Type 0 where
   pub allowed : refusal old made.told.step ≡ None
   pub plan : new.agenda.plan ≡ old.agenda.plan
@@ -17,18 +24,22 @@ pub record IsMade (old : World) (made : Made) (new : World) : Type 0 where
   pub grows : Grows 4 old.system new.system
   pub done : HasDone old.agenda new.agenda made.told.step
   pub settled : Settles old new
+  pub four : length made.told.rows ≡ 4
   pub rows : (i : ℕ) → i < 4 → slice_get made.told.rows i
       ≡ Some (numbered_row new.system.rows.rows (length old.system.rows.rows + i))
+  pub leads : (first : ℕ) (v : run_world.World) → core.IsRun old.agenda old.system first v → core.IsRun new.agenda new.system first
+      (world_after (plan_shown old.agenda.plan) v (step_shown made.told.step) (give_shown made.give))
 
 -- steps lead one after another from one world to another, where only spare room may come between
 abbrev pub Leads : World → List Made → World → Type 0
 Leads old [] new = IsSameWorld new old
 Leads old (made ∷ steps) new = (before : World) × (after : World) × IsSameWorld before old × IsMade before made after × Leads after steps new
 
--- steps lead to a world from the one in which nothing of a plan is done
+-- steps lead to a world from the one in which nothing of a plan is done, where its runs start
 pub record IsHistory (plan : Planned) (steps : List Made) (world : World) : Type 0 where
   pub begin : World
   pub opening : IsOpening begin plan 0 (2 ^ 24)
+  pub starts : core.IsRun begin.agenda begin.system 0 (run_world.start_world (plan_shown plan) 0)
   pub leads : Leads begin steps world
 
 -- a world, the steps that led to it, and the first fault
@@ -57,8 +68,11 @@ pub record AreTold (processes : ℕ) (steps : List Made) (told : List (List Told
   pub count : length told ≡ processes
   pub each : (p : ℕ) → p < processes → slice_index_or told p [] ≡ told_to p steps
 
--- there is one order of steps that lead to a world at rest, with these rows, and of which each process is told its own
+-- there is one order of steps that lead to a world at rest, with these rows, and of which each process is told its own; their
+-- moves are a run of the plan, which tells each process the same
 pub record IsLived (plan : Planned) (rows : List Event) (told : List (List Told)) : Type 0 where
   pub steps : List Made
   pub run : IsRun plan steps rows
+  pub moves : IsRunOf plan steps rows
   pub tells : AreTold (length plan.names) steps told
+  pub as_in_run : AreToldAsInRun plan steps told

@@ -1,2 +1,4 @@
 pub mod Faults
 pub mod Histories
+pub mod Moves
+pub mod Telling

@@ -1,9 +1,11 @@
 //! All processes, each in a thread of its own.
 
 ghost use Rattle.std.specs.Prelude.{◌≡◌, false, map, OnOk, IfOk, IfErr};
+ghost use Rattle.kt_promises.specs.Headline.{IsPromised};
 ghost use Rattle.kt_run.specs.Faults.{IsCast};
 ghost use Rattle.kt_threads.specs.Faults.{Answers, is_of_cast};
 ghost use Rattle.kt_threads.specs.Histories.{IsRun, IsLived};
+ghost use Rattle.kt_threads.specs.Telling.{AreToldTheirRows};
 
 use crate::board::Board;
 use crate::crew::{CrewFault, run_all};
@@ -70,6 +72,7 @@ fn work_all<R: Threads + Wait + Sync>(
 /// The log and the steps of a run of the plan that ended at rest, or the fault that ended it.
 fn finish(state: State, plan: &Plan) -> Result<(SpaceTime, Vec<Made>), LiveFault>
     ensures run { IfOk result (λ parts. IsRun plan.entry.now parts.1.items parts.0.rows) }
+    ensures promised { IfOk result (λ parts. IsPromised parts.0.rows) }
     ensures fault { IfErr result (λ fault. is_of_cast fault ≡ false) }
 {
     if let Some(fault) = state.fault() {
@@ -104,6 +107,8 @@ fn live_with<R: Threads + Wait + Sync>(
     objects: Vec<Held>,
 ) -> Result<Outcome, LiveFault>
     ensures lived { IfOk result (λ o. IsLived plan.now o.log.rows (map (λ list. list.items) o.told.items)) }
+    ensures told { IfOk result (λ o. AreToldTheirRows o.log.rows (map (λ list. list.items) o.told.items)) }
+    ensures promised { IfOk result (λ o. IsPromised o.log.rows) }
     ensures fault { IfErr result (λ fault. is_of_cast fault ≡ false) }
 {
     let seats = seats_of(alloc, objects)?;
@@ -130,7 +135,17 @@ pub fn live<R: Threads + Wait + Sync>(
     plan: &Plan,
     cast: Cast,
 ) -> Result<Outcome, LiveFault>
+    // The steps that were made, in one order, are a run of the plan that ends at rest, and each thread was told what its own
+    // steps tell.
     ensures lived { IfOk result (λ o. IsLived plan.now o.log.rows (map (λ list. list.items) o.told.items)) }
+
+    // Each thread was told its own rows of the log, each once and in order, with their numbers.
+    ensures told { IfOk result (λ o. AreToldTheirRows o.log.rows (map (λ list. list.items) o.told.items)) }
+
+    // Of the log all is so that is promised of every run's.
+    ensures promised { IfOk result (λ o. IsPromised o.log.rows) }
+
+    // The objects are those that the plan asks for; else a fault says what is wrong with them.
     ensures cast { OnOk result (IsCast plan.now (map (λ row. map (λ b. kind_of b) row.items) cast.items)) }
     ensures fault { IfErr result (Answers plan.now (map (λ row. map (λ b. kind_of b) row.items) cast.items)) }
 {

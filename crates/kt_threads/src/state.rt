@@ -2,6 +2,7 @@
 
 ghost use Rattle.std.specs.Prelude.{◌≡◌, ◌⊎◌, ◌+◌, ◌^◌, [], ◌∷◌, ◌++◌, None, Some, IfOk, IfErr, IfSome, OnErr, IsTrue, ◌↔◌, true};
 ghost use Rattle.kt_core.specs.Worlds.{refusal, IsAtRest, IsOpening, IsSameWorld};
+ghost use Rattle.kt_promises.specs.Headline.{IsPromised};
 ghost use Rattle.kt_threads.specs.Histories.{IsMade, IsHistory, first_of};
 
 use crate::faults::LiveFault;
@@ -128,9 +129,10 @@ impl State {
         }
     }
 
-    /// The log, and the steps.
+    /// The log, of which all is so that is promised of a run's, and the steps.
     pub(crate) fn into_parts(self) -> (SpaceTime, Vec<Made>)
         ensures log { result.0 ≡ self.world.system.rows }
+        ensures promised { IsPromised result.0.rows }
         ensures steps { result.1.items ≡ self.steps }
         ensures history { IsHistory self.world.agenda.plan self.steps self.world }
     {

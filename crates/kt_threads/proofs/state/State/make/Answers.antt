@@ -1,7 +1,8 @@
-use Rattle.std.proofs.Common.{rules}
-use Rattle.kt_threads.specs.Histories.{IsMade}
+use Rattle.std.proofs.Common.{Ok, refl, subst, rules}
+use Rattle.kt_core.specs.Worlds.{refusal}
+use Rattle.kt_threads.specs.Histories.{History, IsMade}
 use Rattle.kt_threads.specs.declared.state.Made.{Made}
-use Rattle.kt_threads.proofs.Replay.{history_same, history_more}
+use Rattle.kt_threads.proofs.Replay.{history_same, history_more, not_refused, makes}
 use Rattle.kt_threads.proofs.state.State.make.Goals as goal
 
 pub invariant_of-self-in_err-told : goal.invariant_of-self-in_err-told
@@ -12,6 +13,23 @@ invariant_of-self-in_err-told c =
 pub invariant_of-self-2 : goal.invariant_of-self-2
 invariant_of-self-2 c =
     let made : Made = record { give = c.args.give; told = c.in_ok-told.told } in
-    let step : IsMade c.self.inside.world made c.step.new.self = search rules in
+    let old = c.self.inside.world in
+    let new = c.step.new.self in
+    let told = c.in_ok-told.ensures in
+    let step : IsMade old made new =
+    makes old new c.args.step c.args.give c.in_ok-told.told told.step
+    (not_refused (refusal old c.args.step) (Ok c.in_ok-told.told) c.in_ok-told.told refl told.refused)
+    told.plan told.limit told.size told.grows told.done told.settled (search rules) told.told told.leads in
     rw (c.push_reserved.ensures.items, c.reserve.ensures.items, c.made_of.ensures)
-    (history_more c.self.inside.steps.items made c.self.inside.world c.step.new.self step c.self.invariant)
+    (history_more c.self.inside.steps.items made old new step c.self.invariant)
+
+pub returns-clause-made : goal.returns-clause-made
+returns-clause-made c =
+    let made : Made = record { give = c.args.give; told = c.in_ok-told.told } in
+    let old = c.self.inside.world in
+    let new = c.step.new.self in
+    let told = c.in_ok-told.ensures in
+    subst (λ (h : History). IsMade h.world made new) c.self.view_is
+    (makes old new c.args.step c.args.give c.in_ok-told.told told.step
+    (not_refused (refusal old c.args.step) (Ok c.in_ok-told.told) c.in_ok-told.told refl told.refused)
+    told.plan told.limit told.size told.grows told.done told.settled (search rules) told.told told.leads)

@@ -1,0 +1,132 @@
+-- Steps that lead from world to world are moves of a run.
+use Rattle.std.proofs.Common.{◌≡◌, ◌∙◌, arith, ℕ, Bool, true, false, List, [], ◌∷◌, ◌++◌, append-nil, Option, Some, None, map, refl, sym, subst, ap}
+use Rattle.std.specs.List.{AllZip}
+use Rattle.std.specs.Prelude.{if◌then◌else◌}
+use Rattle.kt_core.specs.Agendas.{Agenda}
+use Rattle.kt_core.specs.Shown.{IsRun, plan_shown, step_shown, give_shown}
+use Rattle.kt_core.specs.Worlds.{World, IsSameWorld}
+use Rattle.kt_core.proofs.Defaults.{rest_is}
+use Rattle.kt_core.proofs.Enabled.{enabled_if, enabled_is}
+use Rattle.kt_core.proofs.Leading.{run_same}
+use Rattle.kt_plan.specs.Limits.{Planned}
+use Rattle.kt_plan.specs.declared.steps.Told.{Told}
+use Rattle.kt_promises.specs.Runs.{after_moves}
+use Rattle.kt_promises.specs.Steps.{enabled, world_after, is_at_rest}
+use Rattle.kt_promises.specs.Told.{told_by}
+use Rattle.kt_promises.specs.World as run_world
+use Rattle.kt_promises.proofs.PhasesOpen.{opening_is}
+use Rattle.kt_seen.specs.Seen.{Seen}
+use Rattle.kt_spacetime.specs.declared.event.Event.{Event}
+use Rattle.kt_threads.specs.Histories as histories
+use Rattle.kt_threads.specs.Histories.{IsMade, Leads, IsHistory, told_to, AreTold}
+use Rattle.kt_threads.specs.Moves.{move_of, IsRunOf}
+use Rattle.kt_threads.specs.Telling.{rows_by, rows_told, IsToldAs, AreToldTheirRows, AreToldAsInRun}
+use Rattle.kt_threads.proofs.Telling.{rows_more, told_more}
+use Rattle.kt_threads.specs.declared.state.Made.{Made}
+
+-- a run of the plan leads to this world, and the moves of these steps lead there from v
+record Goes (plan : Planned) (first : ℕ) (v : run_world.World) (steps : List Made) (new : World) : Type 0 where
+  end : run_world.World
+  plans : new.agenda.plan ≡ plan
+  leads : after_moves (plan_shown plan) v (map move_of steps) ≡ Some end
+  shown : IsRun new.agenda new.system first end
+  rows : (p : ℕ) → rows_by p end.now.log ≡ rows_by p v.now.log ++ rows_told (told_to p steps)
+  told : (p : ℕ) → AllZip IsToldAs (told_to p steps) (told_by (plan_shown plan) v p (map move_of steps))
+
+-- a run leads to the same world with other spare room
+same_run : (new old : World) (first : ℕ) (v : run_world.World) → IsSameWorld new old → IsRun old.agenda old.system first v
+    → IsRun new.agenda new.system first v
+same_run new old first v same r =
+    subst (λ (a : Agenda). IsRun a new.system first v) (sym same.agenda) (run_same old.agenda old.system new.system first v same.system r)
+
+-- where an enabled move leads, and others after it
+one_more : (on : Bool) (there : Option run_world.World) (end : run_world.World) → on ≡ true → there ≡ Some end → (if on then there else None) ≡ Some end
+one_more true there end e f = f
+one_more false there end e f = absurd (cc (e))
+
+-- a step that was made is enabled in a run that leads to its world
+is_enabled : (plan : Planned) (old new : World) (made : Made) (first : ℕ) (v : run_world.World) → old.agenda.plan ≡ plan → IsMade old made new
+    → IsRun old.agenda old.system first v → enabled (plan_shown plan) v (step_shown made.told.step) ≡ true
+is_enabled plan old new made first v plans step r =
+    subst (λ (p : Planned). enabled (plan_shown p) v (step_shown made.told.step) ≡ true) plans
+    (sym (enabled_is old first v r made.told.step) ∙ enabled_if old made.told.step step.allowed)
+
+-- where the steps after the first one lead, all lead
+goes_first : (plan : Planned) (made : Made) (steps : List Made) (before after new : World) (first : ℕ) (v : run_world.World) → before.agenda.plan ≡ plan
+    → IsRun before.agenda before.system first v → IsMade before made after
+    → IsRun after.agenda after.system first (world_after (plan_shown plan) v (step_shown made.told.step) (give_shown made.give))
+    → Goes plan first (world_after (plan_shown plan) v (step_shown made.told.step) (give_shown made.give)) steps new → Goes plan first v (made ∷ steps) new
+goes_first plan made steps before after new first v plans r step next rest = record {
+  end = rest.end;
+  plans = rest.plans;
+  leads = one_more (enabled (plan_shown plan) v (step_shown made.told.step)) _ rest.end on rest.leads;
+  shown = rest.shown;
+  rows = λ p. rest.rows p ∙ rows_more plan made before after first v plans r step next on p steps;
+  told = λ p. told_more plan made before after first v plans r step next on p steps (rest.told p);
+}
+  where
+    on : enabled (plan_shown plan) v (step_shown made.told.step) ≡ true
+    on = is_enabled plan before after made first v plans step r
+
+-- a run goes on by a step that was made
+run_after : (plan : Planned) (made : Made) (before after : World) (first : ℕ) (v : run_world.World) → before.agenda.plan ≡ plan
+    → IsRun before.agenda before.system first v → IsMade before made after
+    → IsRun after.agenda after.system first (world_after (plan_shown plan) v (step_shown made.told.step) (give_shown made.give))
+run_after plan made before after first v plans r step =
+    subst (λ (p : Planned). IsRun after.agenda after.system first (world_after (plan_shown p) v (step_shown made.told.step) (give_shown made.give))) plans
+    (step.leads first v r)
+
+goes_on : (plan : Planned) (steps : List Made) (old new : World) (first : ℕ) (v : run_world.World) → old.agenda.plan ≡ plan
+    → IsRun old.agenda old.system first v → Leads old steps new → Goes plan first v steps new
+goes_on plan [] old new first v plans r same = record {
+  end = v;
+  plans = ap (λ (a : Agenda). a.plan) same.agenda ∙ plans;
+  leads = refl;
+  shown = same_run new old first v same r;
+  rows = λ p. sym (append-nil (rows_by p v.now.log));
+  told = λ p. tt;
+}
+goes_on plan (made ∷ steps) old new first v plans r leads =
+    let here : IsRun leads.0.agenda leads.0.system first v = same_run leads.0 old first v leads.2 r in
+    let kept : leads.0.agenda.plan ≡ plan = ap (λ (a : Agenda). a.plan) leads.2.agenda ∙ plans in
+    let w = world_after (plan_shown plan) v (step_shown made.told.step) (give_shown made.give) in
+    let next : IsRun leads.1.agenda leads.1.system first w = run_after plan made leads.0 leads.1 first v kept here leads.3 in
+    goes_first plan made steps leads.0 leads.1 new first v kept here leads.3 next
+    (goes_on plan steps leads.1 new first w (leads.3.plan ∙ kept) next leads.4)
+
+module _ (plan : Planned) (steps : List Made) (rows : List Event) (lived : histories.IsRun plan steps rows) where
+  abbrev start : run_world.World
+  start = run_world.start_world (plan_shown plan) 0
+
+  h : IsHistory plan steps lived.end
+  h = lived.history
+
+  goes : Goes plan 0 start steps lived.end
+  goes = goes_on plan steps h.begin lived.end 0 start h.opening.plans h.starts h.leads
+
+  -- the steps of a history that ends at rest are the moves of a run that does
+  pub moves_of : IsRunOf plan steps rows
+  moves_of = record {
+    end = goes.end;
+    leads = goes.leads;
+    rest = subst (λ (p : Planned). is_at_rest (plan_shown p) goes.end ≡ true) goes.plans
+        (sym (rest_is lived.end 0 goes.end goes.shown true (λ _. lived.rest, λ _. refl)));
+    log = lived.log ∙ goes.shown.now.log;
+  }
+
+  opens : start.now.log ≡ []
+  opens = ap (λ (v : Seen). v.log) (opening_is (plan_shown plan) 0).now
+
+  their_rows : (p : ℕ) → rows_told (told_to p steps) ≡ rows_by p rows
+  their_rows p =
+      ap (λ (l : List Event). rows_by p l ++ rows_told (told_to p steps)) (sym opens)
+      ∙ (sym (goes.rows p) ∙ ap (rows_by p) (sym (lived.log ∙ goes.shown.now.log)))
+
+  -- each process is told its rows, as the run tells them
+  pub told_their_rows : (processes : ℕ) (told : List (List Told)) → AreTold processes steps told → AreToldTheirRows rows told
+  told_their_rows processes told t = λ p l. ap rows_told (t.each p (let n = t.count in omega (arith, l, n))) ∙ their_rows p
+
+  pub told_as_in_run : (processes : ℕ) (told : List (List Told)) → AreTold processes steps told → AreToldAsInRun plan steps told
+  told_as_in_run processes told t = λ p l.
+      subst (λ (k : List Told). AllZip IsToldAs k (told_by (plan_shown plan) start p (map move_of steps)))
+      (sym (t.each p (let n = t.count in omega (arith, l, n)))) (goes.told p)
