@@ -8,12 +8,17 @@ use Rattle.kt_log_text.specs.Spelling.{spelling}
 use Rattle.kt_log_text.specs.Texts.{header}
 use Rattle.kt_chain.specs.Spelling.{records_of}
 use Rattle.kt_certify.specs.Certificates.{certificates}
-use Rattle.kt_certify.specs.Faults.{HasNoChain, IsFaultOf}
 use Rattle.kt_certify.specs.declared.fault.CertFault.{CertFault}
 use Rattle.kt_certify.specs.declared.fault.CertFault.TheVariants as certify
 use Rattle.kt_report.specs.Report.{WritesReport}
+use Rattle.kt_plan.specs.Limits.{Planned}
+use Rattle.kt_plan.specs.declared.steps.Step.{Step}
+use Rattle.kt_promises.specs.Headline.{IsPromised}
+use Rattle.kt_run.specs.Runs.{IsRunOf}
 use Rattle.kt_run.specs.declared.faults.RunFault.{RunFault}
 use Rattle.kt_run.specs.declared.faults.RunFault.TheVariants as run
+use Rattle.kt_threads.specs.Moves as threads
+use Rattle.kt_threads.specs.declared.state.Made.{Made}
 use Rattle.kt_threads.specs.declared.faults.LiveFault.{LiveFault}
 use Rattle.kt_threads.specs.declared.faults.LiveFault.TheVariants as live
 use Rattle.kt_program.specs.declared.fault.AppFault.{AppFault}
@@ -37,15 +42,30 @@ WritesLog old new rows = Appends old new (text_of (header ∷ map spelling rows)
 abbrev pub WritesCertificates : Told → Told → List Event → Type 0
 WritesCertificates old new rows = Appends old new (text_of (records_of (certificates rows)))
 
--- a log, its certificates and its report are written: all of the same rows, which are legal, and no member of whose
--- instances lacks a chain
-pub record IsPlayed (names : List (List ℕ)) (old new : Outputs) : Type 0 where
+-- a log of these rows, its certificates and its report are written
+pub record WritesRun (names : List (List ℕ)) (rows : List Event) (old new : Outputs) : Type 0 where
+  pub log : WritesLog old.log new.log rows
+  pub chains : WritesCertificates old.certificates new.certificates rows
+  pub report : WritesReport old.report new.report names rows (certificates rows)
+
+-- a run of a plan is written which begins with these steps, goes on by default steps, and comes to rest: all is so of it
+-- that is promised of a run
+pub record IsPlayed (plan : Planned) (steps : List Step) (old new : Outputs) : Type 0 where
   pub rows : List Event
-  pub legal : IsLegal rows
-  pub chained : (k p : ℕ) → HasNoChain rows k p → ⊥
-  pub writes_log : WritesLog old.log new.log rows
-  pub writes_certificates : WritesCertificates old.certificates new.certificates rows
-  pub writes_report : WritesReport old.report new.report names rows (certificates rows)
+  pub run : IsRunOf plan steps rows
+  pub promised : IsPromised rows
+  pub writes : WritesRun plan.names rows old new
+
+-- these are the rows of a run of a plan that has come to rest, in whatever order its steps were made
+abbrev pub IsLogOfRun : Planned → List Event → Type 0
+IsLogOfRun plan rows = (steps : List Made) × threads.IsRunOf plan steps rows
+
+-- a run in threads is written
+pub record IsLived (plan : Planned) (old new : Outputs) : Type 0 where
+  pub rows : List Event
+  pub run : IsLogOfRun plan rows
+  pub promised : IsPromised rows
+  pub writes : WritesRun plan.names rows old new
 
 -- a fault of a run, as the program answers it
 abbrev pub of_run : RunFault → AppFault
@@ -82,11 +102,6 @@ StopsInCertificates old new = ((rows : List Event) × WritesLog old.log new.log 
 abbrev pub StopsInReport : Outputs → Outputs → Type 0
 StopsInReport old new = (rows : List Event) × IsLegal rows × WritesLog old.log new.log rows × WritesCertificates old.certificates new.certificates rows
 
--- the log is written, which has this fault, and nothing else
-abbrev pub StopsUncertified : CertFault → Outputs → Outputs → Type 0
-StopsUncertified fault old new =
-    (rows : List Event) × IsFaultOf rows fault × WritesLog old.log new.log rows × (new.certificates ≡ old.certificates) × (new.report ≡ old.report)
-
 -- some part of them is written, in order
 abbrev pub StopsWithin : Outputs → Outputs → Type 0
 StopsWithin old new = StopsInLog old new ⊎ (StopsInCertificates old new ⊎ StopsInReport old new)
@@ -95,7 +110,7 @@ StopsWithin old new = StopsInLog old new ⊎ (StopsInCertificates old new ⊎ St
 abbrev pub StopsAt : Outputs → Outputs → AppFault → Type 0
 StopsAt old new (app.Run fault) = (fault ≢ run.Memory) × IsUnwritten old new
 StopsAt old new (app.Live fault) = (fault ≢ live.Memory) × IsUnwritten old new
-StopsAt old new (app.Uncertified fault) = (fault ≢ certify.Memory) × StopsUncertified fault old new
+StopsAt old new (app.Uncertified fault) = ⊥
 StopsAt old new app.Write = StopsWithin old new
 StopsAt old new app.Memory = StopsWithin old new
 StopsAt old new (app.Log fault) = ⊥

@@ -5,7 +5,7 @@ ghost use Rattle.kt_object.specs.Value.{opening};
 ghost use Rattle.kt_plan.specs.Limits.{IsKind};
 ghost use Rattle.kt_held.specs.Casts.{failures_of, HasSizes, HasKind};
 ghost use Rattle.kt_program.specs.CastRows.{IsCast};
-ghost use Rattle.kt_program.specs.Played.{IsPlayed, StopsAt, outputs};
+ghost use Rattle.kt_program.specs.Played.{IsPlayed, IsLived, StopsAt, outputs};
 
 use crate::fault::AppFault;
 use crate::played::{live_plan, play_plan};
@@ -77,7 +77,7 @@ pub fn play_objects<L: Write, C: Write, R: Write>(
     cert_writer: &mut C,
     report_writer: &mut R,
 ) -> Result<(), AppFault>
-    ensures played { OnOk result (IsPlayed plan.now.names
+    ensures played { OnOk result (IsPlayed plan.now steps.now
         (outputs (L.contents log_writer.old) (C.contents cert_writer.old) (R.contents report_writer.old))
         (outputs (L.contents log_writer.new) (C.contents cert_writer.new) (R.contents report_writer.new))) }
     ensures stopped { IfErr result (StopsAt
@@ -123,7 +123,7 @@ fn play_cast<L: Write, C: Write, R: Write>(
     requires kinds { (p : ℕ) → p < length plan.now.kinds →
         HasKind plan.now.kinds (map (λ row. map (λ b. kind_of b) row.items) cast.items) p }
     requires opening { All (λ row. All (λ b. value_of b ≡ opening (kind_of b)) row.items) cast.items }
-    ensures played { OnOk result (IsPlayed plan.now.names
+    ensures played { OnOk result (IsPlayed plan.now steps.now
         (outputs (L.contents log_writer.old) (C.contents cert_writer.old) (R.contents report_writer.old))
         (outputs (L.contents log_writer.new) (C.contents cert_writer.new) (R.contents report_writer.new))) }
     ensures stopped { IfErr result (StopsAt
@@ -150,7 +150,7 @@ pub fn live_objects<T: Threads + Wait + Sync, L: Write, C: Write, R: Write>(
     cert_writer: &mut C,
     report_writer: &mut R,
 ) -> Result<(), AppFault>
-    ensures played { OnOk result (IsPlayed plan.now.names
+    ensures lived { OnOk result (IsLived plan.now
         (outputs (L.contents log_writer.old) (C.contents cert_writer.old) (R.contents report_writer.old))
         (outputs (L.contents log_writer.new) (C.contents cert_writer.new) (R.contents report_writer.new))) }
     ensures stopped { IfErr result (StopsAt
@@ -196,7 +196,7 @@ fn live_cast<T: Threads + Wait + Sync, L: Write, C: Write, R: Write>(
     requires kinds { (p : ℕ) → p < length plan.now.kinds →
         HasKind plan.now.kinds (map (λ row. map (λ b. kind_of b) row.items) cast.items) p }
     requires opening { All (λ row. All (λ b. value_of b ≡ opening (kind_of b)) row.items) cast.items }
-    ensures played { OnOk result (IsPlayed plan.now.names
+    ensures lived { OnOk result (IsLived plan.now
         (outputs (L.contents log_writer.old) (C.contents cert_writer.old) (R.contents report_writer.old))
         (outputs (L.contents log_writer.new) (C.contents cert_writer.new) (R.contents report_writer.new))) }
     ensures stopped { IfErr result (StopsAt

@@ -2,10 +2,10 @@
 
 ghost use Rattle.std.specs.Prelude.{◌≡◌, ◌≢◌, ℕ, IfOk, IfErr, OnOk, All};
 ghost use Rattle.std.specs.Io.KnownBytes.{Appends};
-ghost use Rattle.kt_cuts.specs.Legal.{IsLegal};
 ghost use Rattle.kt_chain.specs.Spelling.{HasShortChains, records_of};
 ghost use Rattle.kt_certify.specs.Certificates.{certificates};
-ghost use Rattle.kt_certify.specs.Faults.{HasNoChain, IsFaultOf};
+ghost use Rattle.kt_promises.specs.Headline.{IsPromised};
+ghost use Rattle.kt_run.specs.Runs.{IsRunOf};
 ghost use Rattle.kt_report.specs.Report.{WritesReport};
 ghost use Rattle.kt_text.specs.Writing.{text_of};
 ghost use Rattle.kt_certify.specs.declared.fault.CertFault.{CertFault};
@@ -14,7 +14,7 @@ ghost use Rattle.kt_run.specs.declared.faults.RunFault.{RunFault};
 ghost use Rattle.kt_run.specs.declared.faults.RunFault.TheVariants as run_fault;
 ghost use Rattle.kt_threads.specs.declared.faults.LiveFault.{LiveFault};
 ghost use Rattle.kt_program.specs.declared.fault.AppFault.TheVariants as app;
-ghost use Rattle.kt_program.specs.Played.{IsOfWriting, IsPlayed, StopsAt, WritesLog, WritesCertificates, outputs, of_cert_fault, of_live, of_run};
+ghost use Rattle.kt_program.specs.Played.{IsOfWriting, IsLogOfRun, IsPlayed, IsLived, StopsAt, WritesLog, WritesCertificates, WritesRun, outputs, of_cert_fault, of_live, of_run};
 
 use crate::fault::AppFault;
 use kt_certify::{CertFault, certify};
@@ -45,8 +45,9 @@ pub fn play_plan<L: Write, C: Write, R: Write>(
     cert_writer: &mut C,
     report_writer: &mut R,
 ) -> Result<(), AppFault>
-    // There is one list of rows, and it is legal, of which all three are written.
-    ensures played { OnOk result (IsPlayed plan.now.names
+    // There is one list of rows, of which all three are written: those of a run of the plan which begins with the steps
+    // given, goes on by default steps, and comes to rest.
+    ensures played { OnOk result (IsPlayed plan.now steps.now
         (outputs (L.contents log_writer.old) (C.contents cert_writer.old) (R.contents report_writer.old))
         (outputs (L.contents log_writer.new) (C.contents cert_writer.new) (R.contents report_writer.new))) }
     // Where it stops: nothing is written of what comes later, and all of what comes earlier.
@@ -71,8 +72,8 @@ pub fn live_plan<T: Threads + Wait + Sync, L: Write, C: Write, R: Write>(
     cert_writer: &mut C,
     report_writer: &mut R,
 ) -> Result<(), AppFault>
-    // There is one list of rows, and it is legal, of which all three are written.
-    ensures played { OnOk result (IsPlayed plan.now.names
+    // There is one list of rows, of which all three are written: those of a run of the plan that has come to rest.
+    ensures lived { OnOk result (IsLived plan.now
         (outputs (L.contents log_writer.old) (C.contents cert_writer.old) (R.contents report_writer.old))
         (outputs (L.contents log_writer.new) (C.contents cert_writer.new) (R.contents report_writer.new))) }
     // Where it stops: nothing is written of what comes later, and all of what comes earlier.
@@ -93,7 +94,8 @@ fn write_run<L: Write, C: Write, R: Write>(
     cert_writer: &mut C,
     report_writer: &mut R,
 ) -> Result<(), AppFault>
-    ensures played { OnOk result (IsPlayed plan.now.names
+    requires { IsPromised log.now.rows }
+    ensures written { OnOk result (WritesRun plan.now.names log.now.rows
         (outputs (L.contents log_writer.old) (C.contents cert_writer.old) (R.contents report_writer.old))
         (outputs (L.contents log_writer.new) (C.contents cert_writer.new) (R.contents report_writer.new))) }
     ensures stopped { IfErr result (StopsAt
@@ -108,7 +110,9 @@ fn write_run<L: Write, C: Write, R: Write>(
 
 // The log of a run.
 fn run_plan(alloc: Global, plan: &Plan, steps: &[Step], cast: Cast) -> Result<SpaceTime, AppFault>
-    ensures { IfErr result (λ e. (f : RunFault) × (e ≡ of_run f)) }
+    ensures run { IfOk result (λ log. IsRunOf plan.now steps.now log.rows) }
+    ensures promised { IfOk result (λ log. IsPromised log.rows) }
+    ensures fault { IfErr result (λ e. (f : RunFault) × (e ≡ of_run f)) }
 {
     match log_of(alloc, plan, steps, cast) {
         Ok(log) => Ok(log),
@@ -123,7 +127,9 @@ fn live_log<T: Threads + Wait + Sync>(
     plan: &Plan,
     cast: Cast,
 ) -> Result<SpaceTime, AppFault>
-    ensures { IfErr result (λ e. (f : LiveFault) × (e ≡ of_live f)) }
+    ensures run { IfOk result (λ log. IsLogOfRun plan.now log.rows) }
+    ensures promised { IfOk result (λ log. IsPromised log.rows) }
+    ensures fault { IfErr result (λ e. (f : LiveFault) × (e ≡ of_live f)) }
 {
     match live(rt, alloc, plan, cast) {
         Ok(outcome) => Ok(outcome.log),
@@ -142,13 +148,12 @@ fn write_log<L: Write>(alloc: Global, log: &SpaceTime, writer: &mut L) -> Result
     }
 }
 
-// The certificates of a log.
+// The certificates of a run's log: they lack nothing but memory.
 fn log_certificates(alloc: Global, log: &SpaceTime) -> Result<Vec<Certificate>, AppFault>
+    requires { IsPromised log.now.rows }
     ensures certificates { IfOk result (λ list. list.items ≡ certificates log.now.rows) }
-    ensures legal { OnOk result (IsLegal log.now.rows) }
-    ensures chained { OnOk result ((k p : ℕ) → HasNoChain log.now.rows k p → ⊥) }
     ensures short { IfOk result (λ list. All HasShortChains list.items) }
-    ensures fault { IfErr result (λ e. (f : CertFault) × (e ≡ of_cert_fault f) × IsFaultOf log.now.rows f) }
+    ensures fault { IfErr result (λ e. e ≡ AppFault.Memory) }
 {
     match certify(alloc, log) {
         Ok(certificates) => Ok(certificates),
