@@ -1,7 +1,7 @@
 -- A run goes on with the world.
 use Rattle.std.specs.Prelude.{Option, option_map, if◌then◌else◌, map, Result, Ok, Err, OnOk, IfSome}
-use Rattle.std.proofs.Common.{◌≡◌, ℕ, true, false, Some, None, List, [], ◌∷◌, ◌++◌, ◌+◌, ◌<◌, take, length, get_or, refl, sym, ap, subst, ◌∙◌}
-use Rattle.std.proofs.lemmas.List.{map-append, take_more}
+use Rattle.std.proofs.Common.{◌≡◌, ℕ, true, false, Some, None, List, [], ◌∷◌, ◌++◌, ◌+◌, ◌^◌, ◌<◌, ◌≤◌, arith, take, length, get_or, refl, sym, ap, subst, ◌∙◌}
+use Rattle.std.proofs.lemmas.List.{map-append, take_more, length-map, length_push}
 use Rattle.kt_plan.specs.Limits.{Planned, IsPlan}
 use Rattle.kt_plan.specs.declared.steps.Step.{Step}
 use Rattle.kt_plan.specs.declared.steps.Give.{Give}
@@ -12,10 +12,10 @@ use Rattle.kt_promises.specs.World as run_world
 use Rattle.kt_promises.specs.Steps.{enabled, world_after}
 use Rattle.kt_promises.specs.Defaults.{default_step}
 use Rattle.kt_promises.specs.Runs.{GoesOn, after_moves}
-use Rattle.kt_promises.proofs.GoingOn.{play_append, goes_first, goes_next, goes_rest}
+use Rattle.kt_promises.proofs.GoingOn.{play_append, goes_first, goes_next, goes_below, goes_rest}
 use Rattle.kt_core.specs.Worlds.{World, refusal}
 use Rattle.kt_core.specs.declared.faults.StepFault.{StepFault}
-use Rattle.kt_core.specs.Shown.{IsRun, plan_shown, step_shown, give_shown}
+use Rattle.kt_core.specs.Shown.{IsRun, plan_shown, step_shown, give_shown, command_shown}
 use Rattle.kt_core.proofs.Enabled.{enabled_is, enabled_if}
 use Rattle.kt_core.proofs.ShownPlans.{plan_is}
 use Rattle.kt_run.specs.Runs.{StepsTo, Starts, Begins, Goes, Rests, IsRunOf}
@@ -53,21 +53,44 @@ begins_more plan steps x old new e b s =
       shown = l.2;
     }
 
-pub goes_start : (plan : Planned) (steps : List Step) (w : World) → Begins plan steps w → Goes plan steps w
-goes_start plan steps w b = record { given = b.moves; more = []; now = b.now; begins = b.made; goes_on = goes_first (plan_shown plan) 0 b.moves b.now b.leads; shown = b.shown }
+-- a run goes on from where the given steps lead, by so many steps at least
+abbrev pub GoesSo : Planned → List Step → ℕ → World → Type 0
+GoesSo plan steps n w = (g : Goes plan steps w) × (n ≤ length g.more)
 
-pub goes_more : (plan : Planned) (steps : List Step) (x : Step) (old new : World) → old.agenda.plan ≡ plan → (g : Goes plan steps old) → StepsTo old x new → Some (step_shown x) ≡ default_step (plan_shown old.agenda.plan) g.now → Goes plan steps new
-goes_more plan steps x old new e g s d =
+pub goes_start : (plan : Planned) (steps : List Step) (w : World) → Begins plan steps w → GoesSo plan steps 0 w
+goes_start plan steps w b = (record { given = b.moves; more = []; now = b.now; begins = b.made; goes_on = goes_first (plan_shown plan) 0 b.moves b.now b.leads; shown = b.shown }, omega arith)
+
+pub goes_more : (plan : Planned) (steps : List Step) (n : ℕ) (x : Step) (old new : World) → old.agenda.plan ≡ plan → (g : GoesSo plan steps n old) → StepsTo old x new → Some (step_shown x) ≡ default_step (plan_shown old.agenda.plan) g.0.now → GoesSo plan steps (n + 1) new
+goes_more plan steps n x old new e h s d =
+    let g = h.0 in
     let l = led plan old new x g.now e s g.shown in
+    let m : Move = record { step = step_shown x; give = l.0 } in
     let limits = plan_is plan (subst (λ (z : Planned). IsPlan z) e g.shown.limits) in
-    record {
-      given = g.given;
-      more = g.more ++ record { step = step_shown x; give = l.0 } ∷ [];
-      now = world_after (plan_shown plan) g.now (step_shown x) l.0;
-      begins = g.begins;
-      goes_on = goes_next (plan_shown plan) 0 g.given g.more g.now (step_shown x) l.0 limits g.goes_on (subst (λ (z : Planned). default_step (plan_shown z) g.now ≡ Some (step_shown x)) e (sym d));
-      shown = l.2;
-    }
+    let more = length_push g.more m in
+    let so = h.1 in (
+      record {
+        given = g.given;
+        more = g.more ++ m ∷ [];
+        now = world_after (plan_shown plan) g.now (step_shown x) l.0;
+        begins = g.begins;
+        goes_on = goes_next (plan_shown plan) 0 g.given g.more g.now (step_shown x) l.0 limits g.goes_on (subst (λ (z : Planned). default_step (plan_shown z) g.now ≡ Some (step_shown x)) e (sym d));
+        shown = l.2;
+      },
+      omega (arith, more, so),
+    )
+
+-- no run has so many steps
+pub too_many : (plan : Planned) (steps : List Step) (n : ℕ) (w : World) → w.agenda.plan ≡ plan → GoesSo plan steps n w → length w.system.rows.rows ≤ 2 ^ 24 → 4294967295 ≤ n → ⊥
+too_many plan steps n w e h few many =
+    let g = h.0 in
+    let so = h.1 in
+    let i = subst (λ (z : Planned). IsPlan z) e g.shown.limits in
+    let names = i.names.few in
+    let commands = i.few in
+    let count = length-map plan.commands command_shown in
+    let log = ap (λ (l : List Event). length l) g.shown.now.log in
+    let below = goes_below (plan_shown plan) 0 g.given g.more g.now (plan_is plan i) names (omega (arith, commands, count)) (omega (arith, few, log)) g.goes_on in
+    omega (arith, below, so, many)
 
 pub rests_now : (plan : Planned) (steps : List Step) (w : World) → w.agenda.plan ≡ plan → (g : Goes plan steps w) → None ≡ default_step (plan_shown w.agenda.plan) g.now → Rests plan steps w
 rests_now plan steps w e g d = record {

@@ -78,8 +78,9 @@ impl Stage {
         Ok(())
     }
 
-    /// Default steps until there is none.
+    /// Default steps until there is none. No run of a plan has so many steps that the loop ends before.
     fn go_on(&mut self) -> Result<(), RunFault>
+        requires { (steps : List Step) × Begins self.old.world.agenda.plan steps self.old.world }
         ensures fault { IfErr result (λ fault. is_of_cast fault ≡ false) }
         ensures rests { (steps : List Step) → Begins self.old.world.agenda.plan steps self.old.world → OnOk result (Rests self.old.world.agenda.plan steps self.new.world) }
     {
@@ -89,7 +90,8 @@ impl Stage {
             };
             self.make(step)?;
         }
-        Err(RunFault::Step(self.done, StepFault::LogFull))
+        let _rows = self.world.log().rows();
+        unreachable!()
     }
 
     /// Makes a step: asks the process's object for what it needs, notes what is told, and does it.
