@@ -16,13 +16,14 @@ use Rattle.kt_plan.specs.declared.steps.Told.{Told}
 use Rattle.kt_phases.specs.Plans as run_plans
 use Rattle.kt_phases.specs.Steps as run_steps
 use Rattle.kt_promises.specs.Runs.{IsReachedWorld}
-use Rattle.kt_promises.specs.StepActs.{rows_added}
+use Rattle.kt_promises.specs.StepActs.{rows_added, acts_of_step}
 use Rattle.kt_promises.specs.Steps.{enabled, world_after}
 use Rattle.kt_promises.specs.Told as run_told
 use Rattle.kt_promises.specs.World as run_world
 use Rattle.kt_promises.proofs.ActsOfSteps.{log_grows, rows_of_one}
 use Rattle.kt_spacetime.specs.Events.{process_of}
 use Rattle.kt_spacetime.specs.declared.event.Event.{Event}
+use Rattle.kt_system.specs.ShownActs.{acts_shown}
 use Rattle.kt_threads.specs.Histories.{IsMade, told_to}
 use Rattle.kt_threads.specs.Moves.{move_of}
 use Rattle.kt_threads.specs.Telling.{numbered, rows_by, rows_of, rows_told, IsToldAs}
@@ -198,8 +199,15 @@ module _ (plan : Planned) (made : Made) (before after : World) (first : ℕ) (v 
       ∙ (append_assoc (rows_by p v.now.log) (filter (is_by p) (numbered n added)) (rows_told (told_to p steps))
       ∙ ap (λ (l : List Row). rows_by p v.now.log ++ l) (rows_here p steps (stepper made.told.step == p) refl))
 
+  acts : acts_shown made.told.acts
+      ≡ acts_of_step (plan_shown plan) v (step_shown made.told.step) (give_shown made.give) (run_steps.stepper (step_shown made.told.step))
+  acts =
+      subst (λ (p : Planned). acts_shown made.told.acts ≡ acts_of_step (plan_shown p) v (step_shown made.told.step) (give_shown made.give) (stepper made.told.step)) plans
+      (step.acts first v r)
+      ∙ ap (acts_of_step (plan_shown plan) v (step_shown made.told.step) (give_shown made.give)) (sym (stepper_is made.told.step))
+
   told_as : IsToldAs made.told (run_told.told_at (plan_shown plan) v (move_of made))
-  told_as = record { step = refl; rows = ap (λ (l : List Row). map (λ (row : Row). row.1) l) tells ∙ without_numbers n added }
+  told_as = record { step = refl; rows = ap (λ (l : List Row). map (λ (row : Row). row.1) l) tells ∙ without_numbers n added; acts = acts }
 
   by_test : (p : ℕ) (b : Bool) → (stepper made.told.step == p) ≡ b → (p == run_steps.stepper (step_shown made.told.step)) ≡ b
   by_test p b e = turned (run_steps.stepper (step_shown made.told.step)) (stepper made.told.step) p b (stepper_is made.told.step) e

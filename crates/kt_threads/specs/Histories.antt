@@ -5,9 +5,11 @@ use Rattle.kt_core.specs.Shown.{plan_shown, step_shown, give_shown}
 use Rattle.kt_core.specs.Worlds.{World, IsOpening, IsAtRest, IsSameWorld, HasDone, Settles, numbered_row, refusal, stepper}
 use Rattle.kt_plan.specs.Limits.{Planned}
 use Rattle.kt_plan.specs.declared.steps.Told.{Told}
+use Rattle.kt_promises.specs.StepActs.{acts_of_step}
 use Rattle.kt_promises.specs.Steps.{world_after}
 use Rattle.kt_promises.specs.World as run_world
 use Rattle.kt_spacetime.specs.declared.event.Event.{Event}
+use Rattle.kt_system.specs.ShownActs.{acts_shown}
 use Rattle.kt_system.specs.Systems.{Grows}
 use Rattle.kt_threads.specs.declared.faults.LiveFault.{LiveFault}
 use Rattle.kt_threads.specs.declared.state.Made.{Made}
@@ -15,7 +17,7 @@ use Rattle.kt_threads.specs.Moves.{IsRunOf}
 use Rattle.kt_threads.specs.Telling.{AreToldAsInRun}
 
 -- a step that is not refused leads from one world to another, and tells its rows; a run of the plan that leads to the one
--- goes on by this step to the other
+-- goes on by this step to the other, and asks the acts that are told of the process whose step it is
 pub record IsMade (old : World) (made : Made) (new : World) : Type 0 where
   pub allowed : refusal old made.told.step ≡ None
   pub plan : new.agenda.plan ≡ old.agenda.plan
@@ -29,6 +31,8 @@ pub record IsMade (old : World) (made : Made) (new : World) : Type 0 where
       ≡ Some (numbered_row new.system.rows.rows (length old.system.rows.rows + i))
   pub leads : (first : ℕ) (v : run_world.World) → core.IsRun old.agenda old.system first v → core.IsRun new.agenda new.system first
       (world_after (plan_shown old.agenda.plan) v (step_shown made.told.step) (give_shown made.give))
+  pub acts : (first : ℕ) (v : run_world.World) → core.IsRun old.agenda old.system first v → acts_shown made.told.acts
+      ≡ acts_of_step (plan_shown old.agenda.plan) v (step_shown made.told.step) (give_shown made.give) (stepper made.told.step)
 
 -- steps lead one after another from one world to another, where only spare room may come between
 abbrev pub Leads : World → List Made → World → Type 0

@@ -1,4 +1,4 @@
--- What the steps of processes tell them of the log.
+-- What the steps of processes tell them of the log, and ask of them.
 use Rattle.std.specs.Prelude.{◌≡◌, ◌<◌, ◌+◌, ◌==◌, ℕ, List, [], ◌∷◌, ◌++◌, Option, filter, map, length, slice_index_or}
 use Rattle.std.specs.List.{AllZip, filter_map}
 use Rattle.kt_core.specs.Shown.{plan_shown, step_shown}
@@ -8,6 +8,7 @@ use Rattle.kt_promises.specs.Told as run_told
 use Rattle.kt_promises.specs.World.{start_world}
 use Rattle.kt_spacetime.specs.Events.{process_of}
 use Rattle.kt_spacetime.specs.declared.event.Event.{Event}
+use Rattle.kt_system.specs.ShownActs.{acts_shown}
 use Rattle.kt_threads.specs.Moves.{move_of}
 use Rattle.kt_threads.specs.declared.state.Made.{Made}
 
@@ -33,10 +34,11 @@ rows_told (told ∷ more) = rows_of told ++ rows_told more
 abbrev pub AreToldTheirRows : List Event → List (List Told) → Type 0
 AreToldTheirRows log told = (p : ℕ) → p < length told → rows_told (slice_index_or told p []) ≡ rows_by p log
 
--- the same step, and the same rows but for their numbers, as a run tells
+-- the same step, the same rows but for their numbers, and the same acts, as a run tells
 pub record IsToldAs (told : Told) (in_run : run_told.Told) : Type 0 where
   pub step : step_shown told.step ≡ in_run.step
   pub rows : map (λ row. row.1) (rows_of told) ≡ in_run.rows
+  pub acts : acts_shown told.acts ≡ in_run.acts
 
 -- each process is told what a run by these steps tells it
 abbrev pub AreToldAsInRun : Planned → List Made → List (List Told) → Type 0

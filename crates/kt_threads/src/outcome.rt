@@ -136,7 +136,7 @@ pub fn live<R: Threads + Wait + Sync>(
     cast: Cast,
 ) -> Result<Outcome, LiveFault>
     // The steps that were made, in one order, are a run of the plan that ends at rest, and each thread was told what its own
-    // steps tell.
+    // steps tell: step for step the rows and the acts that the run tells its process.
     ensures lived { IfOk result (λ o. IsLived plan.now o.log.rows (map (λ list. list.items) o.told.items)) }
 
     // Each thread was told its own rows of the log, each once and in order, with their numbers.
