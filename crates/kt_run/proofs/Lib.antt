@@ -1,2 +1,4 @@
 pub mod Casting
+pub mod Noting
 pub mod Running
+pub mod Telling

@@ -1,5 +1,5 @@
 -- Which objects a run begins with, and which faults of it come before anything is saved.
-use Rattle.std.specs.Prelude.{◌≡◌, ◌<◌, ℕ, List, Bool, true, false, length}
+use Rattle.std.specs.Prelude.{◌<◌, ℕ, List, Bool, true, false, length}
 use Rattle.kt_held.specs.Casts.{HasSizes, HasKind}
 use Rattle.kt_held.specs.declared.faults.CastFault.{CastFault}
 use Rattle.kt_held.specs.declared.faults.CastFault.TheVariants as cast

@@ -3,7 +3,7 @@
 ghost use Rattle.std.specs.Prelude.{map, OnOk, IfOk, IfErr};
 ghost use Rattle.kt_promises.specs.Headline.{IsPromised};
 ghost use Rattle.kt_run.specs.Faults.{IsCast, Answers};
-ghost use Rattle.kt_run.specs.Runs.{IsRunOf};
+ghost use Rattle.kt_run.specs.Runs.{IsRunOf, IsToldRunOf};
 
 use crate::faults::RunFault;
 use crate::journals::Journals;
@@ -30,8 +30,8 @@ pub fn run(alloc: Global, plan: &Plan, steps: &[Step], cast: Cast) -> Result<Out
     ensures fault { IfErr result (Answers plan.now (map (λ row. map (λ b. kind_of b) row.items) cast.items)) }
 
     // The log is that of a run of the plan which begins with the steps given, goes on by default steps, and comes to rest;
-    // and all is so of it that is promised of a run's.
-    ensures run { IfOk result (λ outcome. IsRunOf plan.now steps.now outcome.log.rows) }
+    // each process was told, step for step, what that run tells it; and all is so of the log that is promised of a run's.
+    ensures run { IfOk result (λ outcome. IsToldRunOf plan.now steps.now outcome.log.rows (map (λ list. list.items) outcome.told.items)) }
     ensures promised { IfOk result (λ outcome. IsPromised outcome.log.rows) }
 {
     let mut stage = Stage::begin(alloc, plan, cast)?;
@@ -39,7 +39,7 @@ pub fn run(alloc: Global, plan: &Plan, steps: &[Step], cast: Cast) -> Result<Out
     stage.make_all(steps)?;
     Ok(Outcome {
         log: stage.world.into_log(),
-        told: stage.journals.lists,
+        told: stage.journals.into_lists(),
         objects: stage.objects,
     })
 }

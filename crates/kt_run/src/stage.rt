@@ -1,9 +1,10 @@
 //! A world with the objects of its processes.
 
-ghost use Rattle.std.specs.Prelude.{◌≡◌, List, false, map, OnOk, IfOk, IfErr};
+ghost use Rattle.std.specs.Prelude.{◌≡◌, List, false, map, length, OnOk, IfOk, IfErr};
 ghost use Rattle.kt_plan.specs.declared.steps.Step.{Step};
 ghost use Rattle.kt_run.specs.Faults.{IsCast, Answers, is_of_cast};
 ghost use Rattle.kt_run.specs.Runs.{StepsTo, Starts, Begins, Rests};
+ghost use Rattle.kt_run.specs.Telling.{AreEmpty};
 
 use crate::faults::RunFault;
 use crate::journals::{Journals, process_of};
@@ -34,6 +35,7 @@ impl Stage {
         ensures fault { IfErr result (Answers plan.now (map (λ row. map (λ b. kind_of b) row.items) cast.items)) }
         ensures starts { IfOk result (λ stage. Starts plan.now stage.world) }
         ensures plan { IfOk result (λ stage. stage.world.agenda.plan ≡ plan.now) }
+        ensures journals { IfOk result (λ stage. AreEmpty stage.journals) }
     {
         let objects = first_objects(alloc, plan, cast)?;
         let world = first_world(alloc, plan)?;
@@ -50,16 +52,21 @@ impl Stage {
     pub(crate) fn keep_journals(&mut self) -> Result<(), RunFault>
         ensures fault { IfErr result (λ fault. fault ≡ RunFault.Memory) }
         ensures world { self.new.world ≡ self.old.world }
+        ensures journals { OnOk result (AreEmpty self.new.journals) }
+        ensures count { OnOk result (length self.new.journals ≡ length self.old.world.agenda.plan.names) }
     {
-        self.journals = Journals::of(self.alloc, self.objects.len())?;
+        let processes = self.world.plan().size();
+        self.journals = Journals::of(self.alloc, processes)?;
         Ok(())
     }
 
     /// The steps given, then default steps until there is none.
     pub(crate) fn make_all(&mut self, steps: &[Step]) -> Result<(), RunFault>
-        requires { Starts self.old.world.agenda.plan self.old.world }
+        requires starts { Starts self.old.world.agenda.plan self.old.world }
+        requires journals { AreEmpty self.old.journals }
         ensures fault { IfErr result (λ fault. is_of_cast fault ≡ false) }
-        ensures rests { OnOk result (Rests self.old.world.agenda.plan steps.now self.new.world) }
+        ensures count { OnOk result (length self.new.journals ≡ length self.old.journals) }
+        ensures rests { OnOk result (Rests self.old.world.agenda.plan steps.now self.new.world self.new.journals) }
     {
         self.make_given(steps)?;
         self.go_on()
@@ -67,10 +74,12 @@ impl Stage {
 
     /// The steps given.
     fn make_given(&mut self, steps: &[Step]) -> Result<(), RunFault>
-        requires { Starts self.old.world.agenda.plan self.old.world }
+        requires starts { Starts self.old.world.agenda.plan self.old.world }
+        requires journals { AreEmpty self.old.journals }
         ensures fault { IfErr result (λ fault. is_of_cast fault ≡ false) }
         ensures plan { self.new.world.agenda.plan ≡ self.old.world.agenda.plan }
-        ensures begun { OnOk result (Begins self.old.world.agenda.plan steps.now self.new.world) }
+        ensures count { OnOk result (length self.new.journals ≡ length self.old.journals) }
+        ensures begun { OnOk result (Begins self.old.world.agenda.plan steps.now self.new.world self.new.journals) }
     {
         for step in steps {
             self.make(*step)?;
@@ -80,9 +89,11 @@ impl Stage {
 
     /// Default steps until there is none. No run of a plan has so many steps that the loop ends before.
     fn go_on(&mut self) -> Result<(), RunFault>
-        requires { (steps : List Step) × Begins self.old.world.agenda.plan steps self.old.world }
+        requires { (steps : List Step) × Begins self.old.world.agenda.plan steps self.old.world self.old.journals }
         ensures fault { IfErr result (λ fault. is_of_cast fault ≡ false) }
-        ensures rests { (steps : List Step) → Begins self.old.world.agenda.plan steps self.old.world → OnOk result (Rests self.old.world.agenda.plan steps self.new.world) }
+        ensures count { OnOk result (length self.new.journals ≡ length self.old.journals) }
+        ensures rests { (steps : List Step) → Begins self.old.world.agenda.plan steps self.old.world self.old.journals →
+            OnOk result (Rests self.old.world.agenda.plan steps self.new.world self.new.journals) }
     {
         for _number in 0..MAX_STEPS {
             let Some(step) = self.world.default_step() else {
@@ -98,7 +109,7 @@ impl Stage {
     fn make(&mut self, step: Step) -> Result<(), RunFault>
         ensures fault { IfErr result (λ fault. is_of_cast fault ≡ false) }
         ensures plan { self.new.world.agenda.plan ≡ self.old.world.agenda.plan }
-        ensures leads { OnOk result (StepsTo self.old.world step self.new.world) }
+        ensures leads { OnOk result (StepsTo self.old.world self.old.journals step self.new.world self.new.journals) }
     {
         let p = process_of(&step);
         let Some(held) = self.objects.get_mut(p.index()) else {
@@ -131,7 +142,7 @@ fn step_once(
 ) -> Result<[Act; 2], RunFault>
     ensures fault { IfErr result (λ fault. is_of_cast fault ≡ false) }
     ensures plan { world.new.agenda.plan ≡ world.old.agenda.plan }
-    ensures leads { OnOk result (StepsTo world.old step world.new) }
+    ensures leads { OnOk result (StepsTo world.old journals.old step world.new journals.new) }
 {
     let p = process_of(&step);
     let told = match world.step(step, give) {

@@ -1,4 +1,4 @@
-use Rattle.std.proofs.Common.{rules, refl}
+use Rattle.std.proofs.Common.{refl}
 use Rattle.kt_run.proofs.Casting.{answered}
 use Rattle.kt_run.proofs.stage.first_objects.Goals as goal
 

@@ -1,0 +1,46 @@
+-- What a run tells its processes.
+use Rattle.std.specs.Prelude.{◌≡◌, ◌<◌, ◌+◌, ◌==◌, ℕ, List, [], ◌∷◌, ◌++◌, Option, map, length, slice_index_or, if◌then◌else◌}
+use Rattle.std.specs.List.{AllZip, filter_map}
+use Rattle.kt_core.specs.Shown.{plan_shown, step_shown}
+use Rattle.kt_core.specs.Worlds.{stepper}
+use Rattle.kt_phases.specs.Runs.{Move}
+use Rattle.kt_plan.specs.Limits.{Planned}
+use Rattle.kt_plan.specs.declared.steps.Told.{Told}
+use Rattle.kt_promises.specs.Told as run_told
+use Rattle.kt_promises.specs.World.{start_world}
+use Rattle.kt_spacetime.specs.declared.event.Event.{Event}
+use Rattle.kt_system.specs.ShownActs.{acts_shown}
+
+-- rows with their numbers, which go on after so many rows
+abbrev pub numbered : ℕ → List Event → List (ℕ × Event)
+numbered count [] = []
+numbered count (row ∷ rows) = (count + 1, row) ∷ numbered (count + 1) rows
+
+-- the rows that a step tells, with their numbers
+abbrev pub rows_of : Told → List (ℕ × Event)
+rows_of told = filter_map (λ (row : Option (ℕ × Event)). row) told.rows
+
+-- the same step, the same rows but for their numbers, and the same acts, as a run tells
+pub record IsToldAs (told : Told) (in_run : run_told.Told) : Type 0 where
+  pub step : step_shown told.step ≡ in_run.step
+  pub rows : map (λ row. row.1) (rows_of told) ≡ in_run.rows
+  pub acts : acts_shown told.acts ≡ in_run.acts
+
+-- each process is told, step for step, what a run by these moves tells it
+abbrev pub AreToldInRun : Planned → List Move → List (List Told) → Type 0
+AreToldInRun plan moves told =
+    (p : ℕ) → p < length told → AllZip IsToldAs (slice_index_or told p [])
+    (run_told.told_by (plan_shown plan) (start_world (plan_shown plan) 0) p moves)
+
+-- no process is told anything yet
+abbrev pub AreEmpty : List (List Told) → Type 0
+AreEmpty told = (p : ℕ) → slice_index_or told p [] ≡ []
+
+-- what one of the processes is told by a step
+abbrev pub told_here : ℕ → Told → List Told
+told_here p told = if p == stepper told.step then told ∷ [] else []
+
+-- what a step tells is noted of its process, and nothing of the others
+pub record IsNoted (told : Told) (old new : List (List Told)) : Type 0 where
+  pub count : length new ≡ length old
+  pub each : (p : ℕ) → p < length old → slice_index_or new p [] ≡ slice_index_or old p [] ++ told_here p told
