@@ -15,12 +15,13 @@ use Rattle.kt_promises.specs.Steps.{enabled, world_after, is_at_rest}
 use Rattle.kt_promises.specs.Told.{told_by}
 use Rattle.kt_promises.specs.World as run_world
 use Rattle.kt_promises.proofs.PhasesOpen.{opening_is}
+use Rattle.kt_run.specs.Telling.{IsToldAs}
 use Rattle.kt_seen.specs.Seen.{Seen}
 use Rattle.kt_spacetime.specs.declared.event.Event.{Event}
 use Rattle.kt_threads.specs.Histories as histories
 use Rattle.kt_threads.specs.Histories.{IsMade, Leads, IsHistory, told_to, AreTold}
 use Rattle.kt_threads.specs.Moves.{move_of, IsRunOf}
-use Rattle.kt_threads.specs.Telling.{rows_by, rows_told, IsToldAs, AreToldTheirRows, AreToldAsInRun}
+use Rattle.kt_threads.specs.Telling.{rows_by, rows_told, AreToldTheirRows, AreToldAsInRun}
 use Rattle.kt_threads.proofs.Telling.{rows_more, told_more}
 use Rattle.kt_threads.specs.declared.state.Made.{Made}
 

@@ -1,29 +1,16 @@
 -- What the steps of processes tell them of the log, and ask of them.
-use Rattle.std.specs.Prelude.{◌≡◌, ◌<◌, ◌+◌, ◌==◌, ℕ, List, [], ◌∷◌, ◌++◌, Option, filter, map, length, slice_index_or}
-use Rattle.std.specs.List.{AllZip, filter_map}
-use Rattle.kt_core.specs.Shown.{plan_shown, step_shown}
+use Rattle.std.specs.Prelude.{◌≡◌, ◌<◌, ◌==◌, ℕ, List, [], ◌∷◌, ◌++◌, filter, map, length, slice_index_or}
 use Rattle.kt_plan.specs.Limits.{Planned}
 use Rattle.kt_plan.specs.declared.steps.Told.{Told}
-use Rattle.kt_promises.specs.Told as run_told
-use Rattle.kt_promises.specs.World.{start_world}
+use Rattle.kt_run.specs.Telling.{numbered, rows_of, AreToldInRun}
 use Rattle.kt_spacetime.specs.Events.{process_of}
 use Rattle.kt_spacetime.specs.declared.event.Event.{Event}
-use Rattle.kt_system.specs.ShownActs.{acts_shown}
 use Rattle.kt_threads.specs.Moves.{move_of}
 use Rattle.kt_threads.specs.declared.state.Made.{Made}
-
--- rows with their numbers, which go on after so many rows
-abbrev pub numbered : ℕ → List Event → List (ℕ × Event)
-numbered count [] = []
-numbered count (row ∷ rows) = (count + 1, row) ∷ numbered (count + 1) rows
 
 -- the rows of one process in a log, with their numbers
 abbrev pub rows_by : ℕ → List Event → List (ℕ × Event)
 rows_by p log = filter (λ row. process_of row.1 == p) (numbered 0 log)
-
--- the rows that a step tells, with their numbers
-abbrev pub rows_of : Told → List (ℕ × Event)
-rows_of told = filter_map (λ (row : Option (ℕ × Event)). row) told.rows
 
 -- those that some steps tell, in order
 abbrev pub rows_told : List Told → List (ℕ × Event)
@@ -34,14 +21,6 @@ rows_told (told ∷ more) = rows_of told ++ rows_told more
 abbrev pub AreToldTheirRows : List Event → List (List Told) → Type 0
 AreToldTheirRows log told = (p : ℕ) → p < length told → rows_told (slice_index_or told p []) ≡ rows_by p log
 
--- the same step, the same rows but for their numbers, and the same acts, as a run tells
-pub record IsToldAs (told : Told) (in_run : run_told.Told) : Type 0 where
-  pub step : step_shown told.step ≡ in_run.step
-  pub rows : map (λ row. row.1) (rows_of told) ≡ in_run.rows
-  pub acts : acts_shown told.acts ≡ in_run.acts
-
--- each process is told what a run by these steps tells it
+-- each process is told, step for step, what a run by these steps tells it
 abbrev pub AreToldAsInRun : Planned → List Made → List (List Told) → Type 0
-AreToldAsInRun plan steps told =
-    (p : ℕ) → p < length told → AllZip IsToldAs (slice_index_or told p [])
-    (run_told.told_by (plan_shown plan) (start_world (plan_shown plan) 0) p (map move_of steps))
+AreToldAsInRun plan steps told = AreToldInRun plan (map move_of steps) told
