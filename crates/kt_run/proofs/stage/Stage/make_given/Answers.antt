@@ -10,7 +10,7 @@ loop-step-init g c = record { plan = refl; count = refl; begun = begins_start c.
 pub loop-step-preserved : goal.loop-step-preserved
 loop-step-preserved g c = record {
   plan = c.in_ok-make.ensures.plan ∙ c.loop-step.invariant.plan;
-  count = c.in_ok-make.ensures.leads.1.count ∙ c.loop-step.invariant.count;
+  count = c.in_ok-make.ensures.leads.2.count ∙ c.loop-step.invariant.count;
   begun = subst (λ (l : List Step). Begins c.args.self.now.world.agenda.plan l c.make.new.self.world c.make.new.self.journals) (sym (take_next c.args.steps.now c.loop-step.step-index c.step-item.result (search rules) c.step-item.is))
       (begins_more c.args.self.now.world.agenda.plan (take c.loop-step.step-index c.args.steps.now) c.step-item.result c.loop-step.self.world c.make.new.self.world c.loop-step.self.journals c.make.new.self.journals c.loop-step.invariant.plan c.loop-step.invariant.begun c.in_ok-make.ensures.leads);
 }
