@@ -2,7 +2,6 @@
 use Rattle.std.specs.Prelude.{◌≡◌, ◌≢◌, ◌⊎◌, ◌∷◌, ℕ, List, map}
 use Rattle.std.specs.Io.KnownBytes.{Appends}
 use Rattle.kt_spacetime.specs.declared.event.Event.{Event}
-use Rattle.kt_cuts.specs.Legal.{IsLegal}
 use Rattle.kt_text.specs.Writing.{text_of}
 use Rattle.kt_log_text.specs.Spelling.{spelling}
 use Rattle.kt_log_text.specs.Texts.{header}
@@ -90,28 +89,28 @@ IsOfWriting fault = (fault ≡ app.Write) ⊎ (fault ≡ app.Memory)
 abbrev pub IsUnwritten : Outputs → Outputs → Type 0
 IsUnwritten old new = (new.log ≡ old.log) × (new.certificates ≡ old.certificates) × (new.report ≡ old.report)
 
--- at most part of the log is written
+-- writing stops in the log: nothing of what comes later is written
 abbrev pub StopsInLog : Outputs → Outputs → Type 0
 StopsInLog old new = (new.certificates ≡ old.certificates) × (new.report ≡ old.report)
 
--- the log is written, and at most part of the certificates
-abbrev pub StopsInCertificates : Outputs → Outputs → Type 0
-StopsInCertificates old new = ((rows : List Event) × WritesLog old.log new.log rows) × (new.report ≡ old.report)
+-- writing stops in the certificates: a log of such rows is written, and nothing of the report
+abbrev pub StopsInCertificates : (List Event → Type 0) → Outputs → Outputs → Type 0
+StopsInCertificates Are old new = ((rows : List Event) × Are rows × WritesLog old.log new.log rows) × (new.report ≡ old.report)
 
--- the log and the certificates of a legal run are written, and at most part of the report
-abbrev pub StopsInReport : Outputs → Outputs → Type 0
-StopsInReport old new = (rows : List Event) × IsLegal rows × WritesLog old.log new.log rows × WritesCertificates old.certificates new.certificates rows
+-- writing stops in the report: a log of such rows and its certificates are written
+abbrev pub StopsInReport : (List Event → Type 0) → Outputs → Outputs → Type 0
+StopsInReport Are old new = (rows : List Event) × Are rows × WritesLog old.log new.log rows × WritesCertificates old.certificates new.certificates rows
 
--- some part of them is written, in order
-abbrev pub StopsWithin : Outputs → Outputs → Type 0
-StopsWithin old new = StopsInLog old new ⊎ (StopsInCertificates old new ⊎ StopsInReport old new)
+-- writing stops somewhere
+abbrev pub StopsWithin : (List Event → Type 0) → Outputs → Outputs → Type 0
+StopsWithin Are old new = StopsInLog old new ⊎ (StopsInCertificates Are old new ⊎ StopsInReport Are old new)
 
--- what is written where a run is not played to its end
-abbrev pub StopsAt : Outputs → Outputs → AppFault → Type 0
-StopsAt old new (app.Run fault) = (fault ≢ run.Memory) × IsUnwritten old new
-StopsAt old new (app.Live fault) = (fault ≢ live.Memory) × IsUnwritten old new
-StopsAt old new (app.Uncertified fault) = ⊥
-StopsAt old new app.Write = StopsWithin old new
-StopsAt old new app.Memory = StopsWithin old new
-StopsAt old new (app.Log fault) = ⊥
-StopsAt old new (app.Cert fault) = ⊥
+-- what is written where a run, whose rows are such, is not written to its end
+abbrev pub StopsAt : (List Event → Type 0) → Outputs → Outputs → AppFault → Type 0
+StopsAt Are old new (app.Run fault) = (fault ≢ run.Memory) × IsUnwritten old new
+StopsAt Are old new (app.Live fault) = (fault ≢ live.Memory) × IsUnwritten old new
+StopsAt Are old new (app.Uncertified fault) = ⊥
+StopsAt Are old new app.Write = StopsWithin Are old new
+StopsAt Are old new app.Memory = StopsWithin Are old new
+StopsAt Are old new (app.Log fault) = ⊥
+StopsAt Are old new (app.Cert fault) = ⊥

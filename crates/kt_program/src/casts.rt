@@ -5,7 +5,8 @@ ghost use Rattle.kt_object.specs.Value.{opening};
 ghost use Rattle.kt_plan.specs.Limits.{IsKind};
 ghost use Rattle.kt_held.specs.Casts.{failures_of, HasSizes, HasKind};
 ghost use Rattle.kt_program.specs.CastRows.{IsCast};
-ghost use Rattle.kt_program.specs.Played.{IsPlayed, IsLived, StopsAt, outputs};
+ghost use Rattle.kt_run.specs.Runs.{IsRunOf};
+ghost use Rattle.kt_program.specs.Played.{IsLogOfRun, IsPlayed, IsLived, StopsAt, outputs};
 
 use crate::fault::AppFault;
 use crate::played::{live_plan, play_plan};
@@ -80,7 +81,7 @@ pub fn play_objects<L: Write, C: Write, R: Write>(
     ensures played { OnOk result (IsPlayed plan.now steps.now
         (outputs (L.contents log_writer.old) (C.contents cert_writer.old) (R.contents report_writer.old))
         (outputs (L.contents log_writer.new) (C.contents cert_writer.new) (R.contents report_writer.new))) }
-    ensures stopped { IfErr result (StopsAt
+    ensures stopped { IfErr result (StopsAt (IsRunOf plan.now steps.now)
         (outputs (L.contents log_writer.old) (C.contents cert_writer.old) (R.contents report_writer.old))
         (outputs (L.contents log_writer.new) (C.contents cert_writer.new) (R.contents report_writer.new))) }
 {
@@ -126,7 +127,7 @@ fn play_cast<L: Write, C: Write, R: Write>(
     ensures played { OnOk result (IsPlayed plan.now steps.now
         (outputs (L.contents log_writer.old) (C.contents cert_writer.old) (R.contents report_writer.old))
         (outputs (L.contents log_writer.new) (C.contents cert_writer.new) (R.contents report_writer.new))) }
-    ensures stopped { IfErr result (StopsAt
+    ensures stopped { IfErr result (StopsAt (IsRunOf plan.now steps.now)
         (outputs (L.contents log_writer.old) (C.contents cert_writer.old) (R.contents report_writer.old))
         (outputs (L.contents log_writer.new) (C.contents cert_writer.new) (R.contents report_writer.new))) }
 {
@@ -153,7 +154,7 @@ pub fn live_objects<T: Threads + Wait + Sync, L: Write, C: Write, R: Write>(
     ensures lived { OnOk result (IsLived plan.now
         (outputs (L.contents log_writer.old) (C.contents cert_writer.old) (R.contents report_writer.old))
         (outputs (L.contents log_writer.new) (C.contents cert_writer.new) (R.contents report_writer.new))) }
-    ensures stopped { IfErr result (StopsAt
+    ensures stopped { IfErr result (StopsAt (IsLogOfRun plan.now)
         (outputs (L.contents log_writer.old) (C.contents cert_writer.old) (R.contents report_writer.old))
         (outputs (L.contents log_writer.new) (C.contents cert_writer.new) (R.contents report_writer.new))) }
 {
@@ -199,7 +200,7 @@ fn live_cast<T: Threads + Wait + Sync, L: Write, C: Write, R: Write>(
     ensures lived { OnOk result (IsLived plan.now
         (outputs (L.contents log_writer.old) (C.contents cert_writer.old) (R.contents report_writer.old))
         (outputs (L.contents log_writer.new) (C.contents cert_writer.new) (R.contents report_writer.new))) }
-    ensures stopped { IfErr result (StopsAt
+    ensures stopped { IfErr result (StopsAt (IsLogOfRun plan.now)
         (outputs (L.contents log_writer.old) (C.contents cert_writer.old) (R.contents report_writer.old))
         (outputs (L.contents log_writer.new) (C.contents cert_writer.new) (R.contents report_writer.new))) }
 {

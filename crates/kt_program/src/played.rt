@@ -50,8 +50,8 @@ pub fn play_plan<L: Write, C: Write, R: Write>(
     ensures played { OnOk result (IsPlayed plan.now steps.now
         (outputs (L.contents log_writer.old) (C.contents cert_writer.old) (R.contents report_writer.old))
         (outputs (L.contents log_writer.new) (C.contents cert_writer.new) (R.contents report_writer.new))) }
-    // Where it stops: nothing is written of what comes later, and all of what comes earlier.
-    ensures stopped { IfErr result (StopsAt
+    // Where it stops: nothing is written of what comes later, and all of what comes earlier, of such a run.
+    ensures stopped { IfErr result (StopsAt (IsRunOf plan.now steps.now)
         (outputs (L.contents log_writer.old) (C.contents cert_writer.old) (R.contents report_writer.old))
         (outputs (L.contents log_writer.new) (C.contents cert_writer.new) (R.contents report_writer.new))) }
 {
@@ -76,8 +76,8 @@ pub fn live_plan<T: Threads + Wait + Sync, L: Write, C: Write, R: Write>(
     ensures lived { OnOk result (IsLived plan.now
         (outputs (L.contents log_writer.old) (C.contents cert_writer.old) (R.contents report_writer.old))
         (outputs (L.contents log_writer.new) (C.contents cert_writer.new) (R.contents report_writer.new))) }
-    // Where it stops: nothing is written of what comes later, and all of what comes earlier.
-    ensures stopped { IfErr result (StopsAt
+    // Where it stops: nothing is written of what comes later, and all of what comes earlier, of such a run.
+    ensures stopped { IfErr result (StopsAt (IsLogOfRun plan.now)
         (outputs (L.contents log_writer.old) (C.contents cert_writer.old) (R.contents report_writer.old))
         (outputs (L.contents log_writer.new) (C.contents cert_writer.new) (R.contents report_writer.new))) }
 {
@@ -98,7 +98,7 @@ fn write_run<L: Write, C: Write, R: Write>(
     ensures written { OnOk result (WritesRun plan.now.names log.now.rows
         (outputs (L.contents log_writer.old) (C.contents cert_writer.old) (R.contents report_writer.old))
         (outputs (L.contents log_writer.new) (C.contents cert_writer.new) (R.contents report_writer.new))) }
-    ensures stopped { IfErr result (StopsAt
+    ensures stopped { IfErr result (StopsAt (λ rows. rows ≡ log.now.rows)
         (outputs (L.contents log_writer.old) (C.contents cert_writer.old) (R.contents report_writer.old))
         (outputs (L.contents log_writer.new) (C.contents cert_writer.new) (R.contents report_writer.new))) }
 {
