@@ -86,15 +86,18 @@ abbrev pub GoesSo : Planned → List Step → ℕ → World → List (List Told)
 GoesSo plan steps n w told = (g : Goes plan steps w told) × (n ≤ length g.more)
 
 pub goes_start : (plan : Planned) (steps : List Step) (w : World) (told : List (List Told)) → Begins plan steps w told → GoesSo plan steps 0 w told
-goes_start plan steps w told b = (record {
-  given = b.moves;
-  more = [];
-  now = b.now;
-  begins = b.made;
-  goes_on = goes_first (plan_shown plan) 0 b.moves b.now b.leads;
-  shown = b.shown;
-  tells = subst (λ (moves : List Move). AreToldInRun plan moves told) (sym (append-nil b.moves)) b.tells;
-}, omega arith)
+goes_start plan steps w told b = (
+  record {
+    given = b.moves;
+    more = [];
+    now = b.now;
+    begins = b.made;
+    goes_on = goes_first (plan_shown plan) 0 b.moves b.now b.leads;
+    shown = b.shown;
+    tells = subst (λ (moves : List Move). AreToldInRun plan moves told) (sym (append-nil b.moves)) b.tells;
+  },
+  omega arith,
+)
 
 pub goes_more : (plan : Planned) (steps : List Step) (n : ℕ) (x : Step) (old new : World) (before after : List (List Told)) → old.agenda.plan ≡ plan → (h : GoesSo plan steps n old before) → StepsTo old before x new after
     → Some (step_shown x) ≡ default_step (plan_shown old.agenda.plan) h.0.now → GoesSo plan steps (n + 1) new after
@@ -104,17 +107,19 @@ goes_more plan steps n x old new before after e h s d =
     let limits = plan_is plan (subst (λ (z : Planned). IsPlan z) e g.shown.limits) in
     let m : Move = record { step = step_shown x; give = s.1 } in
     let more = length_push g.more m in
-    let so = h.1 in
-    (record {
-      given = g.given;
-      more = g.more ++ m ∷ [];
-      now = world_after (plan_shown plan) g.now (step_shown x) s.1;
-      begins = g.begins;
-      goes_on = goes_next (plan_shown plan) 0 g.given g.more g.now (step_shown x) s.1 limits g.goes_on (subst (λ (z : Planned). default_step (plan_shown z) g.now ≡ Some (step_shown x)) e (sym d));
-      shown = l.1;
-      tells = subst (λ (moves : List Move). AreToldInRun plan moves after) (append_assoc g.given g.more (m ∷ []))
-          (tells_more plan (g.given ++ g.more) g.now m s.0 before after (goes_run (plan_shown plan) 0 g.given g.more g.now g.goes_on) l.2 s.2 g.tells);
-    }, omega (arith, more, so))
+    let so = h.1 in (
+      record {
+        given = g.given;
+        more = g.more ++ m ∷ [];
+        now = world_after (plan_shown plan) g.now (step_shown x) s.1;
+        begins = g.begins;
+        goes_on = goes_next (plan_shown plan) 0 g.given g.more g.now (step_shown x) s.1 limits g.goes_on (subst (λ (z : Planned). default_step (plan_shown z) g.now ≡ Some (step_shown x)) e (sym d));
+        shown = l.1;
+        tells = subst (λ (moves : List Move). AreToldInRun plan moves after) (append_assoc g.given g.more (m ∷ []))
+            (tells_more plan (g.given ++ g.more) g.now m s.0 before after (goes_run (plan_shown plan) 0 g.given g.more g.now g.goes_on) l.2 s.2 g.tells);
+      },
+      omega (arith, more, so),
+    )
 
 -- no run has so many steps
 pub too_many : (plan : Planned) (steps : List Step) (n : ℕ) (w : World) (told : List (List Told)) → w.agenda.plan ≡ plan → GoesSo plan steps n w told → length w.system.rows.rows ≤ 2 ^ 24 → 4294967295 ≤ n → ⊥
