@@ -22,3 +22,4 @@ pub mod OthersStep
 pub mod WholeLogs
 pub mod NeededBodies
 pub mod OnlyDefault
+pub mod HeldMessages

@@ -1,14 +1,14 @@
 -- What is so of processes, channels and lists in every run.
-use Rattle.std.proofs.Common.{◌≡◌, ℕ, ◌<◌, true, false, subst, Some}
+use Rattle.std.proofs.Common.{◌≡◌, ℕ, ◌<◌, true, subst, Some}
 use Rattle.kt_tables.specs.Calls.{Speaks}
 use Rattle.kt_protocol.specs.States.{opening}
 use Rattle.kt_protocol.specs.States as machine
 use Rattle.kt_seen.specs.Seen.{no_part}
 use Rattle.kt_seen.specs.Messages.{AreSentTo, AreMessagesBy}
-use Rattle.kt_seen.specs.Transition.{transition, is_seen_ready}
+use Rattle.kt_seen.specs.Transition.{transition}
 use Rattle.kt_seen.specs.CallTests.{is_asked_in_checkpoint, is_asked_in_rollback}
 use Rattle.kt_seen.proofs.Bounds.{processes_are}
-use Rattle.kt_seen.proofs.RunFacts.{speaks, speaks_next, channel_sent, held_sent, held_to, kept_sent, near_save, near_roll, part_asks, part_answers, part_none}
+use Rattle.kt_seen.proofs.RunFacts.{speaks, speaks_next, channel_sent, held_sent, near_save, near_roll, part_asks, part_answers, part_none}
 use Rattle.kt_phases.specs.Plans.{Plan, IsPlan}
 use Rattle.kt_promises.specs.World.{World}
 use Rattle.kt_promises.specs.Runs.{IsReachedWorld}
@@ -29,12 +29,6 @@ module _ (plan : Plan) (first : ℕ) (w : World) (i : IsPlan plan) (r : IsReache
 
   pub held_seen : (p q : ℕ) → AreMessagesBy first w.now.log p (w.now.held p q)
   held_seen p q = seen_of plan first w (λ v. AreMessagesBy first v.log p (v.held p q)) i r (λ s. held_sent plan.size first s p q)
-
-  pub held_to_seen : (p q : ℕ) → is_seen_ready w.now p ≡ false → AreSentTo first w.now.log q p (w.now.held q p)
-  held_to_seen p q = seen_of plan first w (λ v. is_seen_ready v p ≡ false → AreSentTo first v.log q p (v.held q p)) i r (λ s. held_to plan.size first s p q)
-
-  pub kept_seen : (p q : ℕ) → AreMessagesBy first w.now.log p (w.now.kept p q)
-  kept_seen p q = seen_of plan first w (λ v. AreMessagesBy first v.log p (v.kept p q)) i r (λ s. kept_sent plan.size first s p q)
 
   pub would_ask_in_checkpoint_seen : (p q : ℕ) → (w.now.people p).inst ≡ 0 → is_asked_in_checkpoint (w.now.people p).calls q ≡ true → q < plan.size
   would_ask_in_checkpoint_seen p q = seen_of plan first w (λ v. (v.people p).inst ≡ 0 → is_asked_in_checkpoint (v.people p).calls q ≡ true → q < plan.size) i r (λ s o e. subst (λ (x : ℕ). q < x) (processes_are plan.size s) (near_save plan.size first s p q o e))

@@ -11,6 +11,7 @@ pub mod Unwilling
 pub mod StepActs
 pub mod Work
 pub mod Lines
+pub mod Messages
 pub mod Rows
 pub mod Failures
 pub mod Told

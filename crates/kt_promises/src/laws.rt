@@ -29,7 +29,7 @@ ghost use Rattle.kt_protocol.specs.States.{opening};
 ghost use Rattle.kt_protocol.specs.States as machine;
 ghost use Rattle.kt_closing.specs.LateSteps.{late_run};
 ghost use Rattle.kt_seen.specs.Seen.{no_part, seen};
-ghost use Rattle.kt_seen.specs.Messages.{AreSentTo, AreMessagesBy, sends_of};
+ghost use Rattle.kt_seen.specs.Messages.{AreSentTo, sends_of};
 ghost use Rattle.kt_seen.specs.Transition.{transition, opening_seen, is_seen_ready};
 ghost use Rattle.kt_seen.specs.CallTests.{is_asked_in_checkpoint, is_asked_in_rollback};
 ghost use Rattle.kt_values.specs.Done.{done, done_start};
@@ -57,6 +57,7 @@ ghost use Rattle.kt_promises.specs.Failures.{failures_of};
 ghost use Rattle.kt_promises.specs.Headline.{IsPromised};
 ghost use Rattle.kt_promises.specs.Rows.{AreRowsOfStep, IsRefusedStep, is_offer_step};
 ghost use Rattle.kt_promises.specs.Lines.{line, EachStandsOnce, KeepsReceived, messages};
+ghost use Rattle.kt_promises.specs.Messages.{AreMessagesTo};
 ghost use Rattle.kt_promises.specs.World.{World, world_of, commands_left, next_command, opens_next, is_quiet, start_world};
 ghost use Rattle.kt_promises.specs.Steps.{enabled, with_seen, world_after, is_at_rest};
 ghost use Rattle.kt_promises.specs.Looks.{look};
@@ -253,16 +254,14 @@ pub fn messages_of_worlds()
     ensures kept_lists { (plan : Plan) (first : ℕ) (w : World) → IsPlan plan → IsReachedWorld plan first w →
         KeepsReceived w.now }
 
-    // A message in a channel, held or kept has the label and the body of its row; what is held or kept is a message.
-    // In a channel, or held by a process in no rollback, it is its receiver's.
+    // A message in a channel has the label and the body of its row, and it is its receiver's. What a process holds or
+    // keeps of a sender is such messages, to this process, and nothing else.
     ensures in_channels { (plan : Plan) (first : ℕ) (w : World) (p q : ℕ) → IsPlan plan → IsReachedWorld plan first w →
         AreSentTo first w.now.log p q (w.now.channel p q) }
     ensures held { (plan : Plan) (first : ℕ) (w : World) (p q : ℕ) → IsPlan plan → IsReachedWorld plan first w →
-        AreMessagesBy first w.now.log p (w.now.held p q) }
-    ensures held_by_receiver { (plan : Plan) (first : ℕ) (w : World) (p q : ℕ) → IsPlan plan →
-        IsReachedWorld plan first w → is_seen_ready w.now p ≡ false → AreSentTo first w.now.log q p (w.now.held q p) }
+        AreMessagesTo first w.now.log q p (w.now.held q p) }
     ensures kept { (plan : Plan) (first : ℕ) (w : World) (p q : ℕ) → IsPlan plan → IsReachedWorld plan first w →
-        AreMessagesBy first w.now.log p (w.now.kept p q) }
+        AreMessagesTo first w.now.log q p (w.now.kept q p) }
 {}
 
 /// For every run of every plan: what is so of each process.

@@ -2,7 +2,8 @@ use Rattle.kt_values.specs.States.{IsRising}
 use Rattle.kt_promises.specs.Lines.{line, EachStandsOnce, KeepsReceived}
 use Rattle.kt_promises.proofs.ReachedWorlds.{seen_of}
 use Rattle.kt_promises.proofs.LinesOfRuns.{once_seen, rising_seen, keeps_seen}
-use Rattle.kt_promises.proofs.PeopleKeep.{channel_seen, held_seen, held_to_seen, kept_seen}
+use Rattle.kt_promises.proofs.PeopleKeep.{channel_seen}
+use Rattle.kt_promises.proofs.HeldMessages.{held_to_holder, kept_by_receiver}
 use Rattle.kt_promises.proofs.laws.messages_of_worlds.Goals as goal
 
 pub returns-clause-once : goal.returns-clause-once
@@ -18,10 +19,7 @@ pub returns-clause-in_channels : goal.returns-clause-in_channels
 returns-clause-in_channels c = λ plan first w p q i r. channel_seen plan first w i r p q
 
 pub returns-clause-held : goal.returns-clause-held
-returns-clause-held c = λ plan first w p q i r. held_seen plan first w i r p q
-
-pub returns-clause-held_by_receiver : goal.returns-clause-held_by_receiver
-returns-clause-held_by_receiver c = λ plan first w p q i r e. held_to_seen plan first w i r p q e
+returns-clause-held c = λ plan first w p q i r. held_to_holder plan first w i r p q
 
 pub returns-clause-kept : goal.returns-clause-kept
-returns-clause-kept c = λ plan first w p q i r. kept_seen plan first w i r p q
+returns-clause-kept c = λ plan first w p q i r. kept_by_receiver plan first w i r p q
