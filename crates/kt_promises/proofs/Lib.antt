@@ -23,3 +23,4 @@ pub mod WholeLogs
 pub mod NeededBodies
 pub mod OnlyDefault
 pub mod HeldMessages
+pub mod ArrivedMessages

@@ -11,7 +11,8 @@ ghost use Rattle.kt_spacetime.specs.declared.event.Event.TheVariants.{Sent, Unwi
 ghost use Rattle.kt_spacetime.specs.Events.{process_of};
 ghost use Rattle.kt_spacetime.specs.declared.event.Event.{Event};
 ghost use Rattle.kt_cuts.specs.Past.{past, is_rollback, is_committed, at_one};
-ghost use Rattle.kt_cuts.specs.Legal.{IsLegal};
+ghost use Rattle.kt_cuts.specs.Legal.{IsLegal, has_deed};
+ghost use Rattle.kt_cuts.specs.declared.deeds.Deed.TheVariants as deed;
 ghost use Rattle.kt_cuts.specs.Cuts.{IsConsistent, permanent_cut, present_cut};
 ghost use Rattle.kt_cuts.specs.Throughout.{HasConsistentDecisions};
 ghost use Rattle.kt_tables.specs.Calls.{Speaks};
@@ -25,6 +26,7 @@ ghost use Rattle.kt_certify.specs.Faults.{HasNoChain, IsFaultOf};
 ghost use Rattle.kt_certify.specs.declared.fault.CertFault.{CertFault};
 ghost use Rattle.kt_certify.specs.declared.fault.CertFault.TheVariants.{Memory};
 ghost use Rattle.kt_protocol.specs.Logs.{HasLinkedDecisions, HasLeastDecisions, AbortsWhereUnwilling, JustifiesUnwilling};
+ghost use Rattle.kt_protocol.specs.UnderWay.{times, received_of};
 ghost use Rattle.kt_protocol.specs.States.{opening};
 ghost use Rattle.kt_protocol.specs.States as machine;
 ghost use Rattle.kt_closing.specs.LateSteps.{late_run};
@@ -262,6 +264,18 @@ pub fn messages_of_worlds()
         AreMessagesTo first w.now.log q p (w.now.held q p) }
     ensures kept { (plan : Plan) (first : ℕ) (w : World) (p q : ℕ) → IsPlan plan → IsReachedWorld plan first w →
         AreMessagesTo first w.now.log q p (w.now.kept q p) }
+
+    // At rest no live message is lost: each that isn't dropped has been received, once, and that is live. What a
+    // process has done itself is its live history there.
+    ensures arrived { (plan : Plan) (first : ℕ) (w : World) (m p q : ℕ) → IsPlan plan → IsReachedWorld plan first w →
+        is_at_rest plan w ≡ true → has_deed (deed.Sent m q) ((past w.now.log).live p) ≡ true →
+        (past w.now.log).dropped m ≡ false → has_deed (deed.Received m p) ((past w.now.log).live q) ≡ true }
+    ensures arrived_once { (plan : Plan) (first : ℕ) (w : World) (m p q : ℕ) → IsPlan plan →
+        IsReachedWorld plan first w → is_at_rest plan w ≡ true →
+        has_deed (deed.Sent m q) ((past w.now.log).live p) ≡ true → (past w.now.log).dropped m ≡ false →
+        times m (received_of p ((past w.now.log).live q)) ≡ 1 }
+    ensures own_at_rest { (plan : Plan) (first : ℕ) (w : World) (p : ℕ) → IsPlan plan → IsReachedWorld plan first w →
+        is_at_rest plan w ≡ true → (done w.now.log).own p ≡ (past w.now.log).live p }
 {}
 
 /// For every run of every plan: what is so of each process.

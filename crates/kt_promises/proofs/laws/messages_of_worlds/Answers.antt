@@ -1,9 +1,11 @@
+use Rattle.std.proofs.Common.{sym}
 use Rattle.kt_values.specs.States.{IsRising}
 use Rattle.kt_promises.specs.Lines.{line, EachStandsOnce, KeepsReceived}
 use Rattle.kt_promises.proofs.ReachedWorlds.{seen_of}
 use Rattle.kt_promises.proofs.LinesOfRuns.{once_seen, rising_seen, keeps_seen}
 use Rattle.kt_promises.proofs.PeopleKeep.{channel_seen}
 use Rattle.kt_promises.proofs.HeldMessages.{held_to_holder, kept_by_receiver}
+use Rattle.kt_promises.proofs.ArrivedMessages.{own_live, received_once, received_all}
 use Rattle.kt_promises.proofs.laws.messages_of_worlds.Goals as goal
 
 pub returns-clause-once : goal.returns-clause-once
@@ -23,3 +25,12 @@ returns-clause-held c = λ plan first w p q i r. held_to_holder plan first w i r
 
 pub returns-clause-kept : goal.returns-clause-kept
 returns-clause-kept c = λ plan first w p q i r. kept_by_receiver plan first w i r p q
+
+pub returns-clause-arrived : goal.returns-clause-arrived
+returns-clause-arrived c = λ plan first w m p q i r a h d. received_all plan first w i r a m p q h d
+
+pub returns-clause-arrived_once : goal.returns-clause-arrived_once
+returns-clause-arrived_once c = λ plan first w m p q i r a h d. received_once plan first w i r a m p q h d
+
+pub returns-clause-own_at_rest : goal.returns-clause-own_at_rest
+returns-clause-own_at_rest c = λ plan first w p i r a. sym (own_live plan first w i r a p)
