@@ -24,3 +24,4 @@ pub mod NeededBodies
 pub mod OnlyDefault
 pub mod HeldMessages
 pub mod ArrivedMessages
+pub mod TakenValues

@@ -7,7 +7,7 @@ ghost use Rattle.kt_base.specs.declared.words.Cause.{Cause};
 ghost use Rattle.kt_base.specs.declared.words.Verb.{Verb};
 ghost use Rattle.kt_base.specs.declared.words.Kind.TheVariants as kind;
 ghost use Rattle.kt_fifo.specs.declared.parcels.Parcel.TheVariants.{Ask};
-ghost use Rattle.kt_spacetime.specs.declared.event.Event.TheVariants.{Sent, Unwilling, Decided, Closed, Refused};
+ghost use Rattle.kt_spacetime.specs.declared.event.Event.TheVariants.{Sent, Took, Unwilling, Decided, Closed, Refused};
 ghost use Rattle.kt_spacetime.specs.Events.{process_of};
 ghost use Rattle.kt_spacetime.specs.declared.event.Event.{Event};
 ghost use Rattle.kt_cuts.specs.Past.{past, is_rollback, is_committed, at_one};
@@ -480,6 +480,13 @@ pub fn values_of_worlds<V>()
     ensures tentatives { (r : Rules V) (plan : Plan) (first : ℕ) (w : World) (p : ℕ) → IsPlan plan →
         IsReachedWorld plan first w → is_some (due r (done w.now.log) p).tentative
         ≡ (not ((w.now.people p).inst == 0) && not (w.now.people p).part.is_rollback) }
+
+    // As long as a process is in a checkpoint, its tentative state has the value that was due to its object where it
+    // was taken.
+    ensures as_taken { (r : Rules V) (plan : Plan) (first : ℕ) (w : World) (n p k : ℕ) → IsPlan plan →
+        IsReachedWorld plan first w → slice_get w.now.log n ≡ Some (Took p k) →
+        (past w.now.log).open_in p ≡ Some k →
+        (due r (done w.now.log) p).tentative ≡ (due r (done (take n w.now.log)) p).object }
 
     // A state is kept as the first act alone, and only where it can be saved.
     ensures keeps { (plan : Plan) (first : ℕ) (w : World) (x : Step) (give : Give) (p : ℕ) → IsPlan plan →

@@ -3,6 +3,7 @@ use Rattle.kt_promises.proofs.WholeLogs.{no_tentative, whole_seen}
 use Rattle.kt_promises.proofs.OthersStep.{due_waits}
 use Rattle.kt_promises.proofs.ActsOfSteps.{keeps_seen, spares_next, values_lead, values_can, object_seen, tentative_seen, abort_stays}
 use Rattle.kt_promises.proofs.FailuresEnough.{spares_seen}
+use Rattle.kt_promises.proofs.TakenValues.{taken_seen}
 use Rattle.kt_promises.proofs.laws.values_of_worlds.Goals as goal
 
 pub returns-clause-lead : goal.returns-clause-lead
@@ -46,3 +47,6 @@ returns-clause-rested g c = λ r plan first w p i s a. no_tentative r plan first
 
 pub returns-clause-offers : goal.returns-clause-offers
 returns-clause-offers g c = λ r plan first moves w i e o. offers_seen r plan first i moves w e o
+
+pub returns-clause-as_taken : goal.returns-clause-as_taken
+returns-clause-as_taken g c = λ r plan first w n p k i s e o. taken_seen r plan first w n p k i s e o
