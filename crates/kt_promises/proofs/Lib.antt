@@ -23,5 +23,6 @@ pub mod WholeLogs
 pub mod NeededBodies
 pub mod OnlyDefault
 pub mod HeldMessages
+pub mod IdleLooks
 pub mod ArrivedMessages
 pub mod TakenValues

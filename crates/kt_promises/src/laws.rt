@@ -44,7 +44,7 @@ ghost use Rattle.kt_values.specs.States.{IsRising};
 ghost use Rattle.kt_values.specs.WorkedRuns.{all_bodies};
 ghost use Rattle.kt_phases.specs.Runs.{Move, IsReached};
 ghost use Rattle.kt_phases.specs.Steps.{stepper, Step, Do, Take, Give, protocol_step};
-ghost use Rattle.kt_phases.specs.Looks.{uses_able, uses_body, NeedsBody, NeedsSave};
+ghost use Rattle.kt_phases.specs.Looks.{uses_able, uses_body, Idle, NeedsBody, NeedsSave};
 ghost use Rattle.kt_phases.specs.Work.{most_steps, count_begins};
 ghost use Rattle.kt_phases.specs.Plans.{Plan, Command, IsPlan};
 ghost use Rattle.kt_phases.specs.Progress.{Progress};
@@ -89,6 +89,9 @@ pub fn worlds_of_plans()
         world_of first (plan_steps.after_plan_step plan now x give) ≡ world_after plan (world_of first now) x give }
     ensures look { (plan : Plan) (first : ℕ) (now : Progress) (x : Step) → IsPlan plan → IsReached plan now →
         look plan (world_of first now) x ≡ plan_looks.look plan now x }
+
+    // In every world, reached or not, a look is idle exactly where its step is not enabled.
+    ensures idle { (plan : Plan) (w : World) (x : Step) → (look plan w x ≡ Idle) ↔ (enabled plan w x ≡ false) }
 {}
 
 /// Where the next command of a process stands in its plan; and a process that has one is there.
