@@ -26,3 +26,4 @@ pub mod HeldMessages
 pub mod IdleLooks
 pub mod ArrivedMessages
 pub mod TakenValues
+pub mod RestIs

@@ -384,6 +384,11 @@ pub fn never_stuck()
         is_at_rest plan w ≡ true → HasNothingUnderWay w.now }
     ensures exactly { (plan : Plan) (first : ℕ) (w : World) → IsPlan plan → IsReachedWorld plan first w →
         (is_at_rest plan w ≡ true) ↔ (default_step plan w ≡ None) }
+
+    // A plan is at rest exactly where nobody has a command left and nothing is under way.
+    ensures rests { (plan : Plan) (first : ℕ) (w : World) → IsPlan plan → IsReachedWorld plan first w →
+        (is_at_rest plan w ≡ true)
+        ↔ (((p : ℕ) → p < plan.size → next_command plan w p ≡ None) × HasNothingUnderWay w.now) }
 {}
 
 /// For every run of every plan: it has few steps for its commands and its rows, so within a number of rows it ends.

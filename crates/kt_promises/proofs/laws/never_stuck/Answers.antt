@@ -1,6 +1,7 @@
 use Rattle.kt_promises.proofs.WholeLogs.{rested}
 use Rattle.kt_promises.proofs.RunSteps.{rest_seen}
 use Rattle.kt_promises.proofs.DefaultSteps.{quiet_seen_at_rest, done_seen, rest_default, nothing_default}
+use Rattle.kt_promises.proofs.RestIs.{rest_is}
 use Rattle.kt_promises.proofs.laws.never_stuck.Goals as goal
 
 pub returns-clause-at_rest : goal.returns-clause-at_rest
@@ -20,3 +21,6 @@ returns-clause-rested_done c = λ plan first w p i r a. (rested plan first w i r
 
 pub returns-clause-rested_quiet : goal.returns-clause-rested_quiet
 returns-clause-rested_quiet c = λ plan first w i r a. (rested plan first w i r a).0
+
+pub returns-clause-rests : goal.returns-clause-rests
+returns-clause-rests c = rest_is
