@@ -24,6 +24,7 @@ pub mod NeededBodies
 pub mod OnlyDefault
 pub mod HeldMessages
 pub mod IdleLooks
+pub mod StillRows
 pub mod ArrivedMessages
 pub mod TakenValues
 pub mod RestIs

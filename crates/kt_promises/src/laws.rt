@@ -7,7 +7,7 @@ ghost use Rattle.kt_base.specs.declared.words.Cause.{Cause};
 ghost use Rattle.kt_base.specs.declared.words.Verb.{Verb};
 ghost use Rattle.kt_base.specs.declared.words.Kind.TheVariants as kind;
 ghost use Rattle.kt_fifo.specs.declared.parcels.Parcel.TheVariants.{Ask};
-ghost use Rattle.kt_spacetime.specs.declared.event.Event.TheVariants.{Sent, Took, Unwilling, Decided, Closed, Refused};
+ghost use Rattle.kt_spacetime.specs.declared.event.Event.TheVariants.{Sent, Received, Dropped, Took, Unwilling, Decided, Closed, Refused};
 ghost use Rattle.kt_spacetime.specs.Events.{process_of};
 ghost use Rattle.kt_spacetime.specs.declared.event.Event.{Event};
 ghost use Rattle.kt_cuts.specs.Past.{past, is_rollback, is_committed, at_one};
@@ -183,6 +183,14 @@ pub fn rows_of_worlds()
     ensures offered { (plan : Plan) (first : ℕ) (w : World) (p : ℕ) (give : Give) → IsPlan plan →
         IsReachedWorld plan first w → look plan w (Do p) ≡ NeedsBody →
         (q : ℕ) × (rows_added plan w (Do p) give ≡ Sent p q give.body ∷ []) }
+
+    // A process in a rollback neither sends, nor receives, nor drops a message.
+    ensures still { (plan : Plan) (first : ℕ) (w : World) (x : Step) (give : Give) (i p q m : ℕ) (body : ℤ) →
+        IsPlan plan → IsReachedWorld plan first w → enabled plan w x ≡ true →
+        is_seen_ready w.now (stepper x) ≡ true →
+        (slice_get (rows_added plan w x give) i ≢ Some (Sent p q body))
+        × (slice_get (rows_added plan w x give) i ≢ Some (Received p q m))
+        × (slice_get (rows_added plan w x give) i ≢ Some (Dropped p q m)) }
 {}
 
 /// However far a plan has come: what a step makes but for the open phase is the transition of what is seen, one

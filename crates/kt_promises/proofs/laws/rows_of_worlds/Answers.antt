@@ -1,6 +1,7 @@
 use Rattle.kt_promises.proofs.OffersSent.{offered_seen}
 use Rattle.kt_promises.proofs.RowsFit.{fits, took_given, sent_seen}
 use Rattle.kt_promises.proofs.RefusedRows.{refused_seen}
+use Rattle.kt_promises.proofs.StillRows.{still_seen}
 use Rattle.kt_promises.proofs.laws.rows_of_worlds.Goals as goal
 
 pub returns-clause-fit : goal.returns-clause-fit
@@ -20,3 +21,6 @@ returns-clause-sends c = sent_seen
 
 pub returns-clause-offered : goal.returns-clause-offered
 returns-clause-offered c = offered_seen
+
+pub returns-clause-still : goal.returns-clause-still
+returns-clause-still c = still_seen
