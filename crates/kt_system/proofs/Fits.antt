@@ -1,20 +1,20 @@
--- What follows from a command to begin an instance, and from an ask, has room.
-use Rattle.std.specs.Prelude.{◌==◌, if◌then◌else◌, Option, Some, None}
+-- What follows from a command to begin an instance, from an ask, and from a reply, has room.
+use Rattle.std.specs.Prelude.{◌==◌, ◌&&◌, ◌-◌, if◌then◌else◌, Option, Some, None, option_map}
 use Rattle.std.proofs.Common.{◌≡◌, ◌<◌, ◌≤◌, ℕ, Bool, true, false, List, get_or, refl, arith, sym, ap, subst, ◌∙◌}
 use Rattle.std.proofs.lemmas.Bool.Decides.{nat_tests}
 use Rattle.std.proofs.lemmas.List.Elements.{All-get_or}
 use Rattle.std.proofs.lemmas.List.Folds.{list_any_at}
 use Rattle.kt_base.specs.Sets.{has}
 use Rattle.kt_base.specs.declared.words.Kind.{Kind}
-use Rattle.kt_parts.specs.Rules.{way_alone}
+use Rattle.kt_parts.specs.Rules.{way_alone, last_action, after_reply}
 use Rattle.kt_parts.specs.Shares.{Share}
 use Rattle.kt_parts.specs.declared.actions.Action.{Action}
 use Rattle.kt_parts.specs.declared.actions.Action.TheVariants.{Nothing, Refuse, Join, Reply, Settle}
 use Rattle.kt_parts.specs.declared.actions.Then.{Then}
 use Rattle.kt_parts.specs.declared.actions.Then.TheVariants.{Wait, Answer, Commit}
-use Rattle.kt_process.specs.Persons.{Person, asked_of, asked_of_part}
-use Rattle.kt_process.specs.Turns.{peers_of, joins_by, HasJoined}
-use Rattle.kt_system.specs.Systems.{Whole, person, room_to, HasRoomFor, GivesRoom, Turns, Hears, CanJoin, CanCarryOut}
+use Rattle.kt_process.specs.Persons.{Person, part_of, is_ready, asked_of, asked_of_part}
+use Rattle.kt_process.specs.Turns.{peers_of, joins_by, reply_of, IsIn, HasPartners, HasJoined}
+use Rattle.kt_system.specs.Systems.{Whole, person, room_to, HasBack, HasRoomFor, GivesRoom, KeepsRoom, Turns, Hears, Counts, CanJoin, CanCarryOut, CanGoOn}
 
 -- who goes on by a reply has a parent, and who commits has none
 answer_parent : (b : Bool) (parent : Option ℕ) (to : ℕ) → (if b then way_alone parent else Wait) ≡ Answer to → parent ≡ Some to
@@ -63,3 +63,53 @@ hears_fit kd able from k label p set now m a b joins (Join asks goes) fits hf be
     let tables : h.before.tables.processes ≡ m.size = ap (λ (x : Person). x.tables.processes) was ∙ (size ∙ sym g.size) in
     let joined : joins ≡ true = test ∙ (ap (λ (x : Person). joins_by x kd able from label) (sym was) ∙ h.hears.0) in
     joined_fits kd from k p set m a b h.before h.after asks goes fits hf (let z = g.size in omega arith) tables (λ q e. sets joined q (ap (λ (x : Person). peers_of x.tables kd q) (sym was) ∙ e)) h.turn gives h.hears.1
+
+-- what follows from a reply has room
+pub replies_fit : (p set : ℕ) (w : Bool) (now m r a b : Whole) (action : Action) → HasPartners (part_of (person now p).side) set → ((q : ℕ) → has set q ≡ true → q < now.size) → HasRoomFor m p set → GivesRoom now m → KeepsRoom m r →
+    (is_ready (person m p).side ≡ true → HasBack r p) → GivesRoom r a → Counts w p a b action → CanGoOn b p action
+replies_fit p set w now m r a b action partners within fits g k back h counts =
+    subst (λ (z : Action). CanGoOn b p z) (sym counts.follows) (at_part (part_of counts.before.side) refl)
+  where
+    was : counts.before ≡ person now p
+    was = counts.turn.was ∙ (h.person p ∙ (k.person p ∙ g.person p))
+
+    size : b.size ≡ now.size
+    size = counts.turn.size ∙ (h.size ∙ (k.size ∙ g.size))
+
+    room : (q : ℕ) → has set q ≡ true → 1 ≤ room_to b p q
+    room q e = let l = within q e in let f = fits.room q (let z = g.size in omega (arith, l, z)) e in let x = k.room p q in let y = h.room p q in let z = counts.turn.room p q in omega (arith, f, x, y, z)
+
+    ready : is_ready (person b p).side ≡ is_ready (person m p).side
+    ready = ap (λ (x : Person). is_ready x.side) counts.turn.is ∙ (counts.ready ∙ ap (λ (x : Person). is_ready x.side) (counts.turn.was ∙ (h.person p ∙ k.person p)))
+
+    has_partners : (o : Option Share) → part_of counts.before.side ≡ o → HasPartners o set
+    has_partners o e = subst (λ (z : Option Share). HasPartners z set) (ap (λ (x : Person). part_of x.side) (sym was) ∙ e) partners
+
+    asked_after : (s : Share) → part_of counts.before.side ≡ Some s → (q : ℕ) → asked_of (person b p).side q ≡ has s.asked q
+    asked_after s e q =
+        ap (λ (x : Person). asked_of x.side q) counts.turn.is
+        ∙ (ap (λ (o : Option Share). asked_of_part o q) (counts.part ∙ ap (λ (o : Option Share). option_map (λ part. after_reply part w) o) e) ∙ at_count (s.awaited == 0))
+      where
+        at_count : (t : Bool) → has (if t then s else record s { awaited = s.awaited - 1; willing = s.willing && w }).asked q ≡ has s.asked q
+        at_count true = refl
+        at_count false = refl
+
+    one_left : (n : ℕ) → (n == 1) ≡ true → n ≡ 1
+    one_left n e = grind (arith, nat_tests)
+
+    at_part : (o : Option Share) → part_of counts.before.side ≡ o → CanGoOn b p (reply_of o w)
+    at_part None e = tt
+    at_part (Some s) e = at_test (s.awaited == 1) refl
+      where
+        at_parent : (o : Option ℕ) → s.parent ≡ o → s.awaited ≡ 1 → CanGoOn b p (last_action o (s.willing && w) s.asked)
+        at_parent (Some to) i one =
+            let told : has set to ≡ true = subst (λ (z : Option ℕ). IsIn set z) i (has_partners (Some s) e one).1 in
+            (let l = within to told in omega (arith, l, size), room to told)
+        at_parent None i one = record {
+          parcels = λ q d. room q ((has_partners (Some s) e one).0 q (sym (asked_after s e q) ∙ d));
+          back = λ d. counts.turn.back p (h.back p (back (sym ready ∙ d)));
+        }
+
+        at_test : (t : Bool) → (s.awaited == 1) ≡ t → CanGoOn b p (if t then last_action s.parent (s.willing && w) s.asked else Nothing)
+        at_test true f = at_parent s.parent refl (one_left s.awaited f)
+        at_test false f = tt

@@ -10,3 +10,5 @@ pub mod Replying
 pub mod Commands
 pub mod Taking
 pub mod Acting
+pub mod Counting
+pub mod Tallying

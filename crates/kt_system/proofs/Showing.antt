@@ -1,12 +1,11 @@
 -- What a system shows after one part of it has changed.
-use Rattle.std.specs.Prelude.{slice_get, Some}
-use Rattle.std.proofs.Common.{◌≡◌, ◌≢◌, ◌<◌, ◌≤◌, ◌+◌, ℕ, List, [], ◌∷◌, ◌++◌, drop, length, get_or, set, refl, arith, ap, subst, sym, ◌∙◌, inl, inr}
+use Rattle.std.proofs.Common.{◌≡◌, ◌≢◌, ◌<◌, ℕ, List, [], ◌∷◌, ◌++◌, get_or, set, arith, ap, subst, sym, ◌∙◌, inl, inr}
 use Rattle.std.proofs.Math.Path.{fun_ext}
 use Rattle.std.proofs.lemmas.Bool.{cases_eq}
 use Rattle.std.proofs.lemmas.Bool.Decides.{nat_tests}
 use Rattle.std.proofs.lemmas.List.{get_or-set_same, get_or-set_other}
 use Rattle.kt_cuts.specs.Past.{at_one}
-use Rattle.kt_fifo.specs.Channels.{Wires, channel, at_pair}
+use Rattle.kt_fifo.specs.Channels.{channel, at_pair}
 use Rattle.kt_fifo.specs.declared.parcels.Parcel.{Parcel}
 use Rattle.kt_spacetime.specs.Logs.{Log}
 use Rattle.kt_spacetime.specs.declared.event.Event.{Event}
@@ -73,9 +72,9 @@ shows_turned a b v p y t turn h = record {
 }
 
 -- who stands elsewhere is who stood there
-pub is_turned : (a b seen : Whole) (p i : ℕ) (y : Person) → a ≡ seen → i ≡ p → b.people ≡ set a.people i y → b.size ≡ a.size → b.wires ≡ a.wires → b.held ≡ a.held → b.kept ≡ a.kept → b.rows ≡ a.rows → b.begun ≡ a.begun → IsTurned seen b p
+pub is_turned : (a b seen : Whole) (p i : ℕ) (y : Person) → a ≡ seen → i ≡ p → b.people ≡ set a.people i y → b.size ≡ a.size → b.wires ≡ a.wires → b.held ≡ a.held → b.kept ≡ a.kept → b.rows ≡ a.rows → b.begun ≡ a.begun → b.put ≡ a.put → IsTurned seen b p
 unfolding person
-is_turned a b seen p i y e j people s w h k r g = subst (λ (z : Whole). IsTurned z b p) e (record {
+is_turned a b seen p i y e j people s w h k r g t = subst (λ (z : Whole). IsTurned z b p) e (record {
   size = s;
   others = λ q n. ap (λ (l : List Person). get_or l q nobody) people ∙ (ap (λ (z : ℕ). get_or (set a.people z y) q nobody) j ∙ get_or-set_other a.people p q y nobody n);
   wires = w;
@@ -83,6 +82,7 @@ is_turned a b seen p i y e j people s w h k r g = subst (λ (z : Whole). IsTurne
   kept = k;
   rows = r;
   begun = g;
+  put = t;
 })
 
 pub pushed_is : (f : SeenLists) (p q : ℕ) (x : Parcel) → at_pair p q (f p q ++ x ∷ []) f ≡ with_parcel f p q x

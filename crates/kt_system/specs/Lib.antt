@@ -3,3 +3,4 @@ pub mod Systems
 pub mod Takes
 pub mod Shown
 pub mod ShownActs
+pub mod Tallies

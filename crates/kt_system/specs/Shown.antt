@@ -56,6 +56,7 @@ pub record IsTurned (old new : Whole) (p : ℕ) : Type 0 where
   pub kept : new.kept ≡ old.kept
   pub rows : new.rows ≡ old.rows
   pub begun : new.begun ≡ old.begun
+  pub put : new.put ≡ old.put
 
 -- the lists held and kept for a process that closes its instance, by its part there
 abbrev pub held_closed : Bool → ℕ → SeenPart → SeenLists → SeenLists → SeenLists

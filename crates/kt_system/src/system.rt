@@ -1,6 +1,6 @@
 //! The system: what it holds, and what can be read of it.
 
-ghost use Rattle.std.specs.Prelude.{◌≡◌, ◌<◌, ◌≤◌, ℕ, [], IfOk};
+ghost use Rattle.std.specs.Prelude.{◌≡◌, ◌<◌, ◌≤◌, ℕ, [], IfOk, length};
 ghost use Rattle.kt_fifo.specs.Channels.{channel};
 ghost use Rattle.kt_process.specs.Turns.{IsFresh};
 ghost use Rattle.kt_system.specs.Systems.{person};
@@ -74,6 +74,7 @@ impl System {
         ensures kept { IfOk result (λ s. (p q : ℕ) → channel s.kept p q ≡ []) }
         ensures begun { IfOk result (λ s. s.begun ≡ 0) }
         ensures tallies { IfOk result (λ s. (inst : ℕ) → tally_of s inst ≡ no_tally) }
+        ensures instances { IfOk result (λ s. length s.put ≡ instances) }
         ensures shows { IfOk result (λ s. Shows s (opening_seen processes used)) }
     {
         let mut list = Vec::with_capacity(alloc, processes)?;

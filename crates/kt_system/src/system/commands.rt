@@ -16,6 +16,7 @@ ghost use Rattle.kt_process.specs.Persons.{is_ready};
 ghost use Rattle.kt_values.specs.SeenActs.{seen_acts, seen_acts_asked};
 ghost use Rattle.kt_system.specs.Shown.{Shows, JoinsAs, with_instance, begun_as, answered_as, with_cause, begin_verb};
 ghost use Rattle.kt_system.specs.ShownActs.{acts_shown, acts_carried_out};
+ghost use Rattle.kt_system.specs.Tallies.{TalliesPut, front};
 
 use super::System;
 use super::messages::NO_ACTS;
@@ -47,6 +48,7 @@ impl System {
         ensures size { self.new.size ≡ self.old.size }
         ensures err { OnErr result (IsSame self.new self.old) }
         ensures grows { Grows 4 self.old self.new }
+        ensures tallies { OnOk result (TalliesPut [] self.old self.new) }
         ensures shows { (v : Seen) → Shows self.old v → self.old.begun < 4096 → OnOk result (Shows self.new (transition v (BeginStep p false able))) }
         ensures acts { (v : Seen) → Shows self.old v → self.old.begun < 4096 → IfOk result (λ acts. acts_shown acts ≡ seen_acts v (BeginStep p false able)) }
         ensures spent { 4096 ≤ self.old.begun → IsSame self.new self.old }
@@ -69,6 +71,7 @@ impl System {
         ensures size { self.new.size ≡ self.old.size }
         ensures err { OnErr result (IsSame self.new self.old) }
         ensures grows { Grows 4 self.old self.new }
+        ensures tallies { OnOk result (TalliesPut [] self.old self.new) }
         ensures shows { (v : Seen) (able : Bool) → Shows self.old v → self.old.begun < 4096 → OnOk result (Shows self.new (transition v (BeginStep p true able))) }
         ensures acts { (v : Seen) (able : Bool) → Shows self.old v → self.old.begun < 4096 → IfOk result (λ acts. acts_shown acts ≡ seen_acts v (BeginStep p true able)) }
         ensures spent { 4096 ≤ self.old.begun → IsSame self.new self.old }
@@ -113,6 +116,7 @@ impl System {
         ensures spare { self.new.rows.spare + 1 ≡ self.old.rows.spare }
         ensures keeps { KeepsParcels self.old self.new }
         ensures grows { Grows 1 self.old self.new }
+        ensures tallies { TalliesPut [] self.old self.new }
         ensures shows { (v : Seen) → Shows self.old v → Shows self.new (with_instance v p inst kind) }
     {
         self.begun = inst.get();
@@ -127,6 +131,7 @@ impl System {
         requires room { CanCarryOut self.old p action }
         ensures size { self.new.size ≡ self.old.size }
         ensures grows { Grows 4 self.old self.new }
+        ensures tallies { TalliesPut [] self.old self.new }
         ensures shows { (v : Seen) (test : ℕ → Bool) (label : ℕ → ℕ) → Shows self.old v → JoinsAs self.old v p test label action → Shows self.new (begun_as v p inst kind test label action) }
         ensures acts { acts_shown result ≡ acts_carried_out kind (is_ready (person self.old p).side) action }
     {
@@ -173,6 +178,7 @@ impl System {
         ensures size { self.new.size ≡ self.old.size }
         ensures err { OnErr result (IsSame self.new self.old) }
         ensures grows { Grows 4 self.old self.new }
+        ensures tallies { OnOk result (TalliesPut (front self.old at from) self.old self.new) }
         ensures shows { (v : Seen) → Shows self.old v → OnOk result (Shows self.new (seen_ask v at from able inst false label (drop 1 (v.channel from at)))) }
         ensures acts { (v : Seen) → Shows self.old v → IfOk result (λ acts. acts_shown acts ≡ seen_acts_asked v at from able inst false label) }
     {
@@ -199,6 +205,7 @@ impl System {
         ensures size { self.new.size ≡ self.old.size }
         ensures err { OnErr result (IsSame self.new self.old) }
         ensures grows { Grows 4 self.old self.new }
+        ensures tallies { OnOk result (TalliesPut (front self.old at from) self.old self.new) }
         ensures shows { (v : Seen) (able : Bool) → Shows self.old v → OnOk result (Shows self.new (seen_ask v at from able inst true label (drop 1 (v.channel from at)))) }
         ensures acts { (v : Seen) (able : Bool) → Shows self.old v → IfOk result (λ acts. acts_shown acts ≡ seen_acts_asked v at from able inst true label) }
     {
@@ -227,6 +234,7 @@ impl System {
         requires room { CanCarryOut self.old at action }
         ensures size { self.new.size ≡ self.old.size }
         ensures grows { Grows 4 self.old self.new }
+        ensures tallies { TalliesPut [] self.old self.new }
         ensures shows { (v : Seen) (test : ℕ → Bool) (label : ℕ → ℕ) → Shows self.old v → JoinsAs self.old v at test label action → Shows self.new (answered_as v at from inst kind test label action) }
         ensures acts { acts_shown result ≡ acts_carried_out kind (is_ready (person self.old at).side) action }
     {
@@ -251,6 +259,7 @@ impl System {
         requires few { length self.old.rows.rows < 2 ^ 24 }
         ensures size { self.new.size ≡ self.old.size }
         ensures grows { Grows 1 self.old self.new }
+        ensures tallies { TalliesPut [] self.old self.new }
         ensures shows { (v : Seen) → Shows self.old v → Shows self.new (with_cause v p inst cause) }
     {
         if let Some(cause) = cause {
@@ -275,6 +284,7 @@ impl System {
         ensures size { self.new.size ≡ self.old.size }
         ensures err { OnErr result (IsSame self.new self.old) }
         ensures grows { Grows 4 self.old self.new }
+        ensures tallies { OnOk result (TalliesPut (front self.old at from) self.old self.new) }
         ensures shows { (v : Seen) → Shows self.old v → OnOk result (Shows self.new (seen_ask v at from able inst (is_rollback_kind (Some kind)) label (drop 1 (v.channel from at)))) }
         ensures acts { (v : Seen) → Shows self.old v → IfOk result (λ acts. acts_shown acts ≡ seen_acts_asked v at from able inst (is_rollback_kind (Some kind)) label) }
     {

@@ -4,7 +4,7 @@ ghost use Rattle.std.specs.Prelude.{◌≡◌, ◌<◌, ◌≤◌, ◌+◌, ◌^
 ghost use Rattle.kt_base.specs.Sets.{has};
 ghost use Rattle.kt_process.specs.Persons.{is_ready};
 ghost use Rattle.kt_system.specs.Systems.{person, room_to, HasBack, CanJoin, CanClose, KeepsRoom, UsesRoom, Grows};
-ghost use Rattle.std.specs.Prelude.{Bool, ◌++◌};
+ghost use Rattle.std.specs.Prelude.{Bool, [], ◌++◌};
 ghost use Rattle.kt_fifo.specs.declared.parcels.Parcel.TheVariants as parcel;
 ghost use Rattle.kt_tables.specs.Peers.{IsCohort};
 ghost use Rattle.kt_seen.specs.Seen.{Seen};
@@ -14,6 +14,7 @@ ghost use Rattle.kt_process.specs.Shown.{goes_on};
 ghost use Rattle.kt_values.specs.Values.{closing};
 ghost use Rattle.kt_system.specs.Shown.{Shows, IsInside, lists_closed, joined_row, asking_and_settling};
 ghost use Rattle.kt_system.specs.ShownActs.{act_shown, acts_shown, acts_joining, acts_going_on};
+ghost use Rattle.kt_system.specs.Tallies.{TalliesPut};
 
 use super::System;
 use kt_base::{InstNo, Kind, ProcNo, ProcSet};
@@ -31,6 +32,7 @@ impl System {
         requires back { is_ready (person self.old p).side ≡ true → HasBack self.old p }
         ensures rows { self.new.rows ≡ self.old.rows }
         ensures keeps { KeepsRoom self.old self.new }
+        ensures tallies { TalliesPut [] self.old self.new }
         ensures shows { (v : Seen) → Shows self.old v → IsInside self.old p → Shows self.new (lists_closed v p commit) }
     {
         if !commit {
@@ -54,6 +56,7 @@ impl System {
         requires room { (q : ℕ) → has set q ≡ true → 1 ≤ room_to self.old p q }
         ensures size { self.new.size ≡ self.old.size }
         ensures rows { self.new.rows ≡ self.old.rows }
+        ensures tallies { TalliesPut [] self.old self.new }
         ensures shows { (v : Seen) → Shows self.old v → Shows self.new (record v { channel = with_decisions v.channel p inst commit (has set) }) }
     {
         put_decisions(&mut self.channels, p, inst, commit, set);
@@ -69,6 +72,7 @@ impl System {
         requires room { CanClose self.old p }
         ensures size { self.new.size ≡ self.old.size }
         ensures grows { Grows 1 self.old self.new }
+        ensures tallies { TalliesPut [] self.old self.new }
         ensures shows { (v : Seen) → Shows self.old v → IsInside self.old p → Shows self.new (seen_closing v p inst commit) }
         ensures acts { act_shown result ≡ closing (is_ready (person self.old p).side) commit }
     {
@@ -96,6 +100,7 @@ impl System {
         requires room { CanJoin self.old p asks.now goes }
         ensures size { self.new.size ≡ self.old.size }
         ensures grows { Grows 3 self.old self.new }
+        ensures tallies { TalliesPut [] self.old self.new }
         ensures shows { (v : Seen) (test : ℕ → Bool) (label : ℕ → ℕ) → Shows self.old v → IsCohort asks.now test label → goes ≡ goes_on (v.people p).part → (v.people p).part.willing ≡ true → IsInside self.old p →
             Shows self.new (asking_and_settling v p inst kind test label) }
         ensures acts { acts_shown result ≡ acts_joining kind ++ acts_going_on (is_ready (person self.old p).side) goes }
@@ -123,6 +128,7 @@ impl System {
         requires room { (j : ℕ) → j < length asks.now → 2 ≤ room_to self.old p (slice_index_or asks.now j (0, 0)).0 }
         ensures rows { self.new.rows ≡ self.old.rows }
         ensures uses { UsesRoom self.old self.new p }
+        ensures tallies { TalliesPut [] self.old self.new }
         ensures shows { (v : Seen) (test : ℕ → Bool) (label : ℕ → ℕ) → Shows self.old v → IsCohort asks.now test label → Shows self.new (record v { channel = with_asks_where v.channel p inst kind test label }) }
     {
         let asks = asks.list();
@@ -138,6 +144,7 @@ impl System {
         requires room { CanClose self.old p }
         ensures size { self.new.size ≡ self.old.size }
         ensures grows { Grows 2 self.old self.new }
+        ensures tallies { TalliesPut [] self.old self.new }
         ensures shows { (v : Seen) → Shows self.old v → IsInside self.old p → Shows self.new (seen_closing (seen_deciding v p inst commit) p inst commit) }
         ensures acts { act_shown result ≡ closing (is_ready (person self.old p).side) commit }
     {
@@ -152,6 +159,7 @@ impl System {
         requires room { 1 ≤ room_to self.old p to }
         ensures size { self.new.size ≡ self.old.size }
         ensures rows { self.new.rows ≡ self.old.rows }
+        ensures tallies { TalliesPut [] self.old self.new }
         ensures shows { (v : Seen) → Shows self.old v → Shows self.new (record v { channel = with_parcel v.channel p to (parcel.Reply inst willing) }) }
     {
         self.put(p, to, Parcel::Reply { inst, willing });

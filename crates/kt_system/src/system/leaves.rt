@@ -5,9 +5,11 @@ ghost use Rattle.kt_base.specs.Sets.{has};
 ghost use Rattle.kt_process.specs.Persons.{is_ready};
 ghost use Rattle.kt_system.specs.Systems.{person, room_to, HasBack, HasRoomFor, KeepsParcels, KeepsPeople, KeepsRoom, GivesRoom, IsSame};
 ghost use Rattle.std.specs.Prelude.{drop};
+ghost use Rattle.kt_fifo.specs.Channels.{channel};
 ghost use Rattle.kt_seen.specs.Seen.{Seen};
 ghost use Rattle.kt_seen.specs.ListChanges.{with_parcel, with_rest};
 ghost use Rattle.kt_system.specs.Shown.{Shows, with_row};
+ghost use Rattle.kt_system.specs.Tallies.{TalliesPut, AreCounted, front};
 
 use super::System;
 use kt_base::{InstNo, Memory, ProcNo, ProcSet};
@@ -24,6 +26,7 @@ impl System {
         ensures count { length self.new.rows.rows ≡ length self.old.rows.rows + 1 }
         ensures spare { self.new.rows.spare + 1 ≡ self.old.rows.spare }
         ensures keeps { KeepsParcels self.old self.new }
+        ensures tallies { TalliesPut [] self.old self.new }
         ensures shows { (v : Seen) → Shows self.old v → Shows self.new (with_row v event) }
     {
         self.log.push_reserved(event);
@@ -36,6 +39,8 @@ impl System {
         requires room { 1 ≤ room_to self.old p to }
         ensures rows { self.new.rows ≡ self.old.rows }
         ensures keeps { KeepsPeople self.old self.new }
+        ensures wires { channel self.new.wires ≡ with_parcel (channel self.old.wires) p to parcel }
+        ensures tallies { self.new.put ≡ self.old.put }
         ensures shows { (v : Seen) → Shows self.old v → Shows self.new (record v { channel = with_parcel v.channel p to parcel }) }
     {
         self.channels.push_reserved(p, to, parcel);
@@ -48,6 +53,7 @@ impl System {
         ensures rows { self.new.rows ≡ self.old.rows }
         ensures held { self.new.held ≡ self.old.held }
         ensures gives { GivesRoom self.old self.new }
+        ensures tallies { TalliesPut (front self.old at from) self.old self.new }
         ensures shows { (v : Seen) → Shows self.old v → Shows self.new (record v { channel = with_rest v.channel from at (drop 1 (v.channel from at)) }) }
     {
         self.channels.pop(from, at);
@@ -57,6 +63,7 @@ impl System {
     pub(super) fn count(&mut self, inst: InstNo, asks: u32, replies: u32, decisions: u32)
         ensures rows { self.new.rows ≡ self.old.rows }
         ensures keeps { KeepsParcels self.old self.new }
+        ensures tallies { AreCounted inst asks replies decisions self.old self.new }
         ensures shows { (v : Seen) → Shows self.old v → Shows self.new v }
     {
         let Some(tally) = self.tallies.get_mut(inst.index()) else {

@@ -13,6 +13,7 @@ ghost use Rattle.kt_seen.specs.Transition.{transition, is_seen_ready};
 ghost use Rattle.kt_values.specs.SeenActs.{seen_acts, seen_acts_arriving};
 ghost use Rattle.kt_system.specs.Shown.{Shows, channel_without, held_without};
 ghost use Rattle.kt_system.specs.ShownActs.{acts_shown};
+ghost use Rattle.kt_system.specs.Tallies.{TalliesPut, front};
 
 use super::System;
 use kt_base::{Cause, Label, Memory, MsgNo, ProcNo, Verb};
@@ -55,6 +56,7 @@ impl System {
         ensures size { self.new.size ≡ self.old.size }
         ensures err { OnErr result (IsSame self.new self.old) }
         ensures grows { Grows 4 self.old self.new }
+        ensures tallies { OnOk result (TalliesPut [] self.old self.new) }
         ensures shows { (v : Seen) → Shows self.old v → (v.people p).inst ≡ 0 → (to ≡ p → ⊥) → Speaks (((transition v (SendStep p to body)).people p).calls) → OnOk result (Shows self.new (transition v (SendStep p to body))) }
         ensures acts { (v : Seen) → IfOk result (λ acts. acts_shown acts ≡ seen_acts v (SendStep p to body)) }
     {
@@ -77,6 +79,7 @@ impl System {
         ensures size { self.new.size ≡ self.old.size }
         ensures err { OnErr result (IsSame self.new self.old) }
         ensures grows { Grows 4 self.old self.new }
+        ensures tallies { OnOk result (TalliesPut [] self.old self.new) }
         ensures shows { (v : Seen) → Shows self.old v → OnOk result (Shows self.new (transition v (FailStep p))) }
         ensures acts { (v : Seen) → Shows self.old v → IfOk result (λ acts. acts_shown acts ≡ seen_acts v (FailStep p)) }
     {
@@ -96,6 +99,7 @@ impl System {
         requires few { length self.old.rows.rows < 2 ^ 24 }
         ensures size { self.new.size ≡ self.old.size }
         ensures grows { Grows 1 self.old self.new }
+        ensures tallies { TalliesPut [] self.old self.new }
         ensures shows { (v : Seen) → Shows self.old v → Shows self.new (seen_refusal v p verb cause) }
     {
         self.write(Event::Refused { p, verb, cause });
@@ -114,6 +118,7 @@ impl System {
         ensures size { self.new.size ≡ self.old.size }
         ensures err { OnErr result (IsSame self.new self.old) }
         ensures grows { Grows 4 self.old self.new }
+        ensures tallies { OnOk result (TalliesPut (front self.old at from) self.old self.new) }
         ensures shows { (v : Seen) → Shows self.old v → (is_seen_ready v at ≡ false → (v.people at).up ≡ true → Speaks ((v.people at).calls ++ received from message.label ∷ [])) →
             OnOk result (Shows self.new (if is_seen_ready v at then seen_holding v at from (parcel.App message.label message.msg message.body) (drop 1 (v.channel from at))
             else seen_arrival v (with_rest v.channel from at (drop 1 (v.channel from at))) v.held at from message.label message.msg message.body)) }
@@ -135,6 +140,7 @@ impl System {
         ensures size { self.new.size ≡ self.old.size }
         ensures kept { self.new.kept ≡ self.old.kept }
         ensures rows { self.new.rows ≡ self.old.rows }
+        ensures tallies { TalliesPut (if is_held then [] else front self.old at from) self.old self.new }
         ensures shows { (v : Seen) → Shows self.old v → Shows self.new (record v { channel = channel_without is_held v at from; held = held_without is_held v at from }) }
     {
         if is_held {
@@ -158,6 +164,7 @@ impl System {
         ensures size { self.new.size ≡ self.old.size }
         ensures err { OnErr result (IsSame self.new self.old) }
         ensures grows { Grows 4 self.old self.new }
+        ensures tallies { OnOk result (TalliesPut (if is_held then [] else front self.old at from) self.old self.new) }
         ensures shows { (v : Seen) → Shows self.old v → ((v.people at).up ≡ true → Speaks ((v.people at).calls ++ received from message.label ∷ [])) →
             OnOk result (Shows self.new (seen_arrival v (channel_without is_held v at from) (held_without is_held v at from) at from message.label message.msg message.body)) }
         ensures acts { (v : Seen) → Shows self.old v → IfOk result (λ acts. acts_shown acts ≡ seen_acts_arriving v at from message.body) }

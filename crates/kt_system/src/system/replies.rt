@@ -2,7 +2,7 @@
 
 ghost use Rattle.std.specs.Prelude.{◌≡◌, ◌<◌, ◌≤◌, ◌+◌, ◌^◌, ℕ, true, OnErr, length};
 ghost use Rattle.kt_system.specs.Systems.{person, CanGoOn, IsSame, Grows};
-ghost use Rattle.std.specs.Prelude.{Bool, drop, OnOk, IfOk, ◌==◌, ◌∷◌};
+ghost use Rattle.std.specs.Prelude.{Bool, [], drop, OnOk, IfOk, ◌==◌, ◌∷◌};
 ghost use Rattle.kt_tables.specs.Calls.{Speaks};
 ghost use Rattle.kt_protocol.specs.States.{Take as TakeStep};
 ghost use Rattle.kt_seen.specs.Transition.{transition, seen_front, seen_take};
@@ -12,6 +12,7 @@ ghost use Rattle.kt_process.specs.Persons.{is_ready};
 ghost use Rattle.kt_values.specs.SeenActs.{seen_acts, seen_acts_replied, seen_acts_decided, seen_acts_taking, seen_acts_taking_held};
 ghost use Rattle.kt_system.specs.Shown.{Shows, IsInside, gone_on, after_reply_taken, after_decision_taken};
 ghost use Rattle.kt_system.specs.ShownActs.{acts_shown, acts_gone_on};
+ghost use Rattle.kt_system.specs.Tallies.{TalliesPut, front, taken_off};
 
 use super::System;
 use super::messages::{Message, NO_ACTS};
@@ -36,6 +37,7 @@ impl System {
         ensures size { self.new.size ≡ self.old.size }
         ensures err { OnErr result (IsSame self.new self.old) }
         ensures grows { Grows 4 self.old self.new }
+        ensures tallies { OnOk result (TalliesPut (front self.old at from) self.old self.new) }
         ensures shows { (v : Seen) → Shows self.old v → OnOk result (Shows self.new (after_reply_taken v at from inst willing (drop 1 (v.channel from at)))) }
         ensures acts { (v : Seen) → Shows self.old v → IfOk result (λ acts. acts_shown acts ≡ seen_acts_replied v at willing) }
     {
@@ -55,6 +57,7 @@ impl System {
         requires room { CanGoOn self.old p action.now }
         ensures size { self.new.size ≡ self.old.size }
         ensures grows { Grows 2 self.old self.new }
+        ensures tallies { TalliesPut [] self.old self.new }
         ensures shows { (v : Seen) → Shows self.old v → ((commit : Bool) (tell : ℕ) → action.now ≡ what.Settle commit tell → IsInside self.old p) → Shows self.new (gone_on v p inst action.now) }
         ensures acts { acts_shown result ≡ acts_gone_on (is_ready (person self.old p).side) action.now }
     {
@@ -101,6 +104,7 @@ impl System {
         ensures size { self.new.size ≡ self.old.size }
         ensures err { OnErr result (IsSame self.new self.old) }
         ensures grows { Grows 4 self.old self.new }
+        ensures tallies { OnOk result (TalliesPut (front self.old at from) self.old self.new) }
         ensures shows { (v : Seen) → Shows self.old v → OnOk result (Shows self.new (after_decision_taken v at from inst commit (drop 1 (v.channel from at)))) }
         ensures acts { (v : Seen) → Shows self.old v → IfOk result (λ acts. acts_shown acts ≡ seen_acts_decided v at inst commit) }
     {
@@ -129,6 +133,7 @@ impl System {
         ensures size { self.new.size ≡ self.old.size }
         ensures err { OnErr result (IsSame self.new self.old) }
         ensures grows { Grows 4 self.old self.new }
+        ensures tallies { OnOk result (TalliesPut (front self.old at from) self.old self.new) }
         ensures shows { (v : Seen) → Shows self.old v → Speaks (((seen_front v at from able (v.channel from at)).people at).calls) → OnOk result (Shows self.new (seen_front v at from able (v.channel from at))) }
         ensures acts { (v : Seen) → Shows self.old v → IfOk result (λ acts. acts_shown acts ≡ seen_acts_taking v at from able (v.channel from at)) }
     {
@@ -155,6 +160,7 @@ impl System {
         ensures size { self.new.size ≡ self.old.size }
         ensures err { OnErr result (IsSame self.new self.old) }
         ensures grows { Grows 4 self.old self.new }
+        ensures tallies { OnOk result (TalliesPut [] self.old self.new) }
         ensures shows { (v : Seen) (able : Bool) → Shows self.old v → v.held from at ≡ parcel ∷ drop 1 (v.held from at) →
             Speaks (((seen_take v at from able (v.held from at)).people at).calls) → OnOk result (Shows self.new (seen_take v at from able (v.held from at))) }
         ensures acts { (v : Seen) (able : Bool) → Shows self.old v → v.held from at ≡ parcel ∷ drop 1 (v.held from at) →
@@ -183,6 +189,7 @@ impl System {
         ensures size { self.new.size ≡ self.old.size }
         ensures err { OnErr result (IsSame self.new self.old) }
         ensures grows { Grows 4 self.old self.new }
+        ensures tallies { OnOk result (TalliesPut (taken_off self.old at from) self.old self.new) }
         ensures shows { (v : Seen) → Shows self.old v → Speaks (((transition v (TakeStep at from able)).people at).calls) → OnOk result (Shows self.new (transition v (TakeStep at from able))) }
         ensures acts { (v : Seen) → Shows self.old v → IfOk result (λ acts. acts_shown acts ≡ seen_acts v (TakeStep at from able)) }
     {

@@ -1,5 +1,8 @@
+use Rattle.std.specs.Prelude.{if◌then◌else◌}
+use Rattle.kt_system.specs.Tallies.{front}
+use Rattle.kt_system.proofs.Tallying.{tallies_same, tallies_kept, tallies_turned, tallies_then, tallies_removed}
 use Rattle.kt_fifo.specs.Channels.{channel}
-use Rattle.std.proofs.Common.{Bool, true, false, [], ◌∷◌, ◌++◌, arith, refl, ap, subst, sym, ◌∙◌, ℕ, ◌≡◌}
+use Rattle.std.proofs.Common.{true, false, [], ◌∷◌, ◌++◌, arith, refl, ap, subst, sym, ◌∙◌, ◌≡◌}
 use Rattle.kt_fifo.specs.declared.parcels.Parcel.{Parcel}
 use Rattle.kt_fifo.specs.declared.parcels.Parcel.TheVariants as parcel
 use Rattle.kt_seen.specs.Seen.{Seen, SeenLists}
@@ -43,3 +46,16 @@ returns-clause-shows c = λ v h speaks.
     let four = shows_parts _ _ _ state state.channel state.held (with_parcel v.kept from at (parcel.App message.label message.msg message.body)) state.log state.begun c.self-2.view_is refl refl j.wires j.held lists j.log j.begun three in
     subst (λ (z : Seen). Shows c.write-2.new.self z)
     (arrives_up v (channel_without c.args.is_held v at from) (held_without c.args.is_held v at from) at from message.label message.msg message.body up) (c.write-2.ensures.shows _ four)
+
+pub returns-then-not-is_up-clause-tallies : goal.returns-then-not-is_up-clause-tallies
+returns-then-not-is_up-clause-tallies c =
+    let same = c.make_room_for_rows.ensures.same in
+    tallies_then (if c.args.is_held then [] else front c.args.self.now c.args.at c.args.from) _ _ _ (tallies_removed _ _ _ c.args.at c.args.from c.args.is_held (tallies_same _ _ same) same.wires c.remove.ensures.tallies) c.write.ensures.tallies
+
+pub returns-clause-tallies : goal.returns-clause-tallies
+returns-clause-tallies c =
+    let same = c.make_room_for_rows.ensures.same in
+    let wires = ap (λ (w : Whole). channel w.wires) c.self.view_is ∙ same.wires in
+    let room = tallies_then [] _ _ _ (tallies_same _ _ same) (tallies_kept _ _ _ c.self.view_is refl refl refl) in
+    tallies_then (if c.args.is_held then [] else front c.args.self.now c.args.at c.args.from) _ _ _ (tallies_removed _ _ _ c.args.at c.args.from c.args.is_held room wires c.remove-2.ensures.tallies)
+    (tallies_then [] _ _ _ (tallies_turned _ _ c.args.at c.note_received.ensures.turned) (tallies_then [] _ _ _ (tallies_kept _ _ _ c.self-2.view_is refl refl refl) c.write-2.ensures.tallies))

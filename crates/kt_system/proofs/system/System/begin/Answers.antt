@@ -1,3 +1,5 @@
+use Rattle.std.proofs.Common.{[]}
+use Rattle.kt_system.proofs.Tallying.{tallies_then}
 use Rattle.std.proofs.Common.{ap, sym, ◌∙◌}
 use Rattle.kt_process.specs.Persons.{Person, inst_of}
 use Rattle.kt_system.specs.Shown.{Shows, JoinsAs, with_instance, begun_as}
@@ -16,3 +18,6 @@ returns-in-Join-clause-shows c = λ v test label h joins.
     let j = subst (λ (a : Action). JoinsAs c.args.self.now v c.args.p test label a) c.in-Join.is joins in
     subst (λ (a : Action). Shows c.join.new.self (begun_as v c.args.p c.args.inst c.args.kind test label a)) (sym c.in-Join.is)
     (c.join.ensures.shows (with_instance v c.args.p c.args.inst c.args.kind) test label (c.open.ensures.shows v h) j.0 j.1 j.2 (λ e. j.3 (sym (ap (λ (x : Person). inst_of x.side) (c.open.ensures.keeps.person c.args.p)) ∙ e)))
+
+pub returns-in-Join-clause-tallies : goal.returns-in-Join-clause-tallies
+returns-in-Join-clause-tallies c = tallies_then [] _ _ _ c.open.ensures.tallies c.join.ensures.tallies

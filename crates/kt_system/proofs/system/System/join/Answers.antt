@@ -1,3 +1,5 @@
+use Rattle.std.proofs.Common.{[]}
+use Rattle.kt_system.proofs.Tallying.{tallies_then}
 use Rattle.kt_process.specs.Persons.{Person, inst_of}
 use Rattle.std.proofs.Common.{Bool, ap, subst, sym, ◌∙◌}
 use Rattle.kt_fifo.specs.declared.parcels.Parcel.TheVariants as parcel
@@ -42,3 +44,12 @@ returns-in-Commit-clause-shows c = λ v test label h cohort goes willing there.
     let two = subst (λ (row : Event). Shows c.write.new.self (with_row joined row)) c.joining_row.ensures one in
     subst (λ (z : Seen). Shows c.decide-second.new.self z) (settles_commit state c.args.p c.args.inst (sym c.in-Commit.is ∙ goes) willing) (c.decide-second.ensures.shows state two
     (λ e. there (sym (ap (λ (x : Person). inst_of x.side) (c.write.ensures.keeps.person c.args.p ∙ c.ask.ensures.uses.person c.args.p)) ∙ e)))
+
+pub returns-in-Wait-clause-tallies : goal.returns-in-Wait-clause-tallies
+returns-in-Wait-clause-tallies c = tallies_then [] _ _ _ c.ask.ensures.tallies c.write.ensures.tallies
+
+pub returns-in-Answer-clause-tallies : goal.returns-in-Answer-clause-tallies
+returns-in-Answer-clause-tallies c = tallies_then [] _ _ _ (tallies_then [] _ _ _ c.ask.ensures.tallies c.write.ensures.tallies) c.reply.ensures.tallies
+
+pub returns-in-Commit-clause-tallies : goal.returns-in-Commit-clause-tallies
+returns-in-Commit-clause-tallies c = tallies_then [] _ _ _ (tallies_then [] _ _ _ c.ask.ensures.tallies c.write.ensures.tallies) c.decide-second.ensures.tallies

@@ -1,8 +1,7 @@
 use Rattle.std.proofs.Common.{refl, subst, sym, ◌∙◌}
 use Rattle.kt_process.specs.Persons.{Person, inst_of}
-use Rattle.kt_process.specs.Shown.{IsSeenAs, counted_as, closed_as}
-use Rattle.std.specs.Prelude.{false}
-use Rattle.kt_system.proofs.Showing.{is_turned, stood, placed, sized}
+use Rattle.kt_process.specs.Shown.{IsSeenAs, closed_as}
+use Rattle.kt_system.proofs.Showing.{is_turned, stood, placed}
 use Rattle.std.proofs.Common.{◌≡◌, refl, arith, ap, ◌∙◌}
 use Rattle.kt_system.proofs.Turns.{person_at, tables_at, turned}
 use Rattle.kt_process.specs.Persons.{Person}
@@ -21,7 +20,7 @@ returns-clause-leaves c =
     }
 
 pub returns-clause-turned : goal.returns-clause-turned
-returns-clause-turned c = is_turned _ _ _ c.args.p c.index.result c.close.new.self c.self.view_is c.index.ensures.value refl refl refl refl refl refl refl
+returns-clause-turned c = is_turned _ _ _ c.args.p c.index.result c.close.new.self c.self.view_is c.index.ensures.value refl refl refl refl refl refl refl refl
 
 pub returns-clause-shows : goal.returns-clause-shows
 returns-clause-shows c = λ v h there. let was = person_at _ _ c.args.p c.index.result c.index_mut.result.now c.self.view_is c.self.invariant c.requires c.index.ensures.value c.index_mut.ensures.value in

@@ -1,3 +1,5 @@
+use Rattle.kt_fifo.specs.Channels.{channel}
+use Rattle.std.proofs.Common.{ap}
 use Rattle.std.proofs.Common.{◌∙◌}
 use Rattle.kt_seen.specs.Seen.{SeenLists}
 use Rattle.kt_seen.specs.ListChanges.{with_parcel}
@@ -17,3 +19,9 @@ returns-clause-keeps c = keeps_people _ _ _ c.self.view_is refl refl
 pub returns-clause-shows : goal.returns-clause-shows
 returns-clause-shows c = λ v h. shows_wires _ _ _ v (λ (f : SeenLists). with_parcel f c.args.p c.args.to c.args.parcel) c.self.view_is refl refl refl refl refl refl
     (c.push_reserved.ensures.lists ∙ pushed_is _ c.args.p c.args.to c.args.parcel) h
+
+pub returns-clause-wires : goal.returns-clause-wires
+returns-clause-wires c = c.push_reserved.ensures.lists ∙ (pushed_is _ c.args.p c.args.to c.args.parcel ∙ ap (λ (w : Whole). with_parcel (channel w.wires) c.args.p c.args.to c.args.parcel) c.self.view_is)
+
+pub returns-clause-tallies : goal.returns-clause-tallies
+returns-clause-tallies c = ap (λ (w : Whole). w.put) c.self.view_is

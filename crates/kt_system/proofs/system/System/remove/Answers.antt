@@ -1,4 +1,5 @@
-use Rattle.std.proofs.Common.{Bool, true, false, drop, refl, ap, subst, sym, ◌∙◌}
+use Rattle.kt_system.proofs.Tallying.{tallies_popped}
+use Rattle.std.proofs.Common.{Bool, drop, refl, ap, subst, sym, ◌∙◌}
 use Rattle.kt_seen.specs.Seen.{SeenLists}
 use Rattle.kt_seen.specs.ListChanges.{with_rest}
 use Rattle.kt_system.specs.Systems.{Whole}
@@ -23,3 +24,6 @@ returns-else-is_held-clause-shows c = λ v h.
     let e = sym c.if-is_held.false in
     let wires = c.pop-else-is_held.ensures.lists ∙ (popped_is _ from at _ ∙ (ap (λ (f : SeenLists). with_rest f from at (drop 1 (f from at))) i.wires ∙ ap (λ (b : Bool). channel_without b v at from) e)) in
     shows_parts _ _ _ v (channel_without c.args.is_held v at from) (held_without c.args.is_held v at from) v.kept v.log v.begun c.self.view_is refl refl wires (i.held ∙ ap (λ (b : Bool). held_without b v at from) e) i.kept i.log i.begun h
+
+pub returns-else-is_held-clause-tallies : goal.returns-else-is_held-clause-tallies
+returns-else-is_held-clause-tallies c = rw c.if-is_held.false (tallies_popped _ _ _ c.args.at c.args.from c.self.view_is c.requires.from c.requires.at refl c.pop-else-is_held.ensures.lists refl)

@@ -1,8 +1,9 @@
+use Rattle.kt_system.proofs.Tallying.{tallies_then, tallies_same, tallies_turned, tallies_sent}
 use Rattle.std.specs.Prelude.{ℤ}
 use Rattle.std.specs.Int.{w64}
 use Rattle.std.proofs.lemmas.Int.{to_z-of_z}
 use Rattle.kt_spacetime.specs.declared.event.Event.TheVariants.{Sent}
-use Rattle.std.proofs.Common.{Bool, true, false, ℕ, arith, ap, subst, sym, ◌∙◌, ◌≡◌, ◌<◌, ◌+◌, length, List, [], ◌∷◌, ◌++◌}
+use Rattle.std.proofs.Common.{true, false, ℕ, arith, ap, subst, sym, ◌∙◌, ◌≡◌, ◌<◌, ◌+◌, length, List, [], ◌∷◌, ◌++◌}
 use Rattle.kt_fifo.specs.declared.parcels.Parcel.TheVariants as parcel
 use Rattle.kt_spacetime.specs.declared.event.Event.{Event}
 use Rattle.kt_seen.specs.Seen.{Seen}
@@ -64,3 +65,16 @@ returns-clause-shows c = λ v h free other speaks.
     (subst (λ (z : ℤ). Shows c.put.new.self (record state { channel = with_parcel v.channel p to (parcel.App c.note_sent-label.result c.after-msg.result z) })) fits three)) in
     let five = subst (λ (z : ℤ). Shows c.write.new.self (with_row (record state { channel = with_parcel v.channel p to (parcel.App ((v.people p).used + 1) (length v.log + 1) c.args.body) }) (Sent p to z))) fits (c.write.ensures.shows _ four) in
     subst (λ (z : Seen). Shows c.write.new.self z) (sends_up v p to c.args.body a b free other up) five
+
+pub returns-then-not-is_up-clause-tallies : goal.returns-then-not-is_up-clause-tallies
+returns-then-not-is_up-clause-tallies c = tallies_then [] _ _ _ (tallies_same _ _ c.make_room_to.ensures.same) c.refuse.ensures.tallies
+
+pub returns-clause-tallies : goal.returns-clause-tallies
+returns-clause-tallies c =
+    let turned = c.note_sent-label.ensures.turned in
+    let room = c.make_room_to.ensures.same.size in
+    let size = turned.size in
+    let low : c.args.p < c.note_sent-label.new.self.size = (let b = c.requires.p in omega (arith, b, room, size)) in
+    let high : c.args.to < c.note_sent-label.new.self.size = (let b = c.requires.to in omega (arith, b, room, size)) in
+    tallies_then [] _ _ _ (tallies_same _ _ c.make_room_to.ensures.same) (tallies_then [] _ _ _ (tallies_turned _ _ c.args.p turned)
+    (tallies_then [] _ _ _ (tallies_sent _ _ c.args.p c.args.to _ _ _ low high c.put.ensures.keeps.size c.put.ensures.wires c.put.ensures.tallies) c.write.ensures.tallies))

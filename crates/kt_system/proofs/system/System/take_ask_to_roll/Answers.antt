@@ -1,13 +1,14 @@
-use Rattle.std.proofs.Common.{◌≡◌, ℕ, ◌+◌, List, length, drop, true, ap, subst, sym, ◌∙◌}
-use Rattle.kt_parts.specs.declared.actions.Then.{Then}
-use Rattle.kt_lists.specs.Kept.{kept_of}
-use Rattle.kt_process.specs.Shown.{BeginsAs, HearsAs, asked_by, label_by, mark_of, no_mark}
+use Rattle.std.proofs.Common.{[]}
+use Rattle.kt_fifo.specs.Channels.{channel}
+use Rattle.kt_system.specs.Tallies.{front}
+use Rattle.kt_system.proofs.Tallying.{tallies_same, tallies_turned, tallies_then, tallies_front}
+use Rattle.std.proofs.Common.{ℕ, drop, true, ap, subst, sym, ◌∙◌}
+use Rattle.kt_process.specs.Shown.{asked_by, label_by, no_mark}
 use Rattle.kt_seen.specs.Seen.{Seen, SeenLists}
-use Rattle.kt_system.specs.Systems.{person}
-use Rattle.kt_system.specs.Shown.{Shows, begun_as, answered_as}
+use Rattle.kt_system.specs.Shown.{Shows}
 use Rattle.kt_system.proofs.Showing.{shows_same}
 use Rattle.kt_process.specs.Persons.{Person, inst_of}
-use Rattle.kt_system.proofs.Commands.{heard_by, hear_shows, hear_joins, hears_inside, hears_joins, hears_marked, heard_channel, asked_by_front, hears_checkpoint, hears_rollback}
+use Rattle.kt_system.proofs.Commands.{heard_by, hear_shows, hear_joins, hears_inside, heard_channel, asked_by_front, hears_rollback}
 use Rattle.std.proofs.Common.{true, ap, ◌∙◌}
 use Rattle.kt_base.specs.declared.words.Kind.TheVariants as kind
 use Rattle.kt_process.specs.Persons.{Person}
@@ -42,3 +43,9 @@ returns-clause-shows c = λ v able h.
     (λ asks goes e i. hears_inside _ after kind.Rollback true from k label at action asks goes c.in_ok-action.ensures.hears e (sym (ap (λ (x : Person). inst_of x.side) (c.pop.ensures.gives.person at)) ∙ i)) in
     let four = c.answer.ensures.shows (asked_by_front state at from rest) (asked_by kind.Rollback calls) (label_by kind.Rollback calls) three joins in
     subst (λ (z : Seen). Shows c.answer.new.self z) (hears_rollback after v at from k label able no_mark action rest s) four
+
+pub returns-clause-tallies : goal.returns-clause-tallies
+returns-clause-tallies c =
+    let same = c.make_room.ensures.same in
+    let turned = c.ask_to_roll.ensures.turned in
+    tallies_then (front c.args.self.now c.args.at c.args.from) _ _ _ (tallies_front _ _ _ c.args.at c.args.from (tallies_then [] _ _ _ (tallies_same _ _ same) (tallies_turned _ _ c.args.at turned)) (ap channel turned.wires ∙ same.wires) c.pop.ensures.tallies) c.answer.ensures.tallies

@@ -1,3 +1,7 @@
+use Rattle.std.proofs.Common.{[]}
+use Rattle.kt_fifo.specs.Channels.{channel}
+use Rattle.kt_system.specs.Tallies.{front}
+use Rattle.kt_system.proofs.Tallying.{tallies_same, tallies_turned, tallies_then, tallies_front}
 use Rattle.kt_parts.specs.declared.actions.Action.TheVariants.{Join}
 use Rattle.std.proofs.Common.{◌≡◌, ℕ, List, length, drop, true, ap, subst, sym, ◌∙◌}
 use Rattle.kt_parts.specs.declared.actions.Then.{Then}
@@ -59,3 +63,9 @@ returns-clause-acts c = λ v h.
     let one = shows_same _ _ v c.make_room.ensures.same h in
     c.answer.ensures.acts ∙ (ap (λ (x : Person). acts_carried_out kind.Checkpoint (is_ready x.side) c.in_ok-action.action) (c.pop.ensures.gives.person at)
     ∙ hear_acts_save (person c.ask_to_save.new.self at) v at c.args.inst (mark_of c.in_ok-marks.marks.items) from c.args.label c.args.able c.in_ok-action.action (c.in_ok-action.ensures.shows v one))
+
+pub returns-clause-tallies : goal.returns-clause-tallies
+returns-clause-tallies c =
+    let same = c.make_room.ensures.same in
+    let turned = c.ask_to_save.ensures.turned in
+    tallies_then (front c.args.self.now c.args.at c.args.from) _ _ _ (tallies_front _ _ _ c.args.at c.args.from (tallies_then [] _ _ _ (tallies_same _ _ same) (tallies_turned _ _ c.args.at turned)) (ap channel turned.wires ∙ same.wires) c.pop.ensures.tallies) c.answer.ensures.tallies

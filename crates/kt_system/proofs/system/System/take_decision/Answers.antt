@@ -1,10 +1,13 @@
-use Rattle.std.proofs.Common.{◌≡◌, Bool, true, false, drop, arith, ap, subst, sym, ◌∙◌}
-use Rattle.std.specs.Prelude.{◌==◌, None}
+use Rattle.std.proofs.Common.{[]}
+use Rattle.kt_system.specs.Tallies.{front}
+use Rattle.kt_system.proofs.Tallying.{tallies_same, tallies_then, tallies_front}
+use Rattle.std.proofs.Common.{◌≡◌, true, drop, ap, subst, sym, ◌∙◌}
+use Rattle.std.specs.Prelude.{◌==◌}
 use Rattle.kt_seen.specs.Seen.{Seen}
 use Rattle.kt_process.specs.Persons.{Person, inst_of}
 use Rattle.kt_system.specs.Shown.{Shows}
 use Rattle.kt_system.proofs.Showing.{shows_same}
-use Rattle.kt_system.proofs.Replying.{decides, decides_not}
+use Rattle.kt_system.proofs.Replying.{decides}
 use Rattle.kt_system.proofs.system.System.take_decision.Goals as goal
 
 pub returns-clause-shows : goal.returns-clause-shows
@@ -20,3 +23,9 @@ returns-clause-shows c = λ v h.
     let inside = c.is_in.ensures.inside c.if-not-is_in.false in
     subst (λ (z : Seen). Shows c.close.new.self z) (decides v at from c.args.inst c.args.commit rest here)
     (c.close.ensures.shows _ three (λ e. inside (sym (ap (λ (x : Person). inst_of x.side) same) ∙ e)))
+
+pub returns-clause-tallies : goal.returns-clause-tallies
+returns-clause-tallies c =
+    let one = c.make_room.ensures.same in
+    let two = c.make_room_back_if_ready.ensures.same in
+    tallies_then (front c.args.self.now c.args.at c.args.from) _ _ _ (tallies_front _ _ _ c.args.at c.args.from (tallies_then [] _ _ _ (tallies_same _ _ one) (tallies_same _ _ two)) (two.wires ∙ one.wires) c.pop-2.ensures.tallies) c.close.ensures.tallies

@@ -1,6 +1,10 @@
+use Rattle.kt_process.specs.Turns.{HasPartners}
+use Rattle.kt_system.proofs.Fits.{replies_fit}
+use Rattle.std.proofs.Common.{[]}
+use Rattle.kt_system.specs.Tallies.{front}
+use Rattle.kt_system.proofs.Tallying.{tallies_same, tallies_turned, tallies_then, tallies_front}
 use Rattle.kt_system.specs.Systems.{person}
-use Rattle.std.proofs.Common.{◌≡◌, Bool, true, false, drop, arith, ap, subst, sym, ◌∙◌}
-use Rattle.std.specs.Prelude.{Option}
+use Rattle.std.proofs.Common.{◌≡◌, drop, arith, ap, subst, sym, ◌∙◌}
 use Rattle.kt_parts.specs.declared.actions.Action.{Action}
 use Rattle.kt_seen.specs.Seen.{Seen}
 use Rattle.kt_seen.specs.SeenMessages.{seen_without_front}
@@ -29,3 +33,17 @@ returns-clause-shows c = λ v h.
     (λ commit tell e i. settles_inside counts.before.side counts.after.side c.args.willing commit tell (sym counts.follows ∙ e) counts.part (sym (ap (λ (x : Person). inst_of x.side) counts.turn.is) ∙ i)) in
     subst (λ (z : Seen). Shows c.go_on.new.self z) (replies_as (person c.pop.new.self at) v at from c.args.inst c.args.willing rest seen)
     (subst (λ (a : Action). Shows c.go_on.new.self (gone_on (turned_to state at (counted_as c.args.willing (v.people at))) at c.args.inst a)) action five)
+
+pub returns-clause-tallies : goal.returns-clause-tallies
+returns-clause-tallies c =
+    let one = c.make_room.ensures.same in
+    let two = c.make_room_back_if_ready.ensures.same in
+    tallies_then (front c.args.self.now c.args.at c.args.from) _ _ _ (tallies_front _ _ _ c.args.at c.args.from (tallies_then [] _ _ _ (tallies_same _ _ one) (tallies_same _ _ two)) (two.wires ∙ one.wires) c.pop.ensures.tallies)
+    (tallies_then [] _ _ _ (tallies_turned _ _ c.args.at c.hear_reply-action.ensures.turned) c.go_on.ensures.tallies)
+
+pub go_on-requires-clause-room : goal.go_on-requires-clause-room
+go_on-requires-clause-room c =
+    replies_fit c.args.at c.partners-targets.result c.args.willing c.args.self.now c.make_room.new.self c.make_room_back_if_ready.new.self c.pop.new.self c.hear_reply-action.new.self c.hear_reply-action.result
+    (subst (λ (x : Person). HasPartners (part_of x.side) c.partners-targets.result) c.process.ensures.process c.partners-targets.ensures.partners)
+    (λ q e. let l = c.partners-targets.ensures.within q e in let n = ap (λ (x : Person). x.tables.processes) c.process.ensures.process in let m = c.process.ensures.tables in omega (arith, l, n, m))
+    c.in_ok-make_room.ensures.parcels c.make_room.ensures.gives c.make_room_back_if_ready.ensures.keeps c.in_ok-make_room_back_if_ready.ensures.back c.pop.ensures.gives c.hear_reply-action.ensures.counts

@@ -1,9 +1,9 @@
-use Rattle.std.proofs.Common.{refl, subst, sym, ◌∙◌}
-use Rattle.std.proofs.Common.{ℕ, true}
+use Rattle.std.proofs.Common.{refl, subst, sym}
+use Rattle.std.proofs.Common.{ℕ}
 use Rattle.std.proofs.lemmas.Result.{IfOk-weaker}
 use Rattle.kt_base.specs.declared.words.Kind.TheVariants as kind
 use Rattle.kt_process.specs.Persons.{Person}
-use Rattle.kt_process.specs.Shown.{BeginsAs, HearsAs, mark_of, no_mark}
+use Rattle.kt_process.specs.Shown.{BeginsAs, mark_of}
 use Rattle.kt_system.proofs.Showing.{is_turned, stood, placed, sized}
 use Rattle.std.proofs.Common.{refl}
 use Rattle.std.proofs.lemmas.Result.{IfOk-weaker}
@@ -19,7 +19,7 @@ returns-clause-begins c = IfOk-weaker c.begin_checkpoint.result _ _ (λ action h
 }) c.begin_checkpoint.ensures.begins
 
 pub returns-clause-turned : goal.returns-clause-turned
-returns-clause-turned c = is_turned _ _ _ c.args.p c.index.result c.begin_checkpoint.new.self c.self.view_is c.index.ensures.value refl refl refl refl refl refl refl
+returns-clause-turned c = is_turned _ _ _ c.args.p c.index.result c.begin_checkpoint.new.self c.self.view_is c.index.ensures.value refl refl refl refl refl refl refl refl
 
 pub returns-clause-shows : goal.returns-clause-shows
 returns-clause-shows c = IfOk-weaker c.begin_checkpoint.result _ _ (λ action s. λ v h.
