@@ -1,6 +1,6 @@
 -- Which steps can be made, as the laws have it.
 use Rattle.std.specs.Prelude.{◌==◌, ◌&&◌, ◌||◌, not, nat_lt, nat_le, if◌then◌else◌, Option, option_map, is_none}
-use Rattle.std.proofs.Common.{◌≡◌, ◌<◌, ◌≤◌, ℕ, Bool, true, false, Some, None, length, refl, sym, arith, ap, subst, ◌∙◌}
+use Rattle.std.proofs.Common.{◌≡◌, ◌<◌, ◌≤◌, ℕ, Bool, true, false, Some, None, length, refl, arith, ap, ◌∙◌}
 use Rattle.std.proofs.lemmas.Bool.Decides.{nat_tests}
 use Rattle.kt_plan.specs.declared.commands.Command.{Command}
 use Rattle.kt_plan.specs.declared.commands.Job.{Job}
@@ -17,7 +17,6 @@ use Rattle.kt_promises.specs.Steps as run_after
 use Rattle.kt_promises.proofs.OpenPhase.{ahead_seen}
 use Rattle.kt_core.specs.Agendas.{next_command, if_open}
 use Rattle.kt_core.specs.Worlds.{World, is_send, may_do, can_do, enabled, refusal, is_full, lacks_label}
-use Rattle.kt_core.specs.declared.faults.StepFault.{StepFault}
 use Rattle.kt_core.specs.declared.faults.StepFault.TheVariants.{NotEnabled, LogFull, LabelsSpent}
 use Rattle.kt_core.specs.Shown.{IsRun, command_shown, plan_shown, job_shown, step_shown}
 use Rattle.kt_core.proofs.Places.{next_is, next_shown}

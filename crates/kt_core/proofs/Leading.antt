@@ -1,10 +1,12 @@
 -- Where a step of a world leads, its run leads.
-use Rattle.std.specs.Prelude.{Option, nat_le, if◌then◌else◌, slice_index_or}
+use Rattle.std.specs.Prelude.{Option, nat_le, nat_lt, ◌&&◌, ◌-◌, if◌then◌else◌, slice_index_or, count_by}
 use Rattle.std.proofs.Common.{◌≡◌, ◌≢◌, ◌<◌, ◌≤◌, ◌+◌, ℕ, Bool, true, false, Some, None, List, [], length, refl, sym, arith, ap, subst, ◌∙◌, inl, inr}
 use Rattle.std.proofs.lemmas.Bool.{cases_lt}
+use Rattle.std.proofs.lemmas.Bool.Decides.{nat_tests}
 use Rattle.std.proofs.lemmas.Option.{slice_get_within}
 use Rattle.std.proofs.lemmas.List.{length-map}
 use Rattle.kt_cuts.specs.Past.{at_one}
+use Rattle.kt_fifo.specs.declared.parcels.Parcel.{Parcel}
 use Rattle.kt_tables.specs.Calls.{Speaks}
 use Rattle.kt_plan.specs.Limits.{Planned, IsPlan}
 use Rattle.kt_plan.specs.declared.commands.Command.{Command}
@@ -16,7 +18,10 @@ use Rattle.kt_seen.specs.Seen.{Seen}
 use Rattle.kt_seen.specs.Transition.{transition, opening_seen}
 use Rattle.kt_process.specs.Persons.{Person, part_of, IsNumbered}
 use Rattle.kt_system.specs.Systems.{Whole, person, nobody, IsSame}
-use Rattle.kt_system.specs.Reads.{IsQuiet}
+use Rattle.kt_system.specs.declared.system.Tally.{Tally}
+use Rattle.kt_system.specs.Reads.{tally_of}
+use Rattle.kt_system.specs.Reads.{no_tally as none_counted}
+use Rattle.kt_system.specs.Tallies.{TalliesPut, taken_off}
 use Rattle.kt_system.specs.Shown.{Shows}
 use Rattle.kt_system.proofs.Showing.{shows_same}
 use Rattle.kt_values.specs.Values.{Act}
@@ -30,16 +35,18 @@ use Rattle.kt_promises.specs.Runs.{IsReachedWorld, IsSameButPhase, steps_of_comm
 use Rattle.kt_promises.specs.StepActs.{acts_of_step}
 use Rattle.kt_promises.proofs.ProtocolSteps.{seen_acts_are}
 use Rattle.kt_promises.specs.Tallies.{no_tally}
+use Rattle.kt_promises.specs.Tallies as run_tallies
 use Rattle.kt_promises.proofs.OpenPhase.{ahead_seen, attained_seen, quiet_seen}
-use Rattle.kt_promises.proofs.PeopleKeep.{processes_seen, speaks_next_seen}
+use Rattle.kt_promises.proofs.PeopleKeep.{speaks_next_seen}
 use Rattle.kt_promises.proofs.PhasesOpen.{opening_is, takes_is, does_is}
-use Rattle.kt_promises.proofs.RunsEnd.{fewer_begun_seen}
+use Rattle.kt_promises.proofs.RunsEnd.{fewer_begun_seen, raised_seen}
 use Rattle.kt_promises.proofs.RunSteps.{start_reached_seen, next_reached_seen}
 use Rattle.kt_core.specs.Agendas.{Agenda, place_of, next_command, if_open, open_command, IsNextOf, IsLeastPhase}
 use Rattle.kt_core.specs.Worlds.{SettlesIn}
-use Rattle.kt_core.specs.Shown.{IsRun, IsReached, command_shown, plan_shown, job_shown, give_shown}
+use Rattle.kt_core.specs.Shown.{IsRun, command_shown, plan_shown, job_shown, give_shown, tally_shown}
 use Rattle.kt_core.proofs.ShownPlans.{plan_is}
 use Rattle.kt_core.proofs.Quiet.{AreNumbered, quiet_shown, quiet_from, quiet_opening}
+use Rattle.kt_core.proofs.Tallied.{taken_is, tallies_lead}
 use Rattle.kt_core.proofs.Places.{HasPlaces, next_shown, next_from, places_at_start, places_after, places_same}
 
 abbrev agenda : Planned → List ℕ → ℕ → Agenda
@@ -93,8 +100,9 @@ phase_after a b s first v w i r h shows size num settles forward quiet same p c 
 -- a step that is enabled, after which phases open
 step_leads : (plan : Planned) (nx ny : List ℕ) (k l : ℕ) (s t : Whole) (first : ℕ) (v : run_world.World) (x : run_steps.Step) (g : run_steps.Give) → IsRun (agenda plan nx k) s first v → run_after.enabled (plan_shown plan) v x ≡ true →
     SettlesIn t (agenda plan ny k) (agenda plan ny l) → Shows t (run_after.world_after (plan_shown plan) v x g).now → HasPlaces (agenda plan ny l) (run_after.world_after (plan_shown plan) v x g) → t.size ≡ length plan.names → AreNumbered t →
-    ((p : ℕ) (c : Command) → p < 64 → next_command (agenda plan ny l) p ≡ Some c → k ≡ v.phase) → IsRun (agenda plan ny l) t first (run_after.world_after (plan_shown plan) v x g)
-step_leads plan nx ny k l s t first v x g r e settles shows places size num phase = record {
+    ((p : ℕ) (c : Command) → p < 64 → next_command (agenda plan ny l) p ≡ Some c → k ≡ v.phase) → (taken : List Parcel) → ((f g : Parcel → Bool) → ((x : Parcel) → f x ≡ g x) → count_by f taken ≡ run_tallies.taken_off v.now x g) → TalliesPut taken s t →
+    IsRun (agenda plan ny l) t first (run_after.world_after (plan_shown plan) v x g)
+step_leads plan nx ny k l s t first v x g r e settles shows places size num phase taken off counted = record {
   limits = r.limits;
   size = size;
   numbered = num;
@@ -102,6 +110,8 @@ step_leads plan nx ny k l s t first v x g r e settles shows places size num phas
   now = shows;
   places = places;
   phase = λ p c low f. phase_after (agenda plan ny k) (agenda plan ny l) t first v w r.limits reached places shows size num settles on.0 on.1 (phase p c low f) p c low f;
+  instances = (let a = r.instances in let b = counted.instances in omega (arith, a, b));
+  put = tallies_lead plan first w r.limits reached s t v x taken r.size size r.now shows r.instances off r.put (raised_seen (plan_shown plan) first v x g (plan_is plan r.limits) r.reached e) counted;
 }
   where
     w : run_world.World
@@ -137,11 +147,11 @@ begun_few a s first v p c r there = let f = fewer_begun_seen (plan_shown a.plan)
 pub do_leads : (a m b : Agenda) (s t : Whole) (p : ℕ) (c : Command) (give : Give) (first : ℕ) (v : run_world.World) → IsRun a s first v → p < 64 → open_command a p ≡ Some c → run_after.enabled (plan_shown a.plan) v (run_steps.Do p) ≡ true →
     (Shows s v.now → s.begun < 4096 → Speaks ((transition v.now (run_steps.protocol_step p (job_shown c.job) (give_shown give))).people p).calls → Shows t (transition v.now (run_steps.protocol_step p (job_shown c.job) (give_shown give)))) →
     m.plan ≡ a.plan → m.phase ≡ a.phase → (place_of a p < length a.plan.commands → IsNextOf a.plan.commands p (place_of a p + 1) (place_of m p)) → ((q : ℕ) → q ≢ p → place_of m q ≡ place_of a q) →
-    b.plan ≡ m.plan → b.next ≡ m.next → SettlesIn t m b → t.size ≡ length a.plan.names → AreNumbered t → IsRun b t first (run_after.world_after (plan_shown a.plan) v (run_steps.Do p) (give_shown give))
-do_leads a m b s t p c give first v r low opened e shows mp mk mn mo bp bn settles size num =
+    b.plan ≡ m.plan → b.next ≡ m.next → SettlesIn t m b → t.size ≡ length a.plan.names → AreNumbered t → TalliesPut [] s t → IsRun b t first (run_after.world_after (plan_shown a.plan) v (run_steps.Do p) (give_shown give))
+do_leads a m b s t p c give first v r low opened e shows mp mk mn mo bp bn settles size num counted =
     subst (λ (z : Agenda). IsRun z t first w) (sym (same_agenda b a.plan m.next b.phase (bp ∙ mp) bn refl))
     (step_leads a.plan a.next m.next a.phase b.phase s t first v (run_steps.Do p) (give_shown give) r e (settles_as t m b a.plan a.phase mp mk bp bn settles) seen
-    (places_after a (agenda a.plan m.next b.phase) v w p r.places low refl within (mn within) mo is.done) size num (λ q d under f. r.phase p c low next))
+    (places_after a (agenda a.plan m.next b.phase) v w p r.places low refl within (mn within) mo is.done) size num (λ q d under f. r.phase p c low next) [] (λ f g h. refl) counted)
   where
     plan : run_plans.Plan
     plan = plan_shown a.plan
@@ -173,17 +183,23 @@ do_leads a m b s t p c give first v r low opened e shows mp mk mn mo bp bn settl
 -- a take
 pub take_leads : (a b : Agenda) (s t : Whole) (p q : ℕ) (give : Give) (first : ℕ) (v : run_world.World) → IsRun a s first v → run_after.enabled (plan_shown a.plan) v (run_steps.Take p q) ≡ true →
     (Shows s v.now → Speaks ((transition v.now (machine.Take p q give.able)).people p).calls → Shows t (transition v.now (machine.Take p q give.able))) →
-    b.plan ≡ a.plan → b.next ≡ a.next → SettlesIn t a b → t.size ≡ length a.plan.names → AreNumbered t → IsRun b t first (run_after.world_after (plan_shown a.plan) v (run_steps.Take p q) (give_shown give))
-take_leads a b s t p q give first v r e shows bp bn settles size num =
+    b.plan ≡ a.plan → b.next ≡ a.next → SettlesIn t a b → t.size ≡ length a.plan.names → AreNumbered t → TalliesPut (taken_off s p q) s t → IsRun b t first (run_after.world_after (plan_shown a.plan) v (run_steps.Take p q) (give_shown give))
+take_leads a b s t p q give first v r e shows bp bn settles size num counted =
     subst (λ (z : Agenda). IsRun z t first w) (sym (same_agenda b a.plan a.next b.phase bp bn refl))
     (step_leads a.plan a.next a.next a.phase b.phase s t first v (run_steps.Take p q) (give_shown give) r e (settles_as t a b a.plan a.phase refl refl bp bn settles) seen
-    (places_same a (agenda a.plan a.next b.phase) v w r.places refl refl is.done) size num (λ u d under f. r.phase u d under f))
+    (places_same a (agenda a.plan a.next b.phase) v w r.places refl refl is.done) size num (λ u d under f. r.phase u d under f) (taken_off s p q) (λ f g h. taken_is f g h s v.now p q r.now r.numbered there) counted)
   where
     plan : run_plans.Plan
     plan = plan_shown a.plan
 
     w : run_world.World
     w = run_after.world_after plan v (run_steps.Take p q) (give_shown give)
+
+    takes : (n : ℕ) (x y : Bool) → ((nat_lt p n && x) && y) ≡ true → p < n
+    takes n x y f = grind (arith, nat_tests, f)
+
+    there : p < s.size
+    there = let l = takes plan.size (nat_lt q plan.size) (run_after.can_take v.now p q) e in let z = r.size in omega (arith, l, z)
 
     is : IsSameButPhase (run_after.with_seen plan v (run_steps.Take p q) (transition v.now (machine.Take p q give.able))) w
     is = takes_is plan v p q (give_shown give)
@@ -193,8 +209,8 @@ take_leads a b s t p q give first v r e shows bp bn settles size num =
 
 -- at the start phases open from a to b
 pub start_leads : (a b : Agenda) (s : Whole) (first : ℕ) → IsPlan a.plan → s.size ≡ length a.plan.names → AreNumbered s → Shows s (opening_seen (length a.plan.names) first) → ((p : ℕ) → p < 64 → IsNextOf a.plan.commands p 0 (place_of a p)) → b.plan ≡ a.plan → b.next ≡ a.next →
-    ((least : ℕ) → IsLeastPhase b least → b.phase ≡ least) → IsRun b s first (run_world.start_world (plan_shown a.plan) first)
-start_leads a b s first i size num shows n bp bn opens =
+    ((least : ℕ) → IsLeastPhase b least → b.phase ≡ least) → length a.plan.commands ≤ length s.put → ((k : ℕ) → tally_of s k ≡ none_counted) → IsRun b s first (run_world.start_world (plan_shown a.plan) first)
+start_leads a b s first i size num shows n bp bn opens room none =
     subst (λ (z : Agenda). IsRun z s first w) (sym same) (record {
       limits = i;
       size = size;
@@ -203,6 +219,8 @@ start_leads a b s first i size num shows n bp bn opens =
       now = subst (λ (x : Seen). Shows s x) (sym is.now) shows;
       places = places;
       phase = λ p c low e. subst (λ (z : Agenda). (least : ℕ) → IsLeastPhase z least → z.phase ≡ least) same opens w.phase (least_is (agenda a.plan a.next b.phase) first w p c i reached places quiet low e);
+      instances = room;
+      put = λ k l. none k ∙ ap (λ (y : run_tallies.Tally). tally_shown y k) (sym is.put);
     })
   where
     plan : run_plans.Plan
@@ -240,6 +258,8 @@ run_same a s t first v e r = record {
   now = shows_same s t v.now e r.now;
   places = r.places;
   phase = r.phase;
+  instances = subst (λ (l : List Tally). length a.plan.commands ≤ length l) (sym e.put) r.instances;
+  put = λ k l. ap (λ (l : List Tally). slice_index_or l (k - 1) none_counted) e.put ∙ r.put k l;
 }
 
 whose : (p : ℕ) (j : Job) (g : run_steps.Give) → stepper (run_steps.protocol_step p (job_shown j) g) ≡ p

@@ -1,6 +1,7 @@
 pub mod Looks
 pub mod Defaults
 pub mod Leading
+pub mod RowsAdded
 pub mod ShownPlans
 pub mod Quiet
 pub mod Enabled
@@ -8,3 +9,4 @@ pub mod Places
 pub mod Nexts
 pub mod Phases
 pub mod Reaching
+pub mod Tallied

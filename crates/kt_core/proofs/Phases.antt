@@ -1,6 +1,6 @@
 -- The phase that is open.
 use Rattle.std.proofs.Common.{◌≡◌, ◌≤◌, ℕ, sym, ◌∙◌, arith}
-use Rattle.kt_core.specs.Agendas.{Agenda, next_command, place_of, IsDone, IsLeastPhase}
+use Rattle.kt_core.specs.Agendas.{Agenda, next_command, IsDone, IsLeastPhase}
 use Rattle.kt_system.specs.Systems.{Whole}
 use Rattle.kt_system.specs.Reads.{IsQuiet}
 use Rattle.kt_core.specs.Worlds.{SettlesIn}

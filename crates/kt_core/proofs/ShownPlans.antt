@@ -1,7 +1,7 @@
 -- A plan keeps its limits as the laws have them.
 use Rattle.std.specs.Prelude.{All, slice_index_or, map}
 use Rattle.std.specs.List.Sorted.{IsNonDecreasingBy}
-use Rattle.std.proofs.Common.{◌≡◌, ◌<◌, ◌≤◌, ℕ, zero, suc, List, [], ◌∷◌, length, refl, arith}
+use Rattle.std.proofs.Common.{◌<◌, ◌≤◌, ℕ, suc, List, [], ◌∷◌, length, arith}
 use Rattle.std.proofs.lemmas.List.Elements.{All-head, All-tail}
 use Rattle.kt_plan.specs.Limits.{Planned, IsPlan, IsCommandOf, IsJobOf}
 use Rattle.kt_plan.specs.declared.commands.Command.{Command}

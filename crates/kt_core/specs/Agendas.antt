@@ -1,5 +1,5 @@
 -- Which commands of a plan are done.
-use Rattle.std.specs.Prelude.{◌≡◌, ◌≢◌, ◌≤◌, ◌<◌, ◌+◌, ℕ, List, [], Option, Some, None, Bool, true, false, length, slice_get, slice_index_or, nat_le, if◌then◌else◌}
+use Rattle.std.specs.Prelude.{◌≡◌, ◌≢◌, ◌≤◌, ◌<◌, ◌+◌, ℕ, List, Option, Some, None, length, slice_get, slice_index_or, nat_le, if◌then◌else◌}
 use Rattle.kt_plan.specs.Limits.{Planned, IsPlan}
 use Rattle.kt_plan.specs.declared.commands.Command.{Command}
 use Rattle.kt_plan.specs.declared.commands.Job.TheVariants.{Fail}

@@ -1,5 +1,5 @@
 -- A plan, its steps and its worlds as the laws of plans have them.
-use Rattle.std.specs.Prelude.{◌≡◌, ◌<◌, ℕ, Option, Some, None, length, map}
+use Rattle.std.specs.Prelude.{◌≡◌, ◌<◌, ◌≤◌, ℕ, Some, length, map}
 use Rattle.kt_plan.specs.Limits.{Planned, IsPlan}
 use Rattle.kt_plan.specs.declared.commands.Command.{Command}
 use Rattle.kt_plan.specs.declared.commands.Job.{Job}
@@ -11,11 +11,14 @@ use Rattle.kt_plan.specs.declared.steps.Look.{Look}
 use Rattle.kt_plan.specs.declared.steps.Look.TheVariants.{Idle, NeedsSave, NeedsBody, Plain}
 use Rattle.kt_process.specs.Persons.{part_of, IsNumbered}
 use Rattle.kt_system.specs.Systems.{Whole, person}
+use Rattle.kt_system.specs.declared.system.Tally.{Tally}
+use Rattle.kt_system.specs.Reads.{tally_of}
 use Rattle.kt_system.specs.Shown.{Shows}
 use Rattle.kt_phases.specs.Plans as run
 use Rattle.kt_phases.specs.Steps as run_steps
 use Rattle.kt_phases.specs.Looks as run_looks
 use Rattle.kt_promises.specs.World as run_world
+use Rattle.kt_promises.specs.Tallies as run_tallies
 use Rattle.kt_promises.specs.Order.{next_place}
 use Rattle.kt_promises.specs.Runs.{IsReachedWorld}
 use Rattle.kt_core.specs.Agendas.{Agenda, place_of, next_command}
@@ -46,8 +49,13 @@ look_shown NeedsSave = run_looks.NeedsSave
 look_shown NeedsBody = run_looks.NeedsBody
 look_shown Plain = run_looks.Plain
 
+-- what an instance has put into channels, by what its run has
+abbrev pub tally_shown : run_tallies.Tally → ℕ → Tally
+tally_shown put k = record { asks = put.asks k; replies = put.replies k; decisions = put.decisions k }
+
 -- a run of the plan, where counters of labels begin after this one, leads to v; and that is what the processes keep, which
--- commands are done, and, as long as one is left, which phase is open
+-- commands are done, as long as one is left which phase is open, and what each instance has put into channels: there is a
+-- tally for each one that may begin
 pub record IsRun (a : Agenda) (s : Whole) (first : ℕ) (v : run_world.World) : Type 0 where
   pub limits : IsPlan a.plan
   pub size : s.size ≡ length a.plan.names
@@ -56,6 +64,8 @@ pub record IsRun (a : Agenda) (s : Whole) (first : ℕ) (v : run_world.World) : 
   pub now : Shows s v.now
   pub places : (p : ℕ) → p < 64 → place_of a p ≡ next_place (plan_shown a.plan) v p
   pub phase : (p : ℕ) (c : Command) → p < 64 → next_command a p ≡ Some c → a.phase ≡ v.phase
+  pub instances : length a.plan.commands ≤ length s.put
+  pub put : (k : ℕ) → 0 < k → tally_of s k ≡ tally_shown v.put k
 
 -- some run does
 abbrev pub IsReached : Agenda → Whole → Type 0

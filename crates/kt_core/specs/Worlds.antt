@@ -1,5 +1,5 @@
 -- A world, which steps can be made in it, and what they need.
-use Rattle.std.specs.Prelude.{◌≡◌, ◌<◌, ◌≤◌, ◌+◌, ◌^◌, ◌-◌, ◌&&◌, ◌||◌, not, ℕ, Bool, true, false, Option, Some, None, List, [], length, if◌then◌else◌, is_some, is_none, nat_lt, nat_le, slice_get}
+use Rattle.std.specs.Prelude.{◌≡◌, ◌<◌, ◌≤◌, ◌+◌, ◌^◌, ◌-◌, ◌&&◌, ◌||◌, not, ℕ, Bool, true, false, Option, Some, None, List, [], length, if◌then◌else◌, is_none, nat_lt, nat_le, slice_get}
 use Rattle.std.specs.Option.{option_map}
 use Rattle.kt_plan.specs.Limits.{Planned}
 use Rattle.kt_plan.specs.declared.commands.Command.{Command}

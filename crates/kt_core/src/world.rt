@@ -9,9 +9,10 @@ ghost use Rattle.kt_cuts.specs.Legal.{IsLegal};
 ghost use Rattle.kt_cuts.specs.Cuts.{IsConsistent, permanent_cut, present_cut};
 ghost use Rattle.kt_protocol.specs.Logs.{HasLinkedDecisions, HasLeastDecisions, AbortsWhereUnwilling, AbortsChangeNothing, JustifiesUnwilling};
 ghost use Rattle.kt_promises.specs.World.{start_world};
+ghost use Rattle.kt_promises.specs.World as run_world;
 ghost use Rattle.kt_promises.specs.Headline.{IsPromised};
 ghost use Rattle.kt_core.specs.Worlds.{IsOpening};
-ghost use Rattle.kt_core.specs.Shown.{IsRun, IsReached, plan_shown};
+ghost use Rattle.kt_core.specs.Shown.{IsRun, IsReached, plan_shown, tally_shown};
 
 use crate::agenda::Agenda;
 use kt_base::{InstNo, Label, Memory, ProcNo, RowNo};
@@ -149,7 +150,10 @@ impl World {
 
     /// How many asks, replies and decisions of an instance were put into channels.
     pub fn tally(&self, inst: InstNo) -> Tally
-        ensures { result ≡ tally_of self.now.system inst }
+        ensures tally { result ≡ tally_of self.now.system inst }
+
+        // It is what each run that leads here has put.
+        ensures in_runs { (first : ℕ) (v : run_world.World) → IsRun self.now.agenda self.now.system first v → result ≡ tally_shown v.put inst }
     {
         self.system.tally(inst)
     }

@@ -1,6 +1,6 @@
 //! Commands.
 
-ghost use Rattle.std.specs.Prelude.{◌≡◌, ◌<◌, ◌≤◌, ◌+◌, ◌^◌, ◌-◌, ℕ, None, IfOk, OnOk, OnErr, true, length};
+ghost use Rattle.std.specs.Prelude.{◌≡◌, ◌<◌, ◌≤◌, ◌+◌, ◌^◌, ◌-◌, ℕ, None, IfOk, OnOk, OnErr, true, [], length};
 ghost use Rattle.kt_plan.specs.Limits.{IsJobOf};
 ghost use Rattle.kt_process.specs.Persons.{inst_of};
 ghost use Rattle.kt_tables.specs.Calls.{Speaks};
@@ -9,6 +9,7 @@ ghost use Rattle.kt_seen.specs.Transition.{transition};
 ghost use Rattle.kt_system.specs.Systems.{person, IsSame, Grows};
 ghost use Rattle.kt_system.specs.Shown.{Shows};
 ghost use Rattle.kt_system.specs.ShownActs.{acts_shown};
+ghost use Rattle.kt_system.specs.Tallies.{TalliesPut};
 ghost use Rattle.kt_values.specs.SeenActs.{seen_acts};
 ghost use Rattle.kt_phases.specs.Steps.{protocol_step};
 ghost use Rattle.kt_promises.specs.World as run_world;
@@ -66,6 +67,7 @@ fn do_job(
     ensures size { system.new.size ≡ system.old.size }
     ensures grows { Grows 4 system.old system.new }
     ensures err { OnErr result (IsSame system.new system.old) }
+    ensures tallies { OnOk result (TalliesPut [] system.old system.new) }
     ensures shows { (v : Seen) → Shows system.old v → system.old.begun < 4096 →
         Speaks (((transition v (protocol_step p (job_shown job.now) (give_shown give))).people p).calls) →
         OnOk result (Shows system.new (transition v (protocol_step p (job_shown job.now) (give_shown give)))) }

@@ -1,11 +1,12 @@
 //! Steps.
 
-ghost use Rattle.std.specs.Prelude.{◌≡◌, ◌⊎◌, ◌<◌, ◌≤◌, ◌+◌, ◌^◌, ℕ, Some, None, Err, IfSome, IfOk, IfErr, OnOk, OnErr, length, slice_get};
+ghost use Rattle.std.specs.Prelude.{◌≡◌, ◌⊎◌, ◌<◌, ◌≤◌, ◌+◌, ◌^◌, ℕ, Some, None, Err, IfSome, IfOk, IfErr, OnOk, OnErr, drop, length, slice_get};
 ghost use Rattle.kt_process.specs.Persons.{part_of, IsNumbered};
 ghost use Rattle.kt_system.specs.Systems.{person, Grows};
 ghost use Rattle.kt_promises.specs.World as run_world;
 ghost use Rattle.kt_system.specs.ShownActs.{acts_shown};
 ghost use Rattle.kt_promises.specs.Steps.{world_after};
+ghost use Rattle.kt_promises.specs.Rows.{AreRowsOfStep};
 ghost use Rattle.kt_promises.specs.StepActs.{acts_of_step};
 ghost use Rattle.kt_core.specs.Worlds.{enabled, refusal, IsSameWorld, HasDone, Settles, SettlesIn, numbered_row, stepper};
 ghost use Rattle.kt_core.specs.Shown.{IsRun, plan_shown, step_shown, give_shown};
@@ -39,6 +40,9 @@ impl World {
             OnOk result (IsRun self.new.agenda self.new.system first (world_after (plan_shown self.old.agenda.plan) v (step_shown step) (give_shown give))) }
         ensures acts { (first : ℕ) (v : run_world.World) → IsRun self.old.agenda self.old.system first v →
             IfOk result (λ told. acts_shown told.acts ≡ acts_of_step (plan_shown self.old.agenda.plan) v (step_shown step) (give_shown give) (stepper step)) }
+        ensures rows { (first : ℕ) (v : run_world.World) → IsRun self.old.agenda self.old.system first v →
+            OnOk result (AreRowsOfStep (plan_shown self.old.agenda.plan) v (step_shown step) (give_shown give)
+            (drop (length self.old.system.rows.rows) self.new.system.rows.rows)) }
         ensures step { IfOk result (λ told. told.step ≡ step) }
         ensures told { IfOk result (λ told. (i : ℕ) → i < 4 → slice_get told.rows i ≡ Some (numbered_row self.new.system.rows.rows (length self.old.system.rows.rows + i))) }
     {

@@ -1,4 +1,4 @@
-use Rattle.std.proofs.Common.{◌≡◌, ◌<◌, ◌+◌, ℕ, Some, None, length, refl, arith, ap, subst, sym, ◌∙◌}
+use Rattle.std.proofs.Common.{◌≡◌, ◌+◌, ℕ, None, length, ap, subst, sym, ◌∙◌}
 use Rattle.std.specs.Prelude.{List, slice_index_or}
 use Rattle.std.proofs.lemmas.Option.{slice_get_within}
 use Rattle.kt_plan.specs.Limits.{Planned}
@@ -8,7 +8,7 @@ use Rattle.kt_promises.specs.World as run_world
 use Rattle.kt_system.specs.ShownActs.{acts_shown}
 use Rattle.kt_promises.specs.Steps.{world_after}
 use Rattle.kt_promises.specs.StepActs.{acts_of_step}
-use Rattle.kt_core.specs.Agendas.{place_of, open_command, IsNextOf}
+use Rattle.kt_core.specs.Agendas.{place_of, IsNextOf}
 use Rattle.kt_core.specs.Worlds.{World, refusal, HasDone, SettlesIn}
 use Rattle.kt_core.specs.Shown.{IsRun, plan_shown, give_shown}
 use Rattle.kt_core.proofs.Enabled.{few, enabled_is, enabled_if, does_there}
@@ -44,7 +44,7 @@ invariant_of-self-2 c =
         r.0,
         world_after (plan_shown a.plan) r.1 (run_steps.Do p) (give_shown c.args.give),
         do_leads a c.advance.new.self c.settle.new.agenda s c.do_job.new.system p c.in-Some.command c.args.give r.0 r.1 r.2 (few w r.0 r.1 r.2 p there) command on
-            (λ h begun says. c.in_ok-acts.ensures.shows r.1.now h begun says) move.plan move.phase move.next move.others opened.plan opened.next opened.settled (c.do_job.ensures.size ∙ size) opened.numbered,
+            (λ h begun says. c.in_ok-acts.ensures.shows r.1.now h begun says) move.plan move.phase move.next move.others opened.plan opened.next opened.settled (c.do_job.ensures.size ∙ size) opened.numbered c.in_ok-acts.ensures.tallies,
       );
       size = c.do_job.ensures.size ∙ (size ∙ ap (λ (plan : Planned). length plan.names) (sym (opened.plan ∙ move.plan)));
       rows = c.self.invariant.rows;
@@ -65,7 +65,7 @@ returns-clause-leads c =
     subst (λ (z : World). (first : ℕ) (v : run_world.World) → IsRun z.agenda z.system first v → IsRun c.settle.new.agenda c.do_job.new.system first (world_after (plan_shown z.agenda.plan) v (run_steps.Do p) (give_shown c.args.give))) c.self.view_is
     (λ first v r. do_leads a c.advance.new.self c.settle.new.agenda s c.do_job.new.system p c.in-Some.command c.args.give first v r (few w first v r p there) command
     (sym (enabled_is w first v r (Do p)) ∙ enabled_if w (Do p) allowed)
-    (λ h begun says. c.in_ok-acts.ensures.shows v.now h begun says) move.plan move.phase move.next move.others opened.plan opened.next opened.settled (c.do_job.ensures.size ∙ size) opened.numbered)
+    (λ h begun says. c.in_ok-acts.ensures.shows v.now h begun says) move.plan move.phase move.next move.others opened.plan opened.next opened.settled (c.do_job.ensures.size ∙ size) opened.numbered c.in_ok-acts.ensures.tallies)
 
 pub returns-clause-acts : goal.returns-clause-acts
 returns-clause-acts c =

@@ -1,6 +1,5 @@
 use Rattle.std.proofs.Common.{ap, length}
 use Rattle.kt_plan.specs.Limits.{Planned, IsPlan}
-use Rattle.std.proofs.Common.{[]}
 use Rattle.std.proofs.Common.{◌∙◌, ℕ, List, arith, sym, subst, refl, slice_index_or}
 use Rattle.kt_process.specs.Turns.{IsFresh}
 use Rattle.kt_system.specs.Systems.{person}
@@ -44,7 +43,12 @@ returns-clause-starts c =
     (subst (λ (n : ℕ). Shows c.in_ok-system.system (opening_seen n c.args.used)) (size.size ∙ ap (λ (plan : Planned). length plan.names) (sym made.plan)) c.in_ok-system.ensures.shows)
     (λ p low. subst (λ (plan : Planned). IsNextOf plan.commands p 0 (place_of first p)) (sym made.plan) (made.next p low))
     opened.plan opened.next
-    (λ least l. opened.opens least (least_stays first last least opened.plan opened.next l) (let zero = made.phase in omega (arith, zero))))
+    (λ least l. opened.opens least (least_stays first last least opened.plan opened.next l) (let zero = made.phase in omega (arith, zero)))
+    (let room = c.in_ok-system.ensures.instances in
+    let count = c.len.ensures in
+    let seen = ap (λ (plan : Planned). length plan.commands) c.plan.view_is in
+    let same = ap (λ (plan : Planned). length plan.commands) made.plan in
+    omega (arith, room, count, seen, same)) (λ k. c.in_ok-system.ensures.tallies k))
 
 pub invariant_of-result : goal.invariant_of-result
 invariant_of-result c =

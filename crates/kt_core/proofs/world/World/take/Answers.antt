@@ -1,4 +1,4 @@
-use Rattle.std.proofs.Common.{◌≡◌, ◌<◌, ℕ, None, length, ap, subst, sym, ◌∙◌}
+use Rattle.std.proofs.Common.{◌≡◌, ℕ, None, length, ap, subst, sym, ◌∙◌}
 use Rattle.kt_plan.specs.Limits.{Planned}
 use Rattle.kt_plan.specs.declared.steps.Step.TheVariants.{Take}
 use Rattle.kt_phases.specs.Steps as run_steps
@@ -35,7 +35,7 @@ invariant_of-self-2 c =
         world_after (plan_shown a.plan) r.1 (run_steps.Take c.args.at c.args.from) (give_shown c.args.give),
         take_leads a c.settle.new.agenda c.self.inside.system c.take.new.self c.args.at c.args.from c.args.give r.0 r.1 r.2
             (sym (enabled_is w r.0 r.1 r.2 (Take c.args.at c.args.from)) ∙ enabled_if w (Take c.args.at c.args.from) allowed)
-            (λ h says. c.in_ok-acts.ensures.shows r.1.now h says) opened.plan opened.next opened.settled (c.take.ensures.size ∙ size) opened.numbered,
+            (λ h says. c.in_ok-acts.ensures.shows r.1.now h says) opened.plan opened.next opened.settled (c.take.ensures.size ∙ size) opened.numbered c.in_ok-acts.ensures.tallies,
       );
       size = c.take.ensures.size ∙ (size ∙ ap (λ (plan : Planned). length plan.names) (sym opened.plan));
       rows = c.self.invariant.rows;
@@ -51,7 +51,7 @@ returns-clause-leads c =
     subst (λ (z : World). (first : ℕ) (v : run_world.World) → IsRun z.agenda z.system first v → IsRun c.settle.new.agenda c.take.new.self first (world_after (plan_shown z.agenda.plan) v (run_steps.Take c.args.at c.args.from) (give_shown c.args.give))) c.self.view_is
     (λ first v r. take_leads a c.settle.new.agenda c.self.inside.system c.take.new.self c.args.at c.args.from c.args.give first v r
     (sym (enabled_is w first v r (Take c.args.at c.args.from)) ∙ enabled_if w (Take c.args.at c.args.from) allowed)
-    (λ h says. c.in_ok-acts.ensures.shows v.now h says) opened.plan opened.next opened.settled (c.take.ensures.size ∙ size) opened.numbered)
+    (λ h says. c.in_ok-acts.ensures.shows v.now h says) opened.plan opened.next opened.settled (c.take.ensures.size ∙ size) opened.numbered c.in_ok-acts.ensures.tallies)
 
 pub returns-clause-acts : goal.returns-clause-acts
 returns-clause-acts c =
