@@ -18,7 +18,7 @@ use Rattle.kt_promises.specs.Steps.{enabled, world_after}
 use Rattle.kt_promises.specs.Looks.{look}
 use Rattle.kt_promises.specs.Runs.{after_moves, IsReachedWorld}
 use Rattle.kt_promises.specs.Told.{rows_along}
-use Rattle.kt_promises.specs.Offers.{GivesOffers, offer_places, IsOfferedAt, AreOfferedAt}
+use Rattle.kt_promises.specs.Offers.{GivesOffer, GivesOffers, offer_places, IsOfferedAt, AreOfferedAt}
 use Rattle.kt_promises.proofs.RunSteps.{start_reached_seen, next_reached_seen}
 use Rattle.kt_promises.proofs.ActsOfSteps.{log_grows}
 use Rattle.kt_promises.proofs.RowsFit.{sent_seen}
@@ -32,28 +32,28 @@ needs_body NeedsBody e = refl
 needs_body Plain e = absurd (cc (e))
 
 -- a row in its place
-in_place : {V : Type 0} (r : Rules V) (before more log : List Event) (p q : ℕ) (body : ℤ) → log ≡ before ++ Sent p q body ∷ more → offer r before p ≡ Some body → IsOfferedAt r log (length before)
-in_place r before more log p q body e o = (p, q, body, ap (λ (l : List Event). slice_get l (length before)) e ∙ get_seam before (Sent p q body) more, ap (λ (l : List Event). offer r l p) (ap (take (length before)) e ∙ take-append_seam before (Sent p q body ∷ more)) ∙ o)
+in_place : {V : Type 0} (rules : ℕ → Rules V) (before more log : List Event) (p q : ℕ) (body : ℤ) → log ≡ before ++ Sent p q body ∷ more → offer (rules p) before p ≡ Some body → IsOfferedAt rules log (length before)
+in_place rules before more log p q body e o = (p, q, body, ap (λ (l : List Event). slice_get l (length before)) e ∙ get_seam before (Sent p q body) more, ap (λ (l : List Event). offer (rules p) l p) (ap (take (length before)) e ∙ take-append_seam before (Sent p q body ∷ more)) ∙ o)
 
-module _ {V : Type 0} (r : Rules V) (plan : Plan) (first : ℕ) (i : IsPlan plan) where
+module _ {V : Type 0} (rules : ℕ → Rules V) (plan : Plan) (first : ℕ) (i : IsPlan plan) where
   one_offered : (u : World) (x : Step) (give : Give) (w : World) (more : List Event) → IsReachedWorld plan first u → enabled plan u x ≡ true → uses_body (look plan u x) ≡ true →
-      (look plan u x ≡ NeedsBody → option_map r.offered (due r (done u.now.log) (stepper x)).object ≡ Some give.body) → w.now.log ≡ (world_after plan u x give).now.log ++ more → IsOfferedAt r w.now.log (length u.now.log)
+      GivesOffer rules plan u x give → w.now.log ≡ (world_after plan u x give).now.log ++ more → IsOfferedAt rules w.now.log (length u.now.log)
   one_offered u (Do p) give w more s b e o l =
       let n = needs_body (look plan u (Do p)) e in
       let f = offered_seen plan first u p give i s n in
-      in_place r u.now.log more w.now.log p f.0 give.body
+      in_place rules u.now.log more w.now.log p f.0 give.body
       (l ∙ (ap (λ (t : List Event). t ++ more) (log_grows plan first u (Do p) give i s b ∙ ap (λ (t : List Event). u.now.log ++ t) f.1) ∙ append_assoc u.now.log (Sent p f.0 give.body ∷ []) more))
       (o n)
   one_offered u (Take p q) give w more s b e o l = absurd (let f = sent_seen plan first u (Take p q) give i s b in cc (e, f))
 
-  offered_from : (moves : List Move) (u w : World) → IsReachedWorld plan first u → GivesOffers r plan u moves → after_moves plan u moves ≡ Some w → AreOfferedAt r w.now.log (offer_places plan u moves)
+  offered_from : (moves : List Move) (u w : World) → IsReachedWorld plan first u → GivesOffers rules plan u moves → after_moves plan u moves ≡ Some w → AreOfferedAt rules w.now.log (offer_places plan u moves)
   offered_from [] u w s o e = tt
-  offered_from (x ∷ xs) u w s o e = at_if (λ (p : Option World). p ≡ Some w → AreOfferedAt r w.now.log (offer_places plan u (x ∷ xs))) (enabled plan u x.step) (after_moves plan (world_after plan u x.step x.give) xs) None
+  offered_from (x ∷ xs) u w s o e = at_if (λ (p : Option World). p ≡ Some w → AreOfferedAt rules w.now.log (offer_places plan u (x ∷ xs))) (enabled plan u x.step) (after_moves plan (world_after plan u x.step x.give) xs) None
       (λ b z. let t = next_reached_seen plan first u x.step x.give i s b in
-      at_if (λ (l : List ℕ). AreOfferedAt r w.now.log (l ++ offer_places plan (world_after plan u x.step x.give) xs)) (uses_body (look plan u x.step)) (length u.now.log ∷ []) []
+      at_if (λ (l : List ℕ). AreOfferedAt rules w.now.log (l ++ offer_places plan (world_after plan u x.step x.give) xs)) (uses_body (look plan u x.step)) (length u.now.log ∷ []) []
       (λ y. (one_offered u x.step x.give w (rows_along plan (world_after plan u x.step x.give) xs) s b y o.0 (log_from plan first i xs (world_after plan u x.step x.give) w t z), offered_from xs (world_after plan u x.step x.give) w t o.1 z))
       (λ y. offered_from xs (world_after plan u x.step x.give) w t o.1 z))
       (λ b z. absurd (cc (z))) e
 
-  pub offers_seen : (moves : List Move) (w : World) → after_moves plan (start_world plan first) moves ≡ Some w → GivesOffers r plan (start_world plan first) moves → AreOfferedAt r w.now.log (offer_places plan (start_world plan first) moves)
+  pub offers_seen : (moves : List Move) (w : World) → after_moves plan (start_world plan first) moves ≡ Some w → GivesOffers rules plan (start_world plan first) moves → AreOfferedAt rules w.now.log (offer_places plan (start_world plan first) moves)
   offers_seen moves w e o = offered_from moves (start_world plan first) w (start_reached_seen plan first) o e

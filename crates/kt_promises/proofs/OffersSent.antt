@@ -1,18 +1,24 @@
 -- What an object offers is the body of the one row that its step adds.
 use Rattle.std.proofs.Common.{◌≡◌, ℕ, ℤ, Bool, true, false, List, [], ◌∷◌, refl, ap, Some, None}
-use Rattle.std.specs.Prelude.{◌==◌, ◌&&◌, if◌then◌else◌, Option}
+use Rattle.std.specs.Prelude.{◌==◌, ◌&&◌, not, if◌then◌else◌, Option}
 use Rattle.kt_base.specs.declared.words.Cause.TheVariants.{Down}
 use Rattle.kt_spacetime.specs.declared.event.Event.{Event}
 use Rattle.kt_spacetime.specs.declared.event.Event.TheVariants.{Sent}
+use Rattle.kt_fifo.specs.declared.parcels.Parcel.{Parcel}
+use Rattle.kt_fifo.specs.declared.parcels.Parcel.TheVariants.{App, Ask, Reply, Decide}
+use Rattle.kt_cuts.specs.Past.{is_rollback_kind}
 use Rattle.kt_seen.specs.Seen.{Seen}
+use Rattle.kt_seen.specs.Transition.{is_seen_ready}
+use Rattle.kt_seen.specs.CallTests.{must_take}
 use Rattle.kt_phases.specs.Plans.{Plan, Job, Command, IsPlan}
-use Rattle.kt_phases.specs.Steps.{Step, Do, Give}
+use Rattle.kt_phases.specs.Steps.{Step, Do, Take, Give, stepper}
 use Rattle.kt_phases.specs.Looks.{Look, Idle, NeedsBody, NeedsSave, Plain, look_of_job}
 use Rattle.kt_phases.specs.Rows.{AreRowsOfCommand}
 use Rattle.kt_phases.specs.Plans as job
 use Rattle.kt_promises.specs.World.{World, next_command}
 use Rattle.kt_promises.specs.Steps.{enabled}
-use Rattle.kt_promises.specs.Looks.{look, look_of_step, look_of_command}
+use Rattle.kt_promises.specs.Looks.{look, look_of_step, look_of_command, look_of_front}
+use Rattle.kt_promises.specs.Tallies.{has_parcel}
 use Rattle.kt_promises.specs.Runs.{IsReachedWorld}
 use Rattle.kt_promises.specs.StepActs.{rows_added}
 use Rattle.kt_promises.specs.Rows.{refusal_cause, AreRowsOfDo}
@@ -58,3 +64,37 @@ command_offered w p give (Some c) l e f = job_offered w.now p _ give.able c.job 
 
 pub offered_seen : (plan : Plan) (first : ℕ) (w : World) (p : ℕ) (give : Give) → IsPlan plan → IsReachedWorld plan first w → look plan w (Do p) ≡ NeedsBody → (q : ℕ) × (rows_added plan w (Do p) give ≡ Sent p q give.body ∷ [])
 offered_seen plan first w p give i r e = let h = looked plan w (Do p) e in command_offered w p give (next_command plan w p) (rows_added plan w (Do p) give) h.1 (fits plan first w (Do p) give i r h.0).fit
+
+-- and its process is up
+job_up : (free u : Bool) (j : Job) → look_of_job free u j ≡ NeedsBody → u ≡ true
+job_up free true (job.Send q None) e = refl
+job_up free false (job.Send q None) e = absurd (cc (e))
+job_up free u (job.Send q (Some b)) e = absurd (cc (e))
+job_up free u job.Checkpoint e = absurd (not_it _ (save_not (free && u)) e)
+job_up free u job.Rollback e = absurd (cc (e))
+job_up free u job.Fail e = absurd (cc (e))
+
+command_up : (w : World) (p : ℕ) (o : Option Command) → look_of_command w p o ≡ NeedsBody → (w.now.people p).up ≡ true
+command_up w p None e = absurd (cc (e))
+command_up w p (Some c) e = job_up ((w.now.people p).inst == 0) (w.now.people p).up c.job e
+
+front_not : (v : Seen) (p q : ℕ) (l : List Parcel) → is_it (look_of_front v p q l) ≡ false
+unfolding is_it
+front_not v p q (Ask k kind l ∷ rest) =
+    save_not (((v.people p).inst == 0 && not (is_rollback_kind (Some kind))) && (must_take (v.people p).calls q l && (v.people p).up))
+front_not v p q (App l m body ∷ rest) = refl
+front_not v p q (Reply k w ∷ rest) = refl
+front_not v p q (Decide k c ∷ rest) = refl
+front_not v p q [] = refl
+
+take_not : (b : Bool) (l : Look) → is_it l ≡ false → is_it (if b then Plain else l) ≡ false
+unfolding is_it
+take_not true l e = refl
+take_not false l e = e
+
+step_up : (plan : Plan) (w : World) (x : Step) → look_of_step plan w x ≡ NeedsBody → (w.now.people (stepper x)).up ≡ true
+step_up plan w (Do p) e = command_up w p (next_command plan w p) e
+step_up plan w (Take p q) e = absurd (not_it _ (take_not (not (is_seen_ready w.now p) && has_parcel (w.now.held q p)) _ (front_not w.now p q (w.now.channel q p))) e)
+
+pub up_seen : (plan : Plan) (w : World) (x : Step) → look plan w x ≡ NeedsBody → (w.now.people (stepper x)).up ≡ true
+up_seen plan w x e = step_up plan w x (looked plan w x e).1

@@ -520,9 +520,10 @@ pub fn values_of_worlds<V>()
         IsReachedWorld plan first w → spares r (first_due r) (acts_along p done_start w.now.log) ≤ failures_of p plan }
 
     // Where each step that asks for a body is given what the object offers, the rows sent there have it.
-    ensures offers { (r : Rules V) (plan : Plan) (first : ℕ) (moves : List Move) (w : World) → IsPlan plan →
-        after_moves plan (start_world plan first) moves ≡ Some w → GivesOffers r plan (start_world plan first) moves →
-        AreOfferedAt r w.now.log (offer_places plan (start_world plan first) moves) }
+    ensures offers { (rules : ℕ → Rules V) (plan : Plan) (first : ℕ) (moves : List Move) (w : World) → IsPlan plan →
+        after_moves plan (start_world plan first) moves ≡ Some w →
+        GivesOffers rules plan (start_world plan first) moves →
+        AreOfferedAt rules w.now.log (offer_places plan (start_world plan first) moves) }
 
     // A step that closes an aborted instance changes no object and no permanent state.
     ensures aborts_objects { (r : Rules V) (plan : Plan) (first : ℕ) (w : World) (x : Step) (give : Give)
