@@ -1,5 +1,7 @@
 -- The faults of the objects that a run begins with.
 use Rattle.std.proofs.Common.{◌≡◌, ◌≢◌, ◌<◌, ℕ, List, false, length, refl}
+use Rattle.kt_core.specs.declared.faults.StepFault.{StepFault}
+use Rattle.kt_run.specs.declared.faults.RunFault.TheVariants.{Step}
 use Rattle.kt_held.specs.Casts.{HasSizes, HasKind, is_checked}
 use Rattle.kt_held.specs.declared.faults.CastFault.{CastFault}
 use Rattle.kt_held.specs.declared.faults.CastFault.TheVariants as cast
@@ -22,3 +24,10 @@ answered plan given (cast.Kind p) size fit kind least later = record {
 }
 answered plan given (cast.Object p) size fit kind least later = record { sizes = fit (λ e. absurd (cc e)); kinds = later refl }
 answered plan given cast.Memory size fit kind least later = record { sizes = fit (λ e. absurd (cc e)); kinds = later refl }
+
+-- none of them is a refused step
+pub of_objects : (fault : CastFault) (done : ℕ) (why : StepFault) → of_cast fault ≢ Step done why
+of_objects cast.Size done why e = absurd (cc (e))
+of_objects (cast.Kind p) done why e = absurd (cc (e))
+of_objects (cast.Object p) done why e = absurd (cc (e))
+of_objects cast.Memory done why e = absurd (cc (e))

@@ -1,4 +1,6 @@
+pub mod Acting
 pub mod Casting
+pub mod Holding
 pub mod Noting
 pub mod Running
 pub mod Telling

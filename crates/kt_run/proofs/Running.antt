@@ -1,28 +1,42 @@
 -- A run goes on with the world.
-use Rattle.std.specs.Prelude.{Option, slice_get, Result, Ok, Err, IfSome}
-use Rattle.std.proofs.Common.{◌≡◌, ℕ, true, Some, None, List, [], ◌∷◌, ◌++◌, append_assoc, append-nil, ◌+◌, ◌^◌, ◌<◌, ◌≤◌, arith, take, length, get_or, refl, sym, ap, subst, ◌∙◌}
+use Rattle.std.specs.Prelude.{Option, option_map, unwrap_or, slice_get, slice_index_or, not, if◌then◌else◌, Result, Ok, Err, IfSome}
+use Rattle.std.proofs.Common.{◌≡◌, ℕ, ℤ, Bool, true, false, Some, None, List, [], ◌∷◌, ◌++◌, append_assoc, append-nil, ◌+◌, ◌<◌, ◌≤◌, arith, take, length, length-append, map, get_or, refl, sym, ap, subst, ◌∙◌}
 use Rattle.std.proofs.lemmas.List.{map-append, take_more, length-map, length_push}
 use Rattle.kt_plan.specs.Limits.{Planned, IsPlan}
 use Rattle.kt_plan.specs.declared.steps.Step.{Step}
 use Rattle.kt_plan.specs.declared.steps.Give.{Give}
 use Rattle.kt_plan.specs.declared.steps.Told.{Told}
+use Rattle.kt_plan.specs.declared.steps.Act.{Act}
+use Rattle.kt_held.specs.Holdings.{Content, content, AreSaved}
+use Rattle.kt_values.specs.Values.{Rules}
 use Rattle.kt_spacetime.specs.declared.event.Event.{Event}
 use Rattle.kt_phases.specs.Steps as run_steps
 use Rattle.kt_phases.specs.Runs.{Move}
+use Rattle.kt_phases.specs.Plans.{Plan}
 use Rattle.kt_promises.specs.World as run_world
 use Rattle.kt_promises.specs.Steps.{enabled, world_after}
 use Rattle.kt_promises.specs.Defaults.{default_step}
 use Rattle.kt_promises.specs.StepActs.{acts_of_step}
 use Rattle.kt_promises.specs.Told.{told_at}
+use Rattle.kt_promises.specs.Runs.{after_moves, IsReachedWorld}
+use Rattle.kt_promises.specs.Offers.{GivesOffer, GivesOffers, offer_places, AreOfferedAt}
+use Rattle.kt_promises.proofs.NeededBodies.{offers_seen}
+use Rattle.kt_promises.proofs.WholeLogs.{no_tentative}
+use Rattle.kt_promises.proofs.PhasesOpen.{opening_is}
 use Rattle.kt_promises.proofs.GoingOn.{play_append, goes_run, goes_first, goes_next, goes_below, goes_rest}
 use Rattle.kt_system.specs.ShownActs.{acts_shown}
 use Rattle.kt_system.specs.Systems.{Grows}
-use Rattle.kt_core.specs.Worlds.{World, refusal, numbered_row, stepper}
+use Rattle.kt_core.specs.Worlds.{World, refusal, is_full, numbered_row, stepper}
+use Rattle.kt_core.specs.Worlds as core
+use Rattle.kt_core.specs.declared.faults.StepFault.TheVariants.{NotEnabled, LogFull}
+use Rattle.std.proofs.lemmas.Bool.{ltb-false}
 use Rattle.kt_core.specs.declared.faults.StepFault.{StepFault}
 use Rattle.kt_core.specs.Shown.{IsRun, plan_shown, step_shown, give_shown, command_shown}
 use Rattle.kt_core.proofs.Enabled.{enabled_is, enabled_if}
 use Rattle.kt_core.proofs.ShownPlans.{plan_is}
-use Rattle.kt_run.specs.Runs.{StepsTo, Starts, Begins, Goes, Rests, IsRunOf, IsToldRunOf}
+use Rattle.kt_run.specs.Objects.{Belongings, first_of, rules_of, rules_by, HoldDue}
+use Rattle.kt_run.specs.Refused.{IsDefaultRefused}
+use Rattle.kt_run.specs.Runs.{Scene, Tells, StepsTo, Starts, Begins, Goes, Rests, IsRunOf, IsToldRunOf}
 use Rattle.kt_run.specs.Telling.{IsToldAs, AreToldInRun, AreEmpty, IsNoted}
 use Rattle.kt_run.proofs.Telling.{told_as, tells_nothing, tells_more}
 
@@ -34,6 +48,22 @@ not_refused w x told h = at_refusal (refusal w x) h
     at_refusal None h = refl
     at_refusal (Some fault) h = absurd (cc (h))
 
+-- where a step is not refused, the log has room for its rows
+room_left : (w : World) (x : Step) → refusal w x ≡ None → length w.system.rows.rows + 4 ≤ w.limit
+room_left w x e = ltb-false w.limit (length w.system.rows.rows + 4) (go (not (core.enabled w x)) (is_full w) _ e)
+  where
+    go : (a b : Bool) (more : Option StepFault) → (if a then Some NotEnabled else if b then Some LogFull else more) ≡ None → b ≡ false
+    go true b more e = absurd (cc (e))
+    go false true more e = absurd (cc (e))
+    go false false more e = refl
+
+room_kept : (old new : World) (x : Step) → Grows 4 old.system new.system → refusal old x ≡ None → new.limit ≡ old.limit → length new.system.rows.rows ≤ new.limit
+room_kept old new x grew e limit =
+    let room = room_left old x e in
+    let rows = ap (λ (l : List Event). length l) grew.rows ∙ length-append old.system.rows.rows grew.more in
+    let few = grew.few in
+    omega (arith, room, rows, few, limit)
+
 -- why a step of a world is refused, of one that was made
 abbrev Allows : World → Told → Step → Type 0
 Allows old told x = IfSome (refusal old x) (λ fault. ◌≡◌ {A = Result Told StepFault} (Ok told) (Err fault))
@@ -44,33 +74,68 @@ Leads old new give x = (first : ℕ) (v : run_world.World) → IsRun old.agenda 
 abbrev Acts : World → Told → Give → Step → Type 0
 Acts old told give x = (first : ℕ) (v : run_world.World) → IsRun old.agenda old.system first v → acts_shown told.acts ≡ acts_of_step (plan_shown old.agenda.plan) v (step_shown x) (give_shown give) (stepper x)
 
-pub steps_to : (old new : World) (before after : List (List Told)) (x : Step) (give : Give) (told : Told) → told.step ≡ x → Grows 4 old.system new.system → length told.rows ≡ 4
+pub tells_now : (old new : World) (before after : List (List Told)) (x : Step) (give : Give) (told : Told) (acts : List Act) → acts ≡ told.acts → told.step ≡ x → Grows 4 old.system new.system → length told.rows ≡ 4
     → ((i : ℕ) → i < 4 → slice_get told.rows i ≡ Some (numbered_row new.system.rows.rows (length old.system.rows.rows + i))) → IsNoted told before after
-    → Allows old told x → Leads old new give x → Acts old told give x → StepsTo old before x new after
-steps_to old new before after x give told is grew four read noted =
-    subst (λ (y : Step). Allows old told y → Leads old new give y → Acts old told give y → StepsTo old before y new after) is
-    (λ allows leads acts. (
+    → new.limit ≡ old.limit → Allows old told x → Leads old new give x → Acts old told give x → Tells old before x give new after acts
+tells_now old new before after x give told acts same is grew four read noted limit =
+    subst (λ (y : Step). Allows old told y → Leads old new give y → Acts old told give y → Tells old before y give new after acts) is
+    (λ allows leads asks. (
       told,
-      give_shown give,
       noted,
+      same,
+      limit,
+      room_kept old new told.step grew (not_refused old told.step told allows) limit,
       λ first v r.
           let on : enabled (plan_shown old.agenda.plan) v (step_shown told.step) ≡ true = sym (enabled_is old first v r told.step) ∙ enabled_if old told.step (not_refused old told.step told allows) in
-          (on, leads first v r, told_as old.agenda.plan told give old new first v refl r (leads first v r) on grew four read (acts first v r)),
+          (on, leads first v r, told_as old.agenda.plan told give old new first v refl r (leads first v r) on grew four read (asks first v r)),
     ))
 
 abbrev Led : Planned → run_world.World → Step → World → Told → run_steps.Give → Type 0
 Led plan v x new told give = (enabled (plan_shown plan) v (step_shown x) ≡ true) × IsRun new.agenda new.system 0 (world_after (plan_shown plan) v (step_shown x) give)
     × IsToldAs told (told_at (plan_shown plan) v (record { step = step_shown x; give = give }))
 
-led : (plan : Planned) (old new : World) (before after : List (List Told)) (x : Step) (v : run_world.World) → old.agenda.plan ≡ plan → (s : StepsTo old before x new after) → IsRun old.agenda old.system 0 v → Led plan v x new s.0 s.1
-led plan old new before after x v e s r = subst (λ (z : Planned). Led z v x new s.0 s.1) e (s.3 0 v r)
+led : (plan : Planned) (old new : World) (before after : Scene) (x : Step) (v : run_world.World) → old.agenda.plan ≡ plan → (s : StepsTo old before x new after) → IsRun old.agenda old.system 0 v → Led plan v x new s.0 s.1
+led plan old new before after x v e s r = let t = s.5 0 v r in subst (λ (z : Planned). Led z v x new s.0 s.1) e (t.0, t.1, t.2)
 
-pub begins_start : (plan : Planned) (w : World) (told : List (List Told)) → Starts plan w → AreEmpty told → Begins plan [] w told
-begins_start plan w told s n = record { moves = []; now = run_world.start_world (plan_shown plan) 0; made = refl; leads = refl; shown = s; tells = tells_nothing plan told n }
+-- what each process holds, and what is given
+abbrev Keeps : Planned → List (List Content) → run_world.World → Step → run_steps.Give → Scene → Type 0
+Keeps plan cast v x give after = GivesOffer (rules_by cast) (plan_shown plan) v (step_shown x) give × HoldDue cast (world_after (plan_shown plan) v (step_shown x) give).now.log after.has
 
-pub begins_more : (plan : Planned) (steps : List Step) (x : Step) (old new : World) (before after : List (List Told)) → old.agenda.plan ≡ plan → Begins plan steps old before → StepsTo old before x new after → Begins plan (steps ++ x ∷ []) new after
-begins_more plan steps x old new before after e b s =
+keeps : (plan : Planned) (cast : List (List Content)) (old new : World) (before after : Scene) (x : Step) (v : run_world.World) → old.agenda.plan ≡ plan → (s : StepsTo old before x new after) → IsRun old.agenda old.system 0 v
+    → HoldDue cast v.now.log before.has → Keeps plan cast v x s.1 after
+keeps plan cast old new before after x v e s r due = subst (λ (z : Planned). Keeps z cast v x s.1 after) e ((s.5 0 v r).3 cast due)
+
+-- what is given at some moves, and at one more
+gives_more : (rules : ℕ → Rules (List ℤ)) (plan : Plan) (xs : List Move) (m : Move) (u v : run_world.World) → after_moves plan u xs ≡ Some v
+    → GivesOffers rules plan u xs → GivesOffer rules plan v m.step m.give → GivesOffers rules plan u (xs ++ m ∷ [])
+gives_more rules plan [] m u v e o g = (subst (λ (w : run_world.World). GivesOffer rules plan w m.step m.give) (sym (ap (λ (w : Option run_world.World). unwrap_or w u) e)) g, tt)
+gives_more rules plan (x ∷ xs) m u v e o g = (o.0, go (enabled plan u x.step) e (λ f. gives_more rules plan xs m (world_after plan u x.step x.give) v f o.1 g))
+  where
+    go : (b : Bool) → (if b then after_moves plan (world_after plan u x.step x.give) xs else None) ≡ Some v
+        → (after_moves plan (world_after plan u x.step x.give) xs ≡ Some v → GivesOffers rules plan (world_after plan u x.step x.give) (xs ++ m ∷ []))
+        → GivesOffers rules plan (world_after plan u x.step x.give) (xs ++ m ∷ [])
+    go true e f = f e
+    go false e f = absurd (cc (e))
+
+pub begins_start : (plan : Planned) (cast : List (List Content)) (w : World) (at : Scene) → Starts plan w → AreEmpty at.told → HoldDue cast [] at.has → Begins plan cast [] w at
+begins_start plan cast w at s n due = record {
+  moves = [];
+  now = run_world.start_world (plan_shown plan) 0;
+  made = refl;
+  leads = refl;
+  shown = s.shown;
+  limit = s.limit;
+  few = (let e = ap (λ (l : List Event). length l) s.rows in omega (arith, e));
+  tells = tells_nothing plan at.told n;
+  offers = tt;
+  due = subst (λ (log : List Event). HoldDue cast log at.has) (sym (ap (λ (v : _). v.log) (opening_is (plan_shown plan) 0).now)) due;
+}
+
+pub begins_more : (plan : Planned) (cast : List (List Content)) (steps : List Step) (x : Step) (old new : World) (before after : Scene) → old.agenda.plan ≡ plan → Begins plan cast steps old before → StepsTo old before x new after
+    → Begins plan cast (steps ++ x ∷ []) new after
+begins_more plan cast steps x old new before after e b s =
     let l = led plan old new before after x b.now e s b.shown in
+    let k = keeps plan cast old new before after x b.now e s b.shown b.due in
     let m : Move = record { step = step_shown x; give = s.1 } in
     record {
       moves = b.moves ++ m ∷ [];
@@ -78,15 +143,19 @@ begins_more plan steps x old new before after e b s =
       made = map-append (λ (y : Move). y.step) b.moves (m ∷ []) ∙ (ap (λ (ys : List run_steps.Step). ys ++ step_shown x ∷ []) b.made ∙ sym (map-append step_shown steps (x ∷ [])));
       leads = play_append (plan_shown plan) b.moves (m ∷ []) (run_world.start_world (plan_shown plan) 0) b.now (world_after (plan_shown plan) b.now (step_shown x) s.1) b.leads (let on = l.0 in rw on refl);
       shown = l.1;
-      tells = tells_more plan b.moves b.now m s.0 before after b.leads l.2 s.2 b.tells;
+      limit = s.3 ∙ b.limit;
+      few = s.4;
+      tells = tells_more plan b.moves b.now m s.0 before.told after.told b.leads l.2 s.2 b.tells;
+      offers = gives_more (rules_by cast) (plan_shown plan) b.moves m (run_world.start_world (plan_shown plan) 0) b.now b.leads b.offers k.0;
+      due = k.1;
     }
 
--- a run goes on from where the given steps lead, by so many steps at least
-abbrev pub GoesSo : Planned → List Step → ℕ → World → List (List Told) → Type 0
-GoesSo plan steps n w told = (g : Goes plan steps w told) × (n ≤ length g.more)
+-- a run goes on from where the given steps lead, by so many steps
+abbrev pub GoesSo : Planned → List (List Content) → List Step → ℕ → World → Scene → Type 0
+GoesSo plan cast steps n w at = (g : Goes plan cast steps w at) × (n ≡ length g.more)
 
-pub goes_start : (plan : Planned) (steps : List Step) (w : World) (told : List (List Told)) → Begins plan steps w told → GoesSo plan steps 0 w told
-goes_start plan steps w told b = (
+pub goes_start : (plan : Planned) (cast : List (List Content)) (steps : List Step) (w : World) (at : Scene) → Begins plan cast steps w at → GoesSo plan cast steps 0 w at
+goes_start plan cast steps w at b = (
   record {
     given = b.moves;
     more = [];
@@ -94,16 +163,22 @@ goes_start plan steps w told b = (
     begins = b.made;
     goes_on = goes_first (plan_shown plan) 0 b.moves b.now b.leads;
     shown = b.shown;
-    tells = subst (λ (moves : List Move). AreToldInRun plan moves told) (sym (append-nil b.moves)) b.tells;
+    limit = b.limit;
+    few = b.few;
+    tells = subst (λ (moves : List Move). AreToldInRun plan moves at.told) (sym (append-nil b.moves)) b.tells;
+    offers = subst (λ (moves : List Move). GivesOffers (rules_by cast) (plan_shown plan) (run_world.start_world (plan_shown plan) 0) moves) (sym (append-nil b.moves)) b.offers;
+    due = b.due;
   },
   omega arith,
 )
 
-pub goes_more : (plan : Planned) (steps : List Step) (n : ℕ) (x : Step) (old new : World) (before after : List (List Told)) → old.agenda.plan ≡ plan → (h : GoesSo plan steps n old before) → StepsTo old before x new after
-    → Some (step_shown x) ≡ default_step (plan_shown old.agenda.plan) h.0.now → GoesSo plan steps (n + 1) new after
-goes_more plan steps n x old new before after e h s d =
+pub goes_more : (plan : Planned) (cast : List (List Content)) (steps : List Step) (n : ℕ) (x : Step) (old new : World) (before after : Scene) → old.agenda.plan ≡ plan → (h : GoesSo plan cast steps n old before) → StepsTo old before x new after
+    → Some (step_shown x) ≡ default_step (plan_shown old.agenda.plan) h.0.now → GoesSo plan cast steps (n + 1) new after
+goes_more plan cast steps n x old new before after e h s d =
     let g = h.0 in
     let l = led plan old new before after x g.now e s g.shown in
+    let k = keeps plan cast old new before after x g.now e s g.shown g.due in
+    let run = goes_run (plan_shown plan) 0 g.given g.more g.now g.goes_on in
     let limits = plan_is plan (subst (λ (z : Planned). IsPlan z) e g.shown.limits) in
     let m : Move = record { step = step_shown x; give = s.1 } in
     let more = length_push g.more m in
@@ -115,37 +190,99 @@ goes_more plan steps n x old new before after e h s d =
         begins = g.begins;
         goes_on = goes_next (plan_shown plan) 0 g.given g.more g.now (step_shown x) s.1 limits g.goes_on (subst (λ (z : Planned). default_step (plan_shown z) g.now ≡ Some (step_shown x)) e (sym d));
         shown = l.1;
-        tells = subst (λ (moves : List Move). AreToldInRun plan moves after) (append_assoc g.given g.more (m ∷ []))
-            (tells_more plan (g.given ++ g.more) g.now m s.0 before after (goes_run (plan_shown plan) 0 g.given g.more g.now g.goes_on) l.2 s.2 g.tells);
+        limit = s.3 ∙ g.limit;
+        few = s.4;
+        tells = subst (λ (moves : List Move). AreToldInRun plan moves after.told) (append_assoc g.given g.more (m ∷ []))
+            (tells_more plan (g.given ++ g.more) g.now m s.0 before.told after.told run l.2 s.2 g.tells);
+        offers = subst (λ (moves : List Move). GivesOffers (rules_by cast) (plan_shown plan) (run_world.start_world (plan_shown plan) 0) moves) (append_assoc g.given g.more (m ∷ []))
+            (gives_more (rules_by cast) (plan_shown plan) (g.given ++ g.more) m (run_world.start_world (plan_shown plan) 0) g.now run g.offers k.0);
+        due = k.1;
       },
       omega (arith, more, so),
     )
 
--- no run has so many steps
-pub too_many : (plan : Planned) (steps : List Step) (n : ℕ) (w : World) (told : List (List Told)) → w.agenda.plan ≡ plan → GoesSo plan steps n w told → length w.system.rows.rows ≤ 2 ^ 24 → 4294967295 ≤ n → ⊥
-too_many plan steps n w told e h few many =
+begins_count : (moves : List Move) (steps : List Step) → map (λ (m : Move). m.step) moves ≡ map step_shown steps → length moves ≡ length steps
+begins_count moves steps e = sym (length-map moves (λ (m : Move). m.step)) ∙ (ap (λ (l : List run_steps.Step). length l) e ∙ length-map steps step_shown)
+
+-- so few that they are counted
+pub goes_few : (plan : Planned) (cast : List (List Content)) (steps : List Step) (n : ℕ) (w : World) (at : Scene) → w.agenda.plan ≡ plan → GoesSo plan cast steps n w at
+    → length steps + n < 67108864
+goes_few plan cast steps n w at e h =
     let g = h.0 in
+    let few = g.few in
+    let limit = g.limit in
     let so = h.1 in
     let i = subst (λ (z : Planned). IsPlan z) e g.shown.limits in
     let names = i.names.few in
     let commands = i.few in
     let count = length-map plan.commands command_shown in
     let log = ap (λ (l : List Event). length l) g.shown.now.log in
-    let below = goes_below (plan_shown plan) 0 g.given g.more g.now (plan_is plan i) names (omega (arith, commands, count)) (omega (arith, few, log)) g.goes_on in
-    omega (arith, below, so, many)
+    let below = goes_below (plan_shown plan) 0 g.given g.more g.now (plan_is plan i) names (omega (arith, commands, count)) (omega (arith, few, limit, log)) g.goes_on in
+    let given = begins_count g.given steps g.begins in
+    omega (arith, below, so, given)
 
-pub rests_now : (plan : Planned) (steps : List Step) (w : World) (told : List (List Told)) → w.agenda.plan ≡ plan → (g : Goes plan steps w told) → None ≡ default_step (plan_shown w.agenda.plan) g.now → Rests plan steps w told
-rests_now plan steps w told e g d = record {
+-- no run has so many steps
+pub too_many : (plan : Planned) (cast : List (List Content)) (steps : List Step) (n : ℕ) (w : World) (at : Scene) → w.agenda.plan ≡ plan → GoesSo plan cast steps n w at → 4294967295 ≤ n → ⊥
+too_many plan cast steps n w at e h many = let below = goes_few plan cast steps n w at e h in omega (arith, below, many)
+
+pub rests_now : (plan : Planned) (cast : List (List Content)) (steps : List Step) (w : World) (at : Scene) → w.agenda.plan ≡ plan → (g : Goes plan cast steps w at) → None ≡ default_step (plan_shown w.agenda.plan) g.now → Rests plan cast steps w at
+rests_now plan cast steps w at e g d = record {
   run = g;
   rest = goes_rest (plan_shown plan) 0 g.given g.more g.now (plan_is plan (subst (λ (z : Planned). IsPlan z) e g.shown.limits)) g.goes_on (subst (λ (z : Planned). default_step (plan_shown z) g.now ≡ None) e (sym d));
 }
 
-pub run_of : (plan : Planned) (steps : List Step) (w : World) (told : List (List Told)) (rows : List Event) → Rests plan steps w told → rows ≡ w.system.rows.rows → IsRunOf plan steps rows
-run_of plan steps w told rows r e = record { given = r.run.given; more = r.run.more; end = r.run.now; begins = r.run.begins; goes_on = r.run.goes_on; rest = r.rest; log = e ∙ r.run.shown.now.log }
+module _ (plan : Planned) (cast : List (List Content)) (steps : List Step) (w : World) (at : Scene) (rows : List Event) (limits : IsPlan plan) (r : Rests plan cast steps w at) (log : rows ≡ w.system.rows.rows) where
+  rows_are : rows ≡ r.run.now.now.log
+  rows_are = log ∙ r.run.shown.now.log
 
-pub told_run_of : (plan : Planned) (steps : List Step) (w : World) (told : List (List Told)) (rows : List Event) → Rests plan steps w told → rows ≡ w.system.rows.rows → length told ≡ length plan.names → IsToldRunOf plan steps rows told
-unfolding run_of
-told_run_of plan steps w told rows r e n = record { run = run_of plan steps w told rows r e; count = n; tells = r.run.tells }
+  reached : IsReachedWorld (plan_shown plan) 0 r.run.now
+  reached = record { moves = r.run.given ++ r.run.more; leads = goes_run (plan_shown plan) 0 r.run.given r.run.more r.run.now r.run.goes_on }
+
+  pub run_of : IsRunOf plan cast steps rows
+  run_of = record {
+    given = r.run.given;
+    more = r.run.more;
+    end = r.run.now;
+    begins = r.run.begins;
+    goes_on = r.run.goes_on;
+    rest = r.rest;
+    log = rows_are;
+    offers = subst (λ (l : List Event). AreOfferedAt (rules_by cast) l (offer_places (plan_shown plan) (run_world.start_world (plan_shown plan) 0) (r.run.given ++ r.run.more))) (sym rows_are)
+        (offers_seen (rules_by cast) (plan_shown plan) 0 (plan_is plan limits) (r.run.given ++ r.run.more) r.run.now
+        (goes_run (plan_shown plan) 0 r.run.given r.run.more r.run.now r.run.goes_on) r.run.offers);
+  }
+
+  pub told_run_of : length at.told ≡ length plan.names → IsToldRunOf plan cast steps rows at.told
+  unfolding run_of
+  told_run_of n = record { run = run_of; count = n; tells = r.run.tells }
+
+  pub due_of : HoldDue cast rows at.has
+  due_of = subst (λ (l : List Event). HoldDue cast l at.has) (sym rows_are) r.run.due
+
+  none_saved : (o : Option Content) (t : Option (List ℕ)) → o ≡ None → AreSaved o t → t ≡ None
+  none_saved None None e h = refl
+  none_saved None (Some saved) e h = absurd h
+  none_saved (Some c) t e h = absurd (cc (e))
+
+  -- at rest nothing tentative is left
+  pub settled_of : (p : ℕ) (b : Belongings) → slice_get at.has p ≡ Some b → b.depot.tentative ≡ None
+  settled_of p b f =
+      let c = first_of (slice_index_or cast p []) in
+      let h = r.run.due.each p b f in
+      none_saved _ b.depot.tentative (ap (option_map (content c.kind)) (no_tentative (rules_of c) (plan_shown plan) 0 r.run.now p (plan_is plan limits) reached r.rest)) h.holds.tentative
+
+-- the next default step is refused
+pub default_refused : (plan : Planned) (cast : List (List Content)) (steps : List Step) (n done : ℕ) (w : World) (at : Scene) (x : Step) (fault : StepFault) → w.agenda.plan ≡ plan → (h : GoesSo plan cast steps n w at)
+    → length steps + n ≡ done → Some (step_shown x) ≡ default_step (plan_shown w.agenda.plan) h.0.now → refusal w x ≡ Some fault → IsDefaultRefused plan cast steps done fault
+default_refused plan cast steps n done w at x fault e h count next refused = record {
+  world = w;
+  at = at;
+  run = h.0;
+  count = (let given = begins_count h.0.given steps h.0.begins in let so = h.1 in omega (arith, given, so, count));
+  step = x;
+  next = subst (λ (z : Planned). default_step (plan_shown z) h.0.now ≡ Some (step_shown x)) e (sym next);
+  refused = refused;
+}
 
 pub take_next : (xs : List Step) (i : ℕ) (x : Step) → i < length xs → x ≡ get_or xs i x → take (i + 1) xs ≡ take i xs ++ x ∷ []
 take_next xs i x l e = take_more xs i x l ∙ ap (λ (y : Step). take i xs ++ y ∷ []) (sym e)

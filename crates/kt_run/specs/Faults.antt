@@ -1,6 +1,10 @@
 -- Which objects a run begins with, and which faults of it come before anything is saved.
 use Rattle.std.specs.Prelude.{◌<◌, ℕ, List, Bool, true, false, length}
 use Rattle.kt_held.specs.Casts.{HasSizes, HasKind}
+use Rattle.kt_core.specs.declared.faults.StepFault.{StepFault}
+use Rattle.kt_core.specs.declared.faults.StepFault.TheVariants as step
+use Rattle.kt_held.specs.declared.faults.ActFault.{ActFault}
+use Rattle.kt_held.specs.declared.faults.ActFault.TheVariants as act
 use Rattle.kt_held.specs.declared.faults.CastFault.{CastFault}
 use Rattle.kt_held.specs.declared.faults.CastFault.TheVariants as cast
 use Rattle.kt_plan.specs.Limits.{Planned}
@@ -43,3 +47,16 @@ of_cast cast.Size = CastSize
 of_cast (cast.Kind p) = CastKind p
 of_cast (cast.Object p) = Object p
 of_cast cast.Memory = Memory
+
+-- the fault of a run that a fault of a step is, after so many steps
+abbrev pub of_step : ℕ → StepFault → RunFault
+of_step done step.NotEnabled = Step done step.NotEnabled
+of_step done step.LogFull = Step done step.LogFull
+of_step done step.LabelsSpent = Step done step.LabelsSpent
+of_step done step.Memory = Memory
+
+-- the fault of a run that a process's act is which can't be done
+abbrev pub of_act : ℕ → ActFault → RunFault
+of_act p act.Unfit = Object p
+of_act p act.Form = Object p
+of_act p act.Memory = Memory

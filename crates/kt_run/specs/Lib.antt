@@ -1,3 +1,5 @@
 pub mod Faults
+pub mod Objects
+pub mod Refused
 pub mod Runs
 pub mod Telling

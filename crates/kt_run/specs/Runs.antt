@@ -1,59 +1,101 @@
 -- Runs of a plan that begin with given steps and go on by default steps.
-use Rattle.std.specs.Prelude.{◌≡◌, ◌++◌, ℕ, true, Some, List, map, length}
+use Rattle.std.specs.Prelude.{◌≡◌, ◌≤◌, ◌^◌, [], ◌++◌, ℕ, true, Some, List, map, length}
+use Rattle.std.specs.declared.alloc.Global.{Global}
+use Rattle.std.specs.declared.dyn_box.DynBox.{DynBox}
 use Rattle.kt_spacetime.specs.declared.event.Event.{Event}
+use Rattle.kt_held.specs.Holdings.{Content}
+use Rattle.kt_held.specs.declared.held.Held.{Held}
 use Rattle.kt_plan.specs.Limits.{Planned}
 use Rattle.kt_plan.specs.declared.steps.Step.{Step}
+use Rattle.kt_plan.specs.declared.steps.Give.{Give}
+use Rattle.kt_plan.specs.declared.steps.Act.{Act}
 use Rattle.kt_plan.specs.declared.steps.Told.{Told}
 use Rattle.kt_phases.specs.Steps as run_steps
 use Rattle.kt_phases.specs.Runs.{Move}
 use Rattle.kt_promises.specs.World as run_world
 use Rattle.kt_promises.specs.Steps.{enabled, world_after, is_at_rest}
 use Rattle.kt_promises.specs.Runs.{GoesOn, after_moves}
+use Rattle.kt_promises.specs.Offers.{GivesOffer, GivesOffers, offer_places, AreOfferedAt}
 use Rattle.kt_promises.specs.Told.{told_at}
 use Rattle.kt_promises.specs.World.{start_world}
 use Rattle.kt_core.specs.Worlds.{World}
-use Rattle.kt_core.specs.Shown.{IsRun, plan_shown, step_shown}
+use Rattle.kt_core.specs.Shown.{IsRun, plan_shown, step_shown, give_shown}
+use Rattle.kt_run.specs.Objects.{Belongings, has_of, rules_by, HoldDue}
 use Rattle.kt_run.specs.Telling.{IsToldAs, AreToldInRun, IsNoted}
 
--- with something that its object gives, a step leads each run that leads to the old world on to the new one: there it is
--- enabled; and what it tells, as these runs tell it, is noted of its process
-abbrev pub StepsTo : World → List (List Told) → Step → World → List (List Told) → Type 0
-StepsTo old before step new after = (told : Told) × (give : run_steps.Give) × IsNoted told before after
+-- what the processes were told, and what they have
+pub record Scene : Type 0 where
+  pub told : List (List Told)
+  pub has : List Belongings
+
+abbrev pub scene : {X : Type 0} {D : X → Type 0} → List (List Told) → List (Held X D) → (DynBox X Global D → Content) → Scene
+scene told helds content_of = record { told = told; has = has_of helds content_of }
+
+-- with what its object gives, a step leads each run that leads to the old world on to the new one: there it is enabled;
+-- what it tells, as these runs tell it, is noted of its process, and asks these acts
+abbrev pub Tells : World → List (List Told) → Step → Give → World → List (List Told) → List Act → Type 0
+Tells old before step give new after acts = (told : Told) × IsNoted told before after × (acts ≡ told.acts) × (new.limit ≡ old.limit)
+    × (length new.system.rows.rows ≤ new.limit)
+    × ((first : ℕ) (v : run_world.World) → IsRun old.agenda old.system first v →
+    (enabled (plan_shown old.agenda.plan) v (step_shown step) ≡ true)
+    × IsRun new.agenda new.system first (world_after (plan_shown old.agenda.plan) v (step_shown step) (give_shown give))
+    × IsToldAs told (told_at (plan_shown old.agenda.plan) v (record { step = step_shown step; give = give_shown give })))
+
+-- with something that its object gives, a step does so; and where each process holds what is due to it, what is given is
+-- what the object offers, if the step asks for that, and then again each process holds what is due to it
+abbrev pub StepsTo : World → Scene → Step → World → Scene → Type 0
+StepsTo old before step new after = (told : Told) × (give : run_steps.Give) × IsNoted told before.told after.told × (new.limit ≡ old.limit)
+    × (length new.system.rows.rows ≤ new.limit)
     × ((first : ℕ) (v : run_world.World) → IsRun old.agenda old.system first v →
     (enabled (plan_shown old.agenda.plan) v (step_shown step) ≡ true)
     × IsRun new.agenda new.system first (world_after (plan_shown old.agenda.plan) v (step_shown step) give)
-    × IsToldAs told (told_at (plan_shown old.agenda.plan) v (record { step = step_shown step; give = give })))
+    × IsToldAs told (told_at (plan_shown old.agenda.plan) v (record { step = step_shown step; give = give }))
+    × ((cast : List (List Content)) → HoldDue cast v.now.log before.has →
+    GivesOffer (rules_by cast) (plan_shown old.agenda.plan) v (step_shown step) give
+    × HoldDue cast (world_after (plan_shown old.agenda.plan) v (step_shown step) give).now.log after.has))
 
--- nothing is done in a world
-abbrev pub Starts : Planned → World → Type 0
-Starts plan world = IsRun world.agenda world.system 0 (start_world (plan_shown plan) 0)
+-- nothing is done in a world, whose log may have 2^24 rows and has none
+pub record Starts (plan : Planned) (world : World) : Type 0 where
+  pub shown : IsRun world.agenda world.system 0 (start_world (plan_shown plan) 0)
+  pub limit : world.limit ≡ 2 ^ 24
+  pub rows : world.system.rows.rows ≡ []
 
--- a run by these steps alone leads to a world, and tells this
-pub record Begins (plan : Planned) (steps : List Step) (world : World) (told : List (List Told)) : Type 0 where
+-- a run by these steps alone leads to a world, and tells this; each process, given these objects, holds what is due to it,
+-- and what was given at each step that asks for it is what its object offers
+pub record Begins (plan : Planned) (cast : List (List Content)) (steps : List Step) (world : World) (at : Scene) : Type 0 where
   pub moves : List Move
   pub now : run_world.World
   pub made : map (λ (m : Move). m.step) moves ≡ map step_shown steps
   pub leads : after_moves (plan_shown plan) (start_world (plan_shown plan) 0) moves ≡ Some now
   pub shown : IsRun world.agenda world.system 0 now
-  pub tells : AreToldInRun plan moves told
+  pub limit : world.limit ≡ 2 ^ 24
+  pub few : length world.system.rows.rows ≤ world.limit
+  pub tells : AreToldInRun plan moves at.told
+  pub offers : GivesOffers (rules_by cast) (plan_shown plan) (start_world (plan_shown plan) 0) moves
+  pub due : HoldDue cast now.now.log at.has
 
--- a run that begins with these steps, and goes on by default steps, leads to a world, and tells this
-pub record Goes (plan : Planned) (steps : List Step) (world : World) (told : List (List Told)) : Type 0 where
+-- so does a run that begins with these steps, and goes on by default steps
+pub record Goes (plan : Planned) (cast : List (List Content)) (steps : List Step) (world : World) (at : Scene) : Type 0 where
   pub given : List Move
   pub more : List Move
   pub now : run_world.World
   pub begins : map (λ (m : Move). m.step) given ≡ map step_shown steps
   pub goes_on : GoesOn (plan_shown plan) 0 given more now
   pub shown : IsRun world.agenda world.system 0 now
-  pub tells : AreToldInRun plan (given ++ more) told
+  pub limit : world.limit ≡ 2 ^ 24
+  pub few : length world.system.rows.rows ≤ world.limit
+  pub tells : AreToldInRun plan (given ++ more) at.told
+  pub offers : GivesOffers (rules_by cast) (plan_shown plan) (start_world (plan_shown plan) 0) (given ++ more)
+  pub due : HoldDue cast now.now.log at.has
 
 -- and has come to rest there
-pub record Rests (plan : Planned) (steps : List Step) (world : World) (told : List (List Told)) : Type 0 where
-  pub run : Goes plan steps world told
+pub record Rests (plan : Planned) (cast : List (List Content)) (steps : List Step) (world : World) (at : Scene) : Type 0 where
+  pub run : Goes plan cast steps world at
   pub rest : is_at_rest (plan_shown plan) run.now ≡ true
 
--- these are the rows of a run that begins with these steps, goes on by default steps, and has come to rest
-pub record IsRunOf (plan : Planned) (steps : List Step) (rows : List Event) : Type 0 where
+-- these are the rows of a run that begins with these steps, goes on by default steps, and has come to rest; each body that
+-- a command leaves to the object, of those that each process is given, is what that offers at its row
+pub record IsRunOf (plan : Planned) (cast : List (List Content)) (steps : List Step) (rows : List Event) : Type 0 where
   pub given : List Move
   pub more : List Move
   pub end : run_world.World
@@ -61,9 +103,10 @@ pub record IsRunOf (plan : Planned) (steps : List Step) (rows : List Event) : Ty
   pub goes_on : GoesOn (plan_shown plan) 0 given more end
   pub rest : is_at_rest (plan_shown plan) end ≡ true
   pub log : rows ≡ end.now.log
+  pub offers : AreOfferedAt (rules_by cast) rows (offer_places (plan_shown plan) (start_world (plan_shown plan) 0) (given ++ more))
 
 -- these are the rows of such a run, and each process is told, step for step, what the run tells it
-pub record IsToldRunOf (plan : Planned) (steps : List Step) (rows : List Event) (told : List (List Told)) : Type 0 where
-  pub run : IsRunOf plan steps rows
+pub record IsToldRunOf (plan : Planned) (cast : List (List Content)) (steps : List Step) (rows : List Event) (told : List (List Told)) : Type 0 where
+  pub run : IsRunOf plan cast steps rows
   pub count : length told ≡ length plan.names
   pub tells : AreToldInRun plan (run.given ++ run.more) told

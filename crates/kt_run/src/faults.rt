@@ -1,8 +1,8 @@
 //! Why a run ends before its time.
 
-ghost use Rattle.std.specs.Prelude.{◌≡◌, false};
+ghost use Rattle.std.specs.Prelude.{◌≡◌};
 ghost use Rattle.kt_run.specs.declared.faults.RunFault.TheVariants as run;
-ghost use Rattle.kt_run.specs.Faults.{is_of_cast, of_cast};
+ghost use Rattle.kt_run.specs.Faults.{of_act, of_cast, of_step};
 
 use kt_base::{Memory, ProcNo};
 use kt_core::StepFault;
@@ -29,7 +29,7 @@ pub enum RunFault {
 impl RunFault {
     /// The fault of a step that is refused after so many.
     pub(crate) fn of_step(done: usize, fault: StepFault) -> RunFault
-        ensures { is_of_cast result ≡ false }
+        ensures { result ≡ of_step done fault }
     {
         match fault {
             StepFault::Memory => RunFault::Memory,
@@ -39,7 +39,7 @@ impl RunFault {
 
     /// The fault of an act that a process could not do.
     pub(crate) fn of_act(p: ProcNo, fault: ActFault) -> RunFault
-        ensures { is_of_cast result ≡ false }
+        ensures { result ≡ of_act p fault }
     {
         match fault {
             ActFault::Unfit | ActFault::Form => RunFault::Object(p),

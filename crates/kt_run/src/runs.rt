@@ -1,8 +1,12 @@
 //! Serial runs.
 
-ghost use Rattle.std.specs.Prelude.{map, OnOk, IfOk, IfErr};
+ghost use Rattle.std.specs.Prelude.{◌≡◌, ℕ, None, All, map, OnOk, IfOk, IfErr};
+ghost use Rattle.kt_core.specs.declared.faults.StepFault.{StepFault};
+ghost use Rattle.kt_held.specs.Holdings.{content};
 ghost use Rattle.kt_promises.specs.Headline.{IsPromised};
 ghost use Rattle.kt_run.specs.Faults.{IsCast, Answers};
+ghost use Rattle.kt_run.specs.Objects.{has_of, HoldDue};
+ghost use Rattle.kt_run.specs.Refused.{IsRefused};
 ghost use Rattle.kt_run.specs.Runs.{IsRunOf, IsToldRunOf};
 
 use crate::faults::RunFault;
@@ -29,9 +33,22 @@ pub fn run(alloc: Global, plan: &Plan, steps: &[Step], cast: Cast) -> Result<Out
     ensures cast { OnOk result (IsCast plan.now (map (λ row. map (λ b. kind_of b) row.items) cast.items)) }
     ensures fault { IfErr result (Answers plan.now (map (λ row. map (λ b. kind_of b) row.items) cast.items)) }
 
+    // A step is refused only where those before it are a run.
+    ensures refused { IfErr result (λ fault. (done : ℕ) (why : StepFault) → fault ≡ RunFault.Step done why →
+        IsRefused plan.now (map (λ row. map (λ b. content (kind_of b) (value_of b)) row.items) cast.items) steps.now done why) }
+
     // The log is that of a run of the plan which begins with the steps given, goes on by default steps, and comes to rest;
     // each process was told, step for step, what that run tells it; and all is so of the log that is promised of a run's.
-    ensures run { IfOk result (λ outcome. IsToldRunOf plan.now steps.now outcome.log.rows (map (λ list. list.items) outcome.told.items)) }
+    // What is sent for an object is what it offers.
+    ensures run { IfOk result (λ outcome. IsToldRunOf plan.now
+        (map (λ row. map (λ b. content (kind_of b) (value_of b)) row.items) cast.items) steps.now
+        outcome.log.rows (map (λ list. list.items) outcome.told.items)) }
+
+    // Each process holds what is due to it after that log, of the objects that it was given, and nothing tentative.
+    ensures due { IfOk result (λ outcome. HoldDue
+        (map (λ row. map (λ b. content (kind_of b) (value_of b)) row.items) cast.items) outcome.log.rows
+        (has_of outcome.objects.items (λ b. content (kind_of b) (value_of b)))) }
+    ensures settled { IfOk result (λ outcome. All (λ h. h.depot.tentative ≡ None) outcome.objects.items) }
     ensures promised { IfOk result (λ outcome. IsPromised outcome.log.rows) }
 {
     let mut stage = Stage::begin(alloc, plan, cast)?;
@@ -49,9 +66,14 @@ pub fn log_of(alloc: Global, plan: &Plan, steps: &[Step], cast: Cast) -> Result<
     ensures cast { OnOk result (IsCast plan.now (map (λ row. map (λ b. kind_of b) row.items) cast.items)) }
     ensures fault { IfErr result (Answers plan.now (map (λ row. map (λ b. kind_of b) row.items) cast.items)) }
 
+    // A step is refused only where those before it are a run.
+    ensures refused { IfErr result (λ fault. (done : ℕ) (why : StepFault) → fault ≡ RunFault.Step done why →
+        IsRefused plan.now (map (λ row. map (λ b. content (kind_of b) (value_of b)) row.items) cast.items) steps.now done why) }
+
     // It is that of a run of the plan which begins with the steps given, goes on by default steps, and comes to rest; and
     // all is so of it that is promised of a run's.
-    ensures run { IfOk result (λ log. IsRunOf plan.now steps.now log.rows) }
+    ensures run { IfOk result (λ log. IsRunOf plan.now
+        (map (λ row. map (λ b. content (kind_of b) (value_of b)) row.items) cast.items) steps.now log.rows) }
     ensures promised { IfOk result (λ log. IsPromised log.rows) }
 {
     let mut stage = Stage::begin(alloc, plan, cast)?;

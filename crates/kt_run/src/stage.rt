@@ -1,9 +1,14 @@
 //! A world with the objects of its processes.
 
-ghost use Rattle.std.specs.Prelude.{◌≡◌, List, false, map, length, OnOk, IfOk, IfErr};
+ghost use Rattle.std.specs.Prelude.{◌≡◌, ◌≢◌, ◌<◌, ◌+◌, ◌-◌, ◌^◌, ℕ, List, [], Some, false, map, length, OnOk, IfOk, IfErr};
+ghost use Rattle.kt_core.specs.Worlds.{refusal};
+ghost use Rattle.kt_core.specs.declared.faults.StepFault.{StepFault};
+ghost use Rattle.kt_held.specs.Holdings.{Content, content};
 ghost use Rattle.kt_plan.specs.declared.steps.Step.{Step};
 ghost use Rattle.kt_run.specs.Faults.{IsCast, Answers, is_of_cast};
-ghost use Rattle.kt_run.specs.Runs.{StepsTo, Starts, Begins, Rests};
+ghost use Rattle.kt_run.specs.Objects.{has_of, HoldDue};
+ghost use Rattle.kt_run.specs.Refused.{IsGivenRefused, IsDefaultRefused, IsRefused};
+ghost use Rattle.kt_run.specs.Runs.{scene, Tells, StepsTo, Starts, Begins, Rests};
 ghost use Rattle.kt_run.specs.Telling.{AreEmpty};
 
 use crate::faults::RunFault;
@@ -33,9 +38,14 @@ impl Stage {
     pub(crate) fn begin(alloc: Global, plan: &Plan, cast: Cast) -> Result<Stage, RunFault>
         ensures cast { OnOk result (IsCast plan.now (map (λ row. map (λ b. kind_of b) row.items) cast.items)) }
         ensures fault { IfErr result (Answers plan.now (map (λ row. map (λ b. kind_of b) row.items) cast.items)) }
+        ensures early { IfErr result (λ fault. (done : ℕ) (why : StepFault) → fault ≢ RunFault.Step done why) }
         ensures starts { IfOk result (λ stage. Starts plan.now stage.world) }
         ensures plan { IfOk result (λ stage. stage.world.agenda.plan ≡ plan.now) }
         ensures journals { IfOk result (λ stage. AreEmpty stage.journals) }
+        ensures done { IfOk result (λ stage. stage.done ≡ 0) }
+        ensures seats { IfOk result (λ stage. length stage.objects.items ≡ stage.world.system.size) }
+        ensures due { IfOk result (λ stage. HoldDue (map (λ row. map (λ b. content (kind_of b) (value_of b)) row.items) cast.items) []
+            (has_of stage.objects.items (λ b. content (kind_of b) (value_of b)))) }
     {
         let objects = first_objects(alloc, plan, cast)?;
         let world = first_world(alloc, plan)?;
@@ -52,6 +62,8 @@ impl Stage {
     pub(crate) fn keep_journals(&mut self) -> Result<(), RunFault>
         ensures fault { IfErr result (λ fault. fault ≡ RunFault.Memory) }
         ensures world { self.new.world ≡ self.old.world }
+        ensures objects { self.new.objects ≡ self.old.objects }
+        ensures done { self.new.done ≡ self.old.done }
         ensures journals { OnOk result (AreEmpty self.new.journals) }
         ensures count { OnOk result (length self.new.journals ≡ length self.old.world.agenda.plan.names) }
     {
@@ -64,9 +76,22 @@ impl Stage {
     pub(crate) fn make_all(&mut self, steps: &[Step]) -> Result<(), RunFault>
         requires starts { Starts self.old.world.agenda.plan self.old.world }
         requires journals { AreEmpty self.old.journals }
+        requires due { (cast : List (List Content)) × HoldDue cast [] (has_of self.old.objects.items
+            (λ b. content (kind_of (b.vtable, b.value)) (value_of (b.vtable, b.value)))) }
+        requires none { self.old.done ≡ 0 }
+        requires seats { length self.old.objects.items ≡ self.old.world.system.size }
         ensures fault { IfErr result (λ fault. is_of_cast fault ≡ false) }
+        ensures refused { (cast : List (List Content)) → HoldDue cast [] (has_of self.old.objects.items
+            (λ b. content (kind_of (b.vtable, b.value)) (value_of (b.vtable, b.value)))) →
+            IfErr result (λ fault. (done : ℕ) (why : StepFault) → fault ≡ RunFault.Step done why →
+            IsRefused self.old.world.agenda.plan cast steps.now done why) }
         ensures count { OnOk result (length self.new.journals ≡ length self.old.journals) }
-        ensures rests { OnOk result (Rests self.old.world.agenda.plan steps.now self.new.world self.new.journals) }
+        ensures rests { (cast : List (List Content)) → HoldDue cast []
+            (has_of self.old.objects.items
+            (λ b. content (kind_of (b.vtable, b.value)) (value_of (b.vtable, b.value)))) →
+            OnOk result (Rests self.old.world.agenda.plan cast steps.now self.new.world
+            (scene self.new.journals self.new.objects.items
+            (λ b. content (kind_of (b.vtable, b.value)) (value_of (b.vtable, b.value))))) }
     {
         self.make_given(steps)?;
         self.go_on()
@@ -76,10 +101,23 @@ impl Stage {
     fn make_given(&mut self, steps: &[Step]) -> Result<(), RunFault>
         requires starts { Starts self.old.world.agenda.plan self.old.world }
         requires journals { AreEmpty self.old.journals }
+        requires none { self.old.done ≡ 0 }
+        requires seats { length self.old.objects.items ≡ self.old.world.system.size }
         ensures fault { IfErr result (λ fault. is_of_cast fault ≡ false) }
         ensures plan { self.new.world.agenda.plan ≡ self.old.world.agenda.plan }
+        ensures done { OnOk result (self.new.done ≡ length steps.now) }
+        ensures seats { OnOk result (length self.new.objects.items ≡ self.new.world.system.size) }
+        ensures refused { (cast : List (List Content)) → HoldDue cast [] (has_of self.old.objects.items
+            (λ b. content (kind_of (b.vtable, b.value)) (value_of (b.vtable, b.value)))) →
+            IfErr result (λ fault. (done : ℕ) (why : StepFault) → fault ≡ RunFault.Step done why →
+            IsGivenRefused self.old.world.agenda.plan cast steps.now done why) }
         ensures count { OnOk result (length self.new.journals ≡ length self.old.journals) }
-        ensures begun { OnOk result (Begins self.old.world.agenda.plan steps.now self.new.world self.new.journals) }
+        ensures begun { (cast : List (List Content)) → HoldDue cast []
+            (has_of self.old.objects.items
+            (λ b. content (kind_of (b.vtable, b.value)) (value_of (b.vtable, b.value)))) →
+            OnOk result (Begins self.old.world.agenda.plan cast steps.now self.new.world
+            (scene self.new.journals self.new.objects.items
+            (λ b. content (kind_of (b.vtable, b.value)) (value_of (b.vtable, b.value))))) }
     {
         for step in steps {
             self.make(*step)?;
@@ -89,11 +127,27 @@ impl Stage {
 
     /// Default steps until there is none. No run of a plan has so many steps that the loop ends before.
     fn go_on(&mut self) -> Result<(), RunFault>
-        requires { (steps : List Step) × Begins self.old.world.agenda.plan steps self.old.world self.old.journals }
+        requires begun { (cast : List (List Content)) × (steps : List Step)
+            × Begins self.old.world.agenda.plan cast steps self.old.world
+            (scene self.old.journals self.old.objects.items
+            (λ b. content (kind_of (b.vtable, b.value)) (value_of (b.vtable, b.value))))
+            × (self.old.done ≡ length steps) }
+        requires seats { length self.old.objects.items ≡ self.old.world.system.size }
         ensures fault { IfErr result (λ fault. is_of_cast fault ≡ false) }
+        ensures refused { (cast : List (List Content)) (steps : List Step) →
+            Begins self.old.world.agenda.plan cast steps self.old.world
+            (scene self.old.journals self.old.objects.items
+            (λ b. content (kind_of (b.vtable, b.value)) (value_of (b.vtable, b.value)))) →
+            self.old.done ≡ length steps →
+            IfErr result (λ fault. (done : ℕ) (why : StepFault) → fault ≡ RunFault.Step done why →
+            IsDefaultRefused self.old.world.agenda.plan cast steps done why) }
         ensures count { OnOk result (length self.new.journals ≡ length self.old.journals) }
-        ensures rests { (steps : List Step) → Begins self.old.world.agenda.plan steps self.old.world self.old.journals →
-            OnOk result (Rests self.old.world.agenda.plan steps self.new.world self.new.journals) }
+        ensures rests { (cast : List (List Content)) (steps : List Step) → Begins self.old.world.agenda.plan cast steps self.old.world
+            (scene self.old.journals self.old.objects.items
+            (λ b. content (kind_of (b.vtable, b.value)) (value_of (b.vtable, b.value)))) →
+            OnOk result (Rests self.old.world.agenda.plan cast steps self.new.world
+            (scene self.new.journals self.new.objects.items
+            (λ b. content (kind_of (b.vtable, b.value)) (value_of (b.vtable, b.value))))) }
     {
         for _number in 0..MAX_STEPS {
             let Some(step) = self.world.default_step() else {
@@ -101,15 +155,25 @@ impl Stage {
             };
             self.make(step)?;
         }
-        let _rows = self.world.log().rows();
         unreachable!()
     }
 
     /// Makes a step: asks the process's object for what it needs, notes what is told, and does it.
     fn make(&mut self, step: Step) -> Result<(), RunFault>
+        requires few { self.old.done < 2 ^ 64 - 1 }
+        requires seats { length self.old.objects.items ≡ self.old.world.system.size }
         ensures fault { IfErr result (λ fault. is_of_cast fault ≡ false) }
         ensures plan { self.new.world.agenda.plan ≡ self.old.world.agenda.plan }
-        ensures leads { OnOk result (StepsTo self.old.world self.old.journals step self.new.world self.new.journals) }
+        ensures done { OnOk result (self.new.done ≡ self.old.done + 1) }
+        ensures seats { OnOk result (length self.new.objects.items ≡ self.new.world.system.size) }
+        ensures refused { IfErr result (λ fault. (done : ℕ) (why : StepFault) → fault ≡ RunFault.Step done why →
+            (done ≡ self.old.done) × (refusal self.old.world step ≡ Some why)) }
+        ensures leads { OnOk result (StepsTo self.old.world
+            (scene self.old.journals self.old.objects.items
+            (λ b. content (kind_of (b.vtable, b.value)) (value_of (b.vtable, b.value)))) step
+            self.new.world
+            (scene self.new.journals self.new.objects.items
+            (λ b. content (kind_of (b.vtable, b.value)) (value_of (b.vtable, b.value))))) }
     {
         let p = process_of(&step);
         let Some(held) = self.objects.get_mut(p.index()) else {
@@ -124,7 +188,7 @@ impl Stage {
             answer.give,
             self.done,
         )?;
-        self.done = self.done.saturating_add(1);
+        self.done += 1;
         match held.obey(acts, answer.saved) {
             Ok(()) => Ok(()),
             Err(fault) => Err(RunFault::of_act(p, fault)),
@@ -142,7 +206,10 @@ fn step_once(
 ) -> Result<[Act; 2], RunFault>
     ensures fault { IfErr result (λ fault. is_of_cast fault ≡ false) }
     ensures plan { world.new.agenda.plan ≡ world.old.agenda.plan }
-    ensures leads { OnOk result (StepsTo world.old journals.old step world.new journals.new) }
+    ensures size { world.new.system.size ≡ world.old.system.size }
+    ensures refused { IfErr result (λ fault. (n : ℕ) (why : StepFault) → fault ≡ RunFault.Step n why →
+        (n ≡ done) × (refusal world.old step ≡ Some why)) }
+    ensures leads { IfOk result (λ acts. Tells world.old journals.old step give world.new journals.new acts) }
 {
     let p = process_of(&step);
     let told = match world.step(step, give) {
@@ -157,7 +224,9 @@ fn step_once(
 }
 
 /// What is to be done to the object.
-fn acts_of(told: &Told) -> [Act; 2] {
+fn acts_of(told: &Told) -> [Act; 2]
+    ensures { result ≡ told.now.acts }
+{
     [told.acts[0], told.acts[1]]
 }
 
@@ -165,6 +234,10 @@ fn acts_of(told: &Told) -> [Act; 2] {
 fn first_objects(alloc: Global, plan: &Plan, cast: Cast) -> Result<Vec<Held>, RunFault>
     ensures cast { OnOk result (IsCast plan.now (map (λ row. map (λ b. kind_of b) row.items) cast.items)) }
     ensures fault { IfErr result (Answers plan.now (map (λ row. map (λ b. kind_of b) row.items) cast.items)) }
+    ensures early { IfErr result (λ fault. (done : ℕ) (why : StepFault) → fault ≢ RunFault.Step done why) }
+    ensures count { IfOk result (λ objects. length objects.items ≡ length plan.now.names) }
+    ensures due { IfOk result (λ objects. HoldDue (map (λ row. map (λ b. content (kind_of b) (value_of b)) row.items) cast.items) []
+        (has_of objects.items (λ b. content (kind_of b) (value_of b)))) }
 {
     let _size = plan.size();
     match begin_all(alloc, plan, cast) {

@@ -1,19 +1,84 @@
-use Rattle.std.proofs.Common.{◌≡◌, ◌∙◌, List, length, subst, sym, ap}
+use Rattle.std.proofs.Common.{rules, ◌≡◌, ◌∙◌, List, [], length, map, subst, sym, ap}
+use Rattle.std.specs.Prelude.{Result, Err, IfErr, slice_index_or}
+use Rattle.std.specs.Option.{option_map}
+use Rattle.std.proofs.lemmas.Option.{slice_get-map, slice_get-get_or}
+use Rattle.kt_held.specs.Holdings.{content}
+use Rattle.kt_run.specs.Refused.{IsRefused}
 use Rattle.kt_core.specs.Worlds.{World}
-use Rattle.kt_plan.specs.Limits.{Planned}
+use Rattle.kt_plan.specs.Limits.{Planned, IsPlan}
 use Rattle.kt_plan.specs.declared.steps.Told.{Told}
-use Rattle.kt_run.specs.Runs.{Rests, IsToldRunOf}
-use Rattle.kt_run.proofs.Running.{told_run_of}
+use Rattle.kt_run.specs.Objects.{belongings_of, has_of, HoldDue}
+use Rattle.kt_run.specs.Runs.{scene, Rests, IsToldRunOf}
+use Rattle.kt_run.proofs.Running.{told_run_of, due_of, settled_of}
 use Rattle.kt_run.proofs.runs.run.Goals as goal
+use Rattle.kt_run.proofs.runs.run.Goals.{After-into_lists}
+
+kept : (g : _) (c : After-into_lists g) → c.keep_journals.new.self.world.agenda.plan ≡ c.args.plan.now
+kept g c = ap (λ (w : World). w.agenda.plan) c.in_ok-keep_journals.ensures.world ∙ c.in_ok-stage.ensures.plan
+
+limits : (g : _) (c : After-into_lists g) → IsPlan c.args.plan.now
+limits g c = subst IsPlan c.in_ok-stage.ensures.plan c.in_ok-stage.ensures.starts.shown.limits
+
+rests : (g : _) (c : After-into_lists g) → Rests c.args.plan.now
+    (map (λ row. map (λ b. content ((goal.Recoverable-dyn g (b.vtable, b.value)).kind_of b.value) ((goal.Recoverable-dyn g (b.vtable, b.value)).value_of b.value)) row.items) c.args.cast.items)
+    c.args.steps.now c.make_all.new.self.world (scene c.make_all.new.self.journals c.make_all.new.self.objects.items (λ b. content ((goal.Recoverable-dyn g (b.vtable, b.value)).kind_of b.value) ((goal.Recoverable-dyn g (b.vtable, b.value)).value_of b.value)))
+rests g c = subst (λ (p : Planned). Rests p
+    (map (λ row. map (λ b. content ((goal.Recoverable-dyn g (b.vtable, b.value)).kind_of b.value) ((goal.Recoverable-dyn g (b.vtable, b.value)).value_of b.value)) row.items) c.args.cast.items)
+    c.args.steps.now c.make_all.new.self.world (scene c.make_all.new.self.journals c.make_all.new.self.objects.items (λ b. content ((goal.Recoverable-dyn g (b.vtable, b.value)).kind_of b.value) ((goal.Recoverable-dyn g (b.vtable, b.value)).value_of b.value)))) (kept g c)
+    (c.in_ok-make_all.ensures.rests
+    (map (λ row. map (λ b. content ((goal.Recoverable-dyn g (b.vtable, b.value)).kind_of b.value) ((goal.Recoverable-dyn g (b.vtable, b.value)).value_of b.value)) row.items) c.args.cast.items)
+    (subst (λ helds. HoldDue
+    (map (λ row. map (λ b. content ((goal.Recoverable-dyn g (b.vtable, b.value)).kind_of b.value) ((goal.Recoverable-dyn g (b.vtable, b.value)).value_of b.value)) row.items) c.args.cast.items)
+    [] (has_of helds.items (λ b. content ((goal.Recoverable-dyn g (b.vtable, b.value)).kind_of b.value) ((goal.Recoverable-dyn g (b.vtable, b.value)).value_of b.value)))) (sym c.in_ok-keep_journals.ensures.objects) c.in_ok-stage.ensures.due))
+
+pub make_all-requires-clause-due : goal.make_all-requires-clause-due
+make_all-requires-clause-due g c = (
+  (map (λ row. map (λ b. content ((goal.Recoverable-dyn g (b.vtable, b.value)).kind_of b.value) ((goal.Recoverable-dyn g (b.vtable, b.value)).value_of b.value)) row.items) c.args.cast.items),
+  subst (λ helds. HoldDue
+      (map (λ row. map (λ b. content ((goal.Recoverable-dyn g (b.vtable, b.value)).kind_of b.value) ((goal.Recoverable-dyn g (b.vtable, b.value)).value_of b.value)) row.items) c.args.cast.items)
+      [] (has_of helds.items (λ b. content ((goal.Recoverable-dyn g (b.vtable, b.value)).kind_of b.value) ((goal.Recoverable-dyn g (b.vtable, b.value)).value_of b.value)))) (sym c.in_ok-keep_journals.ensures.objects) c.in_ok-stage.ensures.due,
+)
 
 pub returns-clause-run : goal.returns-clause-run
 returns-clause-run g c =
-    let plan = c.args.plan.now in
-    let steps = c.args.steps.now in
     let end = c.make_all.new.self in
-    let kept : c.keep_journals.new.self.world.agenda.plan ≡ plan = ap (λ (w : World). w.agenda.plan) c.in_ok-keep_journals.ensures.world ∙ c.in_ok-stage.ensures.plan in
-    let rests : Rests plan steps end.world end.journals = subst (λ (p : Planned). Rests p steps end.world end.journals) kept c.in_ok-make_all.ensures.rests in
-    let count : length end.journals ≡ length plan.names =
+    let count : length end.journals ≡ length c.args.plan.now.names =
     c.in_ok-make_all.ensures.count ∙ (c.in_ok-keep_journals.ensures.count ∙ ap (λ (p : Planned). length p.names) c.in_ok-stage.ensures.plan) in
-    subst (λ (told : List (List Told)). IsToldRunOf plan steps c.into_log.result.rows told) (sym c.into_lists.ensures)
-    (told_run_of plan steps end.world end.journals c.into_log.result.rows rests (ap (λ l. l.rows) c.into_log.ensures.log) count)
+    subst (λ (told : List (List Told)). IsToldRunOf c.args.plan.now
+    (map (λ row. map (λ b. content ((goal.Recoverable-dyn g (b.vtable, b.value)).kind_of b.value) ((goal.Recoverable-dyn g (b.vtable, b.value)).value_of b.value)) row.items) c.args.cast.items)
+    c.args.steps.now c.into_log.result.rows told) (sym c.into_lists.ensures)
+    (told_run_of c.args.plan.now
+    (map (λ row. map (λ b. content ((goal.Recoverable-dyn g (b.vtable, b.value)).kind_of b.value) ((goal.Recoverable-dyn g (b.vtable, b.value)).value_of b.value)) row.items) c.args.cast.items)
+    c.args.steps.now end.world (scene end.journals end.objects.items (λ b. content ((goal.Recoverable-dyn g (b.vtable, b.value)).kind_of b.value) ((goal.Recoverable-dyn g (b.vtable, b.value)).value_of b.value))) c.into_log.result.rows (limits g c) (rests g c) (ap (λ l. l.rows) c.into_log.ensures.log) count)
+
+pub returns-clause-due : goal.returns-clause-due
+returns-clause-due g c =
+    due_of c.args.plan.now
+    (map (λ row. map (λ b. content ((goal.Recoverable-dyn g (b.vtable, b.value)).kind_of b.value) ((goal.Recoverable-dyn g (b.vtable, b.value)).value_of b.value)) row.items) c.args.cast.items)
+    c.args.steps.now c.make_all.new.self.world (scene c.make_all.new.self.journals c.make_all.new.self.objects.items (λ b. content ((goal.Recoverable-dyn g (b.vtable, b.value)).kind_of b.value) ((goal.Recoverable-dyn g (b.vtable, b.value)).value_of b.value))) c.into_log.result.rows (limits g c) (rests g c) (ap (λ l. l.rows) c.into_log.ensures.log)
+
+pub returns-clause-settled : goal.returns-clause-settled
+returns-clause-settled g c = λ p other l.
+    let helds = c.make_all.new.self.objects.items in
+    settled_of c.args.plan.now
+    (map (λ row. map (λ b. content ((goal.Recoverable-dyn g (b.vtable, b.value)).kind_of b.value) ((goal.Recoverable-dyn g (b.vtable, b.value)).value_of b.value)) row.items) c.args.cast.items)
+    c.args.steps.now c.make_all.new.self.world (scene c.make_all.new.self.journals c.make_all.new.self.objects.items (λ b. content ((goal.Recoverable-dyn g (b.vtable, b.value)).kind_of b.value) ((goal.Recoverable-dyn g (b.vtable, b.value)).value_of b.value))) c.into_log.result.rows (limits g c) (rests g c) (ap (λ l. l.rows) c.into_log.ensures.log)
+    p (belongings_of (λ b. content ((goal.Recoverable-dyn g (b.vtable, b.value)).kind_of b.value) ((goal.Recoverable-dyn g (b.vtable, b.value)).value_of b.value)) (slice_index_or helds p other))
+    (slice_get-map (belongings_of (λ b. content ((goal.Recoverable-dyn g (b.vtable, b.value)).kind_of b.value) ((goal.Recoverable-dyn g (b.vtable, b.value)).value_of b.value))) helds p ∙ ap (option_map (belongings_of (λ b. content ((goal.Recoverable-dyn g (b.vtable, b.value)).kind_of b.value) ((goal.Recoverable-dyn g (b.vtable, b.value)).value_of b.value)))) (slice_get-get_or helds p other l))
+
+if_err : {T E : Type 0} (r : Result T E) (P : E → Type 0) (e : E) → r ≡ Err e → P e → IfErr r P
+if_err r P e is p = rw is p
+
+pub returns-in_err-stage-clause-refused : goal.returns-in_err-stage-clause-refused
+returns-in_err-stage-clause-refused g c = if_err c.from_residual.result _ c.in_err-stage.field-0.0 (search rules) (λ done why e. absurd (c.in_err-stage.ensures.early done why e))
+
+pub returns-in_err-make_all-clause-refused : goal.returns-in_err-make_all-clause-refused
+returns-in_err-make_all-clause-refused g c = if_err c.from_residual-in_err-make_all.result _ c.in_err-make_all.field-0.0 (search rules)
+    (λ done why e. subst (λ (p : Planned). IsRefused p
+    (map (λ row. map (λ b. content ((goal.Recoverable-dyn g (b.vtable, b.value)).kind_of b.value) ((goal.Recoverable-dyn g (b.vtable, b.value)).value_of b.value)) row.items) c.args.cast.items)
+    c.args.steps.now done why) (ap (λ (w : World). w.agenda.plan) c.in_ok-keep_journals.ensures.world ∙ c.in_ok-stage.ensures.plan)
+    (c.in_err-make_all.ensures.refused
+    (map (λ row. map (λ b. content ((goal.Recoverable-dyn g (b.vtable, b.value)).kind_of b.value) ((goal.Recoverable-dyn g (b.vtable, b.value)).value_of b.value)) row.items) c.args.cast.items)
+    (subst (λ helds. HoldDue
+    (map (λ row. map (λ b. content ((goal.Recoverable-dyn g (b.vtable, b.value)).kind_of b.value) ((goal.Recoverable-dyn g (b.vtable, b.value)).value_of b.value)) row.items) c.args.cast.items)
+    [] (has_of helds.items (λ b. content ((goal.Recoverable-dyn g (b.vtable, b.value)).kind_of b.value) ((goal.Recoverable-dyn g (b.vtable, b.value)).value_of b.value)))) (sym c.in_ok-keep_journals.ensures.objects) c.in_ok-stage.ensures.due) done why e))

@@ -1,8 +1,22 @@
-use Rattle.std.proofs.Common.{refl}
-use Rattle.kt_run.proofs.Casting.{answered}
+use Rattle.std.proofs.Common.{◌∙◌, refl, sym}
+use Rattle.std.proofs.lemmas.List.{length-map}
+use Rattle.kt_held.specs.Holdings.{content}
+use Rattle.kt_run.proofs.Casting.{answered, of_objects}
+use Rattle.kt_run.proofs.Holding.{hold_first, as_many_given}
 use Rattle.kt_run.proofs.stage.first_objects.Goals as goal
 
 pub returns-in-Err-clause-fault : goal.returns-in-Err-clause-fault
 returns-in-Err-clause-fault g c =
     rw c.from.ensures
     (answered c.args.plan.now _ c.in-Err.fault (λ e. c.in-Err.ensures.size (rw e refl)) c.in-Err.ensures.fit c.in-Err.ensures.kind c.in-Err.ensures.least c.in-Err.ensures.later)
+
+pub returns-in-Ok-clause-due : goal.returns-in-Ok-clause-due
+returns-in-Ok-clause-due g c = hold_first (λ row. row.items) (λ b. content ((goal.Recoverable-dyn g (b.vtable, b.value)).kind_of b.value) ((goal.Recoverable-dyn g (b.vtable, b.value)).value_of b.value)) c.args.cast.items c.in-Ok.objects.items c.in-Ok.ensures.objects c.in-Ok.ensures.holds
+
+pub returns-in-Ok-clause-count : goal.returns-in-Ok-clause-count
+returns-in-Ok-clause-count g c =
+    sym (as_many_given (λ row. row.items) (λ b. content ((goal.Recoverable-dyn g (b.vtable, b.value)).kind_of b.value) ((goal.Recoverable-dyn g (b.vtable, b.value)).value_of b.value)) c.args.cast.items c.in-Ok.objects.items c.in-Ok.ensures.objects)
+    ∙ (sym (length-map c.args.cast.items _) ∙ (c.in-Ok.ensures.sizes.processes ∙ c.size-size.ensures.plan.one_kind_each))
+
+pub returns-in-Err-clause-early : goal.returns-in-Err-clause-early
+returns-in-Err-clause-early g c = rw c.from.ensures (λ done why. of_objects c.in-Err.fault done why)

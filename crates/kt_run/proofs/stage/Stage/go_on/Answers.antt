@@ -1,29 +1,49 @@
-use Rattle.std.proofs.Common.{◌≡◌, List, length, arith, refl, ap, ◌∙◌}
-use Rattle.kt_spacetime.specs.declared.event.Event.{Event}
-use Rattle.kt_spacetime.specs.Logs.{Log}
-use Rattle.kt_run.proofs.Running.{goes_start, goes_more, rests_now, too_many}
+use Rattle.std.proofs.Common.{rules, ◌≡◌, arith, refl, ◌∙◌}
+use Rattle.std.specs.Prelude.{Result, Err, IfErr}
+use Rattle.kt_held.specs.Holdings.{content}
+use Rattle.kt_run.specs.Runs.{scene}
+use Rattle.kt_run.proofs.Running.{goes_start, goes_more, rests_now, too_many, goes_few, default_refused}
 use Rattle.kt_run.proofs.stage.Stage.go_on.Goals as goal
 
 pub loop-number-init : goal.loop-number-init
-loop-number-init g c = record { plan = refl; count = refl; goes = λ steps b. goes_start c.args.self.now.world.agenda.plan steps c.args.self.now.world c.args.self.now.journals b }
+loop-number-init g c = record { plan = refl; count = refl; done = omega arith; seats = c.requires.seats; goes = λ cast steps b. goes_start c.args.self.now.world.agenda.plan cast steps c.args.self.now.world (scene c.args.self.now.journals c.args.self.now.objects.items (λ b. content ((goal.Recoverable-dyn g (b.vtable, b.value)).kind_of b.value) ((goal.Recoverable-dyn g (b.vtable, b.value)).value_of b.value))) b }
 
 pub loop-number-preserved : goal.loop-number-preserved
 loop-number-preserved g c = record {
   plan = c.in_ok-make.ensures.plan ∙ c.loop-number.invariant.plan;
   count = c.in_ok-make.ensures.leads.2.count ∙ c.loop-number.invariant.count;
-  goes = λ steps b. let goes = c.loop-number.invariant.goes steps b in
-      goes_more c.args.self.now.world.agenda.plan steps c.loop-number._number c.in-Some.step c.loop-number.self.world c.make.new.self.world c.loop-number.self.journals c.make.new.self.journals c.loop-number.invariant.plan goes c.in_ok-make.ensures.leads (c.in-Some.ensures.in_runs 0 goes.0.now goes.0.shown);
+  done = let d = c.in_ok-make.ensures.done in let e = c.loop-number.invariant.done in omega (arith, d, e);
+  seats = c.in_ok-make.ensures.seats;
+  goes = λ cast steps b. let goes = c.loop-number.invariant.goes cast steps b in
+      goes_more c.args.self.now.world.agenda.plan cast steps c.loop-number._number c.in-Some.step c.loop-number.self.world c.make.new.self.world (scene c.loop-number.self.journals c.loop-number.self.objects.items (λ b. content ((goal.Recoverable-dyn g (b.vtable, b.value)).kind_of b.value) ((goal.Recoverable-dyn g (b.vtable, b.value)).value_of b.value))) (scene c.make.new.self.journals c.make.new.self.objects.items (λ b. content ((goal.Recoverable-dyn g (b.vtable, b.value)).kind_of b.value) ((goal.Recoverable-dyn g (b.vtable, b.value)).value_of b.value))) c.loop-number.invariant.plan goes c.in_ok-make.ensures.leads (c.in-Some.ensures.in_runs 0 goes.0.now goes.0.shown);
 }
 
 pub returns-in_default-clause-rests : goal.returns-in_default-clause-rests
-returns-in_default-clause-rests g c = λ steps b. let goes = (c.loop-number.invariant.goes steps b).0 in
-    rests_now c.args.self.now.world.agenda.plan steps c.loop-number.self.world c.loop-number.self.journals c.loop-number.invariant.plan goes (c.in_default.ensures.in_runs 0 goes.now goes.shown)
+returns-in_default-clause-rests g c = λ cast steps b. let goes = (c.loop-number.invariant.goes cast steps b).0 in
+    rests_now c.args.self.now.world.agenda.plan cast steps c.loop-number.self.world (scene c.loop-number.self.journals c.loop-number.self.objects.items (λ b. content ((goal.Recoverable-dyn g (b.vtable, b.value)).kind_of b.value) ((goal.Recoverable-dyn g (b.vtable, b.value)).value_of b.value))) c.loop-number.invariant.plan goes (c.in_default.ensures.in_runs 0 goes.now goes.shown)
 
 pub unreachable-requires : goal.unreachable-requires
 unreachable-requires g c =
-    let b = c.requires in
-    let few = c.rows-rows.ensures.few in
-    let rows = ap (λ (l : List Event). length l) c.rows-rows.ensures.rows in
-    let log = ap (λ (l : Log). length l.rows) c.log.ensures.log in
+    let b = c.requires.begun in
     let over = c.loop-number-test.false in
-    too_many c.args.self.now.world.agenda.plan b.0 c.loop-number._number c.loop-number.self.world c.loop-number.self.journals c.loop-number.invariant.plan (c.loop-number.invariant.goes b.0 b.1) (omega (arith, few, rows, log)) (omega (arith, over))
+    too_many c.args.self.now.world.agenda.plan b.0 b.1 c.loop-number._number c.loop-number.self.world (scene c.loop-number.self.journals c.loop-number.self.objects.items (λ b. content ((goal.Recoverable-dyn g (b.vtable, b.value)).kind_of b.value) ((goal.Recoverable-dyn g (b.vtable, b.value)).value_of b.value))) c.loop-number.invariant.plan (c.loop-number.invariant.goes b.0 b.1 b.2) (omega (arith, over))
+
+pub make-requires-clause-few : goal.make-requires-clause-few
+make-requires-clause-few g c =
+    let b = c.requires.begun in
+    let d = c.loop-number.invariant.done in
+    let l = b.3 in
+    let few = goes_few c.args.self.now.world.agenda.plan b.0 b.1 c.loop-number._number c.loop-number.self.world (scene c.loop-number.self.journals c.loop-number.self.objects.items (λ b. content ((goal.Recoverable-dyn g (b.vtable, b.value)).kind_of b.value) ((goal.Recoverable-dyn g (b.vtable, b.value)).value_of b.value))) c.loop-number.invariant.plan (c.loop-number.invariant.goes b.0 b.1 b.2) in
+    omega (arith, d, l, few)
+
+if_err : {T E : Type 0} (r : Result T E) (P : E → Type 0) (e : E) → r ≡ Err e → P e → IfErr r P
+if_err r P e is p = rw is p
+
+pub returns-in_err-make-clause-refused : goal.returns-in_err-make-clause-refused
+returns-in_err-make-clause-refused g c = λ cast steps b l. if_err c.from_residual.result _ c.in_err-make.field-0.0 (search rules)
+    (λ done why e.
+    let r = c.in_err-make.ensures.refused done why e in
+    let goes = c.loop-number.invariant.goes cast steps b in
+    let d = c.loop-number.invariant.done in
+    let at = r.0 in
+    default_refused c.args.self.now.world.agenda.plan cast steps c.loop-number._number done c.loop-number.self.world (scene c.loop-number.self.journals c.loop-number.self.objects.items (λ b. content ((goal.Recoverable-dyn g (b.vtable, b.value)).kind_of b.value) ((goal.Recoverable-dyn g (b.vtable, b.value)).value_of b.value))) c.in-Some.step why c.loop-number.invariant.plan goes (omega (arith, d, l, at)) (c.in-Some.ensures.in_runs 0 goes.0.now goes.0.shown) r.1)

@@ -1,7 +1,8 @@
-use Rattle.std.proofs.Common.{◌≡◌}
+use Rattle.std.proofs.Common.{◌≡◌, ◌+◌}
 use Rattle.std.specs.Prelude.{List, length}
+use Rattle.kt_held.specs.Holdings.{Content, content}
 use Rattle.kt_plan.specs.declared.steps.Step.{Step}
-use Rattle.kt_run.specs.Runs.{Begins}
+use Rattle.kt_run.specs.Runs.{scene, Begins}
 use Rattle.kt_run.proofs.Running.{GoesSo}
 use Rattle.kt_run.proofs.stage.Stage.go_on.Given as goal
 
@@ -9,5 +10,8 @@ abbrev pub invariant-loop-number : goal.invariant-loop-number
 invariant-loop-number g l = record {
   plan : l.self.world.agenda.plan ≡ l.fn.self.world.agenda.plan;
   count : length l.self.journals ≡ length l.fn.self.journals;
-  goes : (steps : List Step) → Begins l.fn.self.world.agenda.plan steps l.fn.self.world l.fn.self.journals → GoesSo l.fn.self.world.agenda.plan steps l._number l.self.world l.self.journals;
+  done : l.self.done ≡ l.fn.self.done + l._number;
+  seats : length l.self.objects.items ≡ l.self.world.system.size;
+  goes : (cast : List (List Content)) (steps : List Step) → Begins l.fn.self.world.agenda.plan cast steps l.fn.self.world (scene l.fn.self.journals l.fn.self.objects.items (λ b. content ((goal.Recoverable-dyn g (b.vtable, b.value)).kind_of b.value) ((goal.Recoverable-dyn g (b.vtable, b.value)).value_of b.value)))
+      → GoesSo l.fn.self.world.agenda.plan cast steps l._number l.self.world (scene l.self.journals l.self.objects.items (λ b. content ((goal.Recoverable-dyn g (b.vtable, b.value)).kind_of b.value) ((goal.Recoverable-dyn g (b.vtable, b.value)).value_of b.value)));
 }

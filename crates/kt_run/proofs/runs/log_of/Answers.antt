@@ -1,0 +1,38 @@
+use Rattle.std.proofs.Common.{rules, ◌≡◌, map, subst, ap}
+use Rattle.std.specs.Prelude.{Result, Err, IfErr}
+use Rattle.kt_held.specs.Holdings.{content}
+use Rattle.kt_run.specs.Refused.{IsRefused}
+use Rattle.kt_plan.specs.Limits.{Planned, IsPlan}
+use Rattle.kt_run.specs.Runs.{scene, Rests}
+use Rattle.kt_run.proofs.Running.{run_of}
+use Rattle.kt_run.proofs.runs.log_of.Goals as goal
+
+pub returns-clause-run : goal.returns-clause-run
+returns-clause-run g c =
+    let end = c.make_all.new.self in
+    run_of c.args.plan.now
+    (map (λ row. map (λ b. content ((goal.Recoverable-dyn g (b.vtable, b.value)).kind_of b.value) ((goal.Recoverable-dyn g (b.vtable, b.value)).value_of b.value)) row.items) c.args.cast.items)
+    c.args.steps.now end.world (scene end.journals end.objects.items (λ b. content ((goal.Recoverable-dyn g (b.vtable, b.value)).kind_of b.value) ((goal.Recoverable-dyn g (b.vtable, b.value)).value_of b.value))) c.into_log.result.rows
+    (subst IsPlan c.in_ok-stage.ensures.plan c.in_ok-stage.ensures.starts.shown.limits)
+    (subst (λ (p : Planned). Rests p
+    (map (λ row. map (λ b. content ((goal.Recoverable-dyn g (b.vtable, b.value)).kind_of b.value) ((goal.Recoverable-dyn g (b.vtable, b.value)).value_of b.value)) row.items) c.args.cast.items)
+    c.args.steps.now end.world (scene end.journals end.objects.items (λ b. content ((goal.Recoverable-dyn g (b.vtable, b.value)).kind_of b.value) ((goal.Recoverable-dyn g (b.vtable, b.value)).value_of b.value)))) c.in_ok-stage.ensures.plan
+    (c.in_ok-make_all.ensures.rests
+    (map (λ row. map (λ b. content ((goal.Recoverable-dyn g (b.vtable, b.value)).kind_of b.value) ((goal.Recoverable-dyn g (b.vtable, b.value)).value_of b.value)) row.items) c.args.cast.items)
+    c.in_ok-stage.ensures.due))
+    (ap (λ l. l.rows) c.into_log.ensures.log)
+
+if_err : {T E : Type 0} (r : Result T E) (P : E → Type 0) (e : E) → r ≡ Err e → P e → IfErr r P
+if_err r P e is p = rw is p
+
+pub returns-in_err-stage-clause-refused : goal.returns-in_err-stage-clause-refused
+returns-in_err-stage-clause-refused g c = if_err c.from_residual.result _ c.in_err-stage.field-0.0 (search rules) (λ done why e. absurd (c.in_err-stage.ensures.early done why e))
+
+pub returns-in_err-make_all-clause-refused : goal.returns-in_err-make_all-clause-refused
+returns-in_err-make_all-clause-refused g c = if_err c.from_residual-in_err-make_all.result _ c.in_err-make_all.field-0.0 (search rules)
+    (λ done why e. subst (λ (p : Planned). IsRefused p
+    (map (λ row. map (λ b. content ((goal.Recoverable-dyn g (b.vtable, b.value)).kind_of b.value) ((goal.Recoverable-dyn g (b.vtable, b.value)).value_of b.value)) row.items) c.args.cast.items)
+    c.args.steps.now done why) c.in_ok-stage.ensures.plan
+    (c.in_err-make_all.ensures.refused
+    (map (λ row. map (λ b. content ((goal.Recoverable-dyn g (b.vtable, b.value)).kind_of b.value) ((goal.Recoverable-dyn g (b.vtable, b.value)).value_of b.value)) row.items) c.args.cast.items)
+    c.in_ok-stage.ensures.due done why e))
