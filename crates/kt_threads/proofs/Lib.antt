@@ -1,6 +1,9 @@
+pub mod Zips
 pub mod Casting
 pub mod Replay
-pub mod Zips
 pub mod Reading
+pub mod Serving
 pub mod Moving
+pub mod Keeping
+pub mod Seating
 pub mod Telling

@@ -1,5 +1,5 @@
 -- Steps that lead from world to world are moves of a run.
-use Rattle.std.proofs.Common.{◌≡◌, ◌∙◌, arith, ℕ, Bool, true, false, List, [], ◌∷◌, ◌++◌, append-nil, Option, Some, None, map, refl, sym, subst, ap}
+use Rattle.std.proofs.Common.{◌≡◌, ◌∙◌, arith, ℕ, ℤ, Bool, true, false, List, [], ◌∷◌, ◌++◌, append-nil, Option, Some, None, map, refl, sym, subst, ap}
 use Rattle.std.specs.List.{AllZip}
 use Rattle.std.specs.Prelude.{if◌then◌else◌}
 use Rattle.kt_core.specs.Agendas.{Agenda}
@@ -8,20 +8,31 @@ use Rattle.kt_core.specs.Worlds.{World, IsSameWorld}
 use Rattle.kt_core.proofs.Defaults.{rest_is}
 use Rattle.kt_core.proofs.Enabled.{enabled_if, enabled_is}
 use Rattle.kt_core.proofs.Leading.{run_same}
+use Rattle.kt_core.proofs.ShownPlans.{plan_is}
+use Rattle.kt_held.specs.Holdings.{Content}
 use Rattle.kt_plan.specs.Limits.{Planned}
 use Rattle.kt_plan.specs.declared.steps.Told.{Told}
-use Rattle.kt_promises.specs.Runs.{after_moves}
+use Rattle.kt_phases.specs.Plans as run_plans
+use Rattle.kt_promises.specs.Offers.{GivesOffers, AreOfferedAt, offer_places}
+use Rattle.kt_promises.specs.Runs.{after_moves, IsReachedWorld}
 use Rattle.kt_promises.specs.Steps.{enabled, world_after, is_at_rest}
 use Rattle.kt_promises.specs.Told.{told_by}
 use Rattle.kt_promises.specs.World as run_world
+use Rattle.kt_promises.proofs.NeededBodies.{offers_seen}
 use Rattle.kt_promises.proofs.PhasesOpen.{opening_is}
+use Rattle.kt_promises.proofs.WholeLogs.{no_tentative}
+use Rattle.kt_run.specs.Objects.{Belongings, rules_of, first_of, HoldsDue}
 use Rattle.kt_run.specs.Telling.{IsToldAs}
 use Rattle.kt_seen.specs.Seen.{Seen}
+use Rattle.kt_values.specs.Done.{done}
+use Rattle.kt_values.specs.Values.{Rules, due}
 use Rattle.kt_spacetime.specs.declared.event.Event.{Event}
 use Rattle.kt_threads.specs.Histories as histories
-use Rattle.kt_threads.specs.Histories.{IsMade, Leads, IsHistory, told_to, AreTold}
+use Rattle.kt_threads.specs.Histories.{IsMade, Leads, IsHistory, made_by, told_to, AreTold}
 use Rattle.kt_threads.specs.Moves.{move_of, IsRunOf}
+use Rattle.kt_threads.specs.Seats.{AreServed}
 use Rattle.kt_threads.specs.Telling.{rows_by, rows_told, AreToldTheirRows, AreToldAsInRun}
+use Rattle.kt_threads.proofs.Serving.{GivesOf, KeepsDue, served_more}
 use Rattle.kt_threads.proofs.Telling.{rows_more, told_more}
 use Rattle.kt_threads.specs.declared.state.Made.{Made}
 
@@ -33,6 +44,7 @@ record Goes (plan : Planned) (first : ℕ) (v : run_world.World) (steps : List M
   shown : IsRun new.agenda new.system first end
   rows : (p : ℕ) → rows_by p end.now.log ≡ rows_by p v.now.log ++ rows_told (told_to p steps)
   told : (p : ℕ) → AllZip IsToldAs (told_to p steps) (told_by (plan_shown plan) v p (map move_of steps))
+  served : (objects : List Content) (p : ℕ) → KeepsDue plan objects p v steps end
 
 -- a run leads to the same world with other spare room
 same_run : (new old : World) (first : ℕ) (v : run_world.World) → IsSameWorld new old → IsRun old.agenda old.system first v
@@ -64,6 +76,7 @@ goes_first plan made steps before after new first v plans r step next rest = rec
   shown = rest.shown;
   rows = λ p. rest.rows p ∙ rows_more plan made before after first v plans r step next on p steps;
   told = λ p. told_more plan made before after first v plans r step next on p steps (rest.told p);
+  served = λ objects p. served_more plan made before after first v plans r step on objects p steps rest.end (rest.served objects p);
 }
   where
     on : enabled (plan_shown plan) v (step_shown made.told.step) ≡ true
@@ -86,6 +99,7 @@ goes_on plan [] old new first v plans r same = record {
   shown = same_run new old first v same r;
   rows = λ p. sym (append-nil (rows_by p v.now.log));
   told = λ p. tt;
+  served = λ objects p b now h same. (subst (λ (c : Belongings). HoldsDue objects v.now.log p c) (sym same) h, tt);
 }
 goes_on plan (made ∷ steps) old new first v plans r leads =
     let here : IsRun leads.0.agenda leads.0.system first v = same_run leads.0 old first v leads.2 r in
@@ -105,15 +119,16 @@ module _ (plan : Planned) (steps : List Made) (rows : List Event) (lived : histo
   goes : Goes plan 0 start steps lived.end
   goes = goes_on plan steps h.begin lived.end 0 start h.opening.plans h.starts h.leads
 
+  at_rest : is_at_rest (plan_shown plan) goes.end ≡ true
+  at_rest = subst (λ (p : Planned). is_at_rest (plan_shown p) goes.end ≡ true) goes.plans
+      (sym (rest_is lived.end 0 goes.end goes.shown true (λ _. lived.rest, λ _. refl)))
+
+  rows_are : rows ≡ goes.end.now.log
+  rows_are = lived.log ∙ goes.shown.now.log
+
   -- the steps of a history that ends at rest are the moves of a run that does
   pub moves_of : IsRunOf plan steps rows
-  moves_of = record {
-    end = goes.end;
-    leads = goes.leads;
-    rest = subst (λ (p : Planned). is_at_rest (plan_shown p) goes.end ≡ true) goes.plans
-        (sym (rest_is lived.end 0 goes.end goes.shown true (λ _. lived.rest, λ _. refl)));
-    log = lived.log ∙ goes.shown.now.log;
-  }
+  moves_of = record { end = goes.end; leads = goes.leads; rest = at_rest; log = rows_are }
 
   opens : start.now.log ≡ []
   opens = ap (λ (v : Seen). v.log) (opening_is (plan_shown plan) 0).now
@@ -121,7 +136,7 @@ module _ (plan : Planned) (steps : List Made) (rows : List Event) (lived : histo
   their_rows : (p : ℕ) → rows_told (told_to p steps) ≡ rows_by p rows
   their_rows p =
       ap (λ (l : List Event). rows_by p l ++ rows_told (told_to p steps)) (sym opens)
-      ∙ (sym (goes.rows p) ∙ ap (rows_by p) (sym (lived.log ∙ goes.shown.now.log)))
+      ∙ (sym (goes.rows p) ∙ ap (rows_by p) (sym rows_are))
 
   -- each process is told its rows, as the run tells them
   pub told_their_rows : (processes : ℕ) (told : List (List Told)) → AreTold processes steps told → AreToldTheirRows rows told
@@ -131,3 +146,27 @@ module _ (plan : Planned) (steps : List Made) (rows : List Event) (lived : histo
   told_as_in_run processes told t = λ p l.
       subst (λ (k : List Told). AllZip IsToldAs k (told_by (plan_shown plan) start p (map move_of steps)))
       (sym (t.each p (let n = t.count in omega (arith, l, n)))) (goes.told p)
+
+  -- a process that had what is due to it at first, and made its steps, has what is due to it
+  pub served_of : (objects : List Content) (p : ℕ) (b now : Belongings) → HoldsDue objects [] p b → AreServed b (made_by p steps) now
+      → HoldsDue objects rows p now × GivesOf (rules_of (first_of objects)) p (plan_shown plan) start (map move_of steps)
+  served_of objects p b now h s =
+      let t = goes.served objects p b now (subst (λ (l : List Event). HoldsDue objects l p b) (sym opens) h) s in
+      (subst (λ (l : List Event). HoldsDue objects l p now) (sym rows_are) t.0, t.1)
+
+  limits : run_plans.IsPlan (plan_shown plan)
+  limits = subst (λ (p : Planned). run_plans.IsPlan (plan_shown p)) goes.plans (plan_is lived.end.agenda.plan goes.shown.limits)
+
+  reached : IsReachedWorld (plan_shown plan) 0 goes.end
+  reached = subst (λ (p : Planned). IsReachedWorld (plan_shown p) 0 goes.end) goes.plans goes.shown.reached
+
+  pub offered_of : (rules : ℕ → Rules (List ℤ)) → GivesOffers rules (plan_shown plan) start (map move_of steps)
+      → AreOfferedAt rules rows (offer_places (plan_shown plan) start (map move_of steps))
+  offered_of rules gives =
+      subst (λ (l : List Event). AreOfferedAt rules l (offer_places (plan_shown plan) start (map move_of steps))) (sym rows_are)
+      (offers_seen rules (plan_shown plan) 0 limits (map move_of steps) goes.end goes.leads gives)
+
+  pub nothing_tentative : (rules : Rules (List ℤ)) (p : ℕ) → (due rules (done rows) p).tentative ≡ None
+  nothing_tentative rules p =
+      subst (λ (l : List Event). (due rules (done l) p).tentative ≡ None) (sym rows_are)
+      (no_tentative rules (plan_shown plan) 0 goes.end p limits reached at_rest)

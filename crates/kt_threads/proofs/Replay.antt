@@ -1,13 +1,15 @@
 -- Steps one after another.
 use Rattle.std.proofs.Common.{◌≡◌, ◌∙◌, ◌<◌, ◌+◌, ◌^◌, ℕ, List, [], ◌∷◌, ◌++◌, length, refl, sym, subst, ap, Option, None, Some, Result, Ok, Err, IfSome}
 use Rattle.std.specs.Prelude.{slice_get}
-use Rattle.kt_core.specs.Shown.{IsRun, plan_shown, step_shown, give_shown}
+use Rattle.kt_core.specs.Shown.{IsRun, plan_shown, step_shown, give_shown, look_shown}
 use Rattle.kt_core.specs.Worlds.{World, IsSameWorld, IsOpening, HasDone, Settles, numbered_row, refusal, stepper}
 use Rattle.kt_core.specs.declared.faults.StepFault.{StepFault}
 use Rattle.kt_plan.specs.Limits.{Planned}
 use Rattle.kt_plan.specs.declared.steps.Give.{Give}
+use Rattle.kt_plan.specs.declared.steps.Look.{Look}
 use Rattle.kt_plan.specs.declared.steps.Step.{Step}
 use Rattle.kt_plan.specs.declared.steps.Told.{Told}
+use Rattle.kt_promises.specs.Looks as run_looks
 use Rattle.kt_promises.specs.StepActs.{acts_of_step}
 use Rattle.kt_promises.specs.Steps.{world_after}
 use Rattle.kt_promises.specs.World as run_world
@@ -80,16 +82,18 @@ not_refused None result told is h = refl
 not_refused (Some fault) result told is h = absurd (cc (sym is ∙ h))
 
 -- a step leads from one world to another, and tells that it was made
-pub makes : (old new : World) (step : Step) (give : Give) (told : Told) → told.step ≡ step → refusal old step ≡ None
+pub makes : (old new : World) (step : Step) (look : Look) (give : Give) (told : Told) → told.step ≡ step → refusal old step ≡ None
     → new.agenda.plan ≡ old.agenda.plan → new.limit ≡ old.limit → new.system.size ≡ old.system.size → Grows 4 old.system new.system
     → HasDone old.agenda new.agenda step → Settles old new → length told.rows ≡ 4
     → ((i : ℕ) → i < 4 → slice_get told.rows i ≡ Some (numbered_row new.system.rows.rows (length old.system.rows.rows + i)))
     → ((first : ℕ) (v : run_world.World) → IsRun old.agenda old.system first v
     → IsRun new.agenda new.system first (world_after (plan_shown old.agenda.plan) v (step_shown step) (give_shown give)))
     → ((first : ℕ) (v : run_world.World) → IsRun old.agenda old.system first v
+    → look_shown look ≡ run_looks.look (plan_shown old.agenda.plan) v (step_shown step))
+    → ((first : ℕ) (v : run_world.World) → IsRun old.agenda old.system first v
     → acts_shown told.acts ≡ acts_of_step (plan_shown old.agenda.plan) v (step_shown step) (give_shown give) (stepper step))
-    → IsMade old (record { give = give; told = told }) new
-makes old new step give told is allowed plan limit size grows done settled four rows leads acts = record {
+    → IsMade old (record { look = look; give = give; told = told }) new
+makes old new step look give told is allowed plan limit size grows done settled four rows leads looks acts = record {
   allowed = subst (λ (s : Step). refusal old s ≡ None) (sym is) allowed;
   plan = plan;
   limit = limit;
@@ -101,6 +105,7 @@ makes old new step give told is allowed plan limit size grows done settled four 
   rows = rows;
   leads = λ first v r. subst (λ (s : Step). IsRun new.agenda new.system first (world_after (plan_shown old.agenda.plan) v (step_shown s) (give_shown give))) (sym is)
       (leads first v r);
+  look = λ first v r. subst (λ (s : Step). look_shown look ≡ run_looks.look (plan_shown old.agenda.plan) v (step_shown s)) (sym is) (looks first v r);
   acts = λ first v r. subst (λ (s : Step). acts_shown told.acts ≡ acts_of_step (plan_shown old.agenda.plan) v (step_shown s) (give_shown give) (stepper s)) (sym is)
       (acts first v r);
 }

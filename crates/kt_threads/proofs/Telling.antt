@@ -42,13 +42,13 @@ same_of a b e = grind (arith, nat_tests, e)
 other_of : (a b c : ℕ) → a ≡ b → (b == c) ≡ false → (a == c) ≡ false
 other_of a b c e f = grind (arith, nat_tests, e, f)
 
-equal_of : (a b : ℕ) → (a == b) ≡ true → a ≡ b
+pub equal_of : (a b : ℕ) → (a == b) ≡ true → a ≡ b
 equal_of a b e = grind (arith, nat_tests, e)
 
-kept : {X : Type 0} (test : X → Bool) (x : X) (xs : List X) → test x ≡ true → filter test (x ∷ xs) ≡ x ∷ filter test xs
+pub kept : {X : Type 0} (test : X → Bool) (x : X) (xs : List X) → test x ≡ true → filter test (x ∷ xs) ≡ x ∷ filter test xs
 kept test x xs e = rw e refl
 
-left : {X : Type 0} (test : X → Bool) (x : X) (xs : List X) → test x ≡ false → filter test (x ∷ xs) ≡ filter test xs
+pub left : {X : Type 0} (test : X → Bool) (x : X) (xs : List X) → test x ≡ false → filter test (x ∷ xs) ≡ filter test xs
 left test x xs e = rw e refl
 
 all_by : (p n : ℕ) (l : List Event) → ((i : ℕ) (row : Event) → slice_get l i ≡ Some row → process_of row ≡ p) → filter (is_by p) (numbered n l) ≡ numbered n l

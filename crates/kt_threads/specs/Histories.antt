@@ -1,23 +1,27 @@
 -- Steps that were made one after another, and the worlds between which they lead.
 use Rattle.std.specs.Prelude.{◌≡◌, ◌<◌, ◌+◌, ◌^◌, ◌==◌, ℕ, List, [], ◌∷◌, Option, Some, None, filter, map, length, slice_get, slice_index_or}
 use Rattle.kt_core.specs.Shown as core
-use Rattle.kt_core.specs.Shown.{plan_shown, step_shown, give_shown}
+use Rattle.kt_core.specs.Shown.{plan_shown, step_shown, give_shown, look_shown}
 use Rattle.kt_core.specs.Worlds.{World, IsOpening, IsAtRest, IsSameWorld, HasDone, Settles, numbered_row, refusal, stepper}
+use Rattle.kt_held.specs.Holdings.{Content}
 use Rattle.kt_plan.specs.Limits.{Planned}
 use Rattle.kt_plan.specs.declared.steps.Told.{Told}
+use Rattle.kt_promises.specs.Looks as run_looks
 use Rattle.kt_promises.specs.StepActs.{acts_of_step}
+use Rattle.kt_promises.specs.Offers.{AreOfferedAt, offer_places}
 use Rattle.kt_promises.specs.Steps.{world_after}
 use Rattle.kt_promises.specs.World as run_world
+use Rattle.kt_run.specs.Objects.{rules_by}
 use Rattle.kt_spacetime.specs.declared.event.Event.{Event}
 use Rattle.kt_system.specs.ShownActs.{acts_shown}
 use Rattle.kt_system.specs.Systems.{Grows}
 use Rattle.kt_threads.specs.declared.faults.LiveFault.{LiveFault}
 use Rattle.kt_threads.specs.declared.state.Made.{Made}
-use Rattle.kt_threads.specs.Moves.{IsRunOf}
+use Rattle.kt_threads.specs.Moves.{move_of, IsRunOf}
 use Rattle.kt_threads.specs.Telling.{AreToldAsInRun}
 
--- a step that is not refused leads from one world to another, and tells its rows; a run of the plan that leads to the one
--- goes on by this step to the other, and asks the acts that are told of the process whose step it is
+-- a step that is not refused leads from one world to another, and tells its rows; in a run of the plan that leads to the
+-- one it needs what is recorded, leads to the other, and asks the acts that are told of the process whose step it is
 pub record IsMade (old : World) (made : Made) (new : World) : Type 0 where
   pub allowed : refusal old made.told.step ≡ None
   pub plan : new.agenda.plan ≡ old.agenda.plan
@@ -31,6 +35,8 @@ pub record IsMade (old : World) (made : Made) (new : World) : Type 0 where
       ≡ Some (numbered_row new.system.rows.rows (length old.system.rows.rows + i))
   pub leads : (first : ℕ) (v : run_world.World) → core.IsRun old.agenda old.system first v → core.IsRun new.agenda new.system first
       (world_after (plan_shown old.agenda.plan) v (step_shown made.told.step) (give_shown made.give))
+  pub look : (first : ℕ) (v : run_world.World) → core.IsRun old.agenda old.system first v → look_shown made.look
+      ≡ run_looks.look (plan_shown old.agenda.plan) v (step_shown made.told.step)
   pub acts : (first : ℕ) (v : run_world.World) → core.IsRun old.agenda old.system first v → acts_shown made.told.acts
       ≡ acts_of_step (plan_shown old.agenda.plan) v (step_shown made.told.step) (give_shown made.give) (stepper made.told.step)
 
@@ -56,9 +62,13 @@ abbrev pub first_of : Option LiveFault → LiveFault → Option LiveFault
 first_of None fault = Some fault
 first_of (Some first) fault = Some first
 
--- what the steps of a process tell, in order
+-- the steps of a process, in order
+abbrev pub made_by : ℕ → List Made → List Made
+made_by p steps = filter (λ (made : Made). stepper made.told.step == p) steps
+
+-- what they tell
 abbrev pub told_to : ℕ → List Made → List Told
-told_to p steps = map (λ (made : Made). made.told) (filter (λ (made : Made). stepper made.told.step == p) steps)
+told_to p steps = map (λ (made : Made). made.told) (made_by p steps)
 
 -- steps lead to a world at rest, with these rows, from the one in which nothing of a plan is done
 pub record IsRun (plan : Planned) (steps : List Made) (rows : List Event) : Type 0 where
@@ -67,16 +77,24 @@ pub record IsRun (plan : Planned) (steps : List Made) (rows : List Event) : Type
   pub rest : IsAtRest end
   pub log : rows ≡ end.system.rows.rows
 
+-- each process has a list of its own steps
+pub record AreTheirs (processes : ℕ) (steps : List Made) (lists : List (List Made)) : Type 0 where
+  pub count : length lists ≡ processes
+  pub each : (p : ℕ) → p < processes → slice_index_or lists p [] ≡ made_by p steps
+
 -- each process is told what its own steps tell
 pub record AreTold (processes : ℕ) (steps : List Made) (told : List (List Told)) : Type 0 where
   pub count : length told ≡ processes
   pub each : (p : ℕ) → p < processes → slice_index_or told p [] ≡ told_to p steps
 
--- there is one order of steps that lead to a world at rest, with these rows, and of which each process is told its own; their
--- moves are a run of the plan, which tells each process the same
-pub record IsLived (plan : Planned) (rows : List Event) (told : List (List Told)) : Type 0 where
+-- there is one order of steps that lead to a world at rest, with these rows, and of which each process is told its own;
+-- their moves are a run of the plan, which tells each process the same; and each body that a command leaves to the object,
+-- of those that each process is given, is what that offers at its row
+pub record IsLived (plan : Planned) (cast : List (List Content)) (rows : List Event) (told : List (List Told)) : Type 0 where
   pub steps : List Made
   pub run : IsRun plan steps rows
   pub moves : IsRunOf plan steps rows
   pub tells : AreTold (length plan.names) steps told
   pub as_in_run : AreToldAsInRun plan steps told
+  pub offers : AreOfferedAt (rules_by cast) rows
+      (offer_places (plan_shown plan) (run_world.start_world (plan_shown plan) 0) (map move_of steps))

@@ -1,4 +1,5 @@
 pub mod Faults
 pub mod Histories
 pub mod Moves
+pub mod Seats
 pub mod Telling

@@ -1,9 +1,12 @@
 //! The lock, and what each thread does at it.
 
+ghost use Rattle.std.specs.Prelude.{◌≡◌, ◌≢◌};
+ghost use Rattle.kt_core.specs.Worlds as core;
+
 use crate::faults::LiveFault;
-use crate::state::State;
+use crate::state::{Made, State};
 use kt_base::{Memory, ProcNo};
-use kt_plan::{Give, Look, Step, Told};
+use kt_plan::{Give, Look, Step};
 use std::alloc::Global;
 use std::sync::{Condvar, Mutex, Wait};
 
@@ -12,8 +15,8 @@ use std::sync::{Condvar, Mutex, Wait};
 pub(crate) enum Next {
     /// Its object is asked for what its next step needs.
     Ask(Step, Look),
-    /// Its step was made, and told this.
-    Told(Told),
+    /// Its step was made.
+    Made(Made),
     /// Another step comes next by now.
     Again,
     /// All is done, or a fault ended it.
@@ -41,7 +44,9 @@ impl Board {
     }
 
     /// Waits until a process can make a step, or all is over. A step that needs nothing of its object is made.
-    pub(crate) fn advance<R: Wait>(&self, rt: &R, me: ProcNo) -> Next {
+    pub(crate) fn advance<R: Wait>(&self, rt: &R, me: ProcNo) -> Next
+        ensures { (made : _) → result ≡ Next.Made made → made.look ≢ Look.NeedsBody }
+    {
         let Some(news) = self.news.get(me.index()) else {
             return Next::End;
         };
@@ -78,7 +83,10 @@ impl Board {
         step: Step,
         look: Look,
         give: Give,
-    ) -> Next {
+    ) -> Next
+        ensures look { (made : _) → result ≡ Next.Made made → made.look ≡ look }
+        ensures give { (made : _) → result ≡ Next.Made made → made.give ≡ give }
+    {
         let mut state = self.state.lock(rt);
         if state.fault().is_some() {
             return Next::End;
@@ -116,9 +124,12 @@ impl Board {
 }
 
 /// Makes a step under the lock. A step that is refused ends all.
-fn make_in(state: &mut State, step: Step, give: Give) -> Next {
+fn make_in(state: &mut State, step: Step, give: Give) -> Next
+    ensures look { (made : _) → result ≡ Next.Made made → made.look ≡ core.look state.old.world step }
+    ensures give { (made : _) → result ≡ Next.Made made → made.give ≡ give }
+{
     match state.make(step, give) {
-        Ok(told) => Next::Told(told),
+        Ok(made) => Next::Made(made),
         Err(fault) => {
             state.stop(LiveFault::of_step(fault));
             Next::End

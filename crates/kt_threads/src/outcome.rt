@@ -1,10 +1,14 @@
 //! All processes, each in a thread of its own.
 
-ghost use Rattle.std.specs.Prelude.{◌≡◌, false, map, OnOk, IfOk, IfErr};
+ghost use Rattle.std.specs.List.{AllZip};
+ghost use Rattle.std.specs.Prelude.{◌≡◌, [], List, true, false, None, All, map, OnOk, IfOk, IfErr};
+ghost use Rattle.kt_held.specs.Holdings.{Content, content};
 ghost use Rattle.kt_promises.specs.Headline.{IsPromised};
 ghost use Rattle.kt_run.specs.Faults.{IsCast};
+ghost use Rattle.kt_run.specs.Objects.{has_of, HoldDue};
 ghost use Rattle.kt_threads.specs.Faults.{Answers, is_of_cast};
 ghost use Rattle.kt_threads.specs.Histories.{IsRun, IsLived};
+ghost use Rattle.kt_threads.specs.Seats.{KeepsServing};
 ghost use Rattle.kt_threads.specs.Telling.{AreToldTheirRows};
 
 use crate::board::Board;
@@ -12,11 +16,11 @@ use crate::crew::{CrewFault, run_all};
 use crate::faults::LiveFault;
 use crate::seat::{Seat, work};
 use crate::state::{Made, State};
-use crate::tells::are_told;
+use crate::tells::{all_told, are_theirs};
 use kt_base::ProcNo;
 use kt_held::{Cast, Held, begin_all};
 use kt_object::Recoverable;
-use kt_plan::{Plan, Told};
+use kt_plan::Plan;
 use kt_run::Outcome;
 use kt_spacetime::SpaceTime;
 use std::alloc::Global;
@@ -27,6 +31,9 @@ use std::thread::Threads;
 fn first_objects(alloc: Global, plan: &Plan, cast: Cast) -> Result<Vec<Held>, LiveFault>
     ensures cast { OnOk result (IsCast plan.now (map (λ row. map (λ b. kind_of b) row.items) cast.items)) }
     ensures fault { IfErr result (Answers plan.now (map (λ row. map (λ b. kind_of b) row.items) cast.items)) }
+    ensures due { IfOk result (λ objects. HoldDue
+        (map (λ row. map (λ b. content (kind_of b) (value_of b)) row.items) cast.items) []
+        (has_of objects.items (λ b. content (kind_of b) (value_of b)))) }
 {
     let _size = plan.size();
     match begin_all(alloc, plan, cast) {
@@ -37,7 +44,9 @@ fn first_objects(alloc: Global, plan: &Plan, cast: Cast) -> Result<Vec<Held>, Li
 
 /// A seat for each process.
 fn seats_of(alloc: Global, objects: Vec<Held>) -> Result<Vec<Seat>, LiveFault>
-    ensures { IfErr result (λ fault. is_of_cast fault ≡ false) }
+    ensures held { IfOk result (λ seats. map (λ seat. seat.held) seats.items ≡ objects.items) }
+    ensures fresh { IfOk result (λ seats. All (λ seat. seat.made.items ≡ []) seats.items) }
+    ensures fault { IfErr result (λ fault. is_of_cast fault ≡ false) }
 {
     let mut seats = Vec::with_capacity(alloc, objects.len())?;
     let mut number = 0u8;
@@ -59,12 +68,18 @@ fn work_all<R: Threads + Wait + Sync>(
     alloc: Global,
     board: &Board,
     seats: Vec<Seat>,
-) -> Result<Vec<Seat>, CrewFault> {
+) -> Result<Vec<Seat>, CrewFault>
+    ensures { IfOk result (λ worked. AllZip (λ before after. KeepsServing before after
+        (λ b. content (kind_of (b.vtable, b.value)) (value_of (b.vtable, b.value)))) seats.items worked.items) }
+{
     run_all(
         rt,
         alloc,
         seats,
-        &|seat: Seat| -> Seat { work(rt, alloc, board, seat) },
+        &|seat: Seat| -> Seat
+            ensures { KeepsServing seat result
+                (λ b. content (kind_of (b.vtable, b.value)) (value_of (b.vtable, b.value))) }
+        { work(rt, alloc, board, seat) },
         &|| board.stop(rt, LiveFault::Spawn),
     )
 }
@@ -84,15 +99,27 @@ fn finish(state: State, plan: &Plan) -> Result<(SpaceTime, Vec<Made>), LiveFault
     Ok(state.into_parts())
 }
 
-/// What each process was told, and what it holds.
-fn leave(alloc: Global, seats: Vec<Seat>) -> Result<(Vec<Vec<Told>>, Vec<Held>), LiveFault>
-    ensures { IfErr result (λ fault. is_of_cast fault ≡ false) }
+/// The steps that each process made, and what it holds, if all acts that they told were done.
+fn leave(alloc: Global, seats: Vec<Seat>) -> Result<(Vec<Vec<Made>>, Vec<Held>), LiveFault>
+    ensures whole { OnOk result (All (λ seat. seat.whole ≡ true) seats.items) }
+    ensures made { IfOk result (λ parts.
+        map (λ list. list.items) parts.0.items ≡ map (λ seat. seat.made.items) seats.items) }
+    ensures held { IfOk result (λ parts. parts.1.items ≡ map (λ seat. seat.held) seats.items) }
+    ensures fault { IfErr result (λ fault. is_of_cast fault ≡ false) }
 {
     let mut lists = Vec::with_capacity(alloc, seats.len())?;
     let mut objects = Vec::with_capacity(alloc, seats.len())?;
     for seat in seats {
-        let Seat { me: _, held, told } = seat;
-        if lists.push(told).is_err() || objects.push(held).is_err() {
+        let Seat {
+            me: _,
+            held,
+            made,
+            whole,
+        } = seat;
+        if !whole {
+            return Err(LiveFault::Differ);
+        }
+        if lists.push(made).is_err() || objects.push(held).is_err() {
             return Err(LiveFault::Memory);
         }
     }
@@ -106,7 +133,16 @@ fn live_with<R: Threads + Wait + Sync>(
     plan: &Plan,
     objects: Vec<Held>,
 ) -> Result<Outcome, LiveFault>
-    ensures lived { IfOk result (λ o. IsLived plan.now o.log.rows (map (λ list. list.items) o.told.items)) }
+    ensures lived { (cast : List (List Content)) → HoldDue cast [] (has_of objects.items
+        (λ b. content (kind_of (b.vtable, b.value)) (value_of (b.vtable, b.value)))) →
+        IfOk result (λ o. IsLived plan.now cast o.log.rows (map (λ list. list.items) o.told.items)) }
+    ensures due { (cast : List (List Content)) → HoldDue cast [] (has_of objects.items
+        (λ b. content (kind_of (b.vtable, b.value)) (value_of (b.vtable, b.value)))) →
+        IfOk result (λ o. HoldDue cast o.log.rows (has_of o.objects.items
+        (λ b. content (kind_of (b.vtable, b.value)) (value_of (b.vtable, b.value))))) }
+    ensures settled { (cast : List (List Content)) → HoldDue cast [] (has_of objects.items
+        (λ b. content (kind_of (b.vtable, b.value)) (value_of (b.vtable, b.value)))) →
+        IfOk result (λ o. All (λ h. h.depot.tentative ≡ None) o.objects.items) }
     ensures told { IfOk result (λ o. AreToldTheirRows o.log.rows (map (λ list. list.items) o.told.items)) }
     ensures promised { IfOk result (λ o. IsPromised o.log.rows) }
     ensures fault { IfErr result (λ fault. is_of_cast fault ≡ false) }
@@ -119,10 +155,11 @@ fn live_with<R: Threads + Wait + Sync>(
         seats => seats,
     };
     let (log, steps) = finish(board.into_state(), plan)?;
-    let (told, objects) = leave(alloc, seats?)?;
-    if !are_told(plan.size(), &steps, &told) {
+    let (lists, objects) = leave(alloc, seats?)?;
+    if !are_theirs(plan.size(), &steps, &lists) {
         return Err(LiveFault::Differ);
     }
+    let told = all_told(alloc, &lists)?;
     Ok(Outcome { log, told, objects })
 }
 
@@ -136,8 +173,17 @@ pub fn live<R: Threads + Wait + Sync>(
     cast: Cast,
 ) -> Result<Outcome, LiveFault>
     // The steps that were made, in one order, are a run of the plan that ends at rest, and each thread was told what its own
-    // steps tell: step for step the rows and the acts that the run tells its process.
-    ensures lived { IfOk result (λ o. IsLived plan.now o.log.rows (map (λ list. list.items) o.told.items)) }
+    // steps tell: step for step the rows and the acts that the run tells its process. What is sent for an object is what it
+    // offers.
+    ensures lived { IfOk result (λ o. IsLived plan.now
+        (map (λ row. map (λ b. content (kind_of b) (value_of b)) row.items) cast.items)
+        o.log.rows (map (λ list. list.items) o.told.items)) }
+
+    // Each process holds what is due to it after the log, of the objects that it was given, and nothing tentative.
+    ensures due { IfOk result (λ o. HoldDue
+        (map (λ row. map (λ b. content (kind_of b) (value_of b)) row.items) cast.items) o.log.rows
+        (has_of o.objects.items (λ b. content (kind_of b) (value_of b)))) }
+    ensures settled { IfOk result (λ o. All (λ h. h.depot.tentative ≡ None) o.objects.items) }
 
     // Each thread was told its own rows of the log, each once and in order, with their numbers.
     ensures told { IfOk result (λ o. AreToldTheirRows o.log.rows (map (λ list. list.items) o.told.items)) }

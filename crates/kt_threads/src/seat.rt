@@ -1,47 +1,64 @@
 //! What one thread does.
 
-ghost use Rattle.std.specs.Prelude.{◌<◌, vec_len, vec_capacity};
+ghost use Rattle.std.specs.Prelude.{◌≡◌, ◌<◌, [], true, map, vec_len, vec_capacity, IfSome};
+ghost use Rattle.std.specs.Option.{option_map};
+ghost use Rattle.kt_object.specs.Bytes.{IsSavedState};
+ghost use Rattle.kt_object.specs.Value.{offered};
+ghost use Rattle.kt_held.specs.Holdings.{content};
+ghost use Rattle.kt_threads.specs.Seats.{KeepsServing};
 
 use crate::board::{Board, Next};
 use crate::faults::LiveFault;
+use crate::state::Made;
 use kt_base::ProcNo;
 use kt_held::Held;
-use kt_plan::{Act, Look, Step, Told};
+use kt_object::Recoverable;
+use kt_plan::{Act, Look, Step};
 use std::alloc::Global;
 use std::sync::Wait;
 
-/// A process's thread: what the process holds, and what it was told.
+/// A process's thread: what the process holds, the steps that it made, and whether all acts that they told were done.
 #[derive(Drop)]
 pub(crate) struct Seat {
     pub(crate) me: ProcNo,
     pub(crate) held: Held,
-    pub(crate) told: Vec<Told>,
+    pub(crate) made: Vec<Made>,
+    pub(crate) whole: bool,
 }
 
 /// What is to be done to the object.
-fn acts_of(told: &Told) -> [Act; 2] {
-    [told.acts[0], told.acts[1]]
+fn acts_of(made: &Made) -> [Act; 2]
+    ensures { result ≡ made.now.told.acts }
+{
+    [made.told.acts[0], made.told.acts[1]]
 }
 
 impl Seat {
-    /// A process that was told nothing yet.
-    pub(crate) fn new(alloc: Global, me: ProcNo, held: Held) -> Seat {
+    /// A process of which no step was made yet.
+    pub(crate) fn new(alloc: Global, me: ProcNo, held: Held) -> Seat
+        ensures held { result.held ≡ held }
+        ensures made { result.made.items ≡ [] }
+    {
         Seat {
             me,
             held,
-            told: Vec::new(alloc),
+            made: Vec::new(alloc),
+            whole: true,
         }
     }
 
     /// Makes the next step. Whether there may be more.
-    fn turn<R: Wait>(&mut self, rt: &R, alloc: Global, board: &Board) -> bool {
-        if self.told.reserve(1).is_err() {
+    fn turn<R: Wait>(&mut self, rt: &R, alloc: Global, board: &Board) -> bool
+        ensures { KeepsServing self.old self.new
+            (λ b. content (kind_of (b.vtable, b.value)) (value_of (b.vtable, b.value))) }
+    {
+        if self.made.reserve(1).is_err() {
             board.stop(rt, LiveFault::Journal(self.me));
             return false;
         }
         match board.advance(rt, self.me) {
             Next::Ask(step, look) => self.ask(rt, alloc, board, step, look),
-            Next::Told(told) => self.obey(rt, board, told),
+            Next::Made(made) => self.obey(rt, board, made, None),
             Next::Again => true,
             Next::End => false,
         }
@@ -50,30 +67,33 @@ impl Seat {
     /// Asks the object for what a step needs, makes the step if that still comes next, and does what it told. Whether there
     /// may be more.
     fn ask<R: Wait>(&mut self, rt: &R, alloc: Global, board: &Board, step: Step, look: Look) -> bool
-        requires { vec_len self.old.told < vec_capacity self.old.told }
+        requires { vec_len self.old.made < vec_capacity self.old.made }
+        ensures { KeepsServing self.old self.new
+            (λ b. content (kind_of (b.vtable, b.value)) (value_of (b.vtable, b.value))) }
     {
         let answer = self.held.ask(alloc, look);
-        let told = match board.make(rt, self.me, step, look, answer.give) {
-            Next::Told(told) => told,
-            Next::Again | Next::Ask(..) => return true,
-            Next::End => return false,
-        };
-        let acts = acts_of(&told);
-        self.told.push_reserved(told);
-        if let Err(fault) = self.held.obey(acts, answer.saved) {
-            board.stop(rt, LiveFault::of_act(self.me, fault));
-            return false;
+        match board.make(rt, self.me, step, look, answer.give) {
+            Next::Made(made) => self.obey(rt, board, made, answer.saved),
+            Next::Again | Next::Ask(..) => true,
+            Next::End => false,
         }
-        true
     }
 
-    /// Does what a step told for which nothing was asked. Whether there may be more.
-    fn obey<R: Wait>(&mut self, rt: &R, board: &Board, told: Told) -> bool
-        requires { vec_len self.old.told < vec_capacity self.old.told }
+    /// Notes a step, and does what it told. `saved` is the object's state that was saved for the step. Whether there may be
+    /// more.
+    fn obey<R: Wait>(&mut self, rt: &R, board: &Board, made: Made, saved: Option<Vec<u8>>) -> bool
+        requires room { vec_len self.old.made < vec_capacity self.old.made }
+        requires saved { IfSome saved (λ s. IfSome self.old.held.present (λ b.
+            IsSavedState (kind_of (b.vtable, b.value)) (value_of (b.vtable, b.value)) s.items)) }
+        requires offered { made.look ≡ Look.NeedsBody → IfSome self.old.held.present (λ b.
+            made.give.body ≡ offered (kind_of (b.vtable, b.value)) (value_of (b.vtable, b.value))) }
+        ensures { KeepsServing self.old self.new
+            (λ b. content (kind_of (b.vtable, b.value)) (value_of (b.vtable, b.value))) }
     {
-        let acts = acts_of(&told);
-        self.told.push_reserved(told);
-        if let Err(fault) = self.held.obey(acts, None) {
+        let acts = acts_of(&made);
+        self.made.push_reserved(made);
+        if let Err(fault) = self.held.obey(acts, saved) {
+            self.whole = false;
             board.stop(rt, LiveFault::of_act(self.me, fault));
             return false;
         }
@@ -82,7 +102,10 @@ impl Seat {
 }
 
 /// Makes all steps of a process.
-pub(crate) fn work<R: Wait>(rt: &R, alloc: Global, board: &Board, mut seat: Seat) -> Seat {
+pub(crate) fn work<R: Wait>(rt: &R, alloc: Global, board: &Board, mut seat: Seat) -> Seat
+    ensures { KeepsServing seat result
+        (λ b. content (kind_of (b.vtable, b.value)) (value_of (b.vtable, b.value))) }
+{
     for _ in rt.forever() {
         if !seat.turn(rt, alloc, board) {
             break;

@@ -1,6 +1,7 @@
 //! What lies under the lock: a world, and the steps that led to it.
 
 ghost use Rattle.std.specs.Prelude.{◌≡◌, ◌⊎◌, ◌+◌, ◌^◌, [], ◌∷◌, ◌++◌, None, Some, IfOk, IfErr, IfSome, OnErr, IsTrue, ◌↔◌, true};
+ghost use Rattle.kt_core.specs.Worlds as core;
 ghost use Rattle.kt_core.specs.Worlds.{refusal, IsAtRest, IsOpening, IsSameWorld};
 ghost use Rattle.kt_promises.specs.Headline.{IsPromised};
 ghost use Rattle.kt_threads.specs.Histories.{IsMade, IsHistory, first_of};
@@ -14,9 +15,10 @@ use kt_spacetime::SpaceTime;
 use std::alloc::Global;
 use std::marker::Model;
 
-/// A step that was made: what it was given, and what it told.
+/// A step that was made: what it needed, what it was given, and what it told.
 #[derive(Clone, Copy, Debug, PartialEq, Eq)]
 pub struct Made {
+    pub look: Look,
     pub give: Give,
     pub told: Told,
 }
@@ -54,14 +56,17 @@ impl State {
         })
     }
 
-    /// Makes a step and records it, with what it is given. `give` has what `World::look` says that the step needs.
+    /// Makes a step and records it, with what it needs and what it is given. `give` has what `World::look` says that the step
+    /// needs.
     ///
     /// The room for the record is made before the step; want of it is `Memory`. After a refusal the world and the steps
     /// are as they were.
-    pub fn make(&mut self, step: Step, give: Give) -> Result<Told, StepFault>
-        ensures steps { IfOk result (λ told. self.new.steps ≡ self.old.steps ++ record { give = give; told = told } ∷ []) }
-        ensures made { IfOk result (λ told. IsMade self.old.world (record { give = give; told = told }) self.new.world) }
-        ensures step { IfOk result (λ told. told.step ≡ step) }
+    pub fn make(&mut self, step: Step, give: Give) -> Result<Made, StepFault>
+        ensures steps { IfOk result (λ made. self.new.steps ≡ self.old.steps ++ made ∷ []) }
+        ensures made { IfOk result (λ made. IsMade self.old.world made self.new.world) }
+        ensures look { IfOk result (λ made. made.look ≡ core.look self.old.world step) }
+        ensures give { IfOk result (λ made. made.give ≡ give) }
+        ensures step { IfOk result (λ made. made.told.step ≡ step) }
         ensures refused { IfErr result (λ fault. (fault ≡ StepFault.Memory) ⊎ (refusal self.old.world step ≡ Some fault)) }
         ensures err_world { OnErr result (IsSameWorld self.new.world self.old.world) }
         ensures err_steps { OnErr result (self.new.steps ≡ self.old.steps) }
@@ -71,9 +76,10 @@ impl State {
         if steps.reserve(1).is_err() {
             return Err(StepFault::Memory);
         }
+        let look = world.look(&step);
         let told = world.step(step, give)?;
-        steps.push_reserved(made_of(&give, &told));
-        Ok(told)
+        steps.push_reserved(made_of(look, &give, &told));
+        Ok(made_of(look, &give, &told))
     }
 
     /// Keeps the first fault.
@@ -117,12 +123,16 @@ impl State {
     }
 
     /// What a step needs of the process's object.
-    pub(crate) fn look(&self, step: &Step) -> Look {
+    pub(crate) fn look(&self, step: &Step) -> Look
+        ensures { result ≡ core.look self.now.world step.now }
+    {
         self.world.look(step)
     }
 
     /// Whether this is the step that a process makes next, and what it needs.
-    pub(crate) fn is_next(&self, p: ProcNo, step: &Step, look: Look) -> bool {
+    pub(crate) fn is_next(&self, p: ProcNo, step: &Step, look: Look) -> bool
+        ensures { result ≡ true → look ≡ core.look self.now.world step.now }
+    {
         match self.world.next_step_of(p) {
             Some(next) => next == *step && self.world.look(step) == look,
             None => false,
@@ -142,10 +152,11 @@ impl State {
 }
 
 /// The record of a step.
-fn made_of(give: &Give, told: &Told) -> Made
-    ensures { result ≡ record { give = give.now; told = told.now } }
+fn made_of(look: Look, give: &Give, told: &Told) -> Made
+    ensures { result ≡ record { look = look; give = give.now; told = told.now } }
 {
     Made {
+        look,
         give: Give {
             able: give.able,
             body: give.body,

@@ -1,13 +1,14 @@
-//! Whether threads were told what is recorded of their processes' steps.
+//! Whether threads have what is recorded of their processes' steps; and what these tell.
 
-ghost use Rattle.std.specs.Prelude.{◌≡◌, true, map};
+ghost use Rattle.std.specs.Prelude.{◌≡◌, true, map, IfOk};
 ghost use Rattle.kt_core.specs.Worlds.{stepper};
-ghost use Rattle.kt_threads.specs.Histories.{told_to, AreTold};
+ghost use Rattle.kt_threads.specs.Histories.{made_by, AreTheirs};
 
 use crate::state::Made;
-use kt_base::{ProcNo, RowNo};
+use kt_base::{Memory, ProcNo, RowNo};
 use kt_plan::{Act, Step, Told};
 use kt_spacetime::Event;
+use std::alloc::Global;
 
 /// Whose step it is.
 fn process_of(step: &Step) -> ProcNo
@@ -71,33 +72,63 @@ fn is_same_told(one: &Told, other: &Told) -> bool
         && are_same_acts(&one.acts, &other.acts)
 }
 
-/// Whether this is what the steps of a process told, in order.
-fn is_told(steps: &[Made], p: usize, told: &[Told]) -> bool
-    ensures { result ≡ true → told.now ≡ told_to p steps.now }
+/// Whether these are records of the same step.
+fn is_same_made(one: &Made, other: &Made) -> bool
+    ensures { result ≡ true → one.now ≡ other.now }
+{
+    one.look == other.look && one.give == other.give && is_same_told(&one.told, &other.told)
+}
+
+/// Whether these are the steps of a process, in order.
+fn are_its(steps: &[Made], p: usize, list: &[Made]) -> bool
+    ensures { result ≡ true → list.now ≡ made_by p steps.now }
 {
     let mut count = 0;
     for made in steps {
         if process_of(&made.told.step).index() == p {
-            if count >= told.len() || !is_same_told(&told[count], &made.told) {
+            if count >= list.len() || !is_same_made(&list[count], made) {
                 return false;
             }
             count += 1;
         }
     }
-    count == told.len()
+    count == list.len()
 }
 
-/// Whether there are so many processes, and each was told what its own steps told.
-pub(crate) fn are_told(processes: usize, steps: &[Made], told: &[Vec<Told>]) -> bool
-    ensures { result ≡ true → AreTold processes steps.now (map (λ list. list.items) told.now) }
+/// Whether there are so many processes, and each has a list of its own steps.
+pub(crate) fn are_theirs(processes: usize, steps: &[Made], lists: &[Vec<Made>]) -> bool
+    ensures { result ≡ true → AreTheirs processes steps.now (map (λ list. list.items) lists.now) }
 {
-    if told.len() != processes {
+    if lists.len() != processes {
         return false;
     }
-    for p in 0..told.len() {
-        if !is_told(steps, p, told[p].as_slice()) {
+    for p in 0..lists.len() {
+        if !are_its(steps, p, lists[p].as_slice()) {
             return false;
         }
     }
     true
+}
+
+/// What these steps told.
+fn told_of(alloc: Global, list: &[Made]) -> Result<Vec<Told>, Memory>
+    ensures { IfOk result (λ told. told.items ≡ map (λ made. made.told) list.now) }
+{
+    let mut told = Vec::with_capacity(alloc, list.len())?;
+    for made in list {
+        told.push(made.told)?;
+    }
+    Ok(told)
+}
+
+/// What the steps of each process told.
+pub(crate) fn all_told(alloc: Global, lists: &[Vec<Made>]) -> Result<Vec<Vec<Told>>, Memory>
+    ensures { IfOk result (λ told.
+        map (λ list. list.items) told.items ≡ map (λ list. map (λ made. made.told) list.items) lists.now) }
+{
+    let mut told = Vec::with_capacity(alloc, lists.len())?;
+    for list in lists {
+        told.push(told_of(alloc, list.as_slice())?)?;
+    }
+    Ok(told)
 }

@@ -12,24 +12,25 @@ invariant_of-self-in_err-told c =
 
 pub invariant_of-self-2 : goal.invariant_of-self-2
 invariant_of-self-2 c =
-    let made : Made = record { give = c.args.give; told = c.in_ok-told.told } in
+    let made : Made = record { look = c.look-look.result; give = c.args.give; told = c.in_ok-told.told } in
     let old = c.self.inside.world in
     let new = c.step.new.self in
     let told = c.in_ok-told.ensures in
     let step : IsMade old made new =
-    makes old new c.args.step c.args.give c.in_ok-told.told told.step
+    makes old new c.args.step c.look-look.result c.args.give c.in_ok-told.told told.step
     (not_refused (refusal old c.args.step) (Ok c.in_ok-told.told) c.in_ok-told.told refl told.refused)
-    told.plan told.limit told.size told.grows told.done told.settled (search rules) told.told told.leads told.acts in
+    told.plan told.limit told.size told.grows told.done told.settled (search rules) told.told told.leads c.look-look.ensures.in_runs told.acts in
     rw (c.push_reserved.ensures.items, c.reserve.ensures.items, c.made_of.ensures)
     (history_more c.self.inside.steps.items made old new step c.self.invariant)
 
 pub returns-clause-made : goal.returns-clause-made
 returns-clause-made c =
-    let made : Made = record { give = c.args.give; told = c.in_ok-told.told } in
+    let made : Made = record { look = c.look-look.result; give = c.args.give; told = c.in_ok-told.told } in
     let old = c.self.inside.world in
     let new = c.step.new.self in
     let told = c.in_ok-told.ensures in
-    subst (λ (h : History). IsMade h.world made new) c.self.view_is
-    (makes old new c.args.step c.args.give c.in_ok-told.told told.step
+    rw c.made_of-2.ensures
+    (subst (λ (h : History). IsMade h.world made new) c.self.view_is
+    (makes old new c.args.step c.look-look.result c.args.give c.in_ok-told.told told.step
     (not_refused (refusal old c.args.step) (Ok c.in_ok-told.told) c.in_ok-told.told refl told.refused)
-    told.plan told.limit told.size told.grows told.done told.settled (search rules) told.told told.leads told.acts)
+    told.plan told.limit told.size told.grows told.done told.settled (search rules) told.told told.leads c.look-look.ensures.in_runs told.acts))

@@ -1,0 +1,77 @@
+-- A seat's next step, and what seats come to.
+use Rattle.std.proofs.Common.{◌≡◌, ◌∙◌, true, List, [], ◌∷◌, ◌++◌, drop, map, refl, sym, ap, subst, All, IfSome, ℕ, suc, Some, None}
+use Rattle.std.specs.List.{AllZip}
+use Rattle.std.specs.Prelude.{is_some, option_map, slice_get}
+use Rattle.std.specs.declared.alloc.Global.{Global}
+use Rattle.std.specs.declared.dyn_box.DynBox.{DynBox}
+use Rattle.std.proofs.lemmas.List.Elements.{All-head, All-tail, All-cons, All-nil}
+use Rattle.kt_object.specs.Value.{offered}
+use Rattle.kt_held.specs.Fits.{spares_of_all}
+use Rattle.kt_held.specs.Holdings.{Content, Holding, Holds, does_all}
+use Rattle.kt_held.specs.declared.held.Held.{Held}
+use Rattle.kt_plan.specs.declared.steps.Act.{Act}
+use Rattle.kt_plan.specs.declared.steps.Look.TheVariants as look
+use Rattle.kt_run.specs.Objects.{Belongings, belongings_of, has_of}
+use Rattle.kt_run.proofs.Acting.{of_content}
+use Rattle.kt_run.proofs.Holding.{IsDone, done_by}
+use Rattle.kt_threads.specs.Seats.{IsServed, AreServed, KeepsServing, AllServed}
+use Rattle.kt_threads.specs.declared.seat.Seat.{Seat}
+use Rattle.kt_threads.specs.declared.state.Made.{Made}
+use Rattle.kt_threads.proofs.Zips.{mapped}
+
+-- one more step
+served_next : (steps : List Made) (made : Made) (first now new : Belongings) → IsServed now made new → AreServed first steps now
+    → AreServed first (steps ++ made ∷ []) new
+served_next [] made first now new step same = (new, subst (λ (b : Belongings). IsServed b made new) same step, refl)
+served_next (m ∷ steps) made first now new step s = (s.0, s.1, served_next steps made s.0 now new step s.2)
+
+module _ {X : Type 0} {D : X → Type 0} (content_of : DynBox X Global D → Content) where
+  pub served_on : (first : Belongings) (steps more : List Made) (made : Made) (acts : List Act) (x y : Held X D)
+      → more ≡ steps ++ made ∷ [] → acts ≡ made.told.acts
+      → (made.look ≡ look.NeedsBody → IfSome x.present (λ b. made.give.body ≡ offered (content_of b).kind (content_of b).value))
+      → ((h : Holding) → Holds h (option_map content_of x.present) x.depot → Holds (does_all h acts) (option_map content_of y.present) y.depot)
+      → y.spares.items ≡ drop (spares_of_all (is_some x.present) acts) x.spares.items
+      → AreServed first steps (belongings_of content_of x) → AreServed first more (belongings_of content_of y)
+  served_on first steps more made acts x y is told asked does spares s =
+      let done : IsDone made.told.acts (belongings_of content_of x) (belongings_of content_of y) =
+      subst (λ (a : List Act). IsDone a (belongings_of content_of x) (belongings_of content_of y)) told
+      (done_by content_of acts x.present y.present x.spares.items y.spares.items x.depot y.depot does spares) in
+      subst (λ (l : List Made). AreServed first l (belongings_of content_of y)) (sym is)
+      (served_next steps made first (belongings_of content_of x) (belongings_of content_of y)
+      (record { does = done.does; spares = done.spares; offers = λ n. of_content content_of x.present (λ c. made.give.body ≡ offered c.kind c.value) (asked n) }) s)
+
+-- what seats that have made nothing yet come to
+module _ {X : Type 0} {D : X → Type 0} (content_of : DynBox X Global D → Content) where
+  all_served : (ss ts : List (Seat X D)) → All (λ s. s.made.items ≡ []) ss → AllZip (λ s t. KeepsServing s t content_of) ss ts → All (λ t. t.whole ≡ true) ts
+      → AllServed (map (λ s. belongings_of content_of s.held) ss) (map (λ t. t.made.items) ts) (map (λ t. belongings_of content_of t.held) ts)
+  all_served [] [] fresh works all = tt
+  all_served [] (t ∷ ts) fresh works all = absurd works
+  all_served (s ∷ ss) [] fresh works all = absurd works
+  all_served (s ∷ ss) (t ∷ ts) fresh works all =
+      let first = belongings_of content_of s.held in (
+        works.0 first (λ _. subst (λ (l : List Made). AreServed first l first) (sym (All-head (λ x. x.made.items ≡ []) s ss fresh)) refl)
+            (All-head (λ x. x.whole ≡ true) t ts all),
+        all_served ss ts (All-tail (λ x. x.made.items ≡ []) s ss fresh) works.1 (All-tail (λ x. x.whole ≡ true) t ts all),
+      )
+
+  pub all_served_of : (olds news : List (Held X D)) (lists : List (List Made)) (ss ts : List (Seat X D))
+      → map (λ s. s.held) ss ≡ olds → news ≡ map (λ t. t.held) ts → lists ≡ map (λ t. t.made.items) ts
+      → All (λ s. s.made.items ≡ []) ss → AllZip (λ s t. KeepsServing s t content_of) ss ts → All (λ t. t.whole ≡ true) ts
+      → AllServed (has_of olds content_of) lists (has_of news content_of)
+  all_served_of olds news lists ss ts was are have fresh works all =
+      let has : Seat X D → Belongings = λ s. belongings_of content_of s.held in
+      let held : Seat X D → Held X D = λ s. s.held in
+      let first : map has ss ≡ has_of olds content_of = mapped (belongings_of content_of) held has (λ _. refl) ss ∙ ap (λ l. has_of l content_of) was in
+      let last : map has ts ≡ has_of news content_of = mapped (belongings_of content_of) held has (λ _. refl) ts ∙ ap (λ l. has_of l content_of) (sym are) in
+      subst (λ (l : List Belongings). AllServed l lists (has_of news content_of)) first
+      (subst (λ (l : List Belongings). AllServed (map has ss) lists l) last
+      (subst (λ (l : List (List Made)). AllServed (map has ss) l (map has ts)) (sym have)
+      (all_served ss ts fresh works all)))
+
+-- what is so of what each process has is so of what is held
+pub all_of_has : {X : Type 0} {D : X → Type 0} (content_of : DynBox X Global D → Content) (helds : List (Held X D))
+    → ((p : ℕ) (b : Belongings) → slice_get (has_of helds content_of) p ≡ Some b → b.depot.tentative ≡ None) → All (λ h. h.depot.tentative ≡ None) helds
+all_of_has content_of [] f = All-nil (λ h. h.depot.tentative ≡ None)
+all_of_has content_of (h ∷ helds) f =
+    All-cons (λ h. h.depot.tentative ≡ None) h helds (f 0 (belongings_of content_of h) refl)
+    (all_of_has content_of helds (λ p b e. f (suc p) b e))

@@ -1,0 +1,20 @@
+use Rattle.std.proofs.Common.{rules, ◌≡◌, ◌==◌, ◌<◌, length, true, false, get_or}
+use Rattle.kt_core.specs.Worlds.{stepper}
+use Rattle.kt_threads.proofs.Reading.{made_next, made_past}
+use Rattle.kt_threads.proofs.tells.are_its.Goals as goal
+use Rattle.kt_threads.proofs.tells.are_its.Goals.{then-index-p+else-count-list+else-not-is_same_made, else-index-p}
+
+pub loop-made-preserved : goal.loop-made-preserved
+loop-made-preserved c = elim c.if-index-p.branch [
+  | then-index-p+else-count-list+else-not-is_same_made w ↦
+      let made = c.made-item.result in
+      let list = c.args.list.now in
+      let there : c.loop-made.count < length list = search rules in
+      let same : get_or list c.loop-made.count made ≡ made = search rules in
+      let own : (stepper made.told.step == c.args.p) ≡ true = search rules in
+      (search rules, rw w.count-is (made_next c.args.p c.loop-made.made-index c.loop-made.count c.args.steps.now made list (search rules) c.made-item.is there same own c.loop-made.invariant.1))
+  | else-index-p w ↦
+      let made = c.made-item.result in
+      let other : (stepper made.told.step == c.args.p) ≡ false = search rules in
+      (search rules, rw w.count-is (made_past c.args.p c.loop-made.made-index c.loop-made.count c.args.steps.now made c.args.list.now (search rules) c.made-item.is other c.loop-made.invariant.1))
+]
