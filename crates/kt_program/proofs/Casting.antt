@@ -1,12 +1,17 @@
 -- The rows of a cast, one after the other, and what is so of all that is in them.
-use Rattle.std.proofs.Common.{◌≡◌, ◌<◌, ◌+◌, ◌∙◌, ◌⊎◌, ℕ, zero, suc, List, [], ◌∷◌, ◌++◌, length, map, All, refl, sym, ap, subst, arith, inl, inr, slice_index_or, length-append}
+use Rattle.std.proofs.Common.{◌≡◌, ◌<◌, ◌+◌, ◌∙◌, ◌⊎◌, ℕ, ℤ, zero, suc, List, [], ◌∷◌, ◌++◌, length, map, All, refl, sym, ap, subst, arith, inl, inr, slice_index_or, length-append}
 use Rattle.std.specs.Prelude.{slice_index}
 use Rattle.std.proofs.lemmas.List.{length-map, map-append, get_or-map, get_or_append_left, get_or_push}
 use Rattle.std.proofs.lemmas.List.Elements.{All-cons, All-head, All-tail, All-nil, All-push}
 use Rattle.kt_plan.specs.declared.commands.Command.{Command}
-use Rattle.kt_plan.specs.Limits.{IsKind}
+use Rattle.kt_plan.specs.Limits.{IsKind, Planned}
+use Rattle.kt_object.specs.Value.{opening}
+use Rattle.kt_held.specs.Holdings.{content}
 use Rattle.kt_held.specs.Casts.{failures_of, HasSizes, HasKind}
+use Rattle.kt_held.proofs.CastFacts as held
+use Rattle.kt_run.specs.Objects.{first_of}
 use Rattle.kt_program.specs.CastRows.{IsCast}
+use Rattle.kt_program.specs.Played.{AreNew}
 
 -- the rows of the first so many processes
 pub record IsBegun {O : Type 0} (Made : ℕ → O → Type 0) (kinds : List ℕ) (commands : List Command) (count : ℕ) (cast : List (List O)) : Type 0 where
@@ -111,3 +116,32 @@ all_more old new object P e all here = subst (All P) (sym e) (All-push P old obj
 -- all of a list of one
 pub all_one : {O : Type 0} (old new : List O) (object : O) (P : O → Type 0) → old ≡ [] → new ≡ old ++ object ∷ [] → P object → All P new
 all_one old new object P none e here = all_more old new object P e (subst (All P) (sym none) (All-nil P)) here
+
+-- what is so of the image of a row
+at_row : {R X : Type 0} (g : R → List X) (P : List X → Type 0) (rows : List R) (p : ℕ) → p < length rows → ((row : R) → P (g (slice_index_or rows p row))) → P (slice_index_or (map g rows) p [])
+at_row g P [] p l f = absurd (omega (arith, l))
+at_row g P (row ∷ rows) p l f = subst P (sym (get_or-map g (row ∷ rows) p row [] l)) (f row)
+
+-- the object that each process has first is new
+pub are_new : {R O : Type 0} (cast : List R) (items : R → List O) (kind : O → ℕ) (value : O → List ℤ) (plan : Planned)
+    → HasSizes plan.kinds plan.commands (map (λ row. map kind (items row)) cast)
+    → ((p : ℕ) → p < length plan.kinds → HasKind plan.kinds (map (λ row. map kind (items row)) cast) p)
+    → All (λ row. All (λ b. value b ≡ opening (kind b)) (items row)) cast
+    → AreNew plan (map (λ row. map (λ b. content (kind b) (value b)) (items row)) cast)
+are_new {R} {O} cast items kind value plan sizes kinds values p l = at_row (λ row. map (λ b. content (kind b) (value b)) (items row)) (λ objects. first_of objects ≡ content k (opening k)) cast p within
+    (λ row. first_is (items (slice_index_or cast p row))
+    (held.from_image (λ r. map kind (items r)) (λ ns. length ns ≡ failures_of plan.commands p + 1) cast p row within (sizes.objects p l))
+    (held.from_image (λ r. map kind (items r)) (λ ns. All (λ n. n ≡ k) ns) cast p row within (kinds p l)) (values p row within))
+  where
+    k : ℕ
+    k = slice_index plan.kinds p
+
+    within : p < length cast
+    within = let e = sym (length-map cast (λ row. map kind (items row))) ∙ sizes.processes in omega (arith, l, e)
+
+    first_is : (objects : List O) → length (map kind objects) ≡ failures_of plan.commands p + 1 → All (λ n. n ≡ k) (map kind objects) → All (λ b. value b ≡ opening (kind b)) objects
+        → first_of (map (λ b. content (kind b) (value b)) objects) ≡ content k (opening k)
+    first_is [] long same opens = absurd (omega (arith, long))
+    first_is (b ∷ objects) long same opens =
+        let e = All-head (λ n. n ≡ k) (kind b) (map kind objects) same in
+        ap (content (kind b)) (All-head (λ x. value x ≡ opening (kind x)) b objects opens) ∙ ap (λ (n : ℕ). content n (opening n)) e

@@ -1,6 +1,8 @@
 -- What is written of a run.
-use Rattle.std.specs.Prelude.{◌≡◌, ◌≢◌, ◌⊎◌, ◌∷◌, ℕ, List, map}
+use Rattle.std.specs.Prelude.{◌≡◌, ◌≢◌, ◌<◌, ◌⊎◌, [], ◌∷◌, ℕ, List, length, map, slice_index, slice_index_or}
 use Rattle.std.specs.Io.KnownBytes.{Appends}
+use Rattle.kt_held.specs.Holdings.{Content, content}
+use Rattle.kt_object.specs.Value.{opening}
 use Rattle.kt_spacetime.specs.declared.event.Event.{Event}
 use Rattle.kt_text.specs.Writing.{text_of}
 use Rattle.kt_log_text.specs.Spelling.{spelling}
@@ -11,9 +13,11 @@ use Rattle.kt_certify.specs.declared.fault.CertFault.{CertFault}
 use Rattle.kt_certify.specs.declared.fault.CertFault.TheVariants as certify
 use Rattle.kt_report.specs.Report.{WritesReport}
 use Rattle.kt_plan.specs.Limits.{Planned}
-use Rattle.kt_plan.specs.declared.steps.Step.{Step}
 use Rattle.kt_promises.specs.Headline.{IsPromised}
-use Rattle.kt_run.specs.Runs.{IsRunOf}
+use Rattle.kt_core.specs.Shown.{plan_shown}
+use Rattle.kt_promises.specs.Offers.{offer_places, AreOfferedAt}
+use Rattle.kt_promises.specs.World.{start_world}
+use Rattle.kt_run.specs.Objects.{first_of, rules_by}
 use Rattle.kt_run.specs.declared.faults.RunFault.{RunFault}
 use Rattle.kt_run.specs.declared.faults.RunFault.TheVariants as run
 use Rattle.kt_threads.specs.Moves as threads
@@ -47,24 +51,29 @@ pub record WritesRun (names : List (List ℕ)) (rows : List Event) (old new : Ou
   pub chains : WritesCertificates old.certificates new.certificates rows
   pub report : WritesReport old.report new.report names rows (certificates rows)
 
--- a run of a plan is written which begins with these steps, goes on by default steps, and comes to rest: all is so of it
--- that is promised of a run
-pub record IsPlayed (plan : Planned) (steps : List Step) (old new : Outputs) : Type 0 where
+-- a run is written whose rows are such, and all is so of it that is promised of a run
+pub record IsWritten (Are : List Event → Type 0) (names : List (List ℕ)) (old new : Outputs) : Type 0 where
   pub rows : List Event
-  pub run : IsRunOf plan steps rows
+  pub run : Are rows
   pub promised : IsPromised rows
-  pub writes : WritesRun plan.names rows old new
+  pub writes : WritesRun names rows old new
 
--- these are the rows of a run of a plan that has come to rest, in whatever order its steps were made
-abbrev pub IsLogOfRun : Planned → List Event → Type 0
-IsLogOfRun plan rows = (steps : List Made) × threads.IsRunOf plan steps rows
+-- the object that each process has first is new: it is of its process's kind, and has that kind's opening value
+abbrev pub AreNew : Planned → List (List Content) → Type 0
+AreNew plan cast = (p : ℕ) → p < length plan.kinds
+    → first_of (slice_index_or cast p []) ≡ content (slice_index plan.kinds p) (opening (slice_index plan.kinds p))
 
--- a run in threads is written
-pub record IsLived (plan : Planned) (old new : Outputs) : Type 0 where
-  pub rows : List Event
-  pub run : IsLogOfRun plan rows
-  pub promised : IsPromised rows
-  pub writes : WritesRun plan.names rows old new
+-- with such objects these are such rows
+abbrev pub OverNew : Planned → (List (List Content) → List Event → Type 0) → List Event → Type 0
+OverNew plan Are rows = (cast : List (List Content)) × AreNew plan cast × Are cast rows
+
+-- these are the rows of a run of a plan that has come to rest, in whatever order its steps were made; each body that a
+-- command leaves to the object, of those that each process is given, is what that offers at its row
+pub record IsLogOfRun (plan : Planned) (cast : List (List Content)) (rows : List Event) : Type 0 where
+  pub steps : List Made
+  pub moves : threads.IsRunOf plan steps rows
+  pub offers : AreOfferedAt (rules_by cast) rows
+      (offer_places (plan_shown plan) (start_world (plan_shown plan) 0) (map threads.move_of steps))
 
 -- a fault of a run, as the program answers it
 abbrev pub of_run : RunFault → AppFault

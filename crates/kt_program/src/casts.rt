@@ -6,7 +6,7 @@ ghost use Rattle.kt_plan.specs.Limits.{IsKind};
 ghost use Rattle.kt_held.specs.Casts.{failures_of, HasSizes, HasKind};
 ghost use Rattle.kt_program.specs.CastRows.{IsCast};
 ghost use Rattle.kt_run.specs.Runs.{IsRunOf};
-ghost use Rattle.kt_program.specs.Played.{IsLogOfRun, IsPlayed, IsLived, StopsAt, outputs};
+ghost use Rattle.kt_program.specs.Played.{IsLogOfRun, IsWritten, OverNew, StopsAt, outputs};
 
 use crate::fault::AppFault;
 use crate::played::{live_plan, play_plan};
@@ -78,10 +78,10 @@ pub fn play_objects<L: Write, C: Write, R: Write>(
     cert_writer: &mut C,
     report_writer: &mut R,
 ) -> Result<(), AppFault>
-    ensures played { OnOk result (IsPlayed plan.now steps.now
+    ensures played { OnOk result (IsWritten (OverNew plan.now (λ cast. IsRunOf plan.now cast steps.now)) plan.now.names
         (outputs (L.contents log_writer.old) (C.contents cert_writer.old) (R.contents report_writer.old))
         (outputs (L.contents log_writer.new) (C.contents cert_writer.new) (R.contents report_writer.new))) }
-    ensures stopped { IfErr result (StopsAt (IsRunOf plan.now steps.now)
+    ensures stopped { IfErr result (StopsAt (OverNew plan.now (λ cast. IsRunOf plan.now cast steps.now))
         (outputs (L.contents log_writer.old) (C.contents cert_writer.old) (R.contents report_writer.old))
         (outputs (L.contents log_writer.new) (C.contents cert_writer.new) (R.contents report_writer.new))) }
 {
@@ -124,10 +124,10 @@ fn play_cast<L: Write, C: Write, R: Write>(
     requires kinds { (p : ℕ) → p < length plan.now.kinds →
         HasKind plan.now.kinds (map (λ row. map (λ b. kind_of b) row.items) cast.items) p }
     requires opening { All (λ row. All (λ b. value_of b ≡ opening (kind_of b)) row.items) cast.items }
-    ensures played { OnOk result (IsPlayed plan.now steps.now
+    ensures played { OnOk result (IsWritten (OverNew plan.now (λ cast. IsRunOf plan.now cast steps.now)) plan.now.names
         (outputs (L.contents log_writer.old) (C.contents cert_writer.old) (R.contents report_writer.old))
         (outputs (L.contents log_writer.new) (C.contents cert_writer.new) (R.contents report_writer.new))) }
-    ensures stopped { IfErr result (StopsAt (IsRunOf plan.now steps.now)
+    ensures stopped { IfErr result (StopsAt (OverNew plan.now (λ cast. IsRunOf plan.now cast steps.now))
         (outputs (L.contents log_writer.old) (C.contents cert_writer.old) (R.contents report_writer.old))
         (outputs (L.contents log_writer.new) (C.contents cert_writer.new) (R.contents report_writer.new))) }
 {
@@ -151,10 +151,10 @@ pub fn live_objects<T: Threads + Wait + Sync, L: Write, C: Write, R: Write>(
     cert_writer: &mut C,
     report_writer: &mut R,
 ) -> Result<(), AppFault>
-    ensures lived { OnOk result (IsLived plan.now
+    ensures lived { OnOk result (IsWritten (OverNew plan.now (IsLogOfRun plan.now)) plan.now.names
         (outputs (L.contents log_writer.old) (C.contents cert_writer.old) (R.contents report_writer.old))
         (outputs (L.contents log_writer.new) (C.contents cert_writer.new) (R.contents report_writer.new))) }
-    ensures stopped { IfErr result (StopsAt (IsLogOfRun plan.now)
+    ensures stopped { IfErr result (StopsAt (OverNew plan.now (IsLogOfRun plan.now))
         (outputs (L.contents log_writer.old) (C.contents cert_writer.old) (R.contents report_writer.old))
         (outputs (L.contents log_writer.new) (C.contents cert_writer.new) (R.contents report_writer.new))) }
 {
@@ -197,10 +197,10 @@ fn live_cast<T: Threads + Wait + Sync, L: Write, C: Write, R: Write>(
     requires kinds { (p : ℕ) → p < length plan.now.kinds →
         HasKind plan.now.kinds (map (λ row. map (λ b. kind_of b) row.items) cast.items) p }
     requires opening { All (λ row. All (λ b. value_of b ≡ opening (kind_of b)) row.items) cast.items }
-    ensures lived { OnOk result (IsLived plan.now
+    ensures lived { OnOk result (IsWritten (OverNew plan.now (IsLogOfRun plan.now)) plan.now.names
         (outputs (L.contents log_writer.old) (C.contents cert_writer.old) (R.contents report_writer.old))
         (outputs (L.contents log_writer.new) (C.contents cert_writer.new) (R.contents report_writer.new))) }
-    ensures stopped { IfErr result (StopsAt (IsLogOfRun plan.now)
+    ensures stopped { IfErr result (StopsAt (OverNew plan.now (IsLogOfRun plan.now))
         (outputs (L.contents log_writer.old) (C.contents cert_writer.old) (R.contents report_writer.old))
         (outputs (L.contents log_writer.new) (C.contents cert_writer.new) (R.contents report_writer.new))) }
 {

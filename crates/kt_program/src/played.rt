@@ -1,6 +1,7 @@
 //! Runs played: what is written of them.
 
-ghost use Rattle.std.specs.Prelude.{◌≡◌, ◌≢◌, ℕ, IfOk, IfErr, OnOk, All};
+ghost use Rattle.std.specs.Prelude.{◌≡◌, ◌≢◌, ℕ, IfOk, IfErr, OnOk, All, map};
+ghost use Rattle.kt_held.specs.Holdings.{content};
 ghost use Rattle.std.specs.Io.KnownBytes.{Appends};
 ghost use Rattle.kt_chain.specs.Spelling.{HasShortChains, records_of};
 ghost use Rattle.kt_certify.specs.Certificates.{certificates};
@@ -14,13 +15,14 @@ ghost use Rattle.kt_run.specs.declared.faults.RunFault.{RunFault};
 ghost use Rattle.kt_run.specs.declared.faults.RunFault.TheVariants as run_fault;
 ghost use Rattle.kt_threads.specs.declared.faults.LiveFault.{LiveFault};
 ghost use Rattle.kt_program.specs.declared.fault.AppFault.TheVariants as app;
-ghost use Rattle.kt_program.specs.Played.{IsOfWriting, IsLogOfRun, IsPlayed, IsLived, StopsAt, WritesLog, WritesCertificates, WritesRun, outputs, of_cert_fault, of_live, of_run};
+ghost use Rattle.kt_program.specs.Played.{IsOfWriting, IsLogOfRun, IsWritten, StopsAt, WritesLog, WritesCertificates, WritesRun, outputs, of_cert_fault, of_live, of_run};
 
 use crate::fault::AppFault;
 use kt_certify::{CertFault, certify};
 use kt_chain::{Certificate, write_certs};
 use kt_held::Cast;
 use kt_log_text::write_csv;
+use kt_object::Recoverable;
 use kt_plan::{Plan, Step};
 use kt_report::report;
 use kt_run::{RunFault, log_of};
@@ -46,12 +48,15 @@ pub fn play_plan<L: Write, C: Write, R: Write>(
     report_writer: &mut R,
 ) -> Result<(), AppFault>
     // There is one list of rows, of which all three are written: those of a run of the plan which begins with the steps
-    // given, goes on by default steps, and comes to rest.
-    ensures played { OnOk result (IsPlayed plan.now steps.now
+    // given, goes on by default steps, and comes to rest; what is sent for an object is what it offers.
+    ensures played { OnOk result (IsWritten
+        (IsRunOf plan.now (map (λ row. map (λ b. content (kind_of b) (value_of b)) row.items) cast.items) steps.now)
+        plan.now.names
         (outputs (L.contents log_writer.old) (C.contents cert_writer.old) (R.contents report_writer.old))
         (outputs (L.contents log_writer.new) (C.contents cert_writer.new) (R.contents report_writer.new))) }
     // Where it stops: nothing is written of what comes later, and all of what comes earlier, of such a run.
-    ensures stopped { IfErr result (StopsAt (IsRunOf plan.now steps.now)
+    ensures stopped { IfErr result (StopsAt
+        (IsRunOf plan.now (map (λ row. map (λ b. content (kind_of b) (value_of b)) row.items) cast.items) steps.now)
         (outputs (L.contents log_writer.old) (C.contents cert_writer.old) (R.contents report_writer.old))
         (outputs (L.contents log_writer.new) (C.contents cert_writer.new) (R.contents report_writer.new))) }
 {
@@ -72,12 +77,16 @@ pub fn live_plan<T: Threads + Wait + Sync, L: Write, C: Write, R: Write>(
     cert_writer: &mut C,
     report_writer: &mut R,
 ) -> Result<(), AppFault>
-    // There is one list of rows, of which all three are written: those of a run of the plan that has come to rest.
-    ensures lived { OnOk result (IsLived plan.now
+    // There is one list of rows, of which all three are written: those of a run of the plan that has come to rest; what
+    // is sent for an object is what it offers.
+    ensures lived { OnOk result (IsWritten
+        (IsLogOfRun plan.now (map (λ row. map (λ b. content (kind_of b) (value_of b)) row.items) cast.items))
+        plan.now.names
         (outputs (L.contents log_writer.old) (C.contents cert_writer.old) (R.contents report_writer.old))
         (outputs (L.contents log_writer.new) (C.contents cert_writer.new) (R.contents report_writer.new))) }
     // Where it stops: nothing is written of what comes later, and all of what comes earlier, of such a run.
-    ensures stopped { IfErr result (StopsAt (IsLogOfRun plan.now)
+    ensures stopped { IfErr result (StopsAt
+        (IsLogOfRun plan.now (map (λ row. map (λ b. content (kind_of b) (value_of b)) row.items) cast.items))
         (outputs (L.contents log_writer.old) (C.contents cert_writer.old) (R.contents report_writer.old))
         (outputs (L.contents log_writer.new) (C.contents cert_writer.new) (R.contents report_writer.new))) }
 {
@@ -110,7 +119,8 @@ fn write_run<L: Write, C: Write, R: Write>(
 
 // The log of a run.
 fn run_plan(alloc: Global, plan: &Plan, steps: &[Step], cast: Cast) -> Result<SpaceTime, AppFault>
-    ensures run { IfOk result (λ log. IsRunOf plan.now steps.now log.rows) }
+    ensures run { IfOk result (λ log. IsRunOf plan.now (map (λ row. map (λ b. content (kind_of b) (value_of b)) row.items) cast.items)
+        steps.now log.rows) }
     ensures promised { IfOk result (λ log. IsPromised log.rows) }
     ensures fault { IfErr result (λ e. (f : RunFault) × (e ≡ of_run f)) }
 {
@@ -127,7 +137,8 @@ fn live_log<T: Threads + Wait + Sync>(
     plan: &Plan,
     cast: Cast,
 ) -> Result<SpaceTime, AppFault>
-    ensures run { IfOk result (λ log. IsLogOfRun plan.now log.rows) }
+    ensures run { IfOk result (λ log. IsLogOfRun plan.now
+        (map (λ row. map (λ b. content (kind_of b) (value_of b)) row.items) cast.items) log.rows) }
     ensures promised { IfOk result (λ log. IsPromised log.rows) }
     ensures fault { IfErr result (λ e. (f : LiveFault) × (e ≡ of_live f)) }
 {

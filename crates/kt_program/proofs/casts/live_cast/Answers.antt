@@ -1,0 +1,20 @@
+use Rattle.std.proofs.Common.{List, map}
+use Rattle.kt_held.specs.Holdings.{content}
+use Rattle.kt_program.specs.Played.{AreNew, IsLogOfRun}
+use Rattle.kt_program.proofs.Casting.{are_new}
+use Rattle.kt_program.proofs.NewObjects.{written_so, stops_so, on_ok_so, if_err_so, over_new}
+use Rattle.kt_program.proofs.casts.live_cast.Goals as goal
+use Rattle.kt_program.proofs.casts.live_cast.Goals.{After-live_plan}
+
+new : (g : _) (c : After-live_plan g) → AreNew c.args.plan.now (map (λ row. map (λ b. content ((goal.Recoverable-dyn g (b.vtable, b.value)).kind_of b.value) ((goal.Recoverable-dyn g (b.vtable, b.value)).value_of b.value)) row.items) c.args.cast.items)
+new g c = are_new c.args.cast.items (λ row. row.items) _ _ c.args.plan.now c.requires.sizes c.requires.kinds c.requires.opening
+
+pub returns-clause-lived : goal.returns-clause-lived
+returns-clause-lived g c = on_ok_so c.live_plan.result
+    (written_so _ _ (over_new c.args.plan.now (IsLogOfRun c.args.plan.now) (map (λ row. map (λ b. content ((goal.Recoverable-dyn g (b.vtable, b.value)).kind_of b.value) ((goal.Recoverable-dyn g (b.vtable, b.value)).value_of b.value)) row.items) c.args.cast.items) (new g c)) _ _ _)
+    c.live_plan.ensures.lived
+
+pub returns-clause-stopped : goal.returns-clause-stopped
+returns-clause-stopped g c = if_err_so _ _ c.live_plan.result
+    (stops_so _ _ (over_new c.args.plan.now (IsLogOfRun c.args.plan.now) (map (λ row. map (λ b. content ((goal.Recoverable-dyn g (b.vtable, b.value)).kind_of b.value) ((goal.Recoverable-dyn g (b.vtable, b.value)).value_of b.value)) row.items) c.args.cast.items) (new g c)) _ _)
+    c.live_plan.ensures.stopped
