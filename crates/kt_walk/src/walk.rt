@@ -125,9 +125,10 @@ impl Walk {
         }
     }
 
-    // Whether a row takes a message that is in transit to the row's process.
-    fn takes_in_transit(&self, row: &Event) -> bool
-        ensures { (rows : List Event) → WalkOf self.now rows → result ≡ takes_in_transit (past rows) row.now }
+    /// Whether a row takes a message that is in transit to the row's process: whether it receives or drops a message that
+    /// was sent to it live by the process that it names, is not in its live history and was not dropped.
+    pub fn takes_in_transit(&self, row: &Event) -> bool
+        ensures takes { (rows : List Event) → WalkOf self.now rows → result ≡ takes_in_transit (past rows) row.now }
     {
         match *row {
             Event::Received { p, from, msg } | Event::Dropped { p, from, msg } => {
