@@ -41,6 +41,13 @@ fn saved_state(alloc: Global, object: &Object) -> Option<Vec<u8>>
     }
 }
 
+/// Whether nothing is to be done, as after most steps.
+fn are_nothing(acts: &[Act; 2]) -> bool
+    ensures { result ≡ true → acts.now ≡ Act.Nothing ∷ Act.Nothing ∷ [] }
+{
+    matches!(acts[0], Act::Nothing) && matches!(acts[1], Act::Nothing)
+}
+
 /// Lets an object take a body in.
 fn applied(mut object: Object, from: ProcNo, body: i64) -> Object
     ensures kind { kind_of result ≡ kind_of object }
@@ -257,6 +264,9 @@ impl Held {
             → Holds h (option_map (λ b. content (kind_of b) (value_of b)) self.old.present) self.old.depot
             → Holds (does_all h (take done acts)) (option_map (λ b. content (kind_of b) (value_of b)) self.new.present) self.new.depot)) }
     {
+        if are_nothing(&acts) {
+            return Ok(());
+        }
         let [first, second] = acts;
         self.act(first, saved)?;
         self.act(second, None)?;

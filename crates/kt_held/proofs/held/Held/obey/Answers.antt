@@ -1,6 +1,6 @@
-use Rattle.std.proofs.Common.{◌≡◌, ◌∙◌, ◌∷◌, [], List, Bool, sym, ap, length, get_or, arith, length-drop}
+use Rattle.std.proofs.Common.{◌∙◌, Bool, sym, ap, length, get_or, arith, length-drop}
 use Rattle.std.specs.Prelude.{Result, Ok, Err, OnErr}
-use Rattle.kt_held.specs.Fits.{is_up_after, has_tentative_after}
+use Rattle.kt_held.specs.Fits.{is_up_after}
 use Rattle.kt_held.proofs.Acted.{both_done, one_done, is_some-map, leads_up, leads_tentative, both_fit, two_of}
 use Rattle.kt_held.proofs.held.Held.obey.Goals as goal
 
