@@ -1,7 +1,7 @@
 -- The default step, and rest, as the laws have them.
-use Rattle.std.specs.Prelude.{◌==◌, ◌&&◌, ◌||◌, not, nat_lt, Option, option_map, is_none, slice_get, IfSome, IfNone, IsTrue, ◌↔◌}
-use Rattle.std.proofs.Common.{◌≡◌, ◌⊎◌, ◌<◌, ◌≤◌, ℕ, Bool, true, false, Some, None, List, [], ◌∷◌, drop, length, refl, sym, arith, ap, subst, ◌∙◌, inl, inr}
-use Rattle.std.proofs.lemmas.Bool.{cases_lt, cases_eq}
+use Rattle.std.specs.Prelude.{◌==◌, ◌&&◌, ◌||◌, nat_lt, Option, option_map, slice_get, IfSome, IfNone, IsTrue, ◌↔◌}
+use Rattle.std.proofs.Common.{◌≡◌, ◌⊎◌, ◌<◌, ℕ, Bool, true, false, Some, None, List, [], ◌∷◌, refl, sym, arith, ap, ◌∙◌, inl, inr}
+use Rattle.std.proofs.lemmas.Bool.{cases_lt}
 use Rattle.std.proofs.lemmas.Bool.Decides.{nat_tests}
 use Rattle.kt_plan.specs.declared.commands.Command.{Command}
 use Rattle.kt_plan.specs.declared.steps.Step.{Step}
@@ -13,7 +13,6 @@ use Rattle.kt_system.specs.Systems.{person}
 use Rattle.kt_system.specs.Reads.{can_take, IsNextTake, HasNoTake}
 use Rattle.kt_phases.specs.Plans as run
 use Rattle.kt_phases.specs.Steps as run_step
-use Rattle.kt_phases.specs.Order.{place_of_command}
 use Rattle.kt_phases.proofs.CommandPlaces.{at_place}
 use Rattle.kt_phases.proofs.PhaseOrder.{none_of_if}
 use Rattle.kt_promises.specs.World as run_world
@@ -24,10 +23,10 @@ use Rattle.kt_promises.proofs.DefaultSteps.{default_nothing}
 use Rattle.kt_promises.proofs.OpenPhase.{next_there_seen}
 use Rattle.kt_promises.proofs.OnlyDefault.{only_first}
 use Rattle.kt_promises.proofs.RunSteps.{rest_seen}
-use Rattle.kt_core.specs.Agendas.{Agenda, place_of, next_command, if_open, open_command, IsDone}
+use Rattle.kt_core.specs.Agendas.{Agenda, place_of, next_command, open_command}
 use Rattle.kt_core.specs.Worlds.{World, may_do, can_do, enabled, IsAtRest, IsNextDo, IsDefaultStep}
 use Rattle.kt_core.specs.Shown.{IsRun, command_shown, plan_shown, step_shown}
-use Rattle.kt_core.proofs.Places.{HasPlaces, next_is, next_shown, next_from}
+use Rattle.kt_core.proofs.Places.{HasPlaces, next_is, next_shown}
 use Rattle.kt_core.proofs.ShownPlans.{plan_is}
 use Rattle.kt_core.proofs.Quiet.{quiet_shown, quiet_from}
 use Rattle.kt_core.proofs.Enabled.{few, below, enabled_is}

@@ -1,6 +1,6 @@
 -- Which steps can be made, as the laws have it.
-use Rattle.std.specs.Prelude.{◌==◌, ◌&&◌, ◌||◌, not, nat_lt, nat_le, if◌then◌else◌, Option, option_map, is_none}
-use Rattle.std.proofs.Common.{◌≡◌, ◌<◌, ◌≤◌, ℕ, Bool, true, false, Some, None, length, refl, arith, ap, ◌∙◌}
+use Rattle.std.specs.Prelude.{◌==◌, ◌&&◌, ◌||◌, not, nat_lt, nat_le, if◌then◌else◌, Option, IfSome, option_map, is_none}
+use Rattle.std.proofs.Common.{◌≡◌, ◌<◌, ◌≤◌, ℕ, Bool, true, false, Some, None, length, refl, sym, arith, ap, ◌∙◌}
 use Rattle.std.proofs.lemmas.Bool.Decides.{nat_tests}
 use Rattle.kt_plan.specs.declared.commands.Command.{Command}
 use Rattle.kt_plan.specs.declared.commands.Job.{Job}
@@ -79,6 +79,12 @@ module _ (w : World) (first : ℕ) (v : run_world.World) (r : IsRun w.agenda w.s
       (λ e. let l = below p w.system.size e in may_do_is p l (next_command w.agenda p) refl ∙ ap (λ (o : Option run.Command). run_after.may_do v p o) (next_is w.agenda v p r.places (few p l)))
   enabled_is (Take p q) = and_both (nat_lt p w.system.size) (nat_lt q w.system.size) (can_take w.system p q) (nat_lt p (length w.agenda.plan.names)) (nat_lt q (length w.agenda.plan.names)) (run_after.can_take v.now p q)
       (ap (λ (n : ℕ). nat_lt p n) size) (ap (λ (n : ℕ). nat_lt q n) size) (λ e f. can_take_is w.system v.now p q r.now num (below p w.system.size e))
+
+-- a step that can be made is one of each run that leads to the world
+pub IfSome-enabled_in_run : (w : World) (first : ℕ) (v : run_world.World) → IsRun w.agenda w.system first v → (found : Option Step) → IfSome found (λ x. enabled w x ≡ true)
+    → IfSome found (λ x. run_after.enabled (plan_shown w.agenda.plan) v (step_shown x) ≡ true)
+IfSome-enabled_in_run w first v r None h = tt
+IfSome-enabled_in_run w first v r (Some x) h = sym (enabled_is w first v r x) ∙ h
 
 -- what is refused for nothing but want of memory is enabled
 pub enabled_if : (w : World) (x : Step) → refusal w x ≡ None → enabled w x ≡ true

@@ -7,6 +7,7 @@ pub mod Quiet
 pub mod Enabled
 pub mod Places
 pub mod Nexts
+pub mod Firsts
 pub mod Phases
 pub mod Reaching
 pub mod Tallied

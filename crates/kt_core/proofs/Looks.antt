@@ -1,17 +1,14 @@
 -- What a step needs of its process's object, as the laws have it.
-use Rattle.std.specs.Prelude.{◌==◌, ◌&&◌, ◌||◌, not, nat_lt, nat_le, if◌then◌else◌, Option, option_map, is_none, slice_get}
+use Rattle.std.specs.Prelude.{◌==◌, ◌&&◌, not, nat_lt, nat_le, if◌then◌else◌, Option, is_none, slice_get}
 use Rattle.std.specs.Option.{option_or, option_map_or}
-use Rattle.std.proofs.Common.{◌≡◌, ◌<◌, ℕ, ℤ, Bool, true, false, Some, None, List, [], ◌∷◌, length, refl, sym, ap, subst, ◌∙◌}
+use Rattle.std.proofs.Common.{◌≡◌, ◌<◌, ℕ, Bool, true, false, Some, None, List, [], ◌∷◌, refl, sym, ap, subst, ◌∙◌}
 use Rattle.kt_base.specs.declared.words.Kind.{Kind}
 use Rattle.kt_base.specs.declared.words.Kind.TheVariants as kind
-use Rattle.kt_cuts.specs.Past.{is_rollback_kind}
 use Rattle.kt_spacetime.specs.declared.event.Event.{Event}
 use Rattle.kt_fifo.specs.Channels.{channel}
 use Rattle.kt_fifo.specs.declared.parcels.Parcel.{Parcel}
 use Rattle.kt_fifo.specs.declared.parcels.Parcel.TheVariants.{App, Ask, Reply, Decide}
-use Rattle.kt_tables.specs.Calls.{Call, parts, sents}
-use Rattle.kt_tables.specs.Labels.{least}
-use Rattle.kt_tables.specs.Peers.{label_of}
+use Rattle.kt_tables.specs.Calls.{Call}
 use Rattle.kt_tables.specs.States.{State}
 use Rattle.kt_tables.specs.Standing as standing
 use Rattle.kt_plan.specs.declared.commands.Command.{Command}
@@ -19,16 +16,13 @@ use Rattle.kt_plan.specs.declared.commands.Job.{Job}
 use Rattle.kt_plan.specs.declared.commands.Job.TheVariants.{Send, Checkpoint, Rollback, Fail}
 use Rattle.kt_plan.specs.declared.steps.Step.{Step}
 use Rattle.kt_plan.specs.declared.steps.Step.TheVariants.{Do, Take}
-use Rattle.kt_plan.specs.declared.steps.Look.{Look}
 use Rattle.kt_plan.specs.declared.steps.Look.TheVariants.{Idle, NeedsSave, NeedsBody, Plain}
 use Rattle.kt_process.specs.Persons.{Person, inst_of, is_ready, part_of, IsNumbered}
 use Rattle.kt_process.specs.Shown.{IsSeenAs}
-use Rattle.kt_process.specs.Turns.{joins_by}
 use Rattle.kt_seen.specs.Seen.{Seen, SeenPerson, SeenLists}
 use Rattle.kt_seen.specs.CallTests.{must_take}
 use Rattle.kt_seen.specs.Messages.{AreMessagesBy}
-use Rattle.kt_seen.specs.Transition.{is_seen_ready}
-use Rattle.kt_system.specs.Systems.{Whole, person}
+use Rattle.kt_system.specs.Systems.{person}
 use Rattle.kt_system.specs.Reads.{next_parcel, saves_by, would_save}
 use Rattle.kt_system.proofs.Replying.{ready_seen}
 use Rattle.kt_phases.specs.Plans as run
@@ -40,7 +34,7 @@ use Rattle.kt_promises.specs.Tallies.{has_parcel}
 use Rattle.kt_promises.proofs.PeopleKeep.{held_seen}
 use Rattle.kt_core.specs.Agendas.{open_command}
 use Rattle.kt_core.specs.Worlds.{World, may_do, can_do, enabled, look_of_job, look_of_step, look}
-use Rattle.kt_core.specs.Shown.{IsRun, command_shown, plan_shown, step_shown, job_shown, look_shown}
+use Rattle.kt_core.specs.Shown.{IsRun, plan_shown, step_shown, job_shown, look_shown}
 use Rattle.kt_core.proofs.Places.{next_shown}
 use Rattle.kt_core.proofs.ShownPlans.{plan_is}
 use Rattle.kt_core.proofs.Quiet.{closed_is}

@@ -1,10 +1,9 @@
 -- The places of next commands, made from the last command to the first.
-use Rattle.std.proofs.Common.{◌≡◌, ◌≢◌, ◌⊎◌, ◌<◌, ◌≤◌, ◌+◌, ◌-◌, ℕ, suc, List, length, get_or, set, replicate, refl, sym, arith, ap, subst, ◌∙◌, inl, inr}
+use Rattle.std.proofs.Common.{◌≡◌, ◌≢◌, ◌<◌, ◌+◌, ◌-◌, ℕ, List, length, get_or, set, replicate, refl, sym, arith, ap, subst, ◌∙◌, inl, inr}
 use Rattle.std.proofs.lemmas.Bool.Decides.{eqb_tells}
 use Rattle.std.proofs.lemmas.List.{get_or-set_same, get_or-set_other, get_or-replicate, get_or_default, length-set}
-use Rattle.kt_plan.specs.Limits.{Planned, IsPlan}
 use Rattle.kt_plan.specs.declared.commands.Command.{Command}
-use Rattle.kt_core.specs.Agendas.{IsNextOf, ArePlaces, IsAgenda, by_at, no_command}
+use Rattle.kt_core.specs.Agendas.{IsNextOf, ArePlaces, by_at, no_command}
 
 -- at the end no process has a command
 pub nothing_built : (commands : List Command) (following : List ℕ) (count i : ℕ) → count ≡ length commands → length following ≡ count → i + 0 ≡ count
@@ -74,13 +73,3 @@ one_more_from_end commands next following count back i by at e is own few built 
     (one_more commands next following i by inside
     (own ∙ ap (λ (c : Command). c.by) (ap (λ j. get_or commands j at) place ∙ get_or_default commands i at no_command inside))
     few (built (i + 1) (omega (arith, is))))
-
--- from the first command on, that is an agenda
-pub agenda_built : (plan : Planned) (next following : List ℕ) → IsPlan plan → ArePlaces plan.commands next following 0 → IsAgenda plan next following
-agenda_built plan next following limits b = record {
-  limits = limits;
-  processes = b.processes;
-  commands = b.commands_each;
-  own = λ p low l. (b.nexts p low).own l;
-  follows = λ i l. b.follows i (omega arith) l;
-}

@@ -61,18 +61,27 @@ pub record IsLeastPhase (a : Agenda) (phase : ℕ) : Type 0 where
   pub is : next_command a process ≡ Some command
   pub attained : command.phase ≡ phase
 
--- the least phase of the next commands of the first so many processes, if any of them has one
-abbrev pub IsLeastBelow : Agenda → ℕ → Option ℕ → Type 0
-IsLeastBelow a count None = (p : ℕ) → p < count → next_command a p ≡ None
-IsLeastBelow a count (Some phase) =
-    ((p : ℕ) (command : Command) → p < count → next_command a p ≡ Some command → phase ≤ command.phase)
-    × ((p : ℕ) × (command : Command) × (p < count) × (next_command a p ≡ Some command) × (command.phase ≡ phase))
+-- the place of each process's next command is that of one of its own, or the number of all
+abbrev pub AreOwn : List Command → List ℕ → Type 0
+AreOwn commands next = (p : ℕ) → p < 64 → slice_index_or next p 0 < length commands → by_at commands (slice_index_or next p 0) ≡ p
 
--- each place is one of the process's own; by command, there is the place of the following one of the same process
-pub record IsAgenda (plan : Planned) (next following : List ℕ) : Type 0 where
+-- the commands before a place are done: each one's process goes on with a later one
+abbrev pub AreDoneBefore : List Command → List ℕ → ℕ → Type 0
+AreDoneBefore commands next place = (i : ℕ) → i < place → i < slice_index_or next (by_at commands i) 0
+
+-- the first command that is not done is at this place; all are where that is their number
+pub record IsFirstLeft (commands : List Command) (next : List ℕ) (place : ℕ) : Type 0 where
+  pub done : AreDoneBefore commands next place
+  pub within : place ≤ length commands
+  pub left : place < length commands → slice_index_or next (by_at commands place) 0 ≡ place
+
+-- each place is one of the process's own; by command, there is the place of the following one of the same process; and
+-- there is that of the first one that is not done
+pub record IsAgenda (plan : Planned) (next following : List ℕ) (first : ℕ) : Type 0 where
   pub limits : IsPlan plan
   pub processes : length next ≡ 64
   pub commands : length following ≡ length plan.commands
-  pub own : (p : ℕ) → p < 64 → slice_index_or next p 0 < length plan.commands → by_at plan.commands (slice_index_or next p 0) ≡ p
+  pub own : AreOwn plan.commands next
   pub follows : (i : ℕ) → i < length plan.commands
       → IsNextOf plan.commands (by_at plan.commands i) (i + 1) (slice_index_or following i 0)
+  pub left : IsFirstLeft plan.commands next first

@@ -1,20 +1,22 @@
 //! Which commands of a plan are done: each process does its own in order, and those of a later phase once that is open.
 
-ghost use Rattle.std.specs.Prelude.{◌≡◌, ◌≢◌, ◌<◌, ◌≤◌, ◌+◌, ◌-◌, ◌↔◌, ◌⊎◌, ℕ, Some, None, IsTrue, IfOk, IfSome, IfNone, length};
+ghost use Rattle.std.specs.Prelude.{◌≡◌, ◌≢◌, ◌<◌, ◌≤◌, ◌+◌, ◌-◌, ◌↔◌, ℕ, Some, None, IsTrue, IfOk, IfSome, IfNone, length};
 ghost use Rattle.kt_plan.specs.Limits.{IsPlan, IsCommandOf};
-ghost use Rattle.kt_core.specs.Agendas.{place_of, next_command, if_open, open_command, IsNextOf, IsDone, IsLeastPhase, IsLeastBelow, ArePlaces};
+ghost use Rattle.kt_core.specs.Agendas.{place_of, next_command, if_open, open_command, IsNextOf, IsDone, IsLeastPhase, ArePlaces, AreOwn, AreDoneBefore, IsFirstLeft};
 
 use kt_base::{Memory, ProcNo};
 use kt_plan::{Command, Plan};
 use std::alloc::Global;
 use std::marker::Model;
 
-/// The commands of a plan, the place of each process's next one, and the phase that is open.
+/// The commands of a plan, the place of each process's next one, that of the first one that is not done, and the phase that
+/// is open.
 #[derive(Debug, Drop)]
 pub(crate) struct Agenda {
     plan: Plan,
     next: [usize; 64],
     following: Vec<usize>,
+    first: usize,
     phase: u32,
 }
 
@@ -25,7 +27,7 @@ impl Model for Agenda {
 
     ghost view = { λ a. record { plan = a.plan; next = a.next; phase = a.phase } };
 
-    ghost invariant = { λ a. IsAgenda a.plan a.next a.following.items };
+    ghost invariant = { λ a. IsAgenda a.plan a.next a.following.items a.first };
 }
 
 impl Agenda {
@@ -41,6 +43,7 @@ impl Agenda {
             plan,
             next,
             following,
+            first: 0,
             phase: 0,
         })
     }
@@ -112,29 +115,41 @@ impl Agenda {
         let place = self.place(p);
         if place < self.following.len() {
             self.next[p.index()] = self.following[place];
+            self.first = first_left(&self.plan.commands, &self.next, self.first);
         }
     }
 
-    /// The lesser of a phase and that of a process's next command.
-    fn and_phase(&self, least: Option<u32>, p: ProcNo) -> Option<u32>
-        ensures { IsLeastBelow self.now p least → IsLeastBelow self.now (p + 1) result }
+    /// The first command that is not done, if there is one.
+    fn first_left(&self) -> Option<Command>
+        ensures limits { IsPlan self.now.plan }
+        ensures none { IfNone result (IsDone self.now) }
+        ensures there { IfSome result (λ command. command.by < length self.now.plan.names) }
+        ensures next { IfSome result (λ command. next_command self.now command.by ≡ Some command) }
+        ensures first { IfSome result (λ command. (q : ℕ) → q < 64 → place_of self.now command.by ≤ place_of self.now q) }
     {
-        match self.next_command(p) {
-            Some(command) => Some(lesser(least, command.phase)),
-            None => least,
+        self.plan.commands.get(self.first).copied()
+    }
+
+    /// The process of the first command that is not done.
+    pub(crate) fn first_process(&self) -> Option<ProcNo>
+        ensures there { IfSome result (λ p. p < length self.now.plan.names) }
+        ensures first { IfSome result (λ p. (q : ℕ) → q < 64 → place_of self.now p ≤ place_of self.now q) }
+    {
+        match self.first_left() {
+            Some(command) => Some(command.by),
+            None => None,
         }
     }
 
-    /// The least phase of the commands that are not done, if there are any.
+    /// The least phase of the commands that are not done, if there are any: that of the first one, since phases never fall.
     fn least_phase(&self) -> Option<u32>
         ensures none { IfNone result (IsDone self.now) }
         ensures least { IfSome result (IsLeastPhase self.now) }
     {
-        let mut least = None;
-        for number in 0..64 {
-            least = self.and_phase(least, ProcNo::nth(number));
+        match self.first_left() {
+            Some(command) => Some(command.phase),
+            None => None,
         }
-        least
     }
 
     /// Whether all commands are done.
@@ -175,15 +190,17 @@ fn places(alloc: Global, commands: &[Command]) -> Result<([usize; 64], Vec<usize
     Ok((next, following))
 }
 
-/// The lesser of two numbers, of which the first may be missing.
-fn lesser(one: Option<u32>, other: u32) -> u32
-    ensures none { IfNone one (result ≡ other) }
-    ensures first { IfSome one (λ n. result ≤ n) }
-    ensures second { result ≤ other }
-    ensures either { IfSome one (λ n. (result ≡ n) ⊎ (result ≡ other)) }
+/// The place of the first command that is not done, where those before this place are; their number where all are.
+fn first_left(commands: &[Command], next: &[usize; 64], from: usize) -> usize
+    requires own { AreOwn commands.now next.now }
+    requires done { AreDoneBefore commands.now next.now from }
+    requires within { from ≤ length commands.now }
+    ensures { IsFirstLeft commands.now next.now result }
 {
-    match one {
-        Some(one) => one.min(other),
-        None => other,
+    for place in from..commands.len() {
+        if next[commands[place].by.index()] == place {
+            return place;
+        }
     }
+    commands.len()
 }

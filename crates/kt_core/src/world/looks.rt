@@ -168,6 +168,17 @@ impl World {
         ensures step { IfSome result (IsNextStepOf self.now p) }
         ensures enabled { IfSome result (λ step. enabled self.now step ≡ true) }
         ensures none { IfNone result ((step : Step) → stepper step ≡ p → enabled self.now step ≡ false) }
+        ensures in_runs { (first : ℕ) (v : run_world.World) → IsRun self.now.agenda self.now.system first v →
+            IfSome result (λ step. run_steps.enabled (plan_shown self.now.agenda.plan) v (step_shown step) ≡ true) }
+    {
+        self.step_of(p)
+    }
+
+    /// The step that a process makes next.
+    fn step_of(&self, p: ProcNo) -> Option<Step>
+        ensures step { IfSome result (IsNextStepOf self.now p) }
+        ensures enabled { IfSome result (λ step. enabled self.now step ≡ true) }
+        ensures none { IfNone result ((step : Step) → stepper step ≡ p → enabled self.now step ≡ false) }
     {
         if !self.is_there(p) {
             return None;
@@ -184,8 +195,21 @@ impl World {
         }
     }
 
-    /// The process whose next command comes first among those that can be done.
+    /// The process whose next command comes first among those that can be done: most often that of the first one of all.
     fn first_do(&self) -> Option<ProcNo>
+        ensures first { IfSome result (IsNextDo self.now) }
+        ensures none { IfNone result ((p : ℕ) → p < self.now.system.size → can_do self.now p ≡ false) }
+    {
+        if let Some(p) = self.agenda.first_process() {
+            if self.can_do(p) {
+                return Some(p);
+            }
+        }
+        self.first_able()
+    }
+
+    /// The process whose next command comes first among those that can be done, of which each is looked at.
+    fn first_able(&self) -> Option<ProcNo>
         ensures first { IfSome result (IsNextDo self.now) }
         ensures none { IfNone result ((p : ℕ) → p < self.now.system.size → can_do self.now p ≡ false) }
     {

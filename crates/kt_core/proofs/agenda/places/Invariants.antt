@@ -1,4 +1,4 @@
-use Rattle.std.proofs.Common.{◌≡◌, ◌+◌, ℕ, length}
+use Rattle.std.proofs.Common.{◌≡◌, ◌+◌, ℕ}
 use Rattle.kt_core.specs.Agendas.{ArePlaces}
 use Rattle.kt_core.proofs.agenda.places.Given as goal
 

@@ -1,4 +1,4 @@
-use Rattle.std.proofs.Common.{ap, subst, sym, ◌∙◌, List}
+use Rattle.std.proofs.Common.{subst, sym, List}
 use Rattle.kt_spacetime.specs.declared.event.Event.{Event}
 use Rattle.kt_spacetime.specs.Logs.{Log}
 use Rattle.kt_promises.specs.Headline.{IsPromised}

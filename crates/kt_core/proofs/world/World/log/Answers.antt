@@ -1,4 +1,4 @@
-use Rattle.std.proofs.Common.{ℕ, List, take, ap, subst, sym, ◌∙◌}
+use Rattle.std.proofs.Common.{ℕ, List, take, subst, sym}
 use Rattle.kt_spacetime.specs.declared.event.Event.{Event}
 use Rattle.kt_spacetime.specs.Logs.{Log}
 use Rattle.kt_cuts.specs.Past.{past}

@@ -1,5 +1,5 @@
 use Rattle.kt_core.specs.Worlds.{IsFirstBelow}
-use Rattle.kt_core.proofs.world.World.first_do.Given as goal
+use Rattle.kt_core.proofs.world.World.first_able.Given as goal
 
 abbrev pub invariant-loop-number : goal.invariant-loop-number
 invariant-loop-number l = IsFirstBelow l.self l.number l.first
