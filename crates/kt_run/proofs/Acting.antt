@@ -101,7 +101,7 @@ module _ {X : Type 0} (f : X → Belongings) (xs : List X) (i : ℕ) (x y : X) (
     tells.1,
     tells.3,
     tells.4,
-    λ first v r. let t = tells.5 first v r in (t.0, t.1, t.2, λ cast h. (offers first v r cast h, holds first v r cast h)),
+    λ first v r. let t = tells.5 first v r in (t.0, t.1, t.2, t.3, λ cast h. (offers first v r cast h, holds first v r cast h)),
   )
 
 -- so it is with what is held itself

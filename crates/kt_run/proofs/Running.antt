@@ -37,8 +37,9 @@ use Rattle.kt_core.proofs.ShownPlans.{plan_is}
 use Rattle.kt_run.specs.Objects.{Belongings, first_of, rules_of, rules_by, HoldDue}
 use Rattle.kt_run.specs.Refused.{IsDefaultRefused}
 use Rattle.kt_run.specs.Runs.{Scene, Tells, StepsTo, Starts, Begins, Goes, Rests, IsRunOf, IsToldRunOf}
-use Rattle.kt_run.specs.Telling.{IsToldAs, AreToldInRun, AreEmpty, IsNoted}
-use Rattle.kt_run.proofs.Telling.{told_as, tells_nothing, tells_more}
+use Rattle.kt_run.specs.Telling.{IsToldAs, AreToldInRun, AreToldTheirRows, TellsItsRows, AreEmpty, IsNoted}
+use Rattle.kt_run.proofs.Numbering.{told_their_none, told_their_more}
+use Rattle.kt_run.proofs.Telling.{told_as, tells_its_rows, tells_nothing, tells_more}
 
 -- what was made was not refused
 not_refused : (w : World) (x : Step) (told : Told) → IfSome (refusal w x) (λ fault. ◌≡◌ {A = Result Told StepFault} (Ok told) (Err fault)) → refusal w x ≡ None
@@ -86,16 +87,21 @@ tells_now old new before after x give told acts same is grew four read noted lim
       limit,
       room_kept old new told.step grew (not_refused old told.step told allows) limit,
       λ first v r.
-          let on : enabled (plan_shown old.agenda.plan) v (step_shown told.step) ≡ true = sym (enabled_is old first v r told.step) ∙ enabled_if old told.step (not_refused old told.step told allows) in
-          (on, leads first v r, told_as old.agenda.plan told give old new first v refl r (leads first v r) on grew four read (asks first v r)),
+          let on : enabled (plan_shown old.agenda.plan) v (step_shown told.step) ≡ true = sym (enabled_is old first v r told.step) ∙ enabled_if old told.step (not_refused old told.step told allows) in (
+            on,
+            leads first v r,
+            told_as old.agenda.plan told give old new first v refl r (leads first v r) on grew four read (asks first v r),
+            tells_its_rows old.agenda.plan told give old new first v refl r (leads first v r) on grew four read (asks first v r),
+          ),
     ))
 
 abbrev Led : Planned → run_world.World → Step → World → Told → run_steps.Give → Type 0
 Led plan v x new told give = (enabled (plan_shown plan) v (step_shown x) ≡ true) × IsRun new.agenda new.system 0 (world_after (plan_shown plan) v (step_shown x) give)
     × IsToldAs told (told_at (plan_shown plan) v (record { step = step_shown x; give = give }))
+    × TellsItsRows told v.now.log (world_after (plan_shown plan) v (step_shown x) give).now.log
 
 led : (plan : Planned) (old new : World) (before after : Scene) (x : Step) (v : run_world.World) → old.agenda.plan ≡ plan → (s : StepsTo old before x new after) → IsRun old.agenda old.system 0 v → Led plan v x new s.0 s.1
-led plan old new before after x v e s r = let t = s.5 0 v r in subst (λ (z : Planned). Led z v x new s.0 s.1) e (t.0, t.1, t.2)
+led plan old new before after x v e s r = let t = s.5 0 v r in subst (λ (z : Planned). Led z v x new s.0 s.1) e (t.0, t.1, t.2, t.3)
 
 -- what each process holds, and what is given
 abbrev Keeps : Planned → List (List Content) → run_world.World → Step → run_steps.Give → Scene → Type 0
@@ -103,7 +109,7 @@ Keeps plan cast v x give after = GivesOffer (rules_by cast) (plan_shown plan) v 
 
 keeps : (plan : Planned) (cast : List (List Content)) (old new : World) (before after : Scene) (x : Step) (v : run_world.World) → old.agenda.plan ≡ plan → (s : StepsTo old before x new after) → IsRun old.agenda old.system 0 v
     → HoldDue cast v.now.log before.has → Keeps plan cast v x s.1 after
-keeps plan cast old new before after x v e s r due = subst (λ (z : Planned). Keeps z cast v x s.1 after) e ((s.5 0 v r).3 cast due)
+keeps plan cast old new before after x v e s r due = subst (λ (z : Planned). Keeps z cast v x s.1 after) e ((s.5 0 v r).4 cast due)
 
 -- what is given at some moves, and at one more
 gives_more : (rules : ℕ → Rules (List ℤ)) (plan : Plan) (xs : List Move) (m : Move) (u v : run_world.World) → after_moves plan u xs ≡ Some v
@@ -127,6 +133,7 @@ begins_start plan cast w at s n due = record {
   limit = s.limit;
   few = (let e = ap (λ (l : List Event). length l) s.rows in omega (arith, e));
   tells = tells_nothing plan at.told n;
+  rows = subst (λ (log : List Event). AreToldTheirRows log at.told) (sym (ap (λ (v : _). v.log) (opening_is (plan_shown plan) 0).now)) (told_their_none at.told n);
   offers = tt;
   due = subst (λ (log : List Event). HoldDue cast log at.has) (sym (ap (λ (v : _). v.log) (opening_is (plan_shown plan) 0).now)) due;
 }
@@ -146,6 +153,7 @@ begins_more plan cast steps x old new before after e b s =
       limit = s.3 ∙ b.limit;
       few = s.4;
       tells = tells_more plan b.moves b.now m s.0 before.told after.told b.leads l.2 s.2 b.tells;
+      rows = told_their_more s.0 b.now.now.log (world_after (plan_shown plan) b.now (step_shown x) s.1).now.log l.3 before.told after.told s.2 b.rows;
       offers = gives_more (rules_by cast) (plan_shown plan) b.moves m (run_world.start_world (plan_shown plan) 0) b.now b.leads b.offers k.0;
       due = k.1;
     }
@@ -166,6 +174,7 @@ goes_start plan cast steps w at b = (
     limit = b.limit;
     few = b.few;
     tells = subst (λ (moves : List Move). AreToldInRun plan moves at.told) (sym (append-nil b.moves)) b.tells;
+    rows = b.rows;
     offers = subst (λ (moves : List Move). GivesOffers (rules_by cast) (plan_shown plan) (run_world.start_world (plan_shown plan) 0) moves) (sym (append-nil b.moves)) b.offers;
     due = b.due;
   },
@@ -194,6 +203,7 @@ goes_more plan cast steps n x old new before after e h s d =
         few = s.4;
         tells = subst (λ (moves : List Move). AreToldInRun plan moves after.told) (append_assoc g.given g.more (m ∷ []))
             (tells_more plan (g.given ++ g.more) g.now m s.0 before.told after.told run l.2 s.2 g.tells);
+        rows = told_their_more s.0 g.now.now.log (world_after (plan_shown plan) g.now (step_shown x) s.1).now.log l.3 before.told after.told s.2 g.rows;
         offers = subst (λ (moves : List Move). GivesOffers (rules_by cast) (plan_shown plan) (run_world.start_world (plan_shown plan) 0) moves) (append_assoc g.given g.more (m ∷ []))
             (gives_more (rules_by cast) (plan_shown plan) (g.given ++ g.more) m (run_world.start_world (plan_shown plan) 0) g.now run g.offers k.0);
         due = k.1;
@@ -255,6 +265,9 @@ module _ (plan : Planned) (cast : List (List Content)) (steps : List Step) (w : 
   pub told_run_of : length at.told ≡ length plan.names → IsToldRunOf plan cast steps rows at.told
   unfolding run_of
   told_run_of n = record { run = run_of; count = n; tells = r.run.tells }
+
+  pub their_rows : AreToldTheirRows rows at.told
+  their_rows = subst (λ (l : List Event). AreToldTheirRows l at.told) (sym rows_are) r.run.rows
 
   pub due_of : HoldDue cast rows at.has
   due_of = subst (λ (l : List Event). HoldDue cast l at.has) (sym rows_are) r.run.due

@@ -3,6 +3,7 @@ use Rattle.std.proofs.Common.{◌≡◌, ◌∙◌, ◌==◌, ◌<◌, ◌≤◌
 use Rattle.std.specs.List.{AllZip, filter_map}
 use Rattle.std.specs.Prelude.{slice_get, slice_index_or, if◌then◌else◌}
 use Rattle.std.specs.Option.{option_map}
+use Rattle.std.proofs.lemmas.Option.{slice_get-get_or}
 use Rattle.std.proofs.Math.Seq.{drop-append_seam}
 use Rattle.kt_core.specs.Shown.{IsRun, plan_shown, step_shown, give_shown}
 use Rattle.kt_core.specs.Worlds.{World, stepper, numbered_row}
@@ -26,10 +27,8 @@ use Rattle.kt_spacetime.specs.Events.{process_of}
 use Rattle.kt_spacetime.specs.declared.event.Event.{Event}
 use Rattle.kt_system.specs.ShownActs.{acts_shown}
 use Rattle.kt_system.specs.Systems.{Grows}
-use Rattle.kt_run.specs.Telling.{numbered, rows_of, IsToldAs, AreToldInRun, AreEmpty, told_here, IsNoted}
-
-abbrev Row : Type 0
-Row = ℕ × Event
+use Rattle.kt_run.proofs.Numbering.{Row}
+use Rattle.kt_run.specs.Telling.{numbered, rows_of, IsToldAs, AreToldInRun, AreEmpty, TellsItsRows, told_here, IsNoted}
 
 without_numbers : (n : ℕ) (l : List Event) → map (λ (row : Row). row.1) (numbered n l) ≡ l
 without_numbers n [] = refl
@@ -102,7 +101,7 @@ module _ (plan : Planned) (told : Told) (give : Give) (old new : World) (first :
   reached : IsReachedWorld (plan_shown plan) first v
   reached = subst (λ (p : Planned). IsReachedWorld (plan_shown p) first v) plans r.reached
 
-  pub grows : w.now.log ≡ v.now.log ++ added
+  grows : w.now.log ≡ v.now.log ++ added
   grows = log_grows (plan_shown plan) first v (step_shown told.step) (give_shown give) limits reached on
 
   added_is : added ≡ grew.more
@@ -113,12 +112,12 @@ module _ (plan : Planned) (told : Told) (give : Give) (old new : World) (first :
   few : length added ≤ 4
   few = subst (λ (l : List Event). length l ≤ 4) (sym added_is) grew.few
 
-  pub tells : rows_of told ≡ numbered n added
+  tells : rows_of told ≡ numbered n added
   tells = tells_rows told n w.now.log four (λ i l. read i l
       ∙ (ap (λ (rows : List Event). Some (numbered_row rows (length old.system.rows.rows + i))) next.now.log
       ∙ ap (λ (rows : List Event). Some (numbered_row w.now.log (length rows + i))) r.now.log)) few
 
-  pub own : (i : ℕ) (row : Event) → slice_get added i ≡ Some row → process_of row ≡ stepper told.step
+  own : (i : ℕ) (row : Event) → slice_get added i ≡ Some row → process_of row ≡ stepper told.step
   own i row h = rows_of_one (plan_shown plan) first v (step_shown told.step) (give_shown give) i row limits reached on h ∙ stepper_is told.step
 
   acts : acts_shown told.acts ≡ acts_of_step (plan_shown plan) v (step_shown told.step) (give_shown give) (run_steps.stepper (step_shown told.step))
@@ -128,6 +127,9 @@ module _ (plan : Planned) (told : Told) (give : Give) (old new : World) (first :
 
   pub told_as : IsToldAs told (run_told.told_at (plan_shown plan) v (record { step = step_shown told.step; give = give_shown give }))
   told_as = record { step = refl; rows = ap (λ (l : List Row). map (λ (row : Row). row.1) l) tells ∙ without_numbers n added; acts = acts }
+
+  pub tells_its_rows : TellsItsRows told v.now.log w.now.log
+  tells_its_rows = record { added = added; log = grows; rows = tells; own = λ i other l. own i (slice_index_or added i other) (slice_get-get_or added i other l) }
 
 -- what all are told
 

@@ -21,7 +21,7 @@ use Rattle.kt_promises.specs.World.{start_world}
 use Rattle.kt_core.specs.Worlds.{World}
 use Rattle.kt_core.specs.Shown.{IsRun, plan_shown, step_shown, give_shown}
 use Rattle.kt_run.specs.Objects.{Belongings, has_of, rules_by, HoldDue}
-use Rattle.kt_run.specs.Telling.{IsToldAs, AreToldInRun, IsNoted}
+use Rattle.kt_run.specs.Telling.{IsToldAs, AreToldInRun, AreToldTheirRows, TellsItsRows, IsNoted}
 
 -- what the processes were told, and what they have
 pub record Scene : Type 0 where
@@ -32,14 +32,15 @@ abbrev pub scene : {X : Type 0} {D : X → Type 0} → List (List Told) → List
 scene told helds content_of = record { told = told; has = has_of helds content_of }
 
 -- with what its object gives, a step leads each run that leads to the old world on to the new one: there it is enabled;
--- what it tells, as these runs tell it, is noted of its process, and asks these acts
+-- what it tells, as these runs tell it and with the numbers of its rows, is noted of its process, and asks these acts
 abbrev pub Tells : World → List (List Told) → Step → Give → World → List (List Told) → List Act → Type 0
 Tells old before step give new after acts = (told : Told) × IsNoted told before after × (acts ≡ told.acts) × (new.limit ≡ old.limit)
     × (length new.system.rows.rows ≤ new.limit)
     × ((first : ℕ) (v : run_world.World) → IsRun old.agenda old.system first v →
     (enabled (plan_shown old.agenda.plan) v (step_shown step) ≡ true)
     × IsRun new.agenda new.system first (world_after (plan_shown old.agenda.plan) v (step_shown step) (give_shown give))
-    × IsToldAs told (told_at (plan_shown old.agenda.plan) v (record { step = step_shown step; give = give_shown give })))
+    × IsToldAs told (told_at (plan_shown old.agenda.plan) v (record { step = step_shown step; give = give_shown give }))
+    × TellsItsRows told v.now.log (world_after (plan_shown old.agenda.plan) v (step_shown step) (give_shown give)).now.log)
 
 -- with something that its object gives, a step does so; and where each process holds what is due to it, what is given is
 -- what the object offers, if the step asks for that, and then again each process holds what is due to it
@@ -50,6 +51,7 @@ StepsTo old before step new after = (told : Told) × (give : run_steps.Give) × 
     (enabled (plan_shown old.agenda.plan) v (step_shown step) ≡ true)
     × IsRun new.agenda new.system first (world_after (plan_shown old.agenda.plan) v (step_shown step) give)
     × IsToldAs told (told_at (plan_shown old.agenda.plan) v (record { step = step_shown step; give = give }))
+    × TellsItsRows told v.now.log (world_after (plan_shown old.agenda.plan) v (step_shown step) give).now.log
     × ((cast : List (List Content)) → HoldDue cast v.now.log before.has →
     GivesOffer (rules_by cast) (plan_shown old.agenda.plan) v (step_shown step) give
     × HoldDue cast (world_after (plan_shown old.agenda.plan) v (step_shown step) give).now.log after.has))
@@ -60,8 +62,8 @@ pub record Starts (plan : Planned) (world : World) : Type 0 where
   pub limit : world.limit ≡ 2 ^ 24
   pub rows : world.system.rows.rows ≡ []
 
--- a run by these steps alone leads to a world, and tells this; each process, given these objects, holds what is due to it,
--- and what was given at each step that asks for it is what its object offers
+-- a run by these steps alone leads to a world, and tells this, with the numbers of its rows; each process, given these
+-- objects, holds what is due to it, and what was given at each step that asks for it is what its object offers
 pub record Begins (plan : Planned) (cast : List (List Content)) (steps : List Step) (world : World) (at : Scene) : Type 0 where
   pub moves : List Move
   pub now : run_world.World
@@ -71,6 +73,7 @@ pub record Begins (plan : Planned) (cast : List (List Content)) (steps : List St
   pub limit : world.limit ≡ 2 ^ 24
   pub few : length world.system.rows.rows ≤ world.limit
   pub tells : AreToldInRun plan moves at.told
+  pub rows : AreToldTheirRows now.now.log at.told
   pub offers : GivesOffers (rules_by cast) (plan_shown plan) (start_world (plan_shown plan) 0) moves
   pub due : HoldDue cast now.now.log at.has
 
@@ -85,6 +88,7 @@ pub record Goes (plan : Planned) (cast : List (List Content)) (steps : List Step
   pub limit : world.limit ≡ 2 ^ 24
   pub few : length world.system.rows.rows ≤ world.limit
   pub tells : AreToldInRun plan (given ++ more) at.told
+  pub rows : AreToldTheirRows now.now.log at.told
   pub offers : GivesOffers (rules_by cast) (plan_shown plan) (start_world (plan_shown plan) 0) (given ++ more)
   pub due : HoldDue cast now.now.log at.has
 

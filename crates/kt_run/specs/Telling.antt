@@ -1,5 +1,5 @@
 -- What a run tells its processes.
-use Rattle.std.specs.Prelude.{◌≡◌, ◌<◌, ◌+◌, ◌==◌, ℕ, List, [], ◌∷◌, ◌++◌, Option, map, length, slice_index_or, if◌then◌else◌}
+use Rattle.std.specs.Prelude.{◌≡◌, ◌<◌, ◌+◌, ◌==◌, ℕ, List, [], ◌∷◌, ◌++◌, All, Option, filter, map, length, slice_index_or, if◌then◌else◌}
 use Rattle.std.specs.List.{AllZip, filter_map}
 use Rattle.kt_core.specs.Shown.{plan_shown, step_shown}
 use Rattle.kt_core.specs.Worlds.{stepper}
@@ -8,6 +8,7 @@ use Rattle.kt_plan.specs.Limits.{Planned}
 use Rattle.kt_plan.specs.declared.steps.Told.{Told}
 use Rattle.kt_promises.specs.Told as run_told
 use Rattle.kt_promises.specs.World.{start_world}
+use Rattle.kt_spacetime.specs.Events.{process_of}
 use Rattle.kt_spacetime.specs.declared.event.Event.{Event}
 use Rattle.kt_system.specs.ShownActs.{acts_shown}
 
@@ -19,6 +20,26 @@ numbered count (row ∷ rows) = (count + 1, row) ∷ numbered (count + 1) rows
 -- the rows that a step tells, with their numbers
 abbrev pub rows_of : Told → List (ℕ × Event)
 rows_of told = filter_map (λ (row : Option (ℕ × Event)). row) told.rows
+
+-- those that some steps tell, in order
+abbrev pub rows_told : List Told → List (ℕ × Event)
+rows_told [] = []
+rows_told (told ∷ more) = rows_of told ++ rows_told more
+
+-- the rows of one process in a log, with their numbers
+abbrev pub rows_by : ℕ → List Event → List (ℕ × Event)
+rows_by p log = filter (λ row. process_of row.1 == p) (numbered 0 log)
+
+-- each process is told its own rows of the log, each once and in order, with their numbers
+abbrev pub AreToldTheirRows : List Event → List (List Told) → Type 0
+AreToldTheirRows log told = (p : ℕ) → p < length told → rows_told (slice_index_or told p []) ≡ rows_by p log
+
+-- a step adds rows of its process to a log, and tells them with their numbers
+pub record TellsItsRows (told : Told) (before after : List Event) : Type 0 where
+  pub added : List Event
+  pub log : after ≡ before ++ added
+  pub rows : rows_of told ≡ numbered (length before) added
+  pub own : All (λ row. process_of row ≡ stepper told.step) added
 
 -- the same step, the same rows but for their numbers, and the same acts, as a run tells
 pub record IsToldAs (told : Told) (in_run : run_told.Told) : Type 0 where

@@ -8,6 +8,7 @@ ghost use Rattle.kt_run.specs.Faults.{IsCast, Answers};
 ghost use Rattle.kt_run.specs.Objects.{has_of, HoldDue};
 ghost use Rattle.kt_run.specs.Refused.{IsRefused};
 ghost use Rattle.kt_run.specs.Runs.{IsRunOf, IsToldRunOf};
+ghost use Rattle.kt_run.specs.Telling.{AreToldTheirRows};
 
 use crate::faults::RunFault;
 use crate::journals::Journals;
@@ -43,6 +44,10 @@ pub fn run(alloc: Global, plan: &Plan, steps: &[Step], cast: Cast) -> Result<Out
     ensures run { IfOk result (λ outcome. IsToldRunOf plan.now
         (map (λ row. map (λ b. content (kind_of b) (value_of b)) row.items) cast.items) steps.now
         outcome.log.rows (map (λ list. list.items) outcome.told.items)) }
+
+    // Each process was told its own rows of the log, each once and in order, with their numbers.
+    ensures told { IfOk result (λ outcome.
+        AreToldTheirRows outcome.log.rows (map (λ list. list.items) outcome.told.items)) }
 
     // Each process holds what is due to it after that log, of the objects that it was given, and nothing tentative.
     ensures due { IfOk result (λ outcome. HoldDue

@@ -22,7 +22,7 @@ use Rattle.kt_promises.proofs.NeededBodies.{offers_seen}
 use Rattle.kt_promises.proofs.PhasesOpen.{opening_is}
 use Rattle.kt_promises.proofs.WholeLogs.{no_tentative}
 use Rattle.kt_run.specs.Objects.{Belongings, rules_of, first_of, HoldsDue}
-use Rattle.kt_run.specs.Telling.{IsToldAs}
+use Rattle.kt_run.specs.Telling.{rows_by, rows_told, AreToldTheirRows, IsToldAs}
 use Rattle.kt_seen.specs.Seen.{Seen}
 use Rattle.kt_values.specs.Done.{done}
 use Rattle.kt_values.specs.Values.{Rules, due}
@@ -31,7 +31,7 @@ use Rattle.kt_threads.specs.Histories as histories
 use Rattle.kt_threads.specs.Histories.{IsMade, Leads, IsHistory, made_by, told_to, AreTold}
 use Rattle.kt_threads.specs.Moves.{move_of, IsRunOf}
 use Rattle.kt_threads.specs.Seats.{AreServed}
-use Rattle.kt_threads.specs.Telling.{rows_by, rows_told, AreToldTheirRows, AreToldAsInRun}
+use Rattle.kt_threads.specs.Telling.{AreToldAsInRun}
 use Rattle.kt_threads.proofs.Serving.{GivesOf, KeepsDue, served_more}
 use Rattle.kt_threads.proofs.Telling.{rows_more, told_more}
 use Rattle.kt_threads.specs.declared.state.Made.{Made}

@@ -26,6 +26,7 @@ use Rattle.kt_promises.proofs.OffersSent.{up_seen}
 use Rattle.kt_run.specs.Objects.{Belongings, rules_of, first_of, HoldsDue}
 use Rattle.kt_run.proofs.Acting.{acts_along_step, others_along}
 use Rattle.kt_run.proofs.Holding.{holds_next, holds_still}
+use Rattle.kt_run.proofs.Numbering.{kept, left}
 use Rattle.kt_run.proofs.Telling.{stepper_is}
 use Rattle.kt_system.specs.ShownActs.{acts_shown}
 use Rattle.kt_values.specs.Done.{done}
@@ -34,7 +35,7 @@ use Rattle.kt_threads.specs.Histories.{IsMade, made_by}
 use Rattle.kt_threads.specs.Moves.{move_of}
 use Rattle.kt_threads.specs.Seats.{IsServed, AreServed}
 use Rattle.kt_threads.specs.declared.state.Made.{Made}
-use Rattle.kt_threads.proofs.Telling.{kept, left, equal_of}
+use Rattle.kt_threads.proofs.Telling.{equal_of}
 
 needs_body : (l : Look) → look_shown l ≡ run_looks.NeedsBody → l ≡ look.NeedsBody
 needs_body look.Idle e = absurd (cc (e))

@@ -6,10 +6,10 @@ ghost use Rattle.kt_held.specs.Holdings.{Content, content};
 ghost use Rattle.kt_promises.specs.Headline.{IsPromised};
 ghost use Rattle.kt_run.specs.Faults.{IsCast};
 ghost use Rattle.kt_run.specs.Objects.{has_of, HoldDue};
+ghost use Rattle.kt_run.specs.Telling.{AreToldTheirRows};
 ghost use Rattle.kt_threads.specs.Faults.{Answers, is_of_cast};
 ghost use Rattle.kt_threads.specs.Histories.{IsRun, IsLived};
 ghost use Rattle.kt_threads.specs.Seats.{KeepsServing};
-ghost use Rattle.kt_threads.specs.Telling.{AreToldTheirRows};
 
 use crate::board::Board;
 use crate::crew::{CrewFault, run_all};

@@ -9,7 +9,8 @@ use Rattle.kt_plan.specs.Limits.{Planned, IsPlan}
 use Rattle.kt_plan.specs.declared.steps.Told.{Told}
 use Rattle.kt_run.specs.Objects.{belongings_of, has_of, HoldDue}
 use Rattle.kt_run.specs.Runs.{scene, Rests, IsToldRunOf}
-use Rattle.kt_run.proofs.Running.{told_run_of, due_of, settled_of}
+use Rattle.kt_run.specs.Telling.{AreToldTheirRows}
+use Rattle.kt_run.proofs.Running.{told_run_of, their_rows, due_of, settled_of}
 use Rattle.kt_run.proofs.runs.run.Goals as goal
 use Rattle.kt_run.proofs.runs.run.Goals.{After-into_lists}
 
@@ -50,6 +51,13 @@ returns-clause-run g c =
     (told_run_of c.args.plan.now
     (map (λ row. map (λ b. content ((goal.Recoverable-dyn g (b.vtable, b.value)).kind_of b.value) ((goal.Recoverable-dyn g (b.vtable, b.value)).value_of b.value)) row.items) c.args.cast.items)
     c.args.steps.now end.world (scene end.journals end.objects.items (λ b. content ((goal.Recoverable-dyn g (b.vtable, b.value)).kind_of b.value) ((goal.Recoverable-dyn g (b.vtable, b.value)).value_of b.value))) c.into_log.result.rows (limits g c) (rests g c) (ap (λ l. l.rows) c.into_log.ensures.log) count)
+
+pub returns-clause-told : goal.returns-clause-told
+returns-clause-told g c =
+    subst (λ (told : List (List Told)). AreToldTheirRows c.into_log.result.rows told) (sym c.into_lists.ensures)
+    (their_rows c.args.plan.now
+    (map (λ row. map (λ b. content ((goal.Recoverable-dyn g (b.vtable, b.value)).kind_of b.value) ((goal.Recoverable-dyn g (b.vtable, b.value)).value_of b.value)) row.items) c.args.cast.items)
+    c.args.steps.now c.make_all.new.self.world (scene c.make_all.new.self.journals c.make_all.new.self.objects.items (λ b. content ((goal.Recoverable-dyn g (b.vtable, b.value)).kind_of b.value) ((goal.Recoverable-dyn g (b.vtable, b.value)).value_of b.value))) c.into_log.result.rows (limits g c) (rests g c) (ap (λ l. l.rows) c.into_log.ensures.log))
 
 pub returns-clause-due : goal.returns-clause-due
 returns-clause-due g c =
