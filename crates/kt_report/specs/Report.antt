@@ -22,12 +22,6 @@ object_lines (name ∷ names) (offer ∷ offers) = object_line name offer ++ obj
 object_lines (name ∷ names) [] = []
 object_lines [] _ = []
 
--- a line was added for each of these names
-pub record AddsObjects (names : List (List ℕ)) (before after : List ℕ) : Type 0 where
-  pub offers : List (Option ℤ)
-  pub one_each : length offers ≡ length names
-  pub is : after ≡ before ++ object_lines names offers
-
 -- the report of a run: its instances, its refused commands, its objects and its losses
 pub record IsReport (names : List (List ℕ)) (rows : List Event) (certificates : List Certificate) (text : List ℕ) : Type 0 where
   pub offers : List (Option ℤ)

@@ -1,12 +1,46 @@
 //! The line of messages that did not arrive.
 
-ghost use Rattle.std.specs.Prelude.{◌≡◌, ◌++◌, OnOk};
+ghost use Rattle.std.specs.Prelude.{◌≡◌, ◌≤◌, ◌<◌, ◌+◌, ◌^◌, ◌++◌, List, Some, length, OnOk};
+ghost use Rattle.kt_spacetime.specs.declared.event.Event.{Event};
+ghost use Rattle.kt_cuts.specs.Past.{past};
+ghost use Rattle.kt_walk.specs.WalkOf.{WalkOf};
+ghost use Rattle.kt_report.specs.Exact.{is_lost, lost_in};
 ghost use Rattle.kt_report.specs.Lines.{losses_line};
 ghost use Rattle.kt_report.specs.Report.{dropped_in};
 
 use crate::words::{end_line, push_word};
-use kt_base::Memory;
+use kt_base::{Memory, MsgNo};
 use kt_spacetime::Event;
+use kt_walk::Walk;
+
+/// How many messages are lost after these rows.
+pub(crate) fn lost(walk: &Walk, rows: &[Event]) -> usize
+    requires { length rows.now ≤ 2 ^ 24 }
+    ensures { WalkOf walk.now rows.now → result ≡ lost_in rows.now }
+{
+    let mut lost: usize = 0;
+    for place in 0..rows.len() {
+        if is_lost(walk, place, rows[place]) {
+            lost += 1;
+        }
+    }
+    lost
+}
+
+// Whether the row at a place sent a message that is lost.
+fn is_lost(walk: &Walk, place: usize, row: Event) -> bool
+    requires { place < 2 ^ 24 }
+    ensures { (rows : List Event) → WalkOf walk.now rows → result ≡ is_lost (past rows) (place + 1) (Some row) }
+{
+    match row {
+        Event::Sent { p, to, .. } => walk.takes_in_transit(&Event::Received {
+            p: to,
+            from: p,
+            msg: MsgNo::after(place),
+        }),
+        _ => false,
+    }
+}
 
 /// How many messages were dropped.
 pub(crate) fn dropped(rows: &[Event]) -> usize

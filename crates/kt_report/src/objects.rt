@@ -1,37 +1,27 @@
 //! The lines of objects.
 
-ghost use Rattle.std.specs.Prelude.{◌≡◌, ◌++◌, Some, OnOk};
+ghost use Rattle.std.specs.Prelude.{◌≡◌, ◌++◌, Some, OnOk, length, map};
 ghost use Rattle.kt_report.specs.Lines.{object_line, object_words};
-ghost use Rattle.kt_report.specs.Report.{AddsObjects};
+ghost use Rattle.kt_report.specs.Report.{object_lines};
 
-use crate::process::Process;
+use crate::offers::Offers;
 use crate::words::{end_line, name_at, push_word};
 use kt_base::Memory;
 use kt_plan::Names;
 
-/// Gathers a line for each process.
+/// Gathers a line for each process, of which each has an object.
 pub(crate) fn push_objects(
     text: &mut Vec<u8>,
     names: &Names,
-    processes: &[Process],
+    objects: &[Offers],
 ) -> Result<(), Memory>
-    ensures { OnOk result (AddsObjects names.now text.old.items text.new.items) }
+    requires { length objects.now ≡ length names.now }
+    ensures { OnOk result (text.new.items ≡ text.old.items ++ object_lines names.now (map (λ o. o.now) objects.now)) }
 {
-    for place in 0..names.len() {
-        let offer = offer_at(processes, place);
-        push_object(text, name_at(names, place), offer)?;
+    for place in 0..objects.len() {
+        push_object(text, name_at(names, place), objects[place].now)?;
     }
     Ok(())
-}
-
-// What the object of a process offers, if it is up.
-fn offer_at(processes: &[Process], place: usize) -> Option<i64> {
-    let process = processes.get(place)?;
-    if process.is_up {
-        Some(process.offers.now)
-    } else {
-        None
-    }
 }
 
 // The line of an object.

@@ -1,11 +1,17 @@
 //! What an object offers of its value.
 
-ghost use Rattle.std.specs.Prelude.{◌≡◌, ℕ, ℤ, List, None, Some, pos, unwrap_or};
+ghost use Rattle.std.specs.Prelude.{◌≡◌, ℕ, ℤ, List};
 ghost use Rattle.kt_object.specs.Value.{after, offered};
+ghost use Rattle.kt_values.specs.Values.{Apply, Due, does, does_all, first_due};
+ghost use Rattle.kt_report.specs.Exact.{rules_of_kind};
+ghost use Rattle.kt_report.specs.Shown.{act_of, offers_of};
+
+use kt_plan::Act;
 
 /// What an object of a kind offers after one more message, from what it offered before.
-pub(crate) fn offer_after(kind: u8, offer: i64, body: i64) -> i64
-    ensures { (value : List ℤ) (from : ℕ) → offered kind value ≡ offer → result ≡ offered kind (after kind value from body) }
+fn offer_after(kind: u8, offer: i64, body: i64) -> i64
+    ensures { (value : List ℤ) (from : ℕ) → offer ≡ offered kind value
+        → result ≡ offered kind (after kind value from body) }
 {
     match kind {
         0 => offer.saturating_add(body),
@@ -13,61 +19,69 @@ pub(crate) fn offer_after(kind: u8, offer: i64, body: i64) -> i64
     }
 }
 
-/// What an object offers of its value now, of its tentative state, if it has one, and of its permanent one.
+/// What the object of a process offers: where it is up, what it offers now; and what its tentative state, where there
+/// is one, and its permanent one would offer.
 #[derive(Clone, Copy, Debug, PartialEq, Eq)]
 pub(crate) struct Offers {
-    pub(crate) now: i64,
+    pub(crate) kind: u8,
+    pub(crate) now: Option<i64>,
     pub(crate) tentative: Option<i64>,
     pub(crate) permanent: i64,
 }
 
 impl Offers {
-    /// What a new object offers.
-    pub(crate) fn new() -> Offers
-        ensures { result ≡ record { now = pos 0; tentative = None; permanent = pos 0 } }
+    /// What a new object of a kind offers.
+    pub(crate) fn new(kind: u8) -> Offers
+        ensures { result ≡ offers_of kind (first_due (rules_of_kind kind)) }
     {
         Offers {
-            now: 0,
+            kind,
+            now: Some(0),
             tentative: None,
             permanent: 0,
         }
     }
 
-    /// Takes a message's body in.
-    pub(crate) fn take_in(&mut self, kind: u8, body: i64)
-        ensures now { (value : List ℤ) (from : ℕ) → offered kind value ≡ self.old.now → self.new.now ≡ offered kind (after kind value from body) }
-        ensures tentative { self.new.tentative ≡ self.old.tentative }
-        ensures permanent { self.new.permanent ≡ self.old.permanent }
+    /// What it offers once its process has done an act.
+    pub(crate) fn after(self, act: Act) -> Offers
+        ensures { (kind : ℕ) (d : Due (List ℤ)) → self ≡ offers_of kind d
+            → result ≡ offers_of kind (does_all (rules_of_kind kind) d (act_of act)) }
     {
-        self.now = offer_after(kind, self.now, body);
+        match act {
+            Act::Nothing => self,
+            Act::Apply { body, .. } => self.after_message(body),
+            Act::Keep => Offers {
+                tentative: self.now,
+                ..self
+            },
+            Act::Promote => Offers {
+                tentative: None,
+                permanent: self.tentative.unwrap_or(self.permanent),
+                ..self
+            },
+            Act::Discard => Offers {
+                tentative: None,
+                ..self
+            },
+            Act::Restore => Offers {
+                now: Some(self.permanent),
+                ..self
+            },
+            Act::Drop => Offers { now: None, ..self },
+        }
     }
 
-    /// Keeps the value as the tentative state.
-    pub(crate) fn keep(&mut self)
-        ensures { self.new ≡ record self.old { tentative = Some self.old.now } }
+    // What it offers once it has taken in a message, where it is up.
+    fn after_message(self, body: i64) -> Offers
+        ensures { (kind : ℕ) (d : Due (List ℤ)) (from : ℕ) → self ≡ offers_of kind d
+            → result ≡ offers_of kind (does (rules_of_kind kind) d (Apply from body)) }
     {
-        self.tentative = Some(self.now);
-    }
-
-    /// Makes the tentative state the permanent one, if there is one.
-    pub(crate) fn promote(&mut self)
-        ensures { self.new ≡ record self.old { tentative = None; permanent = unwrap_or self.old.tentative self.old.permanent } }
-    {
-        self.permanent = self.tentative.unwrap_or(self.permanent);
-        self.tentative = None;
-    }
-
-    /// Drops the tentative state.
-    pub(crate) fn discard(&mut self)
-        ensures { self.new ≡ record self.old { tentative = None } }
-    {
-        self.tentative = None;
-    }
-
-    /// Goes back to the permanent state.
-    pub(crate) fn restore(&mut self)
-        ensures { self.new ≡ record self.old { now = self.old.permanent } }
-    {
-        self.now = self.permanent;
+        match self.now {
+            Some(offer) => Offers {
+                now: Some(offer_after(self.kind, offer, body)),
+                ..self
+            },
+            None => self,
+        }
     }
 }

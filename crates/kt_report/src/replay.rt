@@ -1,178 +1,153 @@
 //! A log gone through row by row.
 
-ghost use Rattle.std.specs.Prelude.{◌<◌, ◌≤◌, ◌^◌, length};
+ghost use Rattle.std.specs.Prelude.{◌≡◌, ◌<◌, ◌≤◌, ◌^◌, ◌++◌, ◌∷◌, [], ℕ, ℤ, List, length, true, false, OnOk, IfOk};
+ghost use Rattle.kt_spacetime.specs.declared.event.Event.{Event};
+ghost use Rattle.kt_spacetime.specs.declared.event.Event.TheVariants as event;
+ghost use Rattle.kt_spacetime.specs.Events.{process_of};
+ghost use Rattle.kt_cuts.specs.Past.{past};
+ghost use Rattle.kt_cuts.specs.Legal.{IsLegal};
+ghost use Rattle.kt_walk.specs.WalkOf.{WalkOf};
+ghost use Rattle.kt_values.specs.Done.{done};
+ghost use Rattle.kt_values.specs.Values.{acts_of};
+ghost use Rattle.kt_report.specs.Shown.{ReplayOf, ShowsInstances, ShowsOffers, act_of};
 
-use crate::history::Act;
-use crate::messages::Fates;
-use crate::process::Process;
-use kt_base::{InstNo, Kind, Memory, MsgNo, ProcNo};
+use crate::closings::{Instance, closing, note};
+use crate::offers::Offers;
+use kt_base::{Memory, MsgNo, ProcNo};
+use kt_cuts::LegalFault;
+use kt_plan::Act;
 use kt_spacetime::Event;
+use kt_walk::Walk;
 use std::alloc::Global;
 
-/// An instance: what it is, and how it was decided, if it was.
-#[derive(Clone, Copy, Debug, PartialEq, Eq)]
-struct Instance {
-    kind: Kind,
-    commit: Option<bool>,
-}
-
-/// What is known after some rows of a log: of each process, of each message, and of each instance that was begun.
-#[derive(Debug, Drop)]
+/// What is known after some rows of a log: what the rows mean, what the object of each process offers, and the
+/// instances that have begun.
+#[derive(Drop)]
 pub(crate) struct Replay {
-    pub(crate) processes: Vec<Process>,
-    pub(crate) fates: Fates,
+    pub(crate) walk: Walk,
+    pub(crate) objects: Vec<Offers>,
     instances: Vec<Instance>,
 }
 
 impl Replay {
-    /// What is known after all rows, where the processes have objects of these kinds.
+    /// What is known after all rows of a legal log, where the processes have objects of these kinds. Of another log no
+    /// more is said than how many objects there are.
     pub(crate) fn of_rows(alloc: Global, kinds: &[u8], rows: &[Event]) -> Result<Replay, Memory>
         requires { length rows.now ≤ 2 ^ 24 }
+        ensures count { IfOk result (λ replay. length replay.objects.items ≡ length kinds.now) }
+        ensures exact { IfOk result (λ replay. IsLegal rows.now → ReplayOf replay kinds.now rows.now) }
     {
-        let mut replay = Replay::new(alloc, kinds, rows.len())?;
-        for (place, row) in rows.iter().enumerate() {
-            replay.note(rows, place, *row)?;
+        let mut replay = Replay::new(alloc, kinds)?;
+        for place in 0..rows.len() {
+            if !replay.feed(&rows[..place], &rows[place])? {
+                return Ok(replay);
+            }
         }
         Ok(replay)
     }
 
-    // What is known before the first of so many rows.
-    fn new(alloc: Global, kinds: &[u8], rows: usize) -> Result<Replay, Memory> {
-        let mut processes = Vec::new(alloc);
-        for kind in kinds {
-            processes.push(Process::new(alloc, *kind))?;
-        }
+    // What is known before the first row.
+    fn new(alloc: Global, kinds: &[u8]) -> Result<Replay, Memory>
+        ensures { IfOk result (λ replay. ReplayOf replay kinds.now []) }
+    {
         Ok(Replay {
-            processes,
-            fates: Fates::new(alloc, rows)?,
+            walk: Walk::new(alloc)?,
+            objects: new_objects(alloc, kinds)?,
             instances: Vec::new(alloc),
         })
     }
 
-    // Notes the row at a place.
-    fn note(&mut self, rows: &[Event], place: usize, row: Event) -> Result<(), Memory>
-        requires { place < 2 ^ 24 }
+    // Takes one more row after those before, and answers whether it breaks no rule.
+    fn feed(&mut self, before: &[Event], row: &Event) -> Result<bool, Memory>
+        requires few { self.old.walk.rows < 2 ^ 24 }
+        ensures fed { IfOk result (λ is_legal. is_legal ≡ true → (kinds : List ℕ)
+            → ReplayOf self.old kinds before.now → ReplayOf self.new kinds (before.now ++ row.now ∷ [])) }
+        ensures broken { IfOk result (λ is_legal. is_legal ≡ false → (kinds : List ℕ)
+            → ReplayOf self.old kinds before.now → IsLegal (before.now ++ row.now ∷ []) → ⊥) }
+        ensures count { length self.new.objects.items ≡ length self.old.objects.items }
     {
-        match row {
-            Event::Sent { p, .. } => self.note_send(p, MsgNo::after(place)),
-            Event::Received { p, msg, .. } => self.note_receive(p, msg, body_of(rows, msg)),
-            Event::Dropped { msg, .. } => {
-                self.fates.set_dropped(msg);
-                Ok(())
-            }
-            Event::Began { kind, .. } => self.note_beginning(kind),
-            Event::Took { p, inst } => {
-                self.note_joining(p, inst);
-                self.note_checkpoint(p);
-                Ok(())
-            }
-            Event::Ready { p, inst } => {
-                self.note_joining(p, inst);
-                Ok(())
-            }
-            Event::Decided { inst, commit, .. } => {
-                self.note_decision(inst, commit);
-                Ok(())
-            }
-            Event::Closed { p, inst } => {
-                self.note_closing(p, inst);
-                Ok(())
-            }
-            Event::Failed { p } => {
-                self.note_failure(p);
-                Ok(())
-            }
-            Event::Unwilling { .. } | Event::Refused { .. } => Ok(()),
+        let act = act_at(self.instances.as_slice(), before, row);
+        if !is_fed(&mut self.walk, row)? {
+            return Ok(false);
         }
-    }
-
-    // Notes that a process sent a message.
-    fn note_send(&mut self, p: ProcNo, msg: MsgNo) -> Result<(), Memory> {
-        if let Some(process) = self.processes.get_mut(p.index()) {
-            process.history.push(Act::Sent(msg))?;
-        }
-        self.fates.set_sent(msg, true);
-        Ok(())
-    }
-
-    // Notes that a process received a message with this body.
-    fn note_receive(&mut self, p: ProcNo, msg: MsgNo, body: i64) -> Result<(), Memory> {
-        if let Some(process) = self.processes.get_mut(p.index()) {
-            process.history.push(Act::Received(msg))?;
-            process.offers.take_in(process.kind, body);
-        }
-        self.fates.set_received(msg, true);
-        Ok(())
-    }
-
-    // Notes that the next instance was begun.
-    fn note_beginning(&mut self, kind: Kind) -> Result<(), Memory> {
-        self.instances.push(Instance { kind, commit: None })?;
-        Ok(())
-    }
-
-    // Notes that a process joined an instance.
-    fn note_joining(&mut self, p: ProcNo, inst: InstNo) {
-        if let Some(process) = self.processes.get_mut(p.index()) {
-            process.in_inst = Some(inst);
-        }
-    }
-
-    // Notes that a process took a tentative checkpoint.
-    fn note_checkpoint(&mut self, p: ProcNo) {
-        if let Some(process) = self.processes.get_mut(p.index()) {
-            process.keep();
-        }
-    }
-
-    // Notes how an instance was decided, and carries a commit out in the histories of its members.
-    fn note_decision(&mut self, inst: InstNo, commit: bool) {
-        if let Some(instance) = self.instances.get_mut(inst.index()) {
-            instance.commit = Some(commit);
-            if commit {
-                let kind = instance.kind;
-                self.commit_histories(inst, kind);
-            }
-        }
-    }
-
-    // Carries the commit of an instance out in the histories of its members.
-    fn commit_histories(&mut self, inst: InstNo, kind: Kind) {
-        for process in &mut self.processes {
-            if process.in_inst == Some(inst) {
-                match kind {
-                    Kind::Checkpoint => process.history.promote(),
-                    Kind::Rollback => process.history.roll_back(&mut self.fates),
-                }
-            }
-        }
-    }
-
-    // Notes that a process left an instance.
-    fn note_closing(&mut self, p: ProcNo, inst: InstNo) {
-        let Some(instance) = self.instances.get(inst.index()) else {
-            return;
-        };
-        if let (Some(process), Some(commit)) = (
-            self.processes.get_mut(p.index()),
-            instance.commit,
-        ) {
-            process.close(instance.kind, commit);
-        }
-    }
-
-    // Notes that the object of a process failed.
-    fn note_failure(&mut self, p: ProcNo) {
-        if let Some(process) = self.processes.get_mut(p.index()) {
-            process.is_up = false;
-        }
+        note(&mut self.instances, row)?;
+        act_on(&mut self.objects, row.process(), act);
+        Ok(true)
     }
 }
 
-// The body of a message, or 0 where its row sent none.
-fn body_of(rows: &[Event], msg: MsgNo) -> i64 {
+// What new objects of these kinds offer.
+fn new_objects(alloc: Global, kinds: &[u8]) -> Result<Vec<Offers>, Memory>
+    ensures { IfOk result (λ objects. ShowsOffers objects.items kinds.now []) }
+{
+    let mut objects = Vec::new(alloc);
+    for kind in kinds {
+        objects.push(Offers::new(*kind))?;
+    }
+    Ok(objects)
+}
+
+// Whether a walk takes one more row, which breaks no rule then.
+fn is_fed(walk: &mut Walk, row: &Event) -> Result<bool, Memory>
+    requires few { walk.old.rows < 2 ^ 24 }
+    ensures fed { IfOk result (λ is_legal. is_legal ≡ true → (rows : List Event) → WalkOf walk.old rows
+        → IsLegal (rows ++ row.now ∷ []) × WalkOf walk.new (rows ++ row.now ∷ [])) }
+    ensures broken { IfOk result (λ is_legal. is_legal ≡ false → (rows : List Event) → WalkOf walk.old rows
+        → IsLegal (rows ++ row.now ∷ []) → ⊥) }
+{
+    match walk.feed(row) {
+        Ok(()) => Ok(true),
+        Err(LegalFault::Broken(..)) => Ok(false),
+        Err(LegalFault::Memory) => Err(Memory),
+    }
+}
+
+// What a row's process does to its object and its saved states, after the rows before.
+fn act_at(instances: &[Instance], before: &[Event], row: &Event) -> Act
+    ensures { IsLegal (before.now ++ row.now ∷ []) → ShowsInstances instances.now (past before.now)
+        → act_of result ≡ acts_of (done before.now) row.now }
+{
+    match *row {
+        Event::Received { from, msg, .. } => Act::Apply {
+            from,
+            body: body_of(before, msg),
+        },
+        Event::Took { .. } => Act::Keep,
+        Event::Closed { inst, .. } => closing(instances, inst),
+        Event::Failed { .. } => Act::Drop,
+        _ => Act::Nothing,
+    }
+}
+
+// The body of a message that these rows sent, or 0.
+fn body_of(rows: &[Event], msg: MsgNo) -> i64
+    ensures { (p from : ℕ) → IsLegal (rows.now ++ event.Received p from msg ∷ []) → result ≡ (done rows.now).body msg }
+{
     match rows.get(msg.index()) {
-        Some(Event::Sent { body, .. }) => *body,
+        Some(row) => body_in(*row),
+        None => 0,
+    }
+}
+
+// The body that a row sent, or 0.
+fn body_in(row: Event) -> i64
+    ensures { (from to : ℕ) (body : ℤ) → row ≡ event.Sent from to body → result ≡ body }
+{
+    match row {
+        Event::Sent { body, .. } => body,
         _ => 0,
+    }
+}
+
+// Does an act of a process to what its object offers.
+fn act_on(objects: &mut Vec<Offers>, p: ProcNo, act: Act)
+    ensures shows { (kinds : List ℕ) (rows : List Event) (row : Event) → p ≡ process_of row
+        → act_of act ≡ acts_of (done rows) row → IsLegal (rows ++ row ∷ []) → ShowsOffers objects.old.items kinds rows
+        → ShowsOffers objects.new.items kinds (rows ++ row ∷ []) }
+    ensures count { length objects.new.items ≡ length objects.old.items }
+{
+    let place = p.index();
+    if place < objects.len() {
+        objects[place] = objects[place].after(act);
     }
 }

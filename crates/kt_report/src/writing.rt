@@ -1,10 +1,13 @@
 //! Reports.
 
 ghost use Rattle.std.specs.Prelude.{OnOk};
+ghost use Rattle.std.specs.Io.KnownBytes.{Appends};
+ghost use Rattle.kt_cuts.specs.Legal.{IsLegal};
+ghost use Rattle.kt_report.specs.Exact.{report_of};
 ghost use Rattle.kt_report.specs.Report.{WritesReport};
 
 use crate::instances::write_instances;
-use crate::losses::{dropped, push_losses};
+use crate::losses::{dropped, lost, push_losses};
 use crate::objects::push_objects;
 use crate::refusals::write_refusals;
 use crate::replay::Replay;
@@ -25,6 +28,10 @@ use std::io::Write;
 /// refused command `refused NAME VERB CAUSE`; for each process `object NAME up OFFER` or `object NAME down`; and
 /// `lost L dropped D`. A process without a name is written as `-`.
 ///
+/// An object's line says what it offers at the end of the log, where it is up then. A message is lost whose send is live
+/// at the end, which its receiver's live history does not have, and which was not dropped. Of a log that is not legal,
+/// what is written of objects and how many messages it says are lost is left open.
+///
 /// The text goes out in pieces of some 32 KiB. After a fault, part of it may be written.
 pub fn report<W: Write>(
     alloc: Global,
@@ -33,7 +40,10 @@ pub fn report<W: Write>(
     certificates: &[Certificate],
     writer: &mut W,
 ) -> Result<(), WriteFault>
-    ensures { OnOk result (WritesReport (W.contents writer.old) (W.contents writer.new) plan.now.names log.now.rows certificates.now) }
+    ensures written { OnOk result (WritesReport (W.contents writer.old) (W.contents writer.new) plan.now.names
+        log.now.rows certificates.now) }
+    ensures exact { OnOk result (IsLegal log.now.rows → Appends (W.contents writer.old) (W.contents writer.new)
+        (report_of plan.now log.now.rows certificates.now)) }
 {
     let rows = log.rows();
     let unwilling = Unwilling::in_rows(alloc, rows)?;
@@ -48,7 +58,7 @@ pub fn report<W: Write>(
         writer,
     )?;
     write_refusals(&mut text, &plan.names, rows, writer)?;
-    push_objects(&mut text, &plan.names, replay.processes.as_slice())?;
-    push_losses(&mut text, replay.fates.lost(), dropped(rows))?;
+    push_objects(&mut text, &plan.names, replay.objects.as_slice())?;
+    push_losses(&mut text, lost(&replay.walk, rows), dropped(rows))?;
     write_rest(&mut text, writer)
 }

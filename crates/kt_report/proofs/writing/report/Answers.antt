@@ -1,8 +1,17 @@
-use Rattle.std.proofs.Common.{◌≡◌, List, ℕ, ap, subst}
+use Rattle.std.proofs.Common.{◌≡◌, ◌∙◌, List, ℕ, ap, subst, sym, length, map}
+use Rattle.std.proofs.lemmas.List.{length-map}
 use Rattle.std.proofs.lemmas.Result.{on_ok_weaker}
+use Rattle.std.specs.Io.KnownBytes.{Appends}
+use Rattle.std.specs.List.{flat_map}
+use Rattle.kt_plan.specs.Limits.{Planned}
 use Rattle.kt_spacetime.specs.declared.event.Event.{Event}
-use Rattle.kt_report.specs.Report.{WritesReport}
-use Rattle.kt_report.proofs.ReportFacts.{writes_report}
+use Rattle.kt_cuts.specs.Legal.{IsLegal}
+use Rattle.kt_report.specs.declared.offers.Offers.{Offers}
+use Rattle.kt_report.specs.Exact.{offers_in, report_of}
+use Rattle.kt_report.specs.Lines.{instance_lines, refusal_line, losses_line}
+use Rattle.kt_report.specs.Report.{WritesReport, object_lines}
+use Rattle.kt_report.proofs.OfferFacts.{offers_are}
+use Rattle.kt_report.proofs.ReportFacts.{parts_go_out, writes_report, is_exact}
 use Rattle.kt_report.proofs.writing.report.Goals as goal
 
 pub returns : goal.returns
@@ -11,11 +20,27 @@ returns g c =
     let a = contents c.args.writer.now in
     let d = contents c.write_rest.new.writer in
     let names = c.plan.inside.names in
+    let kinds = c.plan.inside.kinds.items in
+    let plan : Planned = record { names = names; kinds = kinds; commands = c.plan.inside.commands.items } in
     let rows = c.rows-rows.result.now in
     let certificates = c.args.certificates.now in
+    let objects = c.in_ok-replay.replay.objects.items in
+    let shown = c.as_slice-2.result.now in
+    let offers = map (λ (o : Offers). o.now) shown in
+    let all_shown : shown ≡ objects = c.as_slice-2.ensures.value in
     let same_names : names ≡ c.args.plan.now.names = ap (λ p. p.names) c.plan.view_is in
-    on_ok_weaker c.write_rest.result (λ h. subst (λ (ns : List (List ℕ)). WritesReport a d ns c.args.log.now.rows certificates) same_names
-    (subst (λ (rs : List Event). WritesReport a d names rs certificates) c.rows-rows.ensures.rows
-    (writes_report a (contents c.write_instances.new.writer) (contents c.write_refusals.new.writer) d c.new-text.result.items c.write_instances.new.text.items c.write_refusals.new.text.items
-    c.push_objects.new.text.items c.push_losses.new.text.items names rows certificates c.lost.result c.dropped.result c.new-text.ensures.items c.in_ok-write_instances.ensures
-    c.in_ok-write_refusals.ensures c.in_ok-push_objects.ensures c.in_ok-push_losses.ensures c.dropped.ensures h))) c.write_rest.ensures
+    let sliced : c.as_slice.result.now ≡ kinds = c.as_slice.ensures.value in
+    let one_each = length-map shown (λ (o : Offers). o.now) ∙ ap length all_shown ∙ c.in_ok-replay.ensures.count ∙ ap length sliced ∙ c.plan.invariant.one_kind_each in
+    let parts = parts_go_out a (contents c.write_instances.new.writer) (contents c.write_refusals.new.writer) d c.new-text.result.items c.write_instances.new.text.items c.write_refusals.new.text.items
+    c.push_objects.new.text.items c.push_losses.new.text.items (flat_map (instance_lines names rows) certificates) (flat_map (refusal_line names) rows) (object_lines names offers)
+    (losses_line c.lost.result c.dropped.result) c.new-text.ensures.items c.in_ok-write_instances.ensures c.in_ok-write_refusals.ensures c.in_ok-push_objects.ensures c.in_ok-push_losses.ensures in
+    record {
+      written = on_ok_weaker c.write_rest.result (λ out. subst (λ (ns : List (List ℕ)). WritesReport a d ns c.args.log.now.rows certificates) same_names
+          (subst (λ (rs : List Event). WritesReport a d names rs certificates) c.rows-rows.ensures.rows
+          (writes_report a d names rows certificates offers c.lost.result c.dropped.result one_each c.dropped.ensures (parts out)))) c.write_rest.ensures;
+      exact = on_ok_weaker c.write_rest.result (λ out legal.
+          let replayed = c.in_ok-replay.ensures.exact (subst IsLegal (sym c.rows-rows.ensures.rows) legal) in
+          subst (λ (p : Planned). Appends a d (report_of p c.args.log.now.rows certificates)) c.plan.view_is
+          (subst (λ (rs : List Event). Appends a d (report_of plan rs certificates)) c.rows-rows.ensures.rows
+          (is_exact a d plan rows certificates offers c.lost.result c.dropped.result (ap (map (λ (o : Offers). o.now)) all_shown ∙ offers_are objects c.as_slice.result.now rows replayed.offers ∙ ap (λ (ks : List ℕ). offers_in ks rows) sliced) (c.lost.ensures replayed.walk) c.dropped.ensures (parts out)))) c.write_rest.ensures;
+    }

@@ -1,0 +1,30 @@
+use Rattle.std.proofs.Common.{arith, ◌≡◌, ◌∙◌, ◌+◌, refl, sym, ap, cond, count_by, Bool, true, false}
+use Rattle.std.specs.List.{range_with_len}
+use Rattle.kt_cuts.specs.Past.{past}
+use Rattle.kt_cuts.proofs.Replayed.{row_read}
+use Rattle.kt_walk.specs.WalkOf.{WalkOf}
+use Rattle.kt_report.specs.Exact.{is_lost, is_lost_in}
+use Rattle.kt_report.proofs.MessageFacts.{row_at_place, count-more}
+use Rattle.kt_report.proofs.losses.lost.Goals as goal
+use Rattle.kt_report.proofs.losses.lost.Goals.{then-is_lost, else-is_lost}
+
+pub loop-place-preserved : goal.loop-place-preserved
+loop-place-preserved c =
+    let rows = c.args.rows.now in
+    let i = c.loop-place.place in
+    let test = is_lost_in rows in
+    let there = row_at_place rows i (i + 1) refl ∙ row_read rows i c.index-rows-place.result c.loop-place-test.true c.index-rows-place.is in
+    let next : 1 + i ≡ i + 1 = omega arith in
+    let more : (b : Bool) → c.is_lost.result ≡ b → WalkOf c.args.walk.now rows → count_by test (range_with_len 1 (i + 1)) ≡ count_by test (range_with_len 1 i) + cond b 1 0 =
+    λ b is h. count-more test 1 i (i + 1) next
+    ∙ ap (λ (b : Bool). count_by test (range_with_len 1 i) + cond b 1 0) (ap (is_lost (past rows) (i + 1)) there ∙ sym (c.is_lost.ensures rows h) ∙ is) in
+    elim c.if-is_lost.branch [
+      | then-is_lost w ↦ record {
+        few = omega arith;
+        count = λ h. omega (arith, w.lost-is, c.loop-place.invariant.count h, more true w.if-is_lost.true h);
+      }
+      | else-is_lost w ↦ record {
+        few = omega arith;
+        count = λ h. omega (arith, w.lost-is, c.loop-place.invariant.count h, more false w.if-is_lost.false h);
+      }
+    ]
