@@ -12,8 +12,8 @@ use Rattle.kt_program.specs.Played.{Outputs, IsWritten, AreNew, OverNew, IsLogOf
 
 -- what is written of such rows is written of others that they are
 module _ (Are Be : List Event → Type 0) (so : (rows : List Event) → Are rows → Be rows) (old new : Outputs) where
-  pub written_so : (names : List (List ℕ)) → IsWritten Are names old new → IsWritten Be names old new
-  written_so names w = record { rows = w.rows; run = so w.rows w.run; promised = w.promised; writes = w.writes }
+  pub written_so : (plan : Planned) → IsWritten Are plan old new → IsWritten Be plan old new
+  written_so plan w = record { rows = w.rows; run = so w.rows w.run; promised = w.promised; writes = w.writes }
 
   within_so : StopsWithin Are old new → StopsWithin Be old new
   within_so (inl s) = inl s

@@ -3,10 +3,9 @@ use Rattle.std.specs.Prelude.{◌≡◌, ◌≢◌, ◌⊎◌, ℕ, Bool, List, 
 use Rattle.std.specs.Io.KnownBytes.{Appends}
 use Rattle.clap.specs.Words.{Text}
 use Rattle.kt_spacetime.specs.declared.event.Event.{Event}
-use Rattle.kt_cuts.specs.Legal.{IsLegal}
-use Rattle.kt_certify.specs.Certificates.{certificates}
-use Rattle.kt_report.specs.Report.{WritesReport}
+use Rattle.kt_plan.specs.Limits.{Planned}
 use Rattle.kt_checker.specs.declared.verdict.Verdict.{Verdict}
+use Rattle.kt_promises.specs.Headline.{IsPromised}
 use Rattle.kt_program.specs.declared.ending.Done.{Done}
 use Rattle.kt_program.specs.declared.ending.Done.TheVariants.{Judged, Played, Shown}
 use Rattle.kt_program.specs.declared.fault.AppFault.{AppFault}
@@ -14,6 +13,7 @@ use Rattle.kt_program.specs.declared.fault.AppFault.TheVariants as app
 use Rattle.kt_program.specs.declared.fault.ProgramFault.{ProgramFault}
 use Rattle.kt_program.specs.declared.fault.ProgramFault.TheVariants as program
 use Rattle.kt_program.specs.Asking.{Ask, IsRun}
+use Rattle.kt_program.specs.Played.{WritesReport, IsLogOfPlan}
 use Rattle.kt_program.specs.Status.{status_of}
 use Rattle.kt_program.specs.Stored.{Told, is_yes, line_of}
 
@@ -26,12 +26,13 @@ abbrev pub LeavesAnswer : Result Bool AppFault → Told → Told → Type 0
 LeavesAnswer (Ok passed) old new = AppendsAnswer passed old new
 LeavesAnswer (Err fault) old new = fault ≢ app.Write → new ≡ old
 
--- the report of a run: its rows are legal
+-- the report of a run of a plan, of which all is so that is promised of a run
 pub record AppendsReport (old new : Told) : Type 0 where
-  pub names : List (List ℕ)
+  pub plan : Planned
   pub rows : List Event
-  pub legal : IsLegal rows
-  pub report : WritesReport old new names rows (certificates rows)
+  pub run : IsLogOfPlan plan rows
+  pub promised : IsPromised rows
+  pub report : WritesReport old new plan rows
 
 -- the run's report; at a fault nothing, unless a writer failed or there was no memory for more of the report
 abbrev pub LeavesPlayed : Result Unit ProgramFault → Told → Told → Type 0

@@ -11,13 +11,15 @@ use Rattle.kt_chain.specs.Spelling.{records_of}
 use Rattle.kt_certify.specs.Certificates.{certificates}
 use Rattle.kt_certify.specs.declared.fault.CertFault.{CertFault}
 use Rattle.kt_certify.specs.declared.fault.CertFault.TheVariants as certify
-use Rattle.kt_report.specs.Report.{WritesReport}
+use Rattle.kt_report.specs.Exact.{report_of}
 use Rattle.kt_plan.specs.Limits.{Planned}
 use Rattle.kt_promises.specs.Headline.{IsPromised}
 use Rattle.kt_core.specs.Shown.{plan_shown}
 use Rattle.kt_promises.specs.Offers.{offer_places, AreOfferedAt}
 use Rattle.kt_promises.specs.World.{start_world}
+use Rattle.kt_plan.specs.declared.steps.Step.{Step}
 use Rattle.kt_run.specs.Objects.{first_of, rules_by}
+use Rattle.kt_run.specs.Runs.{IsRunOf}
 use Rattle.kt_run.specs.declared.faults.RunFault.{RunFault}
 use Rattle.kt_run.specs.declared.faults.RunFault.TheVariants as run
 use Rattle.kt_threads.specs.Moves as threads
@@ -45,18 +47,22 @@ WritesLog old new rows = Appends old new (text_of (header ∷ map spelling rows)
 abbrev pub WritesCertificates : Told → Told → List Event → Type 0
 WritesCertificates old new rows = Appends old new (text_of (records_of (certificates rows)))
 
--- a log of these rows, its certificates and its report are written
-pub record WritesRun (names : List (List ℕ)) (rows : List Event) (old new : Outputs) : Type 0 where
+-- the text of the report of such a log of a run of this plan is written
+abbrev pub WritesReport : Told → Told → Planned → List Event → Type 0
+WritesReport old new plan rows = Appends old new (report_of plan rows (certificates rows))
+
+-- a log of these rows, of a run of this plan, its certificates and its report are written
+pub record WritesRun (plan : Planned) (rows : List Event) (old new : Outputs) : Type 0 where
   pub log : WritesLog old.log new.log rows
   pub chains : WritesCertificates old.certificates new.certificates rows
-  pub report : WritesReport old.report new.report names rows (certificates rows)
+  pub report : WritesReport old.report new.report plan rows
 
--- a run is written whose rows are such, and all is so of it that is promised of a run
-pub record IsWritten (Are : List Event → Type 0) (names : List (List ℕ)) (old new : Outputs) : Type 0 where
+-- a run of this plan is written whose rows are such, and all is so of it that is promised of a run
+pub record IsWritten (Are : List Event → Type 0) (plan : Planned) (old new : Outputs) : Type 0 where
   pub rows : List Event
   pub run : Are rows
   pub promised : IsPromised rows
-  pub writes : WritesRun names rows old new
+  pub writes : WritesRun plan rows old new
 
 -- the object that each process has first is new: it is of its process's kind, and has that kind's opening value
 abbrev pub AreNew : Planned → List (List Content) → Type 0
@@ -74,6 +80,10 @@ pub record IsLogOfRun (plan : Planned) (cast : List (List Content)) (rows : List
   pub moves : threads.IsRunOf plan steps rows
   pub offers : AreOfferedAt (rules_by cast) rows
       (offer_places (plan_shown plan) (start_world (plan_shown plan) 0) (map threads.move_of steps))
+
+-- these are the rows of some run of a plan over new objects: one that is played, or one of threads
+abbrev pub IsLogOfPlan : Planned → List Event → Type 0
+IsLogOfPlan plan rows = ((steps : List Step) × OverNew plan (λ cast. IsRunOf plan cast steps) rows) ⊎ OverNew plan (IsLogOfRun plan) rows
 
 -- a fault of a run, as the program answers it
 abbrev pub of_run : RunFault → AppFault

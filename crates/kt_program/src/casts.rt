@@ -78,7 +78,7 @@ pub fn play_objects<L: Write, C: Write, R: Write>(
     cert_writer: &mut C,
     report_writer: &mut R,
 ) -> Result<(), AppFault>
-    ensures played { OnOk result (IsWritten (OverNew plan.now (λ cast. IsRunOf plan.now cast steps.now)) plan.now.names
+    ensures played { OnOk result (IsWritten (OverNew plan.now (λ cast. IsRunOf plan.now cast steps.now)) plan.now
         (outputs (L.contents log_writer.old) (C.contents cert_writer.old) (R.contents report_writer.old))
         (outputs (L.contents log_writer.new) (C.contents cert_writer.new) (R.contents report_writer.new))) }
     ensures stopped { IfErr result (StopsAt (OverNew plan.now (λ cast. IsRunOf plan.now cast steps.now))
@@ -124,7 +124,7 @@ fn play_cast<L: Write, C: Write, R: Write>(
     requires kinds { (p : ℕ) → p < length plan.now.kinds →
         HasKind plan.now.kinds (map (λ row. map (λ b. kind_of b) row.items) cast.items) p }
     requires opening { All (λ row. All (λ b. value_of b ≡ opening (kind_of b)) row.items) cast.items }
-    ensures played { OnOk result (IsWritten (OverNew plan.now (λ cast. IsRunOf plan.now cast steps.now)) plan.now.names
+    ensures played { OnOk result (IsWritten (OverNew plan.now (λ cast. IsRunOf plan.now cast steps.now)) plan.now
         (outputs (L.contents log_writer.old) (C.contents cert_writer.old) (R.contents report_writer.old))
         (outputs (L.contents log_writer.new) (C.contents cert_writer.new) (R.contents report_writer.new))) }
     ensures stopped { IfErr result (StopsAt (OverNew plan.now (λ cast. IsRunOf plan.now cast steps.now))
@@ -151,7 +151,7 @@ pub fn live_objects<T: Threads + Wait + Sync, L: Write, C: Write, R: Write>(
     cert_writer: &mut C,
     report_writer: &mut R,
 ) -> Result<(), AppFault>
-    ensures lived { OnOk result (IsWritten (OverNew plan.now (IsLogOfRun plan.now)) plan.now.names
+    ensures lived { OnOk result (IsWritten (OverNew plan.now (IsLogOfRun plan.now)) plan.now
         (outputs (L.contents log_writer.old) (C.contents cert_writer.old) (R.contents report_writer.old))
         (outputs (L.contents log_writer.new) (C.contents cert_writer.new) (R.contents report_writer.new))) }
     ensures stopped { IfErr result (StopsAt (OverNew plan.now (IsLogOfRun plan.now))
@@ -197,7 +197,7 @@ fn live_cast<T: Threads + Wait + Sync, L: Write, C: Write, R: Write>(
     requires kinds { (p : ℕ) → p < length plan.now.kinds →
         HasKind plan.now.kinds (map (λ row. map (λ b. kind_of b) row.items) cast.items) p }
     requires opening { All (λ row. All (λ b. value_of b ≡ opening (kind_of b)) row.items) cast.items }
-    ensures lived { OnOk result (IsWritten (OverNew plan.now (IsLogOfRun plan.now)) plan.now.names
+    ensures lived { OnOk result (IsWritten (OverNew plan.now (IsLogOfRun plan.now)) plan.now
         (outputs (L.contents log_writer.old) (C.contents cert_writer.old) (R.contents report_writer.old))
         (outputs (L.contents log_writer.new) (C.contents cert_writer.new) (R.contents report_writer.new))) }
     ensures stopped { IfErr result (StopsAt (OverNew plan.now (IsLogOfRun plan.now))

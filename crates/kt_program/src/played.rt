@@ -7,7 +7,8 @@ ghost use Rattle.kt_chain.specs.Spelling.{HasShortChains, records_of};
 ghost use Rattle.kt_certify.specs.Certificates.{certificates};
 ghost use Rattle.kt_promises.specs.Headline.{IsPromised};
 ghost use Rattle.kt_run.specs.Runs.{IsRunOf};
-ghost use Rattle.kt_report.specs.Report.{WritesReport};
+ghost use Rattle.kt_cuts.specs.Legal.{IsLegal};
+ghost use Rattle.kt_report.specs.Exact.{report_of};
 ghost use Rattle.kt_text.specs.Writing.{text_of};
 ghost use Rattle.kt_certify.specs.declared.fault.CertFault.{CertFault};
 ghost use Rattle.kt_certify.specs.declared.fault.CertFault.TheVariants as certify_fault;
@@ -51,7 +52,7 @@ pub fn play_plan<L: Write, C: Write, R: Write>(
     // given, goes on by default steps, and comes to rest; what is sent for an object is what it offers.
     ensures played { OnOk result (IsWritten
         (IsRunOf plan.now (map (λ row. map (λ b. content (kind_of b) (value_of b)) row.items) cast.items) steps.now)
-        plan.now.names
+        plan.now
         (outputs (L.contents log_writer.old) (C.contents cert_writer.old) (R.contents report_writer.old))
         (outputs (L.contents log_writer.new) (C.contents cert_writer.new) (R.contents report_writer.new))) }
     // Where it stops: nothing is written of what comes later, and all of what comes earlier, of such a run.
@@ -81,7 +82,7 @@ pub fn live_plan<T: Threads + Wait + Sync, L: Write, C: Write, R: Write>(
     // is sent for an object is what it offers.
     ensures lived { OnOk result (IsWritten
         (IsLogOfRun plan.now (map (λ row. map (λ b. content (kind_of b) (value_of b)) row.items) cast.items))
-        plan.now.names
+        plan.now
         (outputs (L.contents log_writer.old) (C.contents cert_writer.old) (R.contents report_writer.old))
         (outputs (L.contents log_writer.new) (C.contents cert_writer.new) (R.contents report_writer.new))) }
     // Where it stops: nothing is written of what comes later, and all of what comes earlier, of such a run.
@@ -104,7 +105,7 @@ fn write_run<L: Write, C: Write, R: Write>(
     report_writer: &mut R,
 ) -> Result<(), AppFault>
     requires { IsPromised log.now.rows }
-    ensures written { OnOk result (WritesRun plan.now.names log.now.rows
+    ensures written { OnOk result (WritesRun plan.now log.now.rows
         (outputs (L.contents log_writer.old) (C.contents cert_writer.old) (R.contents report_writer.old))
         (outputs (L.contents log_writer.new) (C.contents cert_writer.new) (R.contents report_writer.new))) }
     ensures stopped { IfErr result (StopsAt (λ rows. rows ≡ log.now.rows)
@@ -196,7 +197,8 @@ fn write_report<R: Write>(
     certificates: &[Certificate],
     writer: &mut R,
 ) -> Result<(), AppFault>
-    ensures written { OnOk result (WritesReport (R.contents writer.old) (R.contents writer.new) plan.now.names log.now.rows certificates.now) }
+    requires { IsLegal log.now.rows }
+    ensures written { OnOk result (Appends (R.contents writer.old) (R.contents writer.new) (report_of plan.now log.now.rows certificates.now)) }
     ensures fault { IfErr result IsOfWriting }
 {
     match report(alloc, plan, log, certificates, writer) {
