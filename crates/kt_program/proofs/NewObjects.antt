@@ -1,5 +1,5 @@
 -- What is written of runs, and over new objects.
-use Rattle.std.proofs.Common.{◌≡◌, ◌≢◌, ◌⊎◌, inl, inr, ℕ, List}
+use Rattle.std.proofs.Common.{inl, inr, List}
 use Rattle.std.specs.Prelude.{Result, Ok, Err, OnOk, IfErr}
 use Rattle.kt_held.specs.Holdings.{Content}
 use Rattle.kt_plan.specs.Limits.{Planned}

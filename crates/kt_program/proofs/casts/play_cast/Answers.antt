@@ -1,4 +1,4 @@
-use Rattle.std.proofs.Common.{List, map}
+use Rattle.std.proofs.Common.{map}
 use Rattle.kt_held.specs.Holdings.{content}
 use Rattle.kt_run.specs.Runs.{IsRunOf}
 use Rattle.kt_program.specs.Played.{AreNew}
