@@ -1,8 +1,10 @@
 //! Shows what is read from each stored run: its first broken rule, or what its histories are after each row, as both
-//! readers tell it, the checker's answer in both formats, and whether what is written is what was read. Then plays each
-//! scenario that a stored run is of, and runs each in threads.
+//! readers tell it, the checker's answer in both formats, whether what is written is what was read, and its answer to
+//! certificates that are made after each row. Then plays each scenario that a stored run is of, and runs each in
+//! threads.
 #![tactic(auto)]
 
+mod certified;
 mod commands;
 mod facts;
 mod lives;
@@ -11,6 +13,7 @@ mod readers;
 mod texts;
 
 use anyhow::Result;
+use certified::show_certified;
 use facts::show_facts;
 use kt_histories::legal;
 use kt_log_text::read_csv;
@@ -35,7 +38,8 @@ fn show_log<R: Print + AllocGlobal>(rt: &R, log: &SpaceTime) -> Result<()> {
 fn show_run<R: Print + AllocGlobal>(rt: &R, text: &[u8], cert: &[u8]) -> Result<()> {
     let log = read_csv(rt.alloc(), text)?;
     show_log(rt, &log)?;
-    show_texts(rt, &log, text, cert)
+    show_texts(rt, &log, text, cert)?;
+    show_certified(rt, &log)
 }
 
 // Shows the stored run of this name.
