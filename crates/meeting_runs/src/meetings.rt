@@ -1,24 +1,27 @@
 //! Objects that wait for one another: each call sets a flag, and waits until the other object has set its own.
 
-use crate::texts::{Host, plan_in};
 use anyhow::Result;
 use kt_base::{Memory, ProcNo};
 use kt_object::{Object, Recoverable, RestoreFault, SaveFault, SlotBook, Sum};
 use kt_plan::Look;
 use kt_program::cast_of;
+use kt_scenario::parse;
 use kt_threads::live;
 use std::alloc::{AllocError, Global};
-use std::sync::Arc;
+use std::fs;
+use std::rt::Files;
 use std::sync::atomic::{AtomicBool, Ordering};
+use std::sync::{Arc, Wait};
+use std::thread::Threads;
 
 type Flag = Arc<AtomicBool, Global>;
 
 // How often an object looks for the other's flag at most: some seconds, in which a thread has long been started.
 const TURNS: u64 = 10_000_000_000;
 
-// Where an object waits, if it does.
+/// Where an object waits, if it does.
 #[derive(Clone, Copy, PartialEq, Eq)]
-enum Place {
+pub(crate) enum Place {
     Apply,
     Offer,
     Nowhere,
@@ -119,11 +122,16 @@ impl Recoverable for Meeting {
     }
 }
 
-// Runs a scenario in threads, whose first two objects wait for one another; shows whether each saw the other's flag, and
-// what each offers in the end.
-fn show_meeting<R: Host>(rt: &R, scenario: &str, place: Place) -> Result<()> {
+/// Runs a scenario in threads, whose first two objects wait for one another where they take in a message, or where they
+/// offer a body, if they do; shows what each offers in the end, and whether each saw the other's flag.
+pub(crate) fn show_meeting<R: Files + Threads + Wait + Sync + Print + AllocGlobal>(
+    rt: &R,
+    scenario: &str,
+    place: Place,
+) -> Result<()> {
     let alloc = rt.alloc();
-    let plan = plan_in(rt, scenario)?;
+    let text = fs::read(rt, scenario)?;
+    let plan = parse(alloc, text.as_slice())?;
     let flags = Flags::new(alloc)?;
     let mut book = SlotBook::new(alloc);
     let mut made: usize = 0;
@@ -159,12 +167,4 @@ fn show_meeting<R: Host>(rt: &R, scenario: &str, place: Place) -> Result<()> {
     let second = flags.seen[1].load(Ordering::SeqCst);
     println!(rt; "seen: {first}, {second}")?;
     Ok(())
-}
-
-/// Shows objects that wait for one another where they take in a message, and where they offer a body; and what is left of
-/// objects of which one fails.
-pub(crate) fn show_meetings<R: Host>(rt: &R) -> Result<()> {
-    show_meeting(rt, "meet_in_apply", Place::Apply)?;
-    show_meeting(rt, "meet_in_offer", Place::Offer)?;
-    show_meeting(rt, "failure", Place::Nowhere)
 }
