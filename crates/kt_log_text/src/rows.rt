@@ -269,20 +269,40 @@ fn word_of(text: &[u8]) -> Option<RowWord>
     ensures found { IfSome result (λ w. text.now ≡ row_word w) }
     ensures none { IfNone result ((w : row_words) → text.now ≢ row_word w) }
 {
-    match text {
-        b"sent" => Some(RowWord::Sent),
-        b"received" => Some(RowWord::Received),
-        b"dropped" => Some(RowWord::Dropped),
-        b"began" => Some(RowWord::Began),
-        b"took" => Some(RowWord::Took),
-        b"ready" => Some(RowWord::Ready),
-        b"unwilling" => Some(RowWord::Unwilling),
-        b"decided" => Some(RowWord::Decided),
-        b"closed" => Some(RowWord::Closed),
-        b"failed" => Some(RowWord::Failed),
-        b"refused" => Some(RowWord::Refused),
-        _ => None,
+    if text == b"sent".as_slice() {
+        return Some(RowWord::Sent);
     }
+    if text == b"received".as_slice() {
+        return Some(RowWord::Received);
+    }
+    if text == b"dropped".as_slice() {
+        return Some(RowWord::Dropped);
+    }
+    if text == b"began".as_slice() {
+        return Some(RowWord::Began);
+    }
+    if text == b"took".as_slice() {
+        return Some(RowWord::Took);
+    }
+    if text == b"ready".as_slice() {
+        return Some(RowWord::Ready);
+    }
+    if text == b"unwilling".as_slice() {
+        return Some(RowWord::Unwilling);
+    }
+    if text == b"decided".as_slice() {
+        return Some(RowWord::Decided);
+    }
+    if text == b"closed".as_slice() {
+        return Some(RowWord::Closed);
+    }
+    if text == b"failed".as_slice() {
+        return Some(RowWord::Failed);
+    }
+    if text == b"refused".as_slice() {
+        return Some(RowWord::Refused);
+    }
+    None
 }
 
 /// The row that a word and three more fields spell, or what is first wrong in them: the word, then the others
