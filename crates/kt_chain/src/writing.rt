@@ -98,9 +98,8 @@ fn push_chain(text: &mut Vec<u8>, messages: &[MsgNo]) -> Result<(), Memory>
 fn push_number(text: &mut Vec<u8>, mark: u8, number: u32) -> Result<(), Memory>
     ensures { OnOk result (text.new.items ≡ text.old.items ++ mark ∷ decimal number) }
 {
+    let mut digits = itoa::Buffer::new();
     text.push(mark)?;
-    match write!(text, "{number}") {
-        Ok(()) => Ok(()),
-        Err(_) => Err(Memory),
-    }
+    text.extend_from_slice(digits.format(number).as_bytes())?;
+    Ok(())
 }
