@@ -1,10 +1,11 @@
 //! A stored log judged row by row.
 
-ghost use Rattle.std.specs.Prelude.{◌≡◌, ◌↔◌, List, IfOk, IfErr, IfSome};
+ghost use Rattle.std.specs.Prelude.{◌≡◌, ◌↔◌, [], ℕ, List, Option, IfOk, IfErr, IfSome};
 ghost use Rattle.kt_spacetime.specs.declared.event.Event.{Event};
 ghost use Rattle.kt_log_text.specs.Reading.{rows_unread};
 ghost use Rattle.kt_log_text.specs.Texts.{IsLogText, IsFirstFault};
 ghost use Rattle.kt_checker.specs.declared.verdict.Verdict.TheVariants.{Yes};
+ghost use Rattle.kt_checker.specs.Judged.{JudgeOf};
 ghost use Rattle.kt_checker.specs.Passing.{IsPassed};
 ghost use Rattle.kt_checker.specs.Streamed.{IsAnswerOf};
 
@@ -43,10 +44,25 @@ fn judge_stream<R: Read + Drop>(
 {
     let mut judge = Judge::new(alloc, certificates)?;
     let mut rows = RowReader::new(alloc, log_reader)?;
+    judge_unread(alloc, &mut judge, &mut rows, certificates)
+}
+
+// The answer to the rows that a reader gives, of which neither it nor the judge has seen any, or its fault.
+fn judge_unread<R: Read + Drop>(
+    alloc: Global,
+    judge: &mut Judge,
+    rows: &mut RowReader<R>,
+    certificates: &[Certificate],
+) -> Result<Verdict, LogFault>
+    requires unread { (source : Option (List ℕ)) × (rows.old ≡ rows_unread source) }
+    requires none_seen { JudgeOf judge.old certificates.now [] }
+    ensures answer { (source : Option (List ℕ)) → rows.old ≡ rows_unread source → IfOk result (IsAnswerOf source certificates.now) }
+    ensures fault { (source : Option (List ℕ)) → rows.old ≡ rows_unread source → IfErr result (λ e. IfSome (rows_unread source).left (λ text. IsFirstFault text e)) }
+{
     let mut broken = None;
     while let Some(row) = rows.next()? {
         if broken.is_none() {
-            broken = feed_row(&mut judge, certificates, &row)?;
+            broken = feed_row(judge, certificates, &row)?;
         }
     }
     match broken {

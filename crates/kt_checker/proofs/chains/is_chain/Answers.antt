@@ -1,4 +1,4 @@
-use Rattle.std.proofs.Common.{◌≡◌, refl, sym, subst, ◌∙◌, [], ◌∷◌}
+use Rattle.std.proofs.Common.{refl, sym, subst, ◌∙◌, [], ◌∷◌}
 use Rattle.kt_cuts.specs.Past.{past}
 use Rattle.kt_checker.specs.Passing.{IsChain}
 use Rattle.kt_checker.proofs.Chaining.{chain_more, never}

@@ -1,4 +1,4 @@
-use Rattle.std.proofs.Common.{◌≡◌, ◌<◌, ℕ, false, sym}
+use Rattle.std.proofs.Common.{◌≡◌, ◌<◌, ℕ, false}
 use Rattle.std.specs.List.{slice_index}
 use Rattle.kt_base.specs.Sets.{has}
 use Rattle.kt_cuts.specs.Past.{past}

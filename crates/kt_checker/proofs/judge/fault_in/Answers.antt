@@ -1,4 +1,4 @@
-use Rattle.std.proofs.Common.{ap, sym, subst, refl, ◌∙◌}
+use Rattle.std.proofs.Common.{ap, sym, subst, ◌∙◌}
 use Rattle.std.specs.Prelude.{not}
 use Rattle.kt_cuts.specs.Past.{past}
 use Rattle.kt_cuts.proofs.SortedFacts.{some_same}
