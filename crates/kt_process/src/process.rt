@@ -361,7 +361,7 @@ impl Process {
         }
     }
 
-    /// It closes its instance, and answers whom it with_row the decision. In none, nothing changes, and it with_row nobody.
+    /// It closes its instance, and answers whom it tells the decision. In none, nothing changes, and it tells nobody.
     pub fn close(&mut self, commit: bool) -> ProcSet
         ensures tell { (q : ℕ) → has result q ≡ asked_of self.old.side q }
         ensures within { (q : ℕ) → has result q ≡ true → q < self.old.tables.processes }
@@ -398,7 +398,7 @@ fn partners_of(part: &Part) -> ProcSet
     }
 }
 
-/// Whom an action with_row a decision.
+/// Whom an action tells a decision.
 fn told(action: Action) -> ProcSet
     ensures { IsTold action result }
 {
