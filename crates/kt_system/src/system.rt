@@ -1,6 +1,6 @@
 //! The system: what it holds, and what can be read of it.
 
-ghost use Rattle.std.specs.Prelude.{◌≡◌, ◌<◌, ◌≤◌, ℕ, [], IfOk, length};
+ghost use Rattle.std.specs.Prelude.{◌≡◌, ◌<◌, ◌≤◌, ℕ, [], All, IfOk, length};
 ghost use Rattle.kt_fifo.specs.Channels.{channel};
 ghost use Rattle.kt_process.specs.Turns.{IsFresh};
 ghost use Rattle.kt_system.specs.Systems.{person};
@@ -77,10 +77,6 @@ impl System {
         ensures instances { IfOk result (λ s. length s.put ≡ instances) }
         ensures shows { IfOk result (λ s. Shows s (opening_seen processes used)) }
     {
-        let mut list = Vec::with_capacity(alloc, processes)?;
-        for _number in 0..processes {
-            list.push(Process::new(alloc, processes, used)?)?;
-        }
         let none = Tally {
             asks: 0,
             replies: 0,
@@ -88,7 +84,7 @@ impl System {
         };
         Ok(System {
             size: processes,
-            processes: list,
+            processes: fresh_processes(alloc, processes, used)?,
             channels: Channels::new(alloc, processes)?,
             held: Channels::new(alloc, processes)?,
             kept: Channels::new(alloc, processes)?,
@@ -97,4 +93,17 @@ impl System {
             tallies: vec![in alloc; none; instances]?,
         })
     }
+}
+
+// So many processes where nothing was done, whose labels go on after this one.
+fn fresh_processes(alloc: Global, processes: usize, used: Label) -> Result<Vec<Process>, Memory>
+    requires { processes ≤ 64 }
+    ensures length { IfOk result (λ list. length list.items ≡ processes) }
+    ensures fresh { IfOk result (λ list. All (IsFresh processes used) list.items) }
+{
+    let mut list = Vec::with_capacity(alloc, processes)?;
+    for _number in 0..processes {
+        list.push(Process::new(alloc, processes, used)?)?;
+    }
+    Ok(list)
 }

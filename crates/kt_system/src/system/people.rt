@@ -150,7 +150,7 @@ impl System {
         self.processes[p.index()].hear_reply(willing)
     }
 
-    /// A process leaves its instance, and answers whom it with_row the decision.
+    /// A process leaves its instance, and answers whom it tells the decision.
     pub(super) fn leave(&mut self, p: ProcNo, commit: bool) -> ProcSet
         requires { p < self.old.size }
         ensures leaves { Leaves p result self.old self.new }

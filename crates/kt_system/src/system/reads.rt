@@ -126,7 +126,7 @@ impl System {
         requires from { from < self.now.size }
         ensures { result ≡ can_take self.now at from }
     {
-        self.next_parcel(at, from).is_some()
+        self.senders(at).has(from) || self.held_senders(at).has(from)
     }
 
     /// Whether the next parcel from another process makes this one take its tentative checkpoint, if its object can be

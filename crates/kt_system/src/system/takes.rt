@@ -44,7 +44,7 @@ impl System {
     }
 
     /// The processes of which one has parcels in channels.
-    fn senders(&self, at: ProcNo) -> ProcSet
+    pub(super) fn senders(&self, at: ProcNo) -> ProcSet
         requires { at < self.now.size }
         ensures sent { (q : ℕ) → has result q ≡ is_sent self.now at q }
         ensures within { (q : ℕ) → has result q ≡ true → q < self.now.size }
@@ -53,7 +53,7 @@ impl System {
     }
 
     /// The processes of which parcels are held for one, where it is in no rollback.
-    fn held_senders(&self, at: ProcNo) -> ProcSet
+    pub(super) fn held_senders(&self, at: ProcNo) -> ProcSet
         requires { at < self.now.size }
         ensures held { (q : ℕ) → has result q ≡ is_held self.now at q }
         ensures within { (q : ℕ) → has result q ≡ true → q < self.now.size }

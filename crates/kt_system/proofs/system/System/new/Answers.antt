@@ -1,7 +1,6 @@
-use Rattle.std.specs.Prelude.{All, true, Option, None}
-use Rattle.std.proofs.Common.{◌≡◌, refl, [], ◌+◌, ℕ, List, arith, ap, sym, subst, ◌∙◌, length}
-use Rattle.std.proofs.lemmas.List.{length_push}
-use Rattle.std.proofs.lemmas.List.Elements.{All-push}
+use Rattle.std.proofs.Common.{◌≡◌, refl, [], ℕ, List, arith, ap, sym, subst}
+use Rattle.std.specs.Prelude.{true, Option, None}
+use Rattle.std.proofs.lemmas.List.Elements.{All-weaker}
 use Rattle.kt_fifo.specs.declared.parcels.Parcel.{Parcel}
 use Rattle.kt_process.specs.Persons.{Person, part_of, IsNumbered}
 use Rattle.kt_process.specs.declared.side.Side.{Side}
@@ -14,29 +13,33 @@ use Rattle.kt_system.proofs.system.System.new.Goals as goal
 in_none : (s : Option Side) → s ≡ None → IsNumbered (part_of s)
 in_none s e = subst (λ (x : Option Side). IsNumbered (part_of x)) (sym e) tt
 
-pub loop-number-preserved : goal.loop-number-preserved
-loop-number-preserved c = record {
-  size = ap (λ (l : List Person). length l) c.in_ok-push.ensures.items ∙ (length_push c.loop-number.list.items c.in_ok-new.field-0 ∙ ap (λ (m : ℕ). m + 1) c.loop-number.invariant.size);
-  tables = subst (λ (l : List Person). All (λ (x : Person). x.tables.processes ≡ c.args.processes) l) (sym c.in_ok-push.ensures.items)
-      (All-push (λ (x : Person). x.tables.processes ≡ c.args.processes) c.loop-number.list.items c.in_ok-new.field-0 c.loop-number.invariant.tables c.in_ok-new.ensures.processes);
-  numbered = subst (λ (l : List Person). All (λ (x : Person). IsNumbered (part_of x.side)) l) (sym c.in_ok-push.ensures.items)
-      (All-push (λ (x : Person). IsNumbered (part_of x.side)) c.loop-number.list.items c.in_ok-new.field-0 c.loop-number.invariant.numbered (in_none c.in_ok-new.field-0.side c.in_ok-new.ensures.side));
-  fresh = subst (λ (l : List Person). All (λ (x : Person). IsFresh c.args.processes c.args.used x) l) (sym c.in_ok-push.ensures.items)
-      (All-push (λ (x : Person). IsFresh c.args.processes c.args.used x) c.loop-number.list.items c.in_ok-new.field-0 c.loop-number.invariant.fresh c.in_ok-new.ensures);
-}
+pub invariant_of-result : goal.invariant_of-result
+invariant_of-result c =
+    let fresh : Person → Type 0 = IsFresh c.args.processes c.args.used in
+    let people = c.in_ok-fresh_processes.ensures.fresh in
+    record {
+      few = c.requires;
+      people = c.in_ok-fresh_processes.ensures.length;
+      wires = c.in_ok-new.ensures.processes;
+      held = c.in_ok-new-2.ensures.processes;
+      kept = c.in_ok-new-3.ensures.processes;
+      begun = omega arith;
+      tables = All-weaker fresh (λ (x : Person). x.tables.processes ≡ c.args.processes) (λ x f. f.processes) _ people;
+      numbered = All-weaker fresh (λ (x : Person). IsNumbered (part_of x.side)) (λ x f. in_none x.side f.side) _ people;
+    }
 
 pub returns-clause-people : goal.returns-clause-people
-returns-clause-people c = λ p b. each_person (λ (x : Person). IsFresh c.args.processes c.args.used x) _ c.loop-number.invariant.fresh p
-    (let size = c.loop-number.invariant.size in let all = c.loop-number-test.false in omega arith)
+returns-clause-people c = λ p b. each_person (IsFresh c.args.processes c.args.used) _ c.in_ok-fresh_processes.ensures.fresh p
+    (let size = c.in_ok-fresh_processes.ensures.length in omega arith)
 
 pub returns-clause-wires : goal.returns-clause-wires
-returns-clause-wires c = λ p q. ap (λ (f : ℕ → ℕ → List Parcel). f p q) c.in_ok-new-2.ensures.lists
+returns-clause-wires c = λ p q. ap (λ (f : ℕ → ℕ → List Parcel). f p q) c.in_ok-new.ensures.lists
 
 pub returns-clause-held : goal.returns-clause-held
-returns-clause-held c = λ p q. ap (λ (f : ℕ → ℕ → List Parcel). f p q) c.in_ok-new-3.ensures.lists
+returns-clause-held c = λ p q. ap (λ (f : ℕ → ℕ → List Parcel). f p q) c.in_ok-new-2.ensures.lists
 
 pub returns-clause-kept : goal.returns-clause-kept
-returns-clause-kept c = λ p q. ap (λ (f : ℕ → ℕ → List Parcel). f p q) c.in_ok-new-4.ensures.lists
+returns-clause-kept c = λ p q. ap (λ (f : ℕ → ℕ → List Parcel). f p q) c.in_ok-new-3.ensures.lists
 
 fresh_seen : (n first : ℕ) (x : Person) → IsFresh n first x → IsSeenAs x (record { calls = []; used = first; inst = 0; part = no_part; up = true })
 fresh_seen n first x f = record { stands = f.stands; inst = ap inst_shown f.side; part = ap part_shown f.side; up = f.up; used = f.used }
@@ -45,9 +48,9 @@ pub returns-clause-shows : goal.returns-clause-shows
 returns-clause-shows c = record {
   processes = refl;
   people = λ p b. fresh_seen c.args.processes c.args.used _ (returns-clause-people c p b);
-  wires = c.in_ok-new-2.ensures.lists;
-  held = c.in_ok-new-3.ensures.lists;
-  kept = c.in_ok-new-4.ensures.lists;
-  log = c.new-5.ensures.rows;
+  wires = c.in_ok-new.ensures.lists;
+  held = c.in_ok-new-2.ensures.lists;
+  kept = c.in_ok-new-3.ensures.lists;
+  log = c.new-4.ensures.rows;
   begun = refl;
 }

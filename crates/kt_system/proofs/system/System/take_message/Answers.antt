@@ -37,3 +37,15 @@ returns-then-is_ready-clause-shows c = λ v h speaks.
     let x = parcel.App message.label message.msg message.body in
     let lists = c.push_reserved.ensures.lists ∙ (pushed_is _ from at _ ∙ (ap (λ (y : Parcel). with_parcel (channel c.self-then-is_ready.inside.held) from at y) c.parcel.ensures ∙ ap (λ (f : SeenLists). with_parcel f from at x) j.held)) in
     rw ready (shows_parts _ _ _ state state.channel (with_parcel v.held from at x) state.kept state.log state.begun c.self-then-is_ready.view_is refl refl j.wires lists j.kept j.log j.begun two)
+
+pub returns-clause-shows : goal.returns-clause-shows
+returns-clause-shows c = λ v h speaks.
+    let at = c.args.at in
+    let ready : is_seen_ready v at ≡ false = sym (ready_seen _ v at (h.people at c.requires.at) c.is_ready.ensures.numbered) ∙ (sym c.is_ready.ensures.ready ∙ c.if-is_ready.false) in
+    rw ready (c.accept.ensures.shows v h (speaks ready))
+
+pub returns-clause-acts : goal.returns-clause-acts
+returns-clause-acts c = λ v h.
+    let at = c.args.at in
+    let ready : is_seen_ready v at ≡ false = sym (ready_seen _ v at (h.people at c.requires.at) c.is_ready.ensures.numbered) ∙ (sym c.is_ready.ensures.ready ∙ c.if-is_ready.false) in
+    rw ready (c.accept.ensures.acts v h)
