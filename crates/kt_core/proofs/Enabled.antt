@@ -1,5 +1,5 @@
 -- Which steps can be made, as the laws have it.
-use Rattle.std.specs.Prelude.{◌==◌, ◌&&◌, ◌||◌, not, nat_lt, nat_le, if◌then◌else◌, Option, IfSome, option_map, is_none}
+use Rattle.std.specs.Prelude.{◌==◌, ◌&&◌, ◌||◌, not, nat_lt, nat_le, if◌then◌else◌, Option, IfSome, Result, Ok, Err, option_map, is_none}
 use Rattle.std.proofs.Common.{◌≡◌, ◌<◌, ◌≤◌, ℕ, Bool, true, false, Some, None, length, refl, sym, arith, ap, ◌∙◌}
 use Rattle.std.proofs.lemmas.Bool.Decides.{nat_tests}
 use Rattle.kt_plan.specs.declared.commands.Command.{Command}
@@ -17,11 +17,17 @@ use Rattle.kt_promises.specs.Steps as run_after
 use Rattle.kt_promises.proofs.OpenPhase.{ahead_seen}
 use Rattle.kt_core.specs.Agendas.{next_command, if_open}
 use Rattle.kt_core.specs.Worlds.{World, is_send, may_do, can_do, enabled, refusal, is_full, lacks_label}
+use Rattle.kt_core.specs.declared.faults.StepFault.{StepFault}
 use Rattle.kt_core.specs.declared.faults.StepFault.TheVariants.{NotEnabled, LogFull, LabelsSpent}
 use Rattle.kt_core.specs.Shown.{IsRun, command_shown, plan_shown, job_shown, step_shown}
 use Rattle.kt_core.proofs.Places.{next_is, next_shown}
 use Rattle.kt_core.proofs.ShownPlans.{plan_is}
 use Rattle.kt_core.proofs.Quiet.{AreNumbered, closed_is, can_take_is}
+
+-- a step that was made was not refused
+pub not_refused : {A : Type 0} (made : A) (why : Option StepFault) → IfSome why (λ fault. ◌≡◌ {A = Result A StepFault} (Ok made) (Err fault)) → why ≡ None
+not_refused made None h = refl
+not_refused made (Some fault) h = absurd (cc (h))
 
 and_same : (a b c d : Bool) → a ≡ c → (a ≡ true → b ≡ d) → (a && b) ≡ (c && d)
 and_same true b true d e f = f refl

@@ -58,6 +58,28 @@ impl World {
         })
     }
 
+    /// Makes a step as `step` does, and tells only what is to be done to the process's object.
+    pub fn act(&mut self, step: Step, give: Give) -> Result<[Act; 2], StepFault>
+        ensures plan { self.new.agenda.plan ≡ self.old.agenda.plan }
+        ensures limit { self.new.limit ≡ self.old.limit }
+        ensures size { self.new.system.size ≡ self.old.system.size }
+        ensures grows { Grows 4 self.old.system self.new.system }
+        ensures refused { IfSome (refusal self.old step) (λ fault. result ≡ Err fault) }
+        ensures fault { IfErr result (λ fault. (fault ≡ StepFault.Memory) ⊎ (refusal self.old step ≡ Some fault)) }
+        ensures err { OnErr result (IsSameWorld self.new self.old) }
+        ensures done { OnOk result (HasDone self.old.agenda self.new.agenda step) }
+        ensures settled { OnOk result (Settles self.old self.new) }
+        ensures leads { (first : ℕ) (v : run_world.World) → IsRun self.old.agenda self.old.system first v →
+            OnOk result (IsRun self.new.agenda self.new.system first (world_after (plan_shown self.old.agenda.plan) v (step_shown step) (give_shown give))) }
+        ensures acts { (first : ℕ) (v : run_world.World) → IsRun self.old.agenda self.old.system first v →
+            IfOk result (λ acts. acts_shown acts ≡ acts_of_step (plan_shown self.old.agenda.plan) v (step_shown step) (give_shown give) (stepper step)) }
+    {
+        if let Some(fault) = self.refusal(&step) {
+            return Err(fault);
+        }
+        Ok(self.make_step(&step, give)?)
+    }
+
     /// Why a step is refused, but for want of memory.
     fn refusal(&self, step: &Step) -> Option<StepFault>
         ensures { result ≡ refusal self.now step.now }
