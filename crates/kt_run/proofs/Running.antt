@@ -1,6 +1,6 @@
 -- A run goes on with the world.
-use Rattle.std.specs.Prelude.{Option, option_map, unwrap_or, slice_get, slice_index_or, not, if◌then◌else◌, Result, Ok, Err, IfSome}
-use Rattle.std.proofs.Common.{◌≡◌, ℕ, ℤ, Bool, true, false, Some, None, List, [], ◌∷◌, ◌++◌, append_assoc, append-nil, ◌+◌, ◌<◌, ◌≤◌, arith, take, length, length-append, map, get_or, refl, sym, ap, subst, ◌∙◌}
+use Rattle.std.specs.Prelude.{Option, option_map, unwrap_or, slice_get, slice_index_or, not, if◌then◌else◌}
+use Rattle.std.proofs.Common.{◌≡◌, ℕ, zero, suc, ℤ, Bool, true, false, Some, None, List, [], ◌∷◌, ◌++◌, append_assoc, append-nil, ◌+◌, ◌<◌, ◌≤◌, arith, take, length, length-append, map, get_or, refl, sym, ap, subst, ◌∙◌}
 use Rattle.std.proofs.lemmas.List.{map-append, take_more, length-map, length_push}
 use Rattle.kt_plan.specs.Limits.{Planned, IsPlan}
 use Rattle.kt_plan.specs.declared.steps.Step.{Step}
@@ -41,14 +41,6 @@ use Rattle.kt_run.specs.Telling.{IsToldAs, AreToldInRun, AreToldTheirRows, Tells
 use Rattle.kt_run.proofs.Numbering.{told_their_none, told_their_more}
 use Rattle.kt_run.proofs.Telling.{told_as, tells_its_rows, tells_nothing, tells_more}
 
--- what was made was not refused
-not_refused : (w : World) (x : Step) (told : Told) → IfSome (refusal w x) (λ fault. ◌≡◌ {A = Result Told StepFault} (Ok told) (Err fault)) → refusal w x ≡ None
-not_refused w x told h = at_refusal (refusal w x) h
-  where
-    at_refusal : (o : Option StepFault) → IfSome o (λ fault. ◌≡◌ {A = Result Told StepFault} (Ok told) (Err fault)) → o ≡ None
-    at_refusal None h = refl
-    at_refusal (Some fault) h = absurd (cc (h))
-
 -- where a step is not refused, the log has room for its rows
 room_left : (w : World) (x : Step) → refusal w x ≡ None → length w.system.rows.rows + 4 ≤ w.limit
 room_left w x e = ltb-false w.limit (length w.system.rows.rows + 4) (go (not (core.enabled w x)) (is_full w) _ e)
@@ -65,35 +57,55 @@ room_kept old new x grew e limit =
     let few = grew.few in
     omega (arith, room, rows, few, limit)
 
--- why a step of a world is refused, of one that was made
-abbrev Allows : World → Told → Step → Type 0
-Allows old told x = IfSome (refusal old x) (λ fault. ◌≡◌ {A = Result Told StepFault} (Ok told) (Err fault))
-
 abbrev Leads : World → World → Give → Step → Type 0
 Leads old new give x = (first : ℕ) (v : run_world.World) → IsRun old.agenda old.system first v → IsRun new.agenda new.system first (world_after (plan_shown old.agenda.plan) v (step_shown x) (give_shown give))
 
-abbrev Acts : World → Told → Give → Step → Type 0
-Acts old told give x = (first : ℕ) (v : run_world.World) → IsRun old.agenda old.system first v → acts_shown told.acts ≡ acts_of_step (plan_shown old.agenda.plan) v (step_shown x) (give_shown give) (stepper x)
+abbrev Acts : World → List Act → Give → Step → Type 0
+Acts old acts give x = (first : ℕ) (v : run_world.World) → IsRun old.agenda old.system first v → acts_shown acts ≡ acts_of_step (plan_shown old.agenda.plan) v (step_shown x) (give_shown give) (stepper x)
 
 pub tells_now : (old new : World) (before after : List (List Told)) (x : Step) (give : Give) (told : Told) (acts : List Act) → acts ≡ told.acts → told.step ≡ x → Grows 4 old.system new.system → length told.rows ≡ 4
     → ((i : ℕ) → i < 4 → slice_get told.rows i ≡ Some (numbered_row new.system.rows.rows (length old.system.rows.rows + i))) → IsNoted told before after
-    → new.limit ≡ old.limit → Allows old told x → Leads old new give x → Acts old told give x → Tells old before x give new after acts
+    → new.limit ≡ old.limit → refusal old x ≡ None → Leads old new give x → Acts old told.acts give x → Tells old before x give new after acts
 tells_now old new before after x give told acts same is grew four read noted limit =
-    subst (λ (y : Step). Allows old told y → Leads old new give y → Acts old told give y → Tells old before y give new after acts) is
-    (λ allows leads asks. (
+    subst (λ (y : Step). refusal old y ≡ None → Leads old new give y → Acts old told.acts give y → Tells old before y give new after acts) is
+    (λ allowed leads asks. (
       told,
       noted,
       same,
       limit,
-      room_kept old new told.step grew (not_refused old told.step told allows) limit,
+      room_kept old new told.step grew allowed limit,
       λ first v r.
-          let on : enabled (plan_shown old.agenda.plan) v (step_shown told.step) ≡ true = sym (enabled_is old first v r told.step) ∙ enabled_if old told.step (not_refused old told.step told allows) in (
+          let on : enabled (plan_shown old.agenda.plan) v (step_shown told.step) ≡ true = sym (enabled_is old first v r told.step) ∙ enabled_if old told.step allowed in (
             on,
             leads first v r,
             told_as old.agenda.plan told give old new first v refl r (leads first v r) on grew four read (asks first v r),
             tells_its_rows old.agenda.plan told give old new first v refl r (leads first v r) on grew four read (asks first v r),
           ),
     ))
+
+-- the rows that a step tells, of which there are four at most
+rows_at : List Event → ℕ → List (Option (ℕ × Event))
+rows_at rows n = numbered_row rows (n + 0) ∷ numbered_row rows (n + 1) ∷ numbered_row rows (n + 2) ∷ numbered_row rows (n + 3) ∷ []
+
+read_at : (rows : List Event) (n i : ℕ) → i < 4 → slice_get (rows_at rows n) i ≡ Some (numbered_row rows (n + i))
+unfolding rows_at
+read_at rows n zero l = refl
+read_at rows n (suc zero) l = refl
+read_at rows n (suc (suc zero)) l = refl
+read_at rows n (suc (suc (suc zero))) l = refl
+read_at rows n (suc (suc (suc (suc i)))) l = absurd (omega (arith, l))
+
+four_at : (rows : List Event) (n : ℕ) → length (rows_at rows n) ≡ 4
+unfolding rows_at
+four_at rows n = refl
+
+-- so it does where nobody keeps what it tells
+pub tells_unkept : (old new : World) (x : Step) (give : Give) (acts : List Act) → Grows 4 old.system new.system → new.limit ≡ old.limit → refusal old x ≡ None → Leads old new give x → Acts old acts give x
+    → Tells old [] x give new [] acts
+tells_unkept old new x give acts grew limit allowed leads asks =
+    let told : Told = record { step = x; rows = rows_at new.system.rows.rows (length old.system.rows.rows); acts = acts } in
+    tells_now old new [] [] x give told acts refl refl grew (four_at new.system.rows.rows (length old.system.rows.rows)) (read_at new.system.rows.rows (length old.system.rows.rows))
+    (record { count = refl; each = λ p l. absurd (omega (arith, l)) }) limit allowed leads asks
 
 abbrev Led : Planned → run_world.World → Step → World → Told → run_steps.Give → Type 0
 Led plan v x new told give = (enabled (plan_shown plan) v (step_shown x) ≡ true) × IsRun new.agenda new.system 0 (world_after (plan_shown plan) v (step_shown x) give)

@@ -1,6 +1,6 @@
 //! What the processes of a run were told.
 
-ghost use Rattle.std.specs.Prelude.{◌≡◌, length, map, IfOk, OnOk};
+ghost use Rattle.std.specs.Prelude.{◌≡◌, [], false, length, map, IfOk, OnOk};
 ghost use Rattle.kt_core.specs.Worlds.{stepper};
 ghost use Rattle.kt_run.specs.Telling.{AreEmpty, IsNoted};
 
@@ -44,6 +44,13 @@ impl Journals {
             lists.push(Vec::new(alloc))?;
         }
         Ok(Journals { lists })
+    }
+
+    /// Whether any are kept.
+    pub(crate) fn are_kept(&self) -> bool
+        ensures { result ≡ false → self.now ≡ [] }
+    {
+        !self.lists.is_empty()
     }
 
     /// Notes what the process was told whose step it was.

@@ -196,8 +196,45 @@ impl Stage {
     }
 }
 
-/// Makes a step, after so many, notes what is told, and gives what is to be done to the object.
+/// Makes a step, after so many, notes what is told, if journals are kept, and gives what is to be done to the object.
 fn step_once(
+    world: &mut World,
+    journals: &mut Journals,
+    step: Step,
+    give: Give,
+    done: usize,
+) -> Result<[Act; 2], RunFault>
+    ensures fault { IfErr result (λ fault. is_of_cast fault ≡ false) }
+    ensures plan { world.new.agenda.plan ≡ world.old.agenda.plan }
+    ensures size { world.new.system.size ≡ world.old.system.size }
+    ensures refused { IfErr result (λ fault. (n : ℕ) (why : StepFault) → fault ≡ RunFault.Step n why →
+        (n ≡ done) × (refusal world.old step ≡ Some why)) }
+    ensures leads { IfOk result (λ acts. Tells world.old journals.old step give world.new journals.new acts) }
+{
+    if journals.are_kept() {
+        tell_once(world, journals, step, give, done)
+    } else {
+        act_once(world, step, give, done)
+    }
+}
+
+/// Makes a step, after so many, of which nothing is noted, and gives what is to be done to the object.
+fn act_once(world: &mut World, step: Step, give: Give, done: usize) -> Result<[Act; 2], RunFault>
+    ensures fault { IfErr result (λ fault. is_of_cast fault ≡ false) }
+    ensures plan { world.new.agenda.plan ≡ world.old.agenda.plan }
+    ensures size { world.new.system.size ≡ world.old.system.size }
+    ensures refused { IfErr result (λ fault. (n : ℕ) (why : StepFault) → fault ≡ RunFault.Step n why →
+        (n ≡ done) × (refusal world.old step ≡ Some why)) }
+    ensures leads { IfOk result (λ acts. Tells world.old [] step give world.new [] acts) }
+{
+    match world.act(step, give) {
+        Ok(acts) => Ok(acts),
+        Err(fault) => Err(RunFault::of_step(done, fault)),
+    }
+}
+
+/// Makes a step, after so many, notes what is told, and gives what is to be done to the object.
+fn tell_once(
     world: &mut World,
     journals: &mut Journals,
     step: Step,
