@@ -1,6 +1,6 @@
 //! The lock, and what each thread does at it.
 
-ghost use Rattle.std.specs.Prelude.{◌≡◌, ◌≢◌};
+ghost use Rattle.std.specs.Prelude.{◌≡◌, ◌≢◌, IfSome};
 ghost use Rattle.kt_core.specs.Worlds as core;
 
 use crate::faults::LiveFault;
@@ -33,10 +33,7 @@ pub(crate) struct Board {
 impl Board {
     /// A board with this state, for so many processes.
     pub(crate) fn new(alloc: Global, state: State, processes: usize) -> Result<Board, Memory> {
-        let mut news = Vec::with_capacity(alloc, processes)?;
-        for _ in 0..processes {
-            news.push(Condvar::new())?;
-        }
+        let news = news_of(alloc, processes)?;
         Ok(Board {
             state: Mutex::new(state),
             news,
@@ -53,13 +50,9 @@ impl Board {
         let mut state = news.wait_while(rt, self.state.lock(rt), |state| {
             state.next_step_of(me).is_none() && !state.is_over()
         });
-        if state.fault().is_some() {
-            return Next::End;
-        }
-        let Some(step) = state.next_step_of(me) else {
+        let Some((step, look)) = next_in(&state, me) else {
             return Next::End;
         };
-        let look = state.look(&step);
         if look == Look::NeedsSave || look == Look::NeedsBody {
             return Next::Ask(step, look);
         }
@@ -121,6 +114,26 @@ impl Board {
         let Board { state, news: _ } = self;
         state.into_inner()
     }
+}
+
+/// For each of so many processes, news that did not come yet.
+fn news_of(alloc: Global, processes: usize) -> Result<Vec<Condvar>, Memory> {
+    let mut news = Vec::with_capacity(alloc, processes)?;
+    for _ in 0..processes {
+        news.push(Condvar::new())?;
+    }
+    Ok(news)
+}
+
+/// The step that a process makes next, and what it needs of the process's object; None after a fault.
+fn next_in(state: &State, me: ProcNo) -> Option<(Step, Look)>
+    ensures { IfSome result (λ next. next.1 ≡ core.look state.now.world next.0) }
+{
+    if state.fault().is_some() {
+        return None;
+    }
+    let step = state.next_step_of(me)?;
+    Some((step, state.look(&step)))
 }
 
 /// Makes a step under the lock. A step that is refused ends all.

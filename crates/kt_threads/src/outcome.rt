@@ -2,6 +2,7 @@
 
 ghost use Rattle.std.specs.List.{AllZip};
 ghost use Rattle.std.specs.Prelude.{◌≡◌, [], List, true, false, None, All, map, OnOk, IfOk, IfErr};
+ghost use Rattle.kt_core.specs.Worlds.{IsAtRest};
 ghost use Rattle.kt_held.specs.Holdings.{Content, content};
 ghost use Rattle.kt_promises.specs.Headline.{IsPromised};
 ghost use Rattle.kt_run.specs.Faults.{IsCast};
@@ -90,13 +91,23 @@ fn finish(state: State, plan: &Plan) -> Result<(SpaceTime, Vec<Made>), LiveFault
     ensures promised { IfOk result (λ parts. IsPromised parts.0.rows) }
     ensures fault { IfErr result (λ fault. is_of_cast fault ≡ false) }
 {
+    ended(&state, plan)?;
+    Ok(state.into_parts())
+}
+
+/// That a run of the plan ended at rest, or the fault that ended it.
+fn ended(state: &State, plan: &Plan) -> Result<(), LiveFault>
+    ensures plan { OnOk result (state.now.world.agenda.plan ≡ plan.now) }
+    ensures rest { OnOk result (IsAtRest state.now.world) }
+    ensures fault { IfErr result (λ fault. is_of_cast fault ≡ false) }
+{
     if let Some(fault) = state.fault() {
         return Err(fault.of_thread());
     }
     if !state.is_of(plan) || !state.at_rest() {
         return Err(LiveFault::Differ);
     }
-    Ok(state.into_parts())
+    Ok(())
 }
 
 /// The steps that each process made, and what it holds, if all acts that they told were done.
