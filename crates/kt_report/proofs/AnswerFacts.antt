@@ -2,7 +2,7 @@
 use Rattle.std.proofs.Common.{arith, ◌≡◌, ◌≢◌, ◌∙◌, ◌<◌, ◌≤◌, ◌+◌, ◌-◌, ℕ, zero, suc, List, [], ◌∷◌, ◌++◌, length, map, set, sym, ap, refl, get_or, Bool, true, false}
 use Rattle.std.specs.Prelude.{◌==◌, if◌then◌else◌}
 use Rattle.std.proofs.lemmas.Bool.{eqb-true, eqb-false}
-use Rattle.std.proofs.lemmas.List.{map-set, length-map, get_or-map, get_or-set_same, get_or-set_other, append-nil}
+use Rattle.std.proofs.lemmas.List.{map-append, map-set, length-map, get_or-map, get_or-set_same, get_or-set_other, append-nil}
 use Rattle.kt_report.specs.Lines.{Answer}
 use Rattle.kt_report.specs.Unwilling.{answers_to}
 
@@ -12,6 +12,11 @@ get_or-empty [] zero = refl
 get_or-empty [] (suc k) = refl
 get_or-empty (list ∷ lists) zero = refl
 get_or-empty (list ∷ lists) (suc k) = get_or-empty lists k
+
+pub answers_kept : {X : Type 0} (f : X → List Answer) (xs ys : List X) (new : X) (other : ℕ) → ys ≡ xs ++ new ∷ [] → f new ≡ [] → answers_to (map f ys) other ≡ answers_to (map f xs) other
+answers_kept f xs ys new other more none =
+    ap (λ (l : List (List Answer)). answers_to l other) (ap (map f) more ∙ map-append f xs (new ∷ []) ∙ ap (λ (a : List Answer). map f xs ++ a ∷ []) none)
+    ∙ get_or-empty (map f xs) (other - 1)
 
 -- one more answer to an instance
 pub answers-more : {X : Type 0} (f : X → List Answer) (xs : List X) (k : ℕ) (old new : X) (inst other : ℕ) (a : Answer) → k < length xs → k + 1 ≡ inst → 1 ≤ other

@@ -1,9 +1,9 @@
 -- What objects offer, after one more row.
-use Rattle.std.proofs.Common.{arith, ◌≡◌, ◌≢◌, ◌∙◌, ◌<◌, ◌≤◌, ℕ, ℤ, Bool, true, false, List, [], ◌∷◌, ◌++◌, Option, Some, None, length, map, set, get_or, refl, sym, ap, subst, inl, inr, length-set}
+use Rattle.std.proofs.Common.{arith, ◌≡◌, ◌≢◌, ◌∙◌, ◌<◌, ◌≤◌, ◌+◌, ℕ, ℤ, Bool, true, false, List, [], ◌∷◌, ◌++◌, Option, Some, None, length, map, set, take, get_or, refl, sym, ap, subst, inl, inr, length-set}
 use Rattle.std.specs.Prelude.{◌==◌, if◌then◌else◌, option_map, slice_get, slice_index}
 use Rattle.std.proofs.lemmas.Bool.{cases_eq}
 use Rattle.std.proofs.lemmas.Bool.Decides.{nat_tests}
-use Rattle.std.proofs.lemmas.List.{length-map, append-nil}
+use Rattle.std.proofs.lemmas.List.{length-map, map-append, take_more, append-nil}
 use Rattle.std.proofs.lemmas.List.FromFn.{fill_by_all}
 use Rattle.std.proofs.lemmas.Option.{slice_get-map, slice_get_within, get_or_from_slice_get}
 use Rattle.kt_spacetime.specs.declared.event.Event.{Event}
@@ -33,6 +33,13 @@ offers_are list kinds rows h = fill_by_all (offer_in kinds rows) (map (λ o. o.n
 -- what a new object of a kind offers
 abbrev pub new_offers : ℕ → Offers
 new_offers kind = offers_of kind (first_due (rules_of_kind kind))
+
+-- a new object more
+pub new_more : (kinds : List ℕ) (i : ℕ) (old new : List Offers) (x : Offers) → i < length kinds → old ≡ map new_offers (take i kinds) → x ≡ new_offers (get_or kinds i 0) → new ≡ old ++ x ∷ []
+    → new ≡ map new_offers (take (i + 1) kinds)
+new_more kinds i old new x within so_far same more =
+    more ∙ ap (λ (l : List Offers). l ++ x ∷ []) so_far ∙ ap (λ (y : Offers). map new_offers (take i kinds) ++ y ∷ []) same
+    ∙ sym (ap (map new_offers) (take_more kinds i 0 within) ∙ map-append new_offers (take i kinds) (get_or kinds i 0 ∷ []))
 
 -- new objects offer what is due before the first row
 pub new_objects_show : (kinds : List ℕ) → ShowsOffers (map new_offers kinds) kinds []

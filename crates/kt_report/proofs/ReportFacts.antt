@@ -5,21 +5,20 @@ use Rattle.std.specs.Io.KnownBytes.{Appends}
 use Rattle.kt_spacetime.specs.declared.event.Event.{Event}
 use Rattle.kt_chain.specs.declared.certificate.Certificate.{Certificate}
 use Rattle.kt_text.specs.Writing.{Sends}
-use Rattle.kt_text.proofs.PieceFacts.{sends_more, sends_gathered, sends_rest}
+use Rattle.kt_text.proofs.PieceFacts.{sends_gathered, sends_rest}
 use Rattle.kt_plan.specs.Limits.{Planned}
 use Rattle.kt_report.specs.Exact.{offers_in, lost_in, report_of}
 use Rattle.kt_report.specs.Lines.{instance_lines, refusal_line, losses_line}
 use Rattle.kt_report.specs.Report.{object_lines, dropped_in, WritesReport}
 
 -- what was sent and what was gathered after it go out
-pub parts_go_out : (a b c d : Option (List ℕ)) (start x y z u instances refusals objects losses : List ℕ) → start ≡ [] → Sends a b start x instances → Sends b c x y refusals
-    → z ≡ y ++ objects → u ≡ z ++ losses → Appends c d u → Appends a d (instances ++ refusals ++ objects ++ losses)
-parts_go_out a b c d start x y z u instances refusals objects losses none p q o e out =
-    let first = subst (λ (t : List ℕ). Sends a b t x instances) none p in
-    let both = sends_more a b c [] x y instances refusals first q in
-    let three = sends_gathered a c [] y z (instances ++ refusals) objects both o in
-    let four = sends_gathered a c [] z u (instances ++ refusals ++ objects) losses three e in
-    sends_rest a c d u (instances ++ refusals ++ objects ++ losses) four out
+pub parts_go_out : (a c d : Option (List ℕ)) (start y z u commands objects losses : List ℕ) → start ≡ [] → Sends a c start y commands
+    → z ≡ y ++ objects → u ≡ z ++ losses → Appends c d u → Appends a d (commands ++ objects ++ losses)
+parts_go_out a c d start y z u commands objects losses none p o e out =
+    let both = subst (λ (t : List ℕ). Sends a c t y commands) none p in
+    let three = sends_gathered a c [] y z commands objects both o in
+    let four = sends_gathered a c [] z u (commands ++ objects) losses three e in
+    sends_rest a c d u (commands ++ objects ++ losses) four out
 
 -- the parts make a report
 pub writes_report : (a d : Option (List ℕ)) (names : List (List ℕ)) (rows : List Event) (certificates : List Certificate) (offers : List (Option ℤ)) (lost dropped : ℕ) → length offers ≡ length names

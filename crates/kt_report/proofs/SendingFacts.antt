@@ -1,6 +1,6 @@
 -- Texts of lists of items, sent item by item.
-use Rattle.std.proofs.Common.{◌≡◌, ◌∙◌, ◌<◌, ◌+◌, ℕ, List, [], ◌∷◌, ◌++◌, length, sym, ap, subst, take, get_or, Option, append_assoc}
-use Rattle.std.proofs.lemmas.List.{take_more, append-nil}
+use Rattle.std.proofs.Common.{◌≡◌, ◌∙◌, ◌<◌, ◌≤◌, ◌+◌, ℕ, List, [], ◌∷◌, ◌++◌, length, sym, ap, subst, take, get_or, Option, append_assoc}
+use Rattle.std.proofs.lemmas.List.{take_more, take_all, append-nil}
 use Rattle.std.proofs.lemmas.List.Concat.{flat_map-append}
 use Rattle.std.specs.List.{flat_map}
 use Rattle.kt_text.specs.Writing.{Sends}
@@ -25,6 +25,11 @@ pub sends_pushed : {A : Type 0} (f : A → List ℕ) (a b d : Option (List ℕ))
 sends_pushed f a b d x y z u items i item within at p e out =
     subst (λ (text : List ℕ). Sends a d x u text) (sym (items-more f items i item within at))
     (sends_nothing a b d x z u (flat_map f (take i items) ++ f item) (sends_gathered a b x y z (flat_map f (take i items)) (f item) p e) out)
+
+-- no item is left to send
+pub sends_all : {A : Type 0} (f : A → List ℕ) (a b : Option (List ℕ)) (x y : List ℕ) (items : List A) (i : ℕ) → length items ≤ i
+    → Sends a b x y (flat_map f (take i items)) → Sends a b x y (flat_map f items)
+sends_all f a b x y items i all p = subst (λ (text : List ℕ). Sends a b x y text) (ap (flat_map f) (take_all i items all)) p
 
 -- a text is sent after what was gathered
 pub sends_after : (a b : Option (List ℕ)) (x y z s t : List ℕ) → y ≡ x ++ s → Sends a b y z t → Sends a b x z (s ++ t)

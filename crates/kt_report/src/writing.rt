@@ -1,10 +1,13 @@
 //! Reports.
 
-ghost use Rattle.std.specs.Prelude.{OnOk};
+ghost use Rattle.std.specs.Prelude.{◌++◌, OnOk};
+ghost use Rattle.std.specs.List.{flat_map};
 ghost use Rattle.std.specs.Io.KnownBytes.{Appends};
 ghost use Rattle.kt_cuts.specs.Legal.{IsLegal};
 ghost use Rattle.kt_report.specs.Exact.{report_of};
+ghost use Rattle.kt_report.specs.Lines.{instance_lines, refusal_line};
 ghost use Rattle.kt_report.specs.Report.{WritesReport};
+ghost use Rattle.kt_text.specs.Writing.{Sends};
 
 use crate::instances::write_instances;
 use crate::losses::{dropped, lost, push_losses};
@@ -13,8 +16,8 @@ use crate::refusals::write_refusals;
 use crate::replay::Replay;
 use crate::unwilling::Unwilling;
 use kt_chain::Certificate;
-use kt_plan::Plan;
-use kt_spacetime::SpaceTime;
+use kt_plan::{Names, Plan};
+use kt_spacetime::{Event, SpaceTime};
 use kt_text::WriteFault;
 use kt_text::pieces::write_rest;
 use std::alloc::Global;
@@ -46,19 +49,27 @@ pub fn report<W: Write>(
         (report_of plan.now log.now.rows certificates.now)) }
 {
     let rows = log.rows();
-    let unwilling = Unwilling::in_rows(alloc, rows)?;
     let replay = Replay::of_rows(alloc, plan.kinds.as_slice(), rows)?;
     let mut text = Vec::new(alloc);
-    write_instances(
-        &mut text,
-        &plan.names,
-        rows,
-        &unwilling,
-        certificates,
-        writer,
-    )?;
-    write_refusals(&mut text, &plan.names, rows, writer)?;
+    write_commands(alloc, &mut text, &plan.names, rows, certificates, writer)?;
     push_objects(&mut text, &plan.names, replay.objects.as_slice())?;
     push_losses(&mut text, lost(&replay.walk, rows), dropped(rows))?;
     write_rest(&mut text, writer)
+}
+
+// Writes or gathers the lines of instances and of refused commands.
+fn write_commands<W: Write>(
+    alloc: Global,
+    text: &mut Vec<u8>,
+    names: &Names,
+    rows: &[Event],
+    certificates: &[Certificate],
+    writer: &mut W,
+) -> Result<(), WriteFault>
+    ensures { OnOk result (Sends (W.contents writer.old) (W.contents writer.new) text.old.items text.new.items
+        (flat_map (instance_lines names.now rows.now) certificates.now ++ flat_map (refusal_line names.now) rows.now)) }
+{
+    let unwilling = Unwilling::in_rows(alloc, rows)?;
+    write_instances(text, names, rows, &unwilling, certificates, writer)?;
+    write_refusals(text, names, rows, writer)
 }

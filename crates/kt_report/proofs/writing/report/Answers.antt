@@ -1,4 +1,4 @@
-use Rattle.std.proofs.Common.{◌≡◌, ◌∙◌, List, ℕ, ap, subst, sym, length, map}
+use Rattle.std.proofs.Common.{◌≡◌, ◌∙◌, ◌++◌, List, ℕ, ap, subst, sym, length, map}
 use Rattle.std.proofs.lemmas.List.{length-map}
 use Rattle.std.proofs.lemmas.Result.{on_ok_weaker}
 use Rattle.std.specs.Io.KnownBytes.{Appends}
@@ -31,9 +31,9 @@ returns g c =
     let same_names : names ≡ c.args.plan.now.names = ap (λ p. p.names) c.plan.view_is in
     let sliced : c.as_slice.result.now ≡ kinds = c.as_slice.ensures.value in
     let one_each = length-map shown (λ (o : Offers). o.now) ∙ ap length all_shown ∙ c.in_ok-replay.ensures.count ∙ ap length sliced ∙ c.plan.invariant.one_kind_each in
-    let parts = parts_go_out a (contents c.write_instances.new.writer) (contents c.write_refusals.new.writer) d c.new-text.result.items c.write_instances.new.text.items c.write_refusals.new.text.items
-    c.push_objects.new.text.items c.push_losses.new.text.items (flat_map (instance_lines names rows) certificates) (flat_map (refusal_line names) rows) (object_lines names offers)
-    (losses_line c.lost.result c.dropped.result) c.new-text.ensures.items c.in_ok-write_instances.ensures c.in_ok-write_refusals.ensures c.in_ok-push_objects.ensures c.in_ok-push_losses.ensures in
+    let parts = parts_go_out a (contents c.write_commands.new.writer) d c.new-text.result.items c.write_commands.new.text.items
+    c.push_objects.new.text.items c.push_losses.new.text.items (flat_map (instance_lines names rows) certificates ++ flat_map (refusal_line names) rows) (object_lines names offers)
+    (losses_line c.lost.result c.dropped.result) c.new-text.ensures.items c.in_ok-write_commands.ensures c.in_ok-push_objects.ensures c.in_ok-push_losses.ensures in
     record {
       written = on_ok_weaker c.write_rest.result (λ out. subst (λ (ns : List (List ℕ)). WritesReport a d ns c.args.log.now.rows certificates) same_names
           (subst (λ (rs : List Event). WritesReport a d names rs certificates) c.rows-rows.ensures.rows
