@@ -19,19 +19,36 @@ fn process_of(channels: &Channels, words: &mut Words) -> Result<ProcNo>
     Ok(p)
 }
 
-// Makes room for parcels of a pair.
-fn make_room(channels: &mut Channels, words: &mut Words) -> Result<()> {
-    let (from, to) = (process_of(channels, words)?, process_of(channels, words)?);
-    channels.reserve_many(from, to, words.count()?)?;
-    Ok(())
+// Two processes of the channels, a sender and a receiver.
+#[derive(Clone, Copy)]
+struct Pair {
+    from: ProcNo,
+    to: ProcNo,
 }
 
-// Makes room for a parcel to each of two processes.
-fn make_room_for_two(channels: &mut Channels, words: &mut Words) -> Result<()> {
+// The pair of the next two words.
+fn pair_of(channels: &Channels, words: &mut Words) -> Result<Pair>
+    ensures from { IfOk result (λ pair. pair.from < channels.now.processes) }
+    ensures to { IfOk result (λ pair. pair.to < channels.now.processes) }
+{
     let from = process_of(channels, words)?;
-    let (one, other) = (process_of(channels, words)?, process_of(channels, words)?);
-    channels.reserve(from, ProcSet::empty().with(one).with(other))?;
-    Ok(())
+    let to = process_of(channels, words)?;
+    Ok(Pair { from, to })
+}
+
+// Makes room for parcels of a pair, which is always allowed.
+fn make_room(channels: &mut Channels, words: &mut Words) -> Result<bool> {
+    let Pair { from, to } = pair_of(channels, words)?;
+    channels.reserve_many(from, to, words.count()?)?;
+    Ok(true)
+}
+
+// Makes room for a parcel to each of two processes, which is always allowed.
+fn make_room_for_two(channels: &mut Channels, words: &mut Words) -> Result<bool> {
+    let Pair { from, to } = pair_of(channels, words)?;
+    let other = process_of(channels, words)?;
+    channels.reserve(from, ProcSet::empty().with(to).with(other))?;
+    Ok(true)
 }
 
 // Puts a parcel into a channel, where there is room; whether there is.
@@ -46,36 +63,43 @@ fn put(channels: &mut Channels, from: ProcNo, to: ProcNo, parcel: Parcel) -> boo
     may
 }
 
+fn message_of(words: &mut Words) -> Result<Parcel> {
+    let (label, msg) = (words.label()?, words.message()?);
+    Ok(Parcel::App {
+        label,
+        msg,
+        body: BODY,
+    })
+}
+
+fn ask_of(words: &mut Words) -> Result<Parcel> {
+    let label = words.label()?;
+    let inst = InstNo::new(1).context("no instance")?;
+    let kind = Kind::Rollback;
+    Ok(Parcel::Ask { inst, kind, label })
+}
+
 // Puts a message into a channel, or an ask; whether there is room.
 fn put_one(channels: &mut Channels, word: &str, words: &mut Words) -> Result<bool> {
-    let (from, to) = (process_of(channels, words)?, process_of(channels, words)?);
-    let label = words.label()?;
+    let Pair { from, to } = pair_of(channels, words)?;
     let parcel = match word {
-        "message" => Parcel::App {
-            label,
-            msg: words.message()?,
-            body: BODY,
-        },
-        "ask" => Parcel::Ask {
-            inst: InstNo::new(1).context("no instance")?,
-            kind: Kind::Rollback,
-            label,
-        },
+        "message" => message_of(words)?,
+        "ask" => ask_of(words)?,
         _ => bail!("no call"),
     };
     Ok(put(channels, from, to, parcel))
 }
 
-// Takes the messages above a label out.
-fn drop_above(channels: &mut Channels, words: &mut Words) -> Result<()> {
-    let (from, to) = (process_of(channels, words)?, process_of(channels, words)?);
+// Takes the messages above a label out, which is always allowed.
+fn drop_above(channels: &mut Channels, words: &mut Words) -> Result<bool> {
+    let Pair { from, to } = pair_of(channels, words)?;
     channels.drop_above(from, to, words.label()?);
-    Ok(())
+    Ok(true)
 }
 
 // Sets what other channels have for a pair before what these have, where there is room; whether there is.
 fn put_before(channels: &mut Channels, other: &mut Channels, words: &mut Words) -> Result<bool> {
-    let (from, to) = (process_of(channels, words)?, process_of(channels, words)?);
+    let Pair { from, to } = pair_of(channels, words)?;
     ensure!(other.processes() == channels.processes(), "other processes");
     let may = other.len(from, to) <= channels.spare(from, to);
     if may {
@@ -84,16 +108,22 @@ fn put_before(channels: &mut Channels, other: &mut Channels, words: &mut Words) 
     Ok(may)
 }
 
+// Shows a process, where it is one of the senders.
+fn show_sender<R: Print>(rt: &R, senders: ProcSet, number: u8) -> Result<()> {
+    if let Some(p) = ProcNo::new(number) {
+        if senders.has(p) {
+            print!(rt; " {p}")?;
+        }
+    }
+    Ok(())
+}
+
 fn show_senders<R: Print>(rt: &R, senders: ProcSet) -> Result<()> {
     print!(rt; "{}:", senders.count())?;
     for number in 0..64 {
-        if let Some(p) = ProcNo::new(number) {
-            if senders.has(p) {
-                print!(rt; " {p}")?;
-            }
-        }
+        show_sender(rt, senders, number)?;
     }
-    println!(rt; "")?;
+    println!(rt)?;
     Ok(())
 }
 
@@ -105,6 +135,11 @@ fn show_parcel<R: Print>(rt: &R, parcel: Option<Parcel>) -> Result<()> {
     Ok(())
 }
 
+fn show_number<R: Print>(rt: &R, number: usize) -> Result<()> {
+    println!(rt; "{number}")?;
+    Ok(())
+}
+
 // Shows what channels have for a pair.
 fn show_pair<R: Print>(
     rt: &R,
@@ -112,14 +147,11 @@ fn show_pair<R: Print>(
     word: &str,
     words: &mut Words,
 ) -> Result<()> {
-    let (from, to) = (process_of(channels, words)?, process_of(channels, words)?);
+    let Pair { from, to } = pair_of(channels, words)?;
     match word {
         "pop" => show_parcel(rt, channels.pop(from, to)),
         "front" => show_parcel(rt, channels.front(from, to).copied()),
-        "count" => {
-            println!(rt; "{}", channels.len(from, to))?;
-            Ok(())
-        }
+        "count" => show_number(rt, channels.len(from, to)),
         _ => bail!("no question"),
     }
 }
@@ -127,26 +159,43 @@ fn show_pair<R: Print>(
 // Shows the answer to a question.
 fn show_answer<R: Print>(rt: &R, channels: &mut Channels, words: &mut Words) -> Result<()> {
     match words.word() {
-        "processes" => println!(rt; "{}", channels.processes())?,
+        "processes" => show_number(rt, channels.processes()),
         "senders" => {
             let to = process_of(channels, words)?;
-            show_senders(rt, channels.senders(to))?;
+            show_senders(rt, channels.senders(to))
         }
-        word => show_pair(rt, channels, word, words)?,
+        word => show_pair(rt, channels, word, words),
     }
-    Ok(())
 }
 
 // Makes a call that changes channels, where that is allowed; whether it is.
 fn change(channels: &mut Channels, other: &mut Channels, words: &mut Words) -> Result<bool> {
     match words.word() {
-        "room" => make_room(channels, words)?,
-        "room-for-two" => make_room_for_two(channels, words)?,
-        "drop-above" => drop_above(channels, words)?,
-        "put-before" => return put_before(channels, other, words),
-        word => return put_one(channels, word, words),
+        "room" => make_room(channels, words),
+        "room-for-two" => make_room_for_two(channels, words),
+        "drop-above" => drop_above(channels, words),
+        "put-before" => put_before(channels, other, words),
+        word => put_one(channels, word, words),
     }
-    Ok(true)
+}
+
+// Shows a question, and the answer to it.
+fn show_question<R: Print>(rt: &R, channels: &mut Channels, question: &str) -> Result<()> {
+    print!(rt; "{question}: ")?;
+    show_answer(rt, channels, &mut Words::new(question))
+}
+
+// Makes a call that changes channels, and shows where it is not allowed.
+fn show_change<R: Print>(
+    rt: &R,
+    channels: &mut Channels,
+    other: &mut Channels,
+    line: &str,
+) -> Result<()> {
+    if !change(channels, other, &mut Words::new(line))? {
+        println!(rt; "{line}: refused")?;
+    }
+    Ok(())
 }
 
 // Makes a call of channels, and shows the answer, or that it is not allowed.
@@ -156,14 +205,10 @@ fn show_call<R: Print>(
     other: &mut Channels,
     line: &str,
 ) -> Result<()> {
-    if let Some(question) = line.strip_prefix("? ") {
-        print!(rt; "{question}: ")?;
-        return show_answer(rt, channels, &mut Words::new(question));
+    match line.strip_prefix("? ") {
+        Some(question) => show_question(rt, channels, question),
+        None => show_change(rt, channels, other, line),
     }
-    if !change(channels, other, &mut Words::new(line))? {
-        println!(rt; "{line}: refused")?;
-    }
-    Ok(())
 }
 
 /// Makes a call that a line spells, of the channels of kept parcels where it says so and else of those of held ones.

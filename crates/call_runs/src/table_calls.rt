@@ -1,61 +1,164 @@
-//! Calls of label tables, as lines spell them.
+//! Calls of label tables, as lines spell them, and what tables answer.
+
+ghost use Rattle.std.specs.Prelude.{◌<◌, ◌↔◌, IsTrue};
 
 use crate::words::Words;
 use anyhow::{Result, bail};
 use kt_base::{Label, ProcNo};
+use kt_tables::Tables;
 
-/// A call that changes tables.
-#[derive(Clone, Copy)]
-pub(crate) enum Change {
-    Sent(ProcNo, Label),
-    Received(ProcNo, Label),
-    Tentative,
-    Commit,
-    Abort,
-    Rollback,
+// Whether a process is one of those of the tables.
+fn is_there(tables: &Tables, p: ProcNo) -> bool
+    ensures { IsTrue result ↔ (p < tables.now.processes) }
+{
+    (p.get() as usize) < tables.processes()
 }
 
-/// A call that leaves tables as they are.
-#[derive(Clone, Copy)]
-pub(crate) enum Question {
-    Takes(ProcNo, Label),
-    Rolls(ProcNo, Label),
-    CheckpointCohort,
-    RollbackCohort,
-    Kept,
+// Notes a message as sent, where that is allowed; whether it is.
+fn send(tables: &mut Tables, to: ProcNo, label: Label) -> bool {
+    let may = is_there(tables, to) && tables.can_send(to, label);
+    if may {
+        tables.sent(to, label);
+    }
+    may
 }
 
-/// A call of either sort.
-#[derive(Clone, Copy)]
-pub(crate) enum Call {
-    Change(Change),
-    Question(Question),
+// Notes a message as received, where that is allowed; whether it is.
+fn receive(tables: &mut Tables, from: ProcNo, label: Label) -> bool {
+    let may = is_there(tables, from) && tables.can_receive(from, label);
+    if may {
+        tables.received(from, label);
+    }
+    may
 }
 
-// The call of a process and a label that a line spells.
-fn call_with_label(line: &str) -> Result<Call> {
-    let mut words = Words::new(line);
-    let word = words.word();
-    let (peer, label) = (words.process()?, words.label()?);
+// Decides a tentative checkpoint, where there is one; whether there is.
+fn decide(tables: &mut Tables, commit: bool) -> bool {
+    let may = tables.is_tentative();
+    if may && commit {
+        tables.on_commit();
+    } else if may {
+        tables.on_abort();
+    }
+    may
+}
+
+// Takes a tentative checkpoint, where there is none; whether there is none.
+fn take(tables: &mut Tables) -> bool {
+    let may = !tables.is_tentative();
+    if may {
+        tables.on_tentative();
+    }
+    may
+}
+
+// Rolls back, where there is no tentative checkpoint; whether there is none.
+fn roll_back(tables: &mut Tables) -> bool {
+    let may = !tables.is_tentative();
+    if may {
+        tables.on_rollback();
+    }
+    may
+}
+
+// Whether a process has to take part in a checkpoint, if the tables have it.
+fn takes(tables: &Tables, from: ProcNo, last: Label) -> Option<bool> {
+    if is_there(tables, from) {
+        Some(tables.must_take(from, last))
+    } else {
+        None
+    }
+}
+
+// Whether a process has to take part in a rollback, if the tables have it.
+fn rolls(tables: &Tables, from: ProcNo, last_sent: Label) -> Option<bool> {
+    if is_there(tables, from) {
+        Some(tables.must_roll(from, last_sent))
+    } else {
+        None
+    }
+}
+
+// What is shown of a call that changes tables: nothing where it is allowed.
+fn refusal(allowed: bool) -> &'static str {
+    if allowed { "" } else { "refused" }
+}
+
+fn word_of_truth(truth: Option<bool>) -> &'static str {
+    match truth {
+        Some(true) => "yes",
+        Some(false) => "no",
+        None => "no such process",
+    }
+}
+
+// Makes a call of a process and a label; what is shown of it.
+fn call_with_label(
+    tables: &mut Tables,
+    word: &str,
+    peer: ProcNo,
+    label: Label,
+) -> Result<&'static str> {
     match word {
-        "sent" => Ok(Call::Change(Change::Sent(peer, label))),
-        "received" => Ok(Call::Change(Change::Received(peer, label))),
-        "takes" => Ok(Call::Question(Question::Takes(peer, label))),
-        "rolls" => Ok(Call::Question(Question::Rolls(peer, label))),
+        "sent" => Ok(refusal(send(tables, peer, label))),
+        "received" => Ok(refusal(receive(tables, peer, label))),
+        "takes" => Ok(word_of_truth(takes(tables, peer, label))),
+        "rolls" => Ok(word_of_truth(rolls(tables, peer, label))),
         _ => bail!("no call of a process and a label"),
     }
 }
 
-/// The call that a line spells.
-pub(crate) fn call_of(line: &str) -> Result<Call> {
+// Makes the call of a process and a label that a line spells; what is shown of it.
+fn answer_with_label(tables: &mut Tables, line: &str) -> Result<&'static str> {
+    let mut words = Words::new(line);
+    let word = words.word();
+    let (peer, label) = (words.process()?, words.label()?);
+    call_with_label(tables, word, peer, label)
+}
+
+// Makes the call that a line spells; what is shown of it.
+fn answer_to(tables: &mut Tables, line: &str) -> Result<&'static str> {
     match line {
-        "tentative" => Ok(Call::Change(Change::Tentative)),
-        "commit" => Ok(Call::Change(Change::Commit)),
-        "abort" => Ok(Call::Change(Change::Abort)),
-        "rollback" => Ok(Call::Change(Change::Rollback)),
-        "checkpoint cohort" => Ok(Call::Question(Question::CheckpointCohort)),
-        "rollback cohort" => Ok(Call::Question(Question::RollbackCohort)),
-        "kept" => Ok(Call::Question(Question::Kept)),
-        _ => call_with_label(line),
+        "tentative" => Ok(refusal(take(tables))),
+        "commit" => Ok(refusal(decide(tables, true))),
+        "abort" => Ok(refusal(decide(tables, false))),
+        "rollback" => Ok(refusal(roll_back(tables))),
+        _ => answer_with_label(tables, line),
+    }
+}
+
+fn show_answer<R: Print>(rt: &R, line: &str, answer: &str) -> Result<()> {
+    if !answer.is_empty() {
+        println!(rt; "{line}: {answer}")?;
+    }
+    Ok(())
+}
+
+fn show_peer<R: Print>(rt: &R, peer: ProcNo, label: Label) -> Result<()> {
+    print!(rt; ", {peer} with {}", label.get())?;
+    Ok(())
+}
+
+fn show_cohort<R: Print>(rt: &R, line: &str, cohort: &[(ProcNo, Label)]) -> Result<()> {
+    print!(rt; "{line}: {}", cohort.len())?;
+    for (peer, label) in cohort {
+        show_peer(rt, *peer, *label)?;
+    }
+    println!(rt)?;
+    Ok(())
+}
+
+fn show_kept<R: Print>(rt: &R, kept: usize) -> Result<()> {
+    println!(rt; "kept: {kept}")?;
+    Ok(())
+}
+
+/// Makes a call that a line spells, and shows the answer, or that it is not allowed.
+pub(crate) fn show_table_call<R: Print>(rt: &R, tables: &mut Tables, line: &str) -> Result<()> {
+    match line {
+        "checkpoint cohort" => show_cohort(rt, line, tables.ckpt_cohort()?.as_slice()),
+        "rollback cohort" => show_cohort(rt, line, tables.roll_cohort()?.as_slice()),
+        "kept" => show_kept(rt, tables.kept()),
+        _ => show_answer(rt, line, answer_to(tables, line)?),
     }
 }

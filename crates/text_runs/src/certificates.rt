@@ -1,7 +1,8 @@
 //! What is read of certificates.
 
-use crate::entries::{Entry, entries};
+use crate::entries::Entry;
 use crate::failing::FailingReader;
+use crate::heads::{show_count, show_fault};
 use crate::long_text::{LongText, parts_of};
 use crate::writing::{Form, show_failing_writes, show_written};
 use anyhow::Result;
@@ -21,56 +22,35 @@ fn show_failing_reads<R: Print + AllocGlobal>(rt: &R, text: &[u8]) -> Result<()>
     Ok(())
 }
 
-// Shows certificates, what is written of them, and what failing readers and writers make of it.
-fn show_each<R: Print + AllocGlobal>(rt: &R, text: &[u8], list: &[Certificate]) -> Result<()> {
+fn show_each<R: Print>(rt: &R, list: &[Certificate]) -> Result<()> {
     for certificate in list {
         println!(rt; "  {certificate:?}")?;
     }
-    show_written(rt, Form::Certificates, text)?;
-    show_failing_reads(rt, text)?;
-    show_failing_writes(rt, Form::Certificates, text, 7)
-}
-
-fn show_text<R: Print + AllocGlobal>(rt: &R, entry: &Entry) -> Result<()> {
-    let title = entry.title;
-    match read_certs(rt.alloc(), entry.text) {
-        Ok(list) => {
-            let count = list.len();
-            println!(rt; "{title}: {count} certificates")?;
-            show_each(rt, entry.text, list.as_slice())
-        }
-        Err(fault) => {
-            println!(rt; "{title}: {fault}")?;
-            Ok(())
-        }
-    }
-}
-
-/// Shows what is read of each stored text of certificates.
-pub(crate) fn show_certificates<R: Print + AllocGlobal>(rt: &R, bytes: &[u8]) -> Result<()> {
-    for entry in entries(rt.alloc(), bytes)?.iter() {
-        show_text(rt, entry)?;
-    }
     Ok(())
 }
 
-fn show_long_text<R: Print + AllocGlobal>(rt: &R, entry: &Entry) -> Result<()> {
-    let title = entry.title;
+// Shows certificates, what is written of them, and what failing readers and writers make of it.
+fn show_list<R: Print + AllocGlobal>(rt: &R, entry: &Entry, list: &[Certificate]) -> Result<()> {
+    show_count(rt, entry.title, list.len(), "certificates")?;
+    show_each(rt, list)?;
+    show_written(rt, Form::Certificates, entry.text)?;
+    show_failing_reads(rt, entry.text)?;
+    show_failing_writes(rt, Form::Certificates, entry.text, 7)
+}
+
+/// Shows what is read of a stored text of certificates.
+pub(crate) fn show_certificates<R: Print + AllocGlobal>(rt: &R, entry: &Entry) -> Result<()> {
+    match read_certs(rt.alloc(), entry.text) {
+        Ok(list) => show_list(rt, entry, list.as_slice()),
+        Err(fault) => show_fault(rt, entry.title, &fault),
+    }
+}
+
+/// Shows how many certificates are read of a text that is told.
+pub(crate) fn show_long_certificates<R: Print + AllocGlobal>(rt: &R, entry: &Entry) -> Result<()> {
     let parts = parts_of(rt.alloc(), entry)?;
     match read_certs(rt.alloc(), LongText::new(parts.as_slice())) {
-        Ok(list) => {
-            let count = list.len();
-            println!(rt; "{title}: {count} certificates")?;
-        }
-        Err(fault) => println!(rt; "{title}: {fault}")?,
+        Ok(list) => show_count(rt, entry.title, list.len(), "certificates"),
+        Err(fault) => show_fault(rt, entry.title, &fault),
     }
-    Ok(())
-}
-
-/// Shows how many certificates are read of each text that is told.
-pub(crate) fn show_long_certificates<R: Print + AllocGlobal>(rt: &R, bytes: &[u8]) -> Result<()> {
-    for entry in entries(rt.alloc(), bytes)?.iter() {
-        show_long_text(rt, entry)?;
-    }
-    Ok(())
 }

@@ -1,6 +1,6 @@
 //! What is read of logs, row by row and whole.
 
-use crate::entries::{Entry, entries};
+use crate::entries::Entry;
 use crate::failing::FailingReader;
 use crate::long_text::{LongText, parts_of};
 use crate::writing::{Form, show_failing_writes, show_written};
@@ -40,7 +40,7 @@ fn show_count<R: Print, S: Read + Drop>(rt: &R, rows: &mut RowReader<S>) -> Resu
     print!(rt; "{count} rows")?;
     show_answer(rt, answer)?;
     show_answer(rt, rows.next())?;
-    println!(rt; "")?;
+    println!(rt)?;
     Ok(())
 }
 
@@ -78,49 +78,50 @@ fn show_failing_reads<R: Print + AllocGlobal>(rt: &R, text: &[u8]) -> Result<()>
     Ok(())
 }
 
-// Shows the rows of a log, what is written of them, and what failing readers and writers make of it.
-fn show_rows<R: Print + AllocGlobal>(rt: &R, entry: &Entry, rows: &[Event]) -> Result<()> {
+fn show_each_row<R: Print>(rt: &R, rows: &[Event]) -> Result<()> {
     for row in rows {
         println!(rt; "  {row:?}")?;
     }
+    Ok(())
+}
+
+// Shows the rows of a log, what is written of them, and what failing readers and writers make of it.
+fn show_rows<R: Print + AllocGlobal>(rt: &R, entry: &Entry, rows: &[Event]) -> Result<()> {
+    show_each_row(rt, rows)?;
     show_written(rt, Form::Log, entry.text)?;
     show_failing_reads(rt, entry.text)?;
     show_failing_writes(rt, Form::Log, entry.text, 7)
 }
 
-fn show_log<R: Print + AllocGlobal>(rt: &R, entry: &Entry) -> Result<()> {
-    let title = entry.title;
+fn show_title<R: Print>(rt: &R, title: &str) -> Result<()> {
     print!(rt; "{title}: ")?;
-    show_count(rt, &mut RowReader::new(rt.alloc(), entry.text)?)?;
-    match read_csv(rt.alloc(), entry.text) {
-        Ok(log) => show_rows(rt, entry, log.rows()),
-        Err(fault) => {
-            println!(rt; "  {fault}")?;
-            Ok(())
-        }
-    }
-}
-
-/// Shows what is read of each stored log.
-pub(crate) fn show_logs<R: Print + AllocGlobal>(rt: &R, bytes: &[u8]) -> Result<()> {
-    for entry in entries(rt.alloc(), bytes)?.iter() {
-        show_log(rt, entry)?;
-    }
     Ok(())
 }
 
-fn show_long_log<R: Print + AllocGlobal>(rt: &R, entry: &Entry) -> Result<()> {
-    let title = entry.title;
-    let parts = parts_of(rt.alloc(), entry)?;
-    let mut rows = RowReader::new(rt.alloc(), LongText::new(parts.as_slice()))?;
-    print!(rt; "{title}: ")?;
+// Shows how many rows of a log are read one by one from a reader.
+fn show_one_by_one<R: Print + AllocGlobal, S: Read + Drop>(rt: &R, reader: S) -> Result<()> {
+    let mut rows = RowReader::new(rt.alloc(), reader)?;
     show_count(rt, &mut rows)
 }
 
-/// Shows how many rows are read of each log that is told.
-pub(crate) fn show_long_logs<R: Print + AllocGlobal>(rt: &R, bytes: &[u8]) -> Result<()> {
-    for entry in entries(rt.alloc(), bytes)?.iter() {
-        show_long_log(rt, entry)?;
-    }
+fn show_fault<R: Print>(rt: &R, fault: LogFault) -> Result<()> {
+    println!(rt; "  {fault}")?;
     Ok(())
+}
+
+/// Shows what is read of a stored log.
+pub(crate) fn show_log<R: Print + AllocGlobal>(rt: &R, entry: &Entry) -> Result<()> {
+    show_title(rt, entry.title)?;
+    show_one_by_one(rt, entry.text)?;
+    match read_csv(rt.alloc(), entry.text) {
+        Ok(log) => show_rows(rt, entry, log.rows()),
+        Err(fault) => show_fault(rt, fault),
+    }
+}
+
+/// Shows how many rows are read of a log that is told.
+pub(crate) fn show_long_log<R: Print + AllocGlobal>(rt: &R, entry: &Entry) -> Result<()> {
+    show_title(rt, entry.title)?;
+    let parts = parts_of(rt.alloc(), entry)?;
+    show_one_by_one(rt, LongText::new(parts.as_slice()))
 }

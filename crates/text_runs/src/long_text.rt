@@ -15,24 +15,35 @@ pub(crate) struct Part {
     times: u32,
 }
 
+// What stands once in a part: a text, with a line feed where it is a line.
+fn piece_of(alloc: Global, word: &str, text: &str) -> Result<String> {
+    match word {
+        "lines" => Ok(format!(in alloc; "{text}\n")?),
+        "bytes" => Ok(String::from_str(alloc, text)?),
+        _ => bail!("neither lines nor bytes"),
+    }
+}
+
 fn part_of(alloc: Global, line: &str) -> Result<Part> {
     let (word, rest) = line.split_once(' ').context("no word")?;
     let (times, text) = rest.split_once(' ').context("no count")?;
     let times = times.parse::<u32>()?;
     ensure!(times > 0 && !text.is_empty(), "a part without a byte");
-    let piece = match word {
-        "lines" => format!(in alloc; "{text}\n")?,
-        "bytes" => String::from_str(alloc, text)?,
-        _ => bail!("neither lines nor bytes"),
-    };
+    let piece = piece_of(alloc, word, text)?;
     Ok(Part { piece, times })
+}
+
+fn add_part_of(alloc: Global, parts: &mut Vec<Part>, line: &str) -> Result<()> {
+    parts.push(part_of(alloc, line)?)?;
+    Ok(())
 }
 
 /// The parts that a stored text tells of.
 pub(crate) fn parts_of(alloc: Global, entry: &Entry) -> Result<Vec<Part>> {
+    let lines = std::str::from_utf8(entry.text)?.lines();
     let mut parts = Vec::new(alloc);
-    for line in std::str::from_utf8(entry.text)?.lines() {
-        parts.push(part_of(alloc, line)?)?;
+    for line in lines {
+        add_part_of(alloc, &mut parts, line)?;
     }
     Ok(parts)
 }
@@ -97,11 +108,18 @@ fn add_part(text: &mut Vec<u8>, part: &Part) -> Result<()> {
     Ok(())
 }
 
+// Adds parts to a text.
+fn add_parts(text: &mut Vec<u8>, parts: &[Part]) -> Result<()> {
+    for part in parts {
+        add_part(text, part)?;
+    }
+    Ok(())
+}
+
 /// The text that a stored one tells.
 pub(crate) fn told(alloc: Global, entry: &Entry) -> Result<Vec<u8>> {
+    let parts = parts_of(alloc, entry)?;
     let mut text = Vec::new(alloc);
-    for part in parts_of(alloc, entry)?.iter() {
-        add_part(&mut text, part)?;
-    }
+    add_parts(&mut text, parts.as_slice())?;
     Ok(text)
 }

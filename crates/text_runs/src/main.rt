@@ -7,47 +7,113 @@ mod certificates;
 mod certified;
 mod entries;
 mod failing;
+mod heads;
 mod logs;
 mod long_text;
 mod numbers;
 mod scenarios;
 mod writing;
 
-use anyhow::Result;
+use anyhow::{Result, bail};
 use certificates::{show_certificates, show_long_certificates};
 use certified::show_certified;
-use logs::{show_logs, show_long_logs};
+use entries::{Entry, entries};
+use kt_plan::Plan;
+use kt_scenario::parse;
+use logs::{show_log, show_long_log};
 use numbers::show_numbers;
-use scenarios::{show_long_scenarios, show_long_steps, show_scenarios, show_steps};
+use scenarios::{show_long_scenario, show_long_steps, show_scenario, show_steps};
 use std::fs;
 use writing::{Form, show_pieces};
 
-fn show_log_files(rt: &HostRuntime) -> Result<()> {
-    show_logs(rt, fs::read(rt, "logs")?.as_slice())?;
-    show_long_logs(rt, fs::read(rt, "long-logs")?.as_slice())?;
-    show_pieces(rt, Form::Log, fs::read(rt, "written-logs")?.as_slice())
+// The files of texts, in the order in which they are shown.
+const FILES: [&str; 11] = [
+    "logs",
+    "long-logs",
+    "written-logs",
+    "certificates",
+    "long-certificates",
+    "written-certificates",
+    "certified",
+    "scenarios",
+    "long-scenarios",
+    "steps",
+    "long-steps",
+];
+
+// Shows a text of one of the files of scenarios or of steps over a plan.
+fn show_scenario_entry<R: Print + AllocGlobal>(
+    rt: &R,
+    plan: &Plan,
+    file: &str,
+    entry: &Entry,
+) -> Result<()> {
+    match file {
+        "scenarios" => show_scenario(rt, entry),
+        "long-scenarios" => show_long_scenario(rt, entry),
+        "steps" => show_steps(rt, plan, entry),
+        "long-steps" => show_long_steps(rt, plan, entry),
+        _ => bail!("no such file"),
+    }
 }
 
-fn show_certificate_files(rt: &HostRuntime) -> Result<()> {
-    show_certificates(rt, fs::read(rt, "certificates")?.as_slice())?;
-    show_long_certificates(rt, fs::read(rt, "long-certificates")?.as_slice())?;
-    let written = fs::read(rt, "written-certificates")?;
-    show_pieces(rt, Form::Certificates, written.as_slice())?;
-    show_certified(rt, fs::read(rt, "certified")?.as_slice())
+// Shows a text of one of the files.
+fn show_entry<R: Print + AllocGlobal>(
+    rt: &R,
+    plan: &Plan,
+    file: &str,
+    entry: &Entry,
+) -> Result<()> {
+    match file {
+        "logs" => show_log(rt, entry),
+        "long-logs" => show_long_log(rt, entry),
+        "written-logs" => show_pieces(rt, Form::Log, entry),
+        "certificates" => show_certificates(rt, entry),
+        "long-certificates" => show_long_certificates(rt, entry),
+        "written-certificates" => show_pieces(rt, Form::Certificates, entry),
+        "certified" => show_certified(rt, entry),
+        _ => show_scenario_entry(rt, plan, file, entry),
+    }
 }
 
-fn show_scenario_files(rt: &HostRuntime) -> Result<()> {
-    let plan = fs::read(rt, "plan")?;
-    show_scenarios(rt, fs::read(rt, "scenarios")?.as_slice())?;
-    show_long_scenarios(rt, fs::read(rt, "long-scenarios")?.as_slice())?;
-    show_steps(rt, plan.as_slice(), fs::read(rt, "steps")?.as_slice())?;
-    let long = fs::read(rt, "long-steps")?;
-    show_long_steps(rt, plan.as_slice(), long.as_slice())
+// Shows each text of a file.
+fn show_entries<R: Print + AllocGlobal>(
+    rt: &R,
+    plan: &Plan,
+    file: &str,
+    bytes: &[u8],
+) -> Result<()> {
+    for entry in entries(rt.alloc(), bytes)?.iter() {
+        show_entry(rt, plan, file, entry)?;
+    }
+    Ok(())
+}
+
+fn show_file(rt: &HostRuntime, plan: &Plan, file: &str) -> Result<()> {
+    let bytes = fs::read(rt, file)?;
+    show_entries(rt, plan, file, bytes.as_slice())
+}
+
+fn show_files(rt: &HostRuntime, plan: &Plan) -> Result<()> {
+    for file in &FILES {
+        show_file(rt, plan, file)?;
+    }
+    Ok(())
+}
+
+fn show_number_file(rt: &HostRuntime) -> Result<()> {
+    let lines = fs::read_to_string(rt, "numbers")?;
+    show_numbers(rt, lines.as_str())
+}
+
+// The plan that stored steps are read over.
+fn stored_plan(rt: &HostRuntime) -> Result<Plan> {
+    let text = fs::read(rt, "plan")?;
+    Ok(parse(rt.alloc(), text.as_slice())?)
 }
 
 fn main(rt: HostRuntime) -> Result<()> {
-    show_numbers(&rt, fs::read_to_string(&rt, "numbers")?.as_str())?;
-    show_log_files(&rt)?;
-    show_certificate_files(&rt)?;
-    show_scenario_files(&rt)
+    show_number_file(&rt)?;
+    let plan = stored_plan(&rt)?;
+    show_files(&rt, &plan)
 }

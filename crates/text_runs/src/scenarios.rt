@@ -1,21 +1,16 @@
 //! What is read of scenarios, and of steps over a plan.
 
-use crate::entries::{Entry, entries};
+use crate::entries::Entry;
+use crate::heads::{show_count, show_fault};
 use crate::long_text::told;
 use anyhow::Result;
 use kt_plan::{Plan, Step};
 use kt_scenario::{parse, parse_steps};
 
-// Shows how many objects and commands a scenario has, or its fault.
-fn show_counts<R: Print + AllocGlobal>(rt: &R, title: &str, text: &[u8]) -> Result<()> {
-    match parse(rt.alloc(), text) {
-        Ok(plan) => {
-            let objects = plan.names.len();
-            let commands = plan.commands.len();
-            println!(rt; "{title}: {objects} objects, {commands} commands")?;
-        }
-        Err(fault) => println!(rt; "{title}: {fault}")?,
-    }
+// Shows how many objects and commands a scenario has.
+fn show_counts<R: Print>(rt: &R, title: &str, plan: &Plan) -> Result<()> {
+    let (objects, commands) = (plan.names.len(), plan.commands.len());
+    println!(rt; "{title}: {objects} objects, {commands} commands")?;
     Ok(())
 }
 
@@ -34,25 +29,28 @@ fn show_commands<R: Print>(rt: &R, plan: &Plan) -> Result<()> {
     Ok(())
 }
 
-/// Shows what is read of each stored scenario.
-pub(crate) fn show_scenarios<R: Print + AllocGlobal>(rt: &R, bytes: &[u8]) -> Result<()> {
-    for entry in entries(rt.alloc(), bytes)?.iter() {
-        show_counts(rt, entry.title, entry.text)?;
-        if let Ok(plan) = parse(rt.alloc(), entry.text) {
-            show_objects(rt, &plan)?;
-            show_commands(rt, &plan)?;
-        }
-    }
-    Ok(())
+// Shows a plan: how much it has, its objects and its commands.
+fn show_plan<R: Print>(rt: &R, title: &str, plan: &Plan) -> Result<()> {
+    show_counts(rt, title, plan)?;
+    show_objects(rt, plan)?;
+    show_commands(rt, plan)
 }
 
-/// Shows how many objects and commands are read of each scenario that is told.
-pub(crate) fn show_long_scenarios<R: Print + AllocGlobal>(rt: &R, bytes: &[u8]) -> Result<()> {
-    for entry in entries(rt.alloc(), bytes)?.iter() {
-        let text = told(rt.alloc(), entry)?;
-        show_counts(rt, entry.title, text.as_slice())?;
+/// Shows what is read of a stored scenario.
+pub(crate) fn show_scenario<R: Print + AllocGlobal>(rt: &R, entry: &Entry) -> Result<()> {
+    match parse(rt.alloc(), entry.text) {
+        Ok(plan) => show_plan(rt, entry.title, &plan),
+        Err(fault) => show_fault(rt, entry.title, &fault),
     }
-    Ok(())
+}
+
+/// Shows how many objects and commands are read of a scenario that is told.
+pub(crate) fn show_long_scenario<R: Print + AllocGlobal>(rt: &R, entry: &Entry) -> Result<()> {
+    let text = told(rt.alloc(), entry)?;
+    match parse(rt.alloc(), text.as_slice()) {
+        Ok(plan) => show_counts(rt, entry.title, &plan),
+        Err(fault) => show_fault(rt, entry.title, &fault),
+    }
 }
 
 fn show_each<R: Print>(rt: &R, steps: &[Step]) -> Result<()> {
@@ -62,56 +60,29 @@ fn show_each<R: Print>(rt: &R, steps: &[Step]) -> Result<()> {
     Ok(())
 }
 
-fn show_text<R: Print + AllocGlobal>(rt: &R, plan: &Plan, entry: &Entry) -> Result<()> {
-    let title = entry.title;
+// Shows steps, and how many there are.
+fn show_list<R: Print>(rt: &R, title: &str, steps: &[Step]) -> Result<()> {
+    show_count(rt, title, steps.len(), "steps")?;
+    show_each(rt, steps)
+}
+
+/// Shows what is read of a stored text of steps over a plan.
+pub(crate) fn show_steps<R: Print + AllocGlobal>(rt: &R, plan: &Plan, entry: &Entry) -> Result<()> {
     match parse_steps(rt.alloc(), entry.text, plan) {
-        Ok(steps) => {
-            let count = steps.len();
-            println!(rt; "{title}: {count} steps")?;
-            show_each(rt, steps.as_slice())
-        }
-        Err(fault) => {
-            println!(rt; "{title}: {fault}")?;
-            Ok(())
-        }
+        Ok(steps) => show_list(rt, entry.title, steps.as_slice()),
+        Err(fault) => show_fault(rt, entry.title, &fault),
     }
 }
 
-/// Shows what is read of each stored text of steps over the plan of a scenario.
-pub(crate) fn show_steps<R: Print + AllocGlobal>(
-    rt: &R,
-    scenario: &[u8],
-    bytes: &[u8],
-) -> Result<()> {
-    let plan = parse(rt.alloc(), scenario)?;
-    for entry in entries(rt.alloc(), bytes)?.iter() {
-        show_text(rt, &plan, entry)?;
-    }
-    Ok(())
-}
-
-fn show_long_text<R: Print + AllocGlobal>(rt: &R, plan: &Plan, entry: &Entry) -> Result<()> {
-    let title = entry.title;
-    let text = told(rt.alloc(), entry)?;
-    match parse_steps(rt.alloc(), text.as_slice(), plan) {
-        Ok(steps) => {
-            let count = steps.len();
-            println!(rt; "{title}: {count} steps")?;
-        }
-        Err(fault) => println!(rt; "{title}: {fault}")?,
-    }
-    Ok(())
-}
-
-/// Shows how many steps are read of each text that is told, over the plan of a scenario.
+/// Shows how many steps are read of a text that is told, over a plan.
 pub(crate) fn show_long_steps<R: Print + AllocGlobal>(
     rt: &R,
-    scenario: &[u8],
-    bytes: &[u8],
+    plan: &Plan,
+    entry: &Entry,
 ) -> Result<()> {
-    let plan = parse(rt.alloc(), scenario)?;
-    for entry in entries(rt.alloc(), bytes)?.iter() {
-        show_long_text(rt, &plan, entry)?;
+    let text = told(rt.alloc(), entry)?;
+    match parse_steps(rt.alloc(), text.as_slice(), plan) {
+        Ok(steps) => show_count(rt, entry.title, steps.len(), "steps"),
+        Err(fault) => show_fault(rt, entry.title, &fault),
     }
-    Ok(())
 }

@@ -1,6 +1,6 @@
 //! What is written of logs and certificates that were read, and where a writer fails.
 
-use crate::entries::{Entry, entries};
+use crate::entries::Entry;
 use crate::failing::FailingWriter;
 use crate::long_text::told;
 use anyhow::{Result, bail};
@@ -48,28 +48,67 @@ fn written(alloc: Global, form: Form, text: &[u8]) -> Result<Vec<u8>> {
     }
 }
 
+// Shows what is written, and how.
+fn show_whole<R: Print>(rt: &R, how: &str, whole: &[u8]) -> Result<()> {
+    let whole = std::str::from_utf8(whole)?;
+    print!(rt; "  written {how}:\n{whole}")?;
+    Ok(())
+}
+
 /// Shows what is written of a text that is read, and whether it is that text.
 pub(crate) fn show_written<R: Print + AllocGlobal>(rt: &R, form: Form, text: &[u8]) -> Result<()> {
     let whole = written(rt.alloc(), form, text)?;
-    if whole.as_slice() == text {
-        println!(rt; "  written as it was read:")?;
+    let how = if whole.as_slice() == text {
+        "as it was read"
     } else {
-        println!(rt; "  written otherwise:")?;
+        "otherwise"
+    };
+    show_whole(rt, how, whole.as_slice())
+}
+
+// What a writer holds that failed at this call; none where it did not fail.
+fn held_at(
+    alloc: Global,
+    form: Form,
+    text: &[u8],
+    takes: usize,
+    call: usize,
+) -> Result<Option<Vec<u8>>> {
+    let mut writer = FailingWriter::new(Vec::new(alloc), takes, call);
+    match write_again(alloc, form, text, &mut writer)? {
+        None => Ok(None),
+        Some(WriteFault::Write) => Ok(Some(writer.into_held())),
+        Some(WriteFault::Memory) => bail!("memory"),
     }
-    let whole = String::from_utf8(whole)?;
-    print!(rt; "{whole}")?;
-    Ok(())
 }
 
 // Shows how many bytes a writer holds that failed, and whether they are a beginning of the text.
 fn show_held<R: Print>(rt: &R, whole: &[u8], held: &[u8]) -> Result<()> {
     let count = held.len();
-    if whole.starts_with(held) {
-        print!(rt; " {count}")?;
+    let note = if whole.starts_with(held) {
+        ""
     } else {
-        print!(rt; " {count} that are no beginning")?;
-    }
+        " that are no beginning"
+    };
+    print!(rt; " {count}{note}")?;
     Ok(())
+}
+
+// Shows how many bytes of the whole text writers hold that fail at each call in turn; at which call none fails.
+fn show_each_held<R: Print + AllocGlobal>(
+    rt: &R,
+    form: Form,
+    whole: &[u8],
+    text: &[u8],
+    takes: usize,
+) -> Result<usize> {
+    for call in 0..whole.len().saturating_add(3) {
+        match held_at(rt.alloc(), form, text, takes, call)? {
+            Some(held) => show_held(rt, whole, held.as_slice())?,
+            None => return Ok(call),
+        }
+    }
+    bail!("it is not written")
 }
 
 /// Shows how many bytes of its text a writer holds that fails at each call in turn, and at which call there is none.
@@ -81,34 +120,23 @@ pub(crate) fn show_failing_writes<R: Print + AllocGlobal>(
 ) -> Result<()> {
     let whole = written(rt.alloc(), form, text)?;
     print!(rt; "  {takes} bytes a call:")?;
-    for call in 0..whole.len().saturating_add(3) {
-        let mut writer = FailingWriter::new(Vec::new(rt.alloc()), takes, call);
-        match write_again(rt.alloc(), form, text, &mut writer)? {
-            None => {
-                println!(rt; ", written in {call} calls")?;
-                return Ok(());
-            }
-            Some(WriteFault::Write) => show_held(rt, whole.as_slice(), writer.held())?,
-            Some(WriteFault::Memory) => bail!("memory"),
-        }
-    }
-    bail!("it is not written")
-}
-
-fn show_piece<R: Print + AllocGlobal>(rt: &R, form: Form, entry: &Entry) -> Result<()> {
-    let title = entry.title;
-    let text = told(rt.alloc(), entry)?;
-    let whole = written(rt.alloc(), form, text.as_slice())?;
-    let count = whole.len();
-    let same = whole.as_slice() == text.as_slice();
-    println!(rt; "{title}: {count} bytes are written, as they were read: {same}")?;
-    show_failing_writes(rt, form, text.as_slice(), WHOLE_PIECES)
-}
-
-/// Shows what is written of each text that is told, and where a writer fails that takes each piece whole.
-pub(crate) fn show_pieces<R: Print + AllocGlobal>(rt: &R, form: Form, bytes: &[u8]) -> Result<()> {
-    for entry in entries(rt.alloc(), bytes)?.iter() {
-        show_piece(rt, form, entry)?;
-    }
+    let calls = show_each_held(rt, form, whole.as_slice(), text, takes)?;
+    println!(rt; ", written in {calls} calls")?;
     Ok(())
+}
+
+// Shows how many bytes are written of a text, and whether they are that text.
+fn show_length<R: Print + AllocGlobal>(rt: &R, form: Form, title: &str, text: &[u8]) -> Result<()> {
+    let whole = written(rt.alloc(), form, text)?;
+    let count = whole.len();
+    let same = whole.as_slice() == text;
+    println!(rt; "{title}: {count} bytes are written, as they were read: {same}")?;
+    Ok(())
+}
+
+/// Shows what is written of a text that is told, and where a writer fails that takes each piece whole.
+pub(crate) fn show_pieces<R: Print + AllocGlobal>(rt: &R, form: Form, entry: &Entry) -> Result<()> {
+    let text = told(rt.alloc(), entry)?;
+    show_length(rt, form, entry.title, text.as_slice())?;
+    show_failing_writes(rt, form, text.as_slice(), WHOLE_PIECES)
 }

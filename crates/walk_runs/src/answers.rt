@@ -5,7 +5,7 @@ use crate::readers::{are_same, histories_of};
 use crate::rounds::show_rounds;
 use crate::run::Run;
 use crate::words::Words;
-use anyhow::{Context, Result, bail};
+use anyhow::{Result, bail};
 use kt_base::{MsgNo, ProcNo, ProcSet};
 use kt_cuts::{Cut, Trace};
 use kt_walk::Walk;
@@ -38,42 +38,59 @@ fn show_trace<R: Print>(rt: &R, trace: Option<Trace>) -> Result<()> {
     Ok(())
 }
 
+// Shows the trace that the walk tells and the one that the plain reader tells.
+fn show_both_traces<R: Print>(
+    rt: &R,
+    of_walk: Option<Trace>,
+    of_reader: Option<Trace>,
+) -> Result<()> {
+    print!(rt; "walk ")?;
+    show_trace(rt, of_walk)?;
+    print!(rt; "; plain reader ")?;
+    show_trace(rt, of_reader)
+}
+
 // Shows the trace of a message as the walk keeps it, and as the plain reader tells it.
 fn show_traces<R: Print + AllocGlobal>(rt: &R, run: &Run, msg: MsgNo) -> Result<()> {
-    let histories = histories_of(rt.alloc(), run)?;
+    let of_reader = histories_of(rt.alloc(), run)?.trace(msg);
+    show_both_traces(rt, run.walk.trace(msg), of_reader)
+}
+
+// Shows the message that the walk tells and the one that the plain reader tells.
+fn show_both_messages<R: Print>(
+    rt: &R,
+    of_walk: Option<MsgNo>,
+    of_reader: Option<MsgNo>,
+) -> Result<()> {
     print!(rt; "walk ")?;
-    show_trace(rt, run.walk.trace(msg))?;
-    print!(rt; "; plain reader ")?;
-    show_trace(rt, histories.trace(msg))
+    show_message(rt, of_walk)?;
+    print!(rt; ", plain reader ")?;
+    show_message(rt, of_reader)
 }
 
 // Shows the orphan that the walk finds and the one that the plain reader finds.
 fn show_orphan<R: Print + AllocGlobal>(rt: &R, run: &Run, cut: &Cut) -> Result<()> {
-    let histories = histories_of(rt.alloc(), run)?;
-    print!(rt; "walk ")?;
-    show_message(rt, run.walk.orphan(cut))?;
-    print!(rt; ", plain reader ")?;
-    show_message(rt, histories.first_orphan(cut))
+    let of_reader = histories_of(rt.alloc(), run)?.first_orphan(cut);
+    show_both_messages(rt, run.walk.orphan(cut), of_reader)
 }
 
 // Shows the orphan that the plain reader finds in a cut of processes 0 and 1.
 fn show_plain<R: Print + AllocGlobal>(rt: &R, run: &Run, words: &mut Words) -> Result<()> {
     let mut cut = Cut::new([0; 64]);
-    for number in 0..2 {
-        let p = ProcNo::new(number).context("no process")?;
-        cut.set(p, words.number()? as usize);
-    }
-    let histories = histories_of(rt.alloc(), run)?;
-    show_message(rt, histories.first_orphan(&cut))
+    cut.set(ProcNo::nth(0), words.number()? as usize);
+    cut.set(ProcNo::nth(1), words.number()? as usize);
+    let orphan = histories_of(rt.alloc(), run)?.first_orphan(&cut);
+    show_message(rt, orphan)
 }
 
 // Shows whether both readers tell the same.
 fn show_readers<R: Print + AllocGlobal>(rt: &R, run: &Run) -> Result<()> {
-    if are_same(rt.alloc(), run)? {
-        print!(rt; "same")?;
+    let answer = if are_same(rt.alloc(), run)? {
+        "same"
     } else {
-        print!(rt; "not the same")?;
-    }
+        "not the same"
+    };
+    print!(rt; "{answer}")?;
     Ok(())
 }
 
@@ -96,14 +113,18 @@ fn show_lengths<R: Print>(rt: &R, walk: &Walk) -> Result<()> {
     Ok(())
 }
 
+// Shows an orphan behind a space.
+fn show_next<R: Print>(rt: &R, orphan: Option<MsgNo>) -> Result<()> {
+    print!(rt; " ")?;
+    show_message(rt, orphan)
+}
+
 // Shows the orphans of the cuts that are the present one, but of a process no more than each even number of events.
 fn show_shorter<R: Print>(rt: &R, walk: &Walk, p: ProcNo) -> Result<()> {
+    print!(rt; "\n  {p}:")?;
     for half in 0..walk.length(p) / 2 {
-        print!(rt; " ")?;
-        show_message(
-            rt,
-            walk.orphan(&present_but(walk, p, half.saturating_mul(2))),
-        )?;
+        let cut = present_but(walk, p, half.saturating_mul(2));
+        show_next(rt, walk.orphan(&cut))?;
     }
     Ok(())
 }
@@ -112,9 +133,7 @@ fn show_shorter<R: Print>(rt: &R, walk: &Walk, p: ProcNo) -> Result<()> {
 fn show_all_shorter<R: Print>(rt: &R, walk: &Walk) -> Result<()> {
     print!(rt; "orphans")?;
     for number in 0..64 {
-        let p = ProcNo::new(number).context("no process")?;
-        print!(rt; "\n  {p}:")?;
-        show_shorter(rt, walk, p)?;
+        show_shorter(rt, walk, ProcNo::nth(number))?;
     }
     Ok(())
 }
@@ -136,14 +155,17 @@ fn show_of_process<R: Print>(rt: &R, walk: &Walk, word: &str, p: ProcNo) -> Resu
     }
 }
 
+// The present cut, but of a process so much, as the words say.
+fn cut_of(walk: &Walk, words: &mut Words) -> Result<Cut> {
+    let (p, length) = (words.process()?, words.number()?);
+    Ok(present_but(walk, p, length as usize))
+}
+
 fn show_of_cut<R: Print + AllocGlobal>(rt: &R, run: &Run, words: &mut Words) -> Result<()> {
     match words.word() {
         "present" => show_orphan(rt, run, &present(&run.walk)),
         "permanent" => show_orphan(rt, run, &permanent(&run.walk)),
-        _ => {
-            let (p, length) = (words.process()?, words.number()?);
-            show_orphan(rt, run, &present_but(&run.walk, p, length as usize))
-        }
+        _ => show_orphan(rt, run, &cut_of(&run.walk, words)?),
     }
 }
 

@@ -15,11 +15,12 @@ mod transit;
 mod words;
 
 use answers::show_answer;
-use anyhow::{Context, Result};
+use anyhow::{Context, Result, bail};
 use kt_log_text::read_csv;
-use kt_spacetime::Event;
+use kt_spacetime::{Event, SpaceTime};
 use rows::add_rows;
 use run::Run;
+use std::alloc::Global;
 use std::fs;
 use transit::show_list;
 use words::Words;
@@ -33,47 +34,69 @@ fn show_row<R: Print>(rt: &R, run: &mut Run, row: Event, line: &str) -> Result<(
     Ok(())
 }
 
+// The rows that a line spells, of which there is one.
+fn rows_of(alloc: Global, line: &str) -> Result<SpaceTime> {
+    let text = format!(in alloc; "kt,2,-,-\n{line}")?;
+    Ok(read_csv(alloc, text.as_bytes())?)
+}
+
 // Feeds the row that a line spells.
 fn show_rows<R: Print + AllocGlobal>(rt: &R, run: &mut Run, line: &str) -> Result<()> {
-    let text = format!(in rt.alloc(); "kt,2,-,-\n{line}")?;
-    let log = read_csv(rt.alloc(), text.as_bytes())?;
-    for row in log.rows() {
+    for row in rows_of(rt.alloc(), line)?.rows() {
         show_row(rt, run, *row, line)?;
     }
     Ok(())
 }
 
+// Shows a question, and the answer to it.
+fn show_question<R: Print + AllocGlobal>(rt: &R, run: &mut Run, question: &str) -> Result<()> {
+    print!(rt; "{question}: ")?;
+    show_answer(rt, run, &mut Words::new(question))
+}
+
 fn show_line<R: Print + AllocGlobal>(rt: &R, run: &mut Run, line: &str) -> Result<()> {
     if let Some(question) = line.strip_prefix("? ") {
-        print!(rt; "{question}: ")?;
-        return show_answer(rt, run, &mut Words::new(question));
-    }
-    if line.find(',').is_some() {
+        show_question(rt, run, question)
+    } else if line.find(',').is_some() {
         show_rows(rt, run, line)
     } else {
         add_rows(run, &mut Words::new(line))
     }
 }
 
-// Shows what a script asks.
-fn show_script<R: Print + AllocGlobal>(rt: &R, script: &str) -> Result<()> {
-    let (title, lines) = script.split_once('\n').context("no title")?;
-    println!(rt; "{title}")?;
-    let mut run = Run::new(rt.alloc())?;
+fn show_lines<R: Print + AllocGlobal>(rt: &R, run: &mut Run, lines: &str) -> Result<()> {
     for line in lines.lines() {
-        show_line(rt, &mut run, line)?;
+        show_line(rt, run, line)?;
+    }
+    Ok(())
+}
+
+// Shows what the lines of a script ask.
+fn show_script<R: Print + AllocGlobal>(rt: &R, lines: &str) -> Result<()> {
+    let mut run = Run::new(rt.alloc())?;
+    show_lines(rt, &mut run, lines)
+}
+
+// Shows what a script asks, or what a list of calls makes of messages in transit, under its title.
+fn show_text<R: Print + AllocGlobal>(rt: &R, file: &str, text: &str) -> Result<()> {
+    let (title, lines) = text.split_once('\n').context("no title")?;
+    println!(rt; "{title}")?;
+    match file {
+        "scripts" => show_script(rt, lines),
+        "transit" => show_list(rt, lines),
+        _ => bail!("no such file"),
+    }
+}
+
+fn show_file(rt: &HostRuntime, file: &str) -> Result<()> {
+    let texts = fs::read_to_string(rt, file)?;
+    for text in texts.split("\n\n") {
+        show_text(rt, file, text)?;
     }
     Ok(())
 }
 
 fn main(rt: HostRuntime) -> Result<()> {
-    let scripts = fs::read_to_string(&rt, "scripts")?;
-    for script in scripts.split("\n\n") {
-        show_script(&rt, script)?;
-    }
-    let lists = fs::read_to_string(&rt, "transit")?;
-    for list in lists.split("\n\n") {
-        show_list(&rt, list)?;
-    }
-    Ok(())
+    show_file(&rt, "scripts")?;
+    show_file(&rt, "transit")
 }

@@ -34,21 +34,29 @@ fn pass_looking(
     Ok((first, same))
 }
 
-// Shows a round: so many messages from process 0 to process 1, and a checkpoint of both.
-fn show_round<R: Print>(rt: &R, run: &mut Run, number: u16, count: u32) -> Result<()> {
-    let (from, to) = (ProcNo::nth(0), ProcNo::nth(1));
-    let (first, same) = pass_looking(run, from, to, count)?;
+// Passes so many messages from process 0 to process 1; shows the first orphan, and after how many messages it is that one.
+fn show_passing<R: Print>(rt: &R, run: &mut Run, number: u16, count: u32) -> Result<()> {
+    let (first, same) = pass_looking(run, ProcNo::nth(0), ProcNo::nth(1), count)?;
     print!(rt; "\n  {number}: ")?;
     show_message(rt, first)?;
     print!(rt; " after {same}")?;
+    Ok(())
+}
+
+// Shows how much of process 1 is permanent, and the orphan of the permanent cut.
+fn show_permanent<R: Print>(rt: &R, walk: &Walk) -> Result<()> {
+    let to = ProcNo::nth(1);
+    let (permanent_length, length) = (walk.permanent(to), walk.length(to));
+    print!(rt; ", permanent {permanent_length} of {length}, orphan ")?;
+    show_message(rt, walk.orphan(&permanent(walk)))
+}
+
+// Shows a round: so many messages from process 0 to process 1, and a checkpoint of both.
+fn show_round<R: Print>(rt: &R, run: &mut Run, number: u16, count: u32) -> Result<()> {
+    show_passing(rt, run, number, count)?;
     let inst = InstNo::new(number).context("no instance")?;
     commit(run, Kind::Checkpoint, inst, 2)?;
-    print!(rt;
-        ", permanent {} of {}, orphan ",
-        run.walk.permanent(to),
-        run.walk.length(to)
-    )?;
-    show_message(rt, run.walk.orphan(&permanent(&run.walk)))
+    show_permanent(rt, &run.walk)
 }
 
 /// Shows so many rounds.

@@ -6,27 +6,21 @@ use anyhow::{Context, Result, bail};
 use kt_base::{InstNo, Kind, MsgNo, ProcNo};
 use kt_spacetime::Event;
 
-// Messages from one process to another, each received before the next one is sent.
-fn pass_many(run: &mut Run, words: &mut Words) -> Result<()> {
-    let (from, to, count) = (words.process()?, words.process()?, words.number()?);
-    for _ in 0..count {
-        run.pass(from, to)?;
+// Adds the rows of a message from one process to another: it is sent, and perhaps received or dropped at once.
+fn add_message(run: &mut Run, word: &str, from: ProcNo, to: ProcNo) -> Result<()> {
+    match word {
+        "pass" => run.pass(from, to),
+        "drop" => run.drop_one(from, to),
+        "send" => run.send_one(from, to),
+        _ => bail!("no rows"),
     }
-    Ok(())
 }
 
-fn send_many(run: &mut Run, words: &mut Words) -> Result<()> {
+// Adds the rows of so many messages, one after another.
+fn add_messages(run: &mut Run, word: &str, words: &mut Words) -> Result<()> {
     let (from, to, count) = (words.process()?, words.process()?, words.number()?);
     for _ in 0..count {
-        run.send(from, to)?;
-    }
-    Ok(())
-}
-
-fn drop_many(run: &mut Run, words: &mut Words) -> Result<()> {
-    let (from, to, count) = (words.process()?, words.process()?, words.number()?);
-    for _ in 0..count {
-        run.drop_one(from, to)?;
+        add_message(run, word, from, to)?;
     }
     Ok(())
 }
@@ -47,27 +41,18 @@ fn next(p: ProcNo) -> ProcNo {
     ProcNo::new((p.get() + 1) % 64).unwrap_or(p)
 }
 
-// Each of 64 processes passes a message to the next one.
-fn pass_round(run: &mut Run) -> Result<()> {
+// Adds the rows of a message from each of 64 processes to the next one.
+fn add_round(run: &mut Run, word: &str) -> Result<()> {
     for number in 0..64 {
-        let p = ProcNo::new(number).context("no process")?;
-        run.pass(p, next(p))?;
+        let p = ProcNo::nth(number);
+        add_message(run, word, p, next(p))?;
     }
     Ok(())
 }
 
 fn pass_rounds(run: &mut Run, words: &mut Words) -> Result<()> {
     for _ in 0..words.number()? {
-        pass_round(run)?;
-    }
-    Ok(())
-}
-
-// Each of 64 processes sends a message to the next one.
-fn send_round(run: &mut Run) -> Result<()> {
-    for number in 0..64 {
-        let p = ProcNo::new(number).context("no process")?;
-        run.send(p, next(p))?;
+        add_round(run, "pass")?;
     }
     Ok(())
 }
@@ -75,7 +60,7 @@ fn send_round(run: &mut Run) -> Result<()> {
 // Each of 64 processes receives the message of that round from the one before, if these are the first messages.
 fn receive_round(run: &mut Run) -> Result<()> {
     for number in 0..64 {
-        let from = ProcNo::new(number).context("no process")?;
+        let from = ProcNo::nth(number);
         let msg = MsgNo::after(from.index());
         let p = next(from);
         run.add(Event::Received { p, from, msg })?;
@@ -127,15 +112,12 @@ fn commit_one(run: &mut Run, kind: Kind, words: &mut Words) -> Result<()> {
 /// Adds the rows that a line tells of.
 pub(crate) fn add_rows(run: &mut Run, words: &mut Words) -> Result<()> {
     match words.word() {
-        "pass" => pass_many(run, words),
-        "send" => send_many(run, words),
-        "drop" => drop_many(run, words),
         "receive" => receive_many(run, words),
         "ring" => pass_rounds(run, words),
-        "send-round" => send_round(run),
+        "send-round" => add_round(run, "send"),
         "receive-round" => receive_round(run),
         "checkpoint" => commit_one(run, Kind::Checkpoint, words),
         "rollback" => commit_one(run, Kind::Rollback, words),
-        _ => bail!("no rows"),
+        word => add_messages(run, word, words),
     }
 }

@@ -46,12 +46,18 @@ impl Run {
         }
     }
 
-    /// A process sends a message; its number.
-    pub(crate) fn send(&mut self, p: ProcNo, to: ProcNo) -> Result<MsgNo> {
+    // A process sends a message; its number.
+    fn send(&mut self, p: ProcNo, to: ProcNo) -> Result<MsgNo> {
         ensure!(self.log.rows().len() < MOST_ROWS, "too many rows");
         let msg = MsgNo::after(self.log.rows().len());
         self.add(Event::Sent { p, to, body: 1 })?;
         Ok(msg)
+    }
+
+    /// A process sends a message.
+    pub(crate) fn send_one(&mut self, from: ProcNo, p: ProcNo) -> Result<()> {
+        self.send(from, p)?;
+        Ok(())
     }
 
     /// A process sends a message, which another receives at once.

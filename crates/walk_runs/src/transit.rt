@@ -31,21 +31,35 @@ fn receive(in_transit: &mut InTransit, number: u32) -> Result<()> {
     Ok(())
 }
 
+// Sends and receives a message.
+fn pass(in_transit: &mut InTransit, number: u32) -> Result<()> {
+    send(in_transit, number)?;
+    receive(in_transit, number)
+}
+
+// Leaves no more than so many messages in transit.
+fn truncate(in_transit: &mut InTransit, count: u32) -> Result<()> {
+    in_transit.truncate(count as usize);
+    Ok(())
+}
+
+// Gives room back, but that of so many messages.
+fn shrink(in_transit: &mut InTransit, count: u32) -> Result<()> {
+    in_transit.shrink(count as usize);
+    Ok(())
+}
+
 // Makes a call with a number.
 fn make_call(in_transit: &mut InTransit, word: &str, number: u32) -> Result<()> {
     match word {
-        "send" => send(in_transit, number)?,
-        "receive" => receive(in_transit, number)?,
-        "put-back" => put_back(in_transit, number)?,
-        "pass" => {
-            send(in_transit, number)?;
-            receive(in_transit, number)?;
-        }
-        "truncate" => in_transit.truncate(number as usize),
-        "shrink" => in_transit.shrink(number as usize),
+        "send" => send(in_transit, number),
+        "receive" => receive(in_transit, number),
+        "put-back" => put_back(in_transit, number),
+        "pass" => pass(in_transit, number),
+        "truncate" => truncate(in_transit, number),
+        "shrink" => shrink(in_transit, number),
         _ => bail!("no call"),
     }
-    Ok(())
 }
 
 // Makes a call with each number from one to another, the last one first where that is less.
@@ -63,17 +77,35 @@ fn make_calls(in_transit: &mut InTransit, words: &mut Words) -> Result<()> {
     Ok(())
 }
 
-// Shows each message in transit, in order, with its place, and whether it is found where it stands.
+// Shows the message that stands at an index, with its place, and whether it is found where it stands.
+fn show_message<R: Print>(rt: &R, in_transit: &InTransit, index: usize) -> Result<()> {
+    let sent = in_transit.get(index).context("too few")?;
+    ensure!(in_transit.find(sent.msg) == Some(index), "found elsewhere");
+    print!(rt; ", {} at {}", sent.msg, sent.place)?;
+    Ok(())
+}
+
+// Shows each message in transit, in order.
 fn show_messages<R: Print>(rt: &R, in_transit: &InTransit) -> Result<()> {
     let count = in_transit.len();
     print!(rt; "{count} in transit")?;
     for index in 0..count {
-        let sent = in_transit.get(index).context("too few")?;
-        ensure!(in_transit.find(sent.msg) == Some(index), "found elsewhere");
-        print!(rt; ", {} at {}", sent.msg, sent.place)?;
+        show_message(rt, in_transit, index)?;
     }
     ensure!(in_transit.get(count).is_none(), "too many");
-    println!(rt; "")?;
+    println!(rt)?;
+    Ok(())
+}
+
+fn show_count<R: Print>(rt: &R, in_transit: &InTransit) -> Result<()> {
+    println!(rt; "{} in transit", in_transit.len())?;
+    Ok(())
+}
+
+// Shows where a message is found.
+fn show_place<R: Print>(rt: &R, in_transit: &InTransit, number: &str) -> Result<()> {
+    let sent = message_of(number.parse::<u32>()?)?;
+    println!(rt; "{number} is found at {:?}", in_transit.find(sent.msg))?;
     Ok(())
 }
 
@@ -83,26 +115,21 @@ fn show_call<R: Print>(rt: &R, in_transit: &mut InTransit, line: &str) -> Result
         return show_messages(rt, in_transit);
     }
     match line.strip_prefix("? ") {
-        Some("count") => {
-            println!(rt; "{} in transit", in_transit.len())?;
-            Ok(())
-        }
-        Some(number) => {
-            let sent = message_of(number.parse::<u32>()?)?;
-            println!(rt; "{number} is found at {:?}", in_transit.find(sent.msg))?;
-            Ok(())
-        }
+        Some("count") => show_count(rt, in_transit),
+        Some(number) => show_place(rt, in_transit, number),
         None => make_calls(in_transit, &mut Words::new(line)),
     }
 }
 
-/// Shows what a list of calls makes of messages in transit.
-pub(crate) fn show_list<R: Print + AllocGlobal>(rt: &R, list: &str) -> Result<()> {
-    let (title, lines) = list.split_once('\n').context("no title")?;
-    println!(rt; "{title}")?;
-    let mut in_transit = InTransit::new(rt.alloc());
+fn show_calls<R: Print>(rt: &R, in_transit: &mut InTransit, lines: &str) -> Result<()> {
     for line in lines.lines() {
-        show_call(rt, &mut in_transit, line)?;
+        show_call(rt, in_transit, line)?;
     }
     Ok(())
+}
+
+/// Shows what calls, a line each, make of messages in transit.
+pub(crate) fn show_list<R: Print + AllocGlobal>(rt: &R, lines: &str) -> Result<()> {
+    let mut in_transit = InTransit::new(rt.alloc());
+    show_calls(rt, &mut in_transit, lines)
 }
