@@ -49,6 +49,19 @@ fn show_slots<R: Host>(rt: &R, book: &mut SlotBook) -> Result<()> {
     Ok(())
 }
 
+// Runs a plan in one way over objects, and shows how that ends.
+fn show_cast<R: Host>(rt: &R, way: Way, plan: &Plan, cast: Vec<Vec<Object>>) -> Result<()> {
+    let alloc = rt.alloc();
+    let mut log = Vec::new(alloc);
+    let mut cert = Vec::new(alloc);
+    let mut report = Vec::new(alloc);
+    let ended = match way {
+        Way::Play => play_plan(alloc, plan, &[], cast, &mut log, &mut cert, &mut report),
+        Way::Live => live_plan(rt, alloc, plan, cast, &mut log, &mut cert, &mut report),
+    };
+    show_end(rt, ended, log.as_slice())
+}
+
 // Runs a plan in one way over the objects that some plan asks for, all of them sums, of which one has a trouble. Shows how
 // that ends.
 fn show_run<R: Host>(
@@ -68,24 +81,16 @@ fn show_run<R: Host>(
         let sum = Sum::new(book.open()?);
         Ok(Box::new(alloc, Troubled::new(sum, trouble))?)
     })?;
-    let mut log = Vec::new(alloc);
-    let mut cert = Vec::new(alloc);
-    let mut report = Vec::new(alloc);
-    let ended = match way {
-        Way::Play => play_plan(alloc, plan, &[], cast, &mut log, &mut cert, &mut report),
-        Way::Live => live_plan(rt, alloc, plan, cast, &mut log, &mut cert, &mut report),
-    };
-    show_end(rt, ended, log.as_slice())?;
+    show_cast(rt, way, plan, cast)?;
     show_slots(rt, &mut book)
 }
 
-// Shows a scenario played and in threads.
-fn show_both<R: Host>(rt: &R, scenario: &str, object: u64, trouble: Option<Trouble>) -> Result<()> {
-    let plan = plan_in(rt, scenario)?;
+// Shows a plan played and in threads.
+fn show_both<R: Host>(rt: &R, plan: &Plan, object: u64, trouble: Option<Trouble>) -> Result<()> {
     println!(rt; "play")?;
-    show_run(rt, Way::Play, &plan, &plan, object, trouble)?;
+    show_run(rt, Way::Play, plan, plan, object, trouble)?;
     println!(rt; "live")?;
-    show_run(rt, Way::Live, &plan, &plan, object, trouble)
+    show_run(rt, Way::Live, plan, plan, object, trouble)
 }
 
 // Shows a run over the objects of another plan.
@@ -96,28 +101,22 @@ fn show_others<R: Host>(rt: &R, scenario: &str, other: &str) -> Result<()> {
     show_run(rt, Way::Live, &plan, &other_plan, 0, None)
 }
 
-// Shows a run over last numbers in the place of sums.
+// Plays a plan over last numbers in the place of sums.
+fn show_lasts<R: Host>(rt: &R, plan: &Plan) -> Result<()> {
+    let alloc = rt.alloc();
+    let mut book = SlotBook::new(alloc);
+    let cast = cast_of(alloc, plan, |_kind: u8| -> Result<Object, Memory> {
+        Ok(Box::new(alloc, Last::new(book.open()?))?)
+    })?;
+    show_cast(rt, Way::Play, plan, cast)?;
+    show_slots(rt, &mut book)
+}
+
+// Shows a run over objects of another kind than the plan asks for.
 fn show_other_kinds<R: Host>(rt: &R, scenario: &str) -> Result<()> {
     let plan = plan_in(rt, scenario)?;
     println!(rt; "{scenario} over last numbers")?;
-    let mut book = SlotBook::new(rt.alloc());
-    let cast = cast_of(rt.alloc(), &plan, |_kind: u8| -> Result<Object, Memory> {
-        Ok(Box::new(rt.alloc(), Last::new(book.open()?))?)
-    })?;
-    let mut log = Vec::new(rt.alloc());
-    let mut cert = Vec::new(rt.alloc());
-    let mut report = Vec::new(rt.alloc());
-    let ended = play_plan(
-        rt.alloc(),
-        &plan,
-        &[],
-        cast,
-        &mut log,
-        &mut cert,
-        &mut report,
-    );
-    show_end(rt, ended, log.as_slice())?;
-    show_slots(rt, &mut book)
+    show_lasts(rt, &plan)
 }
 
 // Shows the runs of a line: a scenario, the number of the object that has a trouble, counted from 1 in the order of the
@@ -130,7 +129,8 @@ fn show_case<R: Host>(rt: &R, line: &str) -> Result<()> {
     let at = words.next().unwrap_or("");
     let answer = words.next().unwrap_or("");
     println!(rt; "{line}")?;
-    show_both(rt, scenario, object, trouble_of(call, at, answer))
+    let plan = plan_in(rt, scenario)?;
+    show_both(rt, &plan, object, trouble_of(call, at, answer))
 }
 
 /// Shows runs over objects of which one has a trouble, for each line of a file, and over others than the plan asks for.

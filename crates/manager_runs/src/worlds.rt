@@ -20,16 +20,21 @@ const GIVE: Give = Give {
     body: 0,
 };
 
+// Makes a step, of which only a refusal is told.
+fn step_once(world: &mut World, step: Step) -> Result<(), StepFault> {
+    match world.step(step, GIVE) {
+        Ok(_) => Ok(()),
+        Err(fault) => Err(fault),
+    }
+}
+
 // Makes default steps until there is none, or one is refused.
 fn step_on(world: &mut World) -> Result<(), StepFault> {
     for _ in 0..MOST {
         let Some(step) = world.default_step() else {
             return Ok(());
         };
-        match world.step(step, GIVE) {
-            Ok(_) => {}
-            Err(fault) => return Err(fault),
-        }
+        step_once(world, step)?;
     }
     Ok(())
 }
@@ -45,16 +50,28 @@ fn aborts(world: &World) -> u32 {
     count
 }
 
-// Shows how a world ends by default steps.
-fn show_end<R: Host>(rt: &R, mut world: World) -> Result<()> {
-    match step_on(&mut world) {
-        Ok(()) => println!(rt; "at rest: {}", world.at_rest())?,
+// Shows whether a world is at rest, or why a step was refused.
+fn show_rest<R: Host>(rt: &R, ended: Result<(), StepFault>, at_rest: bool) -> Result<()> {
+    match ended {
+        Ok(()) => println!(rt; "at rest: {at_rest}")?,
         Err(fault) => println!(rt; "{fault}")?,
     }
+    Ok(())
+}
+
+// Shows how many rows the log of a world has, and how many instances were aborted.
+fn show_counts<R: Host>(rt: &R, world: &World) -> Result<()> {
     let rows = world.log().rows().len();
-    let aborts = aborts(&world);
+    let aborts = aborts(world);
     println!(rt; "{rows} rows, {aborts} aborts")?;
     Ok(())
+}
+
+// Shows how a world ends by default steps.
+fn show_end<R: Host>(rt: &R, mut world: World) -> Result<()> {
+    let ended = step_on(&mut world);
+    show_rest(rt, ended, world.at_rest())?;
+    show_counts(rt, &world)
 }
 
 // A scenario of 64 processes whose instances all abort: half of the processes send to all of the other half, and fail;
@@ -86,49 +103,76 @@ fn plan_of_aborts(alloc: Global) -> Result<Plan> {
     Ok(parse(alloc, text.as_bytes())?)
 }
 
-// Shows a log that is full, and one that is not.
-fn show_full_log<R: Host>(rt: &R) -> Result<()> {
-    let alloc = rt.alloc();
-    println!(rt; "aborts in a log of {LIMIT} rows at most")?;
-    if let Some(limit) = RowNo::new(LIMIT) {
-        show_end(rt, World::with_rows(alloc, plan_of_aborts(alloc)?, limit)?)?;
-    }
-    println!(rt; "aborts")?;
-    show_end(rt, World::new(alloc, plan_of_aborts(alloc)?)?)
+// Shows how that plan ends with a log of so many rows at most.
+fn show_limited<R: Host>(rt: &R, limit: RowNo) -> Result<()> {
+    let plan = plan_of_aborts(rt.alloc())?;
+    show_end(rt, World::with_rows(rt.alloc(), plan, limit)?)
 }
 
-// Shows a send by a process that has no label left.
+// Shows how that plan ends with a log of its usual size.
+fn show_unlimited<R: Host>(rt: &R) -> Result<()> {
+    let plan = plan_of_aborts(rt.alloc())?;
+    show_end(rt, World::new(rt.alloc(), plan)?)
+}
+
+// Shows a log that is full, and one that is not.
+fn show_full_log<R: Host>(rt: &R) -> Result<()> {
+    println!(rt; "aborts in a log of {LIMIT} rows at most")?;
+    if let Some(limit) = RowNo::new(LIMIT) {
+        show_limited(rt, limit)?;
+    }
+    println!(rt; "aborts")?;
+    show_unlimited(rt)
+}
+
+// Shows a send by a process whose labels come after one that is used.
+fn show_after_label<R: Host>(rt: &R, used: Label) -> Result<()> {
+    let plan = plan_in(rt, "checkpoint")?;
+    show_end(rt, World::with_labels(rt.alloc(), plan, used)?)
+}
+
+// Shows a send by a process that has so many labels left.
+fn show_labels_left<R: Host>(rt: &R, left: &str, used: u64) -> Result<()> {
+    println!(rt; "a send with {left} left")?;
+    match Label::new(used) {
+        Some(used) => show_after_label(rt, used),
+        None => Ok(()),
+    }
+}
+
+// Shows a send by a process that has no label left, and by one that has one.
 fn show_spent_labels<R: Host>(rt: &R) -> Result<()> {
-    println!(rt; "a send with no label left")?;
-    if let Some(last) = Label::new(281_474_976_710_655) {
-        let plan = plan_in(rt, "checkpoint")?;
-        show_end(rt, World::with_labels(rt.alloc(), plan, last)?)?;
+    show_labels_left(rt, "no label", 281_474_976_710_655)?;
+    show_labels_left(rt, "one label", 281_474_976_710_654)
+}
+
+// The world in which nothing of the scenario in a file is done.
+fn world_in<R: Host>(rt: &R, scenario: &str) -> Result<World> {
+    let plan = plan_in(rt, scenario)?;
+    Ok(World::new(rt.alloc(), plan)?)
+}
+
+// Shows what came of a step, and how many rows there are.
+fn show_step<R: Host>(rt: &R, ended: Result<(), StepFault>, rows: usize) -> Result<()> {
+    match ended {
+        Ok(()) => println!(rt; "done")?,
+        Err(fault) => println!(rt; "{fault}")?,
     }
-    println!(rt; "a send with one label left")?;
-    if let Some(label) = Label::new(281_474_976_710_654) {
-        let plan = plan_in(rt, "checkpoint")?;
-        show_end(rt, World::with_labels(rt.alloc(), plan, label)?)?;
-    }
+    println!(rt; "{rows} rows")?;
     Ok(())
 }
 
 // Shows a step that is not enabled.
 fn show_idle_step<R: Host>(rt: &R) -> Result<()> {
-    let mut world = World::new(rt.alloc(), plan_in(rt, "checkpoint")?)?;
-    let (at, from) = (ProcNo::nth(1), ProcNo::nth(0));
     println!(rt; "a take of nothing")?;
-    match world.step(Step::Take { at, from }, GIVE) {
-        Ok(_) => println!(rt; "done")?,
-        Err(fault) => println!(rt; "{fault}")?,
-    }
-    println!(rt; "{} rows", world.log().rows().len())?;
-    Ok(())
+    let mut world = world_in(rt, "checkpoint")?;
+    let (at, from) = (ProcNo::nth(1), ProcNo::nth(0));
+    let ended = step_once(&mut world, Step::Take { at, from });
+    show_step(rt, ended, world.log().rows().len())
 }
 
-// Shows how many parcels the first instance of a scenario puts.
-fn show_tally<R: Host>(rt: &R, scenario: &str) -> Result<()> {
-    let mut world = World::new(rt.alloc(), plan_in(rt, scenario)?)?;
-    step_on(&mut world)?;
+// Shows how many parcels the first instance of a world has put.
+fn show_first<R: Host>(rt: &R, scenario: &str, world: &World) -> Result<()> {
     if let Some(inst) = InstNo::new(1) {
         let tally = world.tally(inst);
         println!(rt;
@@ -137,6 +181,13 @@ fn show_tally<R: Host>(rt: &R, scenario: &str) -> Result<()> {
         )?;
     }
     Ok(())
+}
+
+// Shows how many parcels the first instance of a scenario puts.
+fn show_tally<R: Host>(rt: &R, scenario: &str) -> Result<()> {
+    let mut world = world_in(rt, scenario)?;
+    step_on(&mut world)?;
+    show_first(rt, scenario, &world)
 }
 
 /// Shows worlds whose log is full, whose labels are spent, a step that is not enabled, and how many parcels instances put.

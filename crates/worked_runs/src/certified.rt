@@ -25,16 +25,22 @@ fn is_certified<R: AllocGlobal>(rt: &R, log: &SpaceTime) -> Result<bool> {
     Ok(verdict == Verdict::Yes)
 }
 
-/// Shows after how many of a log's rows the checker says yes to the certificates that are made of the log so far.
-pub(crate) fn show_certified<R: Print + AllocGlobal>(rt: &R, log: &SpaceTime) -> Result<()> {
-    let mut begun = SpaceTime::new(rt.alloc());
+// After how many of a log's rows the checker says yes to the certificates that are made of the log so far.
+fn count_certified<R: AllocGlobal>(rt: &R, rows: &[Event], begun: &mut SpaceTime) -> Result<usize> {
     let mut certified: usize = 0;
-    for row in log.rows() {
-        add(&mut begun, *row)?;
-        if is_certified(rt, &begun)? {
+    for row in rows {
+        add(begun, *row)?;
+        if is_certified(rt, begun)? {
             certified = certified.saturating_add(1);
         }
     }
+    Ok(certified)
+}
+
+/// Shows after how many of a log's rows the checker says yes to the certificates that are made of the log so far.
+pub(crate) fn show_certified<R: Print + AllocGlobal>(rt: &R, log: &SpaceTime) -> Result<()> {
+    let mut begun = SpaceTime::new(rt.alloc());
+    let certified = count_certified(rt, log.rows(), &mut begun)?;
     let rows = log.rows().len();
     println!(rt; "certified after {certified} of {rows} rows")?;
     Ok(())

@@ -20,10 +20,10 @@ pub(crate) const LOG: &str = "run.log.csv";
 
 pub(crate) const CERT: &str = "run.cert.csv";
 
-/// The words of a command line.
-pub(crate) fn words_of(alloc: Global, list: &[&str]) -> Result<Words, Memory> {
+/// The words of a command line, which stand behind single spaces.
+pub(crate) fn words_of(alloc: Global, line: &str) -> Result<Words, Memory> {
     let mut words = Words::new(alloc);
-    for word in list {
+    for word in line.split(' ') {
         words.push(word)?;
     }
     Ok(words)
@@ -35,9 +35,35 @@ pub(crate) fn carry_out_words<R: Host, O: Write>(rt: &R, words: &Words, out: &mu
     end(outcome, &mut io::writer(rt))
 }
 
-/// Whether two files have the same bytes.
-pub(crate) fn are_same<R: Host>(rt: &R, left: &str, right: &str) -> Result<bool> {
-    let left = fs::read(rt, left)?;
-    let right = fs::read(rt, right)?;
-    Ok(left.as_slice() == right.as_slice())
+/// Does what a command line asks, and shows what it prints and the exit status.
+pub(crate) fn show_command<R: Host>(rt: &R, words: &Words) -> Result<()> {
+    let status = carry_out_words(rt, words, &mut io::writer(rt));
+    println!(rt; "status {status}")?;
+    Ok(())
+}
+
+/// What is stored under this name with this ending.
+pub(crate) fn stored<R: Files + AllocGlobal>(rt: &R, name: &str, ending: &str) -> Result<Vec<u8>> {
+    let file = format!(in rt.alloc(); "{name}{ending}")?;
+    Ok(fs::read(rt, file.as_str())?)
+}
+
+// Whether a file has these bytes.
+fn has_bytes<R: Host>(rt: &R, file: &str, bytes: &[u8]) -> Result<bool> {
+    let found = fs::read(rt, file)?;
+    Ok(found.as_slice() == bytes)
+}
+
+// Whether what was written to a file is what is stored under this name with this ending.
+fn is_stored<R: Host>(rt: &R, written: &str, name: &str, ending: &str) -> Result<bool> {
+    let bytes = stored(rt, name, ending)?;
+    has_bytes(rt, written, bytes.as_slice())
+}
+
+/// Shows whether the log and the certificates that were written are those of the stored run of this name.
+pub(crate) fn show_written<R: Host>(rt: &R, name: &str) -> Result<()> {
+    if is_stored(rt, LOG, name, ".log.csv")? && is_stored(rt, CERT, name, ".cert.csv")? {
+        println!(rt; "the log and the certificates that are stored")?;
+    }
+    Ok(())
 }

@@ -14,6 +14,7 @@ mod texts;
 
 use anyhow::Result;
 use certified::show_certified;
+use commands::stored;
 use facts::show_facts;
 use kt_histories::legal;
 use kt_log_text::read_csv;
@@ -44,19 +45,23 @@ fn show_run<R: Print + AllocGlobal>(rt: &R, text: &[u8], cert: &[u8]) -> Result<
 
 // Shows the stored run of this name.
 fn show_stored(rt: &HostRuntime, name: &str) -> Result<()> {
-    let log_name = format!(in rt.alloc(); "{name}.log.csv")?;
-    let cert_name = format!(in rt.alloc(); "{name}.cert.csv")?;
-    let text = fs::read(rt, log_name.as_str())?;
-    let cert = fs::read(rt, cert_name.as_str())?;
+    let text = stored(rt, name, ".log.csv")?;
+    let cert = stored(rt, name, ".cert.csv")?;
     println!(rt; "run {name}")?;
     show_run(rt, text.as_slice(), cert.as_slice())
 }
 
-fn main(rt: HostRuntime) -> Result<()> {
-    let names = fs::read_to_string(&rt, "runs.txt")?;
+// Shows each stored run that a list names.
+fn show_all_stored(rt: &HostRuntime, list: &str) -> Result<()> {
+    let names = fs::read_to_string(rt, list)?;
     for name in names.lines() {
-        show_stored(&rt, name)?;
+        show_stored(rt, name)?;
     }
+    Ok(())
+}
+
+fn main(rt: HostRuntime) -> Result<()> {
+    show_all_stored(&rt, "runs.txt")?;
     show_plays(&rt, "plays.txt")?;
     show_lives(&rt, "lives.txt")?;
     show_large_live(&rt)

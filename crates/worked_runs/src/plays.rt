@@ -1,63 +1,45 @@
 //! Plays the scenarios that stored runs are of.
 
-use crate::commands::{CERT, Host, LOG, are_same, carry_out_words, words_of};
+use crate::commands::{CERT, Host, LOG, show_command, show_written, words_of};
 use anyhow::Result;
-use std::{fs, io};
+use kt_program::Words;
+use std::alloc::Global;
+use std::fs;
 
-// Plays a scenario, with these steps first where there are some; shows the report and the exit status.
-fn play<R: Host>(rt: &R, scenario: &str, steps: Option<&str>) -> Result<()> {
-    let words = match steps {
-        Some(steps) => words_of(
-            rt.alloc(),
-            &[
-                "koo_toueg",
-                "play",
-                scenario,
-                "--steps",
-                steps,
-                "--log",
-                LOG,
-                "--cert",
-                CERT,
-            ],
-        ),
-        None => words_of(
-            rt.alloc(),
-            &["koo_toueg", "play", scenario, "--log", LOG, "--cert", CERT],
-        ),
-    }?;
-    let status = carry_out_words(rt, &words, &mut io::writer(rt));
-    println!(rt; "status {status}")?;
-    Ok(())
-}
-
-// Plays the scenario of the stored run of this name, and shows whether its log and its certificates are those stored.
-fn show_play<R: Host>(rt: &R, name: &str, has_steps: bool) -> Result<()> {
-    let scenario = format!(in rt.alloc(); "{name}.scenario")?;
-    let steps = format!(in rt.alloc(); "{name}.steps")?;
-    let log = format!(in rt.alloc(); "{name}.log.csv")?;
-    let cert = format!(in rt.alloc(); "{name}.cert.csv")?;
-    println!(rt; "play {name}")?;
-    let steps = if has_steps {
-        Some(steps.as_str())
+// The words that play the scenario of this name, with its steps first where it has some.
+fn play_words(alloc: Global, name: &str, has_steps: bool) -> Result<Words> {
+    let line = if has_steps {
+        format!(in alloc;
+            "koo_toueg play {name}.scenario --steps {name}.steps --log {LOG} --cert {CERT}"
+        )
     } else {
-        None
-    };
-    play(rt, scenario.as_str(), steps)?;
-    if are_same(rt, LOG, log.as_str())? && are_same(rt, CERT, cert.as_str())? {
-        println!(rt; "the log and the certificates that are stored")?;
-    }
-    Ok(())
+        format!(in alloc; "koo_toueg play {name}.scenario --log {LOG} --cert {CERT}")
+    }?;
+    Ok(words_of(alloc, line.as_str())?)
 }
 
-/// Plays the scenario of each stored run that a list names; behind a name stands `steps` where some come first.
+// Plays the scenario of the stored run of this name, and shows the report, the exit status, and whether its log and its
+// certificates are those stored.
+fn show_play<R: Host>(rt: &R, name: &str, has_steps: bool) -> Result<()> {
+    println!(rt; "play {name}")?;
+    let words = play_words(rt.alloc(), name, has_steps)?;
+    show_command(rt, &words)?;
+    show_written(rt, name)
+}
+
+// Plays what a line of a list names; behind the name stands `steps` where some come first.
+fn show_line<R: Host>(rt: &R, line: &str) -> Result<()> {
+    match line.strip_suffix(" steps") {
+        Some(name) => show_play(rt, name, true),
+        None => show_play(rt, line, false),
+    }
+}
+
+/// Plays the scenario of each stored run that a list names.
 pub(crate) fn show_plays<R: Host>(rt: &R, list: &str) -> Result<()> {
     let names = fs::read_to_string(rt, list)?;
     for line in names.lines() {
-        match line.strip_suffix(" steps") {
-            Some(name) => show_play(rt, name, true)?,
-            None => show_play(rt, line, false)?,
-        }
+        show_line(rt, line)?;
     }
     Ok(())
 }

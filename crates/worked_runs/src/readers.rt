@@ -11,8 +11,8 @@ use std::alloc::Global;
 // How many shares the part of a history past its permanent position has.
 const SHARES: usize = 4;
 
-/// What the first rows of a legal log say.
-pub(crate) fn histories_of(alloc: Global, log: &SpaceTime, upto: usize) -> Result<Histories> {
+// What the first rows of a legal log say.
+fn histories_of(alloc: Global, log: &SpaceTime, upto: usize) -> Result<Histories> {
     legal(alloc, log)?;
     if upto > log.rows().len() {
         bail!("no such row");
@@ -20,8 +20,14 @@ pub(crate) fn histories_of(alloc: Global, log: &SpaceTime, upto: usize) -> Resul
     Ok(Histories::of(alloc, log, upto)?)
 }
 
-/// Whether both readers tell the same of the rows so far.
-pub(crate) fn is_same_after(walk: &Walk, histories: &Histories) -> bool {
+/// Whether the plain reader tells of the first rows of a log what the walk tells that took them.
+pub(crate) fn is_read_so(alloc: Global, log: &SpaceTime, walk: &Walk) -> Result<bool> {
+    let histories = histories_of(alloc, log, walk.rows())?;
+    Ok(is_same_after(walk, &histories))
+}
+
+// Whether both readers tell the same of the rows so far.
+fn is_same_after(walk: &Walk, histories: &Histories) -> bool {
     has_same_processes(walk, histories)
         && has_same_messages(walk, histories)
         && (0..SHARES + 1).all(|shares| has_same_orphans(walk, histories, shares))
