@@ -66,6 +66,98 @@ member,1,1,1,3
 member,1,0,1,1
 ";
 
+const ABORT: &str = "began,0,1,checkpoint\ntook,0,1,-\ndecided,0,1,abort\nclosed,0,1,-\n";
+
+const UNLINKED: &str =
+    "sent,0,1,5\nreceived,1,0,1\nbegan,1,1,checkpoint\ntook,1,1,-\ndecided,1,1,commit\nclosed,1,1,-\n";
+
+const SECOND_CHECKPOINT_CERT: &str =
+    "cert,1,checkpoint,0,commit\nmember,1,0,0,-\ncert,2,checkpoint,1,commit\nmember,2,1,0,-\nmember,2,0,1,1\n";
+
+// Logs without rows, and what is answered to them.
+const EMPTY_LOGS: [(&str, &str, &str); 3] = [
+    ("", "", "yes"),
+    ("kt,2,-,-", "", "yes"),
+    ("kt,2,-,-\n", "", "yes"),
+];
+
+// Logs that name no format, and the words of their fault lines.
+const WRONG_HEADS: [(&str, &str, &str); 3] = [
+    ("kt,3,-,-", "", "log version"),
+    ("kt,2,-", "", "log version"),
+    ("\nkt,2,-,-\nkt,2,-,-", "", "log row 1: word"),
+];
+
+// Logs with wrong certificates, and what is answered to them.
+const WRONG_CERTIFICATES: [(&str, &str, &str); 14] = [
+    (
+        TWO_PROCESSES,
+        "cert,1,checkpoint,1,commit\nmember,1,1,0,-\nmember,1,0,1,1\nmember,1,2,0,-\n",
+        "no instance 1 row 6 Members",
+    ),
+    (
+        TWO_PROCESSES,
+        "cert,1,checkpoint,1,commit\nmember,1,0,1,1\nmember,1,1,0,-\n",
+        "no instance 1 row 6 Members",
+    ),
+    (TWO_PROCESSES, "", "no instance 1 row 6 Missing"),
+    (
+        TWO_PROCESSES,
+        "cert,1,checkpoint,1,abort\n",
+        "no instance 1 Unknown",
+    ),
+    (
+        TWO_PROCESSES,
+        "cert,1,rollback,1,commit\nmember,1,1,0,-\nmember,1,0,1,1\n",
+        "no instance 1 Unknown",
+    ),
+    (
+        TWO_PROCESSES,
+        "cert,1,checkpoint,0,commit\nmember,1,1,0,-\nmember,1,0,1,1\n",
+        "no instance 1 Unknown",
+    ),
+    (
+        TWO_PROCESSES,
+        "cert,2,checkpoint,1,commit\n",
+        "no instance 2 Unknown",
+    ),
+    (
+        TWO_PROCESSES,
+        "cert,1,checkpoint,1,commit\nmember,1,1,1,1\nmember,1,0,1,1\n",
+        "no instance 1 row 6 Chain",
+    ),
+    (
+        TWO_PROCESSES,
+        "cert,1,checkpoint,1,commit\nmember,1,1,0,-\nmember,1,0,0,-\n",
+        "no instance 1 row 6 Chain",
+    ),
+    (
+        TWO_PROCESSES,
+        "cert,1,checkpoint,1,commit\nmember,1,1,0,-\nmember,1,0,1,2\n",
+        "no instance 1 row 6 Chain",
+    ),
+    (
+        UNLINKED,
+        "cert,1,checkpoint,1,commit\nmember,1,1,0,-\n",
+        "no instance 1 row 5 Orphan",
+    ),
+    (
+        SECOND_CHECKPOINT,
+        SECOND_CHECKPOINT_CERT,
+        "no instance 2 row 12 Chain",
+    ),
+    (
+        ABORT,
+        "cert,1,checkpoint,0,abort\n",
+        "no instance 1 row 3 Cause",
+    ),
+    (
+        ABORT,
+        "cert,1,checkpoint,0,abort\nmember,1,0,0,-\n",
+        "no instance 1 Unknown",
+    ),
+];
+
 // What the program printed, and its exit status.
 #[derive(Drop)]
 struct Printed {
@@ -86,14 +178,13 @@ impl Printed {
 
 // Checks the exit status, and all that was printed: this text alone, from status 2 on to standard error.
 fn expect(rt: &impl Abort, said: &Printed, status: u8, text: &str) {
-    assert_eq!(rt; said.status, status, "{text}");
     let (printed, silent) = if status < 2 {
         (&said.out, &said.err)
     } else {
         (&said.err, &said.out)
     };
-    assert_eq!(rt; printed.as_str(), text);
-    assert_eq!(rt; silent.as_str(), "", "{text}");
+    let found = (said.status, printed.as_str(), silent.as_str());
+    assert_eq!(rt; found, (status, text, ""));
 }
 
 // What the program does once its files are open.
@@ -132,6 +223,31 @@ fn listed(alloc: Global, log: &str, cert: &str) -> Result<String, Fail> {
     Ok(format!(in alloc; "{verdict}\n")?)
 }
 
+// Checks what the program prints of a log and its certificates, and its exit status.
+fn expect_said<R: Abort + AllocGlobal, L: Read + Drop, C: Read + Drop>(
+    rt: &R,
+    log: L,
+    cert: C,
+    status: u8,
+    text: &str,
+) -> Result<(), Fail> {
+    let printed = said(rt.alloc(), log, cert)?;
+    expect(rt, &printed, status, text);
+    Ok(())
+}
+
+// Checks that this is answered to lists of rows and of certificates.
+fn expect_listed<R: Abort + AllocGlobal>(
+    rt: &R,
+    log: &str,
+    cert: &str,
+    line: &str,
+) -> Result<(), Fail> {
+    let listed = listed(rt.alloc(), log, cert)?;
+    assert_eq!(rt; listed.as_str(), line);
+    Ok(())
+}
+
 // Checks that this is answered to a log and its certificates, stored and as lists.
 fn expect_answer<R: Abort + AllocGlobal>(
     rt: &R,
@@ -141,14 +257,9 @@ fn expect_answer<R: Abort + AllocGlobal>(
     words: &str,
 ) -> Result<(), Fail> {
     let line = format!(in rt.alloc(); "{words}\n")?;
-    expect(
-        rt,
-        &said(rt.alloc(), log.as_bytes(), cert.as_bytes())?,
-        status,
-        line.as_str(),
-    );
-    assert_eq!(rt; listed(rt.alloc(), log, cert)?.as_str(), line.as_str());
-    Ok(())
+    let line = line.as_str();
+    expect_said(rt, log.as_bytes(), cert.as_bytes(), status, line)?;
+    expect_listed(rt, log, cert, line)
 }
 
 // Checks that each log and list of certificates of a table gets its answer.
@@ -163,119 +274,37 @@ fn expect_answers<R: Abort + AllocGlobal>(
     Ok(())
 }
 
+// Checks that a log or its certificates are refused with this fault line.
+fn expect_refusal<R: Abort + AllocGlobal>(
+    rt: &R,
+    log: &str,
+    cert: &str,
+    words: &str,
+) -> Result<(), Fail> {
+    let line = format!(in rt.alloc(); "koo_toueg: {words}\n")?;
+    expect_said(rt, log.as_bytes(), cert.as_bytes(), 2, line.as_str())
+}
+
 // Checks that each log and list of certificates of a table is refused with its fault line.
 fn expect_refusals<R: Abort + AllocGlobal>(
     rt: &R,
     table: &[(&str, &str, &str)],
 ) -> Result<(), Fail> {
     for (log, cert, words) in table {
-        let line = format!(in rt.alloc(); "koo_toueg: {words}\n")?;
-        expect(
-            rt,
-            &said(rt.alloc(), log.as_bytes(), cert.as_bytes())?,
-            2,
-            line.as_str(),
-        );
+        expect_refusal(rt, log, cert, words)?;
     }
     Ok(())
 }
 
 #[test]
 fn the_formats_are_told_apart(rt: HostRuntime) -> Result<(), Fail> {
-    expect_answers(
-        &rt,
-        0,
-        &[
-            ("", "", "yes"),
-            ("kt,2,-,-", "", "yes"),
-            ("kt,2,-,-\n", "", "yes"),
-        ],
-    )?;
-    expect_refusals(
-        &rt,
-        &[
-            ("kt,3,-,-", "", "log version"),
-            ("kt,2,-", "", "log version"),
-            ("\nkt,2,-,-\nkt,2,-,-", "", "log row 1: word"),
-        ],
-    )
+    expect_answers(&rt, 0, &EMPTY_LOGS)?;
+    expect_refusals(&rt, &WRONG_HEADS)
 }
 
 #[test]
 fn wrong_certificates_get_a_no(rt: HostRuntime) -> Result<(), Fail> {
-    let abort = "began,0,1,checkpoint\ntook,0,1,-\ndecided,0,1,abort\nclosed,0,1,-\n";
-    let unlinked =
-        "sent,0,1,5\nreceived,1,0,1\nbegan,1,1,checkpoint\ntook,1,1,-\ndecided,1,1,commit\nclosed,1,1,-\n";
-    let first =
-        "cert,1,checkpoint,0,commit\nmember,1,0,0,-\ncert,2,checkpoint,1,commit\nmember,2,1,0,-\nmember,2,0,1,1\n";
-    expect_answers(
-        &rt,
-        1,
-        &[
-            (
-                TWO_PROCESSES,
-                "cert,1,checkpoint,1,commit\nmember,1,1,0,-\nmember,1,0,1,1\nmember,1,2,0,-\n",
-                "no instance 1 row 6 Members",
-            ),
-            (
-                TWO_PROCESSES,
-                "cert,1,checkpoint,1,commit\nmember,1,0,1,1\nmember,1,1,0,-\n",
-                "no instance 1 row 6 Members",
-            ),
-            (TWO_PROCESSES, "", "no instance 1 row 6 Missing"),
-            (
-                TWO_PROCESSES,
-                "cert,1,checkpoint,1,abort\n",
-                "no instance 1 Unknown",
-            ),
-            (
-                TWO_PROCESSES,
-                "cert,1,rollback,1,commit\nmember,1,1,0,-\nmember,1,0,1,1\n",
-                "no instance 1 Unknown",
-            ),
-            (
-                TWO_PROCESSES,
-                "cert,1,checkpoint,0,commit\nmember,1,1,0,-\nmember,1,0,1,1\n",
-                "no instance 1 Unknown",
-            ),
-            (
-                TWO_PROCESSES,
-                "cert,2,checkpoint,1,commit\n",
-                "no instance 2 Unknown",
-            ),
-            (
-                TWO_PROCESSES,
-                "cert,1,checkpoint,1,commit\nmember,1,1,1,1\nmember,1,0,1,1\n",
-                "no instance 1 row 6 Chain",
-            ),
-            (
-                TWO_PROCESSES,
-                "cert,1,checkpoint,1,commit\nmember,1,1,0,-\nmember,1,0,0,-\n",
-                "no instance 1 row 6 Chain",
-            ),
-            (
-                TWO_PROCESSES,
-                "cert,1,checkpoint,1,commit\nmember,1,1,0,-\nmember,1,0,1,2\n",
-                "no instance 1 row 6 Chain",
-            ),
-            (
-                unlinked,
-                "cert,1,checkpoint,1,commit\nmember,1,1,0,-\n",
-                "no instance 1 row 5 Orphan",
-            ),
-            (SECOND_CHECKPOINT, first, "no instance 2 row 12 Chain"),
-            (
-                abort,
-                "cert,1,checkpoint,0,abort\n",
-                "no instance 1 row 3 Cause",
-            ),
-            (
-                abort,
-                "cert,1,checkpoint,0,abort\nmember,1,0,0,-\n",
-                "no instance 1 Unknown",
-            ),
-        ],
-    )
+    expect_answers(&rt, 1, &WRONG_CERTIFICATES)
 }
 
 #[test]
@@ -310,7 +339,22 @@ fn expect_cut<R: Abort + AllocGlobal>(rt: &R, prefix: &str, rows: usize) -> Resu
     let begun = prefix.rsplit('\n').next().unwrap_or(prefix);
     let row = rows.saturating_add(1);
     let words = format!(in rt.alloc(); "log row {row}: {}", wrong_in(begun))?;
-    expect_refusals(rt, &[(prefix, ROLLBACK_CERT, words.as_str())])
+    expect_refusal(rt, prefix, ROLLBACK_CERT, words.as_str())
+}
+
+// Checks what is answered to the rollback's first bytes, which hold so many whole rows, and end with one or within the next.
+fn expect_prefix<R: Abort + AllocGlobal>(
+    rt: &R,
+    prefix: &str,
+    rows: usize,
+    is_whole: bool,
+) -> Result<(), Fail> {
+    if is_whole {
+        let (status, words) = answer_after(rows);
+        expect_answer(rt, prefix, ROLLBACK_CERT, status, words)
+    } else {
+        expect_cut(rt, prefix, rows)
+    }
 }
 
 #[test]
@@ -323,12 +367,7 @@ fn each_prefix_of_a_log_is_judged(rt: HostRuntime) -> Result<(), Fail> {
         if ends_row {
             rows = rows.saturating_add(1);
         }
-        if whole || ends_row {
-            let (status, words) = answer_after(rows);
-            expect_answer(&rt, prefix, ROLLBACK_CERT, status, words)?;
-        } else {
-            expect_cut(&rt, prefix, rows)?;
-        }
+        expect_prefix(&rt, prefix, rows, whole || ends_row)?;
         whole = ends_row;
     }
     assert_eq!(rt; rows, 13);

@@ -1,10 +1,13 @@
 //! Logs with so many rows that a scan for each row or cut would not end in time.
 
+ghost use Rattle.std.specs.Prelude.{◌<◌};
+
 use kt_base::{MsgNo, ProcNo, RowNo};
 use kt_cuts::{Cut, LegalFault, Rule};
 use kt_histories::{Histories, legal};
 use kt_spacetime::{Event, SpaceTime};
 use std::alloc::Global;
+use std::process::Abort;
 use std::test::Fail;
 
 // How many messages are passed.
@@ -16,6 +19,11 @@ const DEEDS: usize = 16_384;
 fn process(number: usize) -> Result<ProcNo, Fail> {
     let number = u8::try_from(number).ok().ok_or("no process")?;
     Ok(ProcNo::new(number).ok_or("no process")?)
+}
+
+// The process after this one in a ring of 64.
+fn next(p: ProcNo) -> Result<ProcNo, Fail> {
+    process((p.index() + 1) % 64)
 }
 
 fn message(number: u32) -> Result<MsgNo, Fail> {
@@ -32,28 +40,27 @@ fn add(log: &mut SpaceTime, row: Event) -> Result<(), Fail> {
     Ok(())
 }
 
+// Adds the rows of a message from this process of a ring of 64 to the next one, which receives it at once.
+fn pass(log: &mut SpaceTime, number: usize, msg: MsgNo) -> Result<(), Fail> {
+    let from = process(number % 64)?;
+    let p = next(from)?;
+    let body = 1;
+    add(
+        log,
+        Event::Sent {
+            p: from,
+            to: p,
+            body,
+        },
+    )?;
+    add(log, Event::Received { p, from, msg })
+}
+
 // Messages round a ring of 64, each received before the next one is sent.
 fn messages_round_a_ring(alloc: Global) -> Result<SpaceTime, Fail> {
     let mut log = SpaceTime::new(alloc);
     for index in 0..MESSAGES {
-        let p = index as usize % 64;
-        let to = (index as usize + 1) % 64;
-        add(
-            &mut log,
-            Event::Sent {
-                p: process(p)?,
-                to: process(to)?,
-                body: 1,
-            },
-        )?;
-        add(
-            &mut log,
-            Event::Received {
-                p: process(to)?,
-                from: process(p)?,
-                msg: message(2 * index + 1)?,
-            },
-        )?;
+        pass(&mut log, index as usize, message(2 * index + 1)?)?;
     }
     Ok(log)
 }
@@ -78,6 +85,21 @@ fn a_large_log_is_judged(rt: HostRuntime) -> Result<(), Fail> {
     Ok(())
 }
 
+// Sees the orphan of each cut in which a process has some even number of events, and the others all of theirs.
+fn sees_orphans(rt: &impl Abort, found: &Histories, number: u32) -> Result<(), Fail>
+    requires { number < 64 }
+{
+    for step in 0..4096_u32 {
+        // Each process but the first receives and sends in turn.
+        let sent = 2 * step;
+        let mut cut = Cut::new([DEEDS; 64]);
+        cut.set(process(number as usize)?, 2 * sent as usize);
+        let orphan = message(2 * (number + 64 * sent) + 1)?;
+        assert_eq!(rt; found.first_orphan(&cut), Some(orphan), "{number}, {sent}");
+    }
+    Ok(())
+}
+
 #[test]
 fn many_cuts_of_a_large_log_are_tested(rt: HostRuntime) -> Result<(), Fail> {
     let log = messages_round_a_ring(rt.alloc())?;
@@ -85,14 +107,7 @@ fn many_cuts_of_a_large_log_are_tested(rt: HostRuntime) -> Result<(), Fail> {
     let found = Histories::of(rt.alloc(), &log, log.rows().len())?;
     assert_eq!(rt; found.first_orphan(&Cut::new([DEEDS; 64])), None);
     for number in 1..64_u32 {
-        for step in 0..4096_u32 {
-            // Each process but the first receives and sends in turn.
-            let sent = 2 * step;
-            let mut cut = Cut::new([DEEDS; 64]);
-            cut.set(process(number as usize)?, 2 * sent as usize);
-            let orphan = message(2 * (number + 64 * sent) + 1)?;
-            assert_eq!(rt; found.first_orphan(&cut), Some(orphan), "{number}, {sent}");
-        }
+        sees_orphans(&rt, &found, number)?;
     }
     Ok(())
 }

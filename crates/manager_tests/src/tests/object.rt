@@ -32,6 +32,28 @@ fn apply_all(object: &mut Object, bodies: &[i64]) {
     }
 }
 
+/// Sees what an object offers, and its saved state.
+fn shows(
+    rt: &impl Abort,
+    alloc: Global,
+    object: &Object,
+    offered: i64,
+    bytes: &[u8],
+) -> Result<(), Fail> {
+    assert_eq!(rt; object.offer(), offered);
+    let saved = saved_state(alloc, object)?;
+    assert_eq!(rt; saved.as_slice(), bytes);
+    Ok(())
+}
+
+/// An object of this kind that took over the saved state of another one.
+fn successor_of(alloc: Global, kind: u8, object: &Object) -> Result<Object, Fail> {
+    let saved = saved_state(alloc, object)?;
+    let mut spare = object_of(alloc, kind)?;
+    take_over(&mut spare, object, &saved)?;
+    Ok(spare)
+}
+
 /// Applies these bodies to an object of this kind, and sees what it offers and its saved state; a spare that was restored
 /// from that has the same.
 fn is_saved_as(
@@ -45,14 +67,9 @@ fn is_saved_as(
     let mut object = object_of(alloc, kind)?;
     assert_eq!(rt; object.kind(), kind);
     apply_all(&mut object, bodies);
-    assert_eq!(rt; object.offer(), offered);
-    let saved = saved_state(alloc, &object)?;
-    assert_eq!(rt; saved.as_slice(), bytes);
-    let mut spare = object_of(alloc, kind)?;
-    take_over(&mut spare, &object, &saved)?;
-    assert_eq!(rt; spare.offer(), offered);
-    assert_eq!(rt; saved_state(alloc, &spare)?.as_slice(), bytes);
-    Ok(())
+    shows(rt, alloc, &object, offered, bytes)?;
+    let spare = successor_of(alloc, kind, &object)?;
+    shows(rt, alloc, &spare, offered, bytes)
 }
 
 #[test]
@@ -72,16 +89,30 @@ fn a_last_at_the_end_of_i64_is_saved_and_restored(rt: HostRuntime) -> Result<(),
     )
 }
 
-#[test]
-fn a_tail_is_saved_and_restored(rt: HostRuntime) -> Result<(), Fail> {
-    let alloc = rt.alloc();
-    is_saved_as(&rt, alloc, 2, &[], 0, &[2, 0])?;
+/// The saved state of a tail of the bodies 2 to 9.
+fn tail_of_2_to_9(alloc: Global) -> Result<Vec<u8>, AllocError> {
     let mut bytes = vec![in alloc; 2, 8]?;
     for body in 2..10u8 {
         bytes.extend_from_slice(&[0, 0, 0, 0, 0, 0, 0, body])?;
     }
+    Ok(bytes)
+}
+
+#[test]
+fn a_tail_is_saved_and_restored(rt: HostRuntime) -> Result<(), Fail> {
+    let alloc = rt.alloc();
+    is_saved_as(&rt, alloc, 2, &[], 0, &[2, 0])?;
+    let bytes = tail_of_2_to_9(alloc)?;
     assert_eq!(rt; bytes.len(), 66);
     is_saved_as(&rt, alloc, 2, &[1, 2, 3, 4, 5, 6, 7, 8, 9], 9, &bytes)
+}
+
+/// Sees what a sum of these bodies offers.
+fn sums_up(rt: &impl Abort, alloc: Global, bodies: &[i64], offered: i64) -> Result<(), Fail> {
+    let mut sum = object_of(alloc, 0)?;
+    apply_all(&mut sum, bodies);
+    assert_eq!(rt; sum.offer(), offered);
+    Ok(())
 }
 
 #[test]
@@ -92,9 +123,7 @@ fn a_sum_saturates_at_both_ends(rt: HostRuntime) -> Result<(), Fail> {
         ([i64::MAX, -1], i64::MAX - 1),
         ([i64::MIN, i64::MAX], -1),
     ] {
-        let mut sum = object_of(rt.alloc(), 0)?;
-        apply_all(&mut sum, &bodies);
-        assert_eq!(rt; sum.offer(), offered);
+        sums_up(&rt, rt.alloc(), &bodies, offered)?;
     }
     Ok(())
 }
@@ -128,40 +157,50 @@ fn refuses(rt: &impl Abort, object: &mut Object, saved: &[u8]) {
     assert_eq!(rt; object.offer(), offered);
 }
 
+/// Sees that a saved state that is too short or too long is refused.
+fn refuses_lengths(rt: &impl Abort, object: &mut Object, saved: &[u8; 11]) {
+    for end in 0..10 {
+        refuses(rt, object, &saved[..end]);
+    }
+    refuses(rt, object, saved);
+}
+
+/// Sees that a saved state of another kind than this one is refused.
+fn refuses_kinds(rt: &impl Abort, object: &mut Object, kind: u8) {
+    for other in [kind ^ 1, 3, 255] {
+        refuses(rt, object, &[other, 1, 0, 0, 0, 0, 0, 0, 0, 5]);
+    }
+}
+
 #[test]
 fn other_bytes_are_no_saved_state(rt: HostRuntime) -> Result<(), Fail> {
     for kind in 0..3u8 {
         let mut object = object_of(rt.alloc(), kind)?;
         apply_all(&mut object, &[6]);
-        let mut saved = [kind, 1, 0, 0, 0, 0, 0, 0, 0, 5, 0];
-        for end in 0..10 {
-            refuses(&rt, &mut object, &saved[..end]);
-        }
-        refuses(&rt, &mut object, &saved);
-        for other in [kind ^ 1, 3, 255] {
-            saved[0] = other;
-            refuses(&rt, &mut object, &saved[..10]);
-        }
+        refuses_lengths(&rt, &mut object, &[kind, 1, 0, 0, 0, 0, 0, 0, 0, 5, 0]);
+        refuses_kinds(&rt, &mut object, kind);
     }
     Ok(())
 }
 
+/// Sees with how many numbers a saved state of this kind is taken.
+fn takes_counts(rt: &impl Abort, object: &mut Object, kind: u8) {
+    let mut saved = [0u8; 74];
+    saved[0] = kind;
+    for count in 0..10u8 {
+        saved[1] = count;
+        let good = if kind == 2 { count <= 8 } else { count == 1 };
+        let end = 2 + 8 * usize::from(count);
+        let taken = object.restore(&saved[..end]).is_ok();
+        assert_eq!(rt; taken, good, "{kind} {count}");
+    }
+}
+
 #[test]
 fn only_a_tail_has_no_number_or_many(rt: HostRuntime) -> Result<(), Fail> {
-    let mut saved = [0u8; 74];
     for kind in 0..3u8 {
         let mut object = object_of(rt.alloc(), kind)?;
-        saved[0] = kind;
-        for count in 0..10u8 {
-            saved[1] = count;
-            let good = if kind == 2 { count <= 8 } else { count == 1 };
-            let end = 2 + 8 * usize::from(count);
-            assert_eq!(rt;
-                object.restore(&saved[..end]).is_ok(),
-                good,
-                "{kind} {count}"
-            );
-        }
+        takes_counts(&rt, &mut object, kind);
     }
     Ok(())
 }
@@ -233,6 +272,44 @@ fn a_slot_past_the_number_of_those_out_is_freed(rt: HostRuntime) -> Result<(), F
     Ok(())
 }
 
+fn eight_slots(alloc: Global, book: &mut SlotBook) -> Result<Vec<Option<SlotGuard>>, Fail> {
+    let mut guards = Vec::new(alloc);
+    for _ in 0..8u8 {
+        guards.push(Some(book.open()?))?;
+    }
+    Ok(guards)
+}
+
+/// Drops the slots of these numbers one by one, and sees each freed.
+fn drops_in_this_order(
+    rt: &impl Abort,
+    book: &mut SlotBook,
+    guards: &mut [Option<SlotGuard>],
+    order: &[usize],
+) -> Result<(), Fail> {
+    for (dropped, number) in order.iter().enumerate() {
+        let guard = guards.get_mut(*number).ok_or("no such slot")?;
+        drop(guard.take());
+        frees(rt, book, 1, 7_usize.saturating_sub(dropped));
+    }
+    Ok(())
+}
+
+/// Opens so many slots again.
+fn opens_again(
+    rt: &impl Abort,
+    book: &mut SlotBook,
+    guards: &mut Vec<Option<SlotGuard>>,
+    count: usize,
+) -> Result<(), Fail> {
+    for _ in 0..count {
+        let guard = book.open()?;
+        assert!(rt; guard.number() < 8);
+        guards.push(Some(guard))?;
+    }
+    Ok(())
+}
+
 /// Opens eight slots, drops those of these numbers one by one and sees each freed, opens as many again, and gives all up.
 fn frees_in_this_order(
     rt: &impl Abort,
@@ -240,20 +317,9 @@ fn frees_in_this_order(
     book: &mut SlotBook,
     order: &[usize],
 ) -> Result<(), Fail> {
-    let mut guards = Vec::new(alloc);
-    for _ in 0..8u8 {
-        guards.push(Some(book.open()?))?;
-    }
-    for (dropped, number) in order.iter().enumerate() {
-        let guard = guards.get_mut(*number).ok_or("no such slot")?;
-        drop(guard.take());
-        frees(rt, book, 1, 7_usize.saturating_sub(dropped));
-    }
-    for _ in order {
-        let guard = book.open()?;
-        assert!(rt; guard.number() < 8);
-        guards.push(Some(guard))?;
-    }
+    let mut guards = eight_slots(alloc, book)?;
+    drops_in_this_order(rt, book, guards.as_mut_slice(), order)?;
+    opens_again(rt, book, &mut guards, order.len())?;
     assert_eq!(rt; book.out(), 8);
     drop(guards);
     frees(rt, book, 8, 0);

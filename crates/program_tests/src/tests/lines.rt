@@ -6,6 +6,7 @@ use kt_program::ask::asked;
 use kt_program::line::Asked;
 use kt_program::program::run;
 use kt_program::words::Words;
+use std::alloc::Global;
 use std::process::Abort;
 use std::rt::Files;
 use std::sync::Wait;
@@ -96,12 +97,30 @@ fn ran<R: Files + Threads + Wait + Sync + AllocGlobal>(
     Printed::new(status, out, err)
 }
 
-#[test]
-fn a_check_is_asked_for(rt: HostRuntime) -> Result<(), Fail> {
-    let mut words = Words::new(rt.alloc());
+// Checks what the program prints, called with these words, and its exit status.
+fn expect_ran<R: Files + Threads + Wait + Sync + Abort + AllocGlobal>(
+    rt: &R,
+    words: &[&[u8]],
+    status: u8,
+    text: &str,
+) -> Result<(), Fail> {
+    let printed = ran(rt, words)?;
+    expect(rt, &printed, status, text);
+    Ok(())
+}
+
+// The words of a command line that asks for a check.
+fn check_words(alloc: Global) -> Result<Words, Fail> {
+    let mut words = Words::new(alloc);
     for word in ["koo_toueg", "check", "l.csv", "c.csv"] {
         words.push(word)?;
     }
+    Ok(words)
+}
+
+#[test]
+fn a_check_is_asked_for(rt: HostRuntime) -> Result<(), Fail> {
+    let words = check_words(rt.alloc())?;
     let Ok(asked) = asked(rt.alloc(), &words) else {
         return Err(Fail::from("refused"));
     };
@@ -128,12 +147,7 @@ fn other_command_lines_are_refused(rt: HostRuntime) -> Result<(), Fail> {
         &[b"koo_toueg", b"--help", b"\xff"],
     ];
     for words in table {
-        expect(
-            &rt,
-            &ran(&rt, words)?,
-            2,
-            "koo_toueg: command line refused\n",
-        );
+        expect_ran(&rt, words, 2, "koo_toueg: command line refused\n")?;
     }
     Ok(())
 }
@@ -146,8 +160,7 @@ fn a_file_that_is_not_there_is_a_read_fault(rt: HostRuntime) -> Result<(), Fail>
         b"no such log",
         b"no such certificate",
     ];
-    expect(&rt, &ran(&rt, &words)?, 3, "koo_toueg: read fault\n");
-    Ok(())
+    expect_ran(&rt, &words, 3, "koo_toueg: read fault\n")
 }
 
 #[test]
@@ -162,45 +175,40 @@ fn help_and_the_version_are_shown(rt: HostRuntime) -> Result<(), Fail> {
         (&[b"bin/koo_toueg", b"-V"], "koo_toueg 0.1.0\n"),
     ];
     for (words, text) in table {
-        expect(&rt, &ran(&rt, words)?, 0, text);
+        expect_ran(&rt, words, 0, text)?;
     }
     Ok(())
 }
 
-// What is handed over of the version, and of the fault line, where the writers fail at these calls; and the status.
-fn version(
-    rt: &(impl Files + Threads + Wait + Sync + AllocGlobal),
-    out_fails_at: usize,
-    err_fails_at: usize,
-) -> (u8, Holding, Holding) {
-    let mut out = Holding::new(rt.alloc(), out_fails_at);
-    let mut err = Holding::new(rt.alloc(), err_fails_at);
+// Checks the status, and what is handed over of the version and of the fault's line, where their writers fail at these calls.
+fn expect_version(
+    rt: &(impl Files + Threads + Wait + Sync + Abort + AllocGlobal),
+    fails_at: (usize, usize),
+    wanted: (u8, &[u8], &[u8]),
+) {
+    let (out_call, err_call) = fails_at;
+    let mut out = Holding::new(rt.alloc(), out_call);
+    let mut err = Holding::new(rt.alloc(), err_call);
     let words: [&[u8]; 2] = [b"koo_toueg", b"--version"];
     let status = run(&Line { words: &words }, rt, rt.alloc(), &mut out, &mut err);
-    (status, out, err)
+    let given = (status, out.given(), err.given());
+    assert_eq!(rt; given, wanted, "at calls {out_call} and {err_call}");
 }
 
 #[test]
 fn what_is_shown_is_handed_over_or_a_write_fault(rt: HostRuntime) {
-    let text = b"koo_toueg 0.1.0\n";
-    let line = b"koo_toueg: write fault\n";
-    for k in 0..text.len() + 1 {
-        let (status, out, err) = version(&rt, k, usize::MAX);
-        assert_eq!(rt; status, 3, "at call {k}");
-        assert!(rt; out.given().is_empty(), "at call {k}");
-        assert_eq!(rt; err.given(), line.as_slice(), "at call {k}");
+    let text = b"koo_toueg 0.1.0\n".as_slice();
+    let line = b"koo_toueg: write fault\n".as_slice();
+    let calls = b"koo_toueg 0.1.0\n".len() + 1;
+    for k in 0..calls {
+        expect_version(&rt, (k, usize::MAX), (3, b"".as_slice(), line));
     }
-    let (status, out, err) = version(&rt, text.len() + 1, usize::MAX);
-    assert_eq!(rt; status, 0);
-    assert_eq!(rt; out.given(), text.as_slice());
-    assert!(rt; err.given().is_empty());
+    expect_version(&rt, (calls, usize::MAX), (0, text, b"".as_slice()));
 }
 
 #[test]
 fn a_fault_line_that_cannot_be_written_changes_no_status(rt: HostRuntime) {
     for k in 0..b"koo_toueg: write fault\n".len() + 1 {
-        let (status, out, err) = version(&rt, 0, k);
-        assert_eq!(rt; status, 3, "at call {k}");
-        assert!(rt; out.given().is_empty() && err.given().is_empty());
+        expect_version(&rt, (0, k), (3, b"".as_slice(), b"".as_slice()));
     }
 }
