@@ -1,4 +1,31 @@
 //! The checker of logs and certificates, which trusts nobody.
+//!
+//! **One judge.** `check` goes over a list of rows, `check_stream` over the rows of a text; both feed a `Judge` row by
+//! row. It tells a row that breaks a rule (its walk), gathers what the rows say of each instance (`Instances`), and
+//! just before a decided row tests the first certificate of that instance: its cause, members, chains and cut. What it
+//! finds waits with the instance; once all rows were seen the certificates are gone through in the list's order
+//! (`verdict`). A second certificate of an instance is unknown, whatever it says.
+//!
+//! **The cut of a certificate** (`leaves_consistent`). While each committed decision so far was found to leave a
+//! consistent cut (`is_consistent` of a judge), the permanent cut and the present one are consistent, by the law
+//! `consistent_cuts` of kt_cuts. The cut of a checkpoint differs from the permanent one, and that of a rollback from
+//! the present one, in some members alone (`changed_in`); so an orphan has one of these as receiver or as sender, and
+//! the walk looks at their pairs alone. Once a decision was committed whose first certificate lacks, has another kind
+//! or was found wrong, its cut is not known to be consistent: from then on all pairs that have messages are looked at,
+//! so that what is said of each later certificate stays exact.
+//!
+//! **The chains** (`has_chains`). A walk finds a message by both its ends, so where a message of a chain leads is found
+//! by trying all processes (`next_in_chain`). Chains of members mostly begin alike: of the chain followed last up to 64
+//! messages are kept with the processes that they lead to (`Path`), and of one that begins with the same messages only
+//! those after them are looked for (`follow`).
+//!
+//! **How it is proved.** `specs/Passing` says when a certificate passes, `specs/Order` which answer is right: both
+//! speak of the rows and the certificates alone, never of a walk or of a loop, so another way to read a log only has to
+//! give `IsAnswer`. `JudgeOf` (`specs/Judged`) says what a judge knows after some rows, `Gathered` (`specs/Gathered`)
+//! what instances were found to have. Exact: row by row `proofs/Judging`, `Gathering`, `FirstPlaces` and `RowByRow`;
+//! the cut of an undecided instance `Inside`; chains `Chaining`, `Links`, `Following`; what stays of an instance after
+//! its decided row `Deciding`; the list of certificates `Marking`, `Answering`. Sound: `proofs/Sound` goes from
+//! `IsPassed` to leastness, by the laws of kt_cuts.
 #![tactic(auto)]
 
 mod chains;
