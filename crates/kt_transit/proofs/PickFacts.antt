@@ -1,8 +1,11 @@
 -- Messages of which some are marked.
-use Rattle.std.proofs.Common.{◌≡◌, ◌≢◌, ℕ, zero, suc, ◌+◌, ◌-◌, ◌<◌, ◌≤◌, ◌⊎◌, Bool, true, false, Some, None, Option, List, [], ◌∷◌, ◌++◌, length, get_or, take, drop, set, refl, sym, ap, ◌∙◌, subst, arith, inl, inr}
+use Rattle.std.proofs.Common.{◌≡◌, ◌≢◌, ℕ, zero, suc, ◌+◌, ◌-◌, ◌<◌, ◌≤◌, ◌⊎◌, Bool, true, false, Some, None, Option, Ok, Err, List, [], ◌∷◌, ◌++◌, length, length-append, length-set, get_or, get_or-set_other, take, drop, set, refl, sym, ap, ◌∙◌, subst, arith, inl, inr}
 use Rattle.std.specs.List.{slice_get, remove, insert}
+use Rattle.std.specs.Prelude.{Result, OnOk}
+use Rattle.kt_cuts.proofs.Lists.{get_push}
+use Rattle.kt_transit.proofs.TransitFacts.{get_left}
 use Rattle.std.proofs.lemmas.Bool.{cases_lt, cases_eq}
-use Rattle.std.proofs.lemmas.Option.{slice_get_within}
+use Rattle.std.proofs.lemmas.Option.{slice_get_within, slice_get-get_or}
 use Rattle.kt_transit.specs.declared.in_transit.Sent.{Sent}
 use Rattle.kt_transit.specs.TransitList.{IsBySend, Belongs}
 use Rattle.kt_transit.specs.Marks.{ones, pick, shown, IsRising, IsMarked}
@@ -188,3 +191,136 @@ belongs_picked marks xs msg p unset b = record {
         | inr high ↦ b.above there.0 a high there.1
       ];
 }
+
+-- numbers rise that rise from each one to the next
+pub rising_steps : (xs : List Sent) → ((k : ℕ) (a b : Sent) → slice_get xs k ≡ Some a → slice_get xs (suc k) ≡ Some b → a.msg < b.msg) → IsRising xs
+rising_steps xs step = record { each = λ j k a b l e f. climb k j a b l e f }
+  where
+    climb : (k j : ℕ) (a b : Sent) → j < k → slice_get xs j ≡ Some a → slice_get xs k ≡ Some b → a.msg < b.msg
+    climb zero j a b l e f = absurd (omega (arith, l))
+    climb (suc k) j a b l e f = elim (cases_eq j k) [
+      | inl same ↦ step k a b (ap (slice_get xs) (sym same) ∙ e) f
+      | inr other ↦
+          let there : slice_get xs k ≡ Some (get_or xs k a) = slice_get-get_or xs k a (omega (arith, slice_get_within xs (suc k) b f)) in
+          omega (arith, climb k j a (get_or xs k a) (omega (arith, l, other)) e there, step k (get_or xs k a) b there f)
+    ]
+
+pub shown_count : (marks : List Bool) (xs : List Sent) → 0 < length marks → IsMarked marks xs → length (shown marks xs) ≡ ones marks
+shown_count marks xs some marked = ap (λ (l : List Sent). length l) (shown_picked marks xs some) ∙ picked_count marks xs marked.past
+
+pub shown_within : (marks : List Bool) (xs : List Sent) → length (shown marks xs) ≤ length xs
+shown_within [] xs = omega arith
+shown_within (b ∷ marks) xs = picked_within (b ∷ marks) xs
+
+pub get_past : (xs : List Sent) (n : ℕ) → length xs ≤ n → slice_get xs n ≡ None
+get_past [] n l = refl
+get_past (x ∷ xs) zero l = absurd (omega (arith, l))
+get_past (x ∷ xs) (suc n) l = get_past xs n (omega (arith, l))
+
+pub on_ok : {A E : Type 0} (r : Result A E) {P Q : Type 0} → (P → Q) → OnOk r P → OnOk r Q
+on_ok (Ok x) f p = f p
+on_ok (Err x) f p = p
+
+-- a mark that is set is within
+pub set_within : (marks : List Bool) (n p : ℕ) → AreUnset n marks → get_or marks p false ≡ true → p < n
+set_within marks n p unset e = elim (cases_lt p n) [
+  | inl low ↦ low
+  | inr high ↦
+      let no : true ≡ false = sym e ∙ unset p high in
+      absurd (cc no)
+]
+
+pub all_before : (xs : List Sent) (middle place : ℕ) → ((a : Sent) → slice_get xs middle ≡ Some a → a.place < place) → middle < length xs → IsBySend xs → (k : ℕ) (a : Sent) → k < middle + 1 → slice_get xs k ≡ Some a → a.place < place
+all_before xs middle place at within o k a l e = elim (cases_eq k middle) [
+  | inl same ↦ at a (ap (slice_get xs) (sym same) ∙ e)
+  | inr other ↦
+      let there : slice_get xs middle ≡ Some (get_or xs middle a) = slice_get-get_or xs middle a within in
+      omega (arith, at (get_or xs middle a) there, (o.each k middle a (get_or xs middle a) (omega (arith, l, other)) e there).place)
+]
+
+pub all_after : (xs : List Sent) (middle place : ℕ) → ((a : Sent) → slice_get xs middle ≡ Some a → place ≤ a.place) → middle < length xs → IsBySend xs → (k : ℕ) (a : Sent) → middle ≤ k → slice_get xs k ≡ Some a → place ≤ a.place
+all_after xs middle place at within o k a l e = elim (cases_eq k middle) [
+  | inl same ↦ at a (ap (slice_get xs) (sym same) ∙ e)
+  | inr other ↦
+      let there : slice_get xs middle ≡ Some (get_or xs middle a) = slice_get-get_or xs middle a within in
+      omega (arith, at (get_or xs middle a) there, (o.each middle k (get_or xs middle a) a (omega (arith, l, other)) there e).place)
+]
+
+-- a greater number at the end
+pub rising_pushed : (xs : List Sent) (a : Sent) → IsRising xs → ((k : ℕ) (b : Sent) → slice_get xs k ≡ Some b → b.msg < a.msg) → IsRising (xs ++ a ∷ [])
+rising_pushed xs a r above = record {
+  each = λ j k b d l e f. elim (get_push xs a k d f) [
+    | inl old ↦ r.each j k b d l (sym (get_left xs (a ∷ []) j (omega (arith, l, slice_get_within xs k d old))) ∙ e) old
+    | inr new ↦ subst (λ (z : Sent). b.msg < z.msg) new.1 (above j b (sym (get_left xs (a ∷ []) j (omega (arith, l, new.0))) ∙ e))
+  ];
+}
+
+pub marked_pushed : (marks : List Bool) (xs : List Sent) (a : Sent) → IsMarked marks xs → length xs + 1 < length marks → ((k : ℕ) (b : Sent) → slice_get xs k ≡ Some b → b.msg < a.msg) → IsMarked (set marks (length xs) true) (xs ++ a ∷ [])
+marked_pushed marks xs a m lt above = record {
+  within = omega (arith, lt, length-set marks (length xs) true, length-append xs (a ∷ []));
+  past = λ k l. get_or-set_other marks (length xs) k true false (λ same. omega (arith, l, same, length-append xs (a ∷ []))) ∙ m.past k (omega (arith, l, length-append xs (a ∷ [])));
+  rising = rising_pushed xs a m.rising above;
+}
+
+pub pick_all : (marks : List Bool) (xs : List Sent) (n : ℕ) → length xs ≤ n → drop n xs ++ pick (take n marks) (take n xs) ≡ pick marks xs
+pick_all [] [] zero l = refl
+pick_all [] [] (suc n) l = refl
+pick_all (b ∷ marks) [] zero l = refl
+pick_all (b ∷ marks) [] (suc n) l = refl
+pick_all marks (x ∷ xs) zero l = absurd (omega (arith, l))
+pick_all [] (x ∷ xs) (suc n) l = pick_none xs n (omega (arith, l))
+  where
+    pick_none : (ys : List Sent) (m : ℕ) → length ys ≤ m → drop m ys ++ [] ≡ (let none : List Sent = [] in none)
+    pick_none [] zero le = refl
+    pick_none [] (suc m) le = refl
+    pick_none (y ∷ ys) zero le = absurd (omega (arith, le))
+    pick_none (y ∷ ys) (suc m) le = pick_none ys m (omega (arith, le))
+pick_all (false ∷ marks) (x ∷ xs) (suc n) l = pick_all marks xs n (omega (arith, l))
+pick_all (true ∷ marks) (x ∷ xs) (suc n) l = all_dropped xs n (omega (arith, l)) (x ∷ pick (take n marks) (take n xs)) ∙ ap (λ (r : List Sent). x ∷ r) (sym (all_dropped xs n (omega (arith, l)) (pick (take n marks) (take n xs))) ∙ pick_all marks xs n (omega (arith, l)))
+  where
+    all_dropped : (ys : List Sent) (m : ℕ) → length ys ≤ m → (zs : List Sent) → drop m ys ++ zs ≡ zs
+    all_dropped [] zero le zs = refl
+    all_dropped [] (suc m) le zs = refl
+    all_dropped (y ∷ ys) zero le zs = absurd (omega (arith, le))
+    all_dropped (y ∷ ys) (suc m) le zs = all_dropped ys m (omega (arith, le)) zs
+
+-- one more is gone through
+pub more_picked : (marks : List Bool) (xs : List Sent) (n : ℕ) (x : Sent) → slice_get xs n ≡ Some x → get_or marks n false ≡ true → pick (take (suc n) marks) (take (suc n) xs) ≡ pick (take n marks) (take n xs) ++ x ∷ []
+more_picked marks [] n x e b = absurd (omega (arith, slice_get_within [] n x e))
+more_picked [] (y ∷ xs) n x e b =
+    let no : false ≡ true = b in
+    absurd (cc no)
+more_picked (false ∷ marks) (y ∷ xs) zero x e b =
+    let no : false ≡ true = b in
+    absurd (cc no)
+more_picked (true ∷ marks) (y ∷ xs) zero x e b =
+    let same : y ≡ x = cc e in
+    one_picked marks ∙ ap (λ (z : Sent). z ∷ []) same
+  where
+    one_picked : (ms : List Bool) → pick (true ∷ []) (y ∷ []) ≡ y ∷ []
+    one_picked ms = refl
+more_picked (false ∷ marks) (y ∷ xs) (suc n) x e b = more_picked marks xs n x e b
+more_picked (true ∷ marks) (y ∷ xs) (suc n) x e b = ap (λ (r : List Sent). y ∷ r) (more_picked marks xs n x e b)
+
+pub none_more : (marks : List Bool) (xs : List Sent) (n : ℕ) (x : Sent) → slice_get xs n ≡ Some x → get_or marks n false ≡ false → pick (take (suc n) marks) (take (suc n) xs) ≡ pick (take n marks) (take n xs)
+none_more marks [] n x e b = absurd (omega (arith, slice_get_within [] n x e))
+none_more [] (y ∷ xs) zero x e b = refl
+none_more [] (y ∷ xs) (suc n) x e b = refl
+none_more (false ∷ marks) (y ∷ xs) zero x e b = refl
+none_more (true ∷ marks) (y ∷ xs) zero x e b =
+    let no : true ≡ false = b in
+    absurd (cc no)
+none_more (false ∷ marks) (y ∷ xs) (suc n) x e b = none_more marks xs n x e b
+none_more (true ∷ marks) (y ∷ xs) (suc n) x e b = ap (λ (r : List Sent). y ∷ r) (none_more marks xs n x e b)
+
+-- the first one of those that are left to go through
+pub first_left : (xs : List Sent) (n : ℕ) (x : Sent) (new ps : List Sent) → n < length xs → drop n xs ++ ps ≡ x ∷ new → (slice_get xs n ≡ Some x) × (new ≡ drop (n + 1) xs ++ ps)
+first_left [] n x new ps l e = absurd (omega (arith, l))
+first_left (y ∷ xs) zero x new ps l e =
+    let same : y ≡ x = cc e in
+    let rest : xs ++ ps ≡ new = cc e in
+    (ap (λ (z : Sent). Some z) same, sym rest)
+first_left (y ∷ xs) (suc n) x new ps l e =
+    let there = first_left xs n x new ps (omega (arith, l)) e in
+    let place : suc (n + 1) ≡ suc n + 1 = omega arith in
+    (there.0, there.1 ∙ ap (λ (k : ℕ). drop k (y ∷ xs) ++ ps) place)

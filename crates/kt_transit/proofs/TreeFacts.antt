@@ -1,9 +1,11 @@
 -- Trees of counts.
-use Rattle.std.proofs.Common.{◌≡◌, ◌≢◌, ℕ, zero, suc, ◌+◌, ◌-◌, ◌*◌, ◌/◌, ◌%◌, ◌^◌, ◌<◌, ◌≤◌, ◌⊎◌, Bool, true, false, cond, List, [], ◌∷◌, length, get_or, take, drop, set, refl, sym, ap, ◌∙◌, subst, arith, inl, inr, length-drop, take_all, length-set, get_or-set_other, get_or-set_same}
+use Rattle.std.proofs.Common.{◌≡◌, ◌≢◌, ℕ, zero, suc, ◌+◌, ◌-◌, ◌*◌, ◌/◌, ◌%◌, ◌^◌, ◌<◌, ◌≤◌, ◌⊎◌, Bool, true, false, cond, List, [], ◌∷◌, length, get_or, take, drop, set, refl, sym, ap, ◌∙◌, subst, arith, inl, inr, length-drop, drop-drop, take_all, replicate, ◌++◌, length-set, get_or-set_other, get_or-set_same}
 use Rattle.std.proofs.lemmas.Bool.{cases_lt, cases_eq}
-use Rattle.std.proofs.lemmas.List.{get_or-drop, drop-set-lt, drop-set-add}
+use Rattle.std.proofs.lemmas.List.{get_or-drop, drop-set-lt, drop-set-add, get_or_past, get_or-replicate, length-replicate}
 use Rattle.std.proofs.lemmas.Nat.{pow_pos}
 use Rattle.std.proofs.Math.Nat.{pow-suc}
+use mir.Val.{bool_byte}
+use Rattle.std.specs.Prelude.{not, nat_eq}
 use Rattle.kt_transit.specs.Marks.{ones, marks_of, HasLeaves, IsTree, IsPower}
 
 -- the sum of the first so many nodes
@@ -136,33 +138,33 @@ at_written t m v j lt same = ap (λ (i : ℕ). get_or (set t m v) i 0) same ∙ 
 pub sum_put : (t : List ℕ) (width base node m v : ℕ) → HasLeaves t width base → IsAlmost node t width → 0 < m → m < width → (node ≡ 2 * m) ⊎ (node ≡ 2 * m + 1) → v ≡ get_or t (2 * m) 0 + get_or t (2 * m + 1) 0
     → HasLeaves (set t m v) width base × IsAlmost m (set t m v) width × (v ≤ 2 * width) × (drop width (set t m v) ≡ drop width t)
 sum_put t width base node m v h almost pos low parent e = (
-    record {
-      length = length-set t m v ∙ h.length;
-      power = h.power;
-      small = h.small;
-      base_within = h.base_within;
-      some_left = h.some_left;
-      bits = λ j l. subst (λ (n : ℕ). n ≤ 1) (sym (other j (λ same. omega (arith, l, low, same)))) (h.bits j l);
-      bounded = λ j. elim (cases_eq j m) [
-        | inl same ↦ subst (λ (n : ℕ). j * n ≤ 2 * width) (sym (at_written t m v j within same)) (subst (λ (i : ℕ). i * v ≤ 2 * width) (sym same) product)
-        | inr not ↦ subst (λ (n : ℕ). j * n ≤ 2 * width) (sym (other j not)) (h.bounded j)
-      ];
-      front = λ j l u. other j (λ same. omega (arith, l, low, same)) ∙ h.front j l u;
-    },
-    (λ j l u even odd. elim (cases_eq j m) [
-      | inl same ↦
-          let here = at_written t m v j within same in
-          let left : get_or (set t m v) (2 * j) 0 ≡ get_or t (2 * m) 0 = other (2 * j) (λ no. omega (arith, no, same, pos)) ∙ ap (λ (i : ℕ). get_or t (2 * i) 0) same in
-          let right : get_or (set t m v) (2 * j + 1) 0 ≡ get_or t (2 * m + 1) 0 = other (2 * j + 1) (λ no. omega (arith, no, same, pos)) ∙ ap (λ (i : ℕ). get_or t (2 * i + 1) 0) same in
-          omega (arith, here, left, right, e)
-      | inr not ↦
-          let here = other j not in
-          let left = other (2 * j) (λ no. even (sym no)) in
-          let right = other (2 * j + 1) (λ no. odd (sym no)) in
-          omega (arith, here, left, right, almost j l u (λ no. not (from_parent parent j (inl no))) (λ no. not (from_parent parent j (inr no))))
-    ]),
-    within_product m v (2 * width) pos product,
-    leaves_same,
+  record {
+    length = length-set t m v ∙ h.length;
+    power = h.power;
+    small = h.small;
+    base_within = h.base_within;
+    some_left = h.some_left;
+    bits = λ j l. subst (λ (n : ℕ). n ≤ 1) (sym (other j (λ same. omega (arith, l, low, same)))) (h.bits j l);
+    bounded = λ j. elim (cases_eq j m) [
+      | inl same ↦ subst (λ (n : ℕ). j * n ≤ 2 * width) (sym (at_written t m v j within same)) (subst (λ (i : ℕ). i * v ≤ 2 * width) (sym same) product)
+      | inr not ↦ subst (λ (n : ℕ). j * n ≤ 2 * width) (sym (other j not)) (h.bounded j)
+    ];
+    front = λ j l u. other j (λ same. omega (arith, l, low, same)) ∙ h.front j l u;
+  },
+  (λ j l u even odd. elim (cases_eq j m) [
+    | inl same ↦
+        let here = at_written t m v j within same in
+        let left : get_or (set t m v) (2 * j) 0 ≡ get_or t (2 * m) 0 = other (2 * j) (λ no. omega (arith, no, same, pos)) ∙ ap (λ (i : ℕ). get_or t (2 * i) 0) same in
+        let right : get_or (set t m v) (2 * j + 1) 0 ≡ get_or t (2 * m + 1) 0 = other (2 * j + 1) (λ no. omega (arith, no, same, pos)) ∙ ap (λ (i : ℕ). get_or t (2 * i + 1) 0) same in
+        omega (arith, here, left, right, e)
+    | inr not ↦
+        let here = other j not in
+        let left = other (2 * j) (λ no. even (sym no)) in
+        let right = other (2 * j + 1) (λ no. odd (sym no)) in
+        omega (arith, here, left, right, almost j l u (λ no. not (from_parent parent j (inl no))) (λ no. not (from_parent parent j (inr no))))
+  ]),
+  within_product m v (2 * width) pos product,
+  leaves_same,
 )
   where
     within : m < length t
@@ -186,27 +188,27 @@ sum_put t width base node m v h almost pos low parent e = (
 -- a count is put at a leaf
 pub leaf_put : (t : List ℕ) (width base leaf v : ℕ) → IsTree t width base → width + base ≤ leaf → leaf < 2 * width → v ≤ 1 → HasLeaves (set t leaf v) width base × IsAlmost leaf (set t leaf v) width
 leaf_put t width base leaf v tree low high small = (
-    record {
-      length = length-set t leaf v ∙ h.length;
-      power = h.power;
-      small = h.small;
-      base_within = h.base_within;
-      some_left = h.some_left;
-      bits = λ j l. elim (cases_eq j leaf) [
-        | inl same ↦ subst (λ (n : ℕ). n ≤ 1) (sym (at_written t leaf v j within same)) small
-        | inr not ↦ subst (λ (n : ℕ). n ≤ 1) (sym (other j not)) (h.bits j l)
-      ];
-      bounded = λ j. elim (cases_eq j leaf) [
-        | inl same ↦ subst (λ (n : ℕ). j * n ≤ 2 * width) (sym (at_written t leaf v j within same)) (least j v (omega (arith, same, high)) small)
-        | inr not ↦ subst (λ (n : ℕ). j * n ≤ 2 * width) (sym (other j not)) (h.bounded j)
-      ];
-      front = λ j l u. other j (λ same. omega (arith, u, low, same)) ∙ h.front j l u;
-    },
-    (λ j l u even odd.
-        let here = other j (λ same. omega (arith, u, low, same)) in
-        let left = other (2 * j) (λ no. even (sym no)) in
-        let right = other (2 * j + 1) (λ no. odd (sym no)) in
-        omega (arith, here, left, right, tree.sums j l u)),
+  record {
+    length = length-set t leaf v ∙ h.length;
+    power = h.power;
+    small = h.small;
+    base_within = h.base_within;
+    some_left = h.some_left;
+    bits = λ j l. elim (cases_eq j leaf) [
+      | inl same ↦ subst (λ (n : ℕ). n ≤ 1) (sym (at_written t leaf v j within same)) small
+      | inr not ↦ subst (λ (n : ℕ). n ≤ 1) (sym (other j not)) (h.bits j l)
+    ];
+    bounded = λ j. elim (cases_eq j leaf) [
+      | inl same ↦ subst (λ (n : ℕ). j * n ≤ 2 * width) (sym (at_written t leaf v j within same)) (least j v (omega (arith, same, high)) small)
+      | inr not ↦ subst (λ (n : ℕ). j * n ≤ 2 * width) (sym (other j not)) (h.bounded j)
+    ];
+    front = λ j l u. other j (λ same. omega (arith, u, low, same)) ∙ h.front j l u;
+  },
+  (λ j l u even odd.
+      let here = other j (λ same. omega (arith, u, low, same)) in
+      let left = other (2 * j) (λ no. even (sym no)) in
+      let right = other (2 * j + 1) (λ no. odd (sym no)) in
+      omega (arith, here, left, right, tree.sums j l u)),
 )
   where
     h : HasLeaves t width base
@@ -237,8 +239,7 @@ step_up t width first node s power less high low =
     let half = half_power first power (omega (arith, less, high)) in
     let is_half : half.0 ≡ first / 2 = omega (arith, half.1) in
     let level = pairs t width s (first / 2) (node / 2 - first / 2) (node / 2) (omega (arith, half.1, less, high)) (omega (arith, less)) (omega (arith, less, high, low)) in
-    let below : upto t (2 * (first / 2)) ≡ upto t first = ap (upto t) (omega (arith, half.1)) in
-    (
+    let below : upto t (2 * (first / 2)) ≡ upto t first = ap (upto t) (omega (arith, half.1)) in (
       subst IsPower is_half half.2,
       omega (arith, less),
       omega (arith, half.1, high),
@@ -298,8 +299,7 @@ step_down t width index node rest s l lt = stepped l.below l.level
         let next : 2 * l.first * 2 ^ b ≡ width = sym (level_half l.first b) ∙ e in
         let sum = s node (omega (arith, l.low, l.some)) lt in
         let index_of : suc (2 * node) ≡ 2 * node + 1 = omega arith in
-        let more : upto t (2 * node) + get_or t (2 * node) 0 ≡ upto t (2 * node + 1) = ap (upto t) index_of in
-        (
+        let more : upto t (2 * node) + get_or t (2 * node) 0 ≡ upto t (2 * node + 1) = ap (upto t) index_of in (
           (λ inside. record {
             first = 2 * l.first;
             below = b;
@@ -393,3 +393,70 @@ no_marks t l zeros k =
     of_bit : (b : Bool) → bit b ≡ 0 → b ≡ false
     of_bit false e = refl
     of_bit true e = absurd (omega (arith, e))
+
+-- a place of a mark is a leaf
+pub in_tree : (t : List ℕ) (width base p : ℕ) → HasLeaves t width base → p < length (marks_of (drop (width + base) t)) → (0 < width) × (width + base + p < 2 * width) × (width + base + p < length t) × (width + base + p < 2 ^ 64)
+in_tree t width base p h lt =
+    let count = marks_count t width base h in
+    (omega (arith, count, lt), omega (arith, count, lt, h.base_within), omega (arith, count, lt, h.base_within, h.length), omega (arith, count, lt, h.base_within, h.small))
+
+pub read_mark : (v : ℕ) (b : Bool) → v ≡ bit b → not (nat_eq v 0) ≡ b
+read_mark v false e = ap (λ (n : ℕ). not (nat_eq n 0)) e
+read_mark v true e = ap (λ (n : ℕ). not (nat_eq n 0)) e
+
+pub of_byte : (b : Bool) (n : ℕ) → n ≡ bool_byte b → (n ≡ bit b) × (n ≤ 1)
+of_byte false n e = (e, omega (arith, e))
+of_byte true n e = (e, omega (arith, e))
+
+-- what is put at a leaf is put among the marks
+pub put_at_leaf : (t s : List ℕ) (width base p n : ℕ) (b : Bool) → n ≡ bit b → drop width s ≡ drop width (set t (width + base + p) n) → marks_of (drop (width + base) s) ≡ set (marks_of (drop (width + base) t)) p b
+put_at_leaf t s width base p n b e same = ap marks_of (split ∙ drop-set-add (width + base) t p n) ∙ marks_set (drop (width + base) t) p n b e
+  where
+    split : drop (width + base) s ≡ drop (width + base) (set t (width + base + p) n)
+    split = sym (drop-drop base width s) ∙ (ap (drop base) same ∙ drop-drop base width (set t (width + base + p) n))
+
+pub is_set : (b : Bool) → bit b ≡ 1 → b ≡ true
+is_set false e = absurd (omega (arith, e))
+is_set true e = refl
+
+-- where something is marked, there is a leaf
+pub some_width : (t : List ℕ) (width base n : ℕ) → HasLeaves t width base → n < ones (marks_of (drop (width + base) t)) → 0 < width
+some_width t width base n h lt =
+    omega (arith, lt, ones_few (marks_of (drop (width + base) t)), marks_count t width base h)
+  where
+    ones_few : (marks : List Bool) → ones marks ≤ length marks
+    ones_few [] = omega arith
+    ones_few (false ∷ marks) = omega (arith, ones_few marks)
+    ones_few (true ∷ marks) = omega (arith, ones_few marks)
+
+pub parent_of : (node : ℕ) → (node ≡ 2 * (node / 2)) ⊎ (node ≡ 2 * (node / 2) + 1)
+parent_of node = elim (cases_eq (node % 2) 0) [
+  | inl even ↦ inl (omega (arith, even))
+  | inr odd ↦ inr (omega (arith, odd))
+]
+
+pub all_zeros : (t : List ℕ) (n : ℕ) → length t ≡ n → ((j : ℕ) → j < n → get_or t j 0 ≡ 0) → (j : ℕ) → get_or t j 0 ≡ 0
+all_zeros t n e zeros j = elim (cases_lt j n) [
+  | inl low ↦ zeros j low
+  | inr high ↦ get_or_past t j 0 (omega (arith, e, high))
+]
+
+-- no leaves
+pub no_leaves : (t : List ℕ) (width base : ℕ) → HasLeaves t width base → marks_of (drop (width + base) t) ≡ [] → length t ≡ 0
+no_leaves t width base h e =
+    let none : length (marks_of (drop (width + base) t)) ≡ 0 = ap (λ (l : List Bool). length l) e in
+    elim (cases_eq width 0) [
+      | inl zero_width ↦ omega (arith, zero_width, h.length)
+      | inr some ↦ absurd (omega (arith, none, marks_count t width base h, h.some_left (omega (arith, some))))
+    ]
+
+replicated : (m j : ℕ) → get_or {A = ℕ} (replicate m 0) j 0 ≡ 0
+replicated m j = elim (cases_lt j m) [
+  | inl low ↦ get_or-replicate m j 0 0 low
+  | inr high ↦ get_or_past {X = ℕ} (replicate m 0) j 0 (omega (arith, high, length-replicate {A = ℕ} m 0))
+]
+
+pub zeros_made : (l : List ℕ) (n m j : ℕ) → length l ≡ 0 → get_or (take n l ++ replicate m 0) j 0 ≡ 0
+zeros_made [] zero m j e = replicated m j
+zeros_made [] (suc n) m j e = replicated m j
+zeros_made (x ∷ l) n m j e = absurd (omega (arith, e))

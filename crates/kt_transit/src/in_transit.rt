@@ -59,8 +59,9 @@ impl InTransit {
         ensures length { result ≡ length self.now.messages }
         ensures room { result ≤ self.now.room }
     {
+        let slots = self.slots.len();
         if self.marks.is_empty() {
-            self.slots.len()
+            slots
         } else {
             self.marks.total()
         }
@@ -136,9 +137,7 @@ impl InTransit {
         ensures ok { OnOk result (self.new ≡ record self.old { messages = remove self.old.messages index }) }
         ensures err { OnErr result (self.new ≡ self.old) }
     {
-        if index > 0 && self.marks.is_empty() {
-            begin_marks(&self.slots, &mut self.marks)?;
-        }
+        begin_marks(&self.slots, &mut self.marks, index)?;
         if self.marks.is_empty() {
             self.slots.take(index)
         } else {
@@ -213,12 +212,24 @@ fn get_marked(slots: &GapBuffer, marks: &Counts, index: usize) -> Option<Sent>
     }
 }
 
+// Where there are no marks, and a message with this index is not taken in its turn, marks all slots, if the numbers of
+// their messages rise and there are not too many.
+fn begin_marks(slots: &GapBuffer, marks: &mut Counts, index: usize) -> Result<(), Memory>
+    requires { 0 < length marks.old.marks → IsMarked marks.old.marks slots.now.messages }
+    ensures marked { 0 < length marks.new.marks → IsMarked marks.new.marks slots.now.messages }
+    ensures shown { shown marks.new.marks slots.now.messages ≡ shown marks.old.marks slots.now.messages }
+{
+    if index > 0 && marks.is_empty() {
+        mark_slots(slots, marks)?;
+    }
+    Ok(())
+}
+
 // Marks all slots, if the numbers of their messages rise and there are not too many.
-fn begin_marks(slots: &GapBuffer, marks: &mut Counts) -> Result<(), Memory>
+fn mark_slots(slots: &GapBuffer, marks: &mut Counts) -> Result<(), Memory>
     requires { marks.old.marks ≡ [] }
-    ensures marked { OnOk result (0 < length marks.new.marks → IsMarked marks.new.marks slots.now.messages) }
-    ensures shown { OnOk result (shown marks.new.marks slots.now.messages ≡ slots.now.messages) }
-    ensures err { OnErr result (marks.new.marks ≡ []) }
+    ensures marked { 0 < length marks.new.marks → IsMarked marks.new.marks slots.now.messages }
+    ensures shown { shown marks.new.marks slots.now.messages ≡ slots.now.messages }
 {
     let count = slots.len();
     if count < MOST_MARKED && slots.is_rising() {
@@ -244,7 +255,8 @@ fn mark_all(marks: &mut Counts, count: usize)
 
 // Takes back the marks from one slot to another.
 fn cut_marks(marks: &mut Counts, from: usize, until: usize)
-    requires { until < length marks.old.marks }
+    requires order { from ≤ until }
+    requires within { until < length marks.old.marks }
     ensures len { length marks.new.marks ≡ length marks.old.marks }
     ensures kept { (k : ℕ) → k < from → slice_index_or marks.new.marks k false ≡ slice_index_or marks.old.marks k false }
     ensures cut { (k : ℕ) → from ≤ k → k < until → slice_index_or marks.new.marks k false ≡ false }
@@ -300,8 +312,9 @@ fn mark_next(slots: &mut GapBuffer, marks: &mut Counts, msg: MsgNo)
     ensures marked { (a : Sent) → a.msg ≡ msg → 0 < length marks.new.marks → IsMarked marks.new.marks (slots.new.messages ++ a ∷ []) }
     ensures shown { (a : Sent) → a.msg ≡ msg → shown marks.new.marks (slots.new.messages ++ a ∷ []) ≡ pick marks.old.marks slots.old.messages ++ a ∷ [] }
 {
+    let marked = marks.len();
     let next = slots.len();
-    if next + 1 < marks.len() && slots.has_room() && is_above(slots, msg) {
+    if next + 1 < marked && slots.has_room() && is_above(slots, msg) {
         marks.put(next, true);
     } else {
         drop_taken(slots, marks);
@@ -345,11 +358,11 @@ fn is_below(slots: &GapBuffer, msg: MsgNo) -> bool
 }
 
 // The slot that this message was taken from, if it is still there.
-fn taken_slot(slots: &GapBuffer, marks: &Counts, message: Sent) -> Option<usize>
+fn taken_slot(slots: &GapBuffer, marks: &Counts, message: &Sent) -> Option<usize>
     requires { IsMarked marks.now.marks slots.now.messages }
-    ensures there { IfSome result (λ slot. slice_get slots.now.messages slot ≡ Some message) }
+    ensures there { IfSome result (λ slot. slice_get slots.now.messages slot ≡ Some message.now) }
     ensures unset { IfSome result (λ slot. slice_index_or marks.now.marks slot false ≡ false) }
-    ensures belongs { IfSome result (λ slot. Belongs message.msg slots.now.messages slot) }
+    ensures belongs { IfSome result (λ slot. Belongs message.now.msg slots.now.messages slot) }
 {
     let slot = slots.place_of(message.msg);
     let there = slots.get(slot)?;
@@ -369,9 +382,10 @@ fn put_back_marked(slots: &mut GapBuffer, marks: &mut Counts, message: Sent)
     ensures messages { IsPutBack message (pick marks.old.marks slots.old.messages) (shown marks.new.marks slots.new.messages) }
     ensures room { slots.old.room ≤ slots.new.room }
 {
-    match taken_slot(slots, marks, message) {
-        Some(slot) => marks.put(slot, true),
-        None => put_back_without_slot(slots, marks, message),
+    if let Some(slot) = taken_slot(slots, marks, &message) {
+        marks.put(slot, true);
+    } else {
+        put_back_without_slot(slots, marks, message);
     }
 }
 

@@ -15,9 +15,12 @@ small : (k n : ℕ) → n ≡ 2 ^ k → k ≤ 30 → n ≤ 2 ^ 30
 small k n e le = omega (arith, e, pow_mono {i = k} {j = 30} le)
 
 pub overflow_mul-power : goal.overflow_mul-power
-overflow_mul-power c = omega (arith, c.loop-power.test.true, c.requires)
+overflow_mul-power c = omega (arith, c.loop-power-test.true, c.requires)
 
 pub loop-power-preserved : goal.loop-power-preserved
 loop-power-preserved c =
     let k = c.loop-power.invariant.0 in
-    (suc k, omega (arith, c.loop-power.invariant.1, pow-suc 2 k), omega (arith, smaller k c.loop-power.power c.loop-power.invariant.1 (omega (arith, c.loop-power.test.true, c.requires))))
+    (suc k, omega (arith, c.loop-power.invariant.1, pow-suc 2 k), omega (arith, smaller k c.loop-power.power c.loop-power.invariant.1 (omega (arith, c.loop-power-test.true, c.requires))))
+
+pub returns-clause-small : goal.returns-clause-small
+returns-clause-small c = small c.loop-power.invariant.0 c.loop-power.power c.loop-power.invariant.1 c.loop-power.invariant.2
