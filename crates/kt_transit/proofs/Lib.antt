@@ -1,3 +1,5 @@
 pub mod TransitFacts
 pub mod InTransitFacts
 pub mod LastFacts
+pub mod TreeFacts
+pub mod PickFacts

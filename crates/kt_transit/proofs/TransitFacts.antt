@@ -8,6 +8,7 @@ use Rattle.std.proofs.lemmas.Bool.Decides.{nat_tests}
 use Rattle.std.proofs.lemmas.Option.{slice_get_within, slice_get-get_or, get_or_from_slice_get}
 use Rattle.kt_transit.specs.declared.in_transit.Sent.{Sent}
 use Rattle.kt_transit.specs.TransitList.{IsBySend, Belongs, AreSentBefore}
+use Rattle.kt_transit.specs.Marks.{IsRising}
 
 pub get_left : {X : Type 0} (xs ys : List X) (i : ℕ) → i < length xs → slice_get (xs ++ ys) i ≡ slice_get xs i
 get_left [] ys i l = absurd (omega arith)
@@ -30,13 +31,26 @@ in_order_right xs ys o = record {
   each = λ j k a b l e f. o.each (length xs + j) (length xs + k) a b (omega (arith, l)) (get_right xs ys j (length xs + j) refl ∙ e) (get_right xs ys k (length xs + k) refl ∙ f);
 }
 
+pub rising_left : (xs ys : List Sent) → IsRising (xs ++ ys) → IsRising xs
+rising_left xs ys o = record {
+  each = λ j k a b l e f. o.each j k a b l (get_left xs ys j (slice_get_within xs j a e) ∙ e) (get_left xs ys k (slice_get_within xs k b f) ∙ f);
+}
+
+pub rising_right : (xs ys : List Sent) → IsRising (xs ++ ys) → IsRising ys
+rising_right xs ys o = record {
+  each = λ j k a b l e f. o.each (length xs + j) (length xs + k) a b (omega (arith, l)) (get_right xs ys j (length xs + j) refl ∙ e) (get_right xs ys k (length xs + k) refl ∙ f);
+}
+
+pub rising_by_send : (xs : List Sent) → IsBySend xs → IsRising xs
+rising_by_send xs o = record { each = λ j k a b l e f. (o.each j k a b l e f).msg }
+
 -- messages in order are parted by a number
-pub parted_by : (xs : List Sent) (msg : ℕ) → IsBySend xs → IsPartitionedBy (λ (a : Sent). nat_lt a.msg msg) xs
+pub parted_by : (xs : List Sent) (msg : ℕ) → IsRising xs → IsPartitionedBy (λ (a : Sent). nat_lt a.msg msg) xs
 parted_by xs msg o i j d le lt below = elim (cases_eq i j) [
   | inl same ↦ rw same below
   | inr other ↦
       let low : (get_or xs i d).msg < (get_or xs j d).msg =
-      (o.each i j (get_or xs i d) (get_or xs j d) (omega (arith, other, le)) (slice_get-get_or xs i d (omega (arith, le, lt))) (slice_get-get_or xs j d lt)).msg in
+      (o.each i j (get_or xs i d) (get_or xs j d) (omega (arith, other, le)) (slice_get-get_or xs i d (omega (arith, le, lt))) (slice_get-get_or xs j d lt)) in
       still_below (get_or xs i d).msg (get_or xs j d).msg msg low below
 ]
   where
@@ -61,7 +75,7 @@ belongs_at xs msg i within p = record {
     above_of a b e = grind (arith, nat_tests)
 
 -- a number that is not below the first of the messages after the cursor belongs before it
-pub belongs_before : (xs ys : List Sent) (msg i : ℕ) → IsBySend (xs ++ ys) → ((a : Sent) → slice_get ys 0 ≡ Some a → msg ≤ a.msg) → Belongs msg xs i → Belongs msg (xs ++ ys) i
+pub belongs_before : (xs ys : List Sent) (msg i : ℕ) → IsRising (xs ++ ys) → ((a : Sent) → slice_get ys 0 ≡ Some a → msg ≤ a.msg) → Belongs msg xs i → Belongs msg (xs ++ ys) i
 belongs_before xs ys msg i o first b = record {
   within = omega (arith, b.within, length-append xs ys);
   below = λ k a low e. b.below k a low (sym (get_left xs ys k (omega (arith, low, b.within))) ∙ e);
@@ -75,15 +89,15 @@ belongs_before xs ys msg i o first b = record {
     after zero a e = first a e
     after (suc j) a e =
         let there : slice_get ys 0 ≡ Some (get_or ys 0 a) = slice_get-get_or ys 0 a (omega (arith, slice_get_within ys (suc j) a e)) in
-        omega (arith, first (get_or ys 0 a) there, ((in_order_right xs ys o).each 0 (suc j) (get_or ys 0 a) a (omega arith) there e).msg)
+        omega (arith, first (get_or ys 0 a) there, (rising_right xs ys o).each 0 (suc j) (get_or ys 0 a) a (omega arith) there e)
 
 -- a number above the first of the messages after the cursor belongs among them
-pub belongs_after : (xs ys : List Sent) (msg i : ℕ) (first : Sent) → IsBySend (xs ++ ys) → slice_get ys 0 ≡ Some first → first.msg < msg → Belongs msg ys i
+pub belongs_after : (xs ys : List Sent) (msg i : ℕ) (first : Sent) → IsRising (xs ++ ys) → slice_get ys 0 ≡ Some first → first.msg < msg → Belongs msg ys i
     → Belongs msg (xs ++ ys) (length xs + i)
 belongs_after xs ys msg i first o at low b = record {
   within = omega (arith, b.within, length-append xs ys);
   below = λ k a less e. elim (cases_lt k (length xs)) [
-    | inl left ↦ omega (arith, low, (o.each k (length xs + 0) a first (omega (arith, left)) e (get_right xs ys 0 (length xs + 0) refl ∙ at)).msg)
+    | inl left ↦ omega (arith, low, o.each k (length xs + 0) a first (omega (arith, left)) e (get_right xs ys 0 (length xs + 0) refl ∙ at))
     | inr right ↦ b.below (k - length xs) a (omega (arith, right, less)) (sym (get_right xs ys (k - length xs) k (omega (arith, right))) ∙ e)
   ];
   above = λ k a more e. b.above (k - length xs) a (omega (arith, more)) (sym (get_right xs ys (k - length xs) k (omega (arith, more))) ∙ e);

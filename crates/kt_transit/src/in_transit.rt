@@ -1,13 +1,14 @@
 //! Messages in transit.
 
-ghost use Rattle.std.specs.Prelude.{◌≡◌, ◌+◌, ◌<◌, ◌≤◌, ◌++◌, ◌∷◌, [], ℕ, true, false, nat_lt, length, remove, take, drop, slice_get, vec_len, vec_capacity, Some, IfSome, IfNone, OnOk, OnErr};
-ghost use Rattle.std.specs.VecDeque.{deque_len, deque_capacity};
+ghost use Rattle.std.specs.Prelude.{◌≡◌, ◌+◌, ◌<◌, ◌≤◌, ◌++◌, ◌∷◌, [], ℕ, true, false, length, remove, take, slice_get, slice_index_or, Some, IfSome, IfNone, OnOk, OnErr};
 ghost use Rattle.kt_transit.specs.declared.in_transit.Sent.{Sent};
+ghost use Rattle.kt_transit.specs.Marks.{pick, shown, IsMarked, IsRising};
 ghost use Rattle.kt_transit.specs.TransitList.{IsBySend, Belongs, IsPutBack, AreSentBefore};
 
+use crate::counts::Counts;
+use crate::gap_buffer::GapBuffer;
 use kt_base::{Memory, MsgNo};
 use std::alloc::Global;
-use std::collections::VecDeque;
 use std::marker::Model;
 
 /// A message in transit, and the place of its send in the sender's live history, which counts from 0.
@@ -17,26 +18,29 @@ pub struct Sent {
     pub place: u32,
 }
 
-/// Messages in transit from one process to another, in the order of their sends. There is a cursor among them: what
-/// happens just there takes no time that grows with their number.
+// The most messages that are marked.
+const MOST_MARKED: usize = 100_000_000;
+
+/// Messages in transit from one process to another, in the order of their sends. While they are taken from the front,
+/// a call takes no time that grows with their number. Once one is taken out of its turn, a call takes a logarithm of
+/// it: what is taken leaves its slot then, and is put back there.
 #[derive(Drop)]
 pub struct InTransit {
-    // Those before the cursor.
-    passed: Vec<Sent>,
-    // Those after it, with room for all.
-    next: VecDeque<Sent>,
+    slots: GapBuffer,
+    // A mark for each slot that has a message in transit. No marks: all have.
+    marks: Counts,
 }
 
 impl Model for InTransit {
-    ghost use Rattle.std.specs.Prelude.{◌+◌, ◌≤◌, ◌++◌, vec_len};
-    ghost use Rattle.std.specs.VecDeque.{deque_len, deque_capacity};
+    ghost use Rattle.std.specs.Prelude.{◌<◌, length};
     ghost use Rattle.kt_transit.specs.TransitList.{TransitList};
+    ghost use Rattle.kt_transit.specs.Marks.{shown, IsMarked};
 
     ghost Value = { TransitList };
 
-    ghost view = { λ w. record { messages = w.passed.items ++ w.next.items; room = deque_capacity w.next } };
+    ghost view = { λ w. record { messages = shown w.marks.marks w.slots.messages; room = w.slots.room } };
 
-    ghost invariant = { λ w. vec_len w.passed + deque_len w.next ≤ deque_capacity w.next };
+    ghost invariant = { λ w. 0 < length w.marks.marks → IsMarked w.marks.marks w.slots.messages };
 }
 
 impl InTransit {
@@ -45,8 +49,8 @@ impl InTransit {
         ensures { result.messages ≡ [] }
     {
         InTransit {
-            passed: Vec::new(alloc),
-            next: VecDeque::new(alloc),
+            slots: GapBuffer::new(alloc),
+            marks: Counts::new(alloc),
         }
     }
 
@@ -55,17 +59,22 @@ impl InTransit {
         ensures length { result ≡ length self.now.messages }
         ensures room { result ≤ self.now.room }
     {
-        self.passed.len() + self.next.len()
+        let slots = self.slots.len();
+        if self.marks.is_empty() {
+            slots
+        } else {
+            self.marks.total()
+        }
     }
 
     /// The message at this place in their order.
     pub fn get(&self, index: usize) -> Option<Sent>
         ensures { result ≡ slice_get self.now.messages index }
     {
-        if index < self.passed.len() {
-            self.passed.get(index).copied()
+        if self.marks.is_empty() {
+            self.slots.get(index)
         } else {
-            self.next.get(index - self.passed.len()).copied()
+            get_marked(&self.slots, &self.marks, index)
         }
     }
 
@@ -76,11 +85,10 @@ impl InTransit {
         ensures ok { OnOk result (length self.new.messages + additional ≤ self.new.room) }
         ensures full { OnErr result (self.old.room < length self.old.messages + additional) }
     {
-        let wanted = self.passed.len().saturating_add(additional);
-        if self.next.capacity() - self.next.len() < wanted {
-            self.next.reserve(wanted.saturating_mul(2))?;
+        if !self.marks.is_empty() {
+            reserve_marked(&mut self.slots, &mut self.marks, additional);
         }
-        Ok(())
+        self.slots.reserve(additional)
     }
 
     /// Gives back the room that is not needed for the messages and so many more.
@@ -89,9 +97,10 @@ impl InTransit {
         ensures room { length self.old.messages + additional ≤ self.old.room
             → length self.new.messages + additional ≤ self.new.room }
     {
-        self.passed.shrink_to_fit();
-        let wanted = self.len().saturating_add(additional);
-        self.next.shrink_to(wanted);
+        if !self.marks.is_empty() {
+            drop_taken(&mut self.slots, &mut self.marks);
+        }
+        self.slots.shrink(additional);
     }
 
     /// Adds a message at the end, where there is room.
@@ -99,10 +108,13 @@ impl InTransit {
         requires { length self.old.messages < self.old.room }
         ensures { self.new ≡ record self.old { messages = self.old.messages ++ message ∷ [] } }
     {
-        self.next.push_back_reserved(message);
+        if !self.marks.is_empty() {
+            mark_next(&mut self.slots, &mut self.marks, message.msg);
+        }
+        self.slots.push(message);
     }
 
-    /// The place of a message in their order. It is looked for at the cursor first.
+    /// The place of a message in their order.
     pub fn find(&self, msg: MsgNo) -> Option<usize>
         ensures within { IfSome result (λ index. index < length self.now.messages) }
         ensures found { IfSome result (λ index. (a : Sent) × (slice_get self.now.messages index ≡ Some a)
@@ -119,15 +131,20 @@ impl InTransit {
         }
     }
 
-    /// Takes the message at this place, and sets the cursor there; unchanged where there is no memory.
+    /// Takes the message at this place; unchanged where there is no memory.
     pub fn take(&mut self, index: usize) -> Result<(), Memory>
         requires { index < length self.old.messages }
         ensures ok { OnOk result (self.new ≡ record self.old { messages = remove self.old.messages index }) }
         ensures err { OnErr result (self.new ≡ self.old) }
     {
-        seek(&mut self.passed, &mut self.next, index)?;
-        pop_first(&mut self.next);
-        Ok(())
+        begin_marks(&self.slots, &mut self.marks, index)?;
+        if self.marks.is_empty() {
+            self.slots.take(index)
+        } else {
+            let slot = self.marks.place_of(index);
+            self.marks.put(slot, false);
+            Ok(())
+        }
     }
 
     /// Puts a message back where it belongs, in room made beforehand.
@@ -136,13 +153,11 @@ impl InTransit {
         ensures messages { IsPutBack message self.old.messages self.new.messages }
         ensures room { self.old.room ≤ self.new.room }
     {
-        let index = self.place_of(message.msg);
-        let cursor = self.passed.len();
-        if index <= cursor {
-            move_back(&mut self.passed, &mut self.next, cursor - index);
-            self.next.push_front_reserved(message);
+        if !self.marks.is_empty() {
+            put_back_marked(&mut self.slots, &mut self.marks, message);
         } else {
-            self.next.insert(index - cursor, message).unwrap();
+            let index = self.slots.place_of(message.msg);
+            self.slots.insert(index, message);
         }
     }
 
@@ -150,19 +165,23 @@ impl InTransit {
     pub fn truncate(&mut self, count: usize)
         ensures { self.new ≡ record self.old { messages = take count self.old.messages } }
     {
-        self.next.truncate(count.saturating_sub(self.passed.len()));
-        self.passed.truncate(count);
+        if self.marks.is_empty() {
+            self.slots.truncate(count);
+        } else if count < self.marks.total() {
+            let slot = self.marks.place_of(count);
+            cut_marks(&mut self.marks, slot, self.slots.len());
+            self.slots.truncate(slot);
+        }
     }
 
     /// How many messages were sent before this place in their sender's history, which counts from 0.
     pub fn count_before(&self, place: usize) -> usize
         ensures { IsBySend self.now.messages → AreSentBefore place self.now.messages result }
     {
-        let passed = count_sent_before(&self.passed, place);
-        if passed < self.passed.len() {
-            passed
+        if self.marks.is_empty() {
+            self.slots.count_before(place)
         } else {
-            passed + count_next_sent_before(&self.next, place)
+            count_marked_before(&self.slots, &self.marks, place)
         }
     }
 
@@ -171,148 +190,252 @@ impl InTransit {
         ensures within { result ≤ length self.now.messages }
         ensures belongs { IsBySend self.now.messages → Belongs msg self.now.messages result }
     {
-        if begins_below(&self.next, msg) {
-            self.passed.len() + count_next_below(&self.next, msg)
+        let slot = self.slots.place_of(msg);
+        if self.marks.is_empty() {
+            slot
         } else {
-            count_below(&self.passed, msg)
+            self.marks.count_before(slot)
         }
     }
 }
 
-// Whether the first message has a lower number.
-fn begins_below(messages: &VecDeque<Sent>, msg: MsgNo) -> bool
-    ensures below { result ≡ true → (a : Sent) × (slice_get messages.now.items 0 ≡ Some a) × (a.msg < msg) }
-    ensures not_below { result ≡ false → (a : Sent) → slice_get messages.now.items 0 ≡ Some a → msg ≤ a.msg }
+// The marked message before which so many are marked.
+fn get_marked(slots: &GapBuffer, marks: &Counts, index: usize) -> Option<Sent>
+    requires some { 0 < length marks.now.marks }
+    requires marked { IsMarked marks.now.marks slots.now.messages }
+    ensures { result ≡ slice_get (pick marks.now.marks slots.now.messages) index }
 {
-    match messages.front() {
-        Some(first) => first.msg.get() < msg.get(),
-        None => false,
+    if index < marks.total() {
+        slots.get(marks.place_of(index))
+    } else {
+        None
     }
 }
 
-// Whether the last message has a lower number, or there is none.
-fn ends_below(messages: &[Sent], msg: MsgNo) -> bool
-    ensures { result ≡ true → IsBySend messages.now → (k : ℕ) (a : Sent) → slice_get messages.now k ≡ Some a
-        → a.msg < msg }
+// Where there are no marks, and a message with this index is not taken in its turn, marks all slots, if the numbers of
+// their messages rise and there are not too many.
+fn begin_marks(slots: &GapBuffer, marks: &mut Counts, index: usize) -> Result<(), Memory>
+    requires { 0 < length marks.old.marks → IsMarked marks.old.marks slots.now.messages }
+    ensures marked { 0 < length marks.new.marks → IsMarked marks.new.marks slots.now.messages }
+    ensures shown { shown marks.new.marks slots.now.messages ≡ shown marks.old.marks slots.now.messages }
 {
-    match messages.last() {
+    if index > 0 && marks.is_empty() {
+        mark_slots(slots, marks)?;
+    }
+    Ok(())
+}
+
+// Marks all slots, if the numbers of their messages rise and there are not too many.
+fn mark_slots(slots: &GapBuffer, marks: &mut Counts) -> Result<(), Memory>
+    requires { marks.old.marks ≡ [] }
+    ensures marked { 0 < length marks.new.marks → IsMarked marks.new.marks slots.now.messages }
+    ensures shown { shown marks.new.marks slots.now.messages ≡ slots.now.messages }
+{
+    let count = slots.len();
+    if count < MOST_MARKED && slots.is_rising() {
+        let spare = count / 8 + 8;
+        marks.begin(spare, count + spare)?;
+        mark_all(marks, count);
+    }
+    Ok(())
+}
+
+// Sets the first so many marks, of which none is set.
+fn mark_all(marks: &mut Counts, count: usize)
+    requires within { count ≤ length marks.old.marks }
+    requires unset { (k : ℕ) → slice_index_or marks.old.marks k false ≡ false }
+    ensures len { length marks.new.marks ≡ length marks.old.marks }
+    ensures set { (k : ℕ) → k < count → slice_index_or marks.new.marks k false ≡ true }
+    ensures past { (k : ℕ) → count ≤ k → slice_index_or marks.new.marks k false ≡ false }
+{
+    for slot in 0..count {
+        marks.put(slot, true);
+    }
+}
+
+// Takes back the marks from one slot to another.
+fn cut_marks(marks: &mut Counts, from: usize, until: usize)
+    requires order { from ≤ until }
+    requires within { until < length marks.old.marks }
+    ensures len { length marks.new.marks ≡ length marks.old.marks }
+    ensures kept { (k : ℕ) → k < from → slice_index_or marks.new.marks k false ≡ slice_index_or marks.old.marks k false }
+    ensures cut { (k : ℕ) → from ≤ k → k < until → slice_index_or marks.new.marks k false ≡ false }
+    ensures past { (k : ℕ) → until ≤ k → slice_index_or marks.new.marks k false ≡ slice_index_or marks.old.marks k false }
+{
+    for slot in from..until {
+        marks.put(slot, false);
+    }
+}
+
+// Drops the slots of what was taken.
+fn drop_taken(slots: &mut GapBuffer, marks: &mut Counts)
+    requires some { 0 < length marks.old.marks }
+    requires marked { IsMarked marks.old.marks slots.old.messages }
+    ensures slots { slots.new ≡ record slots.old { messages = pick marks.old.marks slots.old.messages } }
+    ensures marks { marks.new.marks ≡ [] }
+{
+    slots.keep(marks);
+    marks.end();
+}
+
+// Makes room for so many more slots with marks; drops those of what was taken where that is not to be had, or where
+// more was taken than is held.
+fn reserve_marked(slots: &mut GapBuffer, marks: &mut Counts, additional: usize)
+    requires some { 0 < length marks.old.marks }
+    requires marked { IsMarked marks.old.marks slots.old.messages }
+    ensures marked { 0 < length marks.new.marks → IsMarked marks.new.marks slots.new.messages }
+    ensures shown { shown marks.new.marks slots.new.messages ≡ pick marks.old.marks slots.old.messages }
+    ensures room { slots.old.room ≤ slots.new.room }
+    ensures enough { 0 < length marks.new.marks → length slots.new.messages + additional ≤ slots.new.room }
+{
+    if is_crowded(slots, marks, additional) || slots.reserve(additional).is_err() {
+        drop_taken(slots, marks);
+    }
+}
+
+// Whether more was taken than is held, or there are too few marks for so many more slots.
+fn is_crowded(slots: &GapBuffer, marks: &Counts, additional: usize) -> bool
+    requires some { 0 < length marks.now.marks }
+    requires marked { IsMarked marks.now.marks slots.now.messages }
+{
+    let held = marks.total();
+    slots.len() - held > held.saturating_add(additional) || marks.len() - slots.len() <= additional
+}
+
+// Marks the next slot, or drops those of what was taken where the next one cannot be marked.
+fn mark_next(slots: &mut GapBuffer, marks: &mut Counts, msg: MsgNo)
+    requires some { 0 < length marks.old.marks }
+    requires marked { IsMarked marks.old.marks slots.old.messages }
+    requires room { length (pick marks.old.marks slots.old.messages) < slots.old.room }
+    ensures room { slots.new.room ≡ slots.old.room }
+    ensures next { length slots.new.messages < slots.new.room }
+    ensures marked { (a : Sent) → a.msg ≡ msg → 0 < length marks.new.marks → IsMarked marks.new.marks (slots.new.messages ++ a ∷ []) }
+    ensures shown { (a : Sent) → a.msg ≡ msg → shown marks.new.marks (slots.new.messages ++ a ∷ []) ≡ pick marks.old.marks slots.old.messages ++ a ∷ [] }
+{
+    let marked = marks.len();
+    let next = slots.len();
+    if next + 1 < marked && slots.has_room() && is_above(slots, msg) {
+        marks.put(next, true);
+    } else {
+        drop_taken(slots, marks);
+    }
+}
+
+// Whether this number is above that of the last message.
+fn is_above(slots: &GapBuffer, msg: MsgNo) -> bool
+    ensures { result ≡ true → IsRising slots.now.messages → (k : ℕ) (a : Sent)
+        → slice_get slots.now.messages k ≡ Some a → a.msg < msg }
+{
+    let count = slots.len();
+    if count == 0 {
+        return true;
+    }
+    match slots.get(count - 1) {
         Some(last) => last.msg.get() < msg.get(),
         None => true,
     }
 }
 
-// How many messages have lower numbers.
-fn count_next_below(messages: &VecDeque<Sent>, msg: MsgNo) -> usize
-    ensures within { result ≤ length messages.now.items }
-    ensures belongs { IsBySend messages.now.items → Belongs msg messages.now.items result }
+// Whether a message of this number can be put and marked before all others.
+fn has_first(slots: &GapBuffer, marks: &Counts, msg: MsgNo) -> bool
+    ensures before { result ≡ true → 0 < marks.now.before }
+    ensures room { result ≡ true → length slots.now.messages < slots.now.room }
+    ensures below { result ≡ true → IsRising slots.now.messages → (k : ℕ) (a : Sent)
+        → slice_get slots.now.messages k ≡ Some a → msg < a.msg }
 {
-    messages.partition_point(
-        |message: &Sent| -> bool
-            ensures { result ≡ nat_lt message.now.msg msg }
-        { message.msg.get() < msg.get() },
-    )
+    marks.has_before() && slots.has_room() && is_below(slots, msg)
 }
 
-// The same. It looks at the last one first.
-fn count_below(messages: &[Sent], msg: MsgNo) -> usize
-    ensures within { result ≤ length messages.now }
-    ensures belongs { IsBySend messages.now → Belongs msg messages.now result }
+// Whether this number is below that of the first message.
+fn is_below(slots: &GapBuffer, msg: MsgNo) -> bool
+    ensures { result ≡ true → IsRising slots.now.messages → (k : ℕ) (a : Sent)
+        → slice_get slots.now.messages k ≡ Some a → msg < a.msg }
 {
-    if ends_below(messages, msg) {
-        return messages.len();
+    match slots.get(0) {
+        Some(first) => msg.get() < first.msg.get(),
+        None => true,
     }
-    messages.partition_point(
-        |message: &Sent| -> bool
-            ensures { result ≡ nat_lt message.now.msg msg }
-        { message.msg.get() < msg.get() },
-    )
 }
 
-// How many messages were sent before this place.
-fn count_sent_before(messages: &[Sent], place: usize) -> usize
-    ensures within { result ≤ length messages.now }
-    ensures before { IsBySend messages.now → AreSentBefore place messages.now result }
+// The slot that this message was taken from, if it is still there.
+fn taken_slot(slots: &GapBuffer, marks: &Counts, message: &Sent) -> Option<usize>
+    requires { IsMarked marks.now.marks slots.now.messages }
+    ensures there { IfSome result (λ slot. slice_get slots.now.messages slot ≡ Some message.now) }
+    ensures unset { IfSome result (λ slot. slice_index_or marks.now.marks slot false ≡ false) }
+    ensures belongs { IfSome result (λ slot. Belongs message.now.msg slots.now.messages slot) }
 {
-    messages.partition_point(
-        |message: &Sent| -> bool
-            ensures { result ≡ nat_lt message.now.place place }
-        { (message.place as usize) < place },
-    )
-}
-
-// The same.
-fn count_next_sent_before(messages: &VecDeque<Sent>, place: usize) -> usize
-    ensures within { result ≤ length messages.now.items }
-    ensures before { IsBySend messages.now.items → AreSentBefore place messages.now.items result }
-{
-    messages.partition_point(
-        |message: &Sent| -> bool
-            ensures { result ≡ nat_lt message.now.place place }
-        { (message.place as usize) < place },
-    )
-}
-
-// Sets the cursor to this place; where there is no memory, it stays.
-fn seek(passed: &mut Vec<Sent>, next: &mut VecDeque<Sent>, index: usize) -> Result<(), Memory>
-    requires within { index ≤ vec_len passed.old + deque_len next.old }
-    requires room { vec_len passed.old + deque_len next.old ≤ deque_capacity next.old }
-    ensures messages { passed.new.items ++ next.new.items ≡ passed.old.items ++ next.old.items }
-    ensures cursor { OnOk result (vec_len passed.new ≡ index) }
-    ensures count { vec_len passed.new + deque_len next.new ≡ vec_len passed.old + deque_len next.old }
-    ensures capacity { deque_capacity next.new ≡ deque_capacity next.old }
-{
-    let cursor = passed.len();
-    if index < cursor {
-        move_back(passed, next, cursor - index);
+    let slot = slots.place_of(message.msg);
+    let there = slots.get(slot)?;
+    if there.msg.get() == message.msg.get() && there.place == message.place && !marks.get(slot) {
+        Some(slot)
     } else {
-        passed.reserve(index - cursor)?;
-        move_on(passed, next, index - cursor);
+        None
     }
-    Ok(())
 }
 
-// Takes the first message. A lone one is taken as the last, so that the next one comes to its place in memory.
-fn pop_first(next: &mut VecDeque<Sent>)
-    requires { 0 < deque_len next.old }
-    ensures rest { next.new.items ≡ drop 1 next.old.items }
-    ensures len { deque_len next.new + 1 ≡ deque_len next.old }
-    ensures capacity { deque_capacity next.new ≡ deque_capacity next.old }
+// Puts a message back, where there are marks.
+fn put_back_marked(slots: &mut GapBuffer, marks: &mut Counts, message: Sent)
+    requires some { 0 < length marks.old.marks }
+    requires marked { IsMarked marks.old.marks slots.old.messages }
+    requires room { length (pick marks.old.marks slots.old.messages) < slots.old.room }
+    ensures marked { 0 < length marks.new.marks → IsMarked marks.new.marks slots.new.messages }
+    ensures messages { IsPutBack message (pick marks.old.marks slots.old.messages) (shown marks.new.marks slots.new.messages) }
+    ensures room { slots.old.room ≤ slots.new.room }
 {
-    if next.len() == 1 {
-        next.pop_back();
+    if let Some(slot) = taken_slot(slots, marks, &message) {
+        marks.put(slot, true);
     } else {
-        next.pop_front();
+        put_back_without_slot(slots, marks, message);
     }
 }
 
-// Moves the cursor on past so many messages.
-fn move_on(passed: &mut Vec<Sent>, next: &mut VecDeque<Sent>, count: usize)
-    requires within { count ≤ deque_len next.old }
-    requires room { vec_len passed.old + count ≤ vec_capacity passed.old }
-    ensures messages { passed.new.items ++ next.new.items ≡ passed.old.items ++ next.old.items }
-    ensures cursor { vec_len passed.new ≡ vec_len passed.old + count }
-    ensures rest { deque_len next.new + count ≡ deque_len next.old }
-    ensures capacity { deque_capacity next.new ≡ deque_capacity next.old }
+// Puts a message back that has no slot. Where it is not the first, the slots of what was taken are dropped, which takes
+// time; no message that was received since the marks were begun comes here.
+fn put_back_without_slot(slots: &mut GapBuffer, marks: &mut Counts, message: Sent)
+    requires some { 0 < length marks.old.marks }
+    requires marked { IsMarked marks.old.marks slots.old.messages }
+    requires room { length (pick marks.old.marks slots.old.messages) < slots.old.room }
+    ensures marked { 0 < length marks.new.marks → IsMarked marks.new.marks slots.new.messages }
+    ensures messages { IsPutBack message (pick marks.old.marks slots.old.messages) (shown marks.new.marks slots.new.messages) }
+    ensures room { slots.old.room ≤ slots.new.room }
 {
-    for _ in 0..count {
-        if let Some(message) = next.pop_front() {
-            passed.push_reserved(message);
+    if has_first(slots, marks, message.msg) {
+        marks.push_front();
+        slots.insert(0, message);
+    } else {
+        drop_taken(slots, marks);
+        let index = slots.place_of(message.msg);
+        slots.insert(index, message);
+    }
+}
+
+// How many marked messages were sent before this place.
+fn count_marked_before(slots: &GapBuffer, marks: &Counts, place: usize) -> usize
+    requires some { 0 < length marks.now.marks }
+    requires marked { IsMarked marks.now.marks slots.now.messages }
+    ensures { IsBySend (pick marks.now.marks slots.now.messages)
+        → AreSentBefore place (pick marks.now.marks slots.now.messages) result }
+{
+    let mut low = 0;
+    let mut high = marks.total();
+    while low < high {
+        let middle = low + (high - low) / 2;
+        if is_sent_before(get_marked(slots, marks, middle), place) {
+            low = middle + 1;
+        } else {
+            high = middle;
         }
     }
+    low
 }
 
-// Moves the cursor back over so many messages.
-fn move_back(passed: &mut Vec<Sent>, next: &mut VecDeque<Sent>, count: usize)
-    requires within { count ≤ vec_len passed.old }
-    requires room { deque_len next.old + count ≤ deque_capacity next.old }
-    ensures messages { passed.new.items ++ next.new.items ≡ passed.old.items ++ next.old.items }
-    ensures cursor { vec_len passed.new + count ≡ vec_len passed.old }
-    ensures rest { deque_len next.new ≡ deque_len next.old + count }
-    ensures capacity { deque_capacity next.new ≡ deque_capacity next.old }
+// Whether this message was sent before this place.
+fn is_sent_before(message: Option<Sent>, place: usize) -> bool
+    ensures before { result ≡ true → (a : Sent) → message ≡ Some a → a.place < place }
+    ensures not_before { result ≡ false → (a : Sent) → message ≡ Some a → place ≤ a.place }
 {
-    for _ in 0..count {
-        if let Some(message) = passed.pop() {
-            next.push_front_reserved(message);
-        }
+    match message {
+        Some(message) => (message.place as usize) < place,
+        None => true,
     }
 }

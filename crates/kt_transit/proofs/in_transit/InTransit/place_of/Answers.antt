@@ -1,24 +1,20 @@
-use Rattle.std.proofs.Common.{rules, of_calls, ◌≡◌, ◌+◌, ◌++◌, List, length, refl, sym, subst}
-use Rattle.kt_transit.specs.declared.in_transit.Sent.{Sent}
-use Rattle.kt_transit.specs.TransitList.{IsBySend, Belongs}
-use Rattle.kt_transit.proofs.TransitFacts.{in_order_left, in_order_right, belongs_before, belongs_after}
+use Rattle.std.proofs.Common.{◌≡◌, length, take, arith, refl, sym, ap, ◌∙◌, subst}
+use Rattle.kt_transit.specs.TransitList.{Belongs}
+use Rattle.kt_transit.specs.Marks.{ones, pick}
+use Rattle.kt_transit.proofs.PickFacts.{ones_within, shown_count, shown_picked, belongs_picked}
 use Rattle.kt_transit.proofs.in_transit.InTransit.place_of.Goals as goal
 
-pub returns-then-begins_below-clause-belongs : goal.returns-then-begins_below-clause-belongs
-returns-then-begins_below-clause-belongs c =
-    let passed = c.self.inside.passed.items in
-    let next = c.self.inside.next.items in
-    let first = c.if-begins_below.ensures.below refl in
-    let place : length c.self.inside.passed.items + c.count_next_below.result ≡ c.len.result + c.count_next_below.result = search (rules, of_calls) in
-    rw (← c.self.view_is)
-    (λ in_order. subst (λ i. Belongs c.args.msg (passed ++ next) i) place
-    (belongs_after passed next c.args.msg c.count_next_below.result first.0 in_order first.1 first.2 (c.count_next_below.ensures.belongs (in_order_right passed next in_order))))
+pub returns-else-is_empty-clause-within : goal.returns-else-is_empty-clause-within
+returns-else-is_empty-clause-within c =
+    let some = c.if-is_empty.ensures.some refl in
+    let marked = c.self.invariant some in
+    rw (← c.self.view_is) (omega (arith, c.count_before.ensures, ones_within c.place_of-slot.result c.self.inside.marks.marks, shown_count c.self.inside.marks.marks c.self.inside.slots.messages some marked))
 
-pub returns-else-begins_below-clause-belongs : goal.returns-else-begins_below-clause-belongs
-returns-else-begins_below-clause-belongs c =
-    let passed = c.self.inside.passed.items in
-    let next = c.self.inside.next.items in
-    let same : c.deref.result.now ≡ c.self.inside.passed.items = search (rules, of_calls) in
+pub returns-else-is_empty-clause-belongs : goal.returns-else-is_empty-clause-belongs
+returns-else-is_empty-clause-belongs c =
+    let some = c.if-is_empty.ensures.some refl in
+    let marked = c.self.invariant some in
+    let belongs = belongs_picked c.self.inside.marks.marks c.self.inside.slots.messages c.args.msg c.place_of-slot.result marked.past (c.place_of-slot.ensures.belongs marked.rising) in
     rw (← c.self.view_is)
-    (λ in_order. belongs_before passed next c.args.msg c.count_below.result in_order (c.if-begins_below.ensures.not_below refl)
-    (subst (λ (xs : List Sent). Belongs c.args.msg xs c.count_below.result) same (c.count_below.ensures.belongs (subst IsBySend (sym same) (in_order_left passed next in_order)))))
+    (λ _. subst (λ l. Belongs c.args.msg l c.count_before.result) (sym (shown_picked c.self.inside.marks.marks c.self.inside.slots.messages some))
+    (subst (λ n. Belongs c.args.msg (pick c.self.inside.marks.marks c.self.inside.slots.messages) n) (sym c.count_before.ensures) belongs))

@@ -1,0 +1,11 @@
+use Rattle.std.proofs.Common.{rules, of_calls, ◌≡◌, ◌-◌, ◌++◌, insert, ap, sym, ◌∙◌}
+use Rattle.std.proofs.lemmas.List.Edits.{insert-append_right}
+use Rattle.kt_transit.proofs.gap_buffer.GapBuffer.insert.Goals as goal
+
+pub returns-else-index-cursor-clause-messages : goal.returns-else-index-cursor-clause-messages
+returns-else-index-cursor-clause-messages c =
+    let items : c.insert.new.self.items ≡ insert c.self.inside.next.items (c.args.index - c.len-cursor.result) c.args.message = search (rules, of_calls) in
+    let inserted : c.self.inside.passed.items ++ c.insert.new.self.items ≡ insert (c.self.inside.passed.items ++ c.self.inside.next.items) c.args.index c.args.message
+    = ap (λ (l : _). c.self.inside.passed.items ++ l) items
+    ∙ sym (insert-append_right c.self.inside.passed.items c.self.inside.next.items c.len-cursor.result c.args.index c.args.message (search (rules, of_calls)) (search (rules, of_calls))) in
+    rw (← c.self.view_is) inserted
