@@ -1,10 +1,12 @@
 //! The program: runs scenarios of a checkpoint and rollback-recovery manager, and judges stored runs.
 #![tactic(auto)]
 
-use kt_program::run;
+use kt_program::{run, stand_in};
 use std::process::ExitCode;
 
 fn main(rt: HostRuntime) -> ExitCode {
+    // No file of the program gets the descriptor of a standard stream that is closed.
+    let _stand_ins = [stand_in(&rt), stand_in(&rt), stand_in(&rt)];
     let status = run(&rt, &rt, rt.alloc(), &mut rt.stdout(), &mut rt.stderr());
     ExitCode::from(status)
 }

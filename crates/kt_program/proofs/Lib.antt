@@ -1,5 +1,7 @@
+pub mod Apart
 pub mod Casting
 pub mod Commands
 pub mod Exactly
 pub mod NewObjects
 pub mod Reading
+pub mod Refused

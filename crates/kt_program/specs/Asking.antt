@@ -12,11 +12,17 @@ use Rattle.kt_program.specs.declared.fault.ProgramFault.{ProgramFault}
 use Rattle.kt_program.specs.declared.fault.ProgramFault.TheVariants as program
 use Rattle.kt_program.specs.declared.line.Asked.{Asked}
 use Rattle.kt_program.specs.declared.line.Asked.TheVariants.{Check, Live, Play}
+use Rattle.kt_program.specs.Names.{IsApart}
 use Rattle.kt_program.specs.Program.{IsErrorFor, Names, program as definition}
 
--- why nothing is asked for: an error that clap's definition gives for the words, or no memory
+-- words that name something to do, and an output by the name of an input or of another output
+abbrev pub NameTwice : List Text → Type 0
+NameTwice words = (asked : Asked) × Names (subcommand_of definition words) asked × ¬ IsApart asked
+
+-- why nothing is asked for: an error that clap's definition gives for the words, such a name, or no memory
 abbrev pub IsUnasked : List Text → AskFault → Type 0
 IsUnasked words (ask.Line e) = IsErrorFor words e
+IsUnasked words ask.SameName = NameTwice words
 IsUnasked words ask.Memory = Unit {0}
 
 -- clap answers a request for help or for the version by such an error
@@ -46,19 +52,21 @@ IsCheck (Play scenario steps log cert) = ⊥
 IsCheck (Live scenario log cert) = ⊥
 IsCheck (Check log cert) = Unit {0}
 
--- words that name something to do of such a sort
+-- words that name something to do of such a sort, and no output by the name of an input or of another output
 abbrev pub Ask : List Text → (Asked → Type 0) → Type 0
-Ask words P = (asked : Asked) × Names (subcommand_of definition words) asked × P asked
+Ask words P = (asked : Asked) × Names (subcommand_of definition words) asked × IsApart asked × P asked
 
 -- what is done for words: a scenario run or a run judged where they name that; help shown where they ask for it; they
--- are refused where they are a mistake, and a scenario or steps where they name them; other faults come with any words
+-- are refused where they are a mistake or name a file twice, and a scenario or steps where they name them; files that
+-- are one under two names are those of a run; other faults come with any words
 abbrev pub DoneFor : List Text → Done → Type 0
 DoneFor words (Judged passed) = Ask words IsCheck
 DoneFor words Played = Ask words IsRun
 DoneFor words Shown = AreAnswered words IsRequest
 
 abbrev pub RefusedFor : List Text → ProgramFault → Type 0
-RefusedFor words program.Line = AreAnswered words IsMistake
+RefusedFor words program.Line = AreAnswered words IsMistake ⊎ NameTwice words
+RefusedFor words program.SameFile = Ask words IsRun
 RefusedFor words (program.Scenario fault) = Ask words IsRun
 RefusedFor words (program.Steps fault) = Ask words IsPlay
 RefusedFor words program.Read = Ask words IsRun
@@ -71,6 +79,7 @@ IsUnshown kind (program.App fault) = Unit {0}
 IsUnshown kind (program.Scenario fault) = ⊥
 IsUnshown kind (program.Steps fault) = ⊥
 IsUnshown kind program.Read = ⊥
+IsUnshown kind program.SameFile = ⊥
 
 abbrev pub EndsFor : List Text → Result Done ProgramFault → Type 0
 EndsFor words (Ok what) = DoneFor words what

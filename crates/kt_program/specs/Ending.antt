@@ -42,14 +42,20 @@ LeavesPlayed (Err fault) old new = (fault ≢ program.Line) × (fault ≢ progra
 -- a fault of a scenario or of steps, of their files, or of memory
 abbrev pub IsOfInput : ProgramFault → Type 0
 IsOfInput program.Line = ⊥
+IsOfInput program.SameFile = ⊥
 IsOfInput (program.Scenario fault) = Unit {0}
 IsOfInput (program.Steps fault) = Unit {0}
 IsOfInput program.Read = Unit {0}
 IsOfInput (program.App fault) = fault ≡ app.Memory
 
+-- a fault of the files that are written: they can't be made ready, or one of them has another name too
+abbrev pub IsOfOutputs : ProgramFault → Type 0
+IsOfOutputs fault = (fault ≡ program.SameFile) ⊎ (fault ≡ program.App app.Write)
+
 -- no fault of a text of steps
 abbrev pub IsNotOfSteps : ProgramFault → Type 0
 IsNotOfSteps program.Line = Unit {0}
+IsNotOfSteps program.SameFile = Unit {0}
 IsNotOfSteps (program.Scenario fault) = Unit {0}
 IsNotOfSteps (program.Steps fault) = ⊥
 IsNotOfSteps program.Read = Unit {0}

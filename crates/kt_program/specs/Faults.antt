@@ -56,6 +56,7 @@ steps_status _ = 2
 
 abbrev pub refusal_status : ProgramFault → ℕ
 refusal_status program.Line = 2
+refusal_status program.SameFile = 2
 refusal_status (program.Scenario fault) = scenario_status fault
 refusal_status (program.Steps fault) = steps_status fault
 refusal_status program.Read = 3

@@ -37,6 +37,7 @@ IsScenarioRefusal told (program.Scenario fault) = (fault ≢ scenario.Memory) ×
 IsScenarioRefusal told program.Read = Unit {0}
 IsScenarioRefusal told (program.App fault) = fault ≡ app.Memory
 IsScenarioRefusal told program.Line = ⊥
+IsScenarioRefusal told program.SameFile = ⊥
 IsScenarioRefusal told (program.Steps fault) = ⊥
 
 -- why there are no steps
@@ -45,6 +46,7 @@ IsStepsRefusal told names (program.Steps fault) = (fault ≢ steps.Memory) × If
 IsStepsRefusal told names program.Read = Unit {0}
 IsStepsRefusal told names (program.App fault) = fault ≡ app.Memory
 IsStepsRefusal told names program.Line = ⊥
+IsStepsRefusal told names program.SameFile = ⊥
 IsStepsRefusal told names (program.Scenario fault) = ⊥
 
 -- why a text was not read, as the program answers it

@@ -3,6 +3,7 @@ pub mod CastRows
 pub mod Ending
 pub mod Faults
 pub mod Inputs
+pub mod Names
 pub mod Played
 pub mod Program
 pub mod Status

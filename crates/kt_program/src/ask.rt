@@ -6,7 +6,8 @@ ghost use Rattle.kt_program.specs.Program.{program, check, live, play, optional,
 ghost use Rattle.clap.specs.declared.error.kind.ErrorKind.TheVariants.{MissingSubcommand};
 ghost use Rattle.kt_program.specs.declared.line.Asked.{Asked};
 ghost use Rattle.kt_program.specs.Asking.{IsUnasked};
-ghost use Rattle.kt_program.specs.declared.ask.AskFault.TheVariants.{Line, Memory as OutOfMemory};
+ghost use Rattle.kt_program.specs.Names.{IsApart};
+ghost use Rattle.kt_program.specs.declared.ask.AskFault.TheVariants.{Line, Memory as OutOfMemory, SameName};
 
 use crate::line::Asked;
 use crate::words::Words;
@@ -82,6 +83,8 @@ const STATUSES: &str = "Exit status:
 pub enum AskFault {
     /// As clap says; want of memory has the kind `OutOfMemory`, and a request for help is one that clap answers.
     Line(Error),
+    /// A file that is to be written has the name of one that is read, or of another one that is written.
+    SameName,
     /// There was no memory for the definition of the command line.
     Memory,
 }
@@ -275,16 +278,31 @@ fn nothing_asked(alloc: Global) -> Result<Error, AllocError>
     command.error(ErrorKind::MissingSubcommand, "a subcommand is missing")
 }
 
+// What is asked for, where its names lose nothing.
+fn apart<'a>(asked: Asked<'a>) -> Result<Asked<'a>, AskFault>
+    ensures same { IfOk result (λ given. given ≡ asked.entry) }
+    ensures apart { IfOk result IsApart }
+    ensures fault { IfErr result (λ fault. fault ≡ SameName) }
+    ensures refused { IfErr result (λ fault. ¬ IsApart asked.entry) }
+{
+    if asked.clash() {
+        return Err(AskFault::SameName);
+    }
+    Ok(asked)
+}
+
 /// What the words ask for.
 pub fn asked<'a>(alloc: Global, words: &'a Words) -> Result<Asked<'a>, AskFault>
     // What it names is what clap's definition of the command line gives for the words.
     ensures named { IfOk result (Names (subcommand_of program words.entry.now)) }
-    // It refuses words as that definition does, and those that name nothing.
+    // None of its outputs has the name of an input or of another output, but for devices.
+    ensures apart { IfOk result IsApart }
+    // It refuses words as that definition does, those that name nothing, and those that name such outputs.
     ensures refused { IfErr result (IsUnasked words.entry.now) }
 {
     let matches = program_command(alloc)?.try_get_matches_from(words.list())?;
     match asked_in(&matches) {
-        Some(asked) => Ok(asked),
+        Some(asked) => apart(asked),
         None => Err(AskFault::Line(nothing_asked(alloc)?)),
     }
 }

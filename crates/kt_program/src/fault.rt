@@ -73,6 +73,9 @@ pub enum ProgramFault {
     /// The words of the command line were refused.
     #[error("command line refused")]
     Line,
+    /// A file that is to be written is one that is read, or another one that is written, by another name.
+    #[error("command line refused")]
+    SameFile,
     /// The scenario's text was refused.
     #[error("scenario {0}")]
     Scenario(ScenarioFault),
@@ -95,7 +98,7 @@ impl ProgramFault {
         ensures { result ≡ refusal_status self }
     {
         match self {
-            ProgramFault::Line => 2,
+            ProgramFault::Line | ProgramFault::SameFile => 2,
             ProgramFault::Scenario(ScenarioFault::Memory) => 4,
             ProgramFault::Steps(StepsFault::Memory) => 4,
             ProgramFault::Scenario(_) | ProgramFault::Steps(_) => 2,

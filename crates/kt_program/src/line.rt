@@ -1,5 +1,9 @@
 //! What a command line may ask for.
 
+ghost use Rattle.std.specs.Prelude.{MatchBool};
+
+use crate::names::clash;
+
 /// What the words of a command line ask for, with the names of files.
 #[derive(Clone, Copy, Debug, PartialEq, Eq)]
 pub enum Asked<'a> {
@@ -21,4 +25,29 @@ pub enum Asked<'a> {
         log: &'a str,
         cert: &'a str,
     },
+}
+
+impl<'a> Asked<'a> {
+    ghost use Rattle.kt_program.specs.Names.{IsApart};
+
+    /// Whether a file that is to be written has the name of one that is read, or of another one that is written. A name
+    /// that begins with `/dev/` may be given again.
+    pub fn clash(&self) -> bool
+        ensures { MatchBool result (¬ IsApart self.now) (IsApart self.now) }
+    {
+        match self {
+            Asked::Play {
+                scenario,
+                steps,
+                log,
+                cert,
+            } => clash(&[Some(*scenario), *steps], &[*log, *cert]),
+            Asked::Live {
+                scenario,
+                log,
+                cert,
+            } => clash(&[Some(*scenario)], &[*log, *cert]),
+            Asked::Check { log, cert } => clash(&[Some(*log), Some(*cert)], &[]),
+        }
+    }
 }

@@ -1,11 +1,15 @@
 //! Where a log or certificates go.
 
-ghost use Rattle.std.specs.Prelude.{IsOkUnless};
+ghost use Rattle.std.specs.Prelude.{◌≡◌, IfErr, IsOkUnless};
 ghost use Rattle.kt_program.specs.declared.fault.AppFault.TheVariants as app;
 ghost use Rattle.kt_program.specs.declared.fault.ProgramFault.TheVariants as program;
+ghost use Rattle.kt_program.specs.Ending.{IsOfOutputs};
 
 use crate::fault::{AppFault, ProgramFault};
+use crate::names::is_device;
+use std::fs::{Metadata, OpenFile, OpenOptions};
 use std::io::{Sink, Write};
+use std::os::unix::fs::MetadataExt;
 use std::rt::Files;
 use std::{fs, io};
 
@@ -32,18 +36,119 @@ impl<W: Write> Write for Output<W> {
     }
 }
 
-/// Makes a file of this name, if one is given; one that is there is emptied.
-pub(crate) fn output_of<F: Files>(
+/// The files of these names for a log and for certificates, as far as names are given; inputs are the names of files that
+/// are read.
+///
+/// A regular file is emptied, once both are open and neither is one of the others by another name: at any fault before
+/// that each file has what it had. A file that was made stays, empty.
+pub(crate) fn outputs_of<F: Files>(
     files: &F,
-    name: Option<&str>,
-) -> Result<Output<F::File>, ProgramFault>
+    inputs: &[Option<&str>],
+    log: Option<&str>,
+    cert: Option<&str>,
+) -> Result<(Output<F::File>, Output<F::File>), ProgramFault>
+    ensures { IfErr result IsOfOutputs }
+{
+    let log_file = output_of(files, log)?;
+    let cert_file = output_of(files, cert)?;
+    if is_one_file(files, inputs, &[log, cert]) {
+        return Err(ProgramFault::SameFile);
+    }
+    empty(&log_file)?;
+    empty(&cert_file)?;
+    Ok((log_file, cert_file))
+}
+
+// Opens a file of this name, if one is given, or makes it. What it has stays.
+fn output_of<F: Files>(files: &F, name: Option<&str>) -> Result<Output<F::File>, ProgramFault>
     ensures { IsOkUnless result (program.App app.Write) }
 {
     let Some(name) = name else {
         return Ok(Output::Nowhere(io::sink()));
     };
-    match fs::create(files, name) {
+    match OpenOptions::new()
+        .write(true)
+        .create(true)
+        .open(files, name)
+    {
         Ok(file) => Ok(Output::File(file)),
         Err(_) => Err(ProgramFault::App(AppFault::Write)),
     }
+}
+
+// Empties a file that was opened.
+fn empty<W: OpenFile>(output: &Output<W>) -> Result<(), ProgramFault>
+    ensures { IsOkUnless result (program.App app.Write) }
+{
+    let emptied = match output {
+        Output::File(file) => empty_file(file),
+        Output::Nowhere(_) => Ok(()),
+    };
+    match emptied {
+        Ok(()) => Ok(()),
+        Err(_) => Err(ProgramFault::App(AppFault::Write)),
+    }
+}
+
+// Empties a regular file. Others, as pipes and terminals, have nothing that could be taken away.
+fn empty_file<W: OpenFile>(file: &W) -> io::Result<()> {
+    if file.metadata()?.is_file() {
+        file.set_len(0)?;
+    }
+    Ok(())
+}
+
+// A regular file, by its device and its number there.
+#[derive(Clone, Copy, PartialEq, Eq)]
+struct FileNumber {
+    device: u64,
+    number: u64,
+}
+
+// Which file a name leads to. None where that is a device, no regular file or none at all, or where it is not told.
+fn file_number<F: Files>(files: &F, name: Option<&str>) -> Option<FileNumber> {
+    let name = name?;
+    if is_device(name) {
+        return None;
+    }
+    let Ok(metadata) = fs::metadata(files, name) else {
+        return None;
+    };
+    number_of(&metadata)
+}
+
+fn number_of(metadata: &Metadata) -> Option<FileNumber> {
+    let number = metadata.ino();
+    if number == 0 || !metadata.is_file() {
+        return None;
+    }
+    Some(FileNumber {
+        device: metadata.dev(),
+        number,
+    })
+}
+
+// Whether both names lead to one file.
+fn is_same_file<F: Files>(files: &F, one: Option<&str>, other: Option<&str>) -> bool {
+    match (file_number(files, one), file_number(files, other)) {
+        (Some(one), Some(other)) => one == other,
+        _ => false,
+    }
+}
+
+// Whether a name leads to the file of one of these.
+fn is_among_files<F: Files>(files: &F, name: Option<&str>, names: &[Option<&str>]) -> bool {
+    names.iter().any(|other| is_same_file(files, name, *other))
+}
+
+// Whether an output is the file of an input or of another output.
+fn is_one_file<F: Files>(files: &F, inputs: &[Option<&str>], outputs: &[Option<&str>]) -> bool {
+    for (place, output) in outputs.iter().enumerate() {
+        if is_among_files(files, *output, inputs)
+            || is_among_files(files, *output, &outputs[..place])
+        {
+            return true;
+        }
+    }
+    false
 }

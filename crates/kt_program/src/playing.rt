@@ -8,7 +8,7 @@ ghost use Rattle.kt_program.specs.Ending.{IsNotOfSteps, IsOfInput, LeavesPlayed}
 use crate::casts::{live_objects, play_objects};
 use crate::fault::ProgramFault;
 use crate::inputs::{read_scenario, read_steps};
-use crate::outputs::output_of;
+use crate::outputs::outputs_of;
 use kt_plan::{Plan, Step};
 use std::alloc::Global;
 use std::fs;
@@ -20,7 +20,7 @@ use std::thread::Threads;
 /// Plays the scenario in a file, with the steps of another one first, if that is named, and writes its log and its
 /// certificates into files where these are named, and its report.
 ///
-/// Files are made once the scenario and the steps were taken.
+/// Files are made once the scenario and the steps were taken, and emptied once both are open.
 pub(crate) fn play_files<F: Files, O: Write>(
     files: &F,
     alloc: Global,
@@ -33,17 +33,16 @@ pub(crate) fn play_files<F: Files, O: Write>(
     ensures { LeavesPlayed result (O.contents out.old) (O.contents out.new) }
 {
     let plan = scenario_in(files, alloc, scenario)?;
-    let steps = steps_in(files, alloc, steps, &plan)?;
-    let mut log = output_of(files, log)?;
-    let mut cert = output_of(files, cert)?;
-    play_objects(alloc, &plan, steps.as_slice(), &mut log, &mut cert, out)?;
+    let given = steps_in(files, alloc, steps, &plan)?;
+    let (mut log, mut cert) = outputs_of(files, &[Some(scenario), steps], log, cert)?;
+    play_objects(alloc, &plan, given.as_slice(), &mut log, &mut cert, out)?;
     Ok(())
 }
 
 /// Runs the scenario in a file, each object in a thread of its own, and writes its log and its certificates into files
 /// where these are named, and its report.
 ///
-/// Files are made once the scenario was taken.
+/// Files are made once the scenario was taken, and emptied once both are open.
 pub(crate) fn live_files<F: Files + Threads + Wait + Sync, O: Write>(
     rt: &F,
     alloc: Global,
@@ -56,8 +55,7 @@ pub(crate) fn live_files<F: Files + Threads + Wait + Sync, O: Write>(
     ensures fault { IfErr result IsNotOfSteps }
 {
     let plan = scenario_in(rt, alloc, scenario)?;
-    let mut log = output_of(rt, log)?;
-    let mut cert = output_of(rt, cert)?;
+    let (mut log, mut cert) = outputs_of(rt, &[Some(scenario)], log, cert)?;
     live_objects(rt, alloc, &plan, &mut log, &mut cert, out)?;
     Ok(())
 }

@@ -95,6 +95,7 @@ pub fn carry_out<F: Files + Threads + Wait + Sync, O: Write>(
             Err(fault) => Err(ProgramFault::App(fault)),
         },
         Err(AskFault::Line(error)) => show_text(out, &error),
+        Err(AskFault::SameName) => Err(ProgramFault::Line),
         Err(AskFault::Memory) => Err(ProgramFault::App(AppFault::Memory)),
     }
 }

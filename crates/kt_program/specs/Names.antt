@@ -1,0 +1,40 @@
+-- Names of files, and which of them may be given together.
+use Rattle.std.specs.Prelude.{◌≡◌, Bool, List, [], ◌∷◌, Option, Some, None, All, AllPairs, IsTrue, codes, nat_eq}
+use Rattle.std.specs.List.{starts_with}
+use Rattle.std.specs.Borrow.{Bor}
+use Rattle.clap.specs.Words.{Text}
+use Rattle.kt_program.specs.declared.line.Asked.{Asked}
+use Rattle.kt_program.specs.declared.line.Asked.TheVariants.{Check, Live, Play}
+
+abbrev pub is_device : Text → Bool
+is_device name = starts_with nat_eq name (codes "/dev/")
+
+-- a name that may be given, where a clause reads it
+abbrev pub Name : Type 0
+Name = Option (Bor Text)
+
+-- two names that may be given together: they differ, or are a device's
+abbrev pub Apart : Name → Name → Type 0
+Apart (Some one) (Some other) = one.now ≡ other.now → IsTrue (is_device other.now)
+Apart (Some one) None = Unit {0}
+Apart None other = Unit {0}
+
+-- no output has the name of an input or of another output, but for devices
+pub record AreApart (inputs outputs : List Name) : Type 0 where
+  pub from_inputs : All (λ output. All (Apart output) inputs) outputs
+  pub from_each_other : AllPairs Apart outputs
+
+-- the names of the files that are read, and of those that are written
+abbrev pub inputs_of : Asked → List Name
+inputs_of (Play scenario steps log cert) = Some scenario ∷ steps ∷ []
+inputs_of (Live scenario log cert) = Some scenario ∷ []
+inputs_of (Check log cert) = Some log ∷ Some cert ∷ []
+
+abbrev pub outputs_of : Asked → List Name
+outputs_of (Play scenario steps log cert) = log ∷ cert ∷ []
+outputs_of (Live scenario log cert) = log ∷ cert ∷ []
+outputs_of (Check log cert) = []
+
+-- what is asked for loses nothing by its names
+abbrev pub IsApart : Asked → Type 0
+IsApart asked = AreApart (inputs_of asked) (outputs_of asked)
