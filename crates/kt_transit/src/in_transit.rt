@@ -278,8 +278,8 @@ fn drop_taken(slots: &mut GapBuffer, marks: &mut Counts)
     marks.end();
 }
 
-// Makes room for so many more slots with marks; drops those of what was taken where that is not to be had, or where
-// more was taken than is held.
+// Makes room for so many more slots with marks; drops those of what was taken where that is not to be had, where more
+// was taken than is held and may be put back, or where no mark is left for another slot.
 fn reserve_marked(slots: &mut GapBuffer, marks: &mut Counts, additional: usize)
     requires some { 0 < length marks.old.marks }
     requires marked { IsMarked marks.old.marks slots.old.messages }
@@ -293,13 +293,13 @@ fn reserve_marked(slots: &mut GapBuffer, marks: &mut Counts, additional: usize)
     }
 }
 
-// Whether more was taken than is held, or there are too few marks for so many more slots.
+// Whether more was taken than is held and may be put back, or no mark is left for another slot.
 fn is_crowded(slots: &GapBuffer, marks: &Counts, additional: usize) -> bool
     requires some { 0 < length marks.now.marks }
     requires marked { IsMarked marks.now.marks slots.now.messages }
 {
     let held = marks.total();
-    slots.len() - held > held.saturating_add(additional) || marks.len() - slots.len() <= additional
+    slots.len() - held > held.saturating_add(additional) || marks.len() - slots.len() < 2
 }
 
 // Marks the next slot, or drops those of what was taken where the next one cannot be marked.
