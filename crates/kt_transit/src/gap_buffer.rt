@@ -109,16 +109,17 @@ impl GapBuffer {
         Ok(())
     }
 
-    /// Puts a message at this place, in room made beforehand.
+    /// Puts a message at this place, in room made beforehand. The cursor is set there, for those that are put before it;
+    /// where there is no memory for that, it stays, and all that stand between are moved.
     pub(crate) fn insert(&mut self, index: usize, message: Sent)
         requires within { index ≤ length self.old.messages }
         requires room { length self.old.messages < self.old.room }
         ensures messages { self.new.messages ≡ insert self.old.messages index message }
         ensures room { self.old.room ≤ self.new.room }
     {
+        let _ = seek(&mut self.passed, &mut self.next, index);
         let cursor = self.passed.len();
-        if index <= cursor {
-            move_back(&mut self.passed, &mut self.next, cursor - index);
+        if index == cursor {
             self.next.push_front_reserved(message);
         } else {
             self.next.insert(index - cursor, message).unwrap();
@@ -266,6 +267,7 @@ fn seek(passed: &mut Vec<Sent>, next: &mut VecDeque<Sent>, index: usize) -> Resu
     requires room { vec_len passed.old + deque_len next.old ≤ deque_capacity next.old }
     ensures messages { passed.new.items ++ next.new.items ≡ passed.old.items ++ next.old.items }
     ensures cursor { OnOk result (vec_len passed.new ≡ index) }
+    ensures before { vec_len passed.new ≤ index }
     ensures count { vec_len passed.new + deque_len next.new ≡ vec_len passed.old + deque_len next.old }
     ensures capacity { deque_capacity next.new ≡ deque_capacity next.old }
 {
