@@ -1,7 +1,8 @@
 -- Messages of which some are marked.
-use Rattle.std.proofs.Common.{◌≡◌, ◌≢◌, ℕ, zero, suc, ◌+◌, ◌-◌, ◌<◌, ◌≤◌, ◌⊎◌, Bool, true, false, Some, None, Option, Ok, Err, List, [], ◌∷◌, ◌++◌, length, length-append, length-set, get_or, get_or-set_other, take, drop, set, refl, sym, ap, ◌∙◌, subst, arith, inl, inr}
+use Rattle.std.proofs.Common.{◌≡◌, ℕ, zero, suc, ◌+◌, ◌<◌, ◌≤◌, Bool, true, false, Some, None, Ok, Err, List, [], ◌∷◌, ◌++◌, length, length-append, length-set, get_or, get_or-set_other, take, drop, set, refl, sym, ap, ◌∙◌, subst, arith, inl, inr}
 use Rattle.std.specs.List.{slice_get, remove, insert}
 use Rattle.std.specs.Prelude.{Result, OnOk}
+use Rattle.std.specs.Result.{is_err}
 use Rattle.kt_cuts.proofs.Lists.{get_push}
 use Rattle.kt_transit.proofs.TransitFacts.{get_left}
 use Rattle.std.proofs.lemmas.Bool.{cases_lt, cases_eq}
@@ -217,9 +218,9 @@ get_past [] n l = refl
 get_past (x ∷ xs) zero l = absurd (omega (arith, l))
 get_past (x ∷ xs) (suc n) l = get_past xs n (omega (arith, l))
 
-pub on_ok : {A E : Type 0} (r : Result A E) {P Q : Type 0} → (P → Q) → OnOk r P → OnOk r Q
-on_ok (Ok x) f p = f p
-on_ok (Err x) f p = p
+pub of_ok : {A E : Type 0} (r : Result A E) {P : Type 0} → OnOk r P → is_err r ≡ false → P
+of_ok (Ok x) p e = p
+of_ok (Err x) p e = absurd (cc)
 
 -- a mark that is set is within
 pub set_within : (marks : List Bool) (n p : ℕ) → AreUnset n marks → get_or marks p false ≡ true → p < n

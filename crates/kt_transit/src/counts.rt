@@ -56,11 +56,11 @@ impl Counts {
         self.width - self.base
     }
 
-    /// Whether one more can be put before them.
-    pub(crate) fn has_before(&self) -> bool
-        ensures { result ≡ true → 0 < self.now.before }
+    /// How many more can be put before them.
+    pub(crate) fn before(&self) -> usize
+        ensures { result ≡ self.now.before }
     {
-        self.base > 0
+        self.base
     }
 
     /// How many are set.

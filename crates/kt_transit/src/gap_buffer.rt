@@ -109,20 +109,20 @@ impl GapBuffer {
         Ok(())
     }
 
-    /// Puts a message at this place, in room made beforehand. The cursor is set there where memory is found for that, so
-    /// that those put back one after another, the last one first, move it little.
+    /// Puts a message at this place, in room made beforehand. The cursor is set there, for those that are put before it;
+    /// where there is no memory for that, it stays, and all that stand between are moved.
     pub(crate) fn insert(&mut self, index: usize, message: Sent)
         requires within { index ≤ length self.old.messages }
         requires room { length self.old.messages < self.old.room }
         ensures messages { self.new.messages ≡ insert self.old.messages index message }
         ensures room { self.old.room ≤ self.new.room }
     {
-        match seek(&mut self.passed, &mut self.next, index) {
-            Ok(()) => self.next.push_front_reserved(message),
-            Err(_) => {
-                let cursor = self.passed.len();
-                self.next.insert(index - cursor, message).unwrap();
-            }
+        let _ = seek(&mut self.passed, &mut self.next, index);
+        let cursor = self.passed.len();
+        if index == cursor {
+            self.next.push_front_reserved(message);
+        } else {
+            self.next.insert(index - cursor, message).unwrap();
         }
     }
 
@@ -267,7 +267,7 @@ fn seek(passed: &mut Vec<Sent>, next: &mut VecDeque<Sent>, index: usize) -> Resu
     requires room { vec_len passed.old + deque_len next.old ≤ deque_capacity next.old }
     ensures messages { passed.new.items ++ next.new.items ≡ passed.old.items ++ next.old.items }
     ensures cursor { OnOk result (vec_len passed.new ≡ index) }
-    ensures before { OnErr result (vec_len passed.new ≤ index) }
+    ensures before { vec_len passed.new ≤ index }
     ensures count { vec_len passed.new + deque_len next.new ≡ vec_len passed.old + deque_len next.old }
     ensures capacity { deque_capacity next.new ≡ deque_capacity next.old }
 {

@@ -85,8 +85,8 @@ impl InTransit {
         ensures ok { OnOk result (length self.new.messages + additional ≤ self.new.room) }
         ensures full { OnErr result (self.old.room < length self.old.messages + additional) }
     {
-        if !self.marks.is_empty() {
-            reserve_marked(&mut self.slots, &mut self.marks, additional);
+        if !self.marks.is_empty() && reserve_marked(&mut self.slots, &mut self.marks, additional) {
+            return Ok(());
         }
         self.slots.reserve(additional)
     }
@@ -278,28 +278,35 @@ fn drop_taken(slots: &mut GapBuffer, marks: &mut Counts)
     marks.end();
 }
 
-// Makes room for so many more slots with marks; drops those of what was taken where that is not to be had, where more
-// was taken than is held and may be put back, or where no mark is left for another slot.
-fn reserve_marked(slots: &mut GapBuffer, marks: &mut Counts, additional: usize)
+// Makes room for so many more messages, and for one more slot at the end and those that can be put before all. Where
+// there is no memory, or more was taken than can be put back and is held, drops the slots of what was taken.
+fn reserve_marked(slots: &mut GapBuffer, marks: &mut Counts, additional: usize) -> bool
     requires some { 0 < length marks.old.marks }
     requires marked { IsMarked marks.old.marks slots.old.messages }
     ensures marked { 0 < length marks.new.marks → IsMarked marks.new.marks slots.new.messages }
     ensures shown { shown marks.new.marks slots.new.messages ≡ pick marks.old.marks slots.old.messages }
     ensures room { slots.old.room ≤ slots.new.room }
-    ensures enough { 0 < length marks.new.marks → length slots.new.messages + additional ≤ slots.new.room }
+    ensures dropped { result ≡ false → marks.new.marks ≡ [] }
+    ensures enough { result ≡ true
+        → length (pick marks.old.marks slots.old.messages) + additional ≤ slots.new.room }
 {
-    if is_crowded(slots, marks, additional) || slots.reserve(additional).is_err() {
+    let taken = slots.len() - marks.total();
+    let next = marks.before().min(additional).saturating_add(1);
+    let missing = additional.saturating_sub(taken).max(next);
+    if is_crowded(slots, marks, additional) || slots.reserve(missing).is_err() {
         drop_taken(slots, marks);
+        return false;
     }
+    true
 }
 
-// Whether more was taken than is held and may be put back, or no mark is left for another slot.
+// Whether more was taken than is held and can be put back, or there is no mark for one more slot.
 fn is_crowded(slots: &GapBuffer, marks: &Counts, additional: usize) -> bool
     requires some { 0 < length marks.now.marks }
     requires marked { IsMarked marks.now.marks slots.now.messages }
 {
     let held = marks.total();
-    slots.len() - held > held.saturating_add(additional) || marks.len() - slots.len() < 2
+    slots.len() - held > held.saturating_add(additional) || marks.len() - slots.len() <= 1
 }
 
 // Marks the next slot, or drops those of what was taken where the next one cannot be marked.
@@ -343,7 +350,7 @@ fn has_first(slots: &GapBuffer, marks: &Counts, msg: MsgNo) -> bool
     ensures below { result ≡ true → IsRising slots.now.messages → (k : ℕ) (a : Sent)
         → slice_get slots.now.messages k ≡ Some a → msg < a.msg }
 {
-    marks.has_before() && slots.has_room() && is_below(slots, msg)
+    marks.before() > 0 && slots.has_room() && is_below(slots, msg)
 }
 
 // Whether this number is below that of the first message.

@@ -1,5 +1,5 @@
-use Rattle.std.proofs.Common.{◌≡◌, ◌+◌, ◌<◌, ◌≤◌, ◌++◌, ◌∷◌, [], suc, List, ℕ, length, length-append, length-drop, append_assoc, take, drop, arith, refl, sym, ap, ◌∙◌, rules, of_calls}
-use Rattle.std.specs.VecDeque.{deque_len, deque_capacity}
+use Rattle.std.proofs.Common.{◌≡◌, ◌+◌, ◌<◌, ◌++◌, ◌∷◌, [], suc, List, ℕ, length, length-append, length-drop, append_assoc, take, drop, arith, sym, ap, ◌∙◌, rules, of_calls}
+use Rattle.std.specs.VecDeque.{deque_len}
 use Rattle.kt_transit.specs.declared.in_transit.Sent.{Sent}
 use Rattle.kt_transit.specs.Marks.{pick}
 use Rattle.kt_transit.proofs.PickFacts.{pick_all, first_left, more_picked, none_more}

@@ -1,6 +1,6 @@
-use Rattle.std.proofs.Common.{◌≡◌, ◌+◌, ◌-◌, ◌/◌, ◌<◌, ◌≤◌, length, arith, refl, sym, ap, ◌∙◌}
+use Rattle.std.proofs.Common.{◌+◌, ◌-◌, ◌/◌, ◌<◌, length, arith, refl, ◌∙◌}
 use Rattle.std.proofs.lemmas.Option.{slice_get_within}
-use Rattle.kt_transit.specs.Marks.{pick, ones}
+use Rattle.kt_transit.specs.Marks.{pick}
 use Rattle.kt_transit.proofs.PickFacts.{picked_count, all_before, all_after}
 use Rattle.kt_transit.proofs.in_transit.count_marked_before.Goals as goal
 

@@ -1,4 +1,4 @@
-use Rattle.std.proofs.Common.{◌≡◌, length, arith, refl, sym, ap, ◌∙◌}
+use Rattle.std.proofs.Common.{arith, sym, ap, ◌∙◌}
 use Rattle.std.specs.List.{slice_get}
 use Rattle.kt_transit.specs.Marks.{pick}
 use Rattle.kt_transit.proofs.PickFacts.{get_picked, picked_count, get_past}

@@ -1,6 +1,5 @@
-use Rattle.std.proofs.Common.{◌≡◌, ◌+◌, ◌<◌, ◌++◌, ◌∷◌, [], List, Bool, true, length, length-set, set, arith, refl, sym, ap, ◌∙◌, subst}
-use Rattle.kt_transit.specs.declared.in_transit.Sent.{Sent}
-use Rattle.kt_transit.specs.Marks.{Marking, IsMarked, shown, pick}
+use Rattle.std.proofs.Common.{◌≡◌, ◌++◌, ◌∷◌, [], List, Bool, true, length, length-set, set, arith, refl, sym, ap, ◌∙◌, subst}
+use Rattle.kt_transit.specs.Marks.{Marking, IsMarked, shown}
 use Rattle.kt_transit.proofs.PickFacts.{shown_picked, pushed, marked_pushed}
 use Rattle.kt_transit.proofs.in_transit.mark_next.Goals as goal
 

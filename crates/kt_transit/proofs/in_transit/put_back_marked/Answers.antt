@@ -1,4 +1,4 @@
-use Rattle.std.proofs.Common.{◌≡◌, ◌<◌, true, length, length-set, set, take, List, Bool, arith, refl, sym, ap, ◌∙◌}
+use Rattle.std.proofs.Common.{◌<◌, true, length, length-set, set, take, arith, ap, ◌∙◌}
 use Rattle.std.proofs.lemmas.Option.{slice_get_within}
 use Rattle.kt_transit.specs.Marks.{Marking, shown, ones}
 use Rattle.kt_transit.proofs.PickFacts.{shown_picked, put, belongs_picked}

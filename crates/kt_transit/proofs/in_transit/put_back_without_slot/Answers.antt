@@ -1,4 +1,4 @@
-use Rattle.std.proofs.Common.{◌≡◌, ◌∷◌, true, List, Bool, arith, refl, sym, ap, ◌∙◌}
+use Rattle.std.proofs.Common.{◌∷◌, true, List, arith, refl, ap, ◌∙◌}
 use Rattle.kt_transit.specs.declared.in_transit.Sent.{Sent}
 use Rattle.kt_transit.specs.Marks.{Marking, shown}
 use Rattle.kt_transit.proofs.PickFacts.{source}

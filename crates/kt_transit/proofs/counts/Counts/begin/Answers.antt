@@ -1,4 +1,4 @@
-use Rattle.std.proofs.Common.{◌≡◌, ◌+◌, ◌-◌, ◌*◌, ◌<◌, ◌≤◌, ℕ, [], List, length, get_or, take, drop, arith, refl, sym, ap, ◌∙◌, rules, of_calls}
+use Rattle.std.proofs.Common.{◌≡◌, ◌+◌, ℕ, List, get_or, arith, ap, ◌∙◌}
 use Rattle.kt_transit.specs.Marks.{Marking}
 use Rattle.kt_transit.proofs.TreeFacts.{of_zeros, no_marks, marks_count, no_leaves, zeros_made}
 use Rattle.kt_transit.proofs.counts.Counts.begin.Goals as goal

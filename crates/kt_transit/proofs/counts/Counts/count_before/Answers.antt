@@ -1,7 +1,7 @@
-use Rattle.std.proofs.Common.{◌≡◌, ◌+◌, ◌-◌, ◌/◌, ◌<◌, ◌≤◌, length, take, drop, arith, refl, sym, ◌∙◌}
+use Rattle.std.proofs.Common.{◌+◌, ◌-◌, ◌/◌, ◌<◌, length, drop, arith, refl}
 use Rattle.std.proofs.lemmas.List.{get_or_read}
-use Rattle.kt_transit.specs.Marks.{ones, marks_of}
-use Rattle.kt_transit.proofs.TreeFacts.{in_tree, marked_before, step_up, upto, upto_more}
+use Rattle.kt_transit.specs.Marks.{marks_of}
+use Rattle.kt_transit.proofs.TreeFacts.{in_tree, marked_before, step_up, upto_more}
 use Rattle.kt_transit.proofs.PickFacts.{ones_of_place}
 use Rattle.kt_transit.proofs.counts.Counts.count_before.Goals as goal
 use Rattle.kt_transit.proofs.counts.Counts.count_before.Goals.{then-node-eq1, else-node-eq1}

@@ -1,4 +1,4 @@
-use Rattle.std.proofs.Common.{◌+◌, arith, refl, sym, ◌∙◌, ◌≡◌, get_or}
+use Rattle.std.proofs.Common.{◌+◌, arith, refl, sym, ◌∙◌}
 use Rattle.std.proofs.lemmas.List.{get_or_read}
 use Rattle.kt_transit.proofs.TreeFacts.{in_tree, mark_at, read_mark}
 use Rattle.kt_transit.proofs.counts.Counts.get.Goals as goal

@@ -1,4 +1,4 @@
-use Rattle.std.proofs.Common.{arith, nat_eq}
+use Rattle.std.proofs.Common.{arith}
 use Rattle.std.proofs.lemmas.Bool.Decides.{nat_tests}
 use Rattle.kt_transit.proofs.TreeFacts.{marks_count}
 use Rattle.kt_transit.proofs.counts.Counts.is_empty.Goals as goal

@@ -1,4 +1,4 @@
-use Rattle.std.proofs.Common.{◌≡◌, ◌+◌, ◌-◌, ◌*◌, ◌<◌, ◌≤◌, ℕ, Bool, true, false, length, get_or, take, arith, refl, sym, ap, ◌∙◌, subst}
+use Rattle.std.proofs.Common.{◌≡◌, ◌+◌, ◌-◌, ◌*◌, ◌<◌, ℕ, length, get_or, arith, sym, ap, ◌∙◌, subst}
 use Rattle.std.proofs.lemmas.List.{get_or_read}
 use Rattle.kt_transit.proofs.TreeFacts.{all_marked, marks_count, marked_before, mark_at, at_top, step_down, at_leaf, is_set, some_width, IsLevel}
 use Rattle.kt_transit.proofs.counts.Counts.place_of.Goals as goal

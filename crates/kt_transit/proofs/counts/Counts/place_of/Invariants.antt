@@ -1,4 +1,4 @@
-use Rattle.std.proofs.Common.{◌≡◌, ℕ, ◌+◌, ◌-◌, ◌*◌, ◌^◌, ◌<◌, ◌≤◌, get_or}
+use Rattle.std.proofs.Common.{◌-◌}
 use Rattle.kt_transit.proofs.TreeFacts.{IsLevel}
 use Rattle.kt_transit.proofs.counts.Counts.place_of.Given as goal
 

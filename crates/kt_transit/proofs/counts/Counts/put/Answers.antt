@@ -1,4 +1,4 @@
-use Rattle.std.proofs.Common.{◌≡◌, ◌+◌, ◌-◌, ◌*◌, ◌/◌, ◌<◌, ◌≤◌, ◌⊎◌, ℕ, length, get_or, take, drop, set, arith, refl, sym, ap, ◌∙◌, subst, inl, inr, rules, of_calls}
+use Rattle.std.proofs.Common.{◌≡◌, ◌+◌, ◌*◌, ◌/◌, ◌<◌, ℕ, length, drop, arith, refl, ap, ◌∙◌}
 use Rattle.std.proofs.lemmas.List.{get_or_read, drop-set-lt}
 use Rattle.kt_transit.specs.Marks.{marks_of}
 use Rattle.kt_transit.proofs.TreeFacts.{in_tree, of_byte, leaf_put, sum_put, put_at_leaf, parent_of}

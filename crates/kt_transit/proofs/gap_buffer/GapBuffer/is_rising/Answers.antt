@@ -1,4 +1,4 @@
-use Rattle.std.proofs.Common.{ℕ, arith, suc, Some, ◌≡◌, ◌<◌, ◌≤◌, length}
+use Rattle.std.proofs.Common.{arith, suc}
 use Rattle.std.proofs.lemmas.Option.{slice_get_within}
 use Rattle.kt_transit.proofs.PickFacts.{rising_steps}
 use Rattle.kt_transit.proofs.gap_buffer.GapBuffer.is_rising.Goals as goal

@@ -1,4 +1,4 @@
-use Rattle.std.proofs.Common.{◌≡◌, length, arith, refl, sym, ap, ◌∙◌}
+use Rattle.std.proofs.Common.{arith, refl, sym, ◌∙◌}
 use Rattle.kt_transit.proofs.PickFacts.{picked_count, picked_within, shown_count}
 use Rattle.kt_transit.proofs.in_transit.InTransit.len.Goals as goal
 

@@ -1,6 +1,6 @@
-use Rattle.std.proofs.Common.{◌≡◌, length, take, arith, refl, sym, ap, ◌∙◌, subst}
+use Rattle.std.proofs.Common.{arith, refl, sym, subst}
 use Rattle.kt_transit.specs.TransitList.{Belongs}
-use Rattle.kt_transit.specs.Marks.{ones, pick}
+use Rattle.kt_transit.specs.Marks.{pick}
 use Rattle.kt_transit.proofs.PickFacts.{ones_within, shown_count, shown_picked, belongs_picked}
 use Rattle.kt_transit.proofs.in_transit.InTransit.place_of.Goals as goal
 

@@ -1,4 +1,4 @@
-use Rattle.std.proofs.Common.{◌≡◌, ◌<◌, false, length, length-set, set, List, Bool, arith, refl, sym, ap, ◌∙◌}
+use Rattle.std.proofs.Common.{false, length, length-set, set, List, arith, refl, sym, ap, ◌∙◌}
 use Rattle.std.specs.List.{remove}
 use Rattle.kt_transit.specs.declared.in_transit.Sent.{Sent}
 use Rattle.kt_transit.specs.Marks.{Marking, shown, pick}

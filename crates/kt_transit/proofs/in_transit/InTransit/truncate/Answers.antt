@@ -1,4 +1,4 @@
-use Rattle.std.proofs.Common.{◌≡◌, ◌≤◌, ◌<◌, take, length, List, arith, refl, sym, ap, ◌∙◌, take_all}
+use Rattle.std.proofs.Common.{◌≡◌, ◌<◌, take, length, arith, refl, sym, ap, ◌∙◌, take_all}
 use Rattle.kt_transit.specs.TransitList.{TransitList}
 use Rattle.kt_transit.specs.Marks.{shown, pick}
 use Rattle.kt_transit.proofs.PickFacts.{shown_picked, shown_count, cut, set_within}
