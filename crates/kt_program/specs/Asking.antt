@@ -12,7 +12,7 @@ use Rattle.kt_program.specs.declared.fault.ProgramFault.{ProgramFault}
 use Rattle.kt_program.specs.declared.fault.ProgramFault.TheVariants as program
 use Rattle.kt_program.specs.declared.line.Asked.{Asked}
 use Rattle.kt_program.specs.declared.line.Asked.TheVariants.{Check, Live, Play}
-use Rattle.kt_program.specs.Names.{IsApart}
+use Rattle.kt_program.specs.Names.{IsApart, IsWriting}
 use Rattle.kt_program.specs.Program.{IsErrorFor, Names, program as definition}
 
 -- words that name something to do, and an output by the name of an input or of another output
@@ -57,8 +57,8 @@ abbrev pub Ask : List Text → (Asked → Type 0) → Type 0
 Ask words P = (asked : Asked) × Names (subcommand_of definition words) asked × IsApart asked × P asked
 
 -- what is done for words: a scenario run or a run judged where they name that; help shown where they ask for it; they
--- are refused where they are a mistake or name a file twice, and a scenario or steps where they name them; files that
--- are one under two names are those of a run; other faults come with any words
+-- are refused where they are a mistake or name a file twice, as one file under two names where a file is to be written,
+-- and a scenario or steps where they name them; other faults come with any words
 abbrev pub DoneFor : List Text → Done → Type 0
 DoneFor words (Judged passed) = Ask words IsCheck
 DoneFor words Played = Ask words IsRun
@@ -66,7 +66,7 @@ DoneFor words Shown = AreAnswered words IsRequest
 
 abbrev pub RefusedFor : List Text → ProgramFault → Type 0
 RefusedFor words program.Line = AreAnswered words IsMistake ⊎ NameTwice words
-RefusedFor words program.SameFile = Ask words IsRun
+RefusedFor words program.SameFile = Ask words IsWriting
 RefusedFor words (program.Scenario fault) = Ask words IsRun
 RefusedFor words (program.Steps fault) = Ask words IsPlay
 RefusedFor words program.Read = Ask words IsRun

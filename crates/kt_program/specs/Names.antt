@@ -1,5 +1,5 @@
 -- Names of files, and which of them may be given together.
-use Rattle.std.specs.Prelude.{◌≡◌, Bool, List, [], ◌∷◌, Option, Some, None, All, AllPairs, IsTrue, codes, nat_eq}
+use Rattle.std.specs.Prelude.{◌≡◌, ◌⊎◌, Bool, List, [], ◌∷◌, Option, Some, None, All, AllPairs, IsTrue, codes, nat_eq}
 use Rattle.std.specs.List.{starts_with}
 use Rattle.std.specs.Borrow.{Bor}
 use Rattle.clap.specs.Words.{Text}
@@ -34,6 +34,17 @@ abbrev pub outputs_of : Asked → List Name
 outputs_of (Play scenario steps log cert) = log ∷ cert ∷ []
 outputs_of (Live scenario log cert) = log ∷ cert ∷ []
 outputs_of (Check log cert) = []
+
+-- a name that is given, and is no device's
+abbrev pub IsFileName : Name → Type 0
+IsFileName (Some name) = ¬ IsTrue (is_device name.now)
+IsFileName None = ⊥
+
+-- a file is to be written
+abbrev pub IsWriting : Asked → Type 0
+IsWriting (Play scenario steps log cert) = IsFileName log ⊎ IsFileName cert
+IsWriting (Live scenario log cert) = IsFileName log ⊎ IsFileName cert
+IsWriting (Check log cert) = ⊥
 
 -- what is asked for loses nothing by its names
 abbrev pub IsApart : Asked → Type 0

@@ -292,6 +292,7 @@ fn apart<'a>(asked: Asked<'a>) -> Result<Asked<'a>, AskFault>
 }
 
 /// What the words ask for.
+#[tactic(auto, using(crate::proofs::Refused::unasked))]
 pub fn asked<'a>(alloc: Global, words: &'a Words) -> Result<Asked<'a>, AskFault>
     // What it names is what clap's definition of the command line gives for the words.
     ensures named { IfOk result (Names (subcommand_of program words.entry.now)) }

@@ -1,9 +1,11 @@
 //! Where a log or certificates go.
 
-ghost use Rattle.std.specs.Prelude.{◌≡◌, IfErr, IsOkUnless};
+ghost use Rattle.std.specs.Bool.{OnTrue};
+ghost use Rattle.std.specs.Prelude.{◌≡◌, ◌⊎◌, Any, IfErr, IsOkUnless, OnSome};
 ghost use Rattle.kt_program.specs.declared.fault.AppFault.TheVariants as app;
 ghost use Rattle.kt_program.specs.declared.fault.ProgramFault.TheVariants as program;
 ghost use Rattle.kt_program.specs.Ending.{IsOfOutputs};
+ghost use Rattle.kt_program.specs.Names.{IsFileName};
 
 use crate::fault::{AppFault, ProgramFault};
 use crate::names::is_device;
@@ -47,7 +49,8 @@ pub(crate) fn outputs_of<F: Files>(
     log: Option<&str>,
     cert: Option<&str>,
 ) -> Result<(Output<F::File>, Output<F::File>), ProgramFault>
-    ensures { IfErr result IsOfOutputs }
+    ensures fault { IfErr result IsOfOutputs }
+    ensures named { IfErr result (λ fault. fault ≡ program.SameFile → IsFileName log.entry ⊎ IsFileName cert.entry) }
 {
     let log_file = output_of(files, log)?;
     let cert_file = output_of(files, cert)?;
@@ -106,7 +109,9 @@ struct FileNumber {
 }
 
 // Which file a name leads to. None where that is a device, no regular file or none at all, or where it is not told.
-fn file_number<F: Files>(files: &F, name: Option<&str>) -> Option<FileNumber> {
+fn file_number<F: Files>(files: &F, name: Option<&str>) -> Option<FileNumber>
+    ensures { OnSome result (IsFileName name.entry) }
+{
     let name = name?;
     if is_device(name) {
         return None;
@@ -129,7 +134,9 @@ fn number_of(metadata: &Metadata) -> Option<FileNumber> {
 }
 
 // Whether both names lead to one file.
-fn is_same_file<F: Files>(files: &F, one: Option<&str>, other: Option<&str>) -> bool {
+fn is_same_file<F: Files>(files: &F, one: Option<&str>, other: Option<&str>) -> bool
+    ensures { OnTrue result (IsFileName one.entry) }
+{
     match (file_number(files, one), file_number(files, other)) {
         (Some(one), Some(other)) => one == other,
         _ => false,
@@ -137,16 +144,26 @@ fn is_same_file<F: Files>(files: &F, one: Option<&str>, other: Option<&str>) -> 
 }
 
 // Whether a name leads to the file of one of these.
-fn is_among_files<F: Files>(files: &F, name: Option<&str>, names: &[Option<&str>]) -> bool {
-    names.iter().any(|other| is_same_file(files, name, *other))
+fn is_among_files<F: Files>(files: &F, name: Option<&str>, names: &[Option<&str>]) -> bool
+    ensures { OnTrue result (IsFileName name.entry) }
+{
+    for other in names {
+        if is_same_file(files, name, *other) {
+            return true;
+        }
+    }
+    false
 }
 
 // Whether an output is the file of an input or of another output.
-fn is_one_file<F: Files>(files: &F, inputs: &[Option<&str>], outputs: &[Option<&str>]) -> bool {
+fn is_one_file<F: Files>(files: &F, inputs: &[Option<&str>], outputs: &[Option<&str>]) -> bool
+    ensures { OnTrue result (Any IsFileName outputs.now) }
+{
     for (place, output) in outputs.iter().enumerate() {
-        if is_among_files(files, *output, inputs)
-            || is_among_files(files, *output, &outputs[..place])
-        {
+        if is_among_files(files, *output, inputs) {
+            return true;
+        }
+        if is_among_files(files, *output, &outputs[..place]) {
             return true;
         }
     }

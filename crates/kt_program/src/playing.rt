@@ -1,9 +1,10 @@
 //! A scenario played, or run by threads, from its files.
 
-ghost use Rattle.std.specs.Prelude.{◌≡◌, ◌≢◌, IfErr};
+ghost use Rattle.std.specs.Prelude.{◌≡◌, ◌≢◌, ◌⊎◌, IfErr};
 ghost use Rattle.kt_program.specs.declared.fault.AppFault.TheVariants as app;
 ghost use Rattle.kt_program.specs.declared.fault.ProgramFault.TheVariants as program;
 ghost use Rattle.kt_program.specs.Ending.{IsNotOfSteps, IsOfInput, LeavesPlayed};
+ghost use Rattle.kt_program.specs.Names.{IsFileName};
 
 use crate::casts::{live_objects, play_objects};
 use crate::fault::ProgramFault;
@@ -30,7 +31,9 @@ pub(crate) fn play_files<F: Files, O: Write>(
     cert: Option<&str>,
     out: &mut O,
 ) -> Result<(), ProgramFault>
-    ensures { LeavesPlayed result (O.contents out.old) (O.contents out.new) }
+    ensures output { LeavesPlayed result (O.contents out.old) (O.contents out.new) }
+    // Two names of one file are refused where a file is to be written.
+    ensures named { IfErr result (λ fault. fault ≡ program.SameFile → IsFileName log.entry ⊎ IsFileName cert.entry) }
 {
     let plan = scenario_in(files, alloc, scenario)?;
     let given = steps_in(files, alloc, steps, &plan)?;
@@ -53,6 +56,7 @@ pub(crate) fn live_files<F: Files + Threads + Wait + Sync, O: Write>(
 ) -> Result<(), ProgramFault>
     ensures output { LeavesPlayed result (O.contents out.old) (O.contents out.new) }
     ensures fault { IfErr result IsNotOfSteps }
+    ensures named { IfErr result (λ fault. fault ≡ program.SameFile → IsFileName log.entry ⊎ IsFileName cert.entry) }
 {
     let plan = scenario_in(rt, alloc, scenario)?;
     let (mut log, mut cert) = outputs_of(rt, &[Some(scenario)], log, cert)?;
