@@ -13,18 +13,18 @@ use Rattle.calling_runs.specs.Walked.{IsWalkedText}
 pub record HasFed (text : Option (List ℕ)) (reader : RowsRead) (walk : WalkParts) : Type 0 where
   pub fed : List Event
   pub gathers : Gathers text reader fed
-  pub walk : WalkOf walk fed
+  pub stands : WalkOf walk fed
 
 pub fed_none : (text : Option (List ℕ)) (reader : RowsRead) (walk : WalkParts) → reader ≡ rows_unread text → WalkOf walk [] → HasFed text reader walk
 fed_none text reader walk e h = record {
   fed = [];
   gathers = subst (λ (r : RowsRead). Gathers text r []) (sym e) (gathers_none text);
-  walk = h;
+  stands = h;
 }
 
 -- there is room for one more row
 pub fed_few : (text : Option (List ℕ)) (old new : RowsRead) (walk : WalkParts) (row : Event) → HasFed text old walk → GivesRow old new row → walk.rows < 2 ^ 24
-fed_few text old new walk row h s = omega (arith, h.walk.control.number, h.gathers.count, s.few, most_rows_le s.format)
+fed_few text old new walk row h s = omega (arith, h.stands.control.number, h.gathers.count, s.few, most_rows_le s.format)
 
 -- one more row
 pub fed_more : (text : Option (List ℕ)) (old new : RowsRead) (was now : WalkParts) (row : Event) → HasFed text old was → GivesRow old new row
@@ -32,7 +32,7 @@ pub fed_more : (text : Option (List ℕ)) (old new : RowsRead) (was now : WalkPa
 fed_more text old new was now row h s fed = record {
   fed = h.fed ++ row ∷ [];
   gathers = gathers_more text old new h.fed row h.gathers s;
-  walk = (fed h.fed h.walk).1;
+  stands = (fed h.fed h.stands).1;
 }
 
 -- all rows
@@ -40,6 +40,6 @@ pub fed_all : (text : Option (List ℕ)) (old new : RowsRead) (walk : WalkParts)
 fed_all text old new walk h s = record {
   rows = h.fed;
   says = gathered_all text old new h.fed h.gathers s;
-  legal = h.walk.control.legal;
-  walk = h.walk;
+  legal = h.stands.control.legal;
+  stands = h.stands;
 }

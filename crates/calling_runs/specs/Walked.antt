@@ -11,4 +11,4 @@ pub record IsWalkedText (text : Option (List ℕ)) (walk : WalkParts) : Type 0 w
   pub rows : List Event
   pub says : SaysRows text rows
   pub legal : IsLegal rows
-  pub walk : WalkOf walk rows
+  pub stands : WalkOf walk rows

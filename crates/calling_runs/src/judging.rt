@@ -3,11 +3,11 @@
 ghost use Rattle.std.specs.Prelude.{◌≡◌, ◌<◌, ◌↔◌, [], ℕ, List, Option, IfOk, OnOk, IfSome, IsNone, IsTrue, slice_index};
 ghost use Rattle.kt_spacetime.specs.declared.event.Event.{Event};
 ghost use Rattle.kt_log_text.specs.Reading.{rows_unread};
+ghost use Rattle.kt_log_text.specs.Texts.{IsLogText};
 ghost use Rattle.kt_cuts.specs.Past.{past};
 ghost use Rattle.kt_cuts.specs.Cuts.{IsOrphan, IsConsistent, permanent_cut};
 ghost use Rattle.kt_walk.specs.WalkOf.{WalkOf};
 ghost use Rattle.kt_checker.specs.Passing.{IsPassed};
-ghost use Rattle.kt_checker.specs.Streamed.{SaysRows};
 ghost use Rattle.calling_runs.specs.Walked.{IsWalkedText};
 
 use anyhow::Result;
@@ -69,11 +69,21 @@ fn permanent_orphan(walk: &Walk) -> Option<MsgNo>
 
 /// Whether a stored log passes with these certificates.
 fn passes<R: Read + Drop>(alloc: Global, text: R, certificates: &[Certificate]) -> Result<bool>
-    ensures { IfOk result (λ yes. (rows : List Event) → SaysRows (R.remaining text) rows
-        → IsTrue yes ↔ IsPassed rows certificates.now) }
+    ensures { IfOk result (λ yes. IfSome (rows_unread (R.remaining text)).left (λ records. (rows : List Event)
+        → IsLogText records rows → IsTrue yes ↔ IsPassed rows certificates.now)) }
 {
     let verdict = check_stream(alloc, text, certificates)?;
-    Ok(matches!(verdict, Verdict::Yes))
+    Ok(is_yes(verdict))
+}
+
+/// Whether an answer is a yes.
+pub(crate) fn is_yes(verdict: Verdict) -> bool
+    ensures { IsTrue result ↔ (verdict ≡ Verdict.Yes) }
+{
+    match verdict {
+        Verdict::Yes => true,
+        Verdict::No { .. } => false,
+    }
 }
 
 // Shows how many rows there are, where processes 0 and 1 stand, and the orphan of the permanent cut.

@@ -4,10 +4,11 @@ ghost use Rattle.std.specs.Prelude.{◌≡◌, ◌≢◌, ◌↔◌, true, IfOk,
 ghost use Rattle.kt_core.specs.Worlds.{IsAtRest};
 ghost use Rattle.kt_promises.specs.Headline.{IsPromised};
 
+use crate::judging::is_yes;
 use anyhow::{Result, ensure};
 use kt_base::ProcNo;
 use kt_certify::{CertFault, certify};
-use kt_checker::{Verdict, check};
+use kt_checker::check;
 use kt_core::{StepFault, World};
 use kt_plan::{Give, Look};
 use kt_scenario::parse;
@@ -77,7 +78,7 @@ pub(crate) fn gets_yes(alloc: Global, log: &SpaceTime) -> Result<bool, CertFault
 {
     let certificates = certify(alloc, log)?;
     let verdict = check(alloc, log, certificates.as_slice())?;
-    Ok(matches!(verdict, Verdict::Yes))
+    Ok(is_yes(verdict))
 }
 
 /// Shows what a stored scenario comes to where its processes make their steps by turns.
