@@ -11,11 +11,12 @@ ghost use Rattle.kt_checker.specs.Passing.{IsPassed};
 ghost use Rattle.calling_runs.specs.Walked.{IsWalkedText};
 
 use anyhow::Result;
-use kt_base::{MsgNo, ProcNo};
+use kt_base::{Memory, MsgNo, ProcNo};
 use kt_chain::{Certificate, read_certs};
-use kt_checker::{Verdict, check_stream};
+use kt_checker::{Verdict, check, check_stream};
 use kt_cuts::Cut;
 use kt_log_text::RowReader;
+use kt_spacetime::SpaceTime;
 use kt_walk::Walk;
 use std::alloc::Global;
 use std::fs;
@@ -76,8 +77,22 @@ fn passes<R: Read + Drop>(alloc: Global, text: R, certificates: &[Certificate]) 
     Ok(is_yes(verdict))
 }
 
+/// Whether a log passes with these certificates.
+pub(crate) fn log_passes(
+    alloc: Global,
+    log: &SpaceTime,
+    certificates: &[Certificate],
+) -> Result<bool, Memory>
+    ensures { IfOk result (λ yes. IsTrue yes ↔ IsPassed log.now.rows certificates.now) }
+{
+    match check(alloc, log, certificates) {
+        Ok(verdict) => Ok(is_yes(verdict)),
+        Err(fault) => Err(fault),
+    }
+}
+
 /// Whether an answer is a yes.
-pub(crate) fn is_yes(verdict: Verdict) -> bool
+fn is_yes(verdict: Verdict) -> bool
     ensures { IsTrue result ↔ (verdict ≡ Verdict.Yes) }
 {
     match verdict {
@@ -90,8 +105,13 @@ pub(crate) fn is_yes(verdict: Verdict) -> bool
 fn show_walk<R: Print>(rt: &R, walk: &Walk) -> Result<()> {
     let (p, q) = (ProcNo::nth(0), ProcNo::nth(1));
     let rows = walk.rows();
-    println!(rt; "{rows} rows; permanent {} of {}, {} of {}",
-        walk.permanent(p), walk.length(p), walk.permanent(q), walk.length(q))?;
+    println!(rt;
+        "{rows} rows; permanent {} of {}, {} of {}",
+        walk.permanent(p),
+        walk.length(p),
+        walk.permanent(q),
+        walk.length(q)
+    )?;
     match permanent_orphan(walk) {
         Some(msg) => println!(rt; "orphan {msg}")?,
         None => println!(rt; "no orphan")?,

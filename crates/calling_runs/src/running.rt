@@ -68,7 +68,7 @@ fn show_run<R: Host>(
 }
 
 // Shows what is left of a run.
-fn show_outcome<R: Host>(rt: &R, outcome: &Outcome) -> Result<()>
+fn show_outcome<R: Print + AllocGlobal>(rt: &R, outcome: &Outcome) -> Result<()>
     requires promised { IsPromised outcome.now.log.rows }
 {
     let rows = outcome.log.rows().len();
@@ -84,7 +84,7 @@ fn show_outcome<R: Host>(rt: &R, outcome: &Outcome) -> Result<()>
 }
 
 // Shows how many steps a process was told, and how many rows of its own they have.
-fn show_told<R: Host>(rt: &R, told: &[Told]) -> Result<()> {
+fn show_told<R: Print>(rt: &R, told: &[Told]) -> Result<()> {
     let mut rows: usize = 0;
     for told in told {
         rows = rows.saturating_add(told.rows.iter().flatten().count());
@@ -95,7 +95,7 @@ fn show_told<R: Host>(rt: &R, told: &[Told]) -> Result<()> {
 }
 
 // Shows what a process's object offers, and its saved state.
-fn show_held<R: Host>(rt: &R, held: &Held) -> Result<()> {
+fn show_held<R: Print + AllocGlobal>(rt: &R, held: &Held) -> Result<()> {
     let body = held.ask(rt.alloc(), Look::NeedsBody).give.body;
     let saved = held.depot.permanent();
     println!(rt; "offers {body}, saved {saved:?}")?;
@@ -103,7 +103,7 @@ fn show_held<R: Host>(rt: &R, held: &Held) -> Result<()> {
 }
 
 // Shows how many slots come free now, and how many are out then.
-fn show_slots<R: Host>(rt: &R, book: &mut SlotBook) -> Result<()> {
+fn show_slots<R: Print>(rt: &R, book: &mut SlotBook) -> Result<()> {
     let freed = book.collect();
     let out = book.out();
     println!(rt; "{freed} slots freed, {out} out")?;

@@ -4,11 +4,10 @@ ghost use Rattle.std.specs.Prelude.{◌≡◌, ◌≢◌, ◌↔◌, true, IfOk,
 ghost use Rattle.kt_core.specs.Worlds.{IsAtRest};
 ghost use Rattle.kt_promises.specs.Headline.{IsPromised};
 
-use crate::judging::is_yes;
+use crate::judging::log_passes;
 use anyhow::{Result, ensure};
 use kt_base::ProcNo;
 use kt_certify::{CertFault, certify};
-use kt_checker::check;
 use kt_core::{StepFault, World};
 use kt_plan::{Give, Look};
 use kt_scenario::parse;
@@ -70,15 +69,15 @@ fn give_for(look: Look) -> Give
     }
 }
 
-/// Whether the checker says yes to a log and the certificates that it has, if memory does not run out: it always does.
+/// Whether the checker says yes to a log and its own certificates: it always does.
 pub(crate) fn gets_yes(alloc: Global, log: &SpaceTime) -> Result<bool, CertFault>
     requires promised { IsPromised log.now.rows }
     ensures yes { IfOk result (λ yes. IsTrue yes) }
     ensures fault { IfErr result (λ fault. fault ≡ CertFault.Memory) }
 {
     let certificates = certify(alloc, log)?;
-    let verdict = check(alloc, log, certificates.as_slice())?;
-    Ok(is_yes(verdict))
+    let yes = log_passes(alloc, log, certificates.as_slice())?;
+    Ok(yes)
 }
 
 /// Shows what a stored scenario comes to where its processes make their steps by turns.
