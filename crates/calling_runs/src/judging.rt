@@ -37,7 +37,8 @@ fn walk_of<R: Read + Drop>(alloc: Global, text: R) -> Result<Walk>
 fn feed_all<R: Read + Drop>(walk: &mut Walk, rows: &mut RowReader<R>) -> Result<()>
     requires unread { (text : Option (List ℕ)) × (rows.old ≡ rows_unread text) }
     requires unfed { WalkOf walk.old [] }
-    ensures walked { (text : Option (List ℕ)) → rows.old ≡ rows_unread text → OnOk result (IsWalkedText text walk.new) }
+    ensures walked { (text : Option (List ℕ)) → rows.old ≡ rows_unread text
+        → OnOk result (IsWalkedText text walk.new) }
 {
     while let Some(row) = rows.next()? {
         walk.feed(&row)?;
@@ -70,8 +71,8 @@ fn permanent_orphan(walk: &Walk) -> Option<MsgNo>
 
 /// Whether a stored log passes with these certificates.
 fn passes<R: Read + Drop>(alloc: Global, text: R, certificates: &[Certificate]) -> Result<bool>
-    ensures { IfOk result (λ yes. IfSome (rows_unread (R.remaining text)).left (λ records. (rows : List Event)
-        → IsLogText records rows → IsTrue yes ↔ IsPassed rows certificates.now)) }
+    ensures { IfOk result (λ yes. IfSome (rows_unread (R.remaining text)).left (λ records.
+        (rows : List Event) → IsLogText records rows → IsTrue yes ↔ IsPassed rows certificates.now)) }
 {
     let verdict = check_stream(alloc, text, certificates)?;
     Ok(is_yes(verdict))
