@@ -5,20 +5,21 @@ ghost use Rattle.kt_promises.specs.Headline.{IsPromised};
 
 use crate::counter::{Count, Counter};
 use crate::stepping::gets_yes;
-use anyhow::{Result, anyhow};
+use anyhow::Result;
 use kt_base::Memory;
 use kt_held::{Cast, Held};
 use kt_object::{Object, SlotBook};
 use kt_plan::{Look, Plan, Told};
 use kt_program::cast_of;
-use kt_run::{Outcome, run};
+use kt_run::{Outcome, RunFault, run};
 use kt_scenario::parse;
-use kt_threads::live;
+use kt_threads::{LiveFault, live};
 use std::fs;
 use std::rt::Files;
 use std::sync::atomic::{AtomicU64, Ordering};
 use std::sync::{Arc, Wait};
 use std::thread::Threads;
+use thiserror::Error;
 
 /// What runs in threads need, and what shows them.
 pub(crate) trait Host: Files + Threads + Wait + Sync + Print + AllocGlobal {}
@@ -26,25 +27,34 @@ pub(crate) trait Host: Files + Threads + Wait + Sync + Print + AllocGlobal {}
 impl<R: Files + Threads + Wait + Sync + Print + AllocGlobal> Host for R {}
 
 /// One step after another, or each process in a thread of its own.
-#[derive(Clone, Copy, PartialEq, Eq)]
+#[derive(Clone, Copy)]
 enum Way {
     Run,
     Live,
 }
 
+/// Why there is no outcome.
+#[derive(Debug, Drop, Error)]
+enum NoOutcome {
+    #[error("{0}")]
+    Run(RunFault),
+    #[error("{0}")]
+    Live(LiveFault),
+}
+
 /// What is left of a run over these objects, in one way.
-fn outcome_of<R: Host>(rt: &R, way: Way, plan: &Plan, cast: Cast) -> Result<Outcome>
+fn outcome_of<R: Host>(rt: &R, way: Way, plan: &Plan, cast: Cast) -> Result<Outcome, NoOutcome>
     ensures settled { IfOk result (λ outcome. All (λ h. h.depot.tentative ≡ None) outcome.objects.items) }
     ensures promised { IfOk result (λ outcome. IsPromised outcome.log.rows) }
 {
     match way {
         Way::Run => match run(rt.alloc(), plan, &[], cast) {
             Ok(outcome) => Ok(outcome),
-            Err(fault) => Err(anyhow!("{fault}")),
+            Err(fault) => Err(NoOutcome::Run(fault)),
         },
         Way::Live => match live(rt, rt.alloc(), plan, cast) {
             Ok(outcome) => Ok(outcome),
-            Err(fault) => Err(anyhow!("{fault}")),
+            Err(fault) => Err(NoOutcome::Live(fault)),
         },
     }
 }
