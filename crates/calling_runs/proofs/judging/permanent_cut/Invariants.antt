@@ -1,0 +1,13 @@
+use Rattle.std.proofs.Common.{◌≡◌, ◌<◌, ℕ, List, length}
+use Rattle.std.specs.List.{slice_index}
+use Rattle.kt_spacetime.specs.declared.event.Event.{Event}
+use Rattle.kt_cuts.specs.Past.{past}
+use Rattle.kt_cuts.specs.Cuts.{permanent_cut}
+use Rattle.kt_walk.specs.WalkOf.{WalkOf}
+use Rattle.calling_runs.proofs.judging.permanent_cut.Given as goal
+
+abbrev pub invariant-loop-number : goal.invariant-loop-number
+invariant-loop-number l = record {
+  long : length l.cut ≡ 64;
+  lengths : (rows : List Event) (p : ℕ) → WalkOf l.walk rows → p < l.number → slice_index l.cut p ≡ permanent_cut (past rows) p;
+}

@@ -1,0 +1,136 @@
+//! A log judged row by row, and with its certificates.
+
+ghost use Rattle.std.specs.Prelude.{◌≡◌, ◌<◌, ◌↔◌, [], ℕ, List, Option, IfOk, OnOk, IfSome, IsNone, IsTrue, slice_index};
+ghost use Rattle.kt_spacetime.specs.declared.event.Event.{Event};
+ghost use Rattle.kt_log_text.specs.Reading.{rows_unread};
+ghost use Rattle.kt_log_text.specs.Texts.{IsLogText};
+ghost use Rattle.kt_cuts.specs.Past.{past};
+ghost use Rattle.kt_cuts.specs.Cuts.{IsOrphan, IsConsistent, permanent_cut};
+ghost use Rattle.kt_walk.specs.WalkOf.{WalkOf};
+ghost use Rattle.kt_checker.specs.Passing.{IsPassed};
+ghost use Rattle.calling_runs.specs.Walked.{IsWalkedText};
+
+use anyhow::Result;
+use kt_base::{Memory, MsgNo, ProcNo};
+use kt_chain::{Certificate, read_certs};
+use kt_checker::{Verdict, check, check_stream};
+use kt_cuts::Cut;
+use kt_log_text::RowReader;
+use kt_spacetime::SpaceTime;
+use kt_walk::Walk;
+use std::alloc::Global;
+use std::fs;
+use std::io::Read;
+use std::rt::Files;
+
+/// The walk of a stored log, which is legal.
+fn walk_of<R: Read + Drop>(alloc: Global, text: R) -> Result<Walk>
+    ensures { IfOk result (IsWalkedText (R.remaining text)) }
+{
+    let mut walk = Walk::new(alloc)?;
+    let mut rows = RowReader::new(alloc, text)?;
+    feed_all(&mut walk, &mut rows)?;
+    Ok(walk)
+}
+
+/// Feeds a walk all rows of a text, of which none was read or fed.
+fn feed_all<R: Read + Drop>(walk: &mut Walk, rows: &mut RowReader<R>) -> Result<()>
+    requires unread { (text : Option (List ℕ)) × (rows.old ≡ rows_unread text) }
+    requires unfed { WalkOf walk.old [] }
+    ensures walked { (text : Option (List ℕ)) → rows.old ≡ rows_unread text
+        → OnOk result (IsWalkedText text walk.new) }
+{
+    while let Some(row) = rows.next()? {
+        walk.feed(&row)?;
+    }
+    Ok(())
+}
+
+/// The cut of the permanent positions.
+fn permanent_cut(walk: &Walk) -> Cut
+    ensures { (rows : List Event) (p : ℕ) → WalkOf walk.now rows → p < 64
+        → slice_index result p ≡ permanent_cut (past rows) p }
+{
+    let mut cut = Cut::new([0; 64]);
+    for number in 0..ProcNo::COUNT {
+        let p = ProcNo::nth(number);
+        cut.set(p, walk.permanent(p));
+    }
+    cut
+}
+
+/// A message that the permanent cut has as received and not as sent; None where that cut is consistent.
+fn permanent_orphan(walk: &Walk) -> Option<MsgNo>
+    ensures orphan { IfSome result (λ msg. (rows : List Event) → WalkOf walk.now rows
+        → IsOrphan (past rows) (permanent_cut (past rows)) msg) }
+    ensures none { (rows : List Event) → WalkOf walk.now rows
+        → IsNone result ↔ IsConsistent (past rows) (permanent_cut (past rows)) }
+{
+    walk.orphan(&permanent_cut(walk))
+}
+
+/// Whether a stored log passes with these certificates.
+fn passes<R: Read + Drop>(alloc: Global, text: R, certificates: &[Certificate]) -> Result<bool>
+    ensures { IfOk result (λ yes. IfSome (rows_unread (R.remaining text)).left (λ records.
+        (rows : List Event) → IsLogText records rows → IsTrue yes ↔ IsPassed rows certificates.now)) }
+{
+    let verdict = check_stream(alloc, text, certificates)?;
+    Ok(is_yes(verdict))
+}
+
+/// Whether a log passes with these certificates.
+pub(crate) fn log_passes(
+    alloc: Global,
+    log: &SpaceTime,
+    certificates: &[Certificate],
+) -> Result<bool, Memory>
+    ensures { IfOk result (λ yes. IsTrue yes ↔ IsPassed log.now.rows certificates.now) }
+{
+    match check(alloc, log, certificates) {
+        Ok(verdict) => Ok(is_yes(verdict)),
+        Err(fault) => Err(fault),
+    }
+}
+
+/// Whether an answer is a yes.
+fn is_yes(verdict: Verdict) -> bool
+    ensures { IsTrue result ↔ (verdict ≡ Verdict.Yes) }
+{
+    match verdict {
+        Verdict::Yes => true,
+        Verdict::No { .. } => false,
+    }
+}
+
+// Shows how many rows there are, where processes 0 and 1 stand, and the orphan of the permanent cut.
+fn show_walk<R: Print>(rt: &R, walk: &Walk) -> Result<()> {
+    let (p, q) = (ProcNo::nth(0), ProcNo::nth(1));
+    let rows = walk.rows();
+    println!(rt;
+        "{rows} rows; permanent {} of {}, {} of {}",
+        walk.permanent(p),
+        walk.length(p),
+        walk.permanent(q),
+        walk.length(q)
+    )?;
+    match permanent_orphan(walk) {
+        Some(msg) => println!(rt; "orphan {msg}")?,
+        None => println!(rt; "no orphan")?,
+    }
+    Ok(())
+}
+
+/// Shows what a walk tells of a stored log, and what the checker says of it with stored certificates.
+pub(crate) fn show_judged<R: Files + Print + AllocGlobal>(
+    rt: &R,
+    log: &str,
+    cert: &str,
+) -> Result<()> {
+    let alloc = rt.alloc();
+    println!(rt; "{log}")?;
+    show_walk(rt, &walk_of(alloc, fs::open(rt, log)?)?)?;
+    let certificates = read_certs(alloc, fs::open(rt, cert)?)?;
+    let yes = passes(alloc, fs::open(rt, log)?, certificates.as_slice())?;
+    println!(rt; "passes: {yes}")?;
+    Ok(())
+}

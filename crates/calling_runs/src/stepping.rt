@@ -1,0 +1,92 @@
+//! A world stepped by a loop of one's own.
+
+ghost use Rattle.std.specs.Prelude.{◌≡◌, ◌≢◌, ◌↔◌, true, IfOk, IfErr, IsTrue};
+ghost use Rattle.kt_core.specs.Worlds.{IsAtRest};
+ghost use Rattle.kt_promises.specs.Headline.{IsPromised};
+
+use crate::judging::log_passes;
+use anyhow::{Result, ensure};
+use kt_base::ProcNo;
+use kt_certify::{CertFault, certify};
+use kt_core::{StepFault, World};
+use kt_plan::{Give, Look};
+use kt_scenario::parse;
+use kt_spacetime::SpaceTime;
+use std::alloc::Global;
+use std::fs;
+use std::rt::Files;
+
+// How many turns are taken at most.
+const MOST: u32 = 1_000_000;
+
+/// The log of a scenario, stepped to rest by turns.
+fn stepped(alloc: Global, scenario: &[u8]) -> Result<SpaceTime>
+    ensures { IfOk result (λ log. IsPromised log.rows) }
+{
+    let plan = parse(alloc, scenario)?;
+    let mut world = World::new(alloc, plan)?;
+    ensure!(step_by_turns(&mut world, MOST)?, "not at rest");
+    Ok(world.into_log())
+}
+
+/// The processes make a step each by turns, until all is at rest or so many turns were taken; whether it is at rest.
+fn step_by_turns(world: &mut World, most: u32) -> Result<bool, StepFault>
+    ensures rest { IfOk result (λ rests. IsTrue rests ↔ IsAtRest world.new) }
+    ensures plan { world.new.agenda.plan ≡ world.old.agenda.plan }
+    ensures fault { IfErr result (λ fault. fault ≢ StepFault.NotEnabled) }
+{
+    for turn in 0..most {
+        if world.at_rest() {
+            return Ok(true);
+        }
+        take_turn(world, ProcNo::nth((turn % 64) as u8))?;
+    }
+    Ok(world.at_rest())
+}
+
+/// A process makes its next step, where it has one.
+fn take_turn(world: &mut World, p: ProcNo) -> Result<(), StepFault>
+    ensures plan { world.new.agenda.plan ≡ world.old.agenda.plan }
+    ensures fault { IfErr result (λ fault. fault ≢ StepFault.NotEnabled) }
+{
+    let Some(step) = world.next_step_of(p) else {
+        return Ok(());
+    };
+    let give = give_for(world.look(&step));
+    match world.act(step, give) {
+        Ok(_acts) => Ok(()),
+        Err(fault) => Err(fault),
+    }
+}
+
+/// What a step is given here: an object can always be saved, and the body that it offers is 1.
+fn give_for(look: Look) -> Give
+    ensures able { look ≡ Look.NeedsSave → IsTrue result.able }
+{
+    Give {
+        able: matches!(look, Look::NeedsSave),
+        body: 1,
+    }
+}
+
+/// Whether the checker says yes to a log and its own certificates: it always does.
+pub(crate) fn gets_yes(alloc: Global, log: &SpaceTime) -> Result<bool, CertFault>
+    requires promised { IsPromised log.now.rows }
+    ensures yes { IfOk result (λ yes. IsTrue yes) }
+    ensures fault { IfErr result (λ fault. fault ≡ CertFault.Memory) }
+{
+    let certificates = certify(alloc, log)?;
+    let yes = log_passes(alloc, log, certificates.as_slice())?;
+    Ok(yes)
+}
+
+/// Shows what a stored scenario comes to where its processes make their steps by turns.
+pub(crate) fn show_stepped<R: Files + Print + AllocGlobal>(rt: &R, scenario: &str) -> Result<()> {
+    let alloc = rt.alloc();
+    let text = fs::read(rt, scenario)?;
+    let log = stepped(alloc, text.as_slice())?;
+    let rows = log.rows().len();
+    let yes = gets_yes(alloc, &log)?;
+    println!(rt; "{scenario}: {rows} rows, passes: {yes}")?;
+    Ok(())
+}
