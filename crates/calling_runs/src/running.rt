@@ -1,25 +1,23 @@
 //! Runs over objects of one's own, one step after another and in threads.
 
-ghost use Rattle.std.specs.Prelude.{◌≡◌, None, All, IfOk};
 ghost use Rattle.kt_promises.specs.Headline.{IsPromised};
 
 use crate::counter::{Count, Counter};
 use crate::stepping::gets_yes;
-use anyhow::Result;
+use anyhow::{Result, anyhow};
 use kt_base::Memory;
 use kt_held::{Cast, Held};
 use kt_object::{Object, SlotBook};
 use kt_plan::{Look, Plan, Told};
 use kt_program::cast_of;
-use kt_run::{Outcome, RunFault, run};
+use kt_run::{Outcome, run};
 use kt_scenario::parse;
-use kt_threads::{LiveFault, live};
+use kt_threads::live;
 use std::fs;
 use std::rt::Files;
 use std::sync::atomic::{AtomicU64, Ordering};
 use std::sync::{Arc, Wait};
 use std::thread::Threads;
-use thiserror::Error;
 
 /// What runs in threads need, and what shows them.
 pub(crate) trait Host: Files + Threads + Wait + Sync + Print + AllocGlobal {}
@@ -33,34 +31,29 @@ enum Way {
     Live,
 }
 
-/// Why there is no outcome.
-#[derive(Debug, Drop, Error)]
-enum NoOutcome {
-    #[error("{0}")]
-    Run(RunFault),
-    #[error("{0}")]
-    Live(LiveFault),
+/// Runs a plan over these objects, one step after another, and shows what is left of it.
+fn show_run<R: Print + AllocGlobal>(
+    rt: &R,
+    plan: &Plan,
+    cast: Cast,
+    book: &mut SlotBook,
+) -> Result<()> {
+    match run(rt.alloc(), plan, &[], cast) {
+        Ok(outcome) => show_outcome(rt, &outcome, book),
+        Err(fault) => Err(anyhow!("{fault}")),
+    }
 }
 
-/// What is left of a run over these objects, in one way.
-fn outcome_of<R: Host>(rt: &R, way: Way, plan: &Plan, cast: Cast) -> Result<Outcome, NoOutcome>
-    ensures settled { IfOk result (λ outcome. All (λ h. h.depot.tentative ≡ None) outcome.objects.items) }
-    ensures promised { IfOk result (λ outcome. IsPromised outcome.log.rows) }
-{
-    match way {
-        Way::Run => match run(rt.alloc(), plan, &[], cast) {
-            Ok(outcome) => Ok(outcome),
-            Err(fault) => Err(NoOutcome::Run(fault)),
-        },
-        Way::Live => match live(rt, rt.alloc(), plan, cast) {
-            Ok(outcome) => Ok(outcome),
-            Err(fault) => Err(NoOutcome::Live(fault)),
-        },
+/// The same with a thread for each process.
+fn show_live<R: Host>(rt: &R, plan: &Plan, cast: Cast, book: &mut SlotBook) -> Result<()> {
+    match live(rt, rt.alloc(), plan, cast) {
+        Ok(outcome) => show_outcome(rt, &outcome, book),
+        Err(fault) => Err(anyhow!("{fault}")),
     }
 }
 
 /// Runs a plan over counters in one way, and shows what is left of it.
-fn show_run<R: Host>(
+fn show_counters<R: Host>(
     rt: &R,
     way: Way,
     plan: &Plan,
@@ -72,13 +65,18 @@ fn show_run<R: Host>(
         let counter = Counter::new(book.open()?, Arc::try_clone(taken)?);
         Ok(Box::new(alloc, counter)?)
     })?;
-    let outcome = outcome_of(rt, way, plan, cast)?;
-    show_outcome(rt, &outcome)?;
-    show_slots(rt, book)
+    match way {
+        Way::Run => show_run(rt, plan, cast, book),
+        Way::Live => show_live(rt, plan, cast, book),
+    }
 }
 
-// Shows what is left of a run.
-fn show_outcome<R: Print + AllocGlobal>(rt: &R, outcome: &Outcome) -> Result<()>
+/// Shows what is left of a run, and which slots are out while it is there.
+fn show_outcome<R: Print + AllocGlobal>(
+    rt: &R,
+    outcome: &Outcome,
+    book: &mut SlotBook,
+) -> Result<()>
     requires promised { IsPromised outcome.now.log.rows }
 {
     let rows = outcome.log.rows().len();
@@ -90,7 +88,7 @@ fn show_outcome<R: Print + AllocGlobal>(rt: &R, outcome: &Outcome) -> Result<()>
     for held in &outcome.objects {
         show_held(rt, held)?;
     }
-    Ok(())
+    show_slots(rt, book)
 }
 
 // Shows how many steps a process was told, and how many rows of its own they have.
@@ -125,7 +123,7 @@ fn show_way<R: Host>(rt: &R, way: Way, plan: &Plan) -> Result<()> {
     let alloc = rt.alloc();
     let mut book = SlotBook::new(alloc);
     let taken = Arc::new(alloc, AtomicU64::new(0))?;
-    show_run(rt, way, plan, &mut book, &taken)?;
+    show_counters(rt, way, plan, &mut book, &taken)?;
     show_slots(rt, &mut book)?;
     let count = taken.load(Ordering::SeqCst);
     println!(rt; "taken in {count}")?;
