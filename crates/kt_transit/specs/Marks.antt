@@ -35,6 +35,7 @@ pub record Marking : Type 0 where
   pub marks : List Bool
   pub before : ℕ
 
+-- a power of two
 abbrev pub IsPower : ℕ → Type 0
 IsPower n = (k : ℕ) × (n ≡ 2 ^ k)
 

@@ -42,6 +42,7 @@ impl Counts {
     }
 
     /// Whether there are no marks.
+    #[inline(always)]
     pub(crate) fn is_empty(&self) -> bool
         ensures none { result ≡ true → self.now.marks ≡ [] }
         ensures some { result ≡ false → 0 < length self.now.marks }
@@ -64,6 +65,7 @@ impl Counts {
     }
 
     /// How many are set.
+    #[inline(always)]
     pub(crate) fn total(&self) -> usize
         requires { 0 < length self.now.marks }
         ensures { result ≡ ones self.now.marks }

@@ -47,6 +47,7 @@ impl GapBuffer {
     }
 
     /// How many messages there are.
+    #[inline(always)]
     pub(crate) fn len(&self) -> usize
         ensures length { result ≡ length self.now.messages }
         ensures room { result ≤ self.now.room }
@@ -55,6 +56,7 @@ impl GapBuffer {
     }
 
     /// The message at this place in their order.
+    #[inline(always)]
     pub(crate) fn get(&self, index: usize) -> Option<Sent>
         ensures { result ≡ slice_get self.now.messages index }
     {
@@ -66,6 +68,7 @@ impl GapBuffer {
     }
 
     /// Makes room for so many more; where there is too little, for twice as many, so that this is seldom.
+    #[inline(always)]
     pub(crate) fn reserve(&mut self, additional: usize) -> Result<(), Memory>
         ensures messages { self.new.messages ≡ self.old.messages }
         ensures room { self.old.room ≤ self.new.room }
@@ -91,6 +94,7 @@ impl GapBuffer {
     }
 
     /// Adds a message at the end, where there is room.
+    #[inline(always)]
     pub(crate) fn push(&mut self, message: Sent)
         requires { length self.old.messages < self.old.room }
         ensures { self.new ≡ record self.old { messages = self.old.messages ++ message ∷ [] } }
@@ -99,6 +103,7 @@ impl GapBuffer {
     }
 
     /// Takes the message at this place, and sets the cursor there; unchanged where there is no memory.
+    #[inline(always)]
     pub(crate) fn take(&mut self, index: usize) -> Result<(), Memory>
         requires { index < length self.old.messages }
         ensures ok { OnOk result (self.new ≡ record self.old { messages = remove self.old.messages index }) }
@@ -176,6 +181,7 @@ impl GapBuffer {
     }
 
     /// Where a message belongs.
+    #[inline(never)]
     pub(crate) fn place_of(&self, msg: MsgNo) -> usize
         ensures within { result ≤ length self.now.messages }
         ensures belongs { IsRising self.now.messages → Belongs msg self.now.messages result }
@@ -262,6 +268,7 @@ fn count_next_sent_before(messages: &VecDeque<Sent>, place: usize) -> usize
 }
 
 // Sets the cursor to this place; where there is no memory, it stays.
+#[inline(always)]
 fn seek(passed: &mut Vec<Sent>, next: &mut VecDeque<Sent>, index: usize) -> Result<(), Memory>
     requires within { index ≤ vec_len passed.old + deque_len next.old }
     requires room { vec_len passed.old + deque_len next.old ≤ deque_capacity next.old }
@@ -282,6 +289,7 @@ fn seek(passed: &mut Vec<Sent>, next: &mut VecDeque<Sent>, index: usize) -> Resu
 }
 
 // Takes the first message. A lone one is taken as the last, so that the next one comes to its place in memory.
+#[inline(always)]
 fn pop_first(next: &mut VecDeque<Sent>)
     requires { 0 < deque_len next.old }
     ensures rest { next.new.items ≡ drop 1 next.old.items }

@@ -18,7 +18,7 @@ pub struct Sent {
     pub place: u32,
 }
 
-// The most messages that are marked.
+// So many slots are not marked; they are more than messages have numbers.
 const MOST_MARKED: usize = 100_000_000;
 
 /// Messages in transit from one process to another, in the order of their sends. While they are taken from the front,
@@ -55,6 +55,7 @@ impl InTransit {
     }
 
     /// How many messages there are.
+    #[inline(always)]
     pub fn len(&self) -> usize
         ensures length { result ≡ length self.now.messages }
         ensures room { result ≤ self.now.room }
@@ -68,6 +69,7 @@ impl InTransit {
     }
 
     /// The message at this place in their order.
+    #[inline(always)]
     pub fn get(&self, index: usize) -> Option<Sent>
         ensures { result ≡ slice_get self.now.messages index }
     {
@@ -79,6 +81,7 @@ impl InTransit {
     }
 
     /// Makes room for so many more; where there is too little, for twice as many, so that this is seldom.
+    #[inline(always)]
     pub fn reserve(&mut self, additional: usize) -> Result<(), Memory>
         ensures messages { self.new.messages ≡ self.old.messages }
         ensures room { self.old.room ≤ self.new.room }
@@ -104,6 +107,7 @@ impl InTransit {
     }
 
     /// Adds a message at the end, where there is room.
+    #[inline(always)]
     pub fn push(&mut self, message: Sent)
         requires { length self.old.messages < self.old.room }
         ensures { self.new ≡ record self.old { messages = self.old.messages ++ message ∷ [] } }
@@ -115,6 +119,7 @@ impl InTransit {
     }
 
     /// The place of a message in their order.
+    #[inline(always)]
     pub fn find(&self, msg: MsgNo) -> Option<usize>
         ensures within { IfSome result (λ index. index < length self.now.messages) }
         ensures found { IfSome result (λ index. (a : Sent) × (slice_get self.now.messages index ≡ Some a)
@@ -186,6 +191,7 @@ impl InTransit {
     }
 
     // Where a message belongs.
+    #[inline(always)]
     fn place_of(&self, msg: MsgNo) -> usize
         ensures within { result ≤ length self.now.messages }
         ensures belongs { IsBySend self.now.messages → Belongs msg self.now.messages result }
@@ -200,6 +206,7 @@ impl InTransit {
 }
 
 // The marked message before which so many are marked.
+#[cold]
 fn get_marked(slots: &GapBuffer, marks: &Counts, index: usize) -> Option<Sent>
     requires some { 0 < length marks.now.marks }
     requires marked { IsMarked marks.now.marks slots.now.messages }
@@ -214,6 +221,7 @@ fn get_marked(slots: &GapBuffer, marks: &Counts, index: usize) -> Option<Sent>
 
 // Where there are no marks, and a message with this index is not taken in its turn, marks all slots, if the numbers of
 // their messages rise and there are not too many.
+#[inline(always)]
 fn begin_marks(slots: &GapBuffer, marks: &mut Counts, index: usize) -> Result<(), Memory>
     requires { 0 < length marks.old.marks → IsMarked marks.old.marks slots.now.messages }
     ensures marked { 0 < length marks.new.marks → IsMarked marks.new.marks slots.now.messages }
@@ -226,6 +234,7 @@ fn begin_marks(slots: &GapBuffer, marks: &mut Counts, index: usize) -> Result<()
 }
 
 // Marks all slots, if the numbers of their messages rise and there are not too many.
+#[cold]
 fn mark_slots(slots: &GapBuffer, marks: &mut Counts) -> Result<(), Memory>
     requires { marks.old.marks ≡ [] }
     ensures marked { 0 < length marks.new.marks → IsMarked marks.new.marks slots.now.messages }
@@ -268,6 +277,7 @@ fn cut_marks(marks: &mut Counts, from: usize, until: usize)
 }
 
 // Drops the slots of what was taken.
+#[cold]
 fn drop_taken(slots: &mut GapBuffer, marks: &mut Counts)
     requires some { 0 < length marks.old.marks }
     requires marked { IsMarked marks.old.marks slots.old.messages }
@@ -280,6 +290,7 @@ fn drop_taken(slots: &mut GapBuffer, marks: &mut Counts)
 
 // Makes room for so many more messages, and for one more slot at the end and those that can be put before all. Where
 // there is no memory, or more was taken than can be put back and is held, drops the slots of what was taken.
+#[cold]
 fn reserve_marked(slots: &mut GapBuffer, marks: &mut Counts, additional: usize) -> bool
     requires some { 0 < length marks.old.marks }
     requires marked { IsMarked marks.old.marks slots.old.messages }
@@ -310,6 +321,7 @@ fn is_crowded(slots: &GapBuffer, marks: &Counts, additional: usize) -> bool
 }
 
 // Marks the next slot, or drops those of what was taken where the next one cannot be marked.
+#[cold]
 fn mark_next(slots: &mut GapBuffer, marks: &mut Counts, msg: MsgNo)
     requires some { 0 < length marks.old.marks }
     requires marked { IsMarked marks.old.marks slots.old.messages }
@@ -381,6 +393,7 @@ fn taken_slot(slots: &GapBuffer, marks: &Counts, message: &Sent) -> Option<usize
 }
 
 // Puts a message back, where there are marks.
+#[cold]
 fn put_back_marked(slots: &mut GapBuffer, marks: &mut Counts, message: Sent)
     requires some { 0 < length marks.old.marks }
     requires marked { IsMarked marks.old.marks slots.old.messages }
@@ -396,8 +409,9 @@ fn put_back_marked(slots: &mut GapBuffer, marks: &mut Counts, message: Sent)
     }
 }
 
-// Puts a message back that has no slot. Where it is not the first, the slots of what was taken are dropped, which takes
-// time; no message that was received since the marks were begun comes here.
+// Puts a message back that has no slot: it was taken before the marks were begun, or its slot was dropped. Where it is
+// not the first, the slots of what was taken are dropped, which takes time that grows with the messages; what a receiver
+// rolls back comes in descending order, so this is once for all of them.
 fn put_back_without_slot(slots: &mut GapBuffer, marks: &mut Counts, message: Sent)
     requires some { 0 < length marks.old.marks }
     requires marked { IsMarked marks.old.marks slots.old.messages }
@@ -417,6 +431,7 @@ fn put_back_without_slot(slots: &mut GapBuffer, marks: &mut Counts, message: Sen
 }
 
 // How many marked messages were sent before this place.
+#[cold]
 fn count_marked_before(slots: &GapBuffer, marks: &Counts, place: usize) -> usize
     requires some { 0 < length marks.now.marks }
     requires marked { IsMarked marks.now.marks slots.now.messages }
