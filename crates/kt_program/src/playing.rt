@@ -22,6 +22,7 @@ use std::thread::Threads;
 /// certificates into files where these are named, and its report.
 ///
 /// Files are made once the scenario and the steps were taken, and emptied once both are open.
+#[inline(never)]
 pub(crate) fn play_files<F: Files, O: Write>(
     files: &F,
     alloc: Global,
@@ -46,6 +47,7 @@ pub(crate) fn play_files<F: Files, O: Write>(
 /// where these are named, and its report.
 ///
 /// Files are made once the scenario was taken, and emptied once both are open.
+#[inline(never)]
 pub(crate) fn live_files<F: Files + Threads + Wait + Sync, O: Write>(
     rt: &F,
     alloc: Global,

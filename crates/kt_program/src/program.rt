@@ -126,6 +126,7 @@ fn words_fault(error: &io::Error) -> ProgramFault
 }
 
 // Judges the log and the certificates in these files; true for a yes.
+#[inline(never)]
 fn check_files<F: Files, O: Write>(
     files: &F,
     alloc: Global,
