@@ -8,8 +8,8 @@ ghost use Rattle.kt_chain.specs.Texts.{IsCertText, IsFirstFault};
 use crate::certificate::Certificate;
 use crate::fault::CertTextFault;
 use crate::records::take_record;
-use csv::{ByteRecord, ReaderBuilder};
-use kt_text::records::next_record;
+use csv::ByteRecord;
+use kt_text::records::{next_record, read_records};
 use std::alloc::Global;
 use std::io::Read;
 
@@ -29,10 +29,7 @@ pub fn read_certs<R: Read + Drop>(
     ensures short { IfOk result (λ certificates. All HasShortChains certificates.items) }
     ensures fault { IfErr result (λ e. IfSome (R.remaining reader) (λ bytes. IsFirstFault (records default_config (strip_bom bytes)) e)) }
 {
-    let mut records = ReaderBuilder::new()
-        .has_headers(false)
-        .flexible(true)
-        .from_reader(alloc, reader);
+    let mut records = read_records(alloc, reader)?;
     let mut current = ByteRecord::new(alloc);
     let mut certificates = Vec::new(alloc);
     let mut count = 0;

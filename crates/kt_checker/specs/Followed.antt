@@ -5,6 +5,7 @@ use Rattle.kt_chain.specs.declared.certificate.Certificate.{Certificate}
 use Rattle.kt_checker.specs.declared.path.Step.{Step}
 use Rattle.kt_checker.specs.Passing.{IsChain}
 
+-- the message that leads over a step
 abbrev pub message_of : Step → ℕ
 message_of step = step.msg
 

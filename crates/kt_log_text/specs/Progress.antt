@@ -1,5 +1,5 @@
 -- How far a reader of rows is.
-use Rattle.std.specs.Prelude.{◌≡◌, ◌≤◌, ◌<◌, ◌^◌, ◌⊎◌, ℕ, Bool, List, [], ◌∷◌, Option, Some, None, option_map, true, false, length}
+use Rattle.std.specs.Prelude.{◌≡◌, ◌≤◌, ◌<◌, ◌^◌, ◌⊎◌, ℕ, Bool, List, [], ◌∷◌, Option, Some, None, true, false, length}
 use Rattle.csv.specs.declared.reader.Reader.{Reader}
 use Rattle.kt_spacetime.specs.declared.event.Event.{Event}
 use Rattle.kt_log_text.specs.declared.fault.LogFault.{LogFault}
@@ -15,6 +15,7 @@ use Rattle.kt_spacetime.specs.Events.{IsInRange}
 use Rattle.kt_log_text.specs.Spelling.{max_rows, IsInFormat}
 use Rattle.kt_log_text.specs.Texts.{header, IsTextFrom, IsUnmarked, IsOtherVersion, IsAfterRows}
 
+-- the records that are left: those that the reader has, none at the end, unknown after a fault
 abbrev pub left_at : {R : Type 0} → (R → Option (List ℕ)) → Reader R → Progress → Option (List (List (List ℕ)))
 left_at remaining records Reading = left_in remaining records
 left_at remaining records Ended = Some []
@@ -26,20 +27,23 @@ fault_at Reading = None
 fault_at Ended = None
 fault_at (Failed fault) = Some fault
 
+-- whether it came to the end
 abbrev pub has_ended : Progress → Bool
 has_ended Reading = false
 has_ended Ended = true
 has_ended (Failed fault) = false
 
+-- what callers see of a reader of rows
 abbrev pub rows_read : {R : Type 0} → (R → Option (List ℕ)) → Inside R → RowsRead
 rows_read remaining r = record {
-  left = left_at remaining r.records r.progress;
+  left = left_at remaining r.records.value r.progress;
   format = r.format;
   count = r.count;
   fault = fault_at r.progress;
   ended = has_ended r.progress;
 }
 
+-- while it reads, the reader of records can go on
 abbrev pub IsReading : {R : Type 0} → Reader R → Progress → Type 0
 IsReading records Reading = ReadsOn records
 IsReading records Ended = Unit {0}
@@ -50,8 +54,9 @@ abbrev pub IsCount : Option Format → ℕ → Type 0
 IsCount None count = count ≡ 0
 IsCount (Some format) count = count ≤ max_rows format
 
+-- a reader of rows can go on; it has counted no more rows than its format allows, and no more than 2^24
 abbrev pub IsSetUp : {R : Type 0} → Inside R → Type 0
-IsSetUp r = IsReading r.records r.progress × IsCount r.format r.count × (r.count ≤ 2 ^ 24)
+IsSetUp r = IsReading r.records.value r.progress × IsCount r.format r.count × (r.count ≤ 2 ^ 24)
 
 -- known records of which the first row has these fields
 abbrev pub TakesFields : Option Format → Format → Option (List (List (List ℕ))) → Option (List (List (List ℕ))) → List (List ℕ) → Type 0

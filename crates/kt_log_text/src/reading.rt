@@ -12,10 +12,10 @@ ghost use Rattle.kt_log_text.specs.Progress.{TakesFields, IsFormatOf, IsHeadFaul
 
 use crate::fault::LogFault;
 use crate::rows::{Format, event_of};
-use csv::{ByteRecord, Reader, ReaderBuilder};
+use csv::{ByteRecord, Reader};
 use kt_base::{Memory, RowNo};
 use kt_spacetime::{Event, SpaceTime};
-use kt_text::records::next_record;
+use kt_text::records::{next_record, read_records};
 use std::alloc::Global;
 use std::io::Read;
 use std::marker::Model;
@@ -184,7 +184,7 @@ fn read_row<R: Read>(
 /// row.
 #[derive(Drop)]
 pub struct RowReader<R: Read + Drop> {
-    records: Reader<R>,
+    records: Box<Reader<R>>,
     current: ByteRecord,
     // None before the first record was read.
     format: Option<Format>,
@@ -210,10 +210,7 @@ impl<R: Read + Drop> RowReader<R> {
         ensures { IfOk result (λ r. r ≡ rows_unread (R.remaining reader)) }
     {
         Ok(RowReader {
-            records: ReaderBuilder::new()
-                .has_headers(false)
-                .flexible(true)
-                .from_reader(alloc, reader),
+            records: read_records(alloc, reader)?,
             current: ByteRecord::new(alloc),
             format: None,
             count: 0,

@@ -9,6 +9,7 @@ use Rattle.kt_walk.specs.PartsOf.{PartsOf}
 abbrev pub parts_of : ControlState → ControlParts
 parts_of t = record { rows = t.rows; process_states = t.process_states.items; instances = t.instances.items; beginning = t.beginning; drops = t.drops }
 
+-- what is kept beside the messages is what these rows say
 abbrev pub ControlOf : ControlState → List Event → Type 0
 ControlOf t rows = PartsOf (parts_of t) rows
 

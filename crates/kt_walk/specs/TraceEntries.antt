@@ -1,5 +1,5 @@
 -- The messages of pairs of processes, with their numbers and their traces.
-use Rattle.std.specs.Prelude.{ℕ, ◌+◌, Option, Some, None, List, [], ◌∷◌, ◌++◌, map}
+use Rattle.std.specs.Prelude.{ℕ, ◌+◌, Some, None, List, [], ◌∷◌, ◌++◌, map}
 use Rattle.kt_cuts.specs.declared.traces.Trace.{Trace}
 use Rattle.kt_transit.specs.declared.in_transit.Sent.{Sent}
 use Rattle.kt_walk.specs.declared.queue.Arrival.{Arrival}

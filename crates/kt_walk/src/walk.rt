@@ -14,7 +14,7 @@ ghost use Rattle.kt_cuts.specs.Orphans.{IsOrphanBetween};
 ghost use Rattle.kt_transit.specs.declared.in_transit.Sent.{Sent};
 ghost use Rattle.kt_walk.specs.Keeping.{kept_trace, held_of};
 ghost use Rattle.kt_walk.specs.Arrivals.{KeepsPermanent};
-ghost use Rattle.kt_walk.specs.PartsOf.{takes_in_transit, follows, extends_history};
+ghost use Rattle.kt_walk.specs.PartsOf.{takes_in_transit, follows, moves_message};
 ghost use Rattle.kt_walk.specs.Pairs.{PairState};
 ghost use Rattle.kt_walk.specs.Searching.{IsFoundPast};
 ghost use Rattle.kt_walk.specs.WalkOf.{WalkOf, IsFoundAt};
@@ -71,14 +71,15 @@ impl Walk {
         match *row {
             Event::Sent { p, to, .. } => {
                 if !self.control.may_send(p, to) {
-                    self.test(row)?;
+                    self.test(row, false)?;
                 }
                 self.send(p, to)?;
                 Ok(())
             }
             Event::Received { p, from, msg } => self.feed_received(p, from, msg),
+            Event::Dropped { p, from, msg } => self.feed_dropped(p, from, msg),
             _ => {
-                self.test(row)?;
+                self.test(row, false)?;
                 self.add(row)?;
                 Ok(())
             }
@@ -98,26 +99,48 @@ impl Walk {
     {
         let Some((index, message)) = self.pairs.find(p, from, msg) else {
             // The message is not in transit, so the row breaks a rule.
-            return self.test(&Event::Received { p, from, msg });
+            return self.test(&Event::Received { p, from, msg }, false);
         };
         let in_turn = is_after(msg, self.pairs.last(p, from));
         if !self.control.may_receive(p, from, msg, in_turn) {
-            self.test(&Event::Received { p, from, msg })?;
+            self.test(&Event::Received { p, from, msg }, true)?;
         }
         self.receive(p, from, index, message)?;
         Ok(())
     }
 
+    // Takes a row that drops a message.
+    fn feed_dropped(&mut self, p: ProcNo, from: ProcNo, msg: MsgNo) -> Result<(), LegalFault>
+        requires few { self.old.rows < 2 ^ 24 }
+        ensures fed { OnOk result ((rows : List Event) → WalkOf self.old rows
+            → IsLegal (rows ++ event.Dropped p from msg ∷ [])
+            × WalkOf self.new (rows ++ event.Dropped p from msg ∷ [])) }
+        ensures broken { (number : ℕ) (rule : Rule) → result ≡ Err (fault.Broken number rule) → (rows : List Event)
+            → WalkOf self.old rows → IsLegal rows
+            × (first_broken (rows ++ event.Dropped p from msg ∷ []) ≡ Some (number, rule)) }
+        ensures unchanged { OnErr result (self.new ≡ self.old) }
+    {
+        let Some((index, message)) = self.pairs.find(p, from, msg) else {
+            // The message is not in transit, so the row breaks a rule.
+            return self.test(&Event::Dropped { p, from, msg }, false);
+        };
+        self.test(&Event::Dropped { p, from, msg }, true)?;
+        self.drop_message(p, from, index, message)?;
+        Ok(())
+    }
+
     // The number of the next row and the least rule that it breaks, where it breaks one; it is tested rule by rule.
+    // Whether the message that it takes is in transit is given.
     #[inline(never)]
-    fn test(&self, row: &Event) -> Result<(), LegalFault>
+    fn test(&self, row: &Event, is_in_transit: bool) -> Result<(), LegalFault>
         requires few { self.now.rows < 2 ^ 24 }
         ensures unbroken { OnOk result ((rows : List Event) → WalkOf self.now rows
+            → is_in_transit ≡ takes_in_transit (past rows) row.now
             → broken_rule (past rows) row.now ≡ None) }
         ensures broken { (number : ℕ) (rule : Rule) → result ≡ Err (fault.Broken number rule) → (rows : List Event)
-            → WalkOf self.now rows → IsLegal rows × (first_broken (rows ++ row.now ∷ []) ≡ Some (number, rule)) }
+            → WalkOf self.now rows → is_in_transit ≡ takes_in_transit (past rows) row.now
+            → IsLegal rows × (first_broken (rows ++ row.now ∷ []) ≡ Some (number, rule)) }
     {
-        let is_in_transit = self.takes_in_transit(row);
         let in_turn = self.follows(row);
         match self.control.broken_rule(row, is_in_transit, in_turn) {
             Some(rule) => Err(LegalFault::Broken(RowNo::after(self.control.rows), rule)),
@@ -150,16 +173,15 @@ impl Walk {
         }
     }
 
-    // Takes one more row that breaks no rule, and neither sends nor receives a message.
+    // Takes one more row that breaks no rule, and neither sends, receives nor drops a message.
     fn add(&mut self, row: &Event) -> Result<(), Memory>
         requires few { self.old.rows < 2 ^ 24 }
-        requires other { extends_history row.now ≡ false }
+        requires other { moves_message row.now ≡ false }
         ensures fed { OnOk result ((rows : List Event) → WalkOf self.old rows
             → broken_rule (past rows) row.now ≡ None → WalkOf self.new (rows ++ row.now ∷ [])) }
         ensures unchanged { OnErr result (self.new ≡ self.old) }
     {
         match *row {
-            Event::Dropped { p, from, msg } => self.drop_message(p, from, msg),
             Event::Decided { inst, commit, .. } => {
                 self.pairs.shrink();
                 self.control.decide(&mut self.pairs, inst, commit);
@@ -211,17 +233,22 @@ impl Walk {
         Ok(())
     }
 
-    // A process drops a message, which breaks no rule.
-    fn drop_message(&mut self, p: ProcNo, from: ProcNo, msg: MsgNo) -> Result<(), Memory>
+    // A process drops a message, which breaks no rule, at this place among those in transit.
+    fn drop_message(
+        &mut self,
+        p: ProcNo,
+        from: ProcNo,
+        index: usize,
+        message: Sent,
+    ) -> Result<(), Memory>
         requires few { self.old.rows < 2 ^ 24 }
+        requires found { IsFoundAt self.old.pair_states p from index message }
         ensures fed { OnOk result ((rows : List Event) → WalkOf self.old rows
-            → broken_rule (past rows) (event.Dropped p from msg) ≡ None
-            → WalkOf self.new (rows ++ event.Dropped p from msg ∷ [])) }
+            → broken_rule (past rows) (event.Dropped p from message.msg) ≡ None
+            → WalkOf self.new (rows ++ event.Dropped p from message.msg ∷ [])) }
         ensures unchanged { OnErr result (self.new ≡ self.old) }
     {
-        let Some((index, message)) = self.pairs.find(p, from, msg) else {
-            return Ok(());
-        };
+        let msg = message.msg;
         self.pairs.drop_message(p, from, index, message)?;
         self.control.drop_message(p, from, msg);
         Ok(())

@@ -10,9 +10,9 @@ returns-in-Err-clause-fault g c =
     let remaining = g.R.Read.remaining in
     let before = c.loop-certificates.certificates.items in
     let few : record_count before < max_records = omega (arith, c.if-count-eq-MAX_RECORDS.false, c.loop-certificates.invariant.few, c.loop-certificates.invariant.counted) in
-    let read = c.in_ok-next_record.ensures.found c.if-branch.true in
+    let read = rw c.deref_mut.ensures.value at (c.in_ok-next_record.ensures.found c.if-branch.true) in
     rw c.at.ensures
-    (record_fault (remaining c.args.reader) (left_in remaining c.loop-certificates.records) (left_in remaining c.next_record.new.records) before (fields_of c.next_record.new.current)
+    (record_fault (remaining c.args.reader) (left_in remaining c.loop-certificates.records.value) (left_in remaining c.next_record.new.records) before (fields_of c.next_record.new.current)
     (c.loop-certificates.count + 1) c.in-Err.fault c.loop-certificates.invariant.begins read.1 (omega (arith, c.loop-certificates.invariant.counted)) few c.in-Err.ensures.fault)
 
 pub loop-certificates-preserved : goal.loop-certificates-preserved
@@ -20,11 +20,11 @@ loop-certificates-preserved g c =
     let remaining = g.R.Read.remaining in
     let before = c.loop-certificates.certificates.items in
     let few : record_count before < max_records = omega (arith, c.if-count-eq-MAX_RECORDS.false, c.loop-certificates.invariant.few, c.loop-certificates.invariant.counted) in
-    let read = c.in_ok-next_record.ensures.found c.if-branch.true in
+    let read = rw c.deref_mut.ensures.value at (c.in_ok-next_record.ensures.found c.if-branch.true) in
     let taken = c.in_default.ensures.taken in
     record {
       reading = read.0;
-      begins = begins_more (remaining c.args.reader) (left_in remaining c.loop-certificates.records) (left_in remaining c.next_record.new.records) before c.take_record.new.certificates.items
+      begins = begins_more (remaining c.args.reader) (left_in remaining c.loop-certificates.records.value) (left_in remaining c.next_record.new.records) before c.take_record.new.certificates.items
           (fields_of c.next_record.new.current) c.loop-certificates.invariant.begins read.1 taken few;
       in_range = taken.in_range c.loop-certificates.invariant.in_range;
       counted = omega (arith, c.loop-certificates.invariant.counted, count_more before c.take_record.new.certificates.items (fields_of c.next_record.new.current) taken);
@@ -39,6 +39,6 @@ returns-then-count-eq-MAX_RECORDS-clause-fault g c =
     let remaining = g.R.Read.remaining in
     let before = c.loop-certificates.certificates.items in
     let full : record_count before ≡ max_records = omega (arith, c.if-count-eq-MAX_RECORDS.true, c.loop-certificates.invariant.counted) in
-    let read = c.in_ok-next_record.ensures.found c.if-branch.true in
-    too_long (remaining c.args.reader) (left_in remaining c.loop-certificates.records) (left_in remaining c.next_record.new.records) before (fields_of c.next_record.new.current)
+    let read = rw c.deref_mut.ensures.value at (c.in_ok-next_record.ensures.found c.if-branch.true) in
+    too_long (remaining c.args.reader) (left_in remaining c.loop-certificates.records.value) (left_in remaining c.next_record.new.records) before (fields_of c.next_record.new.current)
     c.loop-certificates.invariant.begins read.1 full

@@ -1,8 +1,7 @@
-use Rattle.std.proofs.Common.{◌≡◌, ℕ, ◌≤◌, ◌<◌, Some, refl, arith, sym, ◌∙◌}
-use Rattle.std.specs.List.{slice_get}
+use Rattle.std.proofs.Common.{refl, arith, sym, ◌∙◌}
 use Rattle.std.proofs.lemmas.List.{length-set}
 use Rattle.std.proofs.lemmas.Option.{slice_get-get_or}
-use Rattle.kt_walk.specs.Pairs.{PairState, IsPairCommitted, received_from_of}
+use Rattle.kt_walk.specs.Pairs.{IsPairCommitted, received_from_of}
 use Rattle.kt_walk.proofs.PairsFacts.{mapped_length}
 use Rattle.kt_walk.proofs.UsedFacts.{swept_start, swept_to, swept_next, swept_all, in_use_kept, in_use_removed, stays, used_if_among}
 use Rattle.kt_walk.proofs.pairs.commit_all.Goals as goal

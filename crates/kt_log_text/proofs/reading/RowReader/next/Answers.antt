@@ -3,4 +3,4 @@ use Rattle.kt_log_text.proofs.reading.RowReader.next.Goals as goal
 
 pub returns-in-Err-clause-steps : goal.returns-in-Err-clause-steps
 returns-in-Err-clause-steps g c =
-    rw (← c.self.view_is, c.in-Reading.is) (record { kept = refl; still = refl; first = λ _. c.in-Err.ensures.fault })
+    rw (← c.self.view_is, c.in-Reading.is) (record { kept = refl; still = refl; first = λ _. rw c.deref_mut.ensures.value at c.in-Err.ensures.fault })
