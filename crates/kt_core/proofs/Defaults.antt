@@ -25,7 +25,7 @@ use Rattle.kt_promises.proofs.OnlyDefault.{only_first}
 use Rattle.kt_promises.proofs.RunSteps.{rest_seen}
 use Rattle.kt_core.specs.Agendas.{Agenda, place_of, next_command, open_command}
 use Rattle.kt_core.specs.Worlds.{World, may_do, can_do, enabled, IsAtRest, IsNextDo, IsDefaultStep}
-use Rattle.kt_core.specs.Shown.{IsRun, command_shown, plan_shown, step_shown}
+use Rattle.kt_core.specs.Shown.{Mirrors, command_shown, plan_shown, step_shown}
 use Rattle.kt_core.proofs.Places.{HasPlaces, next_is, next_shown}
 use Rattle.kt_core.proofs.ShownPlans.{plan_is}
 use Rattle.kt_core.proofs.Quiet.{quiet_shown, quiet_from}
@@ -57,7 +57,7 @@ earlier_taker p q u r h = grind (arith, nat_tests, h)
 earlier_sender : (p q u r : ℕ) → p ≡ u → q < r → (nat_lt p u || (p == u && nat_lt q r)) ≡ true
 earlier_sender p q u r e h = grind (arith, nat_tests, e, h)
 
-module _ (w : World) (first : ℕ) (v : run_world.World) (r : IsRun w.agenda w.system first v) where
+module _ (w : World) (first : ℕ) (v : run_world.World) (r : Mirrors w.agenda w.system first v) where
   abbrev pub plan : run.Plan
   plan = plan_shown w.agenda.plan
 

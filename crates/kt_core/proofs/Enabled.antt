@@ -19,7 +19,7 @@ use Rattle.kt_core.specs.Agendas.{next_command, if_open}
 use Rattle.kt_core.specs.Worlds.{World, is_send, may_do, can_do, enabled, refusal, is_full, lacks_label}
 use Rattle.kt_core.specs.declared.faults.StepFault.{StepFault}
 use Rattle.kt_core.specs.declared.faults.StepFault.TheVariants.{NotEnabled, LogFull, LabelsSpent}
-use Rattle.kt_core.specs.Shown.{IsRun, command_shown, plan_shown, job_shown, step_shown}
+use Rattle.kt_core.specs.Shown.{Mirrors, command_shown, plan_shown, job_shown, step_shown}
 use Rattle.kt_core.proofs.Places.{next_is, next_shown}
 use Rattle.kt_core.proofs.ShownPlans.{plan_is}
 use Rattle.kt_core.proofs.Quiet.{AreNumbered, closed_is, can_take_is}
@@ -54,7 +54,7 @@ phase_test c a v e h = go (nat_le c a) refl
     go true f = (let k : (c == v) ≡ true = grind (arith, nat_tests, e, h, f) in k)
     go false f = (let k : (c == v) ≡ false = grind (arith, nat_tests, e, h, f) in k)
 
-module _ (w : World) (first : ℕ) (v : run_world.World) (r : IsRun w.agenda w.system first v) where
+module _ (w : World) (first : ℕ) (v : run_world.World) (r : Mirrors w.agenda w.system first v) where
   size : w.system.size ≡ length w.agenda.plan.names
   size = r.size
 
@@ -87,7 +87,7 @@ module _ (w : World) (first : ℕ) (v : run_world.World) (r : IsRun w.agenda w.s
       (ap (λ (n : ℕ). nat_lt p n) size) (ap (λ (n : ℕ). nat_lt q n) size) (λ e f. can_take_is w.system v.now p q r.now num (below p w.system.size e))
 
 -- a step that can be made is one of each run that leads to the world
-pub IfSome-enabled_in_run : (w : World) (first : ℕ) (v : run_world.World) → IsRun w.agenda w.system first v → (found : Option Step) → IfSome found (λ x. enabled w x ≡ true)
+pub IfSome-enabled_in_run : (w : World) (first : ℕ) (v : run_world.World) → Mirrors w.agenda w.system first v → (found : Option Step) → IfSome found (λ x. enabled w x ≡ true)
     → IfSome found (λ x. run_after.enabled (plan_shown w.agenda.plan) v (step_shown x) ≡ true)
 IfSome-enabled_in_run w first v r None h = tt
 IfSome-enabled_in_run w first v r (Some x) h = sym (enabled_is w first v r x) ∙ h

@@ -43,7 +43,7 @@ use Rattle.kt_promises.proofs.RunsEnd.{fewer_begun_seen, raised_seen}
 use Rattle.kt_promises.proofs.RunSteps.{start_reached_seen, next_reached_seen}
 use Rattle.kt_core.specs.Agendas.{Agenda, place_of, next_command, if_open, open_command, IsNextOf, IsLeastPhase}
 use Rattle.kt_core.specs.Worlds.{SettlesIn}
-use Rattle.kt_core.specs.Shown.{IsRun, command_shown, plan_shown, job_shown, give_shown, tally_shown}
+use Rattle.kt_core.specs.Shown.{Mirrors, command_shown, plan_shown, job_shown, give_shown, tally_shown}
 use Rattle.kt_core.proofs.ShownPlans.{plan_is}
 use Rattle.kt_core.proofs.Quiet.{AreNumbered, quiet_shown, quiet_from, quiet_opening}
 use Rattle.kt_core.proofs.Tallied.{taken_is, tallies_lead}
@@ -98,10 +98,10 @@ phase_after a b s first v w i r h shows size num settles forward quiet same p c 
         ]
 
 -- a step that is enabled, after which phases open
-step_leads : (plan : Planned) (nx ny : List ℕ) (k l : ℕ) (s t : Whole) (first : ℕ) (v : run_world.World) (x : run_steps.Step) (g : run_steps.Give) → IsRun (agenda plan nx k) s first v → run_after.enabled (plan_shown plan) v x ≡ true →
+step_leads : (plan : Planned) (nx ny : List ℕ) (k l : ℕ) (s t : Whole) (first : ℕ) (v : run_world.World) (x : run_steps.Step) (g : run_steps.Give) → Mirrors (agenda plan nx k) s first v → run_after.enabled (plan_shown plan) v x ≡ true →
     SettlesIn t (agenda plan ny k) (agenda plan ny l) → Shows t (run_after.world_after (plan_shown plan) v x g).now → HasPlaces (agenda plan ny l) (run_after.world_after (plan_shown plan) v x g) → t.size ≡ length plan.names → AreNumbered t →
     ((p : ℕ) (c : Command) → p < 64 → next_command (agenda plan ny l) p ≡ Some c → k ≡ v.phase) → (taken : List Parcel) → ((f g : Parcel → Bool) → ((x : Parcel) → f x ≡ g x) → count_by f taken ≡ run_tallies.taken_off v.now x g) → TalliesPut taken s t →
-    IsRun (agenda plan ny l) t first (run_after.world_after (plan_shown plan) v x g)
+    Mirrors (agenda plan ny l) t first (run_after.world_after (plan_shown plan) v x g)
 step_leads plan nx ny k l s t first v x g r e settles shows places size num phase taken off counted = record {
   limits = r.limits;
   size = size;
@@ -140,16 +140,16 @@ pub open_is_next : (a : Agenda) (p : ℕ) (c : Command) → open_command a p ≡
 open_is_next a p c e = if_open_is a.phase (next_command a p) c e
 
 -- as long as a command is left, not all instances have begun
-begun_few : (a : Agenda) (s : Whole) (first : ℕ) (v : run_world.World) (p : ℕ) (c : Command) → IsRun a s first v → run_world.next_command (plan_shown a.plan) v p ≡ Some (command_shown c) → s.begun < 4096
+begun_few : (a : Agenda) (s : Whole) (first : ℕ) (v : run_world.World) (p : ℕ) (c : Command) → Mirrors a s first v → run_world.next_command (plan_shown a.plan) v p ≡ Some (command_shown c) → s.begun < 4096
 begun_few a s first v p c r there = let f = fewer_begun_seen (plan_shown a.plan) first v (plan_is a.plan r.limits) r.reached p (command_shown c) there in let n = length-map a.plan.commands command_shown in let k = r.limits.few in let z = r.now.begun in omega (arith, f, n, k, z)
 
 -- a command: the system makes the step, the agenda goes on from a to m, and phases open from m to b
-pub do_leads : (a m b : Agenda) (s t : Whole) (p : ℕ) (c : Command) (give : Give) (first : ℕ) (v : run_world.World) → IsRun a s first v → p < 64 → open_command a p ≡ Some c → run_after.enabled (plan_shown a.plan) v (run_steps.Do p) ≡ true →
+pub do_leads : (a m b : Agenda) (s t : Whole) (p : ℕ) (c : Command) (give : Give) (first : ℕ) (v : run_world.World) → Mirrors a s first v → p < 64 → open_command a p ≡ Some c → run_after.enabled (plan_shown a.plan) v (run_steps.Do p) ≡ true →
     (Shows s v.now → s.begun < 4096 → Speaks ((transition v.now (run_steps.protocol_step p (job_shown c.job) (give_shown give))).people p).calls → Shows t (transition v.now (run_steps.protocol_step p (job_shown c.job) (give_shown give)))) →
     m.plan ≡ a.plan → m.phase ≡ a.phase → (place_of a p < length a.plan.commands → IsNextOf a.plan.commands p (place_of a p + 1) (place_of m p)) → ((q : ℕ) → q ≢ p → place_of m q ≡ place_of a q) →
-    b.plan ≡ m.plan → b.next ≡ m.next → SettlesIn t m b → t.size ≡ length a.plan.names → AreNumbered t → TalliesPut [] s t → IsRun b t first (run_after.world_after (plan_shown a.plan) v (run_steps.Do p) (give_shown give))
+    b.plan ≡ m.plan → b.next ≡ m.next → SettlesIn t m b → t.size ≡ length a.plan.names → AreNumbered t → TalliesPut [] s t → Mirrors b t first (run_after.world_after (plan_shown a.plan) v (run_steps.Do p) (give_shown give))
 do_leads a m b s t p c give first v r low opened e shows mp mk mn mo bp bn settles size num counted =
-    subst (λ (z : Agenda). IsRun z t first w) (sym (same_agenda b a.plan m.next b.phase (bp ∙ mp) bn refl))
+    subst (λ (z : Agenda). Mirrors z t first w) (sym (same_agenda b a.plan m.next b.phase (bp ∙ mp) bn refl))
     (step_leads a.plan a.next m.next a.phase b.phase s t first v (run_steps.Do p) (give_shown give) r e (settles_as t m b a.plan a.phase mp mk bp bn settles) seen
     (places_after a (agenda a.plan m.next b.phase) v w p r.places low refl within (mn within) mo is.done) size num (λ q d under f. r.phase p c low next) [] (λ f g h. refl) counted)
   where
@@ -181,11 +181,11 @@ do_leads a m b s t p c give first v r low opened e shows mp mk mn mo bp bn settl
     seen = subst (λ (x : Seen). Shows t x) (sym is.now) (shows r.now begun (speaks_next_seen plan first v limits r.reached (run_steps.protocol_step p (job_shown c.job) (give_shown give)) p))
 
 -- a take
-pub take_leads : (a b : Agenda) (s t : Whole) (p q : ℕ) (give : Give) (first : ℕ) (v : run_world.World) → IsRun a s first v → run_after.enabled (plan_shown a.plan) v (run_steps.Take p q) ≡ true →
+pub take_leads : (a b : Agenda) (s t : Whole) (p q : ℕ) (give : Give) (first : ℕ) (v : run_world.World) → Mirrors a s first v → run_after.enabled (plan_shown a.plan) v (run_steps.Take p q) ≡ true →
     (Shows s v.now → Speaks ((transition v.now (machine.Take p q give.able)).people p).calls → Shows t (transition v.now (machine.Take p q give.able))) →
-    b.plan ≡ a.plan → b.next ≡ a.next → SettlesIn t a b → t.size ≡ length a.plan.names → AreNumbered t → TalliesPut (taken_off s p q) s t → IsRun b t first (run_after.world_after (plan_shown a.plan) v (run_steps.Take p q) (give_shown give))
+    b.plan ≡ a.plan → b.next ≡ a.next → SettlesIn t a b → t.size ≡ length a.plan.names → AreNumbered t → TalliesPut (taken_off s p q) s t → Mirrors b t first (run_after.world_after (plan_shown a.plan) v (run_steps.Take p q) (give_shown give))
 take_leads a b s t p q give first v r e shows bp bn settles size num counted =
-    subst (λ (z : Agenda). IsRun z t first w) (sym (same_agenda b a.plan a.next b.phase bp bn refl))
+    subst (λ (z : Agenda). Mirrors z t first w) (sym (same_agenda b a.plan a.next b.phase bp bn refl))
     (step_leads a.plan a.next a.next a.phase b.phase s t first v (run_steps.Take p q) (give_shown give) r e (settles_as t a b a.plan a.phase refl refl bp bn settles) seen
     (places_same a (agenda a.plan a.next b.phase) v w r.places refl refl is.done) size num (λ u d under f. r.phase u d under f) (taken_off s p q) (λ f g h. taken_is f g h s v.now p q r.now r.numbered there) counted)
   where
@@ -209,9 +209,9 @@ take_leads a b s t p q give first v r e shows bp bn settles size num counted =
 
 -- at the start phases open from a to b
 pub start_leads : (a b : Agenda) (s : Whole) (first : ℕ) → IsPlan a.plan → s.size ≡ length a.plan.names → AreNumbered s → Shows s (opening_seen (length a.plan.names) first) → ((p : ℕ) → p < 64 → IsNextOf a.plan.commands p 0 (place_of a p)) → b.plan ≡ a.plan → b.next ≡ a.next →
-    ((least : ℕ) → IsLeastPhase b least → b.phase ≡ least) → length a.plan.commands ≤ length s.put → ((k : ℕ) → tally_of s k ≡ none_counted) → IsRun b s first (run_world.start_world (plan_shown a.plan) first)
+    ((least : ℕ) → IsLeastPhase b least → b.phase ≡ least) → length a.plan.commands ≤ length s.put → ((k : ℕ) → tally_of s k ≡ none_counted) → Mirrors b s first (run_world.start_world (plan_shown a.plan) first)
 start_leads a b s first i size num shows n bp bn opens room none =
-    subst (λ (z : Agenda). IsRun z s first w) (sym same) (record {
+    subst (λ (z : Agenda). Mirrors z s first w) (sym same) (record {
       limits = i;
       size = size;
       numbered = num;
@@ -249,7 +249,7 @@ numbered_same : (s t : Whole) → IsSame t s → AreNumbered s → AreNumbered t
 unfolding person
 numbered_same s t e num p l = subst (λ (people : List Person). IsNumbered (part_of (slice_index_or people p nobody).side)) (sym e.people) (num p (let z = e.size in omega (arith, l, z)))
 
-pub run_same : (a : Agenda) (s t : Whole) (first : ℕ) (v : run_world.World) → IsSame t s → IsRun a s first v → IsRun a t first v
+pub run_same : (a : Agenda) (s t : Whole) (first : ℕ) (v : run_world.World) → IsSame t s → Mirrors a s first v → Mirrors a t first v
 run_same a s t first v e r = record {
   limits = r.limits;
   size = e.size ∙ r.size;
@@ -269,7 +269,7 @@ whose p job.Rollback g = refl
 whose p job.Fail g = refl
 
 -- the acts of a command, and of a take, are those of the run's step
-pub do_acts : (a : Agenda) (s : Whole) (p : ℕ) (c : Command) (give : Give) (first : ℕ) (v : run_world.World) (told : List Act) → IsRun a s first v → p < 64 → open_command a p ≡ Some c → run_after.enabled (plan_shown a.plan) v (run_steps.Do p) ≡ true →
+pub do_acts : (a : Agenda) (s : Whole) (p : ℕ) (c : Command) (give : Give) (first : ℕ) (v : run_world.World) (told : List Act) → Mirrors a s first v → p < 64 → open_command a p ≡ Some c → run_after.enabled (plan_shown a.plan) v (run_steps.Do p) ≡ true →
     (Shows s v.now → s.begun < 4096 → told ≡ seen_acts v.now (run_steps.protocol_step p (job_shown c.job) (give_shown give))) → told ≡ acts_of_step (plan_shown a.plan) v (run_steps.Do p) (give_shown give) p
 do_acts a s p c give first v told r low opened e shows =
     let plan = plan_shown a.plan in
@@ -280,6 +280,6 @@ do_acts a s p c give first v told r low opened e shows =
     ∙ (sym (seen_acts_are plan first v (run_steps.Do p) (give_shown give) y limits r.reached e (ap (steps_of_command p (give_shown give)) there))
     ∙ ap (acts_of_step plan v (run_steps.Do p) (give_shown give)) (whose p c.job (give_shown give)))
 
-pub take_acts : (a : Agenda) (s : Whole) (p q : ℕ) (give : Give) (first : ℕ) (v : run_world.World) (told : List Act) → IsRun a s first v → run_after.enabled (plan_shown a.plan) v (run_steps.Take p q) ≡ true →
+pub take_acts : (a : Agenda) (s : Whole) (p q : ℕ) (give : Give) (first : ℕ) (v : run_world.World) (told : List Act) → Mirrors a s first v → run_after.enabled (plan_shown a.plan) v (run_steps.Take p q) ≡ true →
     (Shows s v.now → told ≡ seen_acts v.now (machine.Take p q give.able)) → told ≡ acts_of_step (plan_shown a.plan) v (run_steps.Take p q) (give_shown give) p
 take_acts a s p q give first v told r e shows = shows r.now ∙ sym (seen_acts_are (plan_shown a.plan) first v (run_steps.Take p q) (give_shown give) (machine.Take p q give.able) (plan_is a.plan r.limits) r.reached e refl)

@@ -34,7 +34,7 @@ use Rattle.kt_promises.specs.Tallies.{has_parcel}
 use Rattle.kt_promises.proofs.PeopleKeep.{held_seen}
 use Rattle.kt_core.specs.Agendas.{open_command}
 use Rattle.kt_core.specs.Worlds.{World, may_do, can_do, enabled, look_of_job, look_of_step, look}
-use Rattle.kt_core.specs.Shown.{IsRun, plan_shown, step_shown, job_shown, look_shown}
+use Rattle.kt_core.specs.Shown.{Mirrors, plan_shown, step_shown, job_shown, look_shown}
 use Rattle.kt_core.proofs.Places.{next_shown}
 use Rattle.kt_core.proofs.ShownPlans.{plan_is}
 use Rattle.kt_core.proofs.Quiet.{closed_is}
@@ -119,7 +119,7 @@ parcel_look x v first p q true held sent e h n m = front_look x v p q sent h n
 parcel_look x v first p q false [] sent e h n m = front_look x v p q sent h n
 parcel_look x v first p q false (y ∷ ys) sent e h n m = held_look x first v.log q y ys m
 
-module _ (w : World) (first : ℕ) (v : run_world.World) (r : IsRun w.agenda w.system first v) where
+module _ (w : World) (first : ℕ) (v : run_world.World) (r : Mirrors w.agenda w.system first v) where
   abbrev pub plan : run.Plan
   plan = plan_shown w.agenda.plan
 

@@ -56,7 +56,7 @@ tally_shown put k = record { asks = put.asks k; replies = put.replies k; decisio
 -- a run of the plan, where counters of labels begin after this one, leads to v; and that is what the processes keep, which
 -- commands are done, as long as one is left which phase is open, and what each instance has put into channels: there is a
 -- tally for each one that may begin
-pub record IsRun (a : Agenda) (s : Whole) (first : ℕ) (v : run_world.World) : Type 0 where
+pub record Mirrors (a : Agenda) (s : Whole) (first : ℕ) (v : run_world.World) : Type 0 where
   pub limits : IsPlan a.plan
   pub size : s.size ≡ length a.plan.names
   pub numbered : (p : ℕ) → p < s.size → IsNumbered (part_of (person s p).side)
@@ -69,4 +69,4 @@ pub record IsRun (a : Agenda) (s : Whole) (first : ℕ) (v : run_world.World) : 
 
 -- some run does
 abbrev pub IsReached : Agenda → Whole → Type 0
-IsReached a s = (first : ℕ) × (v : run_world.World) × IsRun a s first v
+IsReached a s = (first : ℕ) × (v : run_world.World) × Mirrors a s first v

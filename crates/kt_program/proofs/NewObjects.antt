@@ -1,14 +1,25 @@
 -- What is written of runs, and over new objects.
-use Rattle.std.proofs.Common.{inl, inr, List}
+use Rattle.std.proofs.Common.{◌≡◌, ◌<◌, ◌++◌, ℕ, false, refl, length, inl, inr, List, map}
 use Rattle.std.specs.Prelude.{Result, Ok, Err, OnOk, IfErr}
+use Rattle.kt_held.specs.Casts.{HasSizes, HasKind}
+use Rattle.kt_run.specs.Faults as run
+use Rattle.kt_run.specs.declared.faults.RunFault.{RunFault}
+use Rattle.kt_run.specs.declared.faults.RunFault.TheVariants as run_fault
+use Rattle.kt_threads.specs.Faults as threads
+use Rattle.kt_threads.specs.declared.faults.LiveFault.{LiveFault}
+use Rattle.kt_threads.specs.declared.faults.LiveFault.TheVariants as live_fault
+use Rattle.kt_plan.specs.declared.steps.Step.{Step}
+use Rattle.kt_program.specs.Ending.{AppendsReport}
 use Rattle.kt_held.specs.Holdings.{Content}
 use Rattle.kt_plan.specs.Limits.{Planned}
 use Rattle.kt_plan.specs.declared.steps.Told.{Told}
+use Rattle.kt_run.specs.Runs.{IsLogOfRun, IsPlayed}
 use Rattle.kt_threads.specs.Histories.{IsLived}
+use Rattle.kt_threads.specs.Moves.{move_of}
 use Rattle.kt_spacetime.specs.declared.event.Event.{Event}
 use Rattle.kt_program.specs.declared.fault.AppFault.{AppFault}
 use Rattle.kt_program.specs.declared.fault.AppFault.TheVariants as app
-use Rattle.kt_program.specs.Played.{Outputs, IsWritten, AreNew, OverNew, IsLogOfRun, StopsWithin, StopsAt}
+use Rattle.kt_program.specs.Played.{Outputs, IsWritten, AreNew, OverNew, StopsWithin, StopsAt}
 
 -- what is written of such rows is written of others that they are
 module _ (Are Be : List Event → Type 0) (so : (rows : List Event) → Are rows → Be rows) (old new : Outputs) where
@@ -41,6 +52,43 @@ if_err_so P Q (Err fault) f h = f fault h
 pub over_new : (plan : Planned) (Are : List (List Content) → List Event → Type 0) (cast : List (List Content)) → AreNew plan cast → (rows : List Event) → Are cast rows → OverNew plan Are rows
 over_new plan Are cast new rows run = (cast, new, run)
 
+-- objects that are as many as a plan asks for, of its kinds, are no fault
+module _ (plan : Planned) (given : List (List ℕ)) (sizes : HasSizes plan.kinds plan.commands given)
+    (kinds : (p : ℕ) → p < length plan.kinds → HasKind plan.kinds given p) where
+  pub right_for_run : (fault : RunFault) → run.Answers plan given fault → run.is_of_cast fault ≡ false
+  right_for_run run_fault.CastSize a = absurd (a sizes)
+  right_for_run (run_fault.CastKind p) a = absurd (a.other (kinds p a.there))
+  right_for_run (run_fault.Object p) a = refl
+  right_for_run (run_fault.Journal p) a = refl
+  right_for_run (run_fault.Step done why) a = refl
+  right_for_run run_fault.Memory a = refl
+
+  pub right_for_live : (fault : LiveFault) → threads.Answers plan given fault → threads.is_of_cast fault ≡ false
+  right_for_live live_fault.CastSize a = absurd (a sizes)
+  right_for_live (live_fault.CastKind p) a = absurd (a.other (kinds p a.there))
+  right_for_live (live_fault.Object p) a = refl
+  right_for_live (live_fault.Journal p) a = refl
+  right_for_live (live_fault.Step why) a = refl
+  right_for_live live_fault.Spawn a = refl
+  right_for_live live_fault.Differ a = refl
+  right_for_live live_fault.Memory a = refl
+
+-- what is written of a run over new objects is its report
+pub report_of_written : (plan : Planned) (Are : List (List Content) → List Event → Type 0)
+    → ((cast : List (List Content)) (rows : List Event) → Are cast rows → IsLogOfRun plan cast rows)
+    → (old new : Outputs) → IsWritten (OverNew plan Are) plan old new → AppendsReport old.report new.report
+report_of_written plan Are so old new w = record {
+  plan = plan;
+  rows = w.rows;
+  run = (w.run.0, w.run.1, so w.run.0 w.rows w.run.2);
+  promised = w.promised;
+  report = w.writes.report;
+}
+
+-- a run that is played is a run
+pub log_of_played : (plan : Planned) (cast : List (List Content)) (steps : List Step) (rows : List Event) → IsPlayed plan cast steps rows → IsLogOfRun plan cast rows
+log_of_played plan cast steps rows p = (p.given ++ p.more, p.run)
+
 -- what threads made
 pub log_of_lived : (plan : Planned) (cast : List (List Content)) (rows : List Event) (told : List (List Told)) → IsLived plan cast rows told → IsLogOfRun plan cast rows
-log_of_lived plan cast rows told l = record { steps = l.steps; moves = l.moves; offers = l.offers }
+log_of_lived plan cast rows told l = (map move_of l.steps, l.run)

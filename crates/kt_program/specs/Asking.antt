@@ -37,10 +37,10 @@ abbrev pub AreAnswered : List Text → (ErrorKind → Type 0) → Type 0
 AreAnswered words P = (e : Error) × IsErrorFor words e × P (kind_of e)
 
 -- whether a scenario is to be run, serially with steps that may be given, or by threads; or a stored run judged
-abbrev pub IsRun : Asked → Type 0
-IsRun (Play scenario steps log cert) = Unit {0}
-IsRun (Live scenario log cert) = Unit {0}
-IsRun (Check log cert) = ⊥
+abbrev pub IsOfRun : Asked → Type 0
+IsOfRun (Play scenario steps log cert) = Unit {0}
+IsOfRun (Live scenario log cert) = Unit {0}
+IsOfRun (Check log cert) = ⊥
 
 abbrev pub IsPlay : Asked → Type 0
 IsPlay (Play scenario steps log cert) = Unit {0}
@@ -61,15 +61,15 @@ Ask words P = (asked : Asked) × Names (subcommand_of definition words) asked ×
 -- and a scenario or steps where they name them; other faults come with any words
 abbrev pub DoneFor : List Text → Done → Type 0
 DoneFor words (Judged passed) = Ask words IsCheck
-DoneFor words Played = Ask words IsRun
+DoneFor words Played = Ask words IsOfRun
 DoneFor words Shown = AreAnswered words IsRequest
 
 abbrev pub RefusedFor : List Text → ProgramFault → Type 0
 RefusedFor words program.Line = AreAnswered words IsMistake ⊎ NameTwice words
 RefusedFor words program.SameFile = Ask words IsWriting
-RefusedFor words (program.Scenario fault) = Ask words IsRun
+RefusedFor words (program.Scenario fault) = Ask words IsOfRun
 RefusedFor words (program.Steps fault) = Ask words IsPlay
-RefusedFor words program.Read = Ask words IsRun
+RefusedFor words program.Read = Ask words IsOfRun
 RefusedFor words (program.App fault) = Unit {0}
 
 -- why the text of an error of such a kind is not shown: it is a mistake, or that is a fault of writing or of memory

@@ -12,8 +12,9 @@ use Rattle.kt_program.specs.declared.fault.AppFault.{AppFault}
 use Rattle.kt_program.specs.declared.fault.AppFault.TheVariants as app
 use Rattle.kt_program.specs.declared.fault.ProgramFault.{ProgramFault}
 use Rattle.kt_program.specs.declared.fault.ProgramFault.TheVariants as program
-use Rattle.kt_program.specs.Asking.{Ask, IsRun}
-use Rattle.kt_program.specs.Played.{WritesReport, IsLogOfPlan}
+use Rattle.kt_program.specs.Asking.{Ask, IsOfRun}
+use Rattle.kt_run.specs.Runs.{IsLogOfRun}
+use Rattle.kt_program.specs.Played.{OverNew, WritesReport}
 use Rattle.kt_program.specs.Status.{status_of}
 use Rattle.kt_program.specs.Stored.{Told, is_yes, line_of}
 
@@ -26,11 +27,11 @@ abbrev pub LeavesAnswer : Result Bool AppFault → Told → Told → Type 0
 LeavesAnswer (Ok passed) old new = AppendsAnswer passed old new
 LeavesAnswer (Err fault) old new = fault ≢ app.Write → new ≡ old
 
--- the report of a run of a plan, of which all is so that is promised of a run
+-- the report of a run of a plan over new objects, of which all is so that is promised of a run
 pub record AppendsReport (old new : Told) : Type 0 where
   pub plan : Planned
   pub rows : List Event
-  pub run : IsLogOfPlan plan rows
+  pub run : OverNew plan (IsLogOfRun plan) rows
   pub promised : IsPromised rows
   pub report : WritesReport old new plan rows
 
@@ -69,7 +70,7 @@ LeavesDone Shown old new = Unit {0}
 
 -- a fault where part of a report may be written: there was no memory for more of it
 abbrev pub IsInReport : List Text → ProgramFault → Type 0
-IsInReport words fault = (fault ≡ program.App app.Memory) × Ask words IsRun
+IsInReport words fault = (fault ≡ program.App app.Memory) × Ask words IsOfRun
 
 -- what these words leave
 abbrev pub Leaves : List Text → Result Done ProgramFault → Told → Told → Type 0

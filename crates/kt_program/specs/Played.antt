@@ -5,6 +5,8 @@ use Rattle.kt_held.specs.Holdings.{Content, content}
 use Rattle.kt_object.specs.Value.{opening}
 use Rattle.kt_spacetime.specs.declared.event.Event.{Event}
 use Rattle.kt_text.specs.Writing.{text_of}
+use Rattle.kt_text.specs.declared.fault.WriteFault.{WriteFault}
+use Rattle.kt_text.specs.declared.fault.WriteFault.TheVariants as write
 use Rattle.kt_log_text.specs.Spelling.{spelling}
 use Rattle.kt_log_text.specs.Texts.{header}
 use Rattle.kt_chain.specs.Spelling.{records_of}
@@ -14,16 +16,9 @@ use Rattle.kt_certify.specs.declared.fault.CertFault.TheVariants as certify
 use Rattle.kt_report.specs.Exact.{report_of}
 use Rattle.kt_plan.specs.Limits.{Planned}
 use Rattle.kt_promises.specs.Headline.{IsPromised}
-use Rattle.kt_core.specs.Shown.{plan_shown}
-use Rattle.kt_promises.specs.Offers.{offer_places, AreOfferedAt}
-use Rattle.kt_promises.specs.World.{start_world}
-use Rattle.kt_plan.specs.declared.steps.Step.{Step}
-use Rattle.kt_run.specs.Objects.{first_of, rules_by}
-use Rattle.kt_run.specs.Runs.{IsRunOf}
+use Rattle.kt_run.specs.Objects.{first_of}
 use Rattle.kt_run.specs.declared.faults.RunFault.{RunFault}
 use Rattle.kt_run.specs.declared.faults.RunFault.TheVariants as run
-use Rattle.kt_threads.specs.Moves as threads
-use Rattle.kt_threads.specs.declared.state.Made.{Made}
 use Rattle.kt_threads.specs.declared.faults.LiveFault.{LiveFault}
 use Rattle.kt_threads.specs.declared.faults.LiveFault.TheVariants as live
 use Rattle.kt_program.specs.declared.fault.AppFault.{AppFault}
@@ -73,18 +68,6 @@ AreNew plan cast = (p : ℕ) → p < length plan.kinds
 abbrev pub OverNew : Planned → (List (List Content) → List Event → Type 0) → List Event → Type 0
 OverNew plan Are rows = (cast : List (List Content)) × AreNew plan cast × Are cast rows
 
--- these are the rows of a run of a plan that has come to rest, in whatever order its steps were made; each body that a
--- command leaves to the object, of those that each process is given, is what that offers at its row
-pub record IsLogOfRun (plan : Planned) (cast : List (List Content)) (rows : List Event) : Type 0 where
-  pub steps : List Made
-  pub moves : threads.IsRunOf plan steps rows
-  pub offers : AreOfferedAt (rules_by cast) rows
-      (offer_places (plan_shown plan) (start_world (plan_shown plan) 0) (map threads.move_of steps))
-
--- these are the rows of some run of a plan over new objects: one that is played, or one of threads
-abbrev pub IsLogOfPlan : Planned → List Event → Type 0
-IsLogOfPlan plan rows = ((steps : List Step) × OverNew plan (λ cast. IsRunOf plan cast steps) rows) ⊎ OverNew plan (IsLogOfRun plan) rows
-
 -- a fault of a run, as the program answers it
 abbrev pub of_run : RunFault → AppFault
 of_run run.Memory = app.Memory
@@ -99,6 +82,11 @@ of_live fault = app.Live fault
 abbrev pub of_cert_fault : CertFault → AppFault
 of_cert_fault certify.Memory = app.Memory
 of_cert_fault fault = app.Uncertified fault
+
+-- a fault of a text that is written, as the program answers it
+abbrev pub of_writing : WriteFault → AppFault
+of_writing write.Write = app.Write
+of_writing write.Memory = app.Memory
 
 -- a fault that comes of writing
 abbrev pub IsOfWriting : AppFault → Type 0

@@ -1,12 +1,20 @@
 //! The objects that a run begins with.
 
-ghost use Rattle.std.specs.Prelude.{◌≡◌, ◌<◌, ◌+◌, ℕ, Ok, IfOk, IfErr, OnOk, All, length, map};
+ghost use Rattle.std.specs.Prelude.{◌≡◌, ◌<◌, ◌+◌, ℕ, List, false, Ok, IfOk, IfErr, OnOk, All, length, map};
+ghost use Rattle.kt_core.specs.declared.faults.StepFault.{StepFault};
+ghost use Rattle.kt_held.specs.Holdings.{Content};
 ghost use Rattle.kt_object.specs.Value.{opening};
 ghost use Rattle.kt_plan.specs.Limits.{IsKind};
 ghost use Rattle.kt_held.specs.Casts.{failures_of, HasSizes, HasKind};
 ghost use Rattle.kt_program.specs.CastRows.{IsCast};
-ghost use Rattle.kt_run.specs.Runs.{IsRunOf};
-ghost use Rattle.kt_program.specs.Played.{IsLogOfRun, IsWritten, OverNew, StopsAt, outputs};
+ghost use Rattle.kt_run.specs.Faults.{is_of_cast};
+ghost use Rattle.kt_run.specs.Refused.{IsRefused};
+ghost use Rattle.kt_run.specs.Runs.{IsLogOfRun, IsPlayed};
+ghost use Rattle.kt_run.specs.declared.faults.RunFault.{RunFault};
+ghost use Rattle.kt_run.specs.declared.faults.RunFault.TheVariants as run_fault;
+ghost use Rattle.kt_threads.specs.Faults as threads;
+ghost use Rattle.kt_threads.specs.declared.faults.LiveFault.{LiveFault};
+ghost use Rattle.kt_program.specs.Played.{AreNew, IsWritten, OverNew, StopsAt, outputs};
 
 use crate::fault::AppFault;
 use crate::played::{live_plan, play_plan};
@@ -78,12 +86,16 @@ pub fn play_objects<L: Write, C: Write, R: Write>(
     cert_writer: &mut C,
     report_writer: &mut R,
 ) -> Result<(), AppFault>
-    ensures played { OnOk result (IsWritten (OverNew plan.now (λ cast. IsRunOf plan.now cast steps.now)) plan.now
+    ensures played { OnOk result (IsWritten (OverNew plan.now (λ cast. IsPlayed plan.now cast steps.now)) plan.now
         (outputs (L.contents log_writer.old) (C.contents cert_writer.old) (R.contents report_writer.old))
         (outputs (L.contents log_writer.new) (C.contents cert_writer.new) (R.contents report_writer.new))) }
-    ensures stopped { IfErr result (StopsAt (OverNew plan.now (λ cast. IsRunOf plan.now cast steps.now))
+    ensures stopped { IfErr result (StopsAt (OverNew plan.now (λ cast. IsPlayed plan.now cast steps.now))
         (outputs (L.contents log_writer.old) (C.contents cert_writer.old) (R.contents report_writer.old))
         (outputs (L.contents log_writer.new) (C.contents cert_writer.new) (R.contents report_writer.new))) }
+    // New objects are as many as the plan asks for, of its kinds; a step is refused only where those before it are a run.
+    ensures fault { IfErr result (λ e. (fault : RunFault) → e ≡ AppFault.Run fault → is_of_cast fault ≡ false) }
+    ensures refused { IfErr result (λ e. (done : ℕ) (why : StepFault) → e ≡ AppFault.Run (run_fault.Step done why) →
+        (cast : List (List Content)) × AreNew plan.now cast × IsRefused plan.now cast steps.now done why) }
 {
     let _processes = plan.size();
     let mut book = SlotBook::new(alloc);
@@ -124,12 +136,16 @@ fn play_cast<L: Write, C: Write, R: Write>(
     requires kinds { (p : ℕ) → p < length plan.now.kinds →
         HasKind plan.now.kinds (map (λ row. map (λ b. kind_of b) row.items) cast.items) p }
     requires opening { All (λ row. All (λ b. value_of b ≡ opening (kind_of b)) row.items) cast.items }
-    ensures played { OnOk result (IsWritten (OverNew plan.now (λ cast. IsRunOf plan.now cast steps.now)) plan.now
+    ensures played { OnOk result (IsWritten (OverNew plan.now (λ cast. IsPlayed plan.now cast steps.now)) plan.now
         (outputs (L.contents log_writer.old) (C.contents cert_writer.old) (R.contents report_writer.old))
         (outputs (L.contents log_writer.new) (C.contents cert_writer.new) (R.contents report_writer.new))) }
-    ensures stopped { IfErr result (StopsAt (OverNew plan.now (λ cast. IsRunOf plan.now cast steps.now))
+    ensures stopped { IfErr result (StopsAt (OverNew plan.now (λ cast. IsPlayed plan.now cast steps.now))
         (outputs (L.contents log_writer.old) (C.contents cert_writer.old) (R.contents report_writer.old))
         (outputs (L.contents log_writer.new) (C.contents cert_writer.new) (R.contents report_writer.new))) }
+    // New objects are as many as the plan asks for, of its kinds; a step is refused only where those before it are a run.
+    ensures fault { IfErr result (λ e. (fault : RunFault) → e ≡ AppFault.Run fault → is_of_cast fault ≡ false) }
+    ensures refused { IfErr result (λ e. (done : ℕ) (why : StepFault) → e ≡ AppFault.Run (run_fault.Step done why) →
+        (cast : List (List Content)) × AreNew plan.now cast × IsRefused plan.now cast steps.now done why) }
 {
     play_plan(
         alloc,
@@ -157,6 +173,8 @@ pub fn live_objects<T: Threads + Wait + Sync, L: Write, C: Write, R: Write>(
     ensures stopped { IfErr result (StopsAt (OverNew plan.now (IsLogOfRun plan.now))
         (outputs (L.contents log_writer.old) (C.contents cert_writer.old) (R.contents report_writer.old))
         (outputs (L.contents log_writer.new) (C.contents cert_writer.new) (R.contents report_writer.new))) }
+    // New objects are as many as the plan asks for, of its kinds.
+    ensures fault { IfErr result (λ e. (fault : LiveFault) → e ≡ AppFault.Live fault → threads.is_of_cast fault ≡ false) }
 {
     let _processes = plan.size();
     let mut book = SlotBook::new(alloc);
@@ -203,6 +221,8 @@ fn live_cast<T: Threads + Wait + Sync, L: Write, C: Write, R: Write>(
     ensures stopped { IfErr result (StopsAt (OverNew plan.now (IsLogOfRun plan.now))
         (outputs (L.contents log_writer.old) (C.contents cert_writer.old) (R.contents report_writer.old))
         (outputs (L.contents log_writer.new) (C.contents cert_writer.new) (R.contents report_writer.new))) }
+    // New objects are as many as the plan asks for, of its kinds.
+    ensures fault { IfErr result (λ e. (fault : LiveFault) → e ≡ AppFault.Live fault → threads.is_of_cast fault ≡ false) }
 {
     live_plan(
         rt,

@@ -4,6 +4,7 @@ ghost use Rattle.std.specs.Prelude.{◌≡◌};
 ghost use Rattle.kt_program.specs.declared.fault.AppFault.TheVariants as app;
 ghost use Rattle.kt_program.specs.declared.fault.ProgramFault.TheVariants as program;
 ghost use Rattle.kt_program.specs.Faults.{fault_status, refusal_status};
+ghost use Rattle.kt_program.specs.Played.{of_cert_fault, of_live, of_run, of_writing};
 
 use kt_base::Memory;
 use kt_certify::CertFault;
@@ -12,6 +13,7 @@ use kt_core::StepFault;
 use kt_log_text::LogFault;
 use kt_run::RunFault;
 use kt_scenario::{ScenarioFault, StepsFault};
+use kt_text::WriteFault;
 use kt_threads::LiveFault;
 use thiserror::Error;
 
@@ -64,6 +66,50 @@ impl From<Memory> for AppFault {
 
     fn from(_fault: Memory) -> AppFault {
         AppFault::Memory
+    }
+}
+
+impl From<RunFault> for AppFault {
+    ghost from_gives = { λ fault f. f ≡ of_run fault };
+
+    fn from(fault: RunFault) -> AppFault {
+        match fault {
+            RunFault::Memory => AppFault::Memory,
+            _ => AppFault::Run(fault),
+        }
+    }
+}
+
+impl From<LiveFault> for AppFault {
+    ghost from_gives = { λ fault f. f ≡ of_live fault };
+
+    fn from(fault: LiveFault) -> AppFault {
+        match fault {
+            LiveFault::Memory => AppFault::Memory,
+            _ => AppFault::Live(fault),
+        }
+    }
+}
+
+impl From<CertFault> for AppFault {
+    ghost from_gives = { λ fault f. f ≡ of_cert_fault fault };
+
+    fn from(fault: CertFault) -> AppFault {
+        match fault {
+            CertFault::Memory => AppFault::Memory,
+            _ => AppFault::Uncertified(fault),
+        }
+    }
+}
+
+impl From<WriteFault> for AppFault {
+    ghost from_gives = { λ fault f. f ≡ of_writing fault };
+
+    fn from(fault: WriteFault) -> AppFault {
+        match fault {
+            WriteFault::Write => AppFault::Write,
+            WriteFault::Memory => AppFault::Memory,
+        }
     }
 }
 

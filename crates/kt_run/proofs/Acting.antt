@@ -29,7 +29,7 @@ use Rattle.kt_system.specs.ShownActs.{acts_shown}
 use Rattle.kt_values.specs.Done.{done}
 use Rattle.kt_values.specs.Values as values
 use Rattle.kt_values.specs.Values.{Rules, Due, due, first_due, acts_along}
-use Rattle.kt_core.specs.Shown.{IsRun, plan_shown, step_shown, give_shown, look_shown}
+use Rattle.kt_core.specs.Shown.{Mirrors, plan_shown, step_shown, give_shown, look_shown}
 use Rattle.kt_core.specs.Worlds.{World, stepper}
 use Rattle.kt_core.proofs.ShownPlans.{plan_is}
 use Rattle.kt_run.specs.Objects.{Belongings, belongings_of, first_of, rules_by, HoldDue}
@@ -68,13 +68,13 @@ given_offer first (Some value) present body up is asked = ap Some (sym (subst (�
 
 module _ {X : Type 0} (f : X → Belongings) (xs : List X) (i : ℕ) (x y : X) (at : slice_get xs i ≡ Some x)
     (old new : World) (before after : List (List Told)) (step : Step) (place : i ≡ stepper step) (give : Give) (acts : List Act) (l : Look)
-    (looks : (first : ℕ) (v : run_world.World) → IsRun old.agenda old.system first v → look_shown l ≡ promises.look (plan_shown old.agenda.plan) v (step_shown step))
+    (looks : (first : ℕ) (v : run_world.World) → Mirrors old.agenda old.system first v → look_shown l ≡ promises.look (plan_shown old.agenda.plan) v (step_shown step))
     (asked : l ≡ look.NeedsBody → IfSome (f x).present (λ c. give.body ≡ offered c.kind c.value))
     (did : IsDone acts (f x) (f y)) (tells : Tells old before step give new after acts) where
   whose : i ≡ run_steps.stepper (step_shown step)
   whose = place ∙ sym (stepper_is step)
 
-  module _ (first : ℕ) (v : run_world.World) (r : IsRun old.agenda old.system first v) (cast : List (List Content)) (h : HoldDue cast v.now.log (map f xs)) where
+  module _ (first : ℕ) (v : run_world.World) (r : Mirrors old.agenda old.system first v) (cast : List (List Content)) (h : HoldDue cast v.now.log (map f xs)) where
     limits : run_plans.IsPlan (plan_shown old.agenda.plan)
     limits = plan_is old.agenda.plan r.limits
 
@@ -107,7 +107,7 @@ module _ {X : Type 0} (f : X → Belongings) (xs : List X) (i : ℕ) (x y : X) (
 -- so it is with what is held itself
 pub held_to : {X : Type 0} {D : X → Type 0} (helds : List (Held X D)) (content_of : DynBox X Global D → Content) (i : ℕ) (x y : Held X D) → slice_get helds i ≡ Some x
     → (old new : World) (before after : List (List Told)) (step : Step) → i ≡ stepper step → (give : Give) (acts : List Act) (l : Look)
-    → ((first : ℕ) (v : run_world.World) → IsRun old.agenda old.system first v → look_shown l ≡ promises.look (plan_shown old.agenda.plan) v (step_shown step))
+    → ((first : ℕ) (v : run_world.World) → Mirrors old.agenda old.system first v → look_shown l ≡ promises.look (plan_shown old.agenda.plan) v (step_shown step))
     → (l ≡ look.NeedsBody → IfSome x.present (λ b. give.body ≡ offered (content_of b).kind (content_of b).value))
     → ((h : Holding) → Holds h (option_map content_of x.present) x.depot → Holds (does_all h acts) (option_map content_of y.present) y.depot)
     → y.spares.items ≡ drop (spares_of_all (is_some x.present) acts) x.spares.items

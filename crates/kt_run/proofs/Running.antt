@@ -31,12 +31,12 @@ use Rattle.kt_core.specs.Worlds as core
 use Rattle.kt_core.specs.declared.faults.StepFault.TheVariants.{NotEnabled, LogFull}
 use Rattle.std.proofs.lemmas.Bool.{ltb-false}
 use Rattle.kt_core.specs.declared.faults.StepFault.{StepFault}
-use Rattle.kt_core.specs.Shown.{IsRun, plan_shown, step_shown, give_shown, command_shown}
+use Rattle.kt_core.specs.Shown.{Mirrors, plan_shown, step_shown, give_shown, command_shown}
 use Rattle.kt_core.proofs.Enabled.{enabled_is, enabled_if}
 use Rattle.kt_core.proofs.ShownPlans.{plan_is}
 use Rattle.kt_run.specs.Objects.{Belongings, first_of, rules_of, rules_by, HoldDue}
 use Rattle.kt_run.specs.Refused.{IsDefaultRefused}
-use Rattle.kt_run.specs.Runs.{Scene, Tells, StepsTo, Starts, Begins, Goes, Rests, IsRunOf, IsToldRunOf}
+use Rattle.kt_run.specs.Runs.{Scene, Tells, StepsTo, Starts, Begins, Goes, Rests, IsPlayed, IsToldPlay}
 use Rattle.kt_run.specs.Telling.{IsToldAs, AreToldInRun, AreToldTheirRows, TellsItsRows, AreEmpty, IsNoted}
 use Rattle.kt_run.proofs.Numbering.{told_their_none, told_their_more}
 use Rattle.kt_run.proofs.Telling.{told_as, tells_its_rows, tells_nothing, tells_more}
@@ -58,10 +58,10 @@ room_kept old new x grew e limit =
     omega (arith, room, rows, few, limit)
 
 abbrev Leads : World → World → Give → Step → Type 0
-Leads old new give x = (first : ℕ) (v : run_world.World) → IsRun old.agenda old.system first v → IsRun new.agenda new.system first (world_after (plan_shown old.agenda.plan) v (step_shown x) (give_shown give))
+Leads old new give x = (first : ℕ) (v : run_world.World) → Mirrors old.agenda old.system first v → Mirrors new.agenda new.system first (world_after (plan_shown old.agenda.plan) v (step_shown x) (give_shown give))
 
 abbrev Acts : World → List Act → Give → Step → Type 0
-Acts old acts give x = (first : ℕ) (v : run_world.World) → IsRun old.agenda old.system first v → acts_shown acts ≡ acts_of_step (plan_shown old.agenda.plan) v (step_shown x) (give_shown give) (stepper x)
+Acts old acts give x = (first : ℕ) (v : run_world.World) → Mirrors old.agenda old.system first v → acts_shown acts ≡ acts_of_step (plan_shown old.agenda.plan) v (step_shown x) (give_shown give) (stepper x)
 
 pub tells_now : (old new : World) (before after : List (List Told)) (x : Step) (give : Give) (told : Told) (acts : List Act) → acts ≡ told.acts → told.step ≡ x → Grows 4 old.system new.system → length told.rows ≡ 4
     → ((i : ℕ) → i < 4 → slice_get told.rows i ≡ Some (numbered_row new.system.rows.rows (length old.system.rows.rows + i))) → IsNoted told before after
@@ -108,18 +108,18 @@ tells_unkept old new x give acts grew limit allowed leads asks =
     (record { count = refl; each = λ p l. absurd (omega (arith, l)) }) limit allowed leads asks
 
 abbrev Led : Planned → run_world.World → Step → World → Told → run_steps.Give → Type 0
-Led plan v x new told give = (enabled (plan_shown plan) v (step_shown x) ≡ true) × IsRun new.agenda new.system 0 (world_after (plan_shown plan) v (step_shown x) give)
+Led plan v x new told give = (enabled (plan_shown plan) v (step_shown x) ≡ true) × Mirrors new.agenda new.system 0 (world_after (plan_shown plan) v (step_shown x) give)
     × IsToldAs told (told_at (plan_shown plan) v (record { step = step_shown x; give = give }))
     × TellsItsRows told v.now.log (world_after (plan_shown plan) v (step_shown x) give).now.log
 
-led : (plan : Planned) (old new : World) (before after : Scene) (x : Step) (v : run_world.World) → old.agenda.plan ≡ plan → (s : StepsTo old before x new after) → IsRun old.agenda old.system 0 v → Led plan v x new s.0 s.1
+led : (plan : Planned) (old new : World) (before after : Scene) (x : Step) (v : run_world.World) → old.agenda.plan ≡ plan → (s : StepsTo old before x new after) → Mirrors old.agenda old.system 0 v → Led plan v x new s.0 s.1
 led plan old new before after x v e s r = let t = s.5 0 v r in subst (λ (z : Planned). Led z v x new s.0 s.1) e (t.0, t.1, t.2, t.3)
 
 -- what each process holds, and what is given
 abbrev Keeps : Planned → List (List Content) → run_world.World → Step → run_steps.Give → Scene → Type 0
 Keeps plan cast v x give after = GivesOffer (rules_by cast) (plan_shown plan) v (step_shown x) give × HoldDue cast (world_after (plan_shown plan) v (step_shown x) give).now.log after.has
 
-keeps : (plan : Planned) (cast : List (List Content)) (old new : World) (before after : Scene) (x : Step) (v : run_world.World) → old.agenda.plan ≡ plan → (s : StepsTo old before x new after) → IsRun old.agenda old.system 0 v
+keeps : (plan : Planned) (cast : List (List Content)) (old new : World) (before after : Scene) (x : Step) (v : run_world.World) → old.agenda.plan ≡ plan → (s : StepsTo old before x new after) → Mirrors old.agenda old.system 0 v
     → HoldDue cast v.now.log before.has → Keeps plan cast v x s.1 after
 keeps plan cast old new before after x v e s r due = subst (λ (z : Planned). Keeps z cast v x s.1 after) e ((s.5 0 v r).4 cast due)
 
@@ -257,26 +257,31 @@ module _ (plan : Planned) (cast : List (List Content)) (steps : List Step) (w : 
   rows_are : rows ≡ r.run.now.now.log
   rows_are = log ∙ r.run.shown.now.log
 
-  reached : IsReachedWorld (plan_shown plan) 0 r.run.now
-  reached = record { moves = r.run.given ++ r.run.more; leads = goes_run (plan_shown plan) 0 r.run.given r.run.more r.run.now r.run.goes_on }
+  leads : after_moves (plan_shown plan) (run_world.start_world (plan_shown plan) 0) (r.run.given ++ r.run.more) ≡ Some r.run.now
+  leads = goes_run (plan_shown plan) 0 r.run.given r.run.more r.run.now r.run.goes_on
 
-  pub run_of : IsRunOf plan cast steps rows
+  reached : IsReachedWorld (plan_shown plan) 0 r.run.now
+  reached = record { moves = r.run.given ++ r.run.more; leads = leads }
+
+  pub run_of : IsPlayed plan cast steps rows
   run_of = record {
     given = r.run.given;
     more = r.run.more;
-    end = r.run.now;
     begins = r.run.begins;
+    run = record {
+      end = r.run.now;
+      leads = leads;
+      rest = r.rest;
+      log = rows_are;
+      offers = subst (λ (l : List Event). AreOfferedAt (rules_by cast) l (offer_places (plan_shown plan) (run_world.start_world (plan_shown plan) 0) (r.run.given ++ r.run.more))) (sym rows_are)
+          (offers_seen (rules_by cast) (plan_shown plan) 0 (plan_is plan limits) (r.run.given ++ r.run.more) r.run.now leads r.run.offers);
+    };
     goes_on = r.run.goes_on;
-    rest = r.rest;
-    log = rows_are;
-    offers = subst (λ (l : List Event). AreOfferedAt (rules_by cast) l (offer_places (plan_shown plan) (run_world.start_world (plan_shown plan) 0) (r.run.given ++ r.run.more))) (sym rows_are)
-        (offers_seen (rules_by cast) (plan_shown plan) 0 (plan_is plan limits) (r.run.given ++ r.run.more) r.run.now
-        (goes_run (plan_shown plan) 0 r.run.given r.run.more r.run.now r.run.goes_on) r.run.offers);
   }
 
-  pub told_run_of : length at.told ≡ length plan.names → IsToldRunOf plan cast steps rows at.told
+  pub told_run_of : length at.told ≡ length plan.names → IsToldPlay plan cast steps rows at.told
   unfolding run_of
-  told_run_of n = record { run = run_of; count = n; tells = r.run.tells }
+  told_run_of n = record { play = run_of; count = n; tells = r.run.tells }
 
   pub their_rows : AreToldTheirRows rows at.told
   their_rows = subst (λ (l : List Event). AreToldTheirRows l at.told) (sym rows_are) r.run.rows

@@ -5,7 +5,7 @@ use Rattle.std.specs.Prelude.{slice_get, slice_index_or, if◌then◌else◌}
 use Rattle.std.specs.Option.{option_map}
 use Rattle.std.proofs.lemmas.Option.{slice_get-get_or}
 use Rattle.std.proofs.Math.Seq.{drop-append_seam}
-use Rattle.kt_core.specs.Shown.{IsRun, plan_shown, step_shown, give_shown}
+use Rattle.kt_core.specs.Shown.{Mirrors, plan_shown, step_shown, give_shown}
 use Rattle.kt_core.specs.Worlds.{World, stepper, numbered_row}
 use Rattle.kt_core.proofs.ShownPlans.{plan_is}
 use Rattle.kt_plan.specs.Limits.{Planned}
@@ -81,8 +81,8 @@ stepper_is (Do p) = refl
 stepper_is (Take at from) = refl
 
 -- one step, from a world that a run led to
-module _ (plan : Planned) (told : Told) (give : Give) (old new : World) (first : ℕ) (v : run_world.World) (plans : old.agenda.plan ≡ plan) (r : IsRun old.agenda old.system first v)
-    (next : IsRun new.agenda new.system first (world_after (plan_shown plan) v (step_shown told.step) (give_shown give)))
+module _ (plan : Planned) (told : Told) (give : Give) (old new : World) (first : ℕ) (v : run_world.World) (plans : old.agenda.plan ≡ plan) (r : Mirrors old.agenda old.system first v)
+    (next : Mirrors new.agenda new.system first (world_after (plan_shown plan) v (step_shown told.step) (give_shown give)))
     (on : enabled (plan_shown plan) v (step_shown told.step) ≡ true) (grew : Grows 4 old.system new.system) (four : length told.rows ≡ 4)
     (read : (i : ℕ) → i < 4 → slice_get told.rows i ≡ Some (numbered_row new.system.rows.rows (length old.system.rows.rows + i)))
     (did : acts_shown told.acts ≡ acts_of_step (plan_shown old.agenda.plan) v (step_shown told.step) (give_shown give) (stepper told.step)) where

@@ -19,7 +19,7 @@ use Rattle.kt_promises.specs.Offers.{GivesOffer, GivesOffers, offer_places, AreO
 use Rattle.kt_promises.specs.Told.{told_at}
 use Rattle.kt_promises.specs.World.{start_world}
 use Rattle.kt_core.specs.Worlds.{World}
-use Rattle.kt_core.specs.Shown.{IsRun, plan_shown, step_shown, give_shown}
+use Rattle.kt_core.specs.Shown.{Mirrors, plan_shown, step_shown, give_shown}
 use Rattle.kt_run.specs.Objects.{Belongings, has_of, rules_by, HoldDue}
 use Rattle.kt_run.specs.Telling.{IsToldAs, AreToldInRun, AreToldTheirRows, TellsItsRows, IsNoted}
 
@@ -36,9 +36,9 @@ scene told helds content_of = record { told = told; has = has_of helds content_o
 abbrev pub Tells : World → List (List Told) → Step → Give → World → List (List Told) → List Act → Type 0
 Tells old before step give new after acts = (told : Told) × IsNoted told before after × (acts ≡ told.acts) × (new.limit ≡ old.limit)
     × (length new.system.rows.rows ≤ new.limit)
-    × ((first : ℕ) (v : run_world.World) → IsRun old.agenda old.system first v →
+    × ((first : ℕ) (v : run_world.World) → Mirrors old.agenda old.system first v →
     (enabled (plan_shown old.agenda.plan) v (step_shown step) ≡ true)
-    × IsRun new.agenda new.system first (world_after (plan_shown old.agenda.plan) v (step_shown step) (give_shown give))
+    × Mirrors new.agenda new.system first (world_after (plan_shown old.agenda.plan) v (step_shown step) (give_shown give))
     × IsToldAs told (told_at (plan_shown old.agenda.plan) v (record { step = step_shown step; give = give_shown give }))
     × TellsItsRows told v.now.log (world_after (plan_shown old.agenda.plan) v (step_shown step) (give_shown give)).now.log)
 
@@ -47,9 +47,9 @@ Tells old before step give new after acts = (told : Told) × IsNoted told before
 abbrev pub StepsTo : World → Scene → Step → World → Scene → Type 0
 StepsTo old before step new after = (told : Told) × (give : run_steps.Give) × IsNoted told before.told after.told × (new.limit ≡ old.limit)
     × (length new.system.rows.rows ≤ new.limit)
-    × ((first : ℕ) (v : run_world.World) → IsRun old.agenda old.system first v →
+    × ((first : ℕ) (v : run_world.World) → Mirrors old.agenda old.system first v →
     (enabled (plan_shown old.agenda.plan) v (step_shown step) ≡ true)
-    × IsRun new.agenda new.system first (world_after (plan_shown old.agenda.plan) v (step_shown step) give)
+    × Mirrors new.agenda new.system first (world_after (plan_shown old.agenda.plan) v (step_shown step) give)
     × IsToldAs told (told_at (plan_shown old.agenda.plan) v (record { step = step_shown step; give = give }))
     × TellsItsRows told v.now.log (world_after (plan_shown old.agenda.plan) v (step_shown step) give).now.log
     × ((cast : List (List Content)) → HoldDue cast v.now.log before.has →
@@ -58,7 +58,7 @@ StepsTo old before step new after = (told : Told) × (give : run_steps.Give) × 
 
 -- nothing is done in a world, whose log may have 2^24 rows and has none
 pub record Starts (plan : Planned) (world : World) : Type 0 where
-  pub shown : IsRun world.agenda world.system 0 (start_world (plan_shown plan) 0)
+  pub shown : Mirrors world.agenda world.system 0 (start_world (plan_shown plan) 0)
   pub limit : world.limit ≡ 2 ^ 24
   pub rows : world.system.rows.rows ≡ []
 
@@ -69,7 +69,7 @@ pub record Begins (plan : Planned) (cast : List (List Content)) (steps : List St
   pub now : run_world.World
   pub made : map (λ (m : Move). m.step) moves ≡ map step_shown steps
   pub leads : after_moves (plan_shown plan) (start_world (plan_shown plan) 0) moves ≡ Some now
-  pub shown : IsRun world.agenda world.system 0 now
+  pub shown : Mirrors world.agenda world.system 0 now
   pub limit : world.limit ≡ 2 ^ 24
   pub few : length world.system.rows.rows ≤ world.limit
   pub tells : AreToldInRun plan moves at.told
@@ -84,7 +84,7 @@ pub record Goes (plan : Planned) (cast : List (List Content)) (steps : List Step
   pub now : run_world.World
   pub begins : map (λ (m : Move). m.step) given ≡ map step_shown steps
   pub goes_on : GoesOn (plan_shown plan) 0 given more now
-  pub shown : IsRun world.agenda world.system 0 now
+  pub shown : Mirrors world.agenda world.system 0 now
   pub limit : world.limit ≡ 2 ^ 24
   pub few : length world.system.rows.rows ≤ world.limit
   pub tells : AreToldInRun plan (given ++ more) at.told
@@ -97,20 +97,30 @@ pub record Rests (plan : Planned) (cast : List (List Content)) (steps : List Ste
   pub run : Goes plan cast steps world at
   pub rest : is_at_rest (plan_shown plan) run.now ≡ true
 
--- these are the rows of a run that begins with these steps, goes on by default steps, and has come to rest; each body that
--- a command leaves to the object, of those that each process is given, is what that offers at its row
-pub record IsRunOf (plan : Planned) (cast : List (List Content)) (steps : List Step) (rows : List Event) : Type 0 where
-  pub given : List Move
-  pub more : List Move
+-- these moves, each enabled in its turn, are a run of the plan: they lead from its start to a world at rest, whose log has
+-- these rows; each body that a command leaves to the object, of those that each process is given, is what that offers at
+-- its row
+pub record IsRun (plan : Planned) (cast : List (List Content)) (moves : List Move) (rows : List Event) : Type 0 where
   pub end : run_world.World
-  pub begins : map (λ (m : Move). m.step) given ≡ map step_shown steps
-  pub goes_on : GoesOn (plan_shown plan) 0 given more end
+  pub leads : after_moves (plan_shown plan) (start_world (plan_shown plan) 0) moves ≡ Some end
   pub rest : is_at_rest (plan_shown plan) end ≡ true
   pub log : rows ≡ end.now.log
-  pub offers : AreOfferedAt (rules_by cast) rows (offer_places (plan_shown plan) (start_world (plan_shown plan) 0) (given ++ more))
+  pub offers : AreOfferedAt (rules_by cast) rows (offer_places (plan_shown plan) (start_world (plan_shown plan) 0) moves)
+
+-- these are the rows of a run of the plan, in whatever order its steps are made
+abbrev pub IsLogOfRun : Planned → List (List Content) → List Event → Type 0
+IsLogOfRun plan cast rows = (moves : List Move) × IsRun plan cast moves rows
+
+-- these are the rows of a run that begins with these steps and goes on by default steps
+pub record IsPlayed (plan : Planned) (cast : List (List Content)) (steps : List Step) (rows : List Event) : Type 0 where
+  pub given : List Move
+  pub more : List Move
+  pub begins : map (λ (m : Move). m.step) given ≡ map step_shown steps
+  pub run : IsRun plan cast (given ++ more) rows
+  pub goes_on : GoesOn (plan_shown plan) 0 given more run.end
 
 -- these are the rows of such a run, and each process is told, step for step, what the run tells it
-pub record IsToldRunOf (plan : Planned) (cast : List (List Content)) (steps : List Step) (rows : List Event) (told : List (List Told)) : Type 0 where
-  pub run : IsRunOf plan cast steps rows
+pub record IsToldPlay (plan : Planned) (cast : List (List Content)) (steps : List Step) (rows : List Event) (told : List (List Told)) : Type 0 where
+  pub play : IsPlayed plan cast steps rows
   pub count : length told ≡ length plan.names
-  pub tells : AreToldInRun plan (run.given ++ run.more) told
+  pub tells : AreToldInRun plan (play.given ++ play.more) told

@@ -7,7 +7,7 @@ ghost use Rattle.kt_promises.specs.Headline.{IsPromised};
 ghost use Rattle.kt_run.specs.Faults.{IsCast, Answers};
 ghost use Rattle.kt_run.specs.Objects.{has_of, HoldDue};
 ghost use Rattle.kt_run.specs.Refused.{IsRefused};
-ghost use Rattle.kt_run.specs.Runs.{IsRunOf, IsToldRunOf};
+ghost use Rattle.kt_run.specs.Runs.{IsPlayed, IsToldPlay};
 ghost use Rattle.kt_run.specs.Telling.{AreToldTheirRows};
 
 use crate::faults::RunFault;
@@ -41,7 +41,7 @@ pub fn run(alloc: Global, plan: &Plan, steps: &[Step], cast: Cast) -> Result<Out
     // The log is that of a run of the plan which begins with the steps given, goes on by default steps, and comes to rest;
     // each process was told, step for step, what that run tells it; and all is so of the log that is promised of a run's.
     // What is sent for an object is what it offers.
-    ensures run { IfOk result (λ outcome. IsToldRunOf plan.now
+    ensures run { IfOk result (λ outcome. IsToldPlay plan.now
         (map (λ row. map (λ b. content (kind_of b) (value_of b)) row.items) cast.items) steps.now
         outcome.log.rows (map (λ list. list.items) outcome.told.items)) }
 
@@ -77,7 +77,7 @@ pub fn log_of(alloc: Global, plan: &Plan, steps: &[Step], cast: Cast) -> Result<
 
     // It is that of a run of the plan which begins with the steps given, goes on by default steps, and comes to rest; and
     // all is so of it that is promised of a run's.
-    ensures run { IfOk result (λ log. IsRunOf plan.now
+    ensures run { IfOk result (λ log. IsPlayed plan.now
         (map (λ row. map (λ b. content (kind_of b) (value_of b)) row.items) cast.items) steps.now log.rows) }
     ensures promised { IfOk result (λ log. IsPromised log.rows) }
 {

@@ -4,17 +4,17 @@ use Rattle.std.specs.Prelude.{option_map, slice_get, slice_index_or}
 use Rattle.kt_core.specs.Shown.{plan_shown}
 use Rattle.kt_held.specs.Holdings.{Content, content, AreSaved}
 use Rattle.kt_plan.specs.Limits.{Planned}
-use Rattle.kt_promises.specs.Offers.{AreOfferedAt, offer_places}
 use Rattle.kt_promises.specs.World as run_world
 use Rattle.kt_run.specs.Objects.{Belongings, rules_of, first_of, rules_by, HoldsDue, HoldDue}
+use Rattle.kt_run.specs.Runs.{IsRun}
 use Rattle.kt_spacetime.specs.declared.event.Event.{Event}
 use Rattle.kt_threads.specs.Histories as histories
 use Rattle.kt_threads.specs.Histories.{made_by, AreTheirs}
 use Rattle.kt_threads.specs.Moves.{move_of}
 use Rattle.kt_threads.specs.Seats.{AreServed, AllServed}
 use Rattle.kt_threads.specs.declared.state.Made.{Made}
-use Rattle.kt_threads.proofs.Moving.{moves_of, served_of, offered_of, nothing_tentative}
-use Rattle.kt_threads.proofs.Serving.{GivesOf, gives_all}
+use Rattle.kt_threads.proofs.Moving.{run_of, served_of, nothing_tentative}
+use Rattle.kt_threads.proofs.Serving.{GivesOf}
 
 at_each : (olds : List Belongings) (lists : List (List Made)) (news : List Belongings) → AllServed olds lists news → (p : ℕ) (c : Belongings)
     → slice_get news p ≡ Some c → (b : Belongings) × (slice_get olds p ≡ Some b) × AreServed b (slice_index_or lists p []) c
@@ -51,7 +51,7 @@ none_saved None (Some saved) e h = absurd h
 none_saved (Some c) t e h = absurd (cc (e))
 
 -- all have what is due to them
-module _ (plan : Planned) (steps : List Made) (rows : List Event) (lived : histories.IsRun plan steps rows) (lists : List (List Made))
+module _ (plan : Planned) (steps : List Made) (rows : List Event) (lived : histories.IsWholeHistory plan steps rows) (lists : List (List Made))
     (theirs : AreTheirs (length plan.names) steps lists) (olds news : List Belongings) (served : AllServed olds lists news)
     (cast : List (List Content)) (due : HoldDue cast [] olds) where
   abbrev objects : ℕ → List Content
@@ -77,11 +77,8 @@ module _ (plan : Planned) (steps : List Made) (rows : List Event) (lived : histo
       let g = got news p (omega (arith, l, n, m)) in
       (each p g.0 g.1).1
 
-  pub offers_then : AreOfferedAt (rules_by cast) rows (offer_places (plan_shown plan) (run_world.start_world (plan_shown plan) 0) (map move_of steps))
-  offers_then =
-      let run = moves_of plan steps rows lived in
-      offered_of plan steps rows lived (rules_by cast)
-      (gives_all (rules_by cast) (plan_shown plan) (map move_of steps) (run_world.start_world (plan_shown plan) 0) run.end run.leads gives)
+  pub run_then : IsRun plan cast (map move_of steps) rows
+  run_then = run_of plan steps rows lived cast gives
 
   pub settled_then : (p : ℕ) (c : Belongings) → slice_get news p ≡ Some c → c.depot.tentative ≡ None
   settled_then p c e =

@@ -3,7 +3,7 @@ use Rattle.std.proofs.Common.{◌≡◌, ◌∙◌, arith, ℕ, ℤ, Bool, true,
 use Rattle.std.specs.List.{AllZip}
 use Rattle.std.specs.Prelude.{if◌then◌else◌}
 use Rattle.kt_core.specs.Agendas.{Agenda}
-use Rattle.kt_core.specs.Shown.{IsRun, plan_shown, step_shown, give_shown}
+use Rattle.kt_core.specs.Shown.{Mirrors, plan_shown, step_shown, give_shown}
 use Rattle.kt_core.specs.Worlds.{World, IsSameWorld}
 use Rattle.kt_core.proofs.Defaults.{rest_is}
 use Rattle.kt_core.proofs.Enabled.{enabled_if, enabled_is}
@@ -13,7 +13,7 @@ use Rattle.kt_held.specs.Holdings.{Content}
 use Rattle.kt_plan.specs.Limits.{Planned}
 use Rattle.kt_plan.specs.declared.steps.Told.{Told}
 use Rattle.kt_phases.specs.Plans as run_plans
-use Rattle.kt_promises.specs.Offers.{GivesOffers, AreOfferedAt, offer_places}
+use Rattle.kt_promises.specs.Offers.{AreOfferedAt, offer_places}
 use Rattle.kt_promises.specs.Runs.{after_moves, IsReachedWorld}
 use Rattle.kt_promises.specs.Steps.{enabled, world_after, is_at_rest}
 use Rattle.kt_promises.specs.Told.{told_by}
@@ -21,7 +21,8 @@ use Rattle.kt_promises.specs.World as run_world
 use Rattle.kt_promises.proofs.NeededBodies.{offers_seen}
 use Rattle.kt_promises.proofs.PhasesOpen.{opening_is}
 use Rattle.kt_promises.proofs.WholeLogs.{no_tentative}
-use Rattle.kt_run.specs.Objects.{Belongings, rules_of, first_of, HoldsDue}
+use Rattle.kt_run.specs.Objects.{Belongings, rules_of, rules_by, first_of, HoldsDue}
+use Rattle.kt_run.specs.Runs.{IsRun}
 use Rattle.kt_run.specs.Telling.{rows_by, rows_told, AreToldTheirRows, IsToldAs}
 use Rattle.kt_seen.specs.Seen.{Seen}
 use Rattle.kt_values.specs.Done.{done}
@@ -29,10 +30,10 @@ use Rattle.kt_values.specs.Values.{Rules, due}
 use Rattle.kt_spacetime.specs.declared.event.Event.{Event}
 use Rattle.kt_threads.specs.Histories as histories
 use Rattle.kt_threads.specs.Histories.{IsMade, Leads, IsHistory, made_by, told_to, AreTold}
-use Rattle.kt_threads.specs.Moves.{move_of, IsRunOf}
+use Rattle.kt_threads.specs.Moves.{move_of}
 use Rattle.kt_threads.specs.Seats.{AreServed}
 use Rattle.kt_threads.specs.Telling.{AreToldAsInRun}
-use Rattle.kt_threads.proofs.Serving.{GivesOf, KeepsDue, served_more}
+use Rattle.kt_threads.proofs.Serving.{GivesOf, KeepsDue, gives_all, served_more}
 use Rattle.kt_threads.proofs.Telling.{rows_more, told_more}
 use Rattle.kt_threads.specs.declared.state.Made.{Made}
 
@@ -41,16 +42,16 @@ record Goes (plan : Planned) (first : ℕ) (v : run_world.World) (steps : List M
   end : run_world.World
   plans : new.agenda.plan ≡ plan
   leads : after_moves (plan_shown plan) v (map move_of steps) ≡ Some end
-  shown : IsRun new.agenda new.system first end
+  shown : Mirrors new.agenda new.system first end
   rows : (p : ℕ) → rows_by p end.now.log ≡ rows_by p v.now.log ++ rows_told (told_to p steps)
   told : (p : ℕ) → AllZip IsToldAs (told_to p steps) (told_by (plan_shown plan) v p (map move_of steps))
   served : (objects : List Content) (p : ℕ) → KeepsDue plan objects p v steps end
 
 -- a run leads to the same world with other spare room
-same_run : (new old : World) (first : ℕ) (v : run_world.World) → IsSameWorld new old → IsRun old.agenda old.system first v
-    → IsRun new.agenda new.system first v
+same_run : (new old : World) (first : ℕ) (v : run_world.World) → IsSameWorld new old → Mirrors old.agenda old.system first v
+    → Mirrors new.agenda new.system first v
 same_run new old first v same r =
-    subst (λ (a : Agenda). IsRun a new.system first v) (sym same.agenda) (run_same old.agenda old.system new.system first v same.system r)
+    subst (λ (a : Agenda). Mirrors a new.system first v) (sym same.agenda) (run_same old.agenda old.system new.system first v same.system r)
 
 -- where an enabled move leads, and others after it
 one_more : (on : Bool) (there : Option run_world.World) (end : run_world.World) → on ≡ true → there ≡ Some end → (if on then there else None) ≡ Some end
@@ -59,15 +60,15 @@ one_more false there end e f = absurd (cc (e))
 
 -- a step that was made is enabled in a run that leads to its world
 is_enabled : (plan : Planned) (old new : World) (made : Made) (first : ℕ) (v : run_world.World) → old.agenda.plan ≡ plan → IsMade old made new
-    → IsRun old.agenda old.system first v → enabled (plan_shown plan) v (step_shown made.told.step) ≡ true
+    → Mirrors old.agenda old.system first v → enabled (plan_shown plan) v (step_shown made.told.step) ≡ true
 is_enabled plan old new made first v plans step r =
     subst (λ (p : Planned). enabled (plan_shown p) v (step_shown made.told.step) ≡ true) plans
     (sym (enabled_is old first v r made.told.step) ∙ enabled_if old made.told.step step.allowed)
 
 -- where the steps after the first one lead, all lead
 goes_first : (plan : Planned) (made : Made) (steps : List Made) (before after new : World) (first : ℕ) (v : run_world.World) → before.agenda.plan ≡ plan
-    → IsRun before.agenda before.system first v → IsMade before made after
-    → IsRun after.agenda after.system first (world_after (plan_shown plan) v (step_shown made.told.step) (give_shown made.give))
+    → Mirrors before.agenda before.system first v → IsMade before made after
+    → Mirrors after.agenda after.system first (world_after (plan_shown plan) v (step_shown made.told.step) (give_shown made.give))
     → Goes plan first (world_after (plan_shown plan) v (step_shown made.told.step) (give_shown made.give)) steps new → Goes plan first v (made ∷ steps) new
 goes_first plan made steps before after new first v plans r step next rest = record {
   end = rest.end;
@@ -84,14 +85,14 @@ goes_first plan made steps before after new first v plans r step next rest = rec
 
 -- a run goes on by a step that was made
 run_after : (plan : Planned) (made : Made) (before after : World) (first : ℕ) (v : run_world.World) → before.agenda.plan ≡ plan
-    → IsRun before.agenda before.system first v → IsMade before made after
-    → IsRun after.agenda after.system first (world_after (plan_shown plan) v (step_shown made.told.step) (give_shown made.give))
+    → Mirrors before.agenda before.system first v → IsMade before made after
+    → Mirrors after.agenda after.system first (world_after (plan_shown plan) v (step_shown made.told.step) (give_shown made.give))
 run_after plan made before after first v plans r step =
-    subst (λ (p : Planned). IsRun after.agenda after.system first (world_after (plan_shown p) v (step_shown made.told.step) (give_shown made.give))) plans
+    subst (λ (p : Planned). Mirrors after.agenda after.system first (world_after (plan_shown p) v (step_shown made.told.step) (give_shown made.give))) plans
     (step.leads first v r)
 
 goes_on : (plan : Planned) (steps : List Made) (old new : World) (first : ℕ) (v : run_world.World) → old.agenda.plan ≡ plan
-    → IsRun old.agenda old.system first v → Leads old steps new → Goes plan first v steps new
+    → Mirrors old.agenda old.system first v → Leads old steps new → Goes plan first v steps new
 goes_on plan [] old new first v plans r same = record {
   end = v;
   plans = ap (λ (a : Agenda). a.plan) same.agenda ∙ plans;
@@ -102,14 +103,14 @@ goes_on plan [] old new first v plans r same = record {
   served = λ objects p b now h same. (subst (λ (c : Belongings). HoldsDue objects v.now.log p c) (sym same) h, tt);
 }
 goes_on plan (made ∷ steps) old new first v plans r leads =
-    let here : IsRun leads.0.agenda leads.0.system first v = same_run leads.0 old first v leads.2 r in
+    let here : Mirrors leads.0.agenda leads.0.system first v = same_run leads.0 old first v leads.2 r in
     let kept : leads.0.agenda.plan ≡ plan = ap (λ (a : Agenda). a.plan) leads.2.agenda ∙ plans in
     let w = world_after (plan_shown plan) v (step_shown made.told.step) (give_shown made.give) in
-    let next : IsRun leads.1.agenda leads.1.system first w = run_after plan made leads.0 leads.1 first v kept here leads.3 in
+    let next : Mirrors leads.1.agenda leads.1.system first w = run_after plan made leads.0 leads.1 first v kept here leads.3 in
     goes_first plan made steps leads.0 leads.1 new first v kept here leads.3 next
     (goes_on plan steps leads.1 new first w (leads.3.plan ∙ kept) next leads.4)
 
-module _ (plan : Planned) (steps : List Made) (rows : List Event) (lived : histories.IsRun plan steps rows) where
+module _ (plan : Planned) (steps : List Made) (rows : List Event) (lived : histories.IsWholeHistory plan steps rows) where
   abbrev start : run_world.World
   start = run_world.start_world (plan_shown plan) 0
 
@@ -125,10 +126,6 @@ module _ (plan : Planned) (steps : List Made) (rows : List Event) (lived : histo
 
   rows_are : rows ≡ goes.end.now.log
   rows_are = lived.log ∙ goes.shown.now.log
-
-  -- the steps of a history that ends at rest are the moves of a run that does
-  pub moves_of : IsRunOf plan steps rows
-  moves_of = record { end = goes.end; leads = goes.leads; rest = at_rest; log = rows_are }
 
   opens : start.now.log ≡ []
   opens = ap (λ (v : Seen). v.log) (opening_is (plan_shown plan) 0).now
@@ -160,11 +157,19 @@ module _ (plan : Planned) (steps : List Made) (rows : List Event) (lived : histo
   reached : IsReachedWorld (plan_shown plan) 0 goes.end
   reached = subst (λ (p : Planned). IsReachedWorld (plan_shown p) 0 goes.end) goes.plans goes.shown.reached
 
-  pub offered_of : (rules : ℕ → Rules (List ℤ)) → GivesOffers rules (plan_shown plan) start (map move_of steps)
-      → AreOfferedAt rules rows (offer_places (plan_shown plan) start (map move_of steps))
-  offered_of rules gives =
-      subst (λ (l : List Event). AreOfferedAt rules l (offer_places (plan_shown plan) start (map move_of steps))) (sym rows_are)
-      (offers_seen rules (plan_shown plan) 0 limits (map move_of steps) goes.end goes.leads gives)
+  -- the steps of a history that ends at rest are the moves of a run, where each process gives what its object offers
+  pub run_of : (cast : List (List Content))
+      → ((p : ℕ) → p < length plan.names → GivesOf (rules_by cast p) p (plan_shown plan) start (map move_of steps))
+      → IsRun plan cast (map move_of steps) rows
+  run_of cast gives = record {
+    end = goes.end;
+    leads = goes.leads;
+    rest = at_rest;
+    log = rows_are;
+    offers = subst (λ (l : List Event). AreOfferedAt (rules_by cast) l (offer_places (plan_shown plan) start (map move_of steps))) (sym rows_are)
+        (offers_seen (rules_by cast) (plan_shown plan) 0 limits (map move_of steps) goes.end goes.leads
+        (gives_all (rules_by cast) (plan_shown plan) (map move_of steps) start goes.end goes.leads gives));
+  }
 
   pub nothing_tentative : (rules : Rules (List ℤ)) (p : ℕ) → (due rules (done rows) p).tentative ≡ None
   nothing_tentative rules p =

@@ -1,7 +1,7 @@
 -- Steps one after another.
 use Rattle.std.proofs.Common.{◌≡◌, ◌∙◌, ◌<◌, ◌+◌, ◌^◌, ℕ, List, [], ◌∷◌, ◌++◌, length, refl, sym, subst, ap, Option, None, Some, Result, Ok, Err, IfSome}
 use Rattle.std.specs.Prelude.{slice_get}
-use Rattle.kt_core.specs.Shown.{IsRun, plan_shown, step_shown, give_shown, look_shown}
+use Rattle.kt_core.specs.Shown.{Mirrors, plan_shown, step_shown, give_shown, look_shown}
 use Rattle.kt_core.specs.Worlds.{World, IsSameWorld, IsOpening, HasDone, Settles, numbered_row, refusal, stepper}
 use Rattle.kt_core.specs.declared.faults.StepFault.{StepFault}
 use Rattle.kt_plan.specs.Limits.{Planned}
@@ -62,7 +62,7 @@ pub history_more : (steps : List Made) (made : Made) (now new : World) → IsMad
 history_more steps made now new step h = record {
   begin = h.begin;
   opening = subst (λ (p : Planned). IsOpening h.begin p 0 (2 ^ 24)) (sym step.plan) h.opening;
-  starts = subst (λ (p : Planned). IsRun h.begin.agenda h.begin.system 0 (start_world (plan_shown p) 0)) (sym step.plan) h.starts;
+  starts = subst (λ (p : Planned). Mirrors h.begin.agenda h.begin.system 0 (start_world (plan_shown p) 0)) (sym step.plan) h.starts;
   leads = leads_more steps made h.begin now new step h.leads;
 }
 
@@ -71,7 +71,7 @@ pub history_same : (steps : List Made) (now new : World) → IsSameWorld new now
 history_same steps now new same h = record {
   begin = h.begin;
   opening = subst (λ (p : Planned). IsOpening h.begin p 0 (2 ^ 24)) (ap (λ a. a.plan) (sym same.agenda)) h.opening;
-  starts = subst (λ (p : Planned). IsRun h.begin.agenda h.begin.system 0 (start_world (plan_shown p) 0)) (ap (λ a. a.plan) (sym same.agenda)) h.starts;
+  starts = subst (λ (p : Planned). Mirrors h.begin.agenda h.begin.system 0 (start_world (plan_shown p) 0)) (ap (λ a. a.plan) (sym same.agenda)) h.starts;
   leads = leads_same steps h.begin now new same h.leads;
 }
 
@@ -86,11 +86,11 @@ pub makes : (old new : World) (step : Step) (look : Look) (give : Give) (told : 
     → new.agenda.plan ≡ old.agenda.plan → new.limit ≡ old.limit → new.system.size ≡ old.system.size → Grows 4 old.system new.system
     → HasDone old.agenda new.agenda step → Settles old new → length told.rows ≡ 4
     → ((i : ℕ) → i < 4 → slice_get told.rows i ≡ Some (numbered_row new.system.rows.rows (length old.system.rows.rows + i)))
-    → ((first : ℕ) (v : run_world.World) → IsRun old.agenda old.system first v
-    → IsRun new.agenda new.system first (world_after (plan_shown old.agenda.plan) v (step_shown step) (give_shown give)))
-    → ((first : ℕ) (v : run_world.World) → IsRun old.agenda old.system first v
+    → ((first : ℕ) (v : run_world.World) → Mirrors old.agenda old.system first v
+    → Mirrors new.agenda new.system first (world_after (plan_shown old.agenda.plan) v (step_shown step) (give_shown give)))
+    → ((first : ℕ) (v : run_world.World) → Mirrors old.agenda old.system first v
     → look_shown look ≡ run_looks.look (plan_shown old.agenda.plan) v (step_shown step))
-    → ((first : ℕ) (v : run_world.World) → IsRun old.agenda old.system first v
+    → ((first : ℕ) (v : run_world.World) → Mirrors old.agenda old.system first v
     → acts_shown told.acts ≡ acts_of_step (plan_shown old.agenda.plan) v (step_shown step) (give_shown give) (stepper step))
     → IsMade old (record { look = look; give = give; told = told }) new
 makes old new step look give told is allowed plan limit size grows done settled four rows leads looks acts = record {
@@ -103,7 +103,7 @@ makes old new step look give told is allowed plan limit size grows done settled 
   settled = settled;
   four = four;
   rows = rows;
-  leads = λ first v r. subst (λ (s : Step). IsRun new.agenda new.system first (world_after (plan_shown old.agenda.plan) v (step_shown s) (give_shown give))) (sym is)
+  leads = λ first v r. subst (λ (s : Step). Mirrors new.agenda new.system first (world_after (plan_shown old.agenda.plan) v (step_shown s) (give_shown give))) (sym is)
       (leads first v r);
   look = λ first v r. subst (λ (s : Step). look_shown look ≡ run_looks.look (plan_shown old.agenda.plan) v (step_shown s)) (sym is) (looks first v r);
   acts = λ first v r. subst (λ (s : Step). acts_shown told.acts ≡ acts_of_step (plan_shown old.agenda.plan) v (step_shown s) (give_shown give) (stepper s)) (sym is)

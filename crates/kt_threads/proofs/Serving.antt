@@ -2,7 +2,7 @@
 use Rattle.std.proofs.Common.{◌≡◌, ◌≢◌, ◌∙◌, ◌==◌, ◌<◌, arith, ℕ, ℤ, Bool, true, false, List, [], ◌∷◌, map, refl, sym, ap, subst, Option, Some, None, IfSome}
 use Rattle.std.specs.Prelude.{◌&&◌, nat_lt, is_some, option_map, if◌then◌else◌}
 use Rattle.std.proofs.lemmas.Bool.Decides.{nat_tests}
-use Rattle.kt_core.specs.Shown.{IsRun, plan_shown, step_shown, give_shown, look_shown}
+use Rattle.kt_core.specs.Shown.{Mirrors, plan_shown, step_shown, give_shown, look_shown}
 use Rattle.kt_core.specs.Worlds.{World, stepper}
 use Rattle.kt_core.proofs.Enabled.{below}
 use Rattle.kt_core.proofs.ShownPlans.{plan_is}
@@ -61,7 +61,7 @@ KeepsDue plan objects p v steps end = (b now : Belongings) → HoldsDue objects 
 
 -- one step, from a world that a run led to
 module _ (plan : Planned) (made : Made) (before after : World) (first : ℕ) (v : run_world.World) (plans : before.agenda.plan ≡ plan)
-    (r : IsRun before.agenda before.system first v) (step : IsMade before made after)
+    (r : Mirrors before.agenda before.system first v) (step : IsMade before made after)
     (on : enabled (plan_shown plan) v (step_shown made.told.step) ≡ true) where
   abbrev x : run_steps.Step
   x = step_shown made.told.step

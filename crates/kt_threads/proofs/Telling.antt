@@ -3,7 +3,7 @@ use Rattle.std.proofs.Common.{◌≡◌, ◌∙◌, ◌==◌, arith, ℕ, Bool, 
 use Rattle.std.specs.List.{AllZip}
 use Rattle.std.specs.Prelude.{if◌then◌else◌}
 use Rattle.std.proofs.lemmas.Bool.Decides.{nat_tests}
-use Rattle.kt_core.specs.Shown.{IsRun, plan_shown, step_shown, give_shown}
+use Rattle.kt_core.specs.Shown.{Mirrors, plan_shown, step_shown, give_shown}
 use Rattle.kt_core.specs.Worlds.{World, stepper}
 use Rattle.kt_plan.specs.Limits.{Planned}
 use Rattle.kt_plan.specs.declared.steps.Told.{Told}
@@ -35,8 +35,8 @@ turned a b c false e f = let k : (c == a) ≡ false = grind (arith, nat_tests, e
 
 -- one step, from a world that a run led to
 module _ (plan : Planned) (made : Made) (before after : World) (first : ℕ) (v : run_world.World) (plans : before.agenda.plan ≡ plan)
-    (r : IsRun before.agenda before.system first v) (step : IsMade before made after)
-    (next : IsRun after.agenda after.system first (world_after (plan_shown plan) v (step_shown made.told.step) (give_shown made.give)))
+    (r : Mirrors before.agenda before.system first v) (step : IsMade before made after)
+    (next : Mirrors after.agenda after.system first (world_after (plan_shown plan) v (step_shown made.told.step) (give_shown made.give)))
     (on : enabled (plan_shown plan) v (step_shown made.told.step) ≡ true) where
   abbrev w : run_world.World
   w = world_after (plan_shown plan) v (step_shown made.told.step) (give_shown made.give)

@@ -8,16 +8,15 @@ use Rattle.kt_plan.specs.Limits.{Planned}
 use Rattle.kt_plan.specs.declared.steps.Told.{Told}
 use Rattle.kt_promises.specs.Looks as run_looks
 use Rattle.kt_promises.specs.StepActs.{acts_of_step}
-use Rattle.kt_promises.specs.Offers.{AreOfferedAt, offer_places}
 use Rattle.kt_promises.specs.Steps.{world_after}
 use Rattle.kt_promises.specs.World as run_world
-use Rattle.kt_run.specs.Objects.{rules_by}
+use Rattle.kt_run.specs.Runs.{IsRun}
 use Rattle.kt_spacetime.specs.declared.event.Event.{Event}
 use Rattle.kt_system.specs.ShownActs.{acts_shown}
 use Rattle.kt_system.specs.Systems.{Grows}
 use Rattle.kt_threads.specs.declared.faults.LiveFault.{LiveFault}
 use Rattle.kt_threads.specs.declared.state.Made.{Made}
-use Rattle.kt_threads.specs.Moves.{move_of, IsRunOf}
+use Rattle.kt_threads.specs.Moves.{move_of}
 use Rattle.kt_threads.specs.Telling.{AreToldAsInRun}
 
 -- a step that is not refused leads from one world to another, and tells its rows; in a run of the plan that leads to the
@@ -33,11 +32,11 @@ pub record IsMade (old : World) (made : Made) (new : World) : Type 0 where
   pub four : length made.told.rows ≡ 4
   pub rows : (i : ℕ) → i < 4 → slice_get made.told.rows i
       ≡ Some (numbered_row new.system.rows.rows (length old.system.rows.rows + i))
-  pub leads : (first : ℕ) (v : run_world.World) → core.IsRun old.agenda old.system first v → core.IsRun new.agenda new.system first
+  pub leads : (first : ℕ) (v : run_world.World) → core.Mirrors old.agenda old.system first v → core.Mirrors new.agenda new.system first
       (world_after (plan_shown old.agenda.plan) v (step_shown made.told.step) (give_shown made.give))
-  pub look : (first : ℕ) (v : run_world.World) → core.IsRun old.agenda old.system first v → look_shown made.look
+  pub look : (first : ℕ) (v : run_world.World) → core.Mirrors old.agenda old.system first v → look_shown made.look
       ≡ run_looks.look (plan_shown old.agenda.plan) v (step_shown made.told.step)
-  pub acts : (first : ℕ) (v : run_world.World) → core.IsRun old.agenda old.system first v → acts_shown made.told.acts
+  pub acts : (first : ℕ) (v : run_world.World) → core.Mirrors old.agenda old.system first v → acts_shown made.told.acts
       ≡ acts_of_step (plan_shown old.agenda.plan) v (step_shown made.told.step) (give_shown made.give) (stepper made.told.step)
 
 -- steps lead one after another from one world to another, where only spare room may come between
@@ -49,7 +48,7 @@ Leads old (made ∷ steps) new = (before : World) × (after : World) × IsSameWo
 pub record IsHistory (plan : Planned) (steps : List Made) (world : World) : Type 0 where
   pub begin : World
   pub opening : IsOpening begin plan 0 (2 ^ 24)
-  pub starts : core.IsRun begin.agenda begin.system 0 (run_world.start_world (plan_shown plan) 0)
+  pub starts : core.Mirrors begin.agenda begin.system 0 (run_world.start_world (plan_shown plan) 0)
   pub leads : Leads begin steps world
 
 -- a world, the steps that led to it, and the first fault
@@ -71,7 +70,7 @@ abbrev pub told_to : ℕ → List Made → List Told
 told_to p steps = map (λ (made : Made). made.told) (made_by p steps)
 
 -- steps lead to a world at rest, with these rows, from the one in which nothing of a plan is done
-pub record IsRun (plan : Planned) (steps : List Made) (rows : List Event) : Type 0 where
+pub record IsWholeHistory (plan : Planned) (steps : List Made) (rows : List Event) : Type 0 where
   pub end : World
   pub history : IsHistory plan steps end
   pub rest : IsAtRest end
@@ -87,14 +86,10 @@ pub record AreTold (processes : ℕ) (steps : List Made) (told : List (List Told
   pub count : length told ≡ processes
   pub each : (p : ℕ) → p < processes → slice_index_or told p [] ≡ told_to p steps
 
--- there is one order of steps that lead to a world at rest, with these rows, and of which each process is told its own;
--- their moves are a run of the plan, which tells each process the same; and each body that a command leaves to the object,
--- of those that each process is given, is what that offers at its row
+-- in one order, the steps that were made are a run of the plan with these rows; each process is told its own, and that is
+-- what the run tells it
 pub record IsLived (plan : Planned) (cast : List (List Content)) (rows : List Event) (told : List (List Told)) : Type 0 where
   pub steps : List Made
-  pub run : IsRun plan steps rows
-  pub moves : IsRunOf plan steps rows
+  pub run : IsRun plan cast (map move_of steps) rows
   pub tells : AreTold (length plan.names) steps told
   pub as_in_run : AreToldAsInRun plan steps told
-  pub offers : AreOfferedAt (rules_by cast) rows
-      (offer_places (plan_shown plan) (run_world.start_world (plan_shown plan) 0) (map move_of steps))

@@ -9,7 +9,7 @@ ghost use Rattle.kt_run.specs.Faults.{IsCast};
 ghost use Rattle.kt_run.specs.Objects.{has_of, HoldDue};
 ghost use Rattle.kt_run.specs.Telling.{AreToldTheirRows};
 ghost use Rattle.kt_threads.specs.Faults.{Answers, is_of_cast};
-ghost use Rattle.kt_threads.specs.Histories.{IsRun, IsLived};
+ghost use Rattle.kt_threads.specs.Histories.{IsWholeHistory, IsLived};
 ghost use Rattle.kt_threads.specs.Seats.{KeepsServing};
 
 use crate::board::Board;
@@ -87,7 +87,7 @@ fn work_all<R: Threads + Wait + Sync>(
 
 /// The log and the steps of a run of the plan that ended at rest, or the fault that ended it.
 fn finish(state: State, plan: &Plan) -> Result<(SpaceTime, Vec<Made>), LiveFault>
-    ensures run { IfOk result (λ parts. IsRun plan.entry.now parts.1.items parts.0.rows) }
+    ensures run { IfOk result (λ parts. IsWholeHistory plan.entry.now parts.1.items parts.0.rows) }
     ensures promised { IfOk result (λ parts. IsPromised parts.0.rows) }
     ensures fault { IfErr result (λ fault. is_of_cast fault ≡ false) }
 {

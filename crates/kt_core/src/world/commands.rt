@@ -16,7 +16,7 @@ ghost use Rattle.kt_promises.specs.World as run_world;
 ghost use Rattle.kt_promises.specs.Steps.{world_after};
 ghost use Rattle.kt_promises.specs.StepActs.{acts_of_step};
 ghost use Rattle.kt_core.specs.Worlds.{refusal, is_send, IsSameWorld, HasDone, Settles};
-ghost use Rattle.kt_core.specs.Shown.{IsRun, plan_shown, step_shown, give_shown, job_shown};
+ghost use Rattle.kt_core.specs.Shown.{Mirrors, plan_shown, step_shown, give_shown, job_shown};
 
 use super::World;
 use super::steps::settle;
@@ -36,9 +36,9 @@ impl World {
         ensures grows { Grows 4 self.old.system self.new.system }
         ensures done { OnOk result (HasDone self.old.agenda self.new.agenda (Step.Do p)) }
         ensures settled { OnOk result (Settles self.old self.new) }
-        ensures leads { (first : ℕ) (v : run_world.World) → IsRun self.old.agenda self.old.system first v →
-            OnOk result (IsRun self.new.agenda self.new.system first (world_after (plan_shown self.old.agenda.plan) v (step_shown (Step.Do p)) (give_shown give))) }
-        ensures acts { (first : ℕ) (v : run_world.World) → IsRun self.old.agenda self.old.system first v →
+        ensures leads { (first : ℕ) (v : run_world.World) → Mirrors self.old.agenda self.old.system first v →
+            OnOk result (Mirrors self.new.agenda self.new.system first (world_after (plan_shown self.old.agenda.plan) v (step_shown (Step.Do p)) (give_shown give))) }
+        ensures acts { (first : ℕ) (v : run_world.World) → Mirrors self.old.agenda self.old.system first v →
             IfOk result (λ acts. acts_shown acts ≡ acts_of_step (plan_shown self.old.agenda.plan) v (step_shown (Step.Do p)) (give_shown give) p) }
     {
         let Some(command) = self.agenda.open_command(p) else {

@@ -7,7 +7,7 @@ ghost use Rattle.kt_promises.specs.World as run_world;
 ghost use Rattle.kt_promises.specs.Steps as run_steps;
 ghost use Rattle.kt_promises.specs.Looks as run_looks;
 ghost use Rattle.kt_promises.specs.Defaults as run_defaults;
-ghost use Rattle.kt_core.specs.Shown.{IsRun, IsReached, plan_shown, step_shown, look_shown};
+ghost use Rattle.kt_core.specs.Shown.{Mirrors, IsReached, plan_shown, step_shown, look_shown};
 
 use super::World;
 use kt_base::ProcNo;
@@ -17,7 +17,7 @@ impl World {
     /// Whether a step can be made.
     pub fn enabled(&self, step: &Step) -> bool
         ensures enabled { result ≡ enabled self.now step.now }
-        ensures in_runs { (first : ℕ) (v : run_world.World) → IsRun self.now.agenda self.now.system first v →
+        ensures in_runs { (first : ℕ) (v : run_world.World) → Mirrors self.now.agenda self.now.system first v →
             result ≡ run_steps.enabled (plan_shown self.now.agenda.plan) v (step_shown step.now) }
     {
         self.can_make(step)
@@ -49,7 +49,7 @@ impl World {
     /// What a step needs of the process's object.
     pub fn look(&self, step: &Step) -> Look
         ensures look { result ≡ look self.now step.now }
-        ensures in_runs { (first : ℕ) (v : run_world.World) → IsRun self.now.agenda self.now.system first v →
+        ensures in_runs { (first : ℕ) (v : run_world.World) → Mirrors self.now.agenda self.now.system first v →
             look_shown result ≡ run_looks.look (plan_shown self.now.agenda.plan) v (step_shown step.now) }
     {
         self.needs(step)
@@ -118,7 +118,7 @@ impl World {
     /// Whether all is done: all commands, all channels and held lists are empty, and no process is in an instance.
     pub fn at_rest(&self) -> bool
         ensures rest { IsTrue result ↔ IsAtRest self.now }
-        ensures in_runs { (first : ℕ) (v : run_world.World) → IsRun self.now.agenda self.now.system first v →
+        ensures in_runs { (first : ℕ) (v : run_world.World) → Mirrors self.now.agenda self.now.system first v →
             result ≡ run_steps.is_at_rest (plan_shown self.now.agenda.plan) v }
 
         // Never stuck: where no step is enabled, all is done.
@@ -141,7 +141,7 @@ impl World {
         ensures step { IfSome result (IsDefaultStep self.now) }
         ensures enabled { IfSome result (λ step. enabled self.now step ≡ true) }
         ensures none { IfNone result ((step : Step) → enabled self.now step ≡ false) }
-        ensures in_runs { (first : ℕ) (v : run_world.World) → IsRun self.now.agenda self.now.system first v →
+        ensures in_runs { (first : ℕ) (v : run_world.World) → Mirrors self.now.agenda self.now.system first v →
             option_map step_shown result ≡ run_defaults.default_step (plan_shown self.now.agenda.plan) v }
     {
         self.first_step()
@@ -168,7 +168,7 @@ impl World {
         ensures step { IfSome result (IsNextStepOf self.now p) }
         ensures enabled { IfSome result (λ step. enabled self.now step ≡ true) }
         ensures none { IfNone result ((step : Step) → stepper step ≡ p → enabled self.now step ≡ false) }
-        ensures in_runs { (first : ℕ) (v : run_world.World) → IsRun self.now.agenda self.now.system first v →
+        ensures in_runs { (first : ℕ) (v : run_world.World) → Mirrors self.now.agenda self.now.system first v →
             IfSome result (λ step. run_steps.enabled (plan_shown self.now.agenda.plan) v (step_shown step) ≡ true) }
     {
         self.step_of(p)

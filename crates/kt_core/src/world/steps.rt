@@ -9,7 +9,7 @@ ghost use Rattle.kt_promises.specs.Steps.{world_after};
 ghost use Rattle.kt_promises.specs.Rows.{AreRowsOfStep};
 ghost use Rattle.kt_promises.specs.StepActs.{acts_of_step};
 ghost use Rattle.kt_core.specs.Worlds.{enabled, refusal, IsSameWorld, HasDone, Settles, SettlesIn, numbered_row, stepper};
-ghost use Rattle.kt_core.specs.Shown.{IsRun, plan_shown, step_shown, give_shown};
+ghost use Rattle.kt_core.specs.Shown.{Mirrors, plan_shown, step_shown, give_shown};
 
 use super::World;
 use crate::agenda::Agenda;
@@ -36,11 +36,11 @@ impl World {
         ensures err { OnErr result (IsSameWorld self.new self.old) }
         ensures done { OnOk result (HasDone self.old.agenda self.new.agenda step) }
         ensures settled { OnOk result (Settles self.old self.new) }
-        ensures leads { (first : ℕ) (v : run_world.World) → IsRun self.old.agenda self.old.system first v →
-            OnOk result (IsRun self.new.agenda self.new.system first (world_after (plan_shown self.old.agenda.plan) v (step_shown step) (give_shown give))) }
-        ensures acts { (first : ℕ) (v : run_world.World) → IsRun self.old.agenda self.old.system first v →
+        ensures leads { (first : ℕ) (v : run_world.World) → Mirrors self.old.agenda self.old.system first v →
+            OnOk result (Mirrors self.new.agenda self.new.system first (world_after (plan_shown self.old.agenda.plan) v (step_shown step) (give_shown give))) }
+        ensures acts { (first : ℕ) (v : run_world.World) → Mirrors self.old.agenda self.old.system first v →
             IfOk result (λ told. acts_shown told.acts ≡ acts_of_step (plan_shown self.old.agenda.plan) v (step_shown step) (give_shown give) (stepper step)) }
-        ensures rows { (first : ℕ) (v : run_world.World) → IsRun self.old.agenda self.old.system first v →
+        ensures rows { (first : ℕ) (v : run_world.World) → Mirrors self.old.agenda self.old.system first v →
             OnOk result (AreRowsOfStep (plan_shown self.old.agenda.plan) v (step_shown step) (give_shown give)
             (drop (length self.old.system.rows.rows) self.new.system.rows.rows)) }
         ensures step { IfOk result (λ told. told.step ≡ step) }
@@ -69,9 +69,9 @@ impl World {
         ensures err { OnErr result (IsSameWorld self.new self.old) }
         ensures done { OnOk result (HasDone self.old.agenda self.new.agenda step) }
         ensures settled { OnOk result (Settles self.old self.new) }
-        ensures leads { (first : ℕ) (v : run_world.World) → IsRun self.old.agenda self.old.system first v →
-            OnOk result (IsRun self.new.agenda self.new.system first (world_after (plan_shown self.old.agenda.plan) v (step_shown step) (give_shown give))) }
-        ensures acts { (first : ℕ) (v : run_world.World) → IsRun self.old.agenda self.old.system first v →
+        ensures leads { (first : ℕ) (v : run_world.World) → Mirrors self.old.agenda self.old.system first v →
+            OnOk result (Mirrors self.new.agenda self.new.system first (world_after (plan_shown self.old.agenda.plan) v (step_shown step) (give_shown give))) }
+        ensures acts { (first : ℕ) (v : run_world.World) → Mirrors self.old.agenda self.old.system first v →
             IfOk result (λ acts. acts_shown acts ≡ acts_of_step (plan_shown self.old.agenda.plan) v (step_shown step) (give_shown give) (stepper step)) }
     {
         if let Some(fault) = self.refusal(&step) {
@@ -106,9 +106,9 @@ impl World {
         ensures grows { Grows 4 self.old.system self.new.system }
         ensures done { OnOk result (HasDone self.old.agenda self.new.agenda step.now) }
         ensures settled { OnOk result (Settles self.old self.new) }
-        ensures leads { (first : ℕ) (v : run_world.World) → IsRun self.old.agenda self.old.system first v →
-            OnOk result (IsRun self.new.agenda self.new.system first (world_after (plan_shown self.old.agenda.plan) v (step_shown step.now) (give_shown give))) }
-        ensures acts { (first : ℕ) (v : run_world.World) → IsRun self.old.agenda self.old.system first v →
+        ensures leads { (first : ℕ) (v : run_world.World) → Mirrors self.old.agenda self.old.system first v →
+            OnOk result (Mirrors self.new.agenda self.new.system first (world_after (plan_shown self.old.agenda.plan) v (step_shown step.now) (give_shown give))) }
+        ensures acts { (first : ℕ) (v : run_world.World) → Mirrors self.old.agenda self.old.system first v →
             IfOk result (λ acts. acts_shown acts ≡ acts_of_step (plan_shown self.old.agenda.plan) v (step_shown step.now) (give_shown give) (stepper step.now)) }
     {
         match *step {
@@ -127,9 +127,9 @@ impl World {
         ensures grows { Grows 4 self.old.system self.new.system }
         ensures done { OnOk result (HasDone self.old.agenda self.new.agenda (Step.Take at from)) }
         ensures settled { OnOk result (Settles self.old self.new) }
-        ensures leads { (first : ℕ) (v : run_world.World) → IsRun self.old.agenda self.old.system first v →
-            OnOk result (IsRun self.new.agenda self.new.system first (world_after (plan_shown self.old.agenda.plan) v (step_shown (Step.Take at from)) (give_shown give))) }
-        ensures acts { (first : ℕ) (v : run_world.World) → IsRun self.old.agenda self.old.system first v →
+        ensures leads { (first : ℕ) (v : run_world.World) → Mirrors self.old.agenda self.old.system first v →
+            OnOk result (Mirrors self.new.agenda self.new.system first (world_after (plan_shown self.old.agenda.plan) v (step_shown (Step.Take at from)) (give_shown give))) }
+        ensures acts { (first : ℕ) (v : run_world.World) → Mirrors self.old.agenda self.old.system first v →
             IfOk result (λ acts. acts_shown acts ≡ acts_of_step (plan_shown self.old.agenda.plan) v (step_shown (Step.Take at from)) (give_shown give) at) }
     {
         let acts = self.system.take(self.alloc, at, from, give.able)?;

@@ -1,8 +1,9 @@
 use Rattle.std.proofs.Common.{map}
 use Rattle.kt_held.specs.Holdings.{content}
-use Rattle.kt_program.specs.Played.{AreNew, IsLogOfRun}
+use Rattle.kt_run.specs.Runs.{IsLogOfRun}
+use Rattle.kt_program.specs.Played.{AreNew}
 use Rattle.kt_program.proofs.Casting.{are_new}
-use Rattle.kt_program.proofs.NewObjects.{written_so, stops_so, on_ok_so, if_err_so, over_new}
+use Rattle.kt_program.proofs.NewObjects.{written_so, stops_so, on_ok_so, if_err_so, over_new, right_for_live}
 use Rattle.kt_program.proofs.casts.live_cast.Goals as goal
 use Rattle.kt_program.proofs.casts.live_cast.Goals.{After-live_plan}
 
@@ -18,3 +19,8 @@ pub returns-clause-stopped : goal.returns-clause-stopped
 returns-clause-stopped g c = if_err_so _ _ c.live_plan.result
     (stops_so _ _ (over_new c.args.plan.now (IsLogOfRun c.args.plan.now) (map (λ row. map (λ b. content ((goal.Recoverable-dyn g (b.vtable, b.value)).kind_of b.value) ((goal.Recoverable-dyn g (b.vtable, b.value)).value_of b.value)) row.items) c.args.cast.items) (new g c)) _ _)
     c.live_plan.ensures.stopped
+
+pub returns-clause-fault : goal.returns-clause-fault
+returns-clause-fault g c = if_err_so _ _ c.live_plan.result
+    (λ e answers fault is. right_for_live c.args.plan.now _ c.requires.sizes c.requires.kinds fault (answers fault is))
+    c.live_plan.ensures.fault

@@ -1,9 +1,9 @@
 use Rattle.std.proofs.Common.{map}
 use Rattle.kt_held.specs.Holdings.{content}
-use Rattle.kt_run.specs.Runs.{IsRunOf}
+use Rattle.kt_run.specs.Runs.{IsPlayed}
 use Rattle.kt_program.specs.Played.{AreNew}
 use Rattle.kt_program.proofs.Casting.{are_new}
-use Rattle.kt_program.proofs.NewObjects.{written_so, stops_so, on_ok_so, if_err_so, over_new}
+use Rattle.kt_program.proofs.NewObjects.{written_so, stops_so, on_ok_so, if_err_so, over_new, right_for_run}
 use Rattle.kt_program.proofs.casts.play_cast.Goals as goal
 use Rattle.kt_program.proofs.casts.play_cast.Goals.{After-play_plan}
 
@@ -12,10 +12,20 @@ new g c = are_new c.args.cast.items (λ row. row.items) _ _ c.args.plan.now c.re
 
 pub returns-clause-played : goal.returns-clause-played
 returns-clause-played g c = on_ok_so c.play_plan.result
-    (written_so _ _ (over_new c.args.plan.now (λ cast. IsRunOf c.args.plan.now cast c.args.steps.now) (map (λ row. map (λ b. content ((goal.Recoverable-dyn g (b.vtable, b.value)).kind_of b.value) ((goal.Recoverable-dyn g (b.vtable, b.value)).value_of b.value)) row.items) c.args.cast.items) (new g c)) _ _ _)
+    (written_so _ _ (over_new c.args.plan.now (λ cast. IsPlayed c.args.plan.now cast c.args.steps.now) (map (λ row. map (λ b. content ((goal.Recoverable-dyn g (b.vtable, b.value)).kind_of b.value) ((goal.Recoverable-dyn g (b.vtable, b.value)).value_of b.value)) row.items) c.args.cast.items) (new g c)) _ _ _)
     c.play_plan.ensures.played
 
 pub returns-clause-stopped : goal.returns-clause-stopped
 returns-clause-stopped g c = if_err_so _ _ c.play_plan.result
-    (stops_so _ _ (over_new c.args.plan.now (λ cast. IsRunOf c.args.plan.now cast c.args.steps.now) (map (λ row. map (λ b. content ((goal.Recoverable-dyn g (b.vtable, b.value)).kind_of b.value) ((goal.Recoverable-dyn g (b.vtable, b.value)).value_of b.value)) row.items) c.args.cast.items) (new g c)) _ _)
+    (stops_so _ _ (over_new c.args.plan.now (λ cast. IsPlayed c.args.plan.now cast c.args.steps.now) (map (λ row. map (λ b. content ((goal.Recoverable-dyn g (b.vtable, b.value)).kind_of b.value) ((goal.Recoverable-dyn g (b.vtable, b.value)).value_of b.value)) row.items) c.args.cast.items) (new g c)) _ _)
     c.play_plan.ensures.stopped
+
+pub returns-clause-fault : goal.returns-clause-fault
+returns-clause-fault g c = if_err_so _ _ c.play_plan.result
+    (λ e answers fault is. right_for_run c.args.plan.now _ c.requires.sizes c.requires.kinds fault (answers fault is))
+    c.play_plan.ensures.fault
+
+pub returns-clause-refused : goal.returns-clause-refused
+returns-clause-refused g c = if_err_so _ _ c.play_plan.result
+    (λ e refused done why is. (_, new g c, refused done why is))
+    c.play_plan.ensures.refused

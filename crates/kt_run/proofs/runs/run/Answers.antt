@@ -8,7 +8,7 @@ use Rattle.kt_core.specs.Worlds.{World}
 use Rattle.kt_plan.specs.Limits.{Planned, IsPlan}
 use Rattle.kt_plan.specs.declared.steps.Told.{Told}
 use Rattle.kt_run.specs.Objects.{belongings_of, has_of, HoldDue}
-use Rattle.kt_run.specs.Runs.{scene, Rests, IsToldRunOf}
+use Rattle.kt_run.specs.Runs.{scene, Rests, IsToldPlay}
 use Rattle.kt_run.specs.Telling.{AreToldTheirRows}
 use Rattle.kt_run.proofs.Running.{told_run_of, their_rows, due_of, settled_of}
 use Rattle.kt_run.proofs.runs.run.Goals as goal
@@ -45,7 +45,7 @@ returns-clause-run g c =
     let end = c.make_all.new.self in
     let count : length end.journals ≡ length c.args.plan.now.names =
     c.in_ok-make_all.ensures.count ∙ (c.in_ok-keep_journals.ensures.count ∙ ap (λ (p : Planned). length p.names) c.in_ok-stage.ensures.plan) in
-    subst (λ (told : List (List Told)). IsToldRunOf c.args.plan.now
+    subst (λ (told : List (List Told)). IsToldPlay c.args.plan.now
     (map (λ row. map (λ b. content ((goal.Recoverable-dyn g (b.vtable, b.value)).kind_of b.value) ((goal.Recoverable-dyn g (b.vtable, b.value)).value_of b.value)) row.items) c.args.cast.items)
     c.args.steps.now c.into_log.result.rows told) (sym c.into_lists.ensures)
     (told_run_of c.args.plan.now

@@ -2,10 +2,10 @@ use Rattle.std.proofs.Common.{rules, ◌≡◌, ◌∙◌, Ok, subst, sym, lengt
 use Rattle.std.specs.Prelude.{Result, IfOk}
 use Rattle.kt_held.specs.Holdings.{content}
 use Rattle.kt_run.specs.Objects.{has_of}
-use Rattle.kt_threads.specs.Histories.{IsRun, AreTheirs, AreTold}
+use Rattle.kt_threads.specs.Histories.{IsWholeHistory, AreTheirs, AreTold}
 use Rattle.kt_threads.specs.Seats.{AllServed}
-use Rattle.kt_threads.proofs.Keeping.{due_then, offers_then, settled_then}
-use Rattle.kt_threads.proofs.Moving.{moves_of, told_as_in_run, told_their_rows}
+use Rattle.kt_threads.proofs.Keeping.{due_then, run_then, settled_then}
+use Rattle.kt_threads.proofs.Moving.{told_as_in_run, told_their_rows}
 use Rattle.kt_threads.proofs.Reading.{told_each}
 use Rattle.kt_threads.proofs.Seating.{all_served_of, all_of_has}
 use Rattle.kt_threads.proofs.outcome.live_with.Goals as goal
@@ -14,8 +14,8 @@ use Rattle.kt_threads.proofs.outcome.live_with.Goals.{After-drop-steps-2, in_def
 at_ok : {T E : Type 0} (r : Result T E) (t : T) (P : T → Type 0) → r ≡ Ok t → IfOk r P → P t
 at_ok r t P e h = subst (λ r. IfOk r P) e h
 
-run : (g : _) (c : After-drop-steps-2 g) → IsRun c.args.plan.now c.in_ok-log.steps.items c.in_ok-log.log.rows
-run g c = search rules
+whole : (g : _) (c : After-drop-steps-2 g) → IsWholeHistory c.args.plan.now c.in_ok-log.steps.items c.in_ok-log.log.rows
+whole g c = search rules
 
 theirs : (g : _) (c : After-drop-steps-2 g) → AreTheirs (length c.args.plan.now.names) c.in_ok-log.steps.items (map (λ list. list.items) c.in_ok-lists.lists.items)
 theirs g c = search rules
@@ -42,22 +42,20 @@ returns-clause-lived g c = λ cast due.
     let rows = c.in_ok-log.log.rows in
     record {
       steps = steps;
-      run = run g c;
-      moves = moves_of plan steps rows (run g c);
+      run = run_then plan steps rows (whole g c) _ (theirs g c) _ _ (served g c) cast due;
       tells = tells g c;
-      as_in_run = told_as_in_run plan steps rows (run g c) (length plan.names) _ (tells g c);
-      offers = offers_then plan steps rows (run g c) _ (theirs g c) _ _ (served g c) cast due;
+      as_in_run = told_as_in_run plan steps rows (whole g c) (length plan.names) _ (tells g c);
     }
 
 pub returns-clause-due : goal.returns-clause-due
 returns-clause-due g c = λ cast due.
-    due_then c.args.plan.now c.in_ok-log.steps.items c.in_ok-log.log.rows (run g c) _ (theirs g c) _ _ (served g c) cast due
+    due_then c.args.plan.now c.in_ok-log.steps.items c.in_ok-log.log.rows (whole g c) _ (theirs g c) _ _ (served g c) cast due
 
 pub returns-clause-settled : goal.returns-clause-settled
 returns-clause-settled g c = λ cast due.
     all_of_has (λ b. content ((goal.Recoverable-dyn g (b.vtable, b.value)).kind_of b.value) ((goal.Recoverable-dyn g (b.vtable, b.value)).value_of b.value)) c.in_ok-lists.objects.items
-    (settled_then c.args.plan.now c.in_ok-log.steps.items c.in_ok-log.log.rows (run g c) _ (theirs g c) _ _ (served g c) cast due)
+    (settled_then c.args.plan.now c.in_ok-log.steps.items c.in_ok-log.log.rows (whole g c) _ (theirs g c) _ _ (served g c) cast due)
 
 pub returns-clause-told : goal.returns-clause-told
 returns-clause-told g c =
-    told_their_rows c.args.plan.now c.in_ok-log.steps.items c.in_ok-log.log.rows (run g c) (length c.args.plan.now.names) _ (tells g c)
+    told_their_rows c.args.plan.now c.in_ok-log.steps.items c.in_ok-log.log.rows (whole g c) (length c.args.plan.now.names) _ (tells g c)

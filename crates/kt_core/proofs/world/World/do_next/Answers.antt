@@ -10,7 +10,7 @@ use Rattle.kt_promises.specs.Steps.{world_after}
 use Rattle.kt_promises.specs.StepActs.{acts_of_step}
 use Rattle.kt_core.specs.Agendas.{place_of, IsNextOf}
 use Rattle.kt_core.specs.Worlds.{World, refusal, HasDone, SettlesIn}
-use Rattle.kt_core.specs.Shown.{IsRun, plan_shown, give_shown}
+use Rattle.kt_core.specs.Shown.{Mirrors, plan_shown, give_shown}
 use Rattle.kt_core.proofs.Enabled.{few, enabled_is, enabled_if, does_there}
 use Rattle.kt_core.proofs.Leading.{do_acts, do_leads, run_same, open_is_next}
 use Rattle.kt_core.proofs.Phases.{settles_from}
@@ -62,7 +62,7 @@ returns-clause-leads c =
     let command = sym c.in-Some.ensures.command in
     let move = c.advance.ensures in
     let opened = c.settle.ensures in
-    subst (λ (z : World). (first : ℕ) (v : run_world.World) → IsRun z.agenda z.system first v → IsRun c.settle.new.agenda c.do_job.new.system first (world_after (plan_shown z.agenda.plan) v (run_steps.Do p) (give_shown c.args.give))) c.self.view_is
+    subst (λ (z : World). (first : ℕ) (v : run_world.World) → Mirrors z.agenda z.system first v → Mirrors c.settle.new.agenda c.do_job.new.system first (world_after (plan_shown z.agenda.plan) v (run_steps.Do p) (give_shown c.args.give))) c.self.view_is
     (λ first v r. do_leads a c.advance.new.self c.settle.new.agenda s c.do_job.new.system p c.in-Some.command c.args.give first v r (few w first v r p there) command
     (sym (enabled_is w first v r (Do p)) ∙ enabled_if w (Do p) allowed)
     (λ h begun says. c.in_ok-acts.ensures.shows v.now h begun says) move.plan move.phase move.next move.others opened.plan opened.next opened.settled (c.do_job.ensures.size ∙ size) opened.numbered c.in_ok-acts.ensures.tallies)
@@ -75,7 +75,7 @@ returns-clause-acts c =
     let p = c.args.p in
     let allowed = subst (λ (z : World). refusal z (Do p) ≡ None) (sym c.self.view_is) c.requires in
     let there = does_there w p allowed in
-    subst (λ (z : World). (first : ℕ) (v : run_world.World) → IsRun z.agenda z.system first v → acts_shown c.in_ok-acts.acts ≡ acts_of_step (plan_shown z.agenda.plan) v (run_steps.Do p) (give_shown c.args.give) p) c.self.view_is
+    subst (λ (z : World). (first : ℕ) (v : run_world.World) → Mirrors z.agenda z.system first v → acts_shown c.in_ok-acts.acts ≡ acts_of_step (plan_shown z.agenda.plan) v (run_steps.Do p) (give_shown c.args.give) p) c.self.view_is
     (λ first v r. do_acts a s p c.in-Some.command c.args.give first v (acts_shown c.in_ok-acts.acts) r (few w first v r p there) (sym c.in-Some.ensures.command)
     (sym (enabled_is w first v r (Do p)) ∙ enabled_if w (Do p) allowed) (λ h begun. c.in_ok-acts.ensures.acts v.now h begun))
 

@@ -7,7 +7,7 @@ use Rattle.kt_system.specs.ShownActs.{acts_shown}
 use Rattle.kt_promises.specs.Steps.{world_after}
 use Rattle.kt_promises.specs.StepActs.{acts_of_step}
 use Rattle.kt_core.specs.Worlds.{World, refusal}
-use Rattle.kt_core.specs.Shown.{IsRun, plan_shown, give_shown}
+use Rattle.kt_core.specs.Shown.{Mirrors, plan_shown, give_shown}
 use Rattle.kt_core.proofs.Enabled.{enabled_is, enabled_if}
 use Rattle.kt_core.proofs.Leading.{take_acts, take_leads, run_same}
 use Rattle.kt_core.proofs.world.World.take.Goals as goal
@@ -48,7 +48,7 @@ returns-clause-leads c =
     let allowed = subst (λ (z : World). refusal z (Take c.args.at c.args.from) ≡ None) (sym c.self.view_is) c.requires in
     let size = c.self.invariant.size in
     let opened = c.settle.ensures in
-    subst (λ (z : World). (first : ℕ) (v : run_world.World) → IsRun z.agenda z.system first v → IsRun c.settle.new.agenda c.take.new.self first (world_after (plan_shown z.agenda.plan) v (run_steps.Take c.args.at c.args.from) (give_shown c.args.give))) c.self.view_is
+    subst (λ (z : World). (first : ℕ) (v : run_world.World) → Mirrors z.agenda z.system first v → Mirrors c.settle.new.agenda c.take.new.self first (world_after (plan_shown z.agenda.plan) v (run_steps.Take c.args.at c.args.from) (give_shown c.args.give))) c.self.view_is
     (λ first v r. take_leads a c.settle.new.agenda c.self.inside.system c.take.new.self c.args.at c.args.from c.args.give first v r
     (sym (enabled_is w first v r (Take c.args.at c.args.from)) ∙ enabled_if w (Take c.args.at c.args.from) allowed)
     (λ h says. c.in_ok-acts.ensures.shows v.now h says) opened.plan opened.next opened.settled (c.take.ensures.size ∙ size) opened.numbered c.in_ok-acts.ensures.tallies)
@@ -58,6 +58,6 @@ returns-clause-acts c =
     let a = c.self.inside.agenda in
     let w : World = record { agenda = a; system = c.self.inside.system; limit = c.self.inside.limit } in
     let allowed = subst (λ (z : World). refusal z (Take c.args.at c.args.from) ≡ None) (sym c.self.view_is) c.requires in
-    subst (λ (z : World). (first : ℕ) (v : run_world.World) → IsRun z.agenda z.system first v → acts_shown c.in_ok-acts.acts ≡ acts_of_step (plan_shown z.agenda.plan) v (run_steps.Take c.args.at c.args.from) (give_shown c.args.give) c.args.at) c.self.view_is
+    subst (λ (z : World). (first : ℕ) (v : run_world.World) → Mirrors z.agenda z.system first v → acts_shown c.in_ok-acts.acts ≡ acts_of_step (plan_shown z.agenda.plan) v (run_steps.Take c.args.at c.args.from) (give_shown c.args.give) c.args.at) c.self.view_is
     (λ first v r. take_acts a c.self.inside.system c.args.at c.args.from c.args.give first v (acts_shown c.in_ok-acts.acts) r
     (sym (enabled_is w first v r (Take c.args.at c.args.from)) ∙ enabled_if w (Take c.args.at c.args.from) allowed) (λ h. c.in_ok-acts.ensures.acts v.now h))
