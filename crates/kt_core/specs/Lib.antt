@@ -1,3 +1,4 @@
 pub mod Agendas
 pub mod Worlds
 pub mod Shown
+pub mod Making

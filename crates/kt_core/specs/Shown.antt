@@ -23,6 +23,7 @@ use Rattle.kt_promises.specs.Order.{next_place}
 use Rattle.kt_promises.specs.Runs.{IsReachedWorld}
 use Rattle.kt_core.specs.Agendas.{Agenda, place_of, next_command}
 
+-- what a command does
 abbrev pub job_shown : Job → run.Job
 job_shown (Send to body) = run.Send to body
 job_shown Checkpoint = run.Checkpoint
@@ -36,13 +37,16 @@ command_shown c = record { by = c.by; phase = c.phase; job = job_shown c.job }
 abbrev pub plan_shown : Planned → run.Plan
 plan_shown plan = record { size = length plan.names; commands = map command_shown plan.commands }
 
+-- a step
 abbrev pub step_shown : Step → run_steps.Step
 step_shown (Do p) = run_steps.Do p
 step_shown (Take at from) = run_steps.Take at from
 
+-- what an object gives
 abbrev pub give_shown : Give → run_steps.Give
 give_shown give = record { able = give.able; body = give.body }
 
+-- what a step needs
 abbrev pub look_shown : Look → run_looks.Look
 look_shown Idle = run_looks.Idle
 look_shown NeedsSave = run_looks.NeedsSave

@@ -32,6 +32,7 @@ pub record IsWorld (w : World) : Type 0 where
   pub size : w.system.size ≡ length w.agenda.plan.names
   pub rows : w.limit ≤ 2 ^ 24
 
+-- whether a command sends
 abbrev pub is_send : Job → Bool
 is_send (Send to body) = true
 is_send Checkpoint = false
@@ -64,6 +65,7 @@ abbrev pub look_of_command : Person → Option Command → Look
 look_of_command x None = Idle
 look_of_command x (Some command) = look_of_job x command.job
 
+-- what an enabled step needs
 abbrev pub look_of_step : World → Step → Look
 look_of_step w (Do p) = look_of_command (person w.system p) (open_command w.agenda p)
 look_of_step w (Take at from) = if would_save w.system at from then NeedsSave else Plain
@@ -77,6 +79,7 @@ abbrev pub sends_unlabelled : Person → Option Command → Bool
 sends_unlabelled x None = false
 sends_unlabelled x (Some command) = is_send command.job && (x.up && nat_le (2 ^ 48 - 1) x.used)
 
+-- whether a step would send a message without a label
 abbrev pub lacks_label : World → Step → Bool
 lacks_label w (Do p) = sends_unlabelled (person w.system p) (open_command w.agenda p)
 lacks_label w (Take at from) = false
@@ -163,5 +166,6 @@ pub record SettlesIn (system : Whole) (old new : Agenda) : Type 0 where
   pub stays : (least : ℕ) → IsLeastPhase new least → least ≤ old.phase → new.phase ≡ old.phase
   pub opens : (least : ℕ) → IsQuiet system → IsLeastPhase new least → old.phase ≤ least → new.phase ≡ least
 
+-- what a step leaves of the open phase
 abbrev pub Settles : World → World → Type 0
 Settles old new = SettlesIn new.system old.agenda new.agenda

@@ -1,6 +1,7 @@
 -- What is written of runs, and over new objects.
-use Rattle.std.proofs.Common.{◌≡◌, ◌<◌, ◌++◌, ℕ, false, refl, length, inl, inr, List, map}
+use Rattle.std.proofs.Common.{◌≡◌, ◌<◌, ℕ, false, refl, length, inl, inr, List}
 use Rattle.std.specs.Prelude.{Result, Ok, Err, OnOk, IfErr}
+use Rattle.kt_core.specs.declared.faults.StepFault.{StepFault}
 use Rattle.kt_held.specs.Casts.{HasSizes, HasKind}
 use Rattle.kt_run.specs.Faults as run
 use Rattle.kt_run.specs.declared.faults.RunFault.{RunFault}
@@ -8,18 +9,12 @@ use Rattle.kt_run.specs.declared.faults.RunFault.TheVariants as run_fault
 use Rattle.kt_threads.specs.Faults as threads
 use Rattle.kt_threads.specs.declared.faults.LiveFault.{LiveFault}
 use Rattle.kt_threads.specs.declared.faults.LiveFault.TheVariants as live_fault
-use Rattle.kt_plan.specs.declared.steps.Step.{Step}
-use Rattle.kt_program.specs.Ending.{AppendsReport}
 use Rattle.kt_held.specs.Holdings.{Content}
 use Rattle.kt_plan.specs.Limits.{Planned}
-use Rattle.kt_plan.specs.declared.steps.Told.{Told}
-use Rattle.kt_run.specs.Runs.{IsLogOfRun, IsPlayed}
-use Rattle.kt_threads.specs.Histories.{IsLived}
-use Rattle.kt_threads.specs.Moves.{move_of}
 use Rattle.kt_spacetime.specs.declared.event.Event.{Event}
 use Rattle.kt_program.specs.declared.fault.AppFault.{AppFault}
 use Rattle.kt_program.specs.declared.fault.AppFault.TheVariants as app
-use Rattle.kt_program.specs.Played.{Outputs, IsWritten, AreNew, OverNew, StopsWithin, StopsAt}
+use Rattle.kt_program.specs.Played.{Outputs, IsWritten, AreNew, OverNew, StopsWithin, StopsAt, of_run}
 
 -- what is written of such rows is written of others that they are
 module _ (Are Be : List Event → Type 0) (so : (rows : List Event) → Are rows → Be rows) (old new : Outputs) where
@@ -73,22 +68,11 @@ module _ (plan : Planned) (given : List (List ℕ)) (sizes : HasSizes plan.kinds
   right_for_live live_fault.Differ a = refl
   right_for_live live_fault.Memory a = refl
 
--- what is written of a run over new objects is its report
-pub report_of_written : (plan : Planned) (Are : List (List Content) → List Event → Type 0)
-    → ((cast : List (List Content)) (rows : List Event) → Are cast rows → IsLogOfRun plan cast rows)
-    → (old new : Outputs) → IsWritten (OverNew plan Are) plan old new → AppendsReport old.report new.report
-report_of_written plan Are so old new w = record {
-  plan = plan;
-  rows = w.rows;
-  run = (w.run.0, w.run.1, so w.run.0 w.rows w.run.2);
-  promised = w.promised;
-  report = w.writes.report;
-}
-
--- a run that is played is a run
-pub log_of_played : (plan : Planned) (cast : List (List Content)) (steps : List Step) (rows : List Event) → IsPlayed plan cast steps rows → IsLogOfRun plan cast rows
-log_of_played plan cast steps rows p = (p.given ++ p.more, p.run)
-
--- what threads made
-pub log_of_lived : (plan : Planned) (cast : List (List Content)) (rows : List Event) (told : List (List Told)) → IsLived plan cast rows told → IsLogOfRun plan cast rows
-log_of_lived plan cast rows told l = (map move_of l.steps, l.run)
+-- a step that the program answers as refused is one that the run did
+pub step_of_run : (fault : RunFault) (done : ℕ) (why : StepFault) → of_run fault ≡ app.Run (run_fault.Step done why) → fault ≡ run_fault.Step done why
+step_of_run run_fault.CastSize done why e = absurd (cc (e))
+step_of_run (run_fault.CastKind p) done why e = absurd (cc (e))
+step_of_run (run_fault.Object p) done why e = absurd (cc (e))
+step_of_run (run_fault.Journal p) done why e = absurd (cc (e))
+step_of_run (run_fault.Step n other) done why e = cc e
+step_of_run run_fault.Memory done why e = absurd (cc (e))

@@ -29,6 +29,7 @@ IsUnasked words ask.Memory = Unit {0}
 abbrev pub IsRequest : ErrorKind → Type 0
 IsRequest kind = (kind ≡ DisplayHelp) ⊎ (kind ≡ DisplayVersion)
 
+-- any other error but want of memory is a mistake of the words
 abbrev pub IsMistake : ErrorKind → Type 0
 IsMistake kind = (kind ≢ OutOfMemory) × (kind ≢ DisplayHelp) × (kind ≢ DisplayVersion)
 
@@ -42,11 +43,13 @@ IsOfRun (Play scenario steps log cert) = Unit {0}
 IsOfRun (Live scenario log cert) = Unit {0}
 IsOfRun (Check log cert) = ⊥
 
+-- whether a scenario is to be run serially
 abbrev pub IsPlay : Asked → Type 0
 IsPlay (Play scenario steps log cert) = Unit {0}
 IsPlay (Live scenario log cert) = ⊥
 IsPlay (Check log cert) = ⊥
 
+-- whether a stored run is to be judged
 abbrev pub IsCheck : Asked → Type 0
 IsCheck (Play scenario steps log cert) = ⊥
 IsCheck (Live scenario log cert) = ⊥
@@ -64,6 +67,7 @@ DoneFor words (Judged passed) = Ask words IsCheck
 DoneFor words Played = Ask words IsOfRun
 DoneFor words Shown = AreAnswered words IsRequest
 
+-- what is refused for words
 abbrev pub RefusedFor : List Text → ProgramFault → Type 0
 RefusedFor words program.Line = AreAnswered words IsMistake ⊎ NameTwice words
 RefusedFor words program.SameFile = Ask words IsWriting
@@ -81,6 +85,7 @@ IsUnshown kind (program.Steps fault) = ⊥
 IsUnshown kind program.Read = ⊥
 IsUnshown kind program.SameFile = ⊥
 
+-- how it ends for words
 abbrev pub EndsFor : List Text → Result Done ProgramFault → Type 0
 EndsFor words (Ok what) = DoneFor words what
 EndsFor words (Err fault) = RefusedFor words fault

@@ -37,6 +37,7 @@ abbrev pub run_status : RunFault → ℕ
 run_status (run.Step done fault) = step_status fault
 run_status _ = 4
 
+-- the exit status of a fault of a run, of a stored run or of writing
 abbrev pub fault_status : AppFault → ℕ
 fault_status (app.Log fault) = log_status fault
 fault_status (app.Cert fault) = cert_status fault
@@ -54,6 +55,7 @@ abbrev pub steps_status : StepsFault → ℕ
 steps_status steps.Memory = 4
 steps_status _ = 2
 
+-- the exit status of a fault of the program
 abbrev pub refusal_status : ProgramFault → ℕ
 refusal_status program.Line = 2
 refusal_status program.SameFile = 2

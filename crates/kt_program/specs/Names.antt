@@ -6,6 +6,7 @@ use Rattle.clap.specs.Words.{Text}
 use Rattle.kt_program.specs.declared.line.Asked.{Asked}
 use Rattle.kt_program.specs.declared.line.Asked.TheVariants.{Check, Live, Play}
 
+-- whether a name is one of those of devices, which have no content to lose
 abbrev pub is_device : Text → Bool
 is_device name = starts_with nat_eq name (codes "/dev/")
 

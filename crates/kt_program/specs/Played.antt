@@ -31,6 +31,7 @@ pub record Outputs : Type 0 where
   pub certificates : Told
   pub report : Told
 
+-- the same, of what three writers tell
 abbrev pub outputs : Told → Told → Told → Outputs
 outputs log certificates report = record { log = log; certificates = certificates; report = report }
 

@@ -18,12 +18,15 @@ wanted id = record (new_rule id) { required = true; value_names = 1 }
 abbrev pub optional : Text → Rule
 optional id = record (new_rule id) { long = Some id; value_names = 1 }
 
+-- the command that plays a scenario
 abbrev pub play : App
 play = with_rule (with_rule (with_rule (with_rule (new_app (codes "play")) (wanted (codes "scenario"))) (optional (codes "steps"))) (optional (codes "log"))) (optional (codes "cert"))
 
+-- the command that runs one in threads
 abbrev pub live : App
 live = with_rule (with_rule (with_rule (new_app (codes "live")) (wanted (codes "scenario"))) (optional (codes "log"))) (optional (codes "cert"))
 
+-- the command that judges a stored run
 abbrev pub check : App
 check = with_rule (with_rule (new_app (codes "check")) (wanted (codes "log"))) (wanted (codes "cert"))
 

@@ -10,6 +10,7 @@ abbrev pub answer_status : Bool → ℕ
 answer_status true = 0
 answer_status false = 1
 
+-- 0 but for a no, which is 1
 abbrev pub done_status : Done → ℕ
 done_status (Judged passed) = answer_status passed
 done_status Played = 0

@@ -29,6 +29,7 @@ records_told bytes = (rows_unread bytes).left
 abbrev pub SayCertificates : Told → List Certificate → Type 0
 SayCertificates bytes certificates = IfSome (records_told bytes) (λ text. certs.IsCertText text certificates)
 
+-- whether an answer is a yes
 abbrev pub is_yes : Verdict → Bool
 is_yes Yes = true
 is_yes (No inst row why) = false

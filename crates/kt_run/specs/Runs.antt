@@ -28,6 +28,7 @@ pub record Scene : Type 0 where
   pub told : List (List Told)
   pub has : List Belongings
 
+-- the same, of what code keeps
 abbrev pub scene : {X : Type 0} {D : X → Type 0} → List (List Told) → List (Held X D) → (DynBox X Global D → Content) → Scene
 scene told helds content_of = record { told = told; has = has_of helds content_of }
 

@@ -1,5 +1,5 @@
 -- Steps that lead from world to world are moves of a run.
-use Rattle.std.proofs.Common.{◌≡◌, ◌∙◌, arith, ℕ, ℤ, Bool, true, false, List, [], ◌∷◌, ◌++◌, append-nil, Option, Some, None, map, refl, sym, subst, ap}
+use Rattle.std.proofs.Common.{◌≡◌, ◌∙◌, ◌<◌, length, arith, ℕ, ℤ, Bool, true, false, List, [], ◌∷◌, ◌++◌, append-nil, Option, Some, None, map, refl, sym, subst, ap}
 use Rattle.std.specs.List.{AllZip}
 use Rattle.std.specs.Prelude.{if◌then◌else◌}
 use Rattle.kt_core.specs.Agendas.{Agenda}
@@ -89,7 +89,7 @@ run_after : (plan : Planned) (made : Made) (before after : World) (first : ℕ) 
     → Mirrors after.agenda after.system first (world_after (plan_shown plan) v (step_shown made.told.step) (give_shown made.give))
 run_after plan made before after first v plans r step =
     subst (λ (p : Planned). Mirrors after.agenda after.system first (world_after (plan_shown p) v (step_shown made.told.step) (give_shown made.give))) plans
-    (step.leads first v r)
+    (step.makes.leads first v r)
 
 goes_on : (plan : Planned) (steps : List Made) (old new : World) (first : ℕ) (v : run_world.World) → old.agenda.plan ≡ plan
     → Mirrors old.agenda old.system first v → Leads old steps new → Goes plan first v steps new
@@ -108,7 +108,7 @@ goes_on plan (made ∷ steps) old new first v plans r leads =
     let w = world_after (plan_shown plan) v (step_shown made.told.step) (give_shown made.give) in
     let next : Mirrors leads.1.agenda leads.1.system first w = run_after plan made leads.0 leads.1 first v kept here leads.3 in
     goes_first plan made steps leads.0 leads.1 new first v kept here leads.3 next
-    (goes_on plan steps leads.1 new first w (leads.3.plan ∙ kept) next leads.4)
+    (goes_on plan steps leads.1 new first w (leads.3.keeps.plan ∙ kept) next leads.4)
 
 module _ (plan : Planned) (steps : List Made) (rows : List Event) (lived : histories.IsWholeHistory plan steps rows) where
   abbrev start : run_world.World

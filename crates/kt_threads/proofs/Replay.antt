@@ -1,8 +1,9 @@
 -- Steps one after another.
 use Rattle.std.proofs.Common.{◌≡◌, ◌∙◌, ◌<◌, ◌+◌, ◌^◌, ℕ, List, [], ◌∷◌, ◌++◌, length, refl, sym, subst, ap, Option, None, Some, Result, Ok, Err, IfSome}
 use Rattle.std.specs.Prelude.{slice_get}
-use Rattle.kt_core.specs.Shown.{Mirrors, plan_shown, step_shown, give_shown, look_shown}
-use Rattle.kt_core.specs.Worlds.{World, IsSameWorld, IsOpening, HasDone, Settles, numbered_row, refusal, stepper}
+use Rattle.kt_core.specs.Making.{KeepsPlan, MakesStep}
+use Rattle.kt_core.specs.Shown.{Mirrors, plan_shown, step_shown, look_shown}
+use Rattle.kt_core.specs.Worlds.{World, IsSameWorld, IsOpening, numbered_row, refusal}
 use Rattle.kt_core.specs.declared.faults.StepFault.{StepFault}
 use Rattle.kt_plan.specs.Limits.{Planned}
 use Rattle.kt_plan.specs.declared.steps.Give.{Give}
@@ -10,12 +11,9 @@ use Rattle.kt_plan.specs.declared.steps.Look.{Look}
 use Rattle.kt_plan.specs.declared.steps.Step.{Step}
 use Rattle.kt_plan.specs.declared.steps.Told.{Told}
 use Rattle.kt_promises.specs.Looks as run_looks
-use Rattle.kt_promises.specs.StepActs.{acts_of_step}
-use Rattle.kt_promises.specs.Steps.{world_after}
 use Rattle.kt_promises.specs.World as run_world
 use Rattle.kt_promises.specs.World.{start_world}
-use Rattle.kt_system.specs.ShownActs.{acts_shown}
-use Rattle.kt_system.specs.Systems.{Whole, IsSame, Grows}
+use Rattle.kt_system.specs.Systems.{Whole, IsSame}
 use Rattle.kt_threads.specs.Histories.{IsMade, Leads, IsHistory}
 use Rattle.kt_threads.specs.declared.state.Made.{Made}
 
@@ -61,8 +59,8 @@ pub history_more : (steps : List Made) (made : Made) (now new : World) → IsMad
     → IsHistory now.agenda.plan steps now → IsHistory new.agenda.plan (steps ++ made ∷ []) new
 history_more steps made now new step h = record {
   begin = h.begin;
-  opening = subst (λ (p : Planned). IsOpening h.begin p 0 (2 ^ 24)) (sym step.plan) h.opening;
-  starts = subst (λ (p : Planned). Mirrors h.begin.agenda h.begin.system 0 (start_world (plan_shown p) 0)) (sym step.plan) h.starts;
+  opening = subst (λ (p : Planned). IsOpening h.begin p 0 (2 ^ 24)) (sym step.keeps.plan) h.opening;
+  starts = subst (λ (p : Planned). Mirrors h.begin.agenda h.begin.system 0 (start_world (plan_shown p) 0)) (sym step.keeps.plan) h.starts;
   leads = leads_more steps made h.begin now new step h.leads;
 }
 
@@ -83,29 +81,16 @@ not_refused (Some fault) result told is h = absurd (cc (sym is ∙ h))
 
 -- a step leads from one world to another, and tells that it was made
 pub makes : (old new : World) (step : Step) (look : Look) (give : Give) (told : Told) → told.step ≡ step → refusal old step ≡ None
-    → new.agenda.plan ≡ old.agenda.plan → new.limit ≡ old.limit → new.system.size ≡ old.system.size → Grows 4 old.system new.system
-    → HasDone old.agenda new.agenda step → Settles old new → length told.rows ≡ 4
+    → KeepsPlan old new → MakesStep old step give told.acts new → length told.rows ≡ 4
     → ((i : ℕ) → i < 4 → slice_get told.rows i ≡ Some (numbered_row new.system.rows.rows (length old.system.rows.rows + i)))
     → ((first : ℕ) (v : run_world.World) → Mirrors old.agenda old.system first v
-    → Mirrors new.agenda new.system first (world_after (plan_shown old.agenda.plan) v (step_shown step) (give_shown give)))
-    → ((first : ℕ) (v : run_world.World) → Mirrors old.agenda old.system first v
     → look_shown look ≡ run_looks.look (plan_shown old.agenda.plan) v (step_shown step))
-    → ((first : ℕ) (v : run_world.World) → Mirrors old.agenda old.system first v
-    → acts_shown told.acts ≡ acts_of_step (plan_shown old.agenda.plan) v (step_shown step) (give_shown give) (stepper step))
     → IsMade old (record { look = look; give = give; told = told }) new
-makes old new step look give told is allowed plan limit size grows done settled four rows leads looks acts = record {
+makes old new step look give told is allowed keeps made four rows looks = record {
   allowed = subst (λ (s : Step). refusal old s ≡ None) (sym is) allowed;
-  plan = plan;
-  limit = limit;
-  size = size;
-  grows = grows;
-  done = subst (λ (s : Step). HasDone old.agenda new.agenda s) (sym is) done;
-  settled = settled;
+  keeps = keeps;
+  makes = subst (λ (s : Step). MakesStep old s give told.acts new) (sym is) made;
   four = four;
   rows = rows;
-  leads = λ first v r. subst (λ (s : Step). Mirrors new.agenda new.system first (world_after (plan_shown old.agenda.plan) v (step_shown s) (give_shown give))) (sym is)
-      (leads first v r);
   look = λ first v r. subst (λ (s : Step). look_shown look ≡ run_looks.look (plan_shown old.agenda.plan) v (step_shown s)) (sym is) (looks first v r);
-  acts = λ first v r. subst (λ (s : Step). acts_shown told.acts ≡ acts_of_step (plan_shown old.agenda.plan) v (step_shown s) (give_shown give) (stepper s)) (sym is)
-      (acts first v r);
 }

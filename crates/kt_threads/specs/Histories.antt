@@ -1,43 +1,32 @@
 -- Steps that were made one after another, and the worlds between which they lead.
 use Rattle.std.specs.Prelude.{◌≡◌, ◌<◌, ◌+◌, ◌^◌, ◌==◌, ℕ, List, [], ◌∷◌, Option, Some, None, filter, map, length, slice_get, slice_index_or}
+use Rattle.kt_core.specs.Making.{KeepsPlan, MakesStep}
 use Rattle.kt_core.specs.Shown as core
-use Rattle.kt_core.specs.Shown.{plan_shown, step_shown, give_shown, look_shown}
-use Rattle.kt_core.specs.Worlds.{World, IsOpening, IsAtRest, IsSameWorld, HasDone, Settles, numbered_row, refusal, stepper}
+use Rattle.kt_core.specs.Shown.{plan_shown, step_shown, look_shown}
+use Rattle.kt_core.specs.Worlds.{World, IsOpening, IsAtRest, IsSameWorld, numbered_row, refusal, stepper}
 use Rattle.kt_held.specs.Holdings.{Content}
 use Rattle.kt_plan.specs.Limits.{Planned}
 use Rattle.kt_plan.specs.declared.steps.Told.{Told}
 use Rattle.kt_promises.specs.Looks as run_looks
-use Rattle.kt_promises.specs.StepActs.{acts_of_step}
-use Rattle.kt_promises.specs.Steps.{world_after}
 use Rattle.kt_promises.specs.World as run_world
 use Rattle.kt_run.specs.Runs.{IsRun}
 use Rattle.kt_spacetime.specs.declared.event.Event.{Event}
-use Rattle.kt_system.specs.ShownActs.{acts_shown}
-use Rattle.kt_system.specs.Systems.{Grows}
 use Rattle.kt_threads.specs.declared.faults.LiveFault.{LiveFault}
 use Rattle.kt_threads.specs.declared.state.Made.{Made}
 use Rattle.kt_threads.specs.Moves.{move_of}
 use Rattle.kt_threads.specs.Telling.{AreToldAsInRun}
 
--- a step that is not refused leads from one world to another, and tells its rows; in a run of the plan that leads to the
--- one it needs what is recorded, leads to the other, and asks the acts that are told of the process whose step it is
+-- a step that is not refused leads from one world to another, and tells its rows and its acts; in a run of the plan that
+-- leads to the one it needs what is recorded
 pub record IsMade (old : World) (made : Made) (new : World) : Type 0 where
   pub allowed : refusal old made.told.step ≡ None
-  pub plan : new.agenda.plan ≡ old.agenda.plan
-  pub limit : new.limit ≡ old.limit
-  pub size : new.system.size ≡ old.system.size
-  pub grows : Grows 4 old.system new.system
-  pub done : HasDone old.agenda new.agenda made.told.step
-  pub settled : Settles old new
+  pub keeps : KeepsPlan old new
+  pub makes : MakesStep old made.told.step made.give made.told.acts new
   pub four : length made.told.rows ≡ 4
   pub rows : (i : ℕ) → i < 4 → slice_get made.told.rows i
       ≡ Some (numbered_row new.system.rows.rows (length old.system.rows.rows + i))
-  pub leads : (first : ℕ) (v : run_world.World) → core.Mirrors old.agenda old.system first v → core.Mirrors new.agenda new.system first
-      (world_after (plan_shown old.agenda.plan) v (step_shown made.told.step) (give_shown made.give))
   pub look : (first : ℕ) (v : run_world.World) → core.Mirrors old.agenda old.system first v → look_shown made.look
       ≡ run_looks.look (plan_shown old.agenda.plan) v (step_shown made.told.step)
-  pub acts : (first : ℕ) (v : run_world.World) → core.Mirrors old.agenda old.system first v → acts_shown made.told.acts
-      ≡ acts_of_step (plan_shown old.agenda.plan) v (step_shown made.told.step) (give_shown made.give) (stepper made.told.step)
 
 -- steps lead one after another from one world to another, where only spare room may come between
 abbrev pub Leads : World → List Made → World → Type 0
@@ -57,6 +46,7 @@ pub record History : Type 0 where
   pub steps : List Made
   pub fault : Option LiveFault
 
+-- the fault that was first, where another one comes
 abbrev pub first_of : Option LiveFault → LiveFault → Option LiveFault
 first_of None fault = Some fault
 first_of (Some first) fault = Some first

@@ -12,11 +12,9 @@ ghost use Rattle.kt_system.specs.ShownActs.{acts_shown};
 ghost use Rattle.kt_system.specs.Tallies.{TalliesPut};
 ghost use Rattle.kt_values.specs.SeenActs.{seen_acts};
 ghost use Rattle.kt_phases.specs.Steps.{protocol_step};
-ghost use Rattle.kt_promises.specs.World as run_world;
-ghost use Rattle.kt_promises.specs.Steps.{world_after};
-ghost use Rattle.kt_promises.specs.StepActs.{acts_of_step};
-ghost use Rattle.kt_core.specs.Worlds.{refusal, is_send, IsSameWorld, HasDone, Settles};
-ghost use Rattle.kt_core.specs.Shown.{Mirrors, plan_shown, step_shown, give_shown, job_shown};
+ghost use Rattle.kt_core.specs.Making.{KeepsPlan, MakesStep};
+ghost use Rattle.kt_core.specs.Worlds.{refusal, is_send, IsSameWorld};
+ghost use Rattle.kt_core.specs.Shown.{give_shown, job_shown};
 
 use super::World;
 use super::steps::settle;
@@ -29,17 +27,9 @@ impl World {
     /// A process does its next command; then the next phase may open.
     pub(super) fn do_next(&mut self, p: ProcNo, give: Give) -> Result<[Act; 2], Memory>
         requires { refusal self.old (Step.Do p) ≡ None }
-        ensures plan { self.new.agenda.plan ≡ self.old.agenda.plan }
-        ensures limit { self.new.limit ≡ self.old.limit }
-        ensures size { self.new.system.size ≡ self.old.system.size }
+        ensures keeps { KeepsPlan self.old self.new }
         ensures err { OnErr result (IsSameWorld self.new self.old) }
-        ensures grows { Grows 4 self.old.system self.new.system }
-        ensures done { OnOk result (HasDone self.old.agenda self.new.agenda (Step.Do p)) }
-        ensures settled { OnOk result (Settles self.old self.new) }
-        ensures leads { (first : ℕ) (v : run_world.World) → Mirrors self.old.agenda self.old.system first v →
-            OnOk result (Mirrors self.new.agenda self.new.system first (world_after (plan_shown self.old.agenda.plan) v (step_shown (Step.Do p)) (give_shown give))) }
-        ensures acts { (first : ℕ) (v : run_world.World) → Mirrors self.old.agenda self.old.system first v →
-            IfOk result (λ acts. acts_shown acts ≡ acts_of_step (plan_shown self.old.agenda.plan) v (step_shown (Step.Do p)) (give_shown give) p) }
+        ensures made { IfOk result (λ acts. MakesStep self.old (Step.Do p) give acts self.new) }
     {
         let Some(command) = self.agenda.open_command(p) else {
             return Ok([Act::Nothing, Act::Nothing]);

@@ -2,13 +2,11 @@
 
 ghost use Rattle.std.specs.Prelude.{◌≡◌, ◌⊎◌, ◌<◌, ◌≤◌, ◌+◌, ◌^◌, ℕ, Some, None, Err, IfSome, IfOk, IfErr, OnOk, OnErr, drop, length, slice_get};
 ghost use Rattle.kt_process.specs.Persons.{part_of, IsNumbered};
-ghost use Rattle.kt_system.specs.Systems.{person, Grows};
+ghost use Rattle.kt_system.specs.Systems.{person};
 ghost use Rattle.kt_promises.specs.World as run_world;
-ghost use Rattle.kt_system.specs.ShownActs.{acts_shown};
-ghost use Rattle.kt_promises.specs.Steps.{world_after};
 ghost use Rattle.kt_promises.specs.Rows.{AreRowsOfStep};
-ghost use Rattle.kt_promises.specs.StepActs.{acts_of_step};
-ghost use Rattle.kt_core.specs.Worlds.{enabled, refusal, IsSameWorld, HasDone, Settles, SettlesIn, numbered_row, stepper};
+ghost use Rattle.kt_core.specs.Making.{KeepsPlan, MakesStep};
+ghost use Rattle.kt_core.specs.Worlds.{refusal, IsSameWorld, SettlesIn, numbered_row};
 ghost use Rattle.kt_core.specs.Shown.{Mirrors, plan_shown, step_shown, give_shown};
 
 use super::World;
@@ -27,19 +25,11 @@ impl World {
     /// `LabelsSpent` where a message would be sent and its sender's greatest label was given. After a refusal the world
     /// is as it was.
     pub fn step(&mut self, step: Step, give: Give) -> Result<Told, StepFault>
-        ensures plan { self.new.agenda.plan ≡ self.old.agenda.plan }
-        ensures limit { self.new.limit ≡ self.old.limit }
-        ensures size { self.new.system.size ≡ self.old.system.size }
-        ensures grows { Grows 4 self.old.system self.new.system }
+        ensures keeps { KeepsPlan self.old self.new }
         ensures refused { IfSome (refusal self.old step) (λ fault. result ≡ Err fault) }
         ensures fault { IfErr result (λ fault. (fault ≡ StepFault.Memory) ⊎ (refusal self.old step ≡ Some fault)) }
         ensures err { OnErr result (IsSameWorld self.new self.old) }
-        ensures done { OnOk result (HasDone self.old.agenda self.new.agenda step) }
-        ensures settled { OnOk result (Settles self.old self.new) }
-        ensures leads { (first : ℕ) (v : run_world.World) → Mirrors self.old.agenda self.old.system first v →
-            OnOk result (Mirrors self.new.agenda self.new.system first (world_after (plan_shown self.old.agenda.plan) v (step_shown step) (give_shown give))) }
-        ensures acts { (first : ℕ) (v : run_world.World) → Mirrors self.old.agenda self.old.system first v →
-            IfOk result (λ told. acts_shown told.acts ≡ acts_of_step (plan_shown self.old.agenda.plan) v (step_shown step) (give_shown give) (stepper step)) }
+        ensures made { IfOk result (λ told. MakesStep self.old step give told.acts self.new) }
         ensures rows { (first : ℕ) (v : run_world.World) → Mirrors self.old.agenda self.old.system first v →
             OnOk result (AreRowsOfStep (plan_shown self.old.agenda.plan) v (step_shown step) (give_shown give)
             (drop (length self.old.system.rows.rows) self.new.system.rows.rows)) }
@@ -60,19 +50,11 @@ impl World {
 
     /// Makes a step as `step` does, and tells only what is to be done to the process's object.
     pub fn act(&mut self, step: Step, give: Give) -> Result<[Act; 2], StepFault>
-        ensures plan { self.new.agenda.plan ≡ self.old.agenda.plan }
-        ensures limit { self.new.limit ≡ self.old.limit }
-        ensures size { self.new.system.size ≡ self.old.system.size }
-        ensures grows { Grows 4 self.old.system self.new.system }
+        ensures keeps { KeepsPlan self.old self.new }
         ensures refused { IfSome (refusal self.old step) (λ fault. result ≡ Err fault) }
         ensures fault { IfErr result (λ fault. (fault ≡ StepFault.Memory) ⊎ (refusal self.old step ≡ Some fault)) }
         ensures err { OnErr result (IsSameWorld self.new self.old) }
-        ensures done { OnOk result (HasDone self.old.agenda self.new.agenda step) }
-        ensures settled { OnOk result (Settles self.old self.new) }
-        ensures leads { (first : ℕ) (v : run_world.World) → Mirrors self.old.agenda self.old.system first v →
-            OnOk result (Mirrors self.new.agenda self.new.system first (world_after (plan_shown self.old.agenda.plan) v (step_shown step) (give_shown give))) }
-        ensures acts { (first : ℕ) (v : run_world.World) → Mirrors self.old.agenda self.old.system first v →
-            IfOk result (λ acts. acts_shown acts ≡ acts_of_step (plan_shown self.old.agenda.plan) v (step_shown step) (give_shown give) (stepper step)) }
+        ensures made { IfOk result (λ acts. MakesStep self.old step give acts self.new) }
     {
         if let Some(fault) = self.refusal(&step) {
             return Err(fault);
@@ -99,17 +81,9 @@ impl World {
     /// Makes a step that is enabled.
     fn make_step(&mut self, step: &Step, give: Give) -> Result<[Act; 2], Memory>
         requires { refusal self.old step.now ≡ None }
-        ensures plan { self.new.agenda.plan ≡ self.old.agenda.plan }
-        ensures limit { self.new.limit ≡ self.old.limit }
-        ensures size { self.new.system.size ≡ self.old.system.size }
+        ensures keeps { KeepsPlan self.old self.new }
         ensures err { OnErr result (IsSameWorld self.new self.old) }
-        ensures grows { Grows 4 self.old.system self.new.system }
-        ensures done { OnOk result (HasDone self.old.agenda self.new.agenda step.now) }
-        ensures settled { OnOk result (Settles self.old self.new) }
-        ensures leads { (first : ℕ) (v : run_world.World) → Mirrors self.old.agenda self.old.system first v →
-            OnOk result (Mirrors self.new.agenda self.new.system first (world_after (plan_shown self.old.agenda.plan) v (step_shown step.now) (give_shown give))) }
-        ensures acts { (first : ℕ) (v : run_world.World) → Mirrors self.old.agenda self.old.system first v →
-            IfOk result (λ acts. acts_shown acts ≡ acts_of_step (plan_shown self.old.agenda.plan) v (step_shown step.now) (give_shown give) (stepper step.now)) }
+        ensures made { IfOk result (λ acts. MakesStep self.old step.now give acts self.new) }
     {
         match *step {
             Step::Do(p) => self.do_next(p, give),
@@ -120,17 +94,9 @@ impl World {
     /// A process takes a parcel of another one; then the next phase may open.
     fn take(&mut self, at: ProcNo, from: ProcNo, give: Give) -> Result<[Act; 2], Memory>
         requires { refusal self.old (Step.Take at from) ≡ None }
-        ensures plan { self.new.agenda.plan ≡ self.old.agenda.plan }
-        ensures limit { self.new.limit ≡ self.old.limit }
-        ensures size { self.new.system.size ≡ self.old.system.size }
+        ensures keeps { KeepsPlan self.old self.new }
         ensures err { OnErr result (IsSameWorld self.new self.old) }
-        ensures grows { Grows 4 self.old.system self.new.system }
-        ensures done { OnOk result (HasDone self.old.agenda self.new.agenda (Step.Take at from)) }
-        ensures settled { OnOk result (Settles self.old self.new) }
-        ensures leads { (first : ℕ) (v : run_world.World) → Mirrors self.old.agenda self.old.system first v →
-            OnOk result (Mirrors self.new.agenda self.new.system first (world_after (plan_shown self.old.agenda.plan) v (step_shown (Step.Take at from)) (give_shown give))) }
-        ensures acts { (first : ℕ) (v : run_world.World) → Mirrors self.old.agenda self.old.system first v →
-            IfOk result (λ acts. acts_shown acts ≡ acts_of_step (plan_shown self.old.agenda.plan) v (step_shown (Step.Take at from)) (give_shown give) at) }
+        ensures made { IfOk result (λ acts. MakesStep self.old (Step.Take at from) give acts self.new) }
     {
         let acts = self.system.take(self.alloc, at, from, give.able)?;
         settle(&mut self.agenda, &self.system);

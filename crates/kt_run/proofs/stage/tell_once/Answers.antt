@@ -7,5 +7,5 @@ use Rattle.kt_run.proofs.stage.tell_once.Goals as goal
 pub returns-in-Ok-note-clause-leads : goal.returns-in-Ok-note-clause-leads
 returns-in-Ok-note-clause-leads c =
     let told = c.in-Ok.ensures in
-    tells_now c.args.world.now c.step.new.self c.args.journals.now c.note.new.self c.args.step c.args.give c.in-Ok.told c.acts_of-acts.result c.acts_of-acts.ensures told.step told.grows (search rules) told.told
-    c.in-Ok-note.ensures told.limit (not_refused c.in-Ok.told (refusal c.args.world.now c.args.step) told.refused) told.leads told.acts
+    tells_now c.args.world.now c.step.new.self c.args.journals.now c.note.new.self c.args.step c.args.give c.in-Ok.told c.acts_of-acts.result c.acts_of-acts.ensures told.step told.keeps.grows (search rules) told.told
+    c.in-Ok-note.ensures told.keeps.limit (not_refused c.in-Ok.told (refusal c.args.world.now c.args.step) told.refused) told.made.leads told.made.asks

@@ -4,13 +4,12 @@ use Rattle.std.proofs.lemmas.Option.{slice_get_within}
 use Rattle.kt_plan.specs.Limits.{Planned}
 use Rattle.kt_plan.specs.declared.steps.Step.TheVariants.{Do}
 use Rattle.kt_phases.specs.Steps as run_steps
-use Rattle.kt_promises.specs.World as run_world
 use Rattle.kt_system.specs.ShownActs.{acts_shown}
 use Rattle.kt_promises.specs.Steps.{world_after}
-use Rattle.kt_promises.specs.StepActs.{acts_of_step}
 use Rattle.kt_core.specs.Agendas.{place_of, IsNextOf}
-use Rattle.kt_core.specs.Worlds.{World, refusal, HasDone, SettlesIn}
-use Rattle.kt_core.specs.Shown.{Mirrors, plan_shown, give_shown}
+use Rattle.kt_core.specs.Making.{MakesStep}
+use Rattle.kt_core.specs.Worlds.{World, refusal}
+use Rattle.kt_core.specs.Shown.{plan_shown, give_shown}
 use Rattle.kt_core.proofs.Enabled.{few, enabled_is, enabled_if, does_there}
 use Rattle.kt_core.proofs.Leading.{do_acts, do_leads, run_same, open_is_next}
 use Rattle.kt_core.proofs.Phases.{settles_from}
@@ -50,10 +49,11 @@ invariant_of-self-2 c =
       rows = c.self.invariant.rows;
     }
 
-pub returns-clause-leads : goal.returns-clause-leads
-returns-clause-leads c =
+pub returns-clause-made : goal.returns-clause-made
+returns-clause-made c =
     let a = c.self.inside.agenda in
     let s = c.self.inside.system in
+    let b = c.settle.new.agenda in
     let w : World = record { agenda = a; system = s; limit = c.self.inside.limit } in
     let p = c.args.p in
     let allowed = subst (λ (z : World). refusal z (Do p) ≡ None) (sym c.self.view_is) c.requires in
@@ -62,36 +62,18 @@ returns-clause-leads c =
     let command = sym c.in-Some.ensures.command in
     let move = c.advance.ensures in
     let opened = c.settle.ensures in
-    subst (λ (z : World). (first : ℕ) (v : run_world.World) → Mirrors z.agenda z.system first v → Mirrors c.settle.new.agenda c.do_job.new.system first (world_after (plan_shown z.agenda.plan) v (run_steps.Do p) (give_shown c.args.give))) c.self.view_is
-    (λ first v r. do_leads a c.advance.new.self c.settle.new.agenda s c.do_job.new.system p c.in-Some.command c.args.give first v r (few w first v r p there) command
-    (sym (enabled_is w first v r (Do p)) ∙ enabled_if w (Do p) allowed)
-    (λ h begun says. c.in_ok-acts.ensures.shows v.now h begun says) move.plan move.phase move.next move.others opened.plan opened.next opened.settled (c.do_job.ensures.size ∙ size) opened.numbered c.in_ok-acts.ensures.tallies)
-
-pub returns-clause-acts : goal.returns-clause-acts
-returns-clause-acts c =
-    let a = c.self.inside.agenda in
-    let s = c.self.inside.system in
-    let w : World = record { agenda = a; system = s; limit = c.self.inside.limit } in
-    let p = c.args.p in
-    let allowed = subst (λ (z : World). refusal z (Do p) ≡ None) (sym c.self.view_is) c.requires in
-    let there = does_there w p allowed in
-    subst (λ (z : World). (first : ℕ) (v : run_world.World) → Mirrors z.agenda z.system first v → acts_shown c.in_ok-acts.acts ≡ acts_of_step (plan_shown z.agenda.plan) v (run_steps.Do p) (give_shown c.args.give) p) c.self.view_is
-    (λ first v r. do_acts a s p c.in-Some.command c.args.give first v (acts_shown c.in_ok-acts.acts) r (few w first v r p there) (sym c.in-Some.ensures.command)
-    (sym (enabled_is w first v r (Do p)) ∙ enabled_if w (Do p) allowed) (λ h begun. c.in_ok-acts.ensures.acts v.now h begun))
-
-pub returns-clause-done : goal.returns-clause-done
-returns-clause-done c =
-    let a = c.self.inside.agenda in
-    let b = c.settle.new.agenda in
-    let p = c.args.p in
-    let move = c.advance.ensures in
-    let next = open_is_next a p c.in-Some.command (sym c.in-Some.ensures.command) in
-    let same : (q : ℕ) → place_of b q ≡ place_of c.advance.new.self q = λ q. ap (λ (l : List ℕ). slice_index_or l q 0) c.settle.ensures.next in
-    subst (λ (z : World). HasDone z.agenda b (Do p)) c.self.view_is (
-      subst (λ (j : ℕ). IsNextOf a.plan.commands p (place_of a p + 1) j) (sym (same p)) (move.next (slice_get_within a.plan.commands (place_of a p) c.in-Some.command next)),
-      λ q n. same q ∙ move.others q n,
-    )
-
-pub returns-clause-settled : goal.returns-clause-settled
-returns-clause-settled c = subst (λ (z : World). SettlesIn c.do_job.new.system z.agenda c.settle.new.agenda) c.self.view_is
-    (settles_from c.do_job.new.system c.self.inside.agenda c.advance.new.self c.settle.new.agenda c.advance.ensures.phase c.settle.ensures.settled)
+    let next = open_is_next a p c.in-Some.command command in
+    let same : (q : ℕ) → place_of b q ≡ place_of c.advance.new.self q = λ q. ap (λ (l : List ℕ). slice_index_or l q 0) opened.next in
+    subst (λ (z : World). MakesStep z (Do p) c.args.give c.in_ok-acts.acts (record { agenda = b; system = c.do_job.new.system; limit = c.self.inside.limit })) c.self.view_is
+    (record {
+      done = (
+        subst (λ (j : ℕ). IsNextOf a.plan.commands p (place_of a p + 1) j) (sym (same p)) (move.next (slice_get_within a.plan.commands (place_of a p) c.in-Some.command next)),
+        λ q n. same q ∙ move.others q n,
+      );
+      settled = settles_from c.do_job.new.system a c.advance.new.self b move.phase opened.settled;
+      leads = λ first v r. do_leads a c.advance.new.self b s c.do_job.new.system p c.in-Some.command c.args.give first v r (few w first v r p there) command
+          (sym (enabled_is w first v r (Do p)) ∙ enabled_if w (Do p) allowed)
+          (λ h begun says. c.in_ok-acts.ensures.shows v.now h begun says) move.plan move.phase move.next move.others opened.plan opened.next opened.settled (c.do_job.ensures.size ∙ size) opened.numbered c.in_ok-acts.ensures.tallies;
+      asks = λ first v r. do_acts a s p c.in-Some.command c.args.give first v (acts_shown c.in_ok-acts.acts) r (few w first v r p there) command
+          (sym (enabled_is w first v r (Do p)) ∙ enabled_if w (Do p) allowed) (λ h begun. c.in_ok-acts.ensures.acts v.now h begun);
+    })

@@ -1,13 +1,12 @@
-use Rattle.std.proofs.Common.{◌≡◌, ℕ, None, length, ap, subst, sym, ◌∙◌}
+use Rattle.std.proofs.Common.{◌≡◌, None, length, ap, subst, sym, ◌∙◌}
 use Rattle.kt_plan.specs.Limits.{Planned}
 use Rattle.kt_plan.specs.declared.steps.Step.TheVariants.{Take}
 use Rattle.kt_phases.specs.Steps as run_steps
-use Rattle.kt_promises.specs.World as run_world
 use Rattle.kt_system.specs.ShownActs.{acts_shown}
 use Rattle.kt_promises.specs.Steps.{world_after}
-use Rattle.kt_promises.specs.StepActs.{acts_of_step}
+use Rattle.kt_core.specs.Making.{MakesStep}
 use Rattle.kt_core.specs.Worlds.{World, refusal}
-use Rattle.kt_core.specs.Shown.{Mirrors, plan_shown, give_shown}
+use Rattle.kt_core.specs.Shown.{plan_shown, give_shown}
 use Rattle.kt_core.proofs.Enabled.{enabled_is, enabled_if}
 use Rattle.kt_core.proofs.Leading.{take_acts, take_leads, run_same}
 use Rattle.kt_core.proofs.world.World.take.Goals as goal
@@ -41,23 +40,20 @@ invariant_of-self-2 c =
       rows = c.self.invariant.rows;
     }
 
-pub returns-clause-leads : goal.returns-clause-leads
-returns-clause-leads c =
+pub returns-clause-made : goal.returns-clause-made
+returns-clause-made c =
     let a = c.self.inside.agenda in
     let w : World = record { agenda = a; system = c.self.inside.system; limit = c.self.inside.limit } in
     let allowed = subst (λ (z : World). refusal z (Take c.args.at c.args.from) ≡ None) (sym c.self.view_is) c.requires in
     let size = c.self.invariant.size in
     let opened = c.settle.ensures in
-    subst (λ (z : World). (first : ℕ) (v : run_world.World) → Mirrors z.agenda z.system first v → Mirrors c.settle.new.agenda c.take.new.self first (world_after (plan_shown z.agenda.plan) v (run_steps.Take c.args.at c.args.from) (give_shown c.args.give))) c.self.view_is
-    (λ first v r. take_leads a c.settle.new.agenda c.self.inside.system c.take.new.self c.args.at c.args.from c.args.give first v r
-    (sym (enabled_is w first v r (Take c.args.at c.args.from)) ∙ enabled_if w (Take c.args.at c.args.from) allowed)
-    (λ h says. c.in_ok-acts.ensures.shows v.now h says) opened.plan opened.next opened.settled (c.take.ensures.size ∙ size) opened.numbered c.in_ok-acts.ensures.tallies)
-
-pub returns-clause-acts : goal.returns-clause-acts
-returns-clause-acts c =
-    let a = c.self.inside.agenda in
-    let w : World = record { agenda = a; system = c.self.inside.system; limit = c.self.inside.limit } in
-    let allowed = subst (λ (z : World). refusal z (Take c.args.at c.args.from) ≡ None) (sym c.self.view_is) c.requires in
-    subst (λ (z : World). (first : ℕ) (v : run_world.World) → Mirrors z.agenda z.system first v → acts_shown c.in_ok-acts.acts ≡ acts_of_step (plan_shown z.agenda.plan) v (run_steps.Take c.args.at c.args.from) (give_shown c.args.give) c.args.at) c.self.view_is
-    (λ first v r. take_acts a c.self.inside.system c.args.at c.args.from c.args.give first v (acts_shown c.in_ok-acts.acts) r
-    (sym (enabled_is w first v r (Take c.args.at c.args.from)) ∙ enabled_if w (Take c.args.at c.args.from) allowed) (λ h. c.in_ok-acts.ensures.acts v.now h))
+    subst (λ (z : World). MakesStep z (Take c.args.at c.args.from) c.args.give c.in_ok-acts.acts (record { agenda = c.settle.new.agenda; system = c.take.new.self; limit = c.self.inside.limit })) c.self.view_is
+    (record {
+      done = opened.next;
+      settled = opened.settled;
+      leads = λ first v r. take_leads a c.settle.new.agenda c.self.inside.system c.take.new.self c.args.at c.args.from c.args.give first v r
+          (sym (enabled_is w first v r (Take c.args.at c.args.from)) ∙ enabled_if w (Take c.args.at c.args.from) allowed)
+          (λ h says. c.in_ok-acts.ensures.shows v.now h says) opened.plan opened.next opened.settled (c.take.ensures.size ∙ size) opened.numbered c.in_ok-acts.ensures.tallies;
+      asks = λ first v r. take_acts a c.self.inside.system c.args.at c.args.from c.args.give first v (acts_shown c.in_ok-acts.acts) r
+          (sym (enabled_is w first v r (Take c.args.at c.args.from)) ∙ enabled_if w (Take c.args.at c.args.from) allowed) (λ h. c.in_ok-acts.ensures.acts v.now h);
+    })

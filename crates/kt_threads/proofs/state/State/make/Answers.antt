@@ -19,7 +19,7 @@ invariant_of-self-2 c =
     let step : IsMade old made new =
     makes old new c.args.step c.look-look.result c.args.give c.in_ok-told.told told.step
     (not_refused (refusal old c.args.step) (Ok c.in_ok-told.told) c.in_ok-told.told refl told.refused)
-    told.plan told.limit told.size told.grows told.done told.settled (search rules) told.told told.leads c.look-look.ensures.in_runs told.acts in
+    told.keeps told.made (search rules) told.told c.look-look.ensures.in_runs in
     rw (c.push_reserved.ensures.items, c.reserve.ensures.items, c.made_of.ensures)
     (history_more c.self.inside.steps.items made old new step c.self.invariant)
 
@@ -33,4 +33,4 @@ returns-clause-made c =
     (subst (λ (h : History). IsMade h.world made new) c.self.view_is
     (makes old new c.args.step c.look-look.result c.args.give c.in_ok-told.told told.step
     (not_refused (refusal old c.args.step) (Ok c.in_ok-told.told) c.in_ok-told.told refl told.refused)
-    told.plan told.limit told.size told.grows told.done told.settled (search rules) told.told told.leads c.look-look.ensures.in_runs told.acts))
+    told.keeps told.made (search rules) told.told c.look-look.ensures.in_runs))
