@@ -11,3 +11,4 @@ pub mod Firsts
 pub mod Phases
 pub mod Reaching
 pub mod Tallied
+pub mod Making

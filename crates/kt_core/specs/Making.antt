@@ -1,13 +1,20 @@
 -- What a step leaves.
-use Rattle.std.specs.Prelude.{◌≡◌, ℕ, List}
+use Rattle.std.specs.Prelude.{◌≡◌, ◌≢◌, ◌≤◌, ℕ, ℤ, true, false, Some, List, length, slice_get}
+use Rattle.kt_base.specs.declared.words.Cause.{Cause}
+use Rattle.kt_spacetime.specs.declared.event.Event.TheVariants.{Closed, Unwilling}
+use Rattle.kt_cuts.specs.Past.{past, is_rollback, is_committed}
 use Rattle.kt_plan.specs.declared.steps.Step.{Step}
 use Rattle.kt_plan.specs.declared.steps.Give.{Give}
 use Rattle.kt_plan.specs.declared.steps.Act.{Act}
 use Rattle.kt_system.specs.ShownActs.{acts_shown}
 use Rattle.kt_system.specs.Systems.{Grows}
+use Rattle.kt_values.specs.Done.{done}
+use Rattle.kt_values.specs.Values.{Rules, due, does_all, can_all, closing}
 use Rattle.kt_promises.specs.World as run_world
 use Rattle.kt_promises.specs.Steps.{world_after}
 use Rattle.kt_promises.specs.StepActs.{acts_of_step}
+use Rattle.kt_promises.specs.Tallies.{IsRaised}
+use Rattle.kt_promises.specs.Unwilling.{IsUnwillingStep}
 use Rattle.kt_core.specs.Shown.{Mirrors, plan_shown, step_shown, give_shown}
 use Rattle.kt_core.specs.Worlds.{World, HasDone, Settles, stepper}
 
@@ -19,12 +26,40 @@ pub record KeepsPlan (old new : World) : Type 0 where
   pub size : new.system.size ≡ old.system.size
   pub grows : Grows 4 old.system new.system
 
--- a step leads from one world to another: its command is done, and the next phase opens where that is due; each run that
--- leads to the old world is led on by it to the new one, and asks these acts of the process whose step it is
+-- where a step adds a `closed` row of an aborted instance, it asks to discard the tentative state in a checkpoint, and for
+-- nothing in a rollback
+abbrev pub DiscardsAtAborts : World → List Act → World → Type 0
+DiscardsAtAborts old acts new = (i p k : ℕ) → slice_get new.system.rows.rows i ≡ Some (Closed p k)
+    → length old.system.rows.rows ≤ i → is_committed (past new.system.rows.rows) k ≡ false
+    → acts_shown acts ≡ closing (is_rollback (past new.system.rows.rows) k) false
+
+-- the acts can be done in order, and lead from what is due to the step's process before to what is due after, by the rules of
+-- any kind of object; to others the same is due
+pub record LeadsToDue (rules : Rules (List ℤ)) (old : World) (step : Step) (acts : List Act) (new : World) : Type 0 where
+  pub can : can_all rules (due rules (done old.system.rows.rows) (stepper step)) (acts_shown acts) ≡ true
+  pub its : does_all rules (due rules (done old.system.rows.rows) (stepper step)) (acts_shown acts)
+      ≡ due rules (done new.system.rows.rows) (stepper step)
+  pub others : (p : ℕ) → p ≢ stepper step
+      → due rules (done new.system.rows.rows) p ≡ due rules (done old.system.rows.rows) p
+
+-- what a step makes of each run that leads to the old world: it is led on to the new one; the acts are what it asks of the
+-- step's process; the tallies rise by what it puts into channels; and where it adds an `unwilling` row, its process takes an
+-- ask of a member, and the cause holds
+pub record LeadsRun (old : World) (step : Step) (give : Give) (acts : List Act) (new : World) (first : ℕ) (v : run_world.World) : Type 0 where
+  pub leads : Mirrors new.agenda new.system first (world_after (plan_shown old.agenda.plan) v (step_shown step) (give_shown give))
+  pub asks : acts_shown acts ≡ acts_of_step (plan_shown old.agenda.plan) v (step_shown step) (give_shown give) (stepper step)
+  pub raised : IsRaised (plan_shown old.agenda.plan).size v.now (step_shown step)
+      (world_after (plan_shown old.agenda.plan) v (step_shown step) (give_shown give)).now
+      v.put (world_after (plan_shown old.agenda.plan) v (step_shown step) (give_shown give)).put
+  pub unwilling : (t p k : ℕ) (cause : Cause) → slice_get new.system.rows.rows t ≡ Some (Unwilling p k cause)
+      → length old.system.rows.rows ≤ t → IsUnwillingStep v (step_shown step) (give_shown give) t p k cause
+
+-- a step leads from one world to another: its command is done, and the next phase opens where that is due; it makes this of
+-- each run; and by the log alone, an abort discards, and the acts lead to what is due
 pub record MakesStep (old : World) (step : Step) (give : Give) (acts : List Act) (new : World) : Type 0 where
   pub done : HasDone old.agenda new.agenda step
   pub settled : Settles old new
-  pub leads : (first : ℕ) (v : run_world.World) → Mirrors old.agenda old.system first v
-      → Mirrors new.agenda new.system first (world_after (plan_shown old.agenda.plan) v (step_shown step) (give_shown give))
-  pub asks : (first : ℕ) (v : run_world.World) → Mirrors old.agenda old.system first v
-      → acts_shown acts ≡ acts_of_step (plan_shown old.agenda.plan) v (step_shown step) (give_shown give) (stepper step)
+  pub runs : (first : ℕ) (v : run_world.World) → Mirrors old.agenda old.system first v
+      → LeadsRun old step give acts new first v
+  pub aborts : DiscardsAtAborts old acts new
+  pub due : (rules : Rules (List ℤ)) → LeadsToDue rules old step acts new

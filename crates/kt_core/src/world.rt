@@ -1,16 +1,12 @@
 //! The world: what it holds, and what can be read of it.
 
-ghost use Rattle.std.specs.Prelude.{◌≡◌, ◌<◌, ◌≤◌, ◌^◌, ℕ, IfOk, length, nat_lt};
+ghost use Rattle.std.specs.Prelude.{◌≡◌, ◌<◌, ◌≤◌, ◌^◌, ◌*◌, ◌-◌, ℕ, IfOk, length, nat_lt};
 ghost use Rattle.kt_fifo.specs.Channels.{channel};
 ghost use Rattle.kt_system.specs.Reads.{tally_of};
-ghost use Rattle.std.specs.Prelude.{take};
-ghost use Rattle.kt_cuts.specs.Past.{past};
-ghost use Rattle.kt_cuts.specs.Legal.{IsLegal};
-ghost use Rattle.kt_cuts.specs.Cuts.{IsConsistent, permanent_cut, present_cut};
-ghost use Rattle.kt_protocol.specs.Logs.{HasLinkedDecisions, HasLeastDecisions, AbortsWhereUnwilling, AbortsChangeNothing, JustifiesUnwilling};
 ghost use Rattle.kt_promises.specs.World.{start_world};
 ghost use Rattle.kt_promises.specs.World as run_world;
 ghost use Rattle.kt_promises.specs.Headline.{IsPromised};
+ghost use Rattle.kt_promises.specs.Lines.{EachStandsOnce};
 ghost use Rattle.kt_core.specs.Worlds.{IsOpening};
 ghost use Rattle.kt_core.specs.Shown.{Mirrors, IsReached, plan_shown, tally_shown};
 
@@ -100,32 +96,23 @@ impl World {
         self.agenda.plan()
     }
 
-    /// The log: that of a run of the protocol, whatever steps were made in whatever order.
+    /// The log, of which all is so that is promised of a run's, whatever steps were made in whatever order.
     pub fn log(&self) -> &SpaceTime
         ensures log { result.now ≡ self.now.system.rows }
 
         // A run of the plan leads here.
         ensures reached { IsReached self.now.agenda self.now.system }
 
-        // Each row keeps every rule.
-        ensures legal { IsLegal result.now.rows }
+        // It is legal; the members of each committed instance are the least set; no cut has an orphan; an abort changes
+        // nothing; and the checker says yes to its certificates.
+        ensures promised { IsPromised result.now.rows }
 
-        // The members of each committed instance are the least set; each but the initiator has a linking message with an
-        // earlier one.
-        ensures least_decisions { HasLeastDecisions result.now.rows }
-        ensures linked_decisions { HasLinkedDecisions result.now.rows }
-
-        // At every row neither the permanent cut nor the present cut has an orphan.
-        ensures permanent_cuts { (t : ℕ) → IsConsistent (past (take t result.now.rows)) (permanent_cut (past (take t result.now.rows))) }
-        ensures present_cuts { (t : ℕ) → IsConsistent (past (take t result.now.rows)) (present_cut (past (take t result.now.rows))) }
-
-        // An instance is aborted exactly where a process was unwilling, and that was asked by a message; the decision of an
-        // aborted one changes no live history and no permanent position.
-        ensures aborts { AbortsWhereUnwilling result.now.rows }
-        ensures justified { JustifiesUnwilling result.now.rows }
-        ensures unchanged { AbortsChangeNothing result.now.rows }
+        // Each live message that was not dropped stands once: received by its receiver itself, held, or in the channel.
+        ensures once { (first : ℕ) (v : run_world.World) → Mirrors self.now.agenda self.now.system first v →
+            EachStandsOnce v.now }
     {
-        kt_closing::logs_of_late_runs();
+        kt_promises::logs_of_worlds();
+        kt_promises::messages_of_worlds();
         self.system.log()
     }
 
@@ -154,7 +141,13 @@ impl World {
 
         // It is what each run that leads here has put.
         ensures in_runs { (first : ℕ) (v : run_world.World) → Mirrors self.now.agenda self.now.system first v → result ≡ tally_shown v.put inst }
+
+        // Of n processes each asks each other one at most once, and no ask has more than one reply and one decision.
+        ensures asks { result.asks ≤ length self.now.agenda.plan.names * (length self.now.agenda.plan.names - 1) }
+        ensures replies { result.replies ≤ result.asks }
+        ensures decisions { result.decisions ≤ result.asks }
     {
+        kt_promises::tallies_of_worlds();
         self.system.tally(inst)
     }
 

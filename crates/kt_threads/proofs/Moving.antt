@@ -89,7 +89,7 @@ run_after : (plan : Planned) (made : Made) (before after : World) (first : ℕ) 
     → Mirrors after.agenda after.system first (world_after (plan_shown plan) v (step_shown made.told.step) (give_shown made.give))
 run_after plan made before after first v plans r step =
     subst (λ (p : Planned). Mirrors after.agenda after.system first (world_after (plan_shown p) v (step_shown made.told.step) (give_shown made.give))) plans
-    (step.makes.leads first v r)
+    ((step.makes.runs first v r).leads)
 
 goes_on : (plan : Planned) (steps : List Made) (old new : World) (first : ℕ) (v : run_world.World) → old.agenda.plan ≡ plan
     → Mirrors old.agenda old.system first v → Leads old steps new → Goes plan first v steps new

@@ -80,7 +80,7 @@ module _ (plan : Planned) (made : Made) (before after : World) (first : ℕ) (v 
 
   acts : acts_shown made.told.acts ≡ acts_of_step (plan_shown plan) v x give (run_steps.stepper x)
   acts =
-      subst (λ (p : Planned). acts_shown made.told.acts ≡ acts_of_step (plan_shown p) v x give (stepper made.told.step)) plans (step.makes.asks first v r)
+      subst (λ (p : Planned). acts_shown made.told.acts ≡ acts_of_step (plan_shown p) v x give (stepper made.told.step)) plans ((step.makes.runs first v r).asks)
       ∙ ap (acts_of_step (plan_shown plan) v x give) (sym (stepper_is made.told.step))
 
   looks : look_shown made.look ≡ run_look.look (plan_shown plan) v x

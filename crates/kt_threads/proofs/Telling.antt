@@ -42,7 +42,7 @@ module _ (plan : Planned) (made : Made) (before after : World) (first : ℕ) (v 
   w = world_after (plan_shown plan) v (step_shown made.told.step) (give_shown made.give)
 
   its_rows : TellsItsRows made.told v.now.log w.now.log
-  its_rows = run.tells_its_rows plan made.told made.give before after first v plans r next on step.keeps.grows step.four step.rows (step.makes.asks first v r)
+  its_rows = run.tells_its_rows plan made.told made.give before after first v plans r next on step.keeps.grows step.four step.rows ((step.makes.runs first v r).asks)
 
   told_first : (p : ℕ) (steps : List Made) → (stepper made.told.step == p) ≡ true → told_to p (made ∷ steps) ≡ made.told ∷ told_to p steps
   told_first p steps e = ap (λ (l : List Made). map (λ (m : Made). m.told) l) (kept (λ (m : Made). stepper m.told.step == p) made steps e)
@@ -66,7 +66,7 @@ module _ (plan : Planned) (made : Made) (before after : World) (first : ℕ) (v 
       (sym (rows_told_append (told_here p made.told) (told_to p steps)) ∙ ap rows_told (told_next p steps (stepper made.told.step == p) refl)))
 
   told_as : IsToldAs made.told (run_told.told_at (plan_shown plan) v (move_of made))
-  told_as = run.told_as plan made.told made.give before after first v plans r next on step.keeps.grows step.four step.rows (step.makes.asks first v r)
+  told_as = run.told_as plan made.told made.give before after first v plans r next on step.keeps.grows step.four step.rows ((step.makes.runs first v r).asks)
 
   by_test : (p : ℕ) (b : Bool) → (stepper made.told.step == p) ≡ b → (p == run_steps.stepper (step_shown made.told.step)) ≡ b
   by_test p b e = turned (run_steps.stepper (step_shown made.told.step)) (stepper made.told.step) p b (run.stepper_is made.told.step) e

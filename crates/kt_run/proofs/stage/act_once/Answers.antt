@@ -6,4 +6,4 @@ use Rattle.kt_run.proofs.stage.act_once.Goals as goal
 pub returns-in-Ok-clause-leads : goal.returns-in-Ok-clause-leads
 returns-in-Ok-clause-leads c =
     let made = c.in-Ok.ensures in
-    tells_unkept c.args.world.now c.act.new.self c.args.step c.args.give c.in-Ok.acts made.keeps.grows made.keeps.limit (not_refused c.in-Ok.acts (refusal c.args.world.now c.args.step) made.refused) made.made.leads made.made.asks
+    tells_unkept c.args.world.now c.act.new.self c.args.step c.args.give c.in-Ok.acts made.keeps.grows made.keeps.limit (not_refused c.in-Ok.acts (refusal c.args.world.now c.args.step) made.refused) (λ first v r. (made.made.runs first v r).leads) (λ first v r. (made.made.runs first v r).asks)

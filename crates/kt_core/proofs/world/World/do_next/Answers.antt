@@ -11,6 +11,7 @@ use Rattle.kt_core.specs.Making.{MakesStep}
 use Rattle.kt_core.specs.Worlds.{World, refusal}
 use Rattle.kt_core.specs.Shown.{plan_shown, give_shown}
 use Rattle.kt_core.proofs.Enabled.{few, enabled_is, enabled_if, does_there}
+use Rattle.kt_core.proofs.Making.{makes_step}
 use Rattle.kt_core.proofs.Leading.{do_acts, do_leads, run_same, open_is_next}
 use Rattle.kt_core.proofs.Phases.{settles_from}
 use Rattle.kt_core.proofs.world.World.do_next.Goals as goal
@@ -65,15 +66,14 @@ returns-clause-made c =
     let next = open_is_next a p c.in-Some.command command in
     let same : (q : ℕ) → place_of b q ≡ place_of c.advance.new.self q = λ q. ap (λ (l : List ℕ). slice_index_or l q 0) opened.next in
     subst (λ (z : World). MakesStep z (Do p) c.args.give c.in_ok-acts.acts (record { agenda = b; system = c.do_job.new.system; limit = c.self.inside.limit })) c.self.view_is
-    (record {
-      done = (
+    (makes_step w (record { agenda = b; system = c.do_job.new.system; limit = c.self.inside.limit }) (Do p) c.args.give c.in_ok-acts.acts c.self.invariant.reached allowed
+    (
         subst (λ (j : ℕ). IsNextOf a.plan.commands p (place_of a p + 1) j) (sym (same p)) (move.next (slice_get_within a.plan.commands (place_of a p) c.in-Some.command next)),
         λ q n. same q ∙ move.others q n,
-      );
-      settled = settles_from c.do_job.new.system a c.advance.new.self b move.phase opened.settled;
-      leads = λ first v r. do_leads a c.advance.new.self b s c.do_job.new.system p c.in-Some.command c.args.give first v r (few w first v r p there) command
+    )
+    (settles_from c.do_job.new.system a c.advance.new.self b move.phase opened.settled)
+    (λ first v r. do_leads a c.advance.new.self b s c.do_job.new.system p c.in-Some.command c.args.give first v r (few w first v r p there) command
           (sym (enabled_is w first v r (Do p)) ∙ enabled_if w (Do p) allowed)
-          (λ h begun says. c.in_ok-acts.ensures.shows v.now h begun says) move.plan move.phase move.next move.others opened.plan opened.next opened.settled (c.do_job.ensures.size ∙ size) opened.numbered c.in_ok-acts.ensures.tallies;
-      asks = λ first v r. do_acts a s p c.in-Some.command c.args.give first v (acts_shown c.in_ok-acts.acts) r (few w first v r p there) command
-          (sym (enabled_is w first v r (Do p)) ∙ enabled_if w (Do p) allowed) (λ h begun. c.in_ok-acts.ensures.acts v.now h begun);
-    })
+          (λ h begun says. c.in_ok-acts.ensures.shows v.now h begun says) move.plan move.phase move.next move.others opened.plan opened.next opened.settled (c.do_job.ensures.size ∙ size) opened.numbered c.in_ok-acts.ensures.tallies)
+    (λ first v r. do_acts a s p c.in-Some.command c.args.give first v (acts_shown c.in_ok-acts.acts) r (few w first v r p there) command
+          (sym (enabled_is w first v r (Do p)) ∙ enabled_if w (Do p) allowed) (λ h begun. c.in_ok-acts.ensures.acts v.now h begun)))

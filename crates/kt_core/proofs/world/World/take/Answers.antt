@@ -8,6 +8,7 @@ use Rattle.kt_core.specs.Making.{MakesStep}
 use Rattle.kt_core.specs.Worlds.{World, refusal}
 use Rattle.kt_core.specs.Shown.{plan_shown, give_shown}
 use Rattle.kt_core.proofs.Enabled.{enabled_is, enabled_if}
+use Rattle.kt_core.proofs.Making.{makes_step}
 use Rattle.kt_core.proofs.Leading.{take_acts, take_leads, run_same}
 use Rattle.kt_core.proofs.world.World.take.Goals as goal
 
@@ -48,12 +49,10 @@ returns-clause-made c =
     let size = c.self.invariant.size in
     let opened = c.settle.ensures in
     subst (λ (z : World). MakesStep z (Take c.args.at c.args.from) c.args.give c.in_ok-acts.acts (record { agenda = c.settle.new.agenda; system = c.take.new.self; limit = c.self.inside.limit })) c.self.view_is
-    (record {
-      done = opened.next;
-      settled = opened.settled;
-      leads = λ first v r. take_leads a c.settle.new.agenda c.self.inside.system c.take.new.self c.args.at c.args.from c.args.give first v r
+    (makes_step w (record { agenda = c.settle.new.agenda; system = c.take.new.self; limit = c.self.inside.limit }) (Take c.args.at c.args.from) c.args.give c.in_ok-acts.acts c.self.invariant.reached allowed
+    opened.next opened.settled
+    (λ first v r. take_leads a c.settle.new.agenda c.self.inside.system c.take.new.self c.args.at c.args.from c.args.give first v r
           (sym (enabled_is w first v r (Take c.args.at c.args.from)) ∙ enabled_if w (Take c.args.at c.args.from) allowed)
-          (λ h says. c.in_ok-acts.ensures.shows v.now h says) opened.plan opened.next opened.settled (c.take.ensures.size ∙ size) opened.numbered c.in_ok-acts.ensures.tallies;
-      asks = λ first v r. take_acts a c.self.inside.system c.args.at c.args.from c.args.give first v (acts_shown c.in_ok-acts.acts) r
-          (sym (enabled_is w first v r (Take c.args.at c.args.from)) ∙ enabled_if w (Take c.args.at c.args.from) allowed) (λ h. c.in_ok-acts.ensures.acts v.now h);
-    })
+          (λ h says. c.in_ok-acts.ensures.shows v.now h says) opened.plan opened.next opened.settled (c.take.ensures.size ∙ size) opened.numbered c.in_ok-acts.ensures.tallies)
+    (λ first v r. take_acts a c.self.inside.system c.args.at c.args.from c.args.give first v (acts_shown c.in_ok-acts.acts) r
+          (sym (enabled_is w first v r (Take c.args.at c.args.from)) ∙ enabled_if w (Take c.args.at c.args.from) allowed) (λ h. c.in_ok-acts.ensures.acts v.now h)))

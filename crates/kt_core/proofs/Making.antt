@@ -1,0 +1,110 @@
+-- What a step that is made means, by what it does to the runs that lead to its world.
+use Rattle.std.proofs.Common.{◌≡◌, ◌∙◌, ◌≤◌, ℕ, ℤ, true, false, Some, None, List, length, refl, sym, ap, subst}
+use Rattle.std.specs.Prelude.{slice_get}
+use Rattle.kt_spacetime.specs.declared.event.Event.{Event}
+use Rattle.kt_spacetime.specs.declared.event.Event.TheVariants.{Closed, Unwilling}
+use Rattle.kt_cuts.specs.Past.{past, is_rollback, is_committed}
+use Rattle.kt_plan.specs.declared.steps.Step.{Step}
+use Rattle.kt_plan.specs.declared.steps.Step.TheVariants.{Do, Take}
+use Rattle.kt_plan.specs.declared.steps.Give.{Give}
+use Rattle.kt_plan.specs.declared.steps.Act.{Act}
+use Rattle.kt_system.specs.ShownActs.{acts_shown}
+use Rattle.kt_values.specs.Done.{done}
+use Rattle.kt_values.specs.Values as values
+use Rattle.kt_values.specs.Values.{Rules, due, does_all, can_all, closing}
+use Rattle.kt_phases.specs.Plans as run_plans
+use Rattle.kt_phases.specs.Steps as run_steps
+use Rattle.kt_promises.specs.World as run_world
+use Rattle.kt_promises.specs.Steps.{enabled, world_after}
+use Rattle.kt_promises.specs.StepActs.{acts_of_step}
+use Rattle.kt_promises.proofs.ActsOfSteps.{others_idle, abort_tells, values_lead, values_can}
+use Rattle.kt_promises.proofs.DefaultSteps.{unwilling_seen}
+use Rattle.kt_promises.proofs.RunsEnd.{raised_seen}
+use Rattle.kt_core.specs.Making.{DiscardsAtAborts, LeadsToDue, LeadsRun, MakesStep}
+use Rattle.kt_core.specs.Shown.{Mirrors, IsReached, plan_shown, step_shown, give_shown}
+use Rattle.kt_core.specs.Worlds.{World, HasDone, Settles, refusal, stepper}
+use Rattle.kt_core.proofs.Enabled.{enabled_is, enabled_if}
+use Rattle.kt_core.proofs.ShownPlans.{plan_is}
+
+stepper_is : (s : Step) → run_steps.stepper (step_shown s) ≡ stepper s
+stepper_is (Do p) = refl
+stepper_is (Take at from) = refl
+
+-- one run, which the step leads on, and of which it asks these acts
+module _ (old new : World) (step : Step) (give : Give) (acts : List Act) (allowed : refusal old step ≡ None) (first : ℕ) (v : run_world.World)
+    (r : Mirrors old.agenda old.system first v)
+    (next : Mirrors new.agenda new.system first (world_after (plan_shown old.agenda.plan) v (step_shown step) (give_shown give)))
+    (asks : acts_shown acts ≡ acts_of_step (plan_shown old.agenda.plan) v (step_shown step) (give_shown give) (stepper step)) where
+  abbrev plan : run_plans.Plan
+  plan = plan_shown old.agenda.plan
+
+  abbrev x : run_steps.Step
+  x = step_shown step
+
+  abbrev g : run_steps.Give
+  g = give_shown give
+
+  limits : run_plans.IsPlan plan
+  limits = plan_is old.agenda.plan r.limits
+
+  on : enabled plan v x ≡ true
+  on = sym (enabled_is old first v r step) ∙ enabled_if old step allowed
+
+  its_asks : acts_shown acts ≡ acts_of_step plan v x g (run_steps.stepper x)
+  its_asks = asks ∙ ap (acts_of_step plan v x g) (sym (stepper_is step))
+
+  pub leads_run : LeadsRun old step give acts new first v
+  leads_run = record {
+    leads = next;
+    asks = asks;
+    raised = raised_seen plan first v x g limits r.reached on;
+    unwilling = λ t p k cause there late. unwilling_seen plan first v x g t p k cause limits r.reached on
+        (subst (λ (l : List Event). slice_get l t ≡ Some (Unwilling p k cause)) next.now.log there)
+        (subst (λ (l : List Event). length l ≤ t) r.now.log late);
+  }
+
+  pub discards : DiscardsAtAborts old acts new
+  discards i p k there late aborted =
+      subst (λ (l : List Event). acts_shown acts ≡ closing (is_rollback (past l) k) false) (sym next.now.log)
+      (its_asks ∙ abort_tells plan first v x g i p k limits r.reached on
+      (subst (λ (l : List Event). slice_get l i ≡ Some (Closed p k)) next.now.log there)
+      (subst (λ (l : List Event). length l ≤ i) r.now.log late)
+      (subst (λ (l : List Event). is_committed (past l) k ≡ false) next.now.log aborted))
+
+  pub leads_to_due : (rules : Rules (List ℤ)) → LeadsToDue rules old step acts new
+  leads_to_due rules = record {
+    can = subst (λ (l : List Event). can_all rules (due rules (done l) (stepper step)) (acts_shown acts) ≡ true) (sym r.now.log)
+        (subst (λ (a : List values.Act). can_all rules (due rules (done v.now.log) (stepper step)) a ≡ true) (sym asks)
+        (values_can rules plan first v x g (stepper step) limits r.reached on));
+    its = subst (λ (l : List Event). does_all rules (due rules (done l) (stepper step)) (acts_shown acts) ≡ due rules (done new.system.rows.rows) (stepper step)) (sym r.now.log)
+        (subst (λ (l : List Event). does_all rules (due rules (done v.now.log) (stepper step)) (acts_shown acts) ≡ due rules (done l) (stepper step)) (sym next.now.log)
+        (subst (λ (a : List values.Act). does_all rules (due rules (done v.now.log) (stepper step)) a ≡ due rules (done (world_after plan v x g).now.log) (stepper step)) (sym asks)
+        (values_lead rules plan first v x g (stepper step) limits r.reached on)));
+    others = λ p n.
+        let idle = others_idle plan first v x g p limits r.reached on (λ e. n (e ∙ stepper_is step)) in
+        let same : due rules (done (world_after plan v x g).now.log) p ≡ due rules (done v.now.log) p =
+        sym (subst (λ (a : List values.Act). does_all rules (due rules (done v.now.log) p) a ≡ due rules (done (world_after plan v x g).now.log) p) idle
+        (values_lead rules plan first v x g p limits r.reached on)) in
+        subst (λ (l : List Event). due rules (done new.system.rows.rows) p ≡ due rules (done l) p) (sym r.now.log)
+        (subst (λ (l : List Event). due rules (done l) p ≡ due rules (done v.now.log) p) (sym next.now.log) same);
+  }
+
+-- a step that leads on each run to its world, and asks these acts of it
+pub makes_step : (old new : World) (step : Step) (give : Give) (acts : List Act) → IsReached old.agenda old.system → refusal old step ≡ None
+    → HasDone old.agenda new.agenda step → Settles old new
+    → ((first : ℕ) (v : run_world.World) → Mirrors old.agenda old.system first v
+    → Mirrors new.agenda new.system first (world_after (plan_shown old.agenda.plan) v (step_shown step) (give_shown give)))
+    → ((first : ℕ) (v : run_world.World) → Mirrors old.agenda old.system first v
+    → acts_shown acts ≡ acts_of_step (plan_shown old.agenda.plan) v (step_shown step) (give_shown give) (stepper step))
+    → MakesStep old step give acts new
+makes_step old new step give acts reached allowed done settled leads asks =
+    let first = reached.0 in
+    let v = reached.1 in
+    let r = reached.2 in
+    record {
+      done = done;
+      settled = settled;
+      runs = λ n w s. leads_run old new step give acts allowed n w s (leads n w s) (asks n w s);
+      aborts = discards old new step give acts allowed first v r (leads first v r) (asks first v r);
+      due = leads_to_due old new step give acts allowed first v r (leads first v r) (asks first v r);
+    }

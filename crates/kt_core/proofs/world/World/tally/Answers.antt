@@ -1,0 +1,31 @@
+use Rattle.std.proofs.Common.{rules, ◌≡◌, ◌≤◌, ◌*◌, ◌-◌, length, subst, sym}
+use Rattle.kt_system.specs.declared.system.Tally.{Tally}
+use Rattle.kt_core.specs.Worlds.{World}
+use Rattle.kt_core.specs.Shown.{plan_shown, tally_shown}
+use Rattle.kt_core.proofs.ShownPlans.{plan_is}
+use Rattle.kt_core.proofs.world.World.tally.Goals as goal
+
+pub returns-clause-asks : goal.returns-clause-asks
+returns-clause-asks c =
+    let r = c.self.invariant.reached in
+    let plan = c.self.inside.agenda.plan in
+    let of_run : c.tally.result ≡ tally_shown r.1.put c.args.inst = search rules in
+    subst (λ (z : World). c.tally.result.asks ≤ length z.agenda.plan.names * (length z.agenda.plan.names - 1)) c.self.view_is
+    (subst (λ (t : Tally). t.asks ≤ length plan.names * (length plan.names - 1)) (sym of_run)
+    (c.tallies_of_worlds.ensures.asks (plan_shown plan) r.0 r.1 c.args.inst (plan_is plan r.2.limits) r.2.reached))
+
+pub returns-clause-replies : goal.returns-clause-replies
+returns-clause-replies c =
+    let r = c.self.invariant.reached in
+    let plan = c.self.inside.agenda.plan in
+    let of_run : c.tally.result ≡ tally_shown r.1.put c.args.inst = search rules in
+    subst (λ (t : Tally). t.replies ≤ t.asks) (sym of_run)
+    (c.tallies_of_worlds.ensures.replies (plan_shown plan) r.0 r.1 c.args.inst (plan_is plan r.2.limits) r.2.reached)
+
+pub returns-clause-decisions : goal.returns-clause-decisions
+returns-clause-decisions c =
+    let r = c.self.invariant.reached in
+    let plan = c.self.inside.agenda.plan in
+    let of_run : c.tally.result ≡ tally_shown r.1.put c.args.inst = search rules in
+    subst (λ (t : Tally). t.decisions ≤ t.asks) (sym of_run)
+    (c.tallies_of_worlds.ensures.decisions (plan_shown plan) r.0 r.1 c.args.inst (plan_is plan r.2.limits) r.2.reached)
