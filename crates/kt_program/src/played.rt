@@ -95,7 +95,14 @@ pub fn live_plan<T: Threads + Wait + Sync, L: Write, C: Write, R: Write>(
         threads.Answers plan.now (map (λ row. map (λ b. kind_of b) row.items) cast.items) fault) }
 {
     let outcome = live(rt, alloc, plan, cast)?;
-    write_run(alloc, plan, &outcome.log, log_writer, cert_writer, report_writer)
+    write_run(
+        alloc,
+        plan,
+        &outcome.log,
+        log_writer,
+        cert_writer,
+        report_writer,
+    )
 }
 
 // Writes the log of a run, then its certificates, then its report.

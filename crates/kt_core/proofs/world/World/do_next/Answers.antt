@@ -66,14 +66,13 @@ returns-clause-made c =
     let next = open_is_next a p c.in-Some.command command in
     let same : (q : ℕ) → place_of b q ≡ place_of c.advance.new.self q = λ q. ap (λ (l : List ℕ). slice_index_or l q 0) opened.next in
     subst (λ (z : World). MakesStep z (Do p) c.args.give c.in_ok-acts.acts (record { agenda = b; system = c.do_job.new.system; limit = c.self.inside.limit })) c.self.view_is
-    (makes_step w (record { agenda = b; system = c.do_job.new.system; limit = c.self.inside.limit }) (Do p) c.args.give c.in_ok-acts.acts c.self.invariant.reached allowed
-    (
-        subst (λ (j : ℕ). IsNextOf a.plan.commands p (place_of a p + 1) j) (sym (same p)) (move.next (slice_get_within a.plan.commands (place_of a p) c.in-Some.command next)),
-        λ q n. same q ∙ move.others q n,
+    (makes_step w (record { agenda = b; system = c.do_job.new.system; limit = c.self.inside.limit }) (Do p) c.args.give c.in_ok-acts.acts c.self.invariant.reached allowed (
+      subst (λ (j : ℕ). IsNextOf a.plan.commands p (place_of a p + 1) j) (sym (same p)) (move.next (slice_get_within a.plan.commands (place_of a p) c.in-Some.command next)),
+      λ q n. same q ∙ move.others q n,
     )
     (settles_from c.do_job.new.system a c.advance.new.self b move.phase opened.settled)
     (λ first v r. do_leads a c.advance.new.self b s c.do_job.new.system p c.in-Some.command c.args.give first v r (few w first v r p there) command
-          (sym (enabled_is w first v r (Do p)) ∙ enabled_if w (Do p) allowed)
-          (λ h begun says. c.in_ok-acts.ensures.shows v.now h begun says) move.plan move.phase move.next move.others opened.plan opened.next opened.settled (c.do_job.ensures.size ∙ size) opened.numbered c.in_ok-acts.ensures.tallies)
+    (sym (enabled_is w first v r (Do p)) ∙ enabled_if w (Do p) allowed)
+    (λ h begun says. c.in_ok-acts.ensures.shows v.now h begun says) move.plan move.phase move.next move.others opened.plan opened.next opened.settled (c.do_job.ensures.size ∙ size) opened.numbered c.in_ok-acts.ensures.tallies)
     (λ first v r. do_acts a s p c.in-Some.command c.args.give first v (acts_shown c.in_ok-acts.acts) r (few w first v r p there) command
-          (sym (enabled_is w first v r (Do p)) ∙ enabled_if w (Do p) allowed) (λ h begun. c.in_ok-acts.ensures.acts v.now h begun)))
+    (sym (enabled_is w first v r (Do p)) ∙ enabled_if w (Do p) allowed) (λ h begun. c.in_ok-acts.ensures.acts v.now h begun)))

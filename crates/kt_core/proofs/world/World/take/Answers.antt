@@ -52,7 +52,7 @@ returns-clause-made c =
     (makes_step w (record { agenda = c.settle.new.agenda; system = c.take.new.self; limit = c.self.inside.limit }) (Take c.args.at c.args.from) c.args.give c.in_ok-acts.acts c.self.invariant.reached allowed
     opened.next opened.settled
     (λ first v r. take_leads a c.settle.new.agenda c.self.inside.system c.take.new.self c.args.at c.args.from c.args.give first v r
-          (sym (enabled_is w first v r (Take c.args.at c.args.from)) ∙ enabled_if w (Take c.args.at c.args.from) allowed)
-          (λ h says. c.in_ok-acts.ensures.shows v.now h says) opened.plan opened.next opened.settled (c.take.ensures.size ∙ size) opened.numbered c.in_ok-acts.ensures.tallies)
+    (sym (enabled_is w first v r (Take c.args.at c.args.from)) ∙ enabled_if w (Take c.args.at c.args.from) allowed)
+    (λ h says. c.in_ok-acts.ensures.shows v.now h says) opened.plan opened.next opened.settled (c.take.ensures.size ∙ size) opened.numbered c.in_ok-acts.ensures.tallies)
     (λ first v r. take_acts a c.self.inside.system c.args.at c.args.from c.args.give first v (acts_shown c.in_ok-acts.acts) r
-          (sym (enabled_is w first v r (Take c.args.at c.args.from)) ∙ enabled_if w (Take c.args.at c.args.from) allowed) (λ h. c.in_ok-acts.ensures.acts v.now h)))
+    (sym (enabled_is w first v r (Take c.args.at c.args.from)) ∙ enabled_if w (Take c.args.at c.args.from) allowed) (λ h. c.in_ok-acts.ensures.acts v.now h)))
