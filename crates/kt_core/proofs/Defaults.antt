@@ -3,6 +3,7 @@ use Rattle.std.specs.Prelude.{◌==◌, ◌&&◌, ◌||◌, nat_lt, Option, opti
 use Rattle.std.proofs.Common.{◌≡◌, ◌⊎◌, ◌<◌, ℕ, Bool, true, false, Some, None, List, [], ◌∷◌, refl, sym, arith, ap, ◌∙◌, inl, inr}
 use Rattle.std.proofs.lemmas.Bool.{cases_lt}
 use Rattle.std.proofs.lemmas.Bool.Decides.{nat_tests}
+use Rattle.kt_plan.specs.Limits.{IsPlan, Planned}
 use Rattle.kt_plan.specs.declared.commands.Command.{Command}
 use Rattle.kt_plan.specs.declared.steps.Step.{Step}
 use Rattle.kt_plan.specs.declared.steps.Step.TheVariants.{Do, Take}
@@ -12,7 +13,6 @@ use Rattle.kt_process.specs.Persons.{Person}
 use Rattle.kt_system.specs.Systems.{person}
 use Rattle.kt_system.specs.Reads.{can_take, IsNextTake, HasNoTake}
 use Rattle.kt_phases.specs.Plans as run
-use Rattle.kt_phases.specs.Steps as run_step
 use Rattle.kt_phases.proofs.CommandPlaces.{at_place}
 use Rattle.kt_phases.proofs.PhaseOrder.{none_of_if}
 use Rattle.kt_promises.specs.World as run_world
@@ -25,16 +25,15 @@ use Rattle.kt_promises.proofs.OnlyDefault.{only_first}
 use Rattle.kt_promises.proofs.RunSteps.{rest_seen}
 use Rattle.kt_core.specs.Agendas.{Agenda, place_of, next_command, open_command}
 use Rattle.kt_core.specs.Worlds.{World, may_do, can_do, enabled, IsAtRest, IsNextDo, IsDefaultStep}
-use Rattle.kt_core.specs.Shown.{Mirrors, command_shown, plan_shown, step_shown}
+use Rattle.kt_core.specs.Shown.{Mirrors}
 use Rattle.kt_core.proofs.Places.{HasPlaces, next_is, next_shown}
-use Rattle.kt_core.proofs.ShownPlans.{plan_is}
 use Rattle.kt_core.proofs.Quiet.{quiet_shown, quiet_from}
 use Rattle.kt_core.proofs.Enabled.{few, below, enabled_is}
 use Rattle.kt_core.proofs.Leading.{open_is_next}
 
 -- whose the next command is
 own_is : (a : Agenda) (v : run_world.World) (p : ℕ) (c : Command) → HasPlaces a v → p < 64 → next_command a p ≡ Some c → c.by ≡ p
-own_is a v p c h low e = (at_place (v.done p) p (plan_shown a.plan).commands (command_shown c) (next_shown a v p c h low e)).mine
+own_is a v p c h low e = (at_place (v.done p) p a.plan.commands c (next_shown a v p c h low e)).mine
 
 both : (a b : Bool) → (a && b) ≡ true → (a ≡ true) × (b ≡ true)
 both true true e = (refl, refl)
@@ -58,25 +57,25 @@ earlier_sender : (p q u r : ℕ) → p ≡ u → q < r → (nat_lt p u || (p == 
 earlier_sender p q u r e h = grind (arith, nat_tests, e, h)
 
 module _ (w : World) (first : ℕ) (v : run_world.World) (r : Mirrors w.agenda w.system first v) where
-  abbrev pub plan : run.Plan
-  plan = plan_shown w.agenda.plan
+  abbrev pub plan : Planned
+  plan = w.agenda.plan
 
-  limits : run.IsPlan plan
-  limits = plan_is w.agenda.plan r.limits
+  limits : IsPlan plan
+  limits = r.limits
 
-  on_here : (x : Step) → run_steps.enabled plan v (step_shown x) ≡ true → enabled w x ≡ true
+  on_here : (x : Step) → run_steps.enabled plan v x ≡ true → enabled w x ≡ true
   on_here x e = enabled_is w first v r x ∙ e
 
-  on_there : (x : Step) → enabled w x ≡ true → run_steps.enabled plan v (step_shown x) ≡ true
+  on_there : (x : Step) → enabled w x ≡ true → run_steps.enabled plan v x ≡ true
   on_there x e = sym (enabled_is w first v r x) ∙ e
 
-  nothing_there : ((x : Step) → enabled w x ≡ false) → (x : run_step.Step) → run_steps.enabled plan v x ≡ false
-  nothing_there n (run_step.Do p) = sym (enabled_is w first v r (Do p)) ∙ n (Do p)
-  nothing_there n (run_step.Take p q) = sym (enabled_is w first v r (Take p q)) ∙ n (Take p q)
+  nothing_there : ((x : Step) → enabled w x ≡ false) → (x : Step) → run_steps.enabled plan v x ≡ false
+  nothing_there n (Do p) = sym (enabled_is w first v r (Do p)) ∙ n (Do p)
+  nothing_there n (Take p q) = sym (enabled_is w first v r (Take p q)) ∙ n (Take p q)
 
-  take_first : (at from : ℕ) → IsNextTake w.system at from → (y : run_step.Step) → run_steps.enabled plan v y ≡ true → (run_step.Take at from ≡ y) ⊎ (comes_before plan v (run_step.Take at from) y ≡ true)
-  take_first at from n (run_step.Do u) e = inr refl
-  take_first at from n (run_step.Take p q) e =
+  take_first : (at from : ℕ) → IsNextTake w.system at from → (y : Step) → run_steps.enabled plan v y ≡ true → (Take at from ≡ y) ⊎ (comes_before plan v (Take at from) y ≡ true)
+  take_first at from n (Do u) e = inr refl
+  take_first at from n (Take p q) e =
       let t = three (nat_lt p w.system.size) (nat_lt q w.system.size) (can_take w.system p q) (on_here (Take p q) e) in
       elim (n.least p q (below p w.system.size t.0) (below q w.system.size t.1) t.2) [
         | inl l ↦ inr (earlier_taker at from p q l)
@@ -99,44 +98,44 @@ module _ (w : World) (first : ℕ) (v : run_world.World) (r : Mirrors w.agenda w
       let d : x.0 ≡ y.0 = cc (c) in
       sym x.2 ∙ (ap (λ (z : Command). z.by) d ∙ y.2)
 
-  do_first : (p : ℕ) → HasNoTake w.system → IsNextDo w p → (y : run_step.Step) → run_steps.enabled plan v y ≡ true → (run_step.Do p ≡ y) ⊎ (comes_before plan v (run_step.Do p) y ≡ true)
-  do_first p n d (run_step.Take u q) e =
+  do_first : (p : ℕ) → HasNoTake w.system → IsNextDo w p → (y : Step) → run_steps.enabled plan v y ≡ true → (Do p ≡ y) ⊎ (comes_before plan v (Do p) y ≡ true)
+  do_first p n d (Take u q) e =
       let t = three (nat_lt u w.system.size) (nat_lt q w.system.size) (can_take w.system u q) (on_here (Take u q) e) in
       absurd (let z = n.none u q (below u w.system.size t.0) (below q w.system.size t.1) in let k = t.2 in cc (z, k))
-  do_first p n d (run_step.Do u) e =
+  do_first p n d (Do u) e =
       let t = both (nat_lt u w.system.size) (can_do w u) (on_here (Do u) e) in
       let l = below u w.system.size t.0 in
       let le = d.first u l t.1 in
       elim (cases_lt (place_of w.agenda p) (place_of w.agenda u)) [
         | inl h ↦ inr (lt_if (next_place plan v p) (next_place plan v u) (let a = r.places p (few w first v r p d.there) in let b = r.places u (few w first v r u l) in omega (arith, h, a, b)))
-        | inr h ↦ inl (ap (λ (z : ℕ). run_step.Do z) (same_place p u d.there l d.able t.1 (omega (arith, le, h))))
+        | inr h ↦ inl (ap (λ (z : ℕ). Do z) (same_place p u d.there l d.able t.1 (omega (arith, le, h))))
       ]
 
-  pub default_is : (o : Option Step) → IfSome o (IsDefaultStep w) → IfSome o (λ step. enabled w step ≡ true) → IfNone o ((step : Step) → enabled w step ≡ false) → option_map step_shown o ≡ run_defaults.default_step plan v
+  pub default_is : (o : Option Step) → IfSome o (IsDefaultStep w) → IfSome o (λ step. enabled w step ≡ true) → IfNone o ((step : Step) → enabled w step ≡ false) → o ≡ run_defaults.default_step plan v
   default_is None a b n = sym (default_nothing plan first v limits r.reached (nothing_there n))
-  default_is (Some (Do p)) a b n = sym (only_first plan first v (run_step.Do p) limits r.reached (on_there (Do p) b) (do_first p a.0 a.1))
-  default_is (Some (Take at from)) a b n = sym (only_first plan first v (run_step.Take at from) limits r.reached (on_there (Take at from) b) (take_first at from a))
+  default_is (Some (Do p)) a b n = sym (only_first plan first v (Do p) limits r.reached (on_there (Do p) b) (do_first p a.0 a.1))
+  default_is (Some (Take at from)) a b n = sym (only_first plan first v (Take at from) limits r.reached (on_there (Take at from) b) (take_first at from a))
 
   has_none : (p : ℕ) → p < 64 → next_command w.agenda p ≡ None → run.has_command (run_world.commands_left plan v p) ≡ false
-  has_none p low e = at_left (run_world.commands_left plan v p) (sym (next_is w.agenda v p r.places low) ∙ ap (option_map command_shown) e)
+  has_none p low e = at_left (run_world.commands_left plan v p) (sym (next_is w.agenda v p r.places low) ∙ e)
     where
-      at_left : (l : List run.Command) → run.first_command l ≡ None → run.has_command l ≡ false
+      at_left : (l : List Command) → run.first_command l ≡ None → run.has_command l ≡ false
       at_left [] f = refl
       at_left (c ∷ cs) f = absurd (cc (f))
 
   none_next : (p : ℕ) → p < 64 → run.has_command (run_world.commands_left plan v p) ≡ false → next_command w.agenda p ≡ None
   none_next p low e = at_next (next_command w.agenda p) (next_is w.agenda v p r.places low) (at_left (run_world.commands_left plan v p) e)
     where
-      at_left : (l : List run.Command) → run.has_command l ≡ false → run.first_command l ≡ None
+      at_left : (l : List Command) → run.has_command l ≡ false → run.first_command l ≡ None
       at_left [] f = refl
       at_left (c ∷ cs) f = absurd (cc (f))
 
-      at_next : (o : Option Command) → option_map command_shown o ≡ run_world.next_command plan v p → run_world.next_command plan v p ≡ None → o ≡ None
+      at_next : (o : Option Command) → o ≡ run_world.next_command plan v p → run_world.next_command plan v p ≡ None → o ≡ None
       at_next None f g = refl
       at_next (Some c) f g = absurd (let z = f ∙ g in cc (z))
 
   is_there : (p : ℕ) (c : Command) → p < 64 → next_command w.agenda p ≡ Some c → p < w.system.size
-  is_there p c low e = let t = next_there_seen plan first v p (command_shown c) limits r.reached (next_shown w.agenda v p c r.places low e) in let z = r.size in omega (arith, t, z)
+  is_there p c low e = let t = next_there_seen plan first v p c limits r.reached (next_shown w.agenda v p c r.places low e) in let z = r.size in omega (arith, t, z)
 
   rests : IsAtRest w → run_steps.is_at_rest plan v ≡ true
   rests h = rw (

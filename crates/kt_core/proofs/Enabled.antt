@@ -10,7 +10,6 @@ use Rattle.kt_plan.specs.declared.steps.Step.TheVariants.{Do, Take}
 use Rattle.kt_process.specs.Persons.{inst_of}
 use Rattle.kt_system.specs.Systems.{person}
 use Rattle.kt_system.specs.Reads.{can_take}
-use Rattle.kt_phases.specs.Plans as run
 use Rattle.kt_phases.specs.Steps as run_steps
 use Rattle.kt_promises.specs.World as run_world
 use Rattle.kt_promises.specs.Steps as run_after
@@ -19,9 +18,8 @@ use Rattle.kt_core.specs.Agendas.{next_command, if_open}
 use Rattle.kt_core.specs.Worlds.{World, is_send, may_do, can_do, enabled, refusal, is_full, lacks_label}
 use Rattle.kt_core.specs.declared.faults.StepFault.{StepFault}
 use Rattle.kt_core.specs.declared.faults.StepFault.TheVariants.{NotEnabled, LogFull, LabelsSpent}
-use Rattle.kt_core.specs.Shown.{Mirrors, command_shown, plan_shown, job_shown, step_shown}
+use Rattle.kt_core.specs.Shown.{Mirrors}
 use Rattle.kt_core.proofs.Places.{next_is, next_shown}
-use Rattle.kt_core.proofs.ShownPlans.{plan_is}
 use Rattle.kt_core.proofs.Quiet.{AreNumbered, closed_is, can_take_is}
 
 -- a step that was made was not refused
@@ -64,31 +62,31 @@ module _ (w : World) (first : ℕ) (v : run_world.World) (r : Mirrors w.agenda w
   pub few : (p : ℕ) → p < w.system.size → p < 64
   few p l = let f = r.limits.names.few in omega (arith, l, size, f)
 
-  may_do_job : (p : ℕ) → p < w.system.size → (j : Job) → (not (is_send j) || is_none (inst_of (person w.system p).side)) ≡ run_steps.may_do_job ((v.now.people p).inst == 0) (job_shown j)
+  may_do_job : (p : ℕ) → p < w.system.size → (j : Job) → (not (is_send j) || is_none (inst_of (person w.system p).side)) ≡ run_steps.may_do_job ((v.now.people p).inst == 0) j
   may_do_job p l (Send to body) = closed_is (person w.system p) (v.now.people p) (r.now.people p l) (num p l)
   may_do_job p l Checkpoint = refl
   may_do_job p l Rollback = refl
   may_do_job p l Fail = refl
 
-  may_do_is : (p : ℕ) → p < w.system.size → (o : Option Command) → next_command w.agenda p ≡ o → may_do (person w.system p) (if_open w.agenda.phase o) ≡ run_after.may_do v p (option_map command_shown o)
+  may_do_is : (p : ℕ) → p < w.system.size → (o : Option Command) → next_command w.agenda p ≡ o → may_do (person w.system p) (if_open w.agenda.phase o) ≡ run_after.may_do v p o
   may_do_is p l None e = refl
   may_do_is p l (Some c) e =
-      let ahead = ahead_seen (plan_shown w.agenda.plan) first v p (command_shown c) (plan_is w.agenda.plan r.limits) r.reached (next_shown w.agenda v p c r.places (few p l) e) in
+      let ahead = ahead_seen w.agenda.plan first v p c r.limits r.reached (next_shown w.agenda v p c r.places (few p l) e) in
       go (nat_le c.phase w.agenda.phase) (phase_test c.phase w.agenda.phase v.phase (r.phase p c (few p l) e) ahead)
     where
-      go : (b : Bool) → (c.phase == v.phase) ≡ b → may_do (person w.system p) (if b then Some c else None) ≡ ((c.phase == v.phase) && run_steps.may_do_job ((v.now.people p).inst == 0) (job_shown c.job))
+      go : (b : Bool) → (c.phase == v.phase) ≡ b → may_do (person w.system p) (if b then Some c else None) ≡ ((c.phase == v.phase) && run_steps.may_do_job ((v.now.people p).inst == 0) c.job)
       go true f = rw f (may_do_job p l c.job)
       go false f = rw f refl
 
-  pub enabled_is : (x : Step) → enabled w x ≡ run_after.enabled (plan_shown w.agenda.plan) v (step_shown x)
+  pub enabled_is : (x : Step) → enabled w x ≡ run_after.enabled w.agenda.plan v x
   enabled_is (Do p) = and_same (nat_lt p w.system.size) (can_do w p) (nat_lt p (length w.agenda.plan.names)) _ (ap (λ (n : ℕ). nat_lt p n) size)
-      (λ e. let l = below p w.system.size e in may_do_is p l (next_command w.agenda p) refl ∙ ap (λ (o : Option run.Command). run_after.may_do v p o) (next_is w.agenda v p r.places (few p l)))
+      (λ e. let l = below p w.system.size e in may_do_is p l (next_command w.agenda p) refl ∙ ap (λ (o : Option Command). run_after.may_do v p o) (next_is w.agenda v p r.places (few p l)))
   enabled_is (Take p q) = and_both (nat_lt p w.system.size) (nat_lt q w.system.size) (can_take w.system p q) (nat_lt p (length w.agenda.plan.names)) (nat_lt q (length w.agenda.plan.names)) (run_after.can_take v.now p q)
       (ap (λ (n : ℕ). nat_lt p n) size) (ap (λ (n : ℕ). nat_lt q n) size) (λ e f. can_take_is w.system v.now p q r.now num (below p w.system.size e))
 
 -- a step that can be made is one of each run that leads to the world
 pub IfSome-enabled_in_run : (w : World) (first : ℕ) (v : run_world.World) → Mirrors w.agenda w.system first v → (found : Option Step) → IfSome found (λ x. enabled w x ≡ true)
-    → IfSome found (λ x. run_after.enabled (plan_shown w.agenda.plan) v (step_shown x) ≡ true)
+    → IfSome found (λ x. run_after.enabled w.agenda.plan v x ≡ true)
 IfSome-enabled_in_run w first v r None h = tt
 IfSome-enabled_in_run w first v r (Some x) h = sym (enabled_is w first v r x) ∙ h
 

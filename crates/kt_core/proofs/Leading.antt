@@ -4,7 +4,8 @@ use Rattle.std.proofs.Common.{◌≡◌, ◌≢◌, ◌<◌, ◌≤◌, ◌+◌,
 use Rattle.std.proofs.lemmas.Bool.{cases_lt}
 use Rattle.std.proofs.lemmas.Bool.Decides.{nat_tests}
 use Rattle.std.proofs.lemmas.Option.{slice_get_within}
-use Rattle.std.proofs.lemmas.List.{length-map}
+use Rattle.kt_plan.specs.declared.steps.Step.{Step}
+use Rattle.kt_plan.specs.declared.steps.Step.TheVariants.{Do, Take}
 use Rattle.kt_cuts.specs.Past.{at_one}
 use Rattle.kt_fifo.specs.declared.parcels.Parcel.{Parcel}
 use Rattle.kt_tables.specs.Calls.{Speaks}
@@ -27,7 +28,6 @@ use Rattle.kt_system.proofs.Showing.{shows_same}
 use Rattle.kt_values.specs.Values.{Act}
 use Rattle.kt_values.specs.Acts.{stepper}
 use Rattle.kt_values.specs.SeenActs.{seen_acts}
-use Rattle.kt_phases.specs.Plans as run_plans
 use Rattle.kt_phases.specs.Steps as run_steps
 use Rattle.kt_promises.specs.World as run_world
 use Rattle.kt_promises.specs.Steps as run_after
@@ -43,11 +43,10 @@ use Rattle.kt_promises.proofs.RunsEnd.{fewer_begun_seen, raised_seen}
 use Rattle.kt_promises.proofs.RunSteps.{start_reached_seen, next_reached_seen}
 use Rattle.kt_core.specs.Agendas.{Agenda, place_of, next_command, if_open, open_command, IsNextOf, IsLeastPhase}
 use Rattle.kt_core.specs.Worlds.{SettlesIn}
-use Rattle.kt_core.specs.Shown.{Mirrors, command_shown, plan_shown, job_shown, give_shown, tally_shown}
-use Rattle.kt_core.proofs.ShownPlans.{plan_is}
+use Rattle.kt_core.specs.Shown.{Mirrors, tally_shown}
 use Rattle.kt_core.proofs.Quiet.{AreNumbered, quiet_shown, quiet_from, quiet_opening}
 use Rattle.kt_core.proofs.Tallied.{taken_is, tallies_lead}
-use Rattle.kt_core.proofs.Places.{HasPlaces, next_shown, next_from, places_at_start, places_after, places_same}
+use Rattle.kt_core.proofs.Places.{HasPlaces, next_is, next_shown, places_at_start, places_after, places_same}
 
 abbrev agenda : Planned → List ℕ → ℕ → Agenda
 agenda plan next phase = record { plan = plan; next = next; phase = phase }
@@ -56,34 +55,31 @@ same_agenda : (m : Agenda) (plan : Planned) (next : List ℕ) (k : ℕ) → m.pl
 same_agenda m plan next k e f g = λ i. record { plan = e i; next = f i; phase = g i }
 
 -- the open phase is the least one that has commands left, where nothing is under way
-least_is : (b : Agenda) (first : ℕ) (w : run_world.World) (p : ℕ) (c : Command) → IsPlan b.plan → IsReachedWorld (plan_shown b.plan) first w → HasPlaces b w →
+least_is : (b : Agenda) (first : ℕ) (w : run_world.World) (p : ℕ) (c : Command) → IsPlan b.plan → IsReachedWorld b.plan first w → HasPlaces b w →
     run_world.is_quiet (length b.plan.names) w.now ≡ true → p < 64 → next_command b p ≡ Some c → IsLeastPhase b w.phase
 least_is b first w p c i r h quiet low e = record {
-  least = λ q d under f. ahead_seen plan first w q (command_shown d) limits r (next_shown b w q d h under f);
+  least = λ q d under f. ahead_seen plan first w q d limits r (next_shown b w q d h under f);
   process = found.0;
-  command = back.0;
+  command = found.1;
   there = under;
-  is = back.1;
-  attained = ap (λ (x : run_plans.Command). x.phase) back.2 ∙ found.4;
+  is = next_is b w found.0 h under ∙ found.3;
+  attained = found.4;
 }
   where
-    plan : run_plans.Plan
-    plan = plan_shown b.plan
+    plan : Planned
+    plan = b.plan
 
-    limits : run_plans.IsPlan plan
-    limits = plan_is b.plan i
+    limits : IsPlan plan
+    limits = i
 
-    found : (q : ℕ) × (d : run_plans.Command) × (q < length b.plan.names) × (run_world.next_command plan w q ≡ Some d) × (d.phase ≡ w.phase)
-    found = attained_seen plan first w p (command_shown c) limits r quiet (next_shown b w p c h low e)
+    found : (q : ℕ) × (d : Command) × (q < length b.plan.names) × (run_world.next_command plan w q ≡ Some d) × (d.phase ≡ w.phase)
+    found = attained_seen plan first w p c limits r quiet (next_shown b w p c h low e)
 
     under : found.0 < 64
     under = let x = found.2 in let few = i.names.few in omega (arith, x, few)
 
-    back : (d : Command) × (next_command b found.0 ≡ Some d) × (command_shown d ≡ found.1)
-    back = next_from b w found.0 found.1 h under found.3
-
 -- what settles opens the same phase
-phase_after : (a b : Agenda) (s : Whole) (first : ℕ) (v w : run_world.World) → IsPlan b.plan → IsReachedWorld (plan_shown b.plan) first w → HasPlaces b w → Shows s w.now → s.size ≡ length b.plan.names → AreNumbered s → SettlesIn s a b →
+phase_after : (a b : Agenda) (s : Whole) (first : ℕ) (v w : run_world.World) → IsPlan b.plan → IsReachedWorld b.plan first w → HasPlaces b w → Shows s w.now → s.size ≡ length b.plan.names → AreNumbered s → SettlesIn s a b →
     v.phase ≤ w.phase → (v.phase < w.phase → run_world.is_quiet (length b.plan.names) w.now ≡ true) → a.phase ≡ v.phase → (p : ℕ) (c : Command) → p < 64 → next_command b p ≡ Some c → b.phase ≡ w.phase
 phase_after a b s first v w i r h shows size num settles forward quiet same p c low e = at_test (run_world.is_quiet (length b.plan.names) w.now) refl
   where
@@ -98,10 +94,10 @@ phase_after a b s first v w i r h shows size num settles forward quiet same p c 
         ]
 
 -- a step that is enabled, after which phases open
-step_leads : (plan : Planned) (nx ny : List ℕ) (k l : ℕ) (s t : Whole) (first : ℕ) (v : run_world.World) (x : run_steps.Step) (g : run_steps.Give) → Mirrors (agenda plan nx k) s first v → run_after.enabled (plan_shown plan) v x ≡ true →
-    SettlesIn t (agenda plan ny k) (agenda plan ny l) → Shows t (run_after.world_after (plan_shown plan) v x g).now → HasPlaces (agenda plan ny l) (run_after.world_after (plan_shown plan) v x g) → t.size ≡ length plan.names → AreNumbered t →
+step_leads : (plan : Planned) (nx ny : List ℕ) (k l : ℕ) (s t : Whole) (first : ℕ) (v : run_world.World) (x : Step) (g : Give) → Mirrors (agenda plan nx k) s first v → run_after.enabled plan v x ≡ true →
+    SettlesIn t (agenda plan ny k) (agenda plan ny l) → Shows t (run_after.world_after plan v x g).now → HasPlaces (agenda plan ny l) (run_after.world_after plan v x g) → t.size ≡ length plan.names → AreNumbered t →
     ((p : ℕ) (c : Command) → p < 64 → next_command (agenda plan ny l) p ≡ Some c → k ≡ v.phase) → (taken : List Parcel) → ((f g : Parcel → Bool) → ((x : Parcel) → f x ≡ g x) → count_by f taken ≡ run_tallies.taken_off v.now x g) → TalliesPut taken s t →
-    Mirrors (agenda plan ny l) t first (run_after.world_after (plan_shown plan) v x g)
+    Mirrors (agenda plan ny l) t first (run_after.world_after plan v x g)
 step_leads plan nx ny k l s t first v x g r e settles shows places size num phase taken off counted = record {
   limits = r.limits;
   size = size;
@@ -111,17 +107,17 @@ step_leads plan nx ny k l s t first v x g r e settles shows places size num phas
   places = places;
   phase = λ p c low f. phase_after (agenda plan ny k) (agenda plan ny l) t first v w r.limits reached places shows size num settles on.0 on.1 (phase p c low f) p c low f;
   instances = (let a = r.instances in let b = counted.instances in omega (arith, a, b));
-  put = tallies_lead plan first w r.limits reached s t v x taken r.size size r.now shows r.instances off r.put (raised_seen (plan_shown plan) first v x g (plan_is plan r.limits) r.reached e) counted;
+  put = tallies_lead plan first w r.limits reached s t v x taken r.size size r.now shows r.instances off r.put (raised_seen plan first v x g r.limits r.reached e) counted;
 }
   where
     w : run_world.World
-    w = run_after.world_after (plan_shown plan) v x g
+    w = run_after.world_after plan v x g
 
-    reached : IsReachedWorld (plan_shown plan) first w
-    reached = next_reached_seen (plan_shown plan) first v x g (plan_is plan r.limits) r.reached e
+    reached : IsReachedWorld plan first w
+    reached = next_reached_seen plan first v x g r.limits r.reached e
 
     on : (v.phase ≤ w.phase) × (v.phase < w.phase → run_world.is_quiet (length plan.names) w.now ≡ true)
-    on = quiet_seen (plan_shown plan) first v x g (plan_is plan r.limits) r.reached e
+    on = quiet_seen plan first v x g r.limits r.reached e
 
 settles_as : (t : Whole) (m b : Agenda) (plan : Planned) (k : ℕ) → m.plan ≡ plan → m.phase ≡ k → b.plan ≡ m.plan → b.next ≡ m.next → SettlesIn t m b → SettlesIn t (agenda plan m.next k) (agenda plan m.next b.phase)
 settles_as t m b plan k e f g h s =
@@ -140,27 +136,27 @@ pub open_is_next : (a : Agenda) (p : ℕ) (c : Command) → open_command a p ≡
 open_is_next a p c e = if_open_is a.phase (next_command a p) c e
 
 -- as long as a command is left, not all instances have begun
-begun_few : (a : Agenda) (s : Whole) (first : ℕ) (v : run_world.World) (p : ℕ) (c : Command) → Mirrors a s first v → run_world.next_command (plan_shown a.plan) v p ≡ Some (command_shown c) → s.begun < 4096
-begun_few a s first v p c r there = let f = fewer_begun_seen (plan_shown a.plan) first v (plan_is a.plan r.limits) r.reached p (command_shown c) there in let n = length-map a.plan.commands command_shown in let k = r.limits.few in let z = r.now.begun in omega (arith, f, n, k, z)
+begun_few : (a : Agenda) (s : Whole) (first : ℕ) (v : run_world.World) (p : ℕ) (c : Command) → Mirrors a s first v → run_world.next_command a.plan v p ≡ Some c → s.begun < 4096
+begun_few a s first v p c r there = let f = fewer_begun_seen a.plan first v r.limits r.reached p c there in let k = r.limits.few in let z = r.now.begun in omega (arith, f, k, z)
 
 -- a command: the system makes the step, the agenda goes on from a to m, and phases open from m to b
-pub do_leads : (a m b : Agenda) (s t : Whole) (p : ℕ) (c : Command) (give : Give) (first : ℕ) (v : run_world.World) → Mirrors a s first v → p < 64 → open_command a p ≡ Some c → run_after.enabled (plan_shown a.plan) v (run_steps.Do p) ≡ true →
-    (Shows s v.now → s.begun < 4096 → Speaks ((transition v.now (run_steps.protocol_step p (job_shown c.job) (give_shown give))).people p).calls → Shows t (transition v.now (run_steps.protocol_step p (job_shown c.job) (give_shown give)))) →
+pub do_leads : (a m b : Agenda) (s t : Whole) (p : ℕ) (c : Command) (give : Give) (first : ℕ) (v : run_world.World) → Mirrors a s first v → p < 64 → open_command a p ≡ Some c → run_after.enabled a.plan v (Do p) ≡ true →
+    (Shows s v.now → s.begun < 4096 → Speaks ((transition v.now (run_steps.protocol_step p c.job give)).people p).calls → Shows t (transition v.now (run_steps.protocol_step p c.job give))) →
     m.plan ≡ a.plan → m.phase ≡ a.phase → (place_of a p < length a.plan.commands → IsNextOf a.plan.commands p (place_of a p + 1) (place_of m p)) → ((q : ℕ) → q ≢ p → place_of m q ≡ place_of a q) →
-    b.plan ≡ m.plan → b.next ≡ m.next → SettlesIn t m b → t.size ≡ length a.plan.names → AreNumbered t → TalliesPut [] s t → Mirrors b t first (run_after.world_after (plan_shown a.plan) v (run_steps.Do p) (give_shown give))
+    b.plan ≡ m.plan → b.next ≡ m.next → SettlesIn t m b → t.size ≡ length a.plan.names → AreNumbered t → TalliesPut [] s t → Mirrors b t first (run_after.world_after a.plan v (Do p) give)
 do_leads a m b s t p c give first v r low opened e shows mp mk mn mo bp bn settles size num counted =
     subst (λ (z : Agenda). Mirrors z t first w) (sym (same_agenda b a.plan m.next b.phase (bp ∙ mp) bn refl))
-    (step_leads a.plan a.next m.next a.phase b.phase s t first v (run_steps.Do p) (give_shown give) r e (settles_as t m b a.plan a.phase mp mk bp bn settles) seen
+    (step_leads a.plan a.next m.next a.phase b.phase s t first v (Do p) give r e (settles_as t m b a.plan a.phase mp mk bp bn settles) seen
     (places_after a (agenda a.plan m.next b.phase) v w p r.places low refl within (mn within) mo is.done) size num (λ q d under f. r.phase p c low next) [] (λ f g h. refl) counted)
   where
-    plan : run_plans.Plan
-    plan = plan_shown a.plan
+    plan : Planned
+    plan = a.plan
 
-    limits : run_plans.IsPlan plan
-    limits = plan_is a.plan r.limits
+    limits : IsPlan plan
+    limits = r.limits
 
     w : run_world.World
-    w = run_after.world_after plan v (run_steps.Do p) (give_shown give)
+    w = run_after.world_after plan v (Do p) give
 
     next : next_command a p ≡ Some c
     next = open_is_next a p c opened
@@ -168,32 +164,32 @@ do_leads a m b s t p c give first v r low opened e shows mp mk mn mo bp bn settl
     within : place_of a p < length a.plan.commands
     within = slice_get_within a.plan.commands (place_of a p) c next
 
-    there : run_world.next_command plan v p ≡ Some (command_shown c)
+    there : run_world.next_command plan v p ≡ Some c
     there = next_shown a v p c r.places low next
 
-    is : IsSameButPhase (record (run_after.with_seen plan v (run_steps.Do p) (transition v.now (run_steps.protocol_step p (job_shown c.job) (give_shown give)))) { done = at_one p (v.done p + 1) v.done }) w
-    is = does_is plan v p (give_shown give) (command_shown c) there
+    is : IsSameButPhase (record (run_after.with_seen plan v (Do p) (transition v.now (run_steps.protocol_step p c.job give))) { done = at_one p (v.done p + 1) v.done }) w
+    is = does_is plan v p give c there
 
     begun : s.begun < 4096
     begun = begun_few a s first v p c r there
 
     seen : Shows t w.now
-    seen = subst (λ (x : Seen). Shows t x) (sym is.now) (shows r.now begun (speaks_next_seen plan first v limits r.reached (run_steps.protocol_step p (job_shown c.job) (give_shown give)) p))
+    seen = subst (λ (x : Seen). Shows t x) (sym is.now) (shows r.now begun (speaks_next_seen plan first v limits r.reached (run_steps.protocol_step p c.job give) p))
 
 -- a take
-pub take_leads : (a b : Agenda) (s t : Whole) (p q : ℕ) (give : Give) (first : ℕ) (v : run_world.World) → Mirrors a s first v → run_after.enabled (plan_shown a.plan) v (run_steps.Take p q) ≡ true →
+pub take_leads : (a b : Agenda) (s t : Whole) (p q : ℕ) (give : Give) (first : ℕ) (v : run_world.World) → Mirrors a s first v → run_after.enabled a.plan v (Take p q) ≡ true →
     (Shows s v.now → Speaks ((transition v.now (machine.Take p q give.able)).people p).calls → Shows t (transition v.now (machine.Take p q give.able))) →
-    b.plan ≡ a.plan → b.next ≡ a.next → SettlesIn t a b → t.size ≡ length a.plan.names → AreNumbered t → TalliesPut (taken_off s p q) s t → Mirrors b t first (run_after.world_after (plan_shown a.plan) v (run_steps.Take p q) (give_shown give))
+    b.plan ≡ a.plan → b.next ≡ a.next → SettlesIn t a b → t.size ≡ length a.plan.names → AreNumbered t → TalliesPut (taken_off s p q) s t → Mirrors b t first (run_after.world_after a.plan v (Take p q) give)
 take_leads a b s t p q give first v r e shows bp bn settles size num counted =
     subst (λ (z : Agenda). Mirrors z t first w) (sym (same_agenda b a.plan a.next b.phase bp bn refl))
-    (step_leads a.plan a.next a.next a.phase b.phase s t first v (run_steps.Take p q) (give_shown give) r e (settles_as t a b a.plan a.phase refl refl bp bn settles) seen
+    (step_leads a.plan a.next a.next a.phase b.phase s t first v (Take p q) give r e (settles_as t a b a.plan a.phase refl refl bp bn settles) seen
     (places_same a (agenda a.plan a.next b.phase) v w r.places refl refl is.done) size num (λ u d under f. r.phase u d under f) (taken_off s p q) (λ f g h. taken_is f g h s v.now p q r.now r.numbered there) counted)
   where
-    plan : run_plans.Plan
-    plan = plan_shown a.plan
+    plan : Planned
+    plan = a.plan
 
     w : run_world.World
-    w = run_after.world_after plan v (run_steps.Take p q) (give_shown give)
+    w = run_after.world_after plan v (Take p q) give
 
     takes : (n : ℕ) (x y : Bool) → ((nat_lt p n && x) && y) ≡ true → p < n
     takes n x y f = grind (arith, nat_tests, f)
@@ -201,15 +197,15 @@ take_leads a b s t p q give first v r e shows bp bn settles size num counted =
     there : p < s.size
     there = let l = takes plan.size (nat_lt q plan.size) (run_after.can_take v.now p q) e in let z = r.size in omega (arith, l, z)
 
-    is : IsSameButPhase (run_after.with_seen plan v (run_steps.Take p q) (transition v.now (machine.Take p q give.able))) w
-    is = takes_is plan v p q (give_shown give)
+    is : IsSameButPhase (run_after.with_seen plan v (Take p q) (transition v.now (machine.Take p q give.able))) w
+    is = takes_is plan v p q give
 
     seen : Shows t w.now
-    seen = subst (λ (x : Seen). Shows t x) (sym is.now) (shows r.now (speaks_next_seen plan first v (plan_is a.plan r.limits) r.reached (machine.Take p q give.able) p))
+    seen = subst (λ (x : Seen). Shows t x) (sym is.now) (shows r.now (speaks_next_seen plan first v r.limits r.reached (machine.Take p q give.able) p))
 
 -- at the start phases open from a to b
 pub start_leads : (a b : Agenda) (s : Whole) (first : ℕ) → IsPlan a.plan → s.size ≡ length a.plan.names → AreNumbered s → Shows s (opening_seen (length a.plan.names) first) → ((p : ℕ) → p < 64 → IsNextOf a.plan.commands p 0 (place_of a p)) → b.plan ≡ a.plan → b.next ≡ a.next →
-    ((least : ℕ) → IsLeastPhase b least → b.phase ≡ least) → length a.plan.commands ≤ length s.put → ((k : ℕ) → tally_of s k ≡ none_counted) → Mirrors b s first (run_world.start_world (plan_shown a.plan) first)
+    ((least : ℕ) → IsLeastPhase b least → b.phase ≡ least) → length a.plan.commands ≤ length s.put → ((k : ℕ) → tally_of s k ≡ none_counted) → Mirrors b s first (run_world.start_world a.plan first)
 start_leads a b s first i size num shows n bp bn opens room none =
     subst (λ (z : Agenda). Mirrors z s first w) (sym same) (record {
       limits = i;
@@ -223,8 +219,8 @@ start_leads a b s first i size num shows n bp bn opens room none =
       put = λ k l. none k ∙ ap (λ (y : run_tallies.Tally). tally_shown y k) (sym is.put);
     })
   where
-    plan : run_plans.Plan
-    plan = plan_shown a.plan
+    plan : Planned
+    plan = a.plan
 
     w : run_world.World
     w = run_world.start_world plan first
@@ -262,24 +258,24 @@ run_same a s t first v e r = record {
   put = λ k l. ap (λ (l : List Tally). slice_index_or l (k - 1) none_counted) e.put ∙ r.put k l;
 }
 
-whose : (p : ℕ) (j : Job) (g : run_steps.Give) → stepper (run_steps.protocol_step p (job_shown j) g) ≡ p
+whose : (p : ℕ) (j : Job) (g : Give) → stepper (run_steps.protocol_step p j g) ≡ p
 whose p (job.Send to body) g = refl
 whose p job.Checkpoint g = refl
 whose p job.Rollback g = refl
 whose p job.Fail g = refl
 
 -- the acts of a command, and of a take, are those of the run's step
-pub do_acts : (a : Agenda) (s : Whole) (p : ℕ) (c : Command) (give : Give) (first : ℕ) (v : run_world.World) (told : List Act) → Mirrors a s first v → p < 64 → open_command a p ≡ Some c → run_after.enabled (plan_shown a.plan) v (run_steps.Do p) ≡ true →
-    (Shows s v.now → s.begun < 4096 → told ≡ seen_acts v.now (run_steps.protocol_step p (job_shown c.job) (give_shown give))) → told ≡ acts_of_step (plan_shown a.plan) v (run_steps.Do p) (give_shown give) p
+pub do_acts : (a : Agenda) (s : Whole) (p : ℕ) (c : Command) (give : Give) (first : ℕ) (v : run_world.World) (told : List Act) → Mirrors a s first v → p < 64 → open_command a p ≡ Some c → run_after.enabled a.plan v (Do p) ≡ true →
+    (Shows s v.now → s.begun < 4096 → told ≡ seen_acts v.now (run_steps.protocol_step p c.job give)) → told ≡ acts_of_step a.plan v (Do p) give p
 do_acts a s p c give first v told r low opened e shows =
-    let plan = plan_shown a.plan in
-    let limits = plan_is a.plan r.limits in
+    let plan = a.plan in
+    let limits = r.limits in
     let there = next_shown a v p c r.places low (open_is_next a p c opened) in
-    let y = run_steps.protocol_step p (job_shown c.job) (give_shown give) in
+    let y = run_steps.protocol_step p c.job give in
     shows r.now (begun_few a s first v p c r there)
-    ∙ (sym (seen_acts_are plan first v (run_steps.Do p) (give_shown give) y limits r.reached e (ap (steps_of_command p (give_shown give)) there))
-    ∙ ap (acts_of_step plan v (run_steps.Do p) (give_shown give)) (whose p c.job (give_shown give)))
+    ∙ (sym (seen_acts_are plan first v (Do p) give y limits r.reached e (ap (steps_of_command p give) there))
+    ∙ ap (acts_of_step plan v (Do p) give) (whose p c.job give))
 
-pub take_acts : (a : Agenda) (s : Whole) (p q : ℕ) (give : Give) (first : ℕ) (v : run_world.World) (told : List Act) → Mirrors a s first v → run_after.enabled (plan_shown a.plan) v (run_steps.Take p q) ≡ true →
-    (Shows s v.now → told ≡ seen_acts v.now (machine.Take p q give.able)) → told ≡ acts_of_step (plan_shown a.plan) v (run_steps.Take p q) (give_shown give) p
-take_acts a s p q give first v told r e shows = shows r.now ∙ sym (seen_acts_are (plan_shown a.plan) first v (run_steps.Take p q) (give_shown give) (machine.Take p q give.able) (plan_is a.plan r.limits) r.reached e refl)
+pub take_acts : (a : Agenda) (s : Whole) (p q : ℕ) (give : Give) (first : ℕ) (v : run_world.World) (told : List Act) → Mirrors a s first v → run_after.enabled a.plan v (Take p q) ≡ true →
+    (Shows s v.now → told ≡ seen_acts v.now (machine.Take p q give.able)) → told ≡ acts_of_step a.plan v (Take p q) give p
+take_acts a s p q give first v told r e shows = shows r.now ∙ sym (seen_acts_are a.plan first v (Take p q) give (machine.Take p q give.able) r.limits r.reached e refl)

@@ -2,7 +2,6 @@ pub mod Looks
 pub mod Defaults
 pub mod Leading
 pub mod RowsAdded
-pub mod ShownPlans
 pub mod Quiet
 pub mod Enabled
 pub mod Places

@@ -2,6 +2,7 @@
 use Rattle.std.specs.Prelude.{◌==◌, ◌&&◌, not, nat_lt, nat_le, if◌then◌else◌, Option, is_none, slice_get}
 use Rattle.std.specs.Option.{option_or, option_map_or}
 use Rattle.std.proofs.Common.{◌≡◌, ◌<◌, ℕ, Bool, true, false, Some, None, List, [], ◌∷◌, refl, sym, ap, subst, ◌∙◌}
+use Rattle.kt_plan.specs.Limits.{Planned}
 use Rattle.kt_base.specs.declared.words.Kind.{Kind}
 use Rattle.kt_base.specs.declared.words.Kind.TheVariants as kind
 use Rattle.kt_spacetime.specs.declared.event.Event.{Event}
@@ -25,7 +26,6 @@ use Rattle.kt_seen.specs.Messages.{AreMessagesBy}
 use Rattle.kt_system.specs.Systems.{person}
 use Rattle.kt_system.specs.Reads.{next_parcel, saves_by, would_save}
 use Rattle.kt_system.proofs.Replying.{ready_seen}
-use Rattle.kt_phases.specs.Plans as run
 use Rattle.kt_phases.specs.Looks as run_looks
 use Rattle.kt_promises.specs.World as run_world
 use Rattle.kt_promises.specs.Steps as run_steps
@@ -34,9 +34,8 @@ use Rattle.kt_promises.specs.Tallies.{has_parcel}
 use Rattle.kt_promises.proofs.PeopleKeep.{held_seen}
 use Rattle.kt_core.specs.Agendas.{open_command}
 use Rattle.kt_core.specs.Worlds.{World, may_do, can_do, enabled, look_of_job, look_of_step, look}
-use Rattle.kt_core.specs.Shown.{Mirrors, plan_shown, step_shown, job_shown, look_shown}
+use Rattle.kt_core.specs.Shown.{Mirrors}
 use Rattle.kt_core.proofs.Places.{next_shown}
-use Rattle.kt_core.proofs.ShownPlans.{plan_is}
 use Rattle.kt_core.proofs.Quiet.{closed_is}
 use Rattle.kt_core.proofs.Enabled.{few, below, enabled_is}
 use Rattle.kt_core.proofs.Leading.{open_is_next}
@@ -51,10 +50,10 @@ either_way true false = refl
 either_way false true = refl
 either_way false false = refl
 
-job_look : (x : Person) (y : SeenPerson) (j : Job) → IsSeenAs x y → IsNumbered (part_of x.side) → look_shown (look_of_job x j) ≡ run_looks.look_of_job (y.inst == 0) y.up (job_shown j)
+job_look : (x : Person) (y : SeenPerson) (j : Job) → IsSeenAs x y → IsNumbered (part_of x.side) → (look_of_job x j) ≡ run_looks.look_of_job (y.inst == 0) y.up j
 job_look x y (Send to None) h n = at_test x.up y.up h.up
   where
-    at_test : (a b : Bool) → a ≡ b → look_shown (if a then NeedsBody else Plain) ≡ (if b then run_looks.NeedsBody else run_looks.Plain)
+    at_test : (a b : Bool) → a ≡ b → (if a then NeedsBody else Plain) ≡ (if b then NeedsBody else Plain)
     at_test true true e = refl
     at_test true false e = absurd (cc (e))
     at_test false true e = absurd (cc (e))
@@ -62,7 +61,7 @@ job_look x y (Send to None) h n = at_test x.up y.up h.up
 job_look x y (Send to (Some body)) h n = refl
 job_look x y Checkpoint h n = at_tests x.up (is_none (inst_of x.side)) y.up (y.inst == 0) h.up (closed_is x y h n)
   where
-    at_tests : (a b c d : Bool) → a ≡ c → b ≡ d → look_shown (if a && b then NeedsSave else Plain) ≡ (if d && c then run_looks.NeedsSave else run_looks.Plain)
+    at_tests : (a b c d : Bool) → a ≡ c → b ≡ d → (if a && b then NeedsSave else Plain) ≡ (if d && c then NeedsSave else Plain)
     at_tests true true true true e f = refl
     at_tests true false true false e f = refl
     at_tests false true false true e f = refl
@@ -78,19 +77,19 @@ job_look x y Fail h n = refl
 
 -- an ask in front
 ask_look : (x : Person) (v : Seen) (p q k l : ℕ) (d : Kind) (rest : List Parcel) → IsSeenAs x (v.people p) → IsNumbered (part_of x.side) →
-    look_shown (if saves_by x q (Ask k d l) then NeedsSave else Plain) ≡ run_look.look_of_front v p q (Ask k d l ∷ rest)
+    (if saves_by x q (Ask k d l) then NeedsSave else Plain) ≡ run_look.look_of_front v p q (Ask k d l ∷ rest)
 ask_look x v p q k l kind.Rollback rest h n = at_tests ((v.people p).inst == 0) (must_take (v.people p).calls q l && (v.people p).up)
   where
-    at_tests : (a b : Bool) → run_looks.Plain ≡ (if (a && false) && b then run_looks.NeedsSave else run_looks.Plain)
+    at_tests : (a b : Bool) → Plain ≡ (if (a && false) && b then NeedsSave else Plain)
     at_tests true b = refl
     at_tests false b = refl
 ask_look x v p q k l kind.Checkpoint rest h n = at_tests (is_none (inst_of x.side)) x.up (standing.must_take x.tables q l) ((v.people p).inst == 0) (v.people p).up (must_take (v.people p).calls q l)
     (closed_is x (v.people p) h n) h.up (takes_is x.tables (v.people p).calls q l h.stands)
   where
-    at_tests : (a b c d e f : Bool) → a ≡ d → b ≡ e → c ≡ f → look_shown (if a && (b && (true && c)) then NeedsSave else Plain) ≡ (if (d && true) && (f && e) then run_looks.NeedsSave else run_looks.Plain)
-    at_tests a b c d e f x y z = same a b c ∙ λ i. if (x i && true) && (z i && y i) then run_looks.NeedsSave else run_looks.Plain
+    at_tests : (a b c d e f : Bool) → a ≡ d → b ≡ e → c ≡ f → (if a && (b && (true && c)) then NeedsSave else Plain) ≡ (if (d && true) && (f && e) then NeedsSave else Plain)
+    at_tests a b c d e f x y z = same a b c ∙ λ i. if (x i && true) && (z i && y i) then NeedsSave else Plain
       where
-        same : (a b c : Bool) → look_shown (if a && (b && (true && c)) then NeedsSave else Plain) ≡ (if (a && true) && (c && b) then run_looks.NeedsSave else run_looks.Plain)
+        same : (a b c : Bool) → (if a && (b && (true && c)) then NeedsSave else Plain) ≡ (if (a && true) && (c && b) then NeedsSave else Plain)
         same true true true = refl
         same true true false = refl
         same true false true = refl
@@ -98,7 +97,7 @@ ask_look x v p q k l kind.Checkpoint rest h n = at_tests (is_none (inst_of x.sid
         same false b c = refl
 
 -- what is in front
-front_look : (x : Person) (v : Seen) (p q : ℕ) (l : List Parcel) → IsSeenAs x (v.people p) → IsNumbered (part_of x.side) → look_shown (if option_map_or (saves_by x q) (slice_get l 0) false then NeedsSave else Plain) ≡ run_look.look_of_front v p q l
+front_look : (x : Person) (v : Seen) (p q : ℕ) (l : List Parcel) → IsSeenAs x (v.people p) → IsNumbered (part_of x.side) → (if option_map_or (saves_by x q) (slice_get l 0) false then NeedsSave else Plain) ≡ run_look.look_of_front v p q l
 front_look x v p q [] h n = refl
 front_look x v p q (App l m body ∷ rest) h n = refl
 front_look x v p q (Ask k d l ∷ rest) h n = ask_look x v p q k l d rest h n
@@ -106,7 +105,7 @@ front_look x v p q (Reply k w ∷ rest) h n = refl
 front_look x v p q (Decide k c ∷ rest) h n = refl
 
 -- what is held is a message
-held_look : (x : Person) (first : ℕ) (log : List Event) (q : ℕ) (y : Parcel) (ys : List Parcel) → AreMessagesBy first log q (y ∷ ys) → look_shown (if saves_by x q y then NeedsSave else Plain) ≡ run_looks.Plain
+held_look : (x : Person) (first : ℕ) (log : List Event) (q : ℕ) (y : Parcel) (ys : List Parcel) → AreMessagesBy first log q (y ∷ ys) → (if saves_by x q y then NeedsSave else Plain) ≡ Plain
 held_look x first log q (App l m body) ys h = refl
 held_look x first log q (Ask k d l) ys h = absurd h.0
 held_look x first log q (Reply k w) ys h = refl
@@ -114,27 +113,27 @@ held_look x first log q (Decide k c) ys h = refl
 
 -- what p would take of q
 parcel_look : (x : Person) (v : Seen) (first p q : ℕ) (r : Bool) (held sent : List Parcel) → is_ready x.side ≡ r → IsSeenAs x (v.people p) → IsNumbered (part_of x.side) → AreMessagesBy first v.log q held →
-    look_shown (if option_map_or (saves_by x q) (option_or (if r then None else slice_get held 0) (slice_get sent 0)) false then NeedsSave else Plain) ≡ (if not r && has_parcel held then run_looks.Plain else run_look.look_of_front v p q sent)
+    (if option_map_or (saves_by x q) (option_or (if r then None else slice_get held 0) (slice_get sent 0)) false then NeedsSave else Plain) ≡ (if not r && has_parcel held then Plain else run_look.look_of_front v p q sent)
 parcel_look x v first p q true held sent e h n m = front_look x v p q sent h n
 parcel_look x v first p q false [] sent e h n m = front_look x v p q sent h n
 parcel_look x v first p q false (y ∷ ys) sent e h n m = held_look x first v.log q y ys m
 
 module _ (w : World) (first : ℕ) (v : run_world.World) (r : Mirrors w.agenda w.system first v) where
-  abbrev pub plan : run.Plan
-  plan = plan_shown w.agenda.plan
+  abbrev pub plan : Planned
+  plan = w.agenda.plan
 
-  take_look : (p q : ℕ) → p < w.system.size → look_shown (if would_save w.system p q then NeedsSave else Plain) ≡ run_look.look_of_step plan v (step_shown (Take p q))
+  take_look : (p q : ℕ) → p < w.system.size → (if would_save w.system p q then NeedsSave else Plain) ≡ run_look.look_of_step plan v ((Take p q))
   unfolding next_parcel
   take_look p q l =
       parcel_look (person w.system p) v.now first p q (is_ready (person w.system p).side) (channel w.system.held q p) (channel w.system.wires q p) refl (r.now.people p l) (r.numbered p l)
-      (subst (λ (f : SeenLists). AreMessagesBy first v.now.log q (f q p)) (sym r.now.held) (held_seen plan first v (plan_is w.agenda.plan r.limits) r.reached q p))
-      ∙ λ i. if not (ready_seen (person w.system p) v.now p (r.now.people p l) (r.numbered p l) i) && has_parcel (r.now.held i q p) then run_looks.Plain else run_look.look_of_front v.now p q (r.now.wires i q p)
+      (subst (λ (f : SeenLists). AreMessagesBy first v.now.log q (f q p)) (sym r.now.held) (held_seen plan first v r.limits r.reached q p))
+      ∙ λ i. if not (ready_seen (person w.system p) v.now p (r.now.people p l) (r.numbered p l) i) && has_parcel (r.now.held i q p) then Plain else run_look.look_of_front v.now p q (r.now.wires i q p)
 
-  do_look : (p : ℕ) (c : Command) → p < w.system.size → open_command w.agenda p ≡ Some c → look_shown (look_of_step w (Do p)) ≡ run_look.look_of_step plan v (step_shown (Do p))
+  do_look : (p : ℕ) (c : Command) → p < w.system.size → open_command w.agenda p ≡ Some c → (look_of_step w (Do p)) ≡ run_look.look_of_step plan v ((Do p))
   do_look p c l e =
-      ap (λ (o : Option Command). look_shown (Rattle.kt_core.specs.Worlds.look_of_command (person w.system p) o)) e
+      ap (λ (o : Option Command). (Rattle.kt_core.specs.Worlds.look_of_command (person w.system p) o)) e
       ∙ (job_look (person w.system p) (v.now.people p) c.job (r.now.people p l) (r.numbered p l)
-      ∙ ap (λ (o : Option run.Command). run_look.look_of_command v p o) (sym (next_shown w.agenda v p c r.places (few w first v r p l) (open_is_next w.agenda p c e))))
+      ∙ ap (λ (o : Option Command). run_look.look_of_command v p o) (sym (next_shown w.agenda v p c r.places (few w first v r p l) (open_is_next w.agenda p c e))))
 
   some_if : (p : ℕ) (o : Option Command) → may_do (person w.system p) o ≡ true → (c : Command) × (o ≡ Some c)
   some_if p None e = absurd (cc (e))
@@ -145,14 +144,14 @@ module _ (w : World) (first : ℕ) (v : run_world.World) (r : Mirrors w.agenda w
   both true false e = absurd (cc (e))
   both false b e = absurd (cc (e))
 
-  step_look : (x : Step) → enabled w x ≡ true → look_shown (look_of_step w x) ≡ run_look.look_of_step plan v (step_shown x)
+  step_look : (x : Step) → enabled w x ≡ true → (look_of_step w x) ≡ run_look.look_of_step plan v x
   step_look (Do p) e = let t = both (nat_lt p w.system.size) (can_do w p) e in let s = some_if p (open_command w.agenda p) t.1 in do_look p s.0 (below p w.system.size t.0) s.1
   step_look (Take p q) e = take_look p q (below p w.system.size (both (nat_lt p w.system.size) _ e).0)
 
-  pub look_is : (x : Step) → look_shown (look w x) ≡ run_look.look plan v (step_shown x)
-  look_is x = at_test (enabled w x) refl (run_steps.enabled plan v (step_shown x)) (sym (enabled_is w first v r x))
+  pub look_is : (x : Step) → (look w x) ≡ run_look.look plan v x
+  look_is x = at_test (enabled w x) refl (run_steps.enabled plan v x) (sym (enabled_is w first v r x))
     where
-      at_test : (a : Bool) → enabled w x ≡ a → (b : Bool) → b ≡ enabled w x → look_shown (if a then look_of_step w x else Idle) ≡ (if b then run_look.look_of_step plan v (step_shown x) else run_looks.Idle)
+      at_test : (a : Bool) → enabled w x ≡ a → (b : Bool) → b ≡ enabled w x → (if a then look_of_step w x else Idle) ≡ (if b then run_look.look_of_step plan v x else Idle)
       at_test true e true f = step_look x e
       at_test true e false f = absurd (cc (e, f))
       at_test false e true f = absurd (cc (e, f))

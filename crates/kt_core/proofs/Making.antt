@@ -1,6 +1,7 @@
 -- What a step that is made means, by what it does to the runs that lead to its world.
 use Rattle.std.proofs.Common.{◌≡◌, ◌∙◌, ◌≤◌, ℕ, ℤ, true, false, Some, None, List, length, refl, sym, ap, subst}
 use Rattle.std.specs.Prelude.{slice_get}
+use Rattle.kt_plan.specs.Limits.{IsPlan, Planned}
 use Rattle.kt_spacetime.specs.declared.event.Event.{Event}
 use Rattle.kt_spacetime.specs.declared.event.Event.TheVariants.{Closed, Unwilling}
 use Rattle.kt_cuts.specs.Past.{past, is_rollback, is_committed}
@@ -12,7 +13,6 @@ use Rattle.kt_system.specs.ShownActs.{acts_shown}
 use Rattle.kt_values.specs.Done.{done}
 use Rattle.kt_values.specs.Values as values
 use Rattle.kt_values.specs.Values.{Rules, due, does_all, can_all, closing}
-use Rattle.kt_phases.specs.Plans as run_plans
 use Rattle.kt_phases.specs.Steps as run_steps
 use Rattle.kt_promises.specs.World as run_world
 use Rattle.kt_promises.specs.Steps.{enabled, world_after}
@@ -21,31 +21,30 @@ use Rattle.kt_promises.proofs.ActsOfSteps.{others_idle, abort_tells, values_lead
 use Rattle.kt_promises.proofs.DefaultSteps.{unwilling_seen}
 use Rattle.kt_promises.proofs.RunsEnd.{raised_seen}
 use Rattle.kt_core.specs.Making.{DiscardsAtAborts, LeadsToDue, LeadsRun, MakesStep}
-use Rattle.kt_core.specs.Shown.{Mirrors, IsReached, plan_shown, step_shown, give_shown}
+use Rattle.kt_core.specs.Shown.{Mirrors, IsReached}
 use Rattle.kt_core.specs.Worlds.{World, HasDone, Settles, refusal, stepper}
 use Rattle.kt_core.proofs.Enabled.{enabled_is, enabled_if}
-use Rattle.kt_core.proofs.ShownPlans.{plan_is}
 
-stepper_is : (s : Step) → run_steps.stepper (step_shown s) ≡ stepper s
+stepper_is : (s : Step) → run_steps.stepper s ≡ stepper s
 stepper_is (Do p) = refl
 stepper_is (Take at from) = refl
 
 -- one run, which the step leads on, and of which it asks these acts
 module _ (old new : World) (step : Step) (give : Give) (acts : List Act) (allowed : refusal old step ≡ None) (first : ℕ) (v : run_world.World)
     (r : Mirrors old.agenda old.system first v)
-    (next : Mirrors new.agenda new.system first (world_after (plan_shown old.agenda.plan) v (step_shown step) (give_shown give)))
-    (asks : acts_shown acts ≡ acts_of_step (plan_shown old.agenda.plan) v (step_shown step) (give_shown give) (stepper step)) where
-  abbrev plan : run_plans.Plan
-  plan = plan_shown old.agenda.plan
+    (next : Mirrors new.agenda new.system first (world_after old.agenda.plan v step give))
+    (asks : acts_shown acts ≡ acts_of_step old.agenda.plan v step give (stepper step)) where
+  abbrev plan : Planned
+  plan = old.agenda.plan
 
-  abbrev x : run_steps.Step
-  x = step_shown step
+  abbrev x : Step
+  x = step
 
-  abbrev g : run_steps.Give
-  g = give_shown give
+  abbrev g : Give
+  g = give
 
-  limits : run_plans.IsPlan plan
-  limits = plan_is old.agenda.plan r.limits
+  limits : IsPlan plan
+  limits = r.limits
 
   on : enabled plan v x ≡ true
   on = sym (enabled_is old first v r step) ∙ enabled_if old step allowed
@@ -93,9 +92,9 @@ module _ (old new : World) (step : Step) (give : Give) (acts : List Act) (allowe
 pub makes_step : (old new : World) (step : Step) (give : Give) (acts : List Act) → IsReached old.agenda old.system → refusal old step ≡ None
     → HasDone old.agenda new.agenda step → Settles old new
     → ((first : ℕ) (v : run_world.World) → Mirrors old.agenda old.system first v
-    → Mirrors new.agenda new.system first (world_after (plan_shown old.agenda.plan) v (step_shown step) (give_shown give)))
+    → Mirrors new.agenda new.system first (world_after old.agenda.plan v step give))
     → ((first : ℕ) (v : run_world.World) → Mirrors old.agenda old.system first v
-    → acts_shown acts ≡ acts_of_step (plan_shown old.agenda.plan) v (step_shown step) (give_shown give) (stepper step))
+    → acts_shown acts ≡ acts_of_step old.agenda.plan v step give (stepper step))
     → MakesStep old step give acts new
 makes_step old new step give acts reached allowed done settled leads asks =
     let first = reached.0 in

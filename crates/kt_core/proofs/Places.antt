@@ -3,16 +3,13 @@ use Rattle.std.specs.Prelude.{◌==◌, if◌then◌else◌, Option, option_map,
 use Rattle.std.proofs.Common.{◌≡◌, ◌≢◌, ◌<◌, ◌≤◌, ◌+◌, ℕ, zero, suc, Bool, true, false, Some, None, List, [], ◌∷◌, length, refl, sym, arith, ap, subst, ◌∙◌, inl, inr}
 use Rattle.std.proofs.lemmas.Bool.{cases_lt, cases_eq}
 use Rattle.std.proofs.lemmas.Bool.Decides.{nat_tests}
-use Rattle.std.proofs.lemmas.Option.{slice_get-map}
 use Rattle.kt_cuts.specs.Past.{at_one}
 use Rattle.kt_plan.specs.declared.commands.Command.{Command}
-use Rattle.kt_phases.specs.Plans as run
 use Rattle.kt_phases.specs.Order.{place_of_command}
 use Rattle.kt_phases.proofs.CommandPlaces.{place_get}
 use Rattle.kt_promises.specs.World as run_world
 use Rattle.kt_promises.specs.Order.{next_place}
 use Rattle.kt_core.specs.Agendas.{Agenda, place_of, next_command, IsNextOf, by_at}
-use Rattle.kt_core.specs.Shown.{command_shown, plan_shown}
 
 -- one command more in front
 later : (d : Command) (cs : List Command) (p i j : ℕ) → IsNextOf cs p i j → IsNextOf (d ∷ cs) p (suc i) (suc j)
@@ -47,33 +44,33 @@ alike : (a b : ℕ) → (a == b) ≡ true → a ≡ b
 alike a b e = grind (arith, nat_tests, e)
 
 -- the first command
-pub first_place : (p : ℕ) (cs : List Command) → IsNextOf cs p 0 (place_of_command 0 p (map command_shown cs))
+pub first_place : (p : ℕ) (cs : List Command) → IsNextOf cs p 0 (place_of_command 0 p cs)
 first_place p [] = record { from = omega arith; within = omega arith; none_before = λ m h k. absurd (omega (arith, k)); own = λ l. absurd (omega (arith, l)) }
 first_place p (d ∷ cs) = go (first_place p cs) (d.by == p) refl
   where
-    go : IsNextOf cs p 0 (place_of_command 0 p (map command_shown cs)) → (b : Bool) → (d.by == p) ≡ b → IsNextOf (d ∷ cs) p 0 (if b then 0 else suc (place_of_command 0 p (map command_shown cs)))
+    go : IsNextOf cs p 0 (place_of_command 0 p cs) → (b : Bool) → (d.by == p) ≡ b → IsNextOf (d ∷ cs) p 0 (if b then 0 else suc (place_of_command 0 p cs))
     go r true e = record { from = omega arith; within = omega arith; none_before = λ m h k. absurd (omega (arith, k)); own = λ l. alike d.by p e }
     go r false e = passed d cs p _ (unlike d.by p e) r
 
 -- the command after one
-pub following_place : (k p : ℕ) (cs : List Command) → place_of_command k p (map command_shown cs) < length cs →
-    IsNextOf cs p (suc (place_of_command k p (map command_shown cs))) (place_of_command (suc k) p (map command_shown cs))
+pub following_place : (k p : ℕ) (cs : List Command) → place_of_command k p cs < length cs →
+    IsNextOf cs p (suc (place_of_command k p cs)) (place_of_command (suc k) p cs)
 following_place zero p [] l = absurd (omega (arith, l))
 following_place (suc k) p [] l = absurd (omega (arith, l))
 following_place zero p (d ∷ cs) l = go (following_place zero p cs) (d.by == p) l
   where
-    go : (place_of_command 0 p (map command_shown cs) < length cs → IsNextOf cs p (suc (place_of_command 0 p (map command_shown cs))) (place_of_command 1 p (map command_shown cs))) → (b : Bool) →
-        (if b then 0 else suc (place_of_command 0 p (map command_shown cs))) < suc (length cs) →
-        IsNextOf (d ∷ cs) p (suc (if b then 0 else suc (place_of_command 0 p (map command_shown cs)))) (if b then suc (place_of_command 0 p (map command_shown cs)) else suc (place_of_command 1 p (map command_shown cs)))
+    go : (place_of_command 0 p cs < length cs → IsNextOf cs p (suc (place_of_command 0 p cs)) (place_of_command 1 p cs)) → (b : Bool) →
+        (if b then 0 else suc (place_of_command 0 p cs)) < suc (length cs) →
+        IsNextOf (d ∷ cs) p (suc (if b then 0 else suc (place_of_command 0 p cs))) (if b then suc (place_of_command 0 p cs) else suc (place_of_command 1 p cs))
     go r true l = later d cs p 0 _ (first_place p cs)
     go r false l = later d cs p _ _ (r (omega (arith, l)))
 following_place (suc k) p (d ∷ cs) l = go (following_place k p cs) (following_place (suc k) p cs) (d.by == p) l
   where
-    go : (place_of_command k p (map command_shown cs) < length cs → IsNextOf cs p (suc (place_of_command k p (map command_shown cs))) (place_of_command (suc k) p (map command_shown cs))) →
-        (place_of_command (suc k) p (map command_shown cs) < length cs → IsNextOf cs p (suc (place_of_command (suc k) p (map command_shown cs))) (place_of_command (suc (suc k)) p (map command_shown cs))) → (b : Bool) →
-        (if b then suc (place_of_command k p (map command_shown cs)) else suc (place_of_command (suc k) p (map command_shown cs))) < suc (length cs) →
-        IsNextOf (d ∷ cs) p (suc (if b then suc (place_of_command k p (map command_shown cs)) else suc (place_of_command (suc k) p (map command_shown cs))))
-        (if b then suc (place_of_command (suc k) p (map command_shown cs)) else suc (place_of_command (suc (suc k)) p (map command_shown cs)))
+    go : (place_of_command k p cs < length cs → IsNextOf cs p (suc (place_of_command k p cs)) (place_of_command (suc k) p cs)) →
+        (place_of_command (suc k) p cs < length cs → IsNextOf cs p (suc (place_of_command (suc k) p cs)) (place_of_command (suc (suc k)) p cs)) → (b : Bool) →
+        (if b then suc (place_of_command k p cs) else suc (place_of_command (suc k) p cs)) < suc (length cs) →
+        IsNextOf (d ∷ cs) p (suc (if b then suc (place_of_command k p cs) else suc (place_of_command (suc k) p cs)))
+        (if b then suc (place_of_command (suc k) p cs) else suc (place_of_command (suc (suc k)) p cs))
     go r t true l = later d cs p _ _ (r (omega (arith, l)))
     go r t false l = later d cs p _ _ (t (omega (arith, l)))
 
@@ -89,33 +86,24 @@ only_place cs p i j k a b = elim (cases_lt j k) [
 
 -- the places of an agenda are those of a world
 abbrev pub HasPlaces : Agenda → run_world.World → Type 0
-HasPlaces a v = (p : ℕ) → p < 64 → place_of a p ≡ next_place (plan_shown a.plan) v p
+HasPlaces a v = (p : ℕ) → p < 64 → place_of a p ≡ next_place a.plan v p
 
-pub next_is : (a : Agenda) (v : run_world.World) (p : ℕ) → HasPlaces a v → p < 64 → option_map command_shown (next_command a p) ≡ run_world.next_command (plan_shown a.plan) v p
-next_is a v p h low =
-    sym (slice_get-map command_shown a.plan.commands (place_of a p))
-    ∙ (ap (λ (i : ℕ). slice_get (map command_shown a.plan.commands) i) (h p low) ∙ place_get (v.done p) p (map command_shown a.plan.commands))
+pub next_is : (a : Agenda) (v : run_world.World) (p : ℕ) → HasPlaces a v → p < 64 → next_command a p ≡ run_world.next_command a.plan v p
+next_is a v p h low = ap (λ (i : ℕ). slice_get a.plan.commands i) (h p low) ∙ place_get (v.done p) p a.plan.commands
 
 -- the next command of a process, where the laws have one
-pub next_shown : (a : Agenda) (v : run_world.World) (p : ℕ) (c : Command) → HasPlaces a v → p < 64 → next_command a p ≡ Some c → run_world.next_command (plan_shown a.plan) v p ≡ Some (command_shown c)
-next_shown a v p c h low e = sym (next_is a v p h low) ∙ ap (option_map command_shown) e
-
-pub next_from : (a : Agenda) (v : run_world.World) (p : ℕ) (d : run.Command) → HasPlaces a v → p < 64 → run_world.next_command (plan_shown a.plan) v p ≡ Some d → (c : Command) × (next_command a p ≡ Some c) × (command_shown c ≡ d)
-next_from a v p d h low e = go (next_command a p) refl (next_is a v p h low ∙ e)
-  where
-    go : (o : Option Command) → next_command a p ≡ o → option_map command_shown o ≡ Some d → (c : Command) × (next_command a p ≡ Some c) × (command_shown c ≡ d)
-    go None n f = absurd (cc (f))
-    go (Some c) n f = (c, n, cc (f))
+pub next_shown : (a : Agenda) (v : run_world.World) (p : ℕ) (c : Command) → HasPlaces a v → p < 64 → next_command a p ≡ Some c → run_world.next_command a.plan v p ≡ Some c
+next_shown a v p c h low e = sym (next_is a v p h low) ∙ e
 
 -- at the start
 pub places_at_start : (a : Agenda) (v : run_world.World) → ((p : ℕ) → p < 64 → IsNextOf a.plan.commands p 0 (place_of a p)) → v.done ≡ (λ p. 0) → HasPlaces a v
-places_at_start a v n e p low = only_place a.plan.commands p 0 _ _ (n p low) (subst (λ (d : ℕ → ℕ). IsNextOf a.plan.commands p 0 (place_of_command (d p) p (map command_shown a.plan.commands))) (sym e) (first_place p a.plan.commands))
+places_at_start a v n e p low = only_place a.plan.commands p 0 _ _ (n p low) (subst (λ (d : ℕ → ℕ). IsNextOf a.plan.commands p 0 (place_of_command (d p) p a.plan.commands)) (sym e) (first_place p a.plan.commands))
 
 -- one command of p is done
 pub places_after : (a b : Agenda) (v w : run_world.World) (p : ℕ) → HasPlaces a v → p < 64 → b.plan ≡ a.plan → place_of a p < length a.plan.commands → IsNextOf a.plan.commands p (place_of a p + 1) (place_of b p) →
     ((q : ℕ) → q ≢ p → place_of b q ≡ place_of a q) → w.done ≡ at_one p (v.done p + 1) v.done → HasPlaces b w
 places_after a b v w p h low same l n others e q under = elim (cases_eq q p) [
-  | inl i ↦ subst (λ (z : ℕ). place_of b z ≡ next_place (plan_shown b.plan) w z) (sym i) here
+  | inl i ↦ subst (λ (z : ℕ). place_of b z ≡ next_place b.plan w z) (sym i) here
   | inr d ↦ others q d ∙ (h q under ∙ there d)
 ]
   where
@@ -128,22 +116,22 @@ places_after a b v w p h low same l n others e q under = elim (cases_eq q p) [
     done_there : q ≢ p → w.done q ≡ v.done q
     done_there d = ap (λ (f : ℕ → ℕ). f q) e ∙ grind (arith, nat_tests, d)
 
-    at_place : IsNextOf a.plan.commands p (suc (place_of a p)) (place_of_command (suc (v.done p)) p (map command_shown a.plan.commands))
-    at_place = subst (λ (i : ℕ). IsNextOf a.plan.commands p (suc i) (place_of_command (suc (v.done p)) p (map command_shown a.plan.commands))) (sym (h p low))
+    at_place : IsNextOf a.plan.commands p (suc (place_of a p)) (place_of_command (suc (v.done p)) p a.plan.commands)
+    at_place = subst (λ (i : ℕ). IsNextOf a.plan.commands p (suc i) (place_of_command (suc (v.done p)) p a.plan.commands)) (sym (h p low))
         (following_place (v.done p) p a.plan.commands (subst (λ (i : ℕ). i < length a.plan.commands) (h p low) l))
 
     one : (i : ℕ) → i + 1 ≡ suc i
     one i = omega arith
 
-    here : place_of b p ≡ place_of_command (w.done p) p (map command_shown b.plan.commands)
+    here : place_of b p ≡ place_of_command (w.done p) p b.plan.commands
     here = only_place a.plan.commands p (suc (place_of a p)) _ _ (subst (λ (i : ℕ). IsNextOf a.plan.commands p i (place_of b p)) (one (place_of a p)) n) at_place
-        ∙ (ap (λ (k : ℕ). place_of_command k p (map command_shown a.plan.commands)) (sym done_here) ∙ ap (λ (cs : List Command). place_of_command (w.done p) p (map command_shown cs)) (sym commands))
+        ∙ (ap (λ (k : ℕ). place_of_command k p a.plan.commands) (sym done_here) ∙ ap (λ (cs : List Command). place_of_command (w.done p) p cs) (sym commands))
 
-    there : q ≢ p → place_of_command (v.done q) q (map command_shown a.plan.commands) ≡ place_of_command (w.done q) q (map command_shown b.plan.commands)
-    there d = ap (λ (k : ℕ). place_of_command k q (map command_shown a.plan.commands)) (sym (done_there d)) ∙ ap (λ (cs : List Command). place_of_command (w.done q) q (map command_shown cs)) (sym commands)
+    there : q ≢ p → place_of_command (v.done q) q a.plan.commands ≡ place_of_command (w.done q) q b.plan.commands
+    there d = ap (λ (k : ℕ). place_of_command k q a.plan.commands) (sym (done_there d)) ∙ ap (λ (cs : List Command). place_of_command (w.done q) q cs) (sym commands)
 
 -- none is done
 pub places_same : (a b : Agenda) (v w : run_world.World) → HasPlaces a v → b.plan ≡ a.plan → b.next ≡ a.next → w.done ≡ v.done → HasPlaces b w
 places_same a b v w h same next e p low =
-    cc (next) ∙ (h p low ∙ (ap (λ (f : ℕ → ℕ). place_of_command (f p) p (map command_shown a.plan.commands)) (sym e)
-    ∙ ap (λ (cs : List Command). place_of_command (w.done p) p (map command_shown cs)) (sym (let k : b.plan.commands ≡ a.plan.commands = cc (same) in k))))
+    cc (next) ∙ (h p low ∙ (ap (λ (f : ℕ → ℕ). place_of_command (f p) p a.plan.commands) (sym e)
+    ∙ ap (λ (cs : List Command). place_of_command (w.done p) p cs) (sym (let k : b.plan.commands ≡ a.plan.commands = cc (same) in k))))

@@ -12,12 +12,11 @@ use Rattle.kt_seen.specs.Seen.{Seen, SeenPerson}
 use Rattle.kt_system.specs.Systems.{Whole}
 use Rattle.kt_promises.proofs.ReachedWorlds.{seen_of}
 use Rattle.kt_core.specs.Agendas.{Agenda}
-use Rattle.kt_core.specs.Shown.{IsReached, plan_shown}
-use Rattle.kt_core.proofs.ShownPlans.{plan_is}
+use Rattle.kt_core.specs.Shown.{IsReached}
 
 pub reached_log : (a : Agenda) (s : Whole) (P : List Event → Type 0) → ((n : ℕ) (steps : List Step) → P (late_run (opening n) steps).log) → IsReached a s → P s.rows.rows
 reached_log a s P law r = subst (λ (l : List Event). P l) (sym r.2.now.log)
-    (seen_of (plan_shown a.plan) r.0 r.1 (λ (v : Seen). P v.log) (plan_is a.plan r.2.limits) r.2.reached (λ steps. law (plan_shown a.plan).size steps))
+    (seen_of a.plan r.0 r.1 (λ (v : Seen). P v.log) r.2.limits r.2.reached (λ steps. law (length a.plan.names) steps))
 
 -- who is in no instance
 pub outside_is : (x : Person) (y : SeenPerson) → IsSeenAs x y → inst_of x.side ≡ None → y.inst ≡ 0

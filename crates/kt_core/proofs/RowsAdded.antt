@@ -7,16 +7,15 @@ use Rattle.kt_promises.specs.Rows.{AreRowsOfStep}
 use Rattle.kt_promises.specs.Steps as run_after
 use Rattle.kt_promises.specs.World as run_world
 use Rattle.kt_promises.proofs.RowsFit.{fits}
-use Rattle.kt_core.specs.Shown.{Mirrors, plan_shown, step_shown, give_shown}
+use Rattle.kt_core.specs.Shown.{Mirrors}
 use Rattle.kt_core.specs.Worlds.{World, refusal}
 use Rattle.kt_core.proofs.Enabled.{enabled_is, enabled_if}
-use Rattle.kt_core.proofs.ShownPlans.{plan_is}
 
 pub rows_fit : (old new : World) (first : ℕ) (v : run_world.World) (x : Step) (give : Give) → refusal old x ≡ None → Mirrors old.agenda old.system first v
-    → Mirrors new.agenda new.system first (run_after.world_after (plan_shown old.agenda.plan) v (step_shown x) (give_shown give))
-    → AreRowsOfStep (plan_shown old.agenda.plan) v (step_shown x) (give_shown give) (drop (length old.system.rows.rows) new.system.rows.rows)
+    → Mirrors new.agenda new.system first (run_after.world_after old.agenda.plan v x give)
+    → AreRowsOfStep old.agenda.plan v x give (drop (length old.system.rows.rows) new.system.rows.rows)
 rows_fit old new first v x give e r next =
-    let on : run_after.enabled (plan_shown old.agenda.plan) v (step_shown x) ≡ true = sym (enabled_is old first v r x) ∙ enabled_if old x e in
-    subst (λ (l : List Event). AreRowsOfStep (plan_shown old.agenda.plan) v (step_shown x) (give_shown give) l)
+    let on : run_after.enabled old.agenda.plan v x ≡ true = sym (enabled_is old first v r x) ∙ enabled_if old x e in
+    subst (λ (l : List Event). AreRowsOfStep old.agenda.plan v x give l)
     (ap (λ (l : List Event). drop (length v.now.log) l) (sym next.now.log) ∙ ap (λ (l : List Event). drop (length l) new.system.rows.rows) (sym r.now.log))
-    (fits (plan_shown old.agenda.plan) first v (step_shown x) (give_shown give) (plan_is old.agenda.plan r.limits) r.reached on).fit
+    (fits old.agenda.plan first v x give r.limits r.reached on).fit

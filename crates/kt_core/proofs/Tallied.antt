@@ -2,9 +2,12 @@
 use Rattle.std.specs.Prelude.{◌&&◌, ◌-◌, not, if◌then◌else◌, is_some, slice_get, count_by, take}
 use Rattle.std.proofs.Common.{◌≡◌, ◌<◌, ◌≤◌, ◌+◌, ℕ, zero, suc, Bool, true, false, None, List, [], ◌∷◌, length, cond, refl, sym, arith, ap, ◌∙◌, inl, inr}
 use Rattle.std.proofs.lemmas.Bool.{cases_lt}
-use Rattle.std.proofs.lemmas.List.{length-map, get_or_past}
+use Rattle.std.proofs.lemmas.List.{get_or_past}
 use Rattle.std.proofs.lemmas.List.Sums.{sum_by-cons}
 use Rattle.std.proofs.lemmas.Nat.{mul-le}
+use Rattle.kt_plan.specs.declared.steps.Step.TheVariants.{Take}
+use Rattle.kt_plan.specs.declared.steps.Step.{Step}
+use Rattle.kt_plan.specs.declared.commands.Command.{Command}
 use Rattle.kt_fifo.specs.Channels.{channel}
 use Rattle.kt_fifo.specs.declared.parcels.Parcel.{Parcel}
 use Rattle.kt_fifo.specs.declared.parcels.Parcel.TheVariants.{App, Ask, Reply, Decide}
@@ -18,15 +21,12 @@ use Rattle.kt_system.specs.Reads.{tally_of, no_tally}
 use Rattle.kt_system.specs.Shown.{Shows}
 use Rattle.kt_system.specs.Tallies as system
 use Rattle.kt_system.proofs.Replying.{ready_seen}
-use Rattle.kt_phases.specs.Plans as run_plans
-use Rattle.kt_phases.specs.Steps as run_steps
 use Rattle.kt_phases.specs.Work.{begins_instance, count_begins, total_below}
 use Rattle.kt_promises.specs.World as run_world
 use Rattle.kt_promises.specs.Tallies as run
 use Rattle.kt_promises.specs.Runs.{IsReachedWorld}
 use Rattle.kt_promises.proofs.RunsEnd.{few_begun, none_put, few_asks, few_replies, few_decisions}
-use Rattle.kt_core.specs.Shown.{command_shown, plan_shown, tally_shown}
-use Rattle.kt_core.proofs.ShownPlans.{plan_is}
+use Rattle.kt_core.specs.Shown.{tally_shown}
 use Rattle.kt_core.proofs.Quiet.{AreNumbered}
 
 -- two tests of parcels are one
@@ -70,7 +70,7 @@ module _ (f g : Parcel → Bool) (h : Same f g) where
   channels_are s v n e shows = (λ i. system.count_in_lists (e i) f (shows.wires i)) ∙ lists_are n v.channel
 
   -- what is taken off a channel
-  pub taken_is : (s : Whole) (v : Seen) (p q : ℕ) → Shows s v → AreNumbered s → p < s.size → count_by f (system.taken_off s p q) ≡ run.taken_off v (run_steps.Take p q) g
+  pub taken_is : (s : Whole) (v : Seen) (p q : ℕ) → Shows s v → AreNumbered s → p < s.size → count_by f (system.taken_off s p q) ≡ run.taken_off v (Take p q) g
   taken_is s v p q shows num l =
       at_lists (is_ready (person s p).side) (channel s.held q p) (channel s.wires q p)
       ∙ (ap (λ (b : Bool). if not b && run.has_parcel (channel s.held q p) then 0 else run.count_in_front g (channel s.wires q p)) (ready_seen (person s p) v p (shows.people p l) (num p l))
@@ -90,7 +90,7 @@ module _ (f g : Parcel → Bool) (h : Same f g) where
       at_lists false (x ∷ xs) sent = refl
 
   -- one count after a step
-  one_after : (s t : Whole) (v w : Seen) (n : ℕ) (x : run_steps.Step) (taken : List Parcel) (before after old new : ℕ) → s.size ≡ n → t.size ≡ n → Shows s v → Shows t w → count_by f taken ≡ run.taken_off v x g → before ≡ old →
+  one_after : (s t : Whole) (v w : Seen) (n : ℕ) (x : Step) (taken : List Parcel) (before after old new : ℕ) → s.size ≡ n → t.size ≡ n → Shows s v → Shows t w → count_by f taken ≡ run.taken_off v x g → before ≡ old →
       run.count_in_channels n g w.channel + run.taken_off v x g + old ≡ run.count_in_channels n g v.channel + new → new ≤ 4096 → system.CountsPut f taken s t before after → after ≡ new
   one_after s t v w n x taken before after old new e d a b off same raised few c =
       let i = channels_are s v n e a in
@@ -100,7 +100,7 @@ module _ (f g : Parcel → Bool) (h : Same f g) where
       let r = c.count (omega (arith, same, m, few)) in
       omega (arith, r, same, m)
 
-begins_few : (l : List run_plans.Command) → count_begins l ≤ length l
+begins_few : (l : List Command) → count_begins l ≤ length l
 begins_few [] = omega arith
 begins_few (c ∷ cs) = let i = begins_few cs in at_test (begins_instance c.job) i
   where
@@ -109,29 +109,28 @@ begins_few (c ∷ cs) = let i = begins_few cs in at_test (begins_instance c.job)
     at_test false i = omega (arith, i)
 
 -- what an instance puts is little, and nothing where there are not so many commands
-module _ (plan : Planned) (first : ℕ) (w : run_world.World) (i : IsPlan plan) (r : IsReachedWorld (plan_shown plan) first w) where
+module _ (plan : Planned) (first : ℕ) (w : run_world.World) (i : IsPlan plan) (r : IsReachedWorld plan first w) where
   asks_few : (k : ℕ) → w.put.asks k ≤ 4096
   asks_few k =
       let few = i.names.few in
-      let most = few_asks (plan_shown plan) first w (plan_is plan i) r k in
+      let most = few_asks plan first w i r k in
       let low = mul-le (length plan.names) (length plan.names - 1) 64 64 (omega (arith, few)) (omega (arith, few)) in
       omega (arith, most, low)
 
   replies_few : (k : ℕ) → w.put.replies k ≤ w.put.asks k
-  replies_few k = few_replies (plan_shown plan) first w (plan_is plan i) r k
+  replies_few k = few_replies plan first w i r k
 
   decisions_few : (k : ℕ) → w.put.decisions k ≤ w.put.asks k
-  decisions_few k = few_decisions (plan_shown plan) first w (plan_is plan i) r k
+  decisions_few k = few_decisions plan first w i r k
 
   none_past : (k : ℕ) → length plan.commands < k → w.put.asks k ≡ 0
   none_past k h =
-      let begun = few_begun (plan_shown plan) first w (plan_is plan i) r in
-      let few = begins_few (plan_shown plan).commands in
-      let same = length-map plan.commands command_shown in
-      none_put (plan_shown plan) first w (plan_is plan i) r k (omega (arith, begun, few, same, h))
+      let begun = few_begun plan first w i r in
+      let few = begins_few plan.commands in
+      none_put plan first w i r k (omega (arith, begun, few, h))
 
   -- the tallies after a step
-  pub tallies_lead : (s t : Whole) (v : run_world.World) (x : run_steps.Step) (taken : List Parcel) → s.size ≡ length plan.names → t.size ≡ length plan.names → Shows s v.now → Shows t w.now → length plan.commands ≤ length s.put →
+  pub tallies_lead : (s t : Whole) (v : run_world.World) (x : Step) (taken : List Parcel) → s.size ≡ length plan.names → t.size ≡ length plan.names → Shows s v.now → Shows t w.now → length plan.commands ≤ length s.put →
       ((f g : Parcel → Bool) → Same f g → count_by f taken ≡ run.taken_off v.now x g) → ((k : ℕ) → 0 < k → tally_of s k ≡ tally_shown v.put k) → run.IsRaised (length plan.names) v.now x w.now v.put w.put → system.TalliesPut taken s t →
       (k : ℕ) → 0 < k → tally_of t k ≡ tally_shown w.put k
   tallies_lead s t v x taken a b c d room off was raised counted k l = elim (cases_lt (length s.put) k) [

@@ -15,7 +15,7 @@ use Rattle.kt_promises.specs.Steps.{world_after}
 use Rattle.kt_promises.specs.StepActs.{acts_of_step}
 use Rattle.kt_promises.specs.Tallies.{IsRaised}
 use Rattle.kt_promises.specs.Unwilling.{IsUnwillingStep}
-use Rattle.kt_core.specs.Shown.{Mirrors, plan_shown, step_shown, give_shown}
+use Rattle.kt_core.specs.Shown.{Mirrors}
 use Rattle.kt_core.specs.Worlds.{World, HasDone, Settles, stepper}
 
 -- what is so whether a step is made or not: the plan, the limit and the number of processes stay; the log keeps its rows,
@@ -46,13 +46,13 @@ pub record LeadsToDue (rules : Rules (List ℤ)) (old : World) (step : Step) (ac
 -- step's process; the tallies rise by what it puts into channels; and where it adds an `unwilling` row, its process takes an
 -- ask of a member, and the cause holds
 pub record LeadsRun (old : World) (step : Step) (give : Give) (acts : List Act) (new : World) (first : ℕ) (v : run_world.World) : Type 0 where
-  pub leads : Mirrors new.agenda new.system first (world_after (plan_shown old.agenda.plan) v (step_shown step) (give_shown give))
-  pub asks : acts_shown acts ≡ acts_of_step (plan_shown old.agenda.plan) v (step_shown step) (give_shown give) (stepper step)
-  pub raised : IsRaised (plan_shown old.agenda.plan).size v.now (step_shown step)
-      (world_after (plan_shown old.agenda.plan) v (step_shown step) (give_shown give)).now
-      v.put (world_after (plan_shown old.agenda.plan) v (step_shown step) (give_shown give)).put
+  pub leads : Mirrors new.agenda new.system first (world_after old.agenda.plan v step give)
+  pub asks : acts_shown acts ≡ acts_of_step old.agenda.plan v step give (stepper step)
+  pub raised : IsRaised (length old.agenda.plan.names) v.now step
+      (world_after old.agenda.plan v step give).now
+      v.put (world_after old.agenda.plan v step give).put
   pub unwilling : (t p k : ℕ) (cause : Cause) → slice_get new.system.rows.rows t ≡ Some (Unwilling p k cause)
-      → length old.system.rows.rows ≤ t → IsUnwillingStep v (step_shown step) (give_shown give) t p k cause
+      → length old.system.rows.rows ≤ t → IsUnwillingStep v step give t p k cause
 
 -- a step leads from one world to another: its command is done, and the next phase opens where that is due; it makes this of
 -- each run; and by the log alone, an abort discards, and the acts lead to what is due

@@ -14,44 +14,11 @@ use Rattle.kt_system.specs.Systems.{Whole, person}
 use Rattle.kt_system.specs.declared.system.Tally.{Tally}
 use Rattle.kt_system.specs.Reads.{tally_of}
 use Rattle.kt_system.specs.Shown.{Shows}
-use Rattle.kt_phases.specs.Plans as run
-use Rattle.kt_phases.specs.Steps as run_steps
-use Rattle.kt_phases.specs.Looks as run_looks
 use Rattle.kt_promises.specs.World as run_world
 use Rattle.kt_promises.specs.Tallies as run_tallies
 use Rattle.kt_promises.specs.Order.{next_place}
 use Rattle.kt_promises.specs.Runs.{IsReachedWorld}
 use Rattle.kt_core.specs.Agendas.{Agenda, place_of, next_command}
-
--- what a command does
-abbrev pub job_shown : Job → run.Job
-job_shown (Send to body) = run.Send to body
-job_shown Checkpoint = run.Checkpoint
-job_shown Rollback = run.Rollback
-job_shown Fail = run.Fail
-
-abbrev pub command_shown : Command → run.Command
-command_shown c = record { by = c.by; phase = c.phase; job = job_shown c.job }
-
--- as many processes as there are names
-abbrev pub plan_shown : Planned → run.Plan
-plan_shown plan = record { size = length plan.names; commands = map command_shown plan.commands }
-
--- a step
-abbrev pub step_shown : Step → run_steps.Step
-step_shown (Do p) = run_steps.Do p
-step_shown (Take at from) = run_steps.Take at from
-
--- what an object gives
-abbrev pub give_shown : Give → run_steps.Give
-give_shown give = record { able = give.able; body = give.body }
-
--- what a step needs
-abbrev pub look_shown : Look → run_looks.Look
-look_shown Idle = run_looks.Idle
-look_shown NeedsSave = run_looks.NeedsSave
-look_shown NeedsBody = run_looks.NeedsBody
-look_shown Plain = run_looks.Plain
 
 -- what an instance has put into channels, by what its run has
 abbrev pub tally_shown : run_tallies.Tally → ℕ → Tally
@@ -64,9 +31,9 @@ pub record Mirrors (a : Agenda) (s : Whole) (first : ℕ) (v : run_world.World) 
   pub limits : IsPlan a.plan
   pub size : s.size ≡ length a.plan.names
   pub numbered : (p : ℕ) → p < s.size → IsNumbered (part_of (person s p).side)
-  pub reached : IsReachedWorld (plan_shown a.plan) first v
+  pub reached : IsReachedWorld a.plan first v
   pub now : Shows s v.now
-  pub places : (p : ℕ) → p < 64 → place_of a p ≡ next_place (plan_shown a.plan) v p
+  pub places : (p : ℕ) → p < 64 → place_of a p ≡ next_place a.plan v p
   pub phase : (p : ℕ) (c : Command) → p < 64 → next_command a p ≡ Some c → a.phase ≡ v.phase
   pub instances : length a.plan.commands ≤ length s.put
   pub put : (k : ℕ) → 0 < k → tally_of s k ≡ tally_shown v.put k

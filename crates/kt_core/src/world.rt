@@ -8,7 +8,7 @@ ghost use Rattle.kt_promises.specs.World as run_world;
 ghost use Rattle.kt_promises.specs.Headline.{IsPromised};
 ghost use Rattle.kt_promises.specs.Lines.{EachStandsOnce};
 ghost use Rattle.kt_core.specs.Worlds.{IsOpening};
-ghost use Rattle.kt_core.specs.Shown.{Mirrors, IsReached, plan_shown, tally_shown};
+ghost use Rattle.kt_core.specs.Shown.{Mirrors, IsReached, tally_shown};
 
 use crate::agenda::Agenda;
 use kt_base::{InstNo, Label, Memory, ProcNo, RowNo};
@@ -48,7 +48,7 @@ impl World {
     /// The world in which nothing of a plan is done: where each run of the plan starts.
     pub fn new(alloc: Global, plan: Plan) -> Result<World, Memory>
         ensures opening { IfOk result (λ w. IsOpening w plan 0 (2 ^ 24)) }
-        ensures starts { IfOk result (λ w. Mirrors w.agenda w.system 0 (start_world (plan_shown plan) 0)) }
+        ensures starts { IfOk result (λ w. Mirrors w.agenda w.system 0 (start_world plan 0)) }
     {
         World::make(alloc, plan, no_label(), MAX_ROWS)
     }
@@ -56,7 +56,7 @@ impl World {
     /// The world in which nothing of a plan is done, where each process's labels come after `used`.
     pub fn with_labels(alloc: Global, plan: Plan, used: Label) -> Result<World, Memory>
         ensures opening { IfOk result (λ w. IsOpening w plan used (2 ^ 24)) }
-        ensures starts { IfOk result (λ w. Mirrors w.agenda w.system used (start_world (plan_shown plan) used)) }
+        ensures starts { IfOk result (λ w. Mirrors w.agenda w.system used (start_world plan used)) }
     {
         World::make(alloc, plan, used, MAX_ROWS)
     }
@@ -64,7 +64,7 @@ impl World {
     /// The world in which nothing of a plan is done, whose log is full at so many rows.
     pub fn with_rows(alloc: Global, plan: Plan, limit: RowNo) -> Result<World, Memory>
         ensures opening { IfOk result (λ w. IsOpening w plan 0 limit) }
-        ensures starts { IfOk result (λ w. Mirrors w.agenda w.system 0 (start_world (plan_shown plan) 0)) }
+        ensures starts { IfOk result (λ w. Mirrors w.agenda w.system 0 (start_world plan 0)) }
     {
         World::make(alloc, plan, no_label(), limit.get() as usize)
     }
@@ -74,7 +74,7 @@ impl World {
     fn make(alloc: Global, plan: Plan, used: Label, limit: usize) -> Result<World, Memory>
         requires { limit ≤ 2 ^ 24 }
         ensures opening { IfOk result (λ w. IsOpening w plan used limit) }
-        ensures starts { IfOk result (λ w. Mirrors w.agenda w.system used (start_world (plan_shown plan) used)) }
+        ensures starts { IfOk result (λ w. Mirrors w.agenda w.system used (start_world plan used)) }
     {
         let size = plan.size();
         let system = System::new(alloc, size, used, plan.commands.len())?;

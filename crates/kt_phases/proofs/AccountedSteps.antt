@@ -20,9 +20,10 @@ use Rattle.kt_protocol.specs.Parcels.{Parcel, App, Ask, Reply, Decide, with_rest
 use Rattle.kt_protocol.specs.Replies.{unable_cause}
 use Rattle.kt_protocol.specs.States.{State, opening, is_ready, can_take}
 use Rattle.kt_protocol.specs.States as machine
-use Rattle.kt_phases.specs.Plans.{Command, Job, Plan}
-use Rattle.kt_phases.specs.Steps.{Give, body_sent, protocol_step}
-use Rattle.kt_phases.specs.Plans as job
+use Rattle.kt_plan.specs.declared.commands.Job.{Job}
+use Rattle.kt_plan.specs.declared.steps.Give.{Give}
+use Rattle.kt_phases.specs.Steps.{body_sent, protocol_step}
+use Rattle.kt_plan.specs.declared.commands.Job.TheVariants as job
 use Rattle.kt_phases.proofs.Totals.{length_push, under_way_with_parcel}
 use Rattle.kt_phases.proofs.StateFacts.{StateFacts}
 use Rattle.kt_phases.proofs.Accounts.{Accounted, after, enough, accounted_same, Low, settling_accounted, joining_checkpoint_accounted, joining_rollback_accounted, arrival_accounted, front_accounted}

@@ -1,5 +1,5 @@
 -- Where nothing is enabled, the plan is at rest.
-use Rattle.std.proofs.Common.{◌≡◌, ℕ, ◌≤◌, ◌<◌, Bool, true, false, List, [], ◌∷◌, refl, arith, ap, subst, ◌∙◌, Some}
+use Rattle.std.proofs.Common.{length, ◌≡◌, ℕ, ◌≤◌, ◌<◌, Bool, true, false, List, [], ◌∷◌, refl, arith, ap, subst, ◌∙◌, Some}
 use Rattle.std.specs.Prelude.{◌==◌, ◌&&◌, ◌||◌, not, nat_lt}
 use Rattle.std.proofs.lemmas.Bool.Decides.{nat_tests}
 use Rattle.kt_closing.proofs.WholeSteps.{once_closed_rest}
@@ -10,10 +10,15 @@ use Rattle.kt_protocol.specs.Deciding.{none_of}
 use Rattle.kt_protocol.specs.Parcels.{Parcel, has_parcel}
 use Rattle.kt_protocol.specs.States.{State, is_ready, can_take}
 use Rattle.kt_protocol.proofs.NeverStuck as stuck
-use Rattle.kt_phases.specs.Plans.{Command, Job, Plan, commands_of, first_command, has_command, has_phase, last_phase}
+use Rattle.kt_plan.specs.declared.commands.Command.{Command}
+use Rattle.kt_plan.specs.declared.commands.Job.{Job}
+use Rattle.kt_plan.specs.Limits.{Planned}
+use Rattle.kt_phases.specs.Plans.{commands_of, first_command, has_command, has_phase, last_phase}
 use Rattle.kt_phases.specs.Progress.{Progress, commands_left, is_phase_done, is_quiet, next_command}
-use Rattle.kt_phases.specs.Steps.{Do, Step, Take, enabled, is_at_rest, may_do, may_do_job}
-use Rattle.kt_phases.specs.Plans as job
+use Rattle.kt_plan.specs.declared.steps.Step.TheVariants.{Do, Take}
+use Rattle.kt_plan.specs.declared.steps.Step.{Step}
+use Rattle.kt_phases.specs.Steps.{enabled, is_at_rest, may_do, may_do_job}
+use Rattle.kt_plan.specs.declared.commands.Job.TheVariants as job
 use Rattle.kt_phases.proofs.PhaseOrder.{Ordered, up_to_last, up_to_of, up_to_drop, none_left, none_of_if, somebody}
 use Rattle.kt_phases.proofs.RunFacts.{RunFacts}
 use Rattle.kt_phases.proofs.StateFacts.{StateFacts, state_facts, can_take_same}
@@ -47,13 +52,13 @@ second true b e f = f
 second false b e f = absurd (cc (e))
 
 -- closed, and something of the phase is left
-may_do_first : (plan : Plan) (g : Progress) (p : ℕ) → Ordered plan.size p g.phase (commands_left plan g p) → g.state.so_far.open_in p ≡ 0 → has_phase g.phase (commands_left plan g p) ≡ true → enabled plan g (Do p) ≡ true
+may_do_first : (plan : Planned) (g : Progress) (p : ℕ) → Ordered (length plan.names) p g.phase (commands_left plan g p) → g.state.so_far.open_in p ≡ 0 → has_phase g.phase (commands_left plan g p) ≡ true → enabled plan g (Do p) ≡ true
 may_do_first plan g p o z h = go (commands_left plan g p) o h
   where
-    go : (l : List Command) → Ordered plan.size p g.phase l → has_phase g.phase l ≡ true → (nat_lt p plan.size && may_do g p (first_command l)) ≡ true
+    go : (l : List Command) → Ordered (length plan.names) p g.phase l → has_phase g.phase l ≡ true → (nat_lt p (length plan.names) && may_do g p (first_command l)) ≡ true
     go [] o h = absurd (cc (h))
-    go (c ∷ cs) o h = both (nat_lt p plan.size) (c.phase == g.phase && may_do_job (g.state.so_far.open_in p == 0) c.job) (low p plan.size o.0)
-        (both (c.phase == g.phase) (may_do_job (g.state.so_far.open_in p == 0) c.job) (first_in plan.size p g.phase c cs o h) (starts_closed c.job (g.state.so_far.open_in p == 0) (zero_is (g.state.so_far.open_in p) z)))
+    go (c ∷ cs) o h = both (nat_lt p (length plan.names)) (c.phase == g.phase && may_do_job (g.state.so_far.open_in p == 0) c.job) (low p (length plan.names) o.0)
+        (both (c.phase == g.phase) (may_do_job (g.state.so_far.open_in p == 0) c.job) (first_in (length plan.names) p g.phase c cs o h) (starts_closed c.job (g.state.so_far.open_in p == 0) (zero_is (g.state.so_far.open_in p) z)))
       where
         low : (a b : ℕ) → a < b → nat_lt a b ≡ true
         low a b h = grind (arith, nat_tests, h)
@@ -61,14 +66,14 @@ may_do_first plan g p o z h = go (commands_left plan g p) o h
         zero_is : (a : ℕ) → a ≡ 0 → (a == 0) ≡ true
         zero_is a e = grind (arith, nat_tests, e)
 
-pub state_rests : (plan : Plan) (g : Progress) → RunFacts plan g → ((p q : ℕ) → enabled plan g (Take p q) ≡ false) → IsAtRest g.state
+pub state_rests : (plan : Planned) (g : Progress) → RunFacts plan g → ((p q : ℕ) → enabled plan g (Take p q) ≡ false) → IsAtRest g.state
 state_rests plan g k n = subst IsAtRest (once_closed_rest g.state closed) rests
   where
-    r : StateFacts plan.size g.state
+    r : StateFacts (length plan.names) g.state
     r = state_facts plan g k
 
     takes : (p q : ℕ) → p < (once_closed g.state).processes → q < (once_closed g.state).processes → can_take (once_closed g.state) p q ≡ false
-    takes p q a b = can_take_same g.state p q ∙ second (nat_lt p plan.size && nat_lt q plan.size) (can_take g.state p q) (low p q plan.size g.state.processes r.processes a b) (n p q)
+    takes p q a b = can_take_same g.state p q ∙ second (nat_lt p (length plan.names) && nat_lt q (length plan.names)) (can_take g.state p q) (low p q (length plan.names) g.state.processes r.processes a b) (n p q)
       where
         low : (p q n m : ℕ) → m ≡ n → p < m → q < m → (nat_lt p n && nat_lt q n) ≡ true
         low p q n m e a b = grind (arith, nat_tests, e, a, b)
@@ -89,14 +94,14 @@ quiet_at_rest n s r = none_of_if n (λ p. not (s.so_far.open_in p == 0) || not (
     one p = let c = r.closed p in let e = none_of_if n (λ q. has_parcel (s.channel q p) || has_parcel (s.held q p)) (λ q _. empty (s.channel q p) (s.held q p) (r.no_parcel q p) (r.none_held q p)) in rw (c, e) refl
 
 -- all commands are done, and nothing is left of the protocol
-pub record Rests (plan : Plan) (g : Progress) : Type 0 where
+pub record Rests (plan : Planned) (g : Progress) : Type 0 where
   pub flag : is_at_rest plan g ≡ true
   pub none_left : (p : ℕ) → commands_left plan g p ≡ []
   pub machine : IsAtRest g.state
 
-pub rests : (plan : Plan) (g : Progress) → RunFacts plan g → ((x : Step) → enabled plan g x ≡ false) → Rests plan g
+pub rests : (plan : Planned) (g : Progress) → RunFacts plan g → ((x : Step) → enabled plan g x ≡ false) → Rests plan g
 rests plan g k n = record {
-  flag = both (none_of plan.size (λ p. has_command (commands_left plan g p))) (is_quiet plan.size g.state) (none_of_if plan.size (λ p. has_command (commands_left plan g p)) (λ p _. none p)) quiet;
+  flag = both (none_of (length plan.names) (λ p. has_command (commands_left plan g p))) (is_quiet (length plan.names) g.state) (none_of_if (length plan.names) (λ p. has_command (commands_left plan g p)) (λ p _. none p)) quiet;
   none_left = λ p. empty (commands_left plan g p) (none p);
   machine = m;
 }
@@ -104,8 +109,8 @@ rests plan g k n = record {
     m : IsAtRest g.state
     m = state_rests plan g k (λ p q. n (Take p q))
 
-    quiet : is_quiet plan.size g.state ≡ true
-    quiet = quiet_at_rest plan.size g.state m
+    quiet : is_quiet (length plan.names) g.state ≡ true
+    quiet = quiet_at_rest (length plan.names) g.state m
 
     unphased : (p : ℕ) → has_phase g.phase (commands_left plan g p) ≡ false
     unphased p = go (has_phase g.phase (commands_left plan g p)) refl
@@ -115,31 +120,31 @@ rests plan g k n = record {
         go true e = absurd (cc (may_do_first plan g p (k.ahead p) (m.closed p) e, n (Do p)))
 
     done : is_phase_done plan g ≡ true
-    done = none_of_if plan.size (λ p. has_phase g.phase (commands_left plan g p)) (λ p _. unphased p)
+    done = none_of_if (length plan.names) (λ p. has_phase g.phase (commands_left plan g p)) (λ p _. unphased p)
 
     no_later : last_phase plan.commands ≤ g.phase
-    no_later = go g.phase (last_phase plan.commands) (second (is_quiet plan.size g.state) _ quiet (second (is_phase_done plan g) _ done k.shut))
+    no_later = go g.phase (last_phase plan.commands) (second (is_quiet (length plan.names) g.state) _ quiet (second (is_phase_done plan g) _ done k.shut))
       where
         go : (x y : ℕ) → nat_lt x y ≡ false → y ≤ x
         go x y e = grind (arith, nat_tests, e)
 
     none : (p : ℕ) → has_command (commands_left plan g p) ≡ false
-    none p = none_left plan.size p g.phase (last_phase plan.commands) (commands_left plan g p) (k.ahead p) (up_to_drop (last_phase plan.commands) (g.done p) (commands_of p plan.commands) (up_to_of (last_phase plan.commands) p plan.commands (up_to_last plan.commands))) no_later (unphased p)
+    none p = none_left (length plan.names) p g.phase (last_phase plan.commands) (commands_left plan g p) (k.ahead p) (up_to_drop (last_phase plan.commands) (g.done p) (commands_of p plan.commands) (up_to_of (last_phase plan.commands) p plan.commands (up_to_last plan.commands))) no_later (unphased p)
 
     empty : (l : List Command) → has_command l ≡ false → l ≡ []
     empty [] e = refl
     empty (c ∷ cs) e = absurd (cc (e))
 
 -- and the other way round
-pub idle_at_rest : (plan : Plan) (g : Progress) → is_at_rest plan g ≡ true → (x : Step) → enabled plan g x ≡ false
-idle_at_rest plan g r (Do p) = go (nat_lt p plan.size) refl
+pub idle_at_rest : (plan : Planned) (g : Progress) → is_at_rest plan g ≡ true → (x : Step) → enabled plan g x ≡ false
+idle_at_rest plan g r (Do p) = go (nat_lt p (length plan.names)) refl
   where
     no_command : (l : List Command) → has_command l ≡ false → may_do g p (first_command l) ≡ false
     no_command [] e = refl
     no_command (c ∷ cs) e = absurd (cc (e))
 
-    none : nat_lt p plan.size ≡ true → may_do g p (first_command (commands_left plan g p)) ≡ false
-    none b = no_command (commands_left plan g p) (none_is plan.size (λ p. has_command (commands_left plan g p)) (front_of (none_of plan.size (λ p. has_command (commands_left plan g p))) _ r) p (low p plan.size b))
+    none : nat_lt p (length plan.names) ≡ true → may_do g p (first_command (commands_left plan g p)) ≡ false
+    none b = no_command (commands_left plan g p) (none_is (length plan.names) (λ p. has_command (commands_left plan g p)) (front_of (none_of (length plan.names) (λ p. has_command (commands_left plan g p))) _ r) p (low p (length plan.names) b))
       where
         low : (a b : ℕ) → nat_lt a b ≡ true → a < b
         low a b h = grind (arith, nat_tests, h)
@@ -148,17 +153,17 @@ idle_at_rest plan g r (Do p) = go (nat_lt p plan.size) refl
         front_of true b e = refl
         front_of false b e = absurd (cc (e))
 
-    go : (b : Bool) → nat_lt p plan.size ≡ b → (b && may_do g p (first_command (commands_left plan g p))) ≡ false
+    go : (b : Bool) → nat_lt p (length plan.names) ≡ b → (b && may_do g p (first_command (commands_left plan g p))) ≡ false
     go true e = none e
     go false e = refl
-idle_at_rest plan g r (Take p q) = go (nat_lt p plan.size) (nat_lt q plan.size) refl refl
+idle_at_rest plan g r (Take p q) = go (nat_lt p (length plan.names)) (nat_lt q (length plan.names)) refl refl
   where
     back_of : (a b : Bool) → (a && b) ≡ true → b ≡ true
     back_of true b e = e
     back_of false b e = absurd (cc (e))
 
-    quiet : is_quiet plan.size g.state ≡ true
-    quiet = back_of (none_of plan.size (λ p. has_command (commands_left plan g p))) _ r
+    quiet : is_quiet (length plan.names) g.state ≡ true
+    quiet = back_of (none_of (length plan.names) (λ p. has_command (commands_left plan g p))) _ r
 
     low : (a b : ℕ) → nat_lt a b ≡ true → a < b
     low a b h = grind (arith, nat_tests, h)
@@ -174,28 +179,28 @@ idle_at_rest plan g r (Take p q) = go (nat_lt p plan.size) (nat_lt q plan.size) 
     empty false false true e = refl
     empty false false false e = refl
 
-    none : p < plan.size → q < plan.size → can_take g.state p q ≡ false
+    none : p < (length plan.names) → q < (length plan.names) → can_take g.state p q ≡ false
     none a b = empty (has_parcel (g.state.channel q p)) (has_parcel (g.state.held q p)) (is_ready g.state p)
-        (none_is plan.size (λ q. has_parcel (g.state.channel q p) || has_parcel (g.state.held q p)) (shut (not (g.state.so_far.open_in p == 0)) _ (none_is plan.size (λ p. not (g.state.so_far.open_in p == 0) || not (none_of plan.size (λ q. has_parcel (g.state.channel q p) || has_parcel (g.state.held q p)))) quiet p a)) q b)
+        (none_is (length plan.names) (λ q. has_parcel (g.state.channel q p) || has_parcel (g.state.held q p)) (shut (not (g.state.so_far.open_in p == 0)) _ (none_is (length plan.names) (λ p. not (g.state.so_far.open_in p == 0) || not (none_of (length plan.names) (λ q. has_parcel (g.state.channel q p) || has_parcel (g.state.held q p)))) quiet p a)) q b)
 
-    go : (a b : Bool) → nat_lt p plan.size ≡ a → nat_lt q plan.size ≡ b → ((a && b) && can_take g.state p q) ≡ false
-    go true true e f = none (low p plan.size e) (low q plan.size f)
+    go : (a b : Bool) → nat_lt p (length plan.names) ≡ a → nat_lt q (length plan.names) ≡ b → ((a && b) && can_take g.state p q) ≡ false
+    go true true e f = none (low p (length plan.names) e) (low q (length plan.names) f)
     go true false e f = refl
     go false b e f = refl
 
 -- where all is quiet and a command is left, somebody's next one is of the open phase
-pub attained : (plan : Plan) (g : Progress) (p : ℕ) (c : Command) → RunFacts plan g → is_quiet plan.size g.state ≡ true → next_command plan g p ≡ Some c →
-    (q : ℕ) × (d : Command) × (q < plan.size) × (next_command plan g q ≡ Some d) × (d.phase ≡ g.phase)
+pub attained : (plan : Planned) (g : Progress) (p : ℕ) (c : Command) → RunFacts plan g → is_quiet (length plan.names) g.state ≡ true → next_command plan g p ≡ Some c →
+    (q : ℕ) × (d : Command) × (q < (length plan.names)) × (next_command plan g q ≡ Some d) × (d.phase ≡ g.phase)
 attained plan g p c k quiet e = go (is_phase_done plan g) refl
   where
     open_in : ℕ → Bool
     open_in q = has_phase g.phase (commands_left plan g q)
 
-    found : (q : ℕ) → q < plan.size → (cs : List Command) → commands_left plan g q ≡ cs → has_phase g.phase cs ≡ true → (q : ℕ) × (d : Command) × (q < plan.size) × (next_command plan g q ≡ Some d) × (d.phase ≡ g.phase)
+    found : (q : ℕ) → q < (length plan.names) → (cs : List Command) → commands_left plan g q ≡ cs → has_phase g.phase cs ≡ true → (q : ℕ) × (d : Command) × (q < (length plan.names)) × (next_command plan g q ≡ Some d) × (d.phase ≡ g.phase)
     found q low [] is h = absurd (cc (h))
-    found q low (d ∷ ds) is h = (q, d, low, ap first_command is, (let t = first_in plan.size q g.phase d ds (subst (λ (x : List Command). Ordered plan.size q g.phase x) is (k.ahead q)) h in grind (arith, nat_tests, t)))
+    found q low (d ∷ ds) is h = (q, d, low, ap first_command is, (let t = first_in (length plan.names) q g.phase d ds (subst (λ (x : List Command). Ordered (length plan.names) q g.phase x) is (k.ahead q)) h in grind (arith, nat_tests, t)))
 
-    low : (cs : List Command) → first_command cs ≡ Some c → Ordered plan.size p g.phase cs → p < plan.size
+    low : (cs : List Command) → first_command cs ≡ Some c → Ordered (length plan.names) p g.phase cs → p < (length plan.names)
     low [] f o = absurd (cc (f))
     low (x ∷ xs) f o = o.0
 
@@ -206,9 +211,9 @@ attained plan g p c k quiet e = go (is_phase_done plan g) refl
     left [] f h = cc (f)
     left (x ∷ xs) f h = cc (h)
 
-    go : (b : Bool) → is_phase_done plan g ≡ b → (q : ℕ) × (d : Command) × (q < plan.size) × (next_command plan g q ≡ Some d) × (d.phase ≡ g.phase)
-    go false done = let s = somebody plan.size open_in done in found s.0 s.1 (commands_left plan g s.0) refl s.2
+    go : (b : Bool) → is_phase_done plan g ≡ b → (q : ℕ) × (d : Command) × (q < (length plan.names)) × (next_command plan g q ≡ Some d) × (d.phase ≡ g.phase)
+    go false done = let s = somebody (length plan.names) open_in done in found s.0 s.1 (commands_left plan g s.0) refl s.2
     go true done =
-        let shut = second (is_quiet plan.size g.state) (nat_lt g.phase (last_phase plan.commands)) quiet (second (is_phase_done plan g) _ done k.shut) in
-        let none = none_left plan.size p g.phase (last_phase plan.commands) (commands_left plan g p) (k.ahead p) (up_to_drop (last_phase plan.commands) (g.done p) (commands_of p plan.commands) (up_to_of (last_phase plan.commands) p plan.commands (up_to_last plan.commands))) (late g.phase (last_phase plan.commands) shut) (none_is plan.size open_in done p (low (commands_left plan g p) e (k.ahead p))) in
+        let shut = second (is_quiet (length plan.names) g.state) (nat_lt g.phase (last_phase plan.commands)) quiet (second (is_phase_done plan g) _ done k.shut) in
+        let none = none_left (length plan.names) p g.phase (last_phase plan.commands) (commands_left plan g p) (k.ahead p) (up_to_drop (last_phase plan.commands) (g.done p) (commands_of p plan.commands) (up_to_of (last_phase plan.commands) p plan.commands (up_to_last plan.commands))) (late g.phase (last_phase plan.commands) shut) (none_is (length plan.names) open_in done p (low (commands_left plan g p) e (k.ahead p))) in
         absurd (left (commands_left plan g p) e none)

@@ -1,5 +1,5 @@
 -- Where an object can be saved, a tentative checkpoint is taken exactly where the step asks whether it can.
-use Rattle.std.proofs.Common.{◌≡◌, inl, inr, ℕ, ℤ, ◌+◌, ◌<◌, Bool, true, false, List, [], ◌∷◌, ◌++◌, refl, arith, sym, ap, ◌∙◌, Some, None}
+use Rattle.std.proofs.Common.{length, ◌≡◌, inl, inr, ℕ, ℤ, ◌+◌, ◌<◌, Bool, true, false, List, [], ◌∷◌, ◌++◌, refl, arith, sym, ap, ◌∙◌, Some, None}
 use Rattle.std.specs.Prelude.{◌==◌, ◌&&◌, not, nat_lt, if◌then◌else◌, Option}
 use Rattle.std.proofs.lemmas.Bool.Decides.{nat_tests}
 use Rattle.kt_spacetime.specs.declared.event.Event.{Event}
@@ -16,12 +16,18 @@ use Rattle.kt_protocol.specs.Parcels.{Parcel, App, Ask, Reply, Decide, Lists, wi
 use Rattle.kt_protocol.specs.Replies.{after_noting, after_replying, after_reply, unable_cause}
 use Rattle.kt_protocol.specs.States.{State, is_ready}
 use Rattle.kt_protocol.specs.States as machine
-use Rattle.kt_phases.specs.Looks.{Idle, Look, NeedsSave, Plain, look, look_of_command, look_of_front, look_of_job, look_of_step, uses_able}
-use Rattle.kt_phases.specs.Plans.{Command, Job, Plan}
+use Rattle.kt_plan.specs.declared.steps.Look.TheVariants.{Idle, NeedsSave, Plain}
+use Rattle.kt_plan.specs.declared.steps.Look.{Look}
+use Rattle.kt_phases.specs.Looks.{look, look_of_command, look_of_front, look_of_job, look_of_step, uses_able}
+use Rattle.kt_plan.specs.declared.commands.Command.{Command}
+use Rattle.kt_plan.specs.declared.commands.Job.{Job}
+use Rattle.kt_plan.specs.Limits.{Planned}
 use Rattle.kt_phases.specs.Progress.{Progress, next_command}
 use Rattle.kt_phases.specs.Rows.{AreDecidingRows, AreRowsOfCommand, TakesCheckpointWhereAsked, has_took_row, refusal_cause}
-use Rattle.kt_phases.specs.Steps.{Do, Step, Take, after_command, after_plan_step, enabled, may_do}
-use Rattle.kt_phases.specs.Plans as job
+use Rattle.kt_plan.specs.declared.steps.Step.TheVariants.{Do, Take}
+use Rattle.kt_plan.specs.declared.steps.Step.{Step}
+use Rattle.kt_phases.specs.Steps.{after_command, after_plan_step, enabled, may_do}
+use Rattle.kt_plan.specs.declared.commands.Job.TheVariants as job
 use Rattle.kt_phases.proofs.RunFacts.{RunFacts, opened_command, opened_take}
 use Rattle.kt_phases.proofs.StateFacts.{StateFacts, state_facts}
 use Rattle.kt_phases.proofs.RowsAdded.{Adds, stays, more, closing_log, settling_adds}
@@ -113,18 +119,18 @@ take_took n s p q r = go (is_ready s p) (s.held q p)
     go false (Reply k w ∷ rest) = stays NoneTook s s refl refl
     go false (Decide k c ∷ rest) = stays NoneTook s s refl refl
 
-pub seen_on : (plan : Plan) (g : Progress) (x : Step) → enabled plan g x ≡ true → look plan g x ≡ look_of_step plan g x
+pub seen_on : (plan : Planned) (g : Progress) (x : Step) → enabled plan g x ≡ true → look plan g x ≡ look_of_step plan g x
 seen_on plan g x e = go (enabled plan g x) e
   where
     go : (b : Bool) → b ≡ true → (if b then look_of_step plan g x else Idle) ≡ look_of_step plan g x
     go true e = refl
     go false e = absurd (cc (e))
 
-took : (plan : Plan) (g : Progress) (x : Step) (body : ℤ) → RunFacts plan g → enabled plan g x ≡ true → (rows : List Event) × ((after_plan_step plan g x (record { able = true; body = body })).state.log ≡ g.state.log ++ rows) × (has_took_row rows ≡ uses_able (look_of_step plan g x))
+took : (plan : Planned) (g : Progress) (x : Step) (body : ℤ) → RunFacts plan g → enabled plan g x ≡ true → (rows : List Event) × ((after_plan_step plan g x (record { able = true; body = body })).state.log ≡ g.state.log ++ rows) × (has_took_row rows ≡ uses_able (look_of_step plan g x))
 took plan g (Do p) body k b = go (next_command plan g p) refl b
   where
-    go : (o : Option Command) → next_command plan g p ≡ o → (nat_lt p plan.size && may_do g p o) ≡ true → (rows : List Event) × ((after_command plan g p (record { able = true; body = body }) o).state.log ≡ g.state.log ++ rows) × (has_took_row rows ≡ uses_able (look_of_command g p o))
-    go None e f = absurd (none (nat_lt p plan.size) f)
+    go : (o : Option Command) → next_command plan g p ≡ o → (nat_lt p (length plan.names) && may_do g p o) ≡ true → (rows : List Event) × ((after_command plan g p (record { able = true; body = body }) o).state.log ≡ g.state.log ++ rows) × (has_took_row rows ≡ uses_able (look_of_command g p o))
+    go None e f = absurd (none (nat_lt p (length plan.names)) f)
       where
         none : (b : Bool) → (b && false) ≡ true → ⊥
         none true e = cc (e)
@@ -136,8 +142,8 @@ took plan g (Do p) body k b = go (next_command plan g p) refl b
         (a.rows, ap (λ (s : State). s.log) s.state ∙ a.log, do_took g.state p (g.state.instances + 1) c.job body a.rows a.fit)
 took plan g (Take p q) body k b =
     let s = opened_take plan g p q (record { able = true; body = body }) k in
-    let a = take_took plan.size g.state p q (state_facts plan g k) in
+    let a = take_took (length plan.names) g.state p q (state_facts plan g k) in
     (a.rows, ap (λ (s : State). s.log) s.state ∙ a.log, a.fit)
 
-pub takes_checkpoint_where_asked : (plan : Plan) (g : Progress) (x : Step) (body : ℤ) → RunFacts plan g → enabled plan g x ≡ true → TakesCheckpointWhereAsked plan g x (record { able = true; body = body })
+pub takes_checkpoint_where_asked : (plan : Planned) (g : Progress) (x : Step) (body : ℤ) → RunFacts plan g → enabled plan g x ≡ true → TakesCheckpointWhereAsked plan g x (record { able = true; body = body })
 takes_checkpoint_where_asked plan g x body k e = let t = took plan g x body k e in (t.0, t.1, t.2 ∙ ap uses_able (sym (seen_on plan g x e)))

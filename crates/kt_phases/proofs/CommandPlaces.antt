@@ -4,7 +4,8 @@ use Rattle.std.specs.Prelude.{◌==◌, if◌then◌else◌, slice_get}
 use Rattle.kt_protocol.proofs.Choices.{same}
 use Rattle.kt_protocol.proofs.Updates.{is_same}
 use Rattle.kt_phases.specs.Order.{place_of_command}
-use Rattle.kt_phases.specs.Plans.{Command, commands_of, first_command}
+use Rattle.kt_plan.specs.declared.commands.Command.{Command}
+use Rattle.kt_phases.specs.Plans.{commands_of, first_command}
 
 -- the command at i is the one of p after k others
 pub record IsAt (k p : ℕ) (l : List Command) (c : Command) (i : ℕ) : Type 0 where

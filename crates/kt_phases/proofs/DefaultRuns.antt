@@ -4,10 +4,12 @@ use Rattle.std.specs.Prelude.{◌*◌, ◌-◌, Option}
 use Rattle.std.proofs.lemmas.Nat.{mul-le}
 use Rattle.kt_spacetime.specs.declared.event.Event.{Event}
 use Rattle.kt_phases.specs.Defaults.{default_step}
-use Rattle.kt_phases.specs.Plans.{IsPlan, Plan}
+use Rattle.kt_plan.specs.Limits.{IsPlan, Planned}
 use Rattle.kt_phases.specs.Progress.{Progress, start}
 use Rattle.kt_phases.specs.Runs.{IsReached, after_defaults, next_default}
-use Rattle.kt_phases.specs.Steps.{Give, Step, after_plan_step, enabled, is_at_rest}
+use Rattle.kt_plan.specs.declared.steps.Give.{Give}
+use Rattle.kt_plan.specs.declared.steps.Step.{Step}
+use Rattle.kt_phases.specs.Steps.{after_plan_step, enabled, is_at_rest}
 use Rattle.kt_phases.specs.Work.{most_steps, work_left}
 use Rattle.kt_phases.proofs.RunFacts.{run_facts}
 use Rattle.kt_phases.proofs.AtRest.{rests}
@@ -20,11 +22,11 @@ length_append : {X : Type 0} (l m : List X) → length l ≤ length (l ++ m)
 length_append [] m = omega arith
 length_append (x ∷ l) m = let e = length_append l m in omega (arith, e)
 
-log_grows : (plan : Plan) (g : Progress) (x : Step) (give : Give) → IsPlan plan → IsReached plan g → enabled plan g x ≡ true → length g.state.log ≤ length (after_plan_step plan g x give).state.log
+log_grows : (plan : Planned) (g : Progress) (x : Step) (give : Give) → IsPlan plan → IsReached plan g → enabled plan g x ≡ true → length g.state.log ≤ length (after_plan_step plan g x give).state.log
 log_grows plan g x give i r e = let a = adds plan g x give (run_facts plan g i r) e in let b = ap (λ (l : List Event). length l) a.log in let c = length_append g.state.log a.rows in omega (arith, b, c)
 
 -- the run goes on, and its log grows
-pub defaults_run : (n : ℕ) (plan : Plan) (give : Progress → Step → Give) (g : Progress) → IsPlan plan → IsReached plan g → IsReached plan (after_defaults n plan give g) × (length g.state.log ≤ length (after_defaults n plan give g).state.log)
+pub defaults_run : (n : ℕ) (plan : Planned) (give : Progress → Step → Give) (g : Progress) → IsPlan plan → IsReached plan g → IsReached plan (after_defaults n plan give g) × (length g.state.log ≤ length (after_defaults n plan give g).state.log)
 defaults_run zero plan give g i r = (r, omega arith)
 defaults_run (suc n) plan give g i r = go (λ x b. defaults_run n plan give (after_plan_step plan g x (give g x)) i (next_reached plan g x (give g x) r b)) (default_step plan g) refl
   where
@@ -33,7 +35,7 @@ defaults_run (suc n) plan give g i r = go (λ x b. defaults_run n plan give (aft
     go h None e = (r, omega arith)
     go h (Some x) e = let b = (some_is plan g x e).on in let a = h x b in (a.0, (let u = log_grows plan g x (give g x) i r b in let v = a.1 in omega (arith, u, v)))
 
-pub defaults_rest : (n : ℕ) (plan : Plan) (rows : ℕ) (give : Progress → Step → Give) (g : Progress) → IsPlan plan → IsReached plan g → length (after_defaults n plan give g).state.log ≤ rows → work_left rows plan g < n → is_at_rest plan (after_defaults n plan give g) ≡ true
+pub defaults_rest : (n : ℕ) (plan : Planned) (rows : ℕ) (give : Progress → Step → Give) (g : Progress) → IsPlan plan → IsReached plan g → length (after_defaults n plan give g).state.log ≤ rows → work_left rows plan g < n → is_at_rest plan (after_defaults n plan give g) ≡ true
 defaults_rest zero plan rows give g i r l w = absurd (omega (arith, w))
 defaults_rest (suc n) plan rows give g i r l w = go (λ x b l' w'. defaults_rest n plan rows give (after_plan_step plan g x (give g x)) i (next_reached plan g x (give g x) r b) l' w') (default_step plan g) refl l
   where
@@ -47,15 +49,15 @@ defaults_rest (suc n) plan rows give g i r l w = go (λ x b l' w'. defaults_rest
         h x b l (omega (arith, f, w))
 
 -- what there is to do at first
-work_at_start : (plan : Plan) (rows : ℕ) → IsPlan plan → work_left rows plan (start plan) ≤ most_steps plan rows
+work_at_start : (plan : Planned) (rows : ℕ) → IsPlan plan → work_left rows plan (start plan) ≤ most_steps plan rows
 work_at_start plan rows i = let a = count_at_start plan i in let b = none_under_way_at_start plan i in omega (arith, a, b)
 
-pub start_rests : (n : ℕ) (plan : Plan) (rows : ℕ) (give : Progress → Step → Give) → IsPlan plan → length (after_defaults n plan give (start plan)).state.log ≤ rows → most_steps plan rows < n → is_at_rest plan (after_defaults n plan give (start plan)) ≡ true
+pub start_rests : (n : ℕ) (plan : Planned) (rows : ℕ) (give : Progress → Step → Give) → IsPlan plan → length (after_defaults n plan give (start plan)).state.log ≤ rows → most_steps plan rows < n → is_at_rest plan (after_defaults n plan give (start plan)) ≡ true
 start_rests n plan rows give i l w = defaults_rest n plan rows give (start plan) i (start_reached plan) l (let a = work_at_start plan rows i in omega (arith, a, w))
 
 -- for 64 processes, 4,096 commands and 2^24 rows
-pub limits : (plan : Plan) (rows : ℕ) → plan.size ≤ 64 → length plan.commands ≤ 4096 → rows ≤ 16777216 → most_steps plan rows < 67108864
+pub limits : (plan : Planned) (rows : ℕ) → (length plan.names) ≤ 64 → length plan.commands ≤ 4096 → rows ≤ 16777216 → most_steps plan rows < 67108864
 limits plan rows a b c =
-    let s = mul-le plan.size (plan.size - 1) 64 63 a (omega (arith, a)) in
-    let t = mul-le (length plan.commands + 1) (3 * (plan.size * (plan.size - 1))) 4097 12096 (omega (arith, b)) (omega (arith, s)) in
+    let s = mul-le (length plan.names) ((length plan.names) - 1) 64 63 a (omega (arith, a)) in
+    let t = mul-le (length plan.commands + 1) (3 * ((length plan.names) * ((length plan.names) - 1))) 4097 12096 (omega (arith, b)) (omega (arith, s)) in
     omega (arith, b, c, t)

@@ -6,17 +6,21 @@ use Rattle.std.proofs.lemmas.Bool.Decides.{nat_tests}
 use Rattle.kt_protocol.specs.States.{can_take}
 use Rattle.kt_phases.specs.Defaults.{default_step, is_turn, is_turn_of, least_below, least_sender, step_at, step_of_command, take_or_command}
 use Rattle.kt_phases.specs.Order.{comes_before, next_place}
-use Rattle.kt_phases.specs.Plans.{Command, Plan, commands_of}
+use Rattle.kt_plan.specs.declared.commands.Command.{Command}
+use Rattle.kt_plan.specs.Limits.{Planned}
+use Rattle.kt_phases.specs.Plans.{commands_of}
 use Rattle.kt_phases.specs.Progress.{Progress, next_command}
-use Rattle.kt_phases.specs.Steps.{Do, Step, Take, enabled, may_do}
+use Rattle.kt_plan.specs.declared.steps.Step.TheVariants.{Do, Take}
+use Rattle.kt_plan.specs.declared.steps.Step.{Step}
+use Rattle.kt_phases.specs.Steps.{enabled, may_do}
 use Rattle.kt_phases.proofs.LeastBelow.{IsLeast, LeastIs, least_is, not_before}
 use Rattle.kt_phases.proofs.CommandPlaces.{IsAt, at_place, place_is}
 
-pub record IsDefault (plan : Plan) (g : Progress) (x : Step) : Type 0 where
+pub record IsDefault (plan : Planned) (g : Progress) (x : Step) : Type 0 where
   pub on : enabled plan g x ≡ true
   pub first : (y : Step) → enabled plan g y ≡ true → (x ≡ y) ⊎ (comes_before plan g x y ≡ true)
 
-abbrev pub DefaultIs : Plan → Progress → Option Step → Type 0
+abbrev pub DefaultIs : Planned → Progress → Option Step → Type 0
 DefaultIs plan g None = (y : Step) → enabled plan g y ≡ false
 DefaultIs plan g (Some x) = IsDefault plan g x
 
@@ -24,13 +28,13 @@ not_on : (b : Bool) → (b ≡ true → ⊥) → b ≡ false
 not_on true h = absurd (h refl)
 not_on false h = refl
 
-module _ (plan : Plan) (g : Progress) where
+module _ (plan : Planned) (g : Progress) where
   -- a command that may be done is at its place
   at_next : (p : ℕ) → enabled plan g (Do p) ≡ true → (c : Command) × IsAt (g.done p) p plan.commands c (next_place plan g p)
   at_next p e = go (next_command plan g p) refl e
     where
-      go : (o : Option Command) → next_command plan g p ≡ o → (nat_lt p plan.size && may_do g p o) ≡ true → (c : Command) × IsAt (g.done p) p plan.commands c (next_place plan g p)
-      go None n e = absurd (none (nat_lt p plan.size) e)
+      go : (o : Option Command) → next_command plan g p ≡ o → (nat_lt p (length plan.names) && may_do g p o) ≡ true → (c : Command) × IsAt (g.done p) p plan.commands c (next_place plan g p)
+      go None n e = absurd (none (nat_lt p (length plan.names)) e)
         where
           none : (b : Bool) → (b && false) ≡ true → ⊥
           none true e = cc (e)
@@ -68,8 +72,8 @@ module _ (plan : Plan) (g : Progress) where
           record { command = c; there = s; on = t.1; next = place_is (g.done c.by) c.by plan.commands c i s refl t.0 }
 
   -- takes
-  low : (p q : ℕ) → enabled plan g (Take p q) ≡ true → (p < plan.size) × (q < plan.size)
-  low p q e = tests p q plan.size (can_take g.state p q) e
+  low : (p q : ℕ) → enabled plan g (Take p q) ≡ true → (p < (length plan.names)) × (q < (length plan.names))
+  low p q e = tests p q (length plan.names) (can_take g.state p q) e
     where
       tests : (p q n : ℕ) (c : Bool) → ((nat_lt p n && nat_lt q n) && c) ≡ true → (p < n) × (q < n)
       tests p q n c e = grind (arith, nat_tests, e)
@@ -78,15 +82,15 @@ module _ (plan : Plan) (g : Progress) where
   takes p = is_some (least_sender plan g p)
 
   takes_at : (p q : ℕ) → enabled plan g (Take p q) ≡ true → takes p ≡ true
-  takes_at p q e = go (least_sender plan g p) (least_is plan.size (λ q. enabled plan g (Take p q)))
+  takes_at p q e = go (least_sender plan g p) (least_is (length plan.names) (λ q. enabled plan g (Take p q)))
     where
-      go : (o : Option ℕ) → LeastIs plan.size (λ q. enabled plan g (Take p q)) o → is_some o ≡ true
+      go : (o : Option ℕ) → LeastIs (length plan.names) (λ q. enabled plan g (Take p q)) o → is_some o ≡ true
       go None h = absurd (let x = h q (low p q e).1 in cc (e, x))
       go (Some i) h = refl
 
   -- the default take of p
-  take_default : (p : ℕ) → IsLeast plan.size takes p → DefaultIs plan g (option_map (λ q. Take p q) (least_sender plan g p))
-  take_default p h = go (least_sender plan g p) h.passes (least_is plan.size (λ q. enabled plan g (Take p q)))
+  take_default : (p : ℕ) → IsLeast (length plan.names) takes p → DefaultIs plan g (option_map (λ q. Take p q) (least_sender plan g p))
+  take_default p h = go (least_sender plan g p) h.passes (least_is (length plan.names) (λ q. enabled plan g (Take p q)))
     where
       before : (p q u v : ℕ) → p ≤ u → (p ≡ u → q ≤ v) → (Take p q ≡ Take u v) ⊎ ((nat_lt p u || (p == u && nat_lt q v)) ≡ true)
       before p q u v a b = elim (cases_eq p u) [
@@ -100,16 +104,16 @@ module _ (plan : Plan) (g : Progress) where
           less : (p u : ℕ) (b : Bool) → p ≤ u → p ≢ u → (nat_lt p u || (p == u && b)) ≡ true
           less p u b a e = grind (arith, nat_tests, a, e)
 
-      go : (o : Option ℕ) → is_some o ≡ true → LeastIs plan.size (λ q. enabled plan g (Take p q)) o → DefaultIs plan g (option_map (λ q. Take p q) o)
+      go : (o : Option ℕ) → is_some o ≡ true → LeastIs (length plan.names) (λ q. enabled plan g (Take p q)) o → DefaultIs plan g (option_map (λ q. Take p q) o)
       go None s l = absurd (cc (s))
       go (Some q) s l = record { on = l.passes; first = first }
         where
           first : (y : Step) → enabled plan g y ≡ true → (Take p q ≡ y) ⊎ (comes_before plan g (Take p q) y ≡ true)
           first (Do u) e = inr refl
-          first (Take u v) e = before p q u v (not_before plan.size takes p u h (takes_at u v e)) (λ i. not_before plan.size (λ q. enabled plan g (Take p q)) q v l (let e' : enabled plan g (Take p v) ≡ true = rw i e in e'))
+          first (Take u v) e = before p q u v (not_before (length plan.names) takes p u h (takes_at u v e)) (λ i. not_before (length plan.names) (λ q. enabled plan g (Take p q)) q v l (let e' : enabled plan g (Take p v) ≡ true = rw i e in e'))
 
   -- the default command, where nothing can be taken
-  do_default : ((p : ℕ) → p < plan.size → takes p ≡ false) → DefaultIs plan g (step_at plan (least_below (length plan.commands) (λ i. is_turn plan g i)))
+  do_default : ((p : ℕ) → p < (length plan.names) → takes p ≡ false) → DefaultIs plan g (step_at plan (least_below (length plan.commands) (λ i. is_turn plan g i)))
   do_default n = go (least_below (length plan.commands) (λ i. is_turn plan g i)) (least_is (length plan.commands) (λ i. is_turn plan g i))
     where
       no_take : (p q : ℕ) → enabled plan g (Take p q) ≡ true → ⊥
@@ -146,9 +150,9 @@ module _ (plan : Plan) (g : Progress) where
       go (Some i) h = let t = turn_is i h.passes in subst (λ (o : Option Command). DefaultIs plan g (step_of_command o)) (sym t.there) (at i h t)
 
   pub default_is : DefaultIs plan g (default_step plan g)
-  default_is = go (least_below plan.size takes) (least_is plan.size takes)
+  default_is = go (least_below (length plan.names) takes) (least_is (length plan.names) takes)
     where
-      go : (o : Option ℕ) → LeastIs plan.size takes o → DefaultIs plan g (take_or_command plan g o)
+      go : (o : Option ℕ) → LeastIs (length plan.names) takes o → DefaultIs plan g (take_or_command plan g o)
       go (Some p) h = take_default p h
       go None h = do_default h
 

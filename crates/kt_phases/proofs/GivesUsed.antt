@@ -10,11 +10,18 @@ use Rattle.kt_protocol.specs.Parcels.{Parcel, App, Ask, Reply, Decide, has_parce
 use Rattle.kt_protocol.specs.Replies.{unable_cause}
 use Rattle.kt_protocol.specs.States.{State, is_ready}
 use Rattle.kt_protocol.specs.States as machine
-use Rattle.kt_phases.specs.Looks.{Idle, Look, NeedsBody, NeedsSave, Plain, look, look_of_command, look_of_front, look_of_job, look_of_step, uses_able, uses_body}
-use Rattle.kt_phases.specs.Plans.{Command, Job, Plan}
+use Rattle.kt_plan.specs.declared.steps.Look.TheVariants.{Idle, NeedsBody, NeedsSave, Plain}
+use Rattle.kt_plan.specs.declared.steps.Look.{Look}
+use Rattle.kt_phases.specs.Looks.{look, look_of_command, look_of_front, look_of_job, look_of_step, uses_able, uses_body}
+use Rattle.kt_plan.specs.declared.commands.Command.{Command}
+use Rattle.kt_plan.specs.declared.commands.Job.{Job}
+use Rattle.kt_plan.specs.Limits.{Planned}
 use Rattle.kt_phases.specs.Progress.{Progress, next_command, with_phases_open}
-use Rattle.kt_phases.specs.Steps.{Do, Give, Step, Take, after_command, after_plan_step, enabled, protocol_step}
-use Rattle.kt_phases.specs.Plans as job
+use Rattle.kt_plan.specs.declared.steps.Step.TheVariants.{Do, Take}
+use Rattle.kt_plan.specs.declared.steps.Give.{Give}
+use Rattle.kt_plan.specs.declared.steps.Step.{Step}
+use Rattle.kt_phases.specs.Steps.{after_command, after_plan_step, enabled, protocol_step}
+use Rattle.kt_plan.specs.declared.commands.Job.TheVariants as job
 use Rattle.kt_phases.proofs.RunFacts.{bare_command}
 
 -- two gives agree where it counts
@@ -79,7 +86,7 @@ take_same s p q a b h = go (is_ready s p) (s.held q p) h
     go false (Reply k w ∷ rest) h = refl
     go false (Decide k c ∷ rest) h = refl
 
-same_step : (plan : Plan) (g : Progress) (x : Step) (a b : Give) → Agree (look_of_step plan g x) a b → after_plan_step plan g x a ≡ after_plan_step plan g x b
+same_step : (plan : Planned) (g : Progress) (x : Step) (a b : Give) → Agree (look_of_step plan g x) a b → after_plan_step plan g x a ≡ after_plan_step plan g x b
 same_step plan g (Do p) a b e = go (next_command plan g p) e
   where
     go : (o : Option Command) → Agree (look_of_command g p o) a b → after_command plan g p a o ≡ after_command plan g p b o
@@ -87,7 +94,7 @@ same_step plan g (Do p) a b e = go (next_command plan g p) e
     go (Some c) e = ap (λ (s : State). with_phases_open plan (record (bare_command g p a c) { state = s })) (job_same g.state p c.job a b e)
 same_step plan g (Take p q) a b e = ap (λ (s : State). with_phases_open plan (record g { state = s })) (take_same g.state p q a.able b.able e.able)
 
-pub gives_same : (plan : Plan) (g : Progress) (x : Step) (a b : Give) → enabled plan g x ≡ true → (uses_able (look plan g x) ≡ true → a.able ≡ b.able) → (uses_body (look plan g x) ≡ true → a.body ≡ b.body) → after_plan_step plan g x a ≡ after_plan_step plan g x b
+pub gives_same : (plan : Planned) (g : Progress) (x : Step) (a b : Give) → enabled plan g x ≡ true → (uses_able (look plan g x) ≡ true → a.able ≡ b.able) → (uses_body (look plan g x) ≡ true → a.body ≡ b.body) → after_plan_step plan g x a ≡ after_plan_step plan g x b
 gives_same plan g x a b e h i = same_step plan g x a b (record { able = λ u. h (carry uses_able u); body = λ u. i (carry uses_body u) })
   where
     carry : (f : Look → Bool) → f (look_of_step plan g x) ≡ true → f (look plan g x) ≡ true

@@ -9,12 +9,18 @@ use Rattle.kt_protocol.proofs.Choices.{at_if}
 use Rattle.kt_protocol.proofs.Sums.{total_none, total_same}
 use Rattle.kt_protocol.proofs.Updates.{is_same, is_other}
 use Rattle.kt_protocol.specs.States.{State}
-use Rattle.kt_phases.specs.Plans.{Command, IsPlan, Job, Plan, commands_of}
+use Rattle.kt_plan.specs.declared.commands.Command.{Command}
+use Rattle.kt_plan.specs.Limits.{IsPlan, Planned}
+use Rattle.kt_plan.specs.declared.commands.Job.{Job}
+use Rattle.kt_phases.specs.Plans.{commands_of}
 use Rattle.kt_phases.specs.Progress.{Progress, commands_left, next_command, start, with_phases_open}
 use Rattle.kt_phases.specs.Runs.{IsReached}
-use Rattle.kt_phases.specs.Steps.{Do, Give, Step, Take, after_command, after_plan_step, enabled, may_do, protocol_step}
+use Rattle.kt_plan.specs.declared.steps.Step.TheVariants.{Do, Take}
+use Rattle.kt_plan.specs.declared.steps.Give.{Give}
+use Rattle.kt_plan.specs.declared.steps.Step.{Step}
+use Rattle.kt_phases.specs.Steps.{after_command, after_plan_step, enabled, may_do, protocol_step}
 use Rattle.kt_phases.specs.Work.{begins_instance, count_begins, count_left, total_below}
-use Rattle.kt_phases.specs.Plans as job
+use Rattle.kt_plan.specs.declared.commands.Job.TheVariants as job
 use Rattle.kt_phases.proofs.PhaseOrder.{Ordered}
 use Rattle.kt_phases.proofs.PhasesOpen.{Opened}
 use Rattle.kt_phases.proofs.RunFacts.{RunFacts, facts_at_start, facts_after, bare_command, bare_take, opened_command, opened_take, after_front, left_next, moves_keep}
@@ -25,8 +31,8 @@ use Rattle.kt_phases.proofs.Totals.{spike, bit}
 use Rattle.kt_phases.proofs.AccountedSteps.{job_accounted}
 use Rattle.kt_phases.proofs.StepBounds.{falls, less_left, nothing, opened_start, count_at_start}
 
-pub begins_left : Plan → Progress → ℕ
-begins_left plan g = total_below plan.size (λ p. count_begins (commands_left plan g p))
+pub begins_left : Planned → Progress → ℕ
+begins_left plan g = total_below (length plan.names) (λ p. count_begins (commands_left plan g p))
 
 each_begins : (n : ℕ) (l : List Command) → total_below n (λ p. count_begins (commands_of p l)) ≤ count_begins l
 each_begins n [] = let e = nothing n in omega (arith, e)
@@ -51,20 +57,20 @@ job_begins n k s p job.Checkpoint give b h = (job_accounted n k s p job.Checkpoi
 job_begins n k s p job.Rollback give b h = (job_accounted n k s p job.Rollback give b h).instances
 job_begins n k s p job.Fail give b h = at_if (λ (t : State). t.instances ≤ s.instances + 0) (s.up p) _ _ (λ _. omega arith) (λ _. omega arith)
 
-pub record Begun (plan : Plan) (g : Progress) : Type 0 where
+pub record Begun (plan : Planned) (g : Progress) : Type 0 where
   pub run_facts : RunFacts plan g
   pub few : g.state.instances + count_left plan g ≤ length plan.commands
   pub begun : g.state.instances + begins_left plan g ≤ count_begins plan.commands
 
-begun_opened : (plan : Plan) (g g' : Progress) → Opened plan g g' → g.state.instances + begins_left plan g ≤ count_begins plan.commands → g'.state.instances + begins_left plan g' ≤ count_begins plan.commands
+begun_opened : (plan : Planned) (g g' : Progress) → Opened plan g g' → g.state.instances + begins_left plan g ≤ count_begins plan.commands → g'.state.instances + begins_left plan g' ≤ count_begins plan.commands
 unfolding begins_left
-begun_opened plan g g' s h = let a = ap (λ (d : ℕ → ℕ). total_below plan.size (λ p. count_begins (drop (d p) (commands_of p plan.commands)))) s.done in let b = ap (λ (t : State). t.instances) s.state in omega (arith, h, a, b)
+begun_opened plan g g' s h = let a = ap (λ (d : ℕ → ℕ). total_below (length plan.names) (λ p. count_begins (drop (d p) (commands_of p plan.commands)))) s.done in let b = ap (λ (t : State). t.instances) s.state in omega (arith, h, a, b)
 
-less_begins : (plan : Plan) (g : Progress) (p : ℕ) (give : Give) (c : Command) → p < plan.size → next_command plan g p ≡ Some c → begins_left plan g ≡ begins_left plan (bare_command g p give c) + bit (begins_instance c.job)
+less_begins : (plan : Planned) (g : Progress) (p : ℕ) (give : Give) (c : Command) → p < (length plan.names) → next_command plan g p ≡ Some c → begins_left plan g ≡ begins_left plan (bare_command g p give c) + bit (begins_instance c.job)
 unfolding begins_left
 less_begins plan g p give c l e =
-    totals.total_same plan.size (λ v. count_begins (commands_left plan g v)) (λ v. count_begins (commands_left plan (bare_command g p give c) v) + spike p (bit (begins_instance c.job)) v) one ∙
-    (totals.total_add plan.size (λ v. count_begins (commands_left plan (bare_command g p give c) v)) (spike p (bit (begins_instance c.job))) ∙ ap (λ (y : ℕ). total_below plan.size (λ v. count_begins (commands_left plan (bare_command g p give c) v)) + y) (totals.total_spike plan.size p (bit (begins_instance c.job)) l))
+    totals.total_same (length plan.names) (λ v. count_begins (commands_left plan g v)) (λ v. count_begins (commands_left plan (bare_command g p give c) v) + spike p (bit (begins_instance c.job)) v) one ∙
+    (totals.total_add (length plan.names) (λ v. count_begins (commands_left plan (bare_command g p give c) v)) (spike p (bit (begins_instance c.job))) ∙ ap (λ (y : ℕ). total_below (length plan.names) (λ v. count_begins (commands_left plan (bare_command g p give c) v)) + y) (totals.total_spike (length plan.names) p (bit (begins_instance c.job)) l))
   where
     x : (cs : List Command) × (commands_left plan g p ≡ c ∷ cs)
     x = after_front plan g p c e
@@ -78,48 +84,48 @@ less_begins plan g p give c l e =
       | inr d ↦ (let s = is_other v p d in rw s (omega arith))
     ]
 
-begun_after : (plan : Plan) (g : Progress) (x : Step) (give : Give) → Begun plan g → enabled plan g x ≡ true → Begun plan (after_plan_step plan g x give)
+begun_after : (plan : Planned) (g : Progress) (x : Step) (give : Give) → Begun plan g → enabled plan g x ≡ true → Begun plan (after_plan_step plan g x give)
 unfolding begins_left
 begun_after plan g x give b e = record { run_facts = facts_after plan g x give b.run_facts; few = (let f = (falls plan g x give b.run_facts b.few e).begun in let h = b.few in omega (arith, f, h)); begun = go x e }
   where
     go : (x : Step) → enabled plan g x ≡ true → (after_plan_step plan g x give).state.instances + begins_left plan (after_plan_step plan g x give) ≤ count_begins plan.commands
     go (Do p) e = at (next_command plan g p) refl e
       where
-        at : (o : Option Command) → next_command plan g p ≡ o → (nat_lt p plan.size && may_do g p o) ≡ true → (after_command plan g p give o).state.instances + begins_left plan (after_command plan g p give o) ≤ count_begins plan.commands
+        at : (o : Option Command) → next_command plan g p ≡ o → (nat_lt p (length plan.names) && may_do g p o) ≡ true → (after_command plan g p give o).state.instances + begins_left plan (after_command plan g p give o) ≤ count_begins plan.commands
         at None n f = b.begun
         at (Some c) n f =
             let t = turn_of plan g p c b.run_facts n f in
             let low = subst (λ (n : ℕ). p < n) (state_facts plan g b.run_facts).processes t.low in
             let y = less_begins plan g p give c low n in
-            let i = job_begins plan.size (g.state.instances + 2) g.state p c.job give (state_facts plan g b.run_facts).processes (omega arith) in
+            let i = job_begins (length plan.names) (g.state.instances + 2) g.state p c.job give (state_facts plan g b.run_facts).processes (omega arith) in
             let h = b.begun in
             begun_opened plan (bare_command g p give c) (with_phases_open plan (bare_command g p give c)) (opened_command plan g p give c b.run_facts n) (omega (arith, y, i, h))
     go (Take p q) e =
         let f = (falls plan g (Take p q) give b.run_facts b.few e).begun in
         let s = opened_take plan g p q give b.run_facts in
-        let l = ap (λ (d : ℕ → ℕ). total_below plan.size (λ p. length (drop (d p) (commands_of p plan.commands)))) s.done in
+        let l = ap (λ (d : ℕ → ℕ). total_below (length plan.names) (λ p. length (drop (d p) (commands_of p plan.commands)))) s.done in
         let i = ap (λ (t : State). t.instances) s.state in
         let h = b.begun in
         begun_opened plan (bare_take g p q give) (with_phases_open plan (bare_take g p q give)) s (omega (arith, f, l, i, h))
 
-begun_at_start : (plan : Plan) → IsPlan plan → Begun plan (start plan)
+begun_at_start : (plan : Planned) → IsPlan plan → Begun plan (start plan)
 unfolding begins_left
 begun_at_start plan i = record {
   run_facts = facts_at_start plan i;
   few = (let a = count_at_start plan i in let b = ap (λ (t : State). t.instances) (opened_start plan i).state in omega (arith, a, b));
-  begun = (let a = each_begins plan.size plan.commands in let b = ap (λ (d : ℕ → ℕ). total_below plan.size (λ p. count_begins (drop (d p) (commands_of p plan.commands)))) (opened_start plan i).done in let c = ap (λ (t : State). t.instances) (opened_start plan i).state in omega (arith, a, b, c));
+  begun = (let a = each_begins (length plan.names) plan.commands in let b = ap (λ (d : ℕ → ℕ). total_below (length plan.names) (λ p. count_begins (drop (d p) (commands_of p plan.commands)))) (opened_start plan i).done in let c = ap (λ (t : State). t.instances) (opened_start plan i).state in omega (arith, a, b, c));
 }
 
-pub few_instances : (plan : Plan) (g : Progress) → IsPlan plan → IsReached plan g → g.state.instances ≤ count_begins plan.commands
+pub few_instances : (plan : Planned) (g : Progress) → IsPlan plan → IsReached plan g → g.state.instances ≤ count_begins plan.commands
 few_instances plan g i r = let b = (moves_keep plan (Begun plan) (λ g x give b e. begun_after plan g x give b e) r.moves (start plan) g (begun_at_start plan i) r.leads).begun in omega (arith, b)
 
 -- as long as a command is left, fewer instances have begun than there are commands
-pub fewer_begun : (plan : Plan) (g : Progress) (p : ℕ) (c : Command) → IsPlan plan → IsReached plan g → next_command plan g p ≡ Some c → g.state.instances < length plan.commands
+pub fewer_begun : (plan : Planned) (g : Progress) (p : ℕ) (c : Command) → IsPlan plan → IsReached plan g → next_command plan g p ≡ Some c → g.state.instances < length plan.commands
 fewer_begun plan g p c i r e =
     let k = moves_keep plan (Begun plan) (λ g x give b e. begun_after plan g x give b e) r.moves (start plan) g (begun_at_start plan i) r.leads in
     let b = k.few in
     let x = after_front plan g p c e in
-    let l = (subst (λ (cs : List Command). Ordered plan.size p g.phase cs) x.1 (k.run_facts.ahead p)).0 in
+    let l = (subst (λ (cs : List Command). Ordered (length plan.names) p g.phase cs) x.1 (k.run_facts.ahead p)).0 in
     let f = less_left plan g p (record { able = false; body = pos 0 }) c l e in
     omega (arith, b, f)
 

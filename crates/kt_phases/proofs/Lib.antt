@@ -1,4 +1,6 @@
 pub mod PhaseOrder
+pub mod InPhases
+pub mod PlansOfTwo
 pub mod PhasesOpen
 pub mod RunFacts
 pub mod StateFacts

@@ -1,5 +1,5 @@
 -- An enabled step stays enabled, and asks the same of its object, after any enabled step of another process.
-use Rattle.std.proofs.Common.{◌≡◌, ◌≢◌, ℕ, zero, suc, ◌+◌, ◌-◌, ◌≤◌, ◌<◌, Bool, true, false, List, [], ◌∷◌, refl, arith, ap, ap₂, subst, ◌∙◌, drop, Some, None, inl, inr}
+use Rattle.std.proofs.Common.{length, ◌≡◌, ◌≢◌, ℕ, zero, suc, ◌+◌, ◌-◌, ◌≤◌, ◌<◌, Bool, true, false, List, [], ◌∷◌, refl, arith, ap, ap₂, subst, ◌∙◌, drop, Some, None, inl, inr}
 use Rattle.std.specs.Prelude.{◌==◌, ◌&&◌, ◌||◌, not, nat_lt, if◌then◌else◌, Option}
 use Rattle.std.proofs.lemmas.Bool.{cases_eq}
 use Rattle.std.proofs.lemmas.Bool.Decides.{nat_tests}
@@ -15,12 +15,20 @@ use Rattle.kt_protocol.specs.Joining.{must_take}
 use Rattle.kt_protocol.specs.Parcels.{Parcel, App, Ask, Reply, Decide, has_parcel}
 use Rattle.kt_protocol.specs.Replies.{unable_cause}
 use Rattle.kt_protocol.specs.States.{State, is_ready, can_take}
-use Rattle.kt_phases.specs.Looks.{Idle, Look, NeedsSave, Plain, look, look_of_command, look_of_front, look_of_job, look_of_step}
+use Rattle.kt_plan.specs.declared.steps.Look.TheVariants.{Idle, NeedsSave, Plain}
+use Rattle.kt_plan.specs.declared.steps.Look.{Look}
+use Rattle.kt_phases.specs.Looks.{look, look_of_command, look_of_front, look_of_job, look_of_step}
 use Rattle.kt_phases.specs.Steps.{stepper}
-use Rattle.kt_phases.specs.Plans.{Command, Job, Plan, commands_of, first_command, has_phase, last_phase}
+use Rattle.kt_plan.specs.declared.commands.Command.{Command}
+use Rattle.kt_plan.specs.declared.commands.Job.{Job}
+use Rattle.kt_plan.specs.Limits.{Planned}
+use Rattle.kt_phases.specs.Plans.{commands_of, first_command, has_phase, last_phase}
 use Rattle.kt_phases.specs.Progress.{Progress, after_opening, commands_left, is_phase_done, is_quiet, next_command, opens_next, with_phases_open}
-use Rattle.kt_phases.specs.Steps.{Do, Give, Step, Take, after_command, after_plan_step, body_sent, enabled, may_do, protocol_step}
-use Rattle.kt_phases.specs.Plans as job
+use Rattle.kt_plan.specs.declared.steps.Step.TheVariants.{Do, Take}
+use Rattle.kt_plan.specs.declared.steps.Give.{Give}
+use Rattle.kt_plan.specs.declared.steps.Step.{Step}
+use Rattle.kt_phases.specs.Steps.{after_command, after_plan_step, body_sent, enabled, may_do, protocol_step}
+use Rattle.kt_plan.specs.declared.commands.Job.TheVariants as job
 use Rattle.kt_phases.proofs.PhasesOpen.{Opened}
 use Rattle.kt_phases.proofs.RunFacts.{RunFacts, bare_command, bare_take, opened_command, opened_take, after_front}
 use Rattle.kt_phases.proofs.StateFacts.{StateFacts, state_facts}
@@ -37,7 +45,7 @@ job_keeps_others s p job.Rollback give = at_if (KeepsOthers p s) (s.so_far.open_
 job_keeps_others s p job.Fail give = at_if (KeepsOthers p s) (s.up p) _ _ (λ _. failing_keeps_others p s) (λ _. refusal_keeps_others p s verb.Fail Down)
 
 -- what an enabled step makes, before phases open
-pub record Made (plan : Plan) (g g' : Progress) (y : Step) : Type 0 where
+pub record Made (plan : Planned) (g g' : Progress) (y : Step) : Type 0 where
   pub bare : Progress
   pub settles : g' ≡ with_phases_open plan bare
   pub opened : Opened plan bare g'
@@ -45,11 +53,11 @@ pub record Made (plan : Plan) (g g' : Progress) (y : Step) : Type 0 where
   pub done : (u : ℕ) → u ≢ stepper y → bare.done u ≡ g.done u
   pub frame : KeepsOthers (stepper y) g.state bare.state
 
-pub made_is : (plan : Plan) (g : Progress) (y : Step) (give : Give) → RunFacts plan g → enabled plan g y ≡ true → Made plan g (after_plan_step plan g y give) y
+pub made_is : (plan : Planned) (g : Progress) (y : Step) (give : Give) → RunFacts plan g → enabled plan g y ≡ true → Made plan g (after_plan_step plan g y give) y
 made_is plan g (Do p) give k e = go (next_command plan g p) refl e
   where
-    go : (o : Option Command) → next_command plan g p ≡ o → (nat_lt p plan.size && may_do g p o) ≡ true → Made plan g (after_command plan g p give o) (Do p)
-    go None n e = absurd (none (nat_lt p plan.size) e)
+    go : (o : Option Command) → next_command plan g p ≡ o → (nat_lt p (length plan.names) && may_do g p o) ≡ true → Made plan g (after_command plan g p give o) (Do p)
+    go None n e = absurd (none (nat_lt p (length plan.names)) e)
       where
         none : (b : Bool) → (b && false) ≡ true → ⊥
         none true e = cc (e)
@@ -72,7 +80,7 @@ made_is plan g (Take p q) give k e = record {
 }
 
 -- no phase opens while a command of the open one is left
-stays_open : (plan : Plan) (g : Progress) → opens_next plan g ≡ false → with_phases_open plan g ≡ g
+stays_open : (plan : Planned) (g : Progress) → opens_next plan g ≡ false → with_phases_open plan g ≡ g
 stays_open plan g e = go (last_phase plan.commands - g.phase)
   where
     pick : (b : Bool) (x : Progress) → b ≡ false → (if b then x else g) ≡ g
@@ -83,11 +91,11 @@ stays_open plan g e = go (last_phase plan.commands - g.phase)
     go zero = refl
     go (suc k) = pick (opens_next plan g) (after_opening k plan (record g { phase = g.phase + 1 })) e
 
-not_done : (plan : Plan) (g : Progress) (p : ℕ) → p < plan.size → has_phase g.phase (commands_left plan g p) ≡ true → opens_next plan g ≡ false
+not_done : (plan : Planned) (g : Progress) (p : ℕ) → p < (length plan.names) → has_phase g.phase (commands_left plan g p) ≡ true → opens_next plan g ≡ false
 not_done plan g p l h = go (is_phase_done plan g) refl
   where
-    go : (b : Bool) → is_phase_done plan g ≡ b → (b && (is_quiet plan.size g.state && nat_lt g.phase (last_phase plan.commands))) ≡ false
-    go true e = absurd (let x = none_is plan.size (λ p. has_phase g.phase (commands_left plan g p)) e p l in cc (x, h))
+    go : (b : Bool) → is_phase_done plan g ≡ b → (b && (is_quiet (length plan.names) g.state && nat_lt g.phase (last_phase plan.commands))) ≡ false
+    go true e = absurd (let x = none_is (length plan.names) (λ p. has_phase g.phase (commands_left plan g p)) e p l in cc (x, h))
     go false e = refl
 
 both : (a b : Bool) → a ≡ true → b ≡ true → (a && b) ≡ true
@@ -97,18 +105,18 @@ phase_has : (k x : ℕ) (b : Bool) → x ≡ k → (x == k || b) ≡ true
 phase_has k x b e = grind (arith, nat_tests, e)
 
 -- both claims
-pub record Stays (plan : Plan) (g g' : Progress) (x : Step) : Type 0 where
+pub record Stays (plan : Planned) (g g' : Progress) (x : Step) : Type 0 where
   pub on : enabled plan g' x ≡ true
   pub seen : look plan g' x ≡ look plan g x
 
-stays_by : (plan : Plan) (g g' : Progress) (x : Step) → enabled plan g x ≡ true → enabled plan g' x ≡ true → look_of_step plan g' x ≡ look_of_step plan g x → Stays plan g g' x
+stays_by : (plan : Planned) (g g' : Progress) (x : Step) → enabled plan g x ≡ true → enabled plan g' x ≡ true → look_of_step plan g' x ≡ look_of_step plan g x → Stays plan g g' x
 stays_by plan g g' x e e' l = record { on = e'; seen = pick (enabled plan g' x) (enabled plan g x) (look_of_step plan g' x) (look_of_step plan g x) e' e l }
   where
     pick : (a b : Bool) (m n : Look) → a ≡ true → b ≡ true → m ≡ n → (if a then m else Idle) ≡ (if b then n else Idle)
     pick a b m n i j l = rw (i, j, l) refl
 
 -- a command
-do_stays : (plan : Plan) (g g' : Progress) (y : Step) (p : ℕ) → p ≢ stepper y → RunFacts plan g → Made plan g g' y → enabled plan g (Do p) ≡ true → Stays plan g g' (Do p)
+do_stays : (plan : Planned) (g g' : Progress) (y : Step) (p : ℕ) → p ≢ stepper y → RunFacts plan g → Made plan g g' y → enabled plan g (Do p) ≡ true → Stays plan g g' (Do p)
 do_stays plan g g' y p n k m e = go (next_command plan g p) refl e
   where
     left_same : commands_left plan m.bare p ≡ commands_left plan g p
@@ -122,8 +130,8 @@ do_stays plan g g' y p n k m e = go (next_command plan g p) refl e
     look_same None = refl
     look_same (Some c) = ap₂ (λ (o : ℕ) (u : Bool). look_of_job (o == 0) u c.job) (m.frame.open_in p n) (m.frame.up p n)
 
-    go : (o : Option Command) → next_command plan g p ≡ o → (nat_lt p plan.size && may_do g p o) ≡ true → Stays plan g g' (Do p)
-    go None i f = absurd (none (nat_lt p plan.size) f)
+    go : (o : Option Command) → next_command plan g p ≡ o → (nat_lt p (length plan.names) && may_do g p o) ≡ true → Stays plan g g' (Do p)
+    go None i f = absurd (none (nat_lt p (length plan.names)) f)
       where
         none : (b : Bool) → (b && false) ≡ true → ⊥
         none true e = cc (e)
@@ -140,7 +148,7 @@ do_stays plan g g' y p n k m e = go (next_command plan g p) refl e
         g'_is = m.settles ∙ stays_open plan m.bare (not_done plan m.bare p (subst (λ (n : ℕ). p < n) (state_facts plan g k).processes t.low) in_phase)
 
         on : enabled plan g' (Do p) ≡ true
-        on = ap (λ (h : Progress). enabled plan h (Do p)) g'_is ∙ (ap (λ (b : Bool). nat_lt p plan.size && b) (test_same (next_command plan m.bare p)) ∙ (ap (λ (l : List Command). nat_lt p plan.size && may_do g p (first_command l)) left_same ∙ e))
+        on = ap (λ (h : Progress). enabled plan h (Do p)) g'_is ∙ (ap (λ (b : Bool). nat_lt p (length plan.names) && b) (test_same (next_command plan m.bare p)) ∙ (ap (λ (l : List Command). nat_lt p (length plan.names) && may_do g p (first_command l)) left_same ∙ e))
 
 -- a parcel
 open_low : (n : ℕ) (s : State) (p : ℕ) → StateFacts n s → s.so_far.open_in p ≤ s.instances
@@ -196,22 +204,22 @@ module _ (n r : ℕ) (s s' : State) (f : KeepsOthers r s s') (m : StateFacts n s
           left_of true e = refl
           left_of false e = absurd (cc (e))
 
-take_stays : (plan : Plan) (g g' : Progress) (y : Step) (p q : ℕ) → p ≢ stepper y → RunFacts plan g → Made plan g g' y → enabled plan g (Take p q) ≡ true → Stays plan g g' (Take p q)
+take_stays : (plan : Planned) (g g' : Progress) (y : Step) (p q : ℕ) → p ≢ stepper y → RunFacts plan g → Made plan g g' y → enabled plan g (Take p q) ≡ true → Stays plan g g' (Take p q)
 take_stays plan g g' y p q n k m e = stays_by plan g g' (Take p q) e on seen
   where
     tests : (a b : Bool) → (a && b) ≡ true → (a ≡ true) × (b ≡ true)
     tests true b e = (refl, e)
     tests false b e = absurd (cc (e))
 
-    t : ((nat_lt p plan.size && nat_lt q plan.size) ≡ true) × (can_take g.state p q ≡ true)
-    t = tests (nat_lt p plan.size && nat_lt q plan.size) (can_take g.state p q) e
+    t : ((nat_lt p (length plan.names) && nat_lt q (length plan.names)) ≡ true) × (can_take g.state p q ≡ true)
+    t = tests (nat_lt p (length plan.names) && nat_lt q (length plan.names)) (can_take g.state p q) e
 
-    on : ((nat_lt p plan.size && nat_lt q plan.size) && can_take g'.state p q) ≡ true
-    on = both (nat_lt p plan.size && nat_lt q plan.size) (can_take g'.state p q) t.0 (ap (λ (s : State). can_take s p q) m.opened.state ∙ take_same plan.size (stepper y) g.state m.bare.state m.frame (state_facts plan g k) p q n t.1)
+    on : ((nat_lt p (length plan.names) && nat_lt q (length plan.names)) && can_take g'.state p q) ≡ true
+    on = both (nat_lt p (length plan.names) && nat_lt q (length plan.names)) (can_take g'.state p q) t.0 (ap (λ (s : State). can_take s p q) m.opened.state ∙ take_same (length plan.names) (stepper y) g.state m.bare.state m.frame (state_facts plan g k) p q n t.1)
 
     seen : look_of_step plan g' (Take p q) ≡ look_of_step plan g (Take p q)
-    seen = ap (λ (s : State). if not (is_ready s p) && has_parcel (s.held q p) then Plain else look_of_front s p q (s.channel q p)) m.opened.state ∙ look_same plan.size (stepper y) g.state m.bare.state m.frame (state_facts plan g k) p q n t.1
+    seen = ap (λ (s : State). if not (is_ready s p) && has_parcel (s.held q p) then Plain else look_of_front s p q (s.channel q p)) m.opened.state ∙ look_same (length plan.names) (stepper y) g.state m.bare.state m.frame (state_facts plan g k) p q n t.1
 
-pub stays : (plan : Plan) (g : Progress) (x y : Step) (give : Give) → RunFacts plan g → enabled plan g x ≡ true → enabled plan g y ≡ true → stepper x ≢ stepper y → Stays plan g (after_plan_step plan g y give) x
+pub stays : (plan : Planned) (g : Progress) (x y : Step) (give : Give) → RunFacts plan g → enabled plan g x ≡ true → enabled plan g y ≡ true → stepper x ≢ stepper y → Stays plan g (after_plan_step plan g y give) x
 stays plan g (Do p) y give k e f n = do_stays plan g (after_plan_step plan g y give) y p n k (made_is plan g y give k f) e
 stays plan g (Take p q) y give k e f n = take_stays plan g (after_plan_step plan g y give) y p q n k (made_is plan g y give k f) e

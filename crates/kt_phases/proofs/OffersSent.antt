@@ -6,12 +6,18 @@ use Rattle.kt_base.specs.declared.words.Cause.TheVariants.{Down}
 use Rattle.kt_protocol.specs.Joining.{must_take}
 use Rattle.kt_protocol.specs.Parcels.{Parcel, App, Ask, Reply, Decide, has_parcel}
 use Rattle.kt_protocol.specs.States.{State, is_ready}
-use Rattle.kt_phases.specs.Looks.{NeedsBody, NeedsSave, Plain, look_of_command, look_of_front, look_of_job, look_of_step, uses_body}
-use Rattle.kt_phases.specs.Plans.{Command, Job, Plan}
+use Rattle.kt_plan.specs.declared.steps.Look.TheVariants.{NeedsBody, NeedsSave, Plain}
+use Rattle.kt_phases.specs.Looks.{look_of_command, look_of_front, look_of_job, look_of_step, uses_body}
+use Rattle.kt_plan.specs.declared.commands.Command.{Command}
+use Rattle.kt_plan.specs.declared.commands.Job.{Job}
+use Rattle.kt_plan.specs.Limits.{Planned}
 use Rattle.kt_phases.specs.Progress.{Progress, next_command}
 use Rattle.kt_phases.specs.Rows.{AreRowsOfCommand, AreRowsOfDo, SendsOfferWhereAsked, has_sent_row, is_offer_command, is_offer_job, is_offer_step, refusal_cause}
-use Rattle.kt_phases.specs.Steps.{Do, Give, Step, Take, after_plan_step, enabled}
-use Rattle.kt_phases.specs.Plans as job
+use Rattle.kt_plan.specs.declared.steps.Step.TheVariants.{Do, Take}
+use Rattle.kt_plan.specs.declared.steps.Give.{Give}
+use Rattle.kt_plan.specs.declared.steps.Step.{Step}
+use Rattle.kt_phases.specs.Steps.{after_plan_step, enabled}
+use Rattle.kt_plan.specs.declared.commands.Job.TheVariants as job
 use Rattle.kt_phases.proofs.RunFacts.{RunFacts}
 use Rattle.kt_phases.proofs.StepRows.{adds}
 use Rattle.kt_phases.proofs.CheckpointsTaken.{seen_on}
@@ -46,9 +52,9 @@ take_sends : (s : State) (p q : ℕ) (b : Bool) → uses_body (if b then Plain e
 take_sends s p q true = refl
 take_sends s p q false = front_sends s p q (s.channel q p)
 
-sends_of : (plan : Plan) (g : Progress) (x : Step) (give : Give) → RunFacts plan g → enabled plan g x ≡ true → (rows : List Event) × ((after_plan_step plan g x give).state.log ≡ g.state.log ++ rows) × ((is_offer_step plan g x && has_sent_row rows) ≡ uses_body (look_of_step plan g x))
+sends_of : (plan : Planned) (g : Progress) (x : Step) (give : Give) → RunFacts plan g → enabled plan g x ≡ true → (rows : List Event) × ((after_plan_step plan g x give).state.log ≡ g.state.log ++ rows) × ((is_offer_step plan g x && has_sent_row rows) ≡ uses_body (look_of_step plan g x))
 sends_of plan g (Do p) give k e = let a = adds plan g (Do p) give k e in (a.rows, a.log, command_sends g p give (next_command plan g p) a.rows a.fit)
 sends_of plan g (Take p q) give k e = let a = adds plan g (Take p q) give k e in (a.rows, a.log, sym (take_sends g.state p q (not (is_ready g.state p) && has_parcel (g.state.held q p))))
 
-pub sends_offer_where_asked : (plan : Plan) (g : Progress) (x : Step) (give : Give) → RunFacts plan g → enabled plan g x ≡ true → SendsOfferWhereAsked plan g x give
+pub sends_offer_where_asked : (plan : Planned) (g : Progress) (x : Step) (give : Give) → RunFacts plan g → enabled plan g x ≡ true → SendsOfferWhereAsked plan g x give
 sends_offer_where_asked plan g x give k e = let t = sends_of plan g x give k e in (t.0, t.1, t.2 ∙ ap uses_body (sym (seen_on plan g x e)))

@@ -4,8 +4,16 @@ use Rattle.std.specs.Prelude.{◌==◌, ◌||◌, ◌&&◌, not, max}
 use Rattle.std.proofs.lemmas.Bool.Decides.{nat_tests}
 use Rattle.kt_protocol.proofs.Choices.{at_if, same}
 use Rattle.kt_protocol.specs.Deciding.{none_of}
-use Rattle.kt_phases.specs.Plans.{AreInPhases, Command, IsJobOf, commands_of, has_command, has_phase, last_phase}
+use Rattle.kt_plan.specs.declared.commands.Command.{Command}
+use Rattle.kt_plan.specs.Limits.{IsJobOf}
+use Rattle.kt_phases.specs.Plans.{commands_of, has_command, has_phase, last_phase}
 
+-- each command is of one of n processes, and phases never fall from low on
+abbrev pub AreInPhases : ℕ → ℕ → List Command → Type 0
+AreInPhases n low [] = Unit {0}
+AreInPhases n low (c ∷ cs) = (c.by < n) × IsJobOf n c.by c.job × (low ≤ c.phase) × AreInPhases n c.phase cs
+
+-- so it is of the commands of p
 abbrev pub Ordered : ℕ → ℕ → ℕ → List Command → Type 0
 Ordered n p low [] = Unit {0}
 Ordered n p low (c ∷ cs) = (p < n) × IsJobOf n p c.job × (low ≤ c.phase) × Ordered n p c.phase cs

@@ -1,5 +1,5 @@
 -- What is known of every run of a plan.
-use Rattle.std.proofs.Common.{◌≡◌, ℕ, suc, ◌+◌, ◌≤◌, ◌<◌, Bool, true, false, List, [], ◌∷◌, ◌++◌, refl, arith, sym, ap, subst, ◌∙◌, drop, Some, None}
+use Rattle.std.proofs.Common.{length, ◌≡◌, ℕ, suc, ◌+◌, ◌≤◌, ◌<◌, Bool, true, false, List, [], ◌∷◌, ◌++◌, refl, arith, sym, ap, subst, ◌∙◌, drop, Some, None}
 use Rattle.std.specs.Prelude.{◌==◌, if◌then◌else◌, Option, unwrap_or}
 use Rattle.std.proofs.lemmas.Bool.Decides.{nat_tests}
 use Rattle.kt_cuts.specs.Past.{at_one}
@@ -7,11 +7,17 @@ use Rattle.kt_closing.specs.LateSteps.{late_step, late_run}
 use Rattle.kt_protocol.proofs.Choices.{at_if}
 use Rattle.kt_protocol.specs.States.{State, opening}
 use Rattle.kt_protocol.specs.States as machine
-use Rattle.kt_phases.specs.Plans.{Command, IsPlan, Plan, commands_of, first_command}
+use Rattle.kt_plan.specs.declared.commands.Command.{Command}
+use Rattle.kt_plan.specs.Limits.{IsPlan, Planned}
+use Rattle.kt_phases.specs.Plans.{commands_of, first_command}
 use Rattle.kt_phases.specs.Progress.{Progress, commands_left, next_command, opens_next, start, with_phases_open}
 use Rattle.kt_phases.specs.Runs.{IsReached, Move, after_moves}
-use Rattle.kt_phases.specs.Steps.{Do, Give, Step, Take, after_command, after_plan_step, enabled, protocol_step}
-use Rattle.kt_phases.proofs.PhaseOrder.{Ordered, lower, ordered, drop_next}
+use Rattle.kt_plan.specs.declared.steps.Step.TheVariants.{Do, Take}
+use Rattle.kt_plan.specs.declared.steps.Give.{Give}
+use Rattle.kt_plan.specs.declared.steps.Step.{Step}
+use Rattle.kt_phases.specs.Steps.{after_command, after_plan_step, enabled, protocol_step}
+use Rattle.kt_phases.proofs.InPhases.{own_ordered}
+use Rattle.kt_phases.proofs.PhaseOrder.{Ordered, lower, drop_next}
 use Rattle.kt_phases.proofs.PhasesOpen.{IsAhead, Opened, opened_is}
 
 -- the late step, and what is done, before phases open
@@ -21,9 +27,9 @@ bare_command g p give c = record g { state = late_step g.state (protocol_step p 
 abbrev pub bare_take : Progress → ℕ → ℕ → Give → Progress
 bare_take g p q give = record g { state = late_step g.state (machine.Take p q give.able) }
 
-pub record RunFacts (plan : Plan) (g : Progress) : Type 0 where
+pub record RunFacts (plan : Planned) (g : Progress) : Type 0 where
   pub steps : List machine.Step
-  pub state_is : g.state ≡ late_run (opening plan.size) steps
+  pub state_is : g.state ≡ late_run (opening (length plan.names)) steps
   pub ahead : IsAhead plan g
   pub shut : opens_next plan g ≡ false
 
@@ -33,49 +39,49 @@ run_more s [] x = refl
 run_more s (y ∷ ys) x = run_more (late_step s y) ys x
 
 -- one command less
-pub after_front : (plan : Plan) (g : Progress) (p : ℕ) (c : Command) → next_command plan g p ≡ Some c → (cs : List Command) × (commands_left plan g p ≡ c ∷ cs)
+pub after_front : (plan : Planned) (g : Progress) (p : ℕ) (c : Command) → next_command plan g p ≡ Some c → (cs : List Command) × (commands_left plan g p ≡ c ∷ cs)
 after_front plan g p c e = go (commands_left plan g p) e
   where
     go : (l : List Command) → first_command l ≡ Some c → (cs : List Command) × (l ≡ c ∷ cs)
     go [] e = absurd (cc (e))
     go (x ∷ xs) e = (xs, (let y : x ≡ c = cc (e) in rw y refl))
 
-pub left_next : (plan : Plan) (g : Progress) (p : ℕ) (c : Command) (cs : List Command) → commands_left plan g p ≡ c ∷ cs → drop (g.done p + 1) (commands_of p plan.commands) ≡ cs
+pub left_next : (plan : Planned) (g : Progress) (p : ℕ) (c : Command) (cs : List Command) → commands_left plan g p ≡ c ∷ cs → drop (g.done p + 1) (commands_of p plan.commands) ≡ cs
 left_next plan g p c cs e = let x : g.done p + 1 ≡ suc (g.done p) = omega arith in rw x (drop_next (g.done p) (commands_of p plan.commands) c cs e)
 
-ahead_command : (plan : Plan) (g : Progress) (p : ℕ) (give : Give) (c : Command) → next_command plan g p ≡ Some c → IsAhead plan g → IsAhead plan (bare_command g p give c)
+ahead_command : (plan : Planned) (g : Progress) (p : ℕ) (give : Give) (c : Command) → next_command plan g p ≡ Some c → IsAhead plan g → IsAhead plan (bare_command g p give c)
 ahead_command plan g p give c e a u = go (u == p) refl
   where
     x : (cs : List Command) × (commands_left plan g p ≡ c ∷ cs)
     x = after_front plan g p c e
 
-    rest : Ordered plan.size p g.phase x.0
-    rest = let o : Ordered plan.size p g.phase (c ∷ x.0) = subst (λ (l : List Command). Ordered plan.size p g.phase l) x.1 (a p) in lower plan.size p c.phase g.phase x.0 o.2 o.3
+    rest : Ordered (length plan.names) p g.phase x.0
+    rest = let o : Ordered (length plan.names) p g.phase (c ∷ x.0) = subst (λ (l : List Command). Ordered (length plan.names) p g.phase l) x.1 (a p) in lower (length plan.names) p c.phase g.phase x.0 o.2 o.3
 
-    go : (b : Bool) → (u == p) ≡ b → Ordered plan.size u g.phase (drop (if b then g.done p + 1 else g.done u) (commands_of u plan.commands))
-    go true i = let y : u ≡ p = grind (arith, nat_tests, i) in rw y (subst (λ (l : List Command). Ordered plan.size p g.phase l) (sym (left_next plan g p c x.0 x.1)) rest)
+    go : (b : Bool) → (u == p) ≡ b → Ordered (length plan.names) u g.phase (drop (if b then g.done p + 1 else g.done u) (commands_of u plan.commands))
+    go true i = let y : u ≡ p = grind (arith, nat_tests, i) in rw y (subst (λ (l : List Command). Ordered (length plan.names) p g.phase l) (sym (left_next plan g p c x.0 x.1)) rest)
     go false i = a u
 
-facts_by : (plan : Plan) (g g' g'' : Progress) (x : machine.Step) → RunFacts plan g → g'.state ≡ late_step g.state x → Opened plan g' g'' → RunFacts plan g''
+facts_by : (plan : Planned) (g g' g'' : Progress) (x : machine.Step) → RunFacts plan g → g'.state ≡ late_step g.state x → Opened plan g' g'' → RunFacts plan g''
 facts_by plan g g' g'' x k e s = record {
   steps = k.steps ++ x ∷ [];
-  state_is = s.state ∙ (e ∙ (ap (λ (t : State). late_step t x) k.state_is ∙ sym (run_more (opening plan.size) k.steps x)));
+  state_is = s.state ∙ (e ∙ (ap (λ (t : State). late_step t x) k.state_is ∙ sym (run_more (opening (length plan.names)) k.steps x)));
   ahead = s.ahead;
   shut = s.shut;
 }
 
-pub facts_at_start : (plan : Plan) → IsPlan plan → RunFacts plan (start plan)
-facts_at_start plan i = let s = opened_is plan (record { state = opening plan.size; done = λ p. 0; phase = 0 }) (λ p. ordered plan.size p 0 plan.commands i) in
+pub facts_at_start : (plan : Planned) → IsPlan plan → RunFacts plan (start plan)
+facts_at_start plan i = let s = opened_is plan (record { state = opening (length plan.names); done = λ p. 0; phase = 0 }) (λ p. own_ordered plan p i) in
     record { steps = []; state_is = s.state; ahead = s.ahead; shut = s.shut }
 
 -- what a step makes, before phases open
-pub opened_command : (plan : Plan) (g : Progress) (p : ℕ) (give : Give) (c : Command) → RunFacts plan g → next_command plan g p ≡ Some c → Opened plan (bare_command g p give c) (with_phases_open plan (bare_command g p give c))
+pub opened_command : (plan : Planned) (g : Progress) (p : ℕ) (give : Give) (c : Command) → RunFacts plan g → next_command plan g p ≡ Some c → Opened plan (bare_command g p give c) (with_phases_open plan (bare_command g p give c))
 opened_command plan g p give c k e = opened_is plan (bare_command g p give c) (ahead_command plan g p give c e k.ahead)
 
-pub opened_take : (plan : Plan) (g : Progress) (p q : ℕ) (give : Give) → RunFacts plan g → Opened plan (bare_take g p q give) (with_phases_open plan (bare_take g p q give))
+pub opened_take : (plan : Planned) (g : Progress) (p q : ℕ) (give : Give) → RunFacts plan g → Opened plan (bare_take g p q give) (with_phases_open plan (bare_take g p q give))
 opened_take plan g p q give k = opened_is plan (bare_take g p q give) k.ahead
 
-pub facts_after : (plan : Plan) (g : Progress) (x : Step) (give : Give) → RunFacts plan g → RunFacts plan (after_plan_step plan g x give)
+pub facts_after : (plan : Planned) (g : Progress) (x : Step) (give : Give) → RunFacts plan g → RunFacts plan (after_plan_step plan g x give)
 facts_after plan g (Do p) give k = go (next_command plan g p) refl
   where
     go : (o : Option Command) → next_command plan g p ≡ o → RunFacts plan (after_command plan g p give o)
@@ -84,17 +90,17 @@ facts_after plan g (Do p) give k = go (next_command plan g p) refl
 facts_after plan g (Take p q) give k = facts_by plan g (bare_take g p q give) (with_phases_open plan (bare_take g p q give)) (machine.Take p q give.able) k refl (opened_take plan g p q give k)
 
 -- what each enabled step keeps is so after each run
-pub moves_keep : (plan : Plan) (I : Progress → Type 0) → ((g : Progress) (x : Step) (give : Give) → I g → enabled plan g x ≡ true → I (after_plan_step plan g x give)) → (moves : List Move) (g g' : Progress) → I g → after_moves plan g moves ≡ Some g' → I g'
+pub moves_keep : (plan : Planned) (I : Progress → Type 0) → ((g : Progress) (x : Step) (give : Give) → I g → enabled plan g x ≡ true → I (after_plan_step plan g x give)) → (moves : List Move) (g g' : Progress) → I g → after_moves plan g moves ≡ Some g' → I g'
 moves_keep plan I step [] g g' i e = subst I (ap (λ (o : Option Progress). unwrap_or o g) e) i
 moves_keep plan I step (x ∷ xs) g g' i e = at_if (λ (o : Option Progress). o ≡ Some g' → I g') (enabled plan g x.step) (after_moves plan (after_plan_step plan g x.step x.give) xs) None
     (λ y z. moves_keep plan I step xs (after_plan_step plan g x.step x.give) g' (step g x.step x.give i y) z)
     (λ y z. absurd (cc (z))) e
 
-pub run_facts : (plan : Plan) (g : Progress) → IsPlan plan → IsReached plan g → RunFacts plan g
+pub run_facts : (plan : Planned) (g : Progress) → IsPlan plan → IsReached plan g → RunFacts plan g
 run_facts plan g i r = moves_keep plan (RunFacts plan) (λ g x give k _. facts_after plan g x give k) r.moves (start plan) g (facts_at_start plan i) r.leads
 
-pub next_ahead : (plan : Plan) (g : Progress) (p : ℕ) (c : Command) → RunFacts plan g → next_command plan g p ≡ Some c → g.phase ≤ c.phase
-next_ahead plan g p c k e = let x = after_front plan g p c e in (subst (λ (l : List Command). Ordered plan.size p g.phase l) x.1 (k.ahead p)).2
+pub next_ahead : (plan : Planned) (g : Progress) (p : ℕ) (c : Command) → RunFacts plan g → next_command plan g p ≡ Some c → g.phase ≤ c.phase
+next_ahead plan g p c k e = let x = after_front plan g p c e in (subst (λ (l : List Command). Ordered (length plan.names) p g.phase l) x.1 (k.ahead p)).2
 
-pub next_there : (plan : Plan) (g : Progress) (p : ℕ) (c : Command) → RunFacts plan g → next_command plan g p ≡ Some c → p < plan.size
-next_there plan g p c k e = let x = after_front plan g p c e in (subst (λ (l : List Command). Ordered plan.size p g.phase l) x.1 (k.ahead p)).0
+pub next_there : (plan : Planned) (g : Progress) (p : ℕ) (c : Command) → RunFacts plan g → next_command plan g p ≡ Some c → p < (length plan.names)
+next_there plan g p c k e = let x = after_front plan g p c e in (subst (λ (l : List Command). Ordered (length plan.names) p g.phase l) x.1 (k.ahead p)).0

@@ -1,5 +1,5 @@
 -- What is known of the state of a run of a plan.
-use Rattle.std.proofs.Common.{◌≡◌, ℕ, Bool, true, false, List, refl, sym, ap, subst, ◌∙◌}
+use Rattle.std.proofs.Common.{length, ◌≡◌, ℕ, Bool, true, false, List, refl, sym, ap, subst, ◌∙◌}
 use Rattle.std.specs.Prelude.{◌==◌, ◌&&◌, ◌||◌, not}
 use Rattle.kt_closing.proofs.KeptLists.{KeptLists}
 use Rattle.kt_closing.proofs.WholeSteps.{AllQuiet, all_quiet, agrees_after_run}
@@ -13,7 +13,7 @@ use Rattle.kt_protocol.proofs.WholeSteps.{AfterStep, all_after_run}
 use Rattle.kt_protocol.specs.Parcels.{has_parcel}
 use Rattle.kt_protocol.specs.States.{State, opening, is_ready, can_take}
 use Rattle.kt_protocol.specs.States as machine
-use Rattle.kt_phases.specs.Plans.{Plan}
+use Rattle.kt_plan.specs.Limits.{Planned}
 use Rattle.kt_phases.specs.Progress.{Progress}
 use Rattle.kt_phases.proofs.RunFacts.{RunFacts}
 
@@ -33,8 +33,8 @@ state_facts_by n steps = let i = agrees_after_run n steps in record {
   lists = i.kept;
 }
 
-pub state_facts : (plan : Plan) (g : Progress) → RunFacts plan g → StateFacts plan.size g.state
-state_facts plan g k = subst (StateFacts plan.size) (sym k.state_is) (state_facts_by plan.size k.steps)
+pub state_facts : (plan : Planned) (g : Progress) → RunFacts plan g → StateFacts (length plan.names) g.state
+state_facts plan g k = subst (StateFacts (length plan.names)) (sym k.state_is) (state_facts_by (length plan.names) k.steps)
 
 -- what can be taken is so once each instance is closed too: who has a rollback to close is in it
 pub can_take_same : (c : State) (p q : ℕ) → can_take (once_closed c) p q ≡ can_take c p q

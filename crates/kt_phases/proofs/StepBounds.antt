@@ -10,12 +10,17 @@ use Rattle.kt_protocol.proofs.Choices.{at_if}
 use Rattle.kt_protocol.proofs.Updates.{is_same, is_other}
 use Rattle.kt_protocol.specs.States.{State, opening, can_take}
 use Rattle.kt_protocol.specs.States as machine
-use Rattle.kt_phases.specs.Plans.{Command, IsPlan, Plan, commands_of}
+use Rattle.kt_plan.specs.declared.commands.Command.{Command}
+use Rattle.kt_plan.specs.Limits.{IsPlan, Planned}
+use Rattle.kt_phases.specs.Plans.{commands_of}
 use Rattle.kt_phases.specs.Progress.{Progress, commands_left, next_command, start, with_phases_open}
 use Rattle.kt_phases.specs.Runs.{IsReached, Move, after_moves}
-use Rattle.kt_phases.specs.Steps.{Do, Give, Step, Take, after_command, after_plan_step, enabled, may_do, protocol_step}
+use Rattle.kt_plan.specs.declared.steps.Step.TheVariants.{Do, Take}
+use Rattle.kt_plan.specs.declared.steps.Give.{Give}
+use Rattle.kt_plan.specs.declared.steps.Step.{Step}
+use Rattle.kt_phases.specs.Steps.{after_command, after_plan_step, enabled, may_do, protocol_step}
 use Rattle.kt_phases.specs.Work.{count_left, most_steps, parcels_under_way, put_so_far, total_below, work_left}
-use Rattle.kt_phases.proofs.PhaseOrder.{ordered}
+use Rattle.kt_phases.proofs.InPhases.{own_ordered}
 use Rattle.kt_phases.proofs.PhasesOpen.{Opened, opened_is}
 use Rattle.kt_phases.proofs.RunFacts.{RunFacts, facts_at_start, facts_after, bare_command, bare_take, opened_command, opened_take, after_front, left_next}
 use Rattle.kt_phases.proofs.StateFacts.{StateFacts, state_facts}
@@ -46,22 +51,22 @@ each_of n (c ∷ cs) =
     ]
 
 -- what one step does to commands, parcels and instances
-pub record Falls (plan : Plan) (g g' : Progress) : Type 0 where
+pub record Falls (plan : Planned) (g g' : Progress) : Type 0 where
   pub begun : g'.state.instances + count_left plan g' ≤ g.state.instances + count_left plan g
-  pub steps : count_left plan g' + parcels_under_way plan.size g'.state.channel + put_so_far (length plan.commands + 1) g.state + 1 ≤ count_left plan g + parcels_under_way plan.size g.state.channel + put_so_far (length plan.commands + 1) g'.state
+  pub steps : count_left plan g' + parcels_under_way (length plan.names) g'.state.channel + put_so_far (length plan.commands + 1) g.state + 1 ≤ count_left plan g + parcels_under_way (length plan.names) g.state.channel + put_so_far (length plan.commands + 1) g'.state
 
 -- phases change none of these
-falls_opened : (plan : Plan) (g g' g'' : Progress) → Opened plan g' g'' → Falls plan g g' → Falls plan g g''
+falls_opened : (plan : Planned) (g g' g'' : Progress) → Opened plan g' g'' → Falls plan g g' → Falls plan g g''
 falls_opened plan g g' g'' s f = record {
   begun = (let a = f.begun in let c = left_is in let i = ap (λ (t : State). t.instances) s.state in omega (arith, a, c, i));
-  steps = (let a = f.steps in let c = left_is in let i = ap (λ (t : State). parcels_under_way plan.size t.channel) s.state in let j = ap (λ (t : State). put_so_far (length plan.commands + 1) t) s.state in omega (arith, a, c, i, j));
+  steps = (let a = f.steps in let c = left_is in let i = ap (λ (t : State). parcels_under_way (length plan.names) t.channel) s.state in let j = ap (λ (t : State). put_so_far (length plan.commands + 1) t) s.state in omega (arith, a, c, i, j));
 }
   where
     left_is : count_left plan g'' ≡ count_left plan g'
-    left_is = ap (λ (d : ℕ → ℕ). total_below plan.size (λ p. length (drop (d p) (commands_of p plan.commands)))) s.done
+    left_is = ap (λ (d : ℕ → ℕ). total_below (length plan.names) (λ p. length (drop (d p) (commands_of p plan.commands)))) s.done
 
-pub less_left : (plan : Plan) (g : Progress) (p : ℕ) (give : Give) (c : Command) → p < plan.size → next_command plan g p ≡ Some c → count_left plan g ≡ count_left plan (bare_command g p give c) + 1
-less_left plan g p give c l e = total_less plan.size p (λ v. length (commands_left plan g v)) (λ v. length (commands_left plan (bare_command g p give c) v)) l here others
+pub less_left : (plan : Planned) (g : Progress) (p : ℕ) (give : Give) (c : Command) → p < (length plan.names) → next_command plan g p ≡ Some c → count_left plan g ≡ count_left plan (bare_command g p give c) + 1
+less_left plan g p give c l e = total_less (length plan.names) p (λ v. length (commands_left plan g v)) (λ v. length (commands_left plan (bare_command g p give c) v)) l here others
   where
     x : (cs : List Command) × (commands_left plan g p ≡ c ∷ cs)
     x = after_front plan g p c e
@@ -72,25 +77,25 @@ less_left plan g p give c l e = total_less plan.size p (λ v. length (commands_l
     others : (v : ℕ) → v ≢ p → length (commands_left plan g v) ≡ length (drop (if v == p then g.done p + 1 else g.done v) (commands_of v plan.commands))
     others v d = let s = is_other v p d in rw s refl
 
-pub falls : (plan : Plan) (g : Progress) (x : Step) (give : Give) → RunFacts plan g → g.state.instances + count_left plan g ≤ length plan.commands → enabled plan g x ≡ true → Falls plan g (after_plan_step plan g x give)
+pub falls : (plan : Planned) (g : Progress) (x : Step) (give : Give) → RunFacts plan g → g.state.instances + count_left plan g ≤ length plan.commands → enabled plan g x ≡ true → Falls plan g (after_plan_step plan g x give)
 falls plan g (Do p) give k h b = go (next_command plan g p) refl b
   where
-    go : (o : Option Command) → next_command plan g p ≡ o → (nat_lt p plan.size && may_do g p o) ≡ true → Falls plan g (after_command plan g p give o)
-    go None e f = absurd (none (nat_lt p plan.size) f)
+    go : (o : Option Command) → next_command plan g p ≡ o → (nat_lt p (length plan.names) && may_do g p o) ≡ true → Falls plan g (after_command plan g p give o)
+    go None e f = absurd (none (nat_lt p (length plan.names)) f)
       where
         none : (b : Bool) → (b && false) ≡ true → ⊥
         none true e = cc (e)
         none false e = cc (e)
     go (Some c) e f = falls_opened plan g (bare_command g p give c) (with_phases_open plan (bare_command g p give c)) (opened_command plan g p give c k e) bare
       where
-        low : p < plan.size
+        low : p < (length plan.names)
         low = subst (λ (n : ℕ). p < n) (state_facts plan g k).processes (turn_of plan g p c k e f).low
 
         less : count_left plan g ≡ count_left plan (bare_command g p give c) + 1
         less = less_left plan g p give c low e
 
-        even : Accounted plan.size (length plan.commands + 1) 0 1 g.state (late_step g.state (protocol_step p c.job give))
-        even = job_accounted plan.size (length plan.commands + 1) g.state p c.job give (state_facts plan g k).processes (let y = less in omega (arith, h, y))
+        even : Accounted (length plan.names) (length plan.commands + 1) 0 1 g.state (late_step g.state (protocol_step p c.job give))
+        even = job_accounted (length plan.names) (length plan.commands + 1) g.state p c.job give (state_facts plan g k).processes (let y = less in omega (arith, h, y))
 
         bare : Falls plan g (bare_command g p give c)
         bare = record { begun = (let y = less in let z = even.instances in omega (arith, y, z)); steps = (let y = less in let z = even.room in omega (arith, y, z)) }
@@ -99,22 +104,22 @@ falls plan g (Take p q) give k h b = falls_opened plan g (bare_take g p q give) 
     tests : (p q n : ℕ) (c : Bool) → ((nat_lt p n && nat_lt q n) && c) ≡ true → (p < n) × (q < n) × (c ≡ true)
     tests p q n c e = grind (arith, nat_tests, e)
 
-    t : (p < plan.size) × (q < plan.size) × (can_take g.state p q ≡ true)
-    t = tests p q plan.size (can_take g.state p q) b
+    t : (p < (length plan.names)) × (q < (length plan.names)) × (can_take g.state p q ≡ true)
+    t = tests p q (length plan.names) (can_take g.state p q) b
 
-    even : Accounted plan.size (length plan.commands + 1) 1 0 g.state (late_step g.state (machine.Take p q give.able))
-    even = take_accounted plan.size (length plan.commands + 1) g.state p q give.able (state_facts plan g k) t.0 t.1 (omega (arith, h)) t.2
+    even : Accounted (length plan.names) (length plan.commands + 1) 1 0 g.state (late_step g.state (machine.Take p q give.able))
+    even = take_accounted (length plan.names) (length plan.commands + 1) g.state p q give.able (state_facts plan g k) t.0 t.1 (omega (arith, h)) t.2
 
     bare : Falls plan g (bare_take g p q give)
     bare = record { begun = (let z = even.instances in omega (arith, z)); steps = (let z = even.room in omega (arith, z)) }
 
 -- after m steps
-pub record Few (plan : Plan) (m : ℕ) (g : Progress) : Type 0 where
+pub record Few (plan : Planned) (m : ℕ) (g : Progress) : Type 0 where
   pub run_facts : RunFacts plan g
   pub begun : g.state.instances + count_left plan g ≤ length plan.commands
-  pub steps : m + count_left plan g + parcels_under_way plan.size g.state.channel ≤ length plan.commands + put_so_far (length plan.commands + 1) g.state
+  pub steps : m + count_left plan g + parcels_under_way (length plan.names) g.state.channel ≤ length plan.commands + put_so_far (length plan.commands + 1) g.state
 
-few_after : (plan : Plan) (m : ℕ) (g : Progress) (x : Step) (give : Give) → Few plan m g → enabled plan g x ≡ true → Few plan (suc m) (after_plan_step plan g x give)
+few_after : (plan : Planned) (m : ℕ) (g : Progress) (x : Step) (give : Give) → Few plan m g → enabled plan g x ≡ true → Few plan (suc m) (after_plan_step plan g x give)
 few_after plan m g x give f e = let d = falls plan g x give f.run_facts f.begun e in record {
   run_facts = facts_after plan g x give f.run_facts;
   begun = (let a = d.begun in let b = f.begun in omega (arith, a, b));
@@ -122,23 +127,23 @@ few_after plan m g x give f e = let d = falls plan g x give f.run_facts f.begun 
 }
 
 -- at first
-pub opened_start : (plan : Plan) → IsPlan plan → Opened plan (record { state = opening plan.size; done = λ p. 0; phase = 0 }) (start plan)
-opened_start plan i = opened_is plan (record { state = opening plan.size; done = λ p. 0; phase = 0 }) (λ p. ordered plan.size p 0 plan.commands i)
+pub opened_start : (plan : Planned) → IsPlan plan → Opened plan (record { state = opening (length plan.names); done = λ p. 0; phase = 0 }) (start plan)
+opened_start plan i = opened_is plan (record { state = opening (length plan.names); done = λ p. 0; phase = 0 }) (λ p. own_ordered plan p i)
 
-pub count_at_start : (plan : Plan) → IsPlan plan → count_left plan (start plan) ≤ length plan.commands
-count_at_start plan i = let a = each_of plan.size plan.commands in let b = ap (λ (d : ℕ → ℕ). total_below plan.size (λ p. length (drop (d p) (commands_of p plan.commands)))) (opened_start plan i).done in omega (arith, a, b)
+pub count_at_start : (plan : Planned) → IsPlan plan → count_left plan (start plan) ≤ length plan.commands
+count_at_start plan i = let a = each_of (length plan.names) plan.commands in let b = ap (λ (d : ℕ → ℕ). total_below (length plan.names) (λ p. length (drop (d p) (commands_of p plan.commands)))) (opened_start plan i).done in omega (arith, a, b)
 
-pub none_under_way_at_start : (plan : Plan) → IsPlan plan → parcels_under_way plan.size (start plan).state.channel ≡ 0
-none_under_way_at_start plan i = ap (λ (t : State). parcels_under_way plan.size t.channel) (opened_start plan i).state ∙ (total_same plan.size (λ p. total_below plan.size (λ q. 0)) (λ p. 0) (λ p. nothing plan.size) ∙ nothing plan.size)
+pub none_under_way_at_start : (plan : Planned) → IsPlan plan → parcels_under_way (length plan.names) (start plan).state.channel ≡ 0
+none_under_way_at_start plan i = ap (λ (t : State). parcels_under_way (length plan.names) t.channel) (opened_start plan i).state ∙ (total_same (length plan.names) (λ p. total_below (length plan.names) (λ q. 0)) (λ p. 0) (λ p. nothing (length plan.names)) ∙ nothing (length plan.names))
 
-pub few_at_start : (plan : Plan) → IsPlan plan → Few plan 0 (start plan)
+pub few_at_start : (plan : Planned) → IsPlan plan → Few plan 0 (start plan)
 few_at_start plan i = record {
   run_facts = facts_at_start plan i;
   begun = (let a = count_at_start plan i in let b = ap (λ (t : State). t.instances) (opened_start plan i).state in omega (arith, a, b));
   steps = (let a = count_at_start plan i in let b = none_under_way_at_start plan i in omega (arith, a, b));
 }
 
-few_moves : (plan : Plan) (moves : List Move) (m : ℕ) (g g' : Progress) → Few plan m g → after_moves plan g moves ≡ Some g' → Few plan (m + length moves) g'
+few_moves : (plan : Planned) (moves : List Move) (m : ℕ) (g g' : Progress) → Few plan m g → after_moves plan g moves ≡ Some g' → Few plan (m + length moves) g'
 few_moves plan [] m g g' f e = let x : m + 0 ≡ m = omega arith in rw x (subst (Few plan m) (ap (λ (o : Option Progress). unwrap_or o g) e) f)
 few_moves plan (x ∷ xs) m g g' f e = let y : m + suc (length xs) ≡ suc m + length xs = omega arith in rw y (at_if (λ (o : Option Progress). o ≡ Some g' → Few plan (suc m + length xs) g') (enabled plan g x.step) (after_moves plan (after_plan_step plan g x.step x.give) xs) None
     (λ b z. few_moves plan xs (suc m) (after_plan_step plan g x.step x.give) g' (few_after plan m g x.step x.give f b) z)
@@ -164,20 +169,20 @@ put_most n k s r =
         let z = decisions_bounded (once_closed s) r.after_step.always.counted v in
         omega (arith, x, y, z)
 
-pub few_steps : (plan : Plan) (moves : List Move) (g : Progress) → IsPlan plan → after_moves plan (start plan) moves ≡ Some g → length moves ≤ most_steps plan (length g.state.log)
+pub few_steps : (plan : Planned) (moves : List Move) (g : Progress) → IsPlan plan → after_moves plan (start plan) moves ≡ Some g → length moves ≤ most_steps plan (length g.state.log)
 few_steps plan moves g i e =
     let f = few_moves plan moves 0 (start plan) g (few_at_start plan i) e in
-    let p = put_most plan.size (length plan.commands + 1) g.state (state_facts plan g f.run_facts) in
+    let p = put_most (length plan.names) (length plan.commands + 1) g.state (state_facts plan g f.run_facts) in
     let s = f.steps in
     omega (arith, p, s)
 
-pub few : (plan : Plan) (g : Progress) → IsPlan plan → (r : IsReached plan g) → Few plan (length r.moves) g
+pub few : (plan : Planned) (g : Progress) → IsPlan plan → (r : IsReached plan g) → Few plan (length r.moves) g
 few plan g i r = subst (λ (m : ℕ). Few plan m g) (omega arith) (few_moves plan r.moves 0 (start plan) g (few_at_start plan i) r.leads)
 
-pub work_falls : (plan : Plan) (rows : ℕ) (g : Progress) (x : Step) (give : Give) → IsPlan plan → IsReached plan g → enabled plan g x ≡ true → length (after_plan_step plan g x give).state.log ≤ rows → work_left rows plan (after_plan_step plan g x give) < work_left rows plan g
+pub work_falls : (plan : Planned) (rows : ℕ) (g : Progress) (x : Step) (give : Give) → IsPlan plan → IsReached plan g → enabled plan g x ≡ true → length (after_plan_step plan g x give).state.log ≤ rows → work_left rows plan (after_plan_step plan g x give) < work_left rows plan g
 work_falls plan rows g x give i r b l =
     let f = few plan g i r in
     let k = facts_after plan g x give f.run_facts in
-    let p = put_most plan.size (length plan.commands + 1) (after_plan_step plan g x give).state (state_facts plan (after_plan_step plan g x give) k) in
+    let p = put_most (length plan.names) (length plan.commands + 1) (after_plan_step plan g x give).state (state_facts plan (after_plan_step plan g x give) k) in
     let s = (falls plan g x give f.run_facts f.begun b).steps in
     omega (arith, l, p, s)

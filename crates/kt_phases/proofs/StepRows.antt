@@ -16,11 +16,16 @@ use Rattle.kt_protocol.specs.Parcels.{Parcel, App, Ask, Reply, Decide, with_rest
 use Rattle.kt_protocol.specs.States.{State, is_ready}
 use Rattle.kt_protocol.specs.Replies.{unable_cause}
 use Rattle.kt_protocol.specs.States as machine
-use Rattle.kt_phases.specs.Plans.{Command, IsJobOf, Job, Plan, first_command}
+use Rattle.kt_plan.specs.declared.commands.Command.{Command}
+use Rattle.kt_plan.specs.Limits.{IsJobOf, Planned}
+use Rattle.kt_plan.specs.declared.commands.Job.{Job}
 use Rattle.kt_phases.specs.Progress.{Progress, next_command}
 use Rattle.kt_phases.specs.Rows.{AreDecidingRows, AreRowsOfCommand, AreRowsOfDo, AreRowsOfMessage, AreRowsOfTake, list_taken, refusal_cause}
-use Rattle.kt_phases.specs.Steps.{Do, Give, Step, Take, after_command, after_plan_step, body_sent, enabled, may_do, may_do_job, protocol_step}
-use Rattle.kt_phases.specs.Plans as job
+use Rattle.kt_plan.specs.declared.steps.Step.TheVariants.{Do, Take}
+use Rattle.kt_plan.specs.declared.steps.Give.{Give}
+use Rattle.kt_plan.specs.declared.steps.Step.{Step}
+use Rattle.kt_phases.specs.Steps.{after_command, after_plan_step, body_sent, enabled, may_do, may_do_job, protocol_step}
+use Rattle.kt_plan.specs.declared.commands.Job.TheVariants as job
 use Rattle.kt_phases.specs.Rows as rows
 use Rattle.kt_phases.proofs.PhaseOrder.{Ordered}
 use Rattle.kt_phases.proofs.RunFacts.{RunFacts, opened_command, opened_take, after_front}
@@ -89,15 +94,15 @@ job_adds s p job.Fail give l i m = go (s.up p)
     go false = record { rows = Refused p verb.Fail Down ∷ []; log = refl; fit = refl }
 
 -- what an enabled command is
-pub record IsTurn (plan : Plan) (g : Progress) (p : ℕ) (c : Command) : Type 0 where
+pub record IsTurn (plan : Planned) (g : Progress) (p : ℕ) (c : Command) : Type 0 where
   pub next : next_command plan g p ≡ Some c
   pub low : p < g.state.processes
   pub fits : IsJobOf g.state.processes p c.job
   pub of_phase : c.phase ≡ g.phase
   pub may : may_do_job (g.state.so_far.open_in p == 0) c.job ≡ true
 
-pub turn_of : (plan : Plan) (g : Progress) (p : ℕ) (c : Command) → RunFacts plan g → next_command plan g p ≡ Some c → (nat_lt p plan.size && may_do g p (Some c)) ≡ true → IsTurn plan g p c
-turn_of plan g p c k e b = let t = tests p plan.size c.phase g.phase (may_do_job (g.state.so_far.open_in p == 0) c.job) b in record {
+pub turn_of : (plan : Planned) (g : Progress) (p : ℕ) (c : Command) → RunFacts plan g → next_command plan g p ≡ Some c → (nat_lt p (length plan.names) && may_do g p (Some c)) ≡ true → IsTurn plan g p c
+turn_of plan g p c k e b = let t = tests p (length plan.names) c.phase g.phase (may_do_job (g.state.so_far.open_in p == 0) c.job) b in record {
   next = e;
   low = subst (λ (n : ℕ). p < n) (sym (state_facts plan g k).processes) t.0;
   fits = subst (λ (n : ℕ). IsJobOf n p c.job) (sym (state_facts plan g k).processes) o.1;
@@ -108,8 +113,8 @@ turn_of plan g p c k e b = let t = tests p plan.size c.phase g.phase (may_do_job
     tests : (p n x y : ℕ) (b : Bool) → (nat_lt p n && (x == y && b)) ≡ true → (p < n) × (x ≡ y) × (b ≡ true)
     tests p n x y b e = grind (arith, nat_tests, e)
 
-    o : Ordered plan.size p g.phase (c ∷ (after_front plan g p c e).0)
-    o = subst (λ (l : List Command). Ordered plan.size p g.phase l) (after_front plan g p c e).1 (k.ahead p)
+    o : Ordered (length plan.names) p g.phase (c ∷ (after_front plan g p c e).0)
+    o = subst (λ (l : List Command). Ordered (length plan.names) p g.phase l) (after_front plan g p c e).1 (k.ahead p)
 
 few_begun : (p k : ℕ) (x y : Event) (more rows : List Event) → AreDecidingRows p k more → rows ≡ x ∷ y ∷ more → length rows ≤ 4
 few_begun p k x y more rows f e = let a = few_ends p k more f in rw e (omega (arith, a))
@@ -137,11 +142,11 @@ few_take s s' p q (Ask k l ∷ rest) rows e = let x = e.1 in omega (arith, x)
 few_take s s' p q (Reply k w ∷ rest) rows e = let x = e.1 in omega (arith, x)
 few_take s s' p q (Decide k c ∷ rest) rows e = let x = e.1 in omega (arith, x)
 
-pub adds : (plan : Plan) (g : Progress) (x : Step) (give : Give) → RunFacts plan g → enabled plan g x ≡ true → rows.AddsRows plan g x give
+pub adds : (plan : Planned) (g : Progress) (x : Step) (give : Give) → RunFacts plan g → enabled plan g x ≡ true → rows.AddsRows plan g x give
 adds plan g (Do p) give k b = record { rows = y.0; log = y.1; fit = y.2; few = few_command g.state p give (next_command plan g p) y.0 y.2 }
   where
-    go : (o : Option Command) → next_command plan g p ≡ o → (nat_lt p plan.size && may_do g p o) ≡ true → (l : List Event) × ((after_command plan g p give o).state.log ≡ g.state.log ++ l) × AreRowsOfDo g.state p give o l
-    go None e f = absurd (none (nat_lt p plan.size) f)
+    go : (o : Option Command) → next_command plan g p ≡ o → (nat_lt p (length plan.names) && may_do g p o) ≡ true → (l : List Event) × ((after_command plan g p give o).state.log ≡ g.state.log ++ l) × AreRowsOfDo g.state p give o l
+    go None e f = absurd (none (nat_lt p (length plan.names)) f)
       where
         none : (b : Bool) → (b && false) ≡ true → ⊥
         none true e = cc (e)

@@ -1,5 +1,5 @@
 -- Each step raises the tallies by the asks, replies and decisions that it adds to the channels.
-use Rattle.std.proofs.Common.{◌≡◌, ℕ, ℤ, ◌+◌, ◌<◌, Bool, true, false, List, [], ◌∷◌, refl, arith, sym, ap, subst, ◌∙◌, Some, None}
+use Rattle.std.proofs.Common.{length, ◌≡◌, ℕ, ℤ, ◌+◌, ◌<◌, Bool, true, false, List, [], ◌∷◌, refl, arith, sym, ap, subst, ◌∙◌, Some, None}
 use Rattle.std.specs.Prelude.{◌==◌, ◌&&◌, not, nat_lt, if◌then◌else◌, Option}
 use Rattle.std.proofs.lemmas.Bool.Decides.{nat_tests}
 use Rattle.kt_base.specs.declared.words.Cause.TheVariants.{Busy}
@@ -16,11 +16,16 @@ use Rattle.kt_protocol.specs.Parcels.{Parcel, App, Ask, Reply, Decide, Lists, wi
 use Rattle.kt_protocol.specs.Replies.{after_noting, after_replying, after_unwilling, after_reply, after_answering, unable_cause}
 use Rattle.kt_protocol.specs.States.{State, is_ready, can_take}
 use Rattle.kt_protocol.specs.States as machine
-use Rattle.kt_phases.specs.Plans.{Command, IsJobOf, Job, Plan}
+use Rattle.kt_plan.specs.declared.commands.Command.{Command}
+use Rattle.kt_plan.specs.Limits.{IsJobOf, Planned}
+use Rattle.kt_plan.specs.declared.commands.Job.{Job}
 use Rattle.kt_phases.specs.Progress.{Progress, next_command}
-use Rattle.kt_phases.specs.Steps.{Do, Give, Step, Take, after_command, body_sent, enabled, may_do, protocol_step}
+use Rattle.kt_plan.specs.declared.steps.Step.TheVariants.{Do, Take}
+use Rattle.kt_plan.specs.declared.steps.Give.{Give}
+use Rattle.kt_plan.specs.declared.steps.Step.{Step}
+use Rattle.kt_phases.specs.Steps.{after_command, body_sent, enabled, may_do, protocol_step}
 use Rattle.kt_phases.specs.Tallies.{IsTallied, IsTalliedStep, count_in_channels, count_in_front, is_ask_of, is_decision_of, is_reply_of, taken_off}
-use Rattle.kt_phases.specs.Plans as job
+use Rattle.kt_plan.specs.declared.commands.Job.TheVariants as job
 use Rattle.kt_phases.proofs.RunFacts.{RunFacts, opened_command, opened_take}
 use Rattle.kt_phases.proofs.StateFacts.{StateFacts, state_facts}
 use Rattle.kt_phases.proofs.StepRows.{turn_of}
@@ -222,21 +227,21 @@ module _ (n : ℕ) where
   job_tallied s p job.Rollback give b pl i = at_if (IsTallied n none s) (s.so_far.open_in p == 0) _ _ (λ _. beginning_tallied s p true b pl) (λ _. unchanged n s _ refl refl refl refl)
   job_tallied s p job.Fail give b pl i = at_if (IsTallied n none s) (s.up p) _ _ (λ _. unchanged n s _ refl refl refl refl) (λ _. unchanged n s _ refl refl refl refl)
 
-pub tallied : (plan : Plan) (g : Progress) (x : Step) (give : Give) → RunFacts plan g → enabled plan g x ≡ true → IsTalliedStep plan g x give
+pub tallied : (plan : Planned) (g : Progress) (x : Step) (give : Give) → RunFacts plan g → enabled plan g x ≡ true → IsTalliedStep plan g x give
 tallied plan g (Do p) give k e = go (next_command plan g p) refl e
   where
-    go : (o : Option Command) → next_command plan g p ≡ o → (nat_lt p plan.size && may_do g p o) ≡ true → IsTallied plan.size none g.state (after_command plan g p give o).state
-    go None n f = unchanged plan.size g.state g.state refl refl refl refl
+    go : (o : Option Command) → next_command plan g p ≡ o → (nat_lt p (length plan.names) && may_do g p o) ≡ true → IsTallied (length plan.names) none g.state (after_command plan g p give o).state
+    go None n f = unchanged (length plan.names) g.state g.state refl refl refl refl
     go (Some c) n f =
         let t = turn_of plan g p c k n f in
         let r = state_facts plan g k in
-        subst (IsTallied plan.size none g.state) (sym (opened_command plan g p give c k n).state)
-        (job_tallied plan.size g.state p c.job give r.processes (subst (λ (m : ℕ). p < m) r.processes t.low) (subst (λ (m : ℕ). IsJobOf m p c.job) r.processes t.fits))
-tallied plan g (Take p q) give k e = subst (IsTallied plan.size (taken_off g.state (Take p q)) g.state) (sym (opened_take plan g p q give k).state)
-    (take_tallied plan.size g.state p q (state_facts plan g k).processes low.0 low.1 give.able (state_facts plan g k))
+        subst (IsTallied (length plan.names) none g.state) (sym (opened_command plan g p give c k n).state)
+        (job_tallied (length plan.names) g.state p c.job give r.processes (subst (λ (m : ℕ). p < m) r.processes t.low) (subst (λ (m : ℕ). IsJobOf m p c.job) r.processes t.fits))
+tallied plan g (Take p q) give k e = subst (IsTallied (length plan.names) (taken_off g.state (Take p q)) g.state) (sym (opened_take plan g p q give k).state)
+    (take_tallied (length plan.names) g.state p q (state_facts plan g k).processes low.0 low.1 give.able (state_facts plan g k))
   where
     tests : (p q n : ℕ) (c : Bool) → ((nat_lt p n && nat_lt q n) && c) ≡ true → (p < n) × (q < n)
     tests p q n c e = grind (arith, nat_tests, e)
 
-    low : (p < plan.size) × (q < plan.size)
-    low = tests p q plan.size (can_take g.state p q) e
+    low : (p < (length plan.names)) × (q < (length plan.names))
+    low = tests p q (length plan.names) (can_take g.state p q) e

@@ -12,11 +12,16 @@ use Rattle.kt_protocol.specs.Refusals.{MayBeUnwilling}
 use Rattle.kt_protocol.specs.States.{State}
 use Rattle.kt_protocol.specs.States as machine
 use Rattle.kt_protocol.proofs.AddedRows.{adds_step}
-use Rattle.kt_phases.specs.Plans.{Command, Job, Plan}
+use Rattle.kt_plan.specs.declared.commands.Command.{Command}
+use Rattle.kt_plan.specs.declared.commands.Job.{Job}
+use Rattle.kt_plan.specs.Limits.{Planned}
 use Rattle.kt_phases.specs.Progress.{Progress, next_command}
 use Rattle.kt_phases.specs.Rows.{IsUnwillingStep}
-use Rattle.kt_phases.specs.Steps.{Do, Give, Step, Take, after_command, after_plan_step, enabled, may_do, protocol_step}
-use Rattle.kt_phases.specs.Plans as job
+use Rattle.kt_plan.specs.declared.steps.Step.TheVariants.{Do, Take}
+use Rattle.kt_plan.specs.declared.steps.Give.{Give}
+use Rattle.kt_plan.specs.declared.steps.Step.{Step}
+use Rattle.kt_phases.specs.Steps.{after_command, after_plan_step, enabled, may_do, protocol_step}
+use Rattle.kt_plan.specs.declared.commands.Job.TheVariants as job
 use Rattle.kt_phases.proofs.RunFacts.{RunFacts, opened_command, opened_take}
 use Rattle.kt_phases.proofs.StateFacts.{StateFacts, state_facts}
 
@@ -46,7 +51,7 @@ step_refuses n s y t p k c r e l = elim (adds_step (once_closed s) y r.invariant
   | inr a ↦ record { from = a.1.0; able = a.1.1; is = a.1.2; row = a.0; justified = a.1.3 }
 ]
 
-pub unwilling : (plan : Plan) (g : Progress) (x : Step) (give : Give) (t p k : ℕ) (c : Cause) → RunFacts plan g → enabled plan g x ≡ true → slice_get (after_plan_step plan g x give).state.log t ≡ Some (Unwilling p k c) → length g.state.log ≤ t → IsUnwillingStep g x give t p k c
+pub unwilling : (plan : Planned) (g : Progress) (x : Step) (give : Give) (t p k : ℕ) (c : Cause) → RunFacts plan g → enabled plan g x ≡ true → slice_get (after_plan_step plan g x give).state.log t ≡ Some (Unwilling p k c) → length g.state.log ≤ t → IsUnwillingStep g x give t p k c
 unwilling plan g (Do u) give t p k c h b e l = go (next_command plan g u) refl b e
   where
     never : (j : Job) (q : ℕ) (able : Bool) → protocol_step u j give ≡ machine.Take p q able → ⊥
@@ -55,14 +60,14 @@ unwilling plan g (Do u) give t p k c h b e l = go (next_command plan g u) refl b
     never job.Rollback q able e = cc (e)
     never job.Fail q able e = cc (e)
 
-    go : (o : Option Command) → next_command plan g u ≡ o → (nat_lt u plan.size && may_do g u o) ≡ true → slice_get (after_command plan g u give o).state.log t ≡ Some (Unwilling p k c) → IsUnwillingStep g (Do u) give t p k c
-    go None n f e = absurd (none (nat_lt u plan.size) f)
+    go : (o : Option Command) → next_command plan g u ≡ o → (nat_lt u (length plan.names) && may_do g u o) ≡ true → slice_get (after_command plan g u give o).state.log t ≡ Some (Unwilling p k c) → IsUnwillingStep g (Do u) give t p k c
+    go None n f e = absurd (none (nat_lt u (length plan.names)) f)
       where
         none : (b : Bool) → (b && false) ≡ true → ⊥
         none true e = cc (e)
         none false e = cc (e)
-    go (Some d) n f e = absurd (let o = step_refuses plan.size g.state (protocol_step u d.job give) t p k c (state_facts plan g h) (ap (λ (s : State). slice_get s.log t) (sym (opened_command plan g u give d h n).state) ∙ e) l in never d.job o.from o.able o.is)
-unwilling plan g (Take u q) give t p k c h b e l = go (step_refuses plan.size g.state (machine.Take u q give.able) t p k c (state_facts plan g h) (ap (λ (s : State). slice_get s.log t) (sym (opened_take plan g u q give h).state) ∙ e) l)
+    go (Some d) n f e = absurd (let o = step_refuses (length plan.names) g.state (protocol_step u d.job give) t p k c (state_facts plan g h) (ap (λ (s : State). slice_get s.log t) (sym (opened_command plan g u give d h n).state) ∙ e) l in never d.job o.from o.able o.is)
+unwilling plan g (Take u q) give t p k c h b e l = go (step_refuses (length plan.names) g.state (machine.Take u q give.able) t p k c (state_facts plan g h) (ap (λ (s : State). slice_get s.log t) (sym (opened_take plan g u q give h).state) ∙ e) l)
   where
     go : IsOfStep (once_closed g.state) (machine.Take u q give.able) t p k c → IsUnwillingStep g (Take u q) give t p k c
     go o = let i : u ≡ p = cc (is) in let j : q ≡ o.from = cc (is) in let a : give.able ≡ o.able = cc (is) in

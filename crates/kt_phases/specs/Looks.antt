@@ -3,17 +3,16 @@ use Rattle.std.specs.Prelude.{Bool, None, if◌then◌else◌, Some, ◌&&◌, �
 use Rattle.kt_protocol.specs.Joining.{must_take}
 use Rattle.kt_protocol.specs.Parcels.{Parcel, Ask, App, Reply, Decide, has_parcel}
 use Rattle.kt_protocol.specs.States.{State, is_ready}
-use Rattle.kt_phases.specs.Plans.{Job, Command, Plan}
+use Rattle.kt_plan.specs.declared.commands.Job.{Job}
+use Rattle.kt_plan.specs.declared.commands.Command.{Command}
+use Rattle.kt_plan.specs.declared.steps.Look.{Look}
+use Rattle.kt_plan.specs.declared.steps.Look.TheVariants.{Idle, NeedsSave, NeedsBody, Plain}
+use Rattle.kt_plan.specs.Limits.{Planned}
 use Rattle.kt_phases.specs.Progress.{Progress, next_command}
-use Rattle.kt_phases.specs.Steps.{Step, Do, Take, enabled}
-use Rattle.kt_phases.specs.Plans as job
-
--- nothing, since the step is not enabled; whether the object can be saved; which body it offers; or nothing
-pub data Look : Type 0 where
-  Idle : Look
-  NeedsSave : Look
-  NeedsBody : Look
-  Plain : Look
+use Rattle.kt_plan.specs.declared.steps.Step.{Step}
+use Rattle.kt_plan.specs.declared.steps.Step.TheVariants.{Do, Take}
+use Rattle.kt_phases.specs.Steps.{enabled}
+use Rattle.kt_plan.specs.declared.commands.Job.TheVariants as job
 
 -- of a job: whether its process is in no instance, and up
 abbrev pub look_of_job : Bool → Bool → Job → Look
@@ -38,12 +37,12 @@ look_of_front s p q (Decide k c ∷ rest) = Plain
 look_of_front s p q [] = Plain
 
 -- of an enabled step: a message that is held asks for nothing
-abbrev pub look_of_step : Plan → Progress → Step → Look
+abbrev pub look_of_step : Planned → Progress → Step → Look
 look_of_step plan now (Do p) = look_of_command now p (next_command plan now p)
 look_of_step plan now (Take p q) = if not (is_ready now.state p) && has_parcel (now.state.held q p) then Plain else look_of_front now.state p q (now.state.channel q p)
 
 -- what a step asks of the object
-abbrev pub look : Plan → Progress → Step → Look
+abbrev pub look : Planned → Progress → Step → Look
 look plan now x = if enabled plan now x then look_of_step plan now x else Idle
 
 -- it counts whether the object can be saved

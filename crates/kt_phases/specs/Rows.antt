@@ -9,10 +9,15 @@ use Rattle.kt_protocol.specs.States.{State, is_ready}
 use Rattle.kt_spacetime.specs.declared.event.Event.{Event}
 use Rattle.kt_spacetime.specs.declared.event.Event.TheVariants.{Decided, Closed, Refused, Sent, Began, Took, Ready, Failed, Unwilling, Received, Dropped}
 use Rattle.kt_phases.specs.Looks.{uses_able, look, uses_body}
-use Rattle.kt_phases.specs.Plans.{Job, Command, Plan}
+use Rattle.kt_plan.specs.declared.commands.Job.{Job}
+use Rattle.kt_plan.specs.declared.commands.Command.{Command}
+use Rattle.kt_plan.specs.Limits.{Planned}
 use Rattle.kt_phases.specs.Progress.{Progress, next_command}
-use Rattle.kt_phases.specs.Steps.{body_sent, Give, Step, Do, Take, after_plan_step}
-use Rattle.kt_phases.specs.Plans as job
+use Rattle.kt_plan.specs.declared.steps.Give.{Give}
+use Rattle.kt_plan.specs.declared.steps.Step.{Step}
+use Rattle.kt_plan.specs.declared.steps.Step.TheVariants.{Do, Take}
+use Rattle.kt_phases.specs.Steps.{body_sent, after_plan_step}
+use Rattle.kt_plan.specs.declared.commands.Job.TheVariants as job
 use Rattle.kt_base.specs.declared.words.Kind.TheVariants as kind
 use Rattle.kt_base.specs.declared.words.Verb.TheVariants as verb
 
@@ -84,12 +89,12 @@ AreRowsOfTake s s' p q (Reply k w ∷ rest) rows = AreInstanceRows p rows
 AreRowsOfTake s s' p q (Decide k c ∷ rest) rows = AreInstanceRows p rows
 
 -- the rows of a step
-abbrev pub AreRowsOfStep : Plan → Progress → Step → Give → List Event → Type 0
+abbrev pub AreRowsOfStep : Planned → Progress → Step → Give → List Event → Type 0
 AreRowsOfStep plan now (Do p) give rows = AreRowsOfDo now.state p give (next_command plan now p) rows
 AreRowsOfStep plan now (Take p q) give rows = AreRowsOfTake now.state (after_plan_step plan now (Take p q) give).state p q (list_taken now.state p q) rows
 
 -- a step adds rows to the log, and they are these
-pub record AddsRows (plan : Plan) (now : Progress) (x : Step) (give : Give) : Type 0 where
+pub record AddsRows (plan : Planned) (now : Progress) (x : Step) (give : Give) : Type 0 where
   pub rows : List Event
   pub log : (after_plan_step plan now x give).state.log ≡ now.state.log ++ rows
   pub fit : AreRowsOfStep plan now x give rows
@@ -113,7 +118,7 @@ has_took_row [] = false
 has_took_row (x ∷ xs) = is_took_row x || has_took_row xs
 
 -- a step takes a tentative checkpoint exactly where it asks whether the object can be saved
-abbrev pub TakesCheckpointWhereAsked : Plan → Progress → Step → Give → Type 0
+abbrev pub TakesCheckpointWhereAsked : Planned → Progress → Step → Give → Type 0
 TakesCheckpointWhereAsked plan now x give = (rows : List Event) × ((after_plan_step plan now x give).state.log ≡ now.state.log ++ rows) × (has_took_row rows ≡ uses_able (look plan now x))
 
 -- a row is a message sent
@@ -140,10 +145,10 @@ is_offer_command None = false
 is_offer_command (Some c) = is_offer_job c.job
 
 -- so is the next command of a process
-abbrev pub is_offer_step : Plan → Progress → Step → Bool
+abbrev pub is_offer_step : Planned → Progress → Step → Bool
 is_offer_step plan now (Do p) = is_offer_command (next_command plan now p)
 is_offer_step plan now (Take p q) = false
 
 -- a step sends what the object offers exactly where it asks for that
-abbrev pub SendsOfferWhereAsked : Plan → Progress → Step → Give → Type 0
+abbrev pub SendsOfferWhereAsked : Planned → Progress → Step → Give → Type 0
 SendsOfferWhereAsked plan now x give = (rows : List Event) × ((after_plan_step plan now x give).state.log ≡ now.state.log ++ rows) × ((is_offer_step plan now x && has_sent_row rows) ≡ uses_body (look plan now x))

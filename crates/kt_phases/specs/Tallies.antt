@@ -1,10 +1,13 @@
 -- The asks, replies and decisions that stand in the channels, and those that a step takes off them.
-use Rattle.std.specs.Prelude.{ℕ, Bool, ◌==◌, false, List, [], ◌∷◌, if◌then◌else◌, ◌+◌, not, ◌&&◌, ◌≡◌}
+use Rattle.std.specs.Prelude.{length, ℕ, Bool, ◌==◌, false, List, [], ◌∷◌, if◌then◌else◌, ◌+◌, not, ◌&&◌, ◌≡◌}
 use Rattle.kt_protocol.specs.Parcels.{Parcel, Ask, Reply, Decide, Lists, has_parcel}
 use Rattle.kt_protocol.specs.States.{State, is_ready}
-use Rattle.kt_phases.specs.Plans.{Plan}
+use Rattle.kt_plan.specs.Limits.{Planned}
 use Rattle.kt_phases.specs.Progress.{Progress}
-use Rattle.kt_phases.specs.Steps.{Step, Do, Take, Give, after_plan_step}
+use Rattle.kt_plan.specs.declared.steps.Step.{Step}
+use Rattle.kt_plan.specs.declared.steps.Step.TheVariants.{Do, Take}
+use Rattle.kt_plan.specs.declared.steps.Give.{Give}
+use Rattle.kt_phases.specs.Steps.{after_plan_step}
 use Rattle.kt_phases.specs.Work.{total_below}
 
 -- a parcel is an ask of k
@@ -48,5 +51,5 @@ pub record IsTallied (n : ℕ) (off : (Parcel → Bool) → ℕ) (s s' : State) 
   pub decisions : (k : ℕ) → count_in_channels n (is_decision_of k) s'.channel + off (is_decision_of k) + s.decisions k ≡ count_in_channels n (is_decision_of k) s.channel + s'.decisions k
 
 -- so does a step of a plan
-abbrev pub IsTalliedStep : Plan → Progress → Step → Give → Type 0
-IsTalliedStep plan now x give = IsTallied plan.size (taken_off now.state x) now.state (after_plan_step plan now x give).state
+abbrev pub IsTalliedStep : Planned → Progress → Step → Give → Type 0
+IsTalliedStep plan now x give = IsTallied (length plan.names) (taken_off now.state x) now.state (after_plan_step plan now x give).state

@@ -1,15 +1,32 @@
 -- Plans that were worked out by hand, and the steps that are made by default.
-use Rattle.std.specs.Prelude.{ℕ, zero, suc, pos, true, Option, Some, None, option_map, List, [], ◌∷◌}
+use Rattle.std.specs.Prelude.{ℕ, zero, suc, pos, true, Option, Some, None, option_map, map, List, [], ◌∷◌, ◌++◌}
 use Rattle.kt_spacetime.specs.declared.event.Event.{Event}
 use Rattle.kt_spacetime.specs.declared.event.Event.TheVariants.{Sent, Received, Began, Took, Ready, Decided, Closed, Failed}
 use Rattle.kt_base.specs.declared.words.Kind.TheVariants as kind
-use Rattle.kt_phases.specs.Plans.{Job, Command, Plan}
-use Rattle.kt_phases.specs.Plans as job
+use Rattle.kt_plan.specs.declared.commands.Job.{Job}
+use Rattle.kt_plan.specs.declared.commands.Command.{Command}
+use Rattle.kt_plan.specs.Limits.{Planned}
+use Rattle.kt_plan.specs.declared.commands.Job.TheVariants as job
 use Rattle.kt_phases.specs.Progress.{Progress, start}
-use Rattle.kt_phases.specs.Steps.{Step, Do, Take, Give, after_plan_step}
-use Rattle.kt_phases.specs.Looks.{Look, look}
+use Rattle.kt_plan.specs.declared.steps.Step.{Step}
+use Rattle.kt_plan.specs.declared.steps.Step.TheVariants.{Do, Take}
+use Rattle.kt_plan.specs.declared.steps.Give.{Give}
+use Rattle.kt_phases.specs.Steps.{after_plan_step}
+use Rattle.kt_plan.specs.declared.steps.Look.{Look}
+use Rattle.kt_phases.specs.Looks.{look}
 use Rattle.kt_phases.specs.Defaults.{default_step}
 use Rattle.kt_phases.specs.Runs.{Move, after_moves}
+
+-- a plan of so many processes, with a sum each, and these commands
+abbrev pub plan_of : List (List ℕ) → List Command → Planned
+plan_of names commands = record { names = names; kinds = map (λ (name : List ℕ). 0) names; commands = commands }
+
+-- two processes, and three
+abbrev pub two : List (List ℕ)
+two = (97 ∷ []) ∷ (98 ∷ []) ∷ []
+
+abbrev pub three : List (List ℕ)
+three = two ++ (99 ∷ []) ∷ []
 
 -- p's command of phase k
 abbrev pub command : ℕ → ℕ → Job → Command
@@ -25,35 +42,33 @@ moves_of [] = []
 moves_of (x ∷ xs) = record { step = x; give = given } ∷ moves_of xs
 
 -- at most n default steps from here, with the next one
-abbrev pub steps_from : ℕ → Plan → Progress → Option Step → List Step
+abbrev pub steps_from : ℕ → Planned → Progress → Option Step → List Step
 steps_from zero plan now next = []
 steps_from (suc n) plan now None = []
 steps_from (suc n) plan now (Some x) = x ∷ steps_from n plan (after_plan_step plan now x given) (default_step plan (after_plan_step plan now x given))
 
 -- and from the start
-abbrev pub default_steps : ℕ → Plan → List Step
+abbrev pub default_steps : ℕ → Planned → List Step
 default_steps n plan = steps_from n plan (start plan) (default_step plan (start plan))
 
 -- where some steps lead from the start
-abbrev pub led_to : Plan → List Step → Option Progress
+abbrev pub led_to : Planned → List Step → Option Progress
 led_to plan steps = after_moves plan (start plan) (moves_of steps)
 
 -- the log, the open phase, and what another step asks of its object, after some steps
-abbrev pub log_after : Plan → List Step → Option (List Event)
+abbrev pub log_after : Planned → List Step → Option (List Event)
 log_after plan steps = option_map (λ now. now.state.log) (led_to plan steps)
 
-abbrev pub phase_after : Plan → List Step → Option ℕ
+abbrev pub phase_after : Planned → List Step → Option ℕ
 phase_after plan steps = option_map (λ now. now.phase) (led_to plan steps)
 
-abbrev pub look_after : Plan → List Step → Step → Option Look
+abbrev pub look_after : Planned → List Step → Step → Option Look
 look_after plan steps x = option_map (λ now. look plan now x) (led_to plan steps)
 
 -- a message, and two phases later a checkpoint, and a message that has to wait for it
-abbrev pub checkpoint_two_phases_later : Plan
-checkpoint_two_phases_later = record {
-  size = 2;
-  commands = command 0 0 (job.Send 1 (Some (pos 5))) ∷ command 1 2 job.Checkpoint ∷ command 1 2 (job.Send 0 None) ∷ command 0 2 job.Fail ∷ [];
-}
+abbrev pub checkpoint_two_phases_later : Planned
+checkpoint_two_phases_later =
+    plan_of two (command 0 0 (job.Send 1 (Some (pos 5))) ∷ command 1 2 job.Checkpoint ∷ command 1 2 (job.Send 0 None) ∷ command 0 2 job.Fail ∷ [])
 
 -- its default steps: 1 begins the checkpoint, which 0 joins; 1 sends once it has closed, and 0 fails
 abbrev pub checkpoint_two_phases_later_steps : List Step
@@ -75,15 +90,13 @@ checkpoint_two_phases_later_log =
     []
 
 -- its only command is of a later phase
-abbrev pub late_message : Plan
-late_message = record { size = 2; commands = command 0 3 (job.Send 1 None) ∷ [] }
+abbrev pub late_message : Planned
+late_message = plan_of two (command 0 3 (job.Send 1 None) ∷ [])
 
 -- 0 rolls back what it sent; 1 joins, and holds what 2 sent it until it has closed; then 0 begins a checkpoint
-abbrev pub message_held : Plan
-message_held = record {
-  size = 3;
-  commands = command 0 0 (job.Send 1 (Some (pos 1))) ∷ command 0 1 job.Rollback ∷ command 2 1 (job.Send 1 (Some (pos 2))) ∷ command 0 2 job.Checkpoint ∷ [];
-}
+abbrev pub message_held : Planned
+message_held =
+    plan_of three (command 0 0 (job.Send 1 (Some (pos 1))) ∷ command 0 1 job.Rollback ∷ command 2 1 (job.Send 1 (Some (pos 2))) ∷ command 0 2 job.Checkpoint ∷ [])
 
 -- the message is held; and it is received, and the checkpoint begun
 abbrev pub until_it_is_held : List Step

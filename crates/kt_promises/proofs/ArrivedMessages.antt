@@ -1,5 +1,5 @@
 -- At rest each live message that isn't dropped has been received, and that is live.
-use Rattle.std.proofs.Common.{◌≡◌, ℕ, Bool, true, false, List, ◌++◌, append-nil, refl, arith, sym, ap, ap₂, ◌∙◌, Some, None}
+use Rattle.std.proofs.Common.{length, ◌≡◌, ℕ, Bool, true, false, List, ◌++◌, append-nil, refl, arith, sym, ap, ap₂, ◌∙◌, Some, None}
 use Rattle.std.specs.Prelude.{◌==◌, if◌then◌else◌}
 use Rattle.kt_fifo.specs.declared.parcels.Parcel.{Parcel}
 use Rattle.kt_cuts.specs.declared.deeds.Deed.TheVariants as deed
@@ -13,7 +13,7 @@ use Rattle.kt_values.specs.Done.{done}
 use Rattle.kt_values.specs.States.{live_in}
 use Rattle.kt_values.proofs.ReceivedMessages.{got_none}
 use Rattle.kt_values.proofs.StateValues.{live_is}
-use Rattle.kt_phases.specs.Plans.{Plan, IsPlan}
+use Rattle.kt_plan.specs.Limits.{Planned, IsPlan}
 use Rattle.kt_phases.proofs.RunFacts.{run_facts}
 use Rattle.kt_promises.specs.World.{World}
 use Rattle.kt_promises.specs.Steps.{is_at_rest}
@@ -26,20 +26,20 @@ use Rattle.kt_promises.proofs.DefaultSteps.{numbers_are, legal_progress}
 use Rattle.kt_promises.proofs.WholeLogs.{rested}
 
 -- who is in no instance is in none by the log
-open_none : (plan : Plan) (first : ℕ) (w : World) (p : ℕ) → IsPlan plan → IsReachedWorld plan first w → (w.now.people p).inst ≡ 0 → (past w.now.log).open_in p ≡ None
+open_none : (plan : Planned) (first : ℕ) (w : World) (p : ℕ) → IsPlan plan → IsReachedWorld plan first w → (w.now.people p).inst ≡ 0 → (past w.now.log).open_in p ≡ None
 open_none plan first w p i r = carry plan first w (λ v. (v.now.people p).inst ≡ 0 → (past v.now.log).open_in p ≡ None) i r
     (λ g s z. let k = run_facts plan g i s in (tied g.state.log (legal_progress plan g k)).open_in p ∙ none ((summary g.state.log).open_in p) (ap (λ (h : Summary). h.open_in p) (sym (numbers_are plan g k)) ∙ z))
   where
     none : (n : ℕ) → n ≡ 0 → (if n == 0 then None else Some n) ≡ None
     none n e = rw e refl
 
-module _ (plan : Plan) (first : ℕ) (w : World) (i : IsPlan plan) (r : IsReachedWorld plan first w) (a : is_at_rest plan w ≡ true) where
+module _ (plan : Planned) (first : ℕ) (w : World) (i : IsPlan plan) (r : IsReachedWorld plan first w) (a : is_at_rest plan w ≡ true) where
   quiet : HasNothingUnderWay w.now
   quiet = (rested plan first w i r a).0
 
   -- at rest a live history is what the process itself did
   pub own_live : (q : ℕ) → (past w.now.log).live q ≡ (done w.now.log).own q
-  own_live q = live_is w.now.log q (log_of plan first w IsLegal i r (λ s. (lawful_after_run plan.size s).legal))
+  own_live q = live_is w.now.log q (log_of plan first w IsLegal i r (λ s. (lawful_after_run (length plan.names) s).legal))
       ∙ ap (live_in (done w.now.log) q) (open_none plan first w q i r (quiet.closed q))
 
   line_received : (p q : ℕ) → line w.now p q ≡ received_of p ((past w.now.log).live q)
@@ -47,7 +47,7 @@ module _ (plan : Plan) (first : ℕ) (w : World) (i : IsPlan plan) (r : IsReache
       ∙ (append-nil (received_of p ((done w.now.log).own q)) ∙ ap (received_of p) (sym (own_live q)))
 
   pub received_once : (m p q : ℕ) → has_deed (deed.Sent m q) ((past w.now.log).live p) ≡ true → (past w.now.log).dropped m ≡ false → times m (received_of p ((past w.now.log).live q)) ≡ 1
-  received_once m p q h d = ap (times m) (sym (line_received p q)) ∙ seen_of plan first w EachStandsOnce i r (once_seen plan.size first) m p q h d
+  received_once m p q h d = ap (times m) (sym (line_received p q)) ∙ seen_of plan first w EachStandsOnce i r (once_seen (length plan.names) first) m p q h d
 
   pub received_all : (m p q : ℕ) → has_deed (deed.Sent m q) ((past w.now.log).live p) ≡ true → (past w.now.log).dropped m ≡ false → has_deed (deed.Received m p) ((past w.now.log).live q) ≡ true
   received_all m p q h d = go (has_deed (deed.Received m p) ((past w.now.log).live q)) refl

@@ -17,9 +17,11 @@ use Rattle.kt_protocol.proofs.Walk.{invariant_after_run}
 use Rattle.kt_closing.specs.LateSteps.{late_run}
 use Rattle.kt_closing.proofs.WholeSteps.{same_log, agrees_after_run}
 use Rattle.kt_seen.specs.Seen.{seen_parcels, seen}
-use Rattle.kt_phases.specs.Plans.{Plan, IsPlan}
+use Rattle.kt_plan.specs.Limits.{Planned, IsPlan}
 use Rattle.kt_phases.specs.Progress.{Progress}
-use Rattle.kt_phases.specs.Steps.{Step, Do, Take, Give}
+use Rattle.kt_plan.specs.declared.steps.Step.{Step}
+use Rattle.kt_plan.specs.declared.steps.Step.TheVariants.{Do, Take}
+use Rattle.kt_plan.specs.declared.steps.Give.{Give}
 use Rattle.kt_phases.specs.Looks as plan_looks
 use Rattle.kt_phases.specs.Order as plan_order
 use Rattle.kt_phases.specs.Rows as plan_rows
@@ -45,18 +47,18 @@ known : (n : ℕ) (steps : List machine.Step) → (late_run (opening n) steps).s
 known n steps = subst (λ (s : State). s.so_far ≡ summary s.log) (sym (agrees_after_run n steps).same) (invariant_after_run n steps).histories.of_log
 
 -- the state's summary is that of its log
-pub numbers_are : (plan : Plan) (g : Progress) (k : RunFacts plan g) → g.state.so_far ≡ summary g.state.log
-numbers_are plan g k = subst (λ (s : State). s.so_far ≡ summary s.log) (sym k.state_is) (known plan.size k.steps)
+pub numbers_are : (plan : Planned) (g : Progress) (k : RunFacts plan g) → g.state.so_far ≡ summary g.state.log
+numbers_are plan g k = subst (λ (s : State). s.so_far ≡ summary s.log) (sym k.state_is) (known (length plan.names) k.steps)
 
-pub legal_progress : (plan : Plan) (g : Progress) (k : RunFacts plan g) → IsLegal g.state.log
-legal_progress plan g k = subst IsLegal (sym (ap (λ (s : State). s.log) k.state_is ∙ same_log plan.size k.steps)) (lawful_after_run plan.size k.steps).legal
+pub legal_progress : (plan : Planned) (g : Progress) (k : RunFacts plan g) → IsLegal g.state.log
+legal_progress plan g k = subst IsLegal (sym (ap (λ (s : State). s.log) k.state_is ∙ same_log (length plan.names) k.steps)) (lawful_after_run (length plan.names) k.steps).legal
 
 -- rest
 none_seen : (label : ℕ → ℕ) (body : ℕ → ℤ) (roll : ℕ → Bool) (l : List Parcel) → l ≡ [] → seen_parcels label body roll l ≡ []
 unfolding seen_parcels
 none_seen label body roll l e = ap (seen_parcels label body roll) e
 
-quiet_of_progress : (plan : Plan) (first : ℕ) (g : Progress) → RunFacts plan g → protocol_at_rest.IsAtRest g.state → HasNothingUnderWay (seen first g.state)
+quiet_of_progress : (plan : Planned) (first : ℕ) (g : Progress) → RunFacts plan g → protocol_at_rest.IsAtRest g.state → HasNothingUnderWay (seen first g.state)
 quiet_of_progress plan first g k a = record {
   decided = λ j pos low. ap is_some ((tied g.state.log (legal_progress plan g k)).decision j) ∙ some (j) (ap (λ (h : Summary). h.is_decided j) (sym (numbers_are plan g k)) ∙ a.decided j pos low);
   closed = a.closed;
@@ -67,43 +69,43 @@ quiet_of_progress plan first g k a = record {
     some : (j : ℕ) → (summary g.state.log).is_decided j ≡ true → is_some (if (summary g.state.log).is_decided j then Some ((summary g.state.log).is_committed j) else None) ≡ true
     some j e = rw e refl
 
-pub quiet_seen_at_rest : (plan : Plan) (first : ℕ) (w : World) → IsPlan plan → IsReachedWorld plan first w → ((x : Step) → enabled plan w x ≡ false) → HasNothingUnderWay w.now
+pub quiet_seen_at_rest : (plan : Planned) (first : ℕ) (w : World) → IsPlan plan → IsReachedWorld plan first w → ((x : Step) → enabled plan w x ≡ false) → HasNothingUnderWay w.now
 quiet_seen_at_rest plan first w i r = carry plan first w (λ v. ((x : Step) → enabled plan v x ≡ false) → HasNothingUnderWay v.now) i r
     (λ g s n. let k = run_facts plan g i s in quiet_of_progress plan first g k (rests plan g k (nothing_on plan first g n)).machine)
 
-pub done_seen : (plan : Plan) (first : ℕ) (w : World) (p : ℕ) → IsPlan plan → IsReachedWorld plan first w → ((x : Step) → enabled plan w x ≡ false) → commands_left plan w p ≡ []
+pub done_seen : (plan : Planned) (first : ℕ) (w : World) (p : ℕ) → IsPlan plan → IsReachedWorld plan first w → ((x : Step) → enabled plan w x ≡ false) → commands_left plan w p ≡ []
 done_seen plan first w p i r = carry plan first w (λ v. ((x : Step) → enabled plan v x ≡ false) → commands_left plan v p ≡ []) i r
     (λ g s n. (rests plan g (run_facts plan g i s) (nothing_on plan first g n)).none_left p)
 
 -- the default step
-pub nothing_default : (plan : Plan) (first : ℕ) (w : World) → IsPlan plan → IsReachedWorld plan first w → default_step plan w ≡ None → (x : Step) → enabled plan w x ≡ false
+pub nothing_default : (plan : Planned) (first : ℕ) (w : World) → IsPlan plan → IsReachedWorld plan first w → default_step plan w ≡ None → (x : Step) → enabled plan w x ≡ false
 nothing_default plan first w i r = carry plan first w (λ v. default_step plan v ≡ None → (x : Step) → enabled plan v x ≡ false) i r
     (λ g s e x. enabled_same plan first g x ∙ none_is plan g (sym (default_same plan first g) ∙ e) x)
 
-pub default_nothing : (plan : Plan) (first : ℕ) (w : World) → IsPlan plan → IsReachedWorld plan first w → ((x : Step) → enabled plan w x ≡ false) → default_step plan w ≡ None
+pub default_nothing : (plan : Planned) (first : ℕ) (w : World) → IsPlan plan → IsReachedWorld plan first w → ((x : Step) → enabled plan w x ≡ false) → default_step plan w ≡ None
 default_nothing plan first w i r = carry plan first w (λ v. ((x : Step) → enabled plan v x ≡ false) → default_step plan v ≡ None) i r
     (λ g s n. default_same plan first g ∙ is_none plan g (nothing_on plan first g n))
 
-pub rest_default : (plan : Plan) (first : ℕ) (w : World) → IsPlan plan → IsReachedWorld plan first w → is_at_rest plan w ≡ true → default_step plan w ≡ None
+pub rest_default : (plan : Planned) (first : ℕ) (w : World) → IsPlan plan → IsReachedWorld plan first w → is_at_rest plan w ≡ true → default_step plan w ≡ None
 rest_default plan first w i r = carry plan first w (λ v. is_at_rest plan v ≡ true → default_step plan v ≡ None) i r
     (λ g s a. default_same plan first g ∙ is_none plan g (idle_at_rest plan g (sym (rest_same plan first g) ∙ a)))
 
-pub default_on : (plan : Plan) (first : ℕ) (w : World) (x : Step) → IsPlan plan → IsReachedWorld plan first w → default_step plan w ≡ Some x → enabled plan w x ≡ true
+pub default_on : (plan : Planned) (first : ℕ) (w : World) (x : Step) → IsPlan plan → IsReachedWorld plan first w → default_step plan w ≡ Some x → enabled plan w x ≡ true
 default_on plan first w x i r = carry plan first w (λ v. default_step plan v ≡ Some x → enabled plan v x ≡ true) i r
     (λ g s e. enabled_same plan first g x ∙ (some_is plan g x (sym (default_same plan first g) ∙ e)).on)
 
-before_same : (plan : Plan) (first : ℕ) (g : Progress) (x y : Step) → comes_before plan (world_of first g) x y ≡ plan_order.comes_before plan g x y
+before_same : (plan : Planned) (first : ℕ) (g : Progress) (x y : Step) → comes_before plan (world_of first g) x y ≡ plan_order.comes_before plan g x y
 before_same plan first g (Take p q) (Take u v) = refl
 before_same plan first g (Take p q) (Do u) = refl
 before_same plan first g (Do p) (Take u v) = refl
 before_same plan first g (Do p) (Do u) = refl
 
-pub default_first : (plan : Plan) (first : ℕ) (w : World) (x y : Step) → IsPlan plan → IsReachedWorld plan first w → default_step plan w ≡ Some x → enabled plan w y ≡ true → (x ≡ y) ⊎ (comes_before plan w x y ≡ true)
+pub default_first : (plan : Planned) (first : ℕ) (w : World) (x y : Step) → IsPlan plan → IsReachedWorld plan first w → default_step plan w ≡ Some x → enabled plan w y ≡ true → (x ≡ y) ⊎ (comes_before plan w x y ≡ true)
 default_first plan first w x y i r = carry plan first w (λ v. default_step plan v ≡ Some x → enabled plan v y ≡ true → (x ≡ y) ⊎ (comes_before plan v x y ≡ true)) i r
     (λ g s e b. subst (λ (z : Bool). (x ≡ y) ⊎ (z ≡ true)) (sym (before_same plan first g x y)) ((some_is plan g x (sym (default_same plan first g) ∙ e)).first y (sym (enabled_same plan first g y) ∙ b)))
 
 -- what of a give counts
-pub gives_same : (plan : Plan) (first : ℕ) (w : World) (x : Step) (a b : Give) → IsPlan plan → IsReachedWorld plan first w → enabled plan w x ≡ true → (plan_looks.uses_able (look plan w x) ≡ true → a.able ≡ b.able) → (plan_looks.uses_body (look plan w x) ≡ true → a.body ≡ b.body) → world_after plan w x a ≡ world_after plan w x b
+pub gives_same : (plan : Planned) (first : ℕ) (w : World) (x : Step) (a b : Give) → IsPlan plan → IsReachedWorld plan first w → enabled plan w x ≡ true → (plan_looks.uses_able (look plan w x) ≡ true → a.able ≡ b.able) → (plan_looks.uses_body (look plan w x) ≡ true → a.body ≡ b.body) → world_after plan w x a ≡ world_after plan w x b
 gives_same plan first w x a b i r = carry plan first w (λ v. enabled plan v x ≡ true → (plan_looks.uses_able (look plan v x) ≡ true → a.able ≡ b.able) → (plan_looks.uses_body (look plan v x) ≡ true → a.body ≡ b.body) → world_after plan v x a ≡ world_after plan v x b) i r
     (λ g s e f h. let k = run_facts plan g i s in
     sym (after_same plan first g x a k (sym (enabled_same plan first g x) ∙ e)) ∙ (ap (world_of first) (plan_gives.gives_same plan g x a b (sym (enabled_same plan first g x) ∙ e)
@@ -116,7 +118,7 @@ refuse_seen first s p q k able (Busy j) m = record { member = m.member; undecide
 refuse_seen first s p q k able Down m = record { member = m.member; undecided = m.undecided; cause = (let f = m.cause.0 in record { checkpoint = f.checkpoint; closed = f.closed; has_to = f.has_to }, m.cause.1) }
 refuse_seen first s p q k able NoSave m = record { member = m.member; undecided = m.undecided; cause = (let f = m.cause.0 in record { checkpoint = f.checkpoint; closed = f.closed; has_to = f.has_to }, m.cause.1, m.cause.2) }
 
-unwilling_progress : (plan : Plan) (first : ℕ) (g : Progress) (x : Step) (give : Give) (t p k : ℕ) (c : Cause) → RunFacts plan g → plan_rows.IsUnwillingStep g x give t p k c → IsUnwillingStep (world_of first g) x give t p k c
+unwilling_progress : (plan : Planned) (first : ℕ) (g : Progress) (x : Step) (give : Give) (t p k : ℕ) (c : Cause) → RunFacts plan g → plan_rows.IsUnwillingStep g x give t p k c → IsUnwillingStep (world_of first g) x give t p k c
 unwilling_progress plan first g x give t p k c h u = record {
   from = u.from;
   step = u.step;
@@ -124,7 +126,7 @@ unwilling_progress plan first g x give t p k c h u = record {
   justified = subst (λ (y : Summary). MayBeUnwilling y (seen first g.state) p u.from k give.able c) (numbers_are plan g h) (refuse_seen first g.state p u.from k give.able c u.justified);
 }
 
-pub unwilling_seen : (plan : Plan) (first : ℕ) (w : World) (x : Step) (give : Give) (t p k : ℕ) (c : Cause) → IsPlan plan → IsReachedWorld plan first w → enabled plan w x ≡ true →
+pub unwilling_seen : (plan : Planned) (first : ℕ) (w : World) (x : Step) (give : Give) (t p k : ℕ) (c : Cause) → IsPlan plan → IsReachedWorld plan first w → enabled plan w x ≡ true →
     slice_get (world_after plan w x give).now.log t ≡ Some (Unwilling p k c) → length w.now.log ≤ t → IsUnwillingStep w x give t p k c
 unwilling_seen plan first w x give t p k c i r = carry plan first w (λ v. enabled plan v x ≡ true → slice_get (world_after plan v x give).now.log t ≡ Some (Unwilling p k c) → length v.now.log ≤ t → IsUnwillingStep v x give t p k c) i r
     (λ g s b e l. let h = run_facts plan g i s in unwilling_progress plan first g x give t p k c h

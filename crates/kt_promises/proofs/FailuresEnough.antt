@@ -1,5 +1,5 @@
 -- Restoring takes no more spares than there are commands to fail.
-use Rattle.std.proofs.Common.{◌≡◌, ℕ, ℤ, suc, ◌+◌, ◌≤◌, Bool, true, false, List, [], ◌∷◌, ◌++◌, drop, refl, arith, sym, ap, inl, inr, ◌∙◌, Some, None}
+use Rattle.std.proofs.Common.{length, ◌≡◌, ℕ, ℤ, suc, ◌+◌, ◌≤◌, Bool, true, false, List, [], ◌∷◌, ◌++◌, drop, refl, arith, sym, ap, inl, inr, ◌∙◌, Some, None}
 use Rattle.std.specs.Prelude.{◌==◌, ◌&&◌, nat_lt, if◌then◌else◌, Option}
 use Rattle.std.proofs.lemmas.Bool.Decides.{nat_tests}
 use Rattle.kt_base.specs.declared.words.Cause.{Cause}
@@ -16,10 +16,15 @@ use Rattle.kt_values.specs.Done.{Done, done_start, done_after}
 use Rattle.kt_values.specs.Values.{Rules, Apply, Keep, Drop, first_due, acts_at, acts_along, closing, drops, spares}
 use Rattle.kt_values.proofs.CanBeDone.{along_can}
 use Rattle.kt_values.proofs.Spares.{drops_more, balance}
-use Rattle.kt_phases.specs.Plans.{Plan, Job, Command, IsPlan, commands_of, first_command}
-use Rattle.kt_phases.specs.Steps.{Step, Do, Take, Give}
+use Rattle.kt_plan.specs.Limits.{Planned, IsPlan}
+use Rattle.kt_plan.specs.declared.commands.Job.{Job}
+use Rattle.kt_plan.specs.declared.commands.Command.{Command}
+use Rattle.kt_phases.specs.Plans.{commands_of, first_command}
+use Rattle.kt_plan.specs.declared.steps.Step.{Step}
+use Rattle.kt_plan.specs.declared.steps.Step.TheVariants.{Do, Take}
+use Rattle.kt_plan.specs.declared.steps.Give.{Give}
 use Rattle.kt_phases.specs.Rows.{AreDecidingRows, AreRowsOfCommand, are_instance_rows}
-use Rattle.kt_phases.specs.Plans as job
+use Rattle.kt_plan.specs.declared.commands.Job.TheVariants as job
 use Rattle.kt_phases.proofs.PhaseOrder.{drop_next}
 use Rattle.kt_promises.specs.Failures.{is_failure, count_failures, failures_of}
 use Rattle.kt_promises.specs.World.{World, commands_left, next_command, start_world}
@@ -165,15 +170,15 @@ job_failed a k u job.Fail z None l e = go (a == u) (rw e refl)
     go false x = omega (arith, x)
 
 -- what p has failed, and has still to fail
-pub record Failing (plan : Plan) (p : ℕ) (w : World) : Type 0 where
+pub record Failing (plan : Planned) (p : ℕ) (w : World) : Type 0 where
   pub few : failed p w.now.log + count_failures (commands_left plan w p) ≤ failures_of p plan
 
 -- commands that are left are those of the number done
-left_at : (plan : Plan) (p : ℕ) (d d' : ℕ → ℕ) → d' ≡ d → count_failures (drop (d' p) (commands_of p plan.commands)) ≡ count_failures (drop (d p) (commands_of p plan.commands))
+left_at : (plan : Planned) (p : ℕ) (d d' : ℕ → ℕ) → d' ≡ d → count_failures (drop (d' p) (commands_of p plan.commands)) ≡ count_failures (drop (d p) (commands_of p plan.commands))
 left_at plan p d d' e = ap (λ (f : ℕ → ℕ). count_failures (drop (f p) (commands_of p plan.commands))) e
 
 -- one command less
-less_left : (plan : Plan) (w : World) (u p : ℕ) (c : Command) → next_command plan w u ≡ Some c →
+less_left : (plan : Planned) (w : World) (u p : ℕ) (c : Command) → next_command plan w u ≡ Some c →
     count_failures (drop (if p == u then w.done u + 1 else w.done p) (commands_of p plan.commands)) + one (p == u && is_failure c.job) ≡ count_failures (commands_left plan w p)
 unfolding one
 less_left plan w u p c e = go (p == u) refl
@@ -192,7 +197,7 @@ less_left plan w u p c e = go (p == u) refl
         rw (n, f, d) (omega (arith, g))
     go false i = omega arith
 
-do_failing : (plan : Plan) (w : World) (u p : ℕ) (give : Give) (l : List Event) (o : Option Command) → next_command plan w u ≡ o → AreRowsOfDo w.now u give o l → enabled plan w (Do u) ≡ true →
+do_failing : (plan : Planned) (w : World) (u p : ℕ) (give : Give) (l : List Event) (o : Option Command) → next_command plan w u ≡ o → AreRowsOfDo w.now u give o l → enabled plan w (Do u) ≡ true →
     (world_after plan w (Do u) give).now.log ≡ w.now.log ++ l → Failing plan p w → Failing plan p (world_after plan w (Do u) give)
 do_failing plan w u p give l None n f b e i = absurd (no_turn b)
   where
@@ -201,7 +206,7 @@ do_failing plan w u p give l None n f b e i = absurd (no_turn b)
     none false e = cc (e)
 
     no_turn : enabled plan w (Do u) ≡ true → ⊥
-    no_turn b = none (nat_lt u plan.size) (ap (λ (o : Option Command). nat_lt u plan.size && may_do w u o) (sym n) ∙ b)
+    no_turn b = none (nat_lt u (length plan.names)) (ap (λ (o : Option Command). nat_lt u (length plan.names) && may_do w u o) (sym n) ∙ b)
 do_failing plan w u p give l (Some c) n f b e i = record {
   few = (let a = ap (failed p) e in
       let m = failed_more p w.now.log l in
@@ -212,7 +217,7 @@ do_failing plan w u p give l (Some c) n f b e i = record {
       omega (arith, a, m, j, d, x, y));
 }
 
-step_failing : (plan : Plan) (first : ℕ) (w : World) (x : Step) (give : Give) (p : ℕ) → IsPlan plan → IsReachedWorld plan first w → enabled plan w x ≡ true → Failing plan p w → Failing plan p (world_after plan w x give)
+step_failing : (plan : Planned) (first : ℕ) (w : World) (x : Step) (give : Give) (p : ℕ) → IsPlan plan → IsReachedWorld plan first w → enabled plan w x ≡ true → Failing plan p w → Failing plan p (world_after plan w x give)
 step_failing plan first w (Do u) give p i r b h = do_failing plan w u p give (rows_added plan w (Do u) give) (next_command plan w u) refl (fits plan first w (Do u) give i r b).fit b (log_grows plan first w (Do u) give i r b) h
 step_failing plan first w (Take u q) give p i r b h = record {
   few = (let a = ap (failed p) (log_grows plan first w (Take u q) give i r b) in
@@ -223,7 +228,7 @@ step_failing plan first w (Take u q) give p i r b h = record {
       omega (arith, a, m, j, d, y));
 }
 
-opening_failing : (plan : Plan) (first p : ℕ) → Failing plan p (start_world plan first)
+opening_failing : (plan : Planned) (first p : ℕ) → Failing plan p (start_world plan first)
 opening_failing plan first p = record {
   few = (let o = opening_is plan first in
       let a : failed p (start_world plan first).now.log ≡ 0 = ap (λ (v : Seen). failed p v.log) o.now ∙ none in
@@ -234,11 +239,11 @@ opening_failing plan first p = record {
     none : failed p [] ≡ 0
     none = empty p
 
-pub failing : (plan : Plan) (first : ℕ) (w : World) (p : ℕ) → IsPlan plan → IsReachedWorld plan first w → Failing plan p w
+pub failing : (plan : Planned) (first : ℕ) (w : World) (p : ℕ) → IsPlan plan → IsReachedWorld plan first w → Failing plan p w
 failing plan first w p i r = seen_keeps plan first (Failing plan p) i (opening_failing plan first p) (λ v x give s b h. step_failing plan first v x give p i s b h) w r
 
-pub spares_seen : {V : Type 0} (r : Rules V) (plan : Plan) (first : ℕ) (w : World) (p : ℕ) → IsPlan plan → IsReachedWorld plan first w → spares r (first_due r) (acts_along p done_start w.now.log) ≤ failures_of p plan
+pub spares_seen : {V : Type 0} (r : Rules V) (plan : Planned) (first : ℕ) (w : World) (p : ℕ) → IsPlan plan → IsReachedWorld plan first w → spares r (first_due r) (acts_along p done_start w.now.log) ≤ failures_of p plan
 spares_seen r plan first w p i s =
-    let a = spares_failed r w.now.log p (log_of plan first w IsLegal i s (λ x. (lawful_after_run plan.size x).legal)) in
+    let a = spares_failed r w.now.log p (log_of plan first w IsLegal i s (λ x. (lawful_after_run (length plan.names) x).legal)) in
     let b = (failing plan first w p i s).few in
     omega (arith, a, b)

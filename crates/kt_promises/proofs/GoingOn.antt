@@ -2,8 +2,9 @@
 use Rattle.std.proofs.Common.{◌≡◌, ℕ, ◌+◌, ◌≤◌, ◌<◌, true, List, [], ◌∷◌, ◌++◌, length, refl, arith, ap, inl, inr, ◌∙◌, Some, None}
 use Rattle.std.specs.Prelude.{◌⊎◌, Option, unwrap_or, if◌then◌else◌}
 use Rattle.kt_protocol.proofs.Choices.{at_if}
-use Rattle.kt_phases.specs.Plans.{Plan, IsPlan}
-use Rattle.kt_phases.specs.Steps.{Step, Give}
+use Rattle.kt_plan.specs.Limits.{Planned, IsPlan}
+use Rattle.kt_plan.specs.declared.steps.Step.{Step}
+use Rattle.kt_plan.specs.declared.steps.Give.{Give}
 use Rattle.kt_phases.specs.Runs.{Move}
 use Rattle.kt_phases.specs.Work.{most_steps}
 use Rattle.kt_phases.proofs.DefaultRuns.{limits}
@@ -15,24 +16,24 @@ use Rattle.kt_promises.proofs.RunSteps.{few_steps_seen, rest_seen}
 use Rattle.kt_promises.proofs.DefaultSteps.{nothing_default, default_on}
 
 -- one list of moves after another
-pub play_append : (plan : Plan) (xs ys : List Move) (u v w : World) → after_moves plan u xs ≡ Some v → after_moves plan v ys ≡ Some w → after_moves plan u (xs ++ ys) ≡ Some w
+pub play_append : (plan : Planned) (xs ys : List Move) (u v w : World) → after_moves plan u xs ≡ Some v → after_moves plan v ys ≡ Some w → after_moves plan u (xs ++ ys) ≡ Some w
 play_append plan [] ys u v w e f = let i : u ≡ v = ap (λ (o : Option World). unwrap_or o u) e in rw i f
 play_append plan (x ∷ xs) ys u v w e f = at_if (λ (o : Option World). o ≡ Some v → (if enabled plan u x.step then after_moves plan (world_after plan u x.step x.give) (xs ++ ys) else None) ≡ Some w) (enabled plan u x.step) (after_moves plan (world_after plan u x.step x.give) xs) None
     (λ b z. rw b (play_append plan xs ys (world_after plan u x.step x.give) v w z f))
     (λ b z. absurd (cc (z))) e
 
-pub goes_run : (plan : Plan) (first : ℕ) (given more : List Move) (w : World) → GoesOn plan first given more w → after_moves plan (start_world plan first) (given ++ more) ≡ Some w
+pub goes_run : (plan : Planned) (first : ℕ) (given more : List Move) (w : World) → GoesOn plan first given more w → after_moves plan (start_world plan first) (given ++ more) ≡ Some w
 goes_run plan first given more w g = play_append plan given more (start_world plan first) g.begun w g.begins g.leads
 
-pub goes_reached : (plan : Plan) (first : ℕ) (given more : List Move) (w : World) → GoesOn plan first given more w → IsReachedWorld plan first w
+pub goes_reached : (plan : Planned) (first : ℕ) (given more : List Move) (w : World) → GoesOn plan first given more w → IsReachedWorld plan first w
 goes_reached plan first given more w g = record { moves = given ++ more; leads = goes_run plan first given more w g }
 
 -- with no default step yet
-pub goes_first : (plan : Plan) (first : ℕ) (given : List Move) (w : World) → after_moves plan (start_world plan first) given ≡ Some w → GoesOn plan first given [] w
+pub goes_first : (plan : Planned) (first : ℕ) (given : List Move) (w : World) → after_moves plan (start_world plan first) given ≡ Some w → GoesOn plan first given [] w
 goes_first plan first given w e = record { begun = w; begins = e; default = tt; leads = refl }
 
 -- one default step more
-default_more : (plan : Plan) (xs : List Move) (u v : World) (x : Step) (give : Give) → AreDefaultMoves plan u xs → after_moves plan u xs ≡ Some v → default_step plan v ≡ Some x → AreDefaultMoves plan u (xs ++ record { step = x; give = give } ∷ [])
+default_more : (plan : Planned) (xs : List Move) (u v : World) (x : Step) (give : Give) → AreDefaultMoves plan u xs → after_moves plan u xs ≡ Some v → default_step plan v ≡ Some x → AreDefaultMoves plan u (xs ++ record { step = x; give = give } ∷ [])
 default_more plan [] u v x give a e d = let i : u ≡ v = ap (λ (o : Option World). unwrap_or o u) e in (ap (default_step plan) i ∙ d, tt)
 default_more plan (m ∷ xs) u v x give a e d = (
   a.0,
@@ -41,7 +42,7 @@ default_more plan (m ∷ xs) u v x give a e d = (
       (λ b z. absurd (cc (z))) e,
 )
 
-pub goes_next : (plan : Plan) (first : ℕ) (given more : List Move) (w : World) (x : Step) (give : Give) → IsPlan plan → GoesOn plan first given more w → default_step plan w ≡ Some x →
+pub goes_next : (plan : Planned) (first : ℕ) (given more : List Move) (w : World) (x : Step) (give : Give) → IsPlan plan → GoesOn plan first given more w → default_step plan w ≡ Some x →
     GoesOn plan first given (more ++ record { step = x; give = give } ∷ []) (world_after plan w x give)
 goes_next plan first given more w x give i g d = record {
   begun = g.begun;
@@ -54,25 +55,25 @@ length_both : {X : Type 0} (l m : List X) → length (l ++ m) ≡ length l + len
 length_both [] m = omega arith
 length_both (x ∷ l) m = let e = length_both l m in omega (arith, e)
 
-pub goes_few : (plan : Plan) (first : ℕ) (given more : List Move) (w : World) → IsPlan plan → GoesOn plan first given more w → length given + length more ≤ most_steps plan (length w.now.log)
+pub goes_few : (plan : Planned) (first : ℕ) (given more : List Move) (w : World) → IsPlan plan → GoesOn plan first given more w → length given + length more ≤ most_steps plan (length w.now.log)
 goes_few plan first given more w i g = let a = few_steps_seen plan first (given ++ more) w i (goes_run plan first given more w g) in let b = length_both given more in omega (arith, a, b)
 
-most_rises : (plan : Plan) (m n : ℕ) → m ≤ n → most_steps plan m ≤ most_steps plan n
+most_rises : (plan : Planned) (m n : ℕ) → m ≤ n → most_steps plan m ≤ most_steps plan n
 most_rises plan m n l = omega (arith, l)
 
-pub goes_below : (plan : Plan) (first : ℕ) (given more : List Move) (w : World) → IsPlan plan → plan.size ≤ 64 → length plan.commands ≤ 4096 → length w.now.log ≤ 16777216 → GoesOn plan first given more w → length given + length more < 67108864
+pub goes_below : (plan : Planned) (first : ℕ) (given more : List Move) (w : World) → IsPlan plan → (length plan.names) ≤ 64 → length plan.commands ≤ 4096 → length w.now.log ≤ 16777216 → GoesOn plan first given more w → length given + length more < 67108864
 goes_below plan first given more w i a b l g = let x = goes_few plan first given more w i g in let y = limits plan (length w.now.log) a b l in omega (arith, x, y)
 
-pub goes_rest : (plan : Plan) (first : ℕ) (given more : List Move) (w : World) → IsPlan plan → GoesOn plan first given more w → default_step plan w ≡ None → is_at_rest plan w ≡ true
+pub goes_rest : (plan : Planned) (first : ℕ) (given more : List Move) (w : World) → IsPlan plan → GoesOn plan first given more w → default_step plan w ≡ None → is_at_rest plan w ≡ true
 goes_rest plan first given more w i g d = let r = goes_reached plan first given more w g in rest_seen plan first w i r (nothing_default plan first w i r d)
 
 -- what the gives lead to, from where a run is
-pub record Given (plan : Plan) (first : ℕ) (given : List Move) (before n : ℕ) (w : World) : Type 0 where
+pub record Given (plan : Planned) (first : ℕ) (given : List Move) (before n : ℕ) (w : World) : Type 0 where
   pub more : List Move
   pub goes : GoesOn plan first given more w
   pub ends : (default_step plan w ≡ None) ⊎ (length more ≡ before + n)
 
-pub given_on : (plan : Plan) (first : ℕ) (given more : List Move) (w : World) (gives : List Give) → IsPlan plan → GoesOn plan first given more w → Given plan first given (length more) (length gives) (after_gives plan w gives)
+pub given_on : (plan : Planned) (first : ℕ) (given more : List Move) (w : World) (gives : List Give) → IsPlan plan → GoesOn plan first given more w → Given plan first given (length more) (length gives) (after_gives plan w gives)
 given_on plan first given more w [] i g = record { more = more; goes = g; ends = inr (omega arith) }
 given_on plan first given more w (x ∷ xs) i g = go (λ s d. given_on plan first given (more ++ record { step = s; give = x } ∷ []) (world_after plan w s x) xs i (goes_next plan first given more w s x i g d)) (default_step plan w) refl
   where
@@ -88,7 +89,7 @@ given_on plan first given more w (x ∷ xs) i g = go (λ s d. given_on plan firs
     }
 
 -- more gives than a run can have steps lead to rest
-pub given_rest : (plan : Plan) (first rows : ℕ) (given : List Move) (w : World) (gives : List Give) → IsPlan plan → after_moves plan (start_world plan first) given ≡ Some w → length (after_gives plan w gives).now.log ≤ rows → most_steps plan rows < length given + length gives →
+pub given_rest : (plan : Planned) (first rows : ℕ) (given : List Move) (w : World) (gives : List Give) → IsPlan plan → after_moves plan (start_world plan first) given ≡ Some w → length (after_gives plan w gives).now.log ≤ rows → most_steps plan rows < length given + length gives →
     is_at_rest plan (after_gives plan w gives) ≡ true
 given_rest plan first rows given w gives i e l h = let a = given_on plan first given [] w gives i (goes_first plan first given w e) in elim a.ends [
   | inl d ↦ goes_rest plan first given a.more (after_gives plan w gives) i a.goes d

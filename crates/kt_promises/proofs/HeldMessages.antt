@@ -1,5 +1,5 @@
 -- What is held or kept is messages to who holds or keeps them.
-use Rattle.std.proofs.Common.{◌≡◌, ℕ, ℤ, suc, Bool, List, [], ◌∷◌, arith, sym, ap, ◌∙◌, Some}
+use Rattle.std.proofs.Common.{length, ◌≡◌, ℕ, ℤ, suc, Bool, List, [], ◌∷◌, arith, sym, ap, ◌∙◌, Some}
 use Rattle.kt_spacetime.specs.declared.event.Event.{Event}
 use Rattle.kt_spacetime.specs.declared.event.Event.TheVariants.{Sent}
 use Rattle.kt_cuts.specs.Messages.{row_at}
@@ -13,7 +13,7 @@ use Rattle.kt_seen.proofs.LogFacts.{labels_of_rows}
 use Rattle.kt_seen.proofs.RunFacts.{held_sent, kept_sent}
 use Rattle.kt_values.proofs.RunActs.{invariant_late}
 use Rattle.kt_values.proofs.ListedMessages.{IsRow, AllRows, carried_of}
-use Rattle.kt_phases.specs.Plans.{Plan, IsPlan}
+use Rattle.kt_plan.specs.Limits.{Planned, IsPlan}
 use Rattle.kt_promises.specs.World.{World}
 use Rattle.kt_promises.specs.Runs.{IsReachedWorld}
 use Rattle.kt_promises.specs.Messages.{AreMessagesTo}
@@ -34,11 +34,11 @@ list_to first log roll u v (Ask k n ∷ l) a b = absurd (b.0)
 list_to first log roll u v (Reply k w ∷ l) a b = absurd (b.0)
 list_to first log roll u v (Decide k c ∷ l) a b = absurd (b.0)
 
-module _ (plan : Plan) (first : ℕ) (w : World) (i : IsPlan plan) (r : IsReachedWorld plan first w) where
+module _ (plan : Planned) (first : ℕ) (w : World) (i : IsPlan plan) (r : IsReachedWorld plan first w) where
   pub held_to_holder : (p q : ℕ) → AreMessagesTo first w.now.log q p (w.now.held q p)
   held_to_holder p q = seen_of plan first w (λ v. AreMessagesTo first v.log q p (v.held q p)) i r
-      (λ s. let c = late_run (opening plan.size) s in list_to first c.log c.so_far.is_rollback q p (c.held q p) ((carried_of plan.size s (invariant_late plan.size)).held q p) (held_sent plan.size first s q p))
+      (λ s. let c = late_run (opening (length plan.names)) s in list_to first c.log c.so_far.is_rollback q p (c.held q p) ((carried_of (length plan.names) s (invariant_late (length plan.names))).held q p) (held_sent (length plan.names) first s q p))
 
   pub kept_by_receiver : (p q : ℕ) → AreMessagesTo first w.now.log q p (w.now.kept q p)
   kept_by_receiver p q = seen_of plan first w (λ v. AreMessagesTo first v.log q p (v.kept q p)) i r
-      (λ s. let c = late_run (opening plan.size) s in list_to first c.log c.so_far.is_rollback q p (c.kept q p) ((carried_of plan.size s (invariant_late plan.size)).kept q p) (kept_sent plan.size first s q p))
+      (λ s. let c = late_run (opening (length plan.names)) s in list_to first c.log c.so_far.is_rollback q p (c.kept q p) ((carried_of (length plan.names) s (invariant_late (length plan.names))).kept q p) (kept_sent (length plan.names) first s q p))

@@ -8,10 +8,15 @@ use Rattle.kt_protocol.proofs.Choices.{at_if}
 use Rattle.kt_seen.specs.Seen.{Seen}
 use Rattle.kt_seen.specs.Transition.{is_seen_ready}
 use Rattle.kt_seen.specs.CallTests.{must_take}
-use Rattle.kt_phases.specs.Plans.{Job, Command, Plan}
-use Rattle.kt_phases.specs.Plans as job
-use Rattle.kt_phases.specs.Steps.{Step, Do, Take}
-use Rattle.kt_phases.specs.Looks.{Look, Idle, NeedsSave, NeedsBody, Plain, look_of_job}
+use Rattle.kt_plan.specs.declared.commands.Job.{Job}
+use Rattle.kt_plan.specs.declared.commands.Command.{Command}
+use Rattle.kt_plan.specs.Limits.{Planned}
+use Rattle.kt_plan.specs.declared.commands.Job.TheVariants as job
+use Rattle.kt_plan.specs.declared.steps.Step.{Step}
+use Rattle.kt_plan.specs.declared.steps.Step.TheVariants.{Do, Take}
+use Rattle.kt_plan.specs.declared.steps.Look.{Look}
+use Rattle.kt_plan.specs.declared.steps.Look.TheVariants.{Idle, NeedsSave, NeedsBody, Plain}
+use Rattle.kt_phases.specs.Looks.{look_of_job}
 use Rattle.kt_promises.specs.Tallies.{has_parcel}
 use Rattle.kt_promises.specs.World.{World, next_command}
 use Rattle.kt_promises.specs.Steps.{enabled}
@@ -44,11 +49,11 @@ front_asks v p q (Reply k w ∷ rest) = plain
 front_asks v p q (Decide k c ∷ rest) = plain
 front_asks v p q (Ask k kind l ∷ rest) = at_if (λ (x : Look). x ≢ Idle) (((v.people p).inst == 0 && not (is_rollback_kind (Some kind))) && (must_take (v.people p).calls q l && (v.people p).up)) NeedsSave Plain (λ _. saves) (λ _. plain)
 
-step_asks : (plan : Plan) (w : World) (x : Step) → look_of_step plan w x ≢ Idle
+step_asks : (plan : Planned) (w : World) (x : Step) → look_of_step plan w x ≢ Idle
 step_asks plan w (Do p) = command_asks w p (next_command plan w p)
 step_asks plan w (Take p q) = at_if (λ (x : Look). x ≢ Idle) (not (is_seen_ready w.now p) && has_parcel (w.now.held q p)) Plain (look_of_front w.now p q (w.now.channel q p)) (λ _. plain) (λ _. front_asks w.now p q (w.now.channel q p))
 
-pub idle_exactly : (plan : Plan) (w : World) (x : Step) → (look plan w x ≡ Idle) ↔ (enabled plan w x ≡ false)
+pub idle_exactly : (plan : Planned) (w : World) (x : Step) → (look plan w x ≡ Idle) ↔ (enabled plan w x ≡ false)
 idle_exactly plan w x = (
   λ e. at_if (λ (l : Look). l ≡ Idle → enabled plan w x ≡ false) (enabled plan w x) (look_of_step plan w x) Idle (λ b f. absurd (step_asks plan w x f)) (λ b f. b) e,
   λ b. rw b refl,

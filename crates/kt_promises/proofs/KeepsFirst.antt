@@ -16,10 +16,11 @@ use Rattle.kt_protocol.proofs.Choices.{at_if}
 use Rattle.kt_values.specs.Done.{Done, done_after}
 use Rattle.kt_values.specs.Values.{Rules, Due, Act, Apply, Keep, Promote, Discard, Restore, Drop, does, does_all, acts_of, acts_along, closing, spares}
 use Rattle.kt_values.specs.Acts.{acts, acts_arriving, acts_settling, acts_asked, acts_taking, acts_taking_held, acts_starting}
-use Rattle.kt_phases.specs.Plans.{Job}
-use Rattle.kt_phases.specs.Steps.{Give, protocol_step}
+use Rattle.kt_plan.specs.declared.commands.Job.{Job}
+use Rattle.kt_plan.specs.declared.steps.Give.{Give}
+use Rattle.kt_phases.specs.Steps.{protocol_step}
 use Rattle.kt_phases.specs.Rows.{is_took_row, has_took_row}
-use Rattle.kt_phases.specs.Plans as job
+use Rattle.kt_plan.specs.declared.commands.Job.TheVariants as job
 use Rattle.kt_promises.specs.StepActs.{keeps_only_first}
 
 abbrev Keeps : Bool → List Act → Type 0

@@ -1,17 +1,20 @@
 -- What is sent for objects is what they offer.
 use Rattle.std.proofs.Common.{◌≡◌, ℕ, ℤ, true, List, [], ◌∷◌, ◌++◌, length, take, append_assoc, refl, ap, ◌∙◌, Some, None}
 use Rattle.std.proofs.Math.Seq.{take-append_seam}
-use Rattle.std.specs.Prelude.{Option, option_map, slice_get}
+use Rattle.std.specs.Prelude.{Option, slice_get}
 use Rattle.kt_spacetime.specs.declared.event.Event.{Event}
 use Rattle.kt_spacetime.specs.declared.event.Event.TheVariants.{Sent}
 use Rattle.kt_cuts.proofs.Items.{get_seam}
 use Rattle.kt_protocol.proofs.Choices.{at_if}
-use Rattle.kt_values.specs.Done.{done}
-use Rattle.kt_values.specs.Values.{Rules, due}
+use Rattle.kt_values.specs.Values.{Rules}
 use Rattle.kt_values.specs.Offers.{offer}
-use Rattle.kt_phases.specs.Plans.{Plan, IsPlan}
-use Rattle.kt_phases.specs.Steps.{Step, Do, Take, Give, stepper}
-use Rattle.kt_phases.specs.Looks.{Look, Idle, NeedsSave, NeedsBody, Plain, uses_body}
+use Rattle.kt_plan.specs.Limits.{Planned, IsPlan}
+use Rattle.kt_plan.specs.declared.steps.Step.{Step}
+use Rattle.kt_plan.specs.declared.steps.Step.TheVariants.{Do, Take}
+use Rattle.kt_plan.specs.declared.steps.Give.{Give}
+use Rattle.kt_plan.specs.declared.steps.Look.{Look}
+use Rattle.kt_plan.specs.declared.steps.Look.TheVariants.{Idle, NeedsSave, NeedsBody, Plain}
+use Rattle.kt_phases.specs.Looks.{uses_body}
 use Rattle.kt_phases.specs.Runs.{Move}
 use Rattle.kt_promises.specs.World.{World, start_world}
 use Rattle.kt_promises.specs.Steps.{enabled, world_after}
@@ -35,7 +38,7 @@ needs_body Plain e = absurd (cc (e))
 in_place : {V : Type 0} (rules : ℕ → Rules V) (before more log : List Event) (p q : ℕ) (body : ℤ) → log ≡ before ++ Sent p q body ∷ more → offer (rules p) before p ≡ Some body → IsOfferedAt rules log (length before)
 in_place rules before more log p q body e o = (p, q, body, ap (λ (l : List Event). slice_get l (length before)) e ∙ get_seam before (Sent p q body) more, ap (λ (l : List Event). offer (rules p) l p) (ap (take (length before)) e ∙ take-append_seam before (Sent p q body ∷ more)) ∙ o)
 
-module _ {V : Type 0} (rules : ℕ → Rules V) (plan : Plan) (first : ℕ) (i : IsPlan plan) where
+module _ {V : Type 0} (rules : ℕ → Rules V) (plan : Planned) (first : ℕ) (i : IsPlan plan) where
   one_offered : (u : World) (x : Step) (give : Give) (w : World) (more : List Event) → IsReachedWorld plan first u → enabled plan u x ≡ true → uses_body (look plan u x) ≡ true →
       GivesOffer rules plan u x give → w.now.log ≡ (world_after plan u x give).now.log ++ more → IsOfferedAt rules w.now.log (length u.now.log)
   one_offered u (Do p) give w more s b e o l =

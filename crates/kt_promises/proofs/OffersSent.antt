@@ -10,11 +10,18 @@ use Rattle.kt_cuts.specs.Past.{is_rollback_kind}
 use Rattle.kt_seen.specs.Seen.{Seen}
 use Rattle.kt_seen.specs.Transition.{is_seen_ready}
 use Rattle.kt_seen.specs.CallTests.{must_take}
-use Rattle.kt_phases.specs.Plans.{Plan, Job, Command, IsPlan}
-use Rattle.kt_phases.specs.Steps.{Step, Do, Take, Give, stepper}
-use Rattle.kt_phases.specs.Looks.{Look, Idle, NeedsBody, NeedsSave, Plain, look_of_job}
+use Rattle.kt_plan.specs.Limits.{Planned, IsPlan}
+use Rattle.kt_plan.specs.declared.commands.Job.{Job}
+use Rattle.kt_plan.specs.declared.commands.Command.{Command}
+use Rattle.kt_plan.specs.declared.steps.Step.{Step}
+use Rattle.kt_plan.specs.declared.steps.Step.TheVariants.{Do, Take}
+use Rattle.kt_plan.specs.declared.steps.Give.{Give}
+use Rattle.kt_phases.specs.Steps.{stepper}
+use Rattle.kt_plan.specs.declared.steps.Look.{Look}
+use Rattle.kt_plan.specs.declared.steps.Look.TheVariants.{Idle, NeedsBody, NeedsSave, Plain}
+use Rattle.kt_phases.specs.Looks.{look_of_job}
 use Rattle.kt_phases.specs.Rows.{AreRowsOfCommand}
-use Rattle.kt_phases.specs.Plans as job
+use Rattle.kt_plan.specs.declared.commands.Job.TheVariants as job
 use Rattle.kt_promises.specs.World.{World, next_command}
 use Rattle.kt_promises.specs.Steps.{enabled}
 use Rattle.kt_promises.specs.Looks.{look, look_of_step, look_of_command, look_of_front}
@@ -51,7 +58,7 @@ job_offered v p k able job.Rollback z l e f = absurd (cc (e))
 job_offered v p k able job.Fail z l e f = absurd (cc (e))
 
 -- a step that asks for something is enabled
-looked : (plan : Plan) (w : World) (x : Step) → look plan w x ≡ NeedsBody → (enabled plan w x ≡ true) × (look_of_step plan w x ≡ NeedsBody)
+looked : (plan : Planned) (w : World) (x : Step) → look plan w x ≡ NeedsBody → (enabled plan w x ≡ true) × (look_of_step plan w x ≡ NeedsBody)
 looked plan w x = go (enabled plan w x)
   where
     go : (b : Bool) → (if b then look_of_step plan w x else Idle) ≡ NeedsBody → (b ≡ true) × (look_of_step plan w x ≡ NeedsBody)
@@ -62,7 +69,7 @@ command_offered : (w : World) (p : ℕ) (give : Give) (o : Option Command) (l : 
 command_offered w p give None l e f = absurd (cc (e))
 command_offered w p give (Some c) l e f = job_offered w.now p _ give.able c.job give.body l e f
 
-pub offered_seen : (plan : Plan) (first : ℕ) (w : World) (p : ℕ) (give : Give) → IsPlan plan → IsReachedWorld plan first w → look plan w (Do p) ≡ NeedsBody → (q : ℕ) × (rows_added plan w (Do p) give ≡ Sent p q give.body ∷ [])
+pub offered_seen : (plan : Planned) (first : ℕ) (w : World) (p : ℕ) (give : Give) → IsPlan plan → IsReachedWorld plan first w → look plan w (Do p) ≡ NeedsBody → (q : ℕ) × (rows_added plan w (Do p) give ≡ Sent p q give.body ∷ [])
 offered_seen plan first w p give i r e = let h = looked plan w (Do p) e in command_offered w p give (next_command plan w p) (rows_added plan w (Do p) give) h.1 (fits plan first w (Do p) give i r h.0).fit
 
 -- and its process is up
@@ -92,9 +99,9 @@ unfolding is_it
 take_not true l e = refl
 take_not false l e = e
 
-step_up : (plan : Plan) (w : World) (x : Step) → look_of_step plan w x ≡ NeedsBody → (w.now.people (stepper x)).up ≡ true
+step_up : (plan : Planned) (w : World) (x : Step) → look_of_step plan w x ≡ NeedsBody → (w.now.people (stepper x)).up ≡ true
 step_up plan w (Do p) e = command_up w p (next_command plan w p) e
 step_up plan w (Take p q) e = absurd (not_it _ (take_not (not (is_seen_ready w.now p) && has_parcel (w.now.held q p)) _ (front_not w.now p q (w.now.channel q p))) e)
 
-pub up_seen : (plan : Plan) (w : World) (x : Step) → look plan w x ≡ NeedsBody → (w.now.people (stepper x)).up ≡ true
+pub up_seen : (plan : Planned) (w : World) (x : Step) → look plan w x ≡ NeedsBody → (w.now.people (stepper x)).up ≡ true
 up_seen plan w x e = step_up plan w x (looked plan w x e).1

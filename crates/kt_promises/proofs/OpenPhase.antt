@@ -1,7 +1,10 @@
 -- The open phase, by what code has.
-use Rattle.std.proofs.Common.{◌≡◌, ℕ, ◌≤◌, ◌<◌, true, false, sym, subst, ◌∙◌, Some}
-use Rattle.kt_phases.specs.Plans.{Plan, Command, IsPlan}
-use Rattle.kt_phases.specs.Steps.{Step, Do, Give}
+use Rattle.std.proofs.Common.{length, ◌≡◌, ℕ, ◌≤◌, ◌<◌, true, false, sym, subst, ◌∙◌, Some}
+use Rattle.kt_plan.specs.Limits.{Planned, IsPlan}
+use Rattle.kt_plan.specs.declared.commands.Command.{Command}
+use Rattle.kt_plan.specs.declared.steps.Step.{Step}
+use Rattle.kt_plan.specs.declared.steps.Step.TheVariants.{Do}
+use Rattle.kt_plan.specs.declared.steps.Give.{Give}
 use Rattle.kt_phases.specs.Steps as plan_steps
 use Rattle.kt_phases.proofs.RunFacts.{run_facts, next_ahead, next_there}
 use Rattle.kt_phases.proofs.OpenPhase.{in_phase, quiet_between}
@@ -12,27 +15,27 @@ use Rattle.kt_promises.specs.Runs.{IsReachedWorld}
 use Rattle.kt_promises.proofs.SameSteps.{enabled_same, opens_same, quiet_same, after_same}
 use Rattle.kt_promises.proofs.ReachedWorlds.{carry}
 
-pub ahead_seen : (plan : Plan) (first : ℕ) (w : World) (p : ℕ) (c : Command) → IsPlan plan → IsReachedWorld plan first w → next_command plan w p ≡ Some c → w.phase ≤ c.phase
+pub ahead_seen : (plan : Planned) (first : ℕ) (w : World) (p : ℕ) (c : Command) → IsPlan plan → IsReachedWorld plan first w → next_command plan w p ≡ Some c → w.phase ≤ c.phase
 ahead_seen plan first w p c i r = carry plan first w (λ v. next_command plan v p ≡ Some c → v.phase ≤ c.phase) i r (λ g s e. next_ahead plan g p c (run_facts plan g i s) e)
 
-pub shut_seen : (plan : Plan) (first : ℕ) (w : World) → IsPlan plan → IsReachedWorld plan first w → opens_next plan w ≡ false
+pub shut_seen : (plan : Planned) (first : ℕ) (w : World) → IsPlan plan → IsReachedWorld plan first w → opens_next plan w ≡ false
 shut_seen plan first w i r = carry plan first w (λ v. opens_next plan v ≡ false) i r (λ g s. opens_same plan first g ∙ (run_facts plan g i s).shut)
 
-pub in_phase_seen : (plan : Plan) (first : ℕ) (w : World) (p : ℕ) → IsPlan plan → IsReachedWorld plan first w → enabled plan w (Do p) ≡ true → (c : Command) × (next_command plan w p ≡ Some c) × (c.phase ≡ w.phase)
+pub in_phase_seen : (plan : Planned) (first : ℕ) (w : World) (p : ℕ) → IsPlan plan → IsReachedWorld plan first w → enabled plan w (Do p) ≡ true → (c : Command) × (next_command plan w p ≡ Some c) × (c.phase ≡ w.phase)
 in_phase_seen plan first w p i r = carry plan first w (λ v. enabled plan v (Do p) ≡ true → (c : Command) × (next_command plan v p ≡ Some c) × (c.phase ≡ v.phase)) i r
     (λ g s e. in_phase plan g p (run_facts plan g i s) (sym (enabled_same plan first g (Do p)) ∙ e))
 
-pub quiet_seen : (plan : Plan) (first : ℕ) (w : World) (x : Step) (give : Give) → IsPlan plan → IsReachedWorld plan first w → enabled plan w x ≡ true →
-    (w.phase ≤ (world_after plan w x give).phase) × (w.phase < (world_after plan w x give).phase → is_quiet plan.size (world_after plan w x give).now ≡ true)
-quiet_seen plan first w x give i r = carry plan first w (λ v. enabled plan v x ≡ true → (v.phase ≤ (world_after plan v x give).phase) × (v.phase < (world_after plan v x give).phase → is_quiet plan.size (world_after plan v x give).now ≡ true)) i r
+pub quiet_seen : (plan : Planned) (first : ℕ) (w : World) (x : Step) (give : Give) → IsPlan plan → IsReachedWorld plan first w → enabled plan w x ≡ true →
+    (w.phase ≤ (world_after plan w x give).phase) × (w.phase < (world_after plan w x give).phase → is_quiet (length plan.names) (world_after plan w x give).now ≡ true)
+quiet_seen plan first w x give i r = carry plan first w (λ v. enabled plan v x ≡ true → (v.phase ≤ (world_after plan v x give).phase) × (v.phase < (world_after plan v x give).phase → is_quiet (length plan.names) (world_after plan v x give).now ≡ true)) i r
     (λ g s e. let k = run_facts plan g i s in let b = sym (enabled_same plan first g x) ∙ e in
-    subst (λ (v : World). (g.phase ≤ v.phase) × (g.phase < v.phase → is_quiet plan.size v.now ≡ true)) (after_same plan first g x give k b)
-    (let q = quiet_between plan g x give k b in (q.0, λ l. quiet_same plan.size first (plan_steps.after_plan_step plan g x give).state ∙ q.1 l)))
+    subst (λ (v : World). (g.phase ≤ v.phase) × (g.phase < v.phase → is_quiet (length plan.names) v.now ≡ true)) (after_same plan first g x give k b)
+    (let q = quiet_between plan g x give k b in (q.0, λ l. quiet_same (length plan.names) first (plan_steps.after_plan_step plan g x give).state ∙ q.1 l)))
 
-pub attained_seen : (plan : Plan) (first : ℕ) (w : World) (p : ℕ) (c : Command) → IsPlan plan → IsReachedWorld plan first w → is_quiet plan.size w.now ≡ true → next_command plan w p ≡ Some c →
-    (q : ℕ) × (d : Command) × (q < plan.size) × (next_command plan w q ≡ Some d) × (d.phase ≡ w.phase)
-attained_seen plan first w p c i r = carry plan first w (λ v. is_quiet plan.size v.now ≡ true → next_command plan v p ≡ Some c → (q : ℕ) × (d : Command) × (q < plan.size) × (next_command plan v q ≡ Some d) × (d.phase ≡ v.phase)) i r
-    (λ g s quiet. attained plan g p c (run_facts plan g i s) (sym (quiet_same plan.size first g.state) ∙ quiet))
+pub attained_seen : (plan : Planned) (first : ℕ) (w : World) (p : ℕ) (c : Command) → IsPlan plan → IsReachedWorld plan first w → is_quiet (length plan.names) w.now ≡ true → next_command plan w p ≡ Some c →
+    (q : ℕ) × (d : Command) × (q < (length plan.names)) × (next_command plan w q ≡ Some d) × (d.phase ≡ w.phase)
+attained_seen plan first w p c i r = carry plan first w (λ v. is_quiet (length plan.names) v.now ≡ true → next_command plan v p ≡ Some c → (q : ℕ) × (d : Command) × (q < (length plan.names)) × (next_command plan v q ≡ Some d) × (d.phase ≡ v.phase)) i r
+    (λ g s quiet. attained plan g p c (run_facts plan g i s) (sym (quiet_same (length plan.names) first g.state) ∙ quiet))
 
-pub next_there_seen : (plan : Plan) (first : ℕ) (w : World) (p : ℕ) (c : Command) → IsPlan plan → IsReachedWorld plan first w → next_command plan w p ≡ Some c → p < plan.size
-next_there_seen plan first w p c i r = carry plan first w (λ v. next_command plan v p ≡ Some c → p < plan.size) i r (λ g s e. next_there plan g p c (run_facts plan g i s) e)
+pub next_there_seen : (plan : Planned) (first : ℕ) (w : World) (p : ℕ) (c : Command) → IsPlan plan → IsReachedWorld plan first w → next_command plan w p ≡ Some c → p < (length plan.names)
+next_there_seen plan first w p c i r = carry plan first w (λ v. next_command plan v p ≡ Some c → p < (length plan.names)) i r (λ g s e. next_there plan g p c (run_facts plan g i s) e)

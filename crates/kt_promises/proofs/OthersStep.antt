@@ -4,8 +4,9 @@ use Rattle.std.specs.Prelude.{Option, unwrap_or}
 use Rattle.kt_protocol.proofs.Choices.{at_if}
 use Rattle.kt_values.specs.Done.{done}
 use Rattle.kt_values.specs.Values.{Rules, due, does_all}
-use Rattle.kt_phases.specs.Plans.{Plan, IsPlan}
-use Rattle.kt_phases.specs.Steps.{Step, stepper}
+use Rattle.kt_plan.specs.Limits.{Planned, IsPlan}
+use Rattle.kt_plan.specs.declared.steps.Step.{Step}
+use Rattle.kt_phases.specs.Steps.{stepper}
 use Rattle.kt_phases.specs.Runs.{Move}
 use Rattle.kt_promises.specs.World.{World}
 use Rattle.kt_promises.specs.Steps.{enabled, world_after}
@@ -15,14 +16,14 @@ use Rattle.kt_promises.specs.Order.{AreOfOthers}
 use Rattle.kt_promises.proofs.RunSteps.{next_reached_seen, stays_on, stays_seen}
 use Rattle.kt_promises.proofs.ActsOfSteps.{values_lead, others_idle}
 
-pub waits : (plan : Plan) (first : ℕ) (w v : World) (x : Step) (moves : List Move) → IsPlan plan → IsReachedWorld plan first w → enabled plan w x ≡ true → AreOfOthers (stepper x) moves → after_moves plan w moves ≡ Some v → (enabled plan v x ≡ true) × (look plan v x ≡ look plan w x)
+pub waits : (plan : Planned) (first : ℕ) (w v : World) (x : Step) (moves : List Move) → IsPlan plan → IsReachedWorld plan first w → enabled plan w x ≡ true → AreOfOthers (stepper x) moves → after_moves plan w moves ≡ Some v → (enabled plan v x ≡ true) × (look plan v x ≡ look plan w x)
 waits plan first w v x [] i r e o h = let s : w ≡ v = ap (λ (o : Option World). unwrap_or o w) h in (ap (λ (u : World). enabled plan u x) (sym s) ∙ e, ap (λ (u : World). look plan u x) (sym s))
 waits plan first w v x (y ∷ ys) i r e o h = at_if (λ (p : Option World). p ≡ Some v → (enabled plan v x ≡ true) × (look plan v x ≡ look plan w x)) (enabled plan w y.step) (after_moves plan (world_after plan w y.step y.give) ys) None
     (λ b z. let a = waits plan first (world_after plan w y.step y.give) v x ys i (next_reached_seen plan first w y.step y.give i r b) (stays_on plan first w x y.step y.give i r e b o.0) o.1 z in
     (a.0, a.1 ∙ stays_seen plan first w x y.step y.give i r e b o.0))
     (λ b z. absurd (cc (z))) h
 
-pub due_waits : {V : Type 0} (r : Rules V) (plan : Plan) (first : ℕ) (w v : World) (p : ℕ) (moves : List Move) → IsPlan plan → IsReachedWorld plan first w → AreOfOthers p moves → after_moves plan w moves ≡ Some v → due r (done v.now.log) p ≡ due r (done w.now.log) p
+pub due_waits : {V : Type 0} (r : Rules V) (plan : Planned) (first : ℕ) (w v : World) (p : ℕ) (moves : List Move) → IsPlan plan → IsReachedWorld plan first w → AreOfOthers p moves → after_moves plan w moves ≡ Some v → due r (done v.now.log) p ≡ due r (done w.now.log) p
 due_waits r plan first w v p [] i s o h = let e : w ≡ v = ap (λ (o : Option World). unwrap_or o w) h in ap (λ (u : World). due r (done u.now.log) p) (sym e)
 due_waits r plan first w v p (y ∷ ys) i s o h = at_if (λ (q : Option World). q ≡ Some v → due r (done v.now.log) p ≡ due r (done w.now.log) p) (enabled plan w y.step) (after_moves plan (world_after plan w y.step y.give) ys) None
     (λ b z. due_waits r plan first (world_after plan w y.step y.give) v p ys i (next_reached_seen plan first w y.step y.give i s b) o.1 z

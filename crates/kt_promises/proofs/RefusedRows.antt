@@ -10,10 +10,14 @@ use Rattle.kt_spacetime.specs.declared.event.Event.TheVariants.{Sent, Received, 
 use Rattle.kt_cuts.proofs.Items.{get_right}
 use Rattle.kt_seen.specs.Seen.{Seen}
 use Rattle.kt_seen.specs.Transition.{is_seen_ready}
-use Rattle.kt_phases.specs.Plans.{Plan, Job, Command, IsPlan}
-use Rattle.kt_phases.specs.Steps.{Step, Do, Take, Give}
+use Rattle.kt_plan.specs.Limits.{Planned, IsPlan}
+use Rattle.kt_plan.specs.declared.commands.Job.{Job}
+use Rattle.kt_plan.specs.declared.commands.Command.{Command}
+use Rattle.kt_plan.specs.declared.steps.Step.{Step}
+use Rattle.kt_plan.specs.declared.steps.Step.TheVariants.{Do, Take}
+use Rattle.kt_plan.specs.declared.steps.Give.{Give}
 use Rattle.kt_phases.specs.Rows.{verb_of, AreDecidingRows, AreRowsOfCommand, are_instance_rows}
-use Rattle.kt_phases.specs.Plans as job
+use Rattle.kt_plan.specs.declared.commands.Job.TheVariants as job
 use Rattle.kt_promises.specs.World.{World, next_command}
 use Rattle.kt_promises.specs.Steps.{enabled, world_after}
 use Rattle.kt_promises.specs.Runs.{IsReachedWorld}
@@ -110,7 +114,7 @@ unfolding has_refused
 nothing l e = rw e refl
 
 -- a refused row among those of a step
-record InStep (plan : Plan) (w : World) (x : Step) (give : Give) (i p : ℕ) (verb : Verb) (cause : Cause) : Type 0 where
+record InStep (plan : Planned) (w : World) (x : Step) (give : Give) (i p : ℕ) (verb : Verb) (cause : Cause) : Type 0 where
   command : Command
   step : x ≡ Do p
   next : next_command plan w p ≡ Some command
@@ -118,7 +122,7 @@ record InStep (plan : Plan) (w : World) (x : Step) (give : Give) (i p : ℕ) (ve
   at : i ≡ 0
   justified : refusal_cause (w.now.people p) give.able command.job ≡ Some cause
 
-module _ (plan : Plan) (w : World) (give : Give) (i p : ℕ) (verb : Verb) (cause : Cause) (l : List Event) (row : slice_get l i ≡ Some (Refused p verb cause)) where
+module _ (plan : Planned) (w : World) (give : Give) (i p : ℕ) (verb : Verb) (cause : Cause) (l : List Event) (row : slice_get l i ≡ Some (Refused p verb cause)) where
   by_cause : (u : ℕ) (c : Command) → next_command plan w u ≡ Some c → (o : Option Cause) → refusal_cause (w.now.people u) give.able c.job ≡ o → AreRowsOfCommand (w.now.begun + 1) u c.job give.body o l → InStep plan w (Do u) give i p verb cause
   by_cause u c n None y f = absurd (not_both (has_refused l) (there l i p verb cause row) (job_none (w.now.begun + 1) u c.job give.body l f))
   by_cause u c n (Some d) y f = let a = alone p u (verb_of c.job) verb d cause i l f row in record {
@@ -138,7 +142,7 @@ module _ (plan : Plan) (w : World) (give : Give) (i p : ℕ) (verb : Verb) (caus
   by_step (Do u) f = by_command u (next_command plan w u) refl f
   by_step (Take u q) f = absurd (not_both (has_refused l) (there l i p verb cause row) (take_none w.now (world_after plan w (Take u q) give).now u q (list_taken w.now u q) l f))
 
-pub refused_seen : (plan : Plan) (first : ℕ) (w : World) (x : Step) (give : Give) (t p : ℕ) (verb : Verb) (cause : Cause) → IsPlan plan → IsReachedWorld plan first w → enabled plan w x ≡ true →
+pub refused_seen : (plan : Planned) (first : ℕ) (w : World) (x : Step) (give : Give) (t p : ℕ) (verb : Verb) (cause : Cause) → IsPlan plan → IsReachedWorld plan first w → enabled plan w x ≡ true →
     slice_get (world_after plan w x give).now.log t ≡ Some (Refused p verb cause) → length w.now.log ≤ t → IsRefusedStep plan w x give t p verb cause
 refused_seen plan first w x give t p verb cause i r e f l = record {
   command = s.command;

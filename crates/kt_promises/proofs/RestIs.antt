@@ -1,10 +1,12 @@
 -- A plan is at rest exactly where all is done and nothing is under way.
-use Rattle.std.proofs.Common.{◌≡◌, ℕ, ◌<◌, Bool, true, false, List, [], ◌∷◌, refl, ap, None}
+use Rattle.std.proofs.Common.{length, ◌≡◌, ℕ, ◌<◌, Bool, true, false, List, [], ◌∷◌, refl, ap, None}
 use Rattle.std.specs.Prelude.{◌==◌, ◌&&◌, ◌||◌, not, ◌↔◌}
 use Rattle.kt_fifo.specs.declared.parcels.Parcel.{Parcel}
 use Rattle.kt_protocol.specs.Deciding.{none_of}
 use Rattle.kt_seen.specs.Seen.{Seen}
-use Rattle.kt_phases.specs.Plans.{Command, Plan, IsPlan, first_command, has_command}
+use Rattle.kt_plan.specs.declared.commands.Command.{Command}
+use Rattle.kt_plan.specs.Limits.{Planned, IsPlan}
+use Rattle.kt_phases.specs.Plans.{first_command, has_command}
 use Rattle.kt_phases.proofs.PhaseOrder.{none_of_if}
 use Rattle.kt_promises.specs.Tallies.{has_parcel}
 use Rattle.kt_promises.specs.World.{World, commands_left, next_command, is_quiet}
@@ -29,9 +31,9 @@ quiet_if n v h = none_of_if n (λ p. not ((v.people p).inst == 0) || not (none_o
 both : (a b : Bool) → a ≡ true → b ≡ true → (a && b) ≡ true
 both a b e f = rw (e, f) refl
 
-pub rest_is : (plan : Plan) (first : ℕ) (w : World) → IsPlan plan → IsReachedWorld plan first w →
-    (is_at_rest plan w ≡ true) ↔ (((p : ℕ) → p < plan.size → next_command plan w p ≡ None) × HasNothingUnderWay w.now)
+pub rest_is : (plan : Planned) (first : ℕ) (w : World) → IsPlan plan → IsReachedWorld plan first w →
+    (is_at_rest plan w ≡ true) ↔ (((p : ℕ) → p < (length plan.names) → next_command plan w p ≡ None) × HasNothingUnderWay w.now)
 rest_is plan first w i r = (
   λ a. let h = rested plan first w i r a in (λ p _. ap first_command (h.1 p), h.0),
-  λ h. both (none_of plan.size (λ p. has_command (commands_left plan w p))) (is_quiet plan.size w.now) (none_of_if plan.size (λ p. has_command (commands_left plan w p)) (λ p l. no_command (commands_left plan w p) (h.0 p l))) (quiet_if plan.size w.now h.1),
+  λ h. both (none_of (length plan.names) (λ p. has_command (commands_left plan w p))) (is_quiet (length plan.names) w.now) (none_of_if (length plan.names) (λ p. has_command (commands_left plan w p)) (λ p l. no_command (commands_left plan w p) (h.0 p l))) (quiet_if (length plan.names) w.now h.1),
 )

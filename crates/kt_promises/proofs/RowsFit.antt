@@ -15,12 +15,16 @@ use Rattle.kt_seen.specs.Labelling.{labelling}
 use Rattle.kt_seen.specs.Seen.{Seen, seen_parcels, seen}
 use Rattle.kt_seen.specs.ListChanges.{with_parcel}
 use Rattle.kt_seen.specs.Transition.{is_seen_ready, transition}
-use Rattle.kt_phases.specs.Plans.{Plan, Job, Command, IsPlan}
+use Rattle.kt_plan.specs.Limits.{Planned, IsPlan}
+use Rattle.kt_plan.specs.declared.commands.Job.{Job}
+use Rattle.kt_plan.specs.declared.commands.Command.{Command}
 use Rattle.kt_phases.specs.Progress.{Progress}
-use Rattle.kt_phases.specs.Steps.{Step, Do, Take, Give}
+use Rattle.kt_plan.specs.declared.steps.Step.{Step}
+use Rattle.kt_plan.specs.declared.steps.Step.TheVariants.{Do, Take}
+use Rattle.kt_plan.specs.declared.steps.Give.{Give}
 use Rattle.kt_phases.specs.Rows.{verb_of, AreDecidingRows, AreRowsOfCommand, AreInstanceRows, are_instance_rows, has_took_row, has_sent_row}
 use Rattle.kt_phases.specs.Looks.{uses_able, uses_body}
-use Rattle.kt_phases.specs.Plans as job
+use Rattle.kt_plan.specs.declared.commands.Job.TheVariants as job
 use Rattle.kt_phases.specs.Progress as plan_progress
 use Rattle.kt_phases.specs.Steps as plan_steps
 use Rattle.kt_phases.specs.Rows as plan_rows
@@ -80,7 +84,7 @@ module _ (first : ℕ) (s s' : State) (v' : Seen) (p q : ℕ) where
   take_fits (Reply k w ∷ rest) l h e = e
   take_fits (Decide k c ∷ rest) l h e = e
 
-step_fits : (plan : Plan) (first : ℕ) (g : Progress) (x : Step) (give : Give) (l : List Event) → plan_rows.AreRowsOfStep plan g x give l → AreRowsOfStep plan (world_of first g) x give l
+step_fits : (plan : Planned) (first : ℕ) (g : Progress) (x : Step) (give : Give) (l : List Event) → plan_rows.AreRowsOfStep plan g x give l → AreRowsOfStep plan (world_of first g) x give l
 step_fits plan first g (Do p) give l e = do_fits first g.state p give (plan_progress.next_command plan g p) l e
 step_fits plan first g (Take p q) give l e = subst (λ (x : List CodeParcel). AreRowsOfTake (seen first g.state) (world_after plan (world_of first g) (Take p q) give).now p q x l) (sym (list_same first g.state p q))
     (take_fits first g.state (plan_steps.after_plan_step plan g (Take p q) give).state (world_after plan (world_of first g) (Take p q) give).now p q (plan_rows.list_taken g.state p q) l
@@ -90,15 +94,15 @@ step_fits plan first g (Take p q) give l e = subst (λ (x : List CodeParcel). Ar
     from_chan : is_seen_ready (seen first g.state) p ≡ true → (seen first g.state).channel q p ≡ seen_parcels (labelling first g.state.log).label (labelling first g.state.log).body g.state.so_far.is_rollback (plan_rows.list_taken g.state p q)
     from_chan r = ap (λ (b : Bool). seen_parcels (labelling first g.state.log).label (labelling first g.state.log).body g.state.so_far.is_rollback (if not b && protocol_parcels.has_parcel (g.state.held q p) then g.state.held q p else g.state.channel q p)) (sym (sym (ready_same first g.state p) ∙ r))
 
-rows_of : (plan : Plan) (first : ℕ) (g : Progress) (x : Step) (give : Give) (l : List Event) → Telling plan first g x give → (plan_steps.after_plan_step plan g x give).state.log ≡ g.state.log ++ l → rows_added plan (world_of first g) x give ≡ l
+rows_of : (plan : Planned) (first : ℕ) (g : Progress) (x : Step) (give : Give) (l : List Event) → Telling plan first g x give → (plan_steps.after_plan_step plan g x give).state.log ≡ g.state.log ++ l → rows_added plan (world_of first g) x give ≡ l
 rows_of plan first g x give l t e = ap (λ (w : World). drop (length g.state.log) w.now.log) (sym t.same) ∙ (ap (drop (length g.state.log)) e ∙ drop-append_seam g.state.log l)
 
 -- the rows that a step adds are those that its command or parcel asks for
-pub record FitsRows (plan : Plan) (w : World) (x : Step) (give : Give) : Type 0 where
+pub record FitsRows (plan : Planned) (w : World) (x : Step) (give : Give) : Type 0 where
   pub fit : AreRowsOfStep plan w x give (rows_added plan w x give)
   pub few : length (rows_added plan w x give) ≤ 4
 
-pub fits : (plan : Plan) (first : ℕ) (w : World) (x : Step) (give : Give) → IsPlan plan → IsReachedWorld plan first w → enabled plan w x ≡ true → FitsRows plan w x give
+pub fits : (plan : Planned) (first : ℕ) (w : World) (x : Step) (give : Give) → IsPlan plan → IsReachedWorld plan first w → enabled plan w x ≡ true → FitsRows plan w x give
 fits plan first w x give i r e = tells plan first w x give (λ v. enabled plan v x ≡ true → FitsRows plan v x give) i r e
     (λ g k t b. let a = adds plan g x give k t.on in let m = rows_of plan first g x give a.rows t a.log in record {
       fit = subst (AreRowsOfStep plan (world_of first g) x give) (sym m) (step_fits plan first g x give a.rows a.fit);
@@ -106,20 +110,20 @@ fits plan first w x give i r e = tells plan first w x give (λ v. enabled plan v
     }) e
 
 -- what is sent and taken, by what the step asks
-pub took_seen : (plan : Plan) (first : ℕ) (w : World) (x : Step) (body : ℤ) → IsPlan plan → IsReachedWorld plan first w → enabled plan w x ≡ true → has_took_row (rows_added plan w x (record { able = true; body = body })) ≡ uses_able (look plan w x)
+pub took_seen : (plan : Planned) (first : ℕ) (w : World) (x : Step) (body : ℤ) → IsPlan plan → IsReachedWorld plan first w → enabled plan w x ≡ true → has_took_row (rows_added plan w x (record { able = true; body = body })) ≡ uses_able (look plan w x)
 took_seen plan first w x body i r e = tells plan first w x (record { able = true; body = body }) (λ v. has_took_row (rows_added plan v x (record { able = true; body = body })) ≡ uses_able (look plan v x)) i r e
     (λ g k t. let a = takes_checkpoint_where_asked plan g x body k t.on in ap has_took_row (rows_of plan first g x (record { able = true; body = body }) a.0 t a.1) ∙ (a.2 ∙ ap uses_able (sym (look_same plan first g x k))))
 
-offers_same : (plan : Plan) (first : ℕ) (g : Progress) (x : Step) → is_offer_step plan (world_of first g) x ≡ plan_rows.is_offer_step plan g x
+offers_same : (plan : Planned) (first : ℕ) (g : Progress) (x : Step) → is_offer_step plan (world_of first g) x ≡ plan_rows.is_offer_step plan g x
 offers_same plan first g (Do p) = refl
 offers_same plan first g (Take p q) = refl
 
-pub sent_seen : (plan : Plan) (first : ℕ) (w : World) (x : Step) (give : Give) → IsPlan plan → IsReachedWorld plan first w → enabled plan w x ≡ true → (is_offer_step plan w x && has_sent_row (rows_added plan w x give)) ≡ uses_body (look plan w x)
+pub sent_seen : (plan : Planned) (first : ℕ) (w : World) (x : Step) (give : Give) → IsPlan plan → IsReachedWorld plan first w → enabled plan w x ≡ true → (is_offer_step plan w x && has_sent_row (rows_added plan w x give)) ≡ uses_body (look plan w x)
 sent_seen plan first w x give i r e = tells plan first w x give (λ v. (is_offer_step plan v x && has_sent_row (rows_added plan v x give)) ≡ uses_body (look plan v x)) i r e
     (λ g k t. let a = sends_offer_where_asked plan g x give k t.on in ap₂ (λ (m n : Bool). m && n) (offers_same plan first g x) (ap has_sent_row (rows_of plan first g x give a.0 t a.1)) ∙ (a.2 ∙ ap uses_body (sym (look_same plan first g x k))))
 
 -- whatever is given
-pub took_given : (plan : Plan) (first : ℕ) (w : World) (x : Step) (give : Give) → IsPlan plan → IsReachedWorld plan first w → enabled plan w x ≡ true → has_took_row (rows_added plan w x give) ≡ (uses_able (look plan w x) && give.able)
+pub took_given : (plan : Planned) (first : ℕ) (w : World) (x : Step) (give : Give) → IsPlan plan → IsReachedWorld plan first w → enabled plan w x ≡ true → has_took_row (rows_added plan w x give) ≡ (uses_able (look plan w x) && give.able)
 took_given plan first w x give i r e = go give.able refl
   where
     both : (b : Bool) → (b && true) ≡ b

@@ -1,5 +1,5 @@
 -- What a step asks of its process's object is the same by what code has.
-use Rattle.std.proofs.Common.{◌≡◌, ℕ, Bool, true, false, List, [], ◌∷◌, refl, sym, ap, subst, Some, None}
+use Rattle.std.proofs.Common.{length, ◌≡◌, ℕ, Bool, true, false, List, [], ◌∷◌, refl, sym, ap, subst, Some, None}
 use Rattle.std.specs.Prelude.{◌==◌, ◌&&◌, not, if◌then◌else◌, Option}
 use Rattle.kt_cuts.specs.Past.{is_rollback_kind}
 use Rattle.kt_protocol.specs.Parcels.{Parcel, App, Ask, Reply, Decide}
@@ -18,10 +18,12 @@ use Rattle.kt_seen.proofs.LabelNumbers.{Of}
 use Rattle.kt_seen.proofs.Parcels.{NamesMessages, front_ask}
 use Rattle.kt_seen.proofs.Asking.{must_take_is}
 use Rattle.kt_seen.proofs.Runs.{sees_runs, labelling_is}
-use Rattle.kt_phases.specs.Plans.{Command, Plan}
+use Rattle.kt_plan.specs.declared.commands.Command.{Command}
+use Rattle.kt_plan.specs.Limits.{Planned}
 use Rattle.kt_phases.specs.Progress.{Progress}
-use Rattle.kt_phases.specs.Steps.{Step, Do, Take}
-use Rattle.kt_phases.specs.Looks.{Look, Idle, NeedsSave, Plain}
+use Rattle.kt_plan.specs.declared.steps.Step.{Step}
+use Rattle.kt_plan.specs.declared.steps.Step.TheVariants.{Do, Take}
+use Rattle.kt_plan.specs.declared.steps.Look.TheVariants.{Idle, NeedsSave, Plain}
 use Rattle.kt_phases.specs.Progress as plan_progress
 use Rattle.kt_phases.specs.Looks as plan_looks
 use Rattle.kt_phases.proofs.RunFacts.{RunFacts}
@@ -59,7 +61,7 @@ front_run n first steps p q =
     (labelling_is first (late_run (opening n) steps) (seen_transition.run_seen (seen_transition.opening_seen n first) steps) x)
     (front_same first (late_run (opening n) steps) x.labels x.known x.tells p q ((late_run (opening n) steps).channel q p) refl)
 
-look_of_same : (plan : Plan) (first : ℕ) (g : Progress) (x : Step) → RunFacts plan g → look_of_step plan (world_of first g) x ≡ plan_looks.look_of_step plan g x
+look_of_same : (plan : Planned) (first : ℕ) (g : Progress) (x : Step) → RunFacts plan g → look_of_step plan (world_of first g) x ≡ plan_looks.look_of_step plan g x
 look_of_same plan first g (Do p) k = go (plan_progress.next_command plan g p)
   where
     go : (o : Option Command) → look_of_command (world_of first g) p o ≡ plan_looks.look_of_command g p o
@@ -68,7 +70,7 @@ look_of_same plan first g (Do p) k = go (plan_progress.next_command plan g p)
 look_of_same plan first g (Take p q) k = λ i. if not (ready_same first g.state p i) && held_any first g.state q p i then Plain else front i
   where
     front : look_of_front (seen first g.state) p q ((seen first g.state).channel q p) ≡ plan_looks.look_of_front g.state p q (g.state.channel q p)
-    front = subst (λ (s : State). look_of_front (seen first s) p q ((seen first s).channel q p) ≡ plan_looks.look_of_front s p q (s.channel q p)) (sym k.state_is) (front_run plan.size first k.steps p q)
+    front = subst (λ (s : State). look_of_front (seen first s) p q ((seen first s).channel q p) ≡ plan_looks.look_of_front s p q (s.channel q p)) (sym k.state_is) (front_run (length plan.names) first k.steps p q)
 
-pub look_same : (plan : Plan) (first : ℕ) (g : Progress) (x : Step) → RunFacts plan g → look plan (world_of first g) x ≡ plan_looks.look plan g x
+pub look_same : (plan : Planned) (first : ℕ) (g : Progress) (x : Step) → RunFacts plan g → look plan (world_of first g) x ≡ plan_looks.look plan g x
 look_same plan first g x k = λ i. if enabled_same plan first g x i then look_of_same plan first g x k i else Idle

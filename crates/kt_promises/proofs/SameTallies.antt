@@ -9,7 +9,8 @@ use Rattle.kt_protocol.specs.Parcels as protocol_parcels
 use Rattle.kt_seen.specs.Labelling.{labelling}
 use Rattle.kt_seen.specs.Seen.{seen_parcel, seen_parcels, no_part, part_of, seen}
 use Rattle.kt_seen.specs.Transition as seen_transition
-use Rattle.kt_phases.specs.Steps.{Step, Do, Take}
+use Rattle.kt_plan.specs.declared.steps.Step.{Step}
+use Rattle.kt_plan.specs.declared.steps.Step.TheVariants.{Do, Take}
 use Rattle.kt_phases.specs.Work.{total_below}
 use Rattle.kt_phases.specs.Tallies as plan_tallies
 use Rattle.kt_promises.specs.Tallies.{Tally, is_ask_of, is_reply_of, is_decision_of, has_parcel, count_where, count_in_channels, count_in_front, taken_off, raised, raised_tally, IsRaised}

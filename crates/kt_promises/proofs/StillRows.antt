@@ -1,5 +1,5 @@
 -- A process in a rollback neither sends, nor receives, nor drops a message.
-use Rattle.std.proofs.Common.{◌≡◌, ◌≢◌, ℕ, ℤ, zero, suc, ◌+◌, Bool, true, false, List, [], ◌∷◌, refl, sym, ap, ap₂, subst, ◌∙◌, Some, None}
+use Rattle.std.proofs.Common.{length, ◌≡◌, ◌≢◌, ℕ, ℤ, zero, suc, ◌+◌, Bool, true, false, List, [], ◌∷◌, refl, sym, ap, ap₂, subst, ◌∙◌, Some, None}
 use Rattle.std.specs.Prelude.{Option, ◌==◌, ◌||◌, not, nat_lt, slice_get}
 use Rattle.kt_base.specs.declared.words.Cause.{Cause}
 use Rattle.kt_base.specs.declared.words.Cause.TheVariants.{Busy, Down}
@@ -11,10 +11,15 @@ use Rattle.kt_cuts.proofs.RowRules.{both, neither, not_true}
 use Rattle.kt_protocol.proofs.Choices.{at_if}
 use Rattle.kt_seen.specs.Seen.{SeenPerson, Seen}
 use Rattle.kt_seen.specs.Transition.{is_seen_ready}
-use Rattle.kt_phases.specs.Plans.{Job, Command, Plan, IsPlan}
-use Rattle.kt_phases.specs.Plans as job
+use Rattle.kt_plan.specs.declared.commands.Job.{Job}
+use Rattle.kt_plan.specs.declared.commands.Command.{Command}
+use Rattle.kt_plan.specs.Limits.{Planned, IsPlan}
+use Rattle.kt_plan.specs.declared.commands.Job.TheVariants as job
 use Rattle.kt_phases.specs.Rows.{AreRowsOfCommand, is_instance_row, are_instance_rows}
-use Rattle.kt_phases.specs.Steps.{Step, Do, Take, Give, stepper, may_do_job}
+use Rattle.kt_plan.specs.declared.steps.Step.{Step}
+use Rattle.kt_plan.specs.declared.steps.Step.TheVariants.{Do, Take}
+use Rattle.kt_plan.specs.declared.steps.Give.{Give}
+use Rattle.kt_phases.specs.Steps.{stepper, may_do_job}
 use Rattle.kt_promises.specs.World.{World, next_command}
 use Rattle.kt_promises.specs.Steps.{may_do, enabled, world_after}
 use Rattle.kt_promises.specs.Rows.{refusal_cause, list_taken, AreRowsOfMessage, AreRowsOfTake, AreRowsOfDo, AreRowsOfStep}
@@ -80,8 +85,8 @@ take_still v v' p q (Ask k kind l ∷ rest) rows z f = instance_rows p rows f.0
 take_still v v' p q (Reply k w ∷ rest) rows z f = instance_rows p rows f.0
 take_still v v' p q (Decide k c ∷ rest) rows z f = instance_rows p rows f.0
 
-step_still : (plan : Plan) (w : World) (x : Step) (give : Give) (rows : List Event) → enabled plan w x ≡ true → is_seen_ready w.now (stepper x) ≡ true → AreRowsOfStep plan w x give rows → any_of_message rows ≡ false
-step_still plan w (Do p) give rows e z f = go (next_command plan w p) (both (nat_lt p plan.size) (may_do w p (next_command plan w p)) e).1 f
+step_still : (plan : Planned) (w : World) (x : Step) (give : Give) (rows : List Event) → enabled plan w x ≡ true → is_seen_ready w.now (stepper x) ≡ true → AreRowsOfStep plan w x give rows → any_of_message rows ≡ false
+step_still plan w (Do p) give rows e z f = go (next_command plan w p) (both (nat_lt p (length plan.names)) (may_do w p (next_command plan w p)) e).1 f
   where
     inside : ((w.now.people p).inst == 0) ≡ false
     inside = not_true ((w.now.people p).inst == 0) (both (not ((w.now.people p).inst == 0)) (w.now.people p).part.is_rollback z).0
@@ -91,7 +96,7 @@ step_still plan w (Do p) give rows e z f = go (next_command plan w p) (both (nat
     go (Some c) d f = job_still (w.now.begun + 1) p c.job give.body (w.now.people p) give.able rows inside (both (c.phase == w.phase) (may_do_job ((w.now.people p).inst == 0) c.job) d).1 f
 step_still plan w (Take p q) give rows e z f = take_still w.now (world_after plan w (Take p q) give).now p q (list_taken w.now p q) rows z f
 
-pub still_seen : (plan : Plan) (first : ℕ) (w : World) (x : Step) (give : Give) (i p q m : ℕ) (body : ℤ) → IsPlan plan → IsReachedWorld plan first w → enabled plan w x ≡ true → is_seen_ready w.now (stepper x) ≡ true →
+pub still_seen : (plan : Planned) (first : ℕ) (w : World) (x : Step) (give : Give) (i p q m : ℕ) (body : ℤ) → IsPlan plan → IsReachedWorld plan first w → enabled plan w x ≡ true → is_seen_ready w.now (stepper x) ≡ true →
     (slice_get (rows_added plan w x give) i ≢ Some (Sent p q body)) × (slice_get (rows_added plan w x give) i ≢ Some (Received p q m)) × (slice_get (rows_added plan w x give) i ≢ Some (Dropped p q m))
 still_seen plan first w x give i p q m body a r e z = (λ f. differ (none (Sent p q body) f), λ f. differ (none (Received p q m) f), λ f. differ (none (Dropped p q m) f))
   where

@@ -16,7 +16,7 @@ use Rattle.kt_protocol.proofs.Updates.{is_same}
 use Rattle.kt_values.specs.Done.{done}
 use Rattle.kt_values.specs.Values.{Rules, Due, Act, Keep, due, does_all, acts_of, closing}
 use Rattle.kt_values.proofs.ActsAlong.{along}
-use Rattle.kt_phases.specs.Plans.{Plan, IsPlan}
+use Rattle.kt_plan.specs.Limits.{Planned, IsPlan}
 use Rattle.kt_promises.specs.World.{World}
 use Rattle.kt_promises.specs.Runs.{IsReachedWorld}
 use Rattle.kt_promises.proofs.ReachedWorlds.{log_of}
@@ -107,5 +107,5 @@ taken_value {V} r log n p k l e o =
     let l' : IsLegal ((take n log ++ Took p k ∷ []) ++ drop (n + 1) log) = subst IsLegal (sym g) l in
     (subst (Keeps r p k (due r (done (take n log)) p).object) g (along_keeps r p k (due r (done (take n log)) p).object (take n log ++ Took p k ∷ []) (drop (n + 1) log) l' (took_keeps r p k (take n log) (legal_front (take n log ++ Took p k ∷ []) (drop (n + 1) log) l')))).1 o
 
-pub taken_seen : {V : Type 0} (r : Rules V) (plan : Plan) (first : ℕ) (w : World) (n p k : ℕ) → IsPlan plan → IsReachedWorld plan first w → slice_get w.now.log n ≡ Some (Took p k) → (past w.now.log).open_in p ≡ Some k → (due r (done w.now.log) p).tentative ≡ (due r (done (take n w.now.log)) p).object
-taken_seen r plan first w n p k i s = taken_value r w.now.log n p k (log_of plan first w IsLegal i s (λ y. (lawful_after_run plan.size y).legal))
+pub taken_seen : {V : Type 0} (r : Rules V) (plan : Planned) (first : ℕ) (w : World) (n p k : ℕ) → IsPlan plan → IsReachedWorld plan first w → slice_get w.now.log n ≡ Some (Took p k) → (past w.now.log).open_in p ≡ Some k → (due r (done w.now.log) p).tentative ≡ (due r (done (take n w.now.log)) p).object
+taken_seen r plan first w n p k i s = taken_value r w.now.log n p k (log_of plan first w IsLegal i s (λ y. (lawful_after_run (length plan.names) y).legal))

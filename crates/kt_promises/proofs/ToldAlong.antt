@@ -8,7 +8,7 @@ use Rattle.kt_protocol.proofs.Updates.{is_same, is_other}
 use Rattle.kt_protocol.proofs.Choices.{at_if}
 use Rattle.kt_values.specs.Done.{done_start}
 use Rattle.kt_values.specs.Values.{Act, acts_along}
-use Rattle.kt_phases.specs.Plans.{Plan, IsPlan}
+use Rattle.kt_plan.specs.Limits.{Planned, IsPlan}
 use Rattle.kt_phases.specs.Runs.{Move}
 use Rattle.kt_phases.specs.Steps.{stepper}
 use Rattle.kt_promises.specs.World.{World, start_world}
@@ -57,7 +57,7 @@ same_of a b e = grind (arith, nat_tests, e)
 other_of : (a b : ℕ) → (a == b) ≡ false → a ≢ b
 other_of a b e f = grind (arith, nat_tests, e, f)
 
-module _ (plan : Plan) (first : ℕ) (i : IsPlan plan) (p : ℕ) where
+module _ (plan : Planned) (first : ℕ) (i : IsPlan plan) (p : ℕ) where
   one_acts : (w : World) (x : Move) → IsReachedWorld plan first w → enabled plan w x.step ≡ true → acts_told (told_by_move plan w p x) ≡ acts_of_step plan w x.step x.give p
   one_acts w x r e = go (p == stepper x.step) refl
     where
@@ -100,7 +100,7 @@ module _ (plan : Plan) (first : ℕ) (i : IsPlan plan) (p : ℕ) where
   all_rows_told moves w e = sym (rows_from moves (start_world plan first) w (start_reached_seen plan first) e ∙ ap (λ (l : List Event). rows_by p l ++ rows_told (told_by plan (start_world plan first) p moves)) (ap (λ (v : _). v.log) (opening_is plan first).now))
 
 -- one step more
-pub told_more : (plan : Plan) (p : ℕ) (xs : List Move) (u v : World) (x : Move) → after_moves plan u xs ≡ Some v → told_by plan u p (xs ++ x ∷ []) ≡ told_by plan u p xs ++ told_by_move plan v p x
+pub told_more : (plan : Planned) (p : ℕ) (xs : List Move) (u v : World) (x : Move) → after_moves plan u xs ≡ Some v → told_by plan u p (xs ++ x ∷ []) ≡ told_by plan u p xs ++ told_by_move plan v p x
 told_more plan p [] u v x e = let s : u ≡ v = ap (λ (o : Option World). unwrap_or o u) e in append-nil (told_by_move plan u p x) ∙ ap (λ (w : World). told_by_move plan w p x) s
 told_more plan p (y ∷ ys) u v x e = at_if (λ (o : Option World). o ≡ Some v → told_by plan u p (y ∷ ys ++ x ∷ []) ≡ told_by plan u p (y ∷ ys) ++ told_by_move plan v p x) (enabled plan u y.step) (after_moves plan (world_after plan u y.step y.give) ys) None
     (λ b z. ap (λ (l : List Told). told_by_move plan u p y ++ l) (told_more plan p ys (world_after plan u y.step y.give) v x z) ∙ sym (append_assoc (told_by_move plan u p y) (told_by plan (world_after plan u y.step y.give) p ys) (told_by_move plan v p x)))

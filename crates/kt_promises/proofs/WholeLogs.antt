@@ -1,5 +1,5 @@
 -- What is so at rest, and of a whole log.
-use Rattle.std.proofs.Common.{◌≡◌, ℕ, true, false, List, [], ◌∷◌, ◌++◌, append_assoc, append-nil, refl, sym, ap, ◌∙◌, Some, None}
+use Rattle.std.proofs.Common.{length, ◌≡◌, ℕ, true, false, List, [], ◌∷◌, ◌++◌, append_assoc, append-nil, refl, sym, ap, ◌∙◌, Some, None}
 use Rattle.std.specs.Prelude.{◌==◌, ◌&&◌, not, is_some, Option, unwrap_or}
 use Rattle.kt_spacetime.specs.declared.event.Event.{Event}
 use Rattle.kt_cuts.specs.Legal.{IsLegal}
@@ -9,8 +9,8 @@ use Rattle.kt_values.specs.Done.{done, done_start}
 use Rattle.kt_values.specs.Values.{Rules, due, first_due, does_all, can_all, acts_along}
 use Rattle.kt_values.proofs.CanBeDone.{along_can}
 use Rattle.kt_values.proofs.RunActs.{whole_log}
-use Rattle.kt_phases.specs.Plans.{Plan, IsPlan}
-use Rattle.kt_phases.specs.Steps.{Step}
+use Rattle.kt_plan.specs.Limits.{Planned, IsPlan}
+use Rattle.kt_plan.specs.declared.steps.Step.{Step}
 use Rattle.kt_phases.specs.Runs.{Move}
 use Rattle.kt_promises.specs.World.{World, commands_left, start_world}
 use Rattle.kt_promises.specs.Steps.{enabled, world_after, is_at_rest}
@@ -24,27 +24,27 @@ use Rattle.kt_promises.proofs.RunSteps.{start_reached_seen, next_reached_seen}
 use Rattle.kt_promises.proofs.DefaultSteps.{quiet_seen_at_rest, done_seen, rest_default, nothing_default}
 use Rattle.kt_promises.proofs.ActsOfSteps.{log_grows, tentative_seen}
 
-idle : (plan : Plan) (first : ℕ) (w : World) → IsPlan plan → IsReachedWorld plan first w → is_at_rest plan w ≡ true → (x : Step) → enabled plan w x ≡ false
+idle : (plan : Planned) (first : ℕ) (w : World) → IsPlan plan → IsReachedWorld plan first w → is_at_rest plan w ≡ true → (x : Step) → enabled plan w x ≡ false
 idle plan first w i r a = nothing_default plan first w i r (rest_default plan first w i r a)
 
-pub rested : (plan : Plan) (first : ℕ) (w : World) → IsPlan plan → IsReachedWorld plan first w → is_at_rest plan w ≡ true → HasNothingUnderWay w.now × ((p : ℕ) → commands_left plan w p ≡ [])
+pub rested : (plan : Planned) (first : ℕ) (w : World) → IsPlan plan → IsReachedWorld plan first w → is_at_rest plan w ≡ true → HasNothingUnderWay w.now × ((p : ℕ) → commands_left plan w p ≡ [])
 rested plan first w i r a = (quiet_seen_at_rest plan first w i r (idle plan first w i r a), λ p. done_seen plan first w p i r (idle plan first w i r a))
 
 none_is : {V : Type 0} (o : Option V) → is_some o ≡ false → o ≡ None
 none_is None e = refl
 none_is (Some v) e = absurd (cc (e))
 
-pub no_tentative : {V : Type 0} (r : Rules V) (plan : Plan) (first : ℕ) (w : World) (p : ℕ) → IsPlan plan → IsReachedWorld plan first w → is_at_rest plan w ≡ true → (due r (done w.now.log) p).tentative ≡ None
+pub no_tentative : {V : Type 0} (r : Rules V) (plan : Planned) (first : ℕ) (w : World) (p : ℕ) → IsPlan plan → IsReachedWorld plan first w → is_at_rest plan w ≡ true → (due r (done w.now.log) p).tentative ≡ None
 no_tentative r plan first w p i s a = none_is (due r (done w.now.log) p).tentative
     (tentative_seen r plan first w p i s ∙ ap (λ (n : ℕ). not (n == 0) && not (w.now.people p).part.is_rollback) ((rested plan first w i s a).0.closed p))
 
 -- the acts of the whole log
-pub whole_seen : {V : Type 0} (r : Rules V) (plan : Plan) (first : ℕ) (w : World) (p : ℕ) → IsPlan plan → IsReachedWorld plan first w →
+pub whole_seen : {V : Type 0} (r : Rules V) (plan : Planned) (first : ℕ) (w : World) (p : ℕ) → IsPlan plan → IsReachedWorld plan first w →
     (can_all r (first_due r) (acts_along p done_start w.now.log) ≡ true) × (does_all r (first_due r) (acts_along p done_start w.now.log) ≡ due r (done w.now.log) p)
-whole_seen r plan first w p i s = let l = log_of plan first w IsLegal i s (λ y. (lawful_after_run plan.size y).legal) in (along_can r [] w.now.log p l, whole_log r w.now.log p l)
+whole_seen r plan first w p i s = let l = log_of plan first w IsLegal i s (λ y. (lawful_after_run (length plan.names) y).legal) in (along_can r [] w.now.log p l, whole_log r w.now.log p l)
 
 -- the log is the rows that the steps add
-pub log_from : (plan : Plan) (first : ℕ) → IsPlan plan → (moves : List Move) (u w : World) → IsReachedWorld plan first u → after_moves plan u moves ≡ Some w → w.now.log ≡ u.now.log ++ rows_along plan u moves
+pub log_from : (plan : Planned) (first : ℕ) → IsPlan plan → (moves : List Move) (u w : World) → IsReachedWorld plan first u → after_moves plan u moves ≡ Some w → w.now.log ≡ u.now.log ++ rows_along plan u moves
 log_from plan first i [] u w r e = let s : u ≡ w = ap (λ (o : Option World). unwrap_or o u) e in ap (λ (v : World). v.now.log) (sym s) ∙ sym (append-nil u.now.log)
 log_from plan first i (x ∷ xs) u w r e = at_if (λ (o : Option World). o ≡ Some w → w.now.log ≡ u.now.log ++ rows_along plan u (x ∷ xs)) (enabled plan u x.step) (after_moves plan (world_after plan u x.step x.give) xs) None
     (λ b z. log_from plan first i xs (world_after plan u x.step x.give) w (next_reached_seen plan first u x.step x.give i r b) z
@@ -52,5 +52,5 @@ log_from plan first i (x ∷ xs) u w r e = at_if (λ (o : Option World). o ≡ S
     ∙ append_assoc u.now.log (rows_added plan u x.step x.give) (rows_along plan (world_after plan u x.step x.give) xs)))
     (λ b z. absurd (cc (z))) e
 
-pub log_along : (plan : Plan) (first : ℕ) (moves : List Move) (w : World) → IsPlan plan → after_moves plan (start_world plan first) moves ≡ Some w → w.now.log ≡ rows_along plan (start_world plan first) moves
+pub log_along : (plan : Planned) (first : ℕ) (moves : List Move) (w : World) → IsPlan plan → after_moves plan (start_world plan first) moves ≡ Some w → w.now.log ≡ rows_along plan (start_world plan first) moves
 log_along plan first moves w i e = log_from plan first i moves (start_world plan first) w (start_reached_seen plan first) e ∙ ap (λ (v : _). v.log ++ rows_along plan (start_world plan first) moves) (opening_is plan first).now

@@ -6,9 +6,13 @@ use Rattle.kt_cuts.specs.Past.{is_rollback_kind}
 use Rattle.kt_seen.specs.Seen.{Seen}
 use Rattle.kt_seen.specs.Transition.{is_seen_ready}
 use Rattle.kt_seen.specs.CallTests.{must_take}
-use Rattle.kt_phases.specs.Plans.{Command, Plan}
-use Rattle.kt_phases.specs.Steps.{Step, Do, Take}
-use Rattle.kt_phases.specs.Looks.{Look, Idle, NeedsSave, Plain, look_of_job}
+use Rattle.kt_plan.specs.declared.commands.Command.{Command}
+use Rattle.kt_plan.specs.Limits.{Planned}
+use Rattle.kt_plan.specs.declared.steps.Step.{Step}
+use Rattle.kt_plan.specs.declared.steps.Step.TheVariants.{Do, Take}
+use Rattle.kt_plan.specs.declared.steps.Look.{Look}
+use Rattle.kt_plan.specs.declared.steps.Look.TheVariants.{Idle, NeedsSave, Plain}
+use Rattle.kt_phases.specs.Looks.{look_of_job}
 use Rattle.kt_promises.specs.Tallies.{has_parcel}
 use Rattle.kt_promises.specs.World.{World, next_command}
 use Rattle.kt_promises.specs.Steps.{enabled}
@@ -30,11 +34,11 @@ look_of_front v p q (Decide k c ∷ rest) = Plain
 look_of_front v p q [] = Plain
 
 -- of an enabled step: a message that is held asks for nothing
-abbrev pub look_of_step : Plan → World → Step → Look
+abbrev pub look_of_step : Planned → World → Step → Look
 look_of_step plan w (Do p) = look_of_command w p (next_command plan w p)
 look_of_step plan w (Take p q) =
     if not (is_seen_ready w.now p) && has_parcel (w.now.held q p) then Plain else look_of_front w.now p q (w.now.channel q p)
 
 -- what a step asks of the object
-abbrev pub look : Plan → World → Step → Look
+abbrev pub look : Planned → World → Step → Look
 look plan w x = if enabled plan w x then look_of_step plan w x else Idle

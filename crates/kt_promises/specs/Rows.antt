@@ -9,10 +9,14 @@ use Rattle.kt_spacetime.specs.declared.event.Event.{Event}
 use Rattle.kt_spacetime.specs.declared.event.Event.TheVariants.{Received, Dropped}
 use Rattle.kt_seen.specs.Seen.{SeenPerson, Seen}
 use Rattle.kt_seen.specs.Transition.{is_seen_ready}
-use Rattle.kt_phases.specs.Plans.{Job, Command, Plan}
-use Rattle.kt_phases.specs.Steps.{Step, Do, Take, Give}
+use Rattle.kt_plan.specs.declared.commands.Job.{Job}
+use Rattle.kt_plan.specs.declared.commands.Command.{Command}
+use Rattle.kt_plan.specs.Limits.{Planned}
+use Rattle.kt_plan.specs.declared.steps.Step.{Step}
+use Rattle.kt_plan.specs.declared.steps.Step.TheVariants.{Do, Take}
+use Rattle.kt_plan.specs.declared.steps.Give.{Give}
 use Rattle.kt_phases.specs.Rows.{verb_of, AreRowsOfCommand, AreInstanceRows, is_offer_command}
-use Rattle.kt_phases.specs.Plans as job
+use Rattle.kt_plan.specs.declared.commands.Job.TheVariants as job
 use Rattle.kt_promises.specs.Tallies.{has_parcel}
 use Rattle.kt_promises.specs.World.{World, next_command}
 use Rattle.kt_promises.specs.Steps.{world_after}
@@ -52,13 +56,13 @@ AreRowsOfDo v p give (Some c) rows =
     AreRowsOfCommand (v.begun + 1) p c.job give.body (refusal_cause (v.people p) give.able c.job) rows
 
 -- the rows of a step
-abbrev pub AreRowsOfStep : Plan → World → Step → Give → List Event → Type 0
+abbrev pub AreRowsOfStep : Planned → World → Step → Give → List Event → Type 0
 AreRowsOfStep plan w (Do p) give rows = AreRowsOfDo w.now p give (next_command plan w p) rows
 AreRowsOfStep plan w (Take p q) give rows =
     AreRowsOfTake w.now (world_after plan w (Take p q) give).now p q (list_taken w.now p q) rows
 
 -- p refuses its next command for a cause that holds; the row is the next one
-pub record IsRefusedStep (plan : Plan) (w : World) (x : Step) (give : Give) (t p : ℕ) (verb : Verb) (cause : Cause) : Type 0 where
+pub record IsRefusedStep (plan : Planned) (w : World) (x : Step) (give : Give) (t p : ℕ) (verb : Verb) (cause : Cause) : Type 0 where
   pub command : Command
   pub step : x ≡ Do p
   pub next : next_command plan w p ≡ Some command
@@ -67,6 +71,6 @@ pub record IsRefusedStep (plan : Plan) (w : World) (x : Step) (give : Give) (t p
   pub justified : refusal_cause (w.now.people p) give.able command.job ≡ Some cause
 
 -- a step that sends what the object offers
-abbrev pub is_offer_step : Plan → World → Step → Bool
+abbrev pub is_offer_step : Planned → World → Step → Bool
 is_offer_step plan w (Do p) = is_offer_command (next_command plan w p)
 is_offer_step plan w (Take p q) = false

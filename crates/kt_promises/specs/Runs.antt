@@ -1,22 +1,26 @@
 -- Runs of a plan, by what code has: steps one after another, each enabled when it is made.
-use Rattle.std.specs.Prelude.{◌≡◌, ℕ, zero, suc, if◌then◌else◌, Option, Some, None, List, [], ◌∷◌}
+use Rattle.std.specs.Prelude.{length, ◌≡◌, ℕ, zero, suc, if◌then◌else◌, Option, Some, None, List, [], ◌∷◌}
 use Rattle.kt_protocol.specs.States as machine
 use Rattle.kt_seen.specs.Transition.{run_seen, opening_seen}
-use Rattle.kt_phases.specs.Plans.{Plan, Command}
-use Rattle.kt_phases.specs.Steps.{Step, Do, Take, Give, protocol_step}
+use Rattle.kt_plan.specs.Limits.{Planned}
+use Rattle.kt_plan.specs.declared.commands.Command.{Command}
+use Rattle.kt_plan.specs.declared.steps.Step.{Step}
+use Rattle.kt_plan.specs.declared.steps.Step.TheVariants.{Do, Take}
+use Rattle.kt_plan.specs.declared.steps.Give.{Give}
+use Rattle.kt_phases.specs.Steps.{protocol_step}
 use Rattle.kt_phases.specs.Runs.{Move}
 use Rattle.kt_promises.specs.World.{World, start_world, next_command}
 use Rattle.kt_promises.specs.Steps.{enabled, world_after}
 use Rattle.kt_promises.specs.Defaults.{default_step}
 
 -- where some moves lead, if each step is enabled in its turn
-abbrev pub after_moves : Plan → World → List Move → Option World
+abbrev pub after_moves : Planned → World → List Move → Option World
 after_moves plan w [] = Some w
 after_moves plan w (x ∷ xs) =
     if enabled plan w x.step then after_moves plan (world_after plan w x.step x.give) xs else None
 
 -- a run of the plan leads here
-pub record IsReachedWorld (plan : Plan) (first : ℕ) (w : World) : Type 0 where
+pub record IsReachedWorld (plan : Planned) (first : ℕ) (w : World) : Type 0 where
   pub moves : List Move
   pub leads : after_moves plan (start_world plan first) moves ≡ Some w
 
@@ -26,26 +30,26 @@ next_default next w None = w
 next_default next w (Some x) = next x
 
 -- at most n default steps, with what objects give at each
-abbrev pub after_defaults : ℕ → Plan → (World → Step → Give) → World → World
+abbrev pub after_defaults : ℕ → Planned → (World → Step → Give) → World → World
 after_defaults zero plan give w = w
 after_defaults (suc n) plan give w =
     next_default (λ x. after_defaults n plan give (world_after plan w x (give w x))) w (default_step plan w)
 
 -- each of these moves is the default step where it is made
-abbrev pub AreDefaultMoves : Plan → World → List Move → Type 0
+abbrev pub AreDefaultMoves : Planned → World → List Move → Type 0
 AreDefaultMoves plan w [] = Unit {0}
 AreDefaultMoves plan w (x ∷ xs) =
     (default_step plan w ≡ Some x.step) × AreDefaultMoves plan (world_after plan w x.step x.give) xs
 
 -- a run begins with the given moves and goes on by default steps, which lead to w
-pub record GoesOn (plan : Plan) (first : ℕ) (given more : List Move) (w : World) : Type 0 where
+pub record GoesOn (plan : Planned) (first : ℕ) (given more : List Move) (w : World) : Type 0 where
   pub begun : World
   pub begins : after_moves plan (start_world plan first) given ≡ Some begun
   pub default : AreDefaultMoves plan begun more
   pub leads : after_moves plan begun more ≡ Some w
 
 -- default steps, one with each give as far as there are any
-abbrev pub after_gives : Plan → World → List Give → World
+abbrev pub after_gives : Planned → World → List Give → World
 after_gives plan w [] = w
 after_gives plan w (x ∷ xs) = next_default (λ s. after_gives plan (world_after plan w s x) xs) w (default_step plan w)
 
@@ -61,10 +65,10 @@ steps_of_command p give None = []
 steps_of_command p give (Some c) = protocol_step p c.job give ∷ []
 
 -- the protocol's step for a step of the plan: one, where it is enabled
-abbrev pub protocol_steps : Plan → World → Step → Give → List machine.Step
+abbrev pub protocol_steps : Planned → World → Step → Give → List machine.Step
 protocol_steps plan w (Do p) give = steps_of_command p give (next_command plan w p)
 protocol_steps plan w (Take p q) give = machine.Take p q give.able ∷ []
 
 -- what is seen is where these steps of the protocol lead
-abbrev pub IsAfterSteps : Plan → ℕ → List machine.Step → World → Type 0
-IsAfterSteps plan first steps w = w.now ≡ run_seen (opening_seen plan.size first) steps
+abbrev pub IsAfterSteps : Planned → ℕ → List machine.Step → World → Type 0
+IsAfterSteps plan first steps w = w.now ≡ run_seen (opening_seen (length plan.names) first) steps

@@ -3,17 +3,18 @@ use Rattle.std.specs.Prelude.{ℕ, ◌&&◌, Bool, true, false, List, [], ◌∷
 use Rattle.kt_spacetime.specs.declared.event.Event.{Event}
 use Rattle.kt_values.specs.Done.{done}
 use Rattle.kt_values.specs.Values.{Act, Apply, Keep, Promote, Discard, Restore, Drop, acts_along}
-use Rattle.kt_phases.specs.Plans.{Plan}
-use Rattle.kt_phases.specs.Steps.{Step, Give}
+use Rattle.kt_plan.specs.Limits.{Planned}
+use Rattle.kt_plan.specs.declared.steps.Step.{Step}
+use Rattle.kt_plan.specs.declared.steps.Give.{Give}
 use Rattle.kt_promises.specs.World.{World}
 use Rattle.kt_promises.specs.Steps.{world_after}
 
 -- the rows that a step adds
-abbrev pub rows_added : Plan → World → Step → Give → List Event
+abbrev pub rows_added : Planned → World → Step → Give → List Event
 rows_added plan w x give = drop (length w.now.log) (world_after plan w x give).now.log
 
 -- the acts that these ask of p
-abbrev pub acts_of_step : Plan → World → Step → Give → ℕ → List Act
+abbrev pub acts_of_step : Planned → World → Step → Give → ℕ → List Act
 acts_of_step plan w x give p = acts_along p (done w.now.log) (rows_added plan w x give)
 
 -- a state is kept as the first act alone, and only where the object can be saved

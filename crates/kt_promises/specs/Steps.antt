@@ -1,12 +1,17 @@
 -- The steps of a plan, by what code has: when one may be made, and what it makes.
-use Rattle.std.specs.Prelude.{ℕ, ◌+◌, ◌==◌, ◌&&◌, ◌||◌, not, nat_lt, Bool, false, Option, Some, None}
+use Rattle.std.specs.Prelude.{length, ℕ, ◌+◌, ◌==◌, ◌&&◌, ◌||◌, not, nat_lt, Bool, false, Option, Some, None}
 use Rattle.kt_cuts.specs.Past.{at_one}
 use Rattle.kt_protocol.specs.Deciding.{none_of}
 use Rattle.kt_protocol.specs.States as machine
 use Rattle.kt_seen.specs.Seen.{Seen}
 use Rattle.kt_seen.specs.Transition.{is_seen_ready, transition}
-use Rattle.kt_phases.specs.Plans.{Command, Plan, has_command}
-use Rattle.kt_phases.specs.Steps.{Step, Do, Take, Give, may_do_job, protocol_step}
+use Rattle.kt_plan.specs.declared.commands.Command.{Command}
+use Rattle.kt_plan.specs.Limits.{Planned}
+use Rattle.kt_phases.specs.Plans.{has_command}
+use Rattle.kt_plan.specs.declared.steps.Step.{Step}
+use Rattle.kt_plan.specs.declared.steps.Step.TheVariants.{Do, Take}
+use Rattle.kt_plan.specs.declared.steps.Give.{Give}
+use Rattle.kt_phases.specs.Steps.{may_do_job, protocol_step}
 use Rattle.kt_promises.specs.Tallies.{has_parcel, raised_tally}
 use Rattle.kt_promises.specs.World.{World, commands_left, next_command, is_quiet, with_phases_open}
 
@@ -20,27 +25,27 @@ abbrev pub can_take : Seen → ℕ → ℕ → Bool
 can_take v p q = has_parcel (v.channel q p) || not (is_seen_ready v p) && has_parcel (v.held q p)
 
 -- a step may be made
-abbrev pub enabled : Plan → World → Step → Bool
-enabled plan w (Do p) = nat_lt p plan.size && may_do w p (next_command plan w p)
-enabled plan w (Take p q) = (nat_lt p plan.size && nat_lt q plan.size) && can_take w.now p q
+abbrev pub enabled : Planned → World → Step → Bool
+enabled plan w (Do p) = nat_lt p (length plan.names) && may_do w p (next_command plan w p)
+enabled plan w (Take p q) = (nat_lt p (length plan.names) && nat_lt q (length plan.names)) && can_take w.now p q
 
 -- no command is left, and all is quiet
-abbrev pub is_at_rest : Plan → World → Bool
-is_at_rest plan w = none_of plan.size (λ p. has_command (commands_left plan w p)) && is_quiet plan.size w.now
+abbrev pub is_at_rest : Planned → World → Bool
+is_at_rest plan w = none_of (length plan.names) (λ p. has_command (commands_left plan w p)) && is_quiet (length plan.names) w.now
 
 -- step x has led to what is seen now, and the tallies count what it added to the channels
-abbrev pub with_seen : Plan → World → Step → Seen → World
-with_seen plan w x v = record w { now = v; put = raised_tally plan.size w.now x v w.put }
+abbrev pub with_seen : Planned → World → Step → Seen → World
+with_seen plan w x v = record w { now = v; put = raised_tally (length plan.names) w.now x v w.put }
 
 -- p has done this command, if there is one, and phases have opened
-abbrev pub after_command : Plan → World → ℕ → Give → Option Command → World
+abbrev pub after_command : Planned → World → ℕ → Give → Option Command → World
 after_command plan w p give None = w
 after_command plan w p give (Some c) =
     with_phases_open plan (record (with_seen plan w (Do p) (transition w.now (protocol_step p c.job give)))
     { done = at_one p (w.done p + 1) w.done })
 
 -- what a step makes, with what the object gives
-abbrev pub world_after : Plan → World → Step → Give → World
+abbrev pub world_after : Planned → World → Step → Give → World
 world_after plan w (Do p) give = after_command plan w p give (next_command plan w p)
 world_after plan w (Take p q) give =
     with_phases_open plan (with_seen plan w (Take p q) (transition w.now (machine.Take p q give.able)))

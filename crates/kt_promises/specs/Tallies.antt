@@ -4,7 +4,8 @@ use Rattle.kt_fifo.specs.declared.parcels.Parcel.{Parcel}
 use Rattle.kt_fifo.specs.declared.parcels.Parcel.TheVariants.{App, Ask, Reply, Decide}
 use Rattle.kt_seen.specs.Seen.{SeenLists, Seen}
 use Rattle.kt_seen.specs.Transition.{is_seen_ready}
-use Rattle.kt_phases.specs.Steps.{Step, Do, Take}
+use Rattle.kt_plan.specs.declared.steps.Step.{Step}
+use Rattle.kt_plan.specs.declared.steps.Step.TheVariants.{Do, Take}
 use Rattle.kt_phases.specs.Work.{total_below}
 
 -- by instance: how many of its asks, replies and decisions have been put into the channels

@@ -3,8 +3,10 @@ use Rattle.std.specs.Prelude.{ℕ, ◌==◌, if◌then◌else◌, List, [], ◌�
 use Rattle.kt_spacetime.specs.declared.event.Event.{Event}
 use Rattle.kt_spacetime.specs.Events.{process_of}
 use Rattle.kt_values.specs.Values.{Act}
-use Rattle.kt_phases.specs.Plans.{Plan}
-use Rattle.kt_phases.specs.Steps.{Step, Give, stepper}
+use Rattle.kt_plan.specs.Limits.{Planned}
+use Rattle.kt_plan.specs.declared.steps.Step.{Step}
+use Rattle.kt_plan.specs.declared.steps.Give.{Give}
+use Rattle.kt_phases.specs.Steps.{stepper}
 use Rattle.kt_phases.specs.Runs.{Move}
 use Rattle.kt_promises.specs.World.{World}
 use Rattle.kt_promises.specs.Steps.{world_after}
@@ -18,7 +20,7 @@ pub record Told : Type 0 where
   pub acts : List Act
 
 -- what a move tells here
-abbrev pub told_at : Plan → World → Move → Told
+abbrev pub told_at : Planned → World → Move → Told
 told_at plan w x = record {
   step = x.step;
   give = x.give;
@@ -27,11 +29,11 @@ told_at plan w x = record {
 }
 
 -- what p is told by a move: nothing by another process's one
-abbrev pub told_by_move : Plan → World → ℕ → Move → List Told
+abbrev pub told_by_move : Planned → World → ℕ → Move → List Told
 told_by_move plan w p x = if p == stepper x.step then told_at plan w x ∷ [] else []
 
 -- and by some moves, in order
-abbrev pub told_by : Plan → World → ℕ → List Move → List Told
+abbrev pub told_by : Planned → World → ℕ → List Move → List Told
 told_by plan w p [] = []
 told_by plan w p (x ∷ xs) = told_by_move plan w p x ++ told_by plan (world_after plan w x.step x.give) p xs
 
@@ -51,6 +53,6 @@ rows_by p [] = []
 rows_by p (row ∷ rows) = if p == process_of row then row ∷ rows_by p rows else rows_by p rows
 
 -- the rows that some moves add
-abbrev pub rows_along : Plan → World → List Move → List Event
+abbrev pub rows_along : Planned → World → List Move → List Event
 rows_along plan w [] = []
 rows_along plan w (x ∷ xs) = rows_added plan w x.step x.give ++ rows_along plan (world_after plan w x.step x.give) xs

@@ -5,7 +5,9 @@ use Rattle.kt_base.specs.declared.words.Cause.TheVariants.{Busy, Down, NoSave}
 use Rattle.kt_protocol.specs.Summary.{Summary, summary}
 use Rattle.kt_protocol.specs.Refusals.{HasReceived, HasSent, HasToJoin}
 use Rattle.kt_seen.specs.Seen.{Seen}
-use Rattle.kt_phases.specs.Steps.{Step, Take, Give}
+use Rattle.kt_plan.specs.declared.steps.Step.{Step}
+use Rattle.kt_plan.specs.declared.steps.Step.TheVariants.{Take}
+use Rattle.kt_plan.specs.declared.steps.Give.{Give}
 use Rattle.kt_promises.specs.World.{World}
 
 -- p is in another instance j

@@ -5,36 +5,38 @@ use Rattle.kt_base.specs.declared.words.Kind.TheVariants as kind
 use Rattle.kt_base.specs.declared.words.Verb.TheVariants as verb
 use Rattle.kt_spacetime.specs.declared.event.Event.{Event}
 use Rattle.kt_spacetime.specs.declared.event.Event.TheVariants.{Sent, Received, Began, Took, Ready, Unwilling, Decided, Closed, Refused}
-use Rattle.kt_phases.specs.Plans.{Plan}
-use Rattle.kt_phases.specs.Plans as job
-use Rattle.kt_phases.specs.Steps.{Step, Do, Take, Give}
+use Rattle.kt_plan.specs.Limits.{Planned}
+use Rattle.kt_plan.specs.declared.commands.Job.TheVariants as job
+use Rattle.kt_plan.specs.declared.steps.Step.{Step}
+use Rattle.kt_plan.specs.declared.steps.Step.TheVariants.{Do, Take}
+use Rattle.kt_plan.specs.declared.steps.Give.{Give}
 use Rattle.kt_phases.specs.Runs.{Move}
-use Rattle.kt_phases.specs.WorkedPlans.{command, given, moves_of, checkpoint_two_phases_later, checkpoint_two_phases_later_steps, checkpoint_two_phases_later_log, until_it_is_held}
+use Rattle.kt_phases.specs.WorkedPlans.{plan_of, two, three, command, given, moves_of, checkpoint_two_phases_later, checkpoint_two_phases_later_steps, checkpoint_two_phases_later_log, until_it_is_held}
 use Rattle.kt_promises.specs.World.{World, start_world}
 use Rattle.kt_promises.specs.Steps.{world_after}
 use Rattle.kt_promises.specs.Defaults.{default_step}
 use Rattle.kt_promises.specs.Runs.{after_moves}
 
 -- where labels begin after 100: the start, and where some moves lead
-abbrev pub start_after_hundred : Plan → World
+abbrev pub start_after_hundred : Planned → World
 start_after_hundred plan = start_world plan 100
 
-abbrev pub led_by : Plan → List Move → Option World
+abbrev pub led_by : Planned → List Move → Option World
 led_by plan moves = after_moves plan (start_after_hundred plan) moves
 
 -- what is so where some moves lead
-abbrev pub at_end : {X : Type 0} → Plan → List Move → (World → X) → Option X
+abbrev pub at_end : {X : Type 0} → Planned → List Move → (World → X) → Option X
 at_end plan moves f = option_map f (led_by plan moves)
 
 -- at most n default steps from here, with the next one
-abbrev pub steps_from : ℕ → Plan → World → Option Step → List Step
+abbrev pub steps_from : ℕ → Planned → World → Option Step → List Step
 steps_from zero plan w next = []
 steps_from (suc n) plan w None = []
 steps_from (suc n) plan w (Some x) =
     x ∷ steps_from n plan (world_after plan w x given) (default_step plan (world_after plan w x given))
 
 -- and from the start
-abbrev pub default_steps : ℕ → Plan → List Step
+abbrev pub default_steps : ℕ → Planned → List Step
 default_steps n plan = steps_from n plan (start_after_hundred plan) (default_step plan (start_after_hundred plan))
 
 -- so many gives
@@ -44,8 +46,8 @@ gives (suc n) = given ∷ gives n
 
 -- a message; two phases later a checkpoint, a message that has to wait for it, and two failures, the second of which is
 -- refused
-abbrev pub fails_twice : Plan
-fails_twice = record { size = 2; commands = checkpoint_two_phases_later.commands ++ command 0 2 job.Fail ∷ [] }
+abbrev pub fails_twice : Planned
+fails_twice = plan_of two (checkpoint_two_phases_later.commands ++ command 0 2 job.Fail ∷ [])
 
 abbrev pub fails_twice_steps : List Step
 fails_twice_steps = checkpoint_two_phases_later_steps ++ Do 0 ∷ []
@@ -55,17 +57,15 @@ fails_twice_log = checkpoint_two_phases_later_log ++ Refused 0 verb.Fail Down �
 
 -- 0 rolls back what it sent, and 1 joins; 1 holds what 2 sent it until it has closed; then 1 can't be saved in a
 -- checkpoint of 0 that it would have to join, which is aborted
-abbrev pub rolls_back_then_aborts : Plan
-rolls_back_then_aborts = record {
-  size = 3;
-  commands =
-      command 0 0 (job.Send 1 (Some (pos 1))) ∷
-      command 0 1 job.Rollback ∷
-      command 2 1 (job.Send 1 (Some (pos 2))) ∷
-      command 1 2 (job.Send 0 (Some (pos 3))) ∷
-      command 0 3 job.Checkpoint ∷
-      [];
-}
+abbrev pub rolls_back_then_aborts : Planned
+rolls_back_then_aborts =
+    plan_of three (
+    command 0 0 (job.Send 1 (Some (pos 1))) ∷
+    command 0 1 job.Rollback ∷
+    command 2 1 (job.Send 1 (Some (pos 2))) ∷
+    command 1 2 (job.Send 0 (Some (pos 3))) ∷
+    command 0 3 job.Checkpoint ∷
+    [])
 
 -- until 1 holds the message, and until all commands of that phase are done while it still holds it
 abbrev pub until_it_holds : List Move

@@ -1,9 +1,11 @@
 -- What code has of a run of a plan: what is seen of the protocol's state, how far the commands have come, and tallies.
-use Rattle.std.specs.Prelude.{ℕ, zero, suc, ◌+◌, ◌-◌, ◌==◌, ◌&&◌, ◌||◌, not, nat_lt, if◌then◌else◌, Bool, Option, List, drop}
+use Rattle.std.specs.Prelude.{length, ℕ, zero, suc, ◌+◌, ◌-◌, ◌==◌, ◌&&◌, ◌||◌, not, nat_lt, if◌then◌else◌, Bool, Option, List, drop}
 use Rattle.kt_protocol.specs.Deciding.{none_of}
 use Rattle.kt_seen.specs.Seen.{Seen, seen}
 use Rattle.kt_seen.specs.Transition.{opening_seen}
-use Rattle.kt_phases.specs.Plans.{Command, Plan, commands_of, has_phase, last_phase, first_command}
+use Rattle.kt_plan.specs.declared.commands.Command.{Command}
+use Rattle.kt_plan.specs.Limits.{Planned}
+use Rattle.kt_phases.specs.Plans.{commands_of, has_phase, last_phase, first_command}
 use Rattle.kt_phases.specs.Progress.{Progress}
 use Rattle.kt_promises.specs.Tallies.{Tally, no_tally, has_parcel}
 
@@ -26,11 +28,11 @@ world_of first progress = record {
 }
 
 -- the commands that p has still to do
-abbrev pub commands_left : Plan → World → ℕ → List Command
+abbrev pub commands_left : Planned → World → ℕ → List Command
 commands_left plan w p = drop (w.done p) (commands_of p plan.commands)
 
 -- the first of them
-abbrev pub next_command : Plan → World → ℕ → Option Command
+abbrev pub next_command : Planned → World → ℕ → Option Command
 next_command plan w p = first_command (commands_left plan w p)
 
 -- nobody is in an instance, and no parcel is in a channel or held
@@ -40,23 +42,23 @@ is_quiet n v =
     || not (none_of n (λ q. has_parcel (v.channel q p) || has_parcel (v.held q p))))
 
 -- no command of the open phase is left
-abbrev pub is_phase_done : Plan → World → Bool
-is_phase_done plan w = none_of plan.size (λ p. has_phase w.phase (commands_left plan w p))
+abbrev pub is_phase_done : Planned → World → Bool
+is_phase_done plan w = none_of (length plan.names) (λ p. has_phase w.phase (commands_left plan w p))
 
 -- the next phase opens: the open one is done, all is quiet, and a later one is there
-abbrev pub opens_next : Plan → World → Bool
-opens_next plan w = is_phase_done plan w && (is_quiet plan.size w.now && nat_lt w.phase (last_phase plan.commands))
+abbrev pub opens_next : Planned → World → Bool
+opens_next plan w = is_phase_done plan w && (is_quiet (length plan.names) w.now && nat_lt w.phase (last_phase plan.commands))
 
 -- at most k phases open, one after another for as long as they may
-abbrev pub after_opening : ℕ → Plan → World → World
+abbrev pub after_opening : ℕ → Planned → World → World
 after_opening zero plan w = w
 after_opening (suc k) plan w = if opens_next plan w then after_opening k plan (record w { phase = w.phase + 1 }) else w
 
 -- as many phases have opened as may
-abbrev pub with_phases_open : Plan → World → World
+abbrev pub with_phases_open : Planned → World → World
 with_phases_open plan w = after_opening (last_phase plan.commands - w.phase) plan w
 
 -- nothing has been done, and phases without commands have opened
-abbrev pub start_world : Plan → ℕ → World
+abbrev pub start_world : Planned → ℕ → World
 start_world plan first =
-    with_phases_open plan (record { now = opening_seen plan.size first; done = λ p. 0; phase = 0; put = no_tally })
+    with_phases_open plan (record { now = opening_seen (length plan.names) first; done = λ p. 0; phase = 0; put = no_tally })

@@ -43,10 +43,15 @@ ghost use Rattle.kt_values.specs.SeenActs.{seen_acts};
 ghost use Rattle.kt_values.specs.States.{IsRising};
 ghost use Rattle.kt_values.specs.WorkedRuns.{all_bodies};
 ghost use Rattle.kt_phases.specs.Runs.{Move, IsReached};
-ghost use Rattle.kt_phases.specs.Steps.{stepper, Step, Do, Take, Give, protocol_step};
-ghost use Rattle.kt_phases.specs.Looks.{uses_able, uses_body, Idle, NeedsBody, NeedsSave};
+ghost use Rattle.kt_plan.specs.declared.steps.Step.{Step};
+ghost use Rattle.kt_plan.specs.declared.steps.Step.TheVariants.{Do, Take};
+ghost use Rattle.kt_plan.specs.declared.steps.Give.{Give};
+ghost use Rattle.kt_phases.specs.Steps.{stepper, protocol_step};
+ghost use Rattle.kt_plan.specs.declared.steps.Look.TheVariants.{Idle, NeedsBody, NeedsSave};
+ghost use Rattle.kt_phases.specs.Looks.{uses_able, uses_body};
 ghost use Rattle.kt_phases.specs.Work.{most_steps, count_begins};
-ghost use Rattle.kt_phases.specs.Plans.{Plan, Command, IsPlan};
+ghost use Rattle.kt_plan.specs.Limits.{Planned, IsPlan};
+ghost use Rattle.kt_plan.specs.declared.commands.Command.{Command};
 ghost use Rattle.kt_phases.specs.Progress.{Progress};
 ghost use Rattle.kt_phases.specs.Rows.{has_took_row, has_sent_row};
 ghost use Rattle.kt_phases.specs.Progress as plan_progress;
@@ -77,82 +82,82 @@ ghost use Rattle.kt_promises.specs.WorkedWorlds.{start_after_hundred, at_end, de
 /// However far a plan has come: what code has tells which steps are enabled, what they ask of objects, and what they
 /// make.
 pub fn worlds_of_plans()
-    ensures enabled { (plan : Plan) (first : ℕ) (now : Progress) (x : Step) →
+    ensures enabled { (plan : Planned) (first : ℕ) (now : Progress) (x : Step) →
         enabled plan (world_of first now) x ≡ plan_steps.enabled plan now x }
-    ensures at_rest { (plan : Plan) (first : ℕ) (now : Progress) →
+    ensures at_rest { (plan : Planned) (first : ℕ) (now : Progress) →
         is_at_rest plan (world_of first now) ≡ plan_steps.is_at_rest plan now }
-    ensures default_step { (plan : Plan) (first : ℕ) (now : Progress) →
+    ensures default_step { (plan : Planned) (first : ℕ) (now : Progress) →
         default_step plan (world_of first now) ≡ plan_defaults.default_step plan now }
-    ensures start { (plan : Plan) (first : ℕ) → world_of first (plan_progress.start plan) ≡ start_world plan first }
-    ensures after { (plan : Plan) (first : ℕ) (now : Progress) (x : Step) (give : Give) → IsPlan plan →
+    ensures start { (plan : Planned) (first : ℕ) → world_of first (plan_progress.start plan) ≡ start_world plan first }
+    ensures after { (plan : Planned) (first : ℕ) (now : Progress) (x : Step) (give : Give) → IsPlan plan →
         IsReached plan now → plan_steps.enabled plan now x ≡ true →
         world_of first (plan_steps.after_plan_step plan now x give) ≡ world_after plan (world_of first now) x give }
-    ensures look { (plan : Plan) (first : ℕ) (now : Progress) (x : Step) → IsPlan plan → IsReached plan now →
+    ensures look { (plan : Planned) (first : ℕ) (now : Progress) (x : Step) → IsPlan plan → IsReached plan now →
         look plan (world_of first now) x ≡ plan_looks.look plan now x }
 
     // In every world, reached or not, a look is idle exactly where its step is not enabled.
-    ensures idle { (plan : Plan) (w : World) (x : Step) → (look plan w x ≡ Idle) ↔ (enabled plan w x ≡ false) }
+    ensures idle { (plan : Planned) (w : World) (x : Step) → (look plan w x ≡ Idle) ↔ (enabled plan w x ≡ false) }
 {}
 
 /// Where the next command of a process stands in its plan; and a process that has one is there.
 pub fn places_of_commands()
-    ensures next { (plan : Plan) (w : World) (p : ℕ) →
+    ensures next { (plan : Planned) (w : World) (p : ℕ) →
         slice_get plan.commands (next_place plan w p) ≡ next_command plan w p }
-    ensures there { (plan : Plan) (first : ℕ) (w : World) (p : ℕ) (c : Command) → IsPlan plan →
-        IsReachedWorld plan first w → next_command plan w p ≡ Some c → p < plan.size }
+    ensures there { (plan : Planned) (first : ℕ) (w : World) (p : ℕ) (c : Command) → IsPlan plan →
+        IsReachedWorld plan first w → next_command plan w p ≡ Some c → p < (length plan.names) }
 {}
 
 /// Which worlds a run of a plan reaches.
 pub fn runs_of_worlds()
     // The start is reached, and so is what each enabled step makes of what is reached.
-    ensures start { (plan : Plan) (first : ℕ) → IsReachedWorld plan first (start_world plan first) }
-    ensures next { (plan : Plan) (first : ℕ) (w : World) (x : Step) (give : Give) → IsPlan plan →
+    ensures start { (plan : Planned) (first : ℕ) → IsReachedWorld plan first (start_world plan first) }
+    ensures next { (plan : Planned) (first : ℕ) (w : World) (x : Step) (give : Give) → IsPlan plan →
         IsReachedWorld plan first w → enabled plan w x ≡ true → IsReachedWorld plan first (world_after plan w x give) }
 
     // They are those of what plans reach.
-    ensures plan { (plan : Plan) (first : ℕ) (w : World) → IsPlan plan → IsReachedWorld plan first w →
+    ensures plan { (plan : Planned) (first : ℕ) (w : World) → IsPlan plan → IsReachedWorld plan first w →
         (now : Progress) × IsReached plan now × (w ≡ world_of first now) }
-    ensures reached { (plan : Plan) (first : ℕ) (now : Progress) → IsPlan plan → IsReached plan now →
+    ensures reached { (plan : Planned) (first : ℕ) (now : Progress) → IsPlan plan → IsReached plan now →
         IsReachedWorld plan first (world_of first now) }
 {}
 
 /// For every run of every plan: what its log is.
 pub fn logs_of_worlds()
     // All that is promised of it.
-    ensures promised { (plan : Plan) (first : ℕ) (w : World) → IsPlan plan → IsReachedWorld plan first w →
+    ensures promised { (plan : Planned) (first : ℕ) (w : World) → IsPlan plan → IsReachedWorld plan first w →
         IsPromised w.now.log }
 
     // Each row keeps every rule.
-    ensures legal { (plan : Plan) (first : ℕ) (w : World) → IsPlan plan → IsReachedWorld plan first w →
+    ensures legal { (plan : Planned) (first : ℕ) (w : World) → IsPlan plan → IsReachedWorld plan first w →
         IsLegal w.now.log }
 
     // At every row the permanent cut and the present cut have no orphan.
-    ensures consistent_decisions { (plan : Plan) (first : ℕ) (w : World) → IsPlan plan → IsReachedWorld plan first w →
+    ensures consistent_decisions { (plan : Planned) (first : ℕ) (w : World) → IsPlan plan → IsReachedWorld plan first w →
         HasConsistentDecisions w.now.log }
-    ensures permanent_cuts { (plan : Plan) (first : ℕ) (w : World) (t : ℕ) → IsPlan plan →
+    ensures permanent_cuts { (plan : Planned) (first : ℕ) (w : World) (t : ℕ) → IsPlan plan →
         IsReachedWorld plan first w →
         IsConsistent (past (take t w.now.log)) (permanent_cut (past (take t w.now.log))) }
-    ensures present_cuts { (plan : Plan) (first : ℕ) (w : World) (t : ℕ) → IsPlan plan → IsReachedWorld plan first w →
+    ensures present_cuts { (plan : Planned) (first : ℕ) (w : World) (t : ℕ) → IsPlan plan → IsReachedWorld plan first w →
         IsConsistent (past (take t w.now.log)) (present_cut (past (take t w.now.log))) }
 
     // The members of each decided instance have linking messages with earlier ones, and those of each committed one
     // are the least set.
-    ensures linked_decisions { (plan : Plan) (first : ℕ) (w : World) → IsPlan plan → IsReachedWorld plan first w →
+    ensures linked_decisions { (plan : Planned) (first : ℕ) (w : World) → IsPlan plan → IsReachedWorld plan first w →
         HasLinkedDecisions w.now.log }
-    ensures least_decisions { (plan : Plan) (first : ℕ) (w : World) → IsPlan plan → IsReachedWorld plan first w →
+    ensures least_decisions { (plan : Planned) (first : ℕ) (w : World) → IsPlan plan → IsReachedWorld plan first w →
         HasLeastDecisions w.now.log }
 
     // A decided instance is aborted exactly where a process was unwilling to join, and that was asked by a message.
-    ensures aborts { (plan : Plan) (first : ℕ) (w : World) → IsPlan plan → IsReachedWorld plan first w →
+    ensures aborts { (plan : Planned) (first : ℕ) (w : World) → IsPlan plan → IsReachedWorld plan first w →
         AbortsWhereUnwilling w.now.log }
-    ensures justified { (plan : Plan) (first : ℕ) (w : World) → IsPlan plan → IsReachedWorld plan first w →
+    ensures justified { (plan : Planned) (first : ℕ) (w : World) → IsPlan plan → IsReachedWorld plan first w →
         JustifiesUnwilling w.now.log }
 
     // A row that decides an abort changes no live history and no permanent position.
-    ensures aborted_live { (plan : Plan) (first : ℕ) (w : World) (n p k q : ℕ) → IsPlan plan →
+    ensures aborted_live { (plan : Planned) (first : ℕ) (w : World) (n p k q : ℕ) → IsPlan plan →
         IsReachedWorld plan first w → slice_get w.now.log n ≡ Some (Decided p k false) →
         (past (take (n + 1) w.now.log)).live q ≡ (past (take n w.now.log)).live q }
-    ensures aborted_permanents { (plan : Plan) (first : ℕ) (w : World) (n p k q : ℕ) → IsPlan plan →
+    ensures aborted_permanents { (plan : Planned) (first : ℕ) (w : World) (n p k q : ℕ) → IsPlan plan →
         IsReachedWorld plan first w → slice_get w.now.log n ≡ Some (Decided p k false) →
         (past (take (n + 1) w.now.log)).permanent q ≡ (past (take n w.now.log)).permanent q }
 {}
@@ -160,32 +165,32 @@ pub fn logs_of_worlds()
 /// For every run of every plan: which rows each enabled step adds.
 pub fn rows_of_worlds()
     // Those of its command, or of the parcel that it takes, and four at most.
-    ensures fit { (plan : Plan) (first : ℕ) (w : World) (x : Step) (give : Give) → IsPlan plan →
+    ensures fit { (plan : Planned) (first : ℕ) (w : World) (x : Step) (give : Give) → IsPlan plan →
         IsReachedWorld plan first w → enabled plan w x ≡ true →
         AreRowsOfStep plan w x give (rows_added plan w x give) }
-    ensures few { (plan : Plan) (first : ℕ) (w : World) (x : Step) (give : Give) → IsPlan plan →
+    ensures few { (plan : Planned) (first : ℕ) (w : World) (x : Step) (give : Give) → IsPlan plan →
         IsReachedWorld plan first w → enabled plan w x ≡ true → length (rows_added plan w x give) ≤ 4 }
 
     // A refused row is that of a process's next command, and its cause holds just before it.
-    ensures refused { (plan : Plan) (first : ℕ) (w : World) (x : Step) (give : Give) (t p : ℕ) (verb : Verb)
+    ensures refused { (plan : Planned) (first : ℕ) (w : World) (x : Step) (give : Give) (t p : ℕ) (verb : Verb)
         (cause : Cause) → IsPlan plan → IsReachedWorld plan first w → enabled plan w x ≡ true →
         slice_get (world_after plan w x give).now.log t ≡ Some (Refused p verb cause) → length w.now.log ≤ t →
         IsRefusedStep plan w x give t p verb cause }
 
     // A tentative checkpoint is taken exactly where the step asks whether the object can be saved, and it can; what
     // the object offers is sent exactly where the step asks for it.
-    ensures saves { (plan : Plan) (first : ℕ) (w : World) (x : Step) (give : Give) → IsPlan plan →
+    ensures saves { (plan : Planned) (first : ℕ) (w : World) (x : Step) (give : Give) → IsPlan plan →
         IsReachedWorld plan first w → enabled plan w x ≡ true →
         has_took_row (rows_added plan w x give) ≡ (uses_able (look plan w x) && give.able) }
-    ensures sends { (plan : Plan) (first : ℕ) (w : World) (x : Step) (give : Give) → IsPlan plan →
+    ensures sends { (plan : Planned) (first : ℕ) (w : World) (x : Step) (give : Give) → IsPlan plan →
         IsReachedWorld plan first w → enabled plan w x ≡ true →
         (is_offer_step plan w x && has_sent_row (rows_added plan w x give)) ≡ uses_body (look plan w x) }
-    ensures offered { (plan : Plan) (first : ℕ) (w : World) (p : ℕ) (give : Give) → IsPlan plan →
+    ensures offered { (plan : Planned) (first : ℕ) (w : World) (p : ℕ) (give : Give) → IsPlan plan →
         IsReachedWorld plan first w → look plan w (Do p) ≡ NeedsBody →
         (q : ℕ) × (rows_added plan w (Do p) give ≡ Sent p q give.body ∷ []) }
 
     // A process in a rollback neither sends, nor receives, nor drops a message.
-    ensures still { (plan : Plan) (first : ℕ) (w : World) (x : Step) (give : Give) (i p q m : ℕ) (body : ℤ) →
+    ensures still { (plan : Planned) (first : ℕ) (w : World) (x : Step) (give : Give) (i p q m : ℕ) (body : ℤ) →
         IsPlan plan → IsReachedWorld plan first w → enabled plan w x ≡ true →
         is_seen_ready w.now (stepper x) ≡ true →
         (slice_get (rows_added plan w x give) i ≢ Some (Sent p q body))
@@ -196,34 +201,34 @@ pub fn rows_of_worlds()
 /// However far a plan has come: what a step makes but for the open phase is the transition of what is seen, one
 /// command done, and tallies raised by what is added to the channels.
 pub fn worlds_after_steps()
-    ensures start { (plan : Plan) (first : ℕ) →
-        IsSameButPhase (record { now = opening_seen plan.size first; done = λ p. 0; phase = 0; put = no_tally })
+    ensures start { (plan : Planned) (first : ℕ) →
+        IsSameButPhase (record { now = opening_seen (length plan.names) first; done = λ p. 0; phase = 0; put = no_tally })
         (start_world plan first) }
-    ensures takes { (plan : Plan) (w : World) (p q : ℕ) (give : Give) →
+    ensures takes { (plan : Planned) (w : World) (p q : ℕ) (give : Give) →
         IsSameButPhase (with_seen plan w (Take p q) (transition w.now (machine.Take p q give.able)))
         (world_after plan w (Take p q) give) }
-    ensures does { (plan : Plan) (w : World) (p : ℕ) (give : Give) (c : Command) → next_command plan w p ≡ Some c →
+    ensures does { (plan : Planned) (w : World) (p : ℕ) (give : Give) (c : Command) → next_command plan w p ≡ Some c →
         IsSameButPhase (record (with_seen plan w (Do p) (transition w.now (protocol_step p c.job give)))
         { done = at_one p (w.done p + 1) w.done }) (world_after plan w (Do p) give) }
 {}
 
 /// The steps of the protocol behind those of a plan: they lead to what is seen, and a step has the acts of its own.
 pub fn protocol_of_worlds()
-    ensures start { (plan : Plan) (first : ℕ) → IsAfterSteps plan first [] (start_world plan first) }
-    ensures next { (plan : Plan) (first : ℕ) (w : World) (steps : List machine.Step) (x : Step) (give : Give) →
+    ensures start { (plan : Planned) (first : ℕ) → IsAfterSteps plan first [] (start_world plan first) }
+    ensures next { (plan : Planned) (first : ℕ) (w : World) (steps : List machine.Step) (x : Step) (give : Give) →
         IsAfterSteps plan first steps w → enabled plan w x ≡ true →
         IsAfterSteps plan first (steps ++ protocol_steps plan w x give) (world_after plan w x give) }
-    ensures one { (plan : Plan) (w : World) (x : Step) (give : Give) → enabled plan w x ≡ true →
+    ensures one { (plan : Planned) (w : World) (x : Step) (give : Give) → enabled plan w x ≡ true →
         (step : machine.Step) × (protocol_steps plan w x give ≡ step ∷ []) }
-    ensures seen { (plan : Plan) (first : ℕ) (w : World) (steps : List machine.Step) →
-        IsAfterSteps plan first steps w → w.now ≡ seen first (late_run (opening plan.size) steps) }
-    ensures acts { (plan : Plan) (first : ℕ) (w : World) (steps : List machine.Step) (x : Step) (give : Give)
+    ensures seen { (plan : Planned) (first : ℕ) (w : World) (steps : List machine.Step) →
+        IsAfterSteps plan first steps w → w.now ≡ seen first (late_run (opening (length plan.names)) steps) }
+    ensures acts { (plan : Planned) (first : ℕ) (w : World) (steps : List machine.Step) (x : Step) (give : Give)
         (y : machine.Step) (p : ℕ) → IsPlan plan → IsReachedWorld plan first w → IsAfterSteps plan first steps w →
         enabled plan w x ≡ true → protocol_steps plan w x give ≡ y ∷ [] →
-        acts_of_step plan w x give p ≡ acts_by p (late_run (opening plan.size) steps) y }
+        acts_of_step plan w x give p ≡ acts_by p (late_run (opening (length plan.names)) steps) y }
 
     // By what code has: the acts of the process that steps.
-    ensures seen_acts { (plan : Plan) (first : ℕ) (w : World) (x : Step) (give : Give) (y : machine.Step) →
+    ensures seen_acts { (plan : Planned) (first : ℕ) (w : World) (x : Step) (give : Give) (y : machine.Step) →
         IsPlan plan → IsReachedWorld plan first w → enabled plan w x ≡ true →
         protocol_steps plan w x give ≡ y ∷ [] →
         acts_of_step plan w x give (values_acts.stepper y) ≡ seen_acts w.now y }
@@ -233,114 +238,114 @@ pub fn protocol_of_worlds()
 pub fn phases_of_worlds()
     // No command that is left is of an earlier phase than the open one, and no further phase opens before the next
     // step.
-    ensures ahead { (plan : Plan) (first : ℕ) (w : World) (p : ℕ) (c : Command) → IsPlan plan →
+    ensures ahead { (plan : Planned) (first : ℕ) (w : World) (p : ℕ) (c : Command) → IsPlan plan →
         IsReachedWorld plan first w → next_command plan w p ≡ Some c → w.phase ≤ c.phase }
-    ensures shut { (plan : Plan) (first : ℕ) (w : World) → IsPlan plan → IsReachedWorld plan first w →
+    ensures shut { (plan : Planned) (first : ℕ) (w : World) → IsPlan plan → IsReachedWorld plan first w →
         opens_next plan w ≡ false }
 
     // Where all is quiet and a command is left, somebody's next one is of the open phase.
-    ensures attained { (plan : Plan) (first : ℕ) (w : World) (p : ℕ) (c : Command) → IsPlan plan →
-        IsReachedWorld plan first w → is_quiet plan.size w.now ≡ true → next_command plan w p ≡ Some c →
-        (q : ℕ) × (d : Command) × (q < plan.size) × (next_command plan w q ≡ Some d) × (d.phase ≡ w.phase) }
+    ensures attained { (plan : Planned) (first : ℕ) (w : World) (p : ℕ) (c : Command) → IsPlan plan →
+        IsReachedWorld plan first w → is_quiet (length plan.names) w.now ≡ true → next_command plan w p ≡ Some c →
+        (q : ℕ) × (d : Command) × (q < (length plan.names)) × (next_command plan w q ≡ Some d) × (d.phase ≡ w.phase) }
 
     // Only commands of the open phase are enabled. No step goes back to an earlier phase; and where one opens a later
     // phase, no parcel is under way and nobody is in an instance.
-    ensures in_phase { (plan : Plan) (first : ℕ) (w : World) (p : ℕ) → IsPlan plan → IsReachedWorld plan first w →
+    ensures in_phase { (plan : Planned) (first : ℕ) (w : World) (p : ℕ) → IsPlan plan → IsReachedWorld plan first w →
         enabled plan w (Do p) ≡ true → (c : Command) × (next_command plan w p ≡ Some c) × (c.phase ≡ w.phase) }
-    ensures forward { (plan : Plan) (first : ℕ) (w : World) (x : Step) (give : Give) → IsPlan plan →
+    ensures forward { (plan : Planned) (first : ℕ) (w : World) (x : Step) (give : Give) → IsPlan plan →
         IsReachedWorld plan first w → enabled plan w x ≡ true → w.phase ≤ (world_after plan w x give).phase }
-    ensures quiet { (plan : Plan) (first : ℕ) (w : World) (x : Step) (give : Give) → IsPlan plan →
+    ensures quiet { (plan : Planned) (first : ℕ) (w : World) (x : Step) (give : Give) → IsPlan plan →
         IsReachedWorld plan first w → enabled plan w x ≡ true → w.phase < (world_after plan w x give).phase →
-        is_quiet plan.size (world_after plan w x give).now ≡ true }
+        is_quiet (length plan.names) (world_after plan w x give).now ≡ true }
 {}
 
 /// For every run of every plan: where its messages are.
 pub fn messages_of_worlds()
     // Each live message that isn't dropped stands once: in what its receiver has received itself, in what it holds,
     // or in the channel; and these lists rise, in that order.
-    ensures once { (plan : Plan) (first : ℕ) (w : World) → IsPlan plan → IsReachedWorld plan first w →
+    ensures once { (plan : Planned) (first : ℕ) (w : World) → IsPlan plan → IsReachedWorld plan first w →
         EachStandsOnce w.now }
-    ensures rising { (plan : Plan) (first : ℕ) (w : World) (p q : ℕ) → IsPlan plan → IsReachedWorld plan first w →
+    ensures rising { (plan : Planned) (first : ℕ) (w : World) (p q : ℕ) → IsPlan plan → IsReachedWorld plan first w →
         IsRising (line w.now p q) }
 
     // What is kept of a sender is what was received of it past the own permanent position.
-    ensures kept_lists { (plan : Plan) (first : ℕ) (w : World) → IsPlan plan → IsReachedWorld plan first w →
+    ensures kept_lists { (plan : Planned) (first : ℕ) (w : World) → IsPlan plan → IsReachedWorld plan first w →
         KeepsReceived w.now }
 
     // A message in a channel has the label and the body of its row, and it is its receiver's. What a process holds or
     // keeps of a sender is such messages, to this process, and nothing else.
-    ensures in_channels { (plan : Plan) (first : ℕ) (w : World) (p q : ℕ) → IsPlan plan → IsReachedWorld plan first w →
+    ensures in_channels { (plan : Planned) (first : ℕ) (w : World) (p q : ℕ) → IsPlan plan → IsReachedWorld plan first w →
         AreSentTo first w.now.log p q (w.now.channel p q) }
-    ensures held { (plan : Plan) (first : ℕ) (w : World) (p q : ℕ) → IsPlan plan → IsReachedWorld plan first w →
+    ensures held { (plan : Planned) (first : ℕ) (w : World) (p q : ℕ) → IsPlan plan → IsReachedWorld plan first w →
         AreMessagesTo first w.now.log q p (w.now.held q p) }
-    ensures kept { (plan : Plan) (first : ℕ) (w : World) (p q : ℕ) → IsPlan plan → IsReachedWorld plan first w →
+    ensures kept { (plan : Planned) (first : ℕ) (w : World) (p q : ℕ) → IsPlan plan → IsReachedWorld plan first w →
         AreMessagesTo first w.now.log q p (w.now.kept q p) }
 
     // At rest no live message is lost: each that isn't dropped has been received, once, and that is live. What a
     // process has done itself is its live history there.
-    ensures arrived { (plan : Plan) (first : ℕ) (w : World) (m p q : ℕ) → IsPlan plan → IsReachedWorld plan first w →
+    ensures arrived { (plan : Planned) (first : ℕ) (w : World) (m p q : ℕ) → IsPlan plan → IsReachedWorld plan first w →
         is_at_rest plan w ≡ true → has_deed (deed.Sent m q) ((past w.now.log).live p) ≡ true →
         (past w.now.log).dropped m ≡ false → has_deed (deed.Received m p) ((past w.now.log).live q) ≡ true }
-    ensures arrived_once { (plan : Plan) (first : ℕ) (w : World) (m p q : ℕ) → IsPlan plan →
+    ensures arrived_once { (plan : Planned) (first : ℕ) (w : World) (m p q : ℕ) → IsPlan plan →
         IsReachedWorld plan first w → is_at_rest plan w ≡ true →
         has_deed (deed.Sent m q) ((past w.now.log).live p) ≡ true → (past w.now.log).dropped m ≡ false →
         times m (received_of p ((past w.now.log).live q)) ≡ 1 }
-    ensures own_at_rest { (plan : Plan) (first : ℕ) (w : World) (p : ℕ) → IsPlan plan → IsReachedWorld plan first w →
+    ensures own_at_rest { (plan : Planned) (first : ℕ) (w : World) (p : ℕ) → IsPlan plan → IsReachedWorld plan first w →
         is_at_rest plan w ≡ true → (done w.now.log).own p ≡ (past w.now.log).live p }
 {}
 
 /// For every run of every plan: what is so of each process.
 pub fn people_of_worlds()
-    ensures processes { (plan : Plan) (first : ℕ) (w : World) → IsPlan plan → IsReachedWorld plan first w →
-        w.now.processes ≡ plan.size }
+    ensures processes { (plan : Planned) (first : ℕ) (w : World) → IsPlan plan → IsReachedWorld plan first w →
+        w.now.processes ≡ (length plan.names) }
 
     // The last label used is the first one and the number of the process's `sent` rows.
-    ensures used { (plan : Plan) (first : ℕ) (w : World) (p : ℕ) → IsPlan plan → IsReachedWorld plan first w →
+    ensures used { (plan : Planned) (first : ℕ) (w : World) (p : ℕ) → IsPlan plan → IsReachedWorld plan first w →
         (w.now.people p).used ≡ first + sends_of p w.now.log }
 
     // The calls of each process are a list that tables answer for, before a step and after it.
-    ensures speaks { (plan : Plan) (first : ℕ) (w : World) (p : ℕ) → IsPlan plan → IsReachedWorld plan first w →
+    ensures speaks { (plan : Planned) (first : ℕ) (w : World) (p : ℕ) → IsPlan plan → IsReachedWorld plan first w →
         Speaks (w.now.people p).calls }
-    ensures speaks_next { (plan : Plan) (first : ℕ) (w : World) (x : machine.Step) (p : ℕ) → IsPlan plan →
+    ensures speaks_next { (plan : Planned) (first : ℕ) (w : World) (x : machine.Step) (p : ℕ) → IsPlan plan →
         IsReachedWorld plan first w → Speaks ((transition w.now x).people p).calls }
 
     // A process in no instance has no part, and whom it would ask is a process; so is whom a part asked or answers.
-    ensures no_part { (plan : Plan) (first : ℕ) (w : World) (p : ℕ) → IsPlan plan → IsReachedWorld plan first w →
+    ensures no_part { (plan : Planned) (first : ℕ) (w : World) (p : ℕ) → IsPlan plan → IsReachedWorld plan first w →
         (w.now.people p).inst ≡ 0 → (w.now.people p).part ≡ no_part }
-    ensures would_ask_in_checkpoint { (plan : Plan) (first : ℕ) (w : World) (p q : ℕ) → IsPlan plan →
+    ensures would_ask_in_checkpoint { (plan : Planned) (first : ℕ) (w : World) (p q : ℕ) → IsPlan plan →
         IsReachedWorld plan first w → (w.now.people p).inst ≡ 0 →
-        is_asked_in_checkpoint (w.now.people p).calls q ≡ true → q < plan.size }
-    ensures would_ask_in_rollback { (plan : Plan) (first : ℕ) (w : World) (p q : ℕ) → IsPlan plan →
+        is_asked_in_checkpoint (w.now.people p).calls q ≡ true → q < (length plan.names) }
+    ensures would_ask_in_rollback { (plan : Planned) (first : ℕ) (w : World) (p q : ℕ) → IsPlan plan →
         IsReachedWorld plan first w → (w.now.people p).inst ≡ 0 →
-        is_asked_in_rollback (w.now.people p).calls q ≡ true → q < plan.size }
-    ensures asked { (plan : Plan) (first : ℕ) (w : World) (p q : ℕ) → IsPlan plan → IsReachedWorld plan first w →
-        (w.now.people p).part.asked q ≡ true → q < plan.size }
-    ensures parent { (plan : Plan) (first : ℕ) (w : World) (p to : ℕ) → IsPlan plan → IsReachedWorld plan first w →
-        (w.now.people p).part.parent ≡ Some to → to < plan.size }
+        is_asked_in_rollback (w.now.people p).calls q ≡ true → q < (length plan.names) }
+    ensures asked { (plan : Planned) (first : ℕ) (w : World) (p q : ℕ) → IsPlan plan → IsReachedWorld plan first w →
+        (w.now.people p).part.asked q ≡ true → q < (length plan.names) }
+    ensures parent { (plan : Planned) (first : ℕ) (w : World) (p to : ℕ) → IsPlan plan → IsReachedWorld plan first w →
+        (w.now.people p).part.parent ≡ Some to → to < (length plan.names) }
 {}
 
 /// A run that begins with given moves and goes on by default steps, with whatever objects give.
 pub fn runs_that_go_on()
     // It begins where the given moves lead, and each default step leads it on.
-    ensures begins { (plan : Plan) (first : ℕ) (given : List Move) (w : World) →
+    ensures begins { (plan : Planned) (first : ℕ) (given : List Move) (w : World) →
         after_moves plan (start_world plan first) given ≡ Some w → GoesOn plan first given [] w }
-    ensures next { (plan : Plan) (first : ℕ) (given more : List Move) (w : World) (x : Step) (give : Give) →
+    ensures next { (plan : Planned) (first : ℕ) (given more : List Move) (w : World) (x : Step) (give : Give) →
         IsPlan plan → GoesOn plan first given more w → default_step plan w ≡ Some x →
         GoesOn plan first given (more ++ record { step = x; give = give } ∷ []) (world_after plan w x give) }
-    ensures run { (plan : Plan) (first : ℕ) (given more : List Move) (w : World) → GoesOn plan first given more w →
+    ensures run { (plan : Planned) (first : ℕ) (given more : List Move) (w : World) → GoesOn plan first given more w →
         after_moves plan (start_world plan first) (given ++ more) ≡ Some w }
 
     // It has few steps; with at most 64 processes, 4,096 commands and 2^24 rows fewer than 2^26.
-    ensures few { (plan : Plan) (first : ℕ) (given more : List Move) (w : World) → IsPlan plan →
+    ensures few { (plan : Planned) (first : ℕ) (given more : List Move) (w : World) → IsPlan plan →
         GoesOn plan first given more w → length given + length more ≤ most_steps plan (length w.now.log) }
-    ensures limits { (plan : Plan) (first : ℕ) (given more : List Move) (w : World) → IsPlan plan → plan.size ≤ 64 →
+    ensures limits { (plan : Planned) (first : ℕ) (given more : List Move) (w : World) → IsPlan plan → (length plan.names) ≤ 64 →
         length plan.commands ≤ 4096 → length w.now.log ≤ 16777216 → GoesOn plan first given more w →
         length given + length more < 67108864 }
 
     // Where it can't go on it is at rest; and more gives than a run with so many rows can have steps lead there.
-    ensures rest { (plan : Plan) (first : ℕ) (given more : List Move) (w : World) → IsPlan plan →
+    ensures rest { (plan : Planned) (first : ℕ) (given more : List Move) (w : World) → IsPlan plan →
         GoesOn plan first given more w → default_step plan w ≡ None → is_at_rest plan w ≡ true }
-    ensures after { (plan : Plan) (first rows : ℕ) (given : List Move) (w : World) (gives : List Give) → IsPlan plan →
+    ensures after { (plan : Planned) (first rows : ℕ) (given : List Move) (w : World) (gives : List Give) → IsPlan plan →
         after_moves plan (start_world plan first) given ≡ Some w → length (after_gives plan w gives).now.log ≤ rows →
         most_steps plan rows < length given + length gives → is_at_rest plan (after_gives plan w gives) ≡ true }
 {}
@@ -348,29 +353,29 @@ pub fn runs_that_go_on()
 /// For every run of every plan: the certificates of its log.
 pub fn certificates_of_worlds()
     // One for each decided instance, by rising number, as the log has it.
-    ensures complete { (plan : Plan) (first : ℕ) (w : World) → IsPlan plan → IsReachedWorld plan first w →
+    ensures complete { (plan : Planned) (first : ℕ) (w : World) → IsPlan plan → IsReachedWorld plan first w →
         AreComplete w.now.log (certificates w.now.log) }
-    ensures rising { (plan : Plan) (first : ℕ) (w : World) (i j : ℕ) (c d : Certificate) → i < j →
+    ensures rising { (plan : Planned) (first : ℕ) (w : World) (i j : ℕ) (c d : Certificate) → i < j →
         slice_get (certificates w.now.log) i ≡ Some c → slice_get (certificates w.now.log) j ≡ Some d →
         c.inst < d.inst }
-    ensures stated { (plan : Plan) (first : ℕ) (w : World) (i : ℕ) (c : Certificate) →
+    ensures stated { (plan : Planned) (first : ℕ) (w : World) (i : ℕ) (c : Certificate) →
         slice_get (certificates w.now.log) i ≡ Some c → (n : ℕ) × IsAsInLog w.now.log c n }
 
     // Each list of a committed one is a chain, and no member lacks one; so there is no fault but want of memory.
-    ensures lists { (plan : Plan) (first : ℕ) (w : World) (i n : ℕ) (c : Certificate) → IsPlan plan →
+    ensures lists { (plan : Planned) (first : ℕ) (w : World) (i n : ℕ) (c : Certificate) → IsPlan plan →
         IsReachedWorld plan first w → slice_get (certificates w.now.log) i ≡ Some c → IsAsInLog w.now.log c n →
         c.commit ≡ true → HasLists (past (take n w.now.log)) c }
-    ensures chained { (plan : Plan) (first : ℕ) (w : World) (k p : ℕ) → IsPlan plan → IsReachedWorld plan first w →
+    ensures chained { (plan : Planned) (first : ℕ) (w : World) (k p : ℕ) → IsPlan plan → IsReachedWorld plan first w →
         HasNoChain w.now.log k p → ⊥ }
-    ensures certified { (plan : Plan) (first : ℕ) (w : World) (f : CertFault) → IsPlan plan →
+    ensures certified { (plan : Planned) (first : ℕ) (w : World) (f : CertFault) → IsPlan plan →
         IsReachedWorld plan first w → IsFaultOf w.now.log f → f ≡ Memory }
 
     // The checker's answer is yes, and can't be another one.
-    ensures passed { (plan : Plan) (first : ℕ) (w : World) → IsPlan plan → IsReachedWorld plan first w →
+    ensures passed { (plan : Planned) (first : ℕ) (w : World) → IsPlan plan → IsReachedWorld plan first w →
         IsPassed w.now.log (certificates w.now.log) }
-    ensures answer { (plan : Plan) (first : ℕ) (w : World) → IsPlan plan → IsReachedWorld plan first w →
+    ensures answer { (plan : Planned) (first : ℕ) (w : World) → IsPlan plan → IsReachedWorld plan first w →
         IsAnswer w.now.log (certificates w.now.log) Yes }
-    ensures yes { (plan : Plan) (first : ℕ) (w : World) (v : Verdict) → IsPlan plan → IsReachedWorld plan first w →
+    ensures yes { (plan : Planned) (first : ℕ) (w : World) (v : Verdict) → IsPlan plan → IsReachedWorld plan first w →
         IsAnswer w.now.log (certificates w.now.log) v → v ≡ Yes }
 {}
 
@@ -378,44 +383,44 @@ pub fn certificates_of_worlds()
 pub fn never_stuck()
     // There all commands are done, each begun instance is decided, nobody is in one, and no parcel is in a channel or
     // held.
-    ensures at_rest { (plan : Plan) (first : ℕ) (w : World) → IsPlan plan → IsReachedWorld plan first w →
+    ensures at_rest { (plan : Planned) (first : ℕ) (w : World) → IsPlan plan → IsReachedWorld plan first w →
         ((x : Step) → enabled plan w x ≡ false) → is_at_rest plan w ≡ true }
-    ensures done { (plan : Plan) (first : ℕ) (w : World) (p : ℕ) → IsPlan plan → IsReachedWorld plan first w →
+    ensures done { (plan : Planned) (first : ℕ) (w : World) (p : ℕ) → IsPlan plan → IsReachedWorld plan first w →
         ((x : Step) → enabled plan w x ≡ false) → commands_left plan w p ≡ [] }
-    ensures quiet { (plan : Plan) (first : ℕ) (w : World) → IsPlan plan → IsReachedWorld plan first w →
+    ensures quiet { (plan : Planned) (first : ℕ) (w : World) → IsPlan plan → IsReachedWorld plan first w →
         ((x : Step) → enabled plan w x ≡ false) → HasNothingUnderWay w.now }
 
     // So it is wherever a plan is at rest, and that is exactly where there is no default step.
-    ensures rested_done { (plan : Plan) (first : ℕ) (w : World) (p : ℕ) → IsPlan plan → IsReachedWorld plan first w →
+    ensures rested_done { (plan : Planned) (first : ℕ) (w : World) (p : ℕ) → IsPlan plan → IsReachedWorld plan first w →
         is_at_rest plan w ≡ true → commands_left plan w p ≡ [] }
-    ensures rested_quiet { (plan : Plan) (first : ℕ) (w : World) → IsPlan plan → IsReachedWorld plan first w →
+    ensures rested_quiet { (plan : Planned) (first : ℕ) (w : World) → IsPlan plan → IsReachedWorld plan first w →
         is_at_rest plan w ≡ true → HasNothingUnderWay w.now }
-    ensures exactly { (plan : Plan) (first : ℕ) (w : World) → IsPlan plan → IsReachedWorld plan first w →
+    ensures exactly { (plan : Planned) (first : ℕ) (w : World) → IsPlan plan → IsReachedWorld plan first w →
         (is_at_rest plan w ≡ true) ↔ (default_step plan w ≡ None) }
 
     // A plan is at rest exactly where nobody has a command left and nothing is under way.
-    ensures rests { (plan : Plan) (first : ℕ) (w : World) → IsPlan plan → IsReachedWorld plan first w →
+    ensures rests { (plan : Planned) (first : ℕ) (w : World) → IsPlan plan → IsReachedWorld plan first w →
         (is_at_rest plan w ≡ true)
-        ↔ (((p : ℕ) → p < plan.size → next_command plan w p ≡ None) × HasNothingUnderWay w.now) }
+        ↔ (((p : ℕ) → p < (length plan.names) → next_command plan w p ≡ None) × HasNothingUnderWay w.now) }
 {}
 
 /// For every run of every plan: it has few steps for its commands and its rows, so within a number of rows it ends.
 pub fn runs_end()
-    ensures steps { (plan : Plan) (first : ℕ) (moves : List Move) (w : World) → IsPlan plan →
+    ensures steps { (plan : Planned) (first : ℕ) (moves : List Move) (w : World) → IsPlan plan →
         after_moves plan (start_world plan first) moves ≡ Some w → length moves ≤ most_steps plan (length w.now.log) }
 
     // Each step that stays within the rows lowers the work that is left.
-    ensures falls { (plan : Plan) (first rows : ℕ) (w : World) (x : Step) (give : Give) → IsPlan plan →
+    ensures falls { (plan : Planned) (first rows : ℕ) (w : World) (x : Step) (give : Give) → IsPlan plan →
         IsReachedWorld plan first w → enabled plan w x ≡ true → length (world_after plan w x give).now.log ≤ rows →
         work_left rows plan (world_after plan w x give) < work_left rows plan w }
 
     // Default steps go on with the run, whatever objects give at each, and come to rest.
-    ensures defaults { (n : ℕ) (plan : Plan) (first : ℕ) (give : World → Step → Give) (w : World) → IsPlan plan →
+    ensures defaults { (n : ℕ) (plan : Planned) (first : ℕ) (give : World → Step → Give) (w : World) → IsPlan plan →
         IsReachedWorld plan first w → IsReachedWorld plan first (after_defaults n plan give w) }
-    ensures after { (n : ℕ) (plan : Plan) (first rows : ℕ) (give : World → Step → Give) (w : World) → IsPlan plan →
+    ensures after { (n : ℕ) (plan : Planned) (first rows : ℕ) (give : World → Step → Give) (w : World) → IsPlan plan →
         IsReachedWorld plan first w → length (after_defaults n plan give w).now.log ≤ rows →
         work_left rows plan w < n → is_at_rest plan (after_defaults n plan give w) ≡ true }
-    ensures rest { (n : ℕ) (plan : Plan) (first rows : ℕ) (give : World → Step → Give) → IsPlan plan →
+    ensures rest { (n : ℕ) (plan : Planned) (first rows : ℕ) (give : World → Step → Give) → IsPlan plan →
         length (after_defaults n plan give (start_world plan first)).now.log ≤ rows → most_steps plan rows < n →
         is_at_rest plan (after_defaults n plan give (start_world plan first)) ≡ true }
 {}
@@ -423,42 +428,42 @@ pub fn runs_end()
 /// For every run of every plan: the default step, and the steps of others.
 pub fn steps_of_worlds()
     // There is no default step exactly where nothing is enabled. It is enabled, and comes before every other that is.
-    ensures none { (plan : Plan) (first : ℕ) (w : World) → IsPlan plan → IsReachedWorld plan first w →
+    ensures none { (plan : Planned) (first : ℕ) (w : World) → IsPlan plan → IsReachedWorld plan first w →
         (default_step plan w ≡ None) ↔ ((x : Step) → enabled plan w x ≡ false) }
-    ensures on { (plan : Plan) (first : ℕ) (w : World) (x : Step) → IsPlan plan → IsReachedWorld plan first w →
+    ensures on { (plan : Planned) (first : ℕ) (w : World) (x : Step) → IsPlan plan → IsReachedWorld plan first w →
         default_step plan w ≡ Some x → enabled plan w x ≡ true }
-    ensures first { (plan : Plan) (first : ℕ) (w : World) (x y : Step) → IsPlan plan → IsReachedWorld plan first w →
+    ensures first { (plan : Planned) (first : ℕ) (w : World) (x y : Step) → IsPlan plan → IsReachedWorld plan first w →
         default_step plan w ≡ Some x → enabled plan w y ≡ true → (x ≡ y) ⊎ (comes_before plan w x y ≡ true) }
 
     // It is the only step that does.
-    ensures only { (plan : Plan) (first : ℕ) (w : World) (x : Step) → IsPlan plan → IsReachedWorld plan first w →
+    ensures only { (plan : Planned) (first : ℕ) (w : World) (x : Step) → IsPlan plan → IsReachedWorld plan first w →
         enabled plan w x ≡ true → ((y : Step) → enabled plan w y ≡ true → (x ≡ y) ⊎ (comes_before plan w x y ≡ true)) →
         default_step plan w ≡ Some x }
 
     // An enabled step stays enabled after any enabled step of another process, and asks the same of its object.
-    ensures stays { (plan : Plan) (first : ℕ) (w : World) (x y : Step) (give : Give) → IsPlan plan →
+    ensures stays { (plan : Planned) (first : ℕ) (w : World) (x y : Step) (give : Give) → IsPlan plan →
         IsReachedWorld plan first w → enabled plan w x ≡ true → enabled plan w y ≡ true → stepper x ≢ stepper y →
         enabled plan (world_after plan w y give) x ≡ true }
-    ensures looks { (plan : Plan) (first : ℕ) (w : World) (x y : Step) (give : Give) → IsPlan plan →
+    ensures looks { (plan : Planned) (first : ℕ) (w : World) (x y : Step) (give : Give) → IsPlan plan →
         IsReachedWorld plan first w → enabled plan w x ≡ true → enabled plan w y ≡ true → stepper x ≢ stepper y →
         look plan (world_after plan w y give) x ≡ look plan w x }
 
     // So it is after any number of moves of others.
-    ensures waits { (plan : Plan) (first : ℕ) (w v : World) (x : Step) (moves : List Move) → IsPlan plan →
+    ensures waits { (plan : Planned) (first : ℕ) (w v : World) (x : Step) (moves : List Move) → IsPlan plan →
         IsReachedWorld plan first w → enabled plan w x ≡ true → AreOfOthers (stepper x) moves →
         after_moves plan w moves ≡ Some v → enabled plan v x ≡ true }
-    ensures waits_looks { (plan : Plan) (first : ℕ) (w v : World) (x : Step) (moves : List Move) → IsPlan plan →
+    ensures waits_looks { (plan : Planned) (first : ℕ) (w v : World) (x : Step) (moves : List Move) → IsPlan plan →
         IsReachedWorld plan first w → enabled plan w x ≡ true → AreOfOthers (stepper x) moves →
         after_moves plan w moves ≡ Some v → look plan v x ≡ look plan w x }
 
     // Of what the object gives, that counts which the step asks for.
-    ensures gives { (plan : Plan) (first : ℕ) (w : World) (x : Step) (a b : Give) → IsPlan plan →
+    ensures gives { (plan : Planned) (first : ℕ) (w : World) (x : Step) (a b : Give) → IsPlan plan →
         IsReachedWorld plan first w → enabled plan w x ≡ true → (uses_able (look plan w x) ≡ true → a.able ≡ b.able) →
         (uses_body (look plan w x) ≡ true → a.body ≡ b.body) → world_after plan w x a ≡ world_after plan w x b }
 
     // An `unwilling` row is added by a step that takes an ask of a member, and before that step the row's cause
     // holds.
-    ensures unwilling { (plan : Plan) (first : ℕ) (w : World) (x : Step) (give : Give) (t p k : ℕ) (cause : Cause) →
+    ensures unwilling { (plan : Planned) (first : ℕ) (w : World) (x : Step) (give : Give) (t p k : ℕ) (cause : Cause) →
         IsPlan plan → IsReachedWorld plan first w → enabled plan w x ≡ true →
         slice_get (world_after plan w x give).now.log t ≡ Some (Unwilling p k cause) → length w.now.log ≤ t →
         IsUnwillingStep w x give t p k cause }
@@ -468,70 +473,70 @@ pub fn steps_of_worlds()
 pub fn values_of_worlds<V>()
     // A step's acts, done in order, lead from what is due before it to what is due after it; they can be done, and to
     // those who don't step the same is due as before.
-    ensures lead { (r : Rules V) (plan : Plan) (first : ℕ) (w : World) (x : Step) (give : Give) (p : ℕ) → IsPlan plan →
+    ensures lead { (r : Rules V) (plan : Planned) (first : ℕ) (w : World) (x : Step) (give : Give) (p : ℕ) → IsPlan plan →
         IsReachedWorld plan first w → enabled plan w x ≡ true →
         does_all r (due r (done w.now.log) p) (acts_of_step plan w x give p)
         ≡ due r (done (world_after plan w x give).now.log) p }
-    ensures can { (r : Rules V) (plan : Plan) (first : ℕ) (w : World) (x : Step) (give : Give) (p : ℕ) → IsPlan plan →
+    ensures can { (r : Rules V) (plan : Planned) (first : ℕ) (w : World) (x : Step) (give : Give) (p : ℕ) → IsPlan plan →
         IsReachedWorld plan first w → enabled plan w x ≡ true →
         can_all r (due r (done w.now.log) p) (acts_of_step plan w x give p) ≡ true }
 
     // The acts of the whole log can be done, and lead to what is due; at rest no tentative state is.
-    ensures whole_can { (r : Rules V) (plan : Plan) (first : ℕ) (w : World) (p : ℕ) → IsPlan plan →
+    ensures whole_can { (r : Rules V) (plan : Planned) (first : ℕ) (w : World) (p : ℕ) → IsPlan plan →
         IsReachedWorld plan first w → can_all r (first_due r) (acts_along p done_start w.now.log) ≡ true }
-    ensures whole { (r : Rules V) (plan : Plan) (first : ℕ) (w : World) (p : ℕ) → IsPlan plan →
+    ensures whole { (r : Rules V) (plan : Planned) (first : ℕ) (w : World) (p : ℕ) → IsPlan plan →
         IsReachedWorld plan first w →
         does_all r (first_due r) (acts_along p done_start w.now.log) ≡ due r (done w.now.log) p }
-    ensures rested { (r : Rules V) (plan : Plan) (first : ℕ) (w : World) (p : ℕ) → IsPlan plan →
+    ensures rested { (r : Rules V) (plan : Planned) (first : ℕ) (w : World) (p : ℕ) → IsPlan plan →
         IsReachedWorld plan first w → is_at_rest plan w ≡ true → (due r (done w.now.log) p).tentative ≡ None }
 
     // While others step the same is due to a process.
-    ensures waits { (r : Rules V) (plan : Plan) (first : ℕ) (w v : World) (p : ℕ) (moves : List Move) → IsPlan plan →
+    ensures waits { (r : Rules V) (plan : Planned) (first : ℕ) (w v : World) (p : ℕ) (moves : List Move) → IsPlan plan →
         IsReachedWorld plan first w → AreOfOthers p moves → after_moves plan w moves ≡ Some v →
         due r (done v.now.log) p ≡ due r (done w.now.log) p }
 
     // An object is due exactly where its process is up, and a tentative state exactly while it is in a checkpoint.
-    ensures objects { (r : Rules V) (plan : Plan) (first : ℕ) (w : World) (p : ℕ) → IsPlan plan →
+    ensures objects { (r : Rules V) (plan : Planned) (first : ℕ) (w : World) (p : ℕ) → IsPlan plan →
         IsReachedWorld plan first w → is_some (due r (done w.now.log) p).object ≡ (w.now.people p).up }
-    ensures tentatives { (r : Rules V) (plan : Plan) (first : ℕ) (w : World) (p : ℕ) → IsPlan plan →
+    ensures tentatives { (r : Rules V) (plan : Planned) (first : ℕ) (w : World) (p : ℕ) → IsPlan plan →
         IsReachedWorld plan first w → is_some (due r (done w.now.log) p).tentative
         ≡ (not ((w.now.people p).inst == 0) && not (w.now.people p).part.is_rollback) }
 
     // As long as a process is in a checkpoint, its tentative state has the value that was due to its object where it
     // was taken.
-    ensures as_taken { (r : Rules V) (plan : Plan) (first : ℕ) (w : World) (n p k : ℕ) → IsPlan plan →
+    ensures as_taken { (r : Rules V) (plan : Planned) (first : ℕ) (w : World) (n p k : ℕ) → IsPlan plan →
         IsReachedWorld plan first w → slice_get w.now.log n ≡ Some (Took p k) →
         (past w.now.log).open_in p ≡ Some k →
         (due r (done w.now.log) p).tentative ≡ (due r (done (take n w.now.log)) p).object }
 
     // A state is kept as the first act alone, and only where it can be saved.
-    ensures keeps { (plan : Plan) (first : ℕ) (w : World) (x : Step) (give : Give) (p : ℕ) → IsPlan plan →
+    ensures keeps { (plan : Planned) (first : ℕ) (w : World) (x : Step) (give : Give) (p : ℕ) → IsPlan plan →
         IsReachedWorld plan first w → enabled plan w x ≡ true →
         keeps_only_first give.able (acts_of_step plan w x give p) ≡ true }
 
     // The spares taken by a log are those taken before a step and by its acts; and restoring takes no more spares
     // than the plan has commands for the process to fail.
-    ensures taken { (r : Rules V) (plan : Plan) (first : ℕ) (w : World) (x : Step) (give : Give) (p : ℕ) →
+    ensures taken { (r : Rules V) (plan : Planned) (first : ℕ) (w : World) (x : Step) (give : Give) (p : ℕ) →
         IsPlan plan → IsReachedWorld plan first w → enabled plan w x ≡ true →
         spares r (first_due r) (acts_along p done_start (world_after plan w x give).now.log)
         ≡ spares r (first_due r) (acts_along p done_start w.now.log)
         + spares r (due r (done w.now.log) p) (acts_of_step plan w x give p) }
-    ensures spares { (r : Rules V) (plan : Plan) (first : ℕ) (w : World) (p : ℕ) → IsPlan plan →
+    ensures spares { (r : Rules V) (plan : Planned) (first : ℕ) (w : World) (p : ℕ) → IsPlan plan →
         IsReachedWorld plan first w → spares r (first_due r) (acts_along p done_start w.now.log) ≤ failures_of p plan }
 
     // Where each step that asks for a body is given what the object offers, the rows sent there have it.
-    ensures offers { (rules : ℕ → Rules V) (plan : Plan) (first : ℕ) (moves : List Move) (w : World) → IsPlan plan →
+    ensures offers { (rules : ℕ → Rules V) (plan : Planned) (first : ℕ) (moves : List Move) (w : World) → IsPlan plan →
         after_moves plan (start_world plan first) moves ≡ Some w →
         GivesOffers rules plan (start_world plan first) moves →
         AreOfferedAt rules w.now.log (offer_places plan (start_world plan first) moves) }
 
     // A step that closes an aborted instance changes no object and no permanent state.
-    ensures aborts_objects { (r : Rules V) (plan : Plan) (first : ℕ) (w : World) (x : Step) (give : Give)
+    ensures aborts_objects { (r : Rules V) (plan : Planned) (first : ℕ) (w : World) (x : Step) (give : Give)
         (i p k u : ℕ) → IsPlan plan → IsReachedWorld plan first w → enabled plan w x ≡ true →
         slice_get (world_after plan w x give).now.log i ≡ Some (Closed p k) → length w.now.log ≤ i →
         is_committed (past (world_after plan w x give).now.log) k ≡ false →
         (due r (done (world_after plan w x give).now.log) u).object ≡ (due r (done w.now.log) u).object }
-    ensures aborts_saved { (r : Rules V) (plan : Plan) (first : ℕ) (w : World) (x : Step) (give : Give)
+    ensures aborts_saved { (r : Rules V) (plan : Planned) (first : ℕ) (w : World) (x : Step) (give : Give)
         (i p k u : ℕ) → IsPlan plan → IsReachedWorld plan first w → enabled plan w x ≡ true →
         slice_get (world_after plan w x give).now.log i ≡ Some (Closed p k) → length w.now.log ≤ i →
         is_committed (past (world_after plan w x give).now.log) k ≡ false →
@@ -541,26 +546,26 @@ pub fn values_of_worlds<V>()
 /// For every run of every plan: the rows that a step adds, and the acts that they ask.
 pub fn acts_of_worlds()
     // Rows are added to the log, and acts to those of the whole log.
-    ensures grows { (plan : Plan) (first : ℕ) (w : World) (x : Step) (give : Give) → IsPlan plan →
+    ensures grows { (plan : Planned) (first : ℕ) (w : World) (x : Step) (give : Give) → IsPlan plan →
         IsReachedWorld plan first w → enabled plan w x ≡ true →
         (world_after plan w x give).now.log ≡ w.now.log ++ rows_added plan w x give }
-    ensures more { (plan : Plan) (first : ℕ) (w : World) (x : Step) (give : Give) (p : ℕ) → IsPlan plan →
+    ensures more { (plan : Planned) (first : ℕ) (w : World) (x : Step) (give : Give) (p : ℕ) → IsPlan plan →
         IsReachedWorld plan first w → enabled plan w x ≡ true →
         acts_along p done_start (world_after plan w x give).now.log
         ≡ acts_along p done_start w.now.log ++ acts_of_step plan w x give p }
 
     // Each row is its process's, nobody else has an act, and it has two at most.
-    ensures rows { (plan : Plan) (first : ℕ) (w : World) (x : Step) (give : Give) (i : ℕ) (row : Event) → IsPlan plan →
+    ensures rows { (plan : Planned) (first : ℕ) (w : World) (x : Step) (give : Give) (i : ℕ) (row : Event) → IsPlan plan →
         IsReachedWorld plan first w → enabled plan w x ≡ true → slice_get (rows_added plan w x give) i ≡ Some row →
         process_of row ≡ stepper x }
-    ensures others { (plan : Plan) (first : ℕ) (w : World) (x : Step) (give : Give) (p : ℕ) → IsPlan plan →
+    ensures others { (plan : Planned) (first : ℕ) (w : World) (x : Step) (give : Give) (p : ℕ) → IsPlan plan →
         IsReachedWorld plan first w → enabled plan w x ≡ true → p ≢ stepper x → acts_of_step plan w x give p ≡ [] }
-    ensures two { (plan : Plan) (first : ℕ) (w : World) (x : Step) (give : Give) (p : ℕ) → IsPlan plan →
+    ensures two { (plan : Planned) (first : ℕ) (w : World) (x : Step) (give : Give) (p : ℕ) → IsPlan plan →
         IsReachedWorld plan first w → enabled plan w x ≡ true → length (acts_of_step plan w x give p) ≤ 2 }
 
     // A step that closes an aborted instance discards the tentative state in a checkpoint, and has no act in a
     // rollback.
-    ensures aborts { (plan : Plan) (first : ℕ) (w : World) (x : Step) (give : Give) (i p k : ℕ) → IsPlan plan →
+    ensures aborts { (plan : Planned) (first : ℕ) (w : World) (x : Step) (give : Give) (i p k : ℕ) → IsPlan plan →
         IsReachedWorld plan first w → enabled plan w x ≡ true →
         slice_get (world_after plan w x give).now.log i ≡ Some (Closed p k) → length w.now.log ≤ i →
         is_committed (past (world_after plan w x give).now.log) k ≡ false →
@@ -571,18 +576,18 @@ pub fn acts_of_worlds()
 /// For every run of every plan: what its moves tell each process.
 pub fn told_of_worlds()
     // The log is the rows that they add; each process is told its acts and its rows, each once and in order.
-    ensures log { (plan : Plan) (first : ℕ) (moves : List Move) (w : World) → IsPlan plan →
+    ensures log { (plan : Planned) (first : ℕ) (moves : List Move) (w : World) → IsPlan plan →
         after_moves plan (start_world plan first) moves ≡ Some w →
         w.now.log ≡ rows_along plan (start_world plan first) moves }
-    ensures acts { (plan : Plan) (first : ℕ) (p : ℕ) (moves : List Move) (w : World) → IsPlan plan →
+    ensures acts { (plan : Planned) (first : ℕ) (p : ℕ) (moves : List Move) (w : World) → IsPlan plan →
         after_moves plan (start_world plan first) moves ≡ Some w →
         acts_told (told_by plan (start_world plan first) p moves) ≡ acts_along p done_start w.now.log }
-    ensures rows { (plan : Plan) (first : ℕ) (p : ℕ) (moves : List Move) (w : World) → IsPlan plan →
+    ensures rows { (plan : Planned) (first : ℕ) (p : ℕ) (moves : List Move) (w : World) → IsPlan plan →
         after_moves plan (start_world plan first) moves ≡ Some w →
         rows_told (told_by plan (start_world plan first) p moves) ≡ rows_by p w.now.log }
 
     // One move more tells its process alone.
-    ensures more { (plan : Plan) (p : ℕ) (moves : List Move) (v w : World) (x : Move) →
+    ensures more { (plan : Planned) (p : ℕ) (moves : List Move) (v w : World) (x : Move) →
         after_moves plan v moves ≡ Some w →
         told_by plan v p (moves ++ x ∷ []) ≡ told_by plan v p moves ++ told_by_move plan w p x }
 {}
@@ -590,7 +595,7 @@ pub fn told_of_worlds()
 /// For every run of every plan: real objects and saved states to which the acts of its log have been done are those
 /// that are due, however values are saved.
 pub fn things_of_worlds<V, B>()
-    ensures things { (r : Rules V) (s : Saving V B) (plan : Plan) (first : ℕ) (w : World) (p : ℕ) (y : Things V B) →
+    ensures things { (r : Rules V) (s : Saving V B) (plan : Planned) (first : ℕ) (w : World) (p : ℕ) (y : Things V B) →
         IsPlan plan → IsReachedWorld plan first w → IsSaving r s →
         LeadsAlong r s (acts_along p done_start w.now.log) (first_things r s) y →
         y ≡ things_for s (due r (done w.now.log) p) }
@@ -599,23 +604,23 @@ pub fn things_of_worlds<V, B>()
 /// For every run of every plan: how many asks, replies and decisions each instance has put into the channels.
 pub fn tallies_of_worlds()
     // Each enabled step raises the tallies by what it adds to the channels.
-    ensures raised { (plan : Plan) (first : ℕ) (w : World) (x : Step) (give : Give) → IsPlan plan →
+    ensures raised { (plan : Planned) (first : ℕ) (w : World) (x : Step) (give : Give) → IsPlan plan →
         IsReachedWorld plan first w → enabled plan w x ≡ true →
-        IsRaised plan.size w.now x (world_after plan w x give).now w.put (world_after plan w x give).put }
+        IsRaised (length plan.names) w.now x (world_after plan w x give).now w.put (world_after plan w x give).put }
 
     // There are at most as many instances as commands that may begin one, and as long as a command is left, fewer than
     // commands. One that has not begun has put nothing, and each has put few.
-    ensures instances { (plan : Plan) (first : ℕ) (w : World) → IsPlan plan → IsReachedWorld plan first w →
+    ensures instances { (plan : Planned) (first : ℕ) (w : World) → IsPlan plan → IsReachedWorld plan first w →
         w.now.begun ≤ count_begins plan.commands }
-    ensures fewer { (plan : Plan) (first : ℕ) (w : World) (p : ℕ) (c : Command) → IsPlan plan →
+    ensures fewer { (plan : Planned) (first : ℕ) (w : World) (p : ℕ) (c : Command) → IsPlan plan →
         IsReachedWorld plan first w → next_command plan w p ≡ Some c → w.now.begun < length plan.commands }
-    ensures unbegun { (plan : Plan) (first : ℕ) (w : World) (k : ℕ) → IsPlan plan → IsReachedWorld plan first w →
+    ensures unbegun { (plan : Planned) (first : ℕ) (w : World) (k : ℕ) → IsPlan plan → IsReachedWorld plan first w →
         w.now.begun < k → w.put.asks k ≡ 0 }
-    ensures asks { (plan : Plan) (first : ℕ) (w : World) (k : ℕ) → IsPlan plan → IsReachedWorld plan first w →
-        w.put.asks k ≤ plan.size * (plan.size - 1) }
-    ensures replies { (plan : Plan) (first : ℕ) (w : World) (k : ℕ) → IsPlan plan → IsReachedWorld plan first w →
+    ensures asks { (plan : Planned) (first : ℕ) (w : World) (k : ℕ) → IsPlan plan → IsReachedWorld plan first w →
+        w.put.asks k ≤ (length plan.names) * ((length plan.names) - 1) }
+    ensures replies { (plan : Planned) (first : ℕ) (w : World) (k : ℕ) → IsPlan plan → IsReachedWorld plan first w →
         w.put.replies k ≤ w.put.asks k }
-    ensures decisions { (plan : Plan) (first : ℕ) (w : World) (k : ℕ) → IsPlan plan → IsReachedWorld plan first w →
+    ensures decisions { (plan : Planned) (first : ℕ) (w : World) (k : ℕ) → IsPlan plan → IsReachedWorld plan first w →
         w.put.decisions k ≤ w.put.asks k }
 {}
 

@@ -2,6 +2,8 @@
 use Rattle.std.proofs.Common.{◌≡◌, ◌≢◌, ◌∙◌, ℕ, ℤ, true, List, [], drop, map, set, refl, sym, ap, subst, Option, Some, None, IfSome}
 use Rattle.std.specs.Prelude.{is_some, slice_get, slice_index_or, option_map}
 use Rattle.std.proofs.lemmas.Option.{slice_get-map}
+use Rattle.kt_plan.specs.declared.steps.Look.TheVariants.{NeedsBody}
+use Rattle.kt_plan.specs.Limits.{IsPlan, Planned}
 use Rattle.kt_object.specs.Value.{offered}
 use Rattle.std.specs.declared.alloc.Global.{Global}
 use Rattle.std.specs.declared.dyn_box.DynBox.{DynBox}
@@ -14,8 +16,6 @@ use Rattle.kt_plan.specs.declared.steps.Act.{Act}
 use Rattle.kt_plan.specs.declared.steps.Told.{Told}
 use Rattle.kt_plan.specs.declared.steps.Look.{Look}
 use Rattle.kt_plan.specs.declared.steps.Look.TheVariants as look
-use Rattle.kt_phases.specs.Looks as run_looks
-use Rattle.kt_phases.specs.Plans as run_plans
 use Rattle.kt_phases.specs.Steps as run_steps
 use Rattle.kt_promises.specs.Looks as promises
 use Rattle.kt_promises.specs.Offers.{GivesOffer}
@@ -29,16 +29,15 @@ use Rattle.kt_system.specs.ShownActs.{acts_shown}
 use Rattle.kt_values.specs.Done.{done}
 use Rattle.kt_values.specs.Values as values
 use Rattle.kt_values.specs.Values.{Rules, Due, due, first_due, acts_along}
-use Rattle.kt_core.specs.Shown.{Mirrors, plan_shown, step_shown, give_shown, look_shown}
+use Rattle.kt_core.specs.Shown.{Mirrors}
 use Rattle.kt_core.specs.Worlds.{World, stepper}
-use Rattle.kt_core.proofs.ShownPlans.{plan_is}
 use Rattle.kt_run.specs.Objects.{Belongings, belongings_of, first_of, rules_by, HoldDue}
 use Rattle.kt_run.specs.Runs.{scene, Tells, StepsTo}
 use Rattle.kt_run.proofs.Holding.{IsDone, AreAlong, hold_next, done_by}
 use Rattle.kt_run.proofs.Telling.{stepper_is}
 
 -- the acts of a step in a run
-module _ (plan : run_plans.Plan) (first : ℕ) (v : run_world.World) (x : run_steps.Step) (give : run_steps.Give) (limits : run_plans.IsPlan plan) (reached : IsReachedWorld plan first v)
+module _ (plan : Planned) (first : ℕ) (v : run_world.World) (x : Step) (give : Give) (limits : IsPlan plan) (reached : IsReachedWorld plan first v)
     (on : enabled plan v x ≡ true) where
   along : (rules : Rules (List ℤ)) (p : ℕ) → AreAlong rules p (acts_of_step plan v x give p) v.now.log (world_after plan v x give).now.log
   along rules p = record { lead = values_lead rules plan first v x give p limits reached on; spares = spares_next rules plan first v x give p limits reached on }
@@ -50,7 +49,7 @@ module _ (plan : run_plans.Plan) (first : ℕ) (v : run_world.World) (x : run_st
   pub others_along : (rules : Rules (List ℤ)) (p : ℕ) → p ≢ run_steps.stepper x → AreAlong rules p [] v.now.log (world_after plan v x give).now.log
   others_along rules p n = subst (λ (a : List values.Act). AreAlong rules p a v.now.log (world_after plan v x give).now.log) (others_idle plan first v x give p limits reached on n) (along rules p)
 
-needs_body : (l : Look) → look_shown l ≡ run_looks.NeedsBody → l ≡ look.NeedsBody
+needs_body : (l : Look) → l ≡ NeedsBody → l ≡ look.NeedsBody
 needs_body look.Idle e = absurd (cc (e))
 needs_body look.NeedsSave e = absurd (cc (e))
 needs_body look.NeedsBody e = refl
@@ -68,36 +67,36 @@ given_offer first (Some value) present body up is asked = ap Some (sym (subst (�
 
 module _ {X : Type 0} (f : X → Belongings) (xs : List X) (i : ℕ) (x y : X) (at : slice_get xs i ≡ Some x)
     (old new : World) (before after : List (List Told)) (step : Step) (place : i ≡ stepper step) (give : Give) (acts : List Act) (l : Look)
-    (looks : (first : ℕ) (v : run_world.World) → Mirrors old.agenda old.system first v → look_shown l ≡ promises.look (plan_shown old.agenda.plan) v (step_shown step))
+    (looks : (first : ℕ) (v : run_world.World) → Mirrors old.agenda old.system first v → l ≡ promises.look old.agenda.plan v step)
     (asked : l ≡ look.NeedsBody → IfSome (f x).present (λ c. give.body ≡ offered c.kind c.value))
     (did : IsDone acts (f x) (f y)) (tells : Tells old before step give new after acts) where
-  whose : i ≡ run_steps.stepper (step_shown step)
+  whose : i ≡ run_steps.stepper step
   whose = place ∙ sym (stepper_is step)
 
   module _ (first : ℕ) (v : run_world.World) (r : Mirrors old.agenda old.system first v) (cast : List (List Content)) (h : HoldDue cast v.now.log (map f xs)) where
-    limits : run_plans.IsPlan (plan_shown old.agenda.plan)
-    limits = plan_is old.agenda.plan r.limits
+    limits : IsPlan old.agenda.plan
+    limits = r.limits
 
-    offers : GivesOffer (rules_by cast) (plan_shown old.agenda.plan) v (step_shown step) (give_shown give)
+    offers : GivesOffer (rules_by cast) old.agenda.plan v step give
     offers n = subst (λ (p : ℕ). option_map (rules_by cast p).offered (due (rules_by cast p) (done v.now.log) p).object ≡ Some give.body) whose
         (given_offer (first_of (slice_index_or cast i [])) (due (rules_by cast i) (done v.now.log) i).object (f x).present give.body
-        (object_seen (rules_by cast i) (plan_shown old.agenda.plan) first v i limits r.reached ∙ subst (λ (p : ℕ). (v.now.people p).up ≡ true) (sym whose) (up_seen (plan_shown old.agenda.plan) v (step_shown step) n))
+        (object_seen (rules_by cast i) old.agenda.plan first v i limits r.reached ∙ subst (λ (p : ℕ). (v.now.people p).up ≡ true) (sym whose) (up_seen old.agenda.plan v step n))
         (h.each i (f x) (slice_get-map f xs i ∙ ap (option_map f) at)).holds.object
         (asked (needs_body l (looks first v r ∙ n))))
 
-    holds : HoldDue cast (world_after (plan_shown old.agenda.plan) v (step_shown step) (give_shown give)).now.log (map f (set xs i y))
+    holds : HoldDue cast (world_after old.agenda.plan v step give).now.log (map f (set xs i y))
     holds =
         let t = tells.5 first v r in
-        hold_next f xs cast i x y acts v.now.log (world_after (plan_shown old.agenda.plan) v (step_shown step) (give_shown give)).now.log at did
-        (subst (λ (p : ℕ). AreAlong (rules_by cast i) p (acts_shown acts) v.now.log (world_after (plan_shown old.agenda.plan) v (step_shown step) (give_shown give)).now.log) (sym whose)
-        (acts_along_step (plan_shown old.agenda.plan) first v (step_shown step) (give_shown give) limits r.reached t.0 (rules_by cast i) (acts_shown acts) (ap acts_shown tells.2 ∙ t.2.acts)))
-        (λ p n. others_along (plan_shown old.agenda.plan) first v (step_shown step) (give_shown give) limits r.reached t.0 (rules_by cast p) p (λ e. n (e ∙ sym whose)))
+        hold_next f xs cast i x y acts v.now.log (world_after old.agenda.plan v step give).now.log at did
+        (subst (λ (p : ℕ). AreAlong (rules_by cast i) p (acts_shown acts) v.now.log (world_after old.agenda.plan v step give).now.log) (sym whose)
+        (acts_along_step old.agenda.plan first v step give limits r.reached t.0 (rules_by cast i) (acts_shown acts) (ap acts_shown tells.2 ∙ t.2.acts)))
+        (λ p n. others_along old.agenda.plan first v step give limits r.reached t.0 (rules_by cast p) p (λ e. n (e ∙ sym whose)))
         h
 
   pub steps_to : StepsTo old (record { told = before; has = map f xs }) step new (record { told = after; has = map f (set xs i y) })
   steps_to = (
     tells.0,
-    give_shown give,
+    give,
     tells.1,
     tells.3,
     tells.4,
@@ -107,7 +106,7 @@ module _ {X : Type 0} (f : X → Belongings) (xs : List X) (i : ℕ) (x y : X) (
 -- so it is with what is held itself
 pub held_to : {X : Type 0} {D : X → Type 0} (helds : List (Held X D)) (content_of : DynBox X Global D → Content) (i : ℕ) (x y : Held X D) → slice_get helds i ≡ Some x
     → (old new : World) (before after : List (List Told)) (step : Step) → i ≡ stepper step → (give : Give) (acts : List Act) (l : Look)
-    → ((first : ℕ) (v : run_world.World) → Mirrors old.agenda old.system first v → look_shown l ≡ promises.look (plan_shown old.agenda.plan) v (step_shown step))
+    → ((first : ℕ) (v : run_world.World) → Mirrors old.agenda old.system first v → l ≡ promises.look old.agenda.plan v step)
     → (l ≡ look.NeedsBody → IfSome x.present (λ b. give.body ≡ offered (content_of b).kind (content_of b).value))
     → ((h : Holding) → Holds h (option_map content_of x.present) x.depot → Holds (does_all h acts) (option_map content_of y.present) y.depot)
     → y.spares.items ≡ drop (spares_of_all (is_some x.present) acts) x.spares.items

@@ -10,7 +10,6 @@ use Rattle.kt_plan.specs.declared.steps.Act.{Act}
 use Rattle.kt_held.specs.Holdings.{Content, content, AreSaved}
 use Rattle.kt_values.specs.Values.{Rules}
 use Rattle.kt_spacetime.specs.declared.event.Event.{Event}
-use Rattle.kt_phases.specs.Steps as run_steps
 use Rattle.kt_phases.specs.Runs.{Move}
 use Rattle.kt_phases.specs.Plans.{Plan}
 use Rattle.kt_promises.specs.World as run_world
@@ -31,9 +30,8 @@ use Rattle.kt_core.specs.Worlds as core
 use Rattle.kt_core.specs.declared.faults.StepFault.TheVariants.{NotEnabled, LogFull}
 use Rattle.std.proofs.lemmas.Bool.{ltb-false}
 use Rattle.kt_core.specs.declared.faults.StepFault.{StepFault}
-use Rattle.kt_core.specs.Shown.{Mirrors, plan_shown, step_shown, give_shown, command_shown}
+use Rattle.kt_core.specs.Shown.{Mirrors}
 use Rattle.kt_core.proofs.Enabled.{enabled_is, enabled_if}
-use Rattle.kt_core.proofs.ShownPlans.{plan_is}
 use Rattle.kt_run.specs.Objects.{Belongings, first_of, rules_of, rules_by, HoldDue}
 use Rattle.kt_run.specs.Refused.{IsDefaultRefused}
 use Rattle.kt_run.specs.Runs.{Scene, Tells, StepsTo, Starts, Begins, Goes, Rests, IsPlayed, IsToldPlay}
@@ -58,10 +56,10 @@ room_kept old new x grew e limit =
     omega (arith, room, rows, few, limit)
 
 abbrev Leads : World → World → Give → Step → Type 0
-Leads old new give x = (first : ℕ) (v : run_world.World) → Mirrors old.agenda old.system first v → Mirrors new.agenda new.system first (world_after (plan_shown old.agenda.plan) v (step_shown x) (give_shown give))
+Leads old new give x = (first : ℕ) (v : run_world.World) → Mirrors old.agenda old.system first v → Mirrors new.agenda new.system first (world_after old.agenda.plan v x give)
 
 abbrev Acts : World → List Act → Give → Step → Type 0
-Acts old acts give x = (first : ℕ) (v : run_world.World) → Mirrors old.agenda old.system first v → acts_shown acts ≡ acts_of_step (plan_shown old.agenda.plan) v (step_shown x) (give_shown give) (stepper x)
+Acts old acts give x = (first : ℕ) (v : run_world.World) → Mirrors old.agenda old.system first v → acts_shown acts ≡ acts_of_step old.agenda.plan v x give (stepper x)
 
 pub tells_now : (old new : World) (before after : List (List Told)) (x : Step) (give : Give) (told : Told) (acts : List Act) → acts ≡ told.acts → told.step ≡ x → Grows 4 old.system new.system → length told.rows ≡ 4
     → ((i : ℕ) → i < 4 → slice_get told.rows i ≡ Some (numbered_row new.system.rows.rows (length old.system.rows.rows + i))) → IsNoted told before after
@@ -75,7 +73,7 @@ tells_now old new before after x give told acts same is grew four read noted lim
       limit,
       room_kept old new told.step grew allowed limit,
       λ first v r.
-          let on : enabled (plan_shown old.agenda.plan) v (step_shown told.step) ≡ true = sym (enabled_is old first v r told.step) ∙ enabled_if old told.step allowed in (
+          let on : enabled old.agenda.plan v told.step ≡ true = sym (enabled_is old first v r told.step) ∙ enabled_if old told.step allowed in (
             on,
             leads first v r,
             told_as old.agenda.plan told give old new first v refl r (leads first v r) on grew four read (asks first v r),
@@ -107,17 +105,17 @@ tells_unkept old new x give acts grew limit allowed leads asks =
     tells_now old new [] [] x give told acts refl refl grew (four_at new.system.rows.rows (length old.system.rows.rows)) (read_at new.system.rows.rows (length old.system.rows.rows))
     (record { count = refl; each = λ p l. absurd (omega (arith, l)) }) limit allowed leads asks
 
-abbrev Led : Planned → run_world.World → Step → World → Told → run_steps.Give → Type 0
-Led plan v x new told give = (enabled (plan_shown plan) v (step_shown x) ≡ true) × Mirrors new.agenda new.system 0 (world_after (plan_shown plan) v (step_shown x) give)
-    × IsToldAs told (told_at (plan_shown plan) v (record { step = step_shown x; give = give }))
-    × TellsItsRows told v.now.log (world_after (plan_shown plan) v (step_shown x) give).now.log
+abbrev Led : Planned → run_world.World → Step → World → Told → Give → Type 0
+Led plan v x new told give = (enabled plan v x ≡ true) × Mirrors new.agenda new.system 0 (world_after plan v x give)
+    × IsToldAs told (told_at plan v (record { step = x; give = give }))
+    × TellsItsRows told v.now.log (world_after plan v x give).now.log
 
 led : (plan : Planned) (old new : World) (before after : Scene) (x : Step) (v : run_world.World) → old.agenda.plan ≡ plan → (s : StepsTo old before x new after) → Mirrors old.agenda old.system 0 v → Led plan v x new s.0 s.1
 led plan old new before after x v e s r = let t = s.5 0 v r in subst (λ (z : Planned). Led z v x new s.0 s.1) e (t.0, t.1, t.2, t.3)
 
 -- what each process holds, and what is given
-abbrev Keeps : Planned → List (List Content) → run_world.World → Step → run_steps.Give → Scene → Type 0
-Keeps plan cast v x give after = GivesOffer (rules_by cast) (plan_shown plan) v (step_shown x) give × HoldDue cast (world_after (plan_shown plan) v (step_shown x) give).now.log after.has
+abbrev Keeps : Planned → List (List Content) → run_world.World → Step → Give → Scene → Type 0
+Keeps plan cast v x give after = GivesOffer (rules_by cast) plan v x give × HoldDue cast (world_after plan v x give).now.log after.has
 
 keeps : (plan : Planned) (cast : List (List Content)) (old new : World) (before after : Scene) (x : Step) (v : run_world.World) → old.agenda.plan ≡ plan → (s : StepsTo old before x new after) → Mirrors old.agenda old.system 0 v
     → HoldDue cast v.now.log before.has → Keeps plan cast v x s.1 after
@@ -138,16 +136,16 @@ gives_more rules plan (x ∷ xs) m u v e o g = (o.0, go (enabled plan u x.step) 
 pub begins_start : (plan : Planned) (cast : List (List Content)) (w : World) (at : Scene) → Starts plan w → AreEmpty at.told → HoldDue cast [] at.has → Begins plan cast [] w at
 begins_start plan cast w at s n due = record {
   moves = [];
-  now = run_world.start_world (plan_shown plan) 0;
+  now = run_world.start_world plan 0;
   made = refl;
   leads = refl;
   shown = s.shown;
   limit = s.limit;
   few = (let e = ap (λ (l : List Event). length l) s.rows in omega (arith, e));
   tells = tells_nothing plan at.told n;
-  rows = subst (λ (log : List Event). AreToldTheirRows log at.told) (sym (ap (λ (v : _). v.log) (opening_is (plan_shown plan) 0).now)) (told_their_none at.told n);
+  rows = subst (λ (log : List Event). AreToldTheirRows log at.told) (sym (ap (λ (v : _). v.log) (opening_is plan 0).now)) (told_their_none at.told n);
   offers = tt;
-  due = subst (λ (log : List Event). HoldDue cast log at.has) (sym (ap (λ (v : _). v.log) (opening_is (plan_shown plan) 0).now)) due;
+  due = subst (λ (log : List Event). HoldDue cast log at.has) (sym (ap (λ (v : _). v.log) (opening_is plan 0).now)) due;
 }
 
 pub begins_more : (plan : Planned) (cast : List (List Content)) (steps : List Step) (x : Step) (old new : World) (before after : Scene) → old.agenda.plan ≡ plan → Begins plan cast steps old before → StepsTo old before x new after
@@ -155,18 +153,18 @@ pub begins_more : (plan : Planned) (cast : List (List Content)) (steps : List St
 begins_more plan cast steps x old new before after e b s =
     let l = led plan old new before after x b.now e s b.shown in
     let k = keeps plan cast old new before after x b.now e s b.shown b.due in
-    let m : Move = record { step = step_shown x; give = s.1 } in
+    let m : Move = record { step = x; give = s.1 } in
     record {
       moves = b.moves ++ m ∷ [];
-      now = world_after (plan_shown plan) b.now (step_shown x) s.1;
-      made = map-append (λ (y : Move). y.step) b.moves (m ∷ []) ∙ (ap (λ (ys : List run_steps.Step). ys ++ step_shown x ∷ []) b.made ∙ sym (map-append step_shown steps (x ∷ [])));
-      leads = play_append (plan_shown plan) b.moves (m ∷ []) (run_world.start_world (plan_shown plan) 0) b.now (world_after (plan_shown plan) b.now (step_shown x) s.1) b.leads (let on = l.0 in rw on refl);
+      now = world_after plan b.now x s.1;
+      made = map-append (λ (y : Move). y.step) b.moves (m ∷ []) ∙ ap (λ (ys : List Step). ys ++ x ∷ []) b.made;
+      leads = play_append plan b.moves (m ∷ []) (run_world.start_world plan 0) b.now (world_after plan b.now x s.1) b.leads (let on = l.0 in rw on refl);
       shown = l.1;
       limit = s.3 ∙ b.limit;
       few = s.4;
       tells = tells_more plan b.moves b.now m s.0 before.told after.told b.leads l.2 s.2 b.tells;
-      rows = told_their_more s.0 b.now.now.log (world_after (plan_shown plan) b.now (step_shown x) s.1).now.log l.3 before.told after.told s.2 b.rows;
-      offers = gives_more (rules_by cast) (plan_shown plan) b.moves m (run_world.start_world (plan_shown plan) 0) b.now b.leads b.offers k.0;
+      rows = told_their_more s.0 b.now.now.log (world_after plan b.now x s.1).now.log l.3 before.told after.told s.2 b.rows;
+      offers = gives_more (rules_by cast) plan b.moves m (run_world.start_world plan 0) b.now b.leads b.offers k.0;
       due = k.1;
     }
 
@@ -181,50 +179,50 @@ goes_start plan cast steps w at b = (
     more = [];
     now = b.now;
     begins = b.made;
-    goes_on = goes_first (plan_shown plan) 0 b.moves b.now b.leads;
+    goes_on = goes_first plan 0 b.moves b.now b.leads;
     shown = b.shown;
     limit = b.limit;
     few = b.few;
     tells = subst (λ (moves : List Move). AreToldInRun plan moves at.told) (sym (append-nil b.moves)) b.tells;
     rows = b.rows;
-    offers = subst (λ (moves : List Move). GivesOffers (rules_by cast) (plan_shown plan) (run_world.start_world (plan_shown plan) 0) moves) (sym (append-nil b.moves)) b.offers;
+    offers = subst (λ (moves : List Move). GivesOffers (rules_by cast) plan (run_world.start_world plan 0) moves) (sym (append-nil b.moves)) b.offers;
     due = b.due;
   },
   omega arith,
 )
 
 pub goes_more : (plan : Planned) (cast : List (List Content)) (steps : List Step) (n : ℕ) (x : Step) (old new : World) (before after : Scene) → old.agenda.plan ≡ plan → (h : GoesSo plan cast steps n old before) → StepsTo old before x new after
-    → Some (step_shown x) ≡ default_step (plan_shown old.agenda.plan) h.0.now → GoesSo plan cast steps (n + 1) new after
+    → Some x ≡ default_step old.agenda.plan h.0.now → GoesSo plan cast steps (n + 1) new after
 goes_more plan cast steps n x old new before after e h s d =
     let g = h.0 in
     let l = led plan old new before after x g.now e s g.shown in
     let k = keeps plan cast old new before after x g.now e s g.shown g.due in
-    let run = goes_run (plan_shown plan) 0 g.given g.more g.now g.goes_on in
-    let limits = plan_is plan (subst (λ (z : Planned). IsPlan z) e g.shown.limits) in
-    let m : Move = record { step = step_shown x; give = s.1 } in
+    let run = goes_run plan 0 g.given g.more g.now g.goes_on in
+    let limits = subst (λ (z : Planned). IsPlan z) e g.shown.limits in
+    let m : Move = record { step = x; give = s.1 } in
     let more = length_push g.more m in
     let so = h.1 in (
       record {
         given = g.given;
         more = g.more ++ m ∷ [];
-        now = world_after (plan_shown plan) g.now (step_shown x) s.1;
+        now = world_after plan g.now x s.1;
         begins = g.begins;
-        goes_on = goes_next (plan_shown plan) 0 g.given g.more g.now (step_shown x) s.1 limits g.goes_on (subst (λ (z : Planned). default_step (plan_shown z) g.now ≡ Some (step_shown x)) e (sym d));
+        goes_on = goes_next plan 0 g.given g.more g.now x s.1 limits g.goes_on (subst (λ (z : Planned). default_step z g.now ≡ Some x) e (sym d));
         shown = l.1;
         limit = s.3 ∙ g.limit;
         few = s.4;
         tells = subst (λ (moves : List Move). AreToldInRun plan moves after.told) (append_assoc g.given g.more (m ∷ []))
             (tells_more plan (g.given ++ g.more) g.now m s.0 before.told after.told run l.2 s.2 g.tells);
-        rows = told_their_more s.0 g.now.now.log (world_after (plan_shown plan) g.now (step_shown x) s.1).now.log l.3 before.told after.told s.2 g.rows;
-        offers = subst (λ (moves : List Move). GivesOffers (rules_by cast) (plan_shown plan) (run_world.start_world (plan_shown plan) 0) moves) (append_assoc g.given g.more (m ∷ []))
-            (gives_more (rules_by cast) (plan_shown plan) (g.given ++ g.more) m (run_world.start_world (plan_shown plan) 0) g.now run g.offers k.0);
+        rows = told_their_more s.0 g.now.now.log (world_after plan g.now x s.1).now.log l.3 before.told after.told s.2 g.rows;
+        offers = subst (λ (moves : List Move). GivesOffers (rules_by cast) plan (run_world.start_world plan 0) moves) (append_assoc g.given g.more (m ∷ []))
+            (gives_more (rules_by cast) plan (g.given ++ g.more) m (run_world.start_world plan 0) g.now run g.offers k.0);
         due = k.1;
       },
       omega (arith, more, so),
     )
 
-begins_count : (moves : List Move) (steps : List Step) → map (λ (m : Move). m.step) moves ≡ map step_shown steps → length moves ≡ length steps
-begins_count moves steps e = sym (length-map moves (λ (m : Move). m.step)) ∙ (ap (λ (l : List run_steps.Step). length l) e ∙ length-map steps step_shown)
+begins_count : (moves : List Move) (steps : List Step) → map (λ (m : Move). m.step) moves ≡ steps → length moves ≡ length steps
+begins_count moves steps e = sym (length-map moves (λ (m : Move). m.step)) ∙ ap (λ (l : List Step). length l) e
 
 -- so few that they are counted
 pub goes_few : (plan : Planned) (cast : List (List Content)) (steps : List Step) (n : ℕ) (w : World) (at : Scene) → w.agenda.plan ≡ plan → GoesSo plan cast steps n w at
@@ -237,9 +235,8 @@ goes_few plan cast steps n w at e h =
     let i = subst (λ (z : Planned). IsPlan z) e g.shown.limits in
     let names = i.names.few in
     let commands = i.few in
-    let count = length-map plan.commands command_shown in
     let log = ap (λ (l : List Event). length l) g.shown.now.log in
-    let below = goes_below (plan_shown plan) 0 g.given g.more g.now (plan_is plan i) names (omega (arith, commands, count)) (omega (arith, few, limit, log)) g.goes_on in
+    let below = goes_below plan 0 g.given g.more g.now i names (omega (arith, commands)) (omega (arith, few, limit, log)) g.goes_on in
     let given = begins_count g.given steps g.begins in
     omega (arith, below, so, given)
 
@@ -247,20 +244,20 @@ goes_few plan cast steps n w at e h =
 pub too_many : (plan : Planned) (cast : List (List Content)) (steps : List Step) (n : ℕ) (w : World) (at : Scene) → w.agenda.plan ≡ plan → GoesSo plan cast steps n w at → 4294967295 ≤ n → ⊥
 too_many plan cast steps n w at e h many = let below = goes_few plan cast steps n w at e h in omega (arith, below, many)
 
-pub rests_now : (plan : Planned) (cast : List (List Content)) (steps : List Step) (w : World) (at : Scene) → w.agenda.plan ≡ plan → (g : Goes plan cast steps w at) → None ≡ default_step (plan_shown w.agenda.plan) g.now → Rests plan cast steps w at
+pub rests_now : (plan : Planned) (cast : List (List Content)) (steps : List Step) (w : World) (at : Scene) → w.agenda.plan ≡ plan → (g : Goes plan cast steps w at) → None ≡ default_step w.agenda.plan g.now → Rests plan cast steps w at
 rests_now plan cast steps w at e g d = record {
   run = g;
-  rest = goes_rest (plan_shown plan) 0 g.given g.more g.now (plan_is plan (subst (λ (z : Planned). IsPlan z) e g.shown.limits)) g.goes_on (subst (λ (z : Planned). default_step (plan_shown z) g.now ≡ None) e (sym d));
+  rest = goes_rest plan 0 g.given g.more g.now (subst (λ (z : Planned). IsPlan z) e g.shown.limits) g.goes_on (subst (λ (z : Planned). default_step z g.now ≡ None) e (sym d));
 }
 
 module _ (plan : Planned) (cast : List (List Content)) (steps : List Step) (w : World) (at : Scene) (rows : List Event) (limits : IsPlan plan) (r : Rests plan cast steps w at) (log : rows ≡ w.system.rows.rows) where
   rows_are : rows ≡ r.run.now.now.log
   rows_are = log ∙ r.run.shown.now.log
 
-  leads : after_moves (plan_shown plan) (run_world.start_world (plan_shown plan) 0) (r.run.given ++ r.run.more) ≡ Some r.run.now
-  leads = goes_run (plan_shown plan) 0 r.run.given r.run.more r.run.now r.run.goes_on
+  leads : after_moves plan (run_world.start_world plan 0) (r.run.given ++ r.run.more) ≡ Some r.run.now
+  leads = goes_run plan 0 r.run.given r.run.more r.run.now r.run.goes_on
 
-  reached : IsReachedWorld (plan_shown plan) 0 r.run.now
+  reached : IsReachedWorld plan 0 r.run.now
   reached = record { moves = r.run.given ++ r.run.more; leads = leads }
 
   pub run_of : IsPlayed plan cast steps rows
@@ -273,8 +270,8 @@ module _ (plan : Planned) (cast : List (List Content)) (steps : List Step) (w : 
       leads = leads;
       rest = r.rest;
       log = rows_are;
-      offers = subst (λ (l : List Event). AreOfferedAt (rules_by cast) l (offer_places (plan_shown plan) (run_world.start_world (plan_shown plan) 0) (r.run.given ++ r.run.more))) (sym rows_are)
-          (offers_seen (rules_by cast) (plan_shown plan) 0 (plan_is plan limits) (r.run.given ++ r.run.more) r.run.now leads r.run.offers);
+      offers = subst (λ (l : List Event). AreOfferedAt (rules_by cast) l (offer_places plan (run_world.start_world plan 0) (r.run.given ++ r.run.more))) (sym rows_are)
+          (offers_seen (rules_by cast) plan 0 limits (r.run.given ++ r.run.more) r.run.now leads r.run.offers);
     };
     goes_on = r.run.goes_on;
   }
@@ -299,18 +296,18 @@ module _ (plan : Planned) (cast : List (List Content)) (steps : List Step) (w : 
   settled_of p b f =
       let c = first_of (slice_index_or cast p []) in
       let h = r.run.due.each p b f in
-      none_saved _ b.depot.tentative (ap (option_map (content c.kind)) (no_tentative (rules_of c) (plan_shown plan) 0 r.run.now p (plan_is plan limits) reached r.rest)) h.holds.tentative
+      none_saved _ b.depot.tentative (ap (option_map (content c.kind)) (no_tentative (rules_of c) plan 0 r.run.now p limits reached r.rest)) h.holds.tentative
 
 -- the next default step is refused
 pub default_refused : (plan : Planned) (cast : List (List Content)) (steps : List Step) (n done : ℕ) (w : World) (at : Scene) (x : Step) (fault : StepFault) → w.agenda.plan ≡ plan → (h : GoesSo plan cast steps n w at)
-    → length steps + n ≡ done → Some (step_shown x) ≡ default_step (plan_shown w.agenda.plan) h.0.now → refusal w x ≡ Some fault → IsDefaultRefused plan cast steps done fault
+    → length steps + n ≡ done → Some x ≡ default_step w.agenda.plan h.0.now → refusal w x ≡ Some fault → IsDefaultRefused plan cast steps done fault
 default_refused plan cast steps n done w at x fault e h count next refused = record {
   world = w;
   at = at;
   run = h.0;
   count = (let given = begins_count h.0.given steps h.0.begins in let so = h.1 in omega (arith, given, so, count));
   step = x;
-  next = subst (λ (z : Planned). default_step (plan_shown z) h.0.now ≡ Some (step_shown x)) e (sym next);
+  next = subst (λ (z : Planned). default_step z h.0.now ≡ Some x) e (sym next);
   refused = refused;
 }
 

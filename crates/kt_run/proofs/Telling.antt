@@ -5,15 +5,13 @@ use Rattle.std.specs.Prelude.{slice_get, slice_index_or, if◌then◌else◌}
 use Rattle.std.specs.Option.{option_map}
 use Rattle.std.proofs.lemmas.Option.{slice_get-get_or}
 use Rattle.std.proofs.Math.Seq.{drop-append_seam}
-use Rattle.kt_core.specs.Shown.{Mirrors, plan_shown, step_shown, give_shown}
+use Rattle.kt_core.specs.Shown.{Mirrors}
 use Rattle.kt_core.specs.Worlds.{World, stepper, numbered_row}
-use Rattle.kt_core.proofs.ShownPlans.{plan_is}
-use Rattle.kt_plan.specs.Limits.{Planned}
+use Rattle.kt_plan.specs.Limits.{Planned, IsPlan}
 use Rattle.kt_plan.specs.declared.steps.Give.{Give}
 use Rattle.kt_plan.specs.declared.steps.Step.{Step}
 use Rattle.kt_plan.specs.declared.steps.Step.TheVariants.{Do, Take}
 use Rattle.kt_plan.specs.declared.steps.Told.{Told}
-use Rattle.kt_phases.specs.Plans as run_plans
 use Rattle.kt_phases.specs.Runs.{Move}
 use Rattle.kt_phases.specs.Steps as run_steps
 use Rattle.kt_promises.specs.Runs.{IsReachedWorld, after_moves}
@@ -76,33 +74,33 @@ tells_rows told n rows four read few =
     reads : (i : ℕ) → i < 4 → slice_get told.rows i ≡ Some (at (n + i + 1) (drop n rows) i)
     reads i l = read i l ∙ ap (λ (o : Option Event). Some (option_map (λ (row : Event). (n + i + 1, row)) o)) (get_dropped n (n + i) i rows refl)
 
-pub stepper_is : (s : Step) → run_steps.stepper (step_shown s) ≡ stepper s
+pub stepper_is : (s : Step) → run_steps.stepper s ≡ stepper s
 stepper_is (Do p) = refl
 stepper_is (Take at from) = refl
 
 -- one step, from a world that a run led to
 module _ (plan : Planned) (told : Told) (give : Give) (old new : World) (first : ℕ) (v : run_world.World) (plans : old.agenda.plan ≡ plan) (r : Mirrors old.agenda old.system first v)
-    (next : Mirrors new.agenda new.system first (world_after (plan_shown plan) v (step_shown told.step) (give_shown give)))
-    (on : enabled (plan_shown plan) v (step_shown told.step) ≡ true) (grew : Grows 4 old.system new.system) (four : length told.rows ≡ 4)
+    (next : Mirrors new.agenda new.system first (world_after plan v told.step give))
+    (on : enabled plan v told.step ≡ true) (grew : Grows 4 old.system new.system) (four : length told.rows ≡ 4)
     (read : (i : ℕ) → i < 4 → slice_get told.rows i ≡ Some (numbered_row new.system.rows.rows (length old.system.rows.rows + i)))
-    (did : acts_shown told.acts ≡ acts_of_step (plan_shown old.agenda.plan) v (step_shown told.step) (give_shown give) (stepper told.step)) where
+    (did : acts_shown told.acts ≡ acts_of_step old.agenda.plan v told.step give (stepper told.step)) where
   abbrev w : run_world.World
-  w = world_after (plan_shown plan) v (step_shown told.step) (give_shown give)
+  w = world_after plan v told.step give
 
   abbrev added : List Event
-  added = rows_added (plan_shown plan) v (step_shown told.step) (give_shown give)
+  added = rows_added plan v told.step give
 
   abbrev n : ℕ
   n = length v.now.log
 
-  limits : run_plans.IsPlan (plan_shown plan)
-  limits = subst (λ (p : Planned). run_plans.IsPlan (plan_shown p)) plans (plan_is old.agenda.plan r.limits)
+  limits : IsPlan plan
+  limits = subst (λ (p : Planned). IsPlan p) plans r.limits
 
-  reached : IsReachedWorld (plan_shown plan) first v
-  reached = subst (λ (p : Planned). IsReachedWorld (plan_shown p) first v) plans r.reached
+  reached : IsReachedWorld plan first v
+  reached = subst (λ (p : Planned). IsReachedWorld p first v) plans r.reached
 
   grows : w.now.log ≡ v.now.log ++ added
-  grows = log_grows (plan_shown plan) first v (step_shown told.step) (give_shown give) limits reached on
+  grows = log_grows plan first v told.step give limits reached on
 
   added_is : added ≡ grew.more
   added_is =
@@ -118,14 +116,14 @@ module _ (plan : Planned) (told : Told) (give : Give) (old new : World) (first :
       ∙ ap (λ (rows : List Event). Some (numbered_row w.now.log (length rows + i))) r.now.log)) few
 
   own : (i : ℕ) (row : Event) → slice_get added i ≡ Some row → process_of row ≡ stepper told.step
-  own i row h = rows_of_one (plan_shown plan) first v (step_shown told.step) (give_shown give) i row limits reached on h ∙ stepper_is told.step
+  own i row h = rows_of_one plan first v told.step give i row limits reached on h ∙ stepper_is told.step
 
-  acts : acts_shown told.acts ≡ acts_of_step (plan_shown plan) v (step_shown told.step) (give_shown give) (run_steps.stepper (step_shown told.step))
+  acts : acts_shown told.acts ≡ acts_of_step plan v told.step give (run_steps.stepper told.step)
   acts =
-      subst (λ (p : Planned). acts_shown told.acts ≡ acts_of_step (plan_shown p) v (step_shown told.step) (give_shown give) (stepper told.step)) plans did
-      ∙ ap (acts_of_step (plan_shown plan) v (step_shown told.step) (give_shown give)) (sym (stepper_is told.step))
+      subst (λ (p : Planned). acts_shown told.acts ≡ acts_of_step p v told.step give (stepper told.step)) plans did
+      ∙ ap (acts_of_step plan v told.step give) (sym (stepper_is told.step))
 
-  pub told_as : IsToldAs told (run_told.told_at (plan_shown plan) v (record { step = step_shown told.step; give = give_shown give }))
+  pub told_as : IsToldAs told (run_told.told_at plan v (record { step = told.step; give = give }))
   told_as = record { step = refl; rows = ap (λ (l : List Row). map (λ (row : Row). row.1) l) tells ∙ without_numbers n added; acts = acts }
 
   pub tells_its_rows : TellsItsRows told v.now.log w.now.log
@@ -142,24 +140,24 @@ all_zip_append R (x ∷ xs) more (y ∷ ys) also h k = (h.0, all_zip_append R xs
 pub tells_nothing : (plan : Planned) (told : List (List Told)) → AreEmpty told → AreToldInRun plan [] told
 tells_nothing plan told n p l = subst (λ (list : List Told). AllZip IsToldAs list []) (sym (n p)) tt
 
-told_now : (plan : Planned) (v : run_world.World) (x : Move) (p : ℕ) (told : Told) → IsToldAs told (run_told.told_at (plan_shown plan) v x)
-    → AllZip IsToldAs (told_here p told) (run_told.told_by_move (plan_shown plan) v p x)
+told_now : (plan : Planned) (v : run_world.World) (x : Move) (p : ℕ) (told : Told) → IsToldAs told (run_told.told_at plan v x)
+    → AllZip IsToldAs (told_here p told) (run_told.told_by_move plan v p x)
 told_now plan v x p told same =
-    subst (λ (q : ℕ). AllZip IsToldAs (told_here p told) (if p == q then run_told.told_at (plan_shown plan) v x ∷ [] else []))
+    subst (λ (q : ℕ). AllZip IsToldAs (told_here p told) (if p == q then run_told.told_at plan v x ∷ [] else []))
     (sym (stepper_is told.step) ∙ ap run_steps.stepper same.step) (at_both (p == stepper told.step))
   where
-    at_both : (b : Bool) → AllZip IsToldAs (if b then told ∷ [] else []) (if b then run_told.told_at (plan_shown plan) v x ∷ [] else [])
+    at_both : (b : Bool) → AllZip IsToldAs (if b then told ∷ [] else []) (if b then run_told.told_at plan v x ∷ [] else [])
     at_both true = (same, tt)
     at_both false = tt
 
 pub tells_more : (plan : Planned) (moves : List Move) (v : run_world.World) (x : Move) (told : Told) (before after : List (List Told))
-    → after_moves (plan_shown plan) (run_world.start_world (plan_shown plan) 0) moves ≡ Some v → IsToldAs told (run_told.told_at (plan_shown plan) v x)
+    → after_moves plan (run_world.start_world plan 0) moves ≡ Some v → IsToldAs told (run_told.told_at plan v x)
     → IsNoted told before after → AreToldInRun plan moves before → AreToldInRun plan (moves ++ x ∷ []) after
 tells_more plan moves v x told before after e same noted h p l =
-    let start = run_world.start_world (plan_shown plan) 0 in
+    let start = run_world.start_world plan 0 in
     let count = noted.count in
     let there : p < length before = omega (arith, l, count) in
-    subst (λ (list : List Told). AllZip IsToldAs list (run_told.told_by (plan_shown plan) start p (moves ++ x ∷ []))) (sym (noted.each p there))
-    (subst (λ (list : List run_told.Told). AllZip IsToldAs (slice_index_or before p [] ++ told_here p told) list) (sym (told_more (plan_shown plan) p moves start v x e))
-    (all_zip_append IsToldAs (slice_index_or before p []) (told_here p told) (run_told.told_by (plan_shown plan) start p moves) (run_told.told_by_move (plan_shown plan) v p x)
+    subst (λ (list : List Told). AllZip IsToldAs list (run_told.told_by plan start p (moves ++ x ∷ []))) (sym (noted.each p there))
+    (subst (λ (list : List run_told.Told). AllZip IsToldAs (slice_index_or before p [] ++ told_here p told) list) (sym (told_more plan p moves start v x e))
+    (all_zip_append IsToldAs (slice_index_or before p []) (told_here p told) (run_told.told_by plan start p moves) (run_told.told_by_move plan v p x)
     (h p there) (told_now plan v x p told same)))

@@ -4,7 +4,6 @@ use Rattle.kt_held.specs.Holdings.{Content}
 use Rattle.kt_plan.specs.Limits.{Planned}
 use Rattle.kt_plan.specs.declared.steps.Step.{Step}
 use Rattle.kt_promises.specs.Defaults.{default_step}
-use Rattle.kt_core.specs.Shown.{plan_shown, step_shown}
 use Rattle.kt_core.specs.Worlds.{World, refusal}
 use Rattle.kt_core.specs.declared.faults.StepFault.{StepFault}
 use Rattle.kt_run.specs.Runs.{Scene, Begins, Goes}
@@ -25,7 +24,7 @@ pub record IsDefaultRefused (plan : Planned) (cast : List (List Content)) (steps
   pub run : Goes plan cast steps world at
   pub count : length run.given + length run.more ≡ done
   pub step : Step
-  pub next : default_step (plan_shown plan) run.now ≡ Some (step_shown step)
+  pub next : default_step plan run.now ≡ Some step
   pub refused : refusal world step ≡ Some fault
 
 -- one of the two

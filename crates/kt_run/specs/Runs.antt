@@ -10,7 +10,6 @@ use Rattle.kt_plan.specs.declared.steps.Step.{Step}
 use Rattle.kt_plan.specs.declared.steps.Give.{Give}
 use Rattle.kt_plan.specs.declared.steps.Act.{Act}
 use Rattle.kt_plan.specs.declared.steps.Told.{Told}
-use Rattle.kt_phases.specs.Steps as run_steps
 use Rattle.kt_phases.specs.Runs.{Move}
 use Rattle.kt_promises.specs.World as run_world
 use Rattle.kt_promises.specs.Steps.{enabled, world_after, is_at_rest}
@@ -19,7 +18,7 @@ use Rattle.kt_promises.specs.Offers.{GivesOffer, GivesOffers, offer_places, AreO
 use Rattle.kt_promises.specs.Told.{told_at}
 use Rattle.kt_promises.specs.World.{start_world}
 use Rattle.kt_core.specs.Worlds.{World}
-use Rattle.kt_core.specs.Shown.{Mirrors, plan_shown, step_shown, give_shown}
+use Rattle.kt_core.specs.Shown.{Mirrors}
 use Rattle.kt_run.specs.Objects.{Belongings, has_of, rules_by, HoldDue}
 use Rattle.kt_run.specs.Telling.{IsToldAs, AreToldInRun, AreToldTheirRows, TellsItsRows, IsNoted}
 
@@ -38,28 +37,28 @@ abbrev pub Tells : World → List (List Told) → Step → Give → World → Li
 Tells old before step give new after acts = (told : Told) × IsNoted told before after × (acts ≡ told.acts) × (new.limit ≡ old.limit)
     × (length new.system.rows.rows ≤ new.limit)
     × ((first : ℕ) (v : run_world.World) → Mirrors old.agenda old.system first v →
-    (enabled (plan_shown old.agenda.plan) v (step_shown step) ≡ true)
-    × Mirrors new.agenda new.system first (world_after (plan_shown old.agenda.plan) v (step_shown step) (give_shown give))
-    × IsToldAs told (told_at (plan_shown old.agenda.plan) v (record { step = step_shown step; give = give_shown give }))
-    × TellsItsRows told v.now.log (world_after (plan_shown old.agenda.plan) v (step_shown step) (give_shown give)).now.log)
+    (enabled old.agenda.plan v step ≡ true)
+    × Mirrors new.agenda new.system first (world_after old.agenda.plan v step give)
+    × IsToldAs told (told_at old.agenda.plan v (record { step = step; give = give }))
+    × TellsItsRows told v.now.log (world_after old.agenda.plan v step give).now.log)
 
 -- with something that its object gives, a step does so; and where each process holds what is due to it, what is given is
 -- what the object offers, if the step asks for that, and then again each process holds what is due to it
 abbrev pub StepsTo : World → Scene → Step → World → Scene → Type 0
-StepsTo old before step new after = (told : Told) × (give : run_steps.Give) × IsNoted told before.told after.told × (new.limit ≡ old.limit)
+StepsTo old before step new after = (told : Told) × (give : Give) × IsNoted told before.told after.told × (new.limit ≡ old.limit)
     × (length new.system.rows.rows ≤ new.limit)
     × ((first : ℕ) (v : run_world.World) → Mirrors old.agenda old.system first v →
-    (enabled (plan_shown old.agenda.plan) v (step_shown step) ≡ true)
-    × Mirrors new.agenda new.system first (world_after (plan_shown old.agenda.plan) v (step_shown step) give)
-    × IsToldAs told (told_at (plan_shown old.agenda.plan) v (record { step = step_shown step; give = give }))
-    × TellsItsRows told v.now.log (world_after (plan_shown old.agenda.plan) v (step_shown step) give).now.log
+    (enabled old.agenda.plan v step ≡ true)
+    × Mirrors new.agenda new.system first (world_after old.agenda.plan v step give)
+    × IsToldAs told (told_at old.agenda.plan v (record { step = step; give = give }))
+    × TellsItsRows told v.now.log (world_after old.agenda.plan v step give).now.log
     × ((cast : List (List Content)) → HoldDue cast v.now.log before.has →
-    GivesOffer (rules_by cast) (plan_shown old.agenda.plan) v (step_shown step) give
-    × HoldDue cast (world_after (plan_shown old.agenda.plan) v (step_shown step) give).now.log after.has))
+    GivesOffer (rules_by cast) old.agenda.plan v step give
+    × HoldDue cast (world_after old.agenda.plan v step give).now.log after.has))
 
 -- nothing is done in a world, whose log may have 2^24 rows and has none
 pub record Starts (plan : Planned) (world : World) : Type 0 where
-  pub shown : Mirrors world.agenda world.system 0 (start_world (plan_shown plan) 0)
+  pub shown : Mirrors world.agenda world.system 0 (start_world plan 0)
   pub limit : world.limit ≡ 2 ^ 24
   pub rows : world.system.rows.rows ≡ []
 
@@ -68,14 +67,14 @@ pub record Starts (plan : Planned) (world : World) : Type 0 where
 pub record Begins (plan : Planned) (cast : List (List Content)) (steps : List Step) (world : World) (at : Scene) : Type 0 where
   pub moves : List Move
   pub now : run_world.World
-  pub made : map (λ (m : Move). m.step) moves ≡ map step_shown steps
-  pub leads : after_moves (plan_shown plan) (start_world (plan_shown plan) 0) moves ≡ Some now
+  pub made : map (λ (m : Move). m.step) moves ≡ steps
+  pub leads : after_moves plan (start_world plan 0) moves ≡ Some now
   pub shown : Mirrors world.agenda world.system 0 now
   pub limit : world.limit ≡ 2 ^ 24
   pub few : length world.system.rows.rows ≤ world.limit
   pub tells : AreToldInRun plan moves at.told
   pub rows : AreToldTheirRows now.now.log at.told
-  pub offers : GivesOffers (rules_by cast) (plan_shown plan) (start_world (plan_shown plan) 0) moves
+  pub offers : GivesOffers (rules_by cast) plan (start_world plan 0) moves
   pub due : HoldDue cast now.now.log at.has
 
 -- so does a run that begins with these steps, and goes on by default steps
@@ -83,30 +82,30 @@ pub record Goes (plan : Planned) (cast : List (List Content)) (steps : List Step
   pub given : List Move
   pub more : List Move
   pub now : run_world.World
-  pub begins : map (λ (m : Move). m.step) given ≡ map step_shown steps
-  pub goes_on : GoesOn (plan_shown plan) 0 given more now
+  pub begins : map (λ (m : Move). m.step) given ≡ steps
+  pub goes_on : GoesOn plan 0 given more now
   pub shown : Mirrors world.agenda world.system 0 now
   pub limit : world.limit ≡ 2 ^ 24
   pub few : length world.system.rows.rows ≤ world.limit
   pub tells : AreToldInRun plan (given ++ more) at.told
   pub rows : AreToldTheirRows now.now.log at.told
-  pub offers : GivesOffers (rules_by cast) (plan_shown plan) (start_world (plan_shown plan) 0) (given ++ more)
+  pub offers : GivesOffers (rules_by cast) plan (start_world plan 0) (given ++ more)
   pub due : HoldDue cast now.now.log at.has
 
 -- and has come to rest there
 pub record Rests (plan : Planned) (cast : List (List Content)) (steps : List Step) (world : World) (at : Scene) : Type 0 where
   pub run : Goes plan cast steps world at
-  pub rest : is_at_rest (plan_shown plan) run.now ≡ true
+  pub rest : is_at_rest plan run.now ≡ true
 
 -- these moves, each enabled in its turn, are a run of the plan: they lead from its start to a world at rest, whose log has
 -- these rows; each body that a command leaves to the object, of those that each process is given, is what that offers at
 -- its row
 pub record IsRun (plan : Planned) (cast : List (List Content)) (moves : List Move) (rows : List Event) : Type 0 where
   pub end : run_world.World
-  pub leads : after_moves (plan_shown plan) (start_world (plan_shown plan) 0) moves ≡ Some end
-  pub rest : is_at_rest (plan_shown plan) end ≡ true
+  pub leads : after_moves plan (start_world plan 0) moves ≡ Some end
+  pub rest : is_at_rest plan end ≡ true
   pub log : rows ≡ end.now.log
-  pub offers : AreOfferedAt (rules_by cast) rows (offer_places (plan_shown plan) (start_world (plan_shown plan) 0) moves)
+  pub offers : AreOfferedAt (rules_by cast) rows (offer_places plan (start_world plan 0) moves)
 
 -- these are the rows of a run of the plan, in whatever order its steps are made
 abbrev pub IsLogOfRun : Planned → List (List Content) → List Event → Type 0
@@ -116,9 +115,9 @@ IsLogOfRun plan cast rows = (moves : List Move) × IsRun plan cast moves rows
 pub record IsPlayed (plan : Planned) (cast : List (List Content)) (steps : List Step) (rows : List Event) : Type 0 where
   pub given : List Move
   pub more : List Move
-  pub begins : map (λ (m : Move). m.step) given ≡ map step_shown steps
+  pub begins : map (λ (m : Move). m.step) given ≡ steps
   pub run : IsRun plan cast (given ++ more) rows
-  pub goes_on : GoesOn (plan_shown plan) 0 given more run.end
+  pub goes_on : GoesOn plan 0 given more run.end
 
 -- these are the rows of such a run, and each process is told, step for step, what the run tells it
 pub record IsToldPlay (plan : Planned) (cast : List (List Content)) (steps : List Step) (rows : List Event) (told : List (List Told)) : Type 0 where

@@ -1,7 +1,6 @@
 -- What a run tells its processes.
 use Rattle.std.specs.Prelude.{◌≡◌, ◌<◌, ◌+◌, ◌==◌, ℕ, List, [], ◌∷◌, ◌++◌, All, Option, filter, map, length, slice_index_or, if◌then◌else◌}
 use Rattle.std.specs.List.{AllZip, filter_map}
-use Rattle.kt_core.specs.Shown.{plan_shown, step_shown}
 use Rattle.kt_core.specs.Worlds.{stepper}
 use Rattle.kt_phases.specs.Runs.{Move}
 use Rattle.kt_plan.specs.Limits.{Planned}
@@ -43,7 +42,7 @@ pub record TellsItsRows (told : Told) (before after : List Event) : Type 0 where
 
 -- the same step, the same rows but for their numbers, and the same acts, as a run tells
 pub record IsToldAs (told : Told) (in_run : run_told.Told) : Type 0 where
-  pub step : step_shown told.step ≡ in_run.step
+  pub step : told.step ≡ in_run.step
   pub rows : map (λ row. row.1) (rows_of told) ≡ in_run.rows
   pub acts : acts_shown told.acts ≡ in_run.acts
 
@@ -51,7 +50,7 @@ pub record IsToldAs (told : Told) (in_run : run_told.Told) : Type 0 where
 abbrev pub AreToldInRun : Planned → List Move → List (List Told) → Type 0
 AreToldInRun plan moves told =
     (p : ℕ) → p < length told → AllZip IsToldAs (slice_index_or told p [])
-    (run_told.told_by (plan_shown plan) (start_world (plan_shown plan) 0) p moves)
+    (run_told.told_by plan (start_world plan 0) p moves)
 
 -- no process is told anything yet
 abbrev pub AreEmpty : List (List Told) → Type 0

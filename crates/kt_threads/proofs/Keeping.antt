@@ -1,7 +1,6 @@
 -- What processes have at the end of a run in threads is what is due to them.
 use Rattle.std.proofs.Common.{◌≡◌, ◌∙◌, ◌<◌, arith, ℕ, zero, suc, List, [], ◌∷◌, length, map, refl, ap, subst, Option, Some, None}
 use Rattle.std.specs.Prelude.{option_map, slice_get, slice_index_or}
-use Rattle.kt_core.specs.Shown.{plan_shown}
 use Rattle.kt_held.specs.Holdings.{Content, content, AreSaved}
 use Rattle.kt_plan.specs.Limits.{Planned}
 use Rattle.kt_promises.specs.World as run_world
@@ -58,7 +57,7 @@ module _ (plan : Planned) (steps : List Made) (rows : List Event) (lived : histo
   objects p = slice_index_or cast p []
 
   each : (p : ℕ) (c : Belongings) → slice_get news p ≡ Some c → HoldsDue (objects p) rows p c
-      × GivesOf (rules_by cast p) p (plan_shown plan) (run_world.start_world (plan_shown plan) 0) (map move_of steps)
+      × GivesOf (rules_by cast p) p plan (run_world.start_world plan 0) (map move_of steps)
   each p c e =
       let t = at_each olds lists news served p c e in
       let l = within news p c e in
@@ -70,7 +69,7 @@ module _ (plan : Planned) (steps : List Made) (rows : List Event) (lived : histo
   pub due_then : HoldDue cast rows news
   due_then = record { count = (as_many olds lists news served).0 ∙ due.count; each = λ p c e. (each p c e).0 }
 
-  gives : (p : ℕ) → p < length plan.names → GivesOf (rules_by cast p) p (plan_shown plan) (run_world.start_world (plan_shown plan) 0) (map move_of steps)
+  gives : (p : ℕ) → p < length plan.names → GivesOf (rules_by cast p) p plan (run_world.start_world plan 0) (map move_of steps)
   gives p l =
       let n = (as_many olds lists news served).1 in
       let m = theirs.count in

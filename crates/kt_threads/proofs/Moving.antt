@@ -3,16 +3,14 @@ use Rattle.std.proofs.Common.{◌≡◌, ◌∙◌, ◌<◌, length, arith, ℕ,
 use Rattle.std.specs.List.{AllZip}
 use Rattle.std.specs.Prelude.{if◌then◌else◌}
 use Rattle.kt_core.specs.Agendas.{Agenda}
-use Rattle.kt_core.specs.Shown.{Mirrors, plan_shown, step_shown, give_shown}
+use Rattle.kt_core.specs.Shown.{Mirrors}
 use Rattle.kt_core.specs.Worlds.{World, IsSameWorld}
 use Rattle.kt_core.proofs.Defaults.{rest_is}
 use Rattle.kt_core.proofs.Enabled.{enabled_if, enabled_is}
 use Rattle.kt_core.proofs.Leading.{run_same}
-use Rattle.kt_core.proofs.ShownPlans.{plan_is}
 use Rattle.kt_held.specs.Holdings.{Content}
-use Rattle.kt_plan.specs.Limits.{Planned}
+use Rattle.kt_plan.specs.Limits.{Planned, IsPlan}
 use Rattle.kt_plan.specs.declared.steps.Told.{Told}
-use Rattle.kt_phases.specs.Plans as run_plans
 use Rattle.kt_promises.specs.Offers.{AreOfferedAt, offer_places}
 use Rattle.kt_promises.specs.Runs.{after_moves, IsReachedWorld}
 use Rattle.kt_promises.specs.Steps.{enabled, world_after, is_at_rest}
@@ -41,10 +39,10 @@ use Rattle.kt_threads.specs.declared.state.Made.{Made}
 record Goes (plan : Planned) (first : ℕ) (v : run_world.World) (steps : List Made) (new : World) : Type 0 where
   end : run_world.World
   plans : new.agenda.plan ≡ plan
-  leads : after_moves (plan_shown plan) v (map move_of steps) ≡ Some end
+  leads : after_moves plan v (map move_of steps) ≡ Some end
   shown : Mirrors new.agenda new.system first end
   rows : (p : ℕ) → rows_by p end.now.log ≡ rows_by p v.now.log ++ rows_told (told_to p steps)
-  told : (p : ℕ) → AllZip IsToldAs (told_to p steps) (told_by (plan_shown plan) v p (map move_of steps))
+  told : (p : ℕ) → AllZip IsToldAs (told_to p steps) (told_by plan v p (map move_of steps))
   served : (objects : List Content) (p : ℕ) → KeepsDue plan objects p v steps end
 
 -- a run leads to the same world with other spare room
@@ -60,35 +58,35 @@ one_more false there end e f = absurd (cc (e))
 
 -- a step that was made is enabled in a run that leads to its world
 is_enabled : (plan : Planned) (old new : World) (made : Made) (first : ℕ) (v : run_world.World) → old.agenda.plan ≡ plan → IsMade old made new
-    → Mirrors old.agenda old.system first v → enabled (plan_shown plan) v (step_shown made.told.step) ≡ true
+    → Mirrors old.agenda old.system first v → enabled plan v made.told.step ≡ true
 is_enabled plan old new made first v plans step r =
-    subst (λ (p : Planned). enabled (plan_shown p) v (step_shown made.told.step) ≡ true) plans
+    subst (λ (p : Planned). enabled p v made.told.step ≡ true) plans
     (sym (enabled_is old first v r made.told.step) ∙ enabled_if old made.told.step step.allowed)
 
 -- where the steps after the first one lead, all lead
 goes_first : (plan : Planned) (made : Made) (steps : List Made) (before after new : World) (first : ℕ) (v : run_world.World) → before.agenda.plan ≡ plan
     → Mirrors before.agenda before.system first v → IsMade before made after
-    → Mirrors after.agenda after.system first (world_after (plan_shown plan) v (step_shown made.told.step) (give_shown made.give))
-    → Goes plan first (world_after (plan_shown plan) v (step_shown made.told.step) (give_shown made.give)) steps new → Goes plan first v (made ∷ steps) new
+    → Mirrors after.agenda after.system first (world_after plan v made.told.step made.give)
+    → Goes plan first (world_after plan v made.told.step made.give) steps new → Goes plan first v (made ∷ steps) new
 goes_first plan made steps before after new first v plans r step next rest = record {
   end = rest.end;
   plans = rest.plans;
-  leads = one_more (enabled (plan_shown plan) v (step_shown made.told.step)) _ rest.end on rest.leads;
+  leads = one_more (enabled plan v made.told.step) _ rest.end on rest.leads;
   shown = rest.shown;
   rows = λ p. rest.rows p ∙ rows_more plan made before after first v plans r step next on p steps;
   told = λ p. told_more plan made before after first v plans r step next on p steps (rest.told p);
   served = λ objects p. served_more plan made before after first v plans r step on objects p steps rest.end (rest.served objects p);
 }
   where
-    on : enabled (plan_shown plan) v (step_shown made.told.step) ≡ true
+    on : enabled plan v made.told.step ≡ true
     on = is_enabled plan before after made first v plans step r
 
 -- a run goes on by a step that was made
 run_after : (plan : Planned) (made : Made) (before after : World) (first : ℕ) (v : run_world.World) → before.agenda.plan ≡ plan
     → Mirrors before.agenda before.system first v → IsMade before made after
-    → Mirrors after.agenda after.system first (world_after (plan_shown plan) v (step_shown made.told.step) (give_shown made.give))
+    → Mirrors after.agenda after.system first (world_after plan v made.told.step made.give)
 run_after plan made before after first v plans r step =
-    subst (λ (p : Planned). Mirrors after.agenda after.system first (world_after (plan_shown p) v (step_shown made.told.step) (give_shown made.give))) plans
+    subst (λ (p : Planned). Mirrors after.agenda after.system first (world_after p v made.told.step made.give)) plans
     ((step.makes.runs first v r).leads)
 
 goes_on : (plan : Planned) (steps : List Made) (old new : World) (first : ℕ) (v : run_world.World) → old.agenda.plan ≡ plan
@@ -105,14 +103,14 @@ goes_on plan [] old new first v plans r same = record {
 goes_on plan (made ∷ steps) old new first v plans r leads =
     let here : Mirrors leads.0.agenda leads.0.system first v = same_run leads.0 old first v leads.2 r in
     let kept : leads.0.agenda.plan ≡ plan = ap (λ (a : Agenda). a.plan) leads.2.agenda ∙ plans in
-    let w = world_after (plan_shown plan) v (step_shown made.told.step) (give_shown made.give) in
+    let w = world_after plan v made.told.step made.give in
     let next : Mirrors leads.1.agenda leads.1.system first w = run_after plan made leads.0 leads.1 first v kept here leads.3 in
     goes_first plan made steps leads.0 leads.1 new first v kept here leads.3 next
     (goes_on plan steps leads.1 new first w (leads.3.keeps.plan ∙ kept) next leads.4)
 
 module _ (plan : Planned) (steps : List Made) (rows : List Event) (lived : histories.IsWholeHistory plan steps rows) where
   abbrev start : run_world.World
-  start = run_world.start_world (plan_shown plan) 0
+  start = run_world.start_world plan 0
 
   h : IsHistory plan steps lived.end
   h = lived.history
@@ -120,15 +118,15 @@ module _ (plan : Planned) (steps : List Made) (rows : List Event) (lived : histo
   goes : Goes plan 0 start steps lived.end
   goes = goes_on plan steps h.begin lived.end 0 start h.opening.plans h.starts h.leads
 
-  at_rest : is_at_rest (plan_shown plan) goes.end ≡ true
-  at_rest = subst (λ (p : Planned). is_at_rest (plan_shown p) goes.end ≡ true) goes.plans
+  at_rest : is_at_rest plan goes.end ≡ true
+  at_rest = subst (λ (p : Planned). is_at_rest p goes.end ≡ true) goes.plans
       (sym (rest_is lived.end 0 goes.end goes.shown true (λ _. lived.rest, λ _. refl)))
 
   rows_are : rows ≡ goes.end.now.log
   rows_are = lived.log ∙ goes.shown.now.log
 
   opens : start.now.log ≡ []
-  opens = ap (λ (v : Seen). v.log) (opening_is (plan_shown plan) 0).now
+  opens = ap (λ (v : Seen). v.log) (opening_is plan 0).now
 
   their_rows : (p : ℕ) → rows_told (told_to p steps) ≡ rows_by p rows
   their_rows p =
@@ -141,37 +139,37 @@ module _ (plan : Planned) (steps : List Made) (rows : List Event) (lived : histo
 
   pub told_as_in_run : (processes : ℕ) (told : List (List Told)) → AreTold processes steps told → AreToldAsInRun plan steps told
   told_as_in_run processes told t = λ p l.
-      subst (λ (k : List Told). AllZip IsToldAs k (told_by (plan_shown plan) start p (map move_of steps)))
+      subst (λ (k : List Told). AllZip IsToldAs k (told_by plan start p (map move_of steps)))
       (sym (t.each p (let n = t.count in omega (arith, l, n)))) (goes.told p)
 
   -- a process that had what is due to it at first, and made its steps, has what is due to it
   pub served_of : (objects : List Content) (p : ℕ) (b now : Belongings) → HoldsDue objects [] p b → AreServed b (made_by p steps) now
-      → HoldsDue objects rows p now × GivesOf (rules_of (first_of objects)) p (plan_shown plan) start (map move_of steps)
+      → HoldsDue objects rows p now × GivesOf (rules_of (first_of objects)) p plan start (map move_of steps)
   served_of objects p b now h s =
       let t = goes.served objects p b now (subst (λ (l : List Event). HoldsDue objects l p b) (sym opens) h) s in
       (subst (λ (l : List Event). HoldsDue objects l p now) (sym rows_are) t.0, t.1)
 
-  limits : run_plans.IsPlan (plan_shown plan)
-  limits = subst (λ (p : Planned). run_plans.IsPlan (plan_shown p)) goes.plans (plan_is lived.end.agenda.plan goes.shown.limits)
+  limits : IsPlan plan
+  limits = subst (λ (p : Planned). IsPlan p) goes.plans goes.shown.limits
 
-  reached : IsReachedWorld (plan_shown plan) 0 goes.end
-  reached = subst (λ (p : Planned). IsReachedWorld (plan_shown p) 0 goes.end) goes.plans goes.shown.reached
+  reached : IsReachedWorld plan 0 goes.end
+  reached = subst (λ (p : Planned). IsReachedWorld p 0 goes.end) goes.plans goes.shown.reached
 
   -- the steps of a history that ends at rest are the moves of a run, where each process gives what its object offers
   pub run_of : (cast : List (List Content))
-      → ((p : ℕ) → p < length plan.names → GivesOf (rules_by cast p) p (plan_shown plan) start (map move_of steps))
+      → ((p : ℕ) → p < length plan.names → GivesOf (rules_by cast p) p plan start (map move_of steps))
       → IsRun plan cast (map move_of steps) rows
   run_of cast gives = record {
     end = goes.end;
     leads = goes.leads;
     rest = at_rest;
     log = rows_are;
-    offers = subst (λ (l : List Event). AreOfferedAt (rules_by cast) l (offer_places (plan_shown plan) start (map move_of steps))) (sym rows_are)
-        (offers_seen (rules_by cast) (plan_shown plan) 0 limits (map move_of steps) goes.end goes.leads
-        (gives_all (rules_by cast) (plan_shown plan) (map move_of steps) start goes.end goes.leads gives));
+    offers = subst (λ (l : List Event). AreOfferedAt (rules_by cast) l (offer_places plan start (map move_of steps))) (sym rows_are)
+        (offers_seen (rules_by cast) plan 0 limits (map move_of steps) goes.end goes.leads
+        (gives_all (rules_by cast) plan (map move_of steps) start goes.end goes.leads gives));
   }
 
   pub nothing_tentative : (rules : Rules (List ℤ)) (p : ℕ) → (due rules (done rows) p).tentative ≡ None
   nothing_tentative rules p =
       subst (λ (l : List Event). (due rules (done l) p).tentative ≡ None) (sym rows_are)
-      (no_tentative rules (plan_shown plan) 0 goes.end p limits reached at_rest)
+      (no_tentative rules plan 0 goes.end p limits reached at_rest)

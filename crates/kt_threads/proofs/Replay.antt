@@ -2,7 +2,7 @@
 use Rattle.std.proofs.Common.{◌≡◌, ◌∙◌, ◌<◌, ◌+◌, ◌^◌, ℕ, List, [], ◌∷◌, ◌++◌, length, refl, sym, subst, ap, Option, None, Some, Result, Ok, Err, IfSome}
 use Rattle.std.specs.Prelude.{slice_get}
 use Rattle.kt_core.specs.Making.{KeepsPlan, MakesStep}
-use Rattle.kt_core.specs.Shown.{Mirrors, plan_shown, step_shown, look_shown}
+use Rattle.kt_core.specs.Shown.{Mirrors}
 use Rattle.kt_core.specs.Worlds.{World, IsSameWorld, IsOpening, numbered_row, refusal}
 use Rattle.kt_core.specs.declared.faults.StepFault.{StepFault}
 use Rattle.kt_plan.specs.Limits.{Planned}
@@ -60,7 +60,7 @@ pub history_more : (steps : List Made) (made : Made) (now new : World) → IsMad
 history_more steps made now new step h = record {
   begin = h.begin;
   opening = subst (λ (p : Planned). IsOpening h.begin p 0 (2 ^ 24)) (sym step.keeps.plan) h.opening;
-  starts = subst (λ (p : Planned). Mirrors h.begin.agenda h.begin.system 0 (start_world (plan_shown p) 0)) (sym step.keeps.plan) h.starts;
+  starts = subst (λ (p : Planned). Mirrors h.begin.agenda h.begin.system 0 (start_world p 0)) (sym step.keeps.plan) h.starts;
   leads = leads_more steps made h.begin now new step h.leads;
 }
 
@@ -69,7 +69,7 @@ pub history_same : (steps : List Made) (now new : World) → IsSameWorld new now
 history_same steps now new same h = record {
   begin = h.begin;
   opening = subst (λ (p : Planned). IsOpening h.begin p 0 (2 ^ 24)) (ap (λ a. a.plan) (sym same.agenda)) h.opening;
-  starts = subst (λ (p : Planned). Mirrors h.begin.agenda h.begin.system 0 (start_world (plan_shown p) 0)) (ap (λ a. a.plan) (sym same.agenda)) h.starts;
+  starts = subst (λ (p : Planned). Mirrors h.begin.agenda h.begin.system 0 (start_world p 0)) (ap (λ a. a.plan) (sym same.agenda)) h.starts;
   leads = leads_same steps h.begin now new same h.leads;
 }
 
@@ -84,7 +84,7 @@ pub makes : (old new : World) (step : Step) (look : Look) (give : Give) (told : 
     → KeepsPlan old new → MakesStep old step give told.acts new → length told.rows ≡ 4
     → ((i : ℕ) → i < 4 → slice_get told.rows i ≡ Some (numbered_row new.system.rows.rows (length old.system.rows.rows + i)))
     → ((first : ℕ) (v : run_world.World) → Mirrors old.agenda old.system first v
-    → look_shown look ≡ run_looks.look (plan_shown old.agenda.plan) v (step_shown step))
+    → look ≡ run_looks.look old.agenda.plan v step)
     → IsMade old (record { look = look; give = give; told = told }) new
 makes old new step look give told is allowed keeps made four rows looks = record {
   allowed = subst (λ (s : Step). refusal old s ≡ None) (sym is) allowed;
@@ -92,5 +92,5 @@ makes old new step look give told is allowed keeps made four rows looks = record
   makes = subst (λ (s : Step). MakesStep old s give told.acts new) (sym is) made;
   four = four;
   rows = rows;
-  look = λ first v r. subst (λ (s : Step). look_shown look ≡ run_looks.look (plan_shown old.agenda.plan) v (step_shown s)) (sym is) (looks first v r);
+  look = λ first v r. subst (λ (s : Step). look ≡ run_looks.look old.agenda.plan v s) (sym is) (looks first v r);
 }

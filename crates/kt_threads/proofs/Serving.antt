@@ -2,17 +2,18 @@
 use Rattle.std.proofs.Common.{◌≡◌, ◌≢◌, ◌∙◌, ◌==◌, ◌<◌, arith, ℕ, ℤ, Bool, true, false, List, [], ◌∷◌, map, refl, sym, ap, subst, Option, Some, None, IfSome}
 use Rattle.std.specs.Prelude.{◌&&◌, nat_lt, is_some, option_map, if◌then◌else◌}
 use Rattle.std.proofs.lemmas.Bool.Decides.{nat_tests}
-use Rattle.kt_core.specs.Shown.{Mirrors, plan_shown, step_shown, give_shown, look_shown}
+use Rattle.kt_plan.specs.declared.steps.Step.{Step}
+use Rattle.kt_plan.specs.declared.steps.Look.TheVariants.{NeedsBody}
+use Rattle.kt_plan.specs.declared.steps.Give.{Give}
+use Rattle.kt_plan.specs.declared.steps.Step.TheVariants.{Do, Take}
+use Rattle.kt_core.specs.Shown.{Mirrors}
 use Rattle.kt_core.specs.Worlds.{World, stepper}
 use Rattle.kt_core.proofs.Enabled.{below}
-use Rattle.kt_core.proofs.ShownPlans.{plan_is}
 use Rattle.kt_held.specs.Holdings.{Content, content}
 use Rattle.kt_object.specs.Value.{offered}
-use Rattle.kt_phases.specs.Looks as run_looks
-use Rattle.kt_phases.specs.Plans as run_plans
 use Rattle.kt_phases.specs.Runs.{Move}
 use Rattle.kt_phases.specs.Steps as run_steps
-use Rattle.kt_plan.specs.Limits.{Planned}
+use Rattle.kt_plan.specs.Limits.{Planned, IsPlan}
 use Rattle.kt_plan.specs.declared.steps.Look.{Look}
 use Rattle.kt_plan.specs.declared.steps.Look.TheVariants as look
 use Rattle.kt_promises.specs.Looks as run_look
@@ -37,7 +38,7 @@ use Rattle.kt_threads.specs.Seats.{IsServed, AreServed}
 use Rattle.kt_threads.specs.declared.state.Made.{Made}
 use Rattle.kt_threads.proofs.Telling.{equal_of}
 
-needs_body : (l : Look) → look_shown l ≡ run_looks.NeedsBody → l ≡ look.NeedsBody
+needs_body : (l : Look) → l ≡ NeedsBody → l ≡ look.NeedsBody
 needs_body look.Idle e = absurd (cc (e))
 needs_body look.NeedsSave e = absurd (cc (e))
 needs_body look.NeedsBody e = refl
@@ -50,59 +51,59 @@ given_offer first None present body up is asked = absurd (cc (up))
 given_offer first (Some value) present body up is asked = ap Some (sym (subst (λ (o : Option Content). IfSome o (λ c. body ≡ offered c.kind c.value)) is asked))
 
 -- at a process's own moves, what is given is what its object offers, if it is asked for
-abbrev pub GivesOf : Rules (List ℤ) → ℕ → run_plans.Plan → run_world.World → List Move → Type 0
+abbrev pub GivesOf : Rules (List ℤ) → ℕ → Planned → run_world.World → List Move → Type 0
 GivesOf rules p plan w [] = Unit {0}
 GivesOf rules p plan w (x ∷ xs) = (p ≡ run_steps.stepper x.step → GivesOffer (λ (_ : ℕ). rules) plan w x.step x.give) × GivesOf rules p plan (world_after plan w x.step x.give) xs
 
 -- from one world of a run to another: a process that had what was due to it, and made its steps, has it again
 abbrev pub KeepsDue : Planned → List Content → ℕ → run_world.World → List Made → run_world.World → Type 0
 KeepsDue plan objects p v steps end = (b now : Belongings) → HoldsDue objects v.now.log p b → AreServed b (made_by p steps) now
-    → HoldsDue objects end.now.log p now × GivesOf (rules_of (first_of objects)) p (plan_shown plan) v (map move_of steps)
+    → HoldsDue objects end.now.log p now × GivesOf (rules_of (first_of objects)) p plan v (map move_of steps)
 
 -- one step, from a world that a run led to
 module _ (plan : Planned) (made : Made) (before after : World) (first : ℕ) (v : run_world.World) (plans : before.agenda.plan ≡ plan)
     (r : Mirrors before.agenda before.system first v) (step : IsMade before made after)
-    (on : enabled (plan_shown plan) v (step_shown made.told.step) ≡ true) where
-  abbrev x : run_steps.Step
-  x = step_shown made.told.step
+    (on : enabled plan v made.told.step ≡ true) where
+  abbrev x : Step
+  x = made.told.step
 
-  abbrev give : run_steps.Give
-  give = give_shown made.give
+  abbrev give : Give
+  give = made.give
 
   abbrev w : run_world.World
-  w = world_after (plan_shown plan) v x give
+  w = world_after plan v x give
 
-  limits : run_plans.IsPlan (plan_shown plan)
-  limits = subst (λ (p : Planned). run_plans.IsPlan (plan_shown p)) plans (plan_is before.agenda.plan r.limits)
+  limits : IsPlan plan
+  limits = subst (λ (p : Planned). IsPlan p) plans r.limits
 
-  reached : IsReachedWorld (plan_shown plan) first v
-  reached = subst (λ (p : Planned). IsReachedWorld (plan_shown p) first v) plans r.reached
+  reached : IsReachedWorld plan first v
+  reached = subst (λ (p : Planned). IsReachedWorld p first v) plans r.reached
 
-  acts : acts_shown made.told.acts ≡ acts_of_step (plan_shown plan) v x give (run_steps.stepper x)
+  acts : acts_shown made.told.acts ≡ acts_of_step plan v x give (run_steps.stepper x)
   acts =
-      subst (λ (p : Planned). acts_shown made.told.acts ≡ acts_of_step (plan_shown p) v x give (stepper made.told.step)) plans ((step.makes.runs first v r).asks)
-      ∙ ap (acts_of_step (plan_shown plan) v x give) (sym (stepper_is made.told.step))
+      subst (λ (p : Planned). acts_shown made.told.acts ≡ acts_of_step p v x give (stepper made.told.step)) plans ((step.makes.runs first v r).asks)
+      ∙ ap (acts_of_step plan v x give) (sym (stepper_is made.told.step))
 
-  looks : look_shown made.look ≡ run_look.look (plan_shown plan) v x
-  looks = subst (λ (p : Planned). look_shown made.look ≡ run_look.look (plan_shown p) v x) plans (step.look first v r)
+  looks : made.look ≡ run_look.look plan v x
+  looks = subst (λ (p : Planned). made.look ≡ run_look.look p v x) plans (step.look first v r)
 
   its : (objects : List Content) (b c : Belongings) → IsServed b made c → HoldsDue objects v.now.log (run_steps.stepper x) b
       → HoldsDue objects w.now.log (run_steps.stepper x) c
   its objects b c s h =
       holds_next objects (run_steps.stepper x) made.told.acts v.now.log w.now.log b c
-      (acts_along_step (plan_shown plan) first v x give limits reached on (rules_of (first_of objects)) (acts_shown made.told.acts) acts)
+      (acts_along_step plan first v x give limits reached on (rules_of (first_of objects)) (acts_shown made.told.acts) acts)
       (record { does = s.does; spares = s.spares }) h
 
   others : (objects : List Content) (p : ℕ) (b : Belongings) → p ≢ run_steps.stepper x → HoldsDue objects v.now.log p b → HoldsDue objects w.now.log p b
   others objects p b n h =
       holds_still objects p v.now.log w.now.log b
-      (others_along (plan_shown plan) first v x give limits reached on (rules_of (first_of objects)) p n) h
+      (others_along plan first v x give limits reached on (rules_of (first_of objects)) p n) h
 
   gives : (objects : List Content) (b c : Belongings) → IsServed b made c → HoldsDue objects v.now.log (run_steps.stepper x) b
-      → GivesOffer (λ (_ : ℕ). rules_of (first_of objects)) (plan_shown plan) v x give
+      → GivesOffer (λ (_ : ℕ). rules_of (first_of objects)) plan v x give
   gives objects b c s h n =
       given_offer (first_of objects) (due (rules_of (first_of objects)) (done v.now.log) (run_steps.stepper x)).object b.present made.give.body
-      (object_seen (rules_of (first_of objects)) (plan_shown plan) first v (run_steps.stepper x) limits reached ∙ up_seen (plan_shown plan) v x n)
+      (object_seen (rules_of (first_of objects)) plan first v (run_steps.stepper x) limits reached ∙ up_seen plan v x n)
       h.holds.object (s.offers (needs_body made.look (looks ∙ n)))
 
   of_first : (p : ℕ) → (stepper made.told.step == p) ≡ true → p ≡ run_steps.stepper x
@@ -119,7 +120,7 @@ module _ (plan : Planned) (made : Made) (before after : World) (first : ℕ) (v 
   served_more objects p steps end rest = λ b now h s. go b now h s (stepper made.told.step == p) refl
     where
       go : (b now : Belongings) → HoldsDue objects v.now.log p b → AreServed b (made_by p (made ∷ steps)) now → (t : Bool) → (stepper made.told.step == p) ≡ t
-          → HoldsDue objects end.now.log p now × GivesOf (rules_of (first_of objects)) p (plan_shown plan) v (map move_of (made ∷ steps))
+          → HoldsDue objects end.now.log p now × GivesOf (rules_of (first_of objects)) p plan v (map move_of (made ∷ steps))
       go b now h s true e =
           let q = of_first p e in
           let here : HoldsDue objects v.now.log (run_steps.stepper x) b = subst (λ (i : ℕ). HoldsDue objects v.now.log i b) q h in
@@ -138,15 +139,15 @@ and_left : (a b : Bool) → (a && b) ≡ true → a ≡ true
 and_left true b e = refl
 and_left false b e = absurd (cc (e))
 
-inside : (plan : run_plans.Plan) (w : run_world.World) (x : run_steps.Step) → enabled plan w x ≡ true → run_steps.stepper x < plan.size
-inside plan w (run_steps.Do p) e = below p plan.size (and_left (nat_lt p plan.size) _ e)
-inside plan w (run_steps.Take p q) e = below p plan.size (and_left (nat_lt p plan.size) (nat_lt q plan.size) (and_left _ _ e))
+inside : (plan : Planned) (w : run_world.World) (x : Step) → enabled plan w x ≡ true → run_steps.stepper x < plan.size
+inside plan w (Do p) e = below p plan.size (and_left (nat_lt p plan.size) _ e)
+inside plan w (Take p q) e = below p plan.size (and_left (nat_lt p plan.size) (nat_lt q plan.size) (and_left _ _ e))
 
 on_first : (b : Bool) (there : Option run_world.World) (end : run_world.World) → (if b then there else None) ≡ Some end → (b ≡ true) × (there ≡ Some end)
 on_first true there end e = (refl, e)
 on_first false there end e = absurd (cc (e))
 
-pub gives_all : (rules : ℕ → Rules (List ℤ)) (plan : run_plans.Plan) (xs : List Move) (v end : run_world.World) → after_moves plan v xs ≡ Some end
+pub gives_all : (rules : ℕ → Rules (List ℤ)) (plan : Planned) (xs : List Move) (v end : run_world.World) → after_moves plan v xs ≡ Some end
     → ((p : ℕ) → p < plan.size → GivesOf (rules p) p plan v xs) → GivesOffers rules plan v xs
 gives_all rules plan [] v end e g = tt
 gives_all rules plan (x ∷ xs) v end e g =

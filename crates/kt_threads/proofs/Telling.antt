@@ -3,7 +3,7 @@ use Rattle.std.proofs.Common.{◌≡◌, ◌∙◌, ◌==◌, arith, ℕ, Bool, 
 use Rattle.std.specs.List.{AllZip}
 use Rattle.std.specs.Prelude.{if◌then◌else◌}
 use Rattle.std.proofs.lemmas.Bool.Decides.{nat_tests}
-use Rattle.kt_core.specs.Shown.{Mirrors, plan_shown, step_shown, give_shown}
+use Rattle.kt_core.specs.Shown.{Mirrors}
 use Rattle.kt_core.specs.Worlds.{World, stepper}
 use Rattle.kt_plan.specs.Limits.{Planned}
 use Rattle.kt_plan.specs.declared.steps.Told.{Told}
@@ -36,10 +36,10 @@ turned a b c false e f = let k : (c == a) ≡ false = grind (arith, nat_tests, e
 -- one step, from a world that a run led to
 module _ (plan : Planned) (made : Made) (before after : World) (first : ℕ) (v : run_world.World) (plans : before.agenda.plan ≡ plan)
     (r : Mirrors before.agenda before.system first v) (step : IsMade before made after)
-    (next : Mirrors after.agenda after.system first (world_after (plan_shown plan) v (step_shown made.told.step) (give_shown made.give)))
-    (on : enabled (plan_shown plan) v (step_shown made.told.step) ≡ true) where
+    (next : Mirrors after.agenda after.system first (world_after plan v made.told.step made.give))
+    (on : enabled plan v made.told.step ≡ true) where
   abbrev w : run_world.World
-  w = world_after (plan_shown plan) v (step_shown made.told.step) (give_shown made.give)
+  w = world_after plan v made.told.step made.give
 
   its_rows : TellsItsRows made.told v.now.log w.now.log
   its_rows = run.tells_its_rows plan made.told made.give before after first v plans r next on step.keeps.grows step.four step.rows ((step.makes.runs first v r).asks)
@@ -65,26 +65,26 @@ module _ (plan : Planned) (made : Made) (before after : World) (first : ℕ) (v 
       ∙ ap (λ (l : List Row). rows_by p v.now.log ++ l)
       (sym (rows_told_append (told_here p made.told) (told_to p steps)) ∙ ap rows_told (told_next p steps (stepper made.told.step == p) refl)))
 
-  told_as : IsToldAs made.told (run_told.told_at (plan_shown plan) v (move_of made))
+  told_as : IsToldAs made.told (run_told.told_at plan v (move_of made))
   told_as = run.told_as plan made.told made.give before after first v plans r next on step.keeps.grows step.four step.rows ((step.makes.runs first v r).asks)
 
-  by_test : (p : ℕ) (b : Bool) → (stepper made.told.step == p) ≡ b → (p == run_steps.stepper (step_shown made.told.step)) ≡ b
-  by_test p b e = turned (run_steps.stepper (step_shown made.told.step)) (stepper made.told.step) p b (run.stepper_is made.told.step) e
+  by_test : (p : ℕ) (b : Bool) → (stepper made.told.step == p) ≡ b → (p == run_steps.stepper made.told.step) ≡ b
+  by_test p b e = turned (run_steps.stepper made.told.step) (stepper made.told.step) p b (run.stepper_is made.told.step) e
 
-  pub told_more : (p : ℕ) (steps : List Made) → AllZip IsToldAs (told_to p steps) (run_told.told_by (plan_shown plan) w p (map move_of steps))
-      → AllZip IsToldAs (told_to p (made ∷ steps)) (run_told.told_by (plan_shown plan) v p (map move_of (made ∷ steps)))
+  pub told_more : (p : ℕ) (steps : List Made) → AllZip IsToldAs (told_to p steps) (run_told.told_by plan w p (map move_of steps))
+      → AllZip IsToldAs (told_to p (made ∷ steps)) (run_told.told_by plan v p (map move_of (made ∷ steps)))
   told_more p steps h = go (stepper made.told.step == p) refl
     where
       rest : List run_told.Told
-      rest = run_told.told_by (plan_shown plan) w p (map move_of steps)
+      rest = run_told.told_by plan w p (map move_of steps)
 
       here : List run_told.Told
-      here = run_told.told_at (plan_shown plan) v (move_of made) ∷ []
+      here = run_told.told_at plan v (move_of made) ∷ []
 
-      go : (b : Bool) → (stepper made.told.step == p) ≡ b → AllZip IsToldAs (told_to p (made ∷ steps)) (run_told.told_by_move (plan_shown plan) v p (move_of made) ++ rest)
+      go : (b : Bool) → (stepper made.told.step == p) ≡ b → AllZip IsToldAs (told_to p (made ∷ steps)) (run_told.told_by_move plan v p (move_of made) ++ rest)
       go true e =
-          subst (λ (l : List Told). AllZip IsToldAs l (run_told.told_by_move (plan_shown plan) v p (move_of made) ++ rest)) (sym (told_first p steps e))
+          subst (λ (l : List Told). AllZip IsToldAs l (run_told.told_by_move plan v p (move_of made) ++ rest)) (sym (told_first p steps e))
           (subst (λ (l : List run_told.Told). AllZip IsToldAs (made.told ∷ told_to p steps) (l ++ rest)) (sym (if_true _ here [] (by_test p true e))) (told_as, h))
       go false e =
-          subst (λ (l : List Told). AllZip IsToldAs l (run_told.told_by_move (plan_shown plan) v p (move_of made) ++ rest)) (sym (told_past p steps e))
+          subst (λ (l : List Told). AllZip IsToldAs l (run_told.told_by_move plan v p (move_of made) ++ rest)) (sym (told_past p steps e))
           (subst (λ (l : List run_told.Told). AllZip IsToldAs (told_to p steps) (l ++ rest)) (sym (if_false _ here [] (by_test p false e))) h)

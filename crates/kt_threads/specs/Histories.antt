@@ -2,7 +2,6 @@
 use Rattle.std.specs.Prelude.{◌≡◌, ◌<◌, ◌+◌, ◌^◌, ◌==◌, ℕ, List, [], ◌∷◌, Option, Some, None, filter, map, length, slice_get, slice_index_or}
 use Rattle.kt_core.specs.Making.{KeepsPlan, MakesStep}
 use Rattle.kt_core.specs.Shown as core
-use Rattle.kt_core.specs.Shown.{plan_shown, step_shown, look_shown}
 use Rattle.kt_core.specs.Worlds.{World, IsOpening, IsAtRest, IsSameWorld, numbered_row, refusal, stepper}
 use Rattle.kt_held.specs.Holdings.{Content}
 use Rattle.kt_plan.specs.Limits.{Planned}
@@ -25,8 +24,8 @@ pub record IsMade (old : World) (made : Made) (new : World) : Type 0 where
   pub four : length made.told.rows ≡ 4
   pub rows : (i : ℕ) → i < 4 → slice_get made.told.rows i
       ≡ Some (numbered_row new.system.rows.rows (length old.system.rows.rows + i))
-  pub look : (first : ℕ) (v : run_world.World) → core.Mirrors old.agenda old.system first v → look_shown made.look
-      ≡ run_looks.look (plan_shown old.agenda.plan) v (step_shown made.told.step)
+  pub look : (first : ℕ) (v : run_world.World) → core.Mirrors old.agenda old.system first v → made.look
+      ≡ run_looks.look old.agenda.plan v made.told.step
 
 -- steps lead one after another from one world to another, where only spare room may come between
 abbrev pub Leads : World → List Made → World → Type 0
@@ -37,7 +36,7 @@ Leads old (made ∷ steps) new = (before : World) × (after : World) × IsSameWo
 pub record IsHistory (plan : Planned) (steps : List Made) (world : World) : Type 0 where
   pub begin : World
   pub opening : IsOpening begin plan 0 (2 ^ 24)
-  pub starts : core.Mirrors begin.agenda begin.system 0 (run_world.start_world (plan_shown plan) 0)
+  pub starts : core.Mirrors begin.agenda begin.system 0 (run_world.start_world plan 0)
   pub leads : Leads begin steps world
 
 -- a world, the steps that led to it, and the first fault

@@ -14,7 +14,6 @@ ghost use Rattle.kt_values.specs.SeenActs.{seen_acts};
 ghost use Rattle.kt_phases.specs.Steps.{protocol_step};
 ghost use Rattle.kt_core.specs.Making.{KeepsPlan, MakesStep};
 ghost use Rattle.kt_core.specs.Worlds.{refusal, is_send, IsSameWorld};
-ghost use Rattle.kt_core.specs.Shown.{give_shown, job_shown};
 
 use super::World;
 use super::steps::settle;
@@ -59,10 +58,10 @@ fn do_job(
     ensures err { OnErr result (IsSame system.new system.old) }
     ensures tallies { OnOk result (TalliesPut [] system.old system.new) }
     ensures shows { (v : Seen) → Shows system.old v → system.old.begun < 4096 →
-        Speaks (((transition v (protocol_step p (job_shown job.now) (give_shown give))).people p).calls) →
-        OnOk result (Shows system.new (transition v (protocol_step p (job_shown job.now) (give_shown give)))) }
+        Speaks (((transition v (protocol_step p job.now give)).people p).calls) →
+        OnOk result (Shows system.new (transition v (protocol_step p job.now give))) }
     ensures acts { (v : Seen) → Shows system.old v → system.old.begun < 4096 →
-        IfOk result (λ acts. acts_shown acts ≡ seen_acts v (protocol_step p (job_shown job.now) (give_shown give))) }
+        IfOk result (λ acts. acts_shown acts ≡ seen_acts v (protocol_step p job.now give)) }
 {
     match *job {
         Job::Send { to, body } => system.send(p, to, body.unwrap_or(give.body)),

@@ -7,7 +7,7 @@ ghost use Rattle.kt_promises.specs.World as run_world;
 ghost use Rattle.kt_promises.specs.Steps as run_steps;
 ghost use Rattle.kt_promises.specs.Looks as run_looks;
 ghost use Rattle.kt_promises.specs.Defaults as run_defaults;
-ghost use Rattle.kt_core.specs.Shown.{Mirrors, IsReached, plan_shown, step_shown, look_shown};
+ghost use Rattle.kt_core.specs.Shown.{Mirrors, IsReached};
 
 use super::World;
 use kt_base::ProcNo;
@@ -18,7 +18,7 @@ impl World {
     pub fn enabled(&self, step: &Step) -> bool
         ensures enabled { result ≡ enabled self.now step.now }
         ensures in_runs { (first : ℕ) (v : run_world.World) → Mirrors self.now.agenda self.now.system first v →
-            result ≡ run_steps.enabled (plan_shown self.now.agenda.plan) v (step_shown step.now) }
+            result ≡ run_steps.enabled self.now.agenda.plan v step.now }
     {
         self.can_make(step)
     }
@@ -50,7 +50,7 @@ impl World {
     pub fn look(&self, step: &Step) -> Look
         ensures look { result ≡ look self.now step.now }
         ensures in_runs { (first : ℕ) (v : run_world.World) → Mirrors self.now.agenda self.now.system first v →
-            look_shown result ≡ run_looks.look (plan_shown self.now.agenda.plan) v (step_shown step.now) }
+            result ≡ run_looks.look self.now.agenda.plan v step.now }
     {
         self.needs(step)
     }
@@ -119,7 +119,7 @@ impl World {
     pub fn at_rest(&self) -> bool
         ensures rest { IsTrue result ↔ IsAtRest self.now }
         ensures in_runs { (first : ℕ) (v : run_world.World) → Mirrors self.now.agenda self.now.system first v →
-            result ≡ run_steps.is_at_rest (plan_shown self.now.agenda.plan) v }
+            result ≡ run_steps.is_at_rest self.now.agenda.plan v }
 
         // Never stuck: where no step is enabled, all is done.
         ensures stuck { ((step : Step) → enabled self.now step ≡ false) → IsTrue result }
@@ -142,7 +142,7 @@ impl World {
         ensures enabled { IfSome result (λ step. enabled self.now step ≡ true) }
         ensures none { IfNone result ((step : Step) → enabled self.now step ≡ false) }
         ensures in_runs { (first : ℕ) (v : run_world.World) → Mirrors self.now.agenda self.now.system first v →
-            option_map step_shown result ≡ run_defaults.default_step (plan_shown self.now.agenda.plan) v }
+            result ≡ run_defaults.default_step self.now.agenda.plan v }
     {
         self.first_step()
     }
@@ -169,7 +169,7 @@ impl World {
         ensures enabled { IfSome result (λ step. enabled self.now step ≡ true) }
         ensures none { IfNone result ((step : Step) → stepper step ≡ p → enabled self.now step ≡ false) }
         ensures in_runs { (first : ℕ) (v : run_world.World) → Mirrors self.now.agenda self.now.system first v →
-            IfSome result (λ step. run_steps.enabled (plan_shown self.now.agenda.plan) v (step_shown step) ≡ true) }
+            IfSome result (λ step. run_steps.enabled self.now.agenda.plan v step ≡ true) }
     {
         self.step_of(p)
     }

@@ -7,7 +7,7 @@ ghost use Rattle.kt_promises.specs.World as run_world;
 ghost use Rattle.kt_promises.specs.Rows.{AreRowsOfStep};
 ghost use Rattle.kt_core.specs.Making.{KeepsPlan, MakesStep};
 ghost use Rattle.kt_core.specs.Worlds.{refusal, IsSameWorld, SettlesIn, numbered_row};
-ghost use Rattle.kt_core.specs.Shown.{Mirrors, plan_shown, step_shown, give_shown};
+ghost use Rattle.kt_core.specs.Shown.{Mirrors};
 
 use super::World;
 use crate::agenda::Agenda;
@@ -31,7 +31,7 @@ impl World {
         ensures err { OnErr result (IsSameWorld self.new self.old) }
         ensures made { IfOk result (λ told. MakesStep self.old step give told.acts self.new) }
         ensures rows { (first : ℕ) (v : run_world.World) → Mirrors self.old.agenda self.old.system first v →
-            OnOk result (AreRowsOfStep (plan_shown self.old.agenda.plan) v (step_shown step) (give_shown give)
+            OnOk result (AreRowsOfStep self.old.agenda.plan v step give
             (drop (length self.old.system.rows.rows) self.new.system.rows.rows)) }
         ensures step { IfOk result (λ told. told.step ≡ step) }
         ensures told { IfOk result (λ told. (i : ℕ) → i < 4 → slice_get told.rows i ≡ Some (numbered_row self.new.system.rows.rows (length self.old.system.rows.rows + i))) }

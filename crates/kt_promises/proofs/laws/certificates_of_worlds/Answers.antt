@@ -1,20 +1,20 @@
 use Rattle.kt_certify.proofs.Certified.{rising}
 use Rattle.kt_certs.proofs.Passing.{complete, passed, only_memory}
 use Rattle.kt_certs.proofs.Claims.{stated, made_at, lists_right}
-use Rattle.std.proofs.Common.{ℕ, refl, inl}
+use Rattle.std.proofs.Common.{length, ℕ, refl, inl}
 use Rattle.kt_checker.proofs.Answering.{yes_of}
 use Rattle.kt_certify.specs.Certificates.{certificates}
 use Rattle.kt_certs.specs.DecidedWell.{IsDecidedWell}
 use Rattle.kt_certs.proofs.LinkedDecisions.{not_without_chain}
 use Rattle.kt_certs.proofs.Runs.{decided_well}
-use Rattle.kt_phases.specs.Plans.{Plan, IsPlan}
+use Rattle.kt_plan.specs.Limits.{Planned, IsPlan}
 use Rattle.kt_promises.specs.World.{World}
 use Rattle.kt_promises.specs.Runs.{IsReachedWorld}
 use Rattle.kt_promises.proofs.ReachedWorlds.{log_of}
 use Rattle.kt_promises.proofs.laws.certificates_of_worlds.Goals as goal
 
-well : (plan : Plan) (first : ℕ) (w : World) → IsPlan plan → IsReachedWorld plan first w → IsDecidedWell w.now.log
-well plan first w i r = log_of plan first w IsDecidedWell i r (decided_well plan.size)
+well : (plan : Planned) (first : ℕ) (w : World) → IsPlan plan → IsReachedWorld plan first w → IsDecidedWell w.now.log
+well plan first w i r = log_of plan first w IsDecidedWell i r (decided_well (length plan.names))
 
 pub returns-clause-chained : goal.returns-clause-chained
 returns-clause-chained c = λ plan first w k p i r lacks. not_without_chain w.now.log k p (well plan first w i r).linked lacks

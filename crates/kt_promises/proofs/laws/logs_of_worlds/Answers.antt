@@ -1,4 +1,4 @@
-use Rattle.std.proofs.Common.{inl, List, ◌+◌, false, refl, ap, ◌∙◌, take}
+use Rattle.std.proofs.Common.{length, inl, List, ◌+◌, false, refl, ap, ◌∙◌, take}
 use Rattle.kt_spacetime.specs.declared.event.Event.{Event}
 use Rattle.kt_spacetime.specs.declared.event.Event.TheVariants.{Decided}
 use Rattle.kt_cuts.proofs.Items.{take_item}
@@ -21,28 +21,28 @@ use Rattle.kt_promises.proofs.ReachedWorlds.{log_of}
 use Rattle.kt_promises.proofs.laws.logs_of_worlds.Goals as goal
 
 pub returns-clause-legal : goal.returns-clause-legal
-returns-clause-legal c = λ plan first w i r. log_of plan first w IsLegal i r (λ s. (lawful_after_run plan.size s).legal)
+returns-clause-legal c = λ plan first w i r. log_of plan first w IsLegal i r (λ s. (lawful_after_run (length plan.names) s).legal)
 
 pub returns-clause-consistent_decisions : goal.returns-clause-consistent_decisions
-returns-clause-consistent_decisions c = λ plan first w i r. log_of plan first w (λ log. HasConsistentDecisions log) i r (λ s. all_consistent (run (opening plan.size) s).log (lawful_after_run plan.size s).legal (invariant_after_run plan.size s).consistent.rows_hold)
+returns-clause-consistent_decisions c = λ plan first w i r. log_of plan first w (λ log. HasConsistentDecisions log) i r (λ s. all_consistent (run (opening (length plan.names)) s).log (lawful_after_run (length plan.names) s).legal (invariant_after_run (length plan.names) s).consistent.rows_hold)
 
 pub returns-clause-permanent_cuts : goal.returns-clause-permanent_cuts
-returns-clause-permanent_cuts c = λ plan first w t i r. log_of plan first w (λ log. IsConsistent (past (take t log)) (permanent_cut (past (take t log)))) i r (λ s. permanent_consistent (run (opening plan.size) s).log (lawful_after_run plan.size s).legal (invariant_after_run plan.size s).consistent.rows_hold t)
+returns-clause-permanent_cuts c = λ plan first w t i r. log_of plan first w (λ log. IsConsistent (past (take t log)) (permanent_cut (past (take t log)))) i r (λ s. permanent_consistent (run (opening (length plan.names)) s).log (lawful_after_run (length plan.names) s).legal (invariant_after_run (length plan.names) s).consistent.rows_hold t)
 
 pub returns-clause-present_cuts : goal.returns-clause-present_cuts
-returns-clause-present_cuts c = λ plan first w t i r. log_of plan first w (λ log. IsConsistent (past (take t log)) (present_cut (past (take t log)))) i r (λ s. present_consistent (run (opening plan.size) s).log (lawful_after_run plan.size s).legal (invariant_after_run plan.size s).consistent.rows_hold t)
+returns-clause-present_cuts c = λ plan first w t i r. log_of plan first w (λ log. IsConsistent (past (take t log)) (present_cut (past (take t log)))) i r (λ s. present_consistent (run (opening (length plan.names)) s).log (lawful_after_run (length plan.names) s).legal (invariant_after_run (length plan.names) s).consistent.rows_hold t)
 
 pub returns-clause-linked_decisions : goal.returns-clause-linked_decisions
-returns-clause-linked_decisions c = λ plan first w i r. log_of plan first w (λ log. HasLinkedDecisions log) i r (λ s. all_linked (run (opening plan.size) s).log (lawful_after_run plan.size s).legal (invariant_after_run plan.size s).consistent.rows_hold)
+returns-clause-linked_decisions c = λ plan first w i r. log_of plan first w (λ log. HasLinkedDecisions log) i r (λ s. all_linked (run (opening (length plan.names)) s).log (lawful_after_run (length plan.names) s).legal (invariant_after_run (length plan.names) s).consistent.rows_hold)
 
 pub returns-clause-least_decisions : goal.returns-clause-least_decisions
-returns-clause-least_decisions c = λ plan first w i r. log_of plan first w (λ log. HasLeastDecisions log) i r (λ s. all_least (run (opening plan.size) s).log (lawful_after_run plan.size s).legal (invariant_after_run plan.size s).consistent.rows_hold)
+returns-clause-least_decisions c = λ plan first w i r. log_of plan first w (λ log. HasLeastDecisions log) i r (λ s. all_least (run (opening (length plan.names)) s).log (lawful_after_run (length plan.names) s).legal (invariant_after_run (length plan.names) s).consistent.rows_hold)
 
 pub returns-clause-aborts : goal.returns-clause-aborts
-returns-clause-aborts c = λ plan first w i r. log_of plan first w (λ log. AbortsWhereUnwilling log) i r (λ s. aborts (run (opening plan.size) s).log (invariant_after_run plan.size s).consistent.rows_hold)
+returns-clause-aborts c = λ plan first w i r. log_of plan first w (λ log. AbortsWhereUnwilling log) i r (λ s. aborts (run (opening (length plan.names)) s).log (invariant_after_run (length plan.names) s).consistent.rows_hold)
 
 pub returns-clause-justified : goal.returns-clause-justified
-returns-clause-justified c = λ plan first w i r. log_of plan first w (λ log. JustifiesUnwilling log) i r (λ s. justified plan.size s)
+returns-clause-justified c = λ plan first w i r. log_of plan first w (λ log. JustifiesUnwilling log) i r (λ s. justified (length plan.names) s)
 
 pub returns-clause-aborted_live : goal.returns-clause-aborted_live
 returns-clause-aborted_live c = λ plan first w n p k q i r e. ap (λ (l : List Event). (past l).live q) (take_item w.now.log n (n + 1) (Decided p k false) refl e) ∙ (abort_row (take n w.now.log) p k q).0
@@ -59,8 +59,8 @@ returns-clause-promised c = λ plan first w i r. record {
   present_cuts = λ t. returns-clause-present_cuts c plan first w t i r;
   aborts = returns-clause-aborts c plan first w i r;
   justified = returns-clause-justified c plan first w i r;
-  unchanged = log_of plan first w (λ log. AbortsChangeNothing log) i r (λ s. aborts_change_nothing (run (opening plan.size) s).log);
-  certified = λ f is. only_memory w.now.log f (log_of plan first w IsDecidedWell i r (decided_well plan.size)) is;
-  passed = passed w.now.log (log_of plan first w IsDecidedWell i r (decided_well plan.size));
-  answer = inl (refl, passed w.now.log (log_of plan first w IsDecidedWell i r (decided_well plan.size)));
+  unchanged = log_of plan first w (λ log. AbortsChangeNothing log) i r (λ s. aborts_change_nothing (run (opening (length plan.names)) s).log);
+  certified = λ f is. only_memory w.now.log f (log_of plan first w IsDecidedWell i r (decided_well (length plan.names))) is;
+  passed = passed w.now.log (log_of plan first w IsDecidedWell i r (decided_well (length plan.names)));
+  answer = inl (refl, passed w.now.log (log_of plan first w IsDecidedWell i r (decided_well (length plan.names))));
 }

@@ -1,4 +1,4 @@
-use Rattle.std.proofs.Common.{sym}
+use Rattle.std.proofs.Common.{length, sym}
 use Rattle.kt_values.specs.States.{IsRising}
 use Rattle.kt_promises.specs.Lines.{line, EachStandsOnce, KeepsReceived}
 use Rattle.kt_promises.proofs.ReachedWorlds.{seen_of}
@@ -9,13 +9,13 @@ use Rattle.kt_promises.proofs.ArrivedMessages.{own_live, received_once, received
 use Rattle.kt_promises.proofs.laws.messages_of_worlds.Goals as goal
 
 pub returns-clause-once : goal.returns-clause-once
-returns-clause-once c = λ plan first w i r. seen_of plan first w EachStandsOnce i r (once_seen plan.size first)
+returns-clause-once c = λ plan first w i r. seen_of plan first w EachStandsOnce i r (once_seen (length plan.names) first)
 
 pub returns-clause-rising : goal.returns-clause-rising
-returns-clause-rising c = λ plan first w p q i r. seen_of plan first w (λ v. IsRising (line v p q)) i r (λ s. rising_seen plan.size first s p q)
+returns-clause-rising c = λ plan first w p q i r. seen_of plan first w (λ v. IsRising (line v p q)) i r (λ s. rising_seen (length plan.names) first s p q)
 
 pub returns-clause-kept_lists : goal.returns-clause-kept_lists
-returns-clause-kept_lists c = λ plan first w i r. seen_of plan first w KeepsReceived i r (keeps_seen plan.size first)
+returns-clause-kept_lists c = λ plan first w i r. seen_of plan first w KeepsReceived i r (keeps_seen (length plan.names) first)
 
 pub returns-clause-in_channels : goal.returns-clause-in_channels
 returns-clause-in_channels c = λ plan first w p q i r. channel_seen plan first w i r p q

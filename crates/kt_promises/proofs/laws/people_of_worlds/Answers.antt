@@ -1,4 +1,4 @@
-use Rattle.std.proofs.Common.{◌≡◌, ◌+◌}
+use Rattle.std.proofs.Common.{length, ◌≡◌, ◌+◌}
 use Rattle.kt_seen.specs.Messages.{sends_of}
 use Rattle.kt_seen.proofs.LogFacts.{used_is}
 use Rattle.kt_closing.specs.LateSteps.{late_run}
@@ -11,7 +11,7 @@ pub returns-clause-processes : goal.returns-clause-processes
 returns-clause-processes c = processes_seen
 
 pub returns-clause-used : goal.returns-clause-used
-returns-clause-used c = λ plan first w p i r. seen_of plan first w (λ v. (v.people p).used ≡ first + sends_of p v.log) i r (λ s. used_is first (late_run (opening plan.size) s).log p)
+returns-clause-used c = λ plan first w p i r. seen_of plan first w (λ v. (v.people p).used ≡ first + sends_of p v.log) i r (λ s. used_is first (late_run (opening (length plan.names)) s).log p)
 
 pub returns-clause-speaks : goal.returns-clause-speaks
 returns-clause-speaks c = λ plan first w p i r. speaks_seen plan first w i r p

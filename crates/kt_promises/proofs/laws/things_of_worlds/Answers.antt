@@ -1,4 +1,4 @@
-use Rattle.std.proofs.Common.{ap, ◌∙◌}
+use Rattle.std.proofs.Common.{length, ap, ◌∙◌}
 use Rattle.kt_cuts.specs.Legal.{IsLegal}
 use Rattle.kt_protocol.proofs.LawfulSteps.{lawful_after_run}
 use Rattle.kt_values.specs.Done.{done_start}
@@ -12,5 +12,5 @@ use Rattle.kt_promises.proofs.laws.things_of_worlds.Goals as goal
 pub returns : goal.returns
 returns g c = record {
   things = λ r s plan first w p y i t a l. things_after r s a (acts_along p done_start w.now.log) y l
-      ∙ ap (things_for s) (whole_log r w.now.log p (log_of plan first w IsLegal i t (λ x. (lawful_after_run plan.size x).legal)));
+      ∙ ap (things_for s) (whole_log r w.now.log p (log_of plan first w IsLegal i t (λ x. (lawful_after_run (length plan.names) x).legal)));
 }

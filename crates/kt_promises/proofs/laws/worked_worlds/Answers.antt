@@ -4,10 +4,12 @@ use Rattle.kt_seen.specs.ListChanges.{with_parcel, with_rest, with_asks_where, w
 use Rattle.kt_seen.specs.CallTests.{must_take, must_roll, is_asked_in_checkpoint, checkpoint_label, is_asked_in_rollback, rollback_label}
 use Rattle.kt_phases.specs.Work.{total_below}
 use Rattle.kt_promises.specs.Tallies.{count_where}
+use Rattle.kt_phases.proofs.PlansOfTwo.{plan_of_two}
+use Rattle.kt_promises.specs.WorkedWorlds.{fails_twice}
 use Rattle.kt_promises.proofs.laws.worked_worlds.Goals as goal
 
 pub returns-clause-is_plan : goal.returns-clause-is_plan
-returns-clause-is_plan c = (omega arith, (omega arith, omega arith), omega arith, (omega arith, tt, omega arith, (omega arith, (omega arith, omega arith), omega arith, (omega arith, tt, omega arith, (omega arith, tt, omega arith, tt)))))
+returns-clause-is_plan c = plan_of_two fails_twice.commands (omega arith) (omega arith, (omega arith, omega arith), omega arith, (omega arith, tt, omega arith, (omega arith, (omega arith, omega arith), omega arith, (omega arith, tt, omega arith, (omega arith, tt, omega arith, tt)))))
 
 pub returns-clause-steps : goal.returns-clause-steps
 unfolding with_parcel with_rest with_asks_where with_decisions must_take must_roll is_asked_in_checkpoint checkpoint_label is_asked_in_rollback rollback_label count_peers count_where total_below

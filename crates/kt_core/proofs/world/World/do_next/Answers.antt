@@ -3,13 +3,11 @@ use Rattle.std.specs.Prelude.{List, slice_index_or}
 use Rattle.std.proofs.lemmas.Option.{slice_get_within}
 use Rattle.kt_plan.specs.Limits.{Planned}
 use Rattle.kt_plan.specs.declared.steps.Step.TheVariants.{Do}
-use Rattle.kt_phases.specs.Steps as run_steps
 use Rattle.kt_system.specs.ShownActs.{acts_shown}
 use Rattle.kt_promises.specs.Steps.{world_after}
 use Rattle.kt_core.specs.Agendas.{place_of, IsNextOf}
 use Rattle.kt_core.specs.Making.{MakesStep}
 use Rattle.kt_core.specs.Worlds.{World, refusal}
-use Rattle.kt_core.specs.Shown.{plan_shown, give_shown}
 use Rattle.kt_core.proofs.Enabled.{few, enabled_is, enabled_if, does_there}
 use Rattle.kt_core.proofs.Making.{makes_step}
 use Rattle.kt_core.proofs.Leading.{do_acts, do_leads, run_same, open_is_next}
@@ -42,7 +40,7 @@ invariant_of-self-2 c =
     record {
       reached = (
         r.0,
-        world_after (plan_shown a.plan) r.1 (run_steps.Do p) (give_shown c.args.give),
+        world_after a.plan r.1 (Do p) c.args.give,
         do_leads a c.advance.new.self c.settle.new.agenda s c.do_job.new.system p c.in-Some.command c.args.give r.0 r.1 r.2 (few w r.0 r.1 r.2 p there) command on
             (λ h begun says. c.in_ok-acts.ensures.shows r.1.now h begun says) move.plan move.phase move.next move.others opened.plan opened.next opened.settled (c.do_job.ensures.size ∙ size) opened.numbered c.in_ok-acts.ensures.tallies,
       );

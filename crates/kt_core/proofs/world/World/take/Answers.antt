@@ -1,12 +1,10 @@
 use Rattle.std.proofs.Common.{◌≡◌, None, length, ap, subst, sym, ◌∙◌}
 use Rattle.kt_plan.specs.Limits.{Planned}
 use Rattle.kt_plan.specs.declared.steps.Step.TheVariants.{Take}
-use Rattle.kt_phases.specs.Steps as run_steps
 use Rattle.kt_system.specs.ShownActs.{acts_shown}
 use Rattle.kt_promises.specs.Steps.{world_after}
 use Rattle.kt_core.specs.Making.{MakesStep}
 use Rattle.kt_core.specs.Worlds.{World, refusal}
-use Rattle.kt_core.specs.Shown.{plan_shown, give_shown}
 use Rattle.kt_core.proofs.Enabled.{enabled_is, enabled_if}
 use Rattle.kt_core.proofs.Making.{makes_step}
 use Rattle.kt_core.proofs.Leading.{take_acts, take_leads, run_same}
@@ -32,7 +30,7 @@ invariant_of-self-2 c =
     record {
       reached = (
         r.0,
-        world_after (plan_shown a.plan) r.1 (run_steps.Take c.args.at c.args.from) (give_shown c.args.give),
+        world_after a.plan r.1 (Take c.args.at c.args.from) c.args.give,
         take_leads a c.settle.new.agenda c.self.inside.system c.take.new.self c.args.at c.args.from c.args.give r.0 r.1 r.2
             (sym (enabled_is w r.0 r.1 r.2 (Take c.args.at c.args.from)) ∙ enabled_if w (Take c.args.at c.args.from) allowed)
             (λ h says. c.in_ok-acts.ensures.shows r.1.now h says) opened.plan opened.next opened.settled (c.take.ensures.size ∙ size) opened.numbered c.in_ok-acts.ensures.tallies,

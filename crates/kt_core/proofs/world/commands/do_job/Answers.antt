@@ -5,16 +5,15 @@ use Rattle.kt_system.specs.Shown.{Shows}
 use Rattle.kt_system.specs.ShownActs.{acts_shown}
 use Rattle.kt_values.specs.SeenActs.{seen_acts}
 use Rattle.kt_phases.specs.Steps.{protocol_step}
-use Rattle.kt_core.specs.Shown.{give_shown, job_shown}
 use Rattle.kt_core.proofs.world.commands.do_job.Goals as goal
 
 pub returns-in-Rollback-clause-shows : goal.returns-in-Rollback-clause-shows
-returns-in-Rollback-clause-shows c = λ v h few says. subst (λ (j : Job). OnOk c.begin_rollback.result (Shows c.begin_rollback.new.self (transition v (protocol_step c.args.p (job_shown j) (give_shown c.args.give))))) (sym c.in-Rollback.is)
+returns-in-Rollback-clause-shows c = λ v h few says. subst (λ (j : Job). OnOk c.begin_rollback.result (Shows c.begin_rollback.new.self (transition v (protocol_step c.args.p j c.args.give)))) (sym c.in-Rollback.is)
     (c.begin_rollback.ensures.shows v c.args.give.able h few)
 
 pub returns-in-Send-clause-acts : goal.returns-in-Send-clause-acts
-returns-in-Send-clause-acts c = λ v h few. subst (λ (j : Job). IfOk c.send.result (λ acts. acts_shown acts ≡ seen_acts v (protocol_step c.args.p (job_shown j) (give_shown c.args.give)))) (sym c.in-Send.is) (c.send.ensures.acts v)
+returns-in-Send-clause-acts c = λ v h few. subst (λ (j : Job). IfOk c.send.result (λ acts. acts_shown acts ≡ seen_acts v (protocol_step c.args.p j c.args.give))) (sym c.in-Send.is) (c.send.ensures.acts v)
 
 pub returns-in-Rollback-clause-acts : goal.returns-in-Rollback-clause-acts
-returns-in-Rollback-clause-acts c = λ v h few. subst (λ (j : Job). IfOk c.begin_rollback.result (λ acts. acts_shown acts ≡ seen_acts v (protocol_step c.args.p (job_shown j) (give_shown c.args.give)))) (sym c.in-Rollback.is)
+returns-in-Rollback-clause-acts c = λ v h few. subst (λ (j : Job). IfOk c.begin_rollback.result (λ acts. acts_shown acts ≡ seen_acts v (protocol_step c.args.p j c.args.give))) (sym c.in-Rollback.is)
     (c.begin_rollback.ensures.acts v c.args.give.able h few)
