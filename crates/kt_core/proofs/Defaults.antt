@@ -1,6 +1,6 @@
 -- The default step, and rest, as the laws have them.
 use Rattle.std.specs.Prelude.{◌==◌, ◌&&◌, ◌||◌, nat_lt, Option, option_map, slice_get, IfSome, IfNone, IsTrue, ◌↔◌}
-use Rattle.std.proofs.Common.{◌≡◌, ◌⊎◌, ◌<◌, ℕ, Bool, true, false, Some, None, List, [], ◌∷◌, refl, sym, arith, ap, ◌∙◌, inl, inr}
+use Rattle.std.proofs.Common.{length, ◌≡◌, ◌⊎◌, ◌<◌, ℕ, Bool, true, false, Some, None, List, [], ◌∷◌, refl, sym, arith, ap, ◌∙◌, inl, inr}
 use Rattle.std.proofs.lemmas.Bool.{cases_lt}
 use Rattle.std.proofs.lemmas.Bool.Decides.{nat_tests}
 use Rattle.kt_plan.specs.Limits.{IsPlan, Planned}
@@ -139,22 +139,22 @@ module _ (w : World) (first : ℕ) (v : run_world.World) (r : Mirrors w.agenda w
 
   rests : IsAtRest w → run_steps.is_at_rest plan v ≡ true
   rests h = rw (
-    none_of_if plan.size (λ p. run.has_command (run_world.commands_left plan v p)) (λ p l. let k = few w first v r p (let z = r.size in omega (arith, l, z)) in has_none p k (h.done.none p k)),
-    quiet_shown plan.size w.system v.now r.now r.size r.numbered h.quiet,
+    none_of_if (length plan.names) (λ p. run.has_command (run_world.commands_left plan v p)) (λ p l. let k = few w first v r p (let z = r.size in omega (arith, l, z)) in has_none p k (h.done.none p k)),
+    quiet_shown (length plan.names) w.system v.now r.now r.size r.numbered h.quiet,
   ) refl
 
   rest_from : run_steps.is_at_rest plan v ≡ true → IsAtRest w
   rest_from e = record {
     done = record { none = λ p low. at_next p low (next_command w.agenda p) refl };
-    quiet = quiet_from plan.size w.system v.now r.now r.size r.numbered tests.1;
+    quiet = quiet_from (length plan.names) w.system v.now r.now r.size r.numbered tests.1;
   }
     where
-      tests : (none_of plan.size (λ p. run.has_command (run_world.commands_left plan v p)) ≡ true) × (run_world.is_quiet plan.size v.now ≡ true)
-      tests = both (none_of plan.size (λ p. run.has_command (run_world.commands_left plan v p))) (run_world.is_quiet plan.size v.now) e
+      tests : (none_of (length plan.names) (λ p. run.has_command (run_world.commands_left plan v p)) ≡ true) × (run_world.is_quiet (length plan.names) v.now ≡ true)
+      tests = both (none_of (length plan.names) (λ p. run.has_command (run_world.commands_left plan v p))) (run_world.is_quiet (length plan.names) v.now) e
 
       at_next : (p : ℕ) → p < 64 → (o : Option Command) → next_command w.agenda p ≡ o → next_command w.agenda p ≡ None
       at_next p low None f = f
-      at_next p low (Some c) f = none_next p low (none_is plan.size (λ u. run.has_command (run_world.commands_left plan v u)) tests.0 p (let l = is_there p c low f in let z = r.size in omega (arith, l, z)))
+      at_next p low (Some c) f = none_next p low (none_is (length plan.names) (λ u. run.has_command (run_world.commands_left plan v u)) tests.0 p (let l = is_there p c low f in let z = r.size in omega (arith, l, z)))
 
   pub rest_is : (b : Bool) → IsTrue b ↔ IsAtRest w → b ≡ run_steps.is_at_rest plan v
   rest_is b i = at_test b (run_steps.is_at_rest plan v) (λ e. rests (i.0 e)) (λ e. i.1 (rest_from e))

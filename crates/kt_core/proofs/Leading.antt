@@ -195,7 +195,7 @@ take_leads a b s t p q give first v r e shows bp bn settles size num counted =
     takes n x y f = grind (arith, nat_tests, f)
 
     there : p < s.size
-    there = let l = takes plan.size (nat_lt q plan.size) (run_after.can_take v.now p q) e in let z = r.size in omega (arith, l, z)
+    there = let l = takes (length plan.names) (nat_lt q (length plan.names)) (run_after.can_take v.now p q) e in let z = r.size in omega (arith, l, z)
 
     is : IsSameButPhase (run_after.with_seen plan v (Take p q) (transition v.now (machine.Take p q give.able))) w
     is = takes_is plan v p q give
@@ -228,7 +228,7 @@ start_leads a b s first i size num shows n bp bn opens room none =
     same : b ≡ agenda a.plan a.next b.phase
     same = same_agenda b a.plan a.next b.phase bp bn refl
 
-    is : IsSameButPhase (record { now = opening_seen plan.size first; done = λ p. 0; phase = 0; put = no_tally }) w
+    is : IsSameButPhase (record { now = opening_seen (length plan.names) first; done = λ p. 0; phase = 0; put = no_tally }) w
     is = opening_is plan first
 
     reached : IsReachedWorld plan first w
@@ -237,8 +237,8 @@ start_leads a b s first i size num shows n bp bn opens room none =
     places : HasPlaces (agenda a.plan a.next b.phase) w
     places = places_at_start (agenda a.plan a.next b.phase) w n is.done
 
-    quiet : run_world.is_quiet plan.size w.now ≡ true
-    quiet = ap (run_world.is_quiet plan.size) is.now ∙ quiet_opening plan.size first
+    quiet : run_world.is_quiet (length plan.names) w.now ≡ true
+    quiet = ap (run_world.is_quiet (length plan.names)) is.now ∙ quiet_opening (length plan.names) first
 
 -- the same but for spare room
 numbered_same : (s t : Whole) → IsSame t s → AreNumbered s → AreNumbered t

@@ -22,12 +22,9 @@ use Rattle.kt_promises.proofs.DefaultSteps.{unwilling_seen}
 use Rattle.kt_promises.proofs.RunsEnd.{raised_seen}
 use Rattle.kt_core.specs.Making.{DiscardsAtAborts, LeadsToDue, LeadsRun, MakesStep}
 use Rattle.kt_core.specs.Shown.{Mirrors, IsReached}
-use Rattle.kt_core.specs.Worlds.{World, HasDone, Settles, refusal, stepper}
+use Rattle.kt_core.specs.Worlds.{World, HasDone, Settles, refusal}
+use Rattle.kt_phases.specs.Steps.{stepper}
 use Rattle.kt_core.proofs.Enabled.{enabled_is, enabled_if}
-
-stepper_is : (s : Step) → run_steps.stepper s ≡ stepper s
-stepper_is (Do p) = refl
-stepper_is (Take at from) = refl
 
 -- one run, which the step leads on, and of which it asks these acts
 module _ (old new : World) (step : Step) (give : Give) (acts : List Act) (allowed : refusal old step ≡ None) (first : ℕ) (v : run_world.World)
@@ -49,11 +46,9 @@ module _ (old new : World) (step : Step) (give : Give) (acts : List Act) (allowe
   on : enabled plan v x ≡ true
   on = sym (enabled_is old first v r step) ∙ enabled_if old step allowed
 
-  its_asks : acts_shown acts ≡ acts_of_step plan v x g (run_steps.stepper x)
-  its_asks = asks ∙ ap (acts_of_step plan v x g) (sym (stepper_is step))
-
   pub leads_run : LeadsRun old step give acts new first v
   leads_run = record {
+    enabled = on;
     leads = next;
     asks = asks;
     raised = raised_seen plan first v x g limits r.reached on;
@@ -65,7 +60,7 @@ module _ (old new : World) (step : Step) (give : Give) (acts : List Act) (allowe
   pub discards : DiscardsAtAborts old acts new
   discards i p k there late aborted =
       subst (λ (l : List Event). acts_shown acts ≡ closing (is_rollback (past l) k) false) (sym next.now.log)
-      (its_asks ∙ abort_tells plan first v x g i p k limits r.reached on
+      (asks ∙ abort_tells plan first v x g i p k limits r.reached on
       (subst (λ (l : List Event). slice_get l i ≡ Some (Closed p k)) next.now.log there)
       (subst (λ (l : List Event). length l ≤ i) r.now.log late)
       (subst (λ (l : List Event). is_committed (past l) k ≡ false) next.now.log aborted))
@@ -80,7 +75,7 @@ module _ (old new : World) (step : Step) (give : Give) (acts : List Act) (allowe
         (subst (λ (a : List values.Act). does_all rules (due rules (done v.now.log) (stepper step)) a ≡ due rules (done (world_after plan v x g).now.log) (stepper step)) (sym asks)
         (values_lead rules plan first v x g (stepper step) limits r.reached on)));
     others = λ p n.
-        let idle = others_idle plan first v x g p limits r.reached on (λ e. n (e ∙ stepper_is step)) in
+        let idle = others_idle plan first v x g p limits r.reached on n in
         let same : due rules (done (world_after plan v x g).now.log) p ≡ due rules (done v.now.log) p =
         sym (subst (λ (a : List values.Act). does_all rules (due rules (done v.now.log) p) a ≡ due rules (done (world_after plan v x g).now.log) p) idle
         (values_lead rules plan first v x g p limits r.reached on)) in

@@ -1,6 +1,6 @@
 -- What holds of the log of each run of the protocol holds of a world's.
 use Rattle.std.specs.Prelude.{Option, Some, None}
-use Rattle.std.proofs.Common.{◌≡◌, ℕ, List, sym, subst}
+use Rattle.std.proofs.Common.{length, ◌≡◌, ℕ, List, sym, subst}
 use Rattle.kt_spacetime.specs.declared.event.Event.{Event}
 use Rattle.kt_protocol.specs.States.{Step, opening}
 use Rattle.kt_closing.specs.LateSteps.{late_run}

@@ -11,12 +11,13 @@ use Rattle.kt_system.specs.Systems.{Grows}
 use Rattle.kt_values.specs.Done.{done}
 use Rattle.kt_values.specs.Values.{Rules, due, does_all, can_all, closing}
 use Rattle.kt_promises.specs.World as run_world
-use Rattle.kt_promises.specs.Steps.{world_after}
+use Rattle.kt_promises.specs.Steps.{enabled, world_after}
 use Rattle.kt_promises.specs.StepActs.{acts_of_step}
 use Rattle.kt_promises.specs.Tallies.{IsRaised}
 use Rattle.kt_promises.specs.Unwilling.{IsUnwillingStep}
 use Rattle.kt_core.specs.Shown.{Mirrors}
-use Rattle.kt_core.specs.Worlds.{World, HasDone, Settles, stepper}
+use Rattle.kt_core.specs.Worlds.{World, HasDone, Settles}
+use Rattle.kt_phases.specs.Steps.{stepper}
 
 -- what is so whether a step is made or not: the plan, the limit and the number of processes stay; the log keeps its rows,
 -- and gets four more at most
@@ -42,10 +43,11 @@ pub record LeadsToDue (rules : Rules (List ℤ)) (old : World) (step : Step) (ac
   pub others : (p : ℕ) → p ≢ stepper step
       → due rules (done new.system.rows.rows) p ≡ due rules (done old.system.rows.rows) p
 
--- what a step makes of each run that leads to the old world: it is led on to the new one; the acts are what it asks of the
+-- what a step makes of each run that leads to the old world: it is enabled there, and leads the run on to the new world; the acts are what it asks of the
 -- step's process; the tallies rise by what it puts into channels; and where it adds an `unwilling` row, its process takes an
 -- ask of a member, and the cause holds
 pub record LeadsRun (old : World) (step : Step) (give : Give) (acts : List Act) (new : World) (first : ℕ) (v : run_world.World) : Type 0 where
+  pub enabled : enabled old.agenda.plan v step ≡ true
   pub leads : Mirrors new.agenda new.system first (world_after old.agenda.plan v step give)
   pub asks : acts_shown acts ≡ acts_of_step old.agenda.plan v step give (stepper step)
   pub raised : IsRaised (length old.agenda.plan.names) v.now step

@@ -118,11 +118,6 @@ abbrev pub IsDefaultStep : World → Step → Type 0
 IsDefaultStep w (Do p) = HasNoTake w.system × IsNextDo w p
 IsDefaultStep w (Take at from) = IsNextTake w.system at from
 
--- whose step it is
-abbrev pub stepper : Step → ℕ
-stepper (Do p) = p
-stepper (Take at from) = at
-
 -- the step that a process makes next: a take, of the least sender, before its next command
 abbrev pub IsNextStepOf : World → ℕ → Step → Type 0
 IsNextStepOf w p (Do q) = (q ≡ p) × ((from : ℕ) → from < w.system.size → can_take w.system p from ≡ false)

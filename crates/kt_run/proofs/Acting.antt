@@ -16,7 +16,6 @@ use Rattle.kt_plan.specs.declared.steps.Act.{Act}
 use Rattle.kt_plan.specs.declared.steps.Told.{Told}
 use Rattle.kt_plan.specs.declared.steps.Look.{Look}
 use Rattle.kt_plan.specs.declared.steps.Look.TheVariants as look
-use Rattle.kt_phases.specs.Steps as run_steps
 use Rattle.kt_promises.specs.Looks as promises
 use Rattle.kt_promises.specs.Offers.{GivesOffer}
 use Rattle.kt_promises.specs.Runs.{IsReachedWorld}
@@ -30,11 +29,11 @@ use Rattle.kt_values.specs.Done.{done}
 use Rattle.kt_values.specs.Values as values
 use Rattle.kt_values.specs.Values.{Rules, Due, due, first_due, acts_along}
 use Rattle.kt_core.specs.Shown.{Mirrors}
-use Rattle.kt_core.specs.Worlds.{World, stepper}
+use Rattle.kt_core.specs.Worlds.{World}
+use Rattle.kt_phases.specs.Steps.{stepper}
 use Rattle.kt_run.specs.Objects.{Belongings, belongings_of, first_of, rules_by, HoldDue}
 use Rattle.kt_run.specs.Runs.{scene, Tells, StepsTo}
 use Rattle.kt_run.proofs.Holding.{IsDone, AreAlong, hold_next, done_by}
-use Rattle.kt_run.proofs.Telling.{stepper_is}
 
 -- the acts of a step in a run
 module _ (plan : Planned) (first : ℕ) (v : run_world.World) (x : Step) (give : Give) (limits : IsPlan plan) (reached : IsReachedWorld plan first v)
@@ -42,11 +41,11 @@ module _ (plan : Planned) (first : ℕ) (v : run_world.World) (x : Step) (give :
   along : (rules : Rules (List ℤ)) (p : ℕ) → AreAlong rules p (acts_of_step plan v x give p) v.now.log (world_after plan v x give).now.log
   along rules p = record { lead = values_lead rules plan first v x give p limits reached on; spares = spares_next rules plan first v x give p limits reached on }
 
-  pub acts_along_step : (rules : Rules (List ℤ)) (acts : List values.Act) → acts ≡ acts_of_step plan v x give (run_steps.stepper x)
-      → AreAlong rules (run_steps.stepper x) acts v.now.log (world_after plan v x give).now.log
-  acts_along_step rules acts e = subst (λ (a : List values.Act). AreAlong rules (run_steps.stepper x) a v.now.log (world_after plan v x give).now.log) (sym e) (along rules (run_steps.stepper x))
+  pub acts_along_step : (rules : Rules (List ℤ)) (acts : List values.Act) → acts ≡ acts_of_step plan v x give (stepper x)
+      → AreAlong rules (stepper x) acts v.now.log (world_after plan v x give).now.log
+  acts_along_step rules acts e = subst (λ (a : List values.Act). AreAlong rules (stepper x) a v.now.log (world_after plan v x give).now.log) (sym e) (along rules (stepper x))
 
-  pub others_along : (rules : Rules (List ℤ)) (p : ℕ) → p ≢ run_steps.stepper x → AreAlong rules p [] v.now.log (world_after plan v x give).now.log
+  pub others_along : (rules : Rules (List ℤ)) (p : ℕ) → p ≢ stepper x → AreAlong rules p [] v.now.log (world_after plan v x give).now.log
   others_along rules p n = subst (λ (a : List values.Act). AreAlong rules p a v.now.log (world_after plan v x give).now.log) (others_idle plan first v x give p limits reached on n) (along rules p)
 
 needs_body : (l : Look) → l ≡ NeedsBody → l ≡ look.NeedsBody
@@ -70,8 +69,8 @@ module _ {X : Type 0} (f : X → Belongings) (xs : List X) (i : ℕ) (x y : X) (
     (looks : (first : ℕ) (v : run_world.World) → Mirrors old.agenda old.system first v → l ≡ promises.look old.agenda.plan v step)
     (asked : l ≡ look.NeedsBody → IfSome (f x).present (λ c. give.body ≡ offered c.kind c.value))
     (did : IsDone acts (f x) (f y)) (tells : Tells old before step give new after acts) where
-  whose : i ≡ run_steps.stepper step
-  whose = place ∙ sym (stepper_is step)
+  whose : i ≡ stepper step
+  whose = place
 
   module _ (first : ℕ) (v : run_world.World) (r : Mirrors old.agenda old.system first v) (cast : List (List Content)) (h : HoldDue cast v.now.log (map f xs)) where
     limits : IsPlan old.agenda.plan

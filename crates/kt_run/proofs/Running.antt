@@ -11,7 +11,6 @@ use Rattle.kt_held.specs.Holdings.{Content, content, AreSaved}
 use Rattle.kt_values.specs.Values.{Rules}
 use Rattle.kt_spacetime.specs.declared.event.Event.{Event}
 use Rattle.kt_phases.specs.Runs.{Move}
-use Rattle.kt_phases.specs.Plans.{Plan}
 use Rattle.kt_promises.specs.World as run_world
 use Rattle.kt_promises.specs.Steps.{enabled, world_after}
 use Rattle.kt_promises.specs.Defaults.{default_step}
@@ -25,7 +24,8 @@ use Rattle.kt_promises.proofs.PhasesOpen.{opening_is}
 use Rattle.kt_promises.proofs.GoingOn.{play_append, goes_run, goes_first, goes_next, goes_below, goes_rest}
 use Rattle.kt_system.specs.ShownActs.{acts_shown}
 use Rattle.kt_system.specs.Systems.{Grows}
-use Rattle.kt_core.specs.Worlds.{World, refusal, is_full, numbered_row, stepper}
+use Rattle.kt_core.specs.Worlds.{World, refusal, is_full, numbered_row}
+use Rattle.kt_phases.specs.Steps.{stepper}
 use Rattle.kt_core.specs.Worlds as core
 use Rattle.kt_core.specs.declared.faults.StepFault.TheVariants.{NotEnabled, LogFull}
 use Rattle.std.proofs.lemmas.Bool.{ltb-false}
@@ -122,7 +122,7 @@ keeps : (plan : Planned) (cast : List (List Content)) (old new : World) (before 
 keeps plan cast old new before after x v e s r due = subst (λ (z : Planned). Keeps z cast v x s.1 after) e ((s.5 0 v r).4 cast due)
 
 -- what is given at some moves, and at one more
-gives_more : (rules : ℕ → Rules (List ℤ)) (plan : Plan) (xs : List Move) (m : Move) (u v : run_world.World) → after_moves plan u xs ≡ Some v
+gives_more : (rules : ℕ → Rules (List ℤ)) (plan : Planned) (xs : List Move) (m : Move) (u v : run_world.World) → after_moves plan u xs ≡ Some v
     → GivesOffers rules plan u xs → GivesOffer rules plan v m.step m.give → GivesOffers rules plan u (xs ++ m ∷ [])
 gives_more rules plan [] m u v e o g = (subst (λ (w : run_world.World). GivesOffer rules plan w m.step m.give) (sym (ap (λ (w : Option run_world.World). unwrap_or w u) e)) g, tt)
 gives_more rules plan (x ∷ xs) m u v e o g = (o.0, go (enabled plan u x.step) e (λ f. gives_more rules plan xs m (world_after plan u x.step x.give) v f o.1 g))

@@ -6,14 +6,12 @@ use Rattle.std.specs.Option.{option_map}
 use Rattle.std.proofs.lemmas.Option.{slice_get-get_or}
 use Rattle.std.proofs.Math.Seq.{drop-append_seam}
 use Rattle.kt_core.specs.Shown.{Mirrors}
-use Rattle.kt_core.specs.Worlds.{World, stepper, numbered_row}
+use Rattle.kt_core.specs.Worlds.{World, numbered_row}
+use Rattle.kt_phases.specs.Steps.{stepper}
 use Rattle.kt_plan.specs.Limits.{Planned, IsPlan}
 use Rattle.kt_plan.specs.declared.steps.Give.{Give}
-use Rattle.kt_plan.specs.declared.steps.Step.{Step}
-use Rattle.kt_plan.specs.declared.steps.Step.TheVariants.{Do, Take}
 use Rattle.kt_plan.specs.declared.steps.Told.{Told}
 use Rattle.kt_phases.specs.Runs.{Move}
-use Rattle.kt_phases.specs.Steps as run_steps
 use Rattle.kt_promises.specs.Runs.{IsReachedWorld, after_moves}
 use Rattle.kt_promises.specs.StepActs.{rows_added, acts_of_step}
 use Rattle.kt_promises.specs.Steps.{enabled, world_after}
@@ -74,10 +72,6 @@ tells_rows told n rows four read few =
     reads : (i : ℕ) → i < 4 → slice_get told.rows i ≡ Some (at (n + i + 1) (drop n rows) i)
     reads i l = read i l ∙ ap (λ (o : Option Event). Some (option_map (λ (row : Event). (n + i + 1, row)) o)) (get_dropped n (n + i) i rows refl)
 
-pub stepper_is : (s : Step) → run_steps.stepper s ≡ stepper s
-stepper_is (Do p) = refl
-stepper_is (Take at from) = refl
-
 -- one step, from a world that a run led to
 module _ (plan : Planned) (told : Told) (give : Give) (old new : World) (first : ℕ) (v : run_world.World) (plans : old.agenda.plan ≡ plan) (r : Mirrors old.agenda old.system first v)
     (next : Mirrors new.agenda new.system first (world_after plan v told.step give))
@@ -116,12 +110,11 @@ module _ (plan : Planned) (told : Told) (give : Give) (old new : World) (first :
       ∙ ap (λ (rows : List Event). Some (numbered_row w.now.log (length rows + i))) r.now.log)) few
 
   own : (i : ℕ) (row : Event) → slice_get added i ≡ Some row → process_of row ≡ stepper told.step
-  own i row h = rows_of_one plan first v told.step give i row limits reached on h ∙ stepper_is told.step
+  own i row h = rows_of_one plan first v told.step give i row limits reached on h
 
-  acts : acts_shown told.acts ≡ acts_of_step plan v told.step give (run_steps.stepper told.step)
+  acts : acts_shown told.acts ≡ acts_of_step plan v told.step give (stepper told.step)
   acts =
       subst (λ (p : Planned). acts_shown told.acts ≡ acts_of_step p v told.step give (stepper told.step)) plans did
-      ∙ ap (acts_of_step plan v told.step give) (sym (stepper_is told.step))
 
   pub told_as : IsToldAs told (run_told.told_at plan v (record { step = told.step; give = give }))
   told_as = record { step = refl; rows = ap (λ (l : List Row). map (λ (row : Row). row.1) l) tells ∙ without_numbers n added; acts = acts }
@@ -144,7 +137,7 @@ told_now : (plan : Planned) (v : run_world.World) (x : Move) (p : ℕ) (told : T
     → AllZip IsToldAs (told_here p told) (run_told.told_by_move plan v p x)
 told_now plan v x p told same =
     subst (λ (q : ℕ). AllZip IsToldAs (told_here p told) (if p == q then run_told.told_at plan v x ∷ [] else []))
-    (sym (stepper_is told.step) ∙ ap run_steps.stepper same.step) (at_both (p == stepper told.step))
+    (ap stepper same.step) (at_both (p == stepper told.step))
   where
     at_both : (b : Bool) → AllZip IsToldAs (if b then told ∷ [] else []) (if b then run_told.told_at plan v x ∷ [] else [])
     at_both true = (same, tt)

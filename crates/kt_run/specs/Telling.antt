@@ -1,7 +1,7 @@
 -- What a run tells its processes.
 use Rattle.std.specs.Prelude.{◌≡◌, ◌<◌, ◌+◌, ◌==◌, ℕ, List, [], ◌∷◌, ◌++◌, All, Option, filter, map, length, slice_index_or, if◌then◌else◌}
 use Rattle.std.specs.List.{AllZip, filter_map}
-use Rattle.kt_core.specs.Worlds.{stepper}
+use Rattle.kt_phases.specs.Steps.{stepper}
 use Rattle.kt_phases.specs.Runs.{Move}
 use Rattle.kt_plan.specs.Limits.{Planned}
 use Rattle.kt_plan.specs.declared.steps.Told.{Told}

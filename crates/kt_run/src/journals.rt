@@ -1,7 +1,7 @@
 //! What the processes of a run were told.
 
 ghost use Rattle.std.specs.Prelude.{◌≡◌, [], false, length, map, IfOk, OnOk};
-ghost use Rattle.kt_core.specs.Worlds.{stepper};
+ghost use Rattle.kt_phases.specs.Steps.{stepper};
 ghost use Rattle.kt_run.specs.Telling.{AreEmpty, IsNoted};
 
 use kt_base::{Memory, ProcNo};

@@ -3,7 +3,7 @@ use Rattle.std.proofs.Common.{◌≡◌, ◌∙◌, ◌==◌, ◌<◌, ◌+◌, 
 use Rattle.std.proofs.lemmas.List.{take_more, map_more, get_or-map, length-map, append-nil}
 use Rattle.std.proofs.lemmas.List.Elements.{filter-append}
 use Rattle.std.specs.Prelude.{slice_index_or}
-use Rattle.kt_core.specs.Worlds.{stepper}
+use Rattle.kt_phases.specs.Steps.{stepper}
 use Rattle.kt_plan.specs.Limits.{Planned}
 use Rattle.kt_plan.specs.declared.steps.Told.{Told}
 use Rattle.kt_threads.specs.Histories.{made_by, AreTheirs, AreTold}

@@ -7,7 +7,8 @@ use Rattle.kt_plan.specs.declared.steps.Look.TheVariants.{NeedsBody}
 use Rattle.kt_plan.specs.declared.steps.Give.{Give}
 use Rattle.kt_plan.specs.declared.steps.Step.TheVariants.{Do, Take}
 use Rattle.kt_core.specs.Shown.{Mirrors}
-use Rattle.kt_core.specs.Worlds.{World, stepper}
+use Rattle.kt_core.specs.Worlds.{World}
+use Rattle.kt_phases.specs.Steps.{stepper}
 use Rattle.kt_core.proofs.Enabled.{below}
 use Rattle.kt_held.specs.Holdings.{Content, content}
 use Rattle.kt_object.specs.Value.{offered}
@@ -28,7 +29,6 @@ use Rattle.kt_run.specs.Objects.{Belongings, rules_of, first_of, HoldsDue}
 use Rattle.kt_run.proofs.Acting.{acts_along_step, others_along}
 use Rattle.kt_run.proofs.Holding.{holds_next, holds_still}
 use Rattle.kt_run.proofs.Numbering.{kept, left}
-use Rattle.kt_run.proofs.Telling.{stepper_is}
 use Rattle.kt_system.specs.ShownActs.{acts_shown}
 use Rattle.kt_values.specs.Done.{done}
 use Rattle.kt_values.specs.Values.{Rules, due}
@@ -53,7 +53,7 @@ given_offer first (Some value) present body up is asked = ap Some (sym (subst (�
 -- at a process's own moves, what is given is what its object offers, if it is asked for
 abbrev pub GivesOf : Rules (List ℤ) → ℕ → Planned → run_world.World → List Move → Type 0
 GivesOf rules p plan w [] = Unit {0}
-GivesOf rules p plan w (x ∷ xs) = (p ≡ run_steps.stepper x.step → GivesOffer (λ (_ : ℕ). rules) plan w x.step x.give) × GivesOf rules p plan (world_after plan w x.step x.give) xs
+GivesOf rules p plan w (x ∷ xs) = (p ≡ stepper x.step → GivesOffer (λ (_ : ℕ). rules) plan w x.step x.give) × GivesOf rules p plan (world_after plan w x.step x.give) xs
 
 -- from one world of a run to another: a process that had what was due to it, and made its steps, has it again
 abbrev pub KeepsDue : Planned → List Content → ℕ → run_world.World → List Made → run_world.World → Type 0
@@ -79,38 +79,37 @@ module _ (plan : Planned) (made : Made) (before after : World) (first : ℕ) (v 
   reached : IsReachedWorld plan first v
   reached = subst (λ (p : Planned). IsReachedWorld p first v) plans r.reached
 
-  acts : acts_shown made.told.acts ≡ acts_of_step plan v x give (run_steps.stepper x)
+  acts : acts_shown made.told.acts ≡ acts_of_step plan v x give (stepper x)
   acts =
       subst (λ (p : Planned). acts_shown made.told.acts ≡ acts_of_step p v x give (stepper made.told.step)) plans ((step.makes.runs first v r).asks)
-      ∙ ap (acts_of_step plan v x give) (sym (stepper_is made.told.step))
 
   looks : made.look ≡ run_look.look plan v x
   looks = subst (λ (p : Planned). made.look ≡ run_look.look p v x) plans (step.look first v r)
 
-  its : (objects : List Content) (b c : Belongings) → IsServed b made c → HoldsDue objects v.now.log (run_steps.stepper x) b
-      → HoldsDue objects w.now.log (run_steps.stepper x) c
+  its : (objects : List Content) (b c : Belongings) → IsServed b made c → HoldsDue objects v.now.log (stepper x) b
+      → HoldsDue objects w.now.log (stepper x) c
   its objects b c s h =
-      holds_next objects (run_steps.stepper x) made.told.acts v.now.log w.now.log b c
+      holds_next objects (stepper x) made.told.acts v.now.log w.now.log b c
       (acts_along_step plan first v x give limits reached on (rules_of (first_of objects)) (acts_shown made.told.acts) acts)
       (record { does = s.does; spares = s.spares }) h
 
-  others : (objects : List Content) (p : ℕ) (b : Belongings) → p ≢ run_steps.stepper x → HoldsDue objects v.now.log p b → HoldsDue objects w.now.log p b
+  others : (objects : List Content) (p : ℕ) (b : Belongings) → p ≢ stepper x → HoldsDue objects v.now.log p b → HoldsDue objects w.now.log p b
   others objects p b n h =
       holds_still objects p v.now.log w.now.log b
       (others_along plan first v x give limits reached on (rules_of (first_of objects)) p n) h
 
-  gives : (objects : List Content) (b c : Belongings) → IsServed b made c → HoldsDue objects v.now.log (run_steps.stepper x) b
+  gives : (objects : List Content) (b c : Belongings) → IsServed b made c → HoldsDue objects v.now.log (stepper x) b
       → GivesOffer (λ (_ : ℕ). rules_of (first_of objects)) plan v x give
   gives objects b c s h n =
-      given_offer (first_of objects) (due (rules_of (first_of objects)) (done v.now.log) (run_steps.stepper x)).object b.present made.give.body
-      (object_seen (rules_of (first_of objects)) plan first v (run_steps.stepper x) limits reached ∙ up_seen plan v x n)
+      given_offer (first_of objects) (due (rules_of (first_of objects)) (done v.now.log) (stepper x)).object b.present made.give.body
+      (object_seen (rules_of (first_of objects)) plan first v (stepper x) limits reached ∙ up_seen plan v x n)
       h.holds.object (s.offers (needs_body made.look (looks ∙ n)))
 
-  of_first : (p : ℕ) → (stepper made.told.step == p) ≡ true → p ≡ run_steps.stepper x
-  of_first p e = sym (stepper_is made.told.step ∙ equal_of (stepper made.told.step) p e)
+  of_first : (p : ℕ) → (stepper made.told.step == p) ≡ true → p ≡ stepper x
+  of_first p e = sym (equal_of (stepper made.told.step) p e)
 
-  of_other : (p : ℕ) → (stepper made.told.step == p) ≡ false → p ≢ run_steps.stepper x
-  of_other p e = λ q. let s : p ≡ stepper made.told.step = q ∙ stepper_is made.told.step in differs (stepper made.told.step) p e s
+  of_other : (p : ℕ) → (stepper made.told.step == p) ≡ false → p ≢ stepper x
+  of_other p e = λ q. differs (stepper made.told.step) p e q
     where
       differs : (a b : ℕ) → (a == b) ≡ false → b ≡ a → ⊥
       differs a b e s = let f : (a == b) ≡ true = grind (arith, nat_tests, s) in absurd (cc (e, f))
@@ -123,7 +122,7 @@ module _ (plan : Planned) (made : Made) (before after : World) (first : ℕ) (v 
           → HoldsDue objects end.now.log p now × GivesOf (rules_of (first_of objects)) p plan v (map move_of (made ∷ steps))
       go b now h s true e =
           let q = of_first p e in
-          let here : HoldsDue objects v.now.log (run_steps.stepper x) b = subst (λ (i : ℕ). HoldsDue objects v.now.log i b) q h in
+          let here : HoldsDue objects v.now.log (stepper x) b = subst (λ (i : ℕ). HoldsDue objects v.now.log i b) q h in
           let a : AreServed b (made ∷ made_by p steps) now = subst (λ (l : List Made). AreServed b l now) (kept (λ (m : Made). stepper m.told.step == p) made steps e) s in
           let t = rest a.0 now (subst (λ (i : ℕ). HoldsDue objects w.now.log i a.0) (sym q) (its objects b a.0 a.1 here)) a.2 in
           (t.0, (λ _. gives objects b a.0 a.1 here, t.1))
@@ -139,17 +138,17 @@ and_left : (a b : Bool) → (a && b) ≡ true → a ≡ true
 and_left true b e = refl
 and_left false b e = absurd (cc (e))
 
-inside : (plan : Planned) (w : run_world.World) (x : Step) → enabled plan w x ≡ true → run_steps.stepper x < plan.size
-inside plan w (Do p) e = below p plan.size (and_left (nat_lt p plan.size) _ e)
-inside plan w (Take p q) e = below p plan.size (and_left (nat_lt p plan.size) (nat_lt q plan.size) (and_left _ _ e))
+inside : (plan : Planned) (w : run_world.World) (x : Step) → enabled plan w x ≡ true → stepper x < (length plan.names)
+inside plan w (Do p) e = below p (length plan.names) (and_left (nat_lt p (length plan.names)) _ e)
+inside plan w (Take p q) e = below p (length plan.names) (and_left (nat_lt p (length plan.names)) (nat_lt q (length plan.names)) (and_left _ _ e))
 
 on_first : (b : Bool) (there : Option run_world.World) (end : run_world.World) → (if b then there else None) ≡ Some end → (b ≡ true) × (there ≡ Some end)
 on_first true there end e = (refl, e)
 on_first false there end e = absurd (cc (e))
 
 pub gives_all : (rules : ℕ → Rules (List ℤ)) (plan : Planned) (xs : List Move) (v end : run_world.World) → after_moves plan v xs ≡ Some end
-    → ((p : ℕ) → p < plan.size → GivesOf (rules p) p plan v xs) → GivesOffers rules plan v xs
+    → ((p : ℕ) → p < (length plan.names) → GivesOf (rules p) p plan v xs) → GivesOffers rules plan v xs
 gives_all rules plan [] v end e g = tt
 gives_all rules plan (x ∷ xs) v end e g =
     let t = on_first (enabled plan v x.step) (after_moves plan (world_after plan v x.step x.give) xs) end e in
-    ((g (run_steps.stepper x.step) (inside plan v x.step t.0)).0 refl, gives_all rules plan xs (world_after plan v x.step x.give) end t.1 (λ p l. (g p l).1))
+    ((g (stepper x.step) (inside plan v x.step t.0)).0 refl, gives_all rules plan xs (world_after plan v x.step x.give) end t.1 (λ p l. (g p l).1))

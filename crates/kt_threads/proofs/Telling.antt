@@ -4,7 +4,8 @@ use Rattle.std.specs.List.{AllZip}
 use Rattle.std.specs.Prelude.{if◌then◌else◌}
 use Rattle.std.proofs.lemmas.Bool.Decides.{nat_tests}
 use Rattle.kt_core.specs.Shown.{Mirrors}
-use Rattle.kt_core.specs.Worlds.{World, stepper}
+use Rattle.kt_core.specs.Worlds.{World}
+use Rattle.kt_phases.specs.Steps.{stepper}
 use Rattle.kt_plan.specs.Limits.{Planned}
 use Rattle.kt_plan.specs.declared.steps.Told.{Told}
 use Rattle.kt_phases.specs.Steps as run_steps
@@ -68,8 +69,8 @@ module _ (plan : Planned) (made : Made) (before after : World) (first : ℕ) (v 
   told_as : IsToldAs made.told (run_told.told_at plan v (move_of made))
   told_as = run.told_as plan made.told made.give before after first v plans r next on step.keeps.grows step.four step.rows ((step.makes.runs first v r).asks)
 
-  by_test : (p : ℕ) (b : Bool) → (stepper made.told.step == p) ≡ b → (p == run_steps.stepper made.told.step) ≡ b
-  by_test p b e = turned (run_steps.stepper made.told.step) (stepper made.told.step) p b (run.stepper_is made.told.step) e
+  by_test : (p : ℕ) (b : Bool) → (stepper made.told.step == p) ≡ b → (p == stepper made.told.step) ≡ b
+  by_test p b e = turned (stepper made.told.step) (stepper made.told.step) p b refl e
 
   pub told_more : (p : ℕ) (steps : List Made) → AllZip IsToldAs (told_to p steps) (run_told.told_by plan w p (map move_of steps))
       → AllZip IsToldAs (told_to p (made ∷ steps)) (run_told.told_by plan v p (map move_of (made ∷ steps)))

@@ -2,7 +2,8 @@
 use Rattle.std.specs.Prelude.{◌≡◌, ◌<◌, ◌+◌, ◌^◌, ◌==◌, ℕ, List, [], ◌∷◌, Option, Some, None, filter, map, length, slice_get, slice_index_or}
 use Rattle.kt_core.specs.Making.{KeepsPlan, MakesStep}
 use Rattle.kt_core.specs.Shown as core
-use Rattle.kt_core.specs.Worlds.{World, IsOpening, IsAtRest, IsSameWorld, numbered_row, refusal, stepper}
+use Rattle.kt_core.specs.Worlds.{World, IsOpening, IsAtRest, IsSameWorld, numbered_row, refusal}
+use Rattle.kt_phases.specs.Steps.{stepper}
 use Rattle.kt_held.specs.Holdings.{Content}
 use Rattle.kt_plan.specs.Limits.{Planned}
 use Rattle.kt_plan.specs.declared.steps.Told.{Told}

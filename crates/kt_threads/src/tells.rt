@@ -1,7 +1,7 @@
 //! Whether threads have what is recorded of their processes' steps; and what these tell.
 
 ghost use Rattle.std.specs.Prelude.{◌≡◌, true, map, IfOk};
-ghost use Rattle.kt_core.specs.Worlds.{stepper};
+ghost use Rattle.kt_phases.specs.Steps.{stepper};
 ghost use Rattle.kt_threads.specs.Histories.{made_by, AreTheirs};
 
 use crate::state::Made;

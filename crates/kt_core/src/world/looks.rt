@@ -1,7 +1,8 @@
 //! Which steps are enabled, and what they need.
 
 ghost use Rattle.std.specs.Prelude.{◌≡◌, ◌<◌, ◌+◌, ◌↔◌, ℕ, true, false, IsTrue, IfSome, IfNone};
-ghost use Rattle.kt_core.specs.Worlds.{enabled, can_do, look, look_of_step, lacks_label, is_send, IsAtRest, IsNextDo, IsFirstBelow, IsDefaultStep, IsNextStepOf, stepper};
+ghost use Rattle.kt_core.specs.Worlds.{enabled, can_do, look, look_of_step, lacks_label, is_send, IsAtRest, IsNextDo, IsFirstBelow, IsDefaultStep, IsNextStepOf};
+ghost use Rattle.kt_phases.specs.Steps.{stepper};
 ghost use Rattle.std.specs.Option.{option_map};
 ghost use Rattle.kt_promises.specs.World as run_world;
 ghost use Rattle.kt_promises.specs.Steps as run_steps;

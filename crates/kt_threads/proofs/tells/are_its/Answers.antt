@@ -1,5 +1,5 @@
 use Rattle.std.proofs.Common.{rules, ◌≡◌, ◌==◌, ◌<◌, length, true, false, get_or}
-use Rattle.kt_core.specs.Worlds.{stepper}
+use Rattle.kt_phases.specs.Steps.{stepper}
 use Rattle.kt_threads.proofs.Reading.{made_next, made_past}
 use Rattle.kt_threads.proofs.tells.are_its.Goals as goal
 use Rattle.kt_threads.proofs.tells.are_its.Goals.{then-index-p+else-count-list+else-not-is_same_made, else-index-p}

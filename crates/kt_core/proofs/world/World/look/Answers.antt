@@ -1,4 +1,4 @@
-use Rattle.std.proofs.Common.{ap, ◌∙◌}
+use Rattle.std.proofs.Common.{◌∙◌}
 use Rattle.kt_core.proofs.Looks.{look_is}
 use Rattle.kt_core.proofs.world.World.look.Goals as goal
 
