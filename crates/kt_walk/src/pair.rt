@@ -125,6 +125,7 @@ impl Pair {
     }
 
     /// A message, if it is in transit, and its place among those that are.
+    #[inline(always)]
     pub(crate) fn find(&self, msg: MsgNo) -> Option<(usize, Sent)>
         ensures found { IfSome result (λ r. (slice_get self.now.in_transit r.0 ≡ Some r.1) × (r.1.msg ≡ msg)) }
         ensures none { IfNone result (IsBySend self.now.in_transit → (k : ℕ) (w : Sent)

@@ -71,6 +71,7 @@ impl Pairs {
     }
 
     /// A message, if it is in transit to this process, and its place among those that are.
+    #[inline(always)]
     pub(crate) fn find(&self, p: ProcNo, from: ProcNo, msg: MsgNo) -> Option<(usize, Sent)>
         ensures is { (s : Past) → ShowsPairs self.now s → is_some result ≡ is_undelivered s p from msg }
         ensures found { IfSome result (λ r. (v : PairState) → slice_get self.now (p * 64 + from) ≡ Some v
