@@ -1,5 +1,6 @@
 -- Texts as they are written.
 use Rattle.std.specs.Prelude.{◌≡◌, ℕ, List, [], ◌∷◌, ◌++◌, Option}
+use Rattle.std.specs.Io.{StartsWith}
 use Rattle.std.specs.Io.KnownBytes.{Appends}
 use Rattle.std.specs.List.{join_with_byte, flat_map}
 
@@ -20,3 +21,9 @@ pub record Sends (old new : Option (List ℕ)) (before after text : List ℕ) : 
   pub gone : List ℕ
   pub written : Appends old new gone
   pub is : gone ++ after ≡ before ++ text
+
+-- what was written before stays, and a front part of this text follows it
+pub record WritesFront (old new : Option (List ℕ)) (text : List ℕ) : Type 0 where
+  pub part : List ℕ
+  pub written : Appends old new part
+  pub front : StartsWith text part

@@ -1,19 +1,21 @@
 //! Texts gathered and written piece by piece, so that memory for writing does not grow with the text.
 
-ghost use Rattle.std.specs.Prelude.{◌≡◌, [], ◌∷◌, ◌++◌, OnOk};
+ghost use Rattle.std.specs.Prelude.{◌≡◌, ◌≤◌, [], ◌∷◌, ◌++◌, length, take, IfOk, OnOk, OnErr};
 ghost use Rattle.std.specs.Io.KnownBytes.{Appends};
-ghost use Rattle.kt_text.specs.Writing.{Sends};
+ghost use Rattle.kt_text.specs.Writing.{Sends, WritesFront};
 
 use crate::fault::WriteFault;
 use kt_base::Memory;
-use std::io::Write;
+use std::io::{ErrorKind, Write};
 
 // A text goes out once this many bytes of it are gathered.
 const PIECE: usize = 32_768;
 
-/// Writes what is gathered, if it is 32 KiB or more.
+/// Writes what is gathered, if it is 32 KiB or more; at a fault, a front part of it.
 pub fn write_full<W: Write>(text: &mut Vec<u8>, writer: &mut W) -> Result<(), WriteFault>
-    ensures { OnOk result (Sends (W.contents writer.old) (W.contents writer.new) text.old.items text.new.items []) }
+    ensures sent { OnOk result (Sends (W.contents writer.old) (W.contents writer.new) text.old.items text.new.items []) }
+    ensures stopped { OnErr result (WritesFront (W.contents writer.old) (W.contents writer.new)
+        text.old.items) }
 {
     if text.len() < PIECE {
         return Ok(());
@@ -21,9 +23,11 @@ pub fn write_full<W: Write>(text: &mut Vec<u8>, writer: &mut W) -> Result<(), Wr
     write_piece(text, writer)
 }
 
-/// Writes what is gathered, and flushes the writer.
+/// Writes what is gathered, and flushes the writer; at a fault, a front part of it is written.
 pub fn write_rest<W: Write>(text: &mut Vec<u8>, writer: &mut W) -> Result<(), WriteFault>
-    ensures { OnOk result (Appends (W.contents writer.old) (W.contents writer.new) text.old.items) }
+    ensures written { OnOk result (Appends (W.contents writer.old) (W.contents writer.new) text.old.items) }
+    ensures stopped { OnErr result (WritesFront (W.contents writer.old) (W.contents writer.new)
+        text.old.items) }
 {
     write_piece(text, writer)?;
     match writer.flush() {
@@ -36,12 +40,44 @@ pub fn write_rest<W: Write>(text: &mut Vec<u8>, writer: &mut W) -> Result<(), Wr
 fn write_piece<W: Write>(text: &mut Vec<u8>, writer: &mut W) -> Result<(), WriteFault>
     ensures written { OnOk result (Appends (W.contents writer.old) (W.contents writer.new) text.old.items) }
     ensures taken { OnOk result (text.new.items ≡ []) }
+    ensures stopped { OnErr result (WritesFront (W.contents writer.old) (W.contents writer.new)
+        text.old.items) }
 {
-    if writer.write_all(text.as_slice()).is_err() {
-        return Err(WriteFault::Write);
-    }
+    write_bytes(text.as_slice(), writer)?;
     text.clear();
     Ok(())
+}
+
+// Writes these bytes; at a fault, a front part of them, which `write_all` does not promise.
+fn write_bytes<W: Write>(bytes: &[u8], writer: &mut W) -> Result<(), WriteFault>
+    ensures written { OnOk result (Appends (W.contents writer.old) (W.contents writer.new) bytes.now) }
+    ensures stopped { OnErr result (WritesFront (W.contents writer.old) (W.contents writer.new)
+        bytes.now) }
+{
+    let mut rest = bytes;
+    for _ in 0..u64::MAX {
+        if rest.is_empty() {
+            return Ok(());
+        }
+        let count = write_some(rest, writer)?;
+        rest = &rest[count..];
+    }
+    Err(WriteFault::Write)
+}
+
+// Writes some of these bytes in one call, and answers how many: none where the call was interrupted.
+fn write_some<W: Write>(bytes: &[u8], writer: &mut W) -> Result<usize, WriteFault>
+    ensures count { IfOk result (λ count. count ≤ length bytes.now) }
+    ensures written { IfOk result (λ count. Appends (W.contents writer.old) (W.contents writer.new)
+        (take count bytes.now)) }
+    ensures stopped { OnErr result (Appends (W.contents writer.old) (W.contents writer.new) []) }
+{
+    match writer.write(bytes) {
+        Ok(0) => Err(WriteFault::Write),
+        Ok(count) => Ok(count),
+        Err(error) if error.kind() == ErrorKind::Interrupted => Ok(0),
+        Err(_) => Err(WriteFault::Write),
+    }
 }
 
 /// Gathers a comma and a field.
