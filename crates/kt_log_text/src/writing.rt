@@ -1,11 +1,11 @@
 //! Logs written as text.
 
-ghost use Rattle.std.specs.Prelude.{◌≡◌, [], ◌∷◌, ◌++◌, codes, map, OnOk};
+ghost use Rattle.std.specs.Prelude.{◌≡◌, [], ◌∷◌, ◌++◌, codes, map, OnOk, OnErr};
 ghost use Rattle.std.specs.Fmt.{decimal, signed_decimal};
 ghost use Rattle.std.specs.Io.KnownBytes.{Appends};
 ghost use Rattle.kt_log_text.specs.Spelling.{spelling, verb_word, cause_word};
 ghost use Rattle.kt_log_text.specs.Texts.{header};
-ghost use Rattle.kt_text.specs.Writing.{joined, line_of, text_of};
+ghost use Rattle.kt_text.specs.Writing.{joined, line_of, text_of, WritesFront};
 
 use kt_base::{Cause, InstNo, Memory, MsgNo, ProcNo, Verb};
 use kt_spacetime::{Event, SpaceTime};
@@ -17,9 +17,12 @@ use std::io::Write;
 
 /// Writes a log as a text of format 2: the record `kt,2,-,-` and a record for each row, each ended by a line feed.
 ///
-/// The text goes out in pieces of some 32 KiB, whatever the number of rows. After a fault, part of it may be written.
+/// The text goes out in pieces of some 32 KiB, whatever the number of rows. After a fault, a front part of it
+/// is written.
 pub fn write_csv<W: Write>(alloc: Global, log: &SpaceTime, writer: &mut W) -> Result<(), WriteFault>
-    ensures { OnOk result (Appends (W.contents writer.old) (W.contents writer.new) (text_of (header ∷ map spelling log.now.rows))) }
+    ensures written { OnOk result (Appends (W.contents writer.old) (W.contents writer.new) (text_of (header ∷ map spelling log.now.rows))) }
+    ensures stopped { OnErr result (WritesFront (W.contents writer.old) (W.contents writer.new)
+        (text_of (header ∷ map spelling log.now.rows))) }
 {
     let mut text = Vec::new(alloc);
     push_header(&mut text)?;
