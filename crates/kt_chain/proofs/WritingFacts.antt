@@ -1,12 +1,13 @@
 -- Texts gathered and written piece by piece.
-use Rattle.std.proofs.Common.{◌≡◌, ◌∙◌, ◌<◌, ◌+◌, ℕ, List, [], ◌∷◌, ◌++◌, length, refl, sym, ap, subst, take, get_or, Option, append_assoc, add-one}
-use Rattle.std.proofs.lemmas.List.{take_more, map-append, append-nil}
+use Rattle.std.proofs.Common.{◌≡◌, ◌∙◌, ◌<◌, ◌≤◌, ◌+◌, ℕ, List, [], ◌∷◌, ◌++◌, length, refl, sym, ap, subst, take, drop, get_or, Option, append_assoc, add-one}
+use Rattle.std.proofs.lemmas.List.{take_more, take_all, map-append, append-nil, take-append-drop}
 use Rattle.std.proofs.lemmas.List.Concat.{flat_map-append}
 use Rattle.std.specs.Fmt.{decimal}
-use Rattle.kt_text.specs.Writing.{line_of, text_of, Sends}
-use Rattle.kt_text.proofs.PieceFacts.{sends_more, sends_gathered, sends_nothing, text_more}
+use Rattle.std.specs.Io.{StartsWith}
+use Rattle.kt_text.specs.Writing.{line_of, text_of, Sends, WritesFront}
+use Rattle.kt_text.proofs.PieceFacts.{sends_more, sends_gathered, sends_nothing, text_more, starts, items_more, front_after, front_last, records_front}
 use Rattle.kt_chain.specs.declared.certificate.Certificate.{Certificate}
-use Rattle.kt_chain.specs.Spelling.{Member, member_record, certificate_records, records_of, chain_word}
+use Rattle.kt_chain.specs.Spelling.{Member, instance_record, member_record, certificate_records, records_of, chain_word}
 
 -- a chain with one more number
 chain_more : (first : ℕ) (others : List ℕ) (msg : ℕ) → chain_word (first ∷ (others ++ msg ∷ [])) ≡ chain_word (first ∷ others) ++ 47 ∷ decimal msg
@@ -46,3 +47,35 @@ sends_certificate a b d x y z certificates i c within at p q =
     ap records_of step ∙ flat_map-append certificate_records (take i certificates) (c ∷ []) ∙ ap (λ (r : List (List (List ℕ))). records_of (take i certificates) ++ r) (append-nil (certificate_records c)) in
     subst (λ (text : List ℕ). Sends a d x z text) (sym (ap text_of records ∙ flat_map-append line_of (records_of (take i certificates)) (certificate_records c)))
     (sends_more a b d x y z (text_of (records_of (take i certificates))) (text_of (certificate_records c)) p q)
+
+-- at a member it stops
+pub stops_at_member : (a b d : Option (List ℕ)) (x y : List ℕ) (c : Certificate) (i : ℕ) (member : Member) → i < length c.members → get_or c.members i member ≡ member
+    → Sends a b x y (text_of (records_to c (take i c.members))) → WritesFront b d (y ++ line_of (member_record c.inst member)) → WritesFront a d (x ++ text_of (certificate_records c))
+stops_at_member a b d x y c i member within at p q =
+    front_after a b d x y (text_of (records_to c (take i c.members))) (line_of (member_record c.inst member)) (text_of (certificate_records c)) p q
+    (records_front (instance_record c) (member_record c.inst) c.members i member within at)
+
+-- the text of some certificates and of one more begins the text of all
+certificates_front : (certificates : List Certificate) (i : ℕ) (c : Certificate) → i < length certificates → get_or certificates i c ≡ c
+    → StartsWith (text_of (records_of certificates)) (text_of (records_of (take i certificates)) ++ text_of (certificate_records c))
+certificates_front certificates i c within at =
+    let later = records_of (drop (i + 1) certificates) in
+    let first : records_of (take (i + 1) certificates) ≡ records_of (take i certificates) ++ certificate_records c = items_more certificate_records certificates i c within at in
+    let all : records_of certificates ≡ (records_of (take i certificates) ++ certificate_records c) ++ later =
+    ap records_of (sym (take-append-drop (i + 1) certificates)) ∙ flat_map-append certificate_records (take (i + 1) certificates) (drop (i + 1) certificates)
+    ∙ ap (λ (r : List (List (List ℕ))). r ++ later) first in
+    starts (text_of (records_of certificates)) (text_of (records_of (take i certificates)) ++ text_of (certificate_records c)) (text_of later)
+    (ap text_of all ∙ flat_map-append line_of (records_of (take i certificates) ++ certificate_records c) later
+    ∙ ap (λ (u : List ℕ). u ++ text_of later) (flat_map-append line_of (records_of (take i certificates)) (certificate_records c)))
+
+-- at a certificate it stops
+pub stops_at_certificate : (a b d : Option (List ℕ)) (y : List ℕ) (certificates : List Certificate) (i : ℕ) (c : Certificate) → i < length certificates → get_or certificates i c ≡ c
+    → Sends a b [] y (text_of (records_of (take i certificates))) → WritesFront b d (y ++ text_of (certificate_records c)) → WritesFront a d (text_of (records_of certificates))
+stops_at_certificate a b d y certificates i c within at p q =
+    front_after a b d [] y (text_of (records_of (take i certificates))) (text_of (certificate_records c)) (text_of (records_of certificates)) p q (certificates_front certificates i c within at)
+
+-- it stops after the last certificate
+pub stops_at_end : (a b d : Option (List ℕ)) (y : List ℕ) (certificates : List Certificate) (i : ℕ) → length certificates ≤ i → Sends a b [] y (text_of (records_of (take i certificates)))
+    → WritesFront b d y → WritesFront a d (text_of (records_of certificates))
+stops_at_end a b d y certificates i all p q =
+    front_last a b d [] y (text_of (records_of certificates)) (subst (λ (cs : List Certificate). Sends a b [] y (text_of (records_of cs))) (take_all i certificates all) p) q

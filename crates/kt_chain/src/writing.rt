@@ -1,9 +1,9 @@
 //! Certificates written as text.
 
-ghost use Rattle.std.specs.Prelude.{◌≡◌, ◌<◌, [], ◌∷◌, ◌++◌, codes, map, length, All, OnOk};
+ghost use Rattle.std.specs.Prelude.{◌≡◌, ◌<◌, [], ◌∷◌, ◌++◌, codes, map, length, All, OnOk, OnErr};
 ghost use Rattle.std.specs.Io.KnownBytes.{Appends};
 ghost use Rattle.std.specs.Fmt.{decimal};
-ghost use Rattle.kt_text.specs.Writing.{Sends, line_of, text_of};
+ghost use Rattle.kt_text.specs.Writing.{Sends, WritesFront, line_of, text_of};
 ghost use Rattle.kt_chain.specs.Spelling.{Member, instance_record, member_record, certificate_records, records_of, chain_word, HasShortChains};
 
 use crate::certificate::{Certificate, Chain};
@@ -17,15 +17,17 @@ use std::io::Write;
 /// Writes certificates as text: for each a record `cert`, then a record `member` for each of its members, each ended
 /// by a line feed. No chain may have more than 63 numbers.
 ///
-/// The text goes out in pieces of some 32 KiB, whatever the number of certificates. After a fault, part of it may be
-/// written.
+/// The text goes out in pieces of some 32 KiB, whatever the number of certificates. After a fault, a front part of
+/// it is written.
 pub fn write_certs<W: Write>(
     alloc: Global,
     certificates: &[Certificate],
     writer: &mut W,
 ) -> Result<(), WriteFault>
     requires { All HasShortChains certificates.now }
-    ensures { OnOk result (Appends (W.contents writer.old) (W.contents writer.new) (text_of (records_of certificates.now))) }
+    ensures written { OnOk result (Appends (W.contents writer.old) (W.contents writer.new) (text_of (records_of certificates.now))) }
+    ensures stopped { OnErr result (WritesFront (W.contents writer.old) (W.contents writer.new)
+        (text_of (records_of certificates.now))) }
 {
     let mut text = Vec::new(alloc);
     for certificate in certificates {
@@ -41,7 +43,9 @@ fn write_certificate<W: Write>(
     writer: &mut W,
 ) -> Result<(), WriteFault>
     requires { HasShortChains certificate.now }
-    ensures { OnOk result (Sends (W.contents writer.old) (W.contents writer.new) text.old.items text.new.items (text_of (certificate_records certificate.now))) }
+    ensures sent { OnOk result (Sends (W.contents writer.old) (W.contents writer.new) text.old.items text.new.items (text_of (certificate_records certificate.now))) }
+    ensures stopped { OnErr result (WritesFront (W.contents writer.old) (W.contents writer.new)
+        (text.old.items ++ text_of (certificate_records certificate.now))) }
 {
     push_instance(text, certificate)?;
     for member in certificate.members.list() {
