@@ -5,6 +5,7 @@ use Rattle.std.specs.Io.KnownBytes.{Appends}
 use Rattle.kt_spacetime.specs.declared.event.Event.{Event}
 use Rattle.kt_spacetime.specs.declared.event.Event.TheVariants.{Dropped}
 use Rattle.kt_chain.specs.declared.certificate.Certificate.{Certificate}
+use Rattle.kt_text.specs.Writing.{WritesFront}
 use Rattle.kt_report.specs.Lines.{instance_lines, refusal_line, object_line, losses_line}
 
 -- whether a row drops a message
@@ -33,4 +34,10 @@ pub record IsReport (names : List (List ℕ)) (rows : List Event) (certificates 
 pub record WritesReport (old new : Option (List ℕ)) (names : List (List ℕ)) (rows : List Event) (certificates : List Certificate) : Type 0 where
   pub text : List ℕ
   pub written : Appends old new text
+  pub is : IsReport names rows certificates text
+
+-- what was written before stays, and a front part of the report of a run follows it
+pub record WritesReportFront (old new : Option (List ℕ)) (names : List (List ℕ)) (rows : List Event) (certificates : List Certificate) : Type 0 where
+  pub text : List ℕ
+  pub written : WritesFront old new text
   pub is : IsReport names rows certificates text

@@ -1,9 +1,9 @@
 //! The lines of instances.
 
-ghost use Rattle.std.specs.Prelude.{◌≡◌, ◌∷◌, ◌++◌, ℕ, OnOk};
+ghost use Rattle.std.specs.Prelude.{◌≡◌, ◌∷◌, ◌++◌, ℕ, OnOk, OnErr};
 ghost use Rattle.std.specs.List.{flat_map};
 ghost use Rattle.kt_base.specs.Numbers.{IsInstNo};
-ghost use Rattle.kt_text.specs.Writing.{Sends};
+ghost use Rattle.kt_text.specs.Writing.{Sends, WritesFront};
 ghost use Rattle.kt_report.specs.Unwilling.{answers_to};
 ghost use Rattle.kt_report.specs.Lines.{ends_word, instance_line, instance_lines, member_line, message_word, unwilling_line, unwilling_of};
 
@@ -28,7 +28,9 @@ pub(crate) fn write_instances<W: Write>(
     writer: &mut W,
 ) -> Result<(), WriteFault>
     requires { (inst : ℕ) → IsInstNo inst → answers_to unwilling.now inst ≡ unwilling_of inst rows.now }
-    ensures { OnOk result (Sends (W.contents writer.old) (W.contents writer.new) text.old.items text.new.items (flat_map (instance_lines names.now rows.now) certificates.now)) }
+    ensures sent { OnOk result (Sends (W.contents writer.old) (W.contents writer.new) text.old.items text.new.items (flat_map (instance_lines names.now rows.now) certificates.now)) }
+    ensures stopped { OnErr result (WritesFront (W.contents writer.old) (W.contents writer.new)
+        (text.old.items ++ flat_map (instance_lines names.now rows.now) certificates.now)) }
 {
     for certificate in certificates {
         write_instance(text, names, rows, unwilling, certificate, writer)?;
@@ -46,7 +48,9 @@ fn write_instance<W: Write>(
     writer: &mut W,
 ) -> Result<(), WriteFault>
     requires { (inst : ℕ) → IsInstNo inst → answers_to unwilling.now inst ≡ unwilling_of inst rows.now }
-    ensures { OnOk result (Sends (W.contents writer.old) (W.contents writer.new) text.old.items text.new.items (instance_lines names.now rows.now certificate.now)) }
+    ensures sent { OnOk result (Sends (W.contents writer.old) (W.contents writer.new) text.old.items text.new.items (instance_lines names.now rows.now certificate.now)) }
+    ensures stopped { OnErr result (WritesFront (W.contents writer.old) (W.contents writer.new)
+        (text.old.items ++ instance_lines names.now rows.now certificate.now)) }
 {
     push_instance(text, names, certificate)?;
     if certificate.commit {
@@ -76,7 +80,9 @@ fn write_members<W: Write>(
     certificate: &Certificate,
     writer: &mut W,
 ) -> Result<(), WriteFault>
-    ensures { OnOk result (Sends (W.contents writer.old) (W.contents writer.new) text.old.items text.new.items (flat_map (member_line names.now rows.now) certificate.now.members)) }
+    ensures sent { OnOk result (Sends (W.contents writer.old) (W.contents writer.new) text.old.items text.new.items (flat_map (member_line names.now rows.now) certificate.now.members)) }
+    ensures stopped { OnErr result (WritesFront (W.contents writer.old) (W.contents writer.new)
+        (text.old.items ++ flat_map (member_line names.now rows.now) certificate.now.members)) }
 {
     for member in certificate.members.list() {
         push_member(text, names, rows, member)?;
@@ -142,7 +148,9 @@ fn write_unwilling<W: Write>(
     unwilling: &[(ProcNo, Cause)],
     writer: &mut W,
 ) -> Result<(), WriteFault>
-    ensures { OnOk result (Sends (W.contents writer.old) (W.contents writer.new) text.old.items text.new.items (flat_map (unwilling_line names.now) unwilling.now)) }
+    ensures sent { OnOk result (Sends (W.contents writer.old) (W.contents writer.new) text.old.items text.new.items (flat_map (unwilling_line names.now) unwilling.now)) }
+    ensures stopped { OnErr result (WritesFront (W.contents writer.old) (W.contents writer.new)
+        (text.old.items ++ flat_map (unwilling_line names.now) unwilling.now)) }
 {
     for answer in unwilling {
         push_unwilling(text, names, *answer)?;

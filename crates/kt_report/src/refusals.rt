@@ -1,9 +1,9 @@
 //! The lines of commands that were refused.
 
-ghost use Rattle.std.specs.Prelude.{◌≡◌, ◌∷◌, ◌++◌, OnOk};
+ghost use Rattle.std.specs.Prelude.{◌≡◌, ◌∷◌, ◌++◌, OnOk, OnErr};
 ghost use Rattle.std.specs.List.{flat_map};
 ghost use Rattle.kt_spacetime.specs.declared.event.Event.TheVariants.{Refused};
-ghost use Rattle.kt_text.specs.Writing.{Sends};
+ghost use Rattle.kt_text.specs.Writing.{Sends, WritesFront};
 ghost use Rattle.kt_report.specs.Lines.{refusal_line};
 
 use crate::words::{end_line, name_text, push_cause, push_word, verb_text};
@@ -21,7 +21,9 @@ pub(crate) fn write_refusals<W: Write>(
     rows: &[Event],
     writer: &mut W,
 ) -> Result<(), WriteFault>
-    ensures { OnOk result (Sends (W.contents writer.old) (W.contents writer.new) text.old.items text.new.items (flat_map (refusal_line names.now) rows.now)) }
+    ensures sent { OnOk result (Sends (W.contents writer.old) (W.contents writer.new) text.old.items text.new.items (flat_map (refusal_line names.now) rows.now)) }
+    ensures stopped { OnErr result (WritesFront (W.contents writer.old) (W.contents writer.new)
+        (text.old.items ++ flat_map (refusal_line names.now) rows.now)) }
 {
     for row in rows {
         push_row(text, names, *row)?;

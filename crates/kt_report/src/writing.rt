@@ -1,13 +1,13 @@
 //! Reports.
 
-ghost use Rattle.std.specs.Prelude.{◌++◌, OnOk};
+ghost use Rattle.std.specs.Prelude.{◌++◌, OnOk, OnErr};
 ghost use Rattle.std.specs.List.{flat_map};
 ghost use Rattle.std.specs.Io.KnownBytes.{Appends};
 ghost use Rattle.kt_cuts.specs.Legal.{IsLegal};
 ghost use Rattle.kt_report.specs.Exact.{report_of};
 ghost use Rattle.kt_report.specs.Lines.{instance_lines, refusal_line};
-ghost use Rattle.kt_report.specs.Report.{WritesReport};
-ghost use Rattle.kt_text.specs.Writing.{Sends};
+ghost use Rattle.kt_report.specs.Report.{WritesReport, WritesReportFront};
+ghost use Rattle.kt_text.specs.Writing.{Sends, WritesFront};
 
 use crate::instances::write_instances;
 use crate::losses::{dropped, lost, push_losses};
@@ -35,7 +35,7 @@ use std::io::Write;
 /// at the end, which its receiver's live history does not have, and which was not dropped. Of a log that is not legal,
 /// what is written of objects and how many messages it says are lost is left open.
 ///
-/// The text goes out in pieces of some 32 KiB. After a fault, part of it may be written.
+/// The text goes out in pieces of some 32 KiB. After a fault, a front part of it is written.
 pub fn report<W: Write>(
     alloc: Global,
     plan: &Plan,
@@ -47,6 +47,10 @@ pub fn report<W: Write>(
         log.now.rows certificates.now) }
     ensures exact { OnOk result (IsLegal log.now.rows → Appends (W.contents writer.old) (W.contents writer.new)
         (report_of plan.now log.now.rows certificates.now)) }
+    ensures stopped { OnErr result (WritesReportFront (W.contents writer.old) (W.contents writer.new)
+        plan.now.names log.now.rows certificates.now) }
+    ensures front { OnErr result (IsLegal log.now.rows → WritesFront (W.contents writer.old)
+        (W.contents writer.new) (report_of plan.now log.now.rows certificates.now)) }
 {
     let rows = log.rows();
     let replay = Replay::of_rows(alloc, plan.kinds.as_slice(), rows)?;
@@ -66,8 +70,11 @@ fn write_commands<W: Write>(
     certificates: &[Certificate],
     writer: &mut W,
 ) -> Result<(), WriteFault>
-    ensures { OnOk result (Sends (W.contents writer.old) (W.contents writer.new) text.old.items text.new.items
+    ensures sent { OnOk result (Sends (W.contents writer.old) (W.contents writer.new) text.old.items text.new.items
         (flat_map (instance_lines names.now rows.now) certificates.now ++ flat_map (refusal_line names.now) rows.now)) }
+    ensures stopped { OnErr result (WritesFront (W.contents writer.old) (W.contents writer.new)
+        (text.old.items ++ (flat_map (instance_lines names.now rows.now) certificates.now
+        ++ flat_map (refusal_line names.now) rows.now))) }
 {
     let unwilling = Unwilling::in_rows(alloc, rows)?;
     write_instances(text, names, rows, &unwilling, certificates, writer)?;
