@@ -8,7 +8,7 @@ ghost use Rattle.kt_tables.specs.Standing.{StandsFor, must_take};
 ghost use Rattle.kt_parts.specs.Rules.{after_reply, reply_action, settle_action};
 ghost use Rattle.kt_parts.specs.Joins.{Joins};
 ghost use Rattle.kt_parts.specs.Replies.{IsReplyTo};
-ghost use Rattle.kt_parts.specs.Counts.{counts_of, counts_if_joined, no_parcel, one_reply, decisions_to};
+ghost use Rattle.kt_parts.specs.Counts.{counts_of, counts_at_reply, counts_if_joined, no_parcel, one_reply, decisions_to};
 ghost use Rattle.kt_ckpt.specs.Rules.{refusal, decision};
 ghost use Rattle.kt_ckpt.specs.Actions.{AsksCohort, IsStart, IsAnswer};
 
@@ -132,6 +132,7 @@ pub fn on_ask(
 pub fn on_reply(side: &mut Side, willing: bool) -> Action
     ensures side { side.new ≡ after_reply side.old willing }
     ensures action { result ≡ reply_action side.old willing }
+    ensures counts { counts_of result ≡ counts_at_reply side.old }
 {
     side.take_reply(willing)
 }

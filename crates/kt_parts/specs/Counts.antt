@@ -1,5 +1,5 @@
 -- How many asks, replies and decisions an action puts into channels.
-use Rattle.std.specs.Prelude.{ℕ, Option, Some, None, length}
+use Rattle.std.specs.Prelude.{ℕ, ◌==◌, if◌then◌else◌, Option, Some, None, length}
 use Rattle.kt_base.specs.Sets.{count_of}
 use Rattle.kt_parts.specs.Rules.{way_on}
 use Rattle.kt_parts.specs.Shares.{Share}
@@ -43,3 +43,12 @@ counts_at_join part = record { asks = count_of part.asked; replies = replies_of 
 abbrev pub counts_if_joined : Counts → Option Share → Counts
 counts_if_joined others None = others
 counts_if_joined others (Some part) = counts_at_join part
+
+-- after the last reply that is awaited, the reply of a participant, or a decision for each process that an initiator asked
+abbrev pub counts_at_last : Option ℕ → ℕ → Counts
+counts_at_last (Some to) asked = one_reply
+counts_at_last None asked = decisions_to asked
+
+-- after any other reply nothing
+abbrev pub counts_at_reply : Share → Counts
+counts_at_reply part = if part.awaited == 1 then counts_at_last part.parent part.asked else no_parcel

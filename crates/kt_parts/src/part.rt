@@ -2,7 +2,7 @@
 
 ghost use Rattle.std.specs.Prelude.{◌≡◌, ◌<◌, ℕ, All};
 ghost use Rattle.kt_parts.specs.Joins.{IsNewPart, Joins};
-ghost use Rattle.kt_parts.specs.Counts.{counts_of, counts_at_join};
+ghost use Rattle.kt_parts.specs.Counts.{counts_of, counts_at_join, counts_at_reply};
 ghost use Rattle.kt_parts.specs.Rules.{way_on, after_reply, reply_action, settle_action};
 
 use crate::actions::{Action, Then};
@@ -101,6 +101,7 @@ impl Part {
     pub fn take_reply(&mut self, willing: bool) -> Action
         ensures part { self.new ≡ after_reply self.old willing }
         ensures action { result ≡ reply_action self.old willing }
+        ensures counts { counts_of result ≡ counts_at_reply self.old }
     {
         if self.awaited == 0 {
             return Action::Nothing;

@@ -8,7 +8,7 @@ ghost use Rattle.kt_tables.specs.Standing.{StandsFor, must_roll};
 ghost use Rattle.kt_parts.specs.Rules.{after_reply, reply_action, settle_action};
 ghost use Rattle.kt_parts.specs.Joins.{Joins};
 ghost use Rattle.kt_parts.specs.Replies.{IsReplyTo};
-ghost use Rattle.kt_parts.specs.Counts.{counts_of, counts_if_joined, no_parcel, one_reply, decisions_to};
+ghost use Rattle.kt_parts.specs.Counts.{counts_of, counts_at_reply, counts_if_joined, no_parcel, one_reply, decisions_to};
 ghost use Rattle.kt_roll.specs.Notes.{note_of, no_note, with_note};
 ghost use Rattle.kt_roll.specs.Sides.{part_of, HasRoom, IsLeft};
 ghost use Rattle.kt_roll.specs.Rules.{decision, is_in};
@@ -152,6 +152,7 @@ pub fn on_reply(side: &mut Side, willing: bool) -> Action
     ensures part { side.new.part ≡ after_reply side.old.part willing }
     ensures notes { side.new.notes ≡ side.old.notes }
     ensures action { result ≡ reply_action side.old.part willing }
+    ensures counts { counts_of result ≡ counts_at_reply side.old.part }
 {
     side.take_reply(willing)
 }

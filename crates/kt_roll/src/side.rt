@@ -2,6 +2,7 @@
 
 ghost use Rattle.std.specs.Prelude.{◌≡◌, ◌<◌};
 ghost use Rattle.kt_parts.specs.Rules.{after_reply, reply_action, settle_action};
+ghost use Rattle.kt_parts.specs.Counts.{counts_of, counts_at_reply};
 ghost use Rattle.kt_roll.specs.Notes.{note_of};
 ghost use Rattle.kt_roll.specs.Sides.{IsAfter};
 
@@ -71,6 +72,7 @@ impl Side {
         ensures part { self.new.part ≡ after_reply self.old.part willing }
         ensures notes { self.new.notes ≡ self.old.notes }
         ensures action { result ≡ reply_action self.old.part willing }
+        ensures counts { counts_of result ≡ counts_at_reply self.old.part }
     {
         self.part.take_reply(willing)
     }
