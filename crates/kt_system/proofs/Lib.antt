@@ -12,3 +12,4 @@ pub mod Taking
 pub mod Acting
 pub mod Counting
 pub mod Tallying
+pub mod Growing

@@ -4,3 +4,4 @@ pub mod Takes
 pub mod Shown
 pub mod ShownActs
 pub mod Tallies
+pub mod Keeps

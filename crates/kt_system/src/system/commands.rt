@@ -1,6 +1,6 @@
 //! Commands that begin an instance, and asks to take part in one.
 
-ghost use Rattle.std.specs.Prelude.{◌≡◌, ◌<◌, ◌≤◌, ◌+◌, ◌^◌, ℕ, true, OnErr, IfOk, IfSome, IfNone, length};
+ghost use Rattle.std.specs.Prelude.{◌≡◌, ◌<◌, ◌≤◌, ◌+◌, ◌^◌, ℕ, true, IfOk, IfSome, IfNone, length};
 ghost use Rattle.kt_base.specs.Sets.{has};
 ghost use Rattle.kt_process.specs.Turns.{peers_of};
 ghost use Rattle.kt_system.specs.Systems.{person, room_to, CanCarryOut, KeepsParcels, IsSame, Grows};
@@ -17,6 +17,7 @@ ghost use Rattle.kt_values.specs.SeenActs.{seen_acts, seen_acts_asked};
 ghost use Rattle.kt_system.specs.Shown.{Shows, JoinsAs, with_instance, begun_as, answered_as, with_cause, begin_verb};
 ghost use Rattle.kt_system.specs.ShownActs.{acts_shown, acts_carried_out};
 ghost use Rattle.kt_system.specs.Tallies.{TalliesPut, front};
+ghost use Rattle.kt_system.specs.Keeps.{CanStep, KeepsInPart, KeepsInStep};
 
 use super::System;
 use super::messages::NO_ACTS;
@@ -45,10 +46,7 @@ impl System {
     ) -> Result<[Act; 2], Memory>
         requires p { p < self.old.size }
         requires few { length self.old.rows.rows + 4 ≤ 2 ^ 24 }
-        ensures size { self.new.size ≡ self.old.size }
-        ensures err { OnErr result (IsSame self.new self.old) }
-        ensures grows { Grows 4 self.old self.new }
-        ensures tallies { OnOk result (TalliesPut [] self.old self.new) }
+        ensures keeps { KeepsInStep result [] self.old self.new }
         ensures shows { (v : Seen) → Shows self.old v → self.old.begun < 4096 → OnOk result (Shows self.new (transition v (BeginStep p false able))) }
         ensures acts { (v : Seen) → Shows self.old v → self.old.begun < 4096 → IfOk result (λ acts. acts_shown acts ≡ seen_acts v (BeginStep p false able)) }
         ensures spent { 4096 ≤ self.old.begun → IsSame self.new self.old }
@@ -68,10 +66,7 @@ impl System {
     pub fn begin_rollback(&mut self, p: ProcNo) -> Result<[Act; 2], Memory>
         requires p { p < self.old.size }
         requires few { length self.old.rows.rows + 4 ≤ 2 ^ 24 }
-        ensures size { self.new.size ≡ self.old.size }
-        ensures err { OnErr result (IsSame self.new self.old) }
-        ensures grows { Grows 4 self.old self.new }
-        ensures tallies { OnOk result (TalliesPut [] self.old self.new) }
+        ensures keeps { KeepsInStep result [] self.old self.new }
         ensures shows { (v : Seen) (able : Bool) → Shows self.old v → self.old.begun < 4096 → OnOk result (Shows self.new (transition v (BeginStep p true able))) }
         ensures acts { (v : Seen) (able : Bool) → Shows self.old v → self.old.begun < 4096 → IfOk result (λ acts. acts_shown acts ≡ seen_acts v (BeginStep p true able)) }
         ensures spent { 4096 ≤ self.old.begun → IsSame self.new self.old }
@@ -129,9 +124,7 @@ impl System {
         requires spare { 4 ≤ self.old.rows.spare }
         requires few { length self.old.rows.rows + 4 ≤ 2 ^ 24 }
         requires room { CanCarryOut self.old p action }
-        ensures size { self.new.size ≡ self.old.size }
-        ensures grows { Grows 4 self.old self.new }
-        ensures tallies { TalliesPut [] self.old self.new }
+        ensures keeps { KeepsInPart 4 [] self.old self.new }
         ensures shows { (v : Seen) (test : ℕ → Bool) (label : ℕ → ℕ) → Shows self.old v → JoinsAs self.old v p test label action → Shows self.new (begun_as v p inst kind test label action) }
         ensures acts { acts_shown result ≡ acts_carried_out kind (is_ready (person self.old p).side) action }
     {
@@ -172,13 +165,8 @@ impl System {
         label: Label,
         able: bool,
     ) -> Result<[Act; 2], Memory>
-        requires at { at < self.old.size }
-        requires from { from < self.old.size }
-        requires few { length self.old.rows.rows + 4 ≤ 2 ^ 24 }
-        ensures size { self.new.size ≡ self.old.size }
-        ensures err { OnErr result (IsSame self.new self.old) }
-        ensures grows { Grows 4 self.old self.new }
-        ensures tallies { OnOk result (TalliesPut (front self.old at from) self.old self.new) }
+        requires can { CanStep self.old at from }
+        ensures keeps { KeepsInStep result (front self.old at from) self.old self.new }
         ensures shows { (v : Seen) → Shows self.old v → OnOk result (Shows self.new (seen_ask v at from able inst false label (drop 1 (v.channel from at)))) }
         ensures acts { (v : Seen) → Shows self.old v → IfOk result (λ acts. acts_shown acts ≡ seen_acts_asked v at from able inst false label) }
     {
@@ -199,13 +187,8 @@ impl System {
         inst: InstNo,
         label: Label,
     ) -> Result<[Act; 2], Memory>
-        requires at { at < self.old.size }
-        requires from { from < self.old.size }
-        requires few { length self.old.rows.rows + 4 ≤ 2 ^ 24 }
-        ensures size { self.new.size ≡ self.old.size }
-        ensures err { OnErr result (IsSame self.new self.old) }
-        ensures grows { Grows 4 self.old self.new }
-        ensures tallies { OnOk result (TalliesPut (front self.old at from) self.old self.new) }
+        requires can { CanStep self.old at from }
+        ensures keeps { KeepsInStep result (front self.old at from) self.old self.new }
         ensures shows { (v : Seen) (able : Bool) → Shows self.old v → OnOk result (Shows self.new (seen_ask v at from able inst true label (drop 1 (v.channel from at)))) }
         ensures acts { (v : Seen) (able : Bool) → Shows self.old v → IfOk result (λ acts. acts_shown acts ≡ seen_acts_asked v at from able inst true label) }
     {
@@ -232,9 +215,7 @@ impl System {
         requires few { length self.old.rows.rows + 4 ≤ 2 ^ 24 }
         requires reply { 2 ≤ room_to self.old at from }
         requires room { CanCarryOut self.old at action }
-        ensures size { self.new.size ≡ self.old.size }
-        ensures grows { Grows 4 self.old self.new }
-        ensures tallies { TalliesPut [] self.old self.new }
+        ensures keeps { KeepsInPart 4 [] self.old self.new }
         ensures shows { (v : Seen) (test : ℕ → Bool) (label : ℕ → ℕ) → Shows self.old v → JoinsAs self.old v at test label action → Shows self.new (answered_as v at from inst kind test label action) }
         ensures acts { acts_shown result ≡ acts_carried_out kind (is_ready (person self.old at).side) action }
     {
@@ -257,9 +238,7 @@ impl System {
     fn say_why(&mut self, p: ProcNo, inst: InstNo, cause: Option<Cause>)
         requires spare { 1 ≤ self.old.rows.spare }
         requires few { length self.old.rows.rows < 2 ^ 24 }
-        ensures size { self.new.size ≡ self.old.size }
-        ensures grows { Grows 1 self.old self.new }
-        ensures tallies { TalliesPut [] self.old self.new }
+        ensures keeps { KeepsInPart 1 [] self.old self.new }
         ensures shows { (v : Seen) → Shows self.old v → Shows self.new (with_cause v p inst cause) }
     {
         if let Some(cause) = cause {
@@ -278,13 +257,8 @@ impl System {
         label: Label,
         able: bool,
     ) -> Result<[Act; 2], Memory>
-        requires at { at < self.old.size }
-        requires from { from < self.old.size }
-        requires few { length self.old.rows.rows + 4 ≤ 2 ^ 24 }
-        ensures size { self.new.size ≡ self.old.size }
-        ensures err { OnErr result (IsSame self.new self.old) }
-        ensures grows { Grows 4 self.old self.new }
-        ensures tallies { OnOk result (TalliesPut (front self.old at from) self.old self.new) }
+        requires can { CanStep self.old at from }
+        ensures keeps { KeepsInStep result (front self.old at from) self.old self.new }
         ensures shows { (v : Seen) → Shows self.old v → OnOk result (Shows self.new (seen_ask v at from able inst (is_rollback_kind (Some kind)) label (drop 1 (v.channel from at)))) }
         ensures acts { (v : Seen) → Shows self.old v → IfOk result (λ acts. acts_shown acts ≡ seen_acts_asked v at from able inst (is_rollback_kind (Some kind)) label) }
     {

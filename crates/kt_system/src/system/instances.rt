@@ -3,7 +3,7 @@
 ghost use Rattle.std.specs.Prelude.{◌≡◌, ◌<◌, ◌≤◌, ◌+◌, ◌^◌, ℕ, true, slice_index_or, length};
 ghost use Rattle.kt_base.specs.Sets.{has};
 ghost use Rattle.kt_process.specs.Persons.{is_ready};
-ghost use Rattle.kt_system.specs.Systems.{person, room_to, HasBack, CanJoin, CanClose, KeepsRoom, UsesRoom, Grows};
+ghost use Rattle.kt_system.specs.Systems.{person, room_to, HasBack, CanJoin, CanClose, KeepsRoom, UsesRoom};
 ghost use Rattle.std.specs.Prelude.{Bool, [], ◌++◌};
 ghost use Rattle.kt_fifo.specs.declared.parcels.Parcel.TheVariants as parcel;
 ghost use Rattle.kt_tables.specs.Peers.{IsCohort};
@@ -15,6 +15,7 @@ ghost use Rattle.kt_values.specs.Values.{closing};
 ghost use Rattle.kt_system.specs.Shown.{Shows, IsInside, lists_closed, joined_row, asking_and_settling};
 ghost use Rattle.kt_system.specs.ShownActs.{act_shown, acts_shown, acts_joining, acts_going_on};
 ghost use Rattle.kt_system.specs.Tallies.{TalliesPut};
+ghost use Rattle.kt_system.specs.Keeps.{KeepsInPart};
 
 use super::System;
 use kt_base::{InstNo, Kind, ProcNo, ProcSet};
@@ -70,9 +71,7 @@ impl System {
         requires spare { 1 ≤ self.old.rows.spare }
         requires few { length self.old.rows.rows < 2 ^ 24 }
         requires room { CanClose self.old p }
-        ensures size { self.new.size ≡ self.old.size }
-        ensures grows { Grows 1 self.old self.new }
-        ensures tallies { TalliesPut [] self.old self.new }
+        ensures keeps { KeepsInPart 1 [] self.old self.new }
         ensures shows { (v : Seen) → Shows self.old v → IsInside self.old p → Shows self.new (seen_closing v p inst commit) }
         ensures acts { act_shown result ≡ closing (is_ready (person self.old p).side) commit }
     {
@@ -98,9 +97,7 @@ impl System {
         requires spare { 3 ≤ self.old.rows.spare }
         requires few { length self.old.rows.rows + 3 ≤ 2 ^ 24 }
         requires room { CanJoin self.old p asks.now goes }
-        ensures size { self.new.size ≡ self.old.size }
-        ensures grows { Grows 3 self.old self.new }
-        ensures tallies { TalliesPut [] self.old self.new }
+        ensures keeps { KeepsInPart 3 [] self.old self.new }
         ensures shows { (v : Seen) (test : ℕ → Bool) (label : ℕ → ℕ) → Shows self.old v → IsCohort asks.now test label → goes ≡ goes_on (v.people p).part → (v.people p).part.willing ≡ true → IsInside self.old p →
             Shows self.new (asking_and_settling v p inst kind test label) }
         ensures acts { acts_shown result ≡ acts_joining kind ++ acts_going_on (is_ready (person self.old p).side) goes }
@@ -142,9 +139,7 @@ impl System {
         requires spare { 2 ≤ self.old.rows.spare }
         requires few { length self.old.rows.rows + 2 ≤ 2 ^ 24 }
         requires room { CanClose self.old p }
-        ensures size { self.new.size ≡ self.old.size }
-        ensures grows { Grows 2 self.old self.new }
-        ensures tallies { TalliesPut [] self.old self.new }
+        ensures keeps { KeepsInPart 2 [] self.old self.new }
         ensures shows { (v : Seen) → Shows self.old v → IsInside self.old p → Shows self.new (seen_closing (seen_deciding v p inst commit) p inst commit) }
         ensures acts { act_shown result ≡ closing (is_ready (person self.old p).side) commit }
     {

@@ -1,8 +1,8 @@
 //! Application messages, and failures.
 
-ghost use Rattle.std.specs.Prelude.{◌≡◌, ◌<◌, ◌≤◌, ◌+◌, ◌-◌, ◌^◌, ℕ, true, OnErr, length};
-ghost use Rattle.kt_system.specs.Systems.{person, room_to, KeepsParcels, IsSame, Grows};
-ghost use Rattle.std.specs.Prelude.{[], ◌∷◌, ◌++◌, Bool, false, drop, OnOk, IfOk, if◌then◌else◌};
+ghost use Rattle.std.specs.Prelude.{◌≡◌, ◌<◌, ◌≤◌, ◌+◌, ◌-◌, ◌^◌, true, length};
+ghost use Rattle.kt_system.specs.Systems.{person};
+ghost use Rattle.std.specs.Prelude.{[], ◌∷◌, ◌++◌, false, drop, OnOk, IfOk, if◌then◌else◌};
 ghost use Rattle.kt_fifo.specs.declared.parcels.Parcel.TheVariants as parcel;
 ghost use Rattle.kt_tables.specs.Calls.{received, Speaks};
 ghost use Rattle.kt_protocol.specs.States.{Send as SendStep, Fail as FailStep};
@@ -14,6 +14,7 @@ ghost use Rattle.kt_values.specs.SeenActs.{seen_acts, seen_acts_arriving};
 ghost use Rattle.kt_system.specs.Shown.{Shows, channel_without, held_without};
 ghost use Rattle.kt_system.specs.ShownActs.{acts_shown};
 ghost use Rattle.kt_system.specs.Tallies.{TalliesPut, front};
+ghost use Rattle.kt_system.specs.Keeps.{CanStep, KeepsInPart, KeepsInStep};
 
 use super::System;
 use kt_base::{Cause, Label, Memory, MsgNo, ProcNo, Verb};
@@ -49,14 +50,9 @@ impl System {
     /// A process sends a message to another one; where its object is down, it refuses. That it may send, and that its
     /// labels are not spent, was tested before.
     pub fn send(&mut self, p: ProcNo, to: ProcNo, body: i64) -> Result<[Act; 2], Memory>
-        requires p { p < self.old.size }
-        requires to { to < self.old.size }
-        requires few { length self.old.rows.rows + 4 ≤ 2 ^ 24 }
+        requires can { CanStep self.old p to }
         requires left { (person self.old p).up ≡ true → (person self.old p).used < 2 ^ 48 - 1 }
-        ensures size { self.new.size ≡ self.old.size }
-        ensures err { OnErr result (IsSame self.new self.old) }
-        ensures grows { Grows 4 self.old self.new }
-        ensures tallies { OnOk result (TalliesPut [] self.old self.new) }
+        ensures keeps { KeepsInStep result [] self.old self.new }
         ensures shows { (v : Seen) → Shows self.old v → (v.people p).inst ≡ 0 → (to ≡ p → ⊥) → Speaks (((transition v (SendStep p to body)).people p).calls) → OnOk result (Shows self.new (transition v (SendStep p to body))) }
         ensures acts { (v : Seen) → IfOk result (λ acts. acts_shown acts ≡ seen_acts v (SendStep p to body)) }
     {
@@ -76,10 +72,7 @@ impl System {
     pub fn fail(&mut self, p: ProcNo) -> Result<[Act; 2], Memory>
         requires p { p < self.old.size }
         requires few { length self.old.rows.rows + 4 ≤ 2 ^ 24 }
-        ensures size { self.new.size ≡ self.old.size }
-        ensures err { OnErr result (IsSame self.new self.old) }
-        ensures grows { Grows 4 self.old self.new }
-        ensures tallies { OnOk result (TalliesPut [] self.old self.new) }
+        ensures keeps { KeepsInStep result [] self.old self.new }
         ensures shows { (v : Seen) → Shows self.old v → OnOk result (Shows self.new (transition v (FailStep p))) }
         ensures acts { (v : Seen) → Shows self.old v → IfOk result (λ acts. acts_shown acts ≡ seen_acts v (FailStep p)) }
     {
@@ -97,9 +90,7 @@ impl System {
     pub(super) fn refuse(&mut self, p: ProcNo, verb: Verb, cause: Cause)
         requires spare { 1 ≤ self.old.rows.spare }
         requires few { length self.old.rows.rows < 2 ^ 24 }
-        ensures size { self.new.size ≡ self.old.size }
-        ensures grows { Grows 1 self.old self.new }
-        ensures tallies { TalliesPut [] self.old self.new }
+        ensures keeps { KeepsInPart 1 [] self.old self.new }
         ensures shows { (v : Seen) → Shows self.old v → Shows self.new (seen_refusal v p verb cause) }
     {
         self.write(Event::Refused { p, verb, cause });
@@ -112,13 +103,8 @@ impl System {
         from: ProcNo,
         message: Message,
     ) -> Result<[Act; 2], Memory>
-        requires at { at < self.old.size }
-        requires from { from < self.old.size }
-        requires few { length self.old.rows.rows + 4 ≤ 2 ^ 24 }
-        ensures size { self.new.size ≡ self.old.size }
-        ensures err { OnErr result (IsSame self.new self.old) }
-        ensures grows { Grows 4 self.old self.new }
-        ensures tallies { OnOk result (TalliesPut (front self.old at from) self.old self.new) }
+        requires can { CanStep self.old at from }
+        ensures keeps { KeepsInStep result (front self.old at from) self.old self.new }
         ensures shows { (v : Seen) → Shows self.old v → (is_seen_ready v at ≡ false → (v.people at).up ≡ true → Speaks ((v.people at).calls ++ received from message.label ∷ [])) →
             OnOk result (Shows self.new (if is_seen_ready v at then seen_holding v at from (parcel.App message.label message.msg message.body) (drop 1 (v.channel from at))
             else seen_arrival v (with_rest v.channel from at (drop 1 (v.channel from at))) v.held at from message.label message.msg message.body)) }
@@ -158,13 +144,8 @@ impl System {
         message: Message,
         is_held: bool,
     ) -> Result<[Act; 2], Memory>
-        requires at { at < self.old.size }
-        requires from { from < self.old.size }
-        requires few { length self.old.rows.rows + 4 ≤ 2 ^ 24 }
-        ensures size { self.new.size ≡ self.old.size }
-        ensures err { OnErr result (IsSame self.new self.old) }
-        ensures grows { Grows 4 self.old self.new }
-        ensures tallies { OnOk result (TalliesPut (if is_held then [] else front self.old at from) self.old self.new) }
+        requires can { CanStep self.old at from }
+        ensures keeps { KeepsInStep result (if is_held then [] else front self.old at from) self.old self.new }
         ensures shows { (v : Seen) → Shows self.old v → ((v.people at).up ≡ true → Speaks ((v.people at).calls ++ received from message.label ∷ [])) →
             OnOk result (Shows self.new (seen_arrival v (channel_without is_held v at from) (held_without is_held v at from) at from message.label message.msg message.body)) }
         ensures acts { (v : Seen) → Shows self.old v → IfOk result (λ acts. acts_shown acts ≡ seen_acts_arriving v at from message.body) }

@@ -1,7 +1,7 @@
 //! Replies and decisions, and a parcel of any kind.
 
-ghost use Rattle.std.specs.Prelude.{◌≡◌, ◌<◌, ◌≤◌, ◌+◌, ◌^◌, ℕ, true, OnErr, length};
-ghost use Rattle.kt_system.specs.Systems.{person, CanGoOn, IsSame, Grows};
+ghost use Rattle.std.specs.Prelude.{◌≡◌, ◌<◌, ◌≤◌, ◌+◌, ◌^◌, ℕ, true, length};
+ghost use Rattle.kt_system.specs.Systems.{person, CanGoOn};
 ghost use Rattle.std.specs.Prelude.{Bool, [], drop, OnOk, IfOk, ◌==◌, ◌∷◌};
 ghost use Rattle.kt_tables.specs.Calls.{Speaks};
 ghost use Rattle.kt_protocol.specs.States.{Take as TakeStep};
@@ -12,7 +12,8 @@ ghost use Rattle.kt_process.specs.Persons.{is_ready};
 ghost use Rattle.kt_values.specs.SeenActs.{seen_acts, seen_acts_replied, seen_acts_decided, seen_acts_taking, seen_acts_taking_held};
 ghost use Rattle.kt_system.specs.Shown.{Shows, IsInside, gone_on, after_reply_taken, after_decision_taken};
 ghost use Rattle.kt_system.specs.ShownActs.{acts_shown, acts_gone_on};
-ghost use Rattle.kt_system.specs.Tallies.{TalliesPut, front, taken_off};
+ghost use Rattle.kt_system.specs.Tallies.{front, taken_off};
+ghost use Rattle.kt_system.specs.Keeps.{CanStep, KeepsInPart, KeepsInStep};
 
 use super::System;
 use super::messages::{Message, NO_ACTS};
@@ -31,13 +32,8 @@ impl System {
         inst: InstNo,
         willing: bool,
     ) -> Result<[Act; 2], Memory>
-        requires at { at < self.old.size }
-        requires from { from < self.old.size }
-        requires few { length self.old.rows.rows + 4 ≤ 2 ^ 24 }
-        ensures size { self.new.size ≡ self.old.size }
-        ensures err { OnErr result (IsSame self.new self.old) }
-        ensures grows { Grows 4 self.old self.new }
-        ensures tallies { OnOk result (TalliesPut (front self.old at from) self.old self.new) }
+        requires can { CanStep self.old at from }
+        ensures keeps { KeepsInStep result (front self.old at from) self.old self.new }
         ensures shows { (v : Seen) → Shows self.old v → OnOk result (Shows self.new (after_reply_taken v at from inst willing (drop 1 (v.channel from at)))) }
         ensures acts { (v : Seen) → Shows self.old v → IfOk result (λ acts. acts_shown acts ≡ seen_acts_replied v at willing) }
     {
@@ -55,9 +51,7 @@ impl System {
         requires spare { 2 ≤ self.old.rows.spare }
         requires few { length self.old.rows.rows + 2 ≤ 2 ^ 24 }
         requires room { CanGoOn self.old p action.now }
-        ensures size { self.new.size ≡ self.old.size }
-        ensures grows { Grows 2 self.old self.new }
-        ensures tallies { TalliesPut [] self.old self.new }
+        ensures keeps { KeepsInPart 2 [] self.old self.new }
         ensures shows { (v : Seen) → Shows self.old v → ((commit : Bool) (tell : ℕ) → action.now ≡ what.Settle commit tell → IsInside self.old p) → Shows self.new (gone_on v p inst action.now) }
         ensures acts { acts_shown result ≡ acts_gone_on (is_ready (person self.old p).side) action.now }
     {
@@ -98,13 +92,8 @@ impl System {
         inst: InstNo,
         commit: bool,
     ) -> Result<[Act; 2], Memory>
-        requires at { at < self.old.size }
-        requires from { from < self.old.size }
-        requires few { length self.old.rows.rows + 4 ≤ 2 ^ 24 }
-        ensures size { self.new.size ≡ self.old.size }
-        ensures err { OnErr result (IsSame self.new self.old) }
-        ensures grows { Grows 4 self.old self.new }
-        ensures tallies { OnOk result (TalliesPut (front self.old at from) self.old self.new) }
+        requires can { CanStep self.old at from }
+        ensures keeps { KeepsInStep result (front self.old at from) self.old self.new }
         ensures shows { (v : Seen) → Shows self.old v → OnOk result (Shows self.new (after_decision_taken v at from inst commit (drop 1 (v.channel from at)))) }
         ensures acts { (v : Seen) → Shows self.old v → IfOk result (λ acts. acts_shown acts ≡ seen_acts_decided v at inst commit) }
     {
@@ -127,13 +116,8 @@ impl System {
         from: ProcNo,
         able: bool,
     ) -> Result<[Act; 2], Memory>
-        requires at { at < self.old.size }
-        requires from { from < self.old.size }
-        requires few { length self.old.rows.rows + 4 ≤ 2 ^ 24 }
-        ensures size { self.new.size ≡ self.old.size }
-        ensures err { OnErr result (IsSame self.new self.old) }
-        ensures grows { Grows 4 self.old self.new }
-        ensures tallies { OnOk result (TalliesPut (front self.old at from) self.old self.new) }
+        requires can { CanStep self.old at from }
+        ensures keeps { KeepsInStep result (front self.old at from) self.old self.new }
         ensures shows { (v : Seen) → Shows self.old v → Speaks (((seen_front v at from able (v.channel from at)).people at).calls) → OnOk result (Shows self.new (seen_front v at from able (v.channel from at))) }
         ensures acts { (v : Seen) → Shows self.old v → IfOk result (λ acts. acts_shown acts ≡ seen_acts_taking v at from able (v.channel from at)) }
     {
@@ -154,13 +138,8 @@ impl System {
 
     /// A process takes the first message of another process that is held for it.
     fn take_held(&mut self, at: ProcNo, from: ProcNo, parcel: Parcel) -> Result<[Act; 2], Memory>
-        requires at { at < self.old.size }
-        requires from { from < self.old.size }
-        requires few { length self.old.rows.rows + 4 ≤ 2 ^ 24 }
-        ensures size { self.new.size ≡ self.old.size }
-        ensures err { OnErr result (IsSame self.new self.old) }
-        ensures grows { Grows 4 self.old self.new }
-        ensures tallies { OnOk result (TalliesPut [] self.old self.new) }
+        requires can { CanStep self.old at from }
+        ensures keeps { KeepsInStep result [] self.old self.new }
         ensures shows { (v : Seen) (able : Bool) → Shows self.old v → v.held from at ≡ parcel ∷ drop 1 (v.held from at) →
             Speaks (((seen_take v at from able (v.held from at)).people at).calls) → OnOk result (Shows self.new (seen_take v at from able (v.held from at))) }
         ensures acts { (v : Seen) (able : Bool) → Shows self.old v → v.held from at ≡ parcel ∷ drop 1 (v.held from at) →
@@ -183,13 +162,8 @@ impl System {
         from: ProcNo,
         able: bool,
     ) -> Result<[Act; 2], Memory>
-        requires at { at < self.old.size }
-        requires from { from < self.old.size }
-        requires few { length self.old.rows.rows + 4 ≤ 2 ^ 24 }
-        ensures size { self.new.size ≡ self.old.size }
-        ensures err { OnErr result (IsSame self.new self.old) }
-        ensures grows { Grows 4 self.old self.new }
-        ensures tallies { OnOk result (TalliesPut (taken_off self.old at from) self.old self.new) }
+        requires can { CanStep self.old at from }
+        ensures keeps { KeepsInStep result (taken_off self.old at from) self.old self.new }
         ensures shows { (v : Seen) → Shows self.old v → Speaks (((transition v (TakeStep at from able)).people at).calls) → OnOk result (Shows self.new (transition v (TakeStep at from able))) }
         ensures acts { (v : Seen) → Shows self.old v → IfOk result (λ acts. acts_shown acts ≡ seen_acts v (TakeStep at from able)) }
     {

@@ -14,8 +14,8 @@ pub invariant_of-self : goal.invariant_of-self
 invariant_of-self c =
     let r = c.self.invariant.reached in
     record {
-      reached = (r.0, r.1, run_same c.self.inside.agenda c.self.inside.system c.take.new.self r.0 r.1 c.in_err-acts.ensures.err r.2);
-      size = c.take.ensures.size ∙ c.self.invariant.size;
+      reached = (r.0, r.1, run_same c.self.inside.agenda c.self.inside.system c.take.new.self r.0 r.1 c.in_err-acts.ensures.keeps.err r.2);
+      size = c.take.ensures.keeps.size ∙ c.self.invariant.size;
       rows = c.self.invariant.rows;
     }
 
@@ -33,9 +33,9 @@ invariant_of-self-2 c =
         world_after a.plan r.1 (Take c.args.at c.args.from) c.args.give,
         take_leads a c.settle.new.agenda c.self.inside.system c.take.new.self c.args.at c.args.from c.args.give r.0 r.1 r.2
             (sym (enabled_is w r.0 r.1 r.2 (Take c.args.at c.args.from)) ∙ enabled_if w (Take c.args.at c.args.from) allowed)
-            (λ h says. c.in_ok-acts.ensures.shows r.1.now h says) opened.plan opened.next opened.settled (c.take.ensures.size ∙ size) opened.numbered c.in_ok-acts.ensures.tallies,
+            (λ h says. c.in_ok-acts.ensures.shows r.1.now h says) opened.plan opened.next opened.settled (c.take.ensures.keeps.size ∙ size) opened.numbered c.in_ok-acts.ensures.keeps.tallies,
       );
-      size = c.take.ensures.size ∙ (size ∙ ap (λ (plan : Planned). length plan.names) (sym opened.plan));
+      size = c.take.ensures.keeps.size ∙ (size ∙ ap (λ (plan : Planned). length plan.names) (sym opened.plan));
       rows = c.self.invariant.rows;
     }
 
@@ -51,6 +51,6 @@ returns-clause-made c =
     opened.next opened.settled
     (λ first v r. take_leads a c.settle.new.agenda c.self.inside.system c.take.new.self c.args.at c.args.from c.args.give first v r
     (sym (enabled_is w first v r (Take c.args.at c.args.from)) ∙ enabled_if w (Take c.args.at c.args.from) allowed)
-    (λ h says. c.in_ok-acts.ensures.shows v.now h says) opened.plan opened.next opened.settled (c.take.ensures.size ∙ size) opened.numbered c.in_ok-acts.ensures.tallies)
+    (λ h says. c.in_ok-acts.ensures.shows v.now h says) opened.plan opened.next opened.settled (c.take.ensures.keeps.size ∙ size) opened.numbered c.in_ok-acts.ensures.keeps.tallies)
     (λ first v r. take_acts a c.self.inside.system c.args.at c.args.from c.args.give first v (acts_shown c.in_ok-acts.acts) r
     (sym (enabled_is w first v r (Take c.args.at c.args.from)) ∙ enabled_if w (Take c.args.at c.args.from) allowed) (λ h. c.in_ok-acts.ensures.acts v.now h)))

@@ -2,7 +2,7 @@ use Rattle.std.specs.Prelude.{if◌then◌else◌}
 use Rattle.kt_system.specs.Tallies.{front}
 use Rattle.kt_system.proofs.Tallying.{tallies_same, tallies_kept, tallies_turned, tallies_then, tallies_removed}
 use Rattle.kt_fifo.specs.Channels.{channel}
-use Rattle.std.proofs.Common.{true, false, [], ◌∷◌, ◌++◌, arith, refl, ap, subst, sym, ◌∙◌, ◌≡◌}
+use Rattle.std.proofs.Common.{true, false, [], ◌∷◌, ◌++◌, arith, refl, ap, subst, sym, ◌∙◌, ◌≡◌, rules}
 use Rattle.kt_fifo.specs.declared.parcels.Parcel.{Parcel}
 use Rattle.kt_fifo.specs.declared.parcels.Parcel.TheVariants as parcel
 use Rattle.kt_seen.specs.Seen.{Seen, SeenLists}
@@ -19,7 +19,7 @@ returns-then-not-is_up-clause-shows c = λ v h speaks.
     let at = c.args.at in
     let from = c.args.from in
     let one = shows_same _ _ v c.make_room_for_rows.ensures.same h in
-    let seen = one.people at (let k = c.make_room_for_rows.ensures.same.size in let b = c.requires.at in omega arith) in
+    let seen = one.people at (let k = c.make_room_for_rows.ensures.same.size in let b = c.requires.can.process in omega arith) in
     let down : (v.people at).up ≡ false = sym seen.up ∙ (sym c.is_up.ensures ∙ c.if-not-is_up.true) in
     let two = c.remove.ensures.shows v one in
     subst (λ (z : Seen). Shows c.write.new.self z)
@@ -31,7 +31,7 @@ returns-clause-shows c = λ v h speaks.
     let from = c.args.from in
     let message = c.args.message in
     let one = shows_same _ _ v c.make_room_for_rows.ensures.same h in
-    let seen = one.people at (let k = c.make_room_for_rows.ensures.same.size in let b = c.requires.at in omega arith) in
+    let seen = one.people at (let k = c.make_room_for_rows.ensures.same.size in let b = c.requires.can.process in omega arith) in
     let up : (v.people at).up ≡ true = sym seen.up ∙ (sym c.is_up.ensures ∙ c.if-not-is_up.false) in
     let i = subst (λ (w : Whole). Shows w v) (sym c.self.view_is) one in
     let kept = shows_parts _ _ _ v v.channel v.held v.kept v.log v.begun c.self.view_is refl refl i.wires i.held (c.reserve_many.ensures.lists ∙ i.kept) i.log i.begun one in
@@ -47,15 +47,24 @@ returns-clause-shows c = λ v h speaks.
     subst (λ (z : Seen). Shows c.write-2.new.self z)
     (arrives_up v (channel_without c.args.is_held v at from) (held_without c.args.is_held v at from) at from message.label message.msg message.body up) (c.write-2.ensures.shows _ four)
 
-pub returns-then-not-is_up-clause-tallies : goal.returns-then-not-is_up-clause-tallies
-returns-then-not-is_up-clause-tallies c =
+pub returns-then-not-is_up-clause-keeps : goal.returns-then-not-is_up-clause-keeps
+returns-then-not-is_up-clause-keeps c =
     let same = c.make_room_for_rows.ensures.same in
-    tallies_then (if c.args.is_held then [] else front c.args.self.now c.args.at c.args.from) _ _ _ (tallies_removed _ _ _ c.args.at c.args.from c.args.is_held (tallies_same _ _ same) same.wires c.remove.ensures.tallies) c.write.ensures.tallies
+    record {
+      size = search rules;
+      err = tt;
+      grows = search rules;
+      tallies = tallies_then (if c.args.is_held then [] else front c.args.self.now c.args.at c.args.from) _ _ _ (tallies_removed _ _ _ c.args.at c.args.from c.args.is_held (tallies_same _ _ same) same.wires c.remove.ensures.tallies) c.write.ensures.tallies;
+    }
 
-pub returns-clause-tallies : goal.returns-clause-tallies
-returns-clause-tallies c =
+pub returns-clause-keeps : goal.returns-clause-keeps
+returns-clause-keeps c =
     let same = c.make_room_for_rows.ensures.same in
     let wires = ap (λ (w : Whole). channel w.wires) c.self.view_is ∙ same.wires in
     let room = tallies_then [] _ _ _ (tallies_same _ _ same) (tallies_kept _ _ _ c.self.view_is refl refl refl) in
-    tallies_then (if c.args.is_held then [] else front c.args.self.now c.args.at c.args.from) _ _ _ (tallies_removed _ _ _ c.args.at c.args.from c.args.is_held room wires c.remove-2.ensures.tallies)
-    (tallies_then [] _ _ _ (tallies_turned _ _ c.args.at c.note_received.ensures.turned) (tallies_then [] _ _ _ (tallies_kept _ _ _ c.self-2.view_is refl refl refl) c.write-2.ensures.tallies))
+    record {
+      size = search rules;
+      err = tt;
+      grows = search rules;
+      tallies = tallies_then (if c.args.is_held then [] else front c.args.self.now c.args.at c.args.from) _ _ _ (tallies_removed _ _ _ c.args.at c.args.from c.args.is_held room wires c.remove-2.ensures.tallies) (tallies_then [] _ _ _ (tallies_turned _ _ c.args.at c.note_received.ensures.turned) (tallies_then [] _ _ _ (tallies_kept _ _ _ c.self-2.view_is refl refl refl) c.write-2.ensures.tallies));
+    }

@@ -1,4 +1,4 @@
-use Rattle.std.proofs.Common.{[]}
+use Rattle.std.proofs.Common.{[], rules}
 use Rattle.kt_system.proofs.Tallying.{tallies_then}
 use Rattle.std.proofs.Common.{ap, sym, ◌∙◌}
 use Rattle.kt_process.specs.Persons.{Person, inst_of}
@@ -7,6 +7,7 @@ use Rattle.std.proofs.Common.{subst}
 use Rattle.kt_system.proofs.Frames.{can_join_kept}
 use Rattle.kt_parts.specs.declared.actions.Action.{Action}
 use Rattle.kt_system.specs.Systems.{CanCarryOut}
+use Rattle.kt_system.proofs.Growing.{grows_then}
 use Rattle.kt_system.proofs.system.System.begin.Goals as goal
 
 pub join-requires-clause-room : goal.join-requires-clause-room
@@ -19,5 +20,9 @@ returns-in-Join-clause-shows c = λ v test label h joins.
     subst (λ (a : Action). Shows c.join.new.self (begun_as v c.args.p c.args.inst c.args.kind test label a)) (sym c.in-Join.is)
     (c.join.ensures.shows (with_instance v c.args.p c.args.inst c.args.kind) test label (c.open.ensures.shows v h) j.0 j.1 j.2 (λ e. j.3 (sym (ap (λ (x : Person). inst_of x.side) (c.open.ensures.keeps.person c.args.p)) ∙ e)))
 
-pub returns-in-Join-clause-tallies : goal.returns-in-Join-clause-tallies
-returns-in-Join-clause-tallies c = tallies_then [] _ _ _ c.open.ensures.tallies c.join.ensures.tallies
+pub returns-in-Join-clause-keeps : goal.returns-in-Join-clause-keeps
+returns-in-Join-clause-keeps c = record {
+  size = search rules;
+  grows = grows_then 1 3 _ _ _ c.open.ensures.grows c.join.ensures.keeps.grows;
+  tallies = tallies_then [] _ _ _ c.open.ensures.tallies c.join.ensures.keeps.tallies;
+}

@@ -1,4 +1,4 @@
-use Rattle.std.proofs.Common.{[]}
+use Rattle.std.proofs.Common.{[], rules}
 use Rattle.kt_system.proofs.Tallying.{tallies_then, tallies_turned}
 use Rattle.std.proofs.Common.{ap, subst, sym, ◌∙◌}
 use Rattle.std.proofs.Math.Path.{fun_ext}
@@ -27,7 +27,9 @@ returns-clause-shows c = λ v h there.
     let set = fun_ext (λ q. c.leave-set.ensures.leaves.tell q ∙ (ap (λ (x : Person). asked_of x.side q) c.leave-set.ensures.leaves.turn.was ∙ asked_is _ _ mid q)) in
     subst (λ (z : Seen). Shows c.write.new.self z) (closes_as v p c.args.inst c.args.commit (has c.leave-set.result) set) four
 
-pub returns-clause-tallies : goal.returns-clause-tallies
-returns-clause-tallies c =
-    tallies_then [] _ _ _ c.settle_kept.ensures.tallies (tallies_then [] _ _ _ (tallies_turned _ _ c.args.p c.leave-set.ensures.turned)
-    (tallies_then [] _ _ _ c.tell.ensures.tallies c.write.ensures.tallies))
+pub returns-clause-keeps : goal.returns-clause-keeps
+returns-clause-keeps c = record {
+  size = search rules;
+  grows = search rules;
+  tallies = tallies_then [] _ _ _ c.settle_kept.ensures.tallies (tallies_then [] _ _ _ (tallies_turned _ _ c.args.p c.leave-set.ensures.turned) (tallies_then [] _ _ _ c.tell.ensures.tallies c.write.ensures.tallies));
+}

@@ -1,4 +1,4 @@
-use Rattle.std.proofs.Common.{[]}
+use Rattle.std.proofs.Common.{[], rules}
 use Rattle.kt_system.proofs.Tallying.{tallies_then, tallies_same, tallies_turned}
 use Rattle.std.proofs.Common.{true, arith, subst, sym, ◌∙◌, ◌≡◌}
 use Rattle.kt_seen.specs.Seen.{Seen}
@@ -16,8 +16,18 @@ returns-clause-shows c = λ v h.
     let two = shows_turned _ _ v p _ c.put_down.ensures.turned (c.put_down.ensures.shows v one) one in
     subst (λ (z : Seen). Shows c.write.new.self z) (fails_up v p up) (c.write.ensures.shows _ two)
 
-pub returns-then-not-is_up-clause-tallies : goal.returns-then-not-is_up-clause-tallies
-returns-then-not-is_up-clause-tallies c = tallies_then [] _ _ _ (tallies_same _ _ c.make_room_for_rows.ensures.same) c.refuse.ensures.tallies
+pub returns-then-not-is_up-clause-keeps : goal.returns-then-not-is_up-clause-keeps
+returns-then-not-is_up-clause-keeps c = record {
+  size = search rules;
+  err = tt;
+  grows = search rules;
+  tallies = tallies_then [] _ _ _ (tallies_same _ _ c.make_room_for_rows.ensures.same) c.refuse.ensures.keeps.tallies;
+}
 
-pub returns-clause-tallies : goal.returns-clause-tallies
-returns-clause-tallies c = tallies_then [] _ _ _ (tallies_same _ _ c.make_room_for_rows.ensures.same) (tallies_then [] _ _ _ (tallies_turned _ _ c.args.p c.put_down.ensures.turned) c.write.ensures.tallies)
+pub returns-clause-keeps : goal.returns-clause-keeps
+returns-clause-keeps c = record {
+  size = search rules;
+  err = tt;
+  grows = search rules;
+  tallies = tallies_then [] _ _ _ (tallies_same _ _ c.make_room_for_rows.ensures.same) (tallies_then [] _ _ _ (tallies_turned _ _ c.args.p c.put_down.ensures.turned) c.write.ensures.tallies);
+}

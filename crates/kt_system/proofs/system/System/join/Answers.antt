@@ -1,4 +1,4 @@
-use Rattle.std.proofs.Common.{[]}
+use Rattle.std.proofs.Common.{[], rules}
 use Rattle.kt_system.proofs.Tallying.{tallies_then}
 use Rattle.kt_process.specs.Persons.{Person, inst_of}
 use Rattle.std.proofs.Common.{Bool, ap, subst, sym, ◌∙◌}
@@ -9,6 +9,7 @@ use Rattle.kt_seen.specs.ListChanges.{with_parcel, with_asks_where}
 use Rattle.kt_system.specs.Shown.{Shows, with_row, joined_row}
 use Rattle.kt_system.proofs.Closing.{settles_wait, settles_answer, settles_commit}
 use Rattle.std.proofs.Common.{arith}
+use Rattle.kt_system.proofs.Growing.{grows_by, grows_then}
 use Rattle.kt_system.proofs.system.System.join.Goals as goal
 
 pub reply-requires-clause-to : goal.reply-requires-clause-to
@@ -45,11 +46,23 @@ returns-in-Commit-clause-shows c = λ v test label h cohort goes willing there.
     subst (λ (z : Seen). Shows c.decide-second.new.self z) (settles_commit state c.args.p c.args.inst (sym c.in-Commit.is ∙ goes) willing) (c.decide-second.ensures.shows state two
     (λ e. there (sym (ap (λ (x : Person). inst_of x.side) (c.write.ensures.keeps.person c.args.p ∙ c.ask.ensures.uses.person c.args.p)) ∙ e)))
 
-pub returns-in-Wait-clause-tallies : goal.returns-in-Wait-clause-tallies
-returns-in-Wait-clause-tallies c = tallies_then [] _ _ _ c.ask.ensures.tallies c.write.ensures.tallies
+pub returns-in-Wait-clause-keeps : goal.returns-in-Wait-clause-keeps
+returns-in-Wait-clause-keeps c = record {
+  size = search rules;
+  grows = search rules;
+  tallies = tallies_then [] _ _ _ c.ask.ensures.tallies c.write.ensures.tallies;
+}
 
-pub returns-in-Answer-clause-tallies : goal.returns-in-Answer-clause-tallies
-returns-in-Answer-clause-tallies c = tallies_then [] _ _ _ (tallies_then [] _ _ _ c.ask.ensures.tallies c.write.ensures.tallies) c.reply.ensures.tallies
+pub returns-in-Answer-clause-keeps : goal.returns-in-Answer-clause-keeps
+returns-in-Answer-clause-keeps c = record {
+  size = search rules;
+  grows = search rules;
+  tallies = tallies_then [] _ _ _ (tallies_then [] _ _ _ c.ask.ensures.tallies c.write.ensures.tallies) c.reply.ensures.tallies;
+}
 
-pub returns-in-Commit-clause-tallies : goal.returns-in-Commit-clause-tallies
-returns-in-Commit-clause-tallies c = tallies_then [] _ _ _ (tallies_then [] _ _ _ c.ask.ensures.tallies c.write.ensures.tallies) c.decide-second.ensures.tallies
+pub returns-in-Commit-clause-keeps : goal.returns-in-Commit-clause-keeps
+returns-in-Commit-clause-keeps c = record {
+  size = search rules;
+  grows = grows_then 1 2 c.args.self.now c.write.new.self _ (grows_by _ _ c.joining_row.result (search rules)) c.decide-second.ensures.keeps.grows;
+  tallies = tallies_then [] _ _ _ (tallies_then [] _ _ _ c.ask.ensures.tallies c.write.ensures.tallies) c.decide-second.ensures.keeps.tallies;
+}

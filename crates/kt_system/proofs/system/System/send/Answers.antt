@@ -33,11 +33,11 @@ returns-then-not-is_up-clause-shows c = λ v h free other speaks.
     let p = c.args.p in
     let one = shows_same _ _ v c.make_room_to.ensures.same h in
     let size = c.make_room_to.ensures.same.size in
-    let seen = one.people p (let b = c.requires.p in omega (arith, b, size)) in
+    let seen = one.people p (let b = c.requires.can.process in omega (arith, b, size)) in
     let down : (v.people p).up ≡ false = sym seen.up ∙ (sym c.is_up.ensures ∙ c.if-not-is_up.true) in
     let n = h.processes in
-    let a : p < v.processes = (let b = c.requires.p in omega (arith, b, n)) in
-    let b : c.args.to < v.processes = (let k = c.requires.to in omega (arith, k, n)) in
+    let a : p < v.processes = (let b = c.requires.can.process in omega (arith, b, n)) in
+    let b : c.args.to < v.processes = (let k = c.requires.can.other in omega (arith, k, n)) in
     subst (λ (z : Seen). Shows c.refuse.new.self z) (sends_down v p c.args.to c.args.body a b free other down) (c.refuse.ensures.shows v one)
 
 pub returns-clause-shows : goal.returns-clause-shows
@@ -46,11 +46,11 @@ returns-clause-shows c = λ v h free other speaks.
     let to = c.args.to in
     let one = shows_same _ _ v c.make_room_to.ensures.same h in
     let size = c.make_room_to.ensures.same.size in
-    let seen = one.people p (let b = c.requires.p in omega (arith, b, size)) in
+    let seen = one.people p (let b = c.requires.can.process in omega (arith, b, size)) in
     let up : (v.people p).up ≡ true = sym seen.up ∙ (sym c.is_up.ensures ∙ c.if-not-is_up.false) in
     let n = h.processes in
-    let a : p < v.processes = (let b = c.requires.p in omega (arith, b, n)) in
-    let b : to < v.processes = (let k = c.requires.to in omega (arith, k, n)) in
+    let a : p < v.processes = (let b = c.requires.can.process in omega (arith, b, n)) in
+    let b : to < v.processes = (let k = c.requires.can.other in omega (arith, k, n)) in
     let sent = c.note_sent-label.ensures.shows v one (speaks_sent v p to c.args.body a b free other up speaks) in
     let y = record (v.people p) { calls = (v.people p).calls ++ Rattle.kt_tables.specs.Calls.sent to ((v.people p).used + 1) ∷ []; used = (v.people p).used + 1 } in
     let state = turned_to v p y in
@@ -66,15 +66,24 @@ returns-clause-shows c = λ v h free other speaks.
     let five = subst (λ (z : ℤ). Shows c.write.new.self (with_row (record state { channel = with_parcel v.channel p to (parcel.App ((v.people p).used + 1) (length v.log + 1) c.args.body) }) (Sent p to z))) fits (c.write.ensures.shows _ four) in
     subst (λ (z : Seen). Shows c.write.new.self z) (sends_up v p to c.args.body a b free other up) five
 
-pub returns-then-not-is_up-clause-tallies : goal.returns-then-not-is_up-clause-tallies
-returns-then-not-is_up-clause-tallies c = tallies_then [] _ _ _ (tallies_same _ _ c.make_room_to.ensures.same) c.refuse.ensures.tallies
+pub returns-then-not-is_up-clause-keeps : goal.returns-then-not-is_up-clause-keeps
+returns-then-not-is_up-clause-keeps c = record {
+  size = search rules;
+  err = tt;
+  grows = search rules;
+  tallies = tallies_then [] _ _ _ (tallies_same _ _ c.make_room_to.ensures.same) c.refuse.ensures.keeps.tallies;
+}
 
-pub returns-clause-tallies : goal.returns-clause-tallies
-returns-clause-tallies c =
+pub returns-clause-keeps : goal.returns-clause-keeps
+returns-clause-keeps c =
     let turned = c.note_sent-label.ensures.turned in
     let room = c.make_room_to.ensures.same.size in
     let size = turned.size in
-    let low : c.args.p < c.note_sent-label.new.self.size = (let b = c.requires.p in omega (arith, b, room, size)) in
-    let high : c.args.to < c.note_sent-label.new.self.size = (let b = c.requires.to in omega (arith, b, room, size)) in
-    tallies_then [] _ _ _ (tallies_same _ _ c.make_room_to.ensures.same) (tallies_then [] _ _ _ (tallies_turned _ _ c.args.p turned)
-    (tallies_then [] _ _ _ (tallies_sent _ _ c.args.p c.args.to _ _ _ low high c.put.ensures.keeps.size c.put.ensures.wires c.put.ensures.tallies) c.write.ensures.tallies))
+    let low : c.args.p < c.note_sent-label.new.self.size = (let b = c.requires.can.process in omega (arith, b, room, size)) in
+    let high : c.args.to < c.note_sent-label.new.self.size = (let b = c.requires.can.other in omega (arith, b, room, size)) in
+    record {
+      size = search rules;
+      err = tt;
+      grows = search rules;
+      tallies = tallies_then [] _ _ _ (tallies_same _ _ c.make_room_to.ensures.same) (tallies_then [] _ _ _ (tallies_turned _ _ c.args.p turned) (tallies_then [] _ _ _ (tallies_sent _ _ c.args.p c.args.to _ _ _ low high c.put.ensures.keeps.size c.put.ensures.wires c.put.ensures.tallies) c.write.ensures.tallies));
+    }

@@ -1,4 +1,4 @@
-use Rattle.std.proofs.Common.{[]}
+use Rattle.std.proofs.Common.{[], rules}
 use Rattle.kt_fifo.specs.Channels.{channel}
 use Rattle.kt_system.specs.Tallies.{front}
 use Rattle.kt_system.proofs.Tallying.{tallies_same, tallies_turned, tallies_then, tallies_front}
@@ -19,7 +19,7 @@ use Rattle.kt_system.proofs.system.System.take_ask_to_roll.Goals as goal
 pub answer-requires-clause-room : goal.answer-requires-clause-room
 answer-requires-clause-room c =
     hears_fit kind.Rollback true c.args.from c.args.inst c.args.label c.args.at c.targets-targets.result c.args.self.now c.make_room.new.self c.ask_to_roll.new.self c.pop.new.self c.joins_rollback-joins.result c.in_ok-action.action
-    c.in_ok-make_room.ensures.parcels c.targets-targets.ensures.from c.requires.from c.process.ensures.tables
+    c.in_ok-make_room.ensures.parcels c.targets-targets.ensures.from c.requires.can.other c.process.ensures.tables
     (c.joins_rollback-joins.ensures true ∙ ap (λ (x : Person). joins_by x kind.Rollback true c.args.from c.args.label) c.process.ensures.process)
     c.targets-targets.ensures.asks c.make_room.ensures.gives c.in_ok-action.ensures.hears c.pop.ensures.gives
 
@@ -44,8 +44,13 @@ returns-clause-shows c = λ v able h.
     let four = c.answer.ensures.shows (asked_by_front state at from rest) (asked_by kind.Rollback calls) (label_by kind.Rollback calls) three joins in
     subst (λ (z : Seen). Shows c.answer.new.self z) (hears_rollback after v at from k label able no_mark action rest s) four
 
-pub returns-clause-tallies : goal.returns-clause-tallies
-returns-clause-tallies c =
+pub returns-clause-keeps : goal.returns-clause-keeps
+returns-clause-keeps c =
     let same = c.make_room.ensures.same in
     let turned = c.ask_to_roll.ensures.turned in
-    tallies_then (front c.args.self.now c.args.at c.args.from) _ _ _ (tallies_front _ _ _ c.args.at c.args.from (tallies_then [] _ _ _ (tallies_same _ _ same) (tallies_turned _ _ c.args.at turned)) (ap channel turned.wires ∙ same.wires) c.pop.ensures.tallies) c.answer.ensures.tallies
+    record {
+      size = search rules;
+      err = tt;
+      grows = search rules;
+      tallies = tallies_then (front c.args.self.now c.args.at c.args.from) _ _ _ (tallies_front _ _ _ c.args.at c.args.from (tallies_then [] _ _ _ (tallies_same _ _ same) (tallies_turned _ _ c.args.at turned)) (ap channel turned.wires ∙ same.wires) c.pop.ensures.tallies) c.answer.ensures.keeps.tallies;
+    }

@@ -1,4 +1,4 @@
-use Rattle.std.proofs.Common.{[]}
+use Rattle.std.proofs.Common.{[], rules}
 use Rattle.kt_fifo.specs.Channels.{channel}
 use Rattle.kt_system.specs.Tallies.{front}
 use Rattle.kt_system.proofs.Tallying.{tallies_same, tallies_turned, tallies_then, tallies_front}
@@ -26,7 +26,7 @@ use Rattle.kt_system.proofs.system.System.take_ask_to_save.Goals as goal
 pub answer-requires-clause-room : goal.answer-requires-clause-room
 answer-requires-clause-room c =
     hears_fit kind.Checkpoint c.args.able c.args.from c.args.inst c.args.label c.args.at c.targets-targets.result c.args.self.now c.make_room.new.self c.ask_to_save.new.self c.pop.new.self c.joins_checkpoint-joins.result c.in_ok-action.action
-    c.in_ok-make_room.ensures.parcels c.targets-targets.ensures.from c.requires.from c.process.ensures.tables
+    c.in_ok-make_room.ensures.parcels c.targets-targets.ensures.from c.requires.can.other c.process.ensures.tables
     (c.joins_checkpoint-joins.ensures ∙ ap (λ (x : Person). joins_by x kind.Checkpoint c.args.able c.args.from c.args.label) c.process.ensures.process)
     c.targets-targets.ensures.asks c.make_room.ensures.gives c.in_ok-action.ensures.hears c.pop.ensures.gives
 
@@ -64,8 +64,13 @@ returns-clause-acts c = λ v h.
     c.answer.ensures.acts ∙ (ap (λ (x : Person). acts_carried_out kind.Checkpoint (is_ready x.side) c.in_ok-action.action) (c.pop.ensures.gives.person at)
     ∙ hear_acts_save (person c.ask_to_save.new.self at) v at c.args.inst (mark_of c.in_ok-marks.marks.items) from c.args.label c.args.able c.in_ok-action.action (c.in_ok-action.ensures.shows v one))
 
-pub returns-clause-tallies : goal.returns-clause-tallies
-returns-clause-tallies c =
+pub returns-clause-keeps : goal.returns-clause-keeps
+returns-clause-keeps c =
     let same = c.make_room.ensures.same in
     let turned = c.ask_to_save.ensures.turned in
-    tallies_then (front c.args.self.now c.args.at c.args.from) _ _ _ (tallies_front _ _ _ c.args.at c.args.from (tallies_then [] _ _ _ (tallies_same _ _ same) (tallies_turned _ _ c.args.at turned)) (ap channel turned.wires ∙ same.wires) c.pop.ensures.tallies) c.answer.ensures.tallies
+    record {
+      size = search rules;
+      err = tt;
+      grows = search rules;
+      tallies = tallies_then (front c.args.self.now c.args.at c.args.from) _ _ _ (tallies_front _ _ _ c.args.at c.args.from (tallies_then [] _ _ _ (tallies_same _ _ same) (tallies_turned _ _ c.args.at turned)) (ap channel turned.wires ∙ same.wires) c.pop.ensures.tallies) c.answer.ensures.keeps.tallies;
+    }

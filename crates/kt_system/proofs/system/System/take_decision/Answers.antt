@@ -1,4 +1,4 @@
-use Rattle.std.proofs.Common.{[]}
+use Rattle.std.proofs.Common.{[], rules}
 use Rattle.kt_system.specs.Tallies.{front}
 use Rattle.kt_system.proofs.Tallying.{tallies_same, tallies_then, tallies_front}
 use Rattle.std.proofs.Common.{◌≡◌, true, drop, ap, subst, sym, ◌∙◌}
@@ -24,8 +24,13 @@ returns-clause-shows c = λ v h.
     subst (λ (z : Seen). Shows c.close.new.self z) (decides v at from c.args.inst c.args.commit rest here)
     (c.close.ensures.shows _ three (λ e. inside (sym (ap (λ (x : Person). inst_of x.side) same) ∙ e)))
 
-pub returns-clause-tallies : goal.returns-clause-tallies
-returns-clause-tallies c =
+pub returns-clause-keeps : goal.returns-clause-keeps
+returns-clause-keeps c =
     let one = c.make_room.ensures.same in
     let two = c.make_room_back_if_ready.ensures.same in
-    tallies_then (front c.args.self.now c.args.at c.args.from) _ _ _ (tallies_front _ _ _ c.args.at c.args.from (tallies_then [] _ _ _ (tallies_same _ _ one) (tallies_same _ _ two)) (two.wires ∙ one.wires) c.pop-2.ensures.tallies) c.close.ensures.tallies
+    record {
+      size = search rules;
+      err = tt;
+      grows = search rules;
+      tallies = tallies_then (front c.args.self.now c.args.at c.args.from) _ _ _ (tallies_front _ _ _ c.args.at c.args.from (tallies_then [] _ _ _ (tallies_same _ _ one) (tallies_same _ _ two)) (two.wires ∙ one.wires) c.pop-2.ensures.tallies) c.close.ensures.keeps.tallies;
+    }

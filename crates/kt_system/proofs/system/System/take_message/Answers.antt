@@ -1,11 +1,9 @@
-use Rattle.std.proofs.Common.{◌≡◌, Bool, true, false, drop, refl}
-use Rattle.std.specs.Prelude.{if◌then◌else◌}
+use Rattle.std.proofs.Common.{◌≡◌, true, false, drop, refl}
 use Rattle.kt_fifo.specs.declared.parcels.Parcel.{Parcel}
 use Rattle.kt_fifo.specs.declared.parcels.Parcel.TheVariants as parcel
 use Rattle.kt_fifo.specs.Channels.{channel}
-use Rattle.kt_seen.specs.Seen.{Seen, SeenLists}
+use Rattle.kt_seen.specs.Seen.{SeenLists}
 use Rattle.kt_seen.specs.ListChanges.{with_parcel, with_rest}
-use Rattle.kt_seen.specs.SeenMessages.{seen_holding, seen_arrival}
 use Rattle.kt_seen.specs.Transition.{is_seen_ready}
 use Rattle.kt_system.specs.Shown.{Shows}
 use Rattle.kt_system.proofs.Showing.{shows_parts, pushed_is}
@@ -26,7 +24,7 @@ returns-then-is_ready-clause-shows c = λ v h speaks.
     let at = c.args.at in
     let from = c.args.from in
     let message = c.args.message in
-    let seen = h.people at c.requires.at in
+    let seen = h.people at c.requires.can.process in
     let ready : is_seen_ready v at ≡ true = sym (ready_seen _ v at seen c.is_ready.ensures.numbered) ∙ (sym c.is_ready.ensures.ready ∙ c.if-is_ready.true) in
     let i = subst (λ (w : Whole). Shows w v) (sym c.self.view_is) h in
     let one = shows_parts _ _ _ v v.channel v.held v.kept v.log v.begun c.self.view_is refl refl i.wires (c.reserve_many.ensures.lists ∙ i.held) i.kept i.log i.begun h in
@@ -41,11 +39,11 @@ returns-then-is_ready-clause-shows c = λ v h speaks.
 pub returns-clause-shows : goal.returns-clause-shows
 returns-clause-shows c = λ v h speaks.
     let at = c.args.at in
-    let ready : is_seen_ready v at ≡ false = sym (ready_seen _ v at (h.people at c.requires.at) c.is_ready.ensures.numbered) ∙ (sym c.is_ready.ensures.ready ∙ c.if-is_ready.false) in
+    let ready : is_seen_ready v at ≡ false = sym (ready_seen _ v at (h.people at c.requires.can.process) c.is_ready.ensures.numbered) ∙ (sym c.is_ready.ensures.ready ∙ c.if-is_ready.false) in
     rw ready (c.accept.ensures.shows v h (speaks ready))
 
 pub returns-clause-acts : goal.returns-clause-acts
 returns-clause-acts c = λ v h.
     let at = c.args.at in
-    let ready : is_seen_ready v at ≡ false = sym (ready_seen _ v at (h.people at c.requires.at) c.is_ready.ensures.numbered) ∙ (sym c.is_ready.ensures.ready ∙ c.if-is_ready.false) in
+    let ready : is_seen_ready v at ≡ false = sym (ready_seen _ v at (h.people at c.requires.can.process) c.is_ready.ensures.numbered) ∙ (sym c.is_ready.ensures.ready ∙ c.if-is_ready.false) in
     rw ready (c.accept.ensures.acts v h)

@@ -1,6 +1,6 @@
 use Rattle.kt_process.specs.Turns.{HasPartners}
 use Rattle.kt_system.proofs.Fits.{replies_fit}
-use Rattle.std.proofs.Common.{[]}
+use Rattle.std.proofs.Common.{[], rules}
 use Rattle.kt_system.specs.Tallies.{front}
 use Rattle.kt_system.proofs.Tallying.{tallies_same, tallies_turned, tallies_then, tallies_front}
 use Rattle.kt_system.specs.Systems.{person}
@@ -27,19 +27,23 @@ returns-clause-shows c = λ v h.
     let state = seen_without_front v at from rest in
     let four = shows_turned _ _ state at (counted_as c.args.willing (v.people at)) c.hear_reply-action.ensures.turned (c.hear_reply-action.ensures.shows state three) three in
     let counts = c.hear_reply-action.ensures.counts in
-    let seen = three.people at (let a = c.make_room.ensures.same.size in let b = c.make_room_back_if_ready.ensures.same.size in let d = c.pop.ensures.gives.size in let e = c.requires.at in omega (arith, a, b, d, e)) in
+    let seen = three.people at (let a = c.make_room.ensures.same.size in let b = c.make_room_back_if_ready.ensures.same.size in let d = c.pop.ensures.gives.size in let e = c.requires.can.process in omega (arith, a, b, d, e)) in
     let action : c.hear_reply-action.result ≡ reply_of (part_of (person c.pop.new.self at).side) c.args.willing = counts.follows ∙ ap (λ (x : Person). reply_of (part_of x.side) c.args.willing) counts.turn.was in
     let five = c.go_on.ensures.shows (turned_to state at (counted_as c.args.willing (v.people at))) four
     (λ commit tell e i. settles_inside counts.before.side counts.after.side c.args.willing commit tell (sym counts.follows ∙ e) counts.part (sym (ap (λ (x : Person). inst_of x.side) counts.turn.is) ∙ i)) in
     subst (λ (z : Seen). Shows c.go_on.new.self z) (replies_as (person c.pop.new.self at) v at from c.args.inst c.args.willing rest seen)
     (subst (λ (a : Action). Shows c.go_on.new.self (gone_on (turned_to state at (counted_as c.args.willing (v.people at))) at c.args.inst a)) action five)
 
-pub returns-clause-tallies : goal.returns-clause-tallies
-returns-clause-tallies c =
+pub returns-clause-keeps : goal.returns-clause-keeps
+returns-clause-keeps c =
     let one = c.make_room.ensures.same in
     let two = c.make_room_back_if_ready.ensures.same in
-    tallies_then (front c.args.self.now c.args.at c.args.from) _ _ _ (tallies_front _ _ _ c.args.at c.args.from (tallies_then [] _ _ _ (tallies_same _ _ one) (tallies_same _ _ two)) (two.wires ∙ one.wires) c.pop.ensures.tallies)
-    (tallies_then [] _ _ _ (tallies_turned _ _ c.args.at c.hear_reply-action.ensures.turned) c.go_on.ensures.tallies)
+    record {
+      size = search rules;
+      err = tt;
+      grows = search rules;
+      tallies = tallies_then (front c.args.self.now c.args.at c.args.from) _ _ _ (tallies_front _ _ _ c.args.at c.args.from (tallies_then [] _ _ _ (tallies_same _ _ one) (tallies_same _ _ two)) (two.wires ∙ one.wires) c.pop.ensures.tallies) (tallies_then [] _ _ _ (tallies_turned _ _ c.args.at c.hear_reply-action.ensures.turned) c.go_on.ensures.keeps.tallies);
+    }
 
 pub go_on-requires-clause-room : goal.go_on-requires-clause-room
 go_on-requires-clause-room c =
