@@ -1,4 +1,4 @@
--- At rest each live message that isn't dropped has been received, and that is live.
+-- Where nothing is under way each live message that isn't dropped has been received, and that is live.
 use Rattle.std.proofs.Common.{length, ◌≡◌, ℕ, Bool, true, false, List, ◌++◌, append-nil, refl, arith, sym, ap, ap₂, ◌∙◌, Some, None}
 use Rattle.std.specs.Prelude.{◌==◌, if◌then◌else◌}
 use Rattle.kt_fifo.specs.declared.parcels.Parcel.{Parcel}
@@ -16,28 +16,23 @@ use Rattle.kt_values.proofs.StateValues.{live_is}
 use Rattle.kt_plan.specs.Limits.{Planned, IsPlan}
 use Rattle.kt_phases.proofs.RunFacts.{run_facts}
 use Rattle.kt_promises.specs.World.{World}
-use Rattle.kt_promises.specs.Steps.{is_at_rest}
 use Rattle.kt_promises.specs.Runs.{IsReachedWorld}
 use Rattle.kt_promises.specs.AtRest.{HasNothingUnderWay}
 use Rattle.kt_promises.specs.Lines.{messages, line, EachStandsOnce}
 use Rattle.kt_promises.proofs.ReachedWorlds.{carry, seen_of, log_of}
 use Rattle.kt_promises.proofs.LinesOfRuns.{once_seen}
 use Rattle.kt_promises.proofs.DefaultSteps.{numbers_are, legal_progress}
-use Rattle.kt_promises.proofs.WholeLogs.{rested}
 
 -- who is in no instance is in none by the log
-open_none : (plan : Planned) (first : ℕ) (w : World) (p : ℕ) → IsPlan plan → IsReachedWorld plan first w → (w.now.people p).inst ≡ 0 → (past w.now.log).open_in p ≡ None
+pub open_none : (plan : Planned) (first : ℕ) (w : World) (p : ℕ) → IsPlan plan → IsReachedWorld plan first w → (w.now.people p).inst ≡ 0 → (past w.now.log).open_in p ≡ None
 open_none plan first w p i r = carry plan first w (λ v. (v.now.people p).inst ≡ 0 → (past v.now.log).open_in p ≡ None) i r
     (λ g s z. let k = run_facts plan g i s in (tied g.state.log (legal_progress plan g k)).open_in p ∙ none ((summary g.state.log).open_in p) (ap (λ (h : Summary). h.open_in p) (sym (numbers_are plan g k)) ∙ z))
   where
     none : (n : ℕ) → n ≡ 0 → (if n == 0 then None else Some n) ≡ None
     none n e = rw e refl
 
-module _ (plan : Planned) (first : ℕ) (w : World) (i : IsPlan plan) (r : IsReachedWorld plan first w) (a : is_at_rest plan w ≡ true) where
-  quiet : HasNothingUnderWay w.now
-  quiet = (rested plan first w i r a).0
-
-  -- at rest a live history is what the process itself did
+module _ (plan : Planned) (first : ℕ) (w : World) (i : IsPlan plan) (r : IsReachedWorld plan first w) (quiet : HasNothingUnderWay w.now) where
+  -- a live history is what the process itself did
   pub own_live : (q : ℕ) → (past w.now.log).live q ≡ (done w.now.log).own q
   own_live q = live_is w.now.log q (log_of plan first w IsLegal i r (λ s. (lawful_after_run (length plan.names) s).legal))
       ∙ ap (live_in (done w.now.log) q) (open_none plan first w q i r (quiet.closed q))

@@ -58,7 +58,7 @@ none_seen : (label : ℕ → ℕ) (body : ℕ → ℤ) (roll : ℕ → Bool) (l 
 unfolding seen_parcels
 none_seen label body roll l e = ap (seen_parcels label body roll) e
 
-quiet_of_progress : (plan : Planned) (first : ℕ) (g : Progress) → RunFacts plan g → protocol_at_rest.IsAtRest g.state → HasNothingUnderWay (seen first g.state)
+pub quiet_of_progress : (plan : Planned) (first : ℕ) (g : Progress) → RunFacts plan g → protocol_at_rest.IsAtRest g.state → HasNothingUnderWay (seen first g.state)
 quiet_of_progress plan first g k a = record {
   decided = λ j pos low. ap is_some ((tied g.state.log (legal_progress plan g k)).decision j) ∙ some (j) (ap (λ (h : Summary). h.is_decided j) (sym (numbers_are plan g k)) ∙ a.decided j pos low);
   closed = a.closed;

@@ -28,3 +28,8 @@ pub mod StillRows
 pub mod ArrivedMessages
 pub mod TakenValues
 pub mod RestIs
+pub mod CommandRows
+pub mod StepAnswers
+pub mod FollowsAlong
+pub mod QuietLogs
+pub mod FollowsRuns

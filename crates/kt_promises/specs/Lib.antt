@@ -16,4 +16,5 @@ pub mod Rows
 pub mod Failures
 pub mod Told
 pub mod Offers
+pub mod Follows
 pub mod WorkedWorlds

@@ -52,6 +52,7 @@ ghost use Rattle.kt_phases.specs.Looks.{uses_able, uses_body};
 ghost use Rattle.kt_phases.specs.Work.{most_steps, count_begins};
 ghost use Rattle.kt_plan.specs.Limits.{Planned, IsPlan};
 ghost use Rattle.kt_plan.specs.declared.commands.Command.{Command};
+ghost use Rattle.kt_phases.specs.Plans.{commands_of};
 ghost use Rattle.kt_phases.specs.Progress.{Progress};
 ghost use Rattle.kt_phases.specs.Rows.{has_took_row, has_sent_row};
 ghost use Rattle.kt_phases.specs.Progress as plan_progress;
@@ -67,6 +68,7 @@ ghost use Rattle.kt_promises.specs.Lines.{line, EachStandsOnce, KeepsReceived, m
 ghost use Rattle.kt_promises.specs.Messages.{AreMessagesTo};
 ghost use Rattle.kt_promises.specs.World.{World, world_of, commands_left, next_command, opens_next, is_quiet, start_world};
 ghost use Rattle.kt_promises.specs.Steps.{enabled, with_seen, world_after, is_at_rest};
+ghost use Rattle.kt_promises.specs.Follows.{command_rows, IsQuiet, FollowsPlan, BeginsPlan};
 ghost use Rattle.kt_promises.specs.Looks.{look};
 ghost use Rattle.kt_promises.specs.Defaults.{default_step};
 ghost use Rattle.kt_promises.specs.Runs.{after_moves, IsReachedWorld, protocol_steps, IsAfterSteps, IsSameButPhase, GoesOn, after_gives, after_defaults};
@@ -160,6 +162,21 @@ pub fn logs_of_worlds()
     ensures aborted_permanents { (plan : Planned) (first : ℕ) (w : World) (n p k q : ℕ) → IsPlan plan →
         IsReachedWorld plan first w → slice_get w.now.log n ≡ Some (Decided p k false) →
         (past (take (n + 1) w.now.log)).permanent q ≡ (past (take n w.now.log)).permanent q }
+{}
+
+/// For every run of every plan: its log follows the plan, told by the rows alone.
+pub fn logs_follow_plans()
+    // So it begins, wherever a run has come; and at rest the whole follows.
+    ensures begins { (plan : Planned) (first : ℕ) (w : World) → IsPlan plan → IsReachedWorld plan first w →
+        BeginsPlan plan w.now.log }
+    ensures follows { (plan : Planned) (first : ℕ) (w : World) → IsPlan plan → IsReachedWorld plan first w →
+        is_at_rest plan w ≡ true → FollowsPlan plan w.now.log }
+
+    // What follows is what has begun, has a row for each command, and ends quietly.
+    ensures agree { (plan : Planned) (log : List Event) → FollowsPlan plan log → BeginsPlan plan log }
+    ensures ended { (plan : Planned) (log : List Event) → BeginsPlan plan log →
+        ((p : ℕ) → length (command_rows p log) ≡ length (commands_of p plan.commands)) → IsQuiet (past log) →
+        FollowsPlan plan log }
 {}
 
 /// For every run of every plan: which rows each enabled step adds.

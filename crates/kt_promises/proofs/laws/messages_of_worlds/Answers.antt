@@ -6,6 +6,7 @@ use Rattle.kt_promises.proofs.LinesOfRuns.{once_seen, rising_seen, keeps_seen}
 use Rattle.kt_promises.proofs.PeopleKeep.{channel_seen}
 use Rattle.kt_promises.proofs.HeldMessages.{held_to_holder, kept_by_receiver}
 use Rattle.kt_promises.proofs.ArrivedMessages.{own_live, received_once, received_all}
+use Rattle.kt_promises.proofs.WholeLogs.{rested}
 use Rattle.kt_promises.proofs.laws.messages_of_worlds.Goals as goal
 
 pub returns-clause-once : goal.returns-clause-once
@@ -27,10 +28,10 @@ pub returns-clause-kept : goal.returns-clause-kept
 returns-clause-kept c = λ plan first w p q i r. kept_by_receiver plan first w i r p q
 
 pub returns-clause-arrived : goal.returns-clause-arrived
-returns-clause-arrived c = λ plan first w m p q i r a h d. received_all plan first w i r a m p q h d
+returns-clause-arrived c = λ plan first w m p q i r a h d. received_all plan first w i r (rested plan first w i r a).0 m p q h d
 
 pub returns-clause-arrived_once : goal.returns-clause-arrived_once
-returns-clause-arrived_once c = λ plan first w m p q i r a h d. received_once plan first w i r a m p q h d
+returns-clause-arrived_once c = λ plan first w m p q i r a h d. received_once plan first w i r (rested plan first w i r a).0 m p q h d
 
 pub returns-clause-own_at_rest : goal.returns-clause-own_at_rest
-returns-clause-own_at_rest c = λ plan first w p i r a. sym (own_live plan first w i r a p)
+returns-clause-own_at_rest c = λ plan first w p i r a. sym (own_live plan first w i r (rested plan first w i r a).0 p)
