@@ -5,6 +5,7 @@ ghost use Rattle.kt_fifo.specs.Channels.{channel};
 ghost use Rattle.kt_system.specs.Reads.{tally_of};
 ghost use Rattle.kt_promises.specs.World.{start_world};
 ghost use Rattle.kt_promises.specs.World as run_world;
+ghost use Rattle.kt_promises.specs.Follows.{BeginsPlan};
 ghost use Rattle.kt_promises.specs.Headline.{IsPromised};
 ghost use Rattle.kt_promises.specs.Lines.{EachStandsOnce};
 ghost use Rattle.kt_core.specs.Worlds.{IsOpening};
@@ -107,11 +108,15 @@ impl World {
         // nothing; and the checker says yes to its certificates.
         ensures promised { IsPromised result.now.rows }
 
+        // It follows the plan as far as it goes, told by the rows alone.
+        ensures begins { BeginsPlan self.now.agenda.plan result.now.rows }
+
         // Each live message that was not dropped stands once: received by its receiver itself, held, or in the channel.
         ensures once { (first : ℕ) (v : run_world.World) → Mirrors self.now.agenda self.now.system first v →
             EachStandsOnce v.now }
     {
         kt_promises::logs_of_worlds();
+        kt_promises::logs_follow_plans();
         kt_promises::messages_of_worlds();
         self.system.log()
     }
@@ -120,8 +125,10 @@ impl World {
     pub fn into_log(self) -> SpaceTime
         ensures log { result ≡ self.system.rows }
         ensures promised { IsPromised result.rows }
+        ensures begins { BeginsPlan self.agenda.plan result.rows }
     {
         kt_promises::logs_of_worlds();
+        kt_promises::logs_follow_plans();
         self.system.into_log()
     }
 

@@ -14,26 +14,25 @@ use Rattle.kt_plan.specs.Limits.{Planned}
 use Rattle.kt_spacetime.specs.declared.event.Event.{Event}
 use Rattle.kt_program.specs.declared.fault.AppFault.{AppFault}
 use Rattle.kt_program.specs.declared.fault.AppFault.TheVariants as app
-use Rattle.kt_program.specs.Played.{Outputs, IsWritten, AreNew, OverNew, StopsWithin, StopsAt, of_run}
+use Rattle.kt_program.specs.Played.{Outputs, IsWritten, AreNew, OverNew, StopsWriting, StopsAtFault, of_run}
 
 -- what is written of such rows is written of others that they are
 module _ (Are Be : List Event → Type 0) (so : (rows : List Event) → Are rows → Be rows) (old new : Outputs) where
   pub written_so : (plan : Planned) → IsWritten Are plan old new → IsWritten Be plan old new
-  written_so plan w = record { rows = w.rows; run = so w.rows w.run; promised = w.promised; writes = w.writes }
+  written_so plan w = record { rows = w.rows; run = so w.rows w.run; follows = w.follows; promised = w.promised; writes = w.writes }
 
-  within_so : StopsWithin Are old new → StopsWithin Be old new
-  within_so (inl s) = inl s
-  within_so (inr (inl s)) = inr (inl ((s.0.0, so s.0.0 s.0.1, s.0.2), s.1))
-  within_so (inr (inr (rows, are, log, chains))) = inr (inr (rows, so rows are, log, chains))
+  writing_so : (plan : Planned) → StopsWriting Are plan old new → StopsWriting Be plan old new
+  writing_so plan s = (s.0, so s.0 s.1, s.2)
 
-  pub stops_so : (fault : AppFault) → StopsAt Are old new fault → StopsAt Be old new fault
-  stops_so (app.Run fault) s = s
-  stops_so (app.Live fault) s = s
-  stops_so (app.Uncertified fault) s = s
-  stops_so app.Write s = within_so s
-  stops_so app.Memory s = within_so s
-  stops_so (app.Log fault) s = s
-  stops_so (app.Cert fault) s = s
+  pub stops_so : (plan : Planned) (fault : AppFault) → StopsAtFault Are plan old new fault → StopsAtFault Be plan old new fault
+  stops_so plan (app.Run fault) s = s
+  stops_so plan (app.Live fault) s = s
+  stops_so plan (app.Uncertified fault) s = s
+  stops_so plan app.Write s = writing_so plan s
+  stops_so plan app.Memory (inl u) = inl u
+  stops_so plan app.Memory (inr s) = inr (writing_so plan s)
+  stops_so plan (app.Log fault) s = s
+  stops_so plan (app.Cert fault) s = s
 
 pub on_ok_so : {T E : Type 0} {P Q : Type 0} (r : Result T E) → (P → Q) → OnOk r P → OnOk r Q
 on_ok_so (Ok value) f h = f h

@@ -5,6 +5,7 @@ use Rattle.clap.specs.Words.{Text}
 use Rattle.kt_spacetime.specs.declared.event.Event.{Event}
 use Rattle.kt_plan.specs.Limits.{Planned}
 use Rattle.kt_checker.specs.declared.verdict.Verdict.{Verdict}
+use Rattle.kt_promises.specs.Follows.{FollowsPlan}
 use Rattle.kt_promises.specs.Headline.{IsPromised}
 use Rattle.kt_program.specs.declared.ending.Done.{Done}
 use Rattle.kt_program.specs.declared.ending.Done.TheVariants.{Judged, Played, Shown}
@@ -14,7 +15,7 @@ use Rattle.kt_program.specs.declared.fault.ProgramFault.{ProgramFault}
 use Rattle.kt_program.specs.declared.fault.ProgramFault.TheVariants as program
 use Rattle.kt_program.specs.Asking.{Ask, IsOfRun}
 use Rattle.kt_run.specs.Runs.{IsLogOfRun}
-use Rattle.kt_program.specs.Played.{OverNew, WritesReport}
+use Rattle.kt_program.specs.Played.{OverNew, report_text}
 use Rattle.kt_program.specs.Status.{status_of}
 use Rattle.kt_program.specs.Stored.{Told, is_yes, line_of}
 
@@ -32,8 +33,9 @@ pub record AppendsReport (old new : Told) : Type 0 where
   pub plan : Planned
   pub rows : List Event
   pub run : OverNew plan (IsLogOfRun plan) rows
+  pub follows : FollowsPlan plan rows
   pub promised : IsPromised rows
-  pub report : WritesReport old new plan rows
+  pub report : Appends old new (report_text plan rows)
 
 -- the run's report; at a fault nothing, unless a writer failed or there was no memory for more of the report
 abbrev pub LeavesPlayed : Result Unit ProgramFault → Told → Told → Type 0

@@ -4,7 +4,7 @@ use Rattle.std.specs.Io.KnownBytes.{Appends}
 use Rattle.kt_held.specs.Holdings.{Content, content}
 use Rattle.kt_object.specs.Value.{opening}
 use Rattle.kt_spacetime.specs.declared.event.Event.{Event}
-use Rattle.kt_text.specs.Writing.{text_of}
+use Rattle.kt_text.specs.Writing.{text_of, WritesFront}
 use Rattle.kt_text.specs.declared.fault.WriteFault.{WriteFault}
 use Rattle.kt_text.specs.declared.fault.WriteFault.TheVariants as write
 use Rattle.kt_log_text.specs.Spelling.{spelling}
@@ -15,6 +15,7 @@ use Rattle.kt_certify.specs.declared.fault.CertFault.{CertFault}
 use Rattle.kt_certify.specs.declared.fault.CertFault.TheVariants as certify
 use Rattle.kt_report.specs.Exact.{report_of}
 use Rattle.kt_plan.specs.Limits.{Planned}
+use Rattle.kt_promises.specs.Follows.{FollowsPlan}
 use Rattle.kt_promises.specs.Headline.{IsPromised}
 use Rattle.kt_run.specs.Objects.{first_of}
 use Rattle.kt_run.specs.declared.faults.RunFault.{RunFault}
@@ -35,28 +36,30 @@ pub record Outputs : Type 0 where
 abbrev pub outputs : Told → Told → Told → Outputs
 outputs log certificates report = record { log = log; certificates = certificates; report = report }
 
--- the text of a log of these rows is written
-abbrev pub WritesLog : Told → Told → List Event → Type 0
-WritesLog old new rows = Appends old new (text_of (header ∷ map spelling rows))
+-- the text of a log of these rows
+abbrev pub log_text : List Event → List ℕ
+log_text rows = text_of (header ∷ map spelling rows)
 
--- the text of the certificates of such a log is written
-abbrev pub WritesCertificates : Told → Told → List Event → Type 0
-WritesCertificates old new rows = Appends old new (text_of (records_of (certificates rows)))
+-- the text of the certificates of such a log
+abbrev pub certificate_text : List Event → List ℕ
+certificate_text rows = text_of (records_of (certificates rows))
 
--- the text of the report of such a log of a run of this plan is written
-abbrev pub WritesReport : Told → Told → Planned → List Event → Type 0
-WritesReport old new plan rows = Appends old new (report_of plan rows (certificates rows))
+-- the text of the report of such a log of a run of this plan
+abbrev pub report_text : Planned → List Event → List ℕ
+report_text plan rows = report_of plan rows (certificates rows)
 
 -- a log of these rows, of a run of this plan, its certificates and its report are written
 pub record WritesRun (plan : Planned) (rows : List Event) (old new : Outputs) : Type 0 where
-  pub log : WritesLog old.log new.log rows
-  pub chains : WritesCertificates old.certificates new.certificates rows
-  pub report : WritesReport old.report new.report plan rows
+  pub log : Appends old.log new.log (log_text rows)
+  pub chains : Appends old.certificates new.certificates (certificate_text rows)
+  pub report : Appends old.report new.report (report_text plan rows)
 
--- a run of this plan is written whose rows are such, and all is so of it that is promised of a run
+-- a run of this plan is written whose rows are such; they follow the plan, told by the rows alone, and all is so of them that
+-- is promised of a run
 pub record IsWritten (Are : List Event → Type 0) (plan : Planned) (old new : Outputs) : Type 0 where
   pub rows : List Event
   pub run : Are rows
+  pub follows : FollowsPlan plan rows
   pub promised : IsPromised rows
   pub writes : WritesRun plan rows old new
 
@@ -97,28 +100,35 @@ IsOfWriting fault = (fault ≡ app.Write) ⊎ (fault ≡ app.Memory)
 abbrev pub IsUnwritten : Outputs → Outputs → Type 0
 IsUnwritten old new = (new.log ≡ old.log) × (new.certificates ≡ old.certificates) × (new.report ≡ old.report)
 
--- writing stops in the log: nothing of what comes later is written
-abbrev pub StopsInLog : Outputs → Outputs → Type 0
-StopsInLog old new = (new.certificates ≡ old.certificates) × (new.report ≡ old.report)
+-- writing stops in the log of these rows: a front part of it is written, and nothing of what comes later
+pub record StopsInLog (rows : List Event) (old new : Outputs) : Type 0 where
+  pub log : WritesFront old.log new.log (log_text rows)
+  pub chains : new.certificates ≡ old.certificates
+  pub report : new.report ≡ old.report
 
--- writing stops in the certificates: a log of such rows is written, and nothing of the report
-abbrev pub StopsInCertificates : (List Event → Type 0) → Outputs → Outputs → Type 0
-StopsInCertificates Are old new = ((rows : List Event) × Are rows × WritesLog old.log new.log rows) × (new.report ≡ old.report)
+-- it stops in the certificates: the log and a front part of them are written, and nothing of the report
+pub record StopsInCertificates (rows : List Event) (old new : Outputs) : Type 0 where
+  pub log : Appends old.log new.log (log_text rows)
+  pub chains : WritesFront old.certificates new.certificates (certificate_text rows)
+  pub report : new.report ≡ old.report
 
--- writing stops in the report: a log of such rows and its certificates are written
-abbrev pub StopsInReport : (List Event → Type 0) → Outputs → Outputs → Type 0
-StopsInReport Are old new = (rows : List Event) × Are rows × WritesLog old.log new.log rows × WritesCertificates old.certificates new.certificates rows
+-- it stops in the report: the log, the certificates and a front part of it are written
+pub record StopsInReport (plan : Planned) (rows : List Event) (old new : Outputs) : Type 0 where
+  pub log : Appends old.log new.log (log_text rows)
+  pub chains : Appends old.certificates new.certificates (certificate_text rows)
+  pub report : WritesFront old.report new.report (report_text plan rows)
 
--- writing stops somewhere
-abbrev pub StopsWithin : (List Event → Type 0) → Outputs → Outputs → Type 0
-StopsWithin Are old new = StopsInLog old new ⊎ (StopsInCertificates Are old new ⊎ StopsInReport Are old new)
+-- writing a run, whose rows are such, stops somewhere
+abbrev pub StopsWriting : (List Event → Type 0) → Planned → Outputs → Outputs → Type 0
+StopsWriting Are plan old new = (rows : List Event) × Are rows
+    × (StopsInLog rows old new ⊎ (StopsInCertificates rows old new ⊎ StopsInReport plan rows old new))
 
 -- what is written where a run, whose rows are such, is not written to its end
-abbrev pub StopsAt : (List Event → Type 0) → Outputs → Outputs → AppFault → Type 0
-StopsAt Are old new (app.Run fault) = (fault ≢ run.Memory) × IsUnwritten old new
-StopsAt Are old new (app.Live fault) = (fault ≢ live.Memory) × IsUnwritten old new
-StopsAt Are old new (app.Uncertified fault) = ⊥
-StopsAt Are old new app.Write = StopsWithin Are old new
-StopsAt Are old new app.Memory = StopsWithin Are old new
-StopsAt Are old new (app.Log fault) = ⊥
-StopsAt Are old new (app.Cert fault) = ⊥
+abbrev pub StopsAtFault : (List Event → Type 0) → Planned → Outputs → Outputs → AppFault → Type 0
+StopsAtFault Are plan old new (app.Run fault) = (fault ≢ run.Memory) × IsUnwritten old new
+StopsAtFault Are plan old new (app.Live fault) = (fault ≢ live.Memory) × IsUnwritten old new
+StopsAtFault Are plan old new (app.Uncertified fault) = ⊥
+StopsAtFault Are plan old new app.Write = StopsWriting Are plan old new
+StopsAtFault Are plan old new app.Memory = IsUnwritten old new ⊎ StopsWriting Are plan old new
+StopsAtFault Are plan old new (app.Log fault) = ⊥
+StopsAtFault Are plan old new (app.Cert fault) = ⊥

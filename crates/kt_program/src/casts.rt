@@ -14,7 +14,7 @@ ghost use Rattle.kt_run.specs.declared.faults.RunFault.{RunFault};
 ghost use Rattle.kt_run.specs.declared.faults.RunFault.TheVariants as run_fault;
 ghost use Rattle.kt_threads.specs.Faults as threads;
 ghost use Rattle.kt_threads.specs.declared.faults.LiveFault.{LiveFault};
-ghost use Rattle.kt_program.specs.Played.{AreNew, IsWritten, OverNew, StopsAt, outputs};
+ghost use Rattle.kt_program.specs.Played.{AreNew, IsWritten, OverNew, StopsAtFault, outputs};
 
 use crate::fault::AppFault;
 use crate::played::{live_plan, play_plan};
@@ -89,7 +89,7 @@ pub fn play_objects<L: Write, C: Write, R: Write>(
     ensures played { OnOk result (IsWritten (OverNew plan.now (λ cast. IsPlayed plan.now cast steps.now)) plan.now
         (outputs (L.contents log_writer.old) (C.contents cert_writer.old) (R.contents report_writer.old))
         (outputs (L.contents log_writer.new) (C.contents cert_writer.new) (R.contents report_writer.new))) }
-    ensures stopped { IfErr result (StopsAt (OverNew plan.now (λ cast. IsPlayed plan.now cast steps.now))
+    ensures stopped { IfErr result (StopsAtFault (OverNew plan.now (λ cast. IsPlayed plan.now cast steps.now)) plan.now
         (outputs (L.contents log_writer.old) (C.contents cert_writer.old) (R.contents report_writer.old))
         (outputs (L.contents log_writer.new) (C.contents cert_writer.new) (R.contents report_writer.new))) }
     // New objects are as many as the plan asks for, of its kinds; a step is refused only where those before it are a run.
@@ -139,7 +139,7 @@ fn play_cast<L: Write, C: Write, R: Write>(
     ensures played { OnOk result (IsWritten (OverNew plan.now (λ cast. IsPlayed plan.now cast steps.now)) plan.now
         (outputs (L.contents log_writer.old) (C.contents cert_writer.old) (R.contents report_writer.old))
         (outputs (L.contents log_writer.new) (C.contents cert_writer.new) (R.contents report_writer.new))) }
-    ensures stopped { IfErr result (StopsAt (OverNew plan.now (λ cast. IsPlayed plan.now cast steps.now))
+    ensures stopped { IfErr result (StopsAtFault (OverNew plan.now (λ cast. IsPlayed plan.now cast steps.now)) plan.now
         (outputs (L.contents log_writer.old) (C.contents cert_writer.old) (R.contents report_writer.old))
         (outputs (L.contents log_writer.new) (C.contents cert_writer.new) (R.contents report_writer.new))) }
     // New objects are as many as the plan asks for, of its kinds; a step is refused only where those before it are a run.
@@ -170,7 +170,7 @@ pub fn live_objects<T: Threads + Wait + Sync, L: Write, C: Write, R: Write>(
     ensures lived { OnOk result (IsWritten (OverNew plan.now (IsLogOfRun plan.now)) plan.now
         (outputs (L.contents log_writer.old) (C.contents cert_writer.old) (R.contents report_writer.old))
         (outputs (L.contents log_writer.new) (C.contents cert_writer.new) (R.contents report_writer.new))) }
-    ensures stopped { IfErr result (StopsAt (OverNew plan.now (IsLogOfRun plan.now))
+    ensures stopped { IfErr result (StopsAtFault (OverNew plan.now (IsLogOfRun plan.now)) plan.now
         (outputs (L.contents log_writer.old) (C.contents cert_writer.old) (R.contents report_writer.old))
         (outputs (L.contents log_writer.new) (C.contents cert_writer.new) (R.contents report_writer.new))) }
     // New objects are as many as the plan asks for, of its kinds.
@@ -218,7 +218,7 @@ fn live_cast<T: Threads + Wait + Sync, L: Write, C: Write, R: Write>(
     ensures lived { OnOk result (IsWritten (OverNew plan.now (IsLogOfRun plan.now)) plan.now
         (outputs (L.contents log_writer.old) (C.contents cert_writer.old) (R.contents report_writer.old))
         (outputs (L.contents log_writer.new) (C.contents cert_writer.new) (R.contents report_writer.new))) }
-    ensures stopped { IfErr result (StopsAt (OverNew plan.now (IsLogOfRun plan.now))
+    ensures stopped { IfErr result (StopsAtFault (OverNew plan.now (IsLogOfRun plan.now)) plan.now
         (outputs (L.contents log_writer.old) (C.contents cert_writer.old) (R.contents report_writer.old))
         (outputs (L.contents log_writer.new) (C.contents cert_writer.new) (R.contents report_writer.new))) }
     // New objects are as many as the plan asks for, of its kinds.

@@ -11,7 +11,7 @@ ghost use Rattle.kt_run.specs.declared.faults.RunFault.{RunFault};
 ghost use Rattle.kt_run.specs.declared.faults.RunFault.TheVariants as run_fault;
 ghost use Rattle.kt_threads.specs.Faults as threads;
 ghost use Rattle.kt_threads.specs.declared.faults.LiveFault.{LiveFault};
-ghost use Rattle.kt_program.specs.Played.{IsOfWriting, IsWritten, StopsAt, WritesRun, outputs};
+ghost use Rattle.kt_program.specs.Played.{IsOfWriting, IsWritten, StopsAtFault, WritesRun, outputs};
 
 use crate::fault::AppFault;
 use kt_certify::certify;
@@ -49,9 +49,11 @@ pub fn play_plan<L: Write, C: Write, R: Write>(
         plan.now
         (outputs (L.contents log_writer.old) (C.contents cert_writer.old) (R.contents report_writer.old))
         (outputs (L.contents log_writer.new) (C.contents cert_writer.new) (R.contents report_writer.new))) }
-    // Where it stops: nothing is written of what comes later, and all of what comes earlier, of such a run.
-    ensures stopped { IfErr result (StopsAt
+    // Where it stops: all of what comes earlier is written, of such a run, a front part of the text in which it stops, and
+    // nothing of what comes later.
+    ensures stopped { IfErr result (StopsAtFault
         (IsPlayed plan.now (map (λ row. map (λ b. content (kind_of b) (value_of b)) row.items) cast.items) steps.now)
+        plan.now
         (outputs (L.contents log_writer.old) (C.contents cert_writer.old) (R.contents report_writer.old))
         (outputs (L.contents log_writer.new) (C.contents cert_writer.new) (R.contents report_writer.new))) }
     // A fault of the run is one of these objects, or comes once they are found right; a step is refused only where those
@@ -85,9 +87,11 @@ pub fn live_plan<T: Threads + Wait + Sync, L: Write, C: Write, R: Write>(
         plan.now
         (outputs (L.contents log_writer.old) (C.contents cert_writer.old) (R.contents report_writer.old))
         (outputs (L.contents log_writer.new) (C.contents cert_writer.new) (R.contents report_writer.new))) }
-    // Where it stops: nothing is written of what comes later, and all of what comes earlier, of such a run.
-    ensures stopped { IfErr result (StopsAt
+    // Where it stops: all of what comes earlier is written, of such a run, a front part of the text in which it stops, and
+    // nothing of what comes later.
+    ensures stopped { IfErr result (StopsAtFault
         (IsLogOfRun plan.now (map (λ row. map (λ b. content (kind_of b) (value_of b)) row.items) cast.items))
+        plan.now
         (outputs (L.contents log_writer.old) (C.contents cert_writer.old) (R.contents report_writer.old))
         (outputs (L.contents log_writer.new) (C.contents cert_writer.new) (R.contents report_writer.new))) }
     // A fault of the run is one of these objects, or comes once they are found right.
@@ -118,7 +122,7 @@ fn write_run<L: Write, C: Write, R: Write>(
     ensures written { OnOk result (WritesRun plan.now log.now.rows
         (outputs (L.contents log_writer.old) (C.contents cert_writer.old) (R.contents report_writer.old))
         (outputs (L.contents log_writer.new) (C.contents cert_writer.new) (R.contents report_writer.new))) }
-    ensures stopped { IfErr result (StopsAt (λ rows. rows ≡ log.now.rows)
+    ensures stopped { IfErr result (StopsAtFault (λ rows. rows ≡ log.now.rows) plan.now
         (outputs (L.contents log_writer.old) (C.contents cert_writer.old) (R.contents report_writer.old))
         (outputs (L.contents log_writer.new) (C.contents cert_writer.new) (R.contents report_writer.new))) }
     ensures writing { IfErr result IsOfWriting }

@@ -12,6 +12,8 @@ use Rattle.kt_values.specs.Values.{Rules}
 use Rattle.kt_spacetime.specs.declared.event.Event.{Event}
 use Rattle.kt_phases.specs.Runs.{Move}
 use Rattle.kt_promises.specs.World as run_world
+use Rattle.kt_promises.specs.Follows.{FollowsPlan}
+use Rattle.kt_promises.proofs.FollowsRuns.{follows_seen}
 use Rattle.kt_promises.specs.Steps.{enabled, world_after}
 use Rattle.kt_promises.specs.Defaults.{default_step}
 use Rattle.kt_promises.specs.StepActs.{acts_of_step}
@@ -275,6 +277,9 @@ module _ (plan : Planned) (cast : List (List Content)) (steps : List Step) (w : 
     };
     goes_on = r.run.goes_on;
   }
+
+  pub follows_of : FollowsPlan plan rows
+  follows_of = subst (λ (l : List Event). FollowsPlan plan l) (sym rows_are) (follows_seen plan 0 r.run.now limits reached r.rest)
 
   pub told_run_of : length at.told ≡ length plan.names → IsToldPlay plan cast steps rows at.told
   unfolding run_of

@@ -3,6 +3,7 @@
 ghost use Rattle.std.specs.Prelude.{◌≡◌, ℕ, None, All, map, OnOk, IfOk, IfErr};
 ghost use Rattle.kt_core.specs.declared.faults.StepFault.{StepFault};
 ghost use Rattle.kt_held.specs.Holdings.{content};
+ghost use Rattle.kt_promises.specs.Follows.{FollowsPlan};
 ghost use Rattle.kt_promises.specs.Headline.{IsPromised};
 ghost use Rattle.kt_run.specs.Faults.{IsCast, Answers};
 ghost use Rattle.kt_run.specs.Objects.{has_of, HoldDue};
@@ -55,6 +56,9 @@ pub fn run(alloc: Global, plan: &Plan, steps: &[Step], cast: Cast) -> Result<Out
         (has_of outcome.objects.items (λ b. content (kind_of b) (value_of b)))) }
     ensures settled { IfOk result (λ outcome. All (λ h. h.depot.tentative ≡ None) outcome.objects.items) }
     ensures promised { IfOk result (λ outcome. IsPromised outcome.log.rows) }
+
+    // The log follows the plan, told by its rows alone.
+    ensures follows { IfOk result (λ outcome. FollowsPlan plan.now outcome.log.rows) }
 {
     let mut stage = Stage::begin(alloc, plan, cast)?;
     stage.keep_journals()?;
@@ -80,6 +84,9 @@ pub fn log_of(alloc: Global, plan: &Plan, steps: &[Step], cast: Cast) -> Result<
     ensures run { IfOk result (λ log. IsPlayed plan.now
         (map (λ row. map (λ b. content (kind_of b) (value_of b)) row.items) cast.items) steps.now log.rows) }
     ensures promised { IfOk result (λ log. IsPromised log.rows) }
+
+    // It follows the plan, told by its rows alone.
+    ensures follows { IfOk result (λ log. FollowsPlan plan.now log.rows) }
 {
     let mut stage = Stage::begin(alloc, plan, cast)?;
     stage.make_all(steps)?;

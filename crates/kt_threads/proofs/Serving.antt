@@ -1,5 +1,5 @@
 -- A step that is served keeps what its process has what is due to it.
-use Rattle.std.proofs.Common.{◌≡◌, ◌≢◌, ◌∙◌, ◌==◌, ◌<◌, arith, ℕ, ℤ, Bool, true, false, List, [], ◌∷◌, map, refl, sym, ap, subst, Option, Some, None, IfSome}
+use Rattle.std.proofs.Common.{length, ◌≡◌, ◌≢◌, ◌∙◌, ◌==◌, ◌<◌, arith, ℕ, ℤ, Bool, true, false, List, [], ◌∷◌, map, refl, sym, ap, subst, Option, Some, None, IfSome}
 use Rattle.std.specs.Prelude.{◌&&◌, nat_lt, is_some, option_map, if◌then◌else◌}
 use Rattle.std.proofs.lemmas.Bool.Decides.{nat_tests}
 use Rattle.kt_plan.specs.declared.steps.Step.{Step}

@@ -4,6 +4,7 @@ ghost use Rattle.std.specs.List.{AllZip};
 ghost use Rattle.std.specs.Prelude.{◌≡◌, [], List, true, false, None, All, map, OnOk, IfOk, IfErr};
 ghost use Rattle.kt_core.specs.Worlds.{IsAtRest};
 ghost use Rattle.kt_held.specs.Holdings.{Content, content};
+ghost use Rattle.kt_promises.specs.Follows.{FollowsPlan};
 ghost use Rattle.kt_promises.specs.Headline.{IsPromised};
 ghost use Rattle.kt_run.specs.Faults.{IsCast};
 ghost use Rattle.kt_run.specs.Objects.{has_of, HoldDue};
@@ -89,6 +90,7 @@ fn work_all<R: Threads + Wait + Sync>(
 fn finish(state: State, plan: &Plan) -> Result<(SpaceTime, Vec<Made>), LiveFault>
     ensures run { IfOk result (λ parts. IsWholeHistory plan.entry.now parts.1.items parts.0.rows) }
     ensures promised { IfOk result (λ parts. IsPromised parts.0.rows) }
+    ensures follows { IfOk result (λ parts. FollowsPlan plan.entry.now parts.0.rows) }
     ensures fault { IfErr result (λ fault. is_of_cast fault ≡ false) }
 {
     ended(&state, plan)?;
@@ -99,6 +101,7 @@ fn finish(state: State, plan: &Plan) -> Result<(SpaceTime, Vec<Made>), LiveFault
 fn ended(state: &State, plan: &Plan) -> Result<(), LiveFault>
     ensures plan { OnOk result (state.now.world.agenda.plan ≡ plan.now) }
     ensures rest { OnOk result (IsAtRest state.now.world) }
+    ensures follows { OnOk result (FollowsPlan plan.now state.now.world.system.rows.rows) }
     ensures fault { IfErr result (λ fault. is_of_cast fault ≡ false) }
 {
     if let Some(fault) = state.fault() {
@@ -156,6 +159,7 @@ fn live_with<R: Threads + Wait + Sync>(
         IfOk result (λ o. All (λ h. h.depot.tentative ≡ None) o.objects.items) }
     ensures told { IfOk result (λ o. AreToldTheirRows o.log.rows (map (λ list. list.items) o.told.items)) }
     ensures promised { IfOk result (λ o. IsPromised o.log.rows) }
+    ensures follows { IfOk result (λ o. FollowsPlan plan.now o.log.rows) }
     ensures fault { IfErr result (λ fault. is_of_cast fault ≡ false) }
 {
     let seats = seats_of(alloc, objects)?;
@@ -201,6 +205,9 @@ pub fn live<R: Threads + Wait + Sync>(
 
     // Of the log all is so that is promised of every run's.
     ensures promised { IfOk result (λ o. IsPromised o.log.rows) }
+
+    // The log follows the plan, told by its rows alone.
+    ensures follows { IfOk result (λ o. FollowsPlan plan.now o.log.rows) }
 
     // The objects are those that the plan asks for; else a fault says what is wrong with them.
     ensures cast { OnOk result (IsCast plan.now (map (λ row. map (λ b. kind_of b) row.items) cast.items)) }

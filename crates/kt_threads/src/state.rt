@@ -3,6 +3,7 @@
 ghost use Rattle.std.specs.Prelude.{◌≡◌, ◌⊎◌, ◌+◌, ◌^◌, [], ◌∷◌, ◌++◌, None, Some, IfOk, IfErr, IfSome, OnErr, IsTrue, ◌↔◌, true};
 ghost use Rattle.kt_core.specs.Worlds as core;
 ghost use Rattle.kt_core.specs.Worlds.{refusal, IsAtRest, IsOpening, IsSameWorld};
+ghost use Rattle.kt_promises.specs.Follows.{FollowsPlan};
 ghost use Rattle.kt_promises.specs.Headline.{IsPromised};
 ghost use Rattle.kt_threads.specs.Histories.{IsMade, IsHistory, first_of};
 
@@ -105,7 +106,8 @@ impl State {
 
     /// Whether the world is at rest.
     pub(crate) fn at_rest(&self) -> bool
-        ensures { IsTrue result ↔ IsAtRest self.now.world }
+        ensures rest { IsTrue result ↔ IsAtRest self.now.world }
+        ensures follows { IsTrue result → FollowsPlan self.now.world.agenda.plan self.now.world.system.rows.rows }
     {
         self.world.at_rest()
     }

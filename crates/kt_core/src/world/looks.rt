@@ -4,6 +4,7 @@ ghost use Rattle.std.specs.Prelude.{◌≡◌, ◌<◌, ◌+◌, ◌↔◌, ℕ,
 ghost use Rattle.kt_core.specs.Worlds.{enabled, can_do, look, look_of_step, lacks_label, is_send, IsAtRest, IsNextDo, IsFirstBelow, IsDefaultStep, IsNextStepOf};
 ghost use Rattle.kt_phases.specs.Steps.{stepper};
 ghost use Rattle.std.specs.Option.{option_map};
+ghost use Rattle.kt_promises.specs.Follows.{FollowsPlan};
 ghost use Rattle.kt_promises.specs.World as run_world;
 ghost use Rattle.kt_promises.specs.Steps as run_steps;
 ghost use Rattle.kt_promises.specs.Looks as run_looks;
@@ -124,7 +125,12 @@ impl World {
 
         // Never stuck: where no step is enabled, all is done.
         ensures stuck { ((step : Step) → enabled self.now step ≡ false) → IsTrue result }
+
+        // Then the log is that of a whole run of the plan, told by its rows alone: each command has its row, each instance
+        // is decided, no process is in one, and no message is under way.
+        ensures follows { IsTrue result → FollowsPlan self.now.agenda.plan self.now.system.rows.rows }
     {
+        kt_promises::logs_follow_plans();
         self.is_over()
     }
 

@@ -17,7 +17,7 @@ returns-clause-lived g c = on_ok_so c.live_plan.result
 
 pub returns-clause-stopped : goal.returns-clause-stopped
 returns-clause-stopped g c = if_err_so _ _ c.live_plan.result
-    (stops_so _ _ (over_new c.args.plan.now (IsLogOfRun c.args.plan.now) (map (λ row. map (λ b. content ((goal.Recoverable-dyn g (b.vtable, b.value)).kind_of b.value) ((goal.Recoverable-dyn g (b.vtable, b.value)).value_of b.value)) row.items) c.args.cast.items) (new g c)) _ _)
+    (stops_so _ _ (over_new c.args.plan.now (IsLogOfRun c.args.plan.now) (map (λ row. map (λ b. content ((goal.Recoverable-dyn g (b.vtable, b.value)).kind_of b.value) ((goal.Recoverable-dyn g (b.vtable, b.value)).value_of b.value)) row.items) c.args.cast.items) (new g c)) _ _ _)
     c.live_plan.ensures.stopped
 
 pub returns-clause-fault : goal.returns-clause-fault

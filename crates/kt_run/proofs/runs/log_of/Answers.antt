@@ -4,13 +4,28 @@ use Rattle.kt_held.specs.Holdings.{content}
 use Rattle.kt_run.specs.Refused.{IsRefused}
 use Rattle.kt_plan.specs.Limits.{Planned, IsPlan}
 use Rattle.kt_run.specs.Runs.{scene, Rests}
-use Rattle.kt_run.proofs.Running.{run_of}
+use Rattle.kt_run.proofs.Running.{run_of, follows_of}
 use Rattle.kt_run.proofs.runs.log_of.Goals as goal
 
 pub returns-clause-run : goal.returns-clause-run
 returns-clause-run g c =
     let end = c.make_all.new.self in
     run_of c.args.plan.now
+    (map (λ row. map (λ b. content ((goal.Recoverable-dyn g (b.vtable, b.value)).kind_of b.value) ((goal.Recoverable-dyn g (b.vtable, b.value)).value_of b.value)) row.items) c.args.cast.items)
+    c.args.steps.now end.world (scene end.journals end.objects.items (λ b. content ((goal.Recoverable-dyn g (b.vtable, b.value)).kind_of b.value) ((goal.Recoverable-dyn g (b.vtable, b.value)).value_of b.value))) c.into_log.result.rows
+    (subst IsPlan c.in_ok-stage.ensures.plan c.in_ok-stage.ensures.starts.shown.limits)
+    (subst (λ (p : Planned). Rests p
+    (map (λ row. map (λ b. content ((goal.Recoverable-dyn g (b.vtable, b.value)).kind_of b.value) ((goal.Recoverable-dyn g (b.vtable, b.value)).value_of b.value)) row.items) c.args.cast.items)
+    c.args.steps.now end.world (scene end.journals end.objects.items (λ b. content ((goal.Recoverable-dyn g (b.vtable, b.value)).kind_of b.value) ((goal.Recoverable-dyn g (b.vtable, b.value)).value_of b.value)))) c.in_ok-stage.ensures.plan
+    (c.in_ok-make_all.ensures.rests
+    (map (λ row. map (λ b. content ((goal.Recoverable-dyn g (b.vtable, b.value)).kind_of b.value) ((goal.Recoverable-dyn g (b.vtable, b.value)).value_of b.value)) row.items) c.args.cast.items)
+    c.in_ok-stage.ensures.due))
+    (ap (λ l. l.rows) c.into_log.ensures.log)
+
+pub returns-clause-follows : goal.returns-clause-follows
+returns-clause-follows g c =
+    let end = c.make_all.new.self in
+    follows_of c.args.plan.now
     (map (λ row. map (λ b. content ((goal.Recoverable-dyn g (b.vtable, b.value)).kind_of b.value) ((goal.Recoverable-dyn g (b.vtable, b.value)).value_of b.value)) row.items) c.args.cast.items)
     c.args.steps.now end.world (scene end.journals end.objects.items (λ b. content ((goal.Recoverable-dyn g (b.vtable, b.value)).kind_of b.value) ((goal.Recoverable-dyn g (b.vtable, b.value)).value_of b.value))) c.into_log.result.rows
     (subst IsPlan c.in_ok-stage.ensures.plan c.in_ok-stage.ensures.starts.shown.limits)

@@ -10,7 +10,7 @@ use Rattle.kt_plan.specs.declared.steps.Told.{Told}
 use Rattle.kt_run.specs.Objects.{belongings_of, has_of, HoldDue}
 use Rattle.kt_run.specs.Runs.{scene, Rests, IsToldPlay}
 use Rattle.kt_run.specs.Telling.{AreToldTheirRows}
-use Rattle.kt_run.proofs.Running.{told_run_of, their_rows, due_of, settled_of}
+use Rattle.kt_run.proofs.Running.{told_run_of, their_rows, due_of, settled_of, follows_of}
 use Rattle.kt_run.proofs.runs.run.Goals as goal
 use Rattle.kt_run.proofs.runs.run.Goals.{After-into_lists}
 
@@ -62,6 +62,12 @@ returns-clause-told g c =
 pub returns-clause-due : goal.returns-clause-due
 returns-clause-due g c =
     due_of c.args.plan.now
+    (map (λ row. map (λ b. content ((goal.Recoverable-dyn g (b.vtable, b.value)).kind_of b.value) ((goal.Recoverable-dyn g (b.vtable, b.value)).value_of b.value)) row.items) c.args.cast.items)
+    c.args.steps.now c.make_all.new.self.world (scene c.make_all.new.self.journals c.make_all.new.self.objects.items (λ b. content ((goal.Recoverable-dyn g (b.vtable, b.value)).kind_of b.value) ((goal.Recoverable-dyn g (b.vtable, b.value)).value_of b.value))) c.into_log.result.rows (limits g c) (rests g c) (ap (λ l. l.rows) c.into_log.ensures.log)
+
+pub returns-clause-follows : goal.returns-clause-follows
+returns-clause-follows g c =
+    follows_of c.args.plan.now
     (map (λ row. map (λ b. content ((goal.Recoverable-dyn g (b.vtable, b.value)).kind_of b.value) ((goal.Recoverable-dyn g (b.vtable, b.value)).value_of b.value)) row.items) c.args.cast.items)
     c.args.steps.now c.make_all.new.self.world (scene c.make_all.new.self.journals c.make_all.new.self.objects.items (λ b. content ((goal.Recoverable-dyn g (b.vtable, b.value)).kind_of b.value) ((goal.Recoverable-dyn g (b.vtable, b.value)).value_of b.value))) c.into_log.result.rows (limits g c) (rests g c) (ap (λ l. l.rows) c.into_log.ensures.log)
 
