@@ -1,7 +1,7 @@
 -- Command rows, and the phases of rows, of a log to which rows are added.
-use Rattle.std.proofs.Common.{◌≡◌, ◌≢◌, ℕ, zero, suc, ◌-◌, ◌<◌, ◌≤◌, Bool, true, false, List, [], ◌∷◌, ◌++◌, length, take, append-nil, refl, arith, sym, ap, ap₂, ◌∙◌, Some, None, inl, inr}
+use Rattle.std.proofs.Common.{◌≡◌, ◌≢◌, ℕ, zero, suc, ◌-◌, ◌+◌, ◌<◌, ◌≤◌, Bool, true, false, List, [], ◌∷◌, ◌++◌, length, take, drop, append-nil, refl, arith, sym, ap, ap₂, ◌∙◌, Some, None, inl, inr}
 use Rattle.std.specs.Prelude.{◌==◌, ◌&&◌, ◌||◌, if◌then◌else◌, Option, option_map, option_and_then, slice_get}
-use Rattle.std.proofs.lemmas.List.{take-append-le}
+use Rattle.std.proofs.lemmas.List.{take-append-le, take-take, take-append-drop, length-append}
 use Rattle.std.proofs.lemmas.List.Elements.{filter-append}
 use Rattle.std.proofs.lemmas.Option.{slice_get_past}
 use Rattle.std.proofs.lemmas.Bool.{cases_lt}
@@ -13,7 +13,8 @@ use Rattle.kt_cuts.proofs.RowRules.{neither}
 use Rattle.kt_protocol.proofs.Updates.{is_same, is_other}
 use Rattle.kt_plan.specs.Limits.{Planned}
 use Rattle.kt_plan.specs.declared.commands.Command.{Command}
-use Rattle.kt_promises.specs.Follows.{is_command_row, command_rows, AnswersJob, AnswerAllCommands, AnswerFirstCommands, command_answered, phase_at}
+use Rattle.kt_phases.specs.Plans.{commands_of}
+use Rattle.kt_promises.specs.Follows.{is_command_row, command_rows, AnswersJob, AnswerAllCommands, AnswerFirstCommands, command_answered, phase_at, KeepsPhases}
 
 rows_of_more : (p : ℕ) (xs ys : List Event) → command_rows p (xs ++ ys) ≡ command_rows p xs ++ command_rows p ys
 rows_of_more p xs ys = filter-append (λ (row : Event). process_of row == p && is_command_row row) xs ys
@@ -80,6 +81,47 @@ phase_of_old plan xs ys n k e f = elim (cases_lt n (length xs)) [
     go : (o : Option Event) → slice_get ys (n - length xs) ≡ o → phase_of plan (take n (xs ++ ys)) o ≡ Some k → ⊥
     go None g h = cc (h)
     go (Some row) g h = let z = none_there ys (n - length xs) row e g in let y : None ≡ Some k = rw z at h in cc (y)
+
+-- a row that has a phase answers a command
+pub record HasPhase (plan : Planned) (log : List Event) (n k : ℕ) : Type 0 where
+  pub by : ℕ
+  pub command : Command
+  pub next : slice_get (commands_of by plan.commands) (length (command_rows by (take n log))) ≡ Some command
+  pub phase : command.phase ≡ k
+
+pub has_phase : (plan : Planned) (log : List Event) (n k : ℕ) → phase_at plan log n ≡ Some k → HasPhase plan log n k
+has_phase plan log n k e = by_row (slice_get log n) e
+  where
+    by_command : (p : ℕ) (o : Option Command) → slice_get (commands_of p plan.commands) (length (command_rows p (take n log))) ≡ o → option_map (λ (c : Command). c.phase) o ≡ Some k → HasPhase plan log n k
+    by_command p None f h = absurd (cc (h))
+    by_command p (Some c) f h = record { by = p; command = c; next = f; phase = cc (h) }
+
+    by_test : (b : Bool) (p : ℕ) → option_map (λ (c : Command). c.phase) (if b then slice_get (commands_of p plan.commands) (length (command_rows p (take n log))) else None) ≡ Some k → HasPhase plan log n k
+    by_test true p h = by_command p (slice_get (commands_of p plan.commands) (length (command_rows p (take n log)))) refl h
+    by_test false p h = absurd (cc (h))
+
+    by_row : (o : Option Event) → option_map (λ (c : Command). c.phase) (option_and_then (command_answered plan (take n log)) o) ≡ Some k → HasPhase plan log n k
+    by_row None h = absurd (cc (h))
+    by_row (Some row) h = by_test (is_command_row row) (process_of row) h
+
+-- rows only get more
+pub rows_rise : (p m n : ℕ) (log : List Event) → m ≤ n → length (command_rows p (take m log)) ≤ length (command_rows p (take n log))
+rows_rise p m n log l =
+    let s : take n log ≡ take m log ++ drop m (take n log) = sym (ap (λ (x : List Event). x ++ drop m (take n log)) (sym (take-take m n log l)) ∙ take-append-drop m (take n log)) in
+    let e : length (command_rows p (take n log)) ≡ length (command_rows p (take m log)) + length (command_rows p (drop m (take n log))) = ap (λ (x : List Event). length (command_rows p x)) s ∙ (ap length (rows_of_more p (take m log) (drop m (take n log))) ∙ length-append (command_rows p (take m log)) (command_rows p (drop m (take n log)))) in
+    omega (arith, e)
+
+-- so phases never fall
+pub phases_rise : (plan : Planned) (log : List Event) (m n j k : ℕ) → KeepsPhases plan log → m ≤ n → phase_at plan log m ≡ Some j → phase_at plan log n ≡ Some k → j ≤ k
+phases_rise plan log m n j k a l e f = elim (cases_lt k j) [
+  | inl h ↦ absurd (
+      let c = has_phase plan log n k f in
+      let s = c.phase in
+      let x = a.finished m j (length (command_rows c.by (take n log))) c.by c.command e c.next (omega (arith, h, s)) in
+      let y = rows_rise c.by m n log l in
+      omega (arith, x, y))
+  | inr h ↦ h
+]
 
 -- one more answer
 pub answer_more : (cs : List Command) (rows : List Event) (c : Command) (row : Event) → AnswerFirstCommands cs rows → slice_get cs (length rows) ≡ Some c → AnswersJob c.job row → AnswerFirstCommands cs (rows ++ row ∷ [])

@@ -30,7 +30,6 @@ along_start plan phase = record {
   counts = λ p. refl;
   commands = λ p. tt;
   phases = record {
-    order = λ m n j k l e f. absurd (none_at_all plan m j e);
     finished = λ n k i p c e f l. absurd (none_at_all plan n k e);
     quiet = λ n k e f. absurd (none_at_all plan n k e);
   };
@@ -59,7 +58,6 @@ module _ (plan : Planned) (log rows : List Event) (done : ℕ → ℕ) (phase : 
     counts = λ p. ap length (rows_same p log rows none) ∙ a.counts p;
     commands = λ p. subst (AnswerFirstCommands (commands_of p plan.commands)) (sym (rows_same p log rows none)) (a.commands p);
     phases = record {
-      order = λ m n j k l e f. a.phases.order m n j k l (old m j e).1 (old n k f).1;
       finished = λ n k i p c e f l. let o = old n k e in subst (λ (x : List Event). i < length (command_rows p x)) (sym (took n o.0)) (a.phases.finished n k i p c o.1 f l);
       quiet = λ n k e f. let o = old n k e in subst (λ (x : List Event). IsQuiet (past x)) (sym (took n o.0))
           (a.phases.quiet n k o.1 (λ m l g. f m l (phase_before plan log rows m (let y = o.0 in omega (arith, l, y)) ∙ g)));
@@ -97,32 +95,10 @@ module _ (plan : Planned) (log : List Event) (row : Event) (done : ℕ → ℕ) 
   at_it : (u : ℕ) → u ≡ p → at_one p (done p + 1) done u ≡ done p + 1
   at_it u e = ap (at_one p (done p + 1) done) e ∙ at_one_here p (done p + 1) done
 
-  order_after : (m n j k : ℕ) → m ≤ n → phase_at plan (log ++ row ∷ []) m ≡ Some j → phase_at plan (log ++ row ∷ []) n ≡ Some k → j ≤ k
-  order_after m n j k l e f = elim (parts n k f) [
-    | inl h ↦ elim (parts m j e) [
-      | inl g ↦ a.phases.order m n j k l g.1 h.1
-      | inr g ↦ (let x = g.0 in let y = h.0 in absurd (omega (arith, l, x, y)))
-    ]
-    | inr h ↦ elim (parts m j e) [
-      | inl g ↦ (let x = a.below m j g.1 in let y = h.1 in omega (arith, x, y))
-      | inr g ↦ (let x = g.1 in let y = h.1 in omega (arith, x, y))
-    ]
-  ]
-
   finished_after : (n k i u : ℕ) (d : Command) → phase_at plan (log ++ row ∷ []) n ≡ Some k → slice_get (commands_of u plan.commands) i ≡ Some d → d.phase < k → i < length (command_rows u (take n (log ++ row ∷ [])))
   finished_after n k i u d e f l = elim (parts n k e) [
     | inl h ↦ (let x = h.0 in subst (λ (y : List Event). i < length (command_rows u y)) (sym (took_before n (omega (arith, x)))) (a.phases.finished n k i u d h.1 f l))
     | inr h ↦ (let x = h.0 in let z = h.1 in subst (λ (y : List Event). i < length (command_rows u y)) (sym (took_all n x)) (let y = finished i u d f (omega (arith, l, z)) in let s = a.counts u in omega (arith, y, s)))
-  ]
-
-  quiet_after : (n k : ℕ) → phase_at plan (log ++ row ∷ []) n ≡ Some k → ((m : ℕ) → m < n → phase_at plan (log ++ row ∷ []) m ≢ Some k) → IsQuiet (past (take n (log ++ row ∷ [])))
-  quiet_after n k e f = elim (parts n k e) [
-    | inl h ↦ (let x = h.0 in subst (λ (y : List Event). IsQuiet (past y)) (sym (took_before n (omega (arith, x))))
-        (a.phases.quiet n k h.1 (λ m l g. f m l (phase_before plan log (row ∷ []) m (omega (arith, l, x)) ∙ g))))
-    | inr h ↦ (let x = h.0 in let z = h.1 in subst (λ (y : List Event). IsQuiet (past y)) (sym (took_all n x)) (quiet (λ m g. elim (cases_lt m (length log)) [
-      | inl l ↦ f m (omega (arith, l, x)) (phase_before plan log (row ∷ []) m l ∙ (g ∙ ap Some (sym z)))
-      | inr l ↦ (let y = phase_beyond plan log m l in cc (g, y))
-    ])))
   ]
 
   pub along_command : ComesAlong plan (log ++ row ∷ []) (at_one p (done p + 1) done) phase
@@ -137,7 +113,17 @@ module _ (plan : Planned) (log : List Event) (row : Event) (done : ℕ → ℕ) 
           (answer_more (commands_of p plan.commands) (command_rows p log) c row (a.commands p) (ap (slice_get (commands_of p plan.commands)) (a.counts p) ∙ next) answers))
       | inr n ↦ subst (AnswerFirstCommands (commands_of u plan.commands)) (sym (rows_other p u log row by n)) (a.commands u)
     ];
-    phases = record { order = order_after; finished = finished_after; quiet = quiet_after };
+    phases = record {
+      finished = finished_after;
+      quiet = λ n k e f. elim (parts n k e) [
+        | inl h ↦ (let x = h.0 in subst (λ (y : List Event). IsQuiet (past y)) (sym (took_before n (omega (arith, x))))
+            (a.phases.quiet n k h.1 (λ m l g. f m l (phase_before plan log (row ∷ []) m (omega (arith, l, x)) ∙ g))))
+        | inr h ↦ (let x = h.0 in let z = h.1 in subst (λ (y : List Event). IsQuiet (past y)) (sym (took_all n x)) (quiet (λ m g. elim (cases_lt m (length log)) [
+          | inl l ↦ f m (omega (arith, l, x)) (phase_before plan log (row ∷ []) m l ∙ (g ∙ ap Some (sym z)))
+          | inr l ↦ (let y = phase_beyond plan log m l in cc (g, y))
+        ])))
+      ];
+    };
     below = λ n k e. elim (parts n k e) [
       | inl h ↦ a.below n k h.1
       | inr h ↦ (let x = h.1 in omega (arith, x))

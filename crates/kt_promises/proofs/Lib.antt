@@ -33,3 +33,5 @@ pub mod StepAnswers
 pub mod FollowsAlong
 pub mod QuietLogs
 pub mod FollowsRuns
+pub mod PlansOfThree
+pub mod FollowsWorked

@@ -74,10 +74,9 @@ pub record IsQuiet (now : Past) : Type 0 where
   pub arrived : (m p q : ℕ) → has_deed (deed.Sent m q) (now.live p) ≡ true → now.dropped m ≡ false →
       has_deed (deed.Received m p) (now.live q) ≡ true
 
--- phases of a log: a row of a later phase comes after all those of earlier ones, whose commands all have their rows by
--- then; and just before the first row of a phase all is quiet
+-- one phase after another: just before a row of a phase each command of an earlier one has its row, and just before the
+-- first row of a phase all is quiet
 pub record KeepsPhases (plan : Planned) (log : List Event) : Type 0 where
-  pub order : (m n j k : ℕ) → m ≤ n → phase_at plan log m ≡ Some j → phase_at plan log n ≡ Some k → j ≤ k
   pub finished : (n k i p : ℕ) (c : Command) → phase_at plan log n ≡ Some k →
       slice_get (commands_of p plan.commands) i ≡ Some c → c.phase < k → i < length (command_rows p (take n log))
   pub quiet : (n k : ℕ) → phase_at plan log n ≡ Some k → ((m : ℕ) → m < n → phase_at plan log m ≢ Some k) →

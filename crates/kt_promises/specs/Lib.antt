@@ -18,3 +18,4 @@ pub mod Told
 pub mod Offers
 pub mod Follows
 pub mod WorkedWorlds
+pub mod WorkedFollows

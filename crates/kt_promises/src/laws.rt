@@ -68,7 +68,7 @@ ghost use Rattle.kt_promises.specs.Lines.{line, EachStandsOnce, KeepsReceived, m
 ghost use Rattle.kt_promises.specs.Messages.{AreMessagesTo};
 ghost use Rattle.kt_promises.specs.World.{World, world_of, commands_left, next_command, opens_next, is_quiet, start_world};
 ghost use Rattle.kt_promises.specs.Steps.{enabled, with_seen, world_after, is_at_rest};
-ghost use Rattle.kt_promises.specs.Follows.{command_rows, IsQuiet, FollowsPlan, BeginsPlan};
+ghost use Rattle.kt_promises.specs.Follows.{command_rows, phase_at, IsQuiet, FollowsPlan, BeginsPlan};
 ghost use Rattle.kt_promises.specs.Looks.{look};
 ghost use Rattle.kt_promises.specs.Defaults.{default_step};
 ghost use Rattle.kt_promises.specs.Runs.{after_moves, IsReachedWorld, protocol_steps, IsAfterSteps, IsSameButPhase, GoesOn, after_gives, after_defaults};
@@ -80,6 +80,7 @@ ghost use Rattle.kt_promises.specs.StepActs.{rows_added, acts_of_step, keeps_onl
 ghost use Rattle.kt_promises.specs.Offers.{GivesOffers, offer_places, AreOfferedAt};
 ghost use Rattle.kt_promises.specs.Told.{told_by, told_by_move, acts_told, rows_told, rows_by, rows_along};
 ghost use Rattle.kt_promises.specs.WorkedWorlds.{start_after_hundred, at_end, default_steps, gives, fails_twice, fails_twice_steps, fails_twice_log, rolls_back_then_aborts, until_it_holds, until_all_are_done, rolls_back_then_aborts_moves, rolls_back_then_aborts_log};
+ghost use Rattle.kt_promises.specs.WorkedFollows.{two_messages, two_messages_then_failure, both_arrive, one_left_out, swapped, too_early, not_quiet, one_arrives, one_checkpoint, undecided};
 
 /// However far a plan has come: what code has tells which steps are enabled, what they ask of objects, and what they
 /// make.
@@ -171,6 +172,10 @@ pub fn logs_follow_plans()
         BeginsPlan plan w.now.log }
     ensures follows { (plan : Planned) (first : ℕ) (w : World) → IsPlan plan → IsReachedWorld plan first w →
         is_at_rest plan w ≡ true → FollowsPlan plan w.now.log }
+
+    // A row of a later phase comes after all of earlier ones.
+    ensures order { (plan : Planned) (log : List Event) (m n j k : ℕ) → BeginsPlan plan log → m ≤ n →
+        phase_at plan log m ≡ Some j → phase_at plan log n ≡ Some k → j ≤ k }
 
     // What follows is what has begun, has a row for each command, and ends quietly.
     ensures agree { (plan : Planned) (log : List Event) → FollowsPlan plan log → BeginsPlan plan log }
@@ -702,4 +707,29 @@ pub fn worked_worlds()
         rolls_back_then_aborts_moves) ≡ Restore ∷ Apply 1 (pos 3) ∷ Keep ∷ Discard ∷ [] }
     ensures told_one { acts_told (told_by rolls_back_then_aborts (start_after_hundred rolls_back_then_aborts) 1
         rolls_back_then_aborts_moves) ≡ Apply 0 (pos 1) ∷ Restore ∷ Apply 2 (pos 2) ∷ [] }
+{}
+
+/// Logs that were worked out by hand: which follow their plan, and which do not.
+pub fn worked_follows()
+    // Those of whole runs follow, and one that has come to the last phase begins.
+    ensures fails_twice { FollowsPlan fails_twice fails_twice_log }
+    ensures aborts { FollowsPlan rolls_back_then_aborts rolls_back_then_aborts_log }
+    ensures arrive { FollowsPlan two_messages_then_failure both_arrive }
+    ensures begun { BeginsPlan two_messages_then_failure (take 4 both_arrive) }
+    ensures unended { FollowsPlan two_messages_then_failure (take 4 both_arrive) → ⊥ }
+
+    // These are legal, and don't even begin the plan: a command has no row when the next phase begins, commands are
+    // swapped, a row of the later phase comes before one of the earlier, that phase begins while a message is under
+    // way, a row answers no command.
+    ensures legal { IsLegal one_left_out × IsLegal swapped × IsLegal too_early × IsLegal not_quiet × IsLegal both_arrive }
+    ensures left_out { BeginsPlan two_messages_then_failure one_left_out → ⊥ }
+    ensures swapped { BeginsPlan two_messages_then_failure swapped → ⊥ }
+    ensures too_early { BeginsPlan two_messages_then_failure too_early → ⊥ }
+    ensures not_quiet { BeginsPlan two_messages_then_failure not_quiet → ⊥ }
+    ensures unasked { BeginsPlan two_messages both_arrive → ⊥ }
+
+    // These have a row for each command, and begin it, but do not end: a message is under way, an instance undecided.
+    ensures legal_open { IsLegal one_arrives × IsLegal undecided }
+    ensures on_its_way { FollowsPlan two_messages one_arrives → ⊥ }
+    ensures undecided { FollowsPlan one_checkpoint undecided → ⊥ }
 {}

@@ -11,6 +11,6 @@ pub use laws::{
     acts_of_worlds, certificates_of_worlds, logs_follow_plans, logs_of_worlds, messages_of_worlds,
     never_stuck, people_of_worlds, phases_of_worlds, places_of_commands, protocol_of_worlds,
     rows_of_worlds, runs_end, runs_of_worlds, runs_that_go_on, steps_of_worlds, tallies_of_worlds,
-    things_of_worlds, told_of_worlds, values_of_worlds, worked_worlds, worlds_after_steps,
-    worlds_of_plans,
+    things_of_worlds, told_of_worlds, values_of_worlds, worked_follows, worked_worlds,
+    worlds_after_steps, worlds_of_plans,
 };

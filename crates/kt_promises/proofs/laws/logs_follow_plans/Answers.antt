@@ -1,7 +1,7 @@
 use Rattle.std.proofs.Common.{arith}
 use Rattle.kt_phases.specs.Plans.{commands_of}
 use Rattle.kt_promises.specs.Follows.{command_rows}
-use Rattle.kt_promises.proofs.CommandRows.{answer_first, answer_all}
+use Rattle.kt_promises.proofs.CommandRows.{phases_rise, answer_first, answer_all}
 use Rattle.kt_promises.proofs.FollowsRuns.{begins_seen, follows_seen}
 use Rattle.kt_promises.proofs.laws.logs_follow_plans.Goals as goal
 
@@ -10,6 +10,9 @@ returns-clause-begins c = begins_seen
 
 pub returns-clause-follows : goal.returns-clause-follows
 returns-clause-follows c = follows_seen
+
+pub returns-clause-order : goal.returns-clause-order
+returns-clause-order c = λ plan log m n j k b l e f. phases_rise plan log m n j k b.phases l e f
 
 pub returns-clause-agree : goal.returns-clause-agree
 returns-clause-agree c = λ plan log f. record { commands = λ p. answer_first (commands_of p plan.commands) (command_rows p log) (f.commands p); phases = f.phases }
