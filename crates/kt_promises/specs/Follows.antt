@@ -54,14 +54,14 @@ AnswerFirstCommands cs [] = Unit {0}
 AnswerFirstCommands [] (row ∷ rows) = ⊥
 AnswerFirstCommands (c ∷ cs) (row ∷ rows) = AnswersJob c.job row × AnswerFirstCommands cs rows
 
--- the command that a row answers, if it is a command row: its process's next one after some rows
+-- the command that a row answers, if it is a command row: its process's first one that no row before answers
 abbrev pub command_answered : Planned → List Event → Event → Option Command
 command_answered plan before row =
     if is_command_row row
     then slice_get (commands_of (process_of row) plan.commands) (length (command_rows (process_of row) before))
     else None
 
--- the phase of the command that row n answers, counted from 0
+-- the phase of the command that row n answers, if it answers one; rows are counted from 0
 abbrev pub phase_at : Planned → List Event → ℕ → Option ℕ
 phase_at plan log n =
     option_map (λ (c : Command). c.phase) (option_and_then (command_answered plan (take n log)) (slice_get log n))

@@ -45,6 +45,16 @@ not_quiet = Sent 0 1 (pos 5) ∷ Sent 0 1 (pos 7) ∷ Received 1 0 1 ∷ Failed 
 abbrev pub one_arrives : List Event
 one_arrives = take 3 both_arrive
 
+-- 1 fails before a message comes, and drops it
+abbrev pub failure_before_message : Planned
+failure_before_message = plan_of two (command 0 0 (job.Send 1 (Some (pos 5))) ∷ command 1 0 job.Fail ∷ [])
+
+abbrev pub failure_before_message_steps : List Step
+failure_before_message_steps = Do 0 ∷ Do 1 ∷ Take 1 0 ∷ []
+
+abbrev pub one_dropped : List Event
+one_dropped = Sent 0 1 (pos 5) ∷ Failed 1 ∷ Dropped 1 0 1 ∷ []
+
 -- a checkpoint, and its instance is not decided
 abbrev pub one_checkpoint : Planned
 one_checkpoint = plan_of two (command 0 0 job.Checkpoint ∷ [])

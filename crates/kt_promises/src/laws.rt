@@ -80,7 +80,7 @@ ghost use Rattle.kt_promises.specs.StepActs.{rows_added, acts_of_step, keeps_onl
 ghost use Rattle.kt_promises.specs.Offers.{GivesOffers, offer_places, AreOfferedAt};
 ghost use Rattle.kt_promises.specs.Told.{told_by, told_by_move, acts_told, rows_told, rows_by, rows_along};
 ghost use Rattle.kt_promises.specs.WorkedWorlds.{start_after_hundred, at_end, default_steps, gives, fails_twice, fails_twice_steps, fails_twice_log, rolls_back_then_aborts, until_it_holds, until_all_are_done, rolls_back_then_aborts_moves, rolls_back_then_aborts_log};
-ghost use Rattle.kt_promises.specs.WorkedFollows.{two_messages, two_messages_then_failure, both_arrive, one_left_out, swapped, too_early, not_quiet, one_arrives, one_checkpoint, undecided};
+ghost use Rattle.kt_promises.specs.WorkedFollows.{two_messages, two_messages_then_failure, both_arrive, one_left_out, swapped, too_early, not_quiet, one_arrives, failure_before_message, one_dropped, one_checkpoint, undecided};
 
 /// However far a plan has come: what code has tells which steps are enabled, what they ask of objects, and what they
 /// make.
@@ -715,6 +715,7 @@ pub fn worked_follows()
     ensures fails_twice { FollowsPlan fails_twice fails_twice_log }
     ensures aborts { FollowsPlan rolls_back_then_aborts rolls_back_then_aborts_log }
     ensures arrive { FollowsPlan two_messages_then_failure both_arrive }
+    ensures drops { FollowsPlan failure_before_message one_dropped }
     ensures begun { BeginsPlan two_messages_then_failure (take 4 both_arrive) }
     ensures unended { FollowsPlan two_messages_then_failure (take 4 both_arrive) → ⊥ }
 
@@ -728,7 +729,8 @@ pub fn worked_follows()
     ensures not_quiet { BeginsPlan two_messages_then_failure not_quiet → ⊥ }
     ensures unasked { BeginsPlan two_messages both_arrive → ⊥ }
 
-    // These have a row for each command, and begin it, but do not end: a message is under way, an instance undecided.
+    // These are legal and have a row for each command, but do not end quietly: a message is under way, an instance
+    // undecided.
     ensures legal_open { IsLegal one_arrives × IsLegal undecided }
     ensures on_its_way { FollowsPlan two_messages one_arrives → ⊥ }
     ensures undecided { FollowsPlan one_checkpoint undecided → ⊥ }

@@ -9,7 +9,7 @@ use Rattle.kt_promises.specs.Follows.{phase_at}
 use Rattle.kt_phases.specs.WorkedPlans.{moves_of}
 use Rattle.kt_phases.proofs.PlansOfTwo.{plan_of_two}
 use Rattle.kt_promises.specs.WorkedWorlds.{fails_twice, fails_twice_steps, fails_twice_log, rolls_back_then_aborts, rolls_back_then_aborts_moves, rolls_back_then_aborts_log}
-use Rattle.kt_promises.specs.WorkedFollows.{two_messages_then_failure, two_messages_then_failure_steps, both_arrive, not_quiet}
+use Rattle.kt_promises.specs.WorkedFollows.{two_messages_then_failure, two_messages_then_failure_steps, both_arrive, not_quiet, failure_before_message, failure_before_message_steps, one_dropped}
 use Rattle.kt_promises.proofs.PlansOfThree.{plan_of_three}
 use Rattle.kt_promises.proofs.FollowsWorked.{worked_begins, worked_follows}
 use Rattle.kt_promises.proofs.laws.worked_follows.Goals as goal
@@ -32,6 +32,12 @@ messages_plan = plan_of_two two_messages_then_failure.commands (omega arith) (om
 pub returns-clause-arrive : goal.returns-clause-arrive
 unfolding with_parcel with_rest with_asks_where with_decisions must_take must_roll is_asked_in_checkpoint checkpoint_label is_asked_in_rollback rollback_label count_peers count_where total_below
 returns-clause-arrive c = worked_follows two_messages_then_failure (moves_of two_messages_then_failure_steps) both_arrive messages_plan refl refl
+
+pub returns-clause-drops : goal.returns-clause-drops
+unfolding with_parcel with_rest with_asks_where with_decisions must_take must_roll is_asked_in_checkpoint checkpoint_label is_asked_in_rollback rollback_label count_peers count_where total_below
+returns-clause-drops c = worked_follows failure_before_message (moves_of failure_before_message_steps) one_dropped
+    (plan_of_two failure_before_message.commands (omega arith) (omega arith, (omega arith, omega arith), omega arith, (omega arith, tt, omega arith, tt)))
+    refl refl
 
 pub returns-clause-begun : goal.returns-clause-begun
 unfolding with_parcel with_rest with_asks_where with_decisions must_take must_roll is_asked_in_checkpoint checkpoint_label is_asked_in_rollback rollback_label count_peers count_where total_below
