@@ -1,6 +1,6 @@
 pub mod PhaseOrder
 pub mod InPhases
-pub mod PlansOfTwo
+pub mod WorkedLimits
 pub mod PhasesOpen
 pub mod RunFacts
 pub mod StateFacts

@@ -33,5 +33,4 @@ pub mod StepAnswers
 pub mod FollowsAlong
 pub mod QuietLogs
 pub mod FollowsRuns
-pub mod PlansOfThree
 pub mod FollowsWorked

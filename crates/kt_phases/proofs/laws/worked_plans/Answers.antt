@@ -2,7 +2,7 @@ use Rattle.std.proofs.Common.{arith, refl}
 use Rattle.kt_protocol.specs.Joining.{count_below}
 use Rattle.kt_protocol.specs.Parcels.{with_parcel, with_rest, with_checkpoint_asks, with_decisions, with_rollback_asks, messages_where}
 use Rattle.kt_phases.specs.WorkedPlans.{checkpoint_two_phases_later}
-use Rattle.kt_phases.proofs.PlansOfTwo.{plan_of_two}
+use Rattle.kt_phases.proofs.WorkedLimits.{plan_of_two}
 use Rattle.kt_phases.proofs.laws.worked_plans.Goals as goal
 
 pub returns-clause-is_plan : goal.returns-clause-is_plan

@@ -7,10 +7,10 @@ use Rattle.kt_phases.specs.Work.{total_below}
 use Rattle.kt_promises.specs.Tallies.{count_where}
 use Rattle.kt_promises.specs.Follows.{phase_at}
 use Rattle.kt_phases.specs.WorkedPlans.{moves_of}
-use Rattle.kt_phases.proofs.PlansOfTwo.{plan_of_two}
+use Rattle.kt_phases.proofs.WorkedLimits.{plan_of_two}
 use Rattle.kt_promises.specs.WorkedWorlds.{fails_twice, fails_twice_steps, fails_twice_log, rolls_back_then_aborts, rolls_back_then_aborts_moves, rolls_back_then_aborts_log}
 use Rattle.kt_promises.specs.WorkedFollows.{two_messages_then_failure, two_messages_then_failure_steps, both_arrive, not_quiet, failure_before_message, failure_before_message_steps, one_dropped}
-use Rattle.kt_promises.proofs.PlansOfThree.{plan_of_three}
+use Rattle.kt_phases.proofs.WorkedLimits.{plan_of_three}
 use Rattle.kt_promises.proofs.FollowsWorked.{worked_begins, worked_follows}
 use Rattle.kt_promises.proofs.laws.worked_follows.Goals as goal
 

@@ -4,7 +4,7 @@ use Rattle.kt_seen.specs.ListChanges.{with_parcel, with_rest, with_asks_where, w
 use Rattle.kt_seen.specs.CallTests.{must_take, must_roll, is_asked_in_checkpoint, checkpoint_label, is_asked_in_rollback, rollback_label}
 use Rattle.kt_phases.specs.Work.{total_below}
 use Rattle.kt_promises.specs.Tallies.{count_where}
-use Rattle.kt_phases.proofs.PlansOfTwo.{plan_of_two}
+use Rattle.kt_phases.proofs.WorkedLimits.{plan_of_two}
 use Rattle.kt_promises.specs.WorkedWorlds.{fails_twice}
 use Rattle.kt_promises.proofs.laws.worked_worlds.Goals as goal
 
