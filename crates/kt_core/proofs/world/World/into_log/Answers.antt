@@ -3,6 +3,7 @@ use Rattle.kt_spacetime.specs.declared.event.Event.{Event}
 use Rattle.kt_spacetime.specs.Logs.{Log}
 use Rattle.kt_promises.specs.Follows.{BeginsPlan}
 use Rattle.kt_promises.specs.Headline.{IsPromised}
+use Rattle.kt_core.specs.Worlds.{World}
 use Rattle.kt_core.proofs.world.World.into_log.Goals as goal
 
 pub returns-clause-promised : goal.returns-clause-promised
@@ -15,6 +16,7 @@ returns-clause-promised c =
 pub returns-clause-begins : goal.returns-clause-begins
 returns-clause-begins c =
     let r = c.self.invariant.reached in
-    subst (λ (log : Log). BeginsPlan c.self.inside.agenda.plan log.rows) (sym c.into_log.ensures)
+    subst (λ (w : World). BeginsPlan w.agenda.plan c.into_log.result.rows) c.self.view_is
+    (subst (λ (log : Log). BeginsPlan c.self.inside.agenda.plan log.rows) (sym c.into_log.ensures)
     (subst (λ (rows : List Event). BeginsPlan c.self.inside.agenda.plan rows) (sym r.2.now.log)
-    (c.logs_follow_plans.ensures.begins c.self.inside.agenda.plan r.0 r.1 r.2.limits r.2.reached))
+    (c.logs_follow_plans.ensures.begins c.self.inside.agenda.plan r.0 r.1 r.2.limits r.2.reached)))
