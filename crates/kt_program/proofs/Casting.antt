@@ -10,7 +10,7 @@ use Rattle.kt_held.specs.Holdings.{content}
 use Rattle.kt_held.specs.Casts.{failures_of, HasSizes, HasKind}
 use Rattle.kt_held.proofs.CastFacts as held
 use Rattle.kt_run.specs.Objects.{first_of}
-use Rattle.kt_program.specs.CastRows.{IsCast}
+use Rattle.kt_program.specs.CastRows.{IsMadeCast}
 use Rattle.kt_program.specs.Played.{AreNew}
 
 -- the rows of the first so many processes
@@ -56,7 +56,7 @@ module _ {O : Type 0} (Made : ℕ → O → Type 0) (kinds : List ℕ) (commands
   begun_pushed cast new row items count e begun long made =
       subst (λ rows. IsBegun Made kinds commands (count + 1) rows) (sym (ap (map items) e ∙ map-append items cast (row ∷ []))) (begun_more count (map items cast) (items row) begun long made)
 
-  pub begun_all : (count : ℕ) (cast : List (List O)) → count ≡ length kinds → IsBegun Made kinds commands count cast → IsCast Made kinds commands cast
+  pub begun_all : (count : ℕ) (cast : List (List O)) → count ≡ length kinds → IsBegun Made kinds commands count cast → IsMadeCast Made kinds commands cast
   begun_all count cast e begun = record {
     processes = begun.processes ∙ e;
     objects = λ p l. begun.objects p (omega (arith, l, e));
@@ -71,10 +71,10 @@ module _ {R O : Type 0} (cast : List R) (items : R → List O) (kind : O → ℕ
   at_image g P (row ∷ rows) p l h =
       subst P (sym (get_or-map (λ row. g (items row)) (row ∷ rows) p row [] l)) (subst (λ x. P (g x)) (get_or-map items (row ∷ rows) p row [] l) h)
 
-  rows_are : IsCast Made kinds commands (map items cast) → length cast ≡ length kinds
+  rows_are : IsMadeCast Made kinds commands (map items cast) → length cast ≡ length kinds
   rows_are is = sym (length-map cast items) ∙ is.processes
 
-  pub sizes_of_cast : IsCast Made kinds commands (map items cast) → HasSizes kinds commands (map (λ row. map kind (items row)) cast)
+  pub sizes_of_cast : IsMadeCast Made kinds commands (map items cast) → HasSizes kinds commands (map (λ row. map kind (items row)) cast)
   sizes_of_cast is = record {
     processes = length-map cast (λ row. map kind (items row)) ∙ rows_are is;
     objects = λ p l. (let e = rows_are is in
@@ -86,7 +86,7 @@ module _ {R O : Type 0} (cast : List R) (items : R → List O) (kind : O → ℕ
   all_kinds k (o ∷ objects) f made =
       All-cons (λ n. n ≡ k) (kind o) (map kind objects) (f o (All-head (Made k) o objects made)) (all_kinds k objects f (All-tail (Made k) o objects made))
 
-  pub kinds_of_cast : ((k : ℕ) (o : O) → IsKind k → Made k o → kind o ≡ k) → All IsKind kinds → IsCast Made kinds commands (map items cast) → (p : ℕ) → p < length kinds
+  pub kinds_of_cast : ((k : ℕ) (o : O) → IsKind k → Made k o → kind o ≡ k) → All IsKind kinds → IsMadeCast Made kinds commands (map items cast) → (p : ℕ) → p < length kinds
       → HasKind kinds (map (λ row. map kind (items row)) cast) p
   kinds_of_cast f proper is p l =
       let e = rows_are is in
@@ -101,7 +101,7 @@ pub record IsMade {O : Type 0} (Made : ℕ → O → Type 0) (object : O) : Type
 
 -- all that is in the rows is made for a kind
 pub made_of_cast : {R O : Type 0} (cast : List R) (items : R → List O) (Made : ℕ → O → Type 0) (kinds : List ℕ) (commands : List Command) → All IsKind kinds
-    → IsCast Made kinds commands (map items cast) → (p : ℕ) (d : R) → p < length cast → (i : ℕ) (other : O) → i < length (items (slice_index_or cast p d))
+    → IsMadeCast Made kinds commands (map items cast) → (p : ℕ) (d : R) → p < length cast → (i : ℕ) (other : O) → i < length (items (slice_index_or cast p d))
     → IsMade Made (slice_index_or (items (slice_index_or cast p d)) i other)
 made_of_cast cast items Made kinds commands proper is p d l i other m =
     let e = sym (length-map cast items) ∙ is.processes in

@@ -4,7 +4,7 @@ use Rattle.kt_plan.specs.declared.commands.Command.{Command}
 use Rattle.kt_held.specs.Casts.{failures_of}
 
 -- by process: what is made for it, and a spare for each of its failures, each made for its kind
-pub record IsCast {O : Type 0} (Made : ℕ → O → Type 0) (kinds : List ℕ) (commands : List Command) (cast : List (List O)) : Type 0 where
+pub record IsMadeCast {O : Type 0} (Made : ℕ → O → Type 0) (kinds : List ℕ) (commands : List Command) (cast : List (List O)) : Type 0 where
   pub processes : length cast ≡ length kinds
   pub objects : (p : ℕ) → p < length kinds → length (slice_index_or cast p []) ≡ failures_of commands p + 1
   pub made : (p : ℕ) → p < length kinds → All (Made (slice_index kinds p)) (slice_index_or cast p [])

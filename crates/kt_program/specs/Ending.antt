@@ -17,11 +17,11 @@ use Rattle.kt_program.specs.Asking.{Ask, IsOfRun}
 use Rattle.kt_run.specs.Runs.{IsLogOfRun}
 use Rattle.kt_program.specs.Played.{OverNew, report_text}
 use Rattle.kt_program.specs.Status.{status_of}
-use Rattle.kt_program.specs.Stored.{Told, is_yes, line_of}
+use Rattle.kt_program.specs.Stored.{Told, is_yes, verdict_line}
 
 -- the line of an answer, which is a yes exactly where this is true
 abbrev pub AppendsAnswer : Bool → Told → Told → Type 0
-AppendsAnswer passed old new = (verdict : Verdict) × (passed ≡ is_yes verdict) × Appends old new (line_of verdict)
+AppendsAnswer passed old new = (verdict : Verdict) × (passed ≡ is_yes verdict) × Appends old new (verdict_line verdict)
 
 -- the answer's line; at a fault nothing, unless it is one of the writer
 abbrev pub LeavesAnswer : Result Bool AppFault → Told → Told → Type 0
@@ -75,9 +75,9 @@ abbrev pub IsInReport : List Text → ProgramFault → Type 0
 IsInReport words fault = (fault ≡ program.App app.Memory) × Ask words IsOfRun
 
 -- what these words leave
-abbrev pub Leaves : List Text → Result Done ProgramFault → Told → Told → Type 0
-Leaves words (Ok what) old new = LeavesDone what old new
-Leaves words (Err fault) old new = fault ≢ program.App app.Write → (new ≡ old) ⊎ IsInReport words fault
+abbrev pub LeavesOutput : List Text → Result Done ProgramFault → Told → Told → Type 0
+LeavesOutput words (Ok what) old new = LeavesDone what old new
+LeavesOutput words (Err fault) old new = fault ≢ program.App app.Write → (new ≡ old) ⊎ IsInReport words fault
 
 -- how the program ends: with the status of what it did for its words; standard output has what that left, and standard
 -- error nothing new unless there was a fault
@@ -85,5 +85,5 @@ pub record Ends (status : ℕ) (out_old out_new err_old err_new : Told) : Type 0
   pub words : List Text
   pub outcome : Result Done ProgramFault
   pub status_is : status ≡ status_of outcome
-  pub output : Leaves words outcome out_old out_new
+  pub output : LeavesOutput words outcome out_old out_new
   pub quiet : OnOk outcome (err_new ≡ err_old)

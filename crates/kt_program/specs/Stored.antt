@@ -47,8 +47,8 @@ IsExact log cert passed =
     → IfSome (records_told cert) (λ also. (certificates : List Certificate) → certs.IsCertText also certificates → (passed ≡ true) ↔ IsPassed read certificates))
 
 -- the line of an answer
-abbrev pub line_of : Verdict → List ℕ
-line_of verdict = verdict_words verdict ++ 10 ∷ []
+abbrev pub verdict_line : Verdict → List ℕ
+verdict_line verdict = verdict_words verdict ++ 10 ∷ []
 
 -- what is wrong where the program does not answer: the first fault of the log, or that of the certificates of a log
 -- that was read; what could be written was read; nothing is said of want of memory

@@ -6,7 +6,7 @@ ghost use Rattle.kt_held.specs.Holdings.{Content};
 ghost use Rattle.kt_object.specs.Value.{opening};
 ghost use Rattle.kt_plan.specs.Limits.{IsKind};
 ghost use Rattle.kt_held.specs.Casts.{failures_of, HasSizes, HasKind};
-ghost use Rattle.kt_program.specs.CastRows.{IsCast};
+ghost use Rattle.kt_program.specs.CastRows.{IsMadeCast};
 ghost use Rattle.kt_run.specs.Faults.{is_of_cast};
 ghost use Rattle.kt_run.specs.Refused.{IsRefused};
 ghost use Rattle.kt_run.specs.Runs.{IsLogOfRun, IsPlayed};
@@ -35,7 +35,7 @@ pub fn cast_of<O: Drop, F: FnMut(u8) -> Result<O, Memory>>(
     mut make: F,
 ) -> Result<Vec<Vec<O>>, Memory>
     requires { (state : F) (kind : ℕ) → F.pre state kind }
-    ensures { IfOk result (λ cast. IsCast (λ kind object. (before after : F) × F.step before kind (Ok object) after)
+    ensures { IfOk result (λ cast. IsMadeCast (λ kind object. (before after : F) × F.step before kind (Ok object) after)
         plan.now.kinds plan.now.commands (map (λ row. row.items) cast.items)) }
 {
     let kinds = plan.kinds.as_slice();

@@ -9,7 +9,7 @@ ghost use Rattle.kt_chain.specs.Texts as certs;
 ghost use Rattle.kt_checker.specs.declared.verdict.Verdict.{Verdict};
 ghost use Rattle.kt_checker.specs.Streamed.{IsAnswerOf};
 ghost use Rattle.kt_program.specs.declared.fault.AppFault.TheVariants as app;
-ghost use Rattle.kt_program.specs.Stored.{IsExact, IsJudged, IsRefusal, SayCertificates, is_yes, line_of, of_cert, of_log, records_told};
+ghost use Rattle.kt_program.specs.Stored.{IsExact, IsJudged, IsRefusal, SayCertificates, is_yes, verdict_line, of_cert, of_log, records_told};
 
 use crate::fault::AppFault;
 use kt_chain::{CertTextFault, Certificate, read_certs};
@@ -31,7 +31,7 @@ pub fn check_bytes<L: Read + Drop, C: Read + Drop, W: Write>(
     // The line is that of the checker's answer to the rows and the certificates that the bytes say.
     ensures answer { IfOk result (λ passed. (verdict : Verdict) × (passed ≡ is_yes verdict)
         × IsJudged (L.remaining log_reader) (C.remaining cert_reader) verdict
-        × Appends (W.contents writer.old) (W.contents writer.new) (line_of verdict)) }
+        × Appends (W.contents writer.old) (W.contents writer.new) (verdict_line verdict)) }
     // So, where both readers tell their bytes, it is true exactly where all that they say passes.
     ensures yes { IfOk result (IsExact (L.remaining log_reader) (C.remaining cert_reader)) }
     // A fault is the first of the log, else that of the certificates, else one of the writer.
@@ -125,7 +125,7 @@ fn is_yes(verdict: &Verdict) -> bool
 
 // Writes the line of an answer.
 fn write_line<W: Write>(writer: &mut W, verdict: &Verdict) -> Result<(), AppFault>
-    ensures written { OnOk result (Appends (W.contents writer.old) (W.contents writer.new) (line_of verdict.now)) }
+    ensures written { OnOk result (Appends (W.contents writer.old) (W.contents writer.new) (verdict_line verdict.now)) }
     ensures fault { IfErr result (λ e. e ≡ app.Write) }
 {
     if writeln!(writer, "{verdict}").is_err() {

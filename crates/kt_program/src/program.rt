@@ -8,7 +8,7 @@ ghost use Rattle.kt_program.specs.declared.ending.Done.TheVariants.{Shown};
 ghost use Rattle.kt_program.specs.declared.fault.AppFault.TheVariants as app;
 ghost use Rattle.kt_program.specs.declared.fault.ProgramFault.TheVariants as program;
 ghost use Rattle.kt_program.specs.Asking.{EndsFor, IsRequest, IsUnshown};
-ghost use Rattle.kt_program.specs.Ending.{Ends, Leaves, LeavesAnswer};
+ghost use Rattle.kt_program.specs.Ending.{Ends, LeavesOutput, LeavesAnswer};
 
 use crate::ask::{AskFault, asked};
 use crate::checked::check_bytes;
@@ -51,7 +51,7 @@ fn do_words<V: Env, F: Files + Threads + Wait + Sync, O: Write>(
     alloc: Global,
     out: &mut O,
 ) -> Result<Done, ProgramFault>
-    ensures { (words : List Text) × Leaves words result (O.contents out.old) (O.contents out.new) }
+    ensures { (words : List Text) × LeavesOutput words result (O.contents out.old) (O.contents out.new) }
 {
     let words = words_of(env, alloc)?;
     carry_out(files, alloc, &words, out)
@@ -66,7 +66,7 @@ pub fn carry_out<F: Files + Threads + Wait + Sync, O: Write>(
 ) -> Result<Done, ProgramFault>
     // What is done, or that the words are refused, is what clap's definition of the command line gives for them.
     ensures words { EndsFor words.now result }
-    ensures output { Leaves words.now result (O.contents out.old) (O.contents out.new) }
+    ensures output { LeavesOutput words.now result (O.contents out.old) (O.contents out.new) }
 {
     match asked(alloc, words) {
         Ok(
