@@ -3,6 +3,5 @@ pub mod Casting
 pub mod Commands
 pub mod Exactly
 pub mod NewObjects
-pub mod Stopping
 pub mod Reading
 pub mod Refused
