@@ -3,3 +3,4 @@ pub mod Histories
 pub mod Moves
 pub mod Seats
 pub mod Telling
+pub mod Turns

@@ -1,7 +1,8 @@
 //! The lock, and what each thread does at it.
 
-ghost use Rattle.std.specs.Prelude.{◌≡◌, ◌≢◌, IfSome};
+ghost use Rattle.std.specs.Prelude.{◌≡◌, ◌≢◌, ◌<◌, ◌⊎◌, ◌↔◌, Some, None, IfSome, IfNone, IsSome, IsTrue};
 ghost use Rattle.kt_core.specs.Worlds as core;
+ghost use Rattle.kt_threads.specs.Turns.{CanStep, IsNext, IsOver};
 
 use crate::faults::LiveFault;
 use crate::state::{Made, State};
@@ -42,14 +43,13 @@ impl Board {
 
     /// Waits until a process can make a step, or all is over. A step that needs nothing of its object is made.
     pub(crate) fn advance<R: Wait>(&self, rt: &R, me: ProcNo) -> Next
-        ensures { (made : _) → result ≡ Next.Made made → made.look ≢ Look.NeedsBody }
+        ensures sends { (made : _) → result ≡ Next.Made made → made.look ≢ Look.NeedsBody }
+        ensures saves { (made : _) → result ≡ Next.Made made → made.look ≢ Look.NeedsSave }
     {
         let Some(news) = self.news.get(me.index()) else {
             return Next::End;
         };
-        let mut state = news.wait_while(rt, self.state.lock(rt), |state| {
-            state.next_step_of(me).is_none() && !state.is_over()
-        });
+        let mut state = news.wait_while(rt, self.state.lock(rt), |state| { must_wait(state, me) });
         let Some((step, look)) = next_in(&state, me) else {
             return Next::End;
         };
@@ -103,7 +103,7 @@ impl Board {
     fn tell(&self, state: &State) {
         let over = state.is_over();
         for (number, news) in self.news.iter().enumerate() {
-            if over || can_step(state, number) {
+            if is_woken(over, state, number) {
                 news.notify_all();
             }
         }
@@ -125,9 +125,19 @@ fn news_of(alloc: Global, processes: usize) -> Result<Vec<Condvar>, Memory> {
     Ok(news)
 }
 
+/// Whether a process waits: where it can make no step, and all is not over.
+fn must_wait(state: &State, me: ProcNo) -> bool
+    ensures waits { IsTrue result ↔ ((¬ IsOver state.now) × (¬ CanStep state.now.world me)) }
+{
+    state.next_step_of(me).is_none() && !state.is_over()
+}
+
 /// The step that a process makes next, and what it needs of the process's object; None after a fault.
 fn next_in(state: &State, me: ProcNo) -> Option<(Step, Look)>
-    ensures { IfSome result (λ next. next.1 ≡ core.look state.now.world next.0) }
+    ensures look { IfSome result (λ next. next.1 ≡ core.look state.now.world next.0) }
+    ensures next { IfSome result (λ next. IsNext state.now.world me (Some next.0)) }
+    ensures going { IfSome result (λ _. state.now.fault ≡ None) }
+    ensures none { IfNone result (IsSome state.now.fault ⊎ IsNext state.now.world me None) }
 {
     if state.fault().is_some() {
         return None;
@@ -150,8 +160,17 @@ fn make_in(state: &mut State, step: Step, give: Give) -> Next
     }
 }
 
+/// Whether the process of this number is woken: where all is over, or it can make a step.
+fn is_woken(over: bool, state: &State, number: usize) -> bool
+    ensures woken { IsTrue result ↔ (IsTrue over ⊎ ((number < 64) × CanStep state.now.world number)) }
+{
+    over || can_step(state, number)
+}
+
 /// Whether the process of this number can make a step.
-fn can_step(state: &State, number: usize) -> bool {
+fn can_step(state: &State, number: usize) -> bool
+    ensures able { IsTrue result ↔ ((number < 64) × CanStep state.now.world number) }
+{
     let Ok(number) = u8::try_from(number) else {
         return false;
     };

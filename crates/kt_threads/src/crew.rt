@@ -2,6 +2,7 @@
 
 ghost use Rattle.std.specs.Prelude.{◌≡◌, ◌≤◌, ◌+◌, [], IfOk, All, vec_len, vec_capacity};
 ghost use Rattle.std.specs.List.{AllZip};
+ghost use Rattle.kt_threads.specs.declared.crew.CrewFault.TheVariants as crew;
 
 use std::alloc::{AllocError, Global};
 use std::snapshot::Snapshot;
@@ -52,6 +53,8 @@ pub(crate) enum CrewFault {
 }
 
 impl From<AllocError> for CrewFault {
+    ghost from_gives = { λ _ f. f ≡ crew.Memory };
+
     fn from(_error: AllocError) -> CrewFault {
         CrewFault::Memory
     }

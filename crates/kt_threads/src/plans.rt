@@ -1,12 +1,12 @@
 //! Whether two plans are the same.
 
-ghost use Rattle.std.specs.Prelude.{◌≡◌, true, map, string_bytes};
+ghost use Rattle.std.specs.Prelude.{◌≡◌, ◌↔◌, map, string_bytes, IsTrue};
 
 use kt_plan::{Command, Plan};
 
 /// Whether these are the same names.
 fn are_same_names(one: &[String], other: &[String]) -> bool
-    ensures { result ≡ true → map string_bytes one.now ≡ map string_bytes other.now }
+    ensures same { IsTrue result ↔ (map string_bytes one.now ≡ map string_bytes other.now) }
 {
     if one.len() != other.len() {
         return false;
@@ -21,7 +21,7 @@ fn are_same_names(one: &[String], other: &[String]) -> bool
 
 /// Whether these are the same commands.
 fn are_same_commands(one: &[Command], other: &[Command]) -> bool
-    ensures { result ≡ true → one.now ≡ other.now }
+    ensures same { IsTrue result ↔ (one.now ≡ other.now) }
 {
     if one.len() != other.len() {
         return false;
@@ -36,7 +36,7 @@ fn are_same_commands(one: &[Command], other: &[Command]) -> bool
 
 /// Whether two plans are the same.
 pub(crate) fn is_same_plan(one: &Plan, other: &Plan) -> bool
-    ensures { result ≡ true → one.now ≡ other.now }
+    ensures same { IsTrue result ↔ (one.now ≡ other.now) }
 {
     if !are_same_names(one.names.list(), other.names.list()) {
         return false;

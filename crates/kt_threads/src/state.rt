@@ -1,11 +1,12 @@
 //! What lies under the lock: a world, and the steps that led to it.
 
-ghost use Rattle.std.specs.Prelude.{◌≡◌, ◌⊎◌, ◌+◌, ◌^◌, [], ◌∷◌, ◌++◌, None, Some, IfOk, IfErr, IfSome, OnErr, IsTrue, ◌↔◌, true};
+ghost use Rattle.std.specs.Prelude.{◌≡◌, ◌⊎◌, ◌+◌, ◌^◌, [], ◌∷◌, ◌++◌, None, Some, IfOk, IfErr, IfSome, OnErr, IsTrue, ◌↔◌};
 ghost use Rattle.kt_core.specs.Worlds as core;
 ghost use Rattle.kt_core.specs.Worlds.{refusal, IsAtRest, IsOpening, IsSameWorld};
 ghost use Rattle.kt_promises.specs.Follows.{FollowsPlan};
 ghost use Rattle.kt_promises.specs.Headline.{IsPromised};
 ghost use Rattle.kt_threads.specs.Histories.{IsMade, IsHistory, first_of};
+ghost use Rattle.kt_threads.specs.Turns.{IsNext, IsOver};
 
 use crate::faults::LiveFault;
 use crate::plans::is_same_plan;
@@ -100,7 +101,9 @@ impl State {
     }
 
     /// Whether there was a fault, or the world is at rest.
-    pub(crate) fn is_over(&self) -> bool {
+    pub(crate) fn is_over(&self) -> bool
+        ensures over { IsTrue result ↔ IsOver self.now }
+    {
         self.fault.is_some() || self.at_rest()
     }
 
@@ -114,13 +117,15 @@ impl State {
 
     /// Whether it is of this plan.
     pub(crate) fn is_of(&self, plan: &Plan) -> bool
-        ensures { result ≡ true → self.now.world.agenda.plan ≡ plan.now }
+        ensures plan { IsTrue result ↔ (self.now.world.agenda.plan ≡ plan.now) }
     {
         is_same_plan(self.world.plan(), plan)
     }
 
     /// The step that a process makes next, if it can make one.
-    pub(crate) fn next_step_of(&self, p: ProcNo) -> Option<Step> {
+    pub(crate) fn next_step_of(&self, p: ProcNo) -> Option<Step>
+        ensures next { IsNext self.now.world p result }
+    {
         self.world.next_step_of(p)
     }
 
@@ -133,7 +138,8 @@ impl State {
 
     /// Whether this is the step that a process makes next, and what it needs.
     pub(crate) fn is_next(&self, p: ProcNo, step: &Step, look: Look) -> bool
-        ensures { result ≡ true → look ≡ core.look self.now.world step.now }
+        ensures next { IsTrue result ↔
+            (IsNext self.now.world p (Some step.now) × (look ≡ core.look self.now.world step.now)) }
     {
         match self.world.next_step_of(p) {
             Some(next) => next == *step && self.world.look(step) == look,

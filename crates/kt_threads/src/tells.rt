@@ -1,6 +1,6 @@
 //! Whether threads have what is recorded of their processes' steps; and what these tell.
 
-ghost use Rattle.std.specs.Prelude.{◌≡◌, true, map, IfOk};
+ghost use Rattle.std.specs.Prelude.{◌≡◌, ◌↔◌, map, IfOk, IsTrue};
 ghost use Rattle.kt_phases.specs.Steps.{stepper};
 ghost use Rattle.kt_threads.specs.Histories.{made_by, AreTheirs};
 
@@ -22,7 +22,7 @@ fn process_of(step: &Step) -> ProcNo
 
 /// Whether two rows are the same.
 fn is_same_row(one: &Option<(RowNo, Event)>, other: &Option<(RowNo, Event)>) -> bool
-    ensures { result ≡ true → one.now ≡ other.now }
+    ensures same { IsTrue result ↔ (one.now ≡ other.now) }
 {
     match (one, other) {
         (Some((number, event)), Some((other_number, other_event))) => {
@@ -35,7 +35,7 @@ fn is_same_row(one: &Option<(RowNo, Event)>, other: &Option<(RowNo, Event)>) -> 
 
 /// Whether these are the same rows.
 fn are_same_rows(one: &[Option<(RowNo, Event)>], other: &[Option<(RowNo, Event)>]) -> bool
-    ensures { result ≡ true → one.now ≡ other.now }
+    ensures same { IsTrue result ↔ (one.now ≡ other.now) }
 {
     if one.len() != other.len() {
         return false;
@@ -50,7 +50,7 @@ fn are_same_rows(one: &[Option<(RowNo, Event)>], other: &[Option<(RowNo, Event)>
 
 /// Whether these are the same acts.
 fn are_same_acts(one: &[Act], other: &[Act]) -> bool
-    ensures { result ≡ true → one.now ≡ other.now }
+    ensures same { IsTrue result ↔ (one.now ≡ other.now) }
 {
     if one.len() != other.len() {
         return false;
@@ -65,7 +65,7 @@ fn are_same_acts(one: &[Act], other: &[Act]) -> bool
 
 /// Whether two steps told the same.
 fn is_same_told(one: &Told, other: &Told) -> bool
-    ensures { result ≡ true → one.now ≡ other.now }
+    ensures same { IsTrue result ↔ (one.now ≡ other.now) }
 {
     one.step == other.step
         && are_same_rows(&one.rows, &other.rows)
@@ -74,14 +74,14 @@ fn is_same_told(one: &Told, other: &Told) -> bool
 
 /// Whether these are records of the same step.
 fn is_same_made(one: &Made, other: &Made) -> bool
-    ensures { result ≡ true → one.now ≡ other.now }
+    ensures same { IsTrue result ↔ (one.now ≡ other.now) }
 {
     one.look == other.look && one.give == other.give && is_same_told(&one.told, &other.told)
 }
 
 /// Whether these are the steps of a process, in order.
 fn are_its(steps: &[Made], p: usize, list: &[Made]) -> bool
-    ensures { result ≡ true → list.now ≡ made_by p steps.now }
+    ensures its { IsTrue result ↔ (list.now ≡ made_by p steps.now) }
 {
     let mut count = 0;
     for made in steps {
@@ -97,7 +97,7 @@ fn are_its(steps: &[Made], p: usize, list: &[Made]) -> bool
 
 /// Whether there are so many processes, and each has a list of its own steps.
 pub(crate) fn are_theirs(processes: usize, steps: &[Made], lists: &[Vec<Made>]) -> bool
-    ensures { result ≡ true → AreTheirs processes steps.now (map (λ list. list.items) lists.now) }
+    ensures theirs { IsTrue result ↔ AreTheirs processes steps.now (map (λ list. list.items) lists.now) }
 {
     if lists.len() != processes {
         return false;

@@ -1,0 +1,21 @@
+-- What a process can do next, and when all is over.
+use Rattle.std.specs.Prelude.{◌≡◌, ◌⊎◌, ℕ, true, false, Option, Some, None, IsSome}
+use Rattle.kt_core.specs.Worlds.{World, enabled, IsAtRest, IsNextStepOf}
+use Rattle.kt_phases.specs.Steps.{stepper}
+use Rattle.kt_plan.specs.declared.steps.Step.{Step}
+use Rattle.kt_threads.specs.Histories.{History}
+
+-- the step that a process makes next, which can be made; none where no step of it can be made
+abbrev pub IsNext : World → ℕ → Option Step → Type 0
+IsNext w p None = (step : Step) → stepper step ≡ p → enabled w step ≡ false
+IsNext w p (Some step) = IsNextStepOf w p step × (enabled w step ≡ true)
+
+-- a process can make a step
+pub record CanStep (w : World) (p : ℕ) : Type 0 where
+  pub step : Step
+  pub own : stepper step ≡ p
+  pub able : enabled w step ≡ true
+
+-- there was a fault, or the world is at rest
+abbrev pub IsOver : History → Type 0
+IsOver state = IsSome state.fault ⊎ IsAtRest state.world
