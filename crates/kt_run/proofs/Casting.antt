@@ -1,7 +1,7 @@
 -- The faults of the objects that a run begins with.
 use Rattle.std.proofs.Common.{◌≡◌, ◌≢◌, ◌<◌, ℕ, List, false, length, refl}
 use Rattle.kt_core.specs.declared.faults.StepFault.{StepFault}
-use Rattle.kt_run.specs.declared.faults.RunFault.TheVariants.{Step}
+use Rattle.kt_run.specs.declared.faults.RunFault.TheVariants.{Step, Journal}
 use Rattle.kt_held.specs.Casts.{HasSizes, HasKind, is_checked}
 use Rattle.kt_held.specs.declared.faults.CastFault.{CastFault}
 use Rattle.kt_held.specs.declared.faults.CastFault.TheVariants as cast
@@ -31,3 +31,10 @@ of_objects cast.Size done why e = absurd (cc (e))
 of_objects (cast.Kind p) done why e = absurd (cc (e))
 of_objects (cast.Object p) done why e = absurd (cc (e))
 of_objects cast.Memory done why e = absurd (cc (e))
+
+-- none of them is of what a process was told
+pub of_none_told : (fault : CastFault) (p : ℕ) → of_cast fault ≢ Journal p
+of_none_told cast.Size p e = absurd (cc (e))
+of_none_told (cast.Kind q) p e = absurd (cc (e))
+of_none_told (cast.Object q) p e = absurd (cc (e))
+of_none_told cast.Memory p e = absurd (cc (e))

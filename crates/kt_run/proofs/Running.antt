@@ -1,6 +1,7 @@
 -- A run goes on with the world.
 use Rattle.std.specs.Prelude.{Option, option_map, unwrap_or, slice_get, slice_index_or, not, if◌then◌else◌}
-use Rattle.std.proofs.Common.{◌≡◌, ℕ, zero, suc, ℤ, Bool, true, false, Some, None, List, [], ◌∷◌, ◌++◌, append_assoc, append-nil, ◌+◌, ◌<◌, ◌≤◌, arith, take, length, length-append, map, get_or, refl, sym, ap, subst, ◌∙◌}
+use Rattle.std.proofs.Common.{◌≡◌, ℕ, zero, suc, ℤ, Bool, true, false, Some, None, List, [], ◌∷◌, ◌++◌, append_assoc, append-nil, ◌+◌, ◌<◌, ◌≤◌, arith, take, length, length-append, map, get_or, refl, sym, ap, subst, inl, inr, ◌∙◌}
+use Rattle.std.proofs.lemmas.Option.{slice_get_read}
 use Rattle.std.proofs.lemmas.List.{map-append, take_more, length-map, length_push}
 use Rattle.kt_plan.specs.Limits.{Planned, IsPlan}
 use Rattle.kt_plan.specs.declared.steps.Step.{Step}
@@ -35,7 +36,7 @@ use Rattle.kt_core.specs.declared.faults.StepFault.{StepFault}
 use Rattle.kt_core.specs.Shown.{Mirrors}
 use Rattle.kt_core.proofs.Enabled.{enabled_is, enabled_if}
 use Rattle.kt_run.specs.Objects.{Belongings, first_of, rules_of, rules_by, HoldDue}
-use Rattle.kt_run.specs.Refused.{IsDefaultRefused}
+use Rattle.kt_run.specs.Refused.{IsGivenNext, IsDefaultNext, IsGivenRefused, IsDefaultRefused, IsStopped}
 use Rattle.kt_run.specs.Runs.{Scene, Tells, StepsTo, Starts, Begins, Goes, Rests, IsPlayed, IsToldPlay}
 use Rattle.kt_run.specs.Telling.{IsToldAs, AreToldInRun, AreToldTheirRows, TellsItsRows, AreEmpty, IsNoted}
 use Rattle.kt_run.proofs.Numbering.{told_their_none, told_their_more}
@@ -303,18 +304,35 @@ module _ (plan : Planned) (cast : List (List Content)) (steps : List Step) (w : 
       let h = r.run.due.each p b f in
       none_saved _ b.depot.tentative (ap (option_map (content c.kind)) (no_tentative (rules_of c) plan 0 r.run.now p limits reached r.rest)) h.holds.tentative
 
--- the next default step is refused
-pub default_refused : (plan : Planned) (cast : List (List Content)) (steps : List Step) (n done : ℕ) (w : World) (at : Scene) (x : Step) (fault : StepFault) → w.agenda.plan ≡ plan → (h : GoesSo plan cast steps n w at)
-    → length steps + n ≡ done → Some x ≡ default_step w.agenda.plan h.0.now → refusal w x ≡ Some fault → IsDefaultRefused plan cast steps done fault
-default_refused plan cast steps n done w at x fault e h count next refused = record {
-  world = w;
+-- the next step of those given
+pub given_next : (plan : Planned) (cast : List (List Content)) (steps : List Step) (i : ℕ) (w : World) (at : Scene) (x : Step) → Begins plan cast (take i steps) w at → i < length steps → x ≡ get_or steps i x → IsGivenNext plan cast steps i w x
+given_next plan cast steps i w at x b l e = record { at = at; run = b; next = slice_get_read steps (length steps) i x refl l e }
+
+-- it is refused
+pub given_refused : (plan : Planned) (cast : List (List Content)) (steps : List Step) (i done : ℕ) (w : World) (x : Step) (fault : StepFault) → IsGivenNext plan cast steps i w x → done ≡ i → refusal w x ≡ Some fault → IsGivenRefused plan cast steps done fault
+given_refused plan cast steps i done w x fault n count refused = subst (λ (k : ℕ). IsGivenRefused plan cast steps k fault) (sym count) (record { world = w; step = x; next = n; refused = refused })
+
+-- it is one of this process
+pub given_stopped : (plan : Planned) (cast : List (List Content)) (steps : List Step) (i : ℕ) (w : World) (x : Step) (p : ℕ) → IsGivenNext plan cast steps i w x → stepper x ≡ p → IsStopped plan cast steps p
+given_stopped plan cast steps i w x p n own = record { done = i; world = w; step = x; next = inl n; own = own }
+
+-- the next default step
+pub default_next : (plan : Planned) (cast : List (List Content)) (steps : List Step) (n done : ℕ) (w : World) (at : Scene) (x : Step) → w.agenda.plan ≡ plan → (h : GoesSo plan cast steps n w at)
+    → length steps + n ≡ done → Some x ≡ default_step w.agenda.plan h.0.now → IsDefaultNext plan cast steps done w x
+default_next plan cast steps n done w at x e h count next = record {
   at = at;
   run = h.0;
   count = (let given = begins_count h.0.given steps h.0.begins in let so = h.1 in omega (arith, given, so, count));
-  step = x;
   next = subst (λ (z : Planned). default_step z h.0.now ≡ Some x) e (sym next);
-  refused = refused;
 }
+
+-- it is refused
+pub default_refused : (plan : Planned) (cast : List (List Content)) (steps : List Step) (done : ℕ) (w : World) (x : Step) (fault : StepFault) → IsDefaultNext plan cast steps done w x → refusal w x ≡ Some fault → IsDefaultRefused plan cast steps done fault
+default_refused plan cast steps done w x fault n refused = record { world = w; step = x; next = n; refused = refused }
+
+-- it is one of this process
+pub default_stopped : (plan : Planned) (cast : List (List Content)) (steps : List Step) (done : ℕ) (w : World) (x : Step) (p : ℕ) → IsDefaultNext plan cast steps done w x → stepper x ≡ p → IsStopped plan cast steps p
+default_stopped plan cast steps done w x p n own = record { done = done; world = w; step = x; next = inr n; own = own }
 
 pub take_next : (xs : List Step) (i : ℕ) (x : Step) → i < length xs → x ≡ get_or xs i x → take (i + 1) xs ≡ take i xs ++ x ∷ []
 take_next xs i x l e = take_more xs i x l ∙ ap (λ (y : Step). take i xs ++ y ∷ []) (sym e)

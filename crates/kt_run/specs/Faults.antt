@@ -1,5 +1,5 @@
 -- Which objects a run begins with, and which faults of it come before anything is saved.
-use Rattle.std.specs.Prelude.{◌<◌, ℕ, List, Bool, true, false, length}
+use Rattle.std.specs.Prelude.{◌<◌, ℕ, List, Bool, true, false, Option, Some, None, length}
 use Rattle.kt_held.specs.Casts.{HasSizes, HasKind}
 use Rattle.kt_core.specs.declared.faults.StepFault.{StepFault}
 use Rattle.kt_core.specs.declared.faults.StepFault.TheVariants as step
@@ -60,3 +60,12 @@ abbrev pub of_act : ℕ → ActFault → RunFault
 of_act p act.Unfit = Object p
 of_act p act.Form = Object p
 of_act p act.Memory = Memory
+
+-- the process that a fault names which comes once all objects are saved at first
+abbrev pub stopped_at : RunFault → Option ℕ
+stopped_at CastSize = None
+stopped_at (CastKind p) = None
+stopped_at (Object p) = Some p
+stopped_at (Journal p) = Some p
+stopped_at (Step done fault) = None
+stopped_at Memory = None

@@ -7,7 +7,7 @@ ghost use Rattle.kt_promises.specs.Follows.{FollowsPlan};
 ghost use Rattle.kt_promises.specs.Headline.{IsPromised};
 ghost use Rattle.kt_run.specs.Faults.{IsCast, Answers};
 ghost use Rattle.kt_run.specs.Objects.{has_of, HoldDue};
-ghost use Rattle.kt_run.specs.Refused.{IsRefused};
+ghost use Rattle.kt_run.specs.Refused.{IsRefused, IsStopped};
 ghost use Rattle.kt_run.specs.Runs.{IsPlayed, IsToldPlay};
 ghost use Rattle.kt_run.specs.Telling.{AreToldTheirRows};
 
@@ -38,6 +38,11 @@ pub fn run(alloc: Global, plan: &Plan, steps: &[Step], cast: Cast) -> Result<Out
     // A step is refused only where those before it are a run.
     ensures refused { IfErr result (λ fault. (done : ℕ) (why : StepFault) → fault ≡ RunFault.Step done why →
         IsRefused plan.now (map (λ row. map (λ b. content (kind_of b) (value_of b)) row.items) cast.items) steps.now done why) }
+
+    // Where there is no memory for what a process is told, the step is one of that process.
+    ensures named { IfErr result (λ fault. (p : ℕ) → fault ≡ RunFault.Journal p →
+        IsStopped plan.now (map (λ row. map (λ b. content (kind_of b) (value_of b)) row.items)
+        cast.items) steps.now p) }
 
     // The log is that of a run of the plan which begins with the steps given, goes on by default steps, and comes to rest;
     // each process was told, step for step, what that run tells it; and all is so of the log that is promised of a run's.
@@ -78,6 +83,11 @@ pub fn log_of(alloc: Global, plan: &Plan, steps: &[Step], cast: Cast) -> Result<
     // A step is refused only where those before it are a run.
     ensures refused { IfErr result (λ fault. (done : ℕ) (why : StepFault) → fault ≡ RunFault.Step done why →
         IsRefused plan.now (map (λ row. map (λ b. content (kind_of b) (value_of b)) row.items) cast.items) steps.now done why) }
+
+    // Where there is no memory for what a process is told, the step is one of that process.
+    ensures named { IfErr result (λ fault. (p : ℕ) → fault ≡ RunFault.Journal p →
+        IsStopped plan.now (map (λ row. map (λ b. content (kind_of b) (value_of b)) row.items)
+        cast.items) steps.now p) }
 
     // It is that of a run of the plan which begins with the steps given, goes on by default steps, and comes to rest; and
     // all is so of it that is promised of a run's.

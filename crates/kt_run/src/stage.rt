@@ -5,9 +5,10 @@ ghost use Rattle.kt_core.specs.Worlds.{refusal};
 ghost use Rattle.kt_core.specs.declared.faults.StepFault.{StepFault};
 ghost use Rattle.kt_held.specs.Holdings.{Content, content};
 ghost use Rattle.kt_plan.specs.declared.steps.Step.{Step};
-ghost use Rattle.kt_run.specs.Faults.{IsCast, Answers, is_of_cast};
+ghost use Rattle.kt_phases.specs.Steps.{stepper};
+ghost use Rattle.kt_run.specs.Faults.{IsCast, Answers, is_of_cast, stopped_at};
 ghost use Rattle.kt_run.specs.Objects.{has_of, HoldDue};
-ghost use Rattle.kt_run.specs.Refused.{IsGivenRefused, IsDefaultRefused, IsRefused};
+ghost use Rattle.kt_run.specs.Refused.{IsGivenRefused, IsDefaultRefused, IsRefused, IsStopped};
 ghost use Rattle.kt_run.specs.Runs.{scene, Tells, StepsTo, Starts, Begins, Rests};
 ghost use Rattle.kt_run.specs.Telling.{AreEmpty};
 
@@ -39,6 +40,7 @@ impl Stage {
         ensures cast { OnOk result (IsCast plan.now (map (λ row. map (λ b. kind_of b) row.items) cast.items)) }
         ensures fault { IfErr result (Answers plan.now (map (λ row. map (λ b. kind_of b) row.items) cast.items)) }
         ensures early { IfErr result (λ fault. (done : ℕ) (why : StepFault) → fault ≢ RunFault.Step done why) }
+        ensures untold { IfErr result (λ fault. (p : ℕ) → fault ≢ RunFault.Journal p) }
         ensures starts { IfOk result (λ stage. Starts plan.now stage.world) }
         ensures plan { IfOk result (λ stage. stage.world.agenda.plan ≡ plan.now) }
         ensures journals { IfOk result (λ stage. AreEmpty stage.journals) }
@@ -85,6 +87,10 @@ impl Stage {
             (λ b. content (kind_of (b.vtable, b.value)) (value_of (b.vtable, b.value)))) →
             IfErr result (λ fault. (done : ℕ) (why : StepFault) → fault ≡ RunFault.Step done why →
             IsRefused self.old.world.agenda.plan cast steps.now done why) }
+        ensures named { (cast : List (List Content)) → HoldDue cast [] (has_of self.old.objects.items
+            (λ b. content (kind_of (b.vtable, b.value)) (value_of (b.vtable, b.value)))) →
+            IfErr result (λ fault. (p : ℕ) → stopped_at fault ≡ Some p →
+            IsStopped self.old.world.agenda.plan cast steps.now p) }
         ensures count { OnOk result (length self.new.journals ≡ length self.old.journals) }
         ensures rests { (cast : List (List Content)) → HoldDue cast []
             (has_of self.old.objects.items
@@ -111,6 +117,10 @@ impl Stage {
             (λ b. content (kind_of (b.vtable, b.value)) (value_of (b.vtable, b.value)))) →
             IfErr result (λ fault. (done : ℕ) (why : StepFault) → fault ≡ RunFault.Step done why →
             IsGivenRefused self.old.world.agenda.plan cast steps.now done why) }
+        ensures named { (cast : List (List Content)) → HoldDue cast [] (has_of self.old.objects.items
+            (λ b. content (kind_of (b.vtable, b.value)) (value_of (b.vtable, b.value)))) →
+            IfErr result (λ fault. (p : ℕ) → stopped_at fault ≡ Some p →
+            IsStopped self.old.world.agenda.plan cast steps.now p) }
         ensures count { OnOk result (length self.new.journals ≡ length self.old.journals) }
         ensures begun { (cast : List (List Content)) → HoldDue cast []
             (has_of self.old.objects.items
@@ -141,6 +151,13 @@ impl Stage {
             self.old.done ≡ length steps →
             IfErr result (λ fault. (done : ℕ) (why : StepFault) → fault ≡ RunFault.Step done why →
             IsDefaultRefused self.old.world.agenda.plan cast steps done why) }
+        ensures named { (cast : List (List Content)) (steps : List Step) →
+            Begins self.old.world.agenda.plan cast steps self.old.world
+            (scene self.old.journals self.old.objects.items
+            (λ b. content (kind_of (b.vtable, b.value)) (value_of (b.vtable, b.value)))) →
+            self.old.done ≡ length steps →
+            IfErr result (λ fault. (p : ℕ) → stopped_at fault ≡ Some p →
+            IsStopped self.old.world.agenda.plan cast steps p) }
         ensures count { OnOk result (length self.new.journals ≡ length self.old.journals) }
         ensures rests { (cast : List (List Content)) (steps : List Step) → Begins self.old.world.agenda.plan cast steps self.old.world
             (scene self.old.journals self.old.objects.items
@@ -168,6 +185,7 @@ impl Stage {
         ensures seats { OnOk result (length self.new.objects.items ≡ self.new.world.system.size) }
         ensures refused { IfErr result (λ fault. (done : ℕ) (why : StepFault) → fault ≡ RunFault.Step done why →
             (done ≡ self.old.done) × (refusal self.old.world step ≡ Some why)) }
+        ensures named { IfErr result (λ fault. (p : ℕ) → stopped_at fault ≡ Some p → stepper step ≡ p) }
         ensures leads { OnOk result (StepsTo self.old.world
             (scene self.old.journals self.old.objects.items
             (λ b. content (kind_of (b.vtable, b.value)) (value_of (b.vtable, b.value)))) step
@@ -209,6 +227,7 @@ fn step_once(
     ensures size { world.new.system.size ≡ world.old.system.size }
     ensures refused { IfErr result (λ fault. (n : ℕ) (why : StepFault) → fault ≡ RunFault.Step n why →
         (n ≡ done) × (refusal world.old step ≡ Some why)) }
+    ensures named { IfErr result (λ fault. (p : ℕ) → stopped_at fault ≡ Some p → stepper step ≡ p) }
     ensures leads { IfOk result (λ acts. Tells world.old journals.old step give world.new journals.new acts) }
 {
     if journals.are_kept() {
@@ -225,6 +244,7 @@ fn act_once(world: &mut World, step: Step, give: Give, done: usize) -> Result<[A
     ensures size { world.new.system.size ≡ world.old.system.size }
     ensures refused { IfErr result (λ fault. (n : ℕ) (why : StepFault) → fault ≡ RunFault.Step n why →
         (n ≡ done) × (refusal world.old step ≡ Some why)) }
+    ensures named { IfErr result (λ fault. (p : ℕ) → stopped_at fault ≡ Some p → stepper step ≡ p) }
     ensures leads { IfOk result (λ acts. Tells world.old [] step give world.new [] acts) }
 {
     match world.act(step, give) {
@@ -246,6 +266,7 @@ fn tell_once(
     ensures size { world.new.system.size ≡ world.old.system.size }
     ensures refused { IfErr result (λ fault. (n : ℕ) (why : StepFault) → fault ≡ RunFault.Step n why →
         (n ≡ done) × (refusal world.old step ≡ Some why)) }
+    ensures named { IfErr result (λ fault. (p : ℕ) → stopped_at fault ≡ Some p → stepper step ≡ p) }
     ensures leads { IfOk result (λ acts. Tells world.old journals.old step give world.new journals.new acts) }
 {
     let p = process_of(&step);
@@ -272,6 +293,7 @@ fn first_objects(alloc: Global, plan: &Plan, cast: Cast) -> Result<Vec<Held>, Ru
     ensures cast { OnOk result (IsCast plan.now (map (λ row. map (λ b. kind_of b) row.items) cast.items)) }
     ensures fault { IfErr result (Answers plan.now (map (λ row. map (λ b. kind_of b) row.items) cast.items)) }
     ensures early { IfErr result (λ fault. (done : ℕ) (why : StepFault) → fault ≢ RunFault.Step done why) }
+    ensures untold { IfErr result (λ fault. (p : ℕ) → fault ≢ RunFault.Journal p) }
     ensures count { IfOk result (λ objects. length objects.items ≡ length plan.now.names) }
     ensures due { IfOk result (λ objects. HoldDue (map (λ row. map (λ b. content (kind_of b) (value_of b)) row.items) cast.items) []
         (has_of objects.items (λ b. content (kind_of b) (value_of b)))) }

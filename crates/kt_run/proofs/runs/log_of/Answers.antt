@@ -1,7 +1,8 @@
 use Rattle.std.proofs.Common.{rules, ◌≡◌, map, subst, ap}
 use Rattle.std.specs.Prelude.{Result, Err, IfErr}
 use Rattle.kt_held.specs.Holdings.{content}
-use Rattle.kt_run.specs.Refused.{IsRefused}
+use Rattle.kt_run.specs.Refused.{IsRefused, IsStopped}
+use Rattle.kt_run.specs.Faults.{stopped_at}
 use Rattle.kt_plan.specs.Limits.{Planned, IsPlan}
 use Rattle.kt_run.specs.Runs.{scene, Rests}
 use Rattle.kt_run.proofs.Running.{run_of, follows_of}
@@ -51,3 +52,15 @@ returns-in_err-make_all-clause-refused g c = if_err c.from_residual-in_err-make_
     (c.in_err-make_all.ensures.refused
     (map (λ row. map (λ b. content ((goal.Recoverable-dyn g (b.vtable, b.value)).kind_of b.value) ((goal.Recoverable-dyn g (b.vtable, b.value)).value_of b.value)) row.items) c.args.cast.items)
     c.in_ok-stage.ensures.due done why e))
+
+pub returns-in_err-stage-clause-named : goal.returns-in_err-stage-clause-named
+returns-in_err-stage-clause-named g c = if_err c.from_residual.result _ c.in_err-stage.field-0.0 (search rules) (λ p e. absurd (c.in_err-stage.ensures.untold p e))
+
+pub returns-in_err-make_all-clause-named : goal.returns-in_err-make_all-clause-named
+returns-in_err-make_all-clause-named g c = if_err c.from_residual-in_err-make_all.result _ c.in_err-make_all.field-0.0 (search rules)
+    (λ p e. subst (λ (z : Planned). IsStopped z
+    (map (λ row. map (λ b. content ((goal.Recoverable-dyn g (b.vtable, b.value)).kind_of b.value) ((goal.Recoverable-dyn g (b.vtable, b.value)).value_of b.value)) row.items) c.args.cast.items)
+    c.args.steps.now p) c.in_ok-stage.ensures.plan
+    (c.in_err-make_all.ensures.named
+    (map (λ row. map (λ b. content ((goal.Recoverable-dyn g (b.vtable, b.value)).kind_of b.value) ((goal.Recoverable-dyn g (b.vtable, b.value)).value_of b.value)) row.items) c.args.cast.items)
+    c.in_ok-stage.ensures.due p (ap stopped_at e)))

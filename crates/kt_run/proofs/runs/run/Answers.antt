@@ -3,7 +3,8 @@ use Rattle.std.specs.Prelude.{Result, Err, IfErr, slice_index_or}
 use Rattle.std.specs.Option.{option_map}
 use Rattle.std.proofs.lemmas.Option.{slice_get-map, slice_get-get_or}
 use Rattle.kt_held.specs.Holdings.{content}
-use Rattle.kt_run.specs.Refused.{IsRefused}
+use Rattle.kt_run.specs.Refused.{IsRefused, IsStopped}
+use Rattle.kt_run.specs.Faults.{stopped_at}
 use Rattle.kt_core.specs.Worlds.{World}
 use Rattle.kt_plan.specs.Limits.{Planned, IsPlan}
 use Rattle.kt_plan.specs.declared.steps.Told.{Told}
@@ -96,3 +97,17 @@ returns-in_err-make_all-clause-refused g c = if_err c.from_residual-in_err-make_
     (subst (λ helds. HoldDue
     (map (λ row. map (λ b. content ((goal.Recoverable-dyn g (b.vtable, b.value)).kind_of b.value) ((goal.Recoverable-dyn g (b.vtable, b.value)).value_of b.value)) row.items) c.args.cast.items)
     [] (has_of helds.items (λ b. content ((goal.Recoverable-dyn g (b.vtable, b.value)).kind_of b.value) ((goal.Recoverable-dyn g (b.vtable, b.value)).value_of b.value)))) (sym c.in_ok-keep_journals.ensures.objects) c.in_ok-stage.ensures.due) done why e))
+
+pub returns-in_err-stage-clause-named : goal.returns-in_err-stage-clause-named
+returns-in_err-stage-clause-named g c = if_err c.from_residual.result _ c.in_err-stage.field-0.0 (search rules) (λ p e. absurd (c.in_err-stage.ensures.untold p e))
+
+pub returns-in_err-make_all-clause-named : goal.returns-in_err-make_all-clause-named
+returns-in_err-make_all-clause-named g c = if_err c.from_residual-in_err-make_all.result _ c.in_err-make_all.field-0.0 (search rules)
+    (λ p e. subst (λ (z : Planned). IsStopped z
+    (map (λ row. map (λ b. content ((goal.Recoverable-dyn g (b.vtable, b.value)).kind_of b.value) ((goal.Recoverable-dyn g (b.vtable, b.value)).value_of b.value)) row.items) c.args.cast.items)
+    c.args.steps.now p) (ap (λ (w : World). w.agenda.plan) c.in_ok-keep_journals.ensures.world ∙ c.in_ok-stage.ensures.plan)
+    (c.in_err-make_all.ensures.named
+    (map (λ row. map (λ b. content ((goal.Recoverable-dyn g (b.vtable, b.value)).kind_of b.value) ((goal.Recoverable-dyn g (b.vtable, b.value)).value_of b.value)) row.items) c.args.cast.items)
+    (subst (λ helds. HoldDue
+    (map (λ row. map (λ b. content ((goal.Recoverable-dyn g (b.vtable, b.value)).kind_of b.value) ((goal.Recoverable-dyn g (b.vtable, b.value)).value_of b.value)) row.items) c.args.cast.items)
+    [] (has_of helds.items (λ b. content ((goal.Recoverable-dyn g (b.vtable, b.value)).kind_of b.value) ((goal.Recoverable-dyn g (b.vtable, b.value)).value_of b.value)))) (sym c.in_ok-keep_journals.ensures.objects) c.in_ok-stage.ensures.due) p (ap stopped_at e)))

@@ -1,7 +1,7 @@
 use Rattle.std.proofs.Common.{◌∙◌, refl, sym}
 use Rattle.std.proofs.lemmas.List.{length-map}
 use Rattle.kt_held.specs.Holdings.{content}
-use Rattle.kt_run.proofs.Casting.{answered, of_objects}
+use Rattle.kt_run.proofs.Casting.{answered, of_objects, of_none_told}
 use Rattle.kt_run.proofs.Holding.{hold_first, as_many_given}
 use Rattle.kt_run.proofs.stage.first_objects.Goals as goal
 
@@ -20,3 +20,6 @@ returns-in-Ok-clause-count g c =
 
 pub returns-in-Err-clause-early : goal.returns-in-Err-clause-early
 returns-in-Err-clause-early g c = rw c.from.ensures (λ done why. of_objects c.in-Err.fault done why)
+
+pub returns-in-Err-clause-untold : goal.returns-in-Err-clause-untold
+returns-in-Err-clause-untold g c = rw c.from.ensures (λ p. of_none_told c.in-Err.fault p)

@@ -1,8 +1,8 @@
-use Rattle.std.proofs.Common.{rules, ◌≡◌, arith, refl, ◌∙◌}
+use Rattle.std.proofs.Common.{rules, ◌≡◌, ◌+◌, length, arith, refl, ◌∙◌}
 use Rattle.std.specs.Prelude.{Result, Err, IfErr}
 use Rattle.kt_held.specs.Holdings.{content}
 use Rattle.kt_run.specs.Runs.{scene}
-use Rattle.kt_run.proofs.Running.{goes_start, goes_more, rests_now, too_many, goes_few, default_refused}
+use Rattle.kt_run.proofs.Running.{goes_start, goes_more, rests_now, too_many, goes_few, default_next, default_refused, default_stopped}
 use Rattle.kt_run.proofs.stage.Stage.go_on.Goals as goal
 
 pub loop-number-init : goal.loop-number-init
@@ -46,4 +46,12 @@ returns-in_err-make-clause-refused g c = λ cast steps b l. if_err c.from_residu
     let goes = c.loop-number.invariant.goes cast steps b in
     let d = c.loop-number.invariant.done in
     let at = r.0 in
-    default_refused c.args.self.now.world.agenda.plan cast steps c.loop-number._number done c.loop-number.self.world (scene c.loop-number.self.journals c.loop-number.self.objects.items (λ b. content ((goal.Recoverable-dyn g (b.vtable, b.value)).kind_of b.value) ((goal.Recoverable-dyn g (b.vtable, b.value)).value_of b.value))) c.in-Some.step why c.loop-number.invariant.plan goes (omega (arith, d, l, at)) (c.in-Some.ensures.in_runs 0 goes.0.now goes.0.shown) r.1)
+    default_refused c.args.self.now.world.agenda.plan cast steps done c.loop-number.self.world c.in-Some.step why
+    (default_next c.args.self.now.world.agenda.plan cast steps c.loop-number._number done c.loop-number.self.world (scene c.loop-number.self.journals c.loop-number.self.objects.items (λ b. content ((goal.Recoverable-dyn g (b.vtable, b.value)).kind_of b.value) ((goal.Recoverable-dyn g (b.vtable, b.value)).value_of b.value))) c.in-Some.step c.loop-number.invariant.plan goes (omega (arith, d, l, at)) (c.in-Some.ensures.in_runs 0 goes.0.now goes.0.shown)) r.1)
+
+pub returns-in_err-make-clause-named : goal.returns-in_err-make-clause-named
+returns-in_err-make-clause-named g c = λ cast steps b l. if_err c.from_residual.result _ c.in_err-make.field-0.0 (search rules)
+    (λ p e.
+    let goes = c.loop-number.invariant.goes cast steps b in
+    default_stopped c.args.self.now.world.agenda.plan cast steps (length steps + c.loop-number._number) c.loop-number.self.world c.in-Some.step p
+    (default_next c.args.self.now.world.agenda.plan cast steps c.loop-number._number (length steps + c.loop-number._number) c.loop-number.self.world (scene c.loop-number.self.journals c.loop-number.self.objects.items (λ b. content ((goal.Recoverable-dyn g (b.vtable, b.value)).kind_of b.value) ((goal.Recoverable-dyn g (b.vtable, b.value)).value_of b.value))) c.in-Some.step c.loop-number.invariant.plan goes refl (c.in-Some.ensures.in_runs 0 goes.0.now goes.0.shown)) (c.in_err-make.ensures.named p e))

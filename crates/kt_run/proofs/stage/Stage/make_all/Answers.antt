@@ -1,6 +1,6 @@
 use Rattle.std.proofs.Common.{inr, subst, sym}
 use Rattle.std.specs.Prelude.{Result, Ok, Err, OnOk, IfErr}
-use Rattle.kt_run.specs.Refused.{IsDefaultRefused}
+use Rattle.kt_run.specs.Refused.{IsDefaultRefused, IsStopped}
 use Rattle.kt_held.specs.Holdings.{content}
 use Rattle.kt_plan.specs.Limits.{Planned}
 use Rattle.kt_run.specs.Runs.{scene, Begins, Rests}
@@ -34,6 +34,15 @@ returns-clause-refused g c = λ cast due.
     let same = c.in_ok-make_given.ensures.plan in
     if_err_so _ _ c.go_on.result (λ fault refused done why e. inr (subst (λ (p : Planned). IsDefaultRefused p cast c.args.steps.now done why) same (refused done why e)))
     (c.go_on.ensures.refused cast c.args.steps.now
+    (subst (λ (p : Planned). Begins p cast c.args.steps.now c.make_given.new.self.world (scene c.make_given.new.self.journals c.make_given.new.self.objects.items (λ b. content ((goal.Recoverable-dyn g (b.vtable, b.value)).kind_of b.value) ((goal.Recoverable-dyn g (b.vtable, b.value)).value_of b.value))))
+    (sym same) (c.in_ok-make_given.ensures.begun cast due))
+    c.in_ok-make_given.ensures.done)
+
+pub returns-clause-named : goal.returns-clause-named
+returns-clause-named g c = λ cast due.
+    let same = c.in_ok-make_given.ensures.plan in
+    if_err_so _ _ c.go_on.result (λ fault named p e. subst (λ (z : Planned). IsStopped z cast c.args.steps.now p) same (named p e))
+    (c.go_on.ensures.named cast c.args.steps.now
     (subst (λ (p : Planned). Begins p cast c.args.steps.now c.make_given.new.self.world (scene c.make_given.new.self.journals c.make_given.new.self.objects.items (λ b. content ((goal.Recoverable-dyn g (b.vtable, b.value)).kind_of b.value) ((goal.Recoverable-dyn g (b.vtable, b.value)).value_of b.value))))
     (sym same) (c.in_ok-make_given.ensures.begun cast due))
     c.in_ok-make_given.ensures.done)

@@ -1,8 +1,9 @@
-use Rattle.std.proofs.Common.{rules, arith, List, take, refl, sym, subst, ◌∙◌}
+use Rattle.std.specs.Prelude.{Result, Err, IfErr}
+use Rattle.std.proofs.Common.{rules, ◌≡◌, arith, List, take, refl, sym, subst, ◌∙◌}
 use Rattle.kt_plan.specs.declared.steps.Step.{Step}
 use Rattle.kt_held.specs.Holdings.{content}
 use Rattle.kt_run.specs.Runs.{scene, Begins}
-use Rattle.kt_run.proofs.Running.{begins_start, begins_more, take_next}
+use Rattle.kt_run.proofs.Running.{begins_start, begins_more, take_next, given_next, given_refused, given_stopped}
 use Rattle.kt_run.proofs.stage.Stage.make_given.Goals as goal
 
 pub loop-step-init : goal.loop-step-init
@@ -17,3 +18,18 @@ loop-step-preserved g c = record {
   begun = λ cast due. subst (λ (l : List Step). Begins c.args.self.now.world.agenda.plan cast l c.make.new.self.world (scene c.make.new.self.journals c.make.new.self.objects.items (λ b. content ((goal.Recoverable-dyn g (b.vtable, b.value)).kind_of b.value) ((goal.Recoverable-dyn g (b.vtable, b.value)).value_of b.value)))) (sym (take_next c.args.steps.now c.loop-step.step-index c.step-item.result (search rules) c.step-item.is))
       (begins_more c.args.self.now.world.agenda.plan cast (take c.loop-step.step-index c.args.steps.now) c.step-item.result c.loop-step.self.world c.make.new.self.world (scene c.loop-step.self.journals c.loop-step.self.objects.items (λ b. content ((goal.Recoverable-dyn g (b.vtable, b.value)).kind_of b.value) ((goal.Recoverable-dyn g (b.vtable, b.value)).value_of b.value))) (scene c.make.new.self.journals c.make.new.self.objects.items (λ b. content ((goal.Recoverable-dyn g (b.vtable, b.value)).kind_of b.value) ((goal.Recoverable-dyn g (b.vtable, b.value)).value_of b.value))) c.loop-step.invariant.plan (c.loop-step.invariant.begun cast due) c.in_ok-make.ensures.leads);
 }
+
+if_err : {T E : Type 0} (r : Result T E) (P : E → Type 0) (e : E) → r ≡ Err e → P e → IfErr r P
+if_err r P e is p = rw is p
+
+pub returns-in_err-make-clause-refused : goal.returns-in_err-make-clause-refused
+returns-in_err-make-clause-refused g c = λ cast due. if_err c.from_residual.result _ c.in_err-make.field-0.0 (search rules)
+    (λ done why e.
+    let r = c.in_err-make.ensures.refused done why e in
+    given_refused c.args.self.now.world.agenda.plan cast c.args.steps.now c.loop-step.step-index done c.loop-step.self.world c.step-item.result why
+    (given_next c.args.self.now.world.agenda.plan cast c.args.steps.now c.loop-step.step-index c.loop-step.self.world (scene c.loop-step.self.journals c.loop-step.self.objects.items (λ b. content ((goal.Recoverable-dyn g (b.vtable, b.value)).kind_of b.value) ((goal.Recoverable-dyn g (b.vtable, b.value)).value_of b.value))) c.step-item.result (c.loop-step.invariant.begun cast due) (search rules) c.step-item.is) (r.0 ∙ c.loop-step.invariant.done) r.1)
+
+pub returns-in_err-make-clause-named : goal.returns-in_err-make-clause-named
+returns-in_err-make-clause-named g c = λ cast due. if_err c.from_residual.result _ c.in_err-make.field-0.0 (search rules)
+    (λ p e. given_stopped c.args.self.now.world.agenda.plan cast c.args.steps.now c.loop-step.step-index c.loop-step.self.world c.step-item.result p
+    (given_next c.args.self.now.world.agenda.plan cast c.args.steps.now c.loop-step.step-index c.loop-step.self.world (scene c.loop-step.self.journals c.loop-step.self.objects.items (λ b. content ((goal.Recoverable-dyn g (b.vtable, b.value)).kind_of b.value) ((goal.Recoverable-dyn g (b.vtable, b.value)).value_of b.value))) c.step-item.result (c.loop-step.invariant.begun cast due) (search rules) c.step-item.is) (c.in_err-make.ensures.named p e))
