@@ -5,3 +5,4 @@ pub mod Noting
 pub mod Numbering
 pub mod Running
 pub mod Telling
+pub mod Spares

@@ -61,3 +61,7 @@ pub record HoldsDue (objects : List Content) (log : List Event) (p : ℕ) (has :
 pub record HoldDue (cast : List (List Content)) (log : List Event) (has : List Belongings) : Type 0 where
   pub count : length has ≡ length cast
   pub each : (p : ℕ) (b : Belongings) → slice_get has p ≡ Some b → HoldsDue (slice_index_or cast p []) log p b
+
+-- of these, all but the first ones are left
+abbrev pub AreLeft : {A : Type 0} → List A → List A → Type 0
+AreLeft all left = (taken : ℕ) × (left ≡ drop taken all)

@@ -1,12 +1,13 @@
 //! Serial runs.
 
 ghost use Rattle.std.specs.Prelude.{◌≡◌, ℕ, None, All, map, OnOk, IfOk, IfErr};
+ghost use Rattle.std.specs.List.{AllZip};
 ghost use Rattle.kt_core.specs.declared.faults.StepFault.{StepFault};
 ghost use Rattle.kt_held.specs.Holdings.{content};
 ghost use Rattle.kt_promises.specs.Follows.{FollowsPlan};
 ghost use Rattle.kt_promises.specs.Headline.{IsPromised};
 ghost use Rattle.kt_run.specs.Faults.{IsCast, Answers};
-ghost use Rattle.kt_run.specs.Objects.{has_of, HoldDue};
+ghost use Rattle.kt_run.specs.Objects.{has_of, HoldDue, AreLeft};
 ghost use Rattle.kt_run.specs.Refused.{IsRefused, IsStopped};
 ghost use Rattle.kt_run.specs.Runs.{IsPlayed, IsToldPlay};
 ghost use Rattle.kt_run.specs.Telling.{AreToldTheirRows};
@@ -61,6 +62,10 @@ pub fn run(alloc: Global, plan: &Plan, steps: &[Step], cast: Cast) -> Result<Out
         (has_of outcome.objects.items (λ b. content (kind_of b) (value_of b)))) }
     ensures settled { IfOk result (λ outcome. All (λ h. h.depot.tentative ≡ None) outcome.objects.items) }
     ensures promised { IfOk result (λ outcome. IsPromised outcome.log.rows) }
+
+    // The spares of each process are the objects that it was given but for the first ones.
+    ensures spares { IfOk result (λ outcome.
+        AllZip (λ row h. AreLeft row.items h.spares.items) cast.items outcome.objects.items) }
 
     // The log follows the plan, told by its rows alone.
     ensures follows { IfOk result (λ outcome. FollowsPlan plan.now outcome.log.rows) }

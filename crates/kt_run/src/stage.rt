@@ -1,13 +1,14 @@
 //! A world with the objects of its processes.
 
 ghost use Rattle.std.specs.Prelude.{◌≡◌, ◌≢◌, ◌<◌, ◌+◌, ◌-◌, ◌^◌, ℕ, List, [], Some, false, map, length, OnOk, IfOk, IfErr};
+ghost use Rattle.std.specs.List.{AllZip};
 ghost use Rattle.kt_core.specs.Worlds.{refusal};
 ghost use Rattle.kt_core.specs.declared.faults.StepFault.{StepFault};
 ghost use Rattle.kt_held.specs.Holdings.{Content, content};
 ghost use Rattle.kt_plan.specs.declared.steps.Step.{Step};
 ghost use Rattle.kt_phases.specs.Steps.{stepper};
 ghost use Rattle.kt_run.specs.Faults.{IsCast, Answers, is_of_cast, stopped_at};
-ghost use Rattle.kt_run.specs.Objects.{has_of, HoldDue};
+ghost use Rattle.kt_run.specs.Objects.{has_of, HoldDue, AreLeft};
 ghost use Rattle.kt_run.specs.Refused.{IsGivenRefused, IsDefaultRefused, IsRefused, IsStopped};
 ghost use Rattle.kt_run.specs.Runs.{scene, Tells, StepsTo, Starts, Begins, Rests};
 ghost use Rattle.kt_run.specs.Telling.{AreEmpty};
@@ -46,6 +47,8 @@ impl Stage {
         ensures journals { IfOk result (λ stage. AreEmpty stage.journals) }
         ensures done { IfOk result (λ stage. stage.done ≡ 0) }
         ensures seats { IfOk result (λ stage. length stage.objects.items ≡ stage.world.system.size) }
+        ensures spares { IfOk result (λ stage.
+            AllZip (λ row h. AreLeft row.items h.spares.items) cast.items stage.objects.items) }
         ensures due { IfOk result (λ stage. HoldDue (map (λ row. map (λ b. content (kind_of b) (value_of b)) row.items) cast.items) []
             (has_of stage.objects.items (λ b. content (kind_of b) (value_of b)))) }
     {
@@ -92,6 +95,8 @@ impl Stage {
             IfErr result (λ fault. (p : ℕ) → stopped_at fault ≡ Some p →
             IsStopped self.old.world.agenda.plan cast steps.now p) }
         ensures count { OnOk result (length self.new.journals ≡ length self.old.journals) }
+        ensures spares { OnOk result (AllZip (λ g h. AreLeft g.spares.items h.spares.items)
+            self.old.objects.items self.new.objects.items) }
         ensures rests { (cast : List (List Content)) → HoldDue cast []
             (has_of self.old.objects.items
             (λ b. content (kind_of (b.vtable, b.value)) (value_of (b.vtable, b.value)))) →
@@ -122,6 +127,8 @@ impl Stage {
             IfErr result (λ fault. (p : ℕ) → stopped_at fault ≡ Some p →
             IsStopped self.old.world.agenda.plan cast steps.now p) }
         ensures count { OnOk result (length self.new.journals ≡ length self.old.journals) }
+        ensures spares { OnOk result (AllZip (λ g h. AreLeft g.spares.items h.spares.items)
+            self.old.objects.items self.new.objects.items) }
         ensures begun { (cast : List (List Content)) → HoldDue cast []
             (has_of self.old.objects.items
             (λ b. content (kind_of (b.vtable, b.value)) (value_of (b.vtable, b.value)))) →
@@ -159,6 +166,8 @@ impl Stage {
             IfErr result (λ fault. (p : ℕ) → stopped_at fault ≡ Some p →
             IsStopped self.old.world.agenda.plan cast steps p) }
         ensures count { OnOk result (length self.new.journals ≡ length self.old.journals) }
+        ensures spares { OnOk result (AllZip (λ g h. AreLeft g.spares.items h.spares.items)
+            self.old.objects.items self.new.objects.items) }
         ensures rests { (cast : List (List Content)) (steps : List Step) → Begins self.old.world.agenda.plan cast steps self.old.world
             (scene self.old.journals self.old.objects.items
             (λ b. content (kind_of (b.vtable, b.value)) (value_of (b.vtable, b.value)))) →
@@ -186,6 +195,8 @@ impl Stage {
         ensures refused { IfErr result (λ fault. (done : ℕ) (why : StepFault) → fault ≡ RunFault.Step done why →
             (done ≡ self.old.done) × (refusal self.old.world step ≡ Some why)) }
         ensures named { IfErr result (λ fault. (p : ℕ) → stopped_at fault ≡ Some p → stepper step ≡ p) }
+        ensures spares { OnOk result (AllZip (λ g h. AreLeft g.spares.items h.spares.items)
+            self.old.objects.items self.new.objects.items) }
         ensures leads { OnOk result (StepsTo self.old.world
             (scene self.old.journals self.old.objects.items
             (λ b. content (kind_of (b.vtable, b.value)) (value_of (b.vtable, b.value)))) step
@@ -295,6 +306,8 @@ fn first_objects(alloc: Global, plan: &Plan, cast: Cast) -> Result<Vec<Held>, Ru
     ensures early { IfErr result (λ fault. (done : ℕ) (why : StepFault) → fault ≢ RunFault.Step done why) }
     ensures untold { IfErr result (λ fault. (p : ℕ) → fault ≢ RunFault.Journal p) }
     ensures count { IfOk result (λ objects. length objects.items ≡ length plan.now.names) }
+    ensures spares { IfOk result (λ objects.
+        AllZip (λ row h. AreLeft row.items h.spares.items) cast.items objects.items) }
     ensures due { IfOk result (λ objects. HoldDue (map (λ row. map (λ b. content (kind_of b) (value_of b)) row.items) cast.items) []
         (has_of objects.items (λ b. content (kind_of b) (value_of b)))) }
 {

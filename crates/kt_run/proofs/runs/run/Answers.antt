@@ -8,10 +8,12 @@ use Rattle.kt_run.specs.Faults.{stopped_at}
 use Rattle.kt_core.specs.Worlds.{World}
 use Rattle.kt_plan.specs.Limits.{Planned, IsPlan}
 use Rattle.kt_plan.specs.declared.steps.Told.{Told}
-use Rattle.kt_run.specs.Objects.{belongings_of, has_of, HoldDue}
+use Rattle.kt_run.specs.Objects.{belongings_of, has_of, HoldDue, AreLeft}
 use Rattle.kt_run.specs.Runs.{scene, Rests, IsToldPlay}
 use Rattle.kt_run.specs.Telling.{AreToldTheirRows}
 use Rattle.kt_run.proofs.Running.{told_run_of, their_rows, due_of, settled_of, follows_of}
+use Rattle.std.specs.List.{AllZip}
+use Rattle.kt_run.proofs.Spares.{left_then}
 use Rattle.kt_run.proofs.runs.run.Goals as goal
 use Rattle.kt_run.proofs.runs.run.Goals.{After-into_lists}
 
@@ -111,3 +113,8 @@ returns-in_err-make_all-clause-named g c = if_err c.from_residual-in_err-make_al
     (subst (λ helds. HoldDue
     (map (λ row. map (λ b. content ((goal.Recoverable-dyn g (b.vtable, b.value)).kind_of b.value) ((goal.Recoverable-dyn g (b.vtable, b.value)).value_of b.value)) row.items) c.args.cast.items)
     [] (has_of helds.items (λ b. content ((goal.Recoverable-dyn g (b.vtable, b.value)).kind_of b.value) ((goal.Recoverable-dyn g (b.vtable, b.value)).value_of b.value)))) (sym c.in_ok-keep_journals.ensures.objects) c.in_ok-stage.ensures.due) p (ap stopped_at e)))
+
+pub returns-clause-spares : goal.returns-clause-spares
+returns-clause-spares g c =
+    let given = subst (λ helds. AllZip (λ row h. AreLeft row.items h.spares.items) c.args.cast.items helds.items) (sym c.in_ok-keep_journals.ensures.objects) c.in_ok-stage.ensures.spares in
+    left_then (λ h. h.spares.items) (λ row. row.items) c.args.cast.items c.keep_journals.new.self.objects.items c.make_all.new.self.objects.items given c.in_ok-make_all.ensures.spares

@@ -3,6 +3,7 @@ use Rattle.std.proofs.lemmas.List.{length-map}
 use Rattle.kt_held.specs.Holdings.{content}
 use Rattle.kt_run.proofs.Casting.{answered, of_objects, of_none_told}
 use Rattle.kt_run.proofs.Holding.{hold_first, as_many_given}
+use Rattle.kt_run.proofs.Spares.{left_given}
 use Rattle.kt_run.proofs.stage.first_objects.Goals as goal
 
 pub returns-in-Err-clause-fault : goal.returns-in-Err-clause-fault
@@ -23,3 +24,6 @@ returns-in-Err-clause-early g c = rw c.from.ensures (λ done why. of_objects c.i
 
 pub returns-in-Err-clause-untold : goal.returns-in-Err-clause-untold
 returns-in-Err-clause-untold g c = rw c.from.ensures (λ p. of_none_told c.in-Err.fault p)
+
+pub returns-in-Ok-clause-spares : goal.returns-in-Ok-clause-spares
+returns-in-Ok-clause-spares g c = left_given (λ h. h.spares.items) (λ row. row.items) (λ h. h.present) c.args.cast.items c.in-Ok.objects.items c.in-Ok.ensures.objects (λ p h l. (c.in-Ok.ensures.holds p h l).0)

@@ -2,16 +2,18 @@ use Rattle.std.proofs.Common.{rules, ◌≡◌, ◌+◌, length, arith, refl, �
 use Rattle.std.specs.Prelude.{Result, Err, IfErr}
 use Rattle.kt_held.specs.Holdings.{content}
 use Rattle.kt_run.specs.Runs.{scene}
+use Rattle.kt_run.proofs.Spares.{left_same, left_then}
 use Rattle.kt_run.proofs.Running.{goes_start, goes_more, rests_now, too_many, goes_few, default_next, default_refused, default_stopped}
 use Rattle.kt_run.proofs.stage.Stage.go_on.Goals as goal
 
 pub loop-number-init : goal.loop-number-init
-loop-number-init g c = record { plan = refl; count = refl; done = omega arith; seats = c.requires.seats; goes = λ cast steps b. goes_start c.args.self.now.world.agenda.plan cast steps c.args.self.now.world (scene c.args.self.now.journals c.args.self.now.objects.items (λ b. content ((goal.Recoverable-dyn g (b.vtable, b.value)).kind_of b.value) ((goal.Recoverable-dyn g (b.vtable, b.value)).value_of b.value))) b }
+loop-number-init g c = record { plan = refl; count = refl; spares = left_same (λ h. h.spares.items) c.args.self.now.objects.items; done = omega arith; seats = c.requires.seats; goes = λ cast steps b. goes_start c.args.self.now.world.agenda.plan cast steps c.args.self.now.world (scene c.args.self.now.journals c.args.self.now.objects.items (λ b. content ((goal.Recoverable-dyn g (b.vtable, b.value)).kind_of b.value) ((goal.Recoverable-dyn g (b.vtable, b.value)).value_of b.value))) b }
 
 pub loop-number-preserved : goal.loop-number-preserved
 loop-number-preserved g c = record {
   plan = c.in_ok-make.ensures.plan ∙ c.loop-number.invariant.plan;
   count = c.in_ok-make.ensures.leads.2.count ∙ c.loop-number.invariant.count;
+  spares = left_then (λ h. h.spares.items) (λ h. h.spares.items) c.args.self.now.objects.items c.loop-number.self.objects.items c.make.new.self.objects.items c.loop-number.invariant.spares c.in_ok-make.ensures.spares;
   done = let d = c.in_ok-make.ensures.done in let e = c.loop-number.invariant.done in omega (arith, d, e);
   seats = c.in_ok-make.ensures.seats;
   goes = λ cast steps b. let goes = c.loop-number.invariant.goes cast steps b in

@@ -1,5 +1,7 @@
 use Rattle.std.proofs.Common.{◌≡◌, ◌+◌}
 use Rattle.std.specs.Prelude.{List, length}
+use Rattle.std.specs.List.{AllZip}
+use Rattle.kt_run.specs.Objects.{AreLeft}
 use Rattle.kt_held.specs.Holdings.{Content, content}
 use Rattle.kt_plan.specs.declared.steps.Step.{Step}
 use Rattle.kt_run.specs.Runs.{scene, Begins}
@@ -10,6 +12,7 @@ abbrev pub invariant-loop-number : goal.invariant-loop-number
 invariant-loop-number g l = record {
   plan : l.self.world.agenda.plan ≡ l.fn.self.world.agenda.plan;
   count : length l.self.journals ≡ length l.fn.self.journals;
+  spares : AllZip (λ g h. AreLeft g.spares.items h.spares.items) l.fn.self.objects.items l.self.objects.items;
   done : l.self.done ≡ l.fn.self.done + l._number;
   seats : length l.self.objects.items ≡ l.self.world.system.size;
   goes : (cast : List (List Content)) (steps : List Step) → Begins l.fn.self.world.agenda.plan cast steps l.fn.self.world (scene l.fn.self.journals l.fn.self.objects.items (λ b. content ((goal.Recoverable-dyn g (b.vtable, b.value)).kind_of b.value) ((goal.Recoverable-dyn g (b.vtable, b.value)).value_of b.value)))

@@ -4,6 +4,7 @@ use Rattle.kt_run.specs.Refused.{IsDefaultRefused, IsStopped}
 use Rattle.kt_held.specs.Holdings.{content}
 use Rattle.kt_plan.specs.Limits.{Planned}
 use Rattle.kt_run.specs.Runs.{scene, Begins, Rests}
+use Rattle.kt_run.proofs.Spares.{left_then, on_ok_so}
 use Rattle.kt_run.proofs.stage.Stage.make_all.Goals as goal
 
 pub go_on-requires-clause-begun : goal.go_on-requires-clause-begun
@@ -46,3 +47,9 @@ returns-clause-named g c = λ cast due.
     (subst (λ (p : Planned). Begins p cast c.args.steps.now c.make_given.new.self.world (scene c.make_given.new.self.journals c.make_given.new.self.objects.items (λ b. content ((goal.Recoverable-dyn g (b.vtable, b.value)).kind_of b.value) ((goal.Recoverable-dyn g (b.vtable, b.value)).value_of b.value))))
     (sym same) (c.in_ok-make_given.ensures.begun cast due))
     c.in_ok-make_given.ensures.done)
+
+pub returns-clause-spares : goal.returns-clause-spares
+returns-clause-spares g c =
+    on_ok_so c.go_on.result
+    (left_then (λ h. h.spares.items) (λ h. h.spares.items) c.args.self.now.objects.items c.make_given.new.self.objects.items c.go_on.new.self.objects.items c.in_ok-make_given.ensures.spares)
+    c.go_on.ensures.spares

@@ -3,16 +3,18 @@ use Rattle.std.proofs.Common.{rules, ◌≡◌, arith, List, take, refl, sym, su
 use Rattle.kt_plan.specs.declared.steps.Step.{Step}
 use Rattle.kt_held.specs.Holdings.{content}
 use Rattle.kt_run.specs.Runs.{scene, Begins}
+use Rattle.kt_run.proofs.Spares.{left_same, left_then}
 use Rattle.kt_run.proofs.Running.{begins_start, begins_more, take_next, given_next, given_refused, given_stopped}
 use Rattle.kt_run.proofs.stage.Stage.make_given.Goals as goal
 
 pub loop-step-init : goal.loop-step-init
-loop-step-init g c = record { plan = refl; count = refl; done = c.requires.none; seats = c.requires.seats; begun = λ cast due. begins_start c.args.self.now.world.agenda.plan cast c.args.self.now.world (scene c.args.self.now.journals c.args.self.now.objects.items (λ b. content ((goal.Recoverable-dyn g (b.vtable, b.value)).kind_of b.value) ((goal.Recoverable-dyn g (b.vtable, b.value)).value_of b.value))) c.requires.starts c.requires.journals due }
+loop-step-init g c = record { plan = refl; count = refl; spares = left_same (λ h. h.spares.items) c.args.self.now.objects.items; done = c.requires.none; seats = c.requires.seats; begun = λ cast due. begins_start c.args.self.now.world.agenda.plan cast c.args.self.now.world (scene c.args.self.now.journals c.args.self.now.objects.items (λ b. content ((goal.Recoverable-dyn g (b.vtable, b.value)).kind_of b.value) ((goal.Recoverable-dyn g (b.vtable, b.value)).value_of b.value))) c.requires.starts c.requires.journals due }
 
 pub loop-step-preserved : goal.loop-step-preserved
 loop-step-preserved g c = record {
   plan = c.in_ok-make.ensures.plan ∙ c.loop-step.invariant.plan;
   count = c.in_ok-make.ensures.leads.2.count ∙ c.loop-step.invariant.count;
+  spares = left_then (λ h. h.spares.items) (λ h. h.spares.items) c.args.self.now.objects.items c.loop-step.self.objects.items c.make.new.self.objects.items c.loop-step.invariant.spares c.in_ok-make.ensures.spares;
   done = let d = c.in_ok-make.ensures.done in let e = c.loop-step.invariant.done in omega (arith, d, e);
   seats = c.in_ok-make.ensures.seats;
   begun = λ cast due. subst (λ (l : List Step). Begins c.args.self.now.world.agenda.plan cast l c.make.new.self.world (scene c.make.new.self.journals c.make.new.self.objects.items (λ b. content ((goal.Recoverable-dyn g (b.vtable, b.value)).kind_of b.value) ((goal.Recoverable-dyn g (b.vtable, b.value)).value_of b.value)))) (sym (take_next c.args.steps.now c.loop-step.step-index c.step-item.result (search rules) c.step-item.is))

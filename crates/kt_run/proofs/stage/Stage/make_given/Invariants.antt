@@ -1,6 +1,7 @@
 use Rattle.std.proofs.Common.{◌≡◌, List, [], take, length}
 use Rattle.kt_held.specs.Holdings.{Content, content}
-use Rattle.kt_run.specs.Objects.{has_of, HoldDue}
+use Rattle.std.specs.List.{AllZip}
+use Rattle.kt_run.specs.Objects.{has_of, HoldDue, AreLeft}
 use Rattle.kt_run.specs.Runs.{scene, Begins}
 use Rattle.kt_run.proofs.stage.Stage.make_given.Given as goal
 
@@ -8,6 +9,7 @@ abbrev pub invariant-loop-step : goal.invariant-loop-step
 invariant-loop-step g l = record {
   plan : l.self.world.agenda.plan ≡ l.fn.self.world.agenda.plan;
   count : length l.self.journals ≡ length l.fn.self.journals;
+  spares : AllZip (λ g h. AreLeft g.spares.items h.spares.items) l.fn.self.objects.items l.self.objects.items;
   done : l.self.done ≡ l.step-index;
   seats : length l.self.objects.items ≡ l.self.world.system.size;
   begun : (cast : List (List Content)) → HoldDue cast [] (has_of l.fn.self.objects.items (λ b. content ((goal.Recoverable-dyn g (b.vtable, b.value)).kind_of b.value) ((goal.Recoverable-dyn g (b.vtable, b.value)).value_of b.value)))
