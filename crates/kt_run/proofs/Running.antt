@@ -313,8 +313,8 @@ pub given_refused : (plan : Planned) (cast : List (List Content)) (steps : List 
 given_refused plan cast steps i done w x fault n count refused = subst (λ (k : ℕ). IsGivenRefused plan cast steps k fault) (sym count) (record { world = w; step = x; next = n; refused = refused })
 
 -- it is one of this process
-pub given_stopped : (plan : Planned) (cast : List (List Content)) (steps : List Step) (i : ℕ) (w : World) (x : Step) (p : ℕ) → IsGivenNext plan cast steps i w x → stepper x ≡ p → IsStopped plan cast steps p
-given_stopped plan cast steps i w x p n own = record { done = i; world = w; step = x; next = inl n; own = own }
+pub given_stopped : (plan : Planned) (cast : List (List Content)) (steps : List Step) (i : ℕ) (w : World) (x : Step) (p : ℕ) → IsGivenNext plan cast steps i w x → stepper x ≡ p → refusal w x ≡ None → IsStopped plan cast steps p
+given_stopped plan cast steps i w x p n own made = record { done = i; world = w; step = x; next = inl n; own = own; made = made }
 
 -- the next default step
 pub default_next : (plan : Planned) (cast : List (List Content)) (steps : List Step) (n done : ℕ) (w : World) (at : Scene) (x : Step) → w.agenda.plan ≡ plan → (h : GoesSo plan cast steps n w at)
@@ -331,8 +331,8 @@ pub default_refused : (plan : Planned) (cast : List (List Content)) (steps : Lis
 default_refused plan cast steps done w x fault n refused = record { world = w; step = x; next = n; refused = refused }
 
 -- it is one of this process
-pub default_stopped : (plan : Planned) (cast : List (List Content)) (steps : List Step) (done : ℕ) (w : World) (x : Step) (p : ℕ) → IsDefaultNext plan cast steps done w x → stepper x ≡ p → IsStopped plan cast steps p
-default_stopped plan cast steps done w x p n own = record { done = done; world = w; step = x; next = inr n; own = own }
+pub default_stopped : (plan : Planned) (cast : List (List Content)) (steps : List Step) (done : ℕ) (w : World) (x : Step) (p : ℕ) → IsDefaultNext plan cast steps done w x → stepper x ≡ p → refusal w x ≡ None → IsStopped plan cast steps p
+default_stopped plan cast steps done w x p n own made = record { done = done; world = w; step = x; next = inr n; own = own; made = made }
 
 pub take_next : (xs : List Step) (i : ℕ) (x : Step) → i < length xs → x ≡ get_or xs i x → take (i + 1) xs ≡ take i xs ++ x ∷ []
 take_next xs i x l e = take_more xs i x l ∙ ap (λ (y : Step). take i xs ++ y ∷ []) (sym e)

@@ -1,5 +1,5 @@
 -- Runs of a plan that end at a step: it is refused, or what it asks of a process can't be done.
-use Rattle.std.specs.Prelude.{◌≡◌, ◌+◌, ◌⊎◌, ℕ, Some, List, length, take, slice_get}
+use Rattle.std.specs.Prelude.{◌≡◌, ◌+◌, ◌⊎◌, ℕ, Some, None, List, length, take, slice_get}
 use Rattle.kt_held.specs.Holdings.{Content}
 use Rattle.kt_plan.specs.Limits.{Planned}
 use Rattle.kt_plan.specs.declared.steps.Step.{Step}
@@ -41,11 +41,12 @@ abbrev pub IsRefused : Planned → List (List Content) → List Step → ℕ →
 IsRefused plan cast steps done fault =
     IsGivenRefused plan cast steps done fault ⊎ IsDefaultRefused plan cast steps done fault
 
--- a run by some of these steps, in order from the first one, or by all of them and then default ones, leads to a world in
--- which the next step is one of this process
+-- a run by some of these steps, in order from the first one, or by all of them and then default ones, leads to a world that
+-- does not refuse the next step, which is one of this process
 pub record IsStopped (plan : Planned) (cast : List (List Content)) (steps : List Step) (p : ℕ) : Type 0 where
   pub done : ℕ
   pub world : World
   pub step : Step
   pub next : IsGivenNext plan cast steps done world step ⊎ IsDefaultNext plan cast steps done world step
   pub own : stepper step ≡ p
+  pub made : refusal world step ≡ None

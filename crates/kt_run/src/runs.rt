@@ -40,7 +40,7 @@ pub fn run(alloc: Global, plan: &Plan, steps: &[Step], cast: Cast) -> Result<Out
     ensures refused { IfErr result (λ fault. (done : ℕ) (why : StepFault) → fault ≡ RunFault.Step done why →
         IsRefused plan.now (map (λ row. map (λ b. content (kind_of b) (value_of b)) row.items) cast.items) steps.now done why) }
 
-    // Where there is no memory for what a process is told, the step is one of that process.
+    // Where there is no memory for what a process is told, the step is its own, and not refused.
     ensures named { IfErr result (λ fault. (p : ℕ) → fault ≡ RunFault.Journal p →
         IsStopped plan.now (map (λ row. map (λ b. content (kind_of b) (value_of b)) row.items)
         cast.items) steps.now p) }
@@ -89,7 +89,7 @@ pub fn log_of(alloc: Global, plan: &Plan, steps: &[Step], cast: Cast) -> Result<
     ensures refused { IfErr result (λ fault. (done : ℕ) (why : StepFault) → fault ≡ RunFault.Step done why →
         IsRefused plan.now (map (λ row. map (λ b. content (kind_of b) (value_of b)) row.items) cast.items) steps.now done why) }
 
-    // Where there is no memory for what a process is told, the step is one of that process.
+    // Where there is no memory for what a process is told, the step is its own, and not refused.
     ensures named { IfErr result (λ fault. (p : ℕ) → fault ≡ RunFault.Journal p →
         IsStopped plan.now (map (λ row. map (λ b. content (kind_of b) (value_of b)) row.items)
         cast.items) steps.now p) }

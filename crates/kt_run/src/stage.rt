@@ -1,6 +1,6 @@
 //! A world with the objects of its processes.
 
-ghost use Rattle.std.specs.Prelude.{◌≡◌, ◌≢◌, ◌<◌, ◌+◌, ◌-◌, ◌^◌, ℕ, List, [], Some, false, map, length, OnOk, IfOk, IfErr};
+ghost use Rattle.std.specs.Prelude.{◌≡◌, ◌≢◌, ◌<◌, ◌+◌, ◌-◌, ◌^◌, ℕ, List, [], Some, None, false, map, length, OnOk, IfOk, IfErr};
 ghost use Rattle.std.specs.List.{AllZip};
 ghost use Rattle.kt_core.specs.Worlds.{refusal};
 ghost use Rattle.kt_core.specs.declared.faults.StepFault.{StepFault};
@@ -195,6 +195,8 @@ impl Stage {
         ensures refused { IfErr result (λ fault. (done : ℕ) (why : StepFault) → fault ≡ RunFault.Step done why →
             (done ≡ self.old.done) × (refusal self.old.world step ≡ Some why)) }
         ensures named { IfErr result (λ fault. (p : ℕ) → stopped_at fault ≡ Some p → stepper step ≡ p) }
+        ensures made { IfErr result (λ fault. (p : ℕ) → stopped_at fault ≡ Some p →
+            refusal self.old.world step ≡ None) }
         ensures spares { OnOk result (AllZip (λ g h. AreLeft g.spares.items h.spares.items)
             self.old.objects.items self.new.objects.items) }
         ensures leads { OnOk result (StepsTo self.old.world
@@ -239,6 +241,10 @@ fn step_once(
     ensures refused { IfErr result (λ fault. (n : ℕ) (why : StepFault) → fault ≡ RunFault.Step n why →
         (n ≡ done) × (refusal world.old step ≡ Some why)) }
     ensures named { IfErr result (λ fault. (p : ℕ) → stopped_at fault ≡ Some p → stepper step ≡ p) }
+    ensures made { IfErr result (λ fault. (p : ℕ) → stopped_at fault ≡ Some p →
+        refusal world.old step ≡ None) }
+    ensures objects { IfErr result (λ fault. (p : ℕ) → fault ≢ RunFault.Object p) }
+    ensures allowed { OnOk result (refusal world.old step ≡ None) }
     ensures leads { IfOk result (λ acts. Tells world.old journals.old step give world.new journals.new acts) }
 {
     if journals.are_kept() {
@@ -256,6 +262,10 @@ fn act_once(world: &mut World, step: Step, give: Give, done: usize) -> Result<[A
     ensures refused { IfErr result (λ fault. (n : ℕ) (why : StepFault) → fault ≡ RunFault.Step n why →
         (n ≡ done) × (refusal world.old step ≡ Some why)) }
     ensures named { IfErr result (λ fault. (p : ℕ) → stopped_at fault ≡ Some p → stepper step ≡ p) }
+    ensures made { IfErr result (λ fault. (p : ℕ) → stopped_at fault ≡ Some p →
+        refusal world.old step ≡ None) }
+    ensures objects { IfErr result (λ fault. (p : ℕ) → fault ≢ RunFault.Object p) }
+    ensures allowed { OnOk result (refusal world.old step ≡ None) }
     ensures leads { IfOk result (λ acts. Tells world.old [] step give world.new [] acts) }
 {
     match world.act(step, give) {
@@ -278,6 +288,10 @@ fn tell_once(
     ensures refused { IfErr result (λ fault. (n : ℕ) (why : StepFault) → fault ≡ RunFault.Step n why →
         (n ≡ done) × (refusal world.old step ≡ Some why)) }
     ensures named { IfErr result (λ fault. (p : ℕ) → stopped_at fault ≡ Some p → stepper step ≡ p) }
+    ensures made { IfErr result (λ fault. (p : ℕ) → stopped_at fault ≡ Some p →
+        refusal world.old step ≡ None) }
+    ensures objects { IfErr result (λ fault. (p : ℕ) → fault ≢ RunFault.Object p) }
+    ensures allowed { OnOk result (refusal world.old step ≡ None) }
     ensures leads { IfOk result (λ acts. Tells world.old journals.old step give world.new journals.new acts) }
 {
     let p = process_of(&step);

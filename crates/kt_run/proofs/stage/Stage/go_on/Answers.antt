@@ -56,4 +56,4 @@ returns-in_err-make-clause-named g c = λ cast steps b l. if_err c.from_residual
     (λ p e.
     let goes = c.loop-number.invariant.goes cast steps b in
     default_stopped c.args.self.now.world.agenda.plan cast steps (length steps + c.loop-number._number) c.loop-number.self.world c.in-Some.step p
-    (default_next c.args.self.now.world.agenda.plan cast steps c.loop-number._number (length steps + c.loop-number._number) c.loop-number.self.world (scene c.loop-number.self.journals c.loop-number.self.objects.items (λ b. content ((goal.Recoverable-dyn g (b.vtable, b.value)).kind_of b.value) ((goal.Recoverable-dyn g (b.vtable, b.value)).value_of b.value))) c.in-Some.step c.loop-number.invariant.plan goes refl (c.in-Some.ensures.in_runs 0 goes.0.now goes.0.shown)) (c.in_err-make.ensures.named p e))
+    (default_next c.args.self.now.world.agenda.plan cast steps c.loop-number._number (length steps + c.loop-number._number) c.loop-number.self.world (scene c.loop-number.self.journals c.loop-number.self.objects.items (λ b. content ((goal.Recoverable-dyn g (b.vtable, b.value)).kind_of b.value) ((goal.Recoverable-dyn g (b.vtable, b.value)).value_of b.value))) c.in-Some.step c.loop-number.invariant.plan goes refl (c.in-Some.ensures.in_runs 0 goes.0.now goes.0.shown)) (c.in_err-make.ensures.named p e) (c.in_err-make.ensures.made p e))

@@ -20,3 +20,6 @@ returns-in-Ok-clause-spares g c =
     let old = c.in-Some.held.now in
     let there = slice_get_read helds (length helds) c.index.result old refl (let n = c.in-Some.ensures.variant.0 refl in omega (arith, n)) c.in-Some.ensures.value in
     left_set (λ h. h.spares.items) helds c.index.result old c.obey.new.self there (_, c.in-Ok.ensures.spares)
+
+pub returns-in-Err-clause-made : goal.returns-in-Err-clause-made
+returns-in-Err-clause-made g c = λ p e. c.in_ok-acts.ensures.allowed

@@ -34,4 +34,4 @@ returns-in_err-make-clause-refused g c = λ cast due. if_err c.from_residual.res
 pub returns-in_err-make-clause-named : goal.returns-in_err-make-clause-named
 returns-in_err-make-clause-named g c = λ cast due. if_err c.from_residual.result _ c.in_err-make.field-0.0 (search rules)
     (λ p e. given_stopped c.args.self.now.world.agenda.plan cast c.args.steps.now c.loop-step.step-index c.loop-step.self.world c.step-item.result p
-    (given_next c.args.self.now.world.agenda.plan cast c.args.steps.now c.loop-step.step-index c.loop-step.self.world (scene c.loop-step.self.journals c.loop-step.self.objects.items (λ b. content ((goal.Recoverable-dyn g (b.vtable, b.value)).kind_of b.value) ((goal.Recoverable-dyn g (b.vtable, b.value)).value_of b.value))) c.step-item.result (c.loop-step.invariant.begun cast due) (search rules) c.step-item.is) (c.in_err-make.ensures.named p e))
+    (given_next c.args.self.now.world.agenda.plan cast c.args.steps.now c.loop-step.step-index c.loop-step.self.world (scene c.loop-step.self.journals c.loop-step.self.objects.items (λ b. content ((goal.Recoverable-dyn g (b.vtable, b.value)).kind_of b.value) ((goal.Recoverable-dyn g (b.vtable, b.value)).value_of b.value))) c.step-item.result (c.loop-step.invariant.begun cast due) (search rules) c.step-item.is) (c.in_err-make.ensures.named p e) (c.in_err-make.ensures.made p e))
