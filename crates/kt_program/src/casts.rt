@@ -8,7 +8,7 @@ ghost use Rattle.kt_plan.specs.Limits.{IsKind};
 ghost use Rattle.kt_held.specs.Casts.{failures_of, HasSizes, HasKind};
 ghost use Rattle.kt_program.specs.CastRows.{IsMadeCast};
 ghost use Rattle.kt_run.specs.Faults.{is_of_cast};
-ghost use Rattle.kt_run.specs.Refused.{IsRefused};
+ghost use Rattle.kt_run.specs.Refused.{IsStepRefused};
 ghost use Rattle.kt_run.specs.Runs.{IsLogOfRun, IsPlayed};
 ghost use Rattle.kt_run.specs.declared.faults.RunFault.{RunFault};
 ghost use Rattle.kt_run.specs.declared.faults.RunFault.TheVariants as run_fault;
@@ -95,7 +95,7 @@ pub fn play_objects<L: Write, C: Write, R: Write>(
     // New objects are as many as the plan asks for, of its kinds; a step is refused only where those before it are a run.
     ensures fault { IfErr result (λ e. (fault : RunFault) → e ≡ AppFault.Run fault → is_of_cast fault ≡ false) }
     ensures refused { IfErr result (λ e. (done : ℕ) (why : StepFault) → e ≡ AppFault.Run (run_fault.Step done why) →
-        (cast : List (List Content)) × AreNew plan.now cast × IsRefused plan.now cast steps.now done why) }
+        (cast : List (List Content)) × AreNew plan.now cast × IsStepRefused plan.now cast steps.now done why) }
 {
     let _processes = plan.size();
     let mut book = SlotBook::new(alloc);
@@ -145,7 +145,7 @@ fn play_cast<L: Write, C: Write, R: Write>(
     // New objects are as many as the plan asks for, of its kinds; a step is refused only where those before it are a run.
     ensures fault { IfErr result (λ e. (fault : RunFault) → e ≡ AppFault.Run fault → is_of_cast fault ≡ false) }
     ensures refused { IfErr result (λ e. (done : ℕ) (why : StepFault) → e ≡ AppFault.Run (run_fault.Step done why) →
-        (cast : List (List Content)) × AreNew plan.now cast × IsRefused plan.now cast steps.now done why) }
+        (cast : List (List Content)) × AreNew plan.now cast × IsStepRefused plan.now cast steps.now done why) }
 {
     play_plan(
         alloc,

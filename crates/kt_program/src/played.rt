@@ -5,7 +5,7 @@ ghost use Rattle.kt_core.specs.declared.faults.StepFault.{StepFault};
 ghost use Rattle.kt_held.specs.Holdings.{content};
 ghost use Rattle.kt_promises.specs.Headline.{IsPromised};
 ghost use Rattle.kt_run.specs.Faults.{Answers};
-ghost use Rattle.kt_run.specs.Refused.{IsRefused};
+ghost use Rattle.kt_run.specs.Refused.{IsStepRefused};
 ghost use Rattle.kt_run.specs.Runs.{IsLogOfRun, IsPlayed};
 ghost use Rattle.kt_run.specs.declared.faults.RunFault.{RunFault};
 ghost use Rattle.kt_run.specs.declared.faults.RunFault.TheVariants as run_fault;
@@ -61,7 +61,7 @@ pub fn play_plan<L: Write, C: Write, R: Write>(
     ensures fault { IfErr result (λ e. (fault : RunFault) → e ≡ AppFault.Run fault →
         Answers plan.now (map (λ row. map (λ b. kind_of b) row.items) cast.items) fault) }
     ensures refused { IfErr result (λ e. (done : ℕ) (why : StepFault) → e ≡ AppFault.Run (run_fault.Step done why) →
-        IsRefused plan.now (map (λ row. map (λ b. content (kind_of b) (value_of b)) row.items) cast.items) steps.now done why) }
+        IsStepRefused plan.now (map (λ row. map (λ b. content (kind_of b) (value_of b)) row.items) cast.items) steps.now done why) }
 {
     let log = log_of(alloc, plan, steps, cast)?;
     write_run(alloc, plan, &log, log_writer, cert_writer, report_writer)

@@ -37,7 +37,7 @@ use Rattle.kt_core.specs.Shown.{Mirrors}
 use Rattle.kt_core.proofs.Enabled.{enabled_is, enabled_if}
 use Rattle.kt_run.specs.Objects.{Belongings, first_of, rules_of, rules_by, HoldDue}
 use Rattle.kt_run.specs.Refused.{IsGivenNext, IsDefaultNext, IsGivenRefused, IsDefaultRefused, IsStopped}
-use Rattle.kt_run.specs.Runs.{Scene, Tells, StepsTo, Starts, Begins, Goes, Rests, IsPlayed, IsToldPlay}
+use Rattle.kt_run.specs.Runs.{Scene, Tells, StepsTo, Starts, BeginsRun, Goes, Rests, IsPlayed, IsToldPlay}
 use Rattle.kt_run.specs.Telling.{IsToldAs, AreToldInRun, AreToldTheirRows, TellsItsRows, AreEmpty, IsNoted}
 use Rattle.kt_run.proofs.Numbering.{told_their_none, told_their_more}
 use Rattle.kt_run.proofs.Telling.{told_as, tells_its_rows, tells_nothing, tells_more}
@@ -136,7 +136,7 @@ gives_more rules plan (x ∷ xs) m u v e o g = (o.0, go (enabled plan u x.step) 
     go true e f = f e
     go false e f = absurd (cc (e))
 
-pub begins_start : (plan : Planned) (cast : List (List Content)) (w : World) (at : Scene) → Starts plan w → AreEmpty at.told → HoldDue cast [] at.has → Begins plan cast [] w at
+pub begins_start : (plan : Planned) (cast : List (List Content)) (w : World) (at : Scene) → Starts plan w → AreEmpty at.told → HoldDue cast [] at.has → BeginsRun plan cast [] w at
 begins_start plan cast w at s n due = record {
   moves = [];
   now = run_world.start_world plan 0;
@@ -151,8 +151,8 @@ begins_start plan cast w at s n due = record {
   due = subst (λ (log : List Event). HoldDue cast log at.has) (sym (ap (λ (v : _). v.log) (opening_is plan 0).now)) due;
 }
 
-pub begins_more : (plan : Planned) (cast : List (List Content)) (steps : List Step) (x : Step) (old new : World) (before after : Scene) → old.agenda.plan ≡ plan → Begins plan cast steps old before → StepsTo old before x new after
-    → Begins plan cast (steps ++ x ∷ []) new after
+pub begins_more : (plan : Planned) (cast : List (List Content)) (steps : List Step) (x : Step) (old new : World) (before after : Scene) → old.agenda.plan ≡ plan → BeginsRun plan cast steps old before → StepsTo old before x new after
+    → BeginsRun plan cast (steps ++ x ∷ []) new after
 begins_more plan cast steps x old new before after e b s =
     let l = led plan old new before after x b.now e s b.shown in
     let k = keeps plan cast old new before after x b.now e s b.shown b.due in
@@ -175,7 +175,7 @@ begins_more plan cast steps x old new before after e b s =
 abbrev pub GoesSo : Planned → List (List Content) → List Step → ℕ → World → Scene → Type 0
 GoesSo plan cast steps n w at = (g : Goes plan cast steps w at) × (n ≡ length g.more)
 
-pub goes_start : (plan : Planned) (cast : List (List Content)) (steps : List Step) (w : World) (at : Scene) → Begins plan cast steps w at → GoesSo plan cast steps 0 w at
+pub goes_start : (plan : Planned) (cast : List (List Content)) (steps : List Step) (w : World) (at : Scene) → BeginsRun plan cast steps w at → GoesSo plan cast steps 0 w at
 goes_start plan cast steps w at b = (
   record {
     given = b.moves;
@@ -305,7 +305,7 @@ module _ (plan : Planned) (cast : List (List Content)) (steps : List Step) (w : 
       none_saved _ b.depot.tentative (ap (option_map (content c.kind)) (no_tentative (rules_of c) plan 0 r.run.now p limits reached r.rest)) h.holds.tentative
 
 -- the next step of those given
-pub given_next : (plan : Planned) (cast : List (List Content)) (steps : List Step) (i : ℕ) (w : World) (at : Scene) (x : Step) → Begins plan cast (take i steps) w at → i < length steps → x ≡ get_or steps i x → IsGivenNext plan cast steps i w x
+pub given_next : (plan : Planned) (cast : List (List Content)) (steps : List Step) (i : ℕ) (w : World) (at : Scene) (x : Step) → BeginsRun plan cast (take i steps) w at → i < length steps → x ≡ get_or steps i x → IsGivenNext plan cast steps i w x
 given_next plan cast steps i w at x b l e = record { at = at; run = b; next = slice_get_read steps (length steps) i x refl l e }
 
 -- it is refused

@@ -7,12 +7,12 @@ use Rattle.kt_phases.specs.Steps.{stepper}
 use Rattle.kt_promises.specs.Defaults.{default_step}
 use Rattle.kt_core.specs.Worlds.{World, refusal}
 use Rattle.kt_core.specs.declared.faults.StepFault.{StepFault}
-use Rattle.kt_run.specs.Runs.{Scene, Begins, Goes}
+use Rattle.kt_run.specs.Runs.{Scene, BeginsRun, Goes}
 
 -- a run by the first so many of these steps leads to this world, and this is the next one of them
 pub record IsGivenNext (plan : Planned) (cast : List (List Content)) (steps : List Step) (done : ℕ) (world : World) (step : Step) : Type 0 where
   pub at : Scene
-  pub run : Begins plan cast (take done steps) world at
+  pub run : BeginsRun plan cast (take done steps) world at
   pub next : slice_get steps done ≡ Some step
 
 -- a run by so many steps, all of these and then default ones, leads to this world, and this is the next default step
@@ -37,8 +37,8 @@ pub record IsDefaultRefused (plan : Planned) (cast : List (List Content)) (steps
   pub refused : refusal world step ≡ Some fault
 
 -- one of the two
-abbrev pub IsRefused : Planned → List (List Content) → List Step → ℕ → StepFault → Type 0
-IsRefused plan cast steps done fault =
+abbrev pub IsStepRefused : Planned → List (List Content) → List Step → ℕ → StepFault → Type 0
+IsStepRefused plan cast steps done fault =
     IsGivenRefused plan cast steps done fault ⊎ IsDefaultRefused plan cast steps done fault
 
 -- a run by some of these steps, in order from the first one, or by all of them and then default ones, leads to a world that

@@ -64,7 +64,7 @@ pub record Starts (plan : Planned) (world : World) : Type 0 where
 
 -- a run by these steps alone leads to a world, and tells this, with the numbers of its rows; each process, given these
 -- objects, holds what is due to it, and what was given at each step that asks for it is what its object offers
-pub record Begins (plan : Planned) (cast : List (List Content)) (steps : List Step) (world : World) (at : Scene) : Type 0 where
+pub record BeginsRun (plan : Planned) (cast : List (List Content)) (steps : List Step) (world : World) (at : Scene) : Type 0 where
   pub moves : List Move
   pub now : run_world.World
   pub made : map (λ (m : Move). m.step) moves ≡ steps

@@ -8,7 +8,7 @@ ghost use Rattle.kt_promises.specs.Follows.{FollowsPlan};
 ghost use Rattle.kt_promises.specs.Headline.{IsPromised};
 ghost use Rattle.kt_run.specs.Faults.{IsCast, Answers};
 ghost use Rattle.kt_run.specs.Objects.{has_of, HoldDue, AreLeft};
-ghost use Rattle.kt_run.specs.Refused.{IsRefused, IsStopped};
+ghost use Rattle.kt_run.specs.Refused.{IsStepRefused, IsStopped};
 ghost use Rattle.kt_run.specs.Runs.{IsPlayed, IsToldPlay};
 ghost use Rattle.kt_run.specs.Telling.{AreToldTheirRows};
 
@@ -38,7 +38,7 @@ pub fn run(alloc: Global, plan: &Plan, steps: &[Step], cast: Cast) -> Result<Out
 
     // A step is refused only where those before it are a run.
     ensures refused { IfErr result (λ fault. (done : ℕ) (why : StepFault) → fault ≡ RunFault.Step done why →
-        IsRefused plan.now (map (λ row. map (λ b. content (kind_of b) (value_of b)) row.items) cast.items) steps.now done why) }
+        IsStepRefused plan.now (map (λ row. map (λ b. content (kind_of b) (value_of b)) row.items) cast.items) steps.now done why) }
 
     // Where there is no memory for what a process is told, the step is its own, and not refused.
     ensures named { IfErr result (λ fault. (p : ℕ) → fault ≡ RunFault.Journal p →
@@ -87,7 +87,7 @@ pub fn log_of(alloc: Global, plan: &Plan, steps: &[Step], cast: Cast) -> Result<
 
     // A step is refused only where those before it are a run.
     ensures refused { IfErr result (λ fault. (done : ℕ) (why : StepFault) → fault ≡ RunFault.Step done why →
-        IsRefused plan.now (map (λ row. map (λ b. content (kind_of b) (value_of b)) row.items) cast.items) steps.now done why) }
+        IsStepRefused plan.now (map (λ row. map (λ b. content (kind_of b) (value_of b)) row.items) cast.items) steps.now done why) }
 
     // Where there is no memory for what a process is told, the step is its own, and not refused.
     ensures named { IfErr result (λ fault. (p : ℕ) → fault ≡ RunFault.Journal p →

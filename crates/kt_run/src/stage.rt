@@ -9,8 +9,8 @@ ghost use Rattle.kt_plan.specs.declared.steps.Step.{Step};
 ghost use Rattle.kt_phases.specs.Steps.{stepper};
 ghost use Rattle.kt_run.specs.Faults.{IsCast, Answers, is_of_cast, stopped_at};
 ghost use Rattle.kt_run.specs.Objects.{has_of, HoldDue, AreLeft};
-ghost use Rattle.kt_run.specs.Refused.{IsGivenRefused, IsDefaultRefused, IsRefused, IsStopped};
-ghost use Rattle.kt_run.specs.Runs.{scene, Tells, StepsTo, Starts, Begins, Rests};
+ghost use Rattle.kt_run.specs.Refused.{IsGivenRefused, IsDefaultRefused, IsStepRefused, IsStopped};
+ghost use Rattle.kt_run.specs.Runs.{scene, Tells, StepsTo, Starts, BeginsRun, Rests};
 ghost use Rattle.kt_run.specs.Telling.{AreEmpty};
 
 use crate::faults::RunFault;
@@ -89,7 +89,7 @@ impl Stage {
         ensures refused { (cast : List (List Content)) → HoldDue cast [] (has_of self.old.objects.items
             (λ b. content (kind_of (b.vtable, b.value)) (value_of (b.vtable, b.value)))) →
             IfErr result (λ fault. (done : ℕ) (why : StepFault) → fault ≡ RunFault.Step done why →
-            IsRefused self.old.world.agenda.plan cast steps.now done why) }
+            IsStepRefused self.old.world.agenda.plan cast steps.now done why) }
         ensures named { (cast : List (List Content)) → HoldDue cast [] (has_of self.old.objects.items
             (λ b. content (kind_of (b.vtable, b.value)) (value_of (b.vtable, b.value)))) →
             IfErr result (λ fault. (p : ℕ) → stopped_at fault ≡ Some p →
@@ -132,7 +132,7 @@ impl Stage {
         ensures begun { (cast : List (List Content)) → HoldDue cast []
             (has_of self.old.objects.items
             (λ b. content (kind_of (b.vtable, b.value)) (value_of (b.vtable, b.value)))) →
-            OnOk result (Begins self.old.world.agenda.plan cast steps.now self.new.world
+            OnOk result (BeginsRun self.old.world.agenda.plan cast steps.now self.new.world
             (scene self.new.journals self.new.objects.items
             (λ b. content (kind_of (b.vtable, b.value)) (value_of (b.vtable, b.value))))) }
     {
@@ -145,21 +145,21 @@ impl Stage {
     /// Default steps until there is none. No run of a plan has so many steps that the loop ends before.
     fn go_on(&mut self) -> Result<(), RunFault>
         requires begun { (cast : List (List Content)) × (steps : List Step)
-            × Begins self.old.world.agenda.plan cast steps self.old.world
+            × BeginsRun self.old.world.agenda.plan cast steps self.old.world
             (scene self.old.journals self.old.objects.items
             (λ b. content (kind_of (b.vtable, b.value)) (value_of (b.vtable, b.value))))
             × (self.old.done ≡ length steps) }
         requires seats { length self.old.objects.items ≡ self.old.world.system.size }
         ensures fault { IfErr result (λ fault. is_of_cast fault ≡ false) }
         ensures refused { (cast : List (List Content)) (steps : List Step) →
-            Begins self.old.world.agenda.plan cast steps self.old.world
+            BeginsRun self.old.world.agenda.plan cast steps self.old.world
             (scene self.old.journals self.old.objects.items
             (λ b. content (kind_of (b.vtable, b.value)) (value_of (b.vtable, b.value)))) →
             self.old.done ≡ length steps →
             IfErr result (λ fault. (done : ℕ) (why : StepFault) → fault ≡ RunFault.Step done why →
             IsDefaultRefused self.old.world.agenda.plan cast steps done why) }
         ensures named { (cast : List (List Content)) (steps : List Step) →
-            Begins self.old.world.agenda.plan cast steps self.old.world
+            BeginsRun self.old.world.agenda.plan cast steps self.old.world
             (scene self.old.journals self.old.objects.items
             (λ b. content (kind_of (b.vtable, b.value)) (value_of (b.vtable, b.value)))) →
             self.old.done ≡ length steps →
@@ -168,7 +168,7 @@ impl Stage {
         ensures count { OnOk result (length self.new.journals ≡ length self.old.journals) }
         ensures spares { OnOk result (AllZip (λ g h. AreLeft g.spares.items h.spares.items)
             self.old.objects.items self.new.objects.items) }
-        ensures rests { (cast : List (List Content)) (steps : List Step) → Begins self.old.world.agenda.plan cast steps self.old.world
+        ensures rests { (cast : List (List Content)) (steps : List Step) → BeginsRun self.old.world.agenda.plan cast steps self.old.world
             (scene self.old.journals self.old.objects.items
             (λ b. content (kind_of (b.vtable, b.value)) (value_of (b.vtable, b.value)))) →
             OnOk result (Rests self.old.world.agenda.plan cast steps self.new.world

@@ -1,7 +1,7 @@
 use Rattle.std.proofs.Common.{rules, ◌≡◌, map, subst, ap}
 use Rattle.std.specs.Prelude.{Result, Err, IfErr}
 use Rattle.kt_held.specs.Holdings.{content}
-use Rattle.kt_run.specs.Refused.{IsRefused, IsStopped}
+use Rattle.kt_run.specs.Refused.{IsStepRefused, IsStopped}
 use Rattle.kt_run.specs.Faults.{stopped_at}
 use Rattle.kt_plan.specs.Limits.{Planned, IsPlan}
 use Rattle.kt_run.specs.Runs.{scene, Rests}
@@ -46,7 +46,7 @@ returns-in_err-stage-clause-refused g c = if_err c.from_residual.result _ c.in_e
 
 pub returns-in_err-make_all-clause-refused : goal.returns-in_err-make_all-clause-refused
 returns-in_err-make_all-clause-refused g c = if_err c.from_residual-in_err-make_all.result _ c.in_err-make_all.field-0.0 (search rules)
-    (λ done why e. subst (λ (p : Planned). IsRefused p
+    (λ done why e. subst (λ (p : Planned). IsStepRefused p
     (map (λ row. map (λ b. content ((goal.Recoverable-dyn g (b.vtable, b.value)).kind_of b.value) ((goal.Recoverable-dyn g (b.vtable, b.value)).value_of b.value)) row.items) c.args.cast.items)
     c.args.steps.now done why) c.in_ok-stage.ensures.plan
     (c.in_err-make_all.ensures.refused

@@ -3,7 +3,7 @@ use Rattle.std.specs.Prelude.{Result, Ok, Err, OnOk, IfErr}
 use Rattle.kt_run.specs.Refused.{IsDefaultRefused, IsStopped}
 use Rattle.kt_held.specs.Holdings.{content}
 use Rattle.kt_plan.specs.Limits.{Planned}
-use Rattle.kt_run.specs.Runs.{scene, Begins, Rests}
+use Rattle.kt_run.specs.Runs.{scene, BeginsRun, Rests}
 use Rattle.kt_run.proofs.Spares.{left_then, on_ok_so}
 use Rattle.kt_run.proofs.stage.Stage.make_all.Goals as goal
 
@@ -13,7 +13,7 @@ go_on-requires-clause-begun g c =
     let begun = c.in_ok-make_given.ensures.begun due.0 due.1 in (
       due.0,
       c.args.steps.now,
-      subst (λ (p : Planned). Begins p due.0 c.args.steps.now c.make_given.new.self.world (scene c.make_given.new.self.journals c.make_given.new.self.objects.items (λ b. content ((goal.Recoverable-dyn g (b.vtable, b.value)).kind_of b.value) ((goal.Recoverable-dyn g (b.vtable, b.value)).value_of b.value))))
+      subst (λ (p : Planned). BeginsRun p due.0 c.args.steps.now c.make_given.new.self.world (scene c.make_given.new.self.journals c.make_given.new.self.objects.items (λ b. content ((goal.Recoverable-dyn g (b.vtable, b.value)).kind_of b.value) ((goal.Recoverable-dyn g (b.vtable, b.value)).value_of b.value))))
           (sym c.in_ok-make_given.ensures.plan) begun,
       c.in_ok-make_given.ensures.done,
     )
@@ -23,7 +23,7 @@ returns-clause-rests g c = λ cast due.
     let same = c.in_ok-make_given.ensures.plan in
     subst (λ (p : Planned). OnOk c.go_on.result (Rests p cast c.args.steps.now c.go_on.new.self.world (scene c.go_on.new.self.journals c.go_on.new.self.objects.items (λ b. content ((goal.Recoverable-dyn g (b.vtable, b.value)).kind_of b.value) ((goal.Recoverable-dyn g (b.vtable, b.value)).value_of b.value))))) same
     (c.go_on.ensures.rests cast c.args.steps.now
-    (subst (λ (p : Planned). Begins p cast c.args.steps.now c.make_given.new.self.world (scene c.make_given.new.self.journals c.make_given.new.self.objects.items (λ b. content ((goal.Recoverable-dyn g (b.vtable, b.value)).kind_of b.value) ((goal.Recoverable-dyn g (b.vtable, b.value)).value_of b.value))))
+    (subst (λ (p : Planned). BeginsRun p cast c.args.steps.now c.make_given.new.self.world (scene c.make_given.new.self.journals c.make_given.new.self.objects.items (λ b. content ((goal.Recoverable-dyn g (b.vtable, b.value)).kind_of b.value) ((goal.Recoverable-dyn g (b.vtable, b.value)).value_of b.value))))
     (sym same) (c.in_ok-make_given.ensures.begun cast due)))
 
 if_err_so : {T E : Type 0} (P Q : E → Type 0) (r : Result T E) → ((e : E) → P e → Q e) → IfErr r P → IfErr r Q
@@ -35,7 +35,7 @@ returns-clause-refused g c = λ cast due.
     let same = c.in_ok-make_given.ensures.plan in
     if_err_so _ _ c.go_on.result (λ fault refused done why e. inr (subst (λ (p : Planned). IsDefaultRefused p cast c.args.steps.now done why) same (refused done why e)))
     (c.go_on.ensures.refused cast c.args.steps.now
-    (subst (λ (p : Planned). Begins p cast c.args.steps.now c.make_given.new.self.world (scene c.make_given.new.self.journals c.make_given.new.self.objects.items (λ b. content ((goal.Recoverable-dyn g (b.vtable, b.value)).kind_of b.value) ((goal.Recoverable-dyn g (b.vtable, b.value)).value_of b.value))))
+    (subst (λ (p : Planned). BeginsRun p cast c.args.steps.now c.make_given.new.self.world (scene c.make_given.new.self.journals c.make_given.new.self.objects.items (λ b. content ((goal.Recoverable-dyn g (b.vtable, b.value)).kind_of b.value) ((goal.Recoverable-dyn g (b.vtable, b.value)).value_of b.value))))
     (sym same) (c.in_ok-make_given.ensures.begun cast due))
     c.in_ok-make_given.ensures.done)
 
@@ -44,7 +44,7 @@ returns-clause-named g c = λ cast due.
     let same = c.in_ok-make_given.ensures.plan in
     if_err_so _ _ c.go_on.result (λ fault named p e. subst (λ (z : Planned). IsStopped z cast c.args.steps.now p) same (named p e))
     (c.go_on.ensures.named cast c.args.steps.now
-    (subst (λ (p : Planned). Begins p cast c.args.steps.now c.make_given.new.self.world (scene c.make_given.new.self.journals c.make_given.new.self.objects.items (λ b. content ((goal.Recoverable-dyn g (b.vtable, b.value)).kind_of b.value) ((goal.Recoverable-dyn g (b.vtable, b.value)).value_of b.value))))
+    (subst (λ (p : Planned). BeginsRun p cast c.args.steps.now c.make_given.new.self.world (scene c.make_given.new.self.journals c.make_given.new.self.objects.items (λ b. content ((goal.Recoverable-dyn g (b.vtable, b.value)).kind_of b.value) ((goal.Recoverable-dyn g (b.vtable, b.value)).value_of b.value))))
     (sym same) (c.in_ok-make_given.ensures.begun cast due))
     c.in_ok-make_given.ensures.done)
 

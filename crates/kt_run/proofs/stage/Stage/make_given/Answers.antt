@@ -2,7 +2,7 @@ use Rattle.std.specs.Prelude.{Result, Err, IfErr}
 use Rattle.std.proofs.Common.{rules, ◌≡◌, arith, List, take, refl, sym, subst, ◌∙◌}
 use Rattle.kt_plan.specs.declared.steps.Step.{Step}
 use Rattle.kt_held.specs.Holdings.{content}
-use Rattle.kt_run.specs.Runs.{scene, Begins}
+use Rattle.kt_run.specs.Runs.{scene, BeginsRun}
 use Rattle.kt_run.proofs.Spares.{left_same, left_then}
 use Rattle.kt_run.proofs.Running.{begins_start, begins_more, take_next, given_next, given_refused, given_stopped}
 use Rattle.kt_run.proofs.stage.Stage.make_given.Goals as goal
@@ -17,7 +17,7 @@ loop-step-preserved g c = record {
   spares = left_then (λ h. h.spares.items) (λ h. h.spares.items) c.args.self.now.objects.items c.loop-step.self.objects.items c.make.new.self.objects.items c.loop-step.invariant.spares c.in_ok-make.ensures.spares;
   done = let d = c.in_ok-make.ensures.done in let e = c.loop-step.invariant.done in omega (arith, d, e);
   seats = c.in_ok-make.ensures.seats;
-  begun = λ cast due. subst (λ (l : List Step). Begins c.args.self.now.world.agenda.plan cast l c.make.new.self.world (scene c.make.new.self.journals c.make.new.self.objects.items (λ b. content ((goal.Recoverable-dyn g (b.vtable, b.value)).kind_of b.value) ((goal.Recoverable-dyn g (b.vtable, b.value)).value_of b.value)))) (sym (take_next c.args.steps.now c.loop-step.step-index c.step-item.result (search rules) c.step-item.is))
+  begun = λ cast due. subst (λ (l : List Step). BeginsRun c.args.self.now.world.agenda.plan cast l c.make.new.self.world (scene c.make.new.self.journals c.make.new.self.objects.items (λ b. content ((goal.Recoverable-dyn g (b.vtable, b.value)).kind_of b.value) ((goal.Recoverable-dyn g (b.vtable, b.value)).value_of b.value)))) (sym (take_next c.args.steps.now c.loop-step.step-index c.step-item.result (search rules) c.step-item.is))
       (begins_more c.args.self.now.world.agenda.plan cast (take c.loop-step.step-index c.args.steps.now) c.step-item.result c.loop-step.self.world c.make.new.self.world (scene c.loop-step.self.journals c.loop-step.self.objects.items (λ b. content ((goal.Recoverable-dyn g (b.vtable, b.value)).kind_of b.value) ((goal.Recoverable-dyn g (b.vtable, b.value)).value_of b.value))) (scene c.make.new.self.journals c.make.new.self.objects.items (λ b. content ((goal.Recoverable-dyn g (b.vtable, b.value)).kind_of b.value) ((goal.Recoverable-dyn g (b.vtable, b.value)).value_of b.value))) c.loop-step.invariant.plan (c.loop-step.invariant.begun cast due) c.in_ok-make.ensures.leads);
 }
 

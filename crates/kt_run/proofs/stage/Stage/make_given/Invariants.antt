@@ -2,7 +2,7 @@ use Rattle.std.proofs.Common.{◌≡◌, List, [], take, length}
 use Rattle.kt_held.specs.Holdings.{Content, content}
 use Rattle.std.specs.List.{AllZip}
 use Rattle.kt_run.specs.Objects.{has_of, HoldDue, AreLeft}
-use Rattle.kt_run.specs.Runs.{scene, Begins}
+use Rattle.kt_run.specs.Runs.{scene, BeginsRun}
 use Rattle.kt_run.proofs.stage.Stage.make_given.Given as goal
 
 abbrev pub invariant-loop-step : goal.invariant-loop-step
@@ -13,5 +13,5 @@ invariant-loop-step g l = record {
   done : l.self.done ≡ l.step-index;
   seats : length l.self.objects.items ≡ l.self.world.system.size;
   begun : (cast : List (List Content)) → HoldDue cast [] (has_of l.fn.self.objects.items (λ b. content ((goal.Recoverable-dyn g (b.vtable, b.value)).kind_of b.value) ((goal.Recoverable-dyn g (b.vtable, b.value)).value_of b.value)))
-      → Begins l.fn.self.world.agenda.plan cast (take l.step-index l.steps) l.self.world (scene l.self.journals l.self.objects.items (λ b. content ((goal.Recoverable-dyn g (b.vtable, b.value)).kind_of b.value) ((goal.Recoverable-dyn g (b.vtable, b.value)).value_of b.value)));
+      → BeginsRun l.fn.self.world.agenda.plan cast (take l.step-index l.steps) l.self.world (scene l.self.journals l.self.objects.items (λ b. content ((goal.Recoverable-dyn g (b.vtable, b.value)).kind_of b.value) ((goal.Recoverable-dyn g (b.vtable, b.value)).value_of b.value)));
 }
