@@ -179,7 +179,7 @@ idle_at_rest plan g r (Take p q) = go (nat_lt p (length plan.names)) (nat_lt q (
     empty false false true e = refl
     empty false false false e = refl
 
-    none : p < (length plan.names) → q < (length plan.names) → can_take g.state p q ≡ false
+    none : p < length plan.names → q < length plan.names → can_take g.state p q ≡ false
     none a b = empty (has_parcel (g.state.channel q p)) (has_parcel (g.state.held q p)) (is_ready g.state p)
         (none_is (length plan.names) (λ q. has_parcel (g.state.channel q p) || has_parcel (g.state.held q p)) (shut (not (g.state.so_far.open_in p == 0)) _ (none_is (length plan.names) (λ p. not (g.state.so_far.open_in p == 0) || not (none_of (length plan.names) (λ q. has_parcel (g.state.channel q p) || has_parcel (g.state.held q p)))) quiet p a)) q b)
 
@@ -190,17 +190,17 @@ idle_at_rest plan g r (Take p q) = go (nat_lt p (length plan.names)) (nat_lt q (
 
 -- where all is quiet and a command is left, somebody's next one is of the open phase
 pub attained : (plan : Planned) (g : Progress) (p : ℕ) (c : Command) → RunFacts plan g → is_quiet (length plan.names) g.state ≡ true → next_command plan g p ≡ Some c →
-    (q : ℕ) × (d : Command) × (q < (length plan.names)) × (next_command plan g q ≡ Some d) × (d.phase ≡ g.phase)
+    (q : ℕ) × (d : Command) × (q < length plan.names) × (next_command plan g q ≡ Some d) × (d.phase ≡ g.phase)
 attained plan g p c k quiet e = go (is_phase_done plan g) refl
   where
     open_in : ℕ → Bool
     open_in q = has_phase g.phase (commands_left plan g q)
 
-    found : (q : ℕ) → q < (length plan.names) → (cs : List Command) → commands_left plan g q ≡ cs → has_phase g.phase cs ≡ true → (q : ℕ) × (d : Command) × (q < (length plan.names)) × (next_command plan g q ≡ Some d) × (d.phase ≡ g.phase)
+    found : (q : ℕ) → q < length plan.names → (cs : List Command) → commands_left plan g q ≡ cs → has_phase g.phase cs ≡ true → (q : ℕ) × (d : Command) × (q < length plan.names) × (next_command plan g q ≡ Some d) × (d.phase ≡ g.phase)
     found q low [] is h = absurd (cc (h))
     found q low (d ∷ ds) is h = (q, d, low, ap first_command is, (let t = first_in (length plan.names) q g.phase d ds (subst (λ (x : List Command). Ordered (length plan.names) q g.phase x) is (k.ahead q)) h in grind (arith, nat_tests, t)))
 
-    low : (cs : List Command) → first_command cs ≡ Some c → Ordered (length plan.names) p g.phase cs → p < (length plan.names)
+    low : (cs : List Command) → first_command cs ≡ Some c → Ordered (length plan.names) p g.phase cs → p < length plan.names
     low [] f o = absurd (cc (f))
     low (x ∷ xs) f o = o.0
 
@@ -211,7 +211,7 @@ attained plan g p c k quiet e = go (is_phase_done plan g) refl
     left [] f h = cc (f)
     left (x ∷ xs) f h = cc (h)
 
-    go : (b : Bool) → is_phase_done plan g ≡ b → (q : ℕ) × (d : Command) × (q < (length plan.names)) × (next_command plan g q ≡ Some d) × (d.phase ≡ g.phase)
+    go : (b : Bool) → is_phase_done plan g ≡ b → (q : ℕ) × (d : Command) × (q < length plan.names) × (next_command plan g q ≡ Some d) × (d.phase ≡ g.phase)
     go false done = let s = somebody (length plan.names) open_in done in found s.0 s.1 (commands_left plan g s.0) refl s.2
     go true done =
         let shut = second (is_quiet (length plan.names) g.state) (nat_lt g.phase (last_phase plan.commands)) quiet (second (is_phase_done plan g) _ done k.shut) in

@@ -58,6 +58,6 @@ start_rests n plan rows give i l w = defaults_rest n plan rows give (start plan)
 -- for 64 processes, 4,096 commands and 2^24 rows
 pub limits : (plan : Planned) (rows : ℕ) → (length plan.names) ≤ 64 → length plan.commands ≤ 4096 → rows ≤ 16777216 → most_steps plan rows < 67108864
 limits plan rows a b c =
-    let s = mul-le (length plan.names) ((length plan.names) - 1) 64 63 a (omega (arith, a)) in
-    let t = mul-le (length plan.commands + 1) (3 * ((length plan.names) * ((length plan.names) - 1))) 4097 12096 (omega (arith, b)) (omega (arith, s)) in
+    let s = mul-le (length plan.names) (length plan.names - 1) 64 63 a (omega (arith, a)) in
+    let t = mul-le (length plan.commands + 1) (3 * (length plan.names * (length plan.names - 1))) 4097 12096 (omega (arith, b)) (omega (arith, s)) in
     omega (arith, b, c, t)

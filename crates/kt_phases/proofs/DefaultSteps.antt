@@ -72,7 +72,7 @@ module _ (plan : Planned) (g : Progress) where
           record { command = c; there = s; on = t.1; next = place_is (g.done c.by) c.by plan.commands c i s refl t.0 }
 
   -- takes
-  low : (p q : ℕ) → enabled plan g (Take p q) ≡ true → (p < (length plan.names)) × (q < (length plan.names))
+  low : (p q : ℕ) → enabled plan g (Take p q) ≡ true → (p < length plan.names) × (q < length plan.names)
   low p q e = tests p q (length plan.names) (can_take g.state p q) e
     where
       tests : (p q n : ℕ) (c : Bool) → ((nat_lt p n && nat_lt q n) && c) ≡ true → (p < n) × (q < n)
@@ -113,7 +113,7 @@ module _ (plan : Planned) (g : Progress) where
           first (Take u v) e = before p q u v (not_before (length plan.names) takes p u h (takes_at u v e)) (λ i. not_before (length plan.names) (λ q. enabled plan g (Take p q)) q v l (let e' : enabled plan g (Take p v) ≡ true = rw i e in e'))
 
   -- the default command, where nothing can be taken
-  do_default : ((p : ℕ) → p < (length plan.names) → takes p ≡ false) → DefaultIs plan g (step_at plan (least_below (length plan.commands) (λ i. is_turn plan g i)))
+  do_default : ((p : ℕ) → p < length plan.names → takes p ≡ false) → DefaultIs plan g (step_at plan (least_below (length plan.commands) (λ i. is_turn plan g i)))
   do_default n = go (least_below (length plan.commands) (λ i. is_turn plan g i)) (least_is (length plan.commands) (λ i. is_turn plan g i))
     where
       no_take : (p q : ℕ) → enabled plan g (Take p q) ≡ true → ⊥

@@ -66,7 +66,7 @@ begun_opened : (plan : Planned) (g g' : Progress) → Opened plan g g' → g.sta
 unfolding begins_left
 begun_opened plan g g' s h = let a = ap (λ (d : ℕ → ℕ). total_below (length plan.names) (λ p. count_begins (drop (d p) (commands_of p plan.commands)))) s.done in let b = ap (λ (t : State). t.instances) s.state in omega (arith, h, a, b)
 
-less_begins : (plan : Planned) (g : Progress) (p : ℕ) (give : Give) (c : Command) → p < (length plan.names) → next_command plan g p ≡ Some c → begins_left plan g ≡ begins_left plan (bare_command g p give c) + bit (begins_instance c.job)
+less_begins : (plan : Planned) (g : Progress) (p : ℕ) (give : Give) (c : Command) → p < length plan.names → next_command plan g p ≡ Some c → begins_left plan g ≡ begins_left plan (bare_command g p give c) + bit (begins_instance c.job)
 unfolding begins_left
 less_begins plan g p give c l e =
     totals.total_same (length plan.names) (λ v. count_begins (commands_left plan g v)) (λ v. count_begins (commands_left plan (bare_command g p give c) v) + spike p (bit (begins_instance c.job)) v) one ∙

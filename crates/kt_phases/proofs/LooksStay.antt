@@ -91,7 +91,7 @@ stays_open plan g e = go (last_phase plan.commands - g.phase)
     go zero = refl
     go (suc k) = pick (opens_next plan g) (after_opening k plan (record g { phase = g.phase + 1 })) e
 
-not_done : (plan : Planned) (g : Progress) (p : ℕ) → p < (length plan.names) → has_phase g.phase (commands_left plan g p) ≡ true → opens_next plan g ≡ false
+not_done : (plan : Planned) (g : Progress) (p : ℕ) → p < length plan.names → has_phase g.phase (commands_left plan g p) ≡ true → opens_next plan g ≡ false
 not_done plan g p l h = go (is_phase_done plan g) refl
   where
     go : (b : Bool) → is_phase_done plan g ≡ b → (b && (is_quiet (length plan.names) g.state && nat_lt g.phase (last_phase plan.commands))) ≡ false

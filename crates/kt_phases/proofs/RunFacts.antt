@@ -102,5 +102,5 @@ run_facts plan g i r = moves_keep plan (RunFacts plan) (λ g x give k _. facts_a
 pub next_ahead : (plan : Planned) (g : Progress) (p : ℕ) (c : Command) → RunFacts plan g → next_command plan g p ≡ Some c → g.phase ≤ c.phase
 next_ahead plan g p c k e = let x = after_front plan g p c e in (subst (λ (l : List Command). Ordered (length plan.names) p g.phase l) x.1 (k.ahead p)).2
 
-pub next_there : (plan : Planned) (g : Progress) (p : ℕ) (c : Command) → RunFacts plan g → next_command plan g p ≡ Some c → p < (length plan.names)
+pub next_there : (plan : Planned) (g : Progress) (p : ℕ) (c : Command) → RunFacts plan g → next_command plan g p ≡ Some c → p < length plan.names
 next_there plan g p c k e = let x = after_front plan g p c e in (subst (λ (l : List Command). Ordered (length plan.names) p g.phase l) x.1 (k.ahead p)).0

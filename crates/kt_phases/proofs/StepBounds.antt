@@ -65,7 +65,7 @@ falls_opened plan g g' g'' s f = record {
     left_is : count_left plan g'' ≡ count_left plan g'
     left_is = ap (λ (d : ℕ → ℕ). total_below (length plan.names) (λ p. length (drop (d p) (commands_of p plan.commands)))) s.done
 
-pub less_left : (plan : Planned) (g : Progress) (p : ℕ) (give : Give) (c : Command) → p < (length plan.names) → next_command plan g p ≡ Some c → count_left plan g ≡ count_left plan (bare_command g p give c) + 1
+pub less_left : (plan : Planned) (g : Progress) (p : ℕ) (give : Give) (c : Command) → p < length plan.names → next_command plan g p ≡ Some c → count_left plan g ≡ count_left plan (bare_command g p give c) + 1
 less_left plan g p give c l e = total_less (length plan.names) p (λ v. length (commands_left plan g v)) (λ v. length (commands_left plan (bare_command g p give c) v)) l here others
   where
     x : (cs : List Command) × (commands_left plan g p ≡ c ∷ cs)
@@ -88,7 +88,7 @@ falls plan g (Do p) give k h b = go (next_command plan g p) refl b
         none false e = cc (e)
     go (Some c) e f = falls_opened plan g (bare_command g p give c) (with_phases_open plan (bare_command g p give c)) (opened_command plan g p give c k e) bare
       where
-        low : p < (length plan.names)
+        low : p < length plan.names
         low = subst (λ (n : ℕ). p < n) (state_facts plan g k).processes (turn_of plan g p c k e f).low
 
         less : count_left plan g ≡ count_left plan (bare_command g p give c) + 1
@@ -104,7 +104,7 @@ falls plan g (Take p q) give k h b = falls_opened plan g (bare_take g p q give) 
     tests : (p q n : ℕ) (c : Bool) → ((nat_lt p n && nat_lt q n) && c) ≡ true → (p < n) × (q < n) × (c ≡ true)
     tests p q n c e = grind (arith, nat_tests, e)
 
-    t : (p < (length plan.names)) × (q < (length plan.names)) × (can_take g.state p q ≡ true)
+    t : (p < length plan.names) × (q < length plan.names) × (can_take g.state p q ≡ true)
     t = tests p q (length plan.names) (can_take g.state p q) b
 
     even : Accounted (length plan.names) (length plan.commands + 1) 1 0 g.state (late_step g.state (machine.Take p q give.able))

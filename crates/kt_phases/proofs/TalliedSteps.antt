@@ -243,5 +243,5 @@ tallied plan g (Take p q) give k e = subst (IsTallied (length plan.names) (taken
     tests : (p q n : ℕ) (c : Bool) → ((nat_lt p n && nat_lt q n) && c) ≡ true → (p < n) × (q < n)
     tests p q n c e = grind (arith, nat_tests, e)
 
-    low : (p < (length plan.names)) × (q < (length plan.names))
+    low : (p < length plan.names) × (q < length plan.names)
     low = tests p q (length plan.names) (can_take g.state p q) e

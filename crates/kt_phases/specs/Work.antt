@@ -39,7 +39,7 @@ put_so_far k s = length s.log + (total_below k s.asks + (total_below k s.replies
 
 -- how many asks, replies and decisions the instances of a plan put at most
 abbrev pub most_put : Planned → ℕ
-most_put plan = (length plan.commands + 1) * (3 * ((length plan.names) * ((length plan.names) - 1)))
+most_put plan = (length plan.commands + 1) * (3 * (length plan.names * (length plan.names - 1)))
 
 -- how many steps a run with so many rows has at most
 abbrev pub most_steps : Planned → ℕ → ℕ

@@ -106,7 +106,7 @@ pub fn tallies()
     ensures unbegun { (plan : Planned) (now : Progress) (k : ℕ) → IsPlan plan → IsReached plan now →
         now.state.instances < k → now.state.asks k ≡ 0 }
     ensures asks { (plan : Planned) (now : Progress) (k : ℕ) → IsPlan plan → IsReached plan now →
-        now.state.asks k ≤ (length plan.names) * ((length plan.names) - 1) }
+        now.state.asks k ≤ length plan.names * (length plan.names - 1) }
     ensures replies { (plan : Planned) (now : Progress) (k : ℕ) → IsPlan plan → IsReached plan now →
         now.state.replies k ≤ now.state.asks k }
     ensures decisions { (plan : Planned) (now : Progress) (k : ℕ) → IsPlan plan → IsReached plan now →

@@ -33,9 +33,9 @@ quiet_seen plan first w x give i r = carry plan first w (λ v. enabled plan v x 
     (let q = quiet_between plan g x give k b in (q.0, λ l. quiet_same (length plan.names) first (plan_steps.after_plan_step plan g x give).state ∙ q.1 l)))
 
 pub attained_seen : (plan : Planned) (first : ℕ) (w : World) (p : ℕ) (c : Command) → IsPlan plan → IsReachedWorld plan first w → is_quiet (length plan.names) w.now ≡ true → next_command plan w p ≡ Some c →
-    (q : ℕ) × (d : Command) × (q < (length plan.names)) × (next_command plan w q ≡ Some d) × (d.phase ≡ w.phase)
-attained_seen plan first w p c i r = carry plan first w (λ v. is_quiet (length plan.names) v.now ≡ true → next_command plan v p ≡ Some c → (q : ℕ) × (d : Command) × (q < (length plan.names)) × (next_command plan v q ≡ Some d) × (d.phase ≡ v.phase)) i r
+    (q : ℕ) × (d : Command) × (q < length plan.names) × (next_command plan w q ≡ Some d) × (d.phase ≡ w.phase)
+attained_seen plan first w p c i r = carry plan first w (λ v. is_quiet (length plan.names) v.now ≡ true → next_command plan v p ≡ Some c → (q : ℕ) × (d : Command) × (q < length plan.names) × (next_command plan v q ≡ Some d) × (d.phase ≡ v.phase)) i r
     (λ g s quiet. attained plan g p c (run_facts plan g i s) (sym (quiet_same (length plan.names) first g.state) ∙ quiet))
 
-pub next_there_seen : (plan : Planned) (first : ℕ) (w : World) (p : ℕ) (c : Command) → IsPlan plan → IsReachedWorld plan first w → next_command plan w p ≡ Some c → p < (length plan.names)
-next_there_seen plan first w p c i r = carry plan first w (λ v. next_command plan v p ≡ Some c → p < (length plan.names)) i r (λ g s e. next_there plan g p c (run_facts plan g i s) e)
+pub next_there_seen : (plan : Planned) (first : ℕ) (w : World) (p : ℕ) (c : Command) → IsPlan plan → IsReachedWorld plan first w → next_command plan w p ≡ Some c → p < length plan.names
+next_there_seen plan first w p c i r = carry plan first w (λ v. next_command plan v p ≡ Some c → p < length plan.names) i r (λ g s e. next_there plan g p c (run_facts plan g i s) e)

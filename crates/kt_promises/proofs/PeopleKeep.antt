@@ -15,8 +15,8 @@ use Rattle.kt_promises.specs.Runs.{IsReachedWorld}
 use Rattle.kt_promises.proofs.ReachedWorlds.{seen_of}
 
 module _ (plan : Planned) (first : ℕ) (w : World) (i : IsPlan plan) (r : IsReachedWorld plan first w) where
-  pub processes_seen : w.now.processes ≡ (length plan.names)
-  processes_seen = seen_of plan first w (λ v. v.processes ≡ (length plan.names)) i r (λ s. processes_are (length plan.names) s)
+  pub processes_seen : w.now.processes ≡ length plan.names
+  processes_seen = seen_of plan first w (λ v. v.processes ≡ length plan.names) i r (λ s. processes_are (length plan.names) s)
 
   pub speaks_seen : (p : ℕ) → Speaks (w.now.people p).calls
   speaks_seen p = seen_of plan first w (λ v. Speaks (v.people p).calls) i r (λ s. speaks (length plan.names) first s p)
@@ -30,17 +30,17 @@ module _ (plan : Planned) (first : ℕ) (w : World) (i : IsPlan plan) (r : IsRea
   pub held_seen : (p q : ℕ) → AreMessagesBy first w.now.log p (w.now.held p q)
   held_seen p q = seen_of plan first w (λ v. AreMessagesBy first v.log p (v.held p q)) i r (λ s. held_sent (length plan.names) first s p q)
 
-  pub would_ask_in_checkpoint_seen : (p q : ℕ) → (w.now.people p).inst ≡ 0 → is_asked_in_checkpoint (w.now.people p).calls q ≡ true → q < (length plan.names)
-  would_ask_in_checkpoint_seen p q = seen_of plan first w (λ v. (v.people p).inst ≡ 0 → is_asked_in_checkpoint (v.people p).calls q ≡ true → q < (length plan.names)) i r (λ s o e. subst (λ (x : ℕ). q < x) (processes_are (length plan.names) s) (near_save (length plan.names) first s p q o e))
+  pub would_ask_in_checkpoint_seen : (p q : ℕ) → (w.now.people p).inst ≡ 0 → is_asked_in_checkpoint (w.now.people p).calls q ≡ true → q < length plan.names
+  would_ask_in_checkpoint_seen p q = seen_of plan first w (λ v. (v.people p).inst ≡ 0 → is_asked_in_checkpoint (v.people p).calls q ≡ true → q < length plan.names) i r (λ s o e. subst (λ (x : ℕ). q < x) (processes_are (length plan.names) s) (near_save (length plan.names) first s p q o e))
 
-  pub would_ask_in_rollback_seen : (p q : ℕ) → (w.now.people p).inst ≡ 0 → is_asked_in_rollback (w.now.people p).calls q ≡ true → q < (length plan.names)
-  would_ask_in_rollback_seen p q = seen_of plan first w (λ v. (v.people p).inst ≡ 0 → is_asked_in_rollback (v.people p).calls q ≡ true → q < (length plan.names)) i r (λ s o e. subst (λ (x : ℕ). q < x) (processes_are (length plan.names) s) (near_roll (length plan.names) first s p q o e))
+  pub would_ask_in_rollback_seen : (p q : ℕ) → (w.now.people p).inst ≡ 0 → is_asked_in_rollback (w.now.people p).calls q ≡ true → q < length plan.names
+  would_ask_in_rollback_seen p q = seen_of plan first w (λ v. (v.people p).inst ≡ 0 → is_asked_in_rollback (v.people p).calls q ≡ true → q < length plan.names) i r (λ s o e. subst (λ (x : ℕ). q < x) (processes_are (length plan.names) s) (near_roll (length plan.names) first s p q o e))
 
   pub no_part_seen : (p : ℕ) → (w.now.people p).inst ≡ 0 → (w.now.people p).part ≡ no_part
   no_part_seen p = seen_of plan first w (λ v. (v.people p).inst ≡ 0 → (v.people p).part ≡ no_part) i r (λ s. part_none (length plan.names) first s p)
 
-  pub asked_seen : (p q : ℕ) → (w.now.people p).part.asked q ≡ true → q < (length plan.names)
-  asked_seen p q = seen_of plan first w (λ v. (v.people p).part.asked q ≡ true → q < (length plan.names)) i r (λ s e. subst (λ (x : ℕ). q < x) (processes_are (length plan.names) s) (part_asks (length plan.names) first s p q e))
+  pub asked_seen : (p q : ℕ) → (w.now.people p).part.asked q ≡ true → q < length plan.names
+  asked_seen p q = seen_of plan first w (λ v. (v.people p).part.asked q ≡ true → q < length plan.names) i r (λ s e. subst (λ (x : ℕ). q < x) (processes_are (length plan.names) s) (part_asks (length plan.names) first s p q e))
 
-  pub parent_seen : (p to : ℕ) → (w.now.people p).part.parent ≡ Some to → to < (length plan.names)
-  parent_seen p to = seen_of plan first w (λ v. (v.people p).part.parent ≡ Some to → to < (length plan.names)) i r (λ s e. subst (λ (x : ℕ). to < x) (processes_are (length plan.names) s) (part_answers (length plan.names) first s p to e))
+  pub parent_seen : (p to : ℕ) → (w.now.people p).part.parent ≡ Some to → to < length plan.names
+  parent_seen p to = seen_of plan first w (λ v. (v.people p).part.parent ≡ Some to → to < length plan.names) i r (λ s e. subst (λ (x : ℕ). to < x) (processes_are (length plan.names) s) (part_answers (length plan.names) first s p to e))

@@ -32,7 +32,7 @@ both : (a b : Bool) → a ≡ true → b ≡ true → (a && b) ≡ true
 both a b e f = rw (e, f) refl
 
 pub rest_is : (plan : Planned) (first : ℕ) (w : World) → IsPlan plan → IsReachedWorld plan first w →
-    (is_at_rest plan w ≡ true) ↔ (((p : ℕ) → p < (length plan.names) → next_command plan w p ≡ None) × HasNothingUnderWay w.now)
+    (is_at_rest plan w ≡ true) ↔ (((p : ℕ) → p < length plan.names → next_command plan w p ≡ None) × HasNothingUnderWay w.now)
 rest_is plan first w i r = (
   λ a. let h = rested plan first w i r a in (λ p _. ap first_command (h.1 p), h.0),
   λ h. both (none_of (length plan.names) (λ p. has_command (commands_left plan w p))) (is_quiet (length plan.names) w.now) (none_of_if (length plan.names) (λ p. has_command (commands_left plan w p)) (λ p l. no_command (commands_left plan w p) (h.0 p l))) (quiet_if (length plan.names) w.now h.1),

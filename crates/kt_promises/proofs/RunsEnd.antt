@@ -31,7 +31,7 @@ use Rattle.kt_promises.proofs.SameSteps.{enabled_same, rest_same, default_same, 
 use Rattle.kt_promises.proofs.ReachedWorlds.{carry, seen_reached}
 
 pub work_same : (plan : Planned) (first rows : ℕ) (g : Progress) → work_left rows plan (world_of first g) ≡ plan_work.work_left rows plan g
-work_same plan first rows g = ap (λ (f : ℕ → ℕ → ℕ). plan_work.count_left plan g + ((rows + (length plan.commands + 1) * (3 * ((length plan.names) * ((length plan.names) - 1)))) - plan_work.put_so_far (length plan.commands + 1) g.state) + total_below (length plan.names) (λ p. total_below (length plan.names) (λ q. f p q)))
+work_same plan first rows g = ap (λ (f : ℕ → ℕ → ℕ). plan_work.count_left plan g + ((rows + (length plan.commands + 1) * (3 * (length plan.names * (length plan.names - 1)))) - plan_work.put_so_far (length plan.commands + 1) g.state) + total_below (length plan.names) (λ p. total_below (length plan.names) (λ q. f p q)))
     (λ i p q. parcels_length (labelling first g.state.log).label (labelling first g.state.log).body g.state.so_far.is_rollback (g.state.channel p q) i)
 
 pub work_falls_seen : (plan : Planned) (first rows : ℕ) (w : World) (x : Step) (give : Give) → IsPlan plan → IsReachedWorld plan first w → enabled plan w x ≡ true → length (world_after plan w x give).now.log ≤ rows → work_left rows plan (world_after plan w x give) < work_left rows plan w
@@ -83,8 +83,8 @@ module _ (plan : Planned) (first : ℕ) (w : World) (i : IsPlan plan) (r : IsRea
   pub none_put : (k : ℕ) → w.now.begun < k → w.put.asks k ≡ 0
   none_put k = carry plan first w (λ v. v.now.begun < k → v.put.asks k ≡ 0) i r (λ g s h. none_unbegun (length plan.names) g.state (state_facts plan g (run_facts plan g i s)) k h)
 
-  pub few_asks : (k : ℕ) → w.put.asks k ≤ (length plan.names) * ((length plan.names) - 1)
-  few_asks k = carry plan first w (λ v. v.put.asks k ≤ (length plan.names) * ((length plan.names) - 1)) i r (λ g s. asks_most (length plan.names) g.state (state_facts plan g (run_facts plan g i s)) k)
+  pub few_asks : (k : ℕ) → w.put.asks k ≤ length plan.names * (length plan.names - 1)
+  few_asks k = carry plan first w (λ v. v.put.asks k ≤ length plan.names * (length plan.names - 1)) i r (λ g s. asks_most (length plan.names) g.state (state_facts plan g (run_facts plan g i s)) k)
 
   pub few_replies : (k : ℕ) → w.put.replies k ≤ w.put.asks k
   few_replies k = carry plan first w (λ v. v.put.replies k ≤ v.put.asks k) i r (λ g s. replies_most (length plan.names) g.state (state_facts plan g (run_facts plan g i s)) k)

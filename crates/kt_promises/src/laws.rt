@@ -107,7 +107,7 @@ pub fn places_of_commands()
     ensures next { (plan : Planned) (w : World) (p : ℕ) →
         slice_get plan.commands (next_place plan w p) ≡ next_command plan w p }
     ensures there { (plan : Planned) (first : ℕ) (w : World) (p : ℕ) (c : Command) → IsPlan plan →
-        IsReachedWorld plan first w → next_command plan w p ≡ Some c → p < (length plan.names) }
+        IsReachedWorld plan first w → next_command plan w p ≡ Some c → p < length plan.names }
 {}
 
 /// Which worlds a run of a plan reaches.
@@ -268,7 +268,7 @@ pub fn phases_of_worlds()
     // Where all is quiet and a command is left, somebody's next one is of the open phase.
     ensures attained { (plan : Planned) (first : ℕ) (w : World) (p : ℕ) (c : Command) → IsPlan plan →
         IsReachedWorld plan first w → is_quiet (length plan.names) w.now ≡ true → next_command plan w p ≡ Some c →
-        (q : ℕ) × (d : Command) × (q < (length plan.names)) × (next_command plan w q ≡ Some d) × (d.phase ≡ w.phase) }
+        (q : ℕ) × (d : Command) × (q < length plan.names) × (next_command plan w q ≡ Some d) × (d.phase ≡ w.phase) }
 
     // Only commands of the open phase are enabled. No step goes back to an earlier phase; and where one opens a later
     // phase, no parcel is under way and nobody is in an instance.
@@ -319,7 +319,7 @@ pub fn messages_of_worlds()
 /// For every run of every plan: what is so of each process.
 pub fn people_of_worlds()
     ensures processes { (plan : Planned) (first : ℕ) (w : World) → IsPlan plan → IsReachedWorld plan first w →
-        w.now.processes ≡ (length plan.names) }
+        w.now.processes ≡ length plan.names }
 
     // The last label used is the first one and the number of the process's `sent` rows.
     ensures used { (plan : Planned) (first : ℕ) (w : World) (p : ℕ) → IsPlan plan → IsReachedWorld plan first w →
@@ -336,14 +336,14 @@ pub fn people_of_worlds()
         (w.now.people p).inst ≡ 0 → (w.now.people p).part ≡ no_part }
     ensures would_ask_in_checkpoint { (plan : Planned) (first : ℕ) (w : World) (p q : ℕ) → IsPlan plan →
         IsReachedWorld plan first w → (w.now.people p).inst ≡ 0 →
-        is_asked_in_checkpoint (w.now.people p).calls q ≡ true → q < (length plan.names) }
+        is_asked_in_checkpoint (w.now.people p).calls q ≡ true → q < length plan.names }
     ensures would_ask_in_rollback { (plan : Planned) (first : ℕ) (w : World) (p q : ℕ) → IsPlan plan →
         IsReachedWorld plan first w → (w.now.people p).inst ≡ 0 →
-        is_asked_in_rollback (w.now.people p).calls q ≡ true → q < (length plan.names) }
+        is_asked_in_rollback (w.now.people p).calls q ≡ true → q < length plan.names }
     ensures asked { (plan : Planned) (first : ℕ) (w : World) (p q : ℕ) → IsPlan plan → IsReachedWorld plan first w →
-        (w.now.people p).part.asked q ≡ true → q < (length plan.names) }
+        (w.now.people p).part.asked q ≡ true → q < length plan.names }
     ensures parent { (plan : Planned) (first : ℕ) (w : World) (p to : ℕ) → IsPlan plan → IsReachedWorld plan first w →
-        (w.now.people p).part.parent ≡ Some to → to < (length plan.names) }
+        (w.now.people p).part.parent ≡ Some to → to < length plan.names }
 {}
 
 /// A run that begins with given moves and goes on by default steps, with whatever objects give.
@@ -423,7 +423,7 @@ pub fn never_stuck()
     // A plan is at rest exactly where nobody has a command left and nothing is under way.
     ensures rests { (plan : Planned) (first : ℕ) (w : World) → IsPlan plan → IsReachedWorld plan first w →
         (is_at_rest plan w ≡ true)
-        ↔ (((p : ℕ) → p < (length plan.names) → next_command plan w p ≡ None) × HasNothingUnderWay w.now) }
+        ↔ (((p : ℕ) → p < length plan.names → next_command plan w p ≡ None) × HasNothingUnderWay w.now) }
 {}
 
 /// For every run of every plan: it has few steps for its commands and its rows, so within a number of rows it ends.
@@ -639,11 +639,38 @@ pub fn tallies_of_worlds()
     ensures unbegun { (plan : Planned) (first : ℕ) (w : World) (k : ℕ) → IsPlan plan → IsReachedWorld plan first w →
         w.now.begun < k → w.put.asks k ≡ 0 }
     ensures asks { (plan : Planned) (first : ℕ) (w : World) (k : ℕ) → IsPlan plan → IsReachedWorld plan first w →
-        w.put.asks k ≤ (length plan.names) * ((length plan.names) - 1) }
+        w.put.asks k ≤ length plan.names * (length plan.names - 1) }
     ensures replies { (plan : Planned) (first : ℕ) (w : World) (k : ℕ) → IsPlan plan → IsReachedWorld plan first w →
         w.put.replies k ≤ w.put.asks k }
     ensures decisions { (plan : Planned) (first : ℕ) (w : World) (k : ℕ) → IsPlan plan → IsReachedWorld plan first w →
         w.put.decisions k ≤ w.put.asks k }
+{}
+
+/// Logs that were worked out by hand: which follow their plan, and which do not.
+pub fn worked_follows()
+    // Those of whole runs follow, and one that has come to the last phase begins.
+    ensures fails_twice { FollowsPlan fails_twice fails_twice_log }
+    ensures aborts { FollowsPlan rolls_back_then_aborts rolls_back_then_aborts_log }
+    ensures arrive { FollowsPlan two_messages_then_failure both_arrive }
+    ensures drops { FollowsPlan failure_before_message one_dropped }
+    ensures begun { BeginsPlan two_messages_then_failure (take 4 both_arrive) }
+    ensures unended { FollowsPlan two_messages_then_failure (take 4 both_arrive) → ⊥ }
+
+    // These are legal, and don't even begin the plan: a command has no row when the next phase begins, commands are
+    // swapped, a row of the later phase comes before one of the earlier, that phase begins while a message is under
+    // way, a row answers no command.
+    ensures legal { IsLegal one_left_out × IsLegal swapped × IsLegal too_early × IsLegal not_quiet × IsLegal both_arrive }
+    ensures left_out { BeginsPlan two_messages_then_failure one_left_out → ⊥ }
+    ensures swapped { BeginsPlan two_messages_then_failure swapped → ⊥ }
+    ensures too_early { BeginsPlan two_messages_then_failure too_early → ⊥ }
+    ensures not_quiet { BeginsPlan two_messages_then_failure not_quiet → ⊥ }
+    ensures unasked { BeginsPlan two_messages both_arrive → ⊥ }
+
+    // These are legal and have a row for each command, but do not end quietly: a message is under way, an instance
+    // undecided.
+    ensures legal_open { IsLegal one_arrives × IsLegal undecided }
+    ensures on_its_way { FollowsPlan two_messages one_arrives → ⊥ }
+    ensures undecided { FollowsPlan one_checkpoint undecided → ⊥ }
 {}
 
 /// Runs that were worked out by hand come as far as they have to, with labels that begin after 100.
@@ -707,31 +734,4 @@ pub fn worked_worlds()
         rolls_back_then_aborts_moves) ≡ Restore ∷ Apply 1 (pos 3) ∷ Keep ∷ Discard ∷ [] }
     ensures told_one { acts_told (told_by rolls_back_then_aborts (start_after_hundred rolls_back_then_aborts) 1
         rolls_back_then_aborts_moves) ≡ Apply 0 (pos 1) ∷ Restore ∷ Apply 2 (pos 2) ∷ [] }
-{}
-
-/// Logs that were worked out by hand: which follow their plan, and which do not.
-pub fn worked_follows()
-    // Those of whole runs follow, and one that has come to the last phase begins.
-    ensures fails_twice { FollowsPlan fails_twice fails_twice_log }
-    ensures aborts { FollowsPlan rolls_back_then_aborts rolls_back_then_aborts_log }
-    ensures arrive { FollowsPlan two_messages_then_failure both_arrive }
-    ensures drops { FollowsPlan failure_before_message one_dropped }
-    ensures begun { BeginsPlan two_messages_then_failure (take 4 both_arrive) }
-    ensures unended { FollowsPlan two_messages_then_failure (take 4 both_arrive) → ⊥ }
-
-    // These are legal, and don't even begin the plan: a command has no row when the next phase begins, commands are
-    // swapped, a row of the later phase comes before one of the earlier, that phase begins while a message is under
-    // way, a row answers no command.
-    ensures legal { IsLegal one_left_out × IsLegal swapped × IsLegal too_early × IsLegal not_quiet × IsLegal both_arrive }
-    ensures left_out { BeginsPlan two_messages_then_failure one_left_out → ⊥ }
-    ensures swapped { BeginsPlan two_messages_then_failure swapped → ⊥ }
-    ensures too_early { BeginsPlan two_messages_then_failure too_early → ⊥ }
-    ensures not_quiet { BeginsPlan two_messages_then_failure not_quiet → ⊥ }
-    ensures unasked { BeginsPlan two_messages both_arrive → ⊥ }
-
-    // These are legal and have a row for each command, but do not end quietly: a message is under way, an instance
-    // undecided.
-    ensures legal_open { IsLegal one_arrives × IsLegal undecided }
-    ensures on_its_way { FollowsPlan two_messages one_arrives → ⊥ }
-    ensures undecided { FollowsPlan one_checkpoint undecided → ⊥ }
 {}
