@@ -1,9 +1,13 @@
 -- What a process can do next, and when all is over.
 use Rattle.std.specs.Prelude.{◌≡◌, ◌⊎◌, ℕ, true, false, Option, Some, None, IsSome}
-use Rattle.kt_core.specs.Worlds.{World, enabled, IsAtRest, IsNextStepOf}
+use Rattle.kt_core.specs.declared.faults.StepFault.{StepFault}
+use Rattle.kt_core.specs.declared.faults.StepFault.TheVariants as refused
+use Rattle.kt_core.specs.Worlds.{World, enabled, refusal, IsAtRest, IsNextStepOf}
 use Rattle.kt_phases.specs.Steps.{stepper}
 use Rattle.kt_plan.specs.declared.steps.Step.{Step}
-use Rattle.kt_threads.specs.Histories.{History}
+use Rattle.kt_threads.specs.Faults.{of_step}
+use Rattle.kt_threads.specs.Histories.{History, first_of}
+use Rattle.kt_threads.specs.declared.faults.LiveFault.{LiveFault}
 
 -- the step that a process makes next, which can be made; none where no step of it can be made
 abbrev pub IsNext : World → ℕ → Option Step → Type 0
@@ -19,3 +23,9 @@ pub record CanStep (w : World) (p : ℕ) : Type 0 where
 -- there was a fault, or the world is at rest
 abbrev pub IsOver : History → Type 0
 IsOver state = IsSome state.fault ⊎ IsAtRest state.world
+
+-- a step was refused, or lacked memory, and that is kept where no fault was before
+pub record EndsBy (state : History) (step : Step) (fault : Option LiveFault) : Type 0 where
+  pub why : StepFault
+  pub refused : (why ≡ refused.Memory) ⊎ (refusal state.world step ≡ Some why)
+  pub kept : fault ≡ first_of state.fault (of_step why)

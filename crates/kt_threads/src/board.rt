@@ -2,7 +2,8 @@
 
 ghost use Rattle.std.specs.Prelude.{◌≡◌, ◌≢◌, ◌<◌, ◌⊎◌, ◌↔◌, Some, None, IfSome, IfNone, IsSome, IsTrue};
 ghost use Rattle.kt_core.specs.Worlds as core;
-ghost use Rattle.kt_threads.specs.Turns.{CanStep, IsNext, IsOver};
+ghost use Rattle.kt_phases.specs.Steps.{stepper};
+ghost use Rattle.kt_threads.specs.Turns.{CanStep, EndsBy, IsNext, IsOver};
 
 use crate::faults::LiveFault;
 use crate::state::{Made, State};
@@ -45,6 +46,7 @@ impl Board {
     pub(crate) fn advance<R: Wait>(&self, rt: &R, me: ProcNo) -> Next
         ensures sends { (made : _) → result ≡ Next.Made made → made.look ≢ Look.NeedsBody }
         ensures saves { (made : _) → result ≡ Next.Made made → made.look ≢ Look.NeedsSave }
+        ensures own { (made : _) → result ≡ Next.Made made → stepper made.told.step ≡ me }
     {
         let Some(news) = self.news.get(me.index()) else {
             return Next::End;
@@ -79,6 +81,8 @@ impl Board {
     ) -> Next
         ensures look { (made : _) → result ≡ Next.Made made → made.look ≡ look }
         ensures give { (made : _) → result ≡ Next.Made made → made.give ≡ give }
+        ensures step { (made : _) → result ≡ Next.Made made → made.told.step ≡ step }
+        ensures own { (made : _) → result ≡ Next.Made made → stepper step ≡ me }
     {
         let mut state = self.state.lock(rt);
         if state.fault().is_some() {
@@ -150,6 +154,8 @@ fn next_in(state: &State, me: ProcNo) -> Option<(Step, Look)>
 fn make_in(state: &mut State, step: Step, give: Give) -> Next
     ensures look { (made : _) → result ≡ Next.Made made → made.look ≡ core.look state.old.world step }
     ensures give { (made : _) → result ≡ Next.Made made → made.give ≡ give }
+    ensures step { (made : _) → result ≡ Next.Made made → made.told.step ≡ step }
+    ensures end { result ≡ Next.End → EndsBy state.old step state.new.fault }
 {
     match state.make(step, give) {
         Ok(made) => Next::Made(made),
@@ -162,7 +168,8 @@ fn make_in(state: &mut State, step: Step, give: Give) -> Next
 
 /// Whether the process of this number is woken: where all is over, or it can make a step.
 fn is_woken(over: bool, state: &State, number: usize) -> bool
-    ensures woken { IsTrue result ↔ (IsTrue over ⊎ ((number < 64) × CanStep state.now.world number)) }
+    ensures woken { IsTrue result ↔
+        (IsTrue over ⊎ ((number < 64) × CanStep state.now.world number)) }
 {
     over || can_step(state, number)
 }

@@ -97,7 +97,8 @@ fn are_its(steps: &[Made], p: usize, list: &[Made]) -> bool
 
 /// Whether there are so many processes, and each has a list of its own steps.
 pub(crate) fn are_theirs(processes: usize, steps: &[Made], lists: &[Vec<Made>]) -> bool
-    ensures theirs { IsTrue result ↔ AreTheirs processes steps.now (map (λ list. list.items) lists.now) }
+    ensures theirs { IsTrue result ↔
+        AreTheirs processes steps.now (map (λ list. list.items) lists.now) }
 {
     if lists.len() != processes {
         return false;
