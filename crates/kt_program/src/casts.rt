@@ -174,7 +174,7 @@ pub fn live_objects<T: Threads + Wait + Sync, L: Write, C: Write, R: Write>(
         (outputs (L.contents log_writer.old) (C.contents cert_writer.old) (R.contents report_writer.old))
         (outputs (L.contents log_writer.new) (C.contents cert_writer.new) (R.contents report_writer.new))) }
     // New objects are as many as the plan asks for, of its kinds.
-    ensures fault { IfErr result (λ e. (fault : LiveFault) → e ≡ AppFault.Live fault → threads.is_of_cast fault ≡ false) }
+    ensures fault { IfErr result (λ e. (fault : LiveFault) → e ≡ AppFault.Live fault → threads.is_live_of_cast fault ≡ false) }
 {
     let _processes = plan.size();
     let mut book = SlotBook::new(alloc);
@@ -222,7 +222,7 @@ fn live_cast<T: Threads + Wait + Sync, L: Write, C: Write, R: Write>(
         (outputs (L.contents log_writer.old) (C.contents cert_writer.old) (R.contents report_writer.old))
         (outputs (L.contents log_writer.new) (C.contents cert_writer.new) (R.contents report_writer.new))) }
     // New objects are as many as the plan asks for, of its kinds.
-    ensures fault { IfErr result (λ e. (fault : LiveFault) → e ≡ AppFault.Live fault → threads.is_of_cast fault ≡ false) }
+    ensures fault { IfErr result (λ e. (fault : LiveFault) → e ≡ AppFault.Live fault → threads.is_live_of_cast fault ≡ false) }
 {
     live_plan(
         rt,

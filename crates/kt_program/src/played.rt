@@ -96,7 +96,7 @@ pub fn live_plan<T: Threads + Wait + Sync, L: Write, C: Write, R: Write>(
         (outputs (L.contents log_writer.new) (C.contents cert_writer.new) (R.contents report_writer.new))) }
     // A fault of the run is one of these objects, or comes once they are found right.
     ensures fault { IfErr result (λ e. (fault : LiveFault) → e ≡ AppFault.Live fault →
-        threads.Answers plan.now (map (λ row. map (λ b. kind_of b) row.items) cast.items) fault) }
+        threads.AnswersLive plan.now (map (λ row. map (λ b. kind_of b) row.items) cast.items) fault) }
 {
     let outcome = live(rt, alloc, plan, cast)?;
     write_run(

@@ -47,9 +47,9 @@ pub record History : Type 0 where
   pub fault : Option LiveFault
 
 -- the fault that was first, where another one comes
-abbrev pub first_of : Option LiveFault → LiveFault → Option LiveFault
-first_of None fault = Some fault
-first_of (Some first) fault = Some first
+abbrev pub first_fault : Option LiveFault → LiveFault → Option LiveFault
+first_fault None fault = Some fault
+first_fault (Some first) fault = Some first
 
 -- the steps of a process, in order
 abbrev pub made_by : ℕ → List Made → List Made

@@ -5,8 +5,8 @@ use Rattle.kt_core.specs.declared.faults.StepFault.TheVariants as refused
 use Rattle.kt_core.specs.Worlds.{World, enabled, refusal, IsAtRest, IsNextStepOf}
 use Rattle.kt_phases.specs.Steps.{stepper}
 use Rattle.kt_plan.specs.declared.steps.Step.{Step}
-use Rattle.kt_threads.specs.Faults.{of_step}
-use Rattle.kt_threads.specs.Histories.{History, first_of}
+use Rattle.kt_threads.specs.Faults.{live_of_step}
+use Rattle.kt_threads.specs.Histories.{History, first_fault}
 use Rattle.kt_threads.specs.declared.faults.LiveFault.{LiveFault}
 
 -- the step that a process makes next, which can be made; none where no step of it can be made
@@ -15,7 +15,7 @@ IsNext w p None = (step : Step) → stepper step ≡ p → enabled w step ≡ fa
 IsNext w p (Some step) = IsNextStepOf w p step × (enabled w step ≡ true)
 
 -- a process can make a step
-pub record CanStep (w : World) (p : ℕ) : Type 0 where
+pub record HasStep (w : World) (p : ℕ) : Type 0 where
   pub step : Step
   pub own : stepper step ≡ p
   pub able : enabled w step ≡ true
@@ -28,4 +28,4 @@ IsOver state = IsSome state.fault ⊎ IsAtRest state.world
 pub record EndsBy (state : History) (step : Step) (fault : Option LiveFault) : Type 0 where
   pub why : StepFault
   pub refused : (why ≡ refused.Memory) ⊎ (refusal state.world step ≡ Some why)
-  pub kept : fault ≡ first_of state.fault (of_step why)
+  pub kept : fault ≡ first_fault state.fault (live_of_step why)

@@ -3,7 +3,7 @@
 ghost use Rattle.std.specs.Prelude.{◌≡◌, ◌≢◌, ◌<◌, ◌⊎◌, ◌↔◌, Some, None, IfSome, IfNone, IsSome, IsTrue};
 ghost use Rattle.kt_core.specs.Worlds as core;
 ghost use Rattle.kt_phases.specs.Steps.{stepper};
-ghost use Rattle.kt_threads.specs.Turns.{CanStep, EndsBy, IsNext, IsOver};
+ghost use Rattle.kt_threads.specs.Turns.{HasStep, EndsBy, IsNext, IsOver};
 
 use crate::faults::LiveFault;
 use crate::state::{Made, State};
@@ -131,7 +131,7 @@ fn news_of(alloc: Global, processes: usize) -> Result<Vec<Condvar>, Memory> {
 
 /// Whether a process waits: where it can make no step, and all is not over.
 fn must_wait(state: &State, me: ProcNo) -> bool
-    ensures waits { IsTrue result ↔ ((¬ IsOver state.now) × (¬ CanStep state.now.world me)) }
+    ensures waits { IsTrue result ↔ ((¬ IsOver state.now) × (¬ HasStep state.now.world me)) }
 {
     state.next_step_of(me).is_none() && !state.is_over()
 }
@@ -169,14 +169,14 @@ fn make_in(state: &mut State, step: Step, give: Give) -> Next
 /// Whether the process of this number is woken: where all is over, or it can make a step.
 fn is_woken(over: bool, state: &State, number: usize) -> bool
     ensures woken { IsTrue result ↔
-        (IsTrue over ⊎ ((number < 64) × CanStep state.now.world number)) }
+        (IsTrue over ⊎ ((number < 64) × HasStep state.now.world number)) }
 {
     over || can_step(state, number)
 }
 
 /// Whether the process of this number can make a step.
 fn can_step(state: &State, number: usize) -> bool
-    ensures able { IsTrue result ↔ ((number < 64) × CanStep state.now.world number) }
+    ensures able { IsTrue result ↔ ((number < 64) × HasStep state.now.world number) }
 {
     let Ok(number) = u8::try_from(number) else {
         return false;

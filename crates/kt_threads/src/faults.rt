@@ -2,7 +2,7 @@
 
 ghost use Rattle.std.specs.Prelude.{◌≡◌, false};
 ghost use Rattle.kt_threads.specs.declared.faults.LiveFault.TheVariants as live;
-ghost use Rattle.kt_threads.specs.Faults.{is_of_cast, of_act, of_cast, of_crew, of_step, of_thread};
+ghost use Rattle.kt_threads.specs.Faults.{is_live_of_cast, live_of_act, live_of_cast, live_of_crew, live_of_step, live_of_thread};
 
 use crate::crew::CrewFault;
 use kt_base::{Memory, ProcNo};
@@ -36,7 +36,7 @@ pub enum LiveFault {
 impl LiveFault {
     /// The fault of a step that is refused.
     pub(crate) fn of_step(fault: StepFault) -> LiveFault
-        ensures fault { result ≡ of_step fault }
+        ensures fault { result ≡ live_of_step fault }
     {
         match fault {
             StepFault::Memory => LiveFault::Memory,
@@ -46,7 +46,7 @@ impl LiveFault {
 
     /// The fault of an act that a process could not do.
     pub(crate) fn of_act(p: ProcNo, fault: ActFault) -> LiveFault
-        ensures fault { result ≡ of_act p fault }
+        ensures fault { result ≡ live_of_act p fault }
     {
         match fault {
             ActFault::Unfit => LiveFault::Differ,
@@ -57,8 +57,8 @@ impl LiveFault {
 
     /// The fault that a thread ended by. None of the objects that are given comes from a thread.
     pub(crate) fn of_thread(self) -> LiveFault
-        ensures fault { result ≡ of_thread self }
-        ensures ours { is_of_cast result ≡ false }
+        ensures fault { result ≡ live_of_thread self }
+        ensures ours { is_live_of_cast result ≡ false }
     {
         match self {
             LiveFault::CastSize | LiveFault::CastKind(_) => LiveFault::Differ,
@@ -84,7 +84,7 @@ impl From<AllocError> for LiveFault {
 }
 
 impl From<CrewFault> for LiveFault {
-    ghost from_gives = { λ fault f. (f ≡ of_crew fault) × (is_of_cast f ≡ false) };
+    ghost from_gives = { λ fault f. (f ≡ live_of_crew fault) × (is_live_of_cast f ≡ false) };
 
     fn from(fault: CrewFault) -> LiveFault {
         match fault {
@@ -95,7 +95,7 @@ impl From<CrewFault> for LiveFault {
 }
 
 impl From<CastFault> for LiveFault {
-    ghost from_gives = { λ fault f. f ≡ of_cast fault };
+    ghost from_gives = { λ fault f. f ≡ live_of_cast fault };
 
     fn from(fault: CastFault) -> LiveFault {
         match fault {

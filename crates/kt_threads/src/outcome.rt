@@ -9,7 +9,7 @@ ghost use Rattle.kt_promises.specs.Headline.{IsPromised};
 ghost use Rattle.kt_run.specs.Faults.{IsCast};
 ghost use Rattle.kt_run.specs.Objects.{has_of, HoldDue};
 ghost use Rattle.kt_run.specs.Telling.{AreToldTheirRows};
-ghost use Rattle.kt_threads.specs.Faults.{Answers, is_of_cast};
+ghost use Rattle.kt_threads.specs.Faults.{AnswersLive, is_live_of_cast};
 ghost use Rattle.kt_threads.specs.Histories.{IsWholeHistory, IsLived};
 ghost use Rattle.kt_threads.specs.Seats.{KeepsServing};
 
@@ -32,7 +32,7 @@ use std::thread::Threads;
 /// What the processes of a plan hold at first.
 fn first_objects(alloc: Global, plan: &Plan, cast: Cast) -> Result<Vec<Held>, LiveFault>
     ensures cast { OnOk result (IsCast plan.now (map (λ row. map (λ b. kind_of b) row.items) cast.items)) }
-    ensures fault { IfErr result (Answers plan.now (map (λ row. map (λ b. kind_of b) row.items) cast.items)) }
+    ensures fault { IfErr result (AnswersLive plan.now (map (λ row. map (λ b. kind_of b) row.items) cast.items)) }
     ensures due { IfOk result (λ objects. HoldDue
         (map (λ row. map (λ b. content (kind_of b) (value_of b)) row.items) cast.items) []
         (has_of objects.items (λ b. content (kind_of b) (value_of b)))) }
@@ -48,7 +48,7 @@ fn first_objects(alloc: Global, plan: &Plan, cast: Cast) -> Result<Vec<Held>, Li
 fn seats_of(alloc: Global, objects: Vec<Held>) -> Result<Vec<Seat>, LiveFault>
     ensures held { IfOk result (λ seats. map (λ seat. seat.held) seats.items ≡ objects.items) }
     ensures fresh { IfOk result (λ seats. All (λ seat. seat.made.items ≡ []) seats.items) }
-    ensures fault { IfErr result (λ fault. is_of_cast fault ≡ false) }
+    ensures fault { IfErr result (λ fault. is_live_of_cast fault ≡ false) }
 {
     let mut seats = Vec::with_capacity(alloc, objects.len())?;
     let mut number = 0u8;
@@ -91,7 +91,7 @@ fn finish(state: State, plan: &Plan) -> Result<(SpaceTime, Vec<Made>), LiveFault
     ensures run { IfOk result (λ parts. IsWholeHistory plan.entry.now parts.1.items parts.0.rows) }
     ensures promised { IfOk result (λ parts. IsPromised parts.0.rows) }
     ensures follows { IfOk result (λ parts. FollowsPlan plan.entry.now parts.0.rows) }
-    ensures fault { IfErr result (λ fault. is_of_cast fault ≡ false) }
+    ensures fault { IfErr result (λ fault. is_live_of_cast fault ≡ false) }
 {
     ended(&state, plan)?;
     Ok(state.into_parts())
@@ -102,7 +102,7 @@ fn ended(state: &State, plan: &Plan) -> Result<(), LiveFault>
     ensures plan { OnOk result (state.now.world.agenda.plan ≡ plan.now) }
     ensures rest { OnOk result (IsAtRest state.now.world) }
     ensures follows { OnOk result (FollowsPlan plan.now state.now.world.system.rows.rows) }
-    ensures fault { IfErr result (λ fault. is_of_cast fault ≡ false) }
+    ensures fault { IfErr result (λ fault. is_live_of_cast fault ≡ false) }
 {
     if let Some(fault) = state.fault() {
         return Err(fault.of_thread());
@@ -119,7 +119,7 @@ fn leave(alloc: Global, seats: Vec<Seat>) -> Result<(Vec<Vec<Made>>, Vec<Held>),
     ensures made { IfOk result (λ parts.
         map (λ list. list.items) parts.0.items ≡ map (λ seat. seat.made.items) seats.items) }
     ensures held { IfOk result (λ parts. parts.1.items ≡ map (λ seat. seat.held) seats.items) }
-    ensures fault { IfErr result (λ fault. is_of_cast fault ≡ false) }
+    ensures fault { IfErr result (λ fault. is_live_of_cast fault ≡ false) }
 {
     let mut lists = Vec::with_capacity(alloc, seats.len())?;
     let mut objects = Vec::with_capacity(alloc, seats.len())?;
@@ -160,7 +160,7 @@ fn live_with<R: Threads + Wait + Sync>(
     ensures told { IfOk result (λ o. AreToldTheirRows o.log.rows (map (λ list. list.items) o.told.items)) }
     ensures promised { IfOk result (λ o. IsPromised o.log.rows) }
     ensures follows { IfOk result (λ o. FollowsPlan plan.now o.log.rows) }
-    ensures fault { IfErr result (λ fault. is_of_cast fault ≡ false) }
+    ensures fault { IfErr result (λ fault. is_live_of_cast fault ≡ false) }
 {
     let seats = seats_of(alloc, objects)?;
     let state = State::new(alloc, plan.copy(alloc)?)?;
@@ -211,7 +211,7 @@ pub fn live<R: Threads + Wait + Sync>(
 
     // The objects are those that the plan asks for; else a fault says what is wrong with them.
     ensures cast { OnOk result (IsCast plan.now (map (λ row. map (λ b. kind_of b) row.items) cast.items)) }
-    ensures fault { IfErr result (Answers plan.now (map (λ row. map (λ b. kind_of b) row.items) cast.items)) }
+    ensures fault { IfErr result (AnswersLive plan.now (map (λ row. map (λ b. kind_of b) row.items) cast.items)) }
 {
     let objects = first_objects(alloc, plan, cast)?;
     let outcome = live_with(rt, alloc, plan, objects)?;

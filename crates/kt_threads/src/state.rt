@@ -5,7 +5,7 @@ ghost use Rattle.kt_core.specs.Worlds as core;
 ghost use Rattle.kt_core.specs.Worlds.{refusal, IsAtRest, IsOpening, IsSameWorld};
 ghost use Rattle.kt_promises.specs.Follows.{FollowsPlan};
 ghost use Rattle.kt_promises.specs.Headline.{IsPromised};
-ghost use Rattle.kt_threads.specs.Histories.{IsMade, IsHistory, first_of};
+ghost use Rattle.kt_threads.specs.Histories.{IsMade, IsHistory, first_fault};
 ghost use Rattle.kt_threads.specs.Turns.{IsNext, IsOver};
 
 use crate::faults::LiveFault;
@@ -86,7 +86,7 @@ impl State {
 
     /// Keeps the first fault.
     pub fn stop(&mut self, fault: LiveFault)
-        ensures { self.new ≡ record self.old { fault = first_of self.old.fault fault } }
+        ensures { self.new ≡ record self.old { fault = first_fault self.old.fault fault } }
     {
         if self.fault.is_none() {
             self.fault = Some(fault);
