@@ -119,6 +119,7 @@ fn begin_rows(alloc: Global, cast: Cast) -> Result<Vec<Held>, CastFault>
     ensures holds { IfOk result (λ helds. All (λ h. IsSome h.present × IfSome h.present (λ b.
         Holds (first_holding (content (kind_of b) (value_of b))) (Some (content (kind_of b) (value_of b))) h.depot)) helds.items) }
     ensures later { IfErr result (λ fault. is_checked fault ≡ false) }
+    ensures place { IfErr result (λ fault. (p : ℕ) → fault ≡ CastFault.Object p → p < length cast.items) }
 {
     let mut helds = Vec::with_capacity(alloc, cast.len())?;
     for objects in cast {
@@ -161,6 +162,7 @@ pub fn begin_all(alloc: Global, plan: &Plan, cast: Cast) -> Result<Vec<Held>, Ca
         × (¬ HasKind plan.now.kinds (map (λ row. map (λ b. kind_of b) row.items) cast.items) p)) }
     ensures least { IfErr result (λ fault. (p q : ℕ) → fault ≡ CastFault.Kind p → q < p →
         HasKind plan.now.kinds (map (λ row. map (λ b. kind_of b) row.items) cast.items) q) }
+    ensures place { IfErr result (λ fault. (p : ℕ) → fault ≡ CastFault.Object p → p < length plan.now.kinds) }
     ensures later { IfErr result (λ fault. is_checked fault ≡ false → (p : ℕ) → p < length plan.now.kinds →
         HasKind plan.now.kinds (map (λ row. map (λ b. kind_of b) row.items) cast.items) p) }
 {

@@ -1,7 +1,7 @@
 -- The faults of the objects that a run begins with.
-use Rattle.std.proofs.Common.{◌≡◌, ◌≢◌, ◌<◌, ℕ, List, false, length, refl}
+use Rattle.std.proofs.Common.{◌≡◌, ◌≢◌, ◌<◌, ℕ, List, false, length, refl, ap}
 use Rattle.kt_core.specs.declared.faults.StepFault.{StepFault}
-use Rattle.kt_run.specs.declared.faults.RunFault.TheVariants.{Step, Journal}
+use Rattle.kt_run.specs.declared.faults.RunFault.TheVariants.{Step, Journal, Object}
 use Rattle.kt_held.specs.Casts.{HasSizes, HasKind, is_checked}
 use Rattle.kt_held.specs.declared.faults.CastFault.{CastFault}
 use Rattle.kt_held.specs.declared.faults.CastFault.TheVariants as cast
@@ -38,3 +38,9 @@ of_none_told cast.Size p e = absurd (cc (e))
 of_none_told (cast.Kind q) p e = absurd (cc (e))
 of_none_told (cast.Object q) p e = absurd (cc (e))
 of_none_told cast.Memory p e = absurd (cc (e))
+
+pub of_object : (fault : CastFault) (p : ℕ) → of_cast fault ≡ Object p → fault ≡ cast.Object p
+of_object cast.Size p e = absurd (cc (e))
+of_object (cast.Kind q) p e = absurd (cc (e))
+of_object (cast.Object q) p e = let s : q ≡ p = cc (e) in ap (λ (i : ℕ). cast.Object i) s
+of_object cast.Memory p e = absurd (cc (e))

@@ -1,6 +1,6 @@
 //! Serial runs.
 
-ghost use Rattle.std.specs.Prelude.{◌≡◌, ℕ, None, All, map, OnOk, IfOk, IfErr};
+ghost use Rattle.std.specs.Prelude.{◌≡◌, ◌<◌, ◌⊎◌, ℕ, length, None, All, map, OnOk, IfOk, IfErr};
 ghost use Rattle.std.specs.List.{AllZip};
 ghost use Rattle.kt_core.specs.declared.faults.StepFault.{StepFault};
 ghost use Rattle.kt_held.specs.Holdings.{content};
@@ -43,6 +43,12 @@ pub fn run(alloc: Global, plan: &Plan, steps: &[Step], cast: Cast) -> Result<Out
     // Where there is no memory for what a process is told, the step is its own, and not refused.
     ensures named { IfErr result (λ fault. (p : ℕ) → fault ≡ RunFault.Journal p →
         IsStopped plan.now (map (λ row. map (λ b. content (kind_of b) (value_of b)) row.items)
+        cast.items) steps.now p) }
+
+    // Where an object fails, it is that of a process of the plan: at first, or in a step of its own.
+    ensures object { IfErr result (λ fault. (p : ℕ) → fault ≡ RunFault.Object p →
+        (p < length plan.now.names)
+        ⊎ IsStopped plan.now (map (λ row. map (λ b. content (kind_of b) (value_of b)) row.items)
         cast.items) steps.now p) }
 
     // The log is that of a run of the plan which begins with the steps given, goes on by default steps, and comes to rest;
@@ -92,6 +98,12 @@ pub fn log_of(alloc: Global, plan: &Plan, steps: &[Step], cast: Cast) -> Result<
     // Where there is no memory for what a process is told, the step is its own, and not refused.
     ensures named { IfErr result (λ fault. (p : ℕ) → fault ≡ RunFault.Journal p →
         IsStopped plan.now (map (λ row. map (λ b. content (kind_of b) (value_of b)) row.items)
+        cast.items) steps.now p) }
+
+    // Where an object fails, it is that of a process of the plan: at first, or in a step of its own.
+    ensures object { IfErr result (λ fault. (p : ℕ) → fault ≡ RunFault.Object p →
+        (p < length plan.now.names)
+        ⊎ IsStopped plan.now (map (λ row. map (λ b. content (kind_of b) (value_of b)) row.items)
         cast.items) steps.now p) }
 
     // It is that of a run of the plan which begins with the steps given, goes on by default steps, and comes to rest; and

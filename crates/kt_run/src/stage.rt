@@ -41,6 +41,8 @@ impl Stage {
         ensures cast { OnOk result (IsCast plan.now (map (λ row. map (λ b. kind_of b) row.items) cast.items)) }
         ensures fault { IfErr result (Answers plan.now (map (λ row. map (λ b. kind_of b) row.items) cast.items)) }
         ensures early { IfErr result (λ fault. (done : ℕ) (why : StepFault) → fault ≢ RunFault.Step done why) }
+        ensures object { IfErr result (λ fault. (p : ℕ) → fault ≡ RunFault.Object p →
+            p < length plan.now.names) }
         ensures untold { IfErr result (λ fault. (p : ℕ) → fault ≢ RunFault.Journal p) }
         ensures starts { IfOk result (λ stage. Starts plan.now stage.world) }
         ensures plan { IfOk result (λ stage. stage.world.agenda.plan ≡ plan.now) }
@@ -318,6 +320,8 @@ fn first_objects(alloc: Global, plan: &Plan, cast: Cast) -> Result<Vec<Held>, Ru
     ensures cast { OnOk result (IsCast plan.now (map (λ row. map (λ b. kind_of b) row.items) cast.items)) }
     ensures fault { IfErr result (Answers plan.now (map (λ row. map (λ b. kind_of b) row.items) cast.items)) }
     ensures early { IfErr result (λ fault. (done : ℕ) (why : StepFault) → fault ≢ RunFault.Step done why) }
+    ensures object { IfErr result (λ fault. (p : ℕ) → fault ≡ RunFault.Object p →
+        p < length plan.now.names) }
     ensures untold { IfErr result (λ fault. (p : ℕ) → fault ≢ RunFault.Journal p) }
     ensures count { IfOk result (λ objects. length objects.items ≡ length plan.now.names) }
     ensures spares { IfOk result (λ objects.

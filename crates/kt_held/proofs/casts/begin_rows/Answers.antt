@@ -53,3 +53,10 @@ nth-requires g c =
     let l = within g (goal.at.nth-requires g c).After-len-place in
     let r = c.requires.few in
     omega (arith, l, r)
+
+pub returns-in-Err-Unable-clause-place : goal.returns-in-Err-Unable-clause-place
+returns-in-Err-Unable-clause-place g c = λ p e.
+    let l = within g (goal.at.returns-in-Err-Unable-clause-place g c).After-len-place in
+    let n = c.nth.ensures in
+    let m : c.nth.result ≡ p = cc (e) in
+    omega (arith, l, n, m)

@@ -1,4 +1,4 @@
-use Rattle.std.proofs.Common.{rules, ◌≡◌, map, subst, ap}
+use Rattle.std.proofs.Common.{rules, inl, inr, ◌≡◌, map, subst, ap}
 use Rattle.std.specs.Prelude.{Result, Err, IfErr}
 use Rattle.kt_held.specs.Holdings.{content}
 use Rattle.kt_run.specs.Refused.{IsStepRefused, IsStopped}
@@ -64,3 +64,15 @@ returns-in_err-make_all-clause-named g c = if_err c.from_residual-in_err-make_al
     (c.in_err-make_all.ensures.named
     (map (λ row. map (λ b. content ((goal.Recoverable-dyn g (b.vtable, b.value)).kind_of b.value) ((goal.Recoverable-dyn g (b.vtable, b.value)).value_of b.value)) row.items) c.args.cast.items)
     c.in_ok-stage.ensures.due p (ap stopped_at e)))
+
+pub returns-in_err-stage-clause-object : goal.returns-in_err-stage-clause-object
+returns-in_err-stage-clause-object g c = if_err c.from_residual.result _ c.in_err-stage.field-0.0 (search rules) (λ p e. inl (c.in_err-stage.ensures.object p e))
+
+pub returns-in_err-make_all-clause-object : goal.returns-in_err-make_all-clause-object
+returns-in_err-make_all-clause-object g c = if_err c.from_residual-in_err-make_all.result _ c.in_err-make_all.field-0.0 (search rules)
+    (λ p e. inr (subst (λ (z : Planned). IsStopped z
+    (map (λ row. map (λ b. content ((goal.Recoverable-dyn g (b.vtable, b.value)).kind_of b.value) ((goal.Recoverable-dyn g (b.vtable, b.value)).value_of b.value)) row.items) c.args.cast.items)
+    c.args.steps.now p) c.in_ok-stage.ensures.plan
+    (c.in_err-make_all.ensures.named
+    (map (λ row. map (λ b. content ((goal.Recoverable-dyn g (b.vtable, b.value)).kind_of b.value) ((goal.Recoverable-dyn g (b.vtable, b.value)).value_of b.value)) row.items) c.args.cast.items)
+    c.in_ok-stage.ensures.due p (ap stopped_at e))))

@@ -1,4 +1,4 @@
-use Rattle.std.proofs.Common.{rules, ◌≡◌, ◌∙◌, List, [], length, map, subst, sym, ap}
+use Rattle.std.proofs.Common.{rules, inl, inr, ◌≡◌, ◌∙◌, List, [], length, map, subst, sym, ap}
 use Rattle.std.specs.Prelude.{Result, Err, IfErr, slice_index_or}
 use Rattle.std.specs.Option.{option_map}
 use Rattle.std.proofs.lemmas.Option.{slice_get-map, slice_get-get_or}
@@ -118,3 +118,17 @@ pub returns-clause-spares : goal.returns-clause-spares
 returns-clause-spares g c =
     let given = subst (λ helds. AllZip (λ row h. AreLeft row.items h.spares.items) c.args.cast.items helds.items) (sym c.in_ok-keep_journals.ensures.objects) c.in_ok-stage.ensures.spares in
     left_then (λ h. h.spares.items) (λ row. row.items) c.args.cast.items c.keep_journals.new.self.objects.items c.make_all.new.self.objects.items given c.in_ok-make_all.ensures.spares
+
+pub returns-in_err-stage-clause-object : goal.returns-in_err-stage-clause-object
+returns-in_err-stage-clause-object g c = if_err c.from_residual.result _ c.in_err-stage.field-0.0 (search rules) (λ p e. inl (c.in_err-stage.ensures.object p e))
+
+pub returns-in_err-make_all-clause-object : goal.returns-in_err-make_all-clause-object
+returns-in_err-make_all-clause-object g c = if_err c.from_residual-in_err-make_all.result _ c.in_err-make_all.field-0.0 (search rules)
+    (λ p e. inr (subst (λ (z : Planned). IsStopped z
+    (map (λ row. map (λ b. content ((goal.Recoverable-dyn g (b.vtable, b.value)).kind_of b.value) ((goal.Recoverable-dyn g (b.vtable, b.value)).value_of b.value)) row.items) c.args.cast.items)
+    c.args.steps.now p) (ap (λ (w : World). w.agenda.plan) c.in_ok-keep_journals.ensures.world ∙ c.in_ok-stage.ensures.plan)
+    (c.in_err-make_all.ensures.named
+    (map (λ row. map (λ b. content ((goal.Recoverable-dyn g (b.vtable, b.value)).kind_of b.value) ((goal.Recoverable-dyn g (b.vtable, b.value)).value_of b.value)) row.items) c.args.cast.items)
+    (subst (λ helds. HoldDue
+    (map (λ row. map (λ b. content ((goal.Recoverable-dyn g (b.vtable, b.value)).kind_of b.value) ((goal.Recoverable-dyn g (b.vtable, b.value)).value_of b.value)) row.items) c.args.cast.items)
+    [] (has_of helds.items (λ b. content ((goal.Recoverable-dyn g (b.vtable, b.value)).kind_of b.value) ((goal.Recoverable-dyn g (b.vtable, b.value)).value_of b.value)))) (sym c.in_ok-keep_journals.ensures.objects) c.in_ok-stage.ensures.due) p (ap stopped_at e))))

@@ -1,7 +1,7 @@
-use Rattle.std.proofs.Common.{◌∙◌, refl, sym}
+use Rattle.std.proofs.Common.{◌∙◌, refl, sym, arith}
 use Rattle.std.proofs.lemmas.List.{length-map}
 use Rattle.kt_held.specs.Holdings.{content}
-use Rattle.kt_run.proofs.Casting.{answered, of_objects, of_none_told}
+use Rattle.kt_run.proofs.Casting.{answered, of_objects, of_none_told, of_object}
 use Rattle.kt_run.proofs.Holding.{hold_first, as_many_given}
 use Rattle.kt_run.proofs.Spares.{left_given}
 use Rattle.kt_run.proofs.stage.first_objects.Goals as goal
@@ -27,3 +27,9 @@ returns-in-Err-clause-untold g c = rw c.from.ensures (λ p. of_none_told c.in-Er
 
 pub returns-in-Ok-clause-spares : goal.returns-in-Ok-clause-spares
 returns-in-Ok-clause-spares g c = left_given (λ h. h.spares.items) (λ row. row.items) (λ h. h.present) c.args.cast.items c.in-Ok.objects.items c.in-Ok.ensures.objects (λ p h l. (c.in-Ok.ensures.holds p h l).0)
+
+pub returns-in-Err-clause-object : goal.returns-in-Err-clause-object
+returns-in-Err-clause-object g c = rw c.from.ensures (λ p e.
+    let l = c.in-Err.ensures.place p (of_object c.in-Err.fault p e) in
+    let n = c.size-size.ensures.plan.one_kind_each in
+    omega (arith, l, n))
