@@ -5,7 +5,7 @@ ghost use Rattle.std.specs.Option.{option_map, option_copied};
 ghost use Rattle.kt_base.specs.Sets.{has};
 ghost use Rattle.kt_base.specs.declared.words.Kind.TheVariants as kind;
 ghost use Rattle.kt_tables.specs.Calls.{Call, sent, received, on_tentative, Speaks};
-ghost use Rattle.kt_tables.specs.Standing.{StandsFor};
+ghost use Rattle.kt_tables.specs.Standing.{StandsFor, CanReceive};
 ghost use Rattle.kt_parts.specs.Rules.{after_reply, settle_action};
 ghost use Rattle.kt_roll.specs.Notes.{note_of};
 ghost use Rattle.kt_process.specs.Persons.{Person, part_of, is_saving, is_ready, inst_of, asked_of, IsNear, IsNumbered, Fits};
@@ -213,6 +213,7 @@ impl Process {
         ensures up { self.new.up ≡ self.old.up }
         ensures stands { (calls : List Call) → StandsFor self.old.tables calls → Speaks (calls ++ received from label ∷ []) → StandsFor self.new.tables (calls ++ received from label ∷ []) }
         ensures shows { (y : SeenPerson) → IsSeenAs self.old y → Speaks (y.calls ++ received from label ∷ []) → IsSeenAs self.new (record y { calls = y.calls ++ received from label ∷ [] }) }
+        ensures unnoted { (CanReceive self.old.tables from label → ⊥) → self.new ≡ self.old }
     {
         kt_tables::labels_that_follow();
         if self.tables.can_receive(from, label) {
@@ -370,6 +371,7 @@ impl Process {
         ensures used { self.new.used ≡ self.old.used }
         ensures up { self.new.up ≡ (self.old.up || (commit && is_ready self.old.side)) }
         ensures shows { (y : SeenPerson) → IsSeenAs self.old y → (inst_of self.old.side ≡ None → ⊥) → IsSeenAs self.new (closed_as commit y) }
+        ensures outside { inst_of self.old.side ≡ None → self.new ≡ self.old }
     {
         match self.side.take() {
             Some(Side::Checkpoint(side)) => {
