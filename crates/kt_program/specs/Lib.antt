@@ -4,6 +4,7 @@ pub mod Ending
 pub mod Faults
 pub mod Inputs
 pub mod Names
+pub mod Outputs
 pub mod Played
 pub mod Program
 pub mod Status

@@ -6,6 +6,7 @@ ghost use Rattle.kt_program.specs.declared.fault.AppFault.TheVariants as app;
 ghost use Rattle.kt_program.specs.declared.fault.ProgramFault.TheVariants as program;
 ghost use Rattle.kt_program.specs.Ending.{IsOfOutputs};
 ghost use Rattle.kt_program.specs.Names.{IsFileName};
+ghost use Rattle.kt_program.specs.Outputs.{contents_of};
 
 use crate::fault::{AppFault, ProgramFault};
 use crate::names::is_device;
@@ -23,6 +24,8 @@ pub(crate) enum Output<W> {
 }
 
 impl<W: Write> Write for Output<W> {
+    ghost contents = { contents_of W.contents };
+
     fn write(&mut self, buf: &[u8]) -> io::Result<usize> {
         match self {
             Output::File(file) => file.write(buf),
