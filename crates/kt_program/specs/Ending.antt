@@ -3,6 +3,7 @@ use Rattle.std.specs.Prelude.{◌≡◌, ◌≢◌, ◌⊎◌, ℕ, Bool, List, 
 use Rattle.std.specs.Io.KnownBytes.{Appends}
 use Rattle.clap.specs.Words.{Text}
 use Rattle.kt_spacetime.specs.declared.event.Event.{Event}
+use Rattle.kt_plan.specs.declared.steps.Step.{Step}
 use Rattle.kt_plan.specs.Limits.{Planned}
 use Rattle.kt_checker.specs.declared.verdict.Verdict.{Verdict}
 use Rattle.kt_promises.specs.Follows.{FollowsPlan}
@@ -14,7 +15,9 @@ use Rattle.kt_program.specs.declared.fault.AppFault.TheVariants as app
 use Rattle.kt_program.specs.declared.fault.ProgramFault.{ProgramFault}
 use Rattle.kt_program.specs.declared.fault.ProgramFault.TheVariants as program
 use Rattle.kt_program.specs.Asking.{Ask, IsOfRun}
-use Rattle.kt_run.specs.Runs.{IsLogOfRun}
+use Rattle.kt_run.specs.Runs.{IsLogOfRun, IsPlayed}
+use Rattle.kt_program.specs.Inputs.{AreGiven, IsPlanOfFile}
+use Rattle.kt_program.specs.Names.{Name}
 use Rattle.kt_program.specs.Played.{OverNew, report_text}
 use Rattle.kt_program.specs.Status.{status_of}
 use Rattle.kt_program.specs.Stored.{Told, is_yes, verdict_line}
@@ -35,6 +38,16 @@ pub record AppendsReport (old new : Told) : Type 0 where
   pub run : OverNew plan (IsLogOfRun plan) rows
   pub follows : FollowsPlan plan rows
   pub promised : IsPromised rows
+  pub report : Appends old new (report_text plan rows)
+
+-- the report of a run over new objects, of a plan that a file says, which begins with the steps that are given
+pub record AppendsPlay {F : Type 0} (told : F → Told) (name : Name) (old new : Told) : Type 0 where
+  pub plan : Planned
+  pub planned : IsPlanOfFile told plan
+  pub steps : List Step
+  pub given : AreGiven told name plan.names steps
+  pub rows : List Event
+  pub played : OverNew plan (λ cast. IsPlayed plan cast steps) rows
   pub report : Appends old new (report_text plan rows)
 
 -- the run's report; at a fault nothing, unless a writer failed or there was no memory for more of the report

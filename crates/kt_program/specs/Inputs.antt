@@ -1,5 +1,5 @@
 -- What the program makes of the texts of a scenario and of steps.
-use Rattle.std.specs.Prelude.{◌≡◌, ◌≢◌, ◌⊎◌, ◌<◌, ◌++◌, ℕ, List, length, IfSome}
+use Rattle.std.specs.Prelude.{◌≡◌, ◌≢◌, ◌⊎◌, ◌<◌, ◌++◌, ℕ, List, [], Some, None, length, IfSome}
 use Rattle.kt_text.specs.declared.fault.ReadFault.{ReadFault}
 use Rattle.kt_text.specs.declared.fault.ReadFault.TheVariants as read
 use Rattle.kt_plan.specs.declared.steps.Step.{Step}
@@ -13,6 +13,7 @@ use Rattle.kt_scenario.specs.declared.fault.StepsFault.TheVariants as steps
 use Rattle.kt_program.specs.declared.fault.AppFault.TheVariants as app
 use Rattle.kt_program.specs.declared.fault.ProgramFault.{ProgramFault}
 use Rattle.kt_program.specs.declared.fault.ProgramFault.TheVariants as program
+use Rattle.kt_program.specs.Names.{Name}
 use Rattle.kt_program.specs.Stored.{Told}
 
 -- a text is a whole one, or a part of it from its beginning that has more than so many bytes
@@ -30,6 +31,21 @@ IsScenarioOf told plan = IfSome told (λ text. IsScenario text plan)
 -- the bytes say these steps of processes with these names
 abbrev pub AreStepsOf : Told → List (List ℕ) → List Step → Type 0
 AreStepsOf told names list = IfSome told (λ text. AreSteps names text list)
+
+-- there is a file that says this plan, as far as files tell what they have
+pub record IsPlanOfFile {F : Type 0} (told : F → Told) (plan : Planned) : Type 0 where
+  pub file : F
+  pub says : IsScenarioOf (told file) plan
+
+-- there is a file that says these steps
+pub record AreStepsOfFile {F : Type 0} (told : F → Told) (names : List (List ℕ)) (list : List Step) : Type 0 where
+  pub file : F
+  pub say : AreStepsOf (told file) names list
+
+-- the steps that are given: those that a file says, where one is named, and else none
+abbrev pub AreGiven : {F : Type 0} → (F → Told) → Name → List (List ℕ) → List Step → Type 0
+AreGiven told None names list = list ≡ []
+AreGiven told (Some name) names list = AreStepsOfFile told names list
 
 -- why there is no plan: the first fault of the text; nothing is said of when a reader or memory fails
 abbrev pub IsScenarioRefusal : Told → ProgramFault → Type 0

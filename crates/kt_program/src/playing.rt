@@ -1,9 +1,10 @@
 //! A scenario played, or run by threads, from its files.
 
-ghost use Rattle.std.specs.Prelude.{◌≡◌, ◌≢◌, ◌⊎◌, IfErr};
+ghost use Rattle.std.specs.Prelude.{◌≡◌, ◌≢◌, ◌⊎◌, IfOk, IfErr, OnOk};
 ghost use Rattle.kt_program.specs.declared.fault.AppFault.TheVariants as app;
 ghost use Rattle.kt_program.specs.declared.fault.ProgramFault.TheVariants as program;
-ghost use Rattle.kt_program.specs.Ending.{IsNotOfSteps, IsOfInput, LeavesPlayed};
+ghost use Rattle.kt_program.specs.Ending.{AppendsPlay, IsNotOfSteps, IsOfInput, LeavesPlayed};
+ghost use Rattle.kt_program.specs.Inputs.{AreGiven, IsPlanOfFile};
 ghost use Rattle.kt_program.specs.Names.{IsFileName};
 
 use crate::casts::{live_objects, play_objects};
@@ -33,6 +34,8 @@ pub(crate) fn play_files<F: Files, O: Write>(
     out: &mut O,
 ) -> Result<(), ProgramFault>
     ensures output { LeavesPlayed result (O.contents out.old) (O.contents out.new) }
+    // The run whose report is written is that of the scenario, and begins with the steps that were read.
+    ensures begins { OnOk result (AppendsPlay F.File.remaining steps.entry (O.contents out.old) (O.contents out.new)) }
     // Two names of one file are refused where a file is to be written.
     ensures named { IfErr result (λ fault. fault ≡ program.SameFile → IsFileName log.entry ⊎ IsFileName cert.entry) }
 {
@@ -68,6 +71,7 @@ pub(crate) fn live_files<F: Files + Threads + Wait + Sync, O: Write>(
 
 // The plan of the scenario in this file.
 fn scenario_in<F: Files>(files: &F, alloc: Global, name: &str) -> Result<Plan, ProgramFault>
+    ensures plan { IfOk result (IsPlanOfFile F.File.remaining) }
     ensures input { IfErr result IsOfInput }
     ensures fault { IfErr result IsNotOfSteps }
 {
@@ -84,7 +88,8 @@ fn steps_in<F: Files>(
     name: Option<&str>,
     plan: &Plan,
 ) -> Result<Vec<Step>, ProgramFault>
-    ensures { IfErr result IsOfInput }
+    ensures steps { IfOk result (λ steps. AreGiven F.File.remaining name.entry plan.now.names steps.items) }
+    ensures fault { IfErr result IsOfInput }
 {
     let Some(name) = name else {
         return Ok(Vec::new(alloc));
