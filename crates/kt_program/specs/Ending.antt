@@ -14,6 +14,8 @@ use Rattle.kt_program.specs.declared.fault.AppFault.{AppFault}
 use Rattle.kt_program.specs.declared.fault.AppFault.TheVariants as app
 use Rattle.kt_program.specs.declared.fault.ProgramFault.{ProgramFault}
 use Rattle.kt_program.specs.declared.fault.ProgramFault.TheVariants as program
+use Rattle.kt_program.specs.declared.line.Asked.{Asked}
+use Rattle.kt_program.specs.declared.line.Asked.TheVariants.{Check, Live, Play}
 use Rattle.kt_program.specs.Asking.{Ask, IsOfRun}
 use Rattle.kt_run.specs.Runs.{IsLogOfRun, IsPlayed}
 use Rattle.kt_program.specs.Inputs.{AreGiven, IsPlanOfFile}
@@ -82,6 +84,19 @@ abbrev pub LeavesDone : Done → Told → Told → Type 0
 LeavesDone (Judged passed) old new = AppendsAnswer passed old new
 LeavesDone Played old new = AppendsReport old new
 LeavesDone Shown old new = Unit {0}
+
+-- what is written for what is asked: the report of the scenario played with the steps of the file that is named, or of a
+-- run by threads
+abbrev pub Plays : {F : Type 0} → (F → Told) → Told → Told → Asked → Type 0
+Plays told old new (Play scenario steps log cert) = AppendsPlay told steps old new
+Plays told old new (Live scenario log cert) = AppendsReport old new
+Plays told old new (Check log cert) = ⊥
+
+-- where a scenario was run, that is written which these words ask for
+abbrev pub PlayedFor : {F : Type 0} → List Text → (F → Told) → Told → Told → Done → Type 0
+PlayedFor words told old new Played = Ask words (Plays told old new)
+PlayedFor words told old new (Judged passed) = Unit {0}
+PlayedFor words told old new Shown = Unit {0}
 
 -- a fault where part of a report may be written: there was no memory for more of it
 abbrev pub IsInReport : List Text → ProgramFault → Type 0

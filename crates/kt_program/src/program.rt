@@ -8,7 +8,7 @@ ghost use Rattle.kt_program.specs.declared.ending.Done.TheVariants.{Shown};
 ghost use Rattle.kt_program.specs.declared.fault.AppFault.TheVariants as app;
 ghost use Rattle.kt_program.specs.declared.fault.ProgramFault.TheVariants as program;
 ghost use Rattle.kt_program.specs.Asking.{EndsFor, IsRequest, IsUnshown};
-ghost use Rattle.kt_program.specs.Ending.{Ends, LeavesOutput, LeavesAnswer};
+ghost use Rattle.kt_program.specs.Ending.{Ends, LeavesOutput, LeavesAnswer, PlayedFor};
 
 use crate::ask::{AskFault, asked};
 use crate::checked::check_bytes;
@@ -67,6 +67,8 @@ pub fn carry_out<F: Files + Threads + Wait + Sync, O: Write>(
     // What is done, or that the words are refused, is what clap's definition of the command line gives for them.
     ensures words { EndsFor words.now result }
     ensures output { LeavesOutput words.now result (O.contents out.old) (O.contents out.new) }
+    // A scenario that is played begins with the steps of the file that the words name.
+    ensures played { IfOk result (PlayedFor words.now F.File.remaining (O.contents out.old) (O.contents out.new)) }
 {
     match asked(alloc, words) {
         Ok(
