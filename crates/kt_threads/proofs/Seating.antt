@@ -1,9 +1,10 @@
 -- A seat's next step, and what seats come to.
-use Rattle.std.proofs.Common.{◌≡◌, ◌∙◌, true, List, [], ◌∷◌, ◌++◌, drop, map, refl, sym, ap, subst, All, IfSome, ℕ, suc, Some, None}
+use Rattle.std.proofs.Common.{◌≡◌, ◌∙◌, ◌+◌, true, List, [], ◌∷◌, ◌++◌, drop, map, refl, sym, ap, subst, All, IfSome, ℕ, suc, Some, None}
 use Rattle.std.specs.List.{AllZip}
 use Rattle.std.specs.Prelude.{is_some, option_map, slice_get}
 use Rattle.std.specs.declared.alloc.Global.{Global}
 use Rattle.std.specs.declared.dyn_box.DynBox.{DynBox}
+use Rattle.std.proofs.lemmas.List.{drop-drop}
 use Rattle.std.proofs.lemmas.List.Elements.{All-head, All-tail, All-cons, All-nil}
 use Rattle.kt_object.specs.Value.{offered}
 use Rattle.kt_held.specs.Fits.{spares_of_all}
@@ -11,13 +12,17 @@ use Rattle.kt_held.specs.Holdings.{Content, Holding, Holds, does_all}
 use Rattle.kt_held.specs.declared.held.Held.{Held}
 use Rattle.kt_plan.specs.declared.steps.Act.{Act}
 use Rattle.kt_plan.specs.declared.steps.Look.TheVariants as look
-use Rattle.kt_run.specs.Objects.{Belongings, belongings_of, has_of}
+use Rattle.kt_run.specs.Objects.{Belongings, belongings_of, has_of, AreLeft}
 use Rattle.kt_run.proofs.Acting.{of_content}
 use Rattle.kt_run.proofs.Holding.{IsDone, done_by}
 use Rattle.kt_threads.specs.Seats.{IsServed, AreServed, KeepsServing, AllServed}
 use Rattle.kt_threads.specs.declared.seat.Seat.{Seat}
 use Rattle.kt_threads.specs.declared.state.Made.{Made}
 use Rattle.kt_threads.proofs.Zips.{mapped}
+
+-- fewer are left
+pub left_on : {A : Type 0} (all xs ys : List A) (n : ℕ) → ys ≡ drop n xs → AreLeft all xs → AreLeft all ys
+left_on all xs ys n is l = (l.0 + n, is ∙ (ap (λ (z : List _). drop n z) l.1 ∙ drop-drop n l.0 all))
 
 -- one more step
 served_next : (steps : List Made) (made : Made) (first now new : Belongings) → IsServed now made new → AreServed first steps now
@@ -40,6 +45,11 @@ module _ {X : Type 0} {D : X → Type 0} (content_of : DynBox X Global D → Con
       (served_next steps made first (belongings_of content_of x) (belongings_of content_of y)
       (record { does = done.does; spares = done.spares; offers = λ n. of_content content_of x.present (λ c. made.give.body ≡ offered c.kind c.value) (asked n) }) s)
 
+-- one after the other
+pub keeps_then : {X : Type 0} {D : X → Type 0} (content_of : DynBox X Global D → Content) (a b c : Seat X D) → KeepsServing a b content_of → KeepsServing b c content_of
+    → KeepsServing a c content_of
+keeps_then content_of a b c k m = (λ first s. m.0 first (k.0 first s), λ all s. m.1 all (k.1 all s))
+
 -- what seats that have made nothing yet come to
 module _ {X : Type 0} {D : X → Type 0} (content_of : DynBox X Global D → Content) where
   all_served : (ss ts : List (Seat X D)) → All (λ s. s.made.items ≡ []) ss → AllZip (λ s t. KeepsServing s t content_of) ss ts → All (λ t. t.whole ≡ true) ts
@@ -49,7 +59,7 @@ module _ {X : Type 0} {D : X → Type 0} (content_of : DynBox X Global D → Con
   all_served (s ∷ ss) [] fresh works all = absurd works
   all_served (s ∷ ss) (t ∷ ts) fresh works all =
       let first = belongings_of content_of s.held in (
-        works.0 first (λ _. subst (λ (l : List Made). AreServed first l first) (sym (All-head (λ x. x.made.items ≡ []) s ss fresh)) refl)
+        works.0.0 first (λ _. subst (λ (l : List Made). AreServed first l first) (sym (All-head (λ x. x.made.items ≡ []) s ss fresh)) refl)
             (All-head (λ x. x.whole ≡ true) t ts all),
         all_served ss ts (All-tail (λ x. x.made.items ≡ []) s ss fresh) works.1 (All-tail (λ x. x.whole ≡ true) t ts all),
       )
@@ -67,6 +77,24 @@ module _ {X : Type 0} {D : X → Type 0} (content_of : DynBox X Global D → Con
       (subst (λ (l : List Belongings). AllServed (map has ss) lists l) last
       (subst (λ (l : List (List Made)). AllServed (map has ss) l (map has ts)) (sym have)
       (all_served ss ts fresh works all)))
+
+  all_left : (ss ts : List (Seat X D)) → AllZip (λ s t. KeepsServing s t content_of) ss ts → All (λ t. t.whole ≡ true) ts
+      → AllZip (λ g h. AreLeft g.spares.items h.spares.items) (map (λ s. s.held) ss) (map (λ t. t.held) ts)
+  all_left [] [] works all = tt
+  all_left [] (t ∷ ts) works all = absurd works
+  all_left (s ∷ ss) [] works all = absurd works
+  all_left (s ∷ ss) (t ∷ ts) works all = (
+    works.0.1 s.held.spares.items (λ _. (0, refl)) (All-head (λ x. x.whole ≡ true) t ts all),
+    all_left ss ts works.1 (All-tail (λ x. x.whole ≡ true) t ts all),
+  )
+
+  pub all_left_of : (olds news : List (Held X D)) (ss ts : List (Seat X D)) → map (λ s. s.held) ss ≡ olds → news ≡ map (λ t. t.held) ts
+      → AllZip (λ s t. KeepsServing s t content_of) ss ts → All (λ t. t.whole ≡ true) ts
+      → AllZip (λ g h. AreLeft g.spares.items h.spares.items) olds news
+  all_left_of olds news ss ts was are works all =
+      subst (λ (l : List (Held X D)). AllZip (λ g h. AreLeft g.spares.items h.spares.items) l news) was
+      (subst (λ (l : List (Held X D)). AllZip (λ g h. AreLeft g.spares.items h.spares.items) (map (λ s. s.held) ss) l) (sym are)
+      (all_left ss ts works all))
 
 -- what is so of what each process has is so of what is held
 pub all_of_has : {X : Type 0} {D : X → Type 0} (content_of : DynBox X Global D → Content) (helds : List (Held X D))

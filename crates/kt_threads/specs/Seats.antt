@@ -6,9 +6,14 @@ use Rattle.kt_object.specs.Value.{offered}
 use Rattle.kt_held.specs.Fits.{spares_of_all}
 use Rattle.kt_held.specs.Holdings.{Content, Holding, Holds, does_all}
 use Rattle.kt_plan.specs.declared.steps.Look.TheVariants.{NeedsBody}
-use Rattle.kt_run.specs.Objects.{Belongings, belongings_of}
+use Rattle.kt_run.specs.Objects.{Belongings, belongings_of, AreLeft}
 use Rattle.kt_threads.specs.declared.seat.Seat.{Seat}
 use Rattle.kt_threads.specs.declared.state.Made.{Made}
+
+-- if all acts could be done: where of these objects all but the first ones were left as a process's spares, so they are later
+abbrev pub KeepsSpares : {X : Type 0} {D : X → Type 0} → Seat X D → Seat X D → Type 0
+KeepsSpares {X} {D} old new = (all : List (DynBox X Global D)) → (old.whole ≡ true → AreLeft all old.held.spares.items)
+    → new.whole ≡ true → AreLeft all new.held.spares.items
 
 -- the acts that a step told were done to what its process had; and where the step asked for a body, it was given what
 -- the object, if it was up, offered before that
@@ -27,9 +32,10 @@ abbrev pub HasServed : {X : Type 0} {D : X → Type 0} → (DynBox X Global D �
 HasServed content_of first seat =
     seat.whole ≡ true → AreServed first seat.made.items (belongings_of content_of seat.held)
 
--- where it was so before, it is so later
+-- where it was so before, it is so later; and of the spares all but the first ones are left, if all acts could be done
 abbrev pub KeepsServing : {X : Type 0} {D : X → Type 0} → Seat X D → Seat X D → (DynBox X Global D → Content) → Type 0
-KeepsServing old new content_of = (first : Belongings) → HasServed content_of first old → HasServed content_of first new
+KeepsServing old new content_of = ((first : Belongings) → HasServed content_of first old → HasServed content_of first new)
+    × KeepsSpares old new
 
 -- so it was with each process
 abbrev pub AllServed : List Belongings → List (List Made) → List Belongings → Type 0

@@ -7,7 +7,7 @@ ghost use Rattle.kt_held.specs.Holdings.{Content, content};
 ghost use Rattle.kt_promises.specs.Follows.{FollowsPlan};
 ghost use Rattle.kt_promises.specs.Headline.{IsPromised};
 ghost use Rattle.kt_run.specs.Faults.{IsCast};
-ghost use Rattle.kt_run.specs.Objects.{has_of, HoldDue};
+ghost use Rattle.kt_run.specs.Objects.{has_of, HoldDue, AreLeft};
 ghost use Rattle.kt_run.specs.Telling.{AreToldTheirRows};
 ghost use Rattle.kt_threads.specs.Faults.{AnswersLive, is_live_of_cast};
 ghost use Rattle.kt_threads.specs.Histories.{IsWholeHistory, IsLived};
@@ -36,6 +36,8 @@ fn first_objects(alloc: Global, plan: &Plan, cast: Cast) -> Result<Vec<Held>, Li
     ensures due { IfOk result (λ objects. HoldDue
         (map (λ row. map (λ b. content (kind_of b) (value_of b)) row.items) cast.items) []
         (has_of objects.items (λ b. content (kind_of b) (value_of b)))) }
+    ensures spares { IfOk result (λ objects.
+        AllZip (λ row h. AreLeft row.items h.spares.items) cast.items objects.items) }
 {
     let _size = plan.size();
     match begin_all(alloc, plan, cast) {
@@ -157,6 +159,8 @@ fn live_with<R: Threads + Wait + Sync>(
     ensures settled { (cast : List (List Content)) → HoldDue cast [] (has_of objects.items
         (λ b. content (kind_of (b.vtable, b.value)) (value_of (b.vtable, b.value)))) →
         IfOk result (λ o. All (λ h. h.depot.tentative ≡ None) o.objects.items) }
+    ensures spares { IfOk result (λ o.
+        AllZip (λ g h. AreLeft g.spares.items h.spares.items) objects.items o.objects.items) }
     ensures told { IfOk result (λ o. AreToldTheirRows o.log.rows (map (λ list. list.items) o.told.items)) }
     ensures promised { IfOk result (λ o. IsPromised o.log.rows) }
     ensures follows { IfOk result (λ o. FollowsPlan plan.now o.log.rows) }
@@ -199,6 +203,10 @@ pub fn live<R: Threads + Wait + Sync>(
         (map (λ row. map (λ b. content (kind_of b) (value_of b)) row.items) cast.items) o.log.rows
         (has_of o.objects.items (λ b. content (kind_of b) (value_of b)))) }
     ensures settled { IfOk result (λ o. All (λ h. h.depot.tentative ≡ None) o.objects.items) }
+
+    // The spares of each process are the objects that it was given but for the first ones.
+    ensures spares { IfOk result (λ o.
+        AllZip (λ row h. AreLeft row.items h.spares.items) cast.items o.objects.items) }
 
     // Each thread was told its own rows of the log, each once and in order, with their numbers.
     ensures told { IfOk result (λ o. AreToldTheirRows o.log.rows (map (λ list. list.items) o.told.items)) }

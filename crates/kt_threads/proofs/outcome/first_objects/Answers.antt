@@ -2,6 +2,7 @@ use Rattle.std.proofs.Common.{refl}
 use Rattle.kt_held.specs.Holdings.{content}
 use Rattle.kt_run.proofs.Casting.{answered}
 use Rattle.kt_run.proofs.Holding.{hold_first}
+use Rattle.kt_run.proofs.Spares.{left_given}
 use Rattle.kt_threads.proofs.Casting.{of_run}
 use Rattle.kt_threads.proofs.outcome.first_objects.Goals as goal
 
@@ -13,3 +14,6 @@ returns-in-Err-clause-fault g c =
 
 pub returns-in-Ok-clause-due : goal.returns-in-Ok-clause-due
 returns-in-Ok-clause-due g c = hold_first (λ row. row.items) (λ b. content ((goal.Recoverable-dyn g (b.vtable, b.value)).kind_of b.value) ((goal.Recoverable-dyn g (b.vtable, b.value)).value_of b.value)) c.args.cast.items c.in-Ok.objects.items c.in-Ok.ensures.objects c.in-Ok.ensures.holds
+
+pub returns-in-Ok-clause-spares : goal.returns-in-Ok-clause-spares
+returns-in-Ok-clause-spares g c = left_given (λ h. h.spares.items) (λ row. row.items) (λ h. h.present) c.args.cast.items c.in-Ok.objects.items c.in-Ok.ensures.objects (λ p h l. (c.in-Ok.ensures.holds p h l).0)

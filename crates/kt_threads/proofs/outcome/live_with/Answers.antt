@@ -7,7 +7,7 @@ use Rattle.kt_threads.specs.Seats.{AllServed}
 use Rattle.kt_threads.proofs.Keeping.{due_then, run_then, settled_then}
 use Rattle.kt_threads.proofs.Moving.{told_as_in_run, told_their_rows}
 use Rattle.kt_threads.proofs.Reading.{told_each}
-use Rattle.kt_threads.proofs.Seating.{all_served_of, all_of_has}
+use Rattle.kt_threads.proofs.Seating.{all_served_of, all_left_of, all_of_has}
 use Rattle.kt_threads.proofs.outcome.live_with.Goals as goal
 use Rattle.kt_threads.proofs.outcome.live_with.Goals.{After-drop-steps-2, in_default, in_default-2}
 
@@ -23,17 +23,20 @@ theirs g c = search rules
 tells : (g : _) (c : After-drop-steps-2 g) → AreTold (length c.args.plan.now.names) c.in_ok-log.steps.items (map (λ list. list.items) c.in_ok-told.told.items)
 tells g c = told_each (λ list. list.items) (length c.args.plan.now.names) c.in_ok-log.steps.items c.in_ok-lists.lists.items _ (search rules) (theirs g c)
 
-served : (g : _) (c : After-drop-steps-2 g) → AllServed (has_of c.args.objects.items (λ b. content ((goal.Recoverable-dyn g (b.vtable, b.value)).kind_of b.value) ((goal.Recoverable-dyn g (b.vtable, b.value)).value_of b.value))) (map (λ list. list.items) c.in_ok-lists.lists.items) (has_of c.in_ok-lists.objects.items (λ b. content ((goal.Recoverable-dyn g (b.vtable, b.value)).kind_of b.value) ((goal.Recoverable-dyn g (b.vtable, b.value)).value_of b.value)))
-served g c =
+worked : (g : _) (c : After-drop-steps-2 g) → c.work_all.result ≡ Ok c.in_ok-seats-2.field-0
+worked g c =
     let kept : c.match-work_all.seats ≡ c.work_all.result = elim c.match-work_all.branch [
       | in_default w ↦ search rules
       | in_default-2 w ↦ search rules
     ] in
-    let worked : c.work_all.result ≡ Ok c.in_ok-seats-2.field-0 = sym kept ∙ c.in_ok-seats-2.was in
+    sym kept ∙ c.in_ok-seats-2.was
+
+served : (g : _) (c : After-drop-steps-2 g) → AllServed (has_of c.args.objects.items (λ b. content ((goal.Recoverable-dyn g (b.vtable, b.value)).kind_of b.value) ((goal.Recoverable-dyn g (b.vtable, b.value)).value_of b.value))) (map (λ list. list.items) c.in_ok-lists.lists.items) (has_of c.in_ok-lists.objects.items (λ b. content ((goal.Recoverable-dyn g (b.vtable, b.value)).kind_of b.value) ((goal.Recoverable-dyn g (b.vtable, b.value)).value_of b.value)))
+served g c =
     all_served_of (λ b. content ((goal.Recoverable-dyn g (b.vtable, b.value)).kind_of b.value) ((goal.Recoverable-dyn g (b.vtable, b.value)).value_of b.value))
     c.args.objects.items c.in_ok-lists.objects.items (map (λ list. list.items) c.in_ok-lists.lists.items) c.in_ok-seats.seats.items c.in_ok-seats-2.field-0.items
     c.in_ok-seats.ensures.held c.in_ok-lists.ensures.held c.in_ok-lists.ensures.made c.in_ok-seats.ensures.fresh
-    (at_ok c.work_all.result c.in_ok-seats-2.field-0 _ worked c.work_all.ensures) c.in_ok-lists.ensures.whole
+    (at_ok c.work_all.result c.in_ok-seats-2.field-0 _ (worked g c) c.work_all.ensures) c.in_ok-lists.ensures.whole
 
 pub returns-clause-lived : goal.returns-clause-lived
 returns-clause-lived g c = λ cast due.
@@ -59,3 +62,10 @@ returns-clause-settled g c = λ cast due.
 pub returns-clause-told : goal.returns-clause-told
 returns-clause-told g c =
     told_their_rows c.args.plan.now c.in_ok-log.steps.items c.in_ok-log.log.rows (whole g c) (length c.args.plan.now.names) _ (tells g c)
+
+pub returns-clause-spares : goal.returns-clause-spares
+returns-clause-spares g c =
+    all_left_of (λ b. content ((goal.Recoverable-dyn g (b.vtable, b.value)).kind_of b.value) ((goal.Recoverable-dyn g (b.vtable, b.value)).value_of b.value))
+    c.args.objects.items c.in_ok-lists.objects.items c.in_ok-seats.seats.items c.in_ok-seats-2.field-0.items
+    c.in_ok-seats.ensures.held c.in_ok-lists.ensures.held
+    (at_ok c.work_all.result c.in_ok-seats-2.field-0 _ (worked g c) c.work_all.ensures) c.in_ok-lists.ensures.whole
