@@ -1,5 +1,5 @@
 -- What an act leads to is what it makes of a holding.
-use Rattle.std.proofs.Common.{◌≡◌, ℕ, ℤ, ◌-◌, Bool, true, false, Option, Some, None, List, [], ◌∷◌, length, take, get_or, refl, sym, ap, subst, ◌∙◌, arith}
+use Rattle.std.proofs.Common.{◌≡◌, ℕ, ℤ, ◌+◌, ◌-◌, Bool, true, false, Option, Some, None, List, [], ◌∷◌, length, take, get_or, refl, sym, ap, subst, ◌∙◌, arith}
 use Rattle.std.specs.Prelude.{option_map, unwrap_or, is_some, ◌&&◌}
 use Rattle.kt_object.specs.SavedStates.{SavedStates}
 use Rattle.kt_object.specs.Bytes.{IsSavedState}
@@ -7,7 +7,7 @@ use Rattle.kt_object.proofs.SavedOnce.{kind_once, value_once}
 use Rattle.kt_plan.specs.declared.steps.Act.{Act}
 use Rattle.kt_plan.specs.declared.steps.Act.TheVariants.{Nothing, Apply, Keep, Promote, Discard, Restore, Drop}
 use Rattle.kt_held.specs.Holdings.{Content, content, Holding, applied, does, does_all, AreSaved, Holds}
-use Rattle.kt_held.specs.Fits.{Leads, fits, fits_all, is_up_after, has_tentative_after, spares_of}
+use Rattle.kt_held.specs.Fits.{Leads, fits, fits_all, is_up_after, has_tentative_after, is_saved_after, spares_of, spares_of_all}
 
 -- these bytes are a saved state of this content
 abbrev IsSaved : Content → List ℕ → Type 0
@@ -116,22 +116,60 @@ leads_tentative Discard v w d e l = ap (λ (s : SavedStates). is_some s.tentativ
 leads_tentative Restore v w d e l = ap (λ (s : SavedStates). is_some s.tentative) l.0
 leads_tentative Drop v w d e l = ap (λ (s : SavedStates). is_some s.tentative) l.1
 
+-- what was saved is used up by what is done first
+used_up : (saved : Bool) (a : Act) → (a ≡ Nothing → ⊥) → is_saved_after saved a ≡ false
+used_up saved Nothing n = absurd (n refl)
+used_up saved (Apply from body) n = refl
+used_up saved Keep n = refl
+used_up saved Promote n = refl
+used_up saved Discard n = refl
+used_up saved Restore n = refl
+used_up saved Drop n = refl
+
+both : (x y : Bool) → x ≡ true → y ≡ true → (x && y) ≡ true
+both true y e f = f
+both false y e f = absurd (cc e)
+
 -- two acts fit
-pub both_fit : (acts : List Act) (a b : Act) (up tentative saved up' tentative' : Bool) (spares left : ℕ) → acts ≡ a ∷ b ∷ []
+pub both_fit : (acts : List Act) (a b : Act) (up tentative saved up' tentative' : Bool) (spares left : ℕ) → acts ≡ a ∷ b ∷ [] → (a ≡ Nothing → ⊥)
     → fits (record { up = up; tentative = tentative; saved = saved; spares = spares }) a ≡ true
     → fits (record { up = up'; tentative = tentative'; saved = false; spares = left }) b ≡ true
     → up' ≡ is_up_after up a → tentative' ≡ has_tentative_after tentative a → left ≡ spares - spares_of up a
     → fits_all (record { up = up; tentative = tentative; saved = saved; spares = spares }) acts ≡ true
-both_fit acts a b up tentative saved up' tentative' spares left is one two same_up same_tentative same_left =
+both_fit acts a b up tentative saved up' tentative' spares left is n one two same_up same_tentative same_left =
     subst (λ (acts : List Act). fits_all (record { up = up; tentative = tentative; saved = saved; spares = spares }) acts ≡ true) (sym is)
     (both _ _ one (both _ _
-    (subst (λ (n : ℕ). fits (record { up = is_up_after up a; tentative = has_tentative_after tentative a; saved = false; spares = n }) b ≡ true) same_left
-    (subst (λ (t : Bool). fits (record { up = is_up_after up a; tentative = t; saved = false; spares = left }) b ≡ true) same_tentative
-    (subst (λ (u : Bool). fits (record { up = u; tentative = tentative'; saved = false; spares = left }) b ≡ true) same_up two))) refl))
-  where
-    both : (x y : Bool) → x ≡ true → y ≡ true → (x && y) ≡ true
-    both true y e f = f
-    both false y e f = absurd (cc e)
+    (subst (λ (m : ℕ). fits (record { up = is_up_after up a; tentative = has_tentative_after tentative a; saved = is_saved_after saved a; spares = m }) b ≡ true) same_left
+    (subst (λ (t : Bool). fits (record { up = is_up_after up a; tentative = t; saved = is_saved_after saved a; spares = left }) b ≡ true) same_tentative
+    (subst (λ (u : Bool). fits (record { up = u; tentative = tentative'; saved = is_saved_after saved a; spares = left }) b ≡ true) same_up
+    (subst (λ (k : Bool). fits (record { up = up'; tentative = tentative'; saved = k; spares = left }) b ≡ true) (sym (used_up saved a n)) two)))) refl))
+
+-- where the first is nothing, the second alone
+module _ (acts : List Act) (a b : Act) (is : acts ≡ a ∷ b ∷ []) (nothing : a ≡ Nothing) where
+  alone : acts ≡ Nothing ∷ b ∷ []
+  alone = is ∙ ap (λ (x : Act). x ∷ b ∷ []) nothing
+
+  pub second_done : (h : Holding) (v w : Option Content) (d e : SavedStates) → Leads b v d w e → Holds h v d → Holds (does_all h acts) w e
+  second_done h v w d e leads held = subst (λ (acts : List Act). Holds (does_all h acts) w e) (sym alone) (acted b h v d w e leads held)
+
+  pub second_not : (h : Holding) (v w : Option Content) (d e : SavedStates) → w ≡ v → e ≡ d → Holds h v d → Holds (does_all h (take 1 acts)) w e
+  second_not h v w d e same_object same_states held =
+      subst (λ (acts : List Act). Holds (does_all h (take 1 acts)) w e) (sym alone)
+      (subst (λ (w : Option Content). Holds h w e) (sym same_object) (subst (λ (e : SavedStates). Holds h v e) (sym same_states) held))
+
+  and_true : (x : Bool) → (x && true) ≡ x
+  and_true true = refl
+  and_true false = refl
+
+  pub second_fits : (up tentative saved : Bool) (spares : ℕ) →
+      fits_all (record { up = up; tentative = tentative; saved = saved; spares = spares }) acts ≡ fits (record { up = up; tentative = tentative; saved = saved; spares = spares }) b
+  second_fits up tentative saved spares =
+      ap (fits_all (record { up = up; tentative = tentative; saved = saved; spares = spares })) alone
+      ∙ (and_true (fits (record { up = up; tentative = tentative; saved = saved; spares = spares - 0 }) b)
+      ∙ ap (λ (n : ℕ). fits (record { up = up; tentative = tentative; saved = saved; spares = n }) b) (let z : spares - 0 ≡ spares = omega arith in z))
+
+  pub second_takes : (up : Bool) → spares_of_all up acts ≡ spares_of up b
+  second_takes up = ap (spares_of_all up) alone ∙ (let z : 0 + (spares_of up b + 0) ≡ spares_of up b = omega arith in z)
 
 -- a list of two
 pub two_of : {A : Type 0} (xs : List A) (a b : A) → length xs ≡ 2 → xs ≡ get_or xs 0 a ∷ get_or xs 1 b ∷ []

@@ -6,7 +6,8 @@ use Rattle.std.proofs.lemmas.List.{get_or-map, length-map}
 use Rattle.std.proofs.lemmas.List.Elements.{All-cons, All-head, All-tail}
 use Rattle.std.proofs.lemmas.Bool.{eqb-true, true≢false}
 use Rattle.kt_plan.specs.declared.commands.Command.{Command}
-use Rattle.kt_held.specs.Casts.{failures_of, HasSizes, HasKind}
+use Rattle.kt_plan.specs.Failures.{failures_of}
+use Rattle.kt_held.specs.Casts.{HasSizes, HasKind}
 
 -- what is so of the image of an item
 pub at_image : {R : Type 0} (g : R → List ℕ) (P : List ℕ → Type 0) (xs : List R) (p : ℕ) → p < length xs

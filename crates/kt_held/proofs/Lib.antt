@@ -1,3 +1,4 @@
 pub mod Acted
 pub mod CastFacts
 pub mod Lists
+pub mod Rejected

@@ -1,20 +1,9 @@
 -- Which objects a plan asks for.
-use Rattle.std.specs.Prelude.{◌≡◌, ◌<◌, ◌+◌, ◌==◌, ◌&&◌, ℕ, Bool, true, false, List, [], length, slice_index, slice_index_or, count_by, All}
+use Rattle.std.specs.Prelude.{◌≡◌, ◌<◌, ◌+◌, ℕ, Bool, true, false, List, [], length, slice_index, slice_index_or, All}
 use Rattle.kt_held.specs.declared.faults.CastFault.{CastFault}
 use Rattle.kt_held.specs.declared.faults.CastFault.TheVariants.{Size, Kind, Object, Memory}
+use Rattle.kt_plan.specs.Failures.{failures_of}
 use Rattle.kt_plan.specs.declared.commands.Command.{Command}
-use Rattle.kt_plan.specs.declared.commands.Job.{Job}
-use Rattle.kt_plan.specs.declared.commands.Job.TheVariants.{Send, Checkpoint, Rollback, Fail}
-
-abbrev pub is_failure : Job → Bool
-is_failure (Send to body) = false
-is_failure Checkpoint = false
-is_failure Rollback = false
-is_failure Fail = true
-
--- how many failures of a process there are among some commands
-abbrev pub failures_of : List Command → ℕ → ℕ
-failures_of commands p = count_by (λ (command : Command). command.by == p && is_failure command.job) commands
 
 -- the kinds of the objects that are given, by process: each process has an object, and a spare for each of its failures
 pub record HasSizes (kinds : List ℕ) (commands : List Command) (given : List (List ℕ)) : Type 0 where

@@ -15,6 +15,11 @@ pub record Outline : Type 0 where
   pub saved : Bool
   pub spares : ℕ
 
+-- the same, put together
+abbrev pub outline : Bool → Bool → Bool → ℕ → Outline
+outline up tentative saved spares =
+    record { up = up; tentative = tentative; saved = saved; spares = spares }
+
 -- whether an act can be done
 abbrev pub fits : Outline → Act → Bool
 fits o Nothing = true
@@ -56,12 +61,21 @@ has_tentative_after tentative Discard = false
 has_tentative_after tentative Restore = tentative
 has_tentative_after tentative Drop = tentative
 
--- what was saved for a step is for its first act alone
+-- what was saved for a step is for the first thing alone that is done
+abbrev pub is_saved_after : Bool → Act → Bool
+is_saved_after saved Nothing = saved
+is_saved_after saved (Apply from body) = false
+is_saved_after saved Keep = false
+is_saved_after saved Promote = false
+is_saved_after saved Discard = false
+is_saved_after saved Restore = false
+is_saved_after saved Drop = false
+
 abbrev pub outline_after : Outline → Act → Outline
 outline_after o act = record {
   up = is_up_after o.up act;
   tentative = has_tentative_after o.tentative act;
-  saved = false;
+  saved = is_saved_after o.saved act;
   spares = o.spares - spares_of o.up act;
 }
 

@@ -1,3 +1,5 @@
 pub mod Holdings
 pub mod Fits
 pub mod Casts
+pub mod Refusals
+pub mod Faults

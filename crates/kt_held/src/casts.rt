@@ -3,8 +3,10 @@
 ghost use Rattle.std.specs.Prelude.{◌≡◌, ◌≢◌, ◌⊎◌, ◌==◌, ◌≤◌, ◌<◌, ◌+◌, ◌∷◌, [], ℕ, true, false, List, Some, None, IsTrue, IfSome, IfNone, IsSome, IfOk, IfErr, OnOk, Err, All, length, map, slice_index, slice_index_or, vec_len};
 ghost use Rattle.std.specs.List.{AllZip, list_all};
 ghost use Rattle.kt_plan.specs.Limits.{IsPlan};
-ghost use Rattle.kt_held.specs.Casts.{failures_of, HasSizes, HasKind, is_checked};
+ghost use Rattle.kt_plan.specs.Failures.{failures_of};
+ghost use Rattle.kt_held.specs.Casts.{HasSizes, HasKind, is_checked};
 ghost use Rattle.kt_held.specs.Holdings.{content, first_holding, Holds};
+ghost use Rattle.kt_held.specs.Refusals.{IsLeastRefused};
 
 use crate::faults::CastFault;
 use crate::held::Held;
@@ -120,6 +122,8 @@ fn begin_rows(alloc: Global, cast: Cast) -> Result<Vec<Held>, CastFault>
         Holds (first_holding (content (kind_of b) (value_of b))) (Some (content (kind_of b) (value_of b))) h.depot)) helds.items) }
     ensures later { IfErr result (λ fault. is_checked fault ≡ false) }
     ensures place { IfErr result (λ fault. (p : ℕ) → fault ≡ CastFault.Object p → p < length cast.items) }
+    ensures object { IfErr result (λ fault. (p : ℕ) → fault ≡ CastFault.Object p →
+        IsLeastRefused (λ b. may_save b) (λ b. may_refuse b) (map (λ row. row.items) cast.items) p) }
 {
     let mut helds = Vec::with_capacity(alloc, cast.len())?;
     for objects in cast {
@@ -137,8 +141,8 @@ fn begin_rows(alloc: Global, cast: Cast) -> Result<Vec<Held>, CastFault>
 /// first, and one spare for each of its failures.
 ///
 /// `Size` where there is another number of processes, or of one process's objects; `Kind` of the least process with an object
-/// of another kind; both before anything is saved and any memory is taken. `Object` of a process whose object is not able to
-/// be saved.
+/// of another kind; both before anything is saved and any memory is taken. `Object` of the least process whose object is not
+/// able to be saved.
 pub fn begin_all(alloc: Global, plan: &Plan, cast: Cast) -> Result<Vec<Held>, CastFault>
     // what the type keeps; a caller learns it from `Plan::size`
     requires plan { IsPlan plan.now }
@@ -163,6 +167,8 @@ pub fn begin_all(alloc: Global, plan: &Plan, cast: Cast) -> Result<Vec<Held>, Ca
     ensures least { IfErr result (λ fault. (p q : ℕ) → fault ≡ CastFault.Kind p → q < p →
         HasKind plan.now.kinds (map (λ row. map (λ b. kind_of b) row.items) cast.items) q) }
     ensures place { IfErr result (λ fault. (p : ℕ) → fault ≡ CastFault.Object p → p < length plan.now.kinds) }
+    ensures object { IfErr result (λ fault. (p : ℕ) → fault ≡ CastFault.Object p →
+        IsLeastRefused (λ b. may_save b) (λ b. may_refuse b) (map (λ row. row.items) cast.items) p) }
     ensures later { IfErr result (λ fault. is_checked fault ≡ false → (p : ℕ) → p < length plan.now.kinds →
         HasKind plan.now.kinds (map (λ row. map (λ b. kind_of b) row.items) cast.items) p) }
 {

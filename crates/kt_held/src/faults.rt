@@ -18,10 +18,10 @@ pub enum ActFault {
 }
 
 impl From<RestoreFault> for ActFault {
-    ghost use Rattle.std.specs.Prelude.{◌≢◌};
-    ghost use Rattle.kt_held.specs.declared.faults.ActFault.TheVariants.{Unfit};
+    ghost use Rattle.std.specs.Prelude.{◌≡◌};
+    ghost use Rattle.kt_held.specs.Faults.{of_restore};
 
-    ghost from_gives = { λ _ fault. fault ≢ Unfit };
+    ghost from_gives = { λ fault f. f ≡ of_restore fault };
 
     fn from(fault: RestoreFault) -> ActFault {
         match fault {

@@ -1,11 +1,13 @@
 //! What one process holds.
 
-ghost use Rattle.std.specs.Prelude.{◌≡◌, ◌≢◌, ◌<◌, ◌∷◌, [], ℕ, ℤ, Bool, true, false, List, Option, Some, None, IsSome, IfSome, OnOk, OnErr, IfOk, IfErr, IsTrue, Err, is_some, length, drop, take, map, vec_len, Contains};
+ghost use Rattle.std.specs.Prelude.{◌≡◌, ◌≢◌, ◌<◌, ◌∷◌, [], ℕ, ℤ, Bool, true, false, List, Option, Some, None, IsSome, IfSome, OnOk, OnErr, IfOk, IfErr, IsTrue, Err, is_some, length, drop, take, map, slice_get, vec_len, Contains};
+ghost use Rattle.std.specs.List.{Any};
 ghost use Rattle.std.specs.Option.{option_map};
 ghost use Rattle.kt_object.specs.Bytes.{IsSavedState};
 ghost use Rattle.kt_object.specs.Value.{after, offered};
 ghost use Rattle.kt_held.specs.Holdings.{Content, content, Holding, first_holding, does, does_all, Holds};
-ghost use Rattle.kt_held.specs.Fits.{Outline, Leads, fits, fits_all, spares_of, spares_of_all};
+ghost use Rattle.kt_held.specs.Fits.{Outline, outline, Leads, fits, fits_all, spares_of, spares_of_all};
+ghost use Rattle.kt_held.specs.Refusals.{held_objects, IsRejected};
 
 use crate::faults::ActFault;
 use kt_base::ProcNo;
@@ -41,6 +43,14 @@ fn saved_state(alloc: Global, object: &Object) -> Option<Vec<u8>>
     }
 }
 
+/// Whether an act is nothing.
+fn is_nothing(act: &Act) -> bool
+    ensures yes { result ≡ true → act.now ≡ Act.Nothing }
+    ensures no { result ≡ false → act.now ≢ Act.Nothing }
+{
+    matches!(act, Act::Nothing)
+}
+
 /// Whether nothing is to be done, as after most steps.
 fn are_nothing(acts: &[Act; 2]) -> bool
     ensures { result ≡ true → acts.now ≡ Act.Nothing ∷ Act.Nothing ∷ [] }
@@ -52,6 +62,7 @@ fn are_nothing(acts: &[Act; 2]) -> bool
 fn applied(mut object: Object, from: ProcNo, body: i64) -> Object
     ensures kind { kind_of result ≡ kind_of object }
     ensures value { value_of result ≡ after (kind_of object) (value_of object) from body }
+    ensures rejects { (bytes : List ℕ) → may_reject result bytes → may_reject object bytes }
 {
     object.apply(from, body);
     object
@@ -62,6 +73,8 @@ fn bring_back(object: &mut Object, saved: &[u8]) -> Result<(), RestoreFault>
     ensures ok { OnOk result (IsSavedState (kind_of object.new) (value_of object.new) saved.now) }
     ensures kind { kind_of object.new ≡ kind_of object.old }
     ensures err { OnErr result (value_of object.new ≡ value_of object.old) }
+    ensures form { result ≡ Err RestoreFault.Form → may_reject object.old saved.now }
+    ensures rejects { (bytes : List ℕ) → may_reject object.new bytes → may_reject object.old bytes }
 {
     object.restore(saved)
 }
@@ -75,6 +88,8 @@ impl Held {
         ensures objects { IfOk result (λ h. IfSome h.present (λ b. objects.items ≡ b ∷ h.spares.items)) }
         ensures holds { IfOk result (λ h. IfSome h.present (λ b.
             Holds (first_holding (content (kind_of b) (value_of b))) (Some (content (kind_of b) (value_of b))) h.depot)) }
+        ensures able { OnOk result ((b : _) → slice_get objects.items 0 ≡ Some b → may_save b) }
+        ensures unable { result ≡ Err SaveFault.Unable → (b : _) → slice_get objects.items 0 ≡ Some b → may_refuse b }
     {
         let present = objects.remove(0);
         let mut saved = Vec::new(alloc);
@@ -140,6 +155,11 @@ impl Held {
         ensures err_depot { OnErr result (self.new.depot ≡ self.old.depot) }
         ensures err_spares { OnErr result (map (λ b. content (kind_of b) (value_of b)) self.new.spares.items
             ≡ map (λ b. content (kind_of b) (value_of b)) self.old.spares.items) }
+        ensures form { result ≡ Err RestoreFault.Form →
+            Any (λ b. may_reject b self.old.depot.permanent) (held_objects self.old.present self.old.spares.items) }
+        ensures rejects { (bytes : List ℕ)
+            → Any (λ b. may_reject b bytes) (held_objects self.new.present self.new.spares.items)
+            → Any (λ b. may_reject b bytes) (held_objects self.old.present self.old.spares.items) }
     {
         if let Some(mut object) = self.present.take() {
             let answer = bring_back(&mut object, self.depot.permanent());
@@ -153,12 +173,8 @@ impl Held {
 
     /// Does an act that fits.
     fn do_fitting(&mut self, act: Act, saved: Option<Vec<u8>>) -> Result<(), RestoreFault>
-        requires fits { fits (record {
-          up = is_some self.old.present;
-          tentative = is_some self.old.depot.tentative;
-          saved = is_some saved;
-          spares = length self.old.spares.items;
-        }) act ≡ true }
+        requires fits { fits (outline (is_some self.old.present) (is_some self.old.depot.tentative)
+            (is_some saved) (length self.old.spares.items)) act ≡ true }
         requires saved { IfSome saved (λ s. IfSome self.old.present (λ b. IsSavedState (kind_of b) (value_of b) s.items)) }
         ensures leads { OnOk result (Leads act (option_map (λ b. content (kind_of b) (value_of b)) self.old.present) self.old.depot
             (option_map (λ b. content (kind_of b) (value_of b)) self.new.present) self.new.depot) }
@@ -169,6 +185,11 @@ impl Held {
         ensures err_depot { OnErr result (self.new.depot ≡ self.old.depot) }
         ensures err_spares { OnErr result (map (λ b. content (kind_of b) (value_of b)) self.new.spares.items
             ≡ map (λ b. content (kind_of b) (value_of b)) self.old.spares.items) }
+        ensures form { result ≡ Err RestoreFault.Form →
+            Any (λ b. may_reject b self.old.depot.permanent) (held_objects self.old.present self.old.spares.items) }
+        ensures rejects { (bytes : List ℕ)
+            → Any (λ b. may_reject b bytes) (held_objects self.new.present self.new.spares.items)
+            → Any (λ b. may_reject b bytes) (held_objects self.old.present self.old.spares.items) }
     {
         match act {
             Act::Nothing => Ok(()),
@@ -224,6 +245,11 @@ impl Held {
         ensures err_depot { OnErr result (self.new.depot ≡ self.old.depot) }
         ensures err_spares { OnErr result (map (λ b. content (kind_of b) (value_of b)) self.new.spares.items
             ≡ map (λ b. content (kind_of b) (value_of b)) self.old.spares.items) }
+        ensures form { result ≡ Err ActFault.Form →
+            Any (λ b. may_reject b self.old.depot.permanent) (held_objects self.old.present self.old.spares.items) }
+        ensures rejects { (bytes : List ℕ)
+            → Any (λ b. may_reject b bytes) (held_objects self.new.present self.new.spares.items)
+            → Any (λ b. may_reject b bytes) (held_objects self.old.present self.old.spares.items) }
     {
         let able = saved.is_some();
         if !self.fits(&act, able) {
@@ -233,8 +259,8 @@ impl Held {
         Ok(())
     }
 
-    /// Does the acts that a step tells, in order. `saved` is the object's state that was saved for the step; the first act
-    /// keeps it, where that is to be kept. After a fault the acts before the one at fault are done, and no more.
+    /// Does the acts that a step tells, in order. `saved` is the object's state that was saved for the step; the first thing
+    /// that is done keeps it, where that is to be kept. After a fault the acts before the one at fault are done, and no more.
     pub fn obey(&mut self, acts: [Act; 2], saved: Option<Vec<u8>>) -> Result<(), ActFault>
         requires saved { IfSome saved (λ s. IfSome self.old.present (λ b. IsSavedState (kind_of b) (value_of b) s.items)) }
 
@@ -258,6 +284,14 @@ impl Held {
           spares = length self.old.spares.items;
         }) acts ≡ false }
         ensures failed { IfErr result (λ fault. fault ≢ ActFault.Unfit → Contains acts Act.Restore) }
+        ensures form { result ≡ Err ActFault.Form → (h : Holding)
+            → Holds h (option_map (λ b. content (kind_of b) (value_of b)) self.old.present) self.old.depot
+            → IsRejected (λ b saved. may_reject b saved) (held_objects self.old.present self.old.spares.items) h acts }
+
+        // no object rejects more than those that were held before
+        ensures rejects { (bytes : List ℕ)
+            → Any (λ b. may_reject b bytes) (held_objects self.new.present self.new.spares.items)
+            → Any (λ b. may_reject b bytes) (held_objects self.old.present self.old.spares.items) }
 
         // a refusal
         ensures err { OnErr result ((done : ℕ) × (done < 2) × ((h : Holding)
@@ -268,6 +302,9 @@ impl Held {
             return Ok(());
         }
         let [first, second] = acts;
+        if is_nothing(&first) {
+            return self.act(second, saved);
+        }
         self.act(first, saved)?;
         self.act(second, None)?;
         Ok(())

@@ -3,7 +3,7 @@ use Rattle.std.proofs.Common.{ℕ, ◌-◌, suc, zero, List, [], ◌∷◌, ◌+
 use Rattle.std.specs.Prelude.{ℤ, pos, negsuc, ◌+ℤ◌, FitsSigned, All}
 use Rattle.std.specs.Int.{w64, saturate_signed}
 use Rattle.std.proofs.lemmas.List.Elements.{All-push, All-drop}
-use Rattle.kt_object.specs.Value.{opening, after, offered, first, IsKind, IsValue}
+use Rattle.kt_object.specs.Value.{opening_value, after, offered, first, IsKind, IsValue}
 
 zero_fits : FitsSigned w64 (pos 0)
 zero_fits = record { sfits = omega arith }
@@ -18,7 +18,7 @@ one_fits number fits zero d low = fits
 one_fits number fits (suc k) d low = absurd (omega arith)
 
 -- the opening value is a value of the kind
-pub opening-IsValue : (kind : ℕ) → IsKind kind → IsValue kind (opening kind)
+pub opening-IsValue : (kind : ℕ) → IsKind kind → IsValue kind (opening_value kind)
 opening-IsValue zero known = record { is_kind = known; count = refl; numbers = one_fits (pos 0) zero_fits }
 opening-IsValue (suc zero) known = record { is_kind = known; count = refl; numbers = one_fits (pos 0) zero_fits }
 opening-IsValue (suc (suc kind)) known = record { is_kind = known; count = omega arith; numbers = λ k d low. absurd (omega arith) }

@@ -19,10 +19,10 @@ pub record IsValue (kind : ℕ) (value : List ℤ) : Type 0 where
   pub numbers : All (λ number. FitsSigned w64 number) value
 
 -- the value of a new object
-abbrev pub opening : ℕ → List ℤ
-opening zero = pos 0 ∷ []
-opening (suc zero) = pos 0 ∷ []
-opening (suc (suc _)) = []
+abbrev pub opening_value : ℕ → List ℤ
+opening_value zero = pos 0 ∷ []
+opening_value (suc zero) = pos 0 ∷ []
+opening_value (suc (suc _)) = []
 
 -- the first number, or 0
 abbrev pub first : List ℤ → ℤ

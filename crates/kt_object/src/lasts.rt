@@ -3,7 +3,7 @@
 ghost use Rattle.std.specs.Prelude.{◌≡◌, ◌↔◌, ◌++◌, ◌∷◌, [], ℕ, ℤ, pos, List, FitsSigned, Err, OnOk, OnErr, IsOkUnless};
 ghost use Rattle.std.specs.Int.{w64};
 ghost use Rattle.kt_object.specs.Bytes.{saved_bytes, IsSavedState};
-ghost use Rattle.kt_object.specs.Value.{opening, IsValue};
+ghost use Rattle.kt_object.specs.Value.{opening_value, IsValue};
 
 use crate::faults::{RestoreFault, SaveFault};
 use crate::numbers::{Numbers, save_numbers};
@@ -26,7 +26,7 @@ impl Last {
     /// A last number at 0, which holds this slot.
     pub fn new(guard: SlotGuard) -> Last
         ensures kind { ⟦<Last as Recoverable>⟧.kind_of result ≡ 1 }
-        ensures value { ⟦<Last as Recoverable>⟧.value_of result ≡ opening 1 }
+        ensures value { ⟦<Last as Recoverable>⟧.value_of result ≡ opening_value 1 }
         ensures slot { ⟦<Last as Recoverable>⟧.slot_of result ≡ guard }
     {
         Last { number: 0, guard }
@@ -39,6 +39,11 @@ impl Recoverable for Last {
     ghost value_of = { λ last. last.number ∷ [] };
 
     ghost slot_of = { λ last. last.guard };
+
+    // it may always be saved, and takes each saved state of its kind
+    ghost may_refuse = { λ _. ⊥ };
+
+    ghost may_reject = { λ _ saved. (value : List ℤ) → ¬ IsSavedState 1 value saved };
 
     fn kind(&self) -> u8 {
         KIND

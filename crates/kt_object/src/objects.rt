@@ -1,6 +1,6 @@
 //! What an object does that can be saved and restored.
 
-ghost use Rattle.std.specs.Prelude.{◌≡◌, ◌++◌, ℕ, ℤ, List, OnOk, OnErr};
+ghost use Rattle.std.specs.Prelude.{◌≡◌, ◌++◌, ℕ, ℤ, List, Err, OnOk, OnErr};
 ghost use Rattle.kt_object.specs.Bytes.{saved_bytes, IsSavedState};
 ghost use Rattle.kt_object.specs.Value.{after, offered, IsValue};
 
@@ -18,6 +18,14 @@ pub trait Recoverable: Drop {
 
     ghost slot_of: { Self → ℕ };
 
+    // what calls may answer, where the object tells: that it is saved, that it is not able to be, and that these bytes are
+    // no saved state that it takes
+    ghost may_save: { Self → Type 0 } = { λ _. Unit {0} };
+
+    ghost may_refuse: { Self → Type 0 } = { λ _. Unit {0} };
+
+    ghost may_reject: { Self → List ℕ → Type 0 } = { λ _ _. Unit {0} };
+
     /// The kind: 0 for a sum, 1 for a last number, 2 for a tail.
     fn kind(&self) -> u8
         ensures kind { result ≡ kind_of self.now }
@@ -29,6 +37,7 @@ pub trait Recoverable: Drop {
         ensures value { value_of self.new ≡ after (kind_of self.old) (value_of self.old) from body }
         ensures kind { kind_of self.new ≡ kind_of self.old }
         ensures slot { slot_of self.new ≡ slot_of self.old }
+        ensures rejects { (bytes : List ℕ) → may_reject self.new bytes → may_reject self.old bytes }
         ensures proper { IsValue (kind_of self.new) (value_of self.new) };
 
     /// The body of a message that the object would send now: the sum, the last number, or the
@@ -45,6 +54,8 @@ pub trait Recoverable: Drop {
         ensures ok { OnOk result
             (out.new.items ≡ out.old.items ++ saved_bytes (kind_of self.now) (value_of self.now)) }
         ensures err { OnErr result (out.new.items ≡ out.old.items) }
+        ensures able { OnOk result (may_save self.now) }
+        ensures unable { result ≡ Err SaveFault.Unable → may_refuse self.now }
         ensures proper { IsValue (kind_of self.now) (value_of self.now) };
 
     /// Takes the value whose saved state these bytes are. At a fault the object is as it was.
@@ -53,8 +64,10 @@ pub trait Recoverable: Drop {
     fn restore(&mut self, saved: &[u8]) -> Result<(), RestoreFault>
         ensures ok { OnOk result (IsSavedState (kind_of self.new) (value_of self.new) saved.now) }
         ensures err { OnErr result (value_of self.new ≡ value_of self.old) }
+        ensures form { result ≡ Err RestoreFault.Form → may_reject self.old saved.now }
         ensures kind { kind_of self.new ≡ kind_of self.old }
         ensures slot { slot_of self.new ≡ slot_of self.old }
+        ensures rejects { (bytes : List ℕ) → may_reject self.new bytes → may_reject self.old bytes }
         ensures proper { IsValue (kind_of self.new) (value_of self.new) };
 
     /// The number of the slot that the object's guard holds.

@@ -2,7 +2,7 @@
 
 ghost use Rattle.std.specs.Prelude.{◌≡◌, ◌↔◌, ◌++◌, ℕ, ℤ, List, Err, OnOk, OnErr, IsOkUnless};
 ghost use Rattle.kt_object.specs.Bytes.{saved_bytes, IsSavedState};
-ghost use Rattle.kt_object.specs.Value.{opening, IsValue};
+ghost use Rattle.kt_object.specs.Value.{opening_value, IsValue};
 
 use crate::faults::{RestoreFault, SaveFault};
 use crate::numbers::{Numbers, save_numbers};
@@ -25,7 +25,7 @@ impl Tail {
     /// An empty tail, which holds this slot.
     pub fn new(guard: SlotGuard) -> Tail
         ensures kind { ⟦<Tail as Recoverable>⟧.kind_of result ≡ 2 }
-        ensures value { ⟦<Tail as Recoverable>⟧.value_of result ≡ opening 2 }
+        ensures value { ⟦<Tail as Recoverable>⟧.value_of result ≡ opening_value 2 }
         ensures slot { ⟦<Tail as Recoverable>⟧.slot_of result ≡ guard }
     {
         Tail {
@@ -41,6 +41,11 @@ impl Recoverable for Tail {
     ghost value_of = { λ tail. tail.numbers };
 
     ghost slot_of = { λ tail. tail.guard };
+
+    // it may always be saved, and takes each saved state of its kind
+    ghost may_refuse = { λ _. ⊥ };
+
+    ghost may_reject = { λ _ saved. (value : List ℤ) → ¬ IsSavedState 2 value saved };
 
     fn kind(&self) -> u8 {
         KIND

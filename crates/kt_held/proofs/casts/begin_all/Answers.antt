@@ -1,7 +1,7 @@
 use Rattle.std.proofs.Common.{rules, ◌≡◌, ◌+◌, ◌∙◌, ℕ, List, length, sym, arith}
 use Rattle.std.specs.Prelude.{Result, Ok, Err, IfErr, OnOk}
 use Rattle.std.proofs.lemmas.List.{length-map}
-use Rattle.kt_held.specs.Casts.{failures_of}
+use Rattle.kt_plan.specs.Failures.{failures_of}
 use Rattle.kt_held.proofs.CastFacts.{from_image}
 use Rattle.kt_held.proofs.casts.begin_all.Goals as goal
 

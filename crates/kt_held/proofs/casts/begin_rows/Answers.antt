@@ -1,9 +1,11 @@
-use Rattle.std.proofs.Common.{rules, ◌≡◌, ◌<◌, ◌∷◌, [], ◌++◌, ◌∙◌, length, arith, vec_len}
-use Rattle.std.specs.Prelude.{IsSome, IfSome, Some}
+use Rattle.std.proofs.Common.{rules, ℕ, ◌≡◌, ◌<◌, ◌∷◌, [], ◌++◌, ◌∙◌, ap, map, length, arith, subst, vec_len}
+use Rattle.std.specs.Prelude.{IsSome, IfSome, Some, Err}
 use Rattle.std.proofs.lemmas.Grind.{common_steps}
 use Rattle.std.proofs.lemmas.List.Elements.{All-push}
 use Rattle.std.specs.Vec.Iter.{into_iter_items}
 use Rattle.kt_held.specs.Holdings.{content, first_holding, Holds}
+use Rattle.kt_held.specs.Refusals.{IsLeastRefused}
+use Rattle.kt_held.proofs.Rejected.{first_in, firsts_more}
 use Rattle.kt_held.proofs.Lists.{item_in, place_in, zip_more, zip_length}
 use Rattle.kt_held.proofs.casts.begin_rows.Goals as goal
 use Rattle.kt_held.proofs.casts.begin_rows.Goals.{After-len-place}
@@ -20,10 +22,14 @@ at_place g c =
 within : (g : _) (c : After-len-place g) → c.len-place.result < length c.args.cast.items
 within g c = place_in _ _ _ _ _ (split g c) (at_place g c)
 
+some_there : (g : _) (c : After-len-place g) → 0 < length c.in-Some.objects.items
+some_there g c =
+    let p = c.len-place.result in
+    rw (item_in _ _ c.args.cast.items c.in-Some.objects c.in-Some.objects p (split g c) (at_place g c)) at (c.requires.some p c.in-Some.objects (within g c))
+
 pub begin-requires : goal.begin-requires
 begin-requires g c =
-    let p = c.len-place.result in
-    let h = rw (item_in _ _ c.args.cast.items c.in-Some.objects c.in-Some.objects p (split g c) (at_place g c)) at (c.requires.some p c.in-Some.objects (within g c)) in
+    let h = some_there g c in
     let v : vec_len c.in-Some.objects ≡ length c.in-Some.objects.items = search rules in
     omega (arith, h, v)
 
@@ -35,6 +41,10 @@ loop-objects-preserved g c =
       ends = tt;
       split = grind (arith, common_steps);
       objects = rw c.in_ok-push-in-Ok.ensures.items (zip_more _ c.loop-objects.yielded c.loop-objects.helds.items c.in-Some.objects c.in-Ok.held c.loop-objects.invariant.objects e.objects);
+      saved = firsts_more (λ row. row.items) (λ b. (goal.Recoverable-dyn g (b.vtable, b.value)).may_save b.value) c.loop-objects.yielded (into_iter_items c.next.new.self) c.args.cast.items c.in-Some.objects
+          (split g (goal.at.loop-objects-preserved g c).After-len-place) c.loop-objects.invariant.saved
+          (first_in (λ row. row.items) (λ b. (goal.Recoverable-dyn g (b.vtable, b.value)).may_save b.value) c.loop-objects.yielded (into_iter_items c.next.new.self) c.args.cast.items c.in-Some.objects
+          (split g (goal.at.loop-objects-preserved g c).After-len-place) (some_there g (goal.at.loop-objects-preserved g c).After-len-place) e.able);
       holds = rw c.in_ok-push-in-Ok.ensures.items (All-push
           (λ h. IsSome h.present × IfSome h.present (λ b.
           Holds (first_holding (content ((goal.Recoverable-dyn g (b.vtable, b.value)).kind_of b.value) ((goal.Recoverable-dyn g (b.vtable, b.value)).value_of b.value)))
@@ -60,3 +70,17 @@ returns-in-Err-Unable-clause-place g c = λ p e.
     let n = c.nth.ensures in
     let m : c.nth.result ≡ p = cc (e) in
     omega (arith, l, n, m)
+
+pub returns-in-Err-Unable-clause-object : goal.returns-in-Err-Unable-clause-object
+returns-in-Err-Unable-clause-object g c = λ p e.
+    let s = (goal.at.returns-in-Err-Unable-clause-object g c).After-len-place in
+    let n = c.nth.ensures in
+    let m : c.nth.result ≡ p = cc (e) in
+    let at = at_place g s in
+    let same : length c.loop-objects.yielded ≡ p = omega (arith, n, m, at) in
+    subst (λ (k : ℕ). IsLeastRefused (λ b. (goal.Recoverable-dyn g (b.vtable, b.value)).may_save b.value) (λ b. (goal.Recoverable-dyn g (b.vtable, b.value)).may_refuse b.value) (map (λ row. row.items) c.args.cast.items) k) same
+    (record {
+      refused = first_in (λ row. row.items) (λ b. (goal.Recoverable-dyn g (b.vtable, b.value)).may_refuse b.value) c.loop-objects.yielded (into_iter_items c.next.new.self) c.args.cast.items c.in-Some.objects
+          (split g s) (some_there g s) (c.in-Err-Unable.ensures.unable (ap Err c.in-Err-Unable.field-0-is));
+      least = c.loop-objects.invariant.saved;
+    })

@@ -1,7 +1,7 @@
 use Rattle.std.proofs.Common.{rules, ◌≡◌, ◌<◌, ◌∙◌, ℕ, arith, take, length, length-take}
 use Rattle.std.specs.Prelude.{slice_index}
 use Rattle.std.proofs.lemmas.List.{get_or-take}
-use Rattle.kt_held.specs.Casts.{failures_of}
+use Rattle.kt_plan.specs.Failures.{failures_of}
 use Rattle.kt_held.proofs.CastFacts.{sizes_are, sizes_are_not, kind_is, kind_is_not}
 use Rattle.kt_held.proofs.casts.check_cast.Goals as goal
 use Rattle.kt_held.proofs.casts.check_cast.Goals.{After-has_sizes}

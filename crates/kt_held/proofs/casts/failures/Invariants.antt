@@ -1,6 +1,6 @@
 use Rattle.std.proofs.Common.{◌≡◌, ◌<◌, ℕ, take, length}
 use Rattle.std.specs.Prelude.{slice_index}
-use Rattle.kt_held.specs.Casts.{failures_of}
+use Rattle.kt_plan.specs.Failures.{failures_of}
 use Rattle.kt_held.proofs.casts.failures.Given as goal
 
 abbrev pub invariant-loop-command : goal.invariant-loop-command

@@ -1,7 +1,9 @@
-use Rattle.std.proofs.Common.{◌∙◌, Bool, sym, ap, length, get_or, arith, length-drop}
-use Rattle.std.specs.Prelude.{Result, Ok, Err, OnErr}
+use Rattle.std.proofs.Common.{rules, ◌≡◌, ◌∙◌, Bool, refl, sym, ap, length, get_or, arith, length-drop}
+use Rattle.std.specs.Prelude.{Result, Ok, Err, OnErr, OnOk}
 use Rattle.kt_held.specs.Fits.{is_up_after}
-use Rattle.kt_held.proofs.Acted.{both_done, one_done, is_some-map, leads_up, leads_tentative, both_fit, two_of}
+use Rattle.kt_held.specs.Refusals.{held_objects}
+use Rattle.kt_held.proofs.Rejected.{rejected_first, rejected_after}
+use Rattle.kt_held.proofs.Acted.{both_done, one_done, second_done, is_some-map, leads_up, leads_tentative, both_fit, two_of}
 use Rattle.kt_held.proofs.held.Held.obey.Goals as goal
 
 on_err : {T E : Type 0} (r : Result T E) (P : Type 0) → P → OnErr r P
@@ -24,7 +26,33 @@ returns-clause-fits g c =
     let acts = c.args.acts in
     let first = get_or acts 0 c.index-acts-0.result in
     let is = two_of acts c.index-acts-0.result c.index-acts-1.result (omega arith) in
-    both_fit acts _ _ _ _ _ _ _ _ _ is c.in_ok-act.ensures.fits c.in_ok-act-2.ensures.fits
-    (sym (is_some-map _ c.act.new.self.present) ∙ (leads_up first _ _ _ _ c.in_ok-act.ensures.leads ∙ ap (λ (up : Bool). is_up_after up first) (is_some-map _ c.args.self.now.present)))
+    both_fit acts _ _ _ _ _ _ _ _ _ is (c.is_nothing.ensures.no c.if-is_nothing.false) c.in_ok-act.ensures.fits c.in_ok-act-2.ensures.fits
+    (sym (is_some-map _ c.act-2.new.self.present) ∙ (leads_up first _ _ _ _ c.in_ok-act.ensures.leads ∙ ap (λ (up : Bool). is_up_after up first) (is_some-map _ c.args.self.now.present)))
     (leads_tentative first _ _ _ _ c.in_ok-act.ensures.leads)
     (ap length c.in_ok-act.ensures.spares ∙ length-drop _ c.args.self.now.spares.items)
+
+on_ok_so : {T E P Q : Type 0} (r : Result T E) → (P → Q) → OnOk r P → OnOk r Q
+on_ok_so (Ok value) f h = f h
+on_ok_so (Err fault) f h = h
+
+pub returns-then-is_nothing-clause-does : goal.returns-then-is_nothing-clause-does
+returns-then-is_nothing-clause-does g c =
+    let is = two_of c.args.acts c.index-acts-0.result c.index-acts-1.result (omega arith) in
+    on_ok_so c.act.result (λ leads h held. second_done c.args.acts _ _ is (c.is_nothing.ensures.yes c.if-is_nothing.true) h _ _ _ _ leads held) c.act.ensures.leads
+
+pub returns-then-is_nothing-clause-form : goal.returns-then-is_nothing-clause-form
+returns-then-is_nothing-clause-form g c = λ e h held.
+    rejected_first (λ b saved. (goal.Recoverable-dyn g (b.vtable, b.value)).may_reject b.value saved) (held_objects c.args.self.now.present c.args.self.now.spares.items) c.args.acts h _ _ held (c.act.ensures.form e)
+
+pub returns-in_err-act-clause-form : goal.returns-in_err-act-clause-form
+returns-in_err-act-clause-form g c = λ e h held.
+    let is : c.from_residual.result ≡ Err c.in_err-act.field-0.0 = search rules in
+    rejected_first (λ b saved. (goal.Recoverable-dyn g (b.vtable, b.value)).may_reject b.value saved) (held_objects c.args.self.now.present c.args.self.now.spares.items) c.args.acts h _ _ held (c.in_err-act.ensures.form (sym is ∙ e))
+
+pub returns-in_err-act-2-clause-form : goal.returns-in_err-act-2-clause-form
+returns-in_err-act-2-clause-form g c = λ e h held.
+    let fault : c.from_residual-in_err-act-2.result ≡ Err c.in_err-act-2.field-0.0 = search rules in
+    let is = two_of c.args.acts c.index-acts-0.result c.index-acts-1.result (omega arith) in
+    rejected_after (λ b saved. (goal.Recoverable-dyn g (b.vtable, b.value)).may_reject b.value saved) (held_objects c.args.self.now.present c.args.self.now.spares.items) c.args.acts h 1 _ _
+    (one_done c.args.acts _ _ h _ _ _ _ _ _ is c.in_ok-act.ensures.leads refl refl held)
+    (c.in_ok-act.ensures.rejects c.act-2.new.self.depot.permanent (c.in_err-act-2.ensures.form (sym fault ∙ e)))

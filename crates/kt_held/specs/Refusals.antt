@@ -1,0 +1,30 @@
+-- Which objects a save or a restore is refused by.
+use Rattle.std.specs.Prelude.{◌≡◌, ◌<◌, ◌∷◌, ℕ, List, Option, Some, None, take, slice_get}
+use Rattle.std.specs.List.{Any}
+use Rattle.kt_object.specs.Bytes.{IsSavedState}
+use Rattle.kt_held.specs.Holdings.{Holding, does_all}
+use Rattle.kt_plan.specs.declared.steps.Act.{Act}
+
+-- the first of the objects of a process is so
+pub record IsFirst {A : Type 0} (P : A → Type 0) (cast : List (List A)) (p : ℕ) : Type 0 where
+  pub object : A
+  pub spares : List A
+  pub given : slice_get cast p ≡ Some (object ∷ spares)
+  pub so : P object
+
+-- p is the least process whose first object may not be able to be saved: it may refuse, and those of all below may be saved
+pub record IsLeastRefused {A : Type 0} (may_save may_refuse : A → Type 0) (cast : List (List A)) (p : ℕ) : Type 0 where
+  pub refused : IsFirst may_refuse cast p
+  pub least : (q : ℕ) → q < p → IsFirst may_save cast q
+
+-- the objects that are held: the one that is there, and the spares
+abbrev pub held_objects : {A : Type 0} → Option A → List A → List A
+held_objects None spares = spares
+held_objects (Some object) spares = object ∷ spares
+
+-- while these acts are done in order on what is held, one of these objects may reject the permanent saved state
+pub record IsRejected {A : Type 0} (may_reject : A → List ℕ → Type 0) (objects : List A) (h : Holding) (acts : List Act) : Type 0 where
+  pub done : ℕ
+  pub saved : List ℕ
+  pub is : IsSavedState (does_all h (take done acts)).permanent.kind (does_all h (take done acts)).permanent.value saved
+  pub rejected : Any (λ object. may_reject object saved) objects
