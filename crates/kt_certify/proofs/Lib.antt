@@ -20,4 +20,6 @@ pub mod Numbered
 pub mod Ranges
 pub mod Rows
 pub mod Whole
+pub mod Fit
+pub mod Reading
 pub mod Worked

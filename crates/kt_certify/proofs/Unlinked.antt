@@ -13,7 +13,7 @@ use Rattle.kt_cuts.proofs.SortedFacts.{some_same}
 use Rattle.kt_walk.proofs.ItemPlaces.{mapped_get}
 use Rattle.kt_certify.specs.Linking.{least_link, chain_through, chain_of, chained}
 use Rattle.kt_certify.specs.Faults.{HasNoChain, IsUnlinked}
-use Rattle.kt_certify.specs.Stops.{AreChained}
+use Rattle.kt_certify.specs.Stops.{AreChainedTo}
 use Rattle.kt_certify.proofs.Links.{link_none, link_passes}
 use Rattle.kt_certify.proofs.Through.{IsThrough, through_is, through_none}
 use Rattle.kt_certify.proofs.Chained.{process, processes_are, mapped_there}
@@ -35,12 +35,13 @@ kind_known s k b e = ap (λ (o : Option Beginning). option_map (λ (x : Beginnin
 pub initiator_known : (s : Past) (k : ℕ) (b : Beginning) → beginning_of s k ≡ Some b → initiator_of s k ≡ Some b.initiator
 initiator_known s k b e = ap (λ (o : Option Beginning). option_map (λ (x : Beginning). x.initiator) o) e
 
-pub without_chain : (log : List Event) (n decider k place p : ℕ) (b : Beginning) (done : List (ℕ × List ℕ)) → slice_get log n ≡ Some (Decided decider k true) → beginning_of (past (take n log)) k ≡ Some b
+-- the row is that of the decision, and the place that of the member
+pub lacks_at : (log : List Event) (n decider k place p : ℕ) (b : Beginning) (done : List (ℕ × List ℕ)) → slice_get log n ≡ Some (Decided decider k true) → beginning_of (past (take n log)) k ≡ Some b
     → slice_get (members (take n log) k) place ≡ Some p → map process done ≡ take place (members (take n log) k)
-    → chain_of (past (take n log)) k b.kind b.initiator done p ≡ None → HasNoChain log k p
-without_chain log n decider k place p b done decided began member same none =
+    → chain_of (past (take n log)) k b.kind b.initiator done p ≡ None → (h : HasNoChain log k p) × (h.row ≡ n) × (h.place ≡ place)
+lacks_at log n decider k place p b done decided began member same none =
     let h = found_none (past (take n log)) k b.kind b.initiator done p none in
-    record {
+    let lacks : HasNoChain log k p = record {
       row = n;
       decider = decider;
       decided = decided;
@@ -53,14 +54,20 @@ without_chain log n decider k place p b done decided began member same none =
           let listed : slice_get (map process done) earlier ≡ Some q = ap (λ (l : List ℕ). slice_get l earlier) same ∙ (get_in_take place (members (take n log) k) earlier q at low) in
           let item = mapped_there done earlier q listed in
           link_none (take n log) k b.kind p q (through_none (least_link (past (take n log)) k b.kind p) done h.1 earlier q item.0 item.1) msg;
-    }
+    } in
+    (lacks, refl, refl)
+
+pub without_chain : (log : List Event) (n decider k place p : ℕ) (b : Beginning) (done : List (ℕ × List ℕ)) → slice_get log n ≡ Some (Decided decider k true) → beginning_of (past (take n log)) k ≡ Some b
+    → slice_get (members (take n log) k) place ≡ Some p → map process done ≡ take place (members (take n log) k)
+    → chain_of (past (take n log)) k b.kind b.initiator done p ≡ None → HasNoChain log k p
+without_chain log n decider k place p b done decided began member same none = (lacks_at log n decider k place p b done decided began member same none).0
 
 not_same : (p i : ℕ) → p ≢ i → (p == i) ≡ false
 not_same p i other = grind (arith, nat_tests, other)
 
--- where each process has its chain, each but the initiator is linked with an earlier one
-pub never_unlinked : (s : Past) (k : ℕ) (kind : Kind) (initiator : ℕ) (joined : List ℕ) (place p : ℕ) → AreChained s k kind initiator joined → place < length joined → slice_get joined place ≡ Some p → p ≢ initiator → IsUnlinked s k kind joined place p → ⊥
-never_unlinked s k kind initiator joined place p all low at other lacks = from (chain_through (least_link s k kind p) before) refl
+-- where the first processes have their chains, each of them but the initiator is linked with an earlier one
+pub never_unlinked : (n : ℕ) (s : Past) (k : ℕ) (kind : Kind) (initiator : ℕ) (joined : List ℕ) (place p : ℕ) → AreChainedTo n s k kind initiator joined → place < n → slice_get joined place ≡ Some p → p ≢ initiator → IsUnlinked s k kind joined place p → ⊥
+never_unlinked n s k kind initiator joined place p all low at other lacks = from (chain_through (least_link s k kind p) before) refl
   where
     clash : false ≡ true → ⊥
     clash x = cc

@@ -1,7 +1,6 @@
--- A fault of the first rows of a log is one of the log.
+-- What a pass over all rows of a log has found.
 use Rattle.std.proofs.Common.{◌≡◌, ℕ, ◌+◌, ◌^◌, ◌≤◌, Option, Some, None, All, List, [], ◌∷◌, ◌++◌, length, take, drop, sym, subst, ◌∙◌}
 use Rattle.std.specs.List.{filter_map}
-use Rattle.std.proofs.lemmas.List.{take-append-drop}
 use Rattle.kt_spacetime.specs.declared.event.Event.{Event}
 use Rattle.kt_cuts.specs.declared.rules.Rule.{Rule}
 use Rattle.kt_cuts.specs.Past.{Past, start, after}
@@ -13,14 +12,13 @@ use Rattle.kt_certify.proofs.Ranges.{short_chains, text_says}
 use Rattle.kt_spacetime.specs.Events.{IsInRange}
 use Rattle.kt_certify.specs.Certificates.{certificates}
 use Rattle.kt_certify.proofs.PassSteps.{listed_of}
-use Rattle.kt_certify.specs.declared.fault.CertFault.{CertFault}
-use Rattle.kt_certify.specs.declared.fault.CertFault.TheVariants.{BadLog, NoChain, Memory}
 use Rattle.kt_certify.specs.declared.pass.Pass.{Pass}
-use Rattle.kt_certify.specs.PassOf.{PassOf}
-use Rattle.kt_certify.specs.Faults.{IsFaultOf}
-use Rattle.kt_certify.proofs.Rows.{lacks_more}
+use Rattle.kt_certify.specs.PassOf.{KeepsFit}
+use Rattle.kt_certify.specs.Faults.{IsFaultOf, IsUnfit, IsWhyUnfit, of_unfit}
+use Rattle.kt_certify.specs.declared.fault.Unfit.{Unfit}
+use Rattle.kt_certify.specs.declared.fault.Unfit.TheVariants as reason
 
-broken_more : (s : Past) (log more : List Event) (x : ℕ × Rule) → first_broken_after s log ≡ Some x → first_broken_after s (log ++ more) ≡ Some x
+pub broken_more : (s : Past) (log more : List Event) (x : ℕ × Rule) → first_broken_after s log ≡ Some x → first_broken_after s (log ++ more) ≡ Some x
 broken_more s [] more x e = absurd (cc)
 broken_more s (row ∷ rows) more x e = at_rule (broken_rule s row) (broken_more (after s row) rows more x) e
   where
@@ -29,21 +27,22 @@ broken_more s (row ∷ rows) more x e = at_rule (broken_rule s row) (broken_more
     at_rule None next h = next h
     at_rule (Some rule) next h = h
 
-pub fault_more : (log more : List Event) (f : CertFault) → IsFaultOf log f → IsFaultOf (log ++ more) f
-fault_more log more (BadLog n rule) h = broken_more start log more (n, rule) h
-fault_more log more (NoChain k p) h = lacks_more log more k p h
-fault_more log more Memory h = tt
+-- why a log is not fit is a fault of it, and the first one
+pub unfit_fault : (log : List Event) (why : Unfit) → IsUnfit log why → IsFaultOf log (of_unfit why)
+unfit_fault log (reason.BadLog n rule) h = h
+unfit_fault log (reason.NoChain k row p) h = h.1.lacks
 
-pub fault_front : (n : ℕ) (log : List Event) (f : CertFault) → IsFaultOf (take n log) f → IsFaultOf log f
-fault_front n log f h = subst (λ (l : List Event). IsFaultOf l f) (take-append-drop n log) (fault_more (take n log) (drop n log) f h)
+pub why_unfit : (log : List Event) (why : Unfit) → IsUnfit log why → IsWhyUnfit log (of_unfit why)
+why_unfit log (reason.BadLog n rule) h = h
+why_unfit log (reason.NoChain k row p) h = (h.0, row, h.1)
 
 -- what a pass over all rows has found
-pub all_certified : (pass : Pass) (log : List Event) (list : List Certificate) → PassOf pass log → list ≡ filter_map (λ v. v.certificate) pass.instances.items → list ≡ certificates log
+pub all_certified : (pass : Pass) (log : List Event) (list : List Certificate) → KeepsFit pass log → list ≡ filter_map (λ v. v.certificate) pass.instances.items → list ≡ certificates log
 all_certified pass log list h found = found ∙ listed_of log pass.instances.items h.instances
 
 -- and that it can be written
-pub writable : (pass : Pass) (log : List Event) (list : List Certificate) → PassOf pass log → list ≡ filter_map (λ v. v.certificate) pass.instances.items → All IsInRange log → length log ≤ 2 ^ 24 → All HasShortChains list
+pub writable : (pass : Pass) (log : List Event) (list : List Certificate) → KeepsFit pass log → list ≡ filter_map (λ v. v.certificate) pass.instances.items → All IsInRange log → length log ≤ 2 ^ 24 → All HasShortChains list
 writable pass log list h found low few = subst (All HasShortChains) (sym (all_certified pass log list h found)) (short_chains log h.walk.control.legal low few)
 
-pub says : (pass : Pass) (log : List Event) (list : List Certificate) → PassOf pass log → list ≡ filter_map (λ v. v.certificate) pass.instances.items → All IsInRange log → length log ≤ 2 ^ 24 → IsCertText (records_of list) list
+pub says : (pass : Pass) (log : List Event) (list : List Certificate) → KeepsFit pass log → list ≡ filter_map (λ v. v.certificate) pass.instances.items → All IsInRange log → length log ≤ 2 ^ 24 → IsCertText (records_of list) list
 says pass log list h found low few = subst (λ (l : List Certificate). IsCertText (records_of l) l) (sym (all_certified pass log list h found)) (text_says log h.walk.control.legal low few)

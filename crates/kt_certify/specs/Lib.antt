@@ -8,3 +8,4 @@ pub mod Faults
 pub mod Instances
 pub mod Stops
 pub mod PassOf
+pub mod Streamed

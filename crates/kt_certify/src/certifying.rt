@@ -5,7 +5,7 @@ ghost use Rattle.kt_cuts.specs.Legal.{IsLegal};
 ghost use Rattle.kt_chain.specs.Spelling.{HasShortChains, records_of};
 ghost use Rattle.kt_chain.specs.Texts.{IsCertText};
 ghost use Rattle.kt_certify.specs.Certificates.{certificates};
-ghost use Rattle.kt_certify.specs.Faults.{HasNoChain, IsFaultOf};
+ghost use Rattle.kt_certify.specs.Faults.{HasNoChain, IsFaultOf, IsWhyUnfit};
 
 use crate::fault::CertFault;
 use crate::pass::Pass;
@@ -19,7 +19,7 @@ use std::alloc::Global;
 /// A committed instance's certificate lists its members in the order in which they joined, each with its chain: that of
 /// the first earlier member that a message links it with, followed by the least-numbered such message.
 ///
-/// Which fault is answered of a log that has several is left open.
+/// Of a log that has several faults a broken rule is answered, the first; else the first member without a chain.
 pub fn certify(alloc: Global, log: &SpaceTime) -> Result<Vec<Certificate>, CertFault>
     // The certificates are those of the log, which is legal and has no member without a chain,
     ensures certificates { IfOk result (λ list. list.items ≡ certificates log.now.rows) }
@@ -30,10 +30,15 @@ pub fn certify(alloc: Global, log: &SpaceTime) -> Result<Vec<Certificate>, CertF
     ensures text { IfOk result (λ list. IsCertText (records_of list.items) list.items) }
     // Each fault is one of the log.
     ensures fault { IfErr result (λ f. IsFaultOf log.now.rows f) }
+    // and the first one: a broken rule, else the first member without a chain.
+    ensures first { IfErr result (IsWhyUnfit log.now.rows) }
 {
     let mut pass = Pass::new(alloc)?;
     for row in log.rows() {
         pass.feed(row)?;
     }
-    Ok(pass.found()?)
+    match pass.unfit() {
+        Some(unfit) => Err(CertFault::from(unfit)),
+        None => Ok(pass.found()?),
+    }
 }

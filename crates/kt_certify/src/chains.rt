@@ -7,7 +7,7 @@ ghost use Rattle.kt_walk.specs.WalkOf.{WalkOf};
 ghost use Rattle.kt_certify.specs.Linking.{least_link, chain_through, chain_of, chained};
 ghost use Rattle.kt_certify.specs.Stops.{AreChained, StopsAt};
 
-use crate::fault::CertFault;
+use crate::fault::Stop;
 use kt_base::{InstNo, Kind, Memory, MsgNo, ProcNo};
 use kt_chain::{Chain, Members};
 use kt_walk::Walk;
@@ -87,7 +87,7 @@ pub(crate) fn chained(
     kind: Kind,
     initiator: ProcNo,
     joined: &[ProcNo],
-) -> Result<Members, CertFault>
+) -> Result<Members, Stop>
     ensures members { IfOk result (λ members. (rows : List Event) → WalkOf walk.now rows
         → members ≡ chained (past rows) inst kind initiator joined.now) }
     ensures all { IfOk result (λ members. (rows : List Event) → WalkOf walk.now rows
@@ -98,7 +98,7 @@ pub(crate) fn chained(
     let mut members = Members::new(alloc);
     for p in joined {
         let Some(chain) = chain_of(alloc, walk, inst, kind, initiator, members.list(), *p)? else {
-            return Err(CertFault::NoChain(inst, *p));
+            return Err(Stop::NoChain(inst, *p));
         };
         members.push(*p, chain)?;
     }

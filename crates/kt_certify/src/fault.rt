@@ -1,9 +1,11 @@
 //! Why a log was not certified.
 
 ghost use Rattle.std.specs.Prelude.{◌≡◌};
+ghost use Rattle.kt_certify.specs.Faults.{of_unfit};
 
 use kt_base::{InstNo, Memory, ProcNo, RowNo};
 use kt_cuts::Rule;
+use kt_log_text::LogFault;
 use thiserror::Error;
 
 /// Why a log was not certified.
@@ -20,6 +22,38 @@ pub enum CertFault {
     Memory,
 }
 
+/// Why a log has no certificates.
+#[derive(Clone, Copy, Debug, PartialEq, Eq, Hash, Error)]
+pub enum Unfit {
+    /// This row is the first that breaks a rule, and this the least rule that it breaks.
+    #[error("no row {0} BadLog {1}")]
+    BadLog(RowNo, Rule),
+    /// This row is the first that commits an instance with a member, other than the initiator, that no message links with
+    /// an earlier one, and this the first such member.
+    #[error("no instance {0} row {1} process {2} NoChain")]
+    NoChain(InstNo, RowNo, ProcNo),
+}
+
+/// Why a stored log was not certified.
+#[derive(Clone, Copy, Debug, PartialEq, Eq, Hash, Error)]
+pub enum StreamFault {
+    /// Its text was refused, or there was no memory.
+    #[error(transparent)]
+    Log(LogFault),
+    /// It has no certificates.
+    #[error(transparent)]
+    Unfit(Unfit),
+}
+
+/// Why the chains of an instance were not all found.
+#[derive(Clone, Copy)]
+pub(crate) enum Stop {
+    /// This process has none.
+    NoChain(InstNo, ProcNo),
+    /// There was no memory.
+    Memory,
+}
+
 impl From<Memory> for CertFault {
     ghost use Rattle.kt_certify.specs.declared.fault.CertFault.TheVariants as fault;
 
@@ -27,5 +61,47 @@ impl From<Memory> for CertFault {
 
     fn from(_fault: Memory) -> CertFault {
         CertFault::Memory
+    }
+}
+
+impl From<Unfit> for CertFault {
+    ghost from_gives = { λ unfit f. f ≡ of_unfit unfit };
+
+    fn from(unfit: Unfit) -> CertFault {
+        match unfit {
+            Unfit::BadLog(row, rule) => CertFault::BadLog(row, rule),
+            Unfit::NoChain(inst, _row, process) => CertFault::NoChain(inst, process),
+        }
+    }
+}
+
+impl From<LogFault> for StreamFault {
+    ghost use Rattle.kt_certify.specs.declared.fault.StreamFault.TheVariants as stream;
+
+    ghost from_gives = { λ fault f. f ≡ stream.Log fault };
+
+    fn from(fault: LogFault) -> StreamFault {
+        StreamFault::Log(fault)
+    }
+}
+
+impl From<Memory> for StreamFault {
+    ghost use Rattle.kt_log_text.specs.declared.fault.LogFault.TheVariants as log;
+    ghost use Rattle.kt_certify.specs.declared.fault.StreamFault.TheVariants as stream;
+
+    ghost from_gives = { λ _ f. f ≡ stream.Log log.Memory };
+
+    fn from(_fault: Memory) -> StreamFault {
+        StreamFault::Log(LogFault::Memory)
+    }
+}
+
+impl From<Memory> for Stop {
+    ghost use Rattle.kt_certify.specs.declared.fault.Stop.TheVariants as stop;
+
+    ghost from_gives = { λ _ f. f ≡ stop.Memory };
+
+    fn from(_fault: Memory) -> Stop {
+        Stop::Memory
     }
 }

@@ -9,7 +9,7 @@ ghost use Rattle.kt_certify.specs.Instances.{new_instance, joined_by, decided_as
 ghost use Rattle.kt_certify.specs.Stops.{HasChains, StopsBy};
 
 use crate::chains::chained;
-use crate::fault::CertFault;
+use crate::fault::Stop;
 use kt_base::{InstNo, Kind, Memory, ProcNo};
 use kt_chain::{Certificate, Members};
 use kt_walk::Walk;
@@ -61,7 +61,7 @@ impl Instance {
         walk: &Walk,
         inst: InstNo,
         commit: bool,
-    ) -> Result<Certificate, CertFault>
+    ) -> Result<Certificate, Stop>
         ensures certificate { IfOk result (λ c. (rows : List Event) → WalkOf walk.now rows
             → c ≡ certified (past rows) self.now.joined inst commit self.now.beginning) }
         ensures chained { IfOk result (λ c. (rows : List Event) → WalkOf walk.now rows → commit ≡ true
@@ -97,7 +97,7 @@ impl Instance {
         walk: &Walk,
         inst: InstNo,
         commit: bool,
-    ) -> Result<(), CertFault>
+    ) -> Result<(), Stop>
         ensures decided { OnOk result ((rows : List Event) → WalkOf walk.now rows
             → self.new ≡ decided_as (past rows) inst commit self.old) }
         ensures chained { OnOk result ((rows : List Event) → WalkOf walk.now rows → commit ≡ true

@@ -1,6 +1,6 @@
 //! One pass over the rows of a log.
 
-ghost use Rattle.std.specs.Prelude.{◌≡◌, ◌<◌, ◌^◌, ◌++◌, ◌∷◌, [], ℕ, true, Some, List, IfOk, IfErr, OnOk};
+ghost use Rattle.std.specs.Prelude.{◌≡◌, ◌<◌, ◌^◌, ◌++◌, ◌∷◌, [], ℕ, true, Some, List, IfOk, IfErr, IfSome, IfNone, OnOk};
 ghost use Rattle.std.specs.List.{filter_map};
 ghost use Rattle.kt_spacetime.specs.declared.event.Event.{Event};
 ghost use Rattle.kt_spacetime.specs.declared.event.Event.TheVariants as event;
@@ -8,26 +8,27 @@ ghost use Rattle.kt_cuts.specs.Past.{past};
 ghost use Rattle.kt_cuts.specs.Legal.{IsLegal};
 ghost use Rattle.kt_cuts.specs.Standing.{at_number};
 ghost use Rattle.kt_walk.specs.WalkOf.{WalkOf};
-ghost use Rattle.kt_certify.specs.Faults.{IsFaultOf};
-ghost use Rattle.kt_certify.specs.Instances.{InstanceParts, changed, joined_by, decided_as, instances_after};
+ghost use Rattle.kt_certify.specs.Faults.{HasNoChain};
+ghost use Rattle.kt_certify.specs.Instances.{InstanceParts, AreInstancesOf, changed, joined_by, decided_as, instances_after};
 ghost use Rattle.kt_certify.specs.Stops.{HasChains, StopsIn, StopsOn};
-ghost use Rattle.kt_certify.specs.PassOf.{PassOf};
+ghost use Rattle.kt_certify.specs.PassOf.{AreEntered, IsBroken, PassOf, tells_rule};
 
-use crate::fault::CertFault;
+use crate::fault::{Stop, Unfit};
 use crate::instance::Instance;
-use kt_base::{InstNo, Memory, ProcNo};
+use kt_base::{InstNo, Memory, ProcNo, RowNo};
 use kt_chain::Certificate;
 use kt_cuts::LegalFault;
 use kt_spacetime::Event;
 use kt_walk::Walk;
 use std::alloc::Global;
 
-/// What is known after the rows so far, and the instances by number.
+/// What is known after the rows so far, the instances by number, and why the rows are not fit, if they are not.
 #[derive(Drop)]
 pub(crate) struct Pass {
     alloc: Global,
     walk: Walk,
     instances: Vec<Instance>,
+    unfit: Option<Unfit>,
 }
 
 impl Pass {
@@ -40,21 +41,63 @@ impl Pass {
             alloc,
             walk,
             instances: Vec::new(alloc),
+            unfit: None,
         })
     }
 
-    /// One more row. Where it decides an instance, the certificate is made just before it.
+    /// One more row. Where it decides an instance, the certificate is made just before it. After a row that breaks a rule
+    /// nothing counts.
     ///
     /// After an error a pass stands for no rows.
-    pub(crate) fn feed(&mut self, row: &Event) -> Result<(), CertFault>
+    pub(crate) fn feed(&mut self, row: &Event) -> Result<(), Memory>
         requires few { self.old.walk.rows < 2 ^ 24 }
-        ensures fed { OnOk result ((rows : List Event) → PassOf self.old rows
-            → PassOf self.new (rows ++ row.now ∷ [])) }
-        ensures fault { IfErr result (λ f. (rows : List Event) → PassOf self.old rows
-            → IsFaultOf (rows ++ row.now ∷ []) f) }
+        ensures { OnOk result ((rows : List Event) → PassOf self.old rows → PassOf self.new (rows ++ row.now ∷ [])) }
     {
-        enter(&mut self.instances, self.alloc, &self.walk, row)?;
-        feed(&mut self.walk, row)
+        if self.is_broken() {
+            return Ok(());
+        }
+        let unlinked = self.enter(row)?;
+        self.unfit = feed(&mut self.walk, row)?.or(unlinked);
+        Ok(())
+    }
+
+    // Whether a row broke a rule.
+    fn is_broken(&self) -> bool
+        ensures { result ≡ tells_rule self.now.unfit }
+    {
+        match self.unfit {
+            Some(Unfit::BadLog(..)) => true,
+            Some(Unfit::NoChain(..)) => false,
+            None => false,
+        }
+    }
+
+    // What the next row changes of the instances, while no member lacks a chain; else the first member that does.
+    fn enter(&mut self, row: &Event) -> Result<Option<Unfit>, Memory>
+        requires few { self.old.walk.rows < 2 ^ 24 }
+        ensures entered { IfOk result (λ unlinked. (rows : List Event) → PassOf self.old rows
+            → WalkOf self.old.walk rows → IsLegal (rows ++ row.now ∷ [])
+            → AreEntered self.new (rows ++ row.now ∷ []) unlinked) }
+        ensures walk { OnOk result (self.new.walk ≡ self.old.walk) }
+    {
+        if self.unfit.is_some() {
+            return Ok(self.unfit);
+        }
+        let number = RowNo::after(self.walk.rows());
+        let Err(stop) = enter(&mut self.instances, self.alloc, &self.walk, row) else {
+            return Ok(None);
+        };
+        let Stop::NoChain(inst, process) = stop else {
+            return Err(Memory);
+        };
+        Ok(Some(Unfit::NoChain(inst, number, process)))
+    }
+
+    /// Why the rows are not fit.
+    pub(crate) fn unfit(&self) -> Option<Unfit>
+        ensures { result ≡ self.now.unfit }
+    {
+        self.unfit
     }
 
     /// The certificates of the instances that are decided.
@@ -66,29 +109,25 @@ impl Pass {
 }
 
 // One more row; else why the log is not legal.
-fn feed(walk: &mut Walk, row: &Event) -> Result<(), CertFault>
+fn feed(walk: &mut Walk, row: &Event) -> Result<Option<Unfit>, Memory>
     requires few { walk.old.rows < 2 ^ 24 }
-    ensures fed { OnOk result ((rows : List Event) → WalkOf walk.old rows → IsLegal (rows ++ row.now ∷ [])
-        × WalkOf walk.new (rows ++ row.now ∷ [])) }
-    ensures fault { IfErr result (λ f. (rows : List Event) → WalkOf walk.old rows
-        → IsFaultOf (rows ++ row.now ∷ []) f) }
+    ensures fed { IfOk result (λ broken. IfNone broken ((rows : List Event) → WalkOf walk.old rows
+        → IsLegal (rows ++ row.now ∷ []) × WalkOf walk.new (rows ++ row.now ∷ []))) }
+    ensures broken { IfOk result (λ broken. IfSome broken (λ why. (rows : List Event) → WalkOf walk.old rows
+        → IsBroken (rows ++ row.now ∷ []) why)) }
+    ensures unchanged { IfOk result (λ broken. IfSome broken (λ why. walk.new ≡ walk.old)) }
 {
     let Err(fault) = walk.feed(row) else {
-        return Ok(());
+        return Ok(None);
     };
     let LegalFault::Broken(number, rule) = fault else {
-        return Err(CertFault::Memory);
+        return Err(Memory);
     };
-    Err(CertFault::BadLog(number, rule))
+    Ok(Some(Unfit::BadLog(number, rule)))
 }
 
 // What the next row changes of the instances.
-fn enter(
-    instances: &mut Vec<Instance>,
-    alloc: Global,
-    walk: &Walk,
-    row: &Event,
-) -> Result<(), CertFault>
+fn enter(instances: &mut Vec<Instance>, alloc: Global, walk: &Walk, row: &Event) -> Result<(), Stop>
     ensures entered { OnOk result ((rows : List Event) → WalkOf walk.now rows
         → instances.new.items ≡ instances_after (past rows) row.now instances.old.items) }
     ensures chained { OnOk result ((rows : List Event) (p k : ℕ) (v : InstanceParts) → WalkOf walk.now rows
@@ -147,7 +186,7 @@ fn decide(
     walk: &Walk,
     inst: InstNo,
     commit: bool,
-) -> Result<(), CertFault>
+) -> Result<(), Stop>
     ensures decided { OnOk result ((rows : List Event) → WalkOf walk.now rows
         → instances.new.items ≡ changed inst (decided_as (past rows) inst commit) instances.old.items) }
     ensures chained { OnOk result ((rows : List Event) (v : InstanceParts) → WalkOf walk.now rows → commit ≡ true

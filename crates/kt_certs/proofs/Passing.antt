@@ -12,18 +12,21 @@ use Rattle.kt_checker.specs.declared.verdict.Verdict.{Verdict}
 use Rattle.kt_checker.specs.declared.verdict.Why.TheVariants as why
 use Rattle.kt_checker.specs.Unwilling.{has_unwilling}
 use Rattle.kt_checker.specs.Passing.{Passes, IsPassed, IsAsInLog, IsSecond, AreComplete}
-use Rattle.kt_checker.specs.Order.{IsWrong, IsBadLog, IsUnknown, IsMissing}
-use Rattle.kt_checker.proofs.Answering.{no_broken, not_both}
+use Rattle.kt_checker.specs.Order.{IsAnswer, IsWrong, IsBadLog, IsUnknown, IsMissing}
+use Rattle.kt_checker.specs.declared.verdict.Verdict.TheVariants.{Yes}
+use Rattle.kt_checker.proofs.Answering.{no_broken, not_both, passed_of, yes_of}
+use Rattle.kt_checker.proofs.Sound.{aborts, decisions_consistent}
 use Rattle.kt_protocol.specs.Logs.{HasLinkedDecisions, AbortsWhereUnwilling}
 use Rattle.kt_certify.specs.Certificates.{certificates}
-use Rattle.kt_certify.specs.Faults.{IsFaultOf}
+use Rattle.kt_certify.specs.Faults.{IsFaultOf, IsFit}
 use Rattle.kt_certify.specs.declared.fault.CertFault.{CertFault}
 use Rattle.kt_certify.specs.declared.fault.CertFault.TheVariants.{BadLog, NoChain, Memory}
 use Rattle.kt_certify.proofs.Certified.{rising}
 use Rattle.kt_certify.proofs.Certified as certified
 use Rattle.kt_certs.specs.DecidedWell.{IsDecidedWell}
+use Rattle.kt_certs.specs.Just.{IsJust}
 use Rattle.kt_certs.proofs.Claims.{IsMadeAt, made_at, stated, members_right, lists_right, cut_right, cause_right}
-use Rattle.kt_certs.proofs.LinkedDecisions.{not_without_chain}
+use Rattle.kt_certs.proofs.LinkedDecisions.{not_without_chain, unwilling_not}
 
 pub not_second : (log : List Event) (i : ℕ) (c : Certificate) → slice_get (certificates log) i ≡ Some c → IsSecond (certificates log) i c → ⊥
 not_second log i c e second =
@@ -36,26 +39,50 @@ complete log l n p k commit e =
     (c.0, c.1, c.2, c.3)
 
 -- each passes
-passes_at : (log : List Event) (i n : ℕ) (c : Certificate) → IsDecidedWell log → IsMadeAt log c n → IsAsInLog log c n → Passes log c
-passes_at log i n c h is said = record {
+passes_at : (log : List Event) (n : ℕ) (c : Certificate) → IsFit log → IsJust log → IsMadeAt log c n → IsAsInLog log c n → Passes log c
+passes_at log n c fit just is said = record {
   row = n;
   instance = said;
-  cause = cause_right log c n h.aborts is;
+  cause = just.causes n is.decider c.inst c.commit is.decided;
   shown = λ committed. record {
-    members = members_right log c n h.legal is committed;
-    lists = lists_right log c n is (λ p. not_without_chain log c.inst p h.linked) committed;
-    consistent = cut_right log c n h.consistent is committed;
+    members = members_right log c n fit.legal is committed;
+    lists = lists_right log c n is (fit.chained c.inst) committed;
+    consistent = cut_right log c n just.consistent is committed;
   };
 }
 
-pub passed : (log : List Event) → IsDecidedWell log → IsPassed log (certificates log)
-passed log h = record {
-  legal = h.legal;
+-- the certificates of a log that is fit pass where its decisions are just
+pub passed_of_fit : (log : List Event) → IsFit log → IsJust log → IsPassed log (certificates log)
+passed_of_fit log fit just = record {
+  legal = fit.legal;
   pass = λ i c low e.
       let said = stated log i c e in
-      (passes_at log i said.0 c h (made_at log i said.0 c h.legal e said.1) said.1, not_second log i c e);
-  complete = complete log h.legal;
+      (passes_at log said.0 c fit just (made_at log i said.0 c fit.legal e said.1) said.1, not_second log i c e);
+  complete = complete log fit.legal;
 }
+
+-- and only there
+pub just_of_passed : (log : List Event) → IsPassed log (certificates log) → IsJust log
+just_of_passed log h = record {
+  consistent = decisions_consistent log (certificates log) h;
+  causes = aborts log (certificates log) h;
+}
+
+pub yes_of_fit : (log : List Event) (v : Verdict) → IsFit log → IsAnswer log (certificates log) v → IsJust log → v ≡ Yes
+yes_of_fit log v fit answer just = yes_of log (certificates log) v answer (passed_of_fit log fit just)
+
+pub just_of_yes : (log : List Event) (v : Verdict) → IsAnswer log (certificates log) v → v ≡ Yes → IsJust log
+just_of_yes log v answer e = just_of_passed log (passed_of log (certificates log) v answer e)
+
+-- a log that is decided well is one of these
+fit_of : (log : List Event) → IsDecidedWell log → IsFit log
+fit_of log h = record { legal = h.legal; chained = λ k p. not_without_chain log k p h.linked }
+
+just_of : (log : List Event) → IsDecidedWell log → IsJust log
+just_of log h = record { consistent = h.consistent; causes = λ n p k commit e. unwilling_not log k commit (h.aborts n p k commit e) }
+
+pub passed : (log : List Event) → IsDecidedWell log → IsPassed log (certificates log)
+passed log h = passed_of_fit log (fit_of log h) (just_of log h)
 
 -- each fault, in the checker's order
 pub not_bad_log : (log : List Event) (v : Verdict) → IsLegal log → IsBadLog log v → ⊥

@@ -1,6 +1,6 @@
 //! Laws of the certificates of a log: each function has nothing to run, and its contract is the law.
 
-ghost use Rattle.std.specs.Prelude.{◌≡◌, ◌<◌, ◌≤◌, ◌^◌, ℕ, suc, true, Option, Some, None, List, [], ◌∷◌, ◌++◌, map, length, take, drop, set, slice_get, All};
+ghost use Rattle.std.specs.Prelude.{◌≡◌, ◌↔◌, ◌<◌, ◌≤◌, ◌^◌, ℕ, suc, true, Option, Some, None, List, [], ◌∷◌, ◌++◌, map, length, take, drop, set, slice_get, All};
 ghost use Rattle.std.specs.List.{filter_map};
 ghost use Rattle.kt_base.specs.declared.words.Kind.{Kind};
 ghost use Rattle.kt_spacetime.specs.declared.event.Event.{Event};
@@ -31,10 +31,11 @@ ghost use Rattle.kt_certify.specs.declared.fault.CertFault.{CertFault};
 ghost use Rattle.kt_certify.specs.declared.fault.CertFault.TheVariants.{Memory};
 ghost use Rattle.kt_certify.specs.Linking.{least_link, led_on, chain_through, chain_of, with_member, chained};
 ghost use Rattle.kt_certify.specs.Certificates.{certificates};
-ghost use Rattle.kt_certify.specs.Faults.{HasNoChain, IsFaultOf};
+ghost use Rattle.kt_certify.specs.Faults.{HasNoChain, IsFaultOf, IsFit};
 ghost use Rattle.kt_certify.specs.Instances.{InstanceParts, AreInstancesOf, changed, instances_after};
 ghost use Rattle.kt_certs.specs.Making.{IsMadeOf};
 ghost use Rattle.kt_certs.specs.DecidedWell.{IsDecidedWell};
+ghost use Rattle.kt_certs.specs.Just.{IsJust};
 ghost use Rattle.kt_certs.specs.OnePass.{PassState, pass_after, opening_pass, pass_over, found};
 ghost use Rattle.kt_certs.specs.Passed.{HasSeen};
 ghost use Rattle.kt_certs.specs.Arriving.{arrived_link, place_of_pair, sender_of, received_before};
@@ -88,6 +89,14 @@ pub fn certificates_of_legal_logs()
         slice_get (members (take n log) k) place ≡ Some p →
         map (λ m. m.0) earlier ≡ take place (members (take n log) k) →
         chain_of (past (take n log)) k b.kind b.initiator earlier p ≡ None → HasNoChain log k p }
+{}
+
+/// A log that has certificates: the checker says yes to it with them exactly where no committed decision leaves an orphan
+/// and each aborted instance, and no committed one, has an unwilling row.
+pub fn certificates_of_fit_logs()
+    ensures passed { (log : List Event) → IsFit log → IsPassed log (certificates log) ↔ IsJust log }
+    ensures yes { (log : List Event) (v : Verdict) → IsFit log → IsAnswer log (certificates log) v
+        → (v ≡ Yes) ↔ IsJust log }
 {}
 
 /// A log whose decisions are linked, consistent and aborted exactly where a process was unwilling: none of the faults

@@ -7,6 +7,7 @@
 mod laws;
 
 pub use laws::{
-    certificates_in_one_pass, certificates_of_legal_logs, certificates_of_runs,
-    certificates_of_well_decided_logs, linking_messages_of_walks, worked_certificates,
+    certificates_in_one_pass, certificates_of_fit_logs, certificates_of_legal_logs,
+    certificates_of_runs, certificates_of_well_decided_logs, linking_messages_of_walks,
+    worked_certificates,
 };

@@ -1,0 +1,57 @@
+//! The certificates of a stored log.
+
+ghost use Rattle.std.specs.Prelude.{◌≡◌, [], ℕ, All, List, Option, IfOk, IfErr};
+ghost use Rattle.kt_log_text.specs.Reading.{rows_unread};
+ghost use Rattle.kt_chain.specs.Spelling.{HasShortChains, records_of};
+ghost use Rattle.kt_chain.specs.Texts.{IsCertText};
+ghost use Rattle.kt_certify.specs.PassOf.{PassOf};
+ghost use Rattle.kt_certify.specs.Streamed.{AreCertified, IsFaultOfBytes};
+
+use crate::fault::StreamFault;
+use crate::pass::Pass;
+use kt_chain::Certificate;
+use kt_log_text::RowReader;
+use std::alloc::Global;
+use std::io::Read;
+
+/// The certificates of a stored log, in one pass over its rows, as `certify` makes them of a list of rows; else why there
+/// are none.
+///
+/// Reading goes on to the end of the text, so that a fault of the text is answered before any other.
+pub fn certify_stream<R: Read + Drop>(
+    alloc: Global,
+    log_reader: R,
+) -> Result<Vec<Certificate>, StreamFault>
+    // Where the reader tells its bytes, the certificates are those of the rows that these say, which are fit,
+    ensures certificates { IfOk result (λ list. AreCertified (R.remaining log_reader) list.items) }
+    // and they can be written, and what is written says them.
+    ensures short { IfOk result (λ list. All HasShortChains list.items) }
+    ensures text { IfOk result (λ list. IsCertText (records_of list.items) list.items) }
+    // A fault is the first of the text; else why the rows are not fit.
+    ensures fault { IfErr result (IsFaultOfBytes (R.remaining log_reader)) }
+{
+    let mut pass = Pass::new(alloc)?;
+    let mut rows = RowReader::new(alloc, log_reader)?;
+    certify_unread(&mut pass, &mut rows)
+}
+
+// The certificates of the rows that a reader gives, of which neither it nor the pass has seen any.
+fn certify_unread<R: Read + Drop>(
+    pass: &mut Pass,
+    rows: &mut RowReader<R>,
+) -> Result<Vec<Certificate>, StreamFault>
+    requires unread { (source : Option (List ℕ)) × (rows.old ≡ rows_unread source) }
+    requires none_seen { PassOf pass.old [] }
+    ensures certificates { (source : Option (List ℕ)) → rows.old ≡ rows_unread source → IfOk result (λ list. AreCertified source list.items) }
+    ensures short { IfOk result (λ list. All HasShortChains list.items) }
+    ensures text { IfOk result (λ list. IsCertText (records_of list.items) list.items) }
+    ensures fault { (source : Option (List ℕ)) → rows.old ≡ rows_unread source → IfErr result (IsFaultOfBytes source) }
+{
+    while let Some(row) = rows.next()? {
+        pass.feed(&row)?;
+    }
+    match pass.unfit() {
+        Some(unfit) => Err(StreamFault::Unfit(unfit)),
+        None => Ok(pass.found()?),
+    }
+}
