@@ -17,8 +17,8 @@ abbrev pub most_commands : ℕ
 most_commands = 4096
 
 -- there is such a kind of object
-abbrev pub IsKind : ℕ → Type 0
-IsKind kind = kind < 3
+abbrev pub IsKindOfObject : ℕ → Type 0
+IsKindOfObject kind = kind < 3
 
 -- a job of a process where there are so many processes: a send goes to another process that is there
 abbrev pub IsJobOf : ℕ → ℕ → Job → Type 0
@@ -39,7 +39,7 @@ IsInPhases commands = IsNonDecreasingBy (λ (command : Command). command.phase) 
 pub record IsPlan (plan : Planned) : Type 0 where
   pub names : AreNames plan.names
   pub one_kind_each : length plan.kinds ≡ length plan.names
-  pub kinds : All IsKind plan.kinds
+  pub kinds : All IsKindOfObject plan.kinds
   pub few : length plan.commands ≤ most_commands
   pub commands : All (IsCommandOf (length plan.names)) plan.commands
   pub phases : IsInPhases plan.commands

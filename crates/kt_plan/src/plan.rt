@@ -1,7 +1,7 @@
 //! Plans.
 
 ghost use Rattle.std.specs.Prelude.{◌≡◌, ◌≢◌, ◌<◌, ◌≤◌, ◌↔◌, IsSome, IfSome, IsTrue, IfOk, length, All};
-ghost use Rattle.kt_plan.specs.Limits.{IsPlan, IsCommandOf, IsJobOf, IsKind, IsInPhases};
+ghost use Rattle.kt_plan.specs.Limits.{IsPlan, IsCommandOf, IsJobOf, IsKindOfObject, IsInPhases};
 
 use crate::commands::{Command, Job};
 use crate::names::Names;
@@ -79,7 +79,7 @@ const MOST_COMMANDS: usize = 4096;
 
 // Whether there are objects of all these kinds.
 fn are_kinds(kinds: &[u8]) -> bool
-    ensures { IsTrue result ↔ (All IsKind kinds.now) }
+    ensures { IsTrue result ↔ (All IsKindOfObject kinds.now) }
 {
     kinds.iter().all(|kind| *kind < 3)
 }

@@ -31,7 +31,7 @@ use Rattle.kt_roll.specs.Sides.{RollSide, IsAfter}
 use Rattle.kt_seen.specs.Seen.{SeenPart, SeenPerson}
 use Rattle.kt_seen.specs.SeenJoining.{no_note, part_after_ask}
 use Rattle.kt_seen.specs.CallTests.{must_take, must_roll}
-use Rattle.kt_process.specs.Persons.{Person, part_of, inst_of, is_ready, IsNumbered}
+use Rattle.kt_process.specs.Persons.{Person, part_of_side, inst_of, is_ready, IsNumbered}
 use Rattle.kt_process.specs.declared.side.Side.{Side}
 use Rattle.kt_process.specs.declared.side.Side.TheVariants as side
 use Rattle.kt_process.specs.Shown.{IsSeenAs, part_shown, HearsAs, answer_as, answer_by, noted_as, mark_of, no_mark, inst_shown, part_as}
@@ -71,7 +71,7 @@ zero_other : (k : ℕ) → 1 ≤ k → (0 == k) ≡ false
 zero_other k h = grind (arith, nat_tests)
 
 -- what comes of an ask to take a checkpoint
-pub save_answer : (x : Option Side) (able up : Bool) (q k l : ℕ) (y : SeenPerson) → IsNumbered (part_of x) → inst_shown x ≡ y.inst → up ≡ y.up → 1 ≤ k → Speaks y.calls →
+pub save_answer : (x : Option Side) (able up : Bool) (q k l : ℕ) (y : SeenPerson) → IsNumbered (part_of_side x) → inst_shown x ≡ y.inst → up ≡ y.up → 1 ≤ k → Speaks y.calls →
     ckpt.answer (inst_of x) up able k (ckpt.must_join y.calls q l) ≡ answer_as kind.Checkpoint able q k l y
 save_answer x able up q k l y num i u k1 speaks = rw (← i, ← u, takes_as y.calls q l speaks) (at_side x (must_take y.calls q l) num)
   where
@@ -86,14 +86,14 @@ save_answer x able up q k l y num i u k1 speaks = rw (← i, ← u, takes_as y.c
     busy : (n : ℕ) (rest : Answer) → 1 ≤ n → (if n == k then replies true None else replies false (Some (Busy n))) ≡ (if n == k then replies true None else if not (n == 0) then replies false (Some (Busy n)) else rest)
     busy n rest h = rw (is_some n h) refl
 
-    at_side : (x : Option Side) (must : Bool) → IsNumbered (part_of x) → ckpt.answer (inst_of x) up able k must ≡
+    at_side : (x : Option Side) (must : Bool) → IsNumbered (part_of_side x) → ckpt.answer (inst_of x) up able k must ≡
         (if inst_shown x == k then replies true None else if not (inst_shown x == 0) then replies false (Some (Busy (inst_shown x)))
         else if not must then replies true None else if not (able && up) then replies false (Some (unable_cause up)) else joins)
     at_side None must h = free must up able k k1
     at_side (Some (side.Checkpoint s)) must h = busy s.part.inst _ h
     at_side (Some (side.Rollback s)) must h = busy s.part.inst _ h
 
-pub roll_answer : (x : Option Side) (able : Bool) (q k l : ℕ) (y : SeenPerson) → IsNumbered (part_of x) → inst_shown x ≡ y.inst → 1 ≤ k →
+pub roll_answer : (x : Option Side) (able : Bool) (q k l : ℕ) (y : SeenPerson) → IsNumbered (part_of_side x) → inst_shown x ≡ y.inst → 1 ≤ k →
     roll.answer (inst_of x) k (roll.must_join y.calls q l) ≡ answer_as kind.Rollback able q k l y
 roll_answer x able q k l y num i k1 = rw (← i, rolls_as y.calls q l) (at_side x (must_roll y.calls q l) num)
   where
@@ -104,17 +104,17 @@ roll_answer x able q k l y num i k1 = rw (← i, rolls_as y.calls q l) (at_side 
     busy : (n : ℕ) (rest : Answer) → 1 ≤ n → (if n == k then replies true None else replies false (Some (Busy n))) ≡ (if n == k then replies true None else if not (n == 0) then replies false (Some (Busy n)) else rest)
     busy n rest h = rw (is_some n h) refl
 
-    at_side : (x : Option Side) (must : Bool) → IsNumbered (part_of x) → roll.answer (inst_of x) k must ≡
+    at_side : (x : Option Side) (must : Bool) → IsNumbered (part_of_side x) → roll.answer (inst_of x) k must ≡
         (if inst_shown x == k then replies true None else if not (inst_shown x == 0) then replies false (Some (Busy (inst_shown x))) else if must then joins else replies true None)
     at_side None must h = free must
     at_side (Some (side.Checkpoint s)) must h = busy s.part.inst _ h
     at_side (Some (side.Rollback s)) must h = busy s.part.inst _ h
 
-answer_is : (s : Standing) (x : Option Side) (able : Bool) (q k l : ℕ) (y : SeenPerson) → s.able ≡ able → IsNumbered (part_of x) → s.in_inst ≡ inst_of x → inst_shown x ≡ y.inst → s.up ≡ y.up → 1 ≤ k → Speaks y.calls →
+answer_is : (s : Standing) (x : Option Side) (able : Bool) (q k l : ℕ) (y : SeenPerson) → s.able ≡ able → IsNumbered (part_of_side x) → s.in_inst ≡ inst_of x → inst_shown x ≡ y.inst → s.up ≡ y.up → 1 ≤ k → Speaks y.calls →
     ckpt.answer s.in_inst s.up s.able k (ckpt.must_join y.calls q l) ≡ answer_as kind.Checkpoint able q k l y
 answer_is s x able q k l y a num i j u k1 speaks = rw (i, a) (save_answer x able s.up q k l y num j u k1 speaks)
 
-pub hears_save : (x : Person) (y : SeenPerson) (t : State) (s : Standing) (able : Bool) (part : Share) (marks : List ℕ) (n q k l : ℕ) (action : Action) → s.able ≡ able → IsSeenAs x y → IsNumbered (part_of x.side) → n ≤ 64 → 1 ≤ k →
+pub hears_save : (x : Person) (y : SeenPerson) (t : State) (s : Standing) (able : Bool) (part : Share) (marks : List ℕ) (n q k l : ℕ) (action : Action) → s.able ≡ able → IsSeenAs x y → IsNumbered (part_of_side x.side) → n ≤ 64 → 1 ≤ k →
     s.in_inst ≡ inst_of x.side → s.up ≡ x.up → ((calls : List Call) → StandsFor x.tables calls → ckpt_actions.IsAnswer calls s k q l (Some part) action) → Joins n k (Some q) part action →
     ((calls : List Call) → StandsFor x.tables calls → ckpt_actions.AsksCohort calls action) → ((calls : List Call) → StandsFor x.tables calls → StandsFor t (calls ++ on_tentative ∷ [])) →
     HearsAs kind.Checkpoint able n q k l (mark_of marks) y (record { tables = t; side = Some (side.Checkpoint (record { part = part; marks = marks })); up = x.up; used = x.used }) action
@@ -128,7 +128,7 @@ hears_save x y t s able part marks n q k l (Reply to willing cause) a h num few 
 hears_save x y t s able part marks n q k l (Settle commit tell) a h num few k1 i u rule join cohort stands = absurd join
 
 -- it replies, and stays where it is
-pub replies_save : (x : Person) (y : SeenPerson) (s : Standing) (able : Bool) (marks : ℕ → ℕ) (n q k l : ℕ) (action : Action) → s.able ≡ able → IsSeenAs x y → IsNumbered (part_of x.side) → 1 ≤ k →
+pub replies_save : (x : Person) (y : SeenPerson) (s : Standing) (able : Bool) (marks : ℕ → ℕ) (n q k l : ℕ) (action : Action) → s.able ≡ able → IsSeenAs x y → IsNumbered (part_of_side x.side) → 1 ≤ k →
     s.in_inst ≡ inst_of x.side → s.up ≡ x.up → ((calls : List Call) → StandsFor x.tables calls → ckpt_actions.IsAnswer calls s k q l None action) → HearsAs kind.Checkpoint able n q k l marks y x action
 replies_save x y s able marks n q k l (Reply to willing cause) a h num k1 i u rule =
     let r = rule y.calls h.stands in
@@ -138,7 +138,7 @@ replies_save x y s able marks n q k l (Refuse cause) a h num k1 i u rule = absur
 replies_save x y s able marks n q k l (Join asks goes) a h num k1 i u rule = absurd (rule y.calls h.stands)
 replies_save x y s able marks n q k l (Settle commit tell) a h num k1 i u rule = absurd (rule y.calls h.stands)
 
-pub hears_roll : (x : Person) (y : SeenPerson) (s : Standing) (r : RollSide) (marks : ℕ → ℕ) (n q k l : ℕ) (action : Action) → IsSeenAs x y → IsNumbered (part_of x.side) → n ≤ 64 → 1 ≤ k →
+pub hears_roll : (x : Person) (y : SeenPerson) (s : Standing) (r : RollSide) (marks : ℕ → ℕ) (n q k l : ℕ) (action : Action) → IsSeenAs x y → IsNumbered (part_of_side x.side) → n ≤ 64 → 1 ≤ k →
     s.in_inst ≡ inst_of x.side → ((calls : List Call) → StandsFor x.tables calls → roll_actions.IsAnswer calls s k q l (Some r) action) → Joins n k (Some q) r.part action →
     ((calls : List Call) → StandsFor x.tables calls → roll_actions.AsksCohort calls action) → note_of r.notes ≡ with_note q l no_note →
     HearsAs kind.Rollback true n q k l marks y (record x { side = Some (side.Rollback r) }) action
@@ -152,7 +152,7 @@ hears_roll x y s r marks n q k l (Reply to willing cause) h num few k1 i rule jo
 hears_roll x y s r marks n q k l (Settle commit tell) h num few k1 i rule join cohort notes = absurd join
 
 -- it replies; the process becomes one that has noted
-pub replies_roll : (x new : Person) (y : SeenPerson) (s : Standing) (marks : ℕ → ℕ) (n q k l : ℕ) (action : Action) → IsSeenAs x y → IsNumbered (part_of x.side) → 1 ≤ k →
+pub replies_roll : (x new : Person) (y : SeenPerson) (s : Standing) (marks : ℕ → ℕ) (n q k l : ℕ) (action : Action) → IsSeenAs x y → IsNumbered (part_of_side x.side) → 1 ≤ k →
     s.in_inst ≡ inst_of x.side → ((calls : List Call) → StandsFor x.tables calls → roll_actions.IsAnswer calls s k q l None action) → IsSeenAs new (noted_as kind.Rollback q k l y) →
     HearsAs kind.Rollback true n q k l marks y new action
 replies_roll x new y s marks n q k l (Reply to willing cause) h num k1 i rule noted =

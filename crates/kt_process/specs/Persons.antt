@@ -15,10 +15,10 @@ pub record Person : Type 0 where
   pub used : ℕ
 
 -- its part, and whether it is in a checkpoint, in a rollback
-abbrev pub part_of : Option Side → Option Share
-part_of None = None
-part_of (Some (Checkpoint side)) = Some side.part
-part_of (Some (Rollback side)) = Some side.part
+abbrev pub part_of_side : Option Side → Option Share
+part_of_side None = None
+part_of_side (Some (Checkpoint side)) = Some side.part
+part_of_side (Some (Rollback side)) = Some side.part
 
 abbrev pub is_saving : Option Side → Bool
 is_saving None = false
@@ -36,7 +36,7 @@ inst_of_part (Some part) = Some part.inst
 
 -- the instance that it is in
 abbrev pub inst_of : Option Side → Option ℕ
-inst_of side = inst_of_part (part_of side)
+inst_of side = inst_of_part (part_of_side side)
 
 -- whom it asked in the instance that it is in
 abbrev pub asked_of_part : Option Share → ℕ → Bool
@@ -44,7 +44,7 @@ asked_of_part None q = false
 asked_of_part (Some part) q = has part.asked q
 
 abbrev pub asked_of : Option Side → ℕ → Bool
-asked_of side q = asked_of_part (part_of side) q
+asked_of side q = asked_of_part (part_of_side side) q
 
 -- its parent is another process that is there
 abbrev pub IsPeer : ℕ → Option ℕ → Type 0
@@ -71,7 +71,7 @@ IsNumbered (Some part) = 1 ≤ part.inst
 pub record Fits (x : Person) : Type 0 where
   pub few : x.tables.processes ≤ 64
   pub tentative : x.tables.is_tentative ≡ is_saving x.side
-  pub near : IsNear x.tables.processes (part_of x.side)
+  pub near : IsNear x.tables.processes (part_of_side x.side)
   pub marked : IsMarked x.tables.processes x.side
-  pub numbered : IsNumbered (part_of x.side)
+  pub numbered : IsNumbered (part_of_side x.side)
   pub used : (q : ℕ) → label_of x.tables.last_out q ≤ x.used

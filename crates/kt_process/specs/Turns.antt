@@ -12,7 +12,7 @@ use Rattle.kt_tables.specs.Peers.{has_one}
 use Rattle.kt_tables.specs.Standing.{StandsFor, must_take, must_roll}
 use Rattle.kt_tables.specs.States.{State}
 use Rattle.kt_roll.specs.Notes.{note_of}
-use Rattle.kt_process.specs.Persons.{Person, part_of, is_saving, is_ready, inst_of}
+use Rattle.kt_process.specs.Persons.{Person, part_of_side, is_saving, is_ready, inst_of}
 use Rattle.kt_process.specs.declared.side.Side.{Side}
 use Rattle.kt_process.specs.declared.side.Side.TheVariants.{Checkpoint, Rollback}
 
@@ -54,7 +54,7 @@ is_of kind.Rollback side = is_ready side
 -- it joined instance k of a kind by an ask of its parent, or began it
 pub record HasJoined (kind : Kind) (k : ℕ) (parent : Option ℕ) (old new : Person) (action : Action) : Type 0 where
   pub part : Share
-  pub is : part_of new.side ≡ Some part
+  pub is : part_of_side new.side ≡ Some part
   pub of_kind : is_of kind new.side ≡ true
   pub joins : Joins old.tables.processes k parent part action
   pub asked : (q : ℕ) → has part.asked q ≡ true → peers_of old.tables kind q ≡ true
@@ -67,7 +67,7 @@ IsBegin kind k old new action = ⊥
 
 -- an ask: it replies to the asker and stays where it is, or it joins, if the ask makes it
 abbrev pub IsHeard : Kind → Bool → ℕ → ℕ → ℕ → Person → Person → Action → Type 0
-IsHeard kind able from k label old new (Reply to willing cause) = (to ≡ from) × (part_of new.side ≡ part_of old.side) × (is_ready new.side ≡ is_ready old.side)
+IsHeard kind able from k label old new (Reply to willing cause) = (to ≡ from) × (part_of_side new.side ≡ part_of_side old.side) × (is_ready new.side ≡ is_ready old.side)
 IsHeard kind able from k label old new (Join asks goes) = (joins_by old kind able from label ≡ true) × HasJoined kind k (Some from) old new (Join asks goes)
 IsHeard kind able from k label old new action = ⊥
 

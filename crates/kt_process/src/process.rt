@@ -8,7 +8,7 @@ ghost use Rattle.kt_tables.specs.Calls.{Call, sent, received, on_tentative, Spea
 ghost use Rattle.kt_tables.specs.Standing.{StandsFor, CanReceive};
 ghost use Rattle.kt_parts.specs.Rules.{after_reply, settle_action};
 ghost use Rattle.kt_roll.specs.Notes.{note_of};
-ghost use Rattle.kt_process.specs.Persons.{Person, part_of, is_saving, is_ready, inst_of, asked_of, IsNear, IsNumbered, Fits};
+ghost use Rattle.kt_process.specs.Persons.{Person, part_of_side, is_saving, is_ready, inst_of, asked_of, IsNear, IsNumbered, Fits};
 ghost use Rattle.kt_process.specs.Turns.{reply_of, HasPartners, IsTold, joins_by, peers_of, marks_of, noted_by, IsFresh, IsBegin, IsHeard};
 ghost use Rattle.kt_seen.specs.Seen.{SeenPerson};
 ghost use Rattle.kt_process.specs.Shown.{IsSeenAs, BeginsAs, HearsAs, counted_as, closed_as, mark_of, no_mark, inst_shown};
@@ -63,8 +63,8 @@ impl Process {
 
     /// Its part in the instance that it is in.
     pub fn part(&self) -> Option<&Part>
-        ensures part { option_copied result ≡ part_of self.now.side }
-        ensures near { IsNear self.now.tables.processes (part_of self.now.side) }
+        ensures part { option_copied result ≡ part_of_side self.now.side }
+        ensures near { IsNear self.now.tables.processes (part_of_side self.now.side) }
     {
         match &self.side {
             Some(Side::Checkpoint(side)) => Some(side.part()),
@@ -76,7 +76,7 @@ impl Process {
     /// The instance that it is in.
     pub fn in_inst(&self) -> Option<InstNo>
         ensures inst { result ≡ inst_of self.now.side }
-        ensures numbered { IsNumbered (part_of self.now.side) }
+        ensures numbered { IsNumbered (part_of_side self.now.side) }
     {
         match self.part() {
             Some(part) => Some(part.inst()),
@@ -87,7 +87,7 @@ impl Process {
     /// Whether it is in a rollback.
     pub fn is_ready(&self) -> bool
         ensures ready { result ≡ is_ready self.now.side }
-        ensures numbered { IsNumbered (part_of self.now.side) }
+        ensures numbered { IsNumbered (part_of_side self.now.side) }
     {
         match &self.side {
             Some(Side::Rollback(_)) => true,
@@ -156,7 +156,7 @@ impl Process {
     /// To whom it may put a parcel when the next reply has come: to its parent and to those that it asked, if it awaits
     /// that reply alone.
     pub fn partners(&self) -> ProcSet
-        ensures partners { HasPartners (part_of self.now.side) result }
+        ensures partners { HasPartners (part_of_side self.now.side) result }
         ensures within { (q : ℕ) → has result q ≡ true → q < self.now.tables.processes }
     {
         match self.part() {
@@ -347,8 +347,8 @@ impl Process {
 
     /// A reply to one of its asks has come. In no instance, and where it awaits none, nothing changes.
     pub fn hear_reply(&mut self, willing: bool) -> Action
-        ensures action { result ≡ reply_of (part_of self.old.side) willing }
-        ensures part { part_of self.new.side ≡ option_map (λ part. after_reply part willing) (part_of self.old.side) }
+        ensures action { result ≡ reply_of (part_of_side self.old.side) willing }
+        ensures part { part_of_side self.new.side ≡ option_map (λ part. after_reply part willing) (part_of_side self.old.side) }
         ensures shows { (y : SeenPerson) → IsSeenAs self.old y → IsSeenAs self.new (counted_as willing y) }
         ensures ready { is_ready self.new.side ≡ is_ready self.old.side }
         ensures tables { self.new.tables ≡ self.old.tables }

@@ -28,7 +28,7 @@ use Rattle.kt_seen.specs.SeenClosing.{seen_settling}
 use Rattle.kt_seen.specs.SeenMessages.{seen_refusal}
 use Rattle.kt_seen.specs.Transition.{transition, seen_beginning, seen_begin_command, seen_ask}
 use Rattle.kt_system.specs.Systems.{Whole, person, Begins, Hears}
-use Rattle.kt_system.specs.Shown.{Shows, IsTurned, IsInside, JoinsAs, turned_to, begun_as, answered_as, with_cause}
+use Rattle.kt_system.specs.Shown.{ShowsState, IsTurned, IsInside, JoinsAs, turned_to, begun_as, answered_as, with_cause}
 use Rattle.kt_system.proofs.Messages.{at_same}
 use Rattle.kt_system.proofs.Replying.{same_person}
 use Rattle.kt_system.proofs.Showing.{shows_turned}
@@ -41,10 +41,10 @@ turned_by kind k marks v p (Refuse cause) = v
 turned_by kind k marks v p (Reply to willing cause) = v
 turned_by kind k marks v p (Settle commit tell) = v
 
-stays : (a b : Whole) (v : Seen) (p : ℕ) → IsTurned a b p → IsSeenAs (person b p) (v.people p) → Shows a v → Shows b v
-stays a b v p t s h = subst (λ (z : Seen). Shows b z) (same_person v p) (shows_turned a b v p (v.people p) t s h)
+stays : (a b : Whole) (v : Seen) (p : ℕ) → IsTurned a b p → IsSeenAs (person b p) (v.people p) → ShowsState a v → ShowsState b v
+stays a b v p t s h = subst (λ (z : Seen). ShowsState b z) (same_person v p) (shows_turned a b v p (v.people p) t s h)
 
-pub begin_shows : (a b : Whole) (v : Seen) (p k : ℕ) (kind : Kind) (able : Bool) (marks : ℕ → ℕ) (action : Action) → Shows a v → IsTurned a b p → BeginsAs kind able v.processes k marks (v.people p) (person b p) action → Shows b (turned_by kind k marks v p action)
+pub begin_shows : (a b : Whole) (v : Seen) (p k : ℕ) (kind : Kind) (able : Bool) (marks : ℕ → ℕ) (action : Action) → ShowsState a v → IsTurned a b p → BeginsAs kind able v.processes k marks (v.people p) (person b p) action → ShowsState b (turned_by kind k marks v p action)
 begin_shows a b v p k kind able marks (Join asks goes) h t s = shows_turned a b v p _ t s.1.process h
 begin_shows a b v p k kind able marks (Refuse cause) h t s = stays a b v p t s.1 h
 begin_shows a b v p k kind able marks Nothing h t s = absurd s
@@ -112,8 +112,8 @@ heard_by kind q k label marks v p Nothing = v
 heard_by kind q k label marks v p (Refuse cause) = v
 heard_by kind q k label marks v p (Settle commit tell) = v
 
-pub hear_shows : (a b : Whole) (v : Seen) (p q k label : ℕ) (kind : Kind) (able : Bool) (marks : ℕ → ℕ) (action : Action) → Shows a v → IsTurned a b p → HearsAs kind able v.processes q k label marks (v.people p) (person b p) action →
-    Shows b (heard_by kind q k label marks v p action)
+pub hear_shows : (a b : Whole) (v : Seen) (p q k label : ℕ) (kind : Kind) (able : Bool) (marks : ℕ → ℕ) (action : Action) → ShowsState a v → IsTurned a b p → HearsAs kind able v.processes q k label marks (v.people p) (person b p) action →
+    ShowsState b (heard_by kind q k label marks v p action)
 hear_shows a b v p q k label kind able marks (Join asks goes) h t s = shows_turned a b v p _ t s.1.process h
 hear_shows a b v p q k label kind able marks (Reply to willing cause) h t s = shows_turned a b v p _ t s.2 h
 hear_shows a b v p q k label kind able marks Nothing h t s = absurd s

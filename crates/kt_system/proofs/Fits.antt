@@ -12,7 +12,7 @@ use Rattle.kt_parts.specs.declared.actions.Action.{Action}
 use Rattle.kt_parts.specs.declared.actions.Action.TheVariants.{Nothing, Refuse, Join, Reply, Settle}
 use Rattle.kt_parts.specs.declared.actions.Then.{Then}
 use Rattle.kt_parts.specs.declared.actions.Then.TheVariants.{Wait, Answer, Commit}
-use Rattle.kt_process.specs.Persons.{Person, part_of, is_ready, asked_of, asked_of_part}
+use Rattle.kt_process.specs.Persons.{Person, part_of_side, is_ready, asked_of, asked_of_part}
 use Rattle.kt_process.specs.Turns.{peers_of, joins_by, reply_of, IsIn, HasPartners, HasJoined}
 use Rattle.kt_system.specs.Systems.{Whole, person, room_to, HasBack, HasRoomFor, GivesRoom, KeepsRoom, Turns, Hears, Counts, CanJoin, CanCarryOut, CanGoOn}
 
@@ -65,10 +65,10 @@ hears_fit kd able from k label p set now m a b joins (Join asks goes) fits hf be
     joined_fits kd from k p set m a b h.before h.after asks goes fits hf (let z = g.size in omega arith) tables (λ q e. sets joined q (ap (λ (x : Person). peers_of x.tables kd q) (sym was) ∙ e)) h.turn gives h.hears.1
 
 -- what follows from a reply has room
-pub replies_fit : (p set : ℕ) (w : Bool) (now m r a b : Whole) (action : Action) → HasPartners (part_of (person now p).side) set → ((q : ℕ) → has set q ≡ true → q < now.size) → HasRoomFor m p set → GivesRoom now m → KeepsRoom m r →
+pub replies_fit : (p set : ℕ) (w : Bool) (now m r a b : Whole) (action : Action) → HasPartners (part_of_side (person now p).side) set → ((q : ℕ) → has set q ≡ true → q < now.size) → HasRoomFor m p set → GivesRoom now m → KeepsRoom m r →
     (is_ready (person m p).side ≡ true → HasBack r p) → GivesRoom r a → Counts w p a b action → CanGoOn b p action
 replies_fit p set w now m r a b action partners within fits g k back h counts =
-    subst (λ (z : Action). CanGoOn b p z) (sym counts.follows) (at_part (part_of counts.before.side) refl)
+    subst (λ (z : Action). CanGoOn b p z) (sym counts.follows) (at_part (part_of_side counts.before.side) refl)
   where
     was : counts.before ≡ person now p
     was = counts.turn.was ∙ (h.person p ∙ (k.person p ∙ g.person p))
@@ -82,10 +82,10 @@ replies_fit p set w now m r a b action partners within fits g k back h counts =
     ready : is_ready (person b p).side ≡ is_ready (person m p).side
     ready = ap (λ (x : Person). is_ready x.side) counts.turn.is ∙ (counts.ready ∙ ap (λ (x : Person). is_ready x.side) (counts.turn.was ∙ (h.person p ∙ k.person p)))
 
-    has_partners : (o : Option Share) → part_of counts.before.side ≡ o → HasPartners o set
-    has_partners o e = subst (λ (z : Option Share). HasPartners z set) (ap (λ (x : Person). part_of x.side) (sym was) ∙ e) partners
+    has_partners : (o : Option Share) → part_of_side counts.before.side ≡ o → HasPartners o set
+    has_partners o e = subst (λ (z : Option Share). HasPartners z set) (ap (λ (x : Person). part_of_side x.side) (sym was) ∙ e) partners
 
-    asked_after : (s : Share) → part_of counts.before.side ≡ Some s → (q : ℕ) → asked_of (person b p).side q ≡ has s.asked q
+    asked_after : (s : Share) → part_of_side counts.before.side ≡ Some s → (q : ℕ) → asked_of (person b p).side q ≡ has s.asked q
     asked_after s e q =
         ap (λ (x : Person). asked_of x.side q) counts.turn.is
         ∙ (ap (λ (o : Option Share). asked_of_part o q) (counts.part ∙ ap (λ (o : Option Share). option_map (λ part. after_reply part w) o) e) ∙ at_count (s.awaited == 0))
@@ -97,7 +97,7 @@ replies_fit p set w now m r a b action partners within fits g k back h counts =
     one_left : (n : ℕ) → (n == 1) ≡ true → n ≡ 1
     one_left n e = grind (arith, nat_tests)
 
-    at_part : (o : Option Share) → part_of counts.before.side ≡ o → CanGoOn b p (reply_of o w)
+    at_part : (o : Option Share) → part_of_side counts.before.side ≡ o → CanGoOn b p (reply_of o w)
     at_part None e = tt
     at_part (Some s) e = at_test (s.awaited == 1) refl
       where

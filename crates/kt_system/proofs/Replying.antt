@@ -11,7 +11,7 @@ use Rattle.kt_parts.specs.Rules.{reply_action, last_action, after_reply}
 use Rattle.kt_parts.specs.Shares.{Share}
 use Rattle.kt_parts.specs.declared.actions.Action.{Action}
 use Rattle.kt_parts.specs.declared.actions.Action.TheVariants as what
-use Rattle.kt_process.specs.Persons.{Person, part_of, inst_of, is_ready, IsNumbered}
+use Rattle.kt_process.specs.Persons.{Person, part_of_side, inst_of, is_ready, IsNumbered}
 use Rattle.kt_process.specs.Turns.{reply_of}
 use Rattle.kt_process.specs.declared.side.Side.{Side}
 use Rattle.kt_process.specs.declared.side.Side.TheVariants as side
@@ -25,7 +25,7 @@ use Rattle.kt_system.specs.Shown.{turned_to, gone_on, after_reply_taken, after_d
 use Rattle.kt_system.proofs.Messages.{at_same}
 
 -- who is ready, in the machine
-pub ready_seen : (x : Person) (v : Seen) (p : ℕ) → IsSeenAs x (v.people p) → IsNumbered (part_of x.side) → is_ready x.side ≡ is_seen_ready v p
+pub ready_seen : (x : Person) (v : Seen) (p : ℕ) → IsSeenAs x (v.people p) → IsNumbered (part_of_side x.side) → is_ready x.side ≡ is_seen_ready v p
 ready_seen x v p h num = at_side x.side num h.inst h.part
   where
     some : (n : ℕ) → 1 ≤ n → not (n == 0) ≡ true
@@ -35,7 +35,7 @@ ready_seen x v p h num = at_side x.side num h.inst h.part
     and_false true = refl
     and_false false = refl
 
-    at_side : (s : Option Side) → IsNumbered (part_of s) → inst_shown s ≡ (v.people p).inst → part_shown s ≡ (v.people p).part → is_ready s ≡ is_seen_ready v p
+    at_side : (s : Option Side) → IsNumbered (part_of_side s) → inst_shown s ≡ (v.people p).inst → part_shown s ≡ (v.people p).part → is_ready s ≡ is_seen_ready v p
     at_side None num i e = sym (ap (λ (b : Bool). not ((v.people p).inst == 0) && b) (ap (λ (r : SeenPart). r.is_rollback) (sym e)) ∙ and_false (not ((v.people p).inst == 0)))
     at_side (Some (side.Checkpoint s)) num i e = sym (ap (λ (b : Bool). not ((v.people p).inst == 0) && b) (ap (λ (r : SeenPart). r.is_rollback) (sym e)) ∙ and_false (not ((v.people p).inst == 0)))
     at_side (Some (side.Rollback s)) num i e =
@@ -105,16 +105,16 @@ by_count v p q k w rest (suc (suc n)) parent willing asked e f g =
 
 -- who takes a reply
 pub replies_as : (x : Person) (v : Seen) (p q k : ℕ) (w : Bool) (rest : List Parcel) → IsSeenAs x (v.people p) →
-    gone_on (turned_to (seen_without_front v p q rest) p (counted_as w (v.people p))) p k (reply_of (part_of x.side) w) ≡ after_reply_taken v p q k w rest
+    gone_on (turned_to (seen_without_front v p q rest) p (counted_as w (v.people p))) p k (reply_of (part_of_side x.side) w) ≡ after_reply_taken v p q k w rest
 replies_as x v p q k w rest h = at_side x.side h.part
   where
-    at_side : (s : Option Side) → part_shown s ≡ (v.people p).part → gone_on (turned_to (seen_without_front v p q rest) p (counted_as w (v.people p))) p k (reply_of (part_of s) w) ≡ after_reply_taken v p q k w rest
+    at_side : (s : Option Side) → part_shown s ≡ (v.people p).part → gone_on (turned_to (seen_without_front v p q rest) p (counted_as w (v.people p))) p k (reply_of (part_of_side s) w) ≡ after_reply_taken v p q k w rest
     at_side None e = by_count v p q k w rest 0 None true 0 (ap (λ (r : SeenPart). r.awaited) (sym e)) (ap (λ (r : SeenPart). r.parent) (sym e)) (ap (λ (r : SeenPart). r.willing) (sym e))
     at_side (Some (side.Checkpoint s)) e = by_count v p q k w rest s.part.awaited s.part.parent s.part.willing s.part.asked (ap (λ (r : SeenPart). r.awaited) (sym e)) (ap (λ (r : SeenPart). r.parent) (sym e)) (ap (λ (r : SeenPart). r.willing) (sym e))
     at_side (Some (side.Rollback s)) e = by_count v p q k w rest s.part.awaited s.part.parent s.part.willing s.part.asked (ap (λ (r : SeenPart). r.awaited) (sym e)) (ap (λ (r : SeenPart). r.parent) (sym e)) (ap (λ (r : SeenPart). r.willing) (sym e))
 
 -- who settles is in an instance
-pub settles_inside : (before after : Option Side) (w c : Bool) (tell : ℕ) → reply_of (part_of before) w ≡ what.Settle c tell → part_of after ≡ option_map (λ (part : Share). after_reply part w) (part_of before) → inst_of after ≡ None → ⊥
+pub settles_inside : (before after : Option Side) (w c : Bool) (tell : ℕ) → reply_of (part_of_side before) w ≡ what.Settle c tell → part_of_side after ≡ option_map (λ (part : Share). after_reply part w) (part_of_side before) → inst_of after ≡ None → ⊥
 settles_inside None after w c tell e f i = absurd (cc (e))
 settles_inside (Some (side.Checkpoint s)) None w c tell e f i = absurd (cc (f))
 settles_inside (Some (side.Rollback s)) None w c tell e f i = absurd (cc (f))

@@ -13,8 +13,8 @@ use Rattle.kt_seen.specs.Seen.{SeenPerson, SeenLists, Seen}
 use Rattle.kt_seen.specs.ListChanges.{with_parcel, with_rest}
 use Rattle.kt_process.specs.Persons.{Person}
 use Rattle.kt_process.specs.Shown.{IsSeenAs}
-use Rattle.kt_system.specs.Systems.{Whole, person, nobody, IsSound, IsSame}
-use Rattle.kt_system.specs.Shown.{Shows, IsTurned, turned_to, with_row}
+use Rattle.kt_system.specs.Systems.{Whole, person, nobody, IsSound, IsSameSystem}
+use Rattle.kt_system.specs.Shown.{ShowsState, IsTurned, turned_to, with_row}
 use Rattle.kt_system.proofs.Turns.{person_at, tables_at}
 
 -- the same processes show the same
@@ -24,9 +24,9 @@ people_same a b e p = ap (λ (people : List Person). get_or people p nobody) e
 
 -- all is as it was but the lists, the log and the number of instances
 pub shows_parts : (a b seen : Whole) (v : Seen) (channels held kept : SeenLists) (log : List Event) (begun : ℕ) → a ≡ seen → b.size ≡ a.size → b.people ≡ a.people → channel b.wires ≡ channels → channel b.held ≡ held →
-    channel b.kept ≡ kept → b.rows.rows ≡ log → b.begun ≡ begun → Shows seen v → Shows b (record v { channel = channels; held = held; kept = kept; log = log; begun = begun })
+    channel b.kept ≡ kept → b.rows.rows ≡ log → b.begun ≡ begun → ShowsState seen v → ShowsState b (record v { channel = channels; held = held; kept = kept; log = log; begun = begun })
 shows_parts a b seen v channels held kept log begun e s people c f k l g h =
-    let i = subst (λ (w : Whole). Shows w v) (sym e) h in
+    let i = subst (λ (w : Whole). ShowsState w v) (sym e) h in
     record {
       processes = s ∙ i.processes;
       people = λ p b1. subst (λ (x : Person). IsSeenAs x (v.people p)) (sym (people_same a b people p)) (i.people p (omega (arith, b1, s)));
@@ -38,7 +38,7 @@ shows_parts a b seen v channels held kept log begun e s people c f k l g h =
     }
 
 -- but for spare room all is as it was
-pub shows_same : (a b : Whole) (v : Seen) → IsSame b a → Shows a v → Shows b v
+pub shows_same : (a b : Whole) (v : Seen) → IsSameSystem b a → ShowsState a v → ShowsState b v
 shows_same a b v s h = record {
   processes = s.size ∙ h.processes;
   people = λ p b1. subst (λ (x : Person). IsSeenAs x (v.people p)) (sym (people_same a b s.people p)) (h.people p (let z = s.size in omega (arith, b1, z)));
@@ -56,7 +56,7 @@ at_other : {X : Type 0} (p u : ℕ) (x : X) (f : ℕ → X) → u ≢ p → at_o
 at_other p u x f n = grind (arith, nat_tests)
 
 -- one process has changed
-pub shows_turned : (a b : Whole) (v : Seen) (p : ℕ) (y : SeenPerson) → IsTurned a b p → IsSeenAs (person b p) y → Shows a v → Shows b (turned_to v p y)
+pub shows_turned : (a b : Whole) (v : Seen) (p : ℕ) (y : SeenPerson) → IsTurned a b p → IsSeenAs (person b p) y → ShowsState a v → ShowsState b (turned_to v p y)
 shows_turned a b v p y t turn h = record {
   processes = t.size ∙ h.processes;
   people = λ u l. elim (cases_eq u p) [
@@ -95,20 +95,20 @@ popped_is f q p rest = fun_ext (λ u. fun_ext (λ v. grind (arith, nat_tests)))
 
 -- only the channels change
 pub shows_wires : (a b seen : Whole) (v : Seen) (F : SeenLists → SeenLists) → a ≡ seen → b.size ≡ a.size → b.people ≡ a.people → channel b.held ≡ channel a.held → channel b.kept ≡ channel a.kept → b.rows.rows ≡ a.rows.rows → b.begun ≡ a.begun →
-    channel b.wires ≡ F (channel a.wires) → Shows seen v → Shows b (record v { channel = F v.channel })
+    channel b.wires ≡ F (channel a.wires) → ShowsState seen v → ShowsState b (record v { channel = F v.channel })
 shows_wires a b seen v F e s people held kept rows begun w h =
-    let i = subst (λ (z : Whole). Shows z v) (sym e) h in
+    let i = subst (λ (z : Whole). ShowsState z v) (sym e) h in
     shows_parts a b seen v (F v.channel) v.held v.kept v.log v.begun e s people (w ∙ ap F i.wires) (held ∙ i.held) (kept ∙ i.kept) (rows ∙ i.log) (begun ∙ i.begun) h
 
 -- only the log changes, by one row
 pub shows_log : (a b seen : Whole) (v : Seen) (row : Event) → a ≡ seen → b.size ≡ a.size → b.people ≡ a.people → b.wires ≡ a.wires → b.held ≡ a.held → b.kept ≡ a.kept → b.begun ≡ a.begun →
-    b.rows.rows ≡ a.rows.rows ++ row ∷ [] → Shows seen v → Shows b (with_row v row)
+    b.rows.rows ≡ a.rows.rows ++ row ∷ [] → ShowsState seen v → ShowsState b (with_row v row)
 shows_log a b seen v row e s people wires held kept begun rows h =
-    let i = subst (λ (z : Whole). Shows z v) (sym e) h in
+    let i = subst (λ (z : Whole). ShowsState z v) (sym e) h in
     shows_parts a b seen v v.channel v.held v.kept (v.log ++ row ∷ []) v.begun e s people (ap channel wires ∙ i.wires) (ap channel held ∙ i.held) (ap channel kept ∙ i.kept) (rows ∙ ap (λ (l : List Event). l ++ row ∷ []) i.log) (begun ∙ i.begun) h
 
 -- who stands at a place, in the machine
-pub stood : (a seen : Whole) (p i : ℕ) (x : Person) (v : Seen) → a ≡ seen → IsSound a → p < seen.size → i ≡ p → x ≡ get_or a.people i x → Shows seen v → IsSeenAs x (v.people p)
+pub stood : (a seen : Whole) (p i : ℕ) (x : Person) (v : Seen) → a ≡ seen → IsSound a → p < seen.size → i ≡ p → x ≡ get_or a.people i x → ShowsState seen v → IsSeenAs x (v.people p)
 stood a seen p i x v e sound b j was h = subst (λ (z : Person). IsSeenAs z (v.people p)) (sym (person_at a seen p i x e sound b j was)) (h.people p b)
 
 pub placed : (a b seen : Whole) (p i : ℕ) (y : Person) → a ≡ seen → IsSound a → p < seen.size → i ≡ p → b.people ≡ set a.people i y → person b p ≡ y
@@ -118,5 +118,5 @@ placed a b seen p i y e sound l j people =
     ∙ (ap (λ (z : ℕ). get_or (set a.people z y) p nobody) j ∙ get_or-set_same a.people p y nobody (let m = ap (λ (w : Whole). w.size) e in let z = sound.people in omega arith))
 
 -- as many processes as its tables have
-pub sized : (a seen : Whole) (p i : ℕ) (x : Person) (v : Seen) → a ≡ seen → IsSound a → p < seen.size → i ≡ p → x ≡ get_or a.people i x → Shows seen v → x.tables.processes ≡ v.processes
+pub sized : (a seen : Whole) (p i : ℕ) (x : Person) (v : Seen) → a ≡ seen → IsSound a → p < seen.size → i ≡ p → x ≡ get_or a.people i x → ShowsState seen v → x.tables.processes ≡ v.processes
 sized a seen p i x v e sound b j was h = ap (λ (z : Person). z.tables.processes) (person_at a seen p i x e sound b j was) ∙ (tables_at a seen p e sound b ∙ h.processes)

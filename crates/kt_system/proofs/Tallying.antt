@@ -9,7 +9,7 @@ use Rattle.kt_base.specs.declared.words.Kind.{Kind}
 use Rattle.kt_seen.specs.ListChanges.{with_parcel, with_decisions}
 use Rattle.kt_seen.specs.InOnePiece.{with_asks}
 use Rattle.kt_system.specs.declared.system.Tally.{Tally}
-use Rattle.kt_system.specs.Systems.{Whole, IsSame}
+use Rattle.kt_system.specs.Systems.{Whole, IsSameSystem}
 use Rattle.kt_system.specs.Shown.{IsTurned}
 use Rattle.kt_system.specs.Reads.{no_tally}
 use Rattle.kt_system.specs.Tallies.{is_ask_of, is_reply_of, is_decision_of, count_in_lists, count_in_channels, RisesBy, CountsPut, TalliesPut, front, counted_of, AreCounted}
@@ -34,7 +34,7 @@ kept_tallies a b s w p = record {
 pub tallies_kept : (a b seen : Whole) → a ≡ seen → b.size ≡ a.size → channel b.wires ≡ channel a.wires → b.put ≡ a.put → TalliesPut [] seen b
 tallies_kept a b seen e s w p = subst (λ (z : Whole). TalliesPut [] z b) e (kept_tallies a b s w p)
 
-pub tallies_same : (a b : Whole) → IsSame b a → TalliesPut [] a b
+pub tallies_same : (a b : Whole) → IsSameSystem b a → TalliesPut [] a b
 tallies_same a b s = kept_tallies a b s.size s.wires s.put
 
 pub tallies_turned : (a b : Whole) (p : ℕ) → IsTurned a b p → TalliesPut [] a b

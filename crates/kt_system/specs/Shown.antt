@@ -26,7 +26,7 @@ use Rattle.kt_process.specs.Shown.{IsSeenAs}
 use Rattle.kt_system.specs.Systems.{Whole, person}
 
 -- its processes, its lists of parcels and its log are those of a state of the machine
-pub record Shows (w : Whole) (v : Seen) : Type 0 where
+pub record ShowsState (w : Whole) (v : Seen) : Type 0 where
   pub processes : w.size ≡ v.processes
   pub people : (p : ℕ) → p < w.size → IsSeenAs (person w p) (v.people p)
   pub wires : channel w.wires ≡ v.channel

@@ -11,7 +11,7 @@ use Rattle.kt_parts.specs.declared.actions.Action.TheVariants.{Join, Reply, Sett
 use Rattle.kt_parts.specs.declared.actions.Then.{Then}
 use Rattle.kt_parts.specs.declared.actions.Then.TheVariants.{Answer, Commit}
 use Rattle.kt_parts.specs.Rules.{after_reply}
-use Rattle.kt_process.specs.Persons.{Person, part_of, is_ready, asked_of, IsNumbered}
+use Rattle.kt_process.specs.Persons.{Person, part_of_side, is_ready, asked_of, IsNumbered}
 use Rattle.kt_process.specs.Turns.{IsBegin, IsHeard, reply_of}
 use Rattle.std.specs.Option.{option_map}
 use Rattle.kt_base.specs.Sets.{has}
@@ -60,7 +60,7 @@ pub record IsSound (w : Whole) : Type 0 where
   pub kept : w.kept.processes ≡ w.size
   pub begun : w.begun ≤ 4096
   pub tables : All (λ (x : Person). x.tables.processes ≡ w.size) w.people
-  pub numbered : All (λ (x : Person). IsNumbered (part_of x.side)) w.people
+  pub numbered : All (λ (x : Person). IsNumbered (part_of_side x.side)) w.people
 
 -- who has joined may send these asks and go on so
 pub record CanJoin (w : Whole) (p : ℕ) (asks : List (ℕ × ℕ)) (goes : Then) : Type 0 where
@@ -150,8 +150,8 @@ pub record Counts (willing : Bool) (p : ℕ) (old new : Whole) (action : Action)
   pub before : Person
   pub after : Person
   pub turn : Turns old new p before after
-  pub follows : action ≡ reply_of (part_of before.side) willing
-  pub part : part_of after.side ≡ option_map (λ part. after_reply part willing) (part_of before.side)
+  pub follows : action ≡ reply_of (part_of_side before.side) willing
+  pub part : part_of_side after.side ≡ option_map (λ part. after_reply part willing) (part_of_side before.side)
   pub ready : is_ready after.side ≡ is_ready before.side
 
 -- process p leaves its instance, and tells this set
@@ -163,13 +163,13 @@ pub record Leaves (p set : ℕ) (old new : Whole) : Type 0 where
   pub within : (q : ℕ) → has set q ≡ true → q < old.size
 
 -- the log keeps its rows, and has so many more at most
-pub record Grows (most : ℕ) (old new : Whole) : Type 0 where
+pub record LogGrows (most : ℕ) (old new : Whole) : Type 0 where
   pub more : List Event
   pub rows : new.rows.rows ≡ old.rows.rows ++ more
   pub few : length more ≤ most
 
 -- the same system, but for spare room
-pub record IsSame (new old : Whole) : Type 0 where
+pub record IsSameSystem (new old : Whole) : Type 0 where
   pub size : new.size ≡ old.size
   pub people : new.people ≡ old.people
   pub wires : channel new.wires ≡ channel old.wires

@@ -5,7 +5,7 @@ ghost use Rattle.kt_fifo.specs.Channels.{channel};
 ghost use Rattle.kt_process.specs.Turns.{IsFresh};
 ghost use Rattle.kt_system.specs.Systems.{person};
 ghost use Rattle.kt_system.specs.Reads.{tally_of, no_tally};
-ghost use Rattle.kt_system.specs.Shown.{Shows};
+ghost use Rattle.kt_system.specs.Shown.{ShowsState};
 ghost use Rattle.kt_seen.specs.Transition.{opening_seen};
 
 use kt_base::{Label, Memory};
@@ -75,7 +75,7 @@ impl System {
         ensures begun { IfOk result (λ s. s.begun ≡ 0) }
         ensures tallies { IfOk result (λ s. (inst : ℕ) → tally_of s inst ≡ no_tally) }
         ensures instances { IfOk result (λ s. length s.put ≡ instances) }
-        ensures shows { IfOk result (λ s. Shows s (opening_seen processes used)) }
+        ensures shows { IfOk result (λ s. ShowsState s (opening_seen processes used)) }
     {
         let none = Tally {
             asks: 0,

@@ -3,7 +3,7 @@
 ghost use Rattle.std.specs.Prelude.{◌≡◌, ◌<◌, ◌≤◌, ◌+◌, ◌^◌, ℕ, true, IfOk, IfSome, IfNone, length};
 ghost use Rattle.kt_base.specs.Sets.{has};
 ghost use Rattle.kt_process.specs.Turns.{peers_of};
-ghost use Rattle.kt_system.specs.Systems.{person, room_to, CanCarryOut, KeepsParcels, IsSame, Grows};
+ghost use Rattle.kt_system.specs.Systems.{person, room_to, CanCarryOut, KeepsParcels, IsSameSystem, LogGrows};
 ghost use Rattle.std.specs.Prelude.{[], Bool, false, Some, drop, OnOk};
 ghost use Rattle.kt_fifo.specs.Channels.{channel};
 ghost use Rattle.kt_lists.specs.Kept.{kept_of};
@@ -14,7 +14,7 @@ ghost use Rattle.kt_seen.specs.Transition.{transition, seen_ask};
 ghost use Rattle.kt_cuts.specs.Past.{is_rollback_kind};
 ghost use Rattle.kt_process.specs.Persons.{is_ready};
 ghost use Rattle.kt_values.specs.SeenActs.{seen_acts, seen_acts_asked};
-ghost use Rattle.kt_system.specs.Shown.{Shows, JoinsAs, with_instance, begun_as, answered_as, with_cause, begin_verb};
+ghost use Rattle.kt_system.specs.Shown.{ShowsState, JoinsAs, with_instance, begun_as, answered_as, with_cause, begin_verb};
 ghost use Rattle.kt_system.specs.ShownActs.{acts_shown, acts_carried_out};
 ghost use Rattle.kt_system.specs.Tallies.{TalliesPut, front};
 ghost use Rattle.kt_system.specs.Keeps.{CanStep, KeepsInPart, KeepsInStep};
@@ -47,9 +47,9 @@ impl System {
         requires p { p < self.old.size }
         requires few { length self.old.rows.rows + 4 ≤ 2 ^ 24 }
         ensures keeps { KeepsInStep result [] self.old self.new }
-        ensures shows { (v : Seen) → Shows self.old v → self.old.begun < 4096 → OnOk result (Shows self.new (transition v (BeginStep p false able))) }
-        ensures acts { (v : Seen) → Shows self.old v → self.old.begun < 4096 → IfOk result (λ acts. acts_shown acts ≡ seen_acts v (BeginStep p false able)) }
-        ensures spent { 4096 ≤ self.old.begun → IsSame self.new self.old }
+        ensures shows { (v : Seen) → ShowsState self.old v → self.old.begun < 4096 → OnOk result (ShowsState self.new (transition v (BeginStep p false able))) }
+        ensures acts { (v : Seen) → ShowsState self.old v → self.old.begun < 4096 → IfOk result (λ acts. acts_shown acts ≡ seen_acts v (BeginStep p false able)) }
+        ensures spent { 4096 ≤ self.old.begun → IsSameSystem self.new self.old }
         ensures spent_acts { 4096 ≤ self.old.begun → IfOk result (λ acts. acts_shown acts ≡ []) }
     {
         let Some(inst) = self.next_inst() else {
@@ -67,9 +67,9 @@ impl System {
         requires p { p < self.old.size }
         requires few { length self.old.rows.rows + 4 ≤ 2 ^ 24 }
         ensures keeps { KeepsInStep result [] self.old self.new }
-        ensures shows { (v : Seen) (able : Bool) → Shows self.old v → self.old.begun < 4096 → OnOk result (Shows self.new (transition v (BeginStep p true able))) }
-        ensures acts { (v : Seen) (able : Bool) → Shows self.old v → self.old.begun < 4096 → IfOk result (λ acts. acts_shown acts ≡ seen_acts v (BeginStep p true able)) }
-        ensures spent { 4096 ≤ self.old.begun → IsSame self.new self.old }
+        ensures shows { (v : Seen) (able : Bool) → ShowsState self.old v → self.old.begun < 4096 → OnOk result (ShowsState self.new (transition v (BeginStep p true able))) }
+        ensures acts { (v : Seen) (able : Bool) → ShowsState self.old v → self.old.begun < 4096 → IfOk result (λ acts. acts_shown acts ≡ seen_acts v (BeginStep p true able)) }
+        ensures spent { 4096 ≤ self.old.begun → IsSameSystem self.new self.old }
         ensures spent_acts { 4096 ≤ self.old.begun → IfOk result (λ acts. acts_shown acts ≡ []) }
     {
         let Some(inst) = self.next_inst() else {
@@ -110,9 +110,9 @@ impl System {
         ensures count { length self.new.rows.rows ≡ length self.old.rows.rows + 1 }
         ensures spare { self.new.rows.spare + 1 ≡ self.old.rows.spare }
         ensures keeps { KeepsParcels self.old self.new }
-        ensures grows { Grows 1 self.old self.new }
+        ensures grows { LogGrows 1 self.old self.new }
         ensures tallies { TalliesPut [] self.old self.new }
-        ensures shows { (v : Seen) → Shows self.old v → Shows self.new (with_instance v p inst kind) }
+        ensures shows { (v : Seen) → ShowsState self.old v → ShowsState self.new (with_instance v p inst kind) }
     {
         self.begun = inst.get();
         self.log.push_reserved(Event::Began { p, inst, kind });
@@ -125,7 +125,7 @@ impl System {
         requires few { length self.old.rows.rows + 4 ≤ 2 ^ 24 }
         requires room { CanCarryOut self.old p action }
         ensures keeps { KeepsInPart 4 [] self.old self.new }
-        ensures shows { (v : Seen) (test : ℕ → Bool) (label : ℕ → ℕ) → Shows self.old v → JoinsAs self.old v p test label action → Shows self.new (begun_as v p inst kind test label action) }
+        ensures shows { (v : Seen) (test : ℕ → Bool) (label : ℕ → ℕ) → ShowsState self.old v → JoinsAs self.old v p test label action → ShowsState self.new (begun_as v p inst kind test label action) }
         ensures acts { acts_shown result ≡ acts_carried_out kind (is_ready (person self.old p).side) action }
     {
         match action {
@@ -167,8 +167,8 @@ impl System {
     ) -> Result<[Act; 2], Memory>
         requires can { CanStep self.old at from }
         ensures keeps { KeepsInStep result (front self.old at from) self.old self.new }
-        ensures shows { (v : Seen) → Shows self.old v → OnOk result (Shows self.new (seen_ask v at from able inst false label (drop 1 (v.channel from at)))) }
-        ensures acts { (v : Seen) → Shows self.old v → IfOk result (λ acts. acts_shown acts ≡ seen_acts_asked v at from able inst false label) }
+        ensures shows { (v : Seen) → ShowsState self.old v → OnOk result (ShowsState self.new (seen_ask v at from able inst false label (drop 1 (v.channel from at)))) }
+        ensures acts { (v : Seen) → ShowsState self.old v → IfOk result (λ acts. acts_shown acts ≡ seen_acts_asked v at from able inst false label) }
     {
         let joins = self.process(at).joins_checkpoint(able, from, label);
         let targets = self.targets(at, from, Kind::Checkpoint, joins);
@@ -189,8 +189,8 @@ impl System {
     ) -> Result<[Act; 2], Memory>
         requires can { CanStep self.old at from }
         ensures keeps { KeepsInStep result (front self.old at from) self.old self.new }
-        ensures shows { (v : Seen) (able : Bool) → Shows self.old v → OnOk result (Shows self.new (seen_ask v at from able inst true label (drop 1 (v.channel from at)))) }
-        ensures acts { (v : Seen) (able : Bool) → Shows self.old v → IfOk result (λ acts. acts_shown acts ≡ seen_acts_asked v at from able inst true label) }
+        ensures shows { (v : Seen) (able : Bool) → ShowsState self.old v → OnOk result (ShowsState self.new (seen_ask v at from able inst true label (drop 1 (v.channel from at)))) }
+        ensures acts { (v : Seen) (able : Bool) → ShowsState self.old v → IfOk result (λ acts. acts_shown acts ≡ seen_acts_asked v at from able inst true label) }
     {
         let joins = self.process(at).joins_rollback(from, label);
         let targets = self.targets(at, from, Kind::Rollback, joins);
@@ -216,7 +216,7 @@ impl System {
         requires reply { 2 ≤ room_to self.old at from }
         requires room { CanCarryOut self.old at action }
         ensures keeps { KeepsInPart 4 [] self.old self.new }
-        ensures shows { (v : Seen) (test : ℕ → Bool) (label : ℕ → ℕ) → Shows self.old v → JoinsAs self.old v at test label action → Shows self.new (answered_as v at from inst kind test label action) }
+        ensures shows { (v : Seen) (test : ℕ → Bool) (label : ℕ → ℕ) → ShowsState self.old v → JoinsAs self.old v at test label action → ShowsState self.new (answered_as v at from inst kind test label action) }
         ensures acts { acts_shown result ≡ acts_carried_out kind (is_ready (person self.old at).side) action }
     {
         match action {
@@ -239,7 +239,7 @@ impl System {
         requires spare { 1 ≤ self.old.rows.spare }
         requires few { length self.old.rows.rows < 2 ^ 24 }
         ensures keeps { KeepsInPart 1 [] self.old self.new }
-        ensures shows { (v : Seen) → Shows self.old v → Shows self.new (with_cause v p inst cause) }
+        ensures shows { (v : Seen) → ShowsState self.old v → ShowsState self.new (with_cause v p inst cause) }
     {
         if let Some(cause) = cause {
             self.write(Event::Unwilling { p, inst, cause });
@@ -259,8 +259,8 @@ impl System {
     ) -> Result<[Act; 2], Memory>
         requires can { CanStep self.old at from }
         ensures keeps { KeepsInStep result (front self.old at from) self.old self.new }
-        ensures shows { (v : Seen) → Shows self.old v → OnOk result (Shows self.new (seen_ask v at from able inst (is_rollback_kind (Some kind)) label (drop 1 (v.channel from at)))) }
-        ensures acts { (v : Seen) → Shows self.old v → IfOk result (λ acts. acts_shown acts ≡ seen_acts_asked v at from able inst (is_rollback_kind (Some kind)) label) }
+        ensures shows { (v : Seen) → ShowsState self.old v → OnOk result (ShowsState self.new (seen_ask v at from able inst (is_rollback_kind (Some kind)) label (drop 1 (v.channel from at)))) }
+        ensures acts { (v : Seen) → ShowsState self.old v → IfOk result (λ acts. acts_shown acts ≡ seen_acts_asked v at from able inst (is_rollback_kind (Some kind)) label) }
     {
         match kind {
             Kind::Checkpoint => self.take_ask_to_save(alloc, at, from, inst, label, able),

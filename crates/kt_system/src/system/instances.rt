@@ -12,7 +12,7 @@ ghost use Rattle.kt_seen.specs.ListChanges.{with_parcel, with_decisions, with_as
 ghost use Rattle.kt_seen.specs.SeenClosing.{seen_deciding, seen_closing};
 ghost use Rattle.kt_process.specs.Shown.{goes_on};
 ghost use Rattle.kt_values.specs.Values.{closing};
-ghost use Rattle.kt_system.specs.Shown.{Shows, IsInside, lists_closed, joined_row, asking_and_settling};
+ghost use Rattle.kt_system.specs.Shown.{ShowsState, IsInside, lists_closed, joined_row, asking_and_settling};
 ghost use Rattle.kt_system.specs.ShownActs.{act_shown, acts_shown, acts_joining, acts_going_on};
 ghost use Rattle.kt_system.specs.Tallies.{TalliesPut};
 ghost use Rattle.kt_system.specs.Keeps.{KeepsInPart};
@@ -34,7 +34,7 @@ impl System {
         ensures rows { self.new.rows ≡ self.old.rows }
         ensures keeps { KeepsRoom self.old self.new }
         ensures tallies { TalliesPut [] self.old self.new }
-        ensures shows { (v : Seen) → Shows self.old v → IsInside self.old p → Shows self.new (lists_closed v p commit) }
+        ensures shows { (v : Seen) → ShowsState self.old v → IsInside self.old p → ShowsState self.new (lists_closed v p commit) }
     {
         if !commit {
             return;
@@ -58,7 +58,7 @@ impl System {
         ensures size { self.new.size ≡ self.old.size }
         ensures rows { self.new.rows ≡ self.old.rows }
         ensures tallies { TalliesPut [] self.old self.new }
-        ensures shows { (v : Seen) → Shows self.old v → Shows self.new (record v { channel = with_decisions v.channel p inst commit (has set) }) }
+        ensures shows { (v : Seen) → ShowsState self.old v → ShowsState self.new (record v { channel = with_decisions v.channel p inst commit (has set) }) }
     {
         put_decisions(&mut self.channels, p, inst, commit, set);
         self.count(inst, 0, 0, set.count());
@@ -72,7 +72,7 @@ impl System {
         requires few { length self.old.rows.rows < 2 ^ 24 }
         requires room { CanClose self.old p }
         ensures keeps { KeepsInPart 1 [] self.old self.new }
-        ensures shows { (v : Seen) → Shows self.old v → IsInside self.old p → Shows self.new (seen_closing v p inst commit) }
+        ensures shows { (v : Seen) → ShowsState self.old v → IsInside self.old p → ShowsState self.new (seen_closing v p inst commit) }
         ensures acts { act_shown result ≡ closing (is_ready (person self.old p).side) commit }
     {
         let was_ready = self.is_ready(p);
@@ -98,8 +98,8 @@ impl System {
         requires few { length self.old.rows.rows + 3 ≤ 2 ^ 24 }
         requires room { CanJoin self.old p asks.now goes }
         ensures keeps { KeepsInPart 3 [] self.old self.new }
-        ensures shows { (v : Seen) (test : ℕ → Bool) (label : ℕ → ℕ) → Shows self.old v → IsCohort asks.now test label → goes ≡ goes_on (v.people p).part → (v.people p).part.willing ≡ true → IsInside self.old p →
-            Shows self.new (asking_and_settling v p inst kind test label) }
+        ensures shows { (v : Seen) (test : ℕ → Bool) (label : ℕ → ℕ) → ShowsState self.old v → IsCohort asks.now test label → goes ≡ goes_on (v.people p).part → (v.people p).part.willing ≡ true → IsInside self.old p →
+            ShowsState self.new (asking_and_settling v p inst kind test label) }
         ensures acts { acts_shown result ≡ acts_joining kind ++ acts_going_on (is_ready (person self.old p).side) goes }
     {
         self.ask(p, inst, kind, asks);
@@ -126,7 +126,7 @@ impl System {
         ensures rows { self.new.rows ≡ self.old.rows }
         ensures uses { UsesRoom self.old self.new p }
         ensures tallies { TalliesPut [] self.old self.new }
-        ensures shows { (v : Seen) (test : ℕ → Bool) (label : ℕ → ℕ) → Shows self.old v → IsCohort asks.now test label → Shows self.new (record v { channel = with_asks_where v.channel p inst kind test label }) }
+        ensures shows { (v : Seen) (test : ℕ → Bool) (label : ℕ → ℕ) → ShowsState self.old v → IsCohort asks.now test label → ShowsState self.new (record v { channel = with_asks_where v.channel p inst kind test label }) }
     {
         let asks = asks.list();
         put_asks(&mut self.channels, p, inst, kind, asks);
@@ -140,7 +140,7 @@ impl System {
         requires few { length self.old.rows.rows + 2 ≤ 2 ^ 24 }
         requires room { CanClose self.old p }
         ensures keeps { KeepsInPart 2 [] self.old self.new }
-        ensures shows { (v : Seen) → Shows self.old v → IsInside self.old p → Shows self.new (seen_closing (seen_deciding v p inst commit) p inst commit) }
+        ensures shows { (v : Seen) → ShowsState self.old v → IsInside self.old p → ShowsState self.new (seen_closing (seen_deciding v p inst commit) p inst commit) }
         ensures acts { act_shown result ≡ closing (is_ready (person self.old p).side) commit }
     {
         self.write(Event::Decided { p, inst, commit });
@@ -155,7 +155,7 @@ impl System {
         ensures size { self.new.size ≡ self.old.size }
         ensures rows { self.new.rows ≡ self.old.rows }
         ensures tallies { TalliesPut [] self.old self.new }
-        ensures shows { (v : Seen) → Shows self.old v → Shows self.new (record v { channel = with_parcel v.channel p to (parcel.Reply inst willing) }) }
+        ensures shows { (v : Seen) → ShowsState self.old v → ShowsState self.new (record v { channel = with_parcel v.channel p to (parcel.Reply inst willing) }) }
     {
         self.put(p, to, Parcel::Reply { inst, willing });
         self.count(inst, 0, 1, 0);

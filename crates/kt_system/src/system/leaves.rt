@@ -3,12 +3,12 @@
 ghost use Rattle.std.specs.Prelude.{◌≡◌, ◌<◌, ◌≤◌, ◌+◌, ◌^◌, ◌++◌, ◌∷◌, [], ℕ, true, OnOk, length};
 ghost use Rattle.kt_base.specs.Sets.{has};
 ghost use Rattle.kt_process.specs.Persons.{is_ready};
-ghost use Rattle.kt_system.specs.Systems.{person, room_to, HasBack, HasRoomFor, KeepsParcels, KeepsPeople, KeepsRoom, GivesRoom, IsSame};
+ghost use Rattle.kt_system.specs.Systems.{person, room_to, HasBack, HasRoomFor, KeepsParcels, KeepsPeople, KeepsRoom, GivesRoom, IsSameSystem};
 ghost use Rattle.std.specs.Prelude.{drop};
 ghost use Rattle.kt_fifo.specs.Channels.{channel};
 ghost use Rattle.kt_seen.specs.Seen.{Seen};
 ghost use Rattle.kt_seen.specs.ListChanges.{with_parcel, with_rest};
-ghost use Rattle.kt_system.specs.Shown.{Shows, with_row};
+ghost use Rattle.kt_system.specs.Shown.{ShowsState, with_row};
 ghost use Rattle.kt_system.specs.Tallies.{TalliesPut, AreCounted, front};
 
 use super::System;
@@ -27,7 +27,7 @@ impl System {
         ensures spare { self.new.rows.spare + 1 ≡ self.old.rows.spare }
         ensures keeps { KeepsParcels self.old self.new }
         ensures tallies { TalliesPut [] self.old self.new }
-        ensures shows { (v : Seen) → Shows self.old v → Shows self.new (with_row v event) }
+        ensures shows { (v : Seen) → ShowsState self.old v → ShowsState self.new (with_row v event) }
     {
         self.log.push_reserved(event);
     }
@@ -41,7 +41,7 @@ impl System {
         ensures keeps { KeepsPeople self.old self.new }
         ensures wires { channel self.new.wires ≡ with_parcel (channel self.old.wires) p to parcel }
         ensures tallies { self.new.put ≡ self.old.put }
-        ensures shows { (v : Seen) → Shows self.old v → Shows self.new (record v { channel = with_parcel v.channel p to parcel }) }
+        ensures shows { (v : Seen) → ShowsState self.old v → ShowsState self.new (record v { channel = with_parcel v.channel p to parcel }) }
     {
         self.channels.push_reserved(p, to, parcel);
     }
@@ -54,7 +54,7 @@ impl System {
         ensures held { self.new.held ≡ self.old.held }
         ensures gives { GivesRoom self.old self.new }
         ensures tallies { TalliesPut (front self.old at from) self.old self.new }
-        ensures shows { (v : Seen) → Shows self.old v → Shows self.new (record v { channel = with_rest v.channel from at (drop 1 (v.channel from at)) }) }
+        ensures shows { (v : Seen) → ShowsState self.old v → ShowsState self.new (record v { channel = with_rest v.channel from at (drop 1 (v.channel from at)) }) }
     {
         self.channels.pop(from, at);
     }
@@ -64,7 +64,7 @@ impl System {
         ensures rows { self.new.rows ≡ self.old.rows }
         ensures keeps { KeepsParcels self.old self.new }
         ensures tallies { AreCounted inst asks replies decisions self.old self.new }
-        ensures shows { (v : Seen) → Shows self.old v → Shows self.new v }
+        ensures shows { (v : Seen) → ShowsState self.old v → ShowsState self.new v }
     {
         let Some(tally) = self.tallies.get_mut(inst.index()) else {
             return;
@@ -76,7 +76,7 @@ impl System {
 
     /// Room for four rows.
     pub(super) fn make_room_for_rows(&mut self) -> Result<(), Memory>
-        ensures same { IsSame self.new self.old }
+        ensures same { IsSameSystem self.new self.old }
         ensures count { length self.new.rows.rows ≡ length self.old.rows.rows }
         ensures ok { OnOk result (4 ≤ self.new.rows.spare) }
         ensures keeps { KeepsParcels self.old self.new }
@@ -88,7 +88,7 @@ impl System {
     pub(super) fn make_room(&mut self, p: ProcNo, targets: ProcSet) -> Result<(), Memory>
         requires p { p < self.old.size }
         requires within { (q : ℕ) → has targets q ≡ true → q < self.old.size }
-        ensures same { IsSame self.new self.old }
+        ensures same { IsSameSystem self.new self.old }
         ensures count { length self.new.rows.rows ≡ length self.old.rows.rows }
         ensures spare { OnOk result (4 ≤ self.new.rows.spare) }
         ensures parcels { OnOk result (HasRoomFor self.new p targets) }
@@ -102,7 +102,7 @@ impl System {
     pub(super) fn make_room_to(&mut self, p: ProcNo, to: ProcNo) -> Result<(), Memory>
         requires p { p < self.old.size }
         requires to { to < self.old.size }
-        ensures same { IsSame self.new self.old }
+        ensures same { IsSameSystem self.new self.old }
         ensures count { length self.new.rows.rows ≡ length self.old.rows.rows }
         ensures spare { OnOk result (4 ≤ self.new.rows.spare) }
         ensures parcel { OnOk result (1 ≤ room_to self.new p to) }
@@ -115,7 +115,7 @@ impl System {
     /// Room to hold all parcels that are kept for a process.
     pub(super) fn make_room_back(&mut self, p: ProcNo) -> Result<(), Memory>
         requires { p < self.old.size }
-        ensures same { IsSame self.new self.old }
+        ensures same { IsSameSystem self.new self.old }
         ensures rows { self.new.rows ≡ self.old.rows }
         ensures back { OnOk result (HasBack self.new p) }
         ensures keeps { KeepsRoom self.old self.new }
@@ -126,7 +126,7 @@ impl System {
     /// Room to hold all parcels that are kept for a process, where that is in a rollback.
     pub(super) fn make_room_back_if_ready(&mut self, p: ProcNo) -> Result<(), Memory>
         requires { p < self.old.size }
-        ensures same { IsSame self.new self.old }
+        ensures same { IsSameSystem self.new self.old }
         ensures rows { self.new.rows ≡ self.old.rows }
         ensures back { OnOk result (is_ready (person self.old p).side ≡ true → HasBack self.new p) }
         ensures keeps { KeepsRoom self.old self.new }

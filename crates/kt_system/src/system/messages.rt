@@ -11,7 +11,7 @@ ghost use Rattle.kt_seen.specs.ListChanges.{with_rest};
 ghost use Rattle.kt_seen.specs.SeenMessages.{seen_refusal, seen_arrival, seen_holding};
 ghost use Rattle.kt_seen.specs.Transition.{transition, is_seen_ready};
 ghost use Rattle.kt_values.specs.SeenActs.{seen_acts, seen_acts_arriving};
-ghost use Rattle.kt_system.specs.Shown.{Shows, channel_without, held_without};
+ghost use Rattle.kt_system.specs.Shown.{ShowsState, channel_without, held_without};
 ghost use Rattle.kt_system.specs.ShownActs.{acts_shown};
 ghost use Rattle.kt_system.specs.Tallies.{TalliesPut, front};
 ghost use Rattle.kt_system.specs.Keeps.{CanStep, KeepsInPart, KeepsInStep};
@@ -53,7 +53,7 @@ impl System {
         requires can { CanStep self.old p to }
         requires left { (person self.old p).up ≡ true → (person self.old p).used < 2 ^ 48 - 1 }
         ensures keeps { KeepsInStep result [] self.old self.new }
-        ensures shows { (v : Seen) → Shows self.old v → (v.people p).inst ≡ 0 → (to ≡ p → ⊥) → Speaks (((transition v (SendStep p to body)).people p).calls) → OnOk result (Shows self.new (transition v (SendStep p to body))) }
+        ensures shows { (v : Seen) → ShowsState self.old v → (v.people p).inst ≡ 0 → (to ≡ p → ⊥) → Speaks (((transition v (SendStep p to body)).people p).calls) → OnOk result (ShowsState self.new (transition v (SendStep p to body))) }
         ensures acts { (v : Seen) → IfOk result (λ acts. acts_shown acts ≡ seen_acts v (SendStep p to body)) }
     {
         self.make_room_to(p, to)?;
@@ -73,8 +73,8 @@ impl System {
         requires p { p < self.old.size }
         requires few { length self.old.rows.rows + 4 ≤ 2 ^ 24 }
         ensures keeps { KeepsInStep result [] self.old self.new }
-        ensures shows { (v : Seen) → Shows self.old v → OnOk result (Shows self.new (transition v (FailStep p))) }
-        ensures acts { (v : Seen) → Shows self.old v → IfOk result (λ acts. acts_shown acts ≡ seen_acts v (FailStep p)) }
+        ensures shows { (v : Seen) → ShowsState self.old v → OnOk result (ShowsState self.new (transition v (FailStep p))) }
+        ensures acts { (v : Seen) → ShowsState self.old v → IfOk result (λ acts. acts_shown acts ≡ seen_acts v (FailStep p)) }
     {
         self.make_room_for_rows()?;
         if !self.is_up(p) {
@@ -91,7 +91,7 @@ impl System {
         requires spare { 1 ≤ self.old.rows.spare }
         requires few { length self.old.rows.rows < 2 ^ 24 }
         ensures keeps { KeepsInPart 1 [] self.old self.new }
-        ensures shows { (v : Seen) → Shows self.old v → Shows self.new (seen_refusal v p verb cause) }
+        ensures shows { (v : Seen) → ShowsState self.old v → ShowsState self.new (seen_refusal v p verb cause) }
     {
         self.write(Event::Refused { p, verb, cause });
     }
@@ -105,10 +105,10 @@ impl System {
     ) -> Result<[Act; 2], Memory>
         requires can { CanStep self.old at from }
         ensures keeps { KeepsInStep result (front self.old at from) self.old self.new }
-        ensures shows { (v : Seen) → Shows self.old v → (is_seen_ready v at ≡ false → (v.people at).up ≡ true → Speaks ((v.people at).calls ++ received from message.label ∷ [])) →
-            OnOk result (Shows self.new (if is_seen_ready v at then seen_holding v at from (parcel.App message.label message.msg message.body) (drop 1 (v.channel from at))
+        ensures shows { (v : Seen) → ShowsState self.old v → (is_seen_ready v at ≡ false → (v.people at).up ≡ true → Speaks ((v.people at).calls ++ received from message.label ∷ [])) →
+            OnOk result (ShowsState self.new (if is_seen_ready v at then seen_holding v at from (parcel.App message.label message.msg message.body) (drop 1 (v.channel from at))
             else seen_arrival v (with_rest v.channel from at (drop 1 (v.channel from at))) v.held at from message.label message.msg message.body)) }
-        ensures acts { (v : Seen) → Shows self.old v → IfOk result (λ acts. acts_shown acts ≡ (if is_seen_ready v at then [] else seen_acts_arriving v at from message.body)) }
+        ensures acts { (v : Seen) → ShowsState self.old v → IfOk result (λ acts. acts_shown acts ≡ (if is_seen_ready v at then [] else seen_acts_arriving v at from message.body)) }
     {
         if self.is_ready(at) {
             self.held.reserve_many(from, at, 1)?;
@@ -127,7 +127,7 @@ impl System {
         ensures kept { self.new.kept ≡ self.old.kept }
         ensures rows { self.new.rows ≡ self.old.rows }
         ensures tallies { TalliesPut (if is_held then [] else front self.old at from) self.old self.new }
-        ensures shows { (v : Seen) → Shows self.old v → Shows self.new (record v { channel = channel_without is_held v at from; held = held_without is_held v at from }) }
+        ensures shows { (v : Seen) → ShowsState self.old v → ShowsState self.new (record v { channel = channel_without is_held v at from; held = held_without is_held v at from }) }
     {
         if is_held {
             self.held.pop(from, at);
@@ -146,9 +146,9 @@ impl System {
     ) -> Result<[Act; 2], Memory>
         requires can { CanStep self.old at from }
         ensures keeps { KeepsInStep result (if is_held then [] else front self.old at from) self.old self.new }
-        ensures shows { (v : Seen) → Shows self.old v → ((v.people at).up ≡ true → Speaks ((v.people at).calls ++ received from message.label ∷ [])) →
-            OnOk result (Shows self.new (seen_arrival v (channel_without is_held v at from) (held_without is_held v at from) at from message.label message.msg message.body)) }
-        ensures acts { (v : Seen) → Shows self.old v → IfOk result (λ acts. acts_shown acts ≡ seen_acts_arriving v at from message.body) }
+        ensures shows { (v : Seen) → ShowsState self.old v → ((v.people at).up ≡ true → Speaks ((v.people at).calls ++ received from message.label ∷ [])) →
+            OnOk result (ShowsState self.new (seen_arrival v (channel_without is_held v at from) (held_without is_held v at from) at from message.label message.msg message.body)) }
+        ensures acts { (v : Seen) → ShowsState self.old v → IfOk result (λ acts. acts_shown acts ≡ seen_acts_arriving v at from message.body) }
     {
         self.make_room_for_rows()?;
         let msg = message.msg;

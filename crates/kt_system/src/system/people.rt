@@ -9,7 +9,7 @@ ghost use Rattle.kt_tables.specs.Calls.{sent, received, Speaks};
 ghost use Rattle.kt_seen.specs.Seen.{Seen};
 ghost use Rattle.kt_process.specs.Persons.{inst_of};
 ghost use Rattle.kt_process.specs.Shown.{IsSeenAs, BeginsAs, HearsAs, counted_as, closed_as, mark_of, no_mark};
-ghost use Rattle.kt_system.specs.Shown.{Shows, IsTurned};
+ghost use Rattle.kt_system.specs.Shown.{ShowsState, IsTurned};
 
 use super::System;
 use kt_base::{InstNo, Label, Memory, ProcNo, ProcSet};
@@ -36,7 +36,7 @@ impl System {
         ensures rows { self.new.rows ≡ self.old.rows }
         ensures wires { self.new.wires ≡ self.old.wires }
         ensures turned { IsTurned self.old self.new p }
-        ensures shows { (v : Seen) → Shows self.old v → Speaks ((v.people p).calls ++ sent to ((v.people p).used + 1) ∷ []) →
+        ensures shows { (v : Seen) → ShowsState self.old v → Speaks ((v.people p).calls ++ sent to ((v.people p).used + 1) ∷ []) →
             IsSeenAs (person self.new p) (record (v.people p) { calls = (v.people p).calls ++ sent to ((v.people p).used + 1) ∷ []; used = (v.people p).used + 1 }) }
     {
         self.processes[p.index()].send(to)
@@ -50,7 +50,7 @@ impl System {
         ensures rows { self.new.rows ≡ self.old.rows }
         ensures kept { self.new.kept ≡ self.old.kept }
         ensures turned { IsTurned self.old self.new p }
-        ensures shows { (v : Seen) → Shows self.old v → Speaks ((v.people p).calls ++ received from label ∷ []) →
+        ensures shows { (v : Seen) → ShowsState self.old v → Speaks ((v.people p).calls ++ received from label ∷ []) →
             IsSeenAs (person self.new p) (record (v.people p) { calls = (v.people p).calls ++ received from label ∷ [] }) }
     {
         self.processes[p.index()].receive(from, label);
@@ -62,7 +62,7 @@ impl System {
         ensures size { self.new.size ≡ self.old.size }
         ensures rows { self.new.rows ≡ self.old.rows }
         ensures turned { IsTurned self.old self.new p }
-        ensures shows { (v : Seen) → Shows self.old v → IsSeenAs (person self.new p) (record (v.people p) { up = false }) }
+        ensures shows { (v : Seen) → ShowsState self.old v → IsSeenAs (person self.new p) (record (v.people p) { up = false }) }
     {
         self.processes[p.index()].fail();
     }
@@ -81,7 +81,7 @@ impl System {
         ensures begins { IfOk result (λ action. Begins kind.Checkpoint inst p self.old self.new action) }
         ensures rows { self.new.rows ≡ self.old.rows }
         ensures turned { IsTurned self.old self.new p }
-        ensures shows { IfOk result (λ action. (v : Seen) → Shows self.old v → BeginsAs kind.Checkpoint able v.processes inst (mark_of marks.items) (v.people p) (person self.new p) action) }
+        ensures shows { IfOk result (λ action. (v : Seen) → ShowsState self.old v → BeginsAs kind.Checkpoint able v.processes inst (mark_of marks.items) (v.people p) (person self.new p) action) }
     {
         self.processes[p.index()].begin_checkpoint(able, inst, marks)
     }
@@ -93,7 +93,7 @@ impl System {
         ensures begins { IfOk result (λ action. Begins kind.Rollback inst p self.old self.new action) }
         ensures rows { self.new.rows ≡ self.old.rows }
         ensures turned { IsTurned self.old self.new p }
-        ensures shows { IfOk result (λ action. (v : Seen) → Shows self.old v → BeginsAs kind.Rollback true v.processes inst no_mark (v.people p) (person self.new p) action) }
+        ensures shows { IfOk result (λ action. (v : Seen) → ShowsState self.old v → BeginsAs kind.Rollback true v.processes inst no_mark (v.people p) (person self.new p) action) }
     {
         self.processes[p.index()].begin_rollback(inst)
     }
@@ -115,7 +115,7 @@ impl System {
         ensures hears { IfOk result (λ action. Hears kind.Checkpoint able from inst label p self.old self.new action) }
         ensures rows { self.new.rows ≡ self.old.rows }
         ensures turned { IsTurned self.old self.new p }
-        ensures shows { IfOk result (λ action. (v : Seen) → Shows self.old v → HearsAs kind.Checkpoint able v.processes from inst label (mark_of marks.items) (v.people p) (person self.new p) action) }
+        ensures shows { IfOk result (λ action. (v : Seen) → ShowsState self.old v → HearsAs kind.Checkpoint able v.processes from inst label (mark_of marks.items) (v.people p) (person self.new p) action) }
     {
         self.processes[p.index()].hear_ask_to_save(able, from, inst, label, marks)
     }
@@ -134,7 +134,7 @@ impl System {
         ensures hears { IfOk result (λ action. Hears kind.Rollback true from inst label p self.old self.new action) }
         ensures rows { self.new.rows ≡ self.old.rows }
         ensures turned { IsTurned self.old self.new p }
-        ensures shows { IfOk result (λ action. (v : Seen) → Shows self.old v → HearsAs kind.Rollback true v.processes from inst label no_mark (v.people p) (person self.new p) action) }
+        ensures shows { IfOk result (λ action. (v : Seen) → ShowsState self.old v → HearsAs kind.Rollback true v.processes from inst label no_mark (v.people p) (person self.new p) action) }
     {
         self.processes[p.index()].hear_ask_to_roll(from, inst, label)
     }
@@ -145,7 +145,7 @@ impl System {
         ensures counts { Counts willing p self.old self.new result }
         ensures rows { self.new.rows ≡ self.old.rows }
         ensures turned { IsTurned self.old self.new p }
-        ensures shows { (v : Seen) → Shows self.old v → IsSeenAs (person self.new p) (counted_as willing (v.people p)) }
+        ensures shows { (v : Seen) → ShowsState self.old v → IsSeenAs (person self.new p) (counted_as willing (v.people p)) }
     {
         self.processes[p.index()].hear_reply(willing)
     }
@@ -157,7 +157,7 @@ impl System {
         ensures rows { self.new.rows ≡ self.old.rows }
         ensures wires { self.new.wires ≡ self.old.wires }
         ensures turned { IsTurned self.old self.new p }
-        ensures shows { (v : Seen) → Shows self.old v → (inst_of (person self.old p).side ≡ None → ⊥) → IsSeenAs (person self.new p) (closed_as commit (v.people p)) }
+        ensures shows { (v : Seen) → ShowsState self.old v → (inst_of (person self.old p).side ≡ None → ⊥) → IsSeenAs (person self.new p) (closed_as commit (v.people p)) }
     {
         self.processes[p.index()].close(commit)
     }

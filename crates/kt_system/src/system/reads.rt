@@ -4,7 +4,7 @@ ghost use Rattle.std.specs.Prelude.{◌≡◌, ◌<◌, ◌≤◌, ◌^◌, ◌-
 ghost use Rattle.std.specs.List.{list_all};
 ghost use Rattle.kt_base.specs.declared.words.Kind.TheVariants as kind;
 ghost use Rattle.kt_fifo.specs.Channels.{channel};
-ghost use Rattle.kt_process.specs.Persons.{Person, part_of, is_ready, inst_of, IsNumbered};
+ghost use Rattle.kt_process.specs.Persons.{Person, part_of_side, is_ready, inst_of, IsNumbered};
 ghost use Rattle.kt_process.specs.Turns.{joins_by};
 ghost use Rattle.kt_system.specs.Systems.{person};
 ghost use Rattle.kt_system.specs.Reads.{tally_of, held_parcel, next_parcel, can_take, saves_by, would_save, IsQuiet};
@@ -20,7 +20,7 @@ impl System {
     pub fn processes(&self) -> usize
         ensures processes { result ≡ self.now.size }
         ensures few { result ≤ 64 }
-        ensures numbered { (p : ℕ) → p < self.now.size → IsNumbered (part_of (person self.now p).side) }
+        ensures numbered { (p : ℕ) → p < self.now.size → IsNumbered (part_of_side (person self.now p).side) }
     {
         self.channels.processes()
     }
@@ -43,7 +43,7 @@ impl System {
     pub fn in_inst(&self, p: ProcNo) -> Option<InstNo>
         requires { p < self.now.size }
         ensures inst { result ≡ inst_of (person self.now p).side }
-        ensures numbered { IsNumbered (part_of (person self.now p).side) }
+        ensures numbered { IsNumbered (part_of_side (person self.now p).side) }
     {
         self.process(p).in_inst()
     }
@@ -60,7 +60,7 @@ impl System {
     pub fn is_ready(&self, p: ProcNo) -> bool
         requires { p < self.now.size }
         ensures ready { result ≡ is_ready (person self.now p).side }
-        ensures numbered { IsNumbered (part_of (person self.now p).side) }
+        ensures numbered { IsNumbered (part_of_side (person self.now p).side) }
     {
         self.process(p).is_ready()
     }
@@ -104,7 +104,7 @@ impl System {
         requires at { at < self.now.size }
         requires from { from < self.now.size }
         ensures parcel { result ≡ held_parcel self.now at from }
-        ensures numbered { IsNumbered (part_of (person self.now at).side) }
+        ensures numbered { IsNumbered (part_of_side (person self.now at).side) }
     {
         if self.is_ready(at) {
             return None;

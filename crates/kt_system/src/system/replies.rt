@@ -10,7 +10,7 @@ ghost use Rattle.kt_parts.specs.declared.actions.Action.TheVariants as what;
 ghost use Rattle.kt_seen.specs.Seen.{Seen};
 ghost use Rattle.kt_process.specs.Persons.{is_ready};
 ghost use Rattle.kt_values.specs.SeenActs.{seen_acts, seen_acts_replied, seen_acts_decided, seen_acts_taking, seen_acts_taking_held};
-ghost use Rattle.kt_system.specs.Shown.{Shows, IsInside, gone_on, after_reply_taken, after_decision_taken};
+ghost use Rattle.kt_system.specs.Shown.{ShowsState, IsInside, gone_on, after_reply_taken, after_decision_taken};
 ghost use Rattle.kt_system.specs.ShownActs.{acts_shown, acts_gone_on};
 ghost use Rattle.kt_system.specs.Tallies.{front, taken_off};
 ghost use Rattle.kt_system.specs.Keeps.{CanStep, KeepsInPart, KeepsInStep};
@@ -34,8 +34,8 @@ impl System {
     ) -> Result<[Act; 2], Memory>
         requires can { CanStep self.old at from }
         ensures keeps { KeepsInStep result (front self.old at from) self.old self.new }
-        ensures shows { (v : Seen) → Shows self.old v → OnOk result (Shows self.new (after_reply_taken v at from inst willing (drop 1 (v.channel from at)))) }
-        ensures acts { (v : Seen) → Shows self.old v → IfOk result (λ acts. acts_shown acts ≡ seen_acts_replied v at willing) }
+        ensures shows { (v : Seen) → ShowsState self.old v → OnOk result (ShowsState self.new (after_reply_taken v at from inst willing (drop 1 (v.channel from at)))) }
+        ensures acts { (v : Seen) → ShowsState self.old v → IfOk result (λ acts. acts_shown acts ≡ seen_acts_replied v at willing) }
     {
         let targets = self.process(at).partners();
         self.make_room(at, targets)?;
@@ -52,7 +52,7 @@ impl System {
         requires few { length self.old.rows.rows + 2 ≤ 2 ^ 24 }
         requires room { CanGoOn self.old p action.now }
         ensures keeps { KeepsInPart 2 [] self.old self.new }
-        ensures shows { (v : Seen) → Shows self.old v → ((commit : Bool) (tell : ℕ) → action.now ≡ what.Settle commit tell → IsInside self.old p) → Shows self.new (gone_on v p inst action.now) }
+        ensures shows { (v : Seen) → ShowsState self.old v → ((commit : Bool) (tell : ℕ) → action.now ≡ what.Settle commit tell → IsInside self.old p) → ShowsState self.new (gone_on v p inst action.now) }
         ensures acts { acts_shown result ≡ acts_gone_on (is_ready (person self.old p).side) action.now }
     {
         match action {
@@ -76,7 +76,7 @@ impl System {
     fn is_in(&self, p: ProcNo, inst: InstNo) -> bool
         requires { p < self.now.size }
         ensures inside { result ≡ true → IsInside self.now p }
-        ensures shows { (v : Seen) → Shows self.now v → result ≡ ((v.people p).inst == inst) }
+        ensures shows { (v : Seen) → ShowsState self.now v → result ≡ ((v.people p).inst == inst) }
     {
         match self.in_inst(p) {
             Some(current) => current.get() == inst.get(),
@@ -94,8 +94,8 @@ impl System {
     ) -> Result<[Act; 2], Memory>
         requires can { CanStep self.old at from }
         ensures keeps { KeepsInStep result (front self.old at from) self.old self.new }
-        ensures shows { (v : Seen) → Shows self.old v → OnOk result (Shows self.new (after_decision_taken v at from inst commit (drop 1 (v.channel from at)))) }
-        ensures acts { (v : Seen) → Shows self.old v → IfOk result (λ acts. acts_shown acts ≡ seen_acts_decided v at inst commit) }
+        ensures shows { (v : Seen) → ShowsState self.old v → OnOk result (ShowsState self.new (after_decision_taken v at from inst commit (drop 1 (v.channel from at)))) }
+        ensures acts { (v : Seen) → ShowsState self.old v → IfOk result (λ acts. acts_shown acts ≡ seen_acts_decided v at inst commit) }
     {
         if !self.is_in(at, inst) {
             self.pop(at, from);
@@ -118,8 +118,8 @@ impl System {
     ) -> Result<[Act; 2], Memory>
         requires can { CanStep self.old at from }
         ensures keeps { KeepsInStep result (front self.old at from) self.old self.new }
-        ensures shows { (v : Seen) → Shows self.old v → Speaks (((seen_front v at from able (v.channel from at)).people at).calls) → OnOk result (Shows self.new (seen_front v at from able (v.channel from at))) }
-        ensures acts { (v : Seen) → Shows self.old v → IfOk result (λ acts. acts_shown acts ≡ seen_acts_taking v at from able (v.channel from at)) }
+        ensures shows { (v : Seen) → ShowsState self.old v → Speaks (((seen_front v at from able (v.channel from at)).people at).calls) → OnOk result (ShowsState self.new (seen_front v at from able (v.channel from at))) }
+        ensures acts { (v : Seen) → ShowsState self.old v → IfOk result (λ acts. acts_shown acts ≡ seen_acts_taking v at from able (v.channel from at)) }
     {
         let Some(parcel) = self.channels.front(from, at).copied() else {
             return Ok(NO_ACTS);
@@ -140,9 +140,9 @@ impl System {
     fn take_held(&mut self, at: ProcNo, from: ProcNo, parcel: Parcel) -> Result<[Act; 2], Memory>
         requires can { CanStep self.old at from }
         ensures keeps { KeepsInStep result [] self.old self.new }
-        ensures shows { (v : Seen) (able : Bool) → Shows self.old v → v.held from at ≡ parcel ∷ drop 1 (v.held from at) →
-            Speaks (((seen_take v at from able (v.held from at)).people at).calls) → OnOk result (Shows self.new (seen_take v at from able (v.held from at))) }
-        ensures acts { (v : Seen) (able : Bool) → Shows self.old v → v.held from at ≡ parcel ∷ drop 1 (v.held from at) →
+        ensures shows { (v : Seen) (able : Bool) → ShowsState self.old v → v.held from at ≡ parcel ∷ drop 1 (v.held from at) →
+            Speaks (((seen_take v at from able (v.held from at)).people at).calls) → OnOk result (ShowsState self.new (seen_take v at from able (v.held from at))) }
+        ensures acts { (v : Seen) (able : Bool) → ShowsState self.old v → v.held from at ≡ parcel ∷ drop 1 (v.held from at) →
             IfOk result (λ acts. acts_shown acts ≡ seen_acts_taking_held v at from able (v.held from at)) }
     {
         match parcel {
@@ -164,8 +164,8 @@ impl System {
     ) -> Result<[Act; 2], Memory>
         requires can { CanStep self.old at from }
         ensures keeps { KeepsInStep result (taken_off self.old at from) self.old self.new }
-        ensures shows { (v : Seen) → Shows self.old v → Speaks (((transition v (TakeStep at from able)).people at).calls) → OnOk result (Shows self.new (transition v (TakeStep at from able))) }
-        ensures acts { (v : Seen) → Shows self.old v → IfOk result (λ acts. acts_shown acts ≡ seen_acts v (TakeStep at from able)) }
+        ensures shows { (v : Seen) → ShowsState self.old v → Speaks (((transition v (TakeStep at from able)).people at).calls) → OnOk result (ShowsState self.new (transition v (TakeStep at from able))) }
+        ensures acts { (v : Seen) → ShowsState self.old v → IfOk result (λ acts. acts_shown acts ≡ seen_acts v (TakeStep at from able)) }
     {
         match self.held_parcel(at, from) {
             Some(parcel) => self.take_held(at, from, parcel),

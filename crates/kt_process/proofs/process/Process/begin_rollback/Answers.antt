@@ -8,7 +8,7 @@ use Rattle.kt_parts.specs.Joins.{Joins}
 use Rattle.kt_roll.specs.Actions.{IsStart, AsksCohort}
 use Rattle.kt_roll.specs.Notes.{note_of}
 use Rattle.kt_roll.specs.Sides.{RollSide}
-use Rattle.kt_process.specs.Persons.{Person, part_of, inst_of, IsNumbered}
+use Rattle.kt_process.specs.Persons.{Person, part_of_side, inst_of, IsNumbered}
 use Rattle.kt_process.specs.declared.side.Side.TheVariants as side
 use Rattle.kt_process.specs.Shown.{IsSeenAs, BeginsAs, no_mark}
 use Rattle.kt_seen.specs.Seen.{SeenPerson}
@@ -42,7 +42,7 @@ stays c y h is =
     let s = c.standing-standing.result in
     let action = c.in_ok-side.action in
     let rule = subst (λ (o : Option RollSide). IsStart s o action) is c.in_ok-side.ensures.rule in
-    refuses_roll c.args.self.now y s no_mark c.args.self.now.tables.processes c.args.inst action h (subst (λ (z : Person). IsNumbered (part_of z.side)) c.self.view_is c.self.invariant.numbered)
+    refuses_roll c.args.self.now y s no_mark c.args.self.now.tables.processes c.args.inst action h (subst (λ (z : Person). IsNumbered (part_of_side z.side)) c.self.view_is c.self.invariant.numbered)
     c.standing-standing.ensures.inst rule
 
 pub returns-clause-shows : goal.returns-clause-shows

@@ -8,7 +8,7 @@ use Rattle.kt_roll.specs.Actions.{IsAnswer, AsksCohort}
 use Rattle.kt_roll.specs.Notes.{note_of, with_note}
 use Rattle.kt_roll.specs.Rules.{is_in}
 use Rattle.kt_roll.specs.Sides.{RollSide, IsAfter}
-use Rattle.kt_process.specs.Persons.{Person, part_of, inst_of, is_ready, IsNumbered}
+use Rattle.kt_process.specs.Persons.{Person, part_of_side, inst_of, is_ready, IsNumbered}
 use Rattle.kt_process.specs.declared.side.Side.{Side}
 use Rattle.kt_process.specs.declared.side.Side.TheVariants as side
 use Rattle.kt_process.specs.Shown.{IsSeenAs, HearsAs, noted_as, no_mark}
@@ -36,7 +36,7 @@ returns-in_ok-action-in-Some-Rollback-clause-shows c = λ y h.
     let rule2 = subst (λ (z : Person). (calls : List Call) → StandsFor z.tables calls → IsAnswer calls s c.args.inst c.args.from c.args.label None action) c.self.view_is rule in
     let after = subst (λ (o : Option ℕ). IsAfter (is_in o c.args.inst) c.args.from c.args.label r c.on_ask.new.side.0) c.standing-standing.ensures.inst c.on_ask.ensures.side.1 in
     let noted = notes_label x y r c.on_ask.new.side.0 c.args.from c.args.inst c.args.label now h after in
-    replies_roll x _ y s no_mark x.tables.processes c.args.from c.args.inst c.args.label action h (subst (λ (z : Person). IsNumbered (part_of z.side)) c.self.view_is c.self.invariant.numbered) (omega arith)
+    replies_roll x _ y s no_mark x.tables.processes c.args.from c.args.inst c.args.label action h (subst (λ (z : Person). IsNumbered (part_of_side z.side)) c.self.view_is c.self.invariant.numbered) (omega arith)
     c.standing-standing.ensures.inst rule2
     (subst (λ (z : Person). IsSeenAs (record z { side = Some (side.Rollback c.on_ask.new.side.0) }) (noted_as kind.Rollback c.args.from c.args.inst c.args.label y)) (sym c.self.view_is) noted)
 
@@ -57,7 +57,7 @@ returns-in_ok-action-in-Some-Checkpoint-clause-shows c = λ y h.
     let rule2 = subst (λ (z : Person). (calls : List Call) → StandsFor z.tables calls → IsAnswer calls s c.args.inst c.args.from c.args.label None action) c.self.view_is rule in
     let noted = notes_nothing x y c.args.from c.args.inst c.args.label h (ap is_ready now) (omega arith) in
     let back : x ≡ record (before_save c) { side = Some c.in-Some-Checkpoint.field-0 } = sym c.self.view_is ∙ ap (λ (z : Option Side). record (before_save c) { side = z }) c.in-Some-Checkpoint.is in
-    replies_roll x _ y s no_mark x.tables.processes c.args.from c.args.inst c.args.label action h (subst (λ (z : Person). IsNumbered (part_of z.side)) c.self.view_is c.self.invariant.numbered) (omega arith)
+    replies_roll x _ y s no_mark x.tables.processes c.args.from c.args.inst c.args.label action h (subst (λ (z : Person). IsNumbered (part_of_side z.side)) c.self.view_is c.self.invariant.numbered) (omega arith)
     c.standing-standing.ensures.inst rule2 (subst (λ (z : Person). IsSeenAs z (noted_as kind.Rollback c.args.from c.args.inst c.args.label y)) back noted)
 
 abbrev As : goal.Joined-side → SeenPerson → Person → Type 0
@@ -87,7 +87,7 @@ stays c y h is =
     let action = c.in_ok-side-in-None.action in
     let rule = λ (calls : List Call) (st : StandsFor c.self.inside.tables calls). subst (λ (o : Option RollSide). IsAnswer calls s c.args.inst c.args.from c.args.label o action) is (c.in_ok-side-in-None.ensures.rule calls st) in
     let rule2 = subst (λ (z : Person). (calls : List Call) → StandsFor z.tables calls → IsAnswer calls s c.args.inst c.args.from c.args.label None action) c.self.view_is rule in
-    replies_roll x x y s no_mark x.tables.processes c.args.from c.args.inst c.args.label action h (subst (λ (z : Person). IsNumbered (part_of z.side)) c.self.view_is c.self.invariant.numbered) (omega arith)
+    replies_roll x x y s no_mark x.tables.processes c.args.from c.args.inst c.args.label action h (subst (λ (z : Person). IsNumbered (part_of_side z.side)) c.self.view_is c.self.invariant.numbered) (omega arith)
     c.standing-standing.ensures.inst rule2
     (notes_nothing x y c.args.from c.args.inst c.args.label h (subst (λ (z : Person). is_ready z.side ≡ false) c.self.view_is (ap is_ready c.in-None.is)) (omega arith))
 

@@ -9,7 +9,7 @@ use Rattle.kt_seen.specs.Seen.{Seen, SeenLists}
 use Rattle.kt_tables.specs.Calls.{received}
 use Rattle.kt_seen.specs.ListChanges.{with_parcel}
 use Rattle.kt_system.specs.Systems.{Whole}
-use Rattle.kt_system.specs.Shown.{Shows, turned_to, channel_without, held_without}
+use Rattle.kt_system.specs.Shown.{ShowsState, turned_to, channel_without, held_without}
 use Rattle.kt_system.proofs.Showing.{shows_same, shows_parts, shows_turned, pushed_is}
 use Rattle.kt_system.proofs.Messages.{arrives_up, arrives_down}
 use Rattle.kt_system.proofs.system.System.accept.Goals as goal
@@ -22,7 +22,7 @@ returns-then-not-is_up-clause-shows c = λ v h speaks.
     let seen = one.people at (let k = c.make_room_for_rows.ensures.same.size in let b = c.requires.can.process in omega arith) in
     let down : (v.people at).up ≡ false = sym seen.up ∙ (sym c.is_up.ensures ∙ c.if-not-is_up.true) in
     let two = c.remove.ensures.shows v one in
-    subst (λ (z : Seen). Shows c.write.new.self z)
+    subst (λ (z : Seen). ShowsState c.write.new.self z)
     (arrives_down v (channel_without c.args.is_held v at from) (held_without c.args.is_held v at from) at from c.args.message.label c.args.message.msg c.args.message.body down) (c.write.ensures.shows _ two)
 
 pub returns-clause-shows : goal.returns-clause-shows
@@ -33,7 +33,7 @@ returns-clause-shows c = λ v h speaks.
     let one = shows_same _ _ v c.make_room_for_rows.ensures.same h in
     let seen = one.people at (let k = c.make_room_for_rows.ensures.same.size in let b = c.requires.can.process in omega arith) in
     let up : (v.people at).up ≡ true = sym seen.up ∙ (sym c.is_up.ensures ∙ c.if-not-is_up.false) in
-    let i = subst (λ (w : Whole). Shows w v) (sym c.self.view_is) one in
+    let i = subst (λ (w : Whole). ShowsState w v) (sym c.self.view_is) one in
     let kept = shows_parts _ _ _ v v.channel v.held v.kept v.log v.begun c.self.view_is refl refl i.wires i.held (c.reserve_many.ensures.lists ∙ i.kept) i.log i.begun one in
     let without = record v { channel = channel_without c.args.is_held v at from; held = held_without c.args.is_held v at from } in
     let two = c.remove-2.ensures.shows v kept in
@@ -41,10 +41,10 @@ returns-clause-shows c = λ v h speaks.
     let y = record (v.people at) { calls = (v.people at).calls ++ received from message.label ∷ [] } in
     let state = turned_to without at y in
     let three = shows_turned _ _ without at y c.note_received.ensures.turned heard two in
-    let j = subst (λ (w : Whole). Shows w state) (sym c.self-2.view_is) three in
+    let j = subst (λ (w : Whole). ShowsState w state) (sym c.self-2.view_is) three in
     let lists = c.push_reserved.ensures.lists ∙ (pushed_is _ from at _ ∙ (ap (λ (x : Parcel). with_parcel (channel c.self-2.inside.kept) from at x) c.parcel.ensures ∙ ap (λ (f : SeenLists). with_parcel f from at (parcel.App message.label message.msg message.body)) j.kept)) in
     let four = shows_parts _ _ _ state state.channel state.held (with_parcel v.kept from at (parcel.App message.label message.msg message.body)) state.log state.begun c.self-2.view_is refl refl j.wires j.held lists j.log j.begun three in
-    subst (λ (z : Seen). Shows c.write-2.new.self z)
+    subst (λ (z : Seen). ShowsState c.write-2.new.self z)
     (arrives_up v (channel_without c.args.is_held v at from) (held_without c.args.is_held v at from) at from message.label message.msg message.body up) (c.write-2.ensures.shows _ four)
 
 pub returns-then-not-is_up-clause-keeps : goal.returns-then-not-is_up-clause-keeps

@@ -8,7 +8,6 @@ use Rattle.kt_system.proofs.Showing.{is_turned, stood, placed, sized}
 use Rattle.std.proofs.Common.{refl, sym, ap, ◌∙◌}
 use Rattle.std.proofs.lemmas.Result.{IfOk-weaker}
 use Rattle.kt_base.specs.declared.words.Kind.TheVariants as kind
-use Rattle.kt_process.specs.Persons.{Person}
 use Rattle.kt_process.specs.Turns.{joins_by}
 use Rattle.kt_system.proofs.Turns.{turned, person_at, tables_at}
 use Rattle.kt_system.proofs.system.System.ask_to_save.Goals as goal

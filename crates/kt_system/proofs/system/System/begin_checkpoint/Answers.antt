@@ -4,7 +4,7 @@ use Rattle.kt_base.specs.declared.words.Kind.TheVariants as which
 use Rattle.kt_process.specs.Shown.{BeginsAs, asked_by, label_by, mark_of}
 use Rattle.kt_seen.specs.Seen.{Seen, SeenLists}
 use Rattle.kt_system.specs.Systems.{person}
-use Rattle.kt_system.specs.Shown.{Shows, begun_as}
+use Rattle.kt_system.specs.Shown.{ShowsState, begun_as}
 use Rattle.kt_system.proofs.Showing.{shows_same}
 use Rattle.kt_system.proofs.Commands.{turned_by, begin_shows, begin_joins, begins_checkpoint, begins_inside}
 use Rattle.kt_system.proofs.Acting.{begin_acts_save}
@@ -26,8 +26,8 @@ returns-clause-shows c = λ v h few.
     let two = begin_shows _ after v p (v.begun + 1) which.Checkpoint c.args.able marks action one c.tell_to_save.ensures.turned s in
     let joins = begin_joins after v p (v.begun + 1) which.Checkpoint c.args.able marks action s (λ asks goes e. begins_inside _ after which.Checkpoint c.in-Some.inst p action asks goes c.in_ok-action.ensures.begins e) in
     let three = c.begin.ensures.shows state (asked_by which.Checkpoint calls) (label_by which.Checkpoint calls) two joins in
-    subst (λ (z : Seen). Shows c.begin.new.self z) (begins_checkpoint after v p c.args.able action s)
-    (subst (λ (k : ℕ). Shows c.begin.new.self (begun_as state p k which.Checkpoint (asked_by which.Checkpoint calls) (label_by which.Checkpoint calls) action)) inst three)
+    subst (λ (z : Seen). ShowsState c.begin.new.self z) (begins_checkpoint after v p c.args.able action s)
+    (subst (λ (k : ℕ). ShowsState c.begin.new.self (begun_as state p k which.Checkpoint (asked_by which.Checkpoint calls) (label_by which.Checkpoint calls) action)) inst three)
 
 pub returns-clause-acts : goal.returns-clause-acts
 returns-clause-acts c = λ v h few.

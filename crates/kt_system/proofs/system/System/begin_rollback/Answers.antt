@@ -4,7 +4,7 @@ use Rattle.kt_base.specs.declared.words.Kind.TheVariants as which
 use Rattle.kt_process.specs.Shown.{BeginsAs, asked_by, label_by, no_mark}
 use Rattle.kt_seen.specs.Seen.{Seen}
 use Rattle.kt_system.specs.Systems.{person}
-use Rattle.kt_system.specs.Shown.{Shows, begun_as}
+use Rattle.kt_system.specs.Shown.{ShowsState, begun_as}
 use Rattle.kt_system.proofs.Showing.{shows_same}
 use Rattle.kt_system.proofs.Commands.{turned_by, begin_shows, begin_joins, begins_rollback, begins_inside}
 use Rattle.kt_system.proofs.Acting.{begin_acts_roll}
@@ -23,8 +23,8 @@ returns-clause-shows c = λ v able h few.
     let two = begin_shows _ after v p (v.begun + 1) which.Rollback true no_mark action one c.tell_to_roll.ensures.turned s in
     let joins = begin_joins after v p (v.begun + 1) which.Rollback true no_mark action s (λ asks goes e. begins_inside _ after which.Rollback c.in-Some.inst p action asks goes c.in_ok-action.ensures.begins e) in
     let three = c.begin.ensures.shows state (asked_by which.Rollback calls) (label_by which.Rollback calls) two joins in
-    subst (λ (z : Seen). Shows c.begin.new.self z) (begins_rollback after v p able no_mark action s)
-    (subst (λ (k : ℕ). Shows c.begin.new.self (begun_as state p k which.Rollback (asked_by which.Rollback calls) (label_by which.Rollback calls) action)) inst three)
+    subst (λ (z : Seen). ShowsState c.begin.new.self z) (begins_rollback after v p able no_mark action s)
+    (subst (λ (k : ℕ). ShowsState c.begin.new.self (begun_as state p k which.Rollback (asked_by which.Rollback calls) (label_by which.Rollback calls) action)) inst three)
 
 pub returns-clause-acts : goal.returns-clause-acts
 returns-clause-acts c = λ v able h few.

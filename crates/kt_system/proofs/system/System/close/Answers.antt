@@ -6,7 +6,7 @@ use Rattle.kt_base.specs.Sets.{has}
 use Rattle.kt_seen.specs.Seen.{Seen}
 use Rattle.kt_process.specs.Persons.{Person, asked_of, inst_of}
 use Rattle.kt_process.specs.Shown.{closed_as}
-use Rattle.kt_system.specs.Shown.{Shows, lists_closed}
+use Rattle.kt_system.specs.Shown.{ShowsState, lists_closed}
 use Rattle.kt_system.proofs.Showing.{shows_turned}
 use Rattle.kt_system.proofs.Closing.{asked_is, closes_as}
 use Rattle.std.proofs.Common.{arith}
@@ -25,7 +25,7 @@ returns-clause-shows c = λ v h there.
     let two = shows_turned _ _ (lists_closed v p c.args.commit) p (closed_as c.args.commit (v.people p)) c.leave-set.ensures.turned left one in
     let four = c.write.ensures.shows _ (c.tell.ensures.shows _ two) in
     let set = fun_ext (λ q. c.leave-set.ensures.leaves.tell q ∙ (ap (λ (x : Person). asked_of x.side q) c.leave-set.ensures.leaves.turn.was ∙ asked_is _ _ mid q)) in
-    subst (λ (z : Seen). Shows c.write.new.self z) (closes_as v p c.args.inst c.args.commit (has c.leave-set.result) set) four
+    subst (λ (z : Seen). ShowsState c.write.new.self z) (closes_as v p c.args.inst c.args.commit (has c.leave-set.result) set) four
 
 pub returns-clause-keeps : goal.returns-clause-keeps
 returns-clause-keeps c = record {

@@ -4,7 +4,6 @@ use Rattle.kt_process.specs.Shown.{IsSeenAs, closed_as}
 use Rattle.kt_system.proofs.Showing.{is_turned, stood, placed}
 use Rattle.std.proofs.Common.{◌≡◌, refl, arith, ap, ◌∙◌}
 use Rattle.kt_system.proofs.Turns.{person_at, tables_at, turned}
-use Rattle.kt_process.specs.Persons.{Person}
 use Rattle.kt_system.proofs.system.System.leave.Goals as goal
 
 pub returns-clause-leaves : goal.returns-clause-leaves

@@ -2,7 +2,7 @@ use Rattle.std.proofs.Common.{◌≡◌, refl, [], ℕ, List, arith, ap, sym, su
 use Rattle.std.specs.Prelude.{true, Option, None}
 use Rattle.std.proofs.lemmas.List.Elements.{All-weaker}
 use Rattle.kt_fifo.specs.declared.parcels.Parcel.{Parcel}
-use Rattle.kt_process.specs.Persons.{Person, part_of, IsNumbered}
+use Rattle.kt_process.specs.Persons.{Person, part_of_side, IsNumbered}
 use Rattle.kt_process.specs.declared.side.Side.{Side}
 use Rattle.kt_process.specs.Turns.{IsFresh}
 use Rattle.kt_process.specs.Shown.{IsSeenAs, inst_shown, part_shown}
@@ -10,8 +10,8 @@ use Rattle.kt_seen.specs.Seen.{no_part}
 use Rattle.kt_system.proofs.Turns.{each_person}
 use Rattle.kt_system.proofs.system.System.new.Goals as goal
 
-in_none : (s : Option Side) → s ≡ None → IsNumbered (part_of s)
-in_none s e = subst (λ (x : Option Side). IsNumbered (part_of x)) (sym e) tt
+in_none : (s : Option Side) → s ≡ None → IsNumbered (part_of_side s)
+in_none s e = subst (λ (x : Option Side). IsNumbered (part_of_side x)) (sym e) tt
 
 pub invariant_of-result : goal.invariant_of-result
 invariant_of-result c =
@@ -25,7 +25,7 @@ invariant_of-result c =
       kept = c.in_ok-new-3.ensures.processes;
       begun = omega arith;
       tables = All-weaker fresh (λ (x : Person). x.tables.processes ≡ c.args.processes) (λ x f. f.processes) _ people;
-      numbered = All-weaker fresh (λ (x : Person). IsNumbered (part_of x.side)) (λ x f. in_none x.side f.side) _ people;
+      numbered = All-weaker fresh (λ (x : Person). IsNumbered (part_of_side x.side)) (λ x f. in_none x.side f.side) _ people;
     }
 
 pub returns-clause-people : goal.returns-clause-people

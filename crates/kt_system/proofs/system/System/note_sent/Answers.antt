@@ -6,7 +6,6 @@ use Rattle.kt_process.specs.Shown.{IsSeenAs}
 use Rattle.kt_system.proofs.Showing.{is_turned, stood, placed}
 use Rattle.std.proofs.Common.{◌<◌, ◌+◌, sym, ap, subst, ◌∙◌}
 use Rattle.kt_system.proofs.Turns.{person_at}
-use Rattle.kt_process.specs.Persons.{Person}
 use Rattle.kt_system.proofs.system.System.note_sent.Goals as goal
 
 pub send-requires-clause-left : goal.send-requires-clause-left

@@ -8,7 +8,7 @@ use Rattle.kt_fifo.specs.declared.parcels.Parcel.TheVariants as parcel
 use Rattle.kt_spacetime.specs.declared.event.Event.{Event}
 use Rattle.kt_seen.specs.Seen.{Seen}
 use Rattle.kt_seen.specs.ListChanges.{with_parcel}
-use Rattle.kt_system.specs.Shown.{Shows, turned_to, with_row}
+use Rattle.kt_system.specs.Shown.{ShowsState, turned_to, with_row}
 use Rattle.kt_system.proofs.Showing.{shows_same, shows_turned}
 use Rattle.kt_system.proofs.Messages.{sends_up, sends_down, speaks_sent}
 use Rattle.std.proofs.Common.{◌≡◌, ◌<◌, true, arith, rules, sym, subst, ◌∙◌}
@@ -38,7 +38,7 @@ returns-then-not-is_up-clause-shows c = λ v h free other speaks.
     let n = h.processes in
     let a : p < v.processes = (let b = c.requires.can.process in omega (arith, b, n)) in
     let b : c.args.to < v.processes = (let k = c.requires.can.other in omega (arith, k, n)) in
-    subst (λ (z : Seen). Shows c.refuse.new.self z) (sends_down v p c.args.to c.args.body a b free other down) (c.refuse.ensures.shows v one)
+    subst (λ (z : Seen). ShowsState c.refuse.new.self z) (sends_down v p c.args.to c.args.body a b free other down) (c.refuse.ensures.shows v one)
 
 pub returns-clause-shows : goal.returns-clause-shows
 returns-clause-shows c = λ v h free other speaks.
@@ -57,14 +57,14 @@ returns-clause-shows c = λ v h free other speaks.
     let two = shows_turned _ _ v p y c.note_sent-label.ensures.turned sent one in
     let three = c.put.ensures.shows _ two in
     let label : c.note_sent-label.result ≡ (v.people p).used + 1 = c.note_sent-label.ensures.label ∙ ap (λ (n : ℕ). n + 1) seen.used in
-    let i = subst (λ (w : _). Shows w v) (sym c.self.view_is) one in
+    let i = subst (λ (w : _). ShowsState w v) (sym c.self.view_is) one in
     let msg : c.after-msg.result ≡ length v.log + 1 = c.after-msg.ensures ∙ ap (λ (l : List Event). length l + 1) (c.rows.ensures.rows ∙ i.log) in
     let fits = to_z-of_z w64 c.args.body c.ranges.body in
-    let four = subst (λ (l : ℕ). Shows c.put.new.self (record state { channel = with_parcel v.channel p to (parcel.App l (length v.log + 1) c.args.body) })) label
-    (subst (λ (m : ℕ). Shows c.put.new.self (record state { channel = with_parcel v.channel p to (parcel.App c.note_sent-label.result m c.args.body) })) msg
-    (subst (λ (z : ℤ). Shows c.put.new.self (record state { channel = with_parcel v.channel p to (parcel.App c.note_sent-label.result c.after-msg.result z) })) fits three)) in
-    let five = subst (λ (z : ℤ). Shows c.write.new.self (with_row (record state { channel = with_parcel v.channel p to (parcel.App ((v.people p).used + 1) (length v.log + 1) c.args.body) }) (Sent p to z))) fits (c.write.ensures.shows _ four) in
-    subst (λ (z : Seen). Shows c.write.new.self z) (sends_up v p to c.args.body a b free other up) five
+    let four = subst (λ (l : ℕ). ShowsState c.put.new.self (record state { channel = with_parcel v.channel p to (parcel.App l (length v.log + 1) c.args.body) })) label
+    (subst (λ (m : ℕ). ShowsState c.put.new.self (record state { channel = with_parcel v.channel p to (parcel.App c.note_sent-label.result m c.args.body) })) msg
+    (subst (λ (z : ℤ). ShowsState c.put.new.self (record state { channel = with_parcel v.channel p to (parcel.App c.note_sent-label.result c.after-msg.result z) })) fits three)) in
+    let five = subst (λ (z : ℤ). ShowsState c.write.new.self (with_row (record state { channel = with_parcel v.channel p to (parcel.App ((v.people p).used + 1) (length v.log + 1) c.args.body) }) (Sent p to z))) fits (c.write.ensures.shows _ four) in
+    subst (λ (z : Seen). ShowsState c.write.new.self z) (sends_up v p to c.args.body a b free other up) five
 
 pub returns-then-not-is_up-clause-keeps : goal.returns-then-not-is_up-clause-keeps
 returns-then-not-is_up-clause-keeps c = record {

@@ -5,15 +5,14 @@ use Rattle.kt_seen.specs.Seen.{SeenLists}
 use Rattle.kt_seen.specs.ListChanges.{trims}
 use Rattle.kt_lists.specs.Kept.{put_back, emptied}
 use Rattle.kt_process.specs.Shown.{mark_of}
-use Rattle.kt_system.specs.Shown.{Shows, lists_closed, held_closed, kept_closed}
+use Rattle.kt_system.specs.Shown.{ShowsState, lists_closed, held_closed, kept_closed}
 use Rattle.kt_system.proofs.Showing.{stood, shows_parts}
 use Rattle.kt_system.proofs.Turns.{tables_at}
 use Rattle.kt_system.proofs.Closing.{ready_is, noted_is, marks_are, saving_is, held_restored, kept_restored, kept_trimmed, held_stays}
-use Rattle.kt_process.specs.Persons.{is_saving, inst_of}
+use Rattle.kt_process.specs.Persons.{is_saving, inst_of, Person, is_ready}
 use Rattle.std.proofs.Common.{◌≡◌, true, refl, arith, sym, ap, subst, ◌∙◌}
 use Rattle.kt_system.specs.Systems.{Whole, person, HasBack}
 use Rattle.kt_system.proofs.Turns.{person_at}
-use Rattle.kt_process.specs.Persons.{Person, is_ready}
 use Rattle.kt_system.proofs.Frames.{keeps_room}
 use Rattle.kt_system.proofs.system.System.settle_kept.Goals as goal
 
@@ -35,7 +34,7 @@ returns-then-is_ready-clause-shows c = λ v h there.
     let p = c.args.p in
     let part = (v.people p).part in
     let seen = stood _ _ p c.index.result c.index-process.result.now v c.self.view_is c.self.invariant c.requires.p c.index.ensures.value c.index-process.ensures h in
-    let i = subst (λ (w : Whole). Shows w v) (sym c.self.view_is) h in
+    let i = subst (λ (w : Whole). ShowsState w v) (sym c.self.view_is) h in
     let ready : part.is_rollback ≡ true = sym (ready_is _ _ seen) ∙ (sym c.is_ready.ensures.ready ∙ c.if-is_ready.true) in
     let n = c.self.inside.held.processes in
     let k : c.self.inside.kept.processes ≤ n = (let a = c.self.invariant.kept in let b = c.self.invariant.held in omega arith) in
@@ -53,7 +52,7 @@ returns-then-marks-self-clause-shows c = λ v h there.
     let p = c.args.p in
     let part = (v.people p).part in
     let seen = stood _ _ p c.index.result c.index-process.result.now v c.self.view_is c.self.invariant c.requires.p c.index.ensures.value c.index-process.ensures h in
-    let i = subst (λ (w : Whole). Shows w v) (sym c.self.view_is) h in
+    let i = subst (λ (w : Whole). ShowsState w v) (sym c.self.view_is) h in
     let free = sym c.is_ready.ensures.ready ∙ c.if-is_ready.false in
     let plain : part.is_rollback ≡ false = sym (ready_is _ _ seen) ∙ free in
     let kept = c.trim.ensures.lists ∙ (ap (λ (f : ℕ → ℕ). trims true p f (channel c.self.inside.kept)) (ap mark_of c.marks-marks.ensures.marks ∙ marks_are _ _ seen free)

@@ -4,7 +4,7 @@ use Rattle.kt_tables.specs.Calls.{Speaks}
 use Rattle.kt_seen.specs.Seen.{Seen, SeenLists}
 use Rattle.kt_process.specs.Persons.{is_ready}
 use Rattle.kt_system.specs.Systems.{person}
-use Rattle.kt_system.specs.Shown.{Shows}
+use Rattle.kt_system.specs.Shown.{ShowsState}
 use Rattle.kt_system.proofs.Replying.{ready_seen}
 use Rattle.kt_system.proofs.Taking.{takes_front}
 use Rattle.kt_system.proofs.system.System.take.Goals as goal
@@ -17,4 +17,4 @@ returns-in-None-clause-shows c = λ v h speaks.
     let b = is_ready (person c.args.self.now at).side in
     let none = ap (λ (f : SeenLists). if b then None else slice_get (f from at) 0) (sym h.held) ∙ (sym c.held_parcel.ensures.parcel ∙ c.in-None.is) in
     let same = takes_front v at from c.args.able b (sym (ready_seen _ v at seen c.held_parcel.ensures.numbered)) none in
-    subst (λ (z : Seen). OnOk c.take_front.result (Shows c.take_front.new.self z)) same (c.take_front.ensures.shows v h (subst (λ (z : Seen). Speaks ((z.people at).calls)) (sym same) speaks))
+    subst (λ (z : Seen). OnOk c.take_front.result (ShowsState c.take_front.new.self z)) same (c.take_front.ensures.shows v h (subst (λ (z : Seen). Speaks ((z.people at).calls)) (sym same) speaks))

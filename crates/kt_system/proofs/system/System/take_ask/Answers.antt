@@ -3,7 +3,7 @@ use Rattle.std.specs.Prelude.{Some, OnOk, drop}
 use Rattle.kt_base.specs.declared.words.Kind.{Kind}
 use Rattle.kt_cuts.specs.Past.{is_rollback_kind}
 use Rattle.kt_seen.specs.Transition.{seen_ask}
-use Rattle.kt_system.specs.Shown.{Shows}
+use Rattle.kt_system.specs.Shown.{ShowsState}
 use Rattle.std.specs.Prelude.{IfOk}
 use Rattle.kt_values.specs.SeenActs.{seen_acts_asked}
 use Rattle.kt_system.specs.ShownActs.{acts_shown}
@@ -11,7 +11,7 @@ use Rattle.kt_system.proofs.system.System.take_ask.Goals as goal
 
 pub returns-in-Rollback-clause-shows : goal.returns-in-Rollback-clause-shows
 returns-in-Rollback-clause-shows c = λ v h.
-    subst (λ (k : Kind). OnOk c.take_ask_to_roll.result (Shows c.take_ask_to_roll.new.self (seen_ask v c.args.at c.args.from c.args.able c.args.inst (is_rollback_kind (Some k)) c.args.label (drop 1 (v.channel c.args.from c.args.at))))) (sym c.in-Rollback.is)
+    subst (λ (k : Kind). OnOk c.take_ask_to_roll.result (ShowsState c.take_ask_to_roll.new.self (seen_ask v c.args.at c.args.from c.args.able c.args.inst (is_rollback_kind (Some k)) c.args.label (drop 1 (v.channel c.args.from c.args.at))))) (sym c.in-Rollback.is)
     (c.take_ask_to_roll.ensures.shows v c.args.able h)
 
 pub returns-in-Checkpoint-clause-acts : goal.returns-in-Checkpoint-clause-acts

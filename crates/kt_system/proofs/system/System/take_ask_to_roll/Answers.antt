@@ -5,13 +5,12 @@ use Rattle.kt_system.proofs.Tallying.{tallies_same, tallies_turned, tallies_then
 use Rattle.std.proofs.Common.{ℕ, drop, true, ap, subst, sym, ◌∙◌}
 use Rattle.kt_process.specs.Shown.{asked_by, label_by, no_mark}
 use Rattle.kt_seen.specs.Seen.{Seen, SeenLists}
-use Rattle.kt_system.specs.Shown.{Shows}
+use Rattle.kt_system.specs.Shown.{ShowsState}
 use Rattle.kt_system.proofs.Showing.{shows_same}
 use Rattle.kt_process.specs.Persons.{Person, inst_of}
 use Rattle.kt_system.proofs.Commands.{heard_by, hear_shows, hear_joins, hears_inside, heard_channel, asked_by_front, hears_rollback}
 use Rattle.std.proofs.Common.{true, ap, ◌∙◌}
 use Rattle.kt_base.specs.declared.words.Kind.TheVariants as kind
-use Rattle.kt_process.specs.Persons.{Person}
 use Rattle.kt_process.specs.Turns.{joins_by}
 use Rattle.kt_system.proofs.Fits.{hears_fit}
 use Rattle.kt_system.proofs.system.System.take_ask_to_roll.Goals as goal
@@ -38,11 +37,11 @@ returns-clause-shows c = λ v able h.
     let s = c.in_ok-action.ensures.shows v one in
     let state = heard_by kind.Rollback from k label marks v at action in
     let two = hear_shows _ after v at from k label kind.Rollback true marks action one c.ask_to_roll.ensures.turned s in
-    let three = subst (λ (f : SeenLists). Shows c.pop.new.self (asked_by_front state at from (drop 1 (f from at)))) (heard_channel kind.Rollback from k label marks v at action) (c.pop.ensures.shows state two) in
+    let three = subst (λ (f : SeenLists). ShowsState c.pop.new.self (asked_by_front state at from (drop 1 (f from at)))) (heard_channel kind.Rollback from k label marks v at action) (c.pop.ensures.shows state two) in
     let joins = hear_joins after c.pop.new.self v at from k label kind.Rollback true marks action rest s
     (λ asks goes e i. hears_inside _ after kind.Rollback true from k label at action asks goes c.in_ok-action.ensures.hears e (sym (ap (λ (x : Person). inst_of x.side) (c.pop.ensures.gives.person at)) ∙ i)) in
     let four = c.answer.ensures.shows (asked_by_front state at from rest) (asked_by kind.Rollback calls) (label_by kind.Rollback calls) three joins in
-    subst (λ (z : Seen). Shows c.answer.new.self z) (hears_rollback after v at from k label able no_mark action rest s) four
+    subst (λ (z : Seen). ShowsState c.answer.new.self z) (hears_rollback after v at from k label able no_mark action rest s) four
 
 pub returns-clause-keeps : goal.returns-clause-keeps
 returns-clause-keeps c =

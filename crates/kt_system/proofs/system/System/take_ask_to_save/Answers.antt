@@ -9,16 +9,14 @@ use Rattle.kt_lists.specs.Kept.{kept_of}
 use Rattle.kt_process.specs.Shown.{asked_by, label_by, mark_of}
 use Rattle.kt_seen.specs.Seen.{Seen, SeenLists}
 use Rattle.kt_system.specs.Systems.{person}
-use Rattle.kt_system.specs.Shown.{Shows}
+use Rattle.kt_system.specs.Shown.{ShowsState}
 use Rattle.kt_system.proofs.Showing.{shows_same}
-use Rattle.kt_process.specs.Persons.{Person, inst_of}
+use Rattle.kt_process.specs.Persons.{Person, inst_of, is_ready}
 use Rattle.kt_system.proofs.Commands.{heard_by, hear_shows, hear_joins, hears_inside, hears_joins, hears_marked, heard_channel, asked_by_front, hears_checkpoint}
 use Rattle.std.proofs.Common.{ap, ◌∙◌}
 use Rattle.kt_base.specs.declared.words.Kind.TheVariants as kind
-use Rattle.kt_process.specs.Persons.{Person}
 use Rattle.kt_process.specs.Turns.{joins_by}
 use Rattle.kt_system.proofs.Fits.{hears_fit}
-use Rattle.kt_process.specs.Persons.{is_ready}
 use Rattle.kt_system.specs.ShownActs.{acts_carried_out}
 use Rattle.kt_system.proofs.Acting.{hear_acts_save}
 use Rattle.kt_system.proofs.system.System.take_ask_to_save.Goals as goal
@@ -50,11 +48,11 @@ returns-clause-shows c = λ v h.
     let s = hears_marked kind.Checkpoint c.args.able v.processes from k label (mark_of c.in_ok-marks.marks.items) marks (v.people at) (person after at) action marked (c.in_ok-action.ensures.shows v one) in
     let state = heard_by kind.Checkpoint from k label marks v at action in
     let two = hear_shows _ after v at from k label kind.Checkpoint c.args.able marks action one c.ask_to_save.ensures.turned s in
-    let three = subst (λ (f : SeenLists). Shows c.pop.new.self (asked_by_front state at from (drop 1 (f from at)))) (heard_channel kind.Checkpoint from k label marks v at action) (c.pop.ensures.shows state two) in
+    let three = subst (λ (f : SeenLists). ShowsState c.pop.new.self (asked_by_front state at from (drop 1 (f from at)))) (heard_channel kind.Checkpoint from k label marks v at action) (c.pop.ensures.shows state two) in
     let joins = hear_joins after c.pop.new.self v at from k label kind.Checkpoint c.args.able marks action rest s
     (λ asks goes e i. hears_inside _ after kind.Checkpoint c.args.able from k label at action asks goes c.in_ok-action.ensures.hears e (sym (ap (λ (x : Person). inst_of x.side) (c.pop.ensures.gives.person at)) ∙ i)) in
     let four = c.answer.ensures.shows (asked_by_front state at from rest) (asked_by kind.Checkpoint calls) (label_by kind.Checkpoint calls) three joins in
-    subst (λ (z : Seen). Shows c.answer.new.self z) (hears_checkpoint after v at from k label c.args.able action rest s) four
+    subst (λ (z : Seen). ShowsState c.answer.new.self z) (hears_checkpoint after v at from k label c.args.able action rest s) four
 
 pub returns-clause-acts : goal.returns-clause-acts
 returns-clause-acts c = λ v h.

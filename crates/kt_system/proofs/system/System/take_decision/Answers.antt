@@ -5,7 +5,7 @@ use Rattle.std.proofs.Common.{◌≡◌, true, drop, ap, subst, sym, ◌∙◌}
 use Rattle.std.specs.Prelude.{◌==◌}
 use Rattle.kt_seen.specs.Seen.{Seen}
 use Rattle.kt_process.specs.Persons.{Person, inst_of}
-use Rattle.kt_system.specs.Shown.{Shows}
+use Rattle.kt_system.specs.Shown.{ShowsState}
 use Rattle.kt_system.proofs.Showing.{shows_same}
 use Rattle.kt_system.proofs.Replying.{decides}
 use Rattle.kt_system.proofs.system.System.take_decision.Goals as goal
@@ -21,7 +21,7 @@ returns-clause-shows c = λ v h.
     let three = c.pop-2.ensures.shows v two in
     let same = c.pop-2.ensures.gives.person at ∙ (c.make_room_back_if_ready.ensures.keeps.person at ∙ c.make_room.ensures.gives.person at) in
     let inside = c.is_in.ensures.inside c.if-not-is_in.false in
-    subst (λ (z : Seen). Shows c.close.new.self z) (decides v at from c.args.inst c.args.commit rest here)
+    subst (λ (z : Seen). ShowsState c.close.new.self z) (decides v at from c.args.inst c.args.commit rest here)
     (c.close.ensures.shows _ three (λ e. inside (sym (ap (λ (x : Person). inst_of x.side) same) ∙ e)))
 
 pub returns-clause-keeps : goal.returns-clause-keeps

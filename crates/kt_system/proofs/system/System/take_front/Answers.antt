@@ -4,7 +4,7 @@ use Rattle.kt_fifo.specs.declared.parcels.Parcel.{Parcel}
 use Rattle.kt_seen.specs.Seen.{SeenLists}
 use Rattle.kt_seen.specs.Transition.{seen_front}
 use Rattle.kt_system.specs.Systems.{Whole}
-use Rattle.kt_system.specs.Shown.{Shows}
+use Rattle.kt_system.specs.Shown.{ShowsState}
 use Rattle.kt_system.proofs.Taking.{front_is}
 use Rattle.std.specs.Prelude.{IfOk}
 use Rattle.std.specs.Prelude.{ℤ, if◌then◌else◌}
@@ -20,34 +20,34 @@ pub returns-in-Ask-clause-shows : goal.returns-in-Ask-clause-shows
 returns-in-Ask-clause-shows c = λ v h speaks.
     let at = c.args.at in
     let from = c.args.from in
-    let i = subst (λ (w : Whole). Shows w v) (sym c.self.view_is) h in
+    let i = subst (λ (w : Whole). ShowsState w v) (sym c.self.view_is) h in
     let got : slice_get (v.channel from at) 0 ≡ Some c.in-Some.parcel = ap (λ (f : SeenLists). slice_get (f from at) 0) (sym i.wires) ∙ (sym c.front.ensures ∙ (sym c.copied.ensures ∙ c.in-Some.is)) in
     let list = front_is (v.channel from at) c.in-Some.parcel got ∙ ap (λ (x : Parcel). x ∷ drop 1 (v.channel from at)) c.in-Ask.is in
-    subst (λ (l : List Parcel). OnOk c.take_ask.result (Shows c.take_ask.new.self (seen_front v at from c.args.able l))) (sym list) (c.take_ask.ensures.shows v h)
+    subst (λ (l : List Parcel). OnOk c.take_ask.result (ShowsState c.take_ask.new.self (seen_front v at from c.args.able l))) (sym list) (c.take_ask.ensures.shows v h)
 
 pub returns-in-Reply-clause-shows : goal.returns-in-Reply-clause-shows
 returns-in-Reply-clause-shows c = λ v h speaks.
     let at = c.args.at in
     let from = c.args.from in
-    let i = subst (λ (w : Whole). Shows w v) (sym c.self.view_is) h in
+    let i = subst (λ (w : Whole). ShowsState w v) (sym c.self.view_is) h in
     let got : slice_get (v.channel from at) 0 ≡ Some c.in-Some.parcel = ap (λ (f : SeenLists). slice_get (f from at) 0) (sym i.wires) ∙ (sym c.front.ensures ∙ (sym c.copied.ensures ∙ c.in-Some.is)) in
     let list = front_is (v.channel from at) c.in-Some.parcel got ∙ ap (λ (x : Parcel). x ∷ drop 1 (v.channel from at)) c.in-Reply.is in
-    subst (λ (l : List Parcel). OnOk c.take_reply.result (Shows c.take_reply.new.self (seen_front v at from c.args.able l))) (sym list) (c.take_reply.ensures.shows v h)
+    subst (λ (l : List Parcel). OnOk c.take_reply.result (ShowsState c.take_reply.new.self (seen_front v at from c.args.able l))) (sym list) (c.take_reply.ensures.shows v h)
 
 pub returns-in-Decide-clause-shows : goal.returns-in-Decide-clause-shows
 returns-in-Decide-clause-shows c = λ v h speaks.
     let at = c.args.at in
     let from = c.args.from in
-    let i = subst (λ (w : Whole). Shows w v) (sym c.self.view_is) h in
+    let i = subst (λ (w : Whole). ShowsState w v) (sym c.self.view_is) h in
     let got : slice_get (v.channel from at) 0 ≡ Some c.in-Some.parcel = ap (λ (f : SeenLists). slice_get (f from at) 0) (sym i.wires) ∙ (sym c.front.ensures ∙ (sym c.copied.ensures ∙ c.in-Some.is)) in
     let list = front_is (v.channel from at) c.in-Some.parcel got ∙ ap (λ (x : Parcel). x ∷ drop 1 (v.channel from at)) c.in-Decide.is in
-    subst (λ (l : List Parcel). OnOk c.take_decision.result (Shows c.take_decision.new.self (seen_front v at from c.args.able l))) (sym list) (c.take_decision.ensures.shows v h)
+    subst (λ (l : List Parcel). OnOk c.take_decision.result (ShowsState c.take_decision.new.self (seen_front v at from c.args.able l))) (sym list) (c.take_decision.ensures.shows v h)
 
 pub returns-in-App-clause-acts : goal.returns-in-App-clause-acts
 returns-in-App-clause-acts c = λ v h.
     let at = c.args.at in
     let from = c.args.from in
-    let i = subst (λ (w : Whole). Shows w v) (sym c.self.view_is) h in
+    let i = subst (λ (w : Whole). ShowsState w v) (sym c.self.view_is) h in
     let got : slice_get (v.channel from at) 0 ≡ Some c.in-Some.parcel = ap (λ (f : SeenLists). slice_get (f from at) 0) (sym i.wires) ∙ (sym c.front.ensures ∙ (sym c.copied.ensures ∙ c.in-Some.is)) in
     let list = front_is (v.channel from at) c.in-Some.parcel got ∙ ap (λ (x : Parcel). x ∷ drop 1 (v.channel from at)) c.in-App.is in
     let fits = to_z-of_z w64 c.in-App.body (search rules) in

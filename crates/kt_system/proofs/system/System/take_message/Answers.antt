@@ -5,7 +5,7 @@ use Rattle.kt_fifo.specs.Channels.{channel}
 use Rattle.kt_seen.specs.Seen.{SeenLists}
 use Rattle.kt_seen.specs.ListChanges.{with_parcel, with_rest}
 use Rattle.kt_seen.specs.Transition.{is_seen_ready}
-use Rattle.kt_system.specs.Shown.{Shows}
+use Rattle.kt_system.specs.Shown.{ShowsState}
 use Rattle.kt_system.proofs.Showing.{shows_parts, pushed_is}
 use Rattle.kt_system.proofs.Replying.{ready_seen}
 use Rattle.std.proofs.Common.{◌≤◌, arith, sym, ap, subst, ◌∙◌}
@@ -26,12 +26,12 @@ returns-then-is_ready-clause-shows c = λ v h speaks.
     let message = c.args.message in
     let seen = h.people at c.requires.can.process in
     let ready : is_seen_ready v at ≡ true = sym (ready_seen _ v at seen c.is_ready.ensures.numbered) ∙ (sym c.is_ready.ensures.ready ∙ c.if-is_ready.true) in
-    let i = subst (λ (w : Whole). Shows w v) (sym c.self.view_is) h in
+    let i = subst (λ (w : Whole). ShowsState w v) (sym c.self.view_is) h in
     let one = shows_parts _ _ _ v v.channel v.held v.kept v.log v.begun c.self.view_is refl refl i.wires (c.reserve_many.ensures.lists ∙ i.held) i.kept i.log i.begun h in
     let rest = drop 1 (v.channel from at) in
     let state = record v { channel = with_rest v.channel from at rest } in
     let two = c.pop.ensures.shows v one in
-    let j = subst (λ (w : Whole). Shows w state) (sym c.self-then-is_ready.view_is) two in
+    let j = subst (λ (w : Whole). ShowsState w state) (sym c.self-then-is_ready.view_is) two in
     let x = parcel.App message.label message.msg message.body in
     let lists = c.push_reserved.ensures.lists ∙ (pushed_is _ from at _ ∙ (ap (λ (y : Parcel). with_parcel (channel c.self-then-is_ready.inside.held) from at y) c.parcel.ensures ∙ ap (λ (f : SeenLists). with_parcel f from at x) j.held)) in
     rw ready (shows_parts _ _ _ state state.channel (with_parcel v.held from at x) state.kept state.log state.begun c.self-then-is_ready.view_is refl refl j.wires lists j.kept j.log j.begun two)
