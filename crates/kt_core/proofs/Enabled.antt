@@ -1,5 +1,5 @@
 -- Which steps can be made, as the laws have it.
-use Rattle.std.specs.Prelude.{◌==◌, ◌&&◌, ◌||◌, not, nat_lt, nat_le, if◌then◌else◌, Option, IfSome, Result, Ok, Err, option_map, is_none}
+use Rattle.std.specs.Prelude.{◌==◌, ◌&&◌, ◌||◌, not, nat_lt, nat_le, if◌then◌else◌, Option, IfSome, option_map, is_none}
 use Rattle.std.proofs.Common.{◌≡◌, ◌<◌, ◌≤◌, ℕ, Bool, true, false, Some, None, length, refl, sym, arith, ap, ◌∙◌}
 use Rattle.std.proofs.lemmas.Bool.Decides.{nat_tests}
 use Rattle.kt_plan.specs.declared.commands.Command.{Command}
@@ -10,22 +10,15 @@ use Rattle.kt_plan.specs.declared.steps.Step.TheVariants.{Do, Take}
 use Rattle.kt_process.specs.Persons.{inst_of}
 use Rattle.kt_system.specs.Systems.{person}
 use Rattle.kt_system.specs.Reads.{can_take}
-use Rattle.kt_phases.specs.Steps as run_steps
-use Rattle.kt_promises.specs.World as run_world
-use Rattle.kt_promises.specs.Steps as run_after
-use Rattle.kt_promises.proofs.OpenPhase.{ahead_seen}
-use Rattle.kt_core.specs.Agendas.{next_command, if_open}
-use Rattle.kt_core.specs.Worlds.{World, is_send, may_do, can_do, enabled, refusal, is_full, lacks_label}
-use Rattle.kt_core.specs.declared.faults.StepFault.{StepFault}
+use Rattle.kt_plans.specs.Steps as run_steps
+use Rattle.kt_plans.specs.Progress.{Progress}
+use Rattle.kt_plans.proofs.OpenPhase.{ahead_seen}
+use Rattle.kt_core.specs.Agendas.{agenda_command, if_open}
+use Rattle.kt_core.specs.Worlds.{World, is_send, process_may_do, can_do, can_make, step_refusal, is_full, lacks_label}
 use Rattle.kt_core.specs.declared.faults.StepFault.TheVariants.{NotEnabled, LogFull, LabelsSpent}
 use Rattle.kt_core.specs.Shown.{Mirrors}
 use Rattle.kt_core.proofs.Places.{next_is, next_shown}
 use Rattle.kt_core.proofs.Quiet.{AreNumbered, closed_is, can_take_is}
-
--- a step that was made was not refused
-pub not_refused : {A : Type 0} (made : A) (why : Option StepFault) → IfSome why (λ fault. ◌≡◌ {A = Result A StepFault} (Ok made) (Err fault)) → why ≡ None
-not_refused made None h = refl
-not_refused made (Some fault) h = absurd (cc (h))
 
 and_same : (a b c d : Bool) → a ≡ c → (a ≡ true → b ≡ d) → (a && b) ≡ (c && d)
 and_same true b true d e f = f refl
@@ -52,7 +45,7 @@ phase_test c a v e h = go (nat_le c a) refl
     go true f = (let k : (c == v) ≡ true = grind (arith, nat_tests, e, h, f) in k)
     go false f = (let k : (c == v) ≡ false = grind (arith, nat_tests, e, h, f) in k)
 
-module _ (w : World) (first : ℕ) (v : run_world.World) (r : Mirrors w.agenda w.system first v) where
+module _ (w : World) (first : ℕ) (v : Progress) (r : Mirrors w.agenda w.system first v) where
   size : w.system.size ≡ length w.agenda.plan.names
   size = r.size
 
@@ -68,38 +61,38 @@ module _ (w : World) (first : ℕ) (v : run_world.World) (r : Mirrors w.agenda w
   may_do_job p l Rollback = refl
   may_do_job p l Fail = refl
 
-  may_do_is : (p : ℕ) → p < w.system.size → (o : Option Command) → next_command w.agenda p ≡ o → may_do (person w.system p) (if_open w.agenda.phase o) ≡ run_after.may_do v p o
+  may_do_is : (p : ℕ) → p < w.system.size → (o : Option Command) → agenda_command w.agenda p ≡ o → process_may_do (person w.system p) (if_open w.agenda.phase o) ≡ run_steps.may_do v p o
   may_do_is p l None e = refl
   may_do_is p l (Some c) e =
       let ahead = ahead_seen w.agenda.plan first v p c r.limits r.reached (next_shown w.agenda v p c r.places (few p l) e) in
       go (nat_le c.phase w.agenda.phase) (phase_test c.phase w.agenda.phase v.phase (r.phase p c (few p l) e) ahead)
     where
-      go : (b : Bool) → (c.phase == v.phase) ≡ b → may_do (person w.system p) (if b then Some c else None) ≡ ((c.phase == v.phase) && run_steps.may_do_job ((v.now.people p).inst == 0) c.job)
+      go : (b : Bool) → (c.phase == v.phase) ≡ b → process_may_do (person w.system p) (if b then Some c else None) ≡ ((c.phase == v.phase) && run_steps.may_do_job ((v.now.people p).inst == 0) c.job)
       go true f = rw f (may_do_job p l c.job)
       go false f = rw f refl
 
-  pub enabled_is : (x : Step) → enabled w x ≡ run_after.enabled w.agenda.plan v x
+  pub enabled_is : (x : Step) → can_make w x ≡ run_steps.enabled w.agenda.plan v x
   enabled_is (Do p) = and_same (nat_lt p w.system.size) (can_do w p) (nat_lt p (length w.agenda.plan.names)) _ (ap (λ (n : ℕ). nat_lt p n) size)
-      (λ e. let l = below p w.system.size e in may_do_is p l (next_command w.agenda p) refl ∙ ap (λ (o : Option Command). run_after.may_do v p o) (next_is w.agenda v p r.places (few p l)))
-  enabled_is (Take p q) = and_both (nat_lt p w.system.size) (nat_lt q w.system.size) (can_take w.system p q) (nat_lt p (length w.agenda.plan.names)) (nat_lt q (length w.agenda.plan.names)) (run_after.can_take v.now p q)
+      (λ e. let l = below p w.system.size e in may_do_is p l (agenda_command w.agenda p) refl ∙ ap (λ (o : Option Command). run_steps.may_do v p o) (next_is w.agenda v p r.places (few p l)))
+  enabled_is (Take p q) = and_both (nat_lt p w.system.size) (nat_lt q w.system.size) (can_take w.system p q) (nat_lt p (length w.agenda.plan.names)) (nat_lt q (length w.agenda.plan.names)) (run_steps.can_take_from v.now p q)
       (ap (λ (n : ℕ). nat_lt p n) size) (ap (λ (n : ℕ). nat_lt q n) size) (λ e f. can_take_is w.system v.now p q r.now num (below p w.system.size e))
 
 -- a step that can be made is one of each run that leads to the world
-pub IfSome-enabled_in_run : (w : World) (first : ℕ) (v : run_world.World) → Mirrors w.agenda w.system first v → (found : Option Step) → IfSome found (λ x. enabled w x ≡ true)
-    → IfSome found (λ x. run_after.enabled w.agenda.plan v x ≡ true)
+pub IfSome-enabled_in_run : (w : World) (first : ℕ) (v : Progress) → Mirrors w.agenda w.system first v → (found : Option Step) → IfSome found (λ x. can_make w x ≡ true)
+    → IfSome found (λ x. run_steps.enabled w.agenda.plan v x ≡ true)
 IfSome-enabled_in_run w first v r None h = tt
 IfSome-enabled_in_run w first v r (Some x) h = sym (enabled_is w first v r x) ∙ h
 
 -- what is refused for nothing but want of memory is enabled
-pub enabled_if : (w : World) (x : Step) → refusal w x ≡ None → enabled w x ≡ true
-enabled_if w x e = go (enabled w x) e
+pub enabled_if : (w : World) (x : Step) → step_refusal w x ≡ None → can_make w x ≡ true
+enabled_if w x e = go (can_make w x) e
   where
     go : (b : Bool) → (if not b then Some NotEnabled else if is_full w then Some LogFull else if lacks_label w x then Some LabelsSpent else None) ≡ None → b ≡ true
     go true f = refl
     go false f = absurd (cc (f))
 
 -- who does a command is there
-pub does_there : (w : World) (p : ℕ) → refusal w (Do p) ≡ None → p < w.system.size
+pub does_there : (w : World) (p : ℕ) → step_refusal w (Do p) ≡ None → p < w.system.size
 does_there w p e = below p w.system.size (left (nat_lt p w.system.size) (can_do w p) (enabled_if w (Do p) e))
   where
     left : (a b : Bool) → (a && b) ≡ true → a ≡ true

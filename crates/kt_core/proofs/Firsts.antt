@@ -7,7 +7,7 @@ use Rattle.std.proofs.lemmas.List.{get_or-set_same, get_or-set_other}
 use Rattle.std.proofs.lemmas.Option.{slice_get_past, slice_get_within, get_or_from_slice_get, slice_get-get_or}
 use Rattle.kt_plan.specs.Limits.{IsPlan}
 use Rattle.kt_plan.specs.declared.commands.Command.{Command}
-use Rattle.kt_core.specs.Agendas.{Agenda, IsNextOf, IsDone, IsLeastPhase, AreOwn, AreDoneBefore, IsFirstLeft, by_at, no_command, place_of, next_command}
+use Rattle.kt_core.specs.Agendas.{Agenda, IsNextOf, IsDone, IsLeastPhase, AreOwn, AreDoneBefore, IsFirstLeft, by_at, no_command, agenda_place, agenda_command}
 
 -- at the start it is the first one of all
 pub first_at_start : (commands : List Command) (next : List ℕ) → (0 < length commands → by_at commands 0 < 64) → ((p : ℕ) → p < 64 → IsNextOf commands p 0 (get_or next p 0)) → IsFirstLeft commands next 0
@@ -74,23 +74,23 @@ done_after commands next p j place size low done follows i l = elim (eqb_tells (
 
 -- where there is none, all is done
 pub all_done : (a : Agenda) (place : ℕ) → AreOwn a.plan.commands a.next → IsFirstLeft a.plan.commands a.next place → slice_get a.plan.commands place ≡ None → IsDone a
-all_done a place own first none = record { none = λ p low. slice_get_past a.plan.commands (place_of a p) (at_end p low) }
+all_done a place own first none = record { none = λ p low. slice_get_past a.plan.commands (agenda_place a p) (at_end p low) }
   where
-    at_end : (p : ℕ) → p < 64 → length a.plan.commands ≤ place_of a p
+    at_end : (p : ℕ) → p < 64 → length a.plan.commands ≤ agenda_place a p
     at_end p low = elim (cases_lt place (length a.plan.commands)) [
       | inl l ↦ absurd (let e = sym none ∙ slice_get-get_or a.plan.commands place no_command l in cc (e))
       | inr h ↦ let least = none_before_first a.plan.commands a.next place p own first.done first.within low in omega (arith, h, least)
     ]
 
 -- a command that comes before all other next ones has the least phase
-pub first_has_least_phase : (a : Agenda) (command : Command) → IsPlan a.plan → command.by < length a.plan.names → next_command a command.by ≡ Some command
-    → ((q : ℕ) → q < 64 → place_of a command.by ≤ place_of a q) → IsLeastPhase a command.phase
+pub first_has_least_phase : (a : Agenda) (command : Command) → IsPlan a.plan → command.by < length a.plan.names → agenda_command a command.by ≡ Some command
+    → ((q : ℕ) → q < 64 → agenda_place a command.by ≤ agenda_place a q) → IsLeastPhase a command.phase
 first_has_least_phase a command plan there is first = record {
   least = λ p other few next.
-      let inside = slice_get_within a.plan.commands (place_of a p) other next in
-      let rises = plan.phases (place_of a command.by) (place_of a p) no_command (first p few) inside in
-      let mine = ap (λ (c : Command). c.phase) (get_or_from_slice_get a.plan.commands (place_of a command.by) command no_command is) in
-      let its = ap (λ (c : Command). c.phase) (get_or_from_slice_get a.plan.commands (place_of a p) other no_command next) in
+      let inside = slice_get_within a.plan.commands (agenda_place a p) other next in
+      let rises = plan.phases (agenda_place a command.by) (agenda_place a p) no_command (first p few) inside in
+      let mine = ap (λ (c : Command). c.phase) (get_or_from_slice_get a.plan.commands (agenda_place a command.by) command no_command is) in
+      let its = ap (λ (c : Command). c.phase) (get_or_from_slice_get a.plan.commands (agenda_place a p) other no_command next) in
       omega (arith, rises, mine, its);
   process = command.by;
   command = command;

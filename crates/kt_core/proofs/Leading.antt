@@ -17,31 +17,30 @@ use Rattle.kt_plan.specs.declared.steps.Give.{Give}
 use Rattle.kt_protocol.specs.States as machine
 use Rattle.kt_seen.specs.Seen.{Seen}
 use Rattle.kt_seen.specs.Transition.{transition, opening_seen}
-use Rattle.kt_process.specs.Persons.{Person, part_of, IsNumbered}
-use Rattle.kt_system.specs.Systems.{Whole, person, nobody, IsSame}
+use Rattle.kt_process.specs.Persons.{Person, part_of_side, IsNumbered}
+use Rattle.kt_system.specs.Systems.{Whole, person, nobody, IsSameSystem}
 use Rattle.kt_system.specs.declared.system.Tally.{Tally}
 use Rattle.kt_system.specs.Reads.{tally_of}
 use Rattle.kt_system.specs.Reads.{no_tally as none_counted}
 use Rattle.kt_system.specs.Tallies.{TalliesPut, taken_off}
-use Rattle.kt_system.specs.Shown.{Shows}
+use Rattle.kt_system.specs.Shown.{ShowsState}
 use Rattle.kt_system.proofs.Showing.{shows_same}
 use Rattle.kt_values.specs.Values.{Act}
 use Rattle.kt_values.specs.Acts.{stepper}
 use Rattle.kt_values.specs.SeenActs.{seen_acts}
-use Rattle.kt_phases.specs.Steps as run_steps
-use Rattle.kt_promises.specs.World as run_world
-use Rattle.kt_promises.specs.Steps as run_after
-use Rattle.kt_promises.specs.Runs.{IsReachedWorld, IsSameButPhase, steps_of_command}
-use Rattle.kt_promises.specs.StepActs.{acts_of_step}
-use Rattle.kt_promises.proofs.ProtocolSteps.{seen_acts_are}
-use Rattle.kt_promises.specs.Tallies.{no_tally}
-use Rattle.kt_promises.specs.Tallies as run_tallies
-use Rattle.kt_promises.proofs.OpenPhase.{ahead_seen, attained_seen, quiet_seen}
-use Rattle.kt_promises.proofs.PeopleKeep.{speaks_next_seen}
-use Rattle.kt_promises.proofs.PhasesOpen.{opening_is, takes_is, does_is}
-use Rattle.kt_promises.proofs.RunsEnd.{fewer_begun_seen, raised_seen}
-use Rattle.kt_promises.proofs.RunSteps.{start_reached_seen, next_reached_seen}
-use Rattle.kt_core.specs.Agendas.{Agenda, place_of, next_command, if_open, open_command, IsNextOf, IsLeastPhase}
+use Rattle.kt_plans.specs.Steps.{protocol_step, can_take_from, enabled, with_seen, progress_after}
+use Rattle.kt_plans.specs.Progress as run_world
+use Rattle.kt_plans.specs.Runs.{RunReaches, IsSameButPhase, steps_of_command}
+use Rattle.kt_plans.specs.StepActs.{acts_of_step}
+use Rattle.kt_plans.proofs.ProtocolSteps.{seen_acts_are}
+use Rattle.kt_plans.specs.Tallies.{no_tallies}
+use Rattle.kt_plans.specs.Tallies as run_tallies
+use Rattle.kt_plans.proofs.OpenPhase.{ahead_seen, attained_seen, quiet_seen}
+use Rattle.kt_plans.proofs.PeopleKeep.{speaks_next_seen}
+use Rattle.kt_plans.proofs.PhasesOpen.{opening_is, takes_is, does_is}
+use Rattle.kt_plans.proofs.RunsEnd.{fewer_begun_seen, raised_seen}
+use Rattle.kt_plans.proofs.RunSteps.{start_reached_seen, next_reached_seen}
+use Rattle.kt_core.specs.Agendas.{Agenda, agenda_place, agenda_command, if_open, open_command, IsNextOf, IsLeastPhase}
 use Rattle.kt_core.specs.Worlds.{SettlesIn}
 use Rattle.kt_core.specs.Shown.{Mirrors, tally_shown}
 use Rattle.kt_core.proofs.Quiet.{AreNumbered, quiet_shown, quiet_from, quiet_opening}
@@ -55,8 +54,8 @@ same_agenda : (m : Agenda) (plan : Planned) (next : List ℕ) (k : ℕ) → m.pl
 same_agenda m plan next k e f g = λ i. record { plan = e i; next = f i; phase = g i }
 
 -- the open phase is the least one that has commands left, where nothing is under way
-least_is : (b : Agenda) (first : ℕ) (w : run_world.World) (p : ℕ) (c : Command) → IsPlan b.plan → IsReachedWorld b.plan first w → HasPlaces b w →
-    run_world.is_quiet (length b.plan.names) w.now ≡ true → p < 64 → next_command b p ≡ Some c → IsLeastPhase b w.phase
+least_is : (b : Agenda) (first : ℕ) (w : run_world.Progress) (p : ℕ) (c : Command) → IsPlan b.plan → RunReaches b.plan first w → HasPlaces b w →
+    run_world.is_quiet (length b.plan.names) w.now ≡ true → p < 64 → agenda_command b p ≡ Some c → IsLeastPhase b w.phase
 least_is b first w p c i r h quiet low e = record {
   least = λ q d under f. ahead_seen plan first w q d limits r (next_shown b w q d h under f);
   process = found.0;
@@ -79,8 +78,8 @@ least_is b first w p c i r h quiet low e = record {
     under = let x = found.2 in let few = i.names.few in omega (arith, x, few)
 
 -- what settles opens the same phase
-phase_after : (a b : Agenda) (s : Whole) (first : ℕ) (v w : run_world.World) → IsPlan b.plan → IsReachedWorld b.plan first w → HasPlaces b w → Shows s w.now → s.size ≡ length b.plan.names → AreNumbered s → SettlesIn s a b →
-    v.phase ≤ w.phase → (v.phase < w.phase → run_world.is_quiet (length b.plan.names) w.now ≡ true) → a.phase ≡ v.phase → (p : ℕ) (c : Command) → p < 64 → next_command b p ≡ Some c → b.phase ≡ w.phase
+phase_after : (a b : Agenda) (s : Whole) (first : ℕ) (v w : run_world.Progress) → IsPlan b.plan → RunReaches b.plan first w → HasPlaces b w → ShowsState s w.now → s.size ≡ length b.plan.names → AreNumbered s → SettlesIn s a b →
+    v.phase ≤ w.phase → (v.phase < w.phase → run_world.is_quiet (length b.plan.names) w.now ≡ true) → a.phase ≡ v.phase → (p : ℕ) (c : Command) → p < 64 → agenda_command b p ≡ Some c → b.phase ≡ w.phase
 phase_after a b s first v w i r h shows size num settles forward quiet same p c low e = at_test (run_world.is_quiet (length b.plan.names) w.now) refl
   where
     at_test : (t : Bool) → run_world.is_quiet (length b.plan.names) w.now ≡ t → b.phase ≡ w.phase
@@ -94,10 +93,10 @@ phase_after a b s first v w i r h shows size num settles forward quiet same p c 
         ]
 
 -- a step that is enabled, after which phases open
-step_leads : (plan : Planned) (nx ny : List ℕ) (k l : ℕ) (s t : Whole) (first : ℕ) (v : run_world.World) (x : Step) (g : Give) → Mirrors (agenda plan nx k) s first v → run_after.enabled plan v x ≡ true →
-    SettlesIn t (agenda plan ny k) (agenda plan ny l) → Shows t (run_after.world_after plan v x g).now → HasPlaces (agenda plan ny l) (run_after.world_after plan v x g) → t.size ≡ length plan.names → AreNumbered t →
-    ((p : ℕ) (c : Command) → p < 64 → next_command (agenda plan ny l) p ≡ Some c → k ≡ v.phase) → (taken : List Parcel) → ((f g : Parcel → Bool) → ((x : Parcel) → f x ≡ g x) → count_by f taken ≡ run_tallies.taken_off v.now x g) → TalliesPut taken s t →
-    Mirrors (agenda plan ny l) t first (run_after.world_after plan v x g)
+step_leads : (plan : Planned) (nx ny : List ℕ) (k l : ℕ) (s t : Whole) (first : ℕ) (v : run_world.Progress) (x : Step) (g : Give) → Mirrors (agenda plan nx k) s first v → enabled plan v x ≡ true →
+    SettlesIn t (agenda plan ny k) (agenda plan ny l) → ShowsState t (progress_after plan v x g).now → HasPlaces (agenda plan ny l) (progress_after plan v x g) → t.size ≡ length plan.names → AreNumbered t →
+    ((p : ℕ) (c : Command) → p < 64 → agenda_command (agenda plan ny l) p ≡ Some c → k ≡ v.phase) → (taken : List Parcel) → ((f g : Parcel → Bool) → ((x : Parcel) → f x ≡ g x) → count_by f taken ≡ run_tallies.taken_off v.now x g) → TalliesPut taken s t →
+    Mirrors (agenda plan ny l) t first (progress_after plan v x g)
 step_leads plan nx ny k l s t first v x g r e settles shows places size num phase taken off counted = record {
   limits = r.limits;
   size = size;
@@ -110,10 +109,10 @@ step_leads plan nx ny k l s t first v x g r e settles shows places size num phas
   put = tallies_lead plan first w r.limits reached s t v x taken r.size size r.now shows r.instances off r.put (raised_seen plan first v x g r.limits r.reached e) counted;
 }
   where
-    w : run_world.World
-    w = run_after.world_after plan v x g
+    w : run_world.Progress
+    w = progress_after plan v x g
 
-    reached : IsReachedWorld plan first w
+    reached : RunReaches plan first w
     reached = next_reached_seen plan first v x g r.limits r.reached e
 
     on : (v.phase ≤ w.phase) × (v.phase < w.phase → run_world.is_quiet (length plan.names) w.now ≡ true)
@@ -132,18 +131,18 @@ if_open_is k (Some d) c e = at_test (nat_le d.phase k) e
     at_test true e = e
     at_test false e = absurd (cc (e))
 
-pub open_is_next : (a : Agenda) (p : ℕ) (c : Command) → open_command a p ≡ Some c → next_command a p ≡ Some c
-open_is_next a p c e = if_open_is a.phase (next_command a p) c e
+pub open_is_next : (a : Agenda) (p : ℕ) (c : Command) → open_command a p ≡ Some c → agenda_command a p ≡ Some c
+open_is_next a p c e = if_open_is a.phase (agenda_command a p) c e
 
 -- as long as a command is left, not all instances have begun
-begun_few : (a : Agenda) (s : Whole) (first : ℕ) (v : run_world.World) (p : ℕ) (c : Command) → Mirrors a s first v → run_world.next_command a.plan v p ≡ Some c → s.begun < 4096
+begun_few : (a : Agenda) (s : Whole) (first : ℕ) (v : run_world.Progress) (p : ℕ) (c : Command) → Mirrors a s first v → run_world.next_command a.plan v p ≡ Some c → s.begun < 4096
 begun_few a s first v p c r there = let f = fewer_begun_seen a.plan first v r.limits r.reached p c there in let k = r.limits.few in let z = r.now.begun in omega (arith, f, k, z)
 
 -- a command: the system makes the step, the agenda goes on from a to m, and phases open from m to b
-pub do_leads : (a m b : Agenda) (s t : Whole) (p : ℕ) (c : Command) (give : Give) (first : ℕ) (v : run_world.World) → Mirrors a s first v → p < 64 → open_command a p ≡ Some c → run_after.enabled a.plan v (Do p) ≡ true →
-    (Shows s v.now → s.begun < 4096 → Speaks ((transition v.now (run_steps.protocol_step p c.job give)).people p).calls → Shows t (transition v.now (run_steps.protocol_step p c.job give))) →
-    m.plan ≡ a.plan → m.phase ≡ a.phase → (place_of a p < length a.plan.commands → IsNextOf a.plan.commands p (place_of a p + 1) (place_of m p)) → ((q : ℕ) → q ≢ p → place_of m q ≡ place_of a q) →
-    b.plan ≡ m.plan → b.next ≡ m.next → SettlesIn t m b → t.size ≡ length a.plan.names → AreNumbered t → TalliesPut [] s t → Mirrors b t first (run_after.world_after a.plan v (Do p) give)
+pub do_leads : (a m b : Agenda) (s t : Whole) (p : ℕ) (c : Command) (give : Give) (first : ℕ) (v : run_world.Progress) → Mirrors a s first v → p < 64 → open_command a p ≡ Some c → enabled a.plan v (Do p) ≡ true →
+    (ShowsState s v.now → s.begun < 4096 → Speaks ((transition v.now (protocol_step p c.job give)).people p).calls → ShowsState t (transition v.now (protocol_step p c.job give))) →
+    m.plan ≡ a.plan → m.phase ≡ a.phase → (agenda_place a p < length a.plan.commands → IsNextOf a.plan.commands p (agenda_place a p + 1) (agenda_place m p)) → ((q : ℕ) → q ≢ p → agenda_place m q ≡ agenda_place a q) →
+    b.plan ≡ m.plan → b.next ≡ m.next → SettlesIn t m b → t.size ≡ length a.plan.names → AreNumbered t → TalliesPut [] s t → Mirrors b t first (progress_after a.plan v (Do p) give)
 do_leads a m b s t p c give first v r low opened e shows mp mk mn mo bp bn settles size num counted =
     subst (λ (z : Agenda). Mirrors z t first w) (sym (same_agenda b a.plan m.next b.phase (bp ∙ mp) bn refl))
     (step_leads a.plan a.next m.next a.phase b.phase s t first v (Do p) give r e (settles_as t m b a.plan a.phase mp mk bp bn settles) seen
@@ -155,31 +154,31 @@ do_leads a m b s t p c give first v r low opened e shows mp mk mn mo bp bn settl
     limits : IsPlan plan
     limits = r.limits
 
-    w : run_world.World
-    w = run_after.world_after plan v (Do p) give
+    w : run_world.Progress
+    w = progress_after plan v (Do p) give
 
-    next : next_command a p ≡ Some c
+    next : agenda_command a p ≡ Some c
     next = open_is_next a p c opened
 
-    within : place_of a p < length a.plan.commands
-    within = slice_get_within a.plan.commands (place_of a p) c next
+    within : agenda_place a p < length a.plan.commands
+    within = slice_get_within a.plan.commands (agenda_place a p) c next
 
     there : run_world.next_command plan v p ≡ Some c
     there = next_shown a v p c r.places low next
 
-    is : IsSameButPhase (record (run_after.with_seen plan v (Do p) (transition v.now (run_steps.protocol_step p c.job give))) { done = at_one p (v.done p + 1) v.done }) w
+    is : IsSameButPhase (record (with_seen plan v (Do p) (transition v.now (protocol_step p c.job give))) { done = at_one p (v.done p + 1) v.done }) w
     is = does_is plan v p give c there
 
     begun : s.begun < 4096
     begun = begun_few a s first v p c r there
 
-    seen : Shows t w.now
-    seen = subst (λ (x : Seen). Shows t x) (sym is.now) (shows r.now begun (speaks_next_seen plan first v limits r.reached (run_steps.protocol_step p c.job give) p))
+    seen : ShowsState t w.now
+    seen = subst (λ (x : Seen). ShowsState t x) (sym is.now) (shows r.now begun (speaks_next_seen plan first v limits r.reached (protocol_step p c.job give) p))
 
 -- a take
-pub take_leads : (a b : Agenda) (s t : Whole) (p q : ℕ) (give : Give) (first : ℕ) (v : run_world.World) → Mirrors a s first v → run_after.enabled a.plan v (Take p q) ≡ true →
-    (Shows s v.now → Speaks ((transition v.now (machine.Take p q give.able)).people p).calls → Shows t (transition v.now (machine.Take p q give.able))) →
-    b.plan ≡ a.plan → b.next ≡ a.next → SettlesIn t a b → t.size ≡ length a.plan.names → AreNumbered t → TalliesPut (taken_off s p q) s t → Mirrors b t first (run_after.world_after a.plan v (Take p q) give)
+pub take_leads : (a b : Agenda) (s t : Whole) (p q : ℕ) (give : Give) (first : ℕ) (v : run_world.Progress) → Mirrors a s first v → enabled a.plan v (Take p q) ≡ true →
+    (ShowsState s v.now → Speaks ((transition v.now (machine.Take p q give.able)).people p).calls → ShowsState t (transition v.now (machine.Take p q give.able))) →
+    b.plan ≡ a.plan → b.next ≡ a.next → SettlesIn t a b → t.size ≡ length a.plan.names → AreNumbered t → TalliesPut (taken_off s p q) s t → Mirrors b t first (progress_after a.plan v (Take p q) give)
 take_leads a b s t p q give first v r e shows bp bn settles size num counted =
     subst (λ (z : Agenda). Mirrors z t first w) (sym (same_agenda b a.plan a.next b.phase bp bn refl))
     (step_leads a.plan a.next a.next a.phase b.phase s t first v (Take p q) give r e (settles_as t a b a.plan a.phase refl refl bp bn settles) seen
@@ -188,50 +187,50 @@ take_leads a b s t p q give first v r e shows bp bn settles size num counted =
     plan : Planned
     plan = a.plan
 
-    w : run_world.World
-    w = run_after.world_after plan v (Take p q) give
+    w : run_world.Progress
+    w = progress_after plan v (Take p q) give
 
     takes : (n : ℕ) (x y : Bool) → ((nat_lt p n && x) && y) ≡ true → p < n
     takes n x y f = grind (arith, nat_tests, f)
 
     there : p < s.size
-    there = let l = takes (length plan.names) (nat_lt q (length plan.names)) (run_after.can_take v.now p q) e in let z = r.size in omega (arith, l, z)
+    there = let l = takes (length plan.names) (nat_lt q (length plan.names)) (can_take_from v.now p q) e in let z = r.size in omega (arith, l, z)
 
-    is : IsSameButPhase (run_after.with_seen plan v (Take p q) (transition v.now (machine.Take p q give.able))) w
+    is : IsSameButPhase (with_seen plan v (Take p q) (transition v.now (machine.Take p q give.able))) w
     is = takes_is plan v p q give
 
-    seen : Shows t w.now
-    seen = subst (λ (x : Seen). Shows t x) (sym is.now) (shows r.now (speaks_next_seen plan first v r.limits r.reached (machine.Take p q give.able) p))
+    seen : ShowsState t w.now
+    seen = subst (λ (x : Seen). ShowsState t x) (sym is.now) (shows r.now (speaks_next_seen plan first v r.limits r.reached (machine.Take p q give.able) p))
 
 -- at the start phases open from a to b
-pub start_leads : (a b : Agenda) (s : Whole) (first : ℕ) → IsPlan a.plan → s.size ≡ length a.plan.names → AreNumbered s → Shows s (opening_seen (length a.plan.names) first) → ((p : ℕ) → p < 64 → IsNextOf a.plan.commands p 0 (place_of a p)) → b.plan ≡ a.plan → b.next ≡ a.next →
-    ((least : ℕ) → IsLeastPhase b least → b.phase ≡ least) → length a.plan.commands ≤ length s.put → ((k : ℕ) → tally_of s k ≡ none_counted) → Mirrors b s first (run_world.start_world a.plan first)
+pub start_leads : (a b : Agenda) (s : Whole) (first : ℕ) → IsPlan a.plan → s.size ≡ length a.plan.names → AreNumbered s → ShowsState s (opening_seen (length a.plan.names) first) → ((p : ℕ) → p < 64 → IsNextOf a.plan.commands p 0 (agenda_place a p)) → b.plan ≡ a.plan → b.next ≡ a.next →
+    ((least : ℕ) → IsLeastPhase b least → b.phase ≡ least) → length a.plan.commands ≤ length s.put → ((k : ℕ) → tally_of s k ≡ none_counted) → Mirrors b s first (run_world.progress_at_start a.plan first)
 start_leads a b s first i size num shows n bp bn opens room none =
     subst (λ (z : Agenda). Mirrors z s first w) (sym same) (record {
       limits = i;
       size = size;
       numbered = num;
       reached = reached;
-      now = subst (λ (x : Seen). Shows s x) (sym is.now) shows;
+      now = subst (λ (x : Seen). ShowsState s x) (sym is.now) shows;
       places = places;
       phase = λ p c low e. subst (λ (z : Agenda). (least : ℕ) → IsLeastPhase z least → z.phase ≡ least) same opens w.phase (least_is (agenda a.plan a.next b.phase) first w p c i reached places quiet low e);
       instances = room;
-      put = λ k l. none k ∙ ap (λ (y : run_tallies.Tally). tally_shown y k) (sym is.put);
+      put = λ k l. none k ∙ ap (λ (y : run_tallies.Tallies). tally_shown y k) (sym is.put);
     })
   where
     plan : Planned
     plan = a.plan
 
-    w : run_world.World
-    w = run_world.start_world plan first
+    w : run_world.Progress
+    w = run_world.progress_at_start plan first
 
     same : b ≡ agenda a.plan a.next b.phase
     same = same_agenda b a.plan a.next b.phase bp bn refl
 
-    is : IsSameButPhase (record { now = opening_seen (length plan.names) first; done = λ p. 0; phase = 0; put = no_tally }) w
+    is : IsSameButPhase (record { now = opening_seen (length plan.names) first; done = λ p. 0; phase = 0; put = no_tallies }) w
     is = opening_is plan first
 
-    reached : IsReachedWorld plan first w
+    reached : RunReaches plan first w
     reached = start_reached_seen plan first
 
     places : HasPlaces (agenda a.plan a.next b.phase) w
@@ -241,11 +240,11 @@ start_leads a b s first i size num shows n bp bn opens room none =
     quiet = ap (run_world.is_quiet (length plan.names)) is.now ∙ quiet_opening (length plan.names) first
 
 -- the same but for spare room
-numbered_same : (s t : Whole) → IsSame t s → AreNumbered s → AreNumbered t
+numbered_same : (s t : Whole) → IsSameSystem t s → AreNumbered s → AreNumbered t
 unfolding person
-numbered_same s t e num p l = subst (λ (people : List Person). IsNumbered (part_of (slice_index_or people p nobody).side)) (sym e.people) (num p (let z = e.size in omega (arith, l, z)))
+numbered_same s t e num p l = subst (λ (people : List Person). IsNumbered (part_of_side (slice_index_or people p nobody).side)) (sym e.people) (num p (let z = e.size in omega (arith, l, z)))
 
-pub run_same : (a : Agenda) (s t : Whole) (first : ℕ) (v : run_world.World) → IsSame t s → Mirrors a s first v → Mirrors a t first v
+pub run_same : (a : Agenda) (s t : Whole) (first : ℕ) (v : run_world.Progress) → IsSameSystem t s → Mirrors a s first v → Mirrors a t first v
 run_same a s t first v e r = record {
   limits = r.limits;
   size = e.size ∙ r.size;
@@ -258,24 +257,24 @@ run_same a s t first v e r = record {
   put = λ k l. ap (λ (l : List Tally). slice_index_or l (k - 1) none_counted) e.put ∙ r.put k l;
 }
 
-whose : (p : ℕ) (j : Job) (g : Give) → stepper (run_steps.protocol_step p j g) ≡ p
+whose : (p : ℕ) (j : Job) (g : Give) → stepper (protocol_step p j g) ≡ p
 whose p (job.Send to body) g = refl
 whose p job.Checkpoint g = refl
 whose p job.Rollback g = refl
 whose p job.Fail g = refl
 
 -- the acts of a command, and of a take, are those of the run's step
-pub do_acts : (a : Agenda) (s : Whole) (p : ℕ) (c : Command) (give : Give) (first : ℕ) (v : run_world.World) (told : List Act) → Mirrors a s first v → p < 64 → open_command a p ≡ Some c → run_after.enabled a.plan v (Do p) ≡ true →
-    (Shows s v.now → s.begun < 4096 → told ≡ seen_acts v.now (run_steps.protocol_step p c.job give)) → told ≡ acts_of_step a.plan v (Do p) give p
+pub do_acts : (a : Agenda) (s : Whole) (p : ℕ) (c : Command) (give : Give) (first : ℕ) (v : run_world.Progress) (told : List Act) → Mirrors a s first v → p < 64 → open_command a p ≡ Some c → enabled a.plan v (Do p) ≡ true →
+    (ShowsState s v.now → s.begun < 4096 → told ≡ seen_acts v.now (protocol_step p c.job give)) → told ≡ acts_of_step a.plan v (Do p) give p
 do_acts a s p c give first v told r low opened e shows =
     let plan = a.plan in
     let limits = r.limits in
     let there = next_shown a v p c r.places low (open_is_next a p c opened) in
-    let y = run_steps.protocol_step p c.job give in
+    let y = protocol_step p c.job give in
     shows r.now (begun_few a s first v p c r there)
     ∙ (sym (seen_acts_are plan first v (Do p) give y limits r.reached e (ap (steps_of_command p give) there))
     ∙ ap (acts_of_step plan v (Do p) give) (whose p c.job give))
 
-pub take_acts : (a : Agenda) (s : Whole) (p q : ℕ) (give : Give) (first : ℕ) (v : run_world.World) (told : List Act) → Mirrors a s first v → run_after.enabled a.plan v (Take p q) ≡ true →
-    (Shows s v.now → told ≡ seen_acts v.now (machine.Take p q give.able)) → told ≡ acts_of_step a.plan v (Take p q) give p
+pub take_acts : (a : Agenda) (s : Whole) (p q : ℕ) (give : Give) (first : ℕ) (v : run_world.Progress) (told : List Act) → Mirrors a s first v → enabled a.plan v (Take p q) ≡ true →
+    (ShowsState s v.now → told ≡ seen_acts v.now (machine.Take p q give.able)) → told ≡ acts_of_step a.plan v (Take p q) give p
 take_acts a s p q give first v told r e shows = shows r.now ∙ sym (seen_acts_are a.plan first v (Take p q) give (machine.Take p q give.able) r.limits r.reached e refl)

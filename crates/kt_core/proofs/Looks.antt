@@ -18,7 +18,7 @@ use Rattle.kt_plan.specs.declared.commands.Job.TheVariants.{Send, Checkpoint, Ro
 use Rattle.kt_plan.specs.declared.steps.Step.{Step}
 use Rattle.kt_plan.specs.declared.steps.Step.TheVariants.{Do, Take}
 use Rattle.kt_plan.specs.declared.steps.Look.TheVariants.{Idle, NeedsSave, NeedsBody, Plain}
-use Rattle.kt_process.specs.Persons.{Person, inst_of, is_ready, part_of, IsNumbered}
+use Rattle.kt_process.specs.Persons.{Person, inst_of, is_ready, part_of_side, IsNumbered}
 use Rattle.kt_process.specs.Shown.{IsSeenAs}
 use Rattle.kt_seen.specs.Seen.{Seen, SeenPerson, SeenLists}
 use Rattle.kt_seen.specs.CallTests.{must_take}
@@ -26,14 +26,13 @@ use Rattle.kt_seen.specs.Messages.{AreMessagesBy}
 use Rattle.kt_system.specs.Systems.{person}
 use Rattle.kt_system.specs.Reads.{next_parcel, saves_by, would_save}
 use Rattle.kt_system.proofs.Replying.{ready_seen}
-use Rattle.kt_phases.specs.Looks as run_looks
-use Rattle.kt_promises.specs.World as run_world
-use Rattle.kt_promises.specs.Steps as run_steps
-use Rattle.kt_promises.specs.Looks as run_look
-use Rattle.kt_promises.specs.Tallies.{has_parcel}
-use Rattle.kt_promises.proofs.PeopleKeep.{held_seen}
+use Rattle.kt_plans.specs.Looks as run_looks
+use Rattle.kt_plans.specs.Progress.{Progress}
+use Rattle.kt_plans.specs.Steps.{enabled}
+use Rattle.kt_fifo.specs.Queues.{has_parcel}
+use Rattle.kt_plans.proofs.PeopleKeep.{held_seen}
 use Rattle.kt_core.specs.Agendas.{open_command}
-use Rattle.kt_core.specs.Worlds.{World, may_do, can_do, enabled, look_of_job, look_of_step, look}
+use Rattle.kt_core.specs.Worlds.{World, process_may_do, can_do, can_make, needs_of_job, needs_of_step, needs}
 use Rattle.kt_core.specs.Shown.{Mirrors}
 use Rattle.kt_core.proofs.Places.{next_shown}
 use Rattle.kt_core.proofs.Quiet.{closed_is}
@@ -50,7 +49,7 @@ either_way true false = refl
 either_way false true = refl
 either_way false false = refl
 
-job_look : (x : Person) (y : SeenPerson) (j : Job) → IsSeenAs x y → IsNumbered (part_of x.side) → (look_of_job x j) ≡ run_looks.look_of_job (y.inst == 0) y.up j
+job_look : (x : Person) (y : SeenPerson) (j : Job) → IsSeenAs x y → IsNumbered (part_of_side x.side) → (needs_of_job x j) ≡ run_looks.look_of_job (y.inst == 0) y.up j
 job_look x y (Send to None) h n = at_test x.up y.up h.up
   where
     at_test : (a b : Bool) → a ≡ b → (if a then NeedsBody else Plain) ≡ (if b then NeedsBody else Plain)
@@ -76,8 +75,8 @@ job_look x y Rollback h n = refl
 job_look x y Fail h n = refl
 
 -- an ask in front
-ask_look : (x : Person) (v : Seen) (p q k l : ℕ) (d : Kind) (rest : List Parcel) → IsSeenAs x (v.people p) → IsNumbered (part_of x.side) →
-    (if saves_by x q (Ask k d l) then NeedsSave else Plain) ≡ run_look.look_of_front v p q (Ask k d l ∷ rest)
+ask_look : (x : Person) (v : Seen) (p q k l : ℕ) (d : Kind) (rest : List Parcel) → IsSeenAs x (v.people p) → IsNumbered (part_of_side x.side) →
+    (if saves_by x q (Ask k d l) then NeedsSave else Plain) ≡ run_looks.look_of_front v p q (Ask k d l ∷ rest)
 ask_look x v p q k l kind.Rollback rest h n = at_tests ((v.people p).inst == 0) (must_take (v.people p).calls q l && (v.people p).up)
   where
     at_tests : (a b : Bool) → Plain ≡ (if (a && false) && b then NeedsSave else Plain)
@@ -97,7 +96,7 @@ ask_look x v p q k l kind.Checkpoint rest h n = at_tests (is_none (inst_of x.sid
         same false b c = refl
 
 -- what is in front
-front_look : (x : Person) (v : Seen) (p q : ℕ) (l : List Parcel) → IsSeenAs x (v.people p) → IsNumbered (part_of x.side) → (if option_map_or (saves_by x q) (slice_get l 0) false then NeedsSave else Plain) ≡ run_look.look_of_front v p q l
+front_look : (x : Person) (v : Seen) (p q : ℕ) (l : List Parcel) → IsSeenAs x (v.people p) → IsNumbered (part_of_side x.side) → (if option_map_or (saves_by x q) (slice_get l 0) false then NeedsSave else Plain) ≡ run_looks.look_of_front v p q l
 front_look x v p q [] h n = refl
 front_look x v p q (App l m body ∷ rest) h n = refl
 front_look x v p q (Ask k d l ∷ rest) h n = ask_look x v p q k l d rest h n
@@ -112,30 +111,30 @@ held_look x first log q (Reply k w) ys h = refl
 held_look x first log q (Decide k c) ys h = refl
 
 -- what p would take of q
-parcel_look : (x : Person) (v : Seen) (first p q : ℕ) (r : Bool) (held sent : List Parcel) → is_ready x.side ≡ r → IsSeenAs x (v.people p) → IsNumbered (part_of x.side) → AreMessagesBy first v.log q held →
-    (if option_map_or (saves_by x q) (option_or (if r then None else slice_get held 0) (slice_get sent 0)) false then NeedsSave else Plain) ≡ (if not r && has_parcel held then Plain else run_look.look_of_front v p q sent)
+parcel_look : (x : Person) (v : Seen) (first p q : ℕ) (r : Bool) (held sent : List Parcel) → is_ready x.side ≡ r → IsSeenAs x (v.people p) → IsNumbered (part_of_side x.side) → AreMessagesBy first v.log q held →
+    (if option_map_or (saves_by x q) (option_or (if r then None else slice_get held 0) (slice_get sent 0)) false then NeedsSave else Plain) ≡ (if not r && has_parcel held then Plain else run_looks.look_of_front v p q sent)
 parcel_look x v first p q true held sent e h n m = front_look x v p q sent h n
 parcel_look x v first p q false [] sent e h n m = front_look x v p q sent h n
 parcel_look x v first p q false (y ∷ ys) sent e h n m = held_look x first v.log q y ys m
 
-module _ (w : World) (first : ℕ) (v : run_world.World) (r : Mirrors w.agenda w.system first v) where
+module _ (w : World) (first : ℕ) (v : Progress) (r : Mirrors w.agenda w.system first v) where
   abbrev pub plan : Planned
   plan = w.agenda.plan
 
-  take_look : (p q : ℕ) → p < w.system.size → (if would_save w.system p q then NeedsSave else Plain) ≡ run_look.look_of_step plan v ((Take p q))
+  take_look : (p q : ℕ) → p < w.system.size → (if would_save w.system p q then NeedsSave else Plain) ≡ run_looks.look_of_step plan v ((Take p q))
   unfolding next_parcel
   take_look p q l =
       parcel_look (person w.system p) v.now first p q (is_ready (person w.system p).side) (channel w.system.held q p) (channel w.system.wires q p) refl (r.now.people p l) (r.numbered p l)
       (subst (λ (f : SeenLists). AreMessagesBy first v.now.log q (f q p)) (sym r.now.held) (held_seen plan first v r.limits r.reached q p))
-      ∙ λ i. if not (ready_seen (person w.system p) v.now p (r.now.people p l) (r.numbered p l) i) && has_parcel (r.now.held i q p) then Plain else run_look.look_of_front v.now p q (r.now.wires i q p)
+      ∙ λ i. if not (ready_seen (person w.system p) v.now p (r.now.people p l) (r.numbered p l) i) && has_parcel (r.now.held i q p) then Plain else run_looks.look_of_front v.now p q (r.now.wires i q p)
 
-  do_look : (p : ℕ) (c : Command) → p < w.system.size → open_command w.agenda p ≡ Some c → (look_of_step w (Do p)) ≡ run_look.look_of_step plan v ((Do p))
+  do_look : (p : ℕ) (c : Command) → p < w.system.size → open_command w.agenda p ≡ Some c → (needs_of_step w (Do p)) ≡ run_looks.look_of_step plan v ((Do p))
   do_look p c l e =
-      ap (λ (o : Option Command). (Rattle.kt_core.specs.Worlds.look_of_command (person w.system p) o)) e
+      ap (λ (o : Option Command). (Rattle.kt_core.specs.Worlds.needs_of_command (person w.system p) o)) e
       ∙ (job_look (person w.system p) (v.now.people p) c.job (r.now.people p l) (r.numbered p l)
-      ∙ ap (λ (o : Option Command). run_look.look_of_command v p o) (sym (next_shown w.agenda v p c r.places (few w first v r p l) (open_is_next w.agenda p c e))))
+      ∙ ap (λ (o : Option Command). run_looks.look_of_command v p o) (sym (next_shown w.agenda v p c r.places (few w first v r p l) (open_is_next w.agenda p c e))))
 
-  some_if : (p : ℕ) (o : Option Command) → may_do (person w.system p) o ≡ true → (c : Command) × (o ≡ Some c)
+  some_if : (p : ℕ) (o : Option Command) → process_may_do (person w.system p) o ≡ true → (c : Command) × (o ≡ Some c)
   some_if p None e = absurd (cc (e))
   some_if p (Some c) e = (c, refl)
 
@@ -144,14 +143,14 @@ module _ (w : World) (first : ℕ) (v : run_world.World) (r : Mirrors w.agenda w
   both true false e = absurd (cc (e))
   both false b e = absurd (cc (e))
 
-  step_look : (x : Step) → enabled w x ≡ true → (look_of_step w x) ≡ run_look.look_of_step plan v x
+  step_look : (x : Step) → can_make w x ≡ true → (needs_of_step w x) ≡ run_looks.look_of_step plan v x
   step_look (Do p) e = let t = both (nat_lt p w.system.size) (can_do w p) e in let s = some_if p (open_command w.agenda p) t.1 in do_look p s.0 (below p w.system.size t.0) s.1
   step_look (Take p q) e = take_look p q (below p w.system.size (both (nat_lt p w.system.size) _ e).0)
 
-  pub look_is : (x : Step) → (look w x) ≡ run_look.look plan v x
-  look_is x = at_test (enabled w x) refl (run_steps.enabled plan v x) (sym (enabled_is w first v r x))
+  pub look_is : (x : Step) → (needs w x) ≡ run_looks.look plan v x
+  look_is x = at_test (can_make w x) refl (enabled plan v x) (sym (enabled_is w first v r x))
     where
-      at_test : (a : Bool) → enabled w x ≡ a → (b : Bool) → b ≡ enabled w x → (if a then look_of_step w x else Idle) ≡ (if b then run_look.look_of_step plan v x else Idle)
+      at_test : (a : Bool) → can_make w x ≡ a → (b : Bool) → b ≡ can_make w x → (if a then needs_of_step w x else Idle) ≡ (if b then run_looks.look_of_step plan v x else Idle)
       at_test true e true f = step_look x e
       at_test true e false f = absurd (cc (e, f))
       at_test false e true f = absurd (cc (e, f))

@@ -13,24 +13,23 @@ use Rattle.kt_system.specs.ShownActs.{acts_shown}
 use Rattle.kt_values.specs.Done.{done}
 use Rattle.kt_values.specs.Values as values
 use Rattle.kt_values.specs.Values.{Rules, due, does_all, can_all, closing}
-use Rattle.kt_phases.specs.Steps as run_steps
-use Rattle.kt_promises.specs.World as run_world
-use Rattle.kt_promises.specs.Steps.{enabled, world_after}
-use Rattle.kt_promises.specs.StepActs.{acts_of_step}
-use Rattle.kt_promises.proofs.ActsOfSteps.{others_idle, abort_tells, values_lead, values_can}
-use Rattle.kt_promises.proofs.DefaultSteps.{unwilling_seen}
-use Rattle.kt_promises.proofs.RunsEnd.{raised_seen}
+use Rattle.kt_plans.specs.Steps as run_steps
+use Rattle.kt_plans.specs.Progress.{Progress}
+use Rattle.kt_plans.specs.Steps.{enabled, progress_after, process_of_step}
+use Rattle.kt_plans.specs.StepActs.{acts_of_step}
+use Rattle.kt_plans.proofs.ActsOfSteps.{others_idle, abort_tells, values_lead, values_can}
+use Rattle.kt_plans.proofs.DefaultSteps.{unwilling_seen}
+use Rattle.kt_plans.proofs.RunsEnd.{raised_seen}
 use Rattle.kt_core.specs.Making.{DiscardsAtAborts, LeadsToDue, LeadsRun, MakesStep}
 use Rattle.kt_core.specs.Shown.{Mirrors, IsReached}
-use Rattle.kt_core.specs.Worlds.{World, HasDone, Settles, refusal}
-use Rattle.kt_phases.specs.Steps.{stepper}
+use Rattle.kt_core.specs.Worlds.{World, HasDone, Settles, step_refusal}
 use Rattle.kt_core.proofs.Enabled.{enabled_is, enabled_if}
 
 -- one run, which the step leads on, and of which it asks these acts
-module _ (old new : World) (step : Step) (give : Give) (acts : List Act) (allowed : refusal old step ≡ None) (first : ℕ) (v : run_world.World)
+module _ (old new : World) (step : Step) (give : Give) (acts : List Act) (allowed : step_refusal old step ≡ None) (first : ℕ) (v : Progress)
     (r : Mirrors old.agenda old.system first v)
-    (next : Mirrors new.agenda new.system first (world_after old.agenda.plan v step give))
-    (asks : acts_shown acts ≡ acts_of_step old.agenda.plan v step give (stepper step)) where
+    (next : Mirrors new.agenda new.system first (progress_after old.agenda.plan v step give))
+    (asks : acts_shown acts ≡ acts_of_step old.agenda.plan v step give (process_of_step step)) where
   abbrev plan : Planned
   plan = old.agenda.plan
 
@@ -67,29 +66,29 @@ module _ (old new : World) (step : Step) (give : Give) (acts : List Act) (allowe
 
   pub leads_to_due : (rules : Rules (List ℤ)) → LeadsToDue rules old step acts new
   leads_to_due rules = record {
-    can = subst (λ (l : List Event). can_all rules (due rules (done l) (stepper step)) (acts_shown acts) ≡ true) (sym r.now.log)
-        (subst (λ (a : List values.Act). can_all rules (due rules (done v.now.log) (stepper step)) a ≡ true) (sym asks)
-        (values_can rules plan first v x g (stepper step) limits r.reached on));
-    its = subst (λ (l : List Event). does_all rules (due rules (done l) (stepper step)) (acts_shown acts) ≡ due rules (done new.system.rows.rows) (stepper step)) (sym r.now.log)
-        (subst (λ (l : List Event). does_all rules (due rules (done v.now.log) (stepper step)) (acts_shown acts) ≡ due rules (done l) (stepper step)) (sym next.now.log)
-        (subst (λ (a : List values.Act). does_all rules (due rules (done v.now.log) (stepper step)) a ≡ due rules (done (world_after plan v x g).now.log) (stepper step)) (sym asks)
-        (values_lead rules plan first v x g (stepper step) limits r.reached on)));
+    can = subst (λ (l : List Event). can_all rules (due rules (done l) (process_of_step step)) (acts_shown acts) ≡ true) (sym r.now.log)
+        (subst (λ (a : List values.Act). can_all rules (due rules (done v.now.log) (process_of_step step)) a ≡ true) (sym asks)
+        (values_can rules plan first v x g (process_of_step step) limits r.reached on));
+    its = subst (λ (l : List Event). does_all rules (due rules (done l) (process_of_step step)) (acts_shown acts) ≡ due rules (done new.system.rows.rows) (process_of_step step)) (sym r.now.log)
+        (subst (λ (l : List Event). does_all rules (due rules (done v.now.log) (process_of_step step)) (acts_shown acts) ≡ due rules (done l) (process_of_step step)) (sym next.now.log)
+        (subst (λ (a : List values.Act). does_all rules (due rules (done v.now.log) (process_of_step step)) a ≡ due rules (done (progress_after plan v x g).now.log) (process_of_step step)) (sym asks)
+        (values_lead rules plan first v x g (process_of_step step) limits r.reached on)));
     others = λ p n.
         let idle = others_idle plan first v x g p limits r.reached on n in
-        let same : due rules (done (world_after plan v x g).now.log) p ≡ due rules (done v.now.log) p =
-        sym (subst (λ (a : List values.Act). does_all rules (due rules (done v.now.log) p) a ≡ due rules (done (world_after plan v x g).now.log) p) idle
+        let same : due rules (done (progress_after plan v x g).now.log) p ≡ due rules (done v.now.log) p =
+        sym (subst (λ (a : List values.Act). does_all rules (due rules (done v.now.log) p) a ≡ due rules (done (progress_after plan v x g).now.log) p) idle
         (values_lead rules plan first v x g p limits r.reached on)) in
         subst (λ (l : List Event). due rules (done new.system.rows.rows) p ≡ due rules (done l) p) (sym r.now.log)
         (subst (λ (l : List Event). due rules (done l) p ≡ due rules (done v.now.log) p) (sym next.now.log) same);
   }
 
 -- a step that leads on each run to its world, and asks these acts of it
-pub makes_step : (old new : World) (step : Step) (give : Give) (acts : List Act) → IsReached old.agenda old.system → refusal old step ≡ None
+pub makes_step : (old new : World) (step : Step) (give : Give) (acts : List Act) → IsReached old.agenda old.system → step_refusal old step ≡ None
     → HasDone old.agenda new.agenda step → Settles old new
-    → ((first : ℕ) (v : run_world.World) → Mirrors old.agenda old.system first v
-    → Mirrors new.agenda new.system first (world_after old.agenda.plan v step give))
-    → ((first : ℕ) (v : run_world.World) → Mirrors old.agenda old.system first v
-    → acts_shown acts ≡ acts_of_step old.agenda.plan v step give (stepper step))
+    → ((first : ℕ) (v : Progress) → Mirrors old.agenda old.system first v
+    → Mirrors new.agenda new.system first (progress_after old.agenda.plan v step give))
+    → ((first : ℕ) (v : Progress) → Mirrors old.agenda old.system first v
+    → acts_shown acts ≡ acts_of_step old.agenda.plan v step give (process_of_step step))
     → MakesStep old step give acts new
 makes_step old new step give acts reached allowed done settled leads asks =
     let first = reached.0 in

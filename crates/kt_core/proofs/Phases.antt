@@ -1,12 +1,12 @@
 -- The phase that is open.
 use Rattle.std.proofs.Common.{◌≡◌, ◌≤◌, ℕ, sym, ◌∙◌, arith}
-use Rattle.kt_core.specs.Agendas.{Agenda, next_command, IsDone, IsLeastPhase}
+use Rattle.kt_core.specs.Agendas.{Agenda, agenda_command, IsDone, IsLeastPhase}
 use Rattle.kt_system.specs.Systems.{Whole}
 use Rattle.kt_system.specs.Reads.{IsQuiet}
 use Rattle.kt_core.specs.Worlds.{SettlesIn}
 
 -- the next commands are told by the plan and the places
-same_next : (a b : Agenda) (p : ℕ) → b.plan ≡ a.plan → b.next ≡ a.next → next_command b p ≡ next_command a p
+same_next : (a b : Agenda) (p : ℕ) → b.plan ≡ a.plan → b.next ≡ a.next → agenda_command b p ≡ agenda_command a p
 same_next a b p f g = cc
 
 pub least_stays : (a b : Agenda) (phase : ℕ) → b.plan ≡ a.plan → b.next ≡ a.next → IsLeastPhase b phase → IsLeastPhase a phase

@@ -5,11 +5,10 @@ use Rattle.std.proofs.lemmas.Bool.{cases_lt, cases_eq}
 use Rattle.std.proofs.lemmas.Bool.Decides.{nat_tests}
 use Rattle.kt_cuts.specs.Past.{at_one}
 use Rattle.kt_plan.specs.declared.commands.Command.{Command}
-use Rattle.kt_phases.specs.Order.{place_of_command}
-use Rattle.kt_phases.proofs.CommandPlaces.{place_get}
-use Rattle.kt_promises.specs.World as run_world
-use Rattle.kt_promises.specs.Order.{next_place}
-use Rattle.kt_core.specs.Agendas.{Agenda, place_of, next_command, IsNextOf, by_at}
+use Rattle.kt_plans.specs.Order.{place_of_command, next_place}
+use Rattle.kt_plans.proofs.CommandPlaces.{place_get}
+use Rattle.kt_plans.specs.Progress as run_world
+use Rattle.kt_core.specs.Agendas.{Agenda, agenda_place, agenda_command, IsNextOf, by_at}
 
 -- one command more in front
 later : (d : Command) (cs : List Command) (p i j : ℕ) → IsNextOf cs p i j → IsNextOf (d ∷ cs) p (suc i) (suc j)
@@ -85,25 +84,25 @@ only_place cs p i j k a b = elim (cases_lt j k) [
 ]
 
 -- the places of an agenda are those of a world
-abbrev pub HasPlaces : Agenda → run_world.World → Type 0
-HasPlaces a v = (p : ℕ) → p < 64 → place_of a p ≡ next_place a.plan v p
+abbrev pub HasPlaces : Agenda → run_world.Progress → Type 0
+HasPlaces a v = (p : ℕ) → p < 64 → agenda_place a p ≡ next_place a.plan v p
 
-pub next_is : (a : Agenda) (v : run_world.World) (p : ℕ) → HasPlaces a v → p < 64 → next_command a p ≡ run_world.next_command a.plan v p
+pub next_is : (a : Agenda) (v : run_world.Progress) (p : ℕ) → HasPlaces a v → p < 64 → agenda_command a p ≡ run_world.next_command a.plan v p
 next_is a v p h low = ap (λ (i : ℕ). slice_get a.plan.commands i) (h p low) ∙ place_get (v.done p) p a.plan.commands
 
 -- the next command of a process, where the laws have one
-pub next_shown : (a : Agenda) (v : run_world.World) (p : ℕ) (c : Command) → HasPlaces a v → p < 64 → next_command a p ≡ Some c → run_world.next_command a.plan v p ≡ Some c
+pub next_shown : (a : Agenda) (v : run_world.Progress) (p : ℕ) (c : Command) → HasPlaces a v → p < 64 → agenda_command a p ≡ Some c → run_world.next_command a.plan v p ≡ Some c
 next_shown a v p c h low e = sym (next_is a v p h low) ∙ e
 
 -- at the start
-pub places_at_start : (a : Agenda) (v : run_world.World) → ((p : ℕ) → p < 64 → IsNextOf a.plan.commands p 0 (place_of a p)) → v.done ≡ (λ p. 0) → HasPlaces a v
+pub places_at_start : (a : Agenda) (v : run_world.Progress) → ((p : ℕ) → p < 64 → IsNextOf a.plan.commands p 0 (agenda_place a p)) → v.done ≡ (λ p. 0) → HasPlaces a v
 places_at_start a v n e p low = only_place a.plan.commands p 0 _ _ (n p low) (subst (λ (d : ℕ → ℕ). IsNextOf a.plan.commands p 0 (place_of_command (d p) p a.plan.commands)) (sym e) (first_place p a.plan.commands))
 
 -- one command of p is done
-pub places_after : (a b : Agenda) (v w : run_world.World) (p : ℕ) → HasPlaces a v → p < 64 → b.plan ≡ a.plan → place_of a p < length a.plan.commands → IsNextOf a.plan.commands p (place_of a p + 1) (place_of b p) →
-    ((q : ℕ) → q ≢ p → place_of b q ≡ place_of a q) → w.done ≡ at_one p (v.done p + 1) v.done → HasPlaces b w
+pub places_after : (a b : Agenda) (v w : run_world.Progress) (p : ℕ) → HasPlaces a v → p < 64 → b.plan ≡ a.plan → agenda_place a p < length a.plan.commands → IsNextOf a.plan.commands p (agenda_place a p + 1) (agenda_place b p) →
+    ((q : ℕ) → q ≢ p → agenda_place b q ≡ agenda_place a q) → w.done ≡ at_one p (v.done p + 1) v.done → HasPlaces b w
 places_after a b v w p h low same l n others e q under = elim (cases_eq q p) [
-  | inl i ↦ subst (λ (z : ℕ). place_of b z ≡ next_place b.plan w z) (sym i) here
+  | inl i ↦ subst (λ (z : ℕ). agenda_place b z ≡ next_place b.plan w z) (sym i) here
   | inr d ↦ others q d ∙ (h q under ∙ there d)
 ]
   where
@@ -116,22 +115,22 @@ places_after a b v w p h low same l n others e q under = elim (cases_eq q p) [
     done_there : q ≢ p → w.done q ≡ v.done q
     done_there d = ap (λ (f : ℕ → ℕ). f q) e ∙ grind (arith, nat_tests, d)
 
-    at_place : IsNextOf a.plan.commands p (suc (place_of a p)) (place_of_command (suc (v.done p)) p a.plan.commands)
+    at_place : IsNextOf a.plan.commands p (suc (agenda_place a p)) (place_of_command (suc (v.done p)) p a.plan.commands)
     at_place = subst (λ (i : ℕ). IsNextOf a.plan.commands p (suc i) (place_of_command (suc (v.done p)) p a.plan.commands)) (sym (h p low))
         (following_place (v.done p) p a.plan.commands (subst (λ (i : ℕ). i < length a.plan.commands) (h p low) l))
 
     one : (i : ℕ) → i + 1 ≡ suc i
     one i = omega arith
 
-    here : place_of b p ≡ place_of_command (w.done p) p b.plan.commands
-    here = only_place a.plan.commands p (suc (place_of a p)) _ _ (subst (λ (i : ℕ). IsNextOf a.plan.commands p i (place_of b p)) (one (place_of a p)) n) at_place
+    here : agenda_place b p ≡ place_of_command (w.done p) p b.plan.commands
+    here = only_place a.plan.commands p (suc (agenda_place a p)) _ _ (subst (λ (i : ℕ). IsNextOf a.plan.commands p i (agenda_place b p)) (one (agenda_place a p)) n) at_place
         ∙ (ap (λ (k : ℕ). place_of_command k p a.plan.commands) (sym done_here) ∙ ap (λ (cs : List Command). place_of_command (w.done p) p cs) (sym commands))
 
     there : q ≢ p → place_of_command (v.done q) q a.plan.commands ≡ place_of_command (w.done q) q b.plan.commands
     there d = ap (λ (k : ℕ). place_of_command k q a.plan.commands) (sym (done_there d)) ∙ ap (λ (cs : List Command). place_of_command (w.done q) q cs) (sym commands)
 
 -- none is done
-pub places_same : (a b : Agenda) (v w : run_world.World) → HasPlaces a v → b.plan ≡ a.plan → b.next ≡ a.next → w.done ≡ v.done → HasPlaces b w
+pub places_same : (a b : Agenda) (v w : run_world.Progress) → HasPlaces a v → b.plan ≡ a.plan → b.next ≡ a.next → w.done ≡ v.done → HasPlaces b w
 places_same a b v w h same next e p low =
     cc (next) ∙ (h p low ∙ (ap (λ (f : ℕ → ℕ). place_of_command (f p) p a.plan.commands) (sym e)
     ∙ ap (λ (cs : List Command). place_of_command (w.done p) p cs) (sym (let k : b.plan.commands ≡ a.plan.commands = cc (same) in k))))

@@ -7,7 +7,7 @@ use Rattle.kt_fifo.specs.Channels.{channel}
 use Rattle.kt_fifo.specs.declared.parcels.Parcel.{Parcel}
 use Rattle.kt_protocol.specs.Deciding.{none_of}
 use Rattle.kt_protocol.proofs.StepFacts.{none_is}
-use Rattle.kt_process.specs.Persons.{Person, part_of, inst_of, is_ready, IsNumbered}
+use Rattle.kt_process.specs.Persons.{Person, part_of_side, inst_of, is_ready, IsNumbered}
 use Rattle.kt_process.specs.Shown.{IsSeenAs, inst_shown}
 use Rattle.kt_process.specs.declared.side.Side.{Side}
 use Rattle.kt_process.specs.declared.side.Side.TheVariants as side
@@ -15,25 +15,25 @@ use Rattle.kt_seen.specs.Seen.{Seen, SeenPerson, SeenLists}
 use Rattle.kt_seen.specs.Transition.{opening_seen, is_seen_ready}
 use Rattle.kt_system.specs.Systems.{Whole, person}
 use Rattle.kt_system.specs.Reads.{IsQuiet, next_parcel, can_take}
-use Rattle.kt_system.specs.Shown.{Shows}
+use Rattle.kt_system.specs.Shown.{ShowsState}
 use Rattle.kt_system.proofs.Replying.{ready_seen}
-use Rattle.kt_phases.proofs.PhaseOrder.{none_of_if}
-use Rattle.kt_promises.specs.World.{is_quiet}
-use Rattle.kt_promises.specs.Steps as run_after
-use Rattle.kt_promises.specs.Tallies.{has_parcel}
+use Rattle.kt_plans.proofs.PhaseOrder.{none_of_if}
+use Rattle.kt_plans.specs.Progress.{is_quiet}
+use Rattle.kt_plans.specs.Steps.{can_take_from}
+use Rattle.kt_fifo.specs.Queues.{has_parcel}
 
 -- all instances that processes are in have numbers from 1 on
 abbrev pub AreNumbered : Whole → Type 0
-AreNumbered s = (p : ℕ) → p < s.size → IsNumbered (part_of (person s p).side)
+AreNumbered s = (p : ℕ) → p < s.size → IsNumbered (part_of_side (person s p).side)
 
 positive : (n : ℕ) → 1 ≤ n → (n == 0) ≡ false
 positive n h = grind (arith, nat_tests)
 
 -- who is in no instance
-pub closed_is : (x : Person) (y : SeenPerson) → IsSeenAs x y → IsNumbered (part_of x.side) → is_none (inst_of x.side) ≡ (y.inst == 0)
+pub closed_is : (x : Person) (y : SeenPerson) → IsSeenAs x y → IsNumbered (part_of_side x.side) → is_none (inst_of x.side) ≡ (y.inst == 0)
 closed_is x y h n = at_side x.side h.inst n
   where
-    at_side : (s : Option Side) → inst_shown s ≡ y.inst → IsNumbered (part_of s) → is_none (inst_of s) ≡ (y.inst == 0)
+    at_side : (s : Option Side) → inst_shown s ≡ y.inst → IsNumbered (part_of_side s) → is_none (inst_of s) ≡ (y.inst == 0)
     at_side None e n = ap (λ (k : ℕ). k == 0) e
     at_side (Some (side.Checkpoint s)) e n = sym (positive s.part.inst n) ∙ ap (λ (k : ℕ). k == 0) e
     at_side (Some (side.Rollback s)) e n = sym (positive s.part.inst n) ∙ ap (λ (k : ℕ). k == 0) e
@@ -75,13 +75,13 @@ pair_at : (f g : SeenLists) (p q : ℕ) → f ≡ g → f p q ≡ g p q
 pair_at f g p q e = ap (λ (h : SeenLists). h p q) e
 
 -- where nothing is under way
-pub quiet_shown : (n : ℕ) (s : Whole) (v : Seen) → Shows s v → s.size ≡ n → AreNumbered s → IsQuiet s → is_quiet n v ≡ true
+pub quiet_shown : (n : ℕ) (s : Whole) (v : Seen) → ShowsState s v → s.size ≡ n → AreNumbered s → IsQuiet s → is_quiet n v ≡ true
 quiet_shown n s v h e num quiet = none_of_if n (is_busy n v) (λ p l. let low : p < s.size = omega (arith, l, e) in
     quiet_at (v.people p).inst (none_of n (has_any v p)) (sym (closed_is (person s p) (v.people p) (h.people p low) (num p low)) ∙ inside (inst_of (person s p).side) (quiet.outside p low))
     (none_of_if n (has_any v p) (λ q k. let there : q < s.size = omega (arith, k, e) in
     no_parcel (v.channel q p) (v.held q p) (sym (pair_at (channel s.wires) v.channel q p h.wires) ∙ quiet.wires q p there low) (sym (pair_at (channel s.held) v.held q p h.held) ∙ quiet.held q p there low))))
 
-pub quiet_from : (n : ℕ) (s : Whole) (v : Seen) → Shows s v → s.size ≡ n → AreNumbered s → is_quiet n v ≡ true → IsQuiet s
+pub quiet_from : (n : ℕ) (s : Whole) (v : Seen) → ShowsState s v → s.size ≡ n → AreNumbered s → is_quiet n v ≡ true → IsQuiet s
 quiet_from n s v h e num quiet = record {
   wires = λ p q l k. pair_at (channel s.wires) v.channel p q h.wires ∙ (empty_lists (v.channel p q) (v.held p q) (lists q p k l)).0;
   held = λ p q l k. pair_at (channel s.held) v.held p q h.held ∙ (empty_lists (v.channel p q) (v.held p q) (lists q p k l)).1;
@@ -107,7 +107,7 @@ taken_if false (y ∷ ys) [] = refl
 taken_if false (y ∷ ys) (x ∷ xs) = refl
 
 -- what can be taken
-pub can_take_is : (s : Whole) (v : Seen) (p q : ℕ) → Shows s v → AreNumbered s → p < s.size → can_take s p q ≡ run_after.can_take v p q
+pub can_take_is : (s : Whole) (v : Seen) (p q : ℕ) → ShowsState s v → AreNumbered s → p < s.size → can_take s p q ≡ can_take_from v p q
 unfolding next_parcel
 can_take_is s v p q h num l = taken_if (is_ready (person s p).side) (channel s.held q p) (channel s.wires q p)
     ∙ (ap (λ (b : Bool). has_parcel (channel s.wires q p) || not b && has_parcel (channel s.held q p)) (ready_seen (person s p) v p (h.people p l) (num p l))

@@ -10,7 +10,7 @@ use Rattle.kt_process.specs.declared.side.Side.{Side}
 use Rattle.kt_process.specs.declared.side.Side.TheVariants as side
 use Rattle.kt_seen.specs.Seen.{Seen, SeenPerson}
 use Rattle.kt_system.specs.Systems.{Whole}
-use Rattle.kt_promises.proofs.ReachedWorlds.{seen_of}
+use Rattle.kt_plans.proofs.ReachedRuns.{seen_of}
 use Rattle.kt_core.specs.Agendas.{Agenda}
 use Rattle.kt_core.specs.Shown.{IsReached}
 

@@ -3,19 +3,19 @@ use Rattle.std.proofs.Common.{◌≡◌, ℕ, true, None, List, drop, length, sy
 use Rattle.kt_plan.specs.declared.steps.Step.{Step}
 use Rattle.kt_plan.specs.declared.steps.Give.{Give}
 use Rattle.kt_spacetime.specs.declared.event.Event.{Event}
-use Rattle.kt_promises.specs.Rows.{AreRowsOfStep}
-use Rattle.kt_promises.specs.Steps as run_after
-use Rattle.kt_promises.specs.World as run_world
-use Rattle.kt_promises.proofs.RowsFit.{fits}
+use Rattle.kt_plans.specs.Rows.{AreRowsOfStep}
+use Rattle.kt_plans.specs.Steps.{enabled, progress_after}
+use Rattle.kt_plans.specs.Progress.{Progress}
+use Rattle.kt_plans.proofs.RowsFit.{fits}
 use Rattle.kt_core.specs.Shown.{Mirrors}
-use Rattle.kt_core.specs.Worlds.{World, refusal}
+use Rattle.kt_core.specs.Worlds.{World, step_refusal}
 use Rattle.kt_core.proofs.Enabled.{enabled_is, enabled_if}
 
-pub rows_fit : (old new : World) (first : ℕ) (v : run_world.World) (x : Step) (give : Give) → refusal old x ≡ None → Mirrors old.agenda old.system first v
-    → Mirrors new.agenda new.system first (run_after.world_after old.agenda.plan v x give)
+pub rows_fit : (old new : World) (first : ℕ) (v : Progress) (x : Step) (give : Give) → step_refusal old x ≡ None → Mirrors old.agenda old.system first v
+    → Mirrors new.agenda new.system first (progress_after old.agenda.plan v x give)
     → AreRowsOfStep old.agenda.plan v x give (drop (length old.system.rows.rows) new.system.rows.rows)
 rows_fit old new first v x give e r next =
-    let on : run_after.enabled old.agenda.plan v x ≡ true = sym (enabled_is old first v r x) ∙ enabled_if old x e in
+    let on : enabled old.agenda.plan v x ≡ true = sym (enabled_is old first v r x) ∙ enabled_if old x e in
     subst (λ (l : List Event). AreRowsOfStep old.agenda.plan v x give l)
     (ap (λ (l : List Event). drop (length v.now.log) l) (sym next.now.log) ∙ ap (λ (l : List Event). drop (length l) new.system.rows.rows) (sym r.now.log))
     (fits old.agenda.plan first v x give r.limits r.reached on).fit

@@ -18,14 +18,15 @@ use Rattle.kt_process.specs.Persons.{is_ready}
 use Rattle.kt_system.specs.declared.system.Tally.{Tally}
 use Rattle.kt_system.specs.Systems.{Whole, person}
 use Rattle.kt_system.specs.Reads.{tally_of, no_tally}
-use Rattle.kt_system.specs.Shown.{Shows}
+use Rattle.kt_system.specs.Shown.{ShowsState}
 use Rattle.kt_system.specs.Tallies as system
 use Rattle.kt_system.proofs.Replying.{ready_seen}
-use Rattle.kt_phases.specs.Work.{begins_instance, count_begins, total_below}
-use Rattle.kt_promises.specs.World as run_world
-use Rattle.kt_promises.specs.Tallies as run
-use Rattle.kt_promises.specs.Runs.{IsReachedWorld}
-use Rattle.kt_promises.proofs.RunsEnd.{few_begun, none_put, few_asks, few_replies, few_decisions}
+use Rattle.kt_plans.specs.Work.{begins_instance, count_begins}
+use Rattle.kt_plans.specs.Tallies.{total_below, IsRaised, count_in_channels, count_in_front, count_where, is_ask_of, is_decision_of, is_reply_of, taken_off}
+use Rattle.kt_plans.specs.Progress.{Progress}
+use Rattle.kt_fifo.specs.Queues.{has_parcel}
+use Rattle.kt_plans.specs.Runs.{RunReaches}
+use Rattle.kt_plans.proofs.RunsEnd.{few_begun, none_put, few_asks, few_replies, few_decisions}
 use Rattle.kt_core.specs.Shown.{tally_shown}
 use Rattle.kt_core.proofs.Quiet.{AreNumbered}
 
@@ -33,19 +34,19 @@ use Rattle.kt_core.proofs.Quiet.{AreNumbered}
 abbrev Same : (Parcel → Bool) → (Parcel → Bool) → Type 0
 Same f g = (x : Parcel) → f x ≡ g x
 
-ask_is : (k : ℕ) → Same (system.is_ask_of k) (run.is_ask_of k)
+ask_is : (k : ℕ) → Same (system.is_ask_of k) (is_ask_of k)
 ask_is k (App label msg body) = refl
 ask_is k (Ask inst kind label) = refl
 ask_is k (Reply inst willing) = refl
 ask_is k (Decide inst commit) = refl
 
-reply_is : (k : ℕ) → Same (system.is_reply_of k) (run.is_reply_of k)
+reply_is : (k : ℕ) → Same (system.is_reply_of k) (is_reply_of k)
 reply_is k (App label msg body) = refl
 reply_is k (Ask inst kind label) = refl
 reply_is k (Reply inst willing) = refl
 reply_is k (Decide inst commit) = refl
 
-decision_is : (k : ℕ) → Same (system.is_decision_of k) (run.is_decision_of k)
+decision_is : (k : ℕ) → Same (system.is_decision_of k) (is_decision_of k)
 decision_is k (App label msg body) = refl
 decision_is k (Ask inst kind label) = refl
 decision_is k (Reply inst willing) = refl
@@ -57,41 +58,41 @@ total_is zero f = refl
 total_is (suc n) f = ap (λ (x : ℕ). f n + x) (total_is n f)
 
 module _ (f g : Parcel → Bool) (h : Same f g) where
-  count_is : (l : List Parcel) → count_by f l ≡ run.count_where g l
-  unfolding run.count_where
+  count_is : (l : List Parcel) → count_by f l ≡ count_where g l
+  unfolding count_where
   count_is [] = refl
   count_is (x ∷ xs) = sum_by-cons (λ y. cond (f y) 1 0) x xs ∙ (ap (λ (b : Bool). (if b then 1 else 0) + count_by f xs) (h x) ∙ ap (λ (n : ℕ). (if g x then 1 else 0) + n) (count_is xs))
 
-  lists_are : (n : ℕ) (lists : SeenLists) → system.count_in_lists n f lists ≡ run.count_in_channels n g lists
+  lists_are : (n : ℕ) (lists : SeenLists) → system.count_in_lists n f lists ≡ count_in_channels n g lists
   lists_are n lists = total_is n (λ p. system.total_below n (λ q. count_by f (lists p q)))
       ∙ ((λ i. total_below n (λ p. total_is n (λ q. count_by f (lists p q)) i)) ∙ (λ i. total_below n (λ p. total_below n (λ q. count_is (lists p q) i))))
 
-  channels_are : (s : Whole) (v : Seen) (n : ℕ) → s.size ≡ n → Shows s v → system.count_in_channels f s ≡ run.count_in_channels n g v.channel
+  channels_are : (s : Whole) (v : Seen) (n : ℕ) → s.size ≡ n → ShowsState s v → system.count_in_channels f s ≡ count_in_channels n g v.channel
   channels_are s v n e shows = (λ i. system.count_in_lists (e i) f (shows.wires i)) ∙ lists_are n v.channel
 
   -- what is taken off a channel
-  pub taken_is : (s : Whole) (v : Seen) (p q : ℕ) → Shows s v → AreNumbered s → p < s.size → count_by f (system.taken_off s p q) ≡ run.taken_off v (Take p q) g
+  pub taken_is : (s : Whole) (v : Seen) (p q : ℕ) → ShowsState s v → AreNumbered s → p < s.size → count_by f (system.taken_off s p q) ≡ taken_off v (Take p q) g
   taken_is s v p q shows num l =
       at_lists (is_ready (person s p).side) (channel s.held q p) (channel s.wires q p)
-      ∙ (ap (λ (b : Bool). if not b && run.has_parcel (channel s.held q p) then 0 else run.count_in_front g (channel s.wires q p)) (ready_seen (person s p) v p (shows.people p l) (num p l))
-      ∙ (ap (λ (x : SeenLists). if not (is_seen_ready v p) && run.has_parcel (x q p) then 0 else run.count_in_front g (channel s.wires q p)) shows.held
-      ∙ ap (λ (x : SeenLists). if not (is_seen_ready v p) && run.has_parcel (v.held q p) then 0 else run.count_in_front g (x q p)) shows.wires))
+      ∙ (ap (λ (b : Bool). if not b && has_parcel (channel s.held q p) then 0 else count_in_front g (channel s.wires q p)) (ready_seen (person s p) v p (shows.people p l) (num p l))
+      ∙ (ap (λ (x : SeenLists). if not (is_seen_ready v p) && has_parcel (x q p) then 0 else count_in_front g (channel s.wires q p)) shows.held
+      ∙ ap (λ (x : SeenLists). if not (is_seen_ready v p) && has_parcel (v.held q p) then 0 else count_in_front g (x q p)) shows.wires))
     where
-      at_front : (sent : List Parcel) → count_by f (take 1 sent) ≡ run.count_in_front g sent
+      at_front : (sent : List Parcel) → count_by f (take 1 sent) ≡ count_in_front g sent
       at_front [] = refl
       at_front (x ∷ xs) = sum_by-cons (λ y. cond (f y) 1 0) x [] ∙ (ap (λ (b : Bool). (if b then 1 else 0) + 0) (h x) ∙ plus_nothing (if g x then 1 else 0))
         where
           plus_nothing : (n : ℕ) → n + 0 ≡ n
           plus_nothing n = omega arith
 
-      at_lists : (ready : Bool) (held sent : List Parcel) → count_by f (if is_some (if ready then None else slice_get held 0) then [] else take 1 sent) ≡ (if not ready && run.has_parcel held then 0 else run.count_in_front g sent)
+      at_lists : (ready : Bool) (held sent : List Parcel) → count_by f (if is_some (if ready then None else slice_get held 0) then [] else take 1 sent) ≡ (if not ready && has_parcel held then 0 else count_in_front g sent)
       at_lists true held sent = at_front sent
       at_lists false [] sent = at_front sent
       at_lists false (x ∷ xs) sent = refl
 
   -- one count after a step
-  one_after : (s t : Whole) (v w : Seen) (n : ℕ) (x : Step) (taken : List Parcel) (before after old new : ℕ) → s.size ≡ n → t.size ≡ n → Shows s v → Shows t w → count_by f taken ≡ run.taken_off v x g → before ≡ old →
-      run.count_in_channels n g w.channel + run.taken_off v x g + old ≡ run.count_in_channels n g v.channel + new → new ≤ 4096 → system.CountsPut f taken s t before after → after ≡ new
+  one_after : (s t : Whole) (v w : Seen) (n : ℕ) (x : Step) (taken : List Parcel) (before after old new : ℕ) → s.size ≡ n → t.size ≡ n → ShowsState s v → ShowsState t w → count_by f taken ≡ taken_off v x g → before ≡ old →
+      count_in_channels n g w.channel + taken_off v x g + old ≡ count_in_channels n g v.channel + new → new ≤ 4096 → system.CountsPut f taken s t before after → after ≡ new
   one_after s t v w n x taken before after old new e d a b off same raised few c =
       let i = channels_are s v n e a in
       let j = channels_are t w n d b in
@@ -109,7 +110,7 @@ begins_few (c ∷ cs) = let i = begins_few cs in at_test (begins_instance c.job)
     at_test false i = omega (arith, i)
 
 -- what an instance puts is little, and nothing where there are not so many commands
-module _ (plan : Planned) (first : ℕ) (w : run_world.World) (i : IsPlan plan) (r : IsReachedWorld plan first w) where
+module _ (plan : Planned) (first : ℕ) (w : Progress) (i : IsPlan plan) (r : RunReaches plan first w) where
   asks_few : (k : ℕ) → w.put.asks k ≤ 4096
   asks_few k =
       let few = i.names.few in
@@ -130,8 +131,8 @@ module _ (plan : Planned) (first : ℕ) (w : run_world.World) (i : IsPlan plan) 
       none_put plan first w i r k (omega (arith, begun, few, h))
 
   -- the tallies after a step
-  pub tallies_lead : (s t : Whole) (v : run_world.World) (x : Step) (taken : List Parcel) → s.size ≡ length plan.names → t.size ≡ length plan.names → Shows s v.now → Shows t w.now → length plan.commands ≤ length s.put →
-      ((f g : Parcel → Bool) → Same f g → count_by f taken ≡ run.taken_off v.now x g) → ((k : ℕ) → 0 < k → tally_of s k ≡ tally_shown v.put k) → run.IsRaised (length plan.names) v.now x w.now v.put w.put → system.TalliesPut taken s t →
+  pub tallies_lead : (s t : Whole) (v : Progress) (x : Step) (taken : List Parcel) → s.size ≡ length plan.names → t.size ≡ length plan.names → ShowsState s v.now → ShowsState t w.now → length plan.commands ≤ length s.put →
+      ((f g : Parcel → Bool) → Same f g → count_by f taken ≡ taken_off v.now x g) → ((k : ℕ) → 0 < k → tally_of s k ≡ tally_shown v.put k) → IsRaised (length plan.names) v.now x w.now v.put w.put → system.TalliesPut taken s t →
       (k : ℕ) → 0 < k → tally_of t k ≡ tally_shown w.put k
   tallies_lead s t v x taken a b c d room off was raised counted k l = elim (cases_lt (length s.put) k) [
     | inl h ↦ none h
@@ -142,14 +143,14 @@ module _ (plan : Planned) (first : ℕ) (w : run_world.World) (i : IsPlan plan) 
       all h = λ i. record { asks = asks i; replies = replies i; decisions = decisions i }
         where
           asks : (tally_of t k).asks ≡ w.put.asks k
-          asks = one_after (system.is_ask_of k) (run.is_ask_of k) (ask_is k) s t v.now w.now (length plan.names) x taken _ _ (v.put.asks k) _ a b c d (off _ _ (ask_is k)) (ap (λ (y : Tally). y.asks) (was k l)) (raised.asks k) (asks_few k) (counted.asks k l h)
+          asks = one_after (system.is_ask_of k) (is_ask_of k) (ask_is k) s t v.now w.now (length plan.names) x taken _ _ (v.put.asks k) _ a b c d (off _ _ (ask_is k)) (ap (λ (y : Tally). y.asks) (was k l)) (raised.asks k) (asks_few k) (counted.asks k l h)
 
           replies : (tally_of t k).replies ≡ w.put.replies k
-          replies = one_after (system.is_reply_of k) (run.is_reply_of k) (reply_is k) s t v.now w.now (length plan.names) x taken _ _ (v.put.replies k) _ a b c d (off _ _ (reply_is k)) (ap (λ (y : Tally). y.replies) (was k l)) (raised.replies k)
+          replies = one_after (system.is_reply_of k) (is_reply_of k) (reply_is k) s t v.now w.now (length plan.names) x taken _ _ (v.put.replies k) _ a b c d (off _ _ (reply_is k)) (ap (λ (y : Tally). y.replies) (was k l)) (raised.replies k)
               (let m = asks_few k in let n = replies_few k in omega (arith, m, n)) (counted.replies k l h)
 
           decisions : (tally_of t k).decisions ≡ w.put.decisions k
-          decisions = one_after (system.is_decision_of k) (run.is_decision_of k) (decision_is k) s t v.now w.now (length plan.names) x taken _ _ (v.put.decisions k) _ a b c d (off _ _ (decision_is k)) (ap (λ (y : Tally). y.decisions) (was k l)) (raised.decisions k)
+          decisions = one_after (system.is_decision_of k) (is_decision_of k) (decision_is k) s t v.now w.now (length plan.names) x taken _ _ (v.put.decisions k) _ a b c d (off _ _ (decision_is k)) (ap (λ (y : Tally). y.decisions) (was k l)) (raised.decisions k)
               (let m = asks_few k in let n = decisions_few k in omega (arith, m, n)) (counted.decisions k l h)
 
       none : length s.put < k → tally_of t k ≡ tally_shown w.put k

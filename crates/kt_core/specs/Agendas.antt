@@ -11,12 +11,12 @@ pub record Agenda : Type 0 where
   pub phase : ℕ
 
 -- the place of a process's next command
-abbrev pub place_of : Agenda → ℕ → ℕ
-place_of a p = slice_index_or a.next p 0
+abbrev pub agenda_place : Agenda → ℕ → ℕ
+agenda_place a p = slice_index_or a.next p 0
 
 -- the next command of a process
-abbrev pub next_command : Agenda → ℕ → Option Command
-next_command a p = slice_get a.plan.commands (place_of a p)
+abbrev pub agenda_command : Agenda → ℕ → Option Command
+agenda_command a p = slice_get a.plan.commands (agenda_place a p)
 
 -- a command, if its phase is open
 abbrev pub if_open : ℕ → Option Command → Option Command
@@ -25,7 +25,7 @@ if_open phase (Some command) = if nat_le command.phase phase then Some command e
 
 -- the next command of a process, if its phase is open
 abbrev pub open_command : Agenda → ℕ → Option Command
-open_command a p = if_open a.phase (next_command a p)
+open_command a p = if_open a.phase (agenda_command a p)
 
 abbrev pub no_command : Command
 no_command = record { by = 0; phase = 0; job = Fail }
@@ -50,15 +50,15 @@ pub record ArePlaces (commands : List Command) (next following : List ℕ) (i : 
 
 -- all commands are done
 pub record IsDone (a : Agenda) : Type 0 where
-  pub none : (p : ℕ) → p < 64 → next_command a p ≡ None
+  pub none : (p : ℕ) → p < 64 → agenda_command a p ≡ None
 
 -- the least phase of the commands that are not done
 pub record IsLeastPhase (a : Agenda) (phase : ℕ) : Type 0 where
-  pub least : (p : ℕ) (command : Command) → p < 64 → next_command a p ≡ Some command → phase ≤ command.phase
+  pub least : (p : ℕ) (command : Command) → p < 64 → agenda_command a p ≡ Some command → phase ≤ command.phase
   pub process : ℕ
   pub command : Command
   pub there : process < 64
-  pub is : next_command a process ≡ Some command
+  pub is : agenda_command a process ≡ Some command
   pub attained : command.phase ≡ phase
 
 -- the place of each process's next command is that of one of its own, or the number of all

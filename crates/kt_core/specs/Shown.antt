@@ -9,35 +9,35 @@ use Rattle.kt_plan.specs.declared.steps.Step.TheVariants.{Do, Take}
 use Rattle.kt_plan.specs.declared.steps.Give.{Give}
 use Rattle.kt_plan.specs.declared.steps.Look.{Look}
 use Rattle.kt_plan.specs.declared.steps.Look.TheVariants.{Idle, NeedsSave, NeedsBody, Plain}
-use Rattle.kt_process.specs.Persons.{part_of, IsNumbered}
+use Rattle.kt_process.specs.Persons.{part_of_side, IsNumbered}
 use Rattle.kt_system.specs.Systems.{Whole, person}
 use Rattle.kt_system.specs.declared.system.Tally.{Tally}
 use Rattle.kt_system.specs.Reads.{tally_of}
-use Rattle.kt_system.specs.Shown.{Shows}
-use Rattle.kt_promises.specs.World as run_world
-use Rattle.kt_promises.specs.Tallies as run_tallies
-use Rattle.kt_promises.specs.Order.{next_place}
-use Rattle.kt_promises.specs.Runs.{IsReachedWorld}
-use Rattle.kt_core.specs.Agendas.{Agenda, place_of, next_command}
+use Rattle.kt_system.specs.Shown.{ShowsState}
+use Rattle.kt_plans.specs.Progress.{Progress}
+use Rattle.kt_plans.specs.Tallies.{Tallies}
+use Rattle.kt_plans.specs.Order.{next_place}
+use Rattle.kt_plans.specs.Runs.{RunReaches}
+use Rattle.kt_core.specs.Agendas.{Agenda, agenda_place, agenda_command}
 
 -- what an instance has put into channels, by what its run has
-abbrev pub tally_shown : run_tallies.Tally → ℕ → Tally
+abbrev pub tally_shown : Tallies → ℕ → Tally
 tally_shown put k = record { asks = put.asks k; replies = put.replies k; decisions = put.decisions k }
 
 -- a run of the plan, where counters of labels begin after this one, leads to v; and that is what the processes keep, which
 -- commands are done, as long as one is left which phase is open, and what each instance has put into channels: there is a
 -- tally for each one that may begin
-pub record Mirrors (a : Agenda) (s : Whole) (first : ℕ) (v : run_world.World) : Type 0 where
+pub record Mirrors (a : Agenda) (s : Whole) (first : ℕ) (v : Progress) : Type 0 where
   pub limits : IsPlan a.plan
   pub size : s.size ≡ length a.plan.names
-  pub numbered : (p : ℕ) → p < s.size → IsNumbered (part_of (person s p).side)
-  pub reached : IsReachedWorld a.plan first v
-  pub now : Shows s v.now
-  pub places : (p : ℕ) → p < 64 → place_of a p ≡ next_place a.plan v p
-  pub phase : (p : ℕ) (c : Command) → p < 64 → next_command a p ≡ Some c → a.phase ≡ v.phase
+  pub numbered : (p : ℕ) → p < s.size → IsNumbered (part_of_side (person s p).side)
+  pub reached : RunReaches a.plan first v
+  pub now : ShowsState s v.now
+  pub places : (p : ℕ) → p < 64 → agenda_place a p ≡ next_place a.plan v p
+  pub phase : (p : ℕ) (c : Command) → p < 64 → agenda_command a p ≡ Some c → a.phase ≡ v.phase
   pub instances : length a.plan.commands ≤ length s.put
   pub put : (k : ℕ) → 0 < k → tally_of s k ≡ tally_shown v.put k
 
 -- some run does
 abbrev pub IsReached : Agenda → Whole → Type 0
-IsReached a s = (first : ℕ) × (v : run_world.World) × Mirrors a s first v
+IsReached a s = (first : ℕ) × (v : Progress) × Mirrors a s first v

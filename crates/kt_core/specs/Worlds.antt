@@ -13,9 +13,9 @@ use Rattle.kt_fifo.specs.Channels.{channel}
 use Rattle.kt_process.specs.Persons.{Person, inst_of}
 use Rattle.kt_process.specs.Turns.{IsFresh}
 use Rattle.kt_spacetime.specs.declared.event.Event.{Event}
-use Rattle.kt_system.specs.Systems.{Whole, person, IsSame}
+use Rattle.kt_system.specs.Systems.{Whole, person, IsSameSystem}
 use Rattle.kt_system.specs.Reads.{can_take, would_save, tally_of, no_tally, IsQuiet, IsNextTake, HasNoTake}
-use Rattle.kt_core.specs.Agendas.{Agenda, place_of, open_command, IsDone, IsLeastPhase, IsNextOf}
+use Rattle.kt_core.specs.Agendas.{Agenda, agenda_place, open_command, IsDone, IsLeastPhase, IsNextOf}
 use Rattle.kt_core.specs.Shown.{IsReached}
 use Rattle.kt_core.specs.declared.faults.StepFault.{StepFault}
 use Rattle.kt_core.specs.declared.faults.StepFault.TheVariants.{NotEnabled, LogFull, LabelsSpent}
@@ -40,39 +40,39 @@ is_send Rollback = false
 is_send Fail = false
 
 -- whether a process in an instance, or in none, may do a command
-abbrev pub may_do : Person → Option Command → Bool
-may_do x None = false
-may_do x (Some command) = not (is_send command.job) || is_none (inst_of x.side)
+abbrev pub process_may_do : Person → Option Command → Bool
+process_may_do x None = false
+process_may_do x (Some command) = not (is_send command.job) || is_none (inst_of x.side)
 
 -- whether a process can do its next command
 abbrev pub can_do : World → ℕ → Bool
-can_do w p = may_do (person w.system p) (open_command w.agenda p)
+can_do w p = process_may_do (person w.system p) (open_command w.agenda p)
 
 -- whether a step can be made
-abbrev pub enabled : World → Step → Bool
-enabled w (Do p) = nat_lt p w.system.size && can_do w p
-enabled w (Take at from) = nat_lt at w.system.size && (nat_lt from w.system.size && can_take w.system at from)
+abbrev pub can_make : World → Step → Bool
+can_make w (Do p) = nat_lt p w.system.size && can_do w p
+can_make w (Take at from) = nat_lt at w.system.size && (nat_lt from w.system.size && can_take w.system at from)
 
 -- what a command needs of the object of the process that does it
-abbrev pub look_of_job : Person → Job → Look
-look_of_job x (Send to None) = if x.up then NeedsBody else Plain
-look_of_job x (Send to (Some body)) = Plain
-look_of_job x Checkpoint = if x.up && is_none (inst_of x.side) then NeedsSave else Plain
-look_of_job x Rollback = Plain
-look_of_job x Fail = Plain
+abbrev pub needs_of_job : Person → Job → Look
+needs_of_job x (Send to None) = if x.up then NeedsBody else Plain
+needs_of_job x (Send to (Some body)) = Plain
+needs_of_job x Checkpoint = if x.up && is_none (inst_of x.side) then NeedsSave else Plain
+needs_of_job x Rollback = Plain
+needs_of_job x Fail = Plain
 
-abbrev pub look_of_command : Person → Option Command → Look
-look_of_command x None = Idle
-look_of_command x (Some command) = look_of_job x command.job
+abbrev pub needs_of_command : Person → Option Command → Look
+needs_of_command x None = Idle
+needs_of_command x (Some command) = needs_of_job x command.job
 
 -- what an enabled step needs
-abbrev pub look_of_step : World → Step → Look
-look_of_step w (Do p) = look_of_command (person w.system p) (open_command w.agenda p)
-look_of_step w (Take at from) = if would_save w.system at from then NeedsSave else Plain
+abbrev pub needs_of_step : World → Step → Look
+needs_of_step w (Do p) = needs_of_command (person w.system p) (open_command w.agenda p)
+needs_of_step w (Take at from) = if would_save w.system at from then NeedsSave else Plain
 
 -- what a step needs
-abbrev pub look : World → Step → Look
-look w step = if enabled w step then look_of_step w step else Idle
+abbrev pub needs : World → Step → Look
+needs w step = if can_make w step then needs_of_step w step else Idle
 
 -- whether a process that does a command would send a message without a label
 abbrev pub sends_unlabelled : Person → Option Command → Bool
@@ -89,15 +89,15 @@ abbrev pub is_full : World → Bool
 is_full w = nat_lt w.limit (length w.system.rows.rows + 4)
 
 -- why a step is refused, but for want of memory
-abbrev pub refusal : World → Step → Option StepFault
-refusal w step =
-    if not (enabled w step) then Some NotEnabled
+abbrev pub step_refusal : World → Step → Option StepFault
+step_refusal w step =
+    if not (can_make w step) then Some NotEnabled
     else if is_full w then Some LogFull
     else if lacks_label w step then Some LabelsSpent
     else None
 
 -- all commands are done, no parcel is under way, and no process is in an instance
-pub record IsAtRest (w : World) : Type 0 where
+pub record IsWorldAtRest (w : World) : Type 0 where
   pub done : IsDone w.agenda
   pub quiet : IsQuiet w.system
 
@@ -105,13 +105,13 @@ pub record IsAtRest (w : World) : Type 0 where
 pub record IsNextDo (w : World) (p : ℕ) : Type 0 where
   pub there : p < w.system.size
   pub able : can_do w p ≡ true
-  pub first : (q : ℕ) → q < w.system.size → can_do w q ≡ true → place_of w.agenda p ≤ place_of w.agenda q
+  pub first : (q : ℕ) → q < w.system.size → can_do w q ≡ true → agenda_place w.agenda p ≤ agenda_place w.agenda q
 
 -- of the first so many processes, the one whose next command comes first, if any of them can do its own
 abbrev pub IsFirstBelow : World → ℕ → Option ℕ → Type 0
 IsFirstBelow w count None = (p : ℕ) → p < count → can_do w p ≡ false
 IsFirstBelow w count (Some p) = (p < count) × (can_do w p ≡ true)
-    × ((q : ℕ) → q < count → can_do w q ≡ true → place_of w.agenda p ≤ place_of w.agenda q)
+    × ((q : ℕ) → q < count → can_do w q ≡ true → agenda_place w.agenda p ≤ agenda_place w.agenda q)
 
 -- the step that is made where none is given: a take before any command
 abbrev pub IsDefaultStep : World → Step → Type 0
@@ -126,13 +126,13 @@ IsNextStepOf w p (Take at from) = (at ≡ p) × ((q : ℕ) → q < from → can_
 -- the same world, but for spare room
 pub record IsSameWorld (new old : World) : Type 0 where
   pub agenda : new.agenda ≡ old.agenda
-  pub system : IsSame new.system old.system
+  pub system : IsSameSystem new.system old.system
   pub limit : new.limit ≡ old.limit
 
 -- by a step, a process's next command is done; or by a take, none
 abbrev pub HasDone : Agenda → Agenda → Step → Type 0
-HasDone old new (Do p) = IsNextOf old.plan.commands p (place_of old p + 1) (place_of new p)
-    × ((q : ℕ) → ¬ (q ≡ p) → place_of new q ≡ place_of old q)
+HasDone old new (Do p) = IsNextOf old.plan.commands p (agenda_place old p + 1) (agenda_place new p)
+    × ((q : ℕ) → ¬ (q ≡ p) → agenda_place new q ≡ agenda_place old q)
 HasDone old new (Take at from) = new.next ≡ old.next
 
 -- the row after the first so many, with its number
@@ -142,7 +142,7 @@ numbered_row rows count = option_map (λ row. (count + 1, row)) (slice_get rows 
 -- nothing of a plan is done: every counter of labels goes on after this one, and the log is full at so many rows
 pub record IsOpening (w : World) (plan : Planned) (used limit : ℕ) : Type 0 where
   pub plans : w.agenda.plan ≡ plan
-  pub next : (p : ℕ) → p < 64 → IsNextOf plan.commands p 0 (place_of w.agenda p)
+  pub next : (p : ℕ) → p < 64 → IsNextOf plan.commands p 0 (agenda_place w.agenda p)
   pub phase : (least : ℕ) → IsLeastPhase w.agenda least → w.agenda.phase ≡ least
   pub people : (p : ℕ) → p < w.system.size → IsFresh w.system.size used (person w.system p)
   pub wires : (p q : ℕ) → channel w.system.wires p q ≡ []

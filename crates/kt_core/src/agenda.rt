@@ -2,7 +2,7 @@
 
 ghost use Rattle.std.specs.Prelude.{◌≡◌, ◌≢◌, ◌<◌, ◌≤◌, ◌+◌, ◌-◌, ◌↔◌, ℕ, Some, None, IsTrue, IfOk, IfSome, IfNone, length};
 ghost use Rattle.kt_plan.specs.Limits.{IsPlan, IsCommandOf};
-ghost use Rattle.kt_core.specs.Agendas.{place_of, next_command, if_open, open_command, IsNextOf, IsDone, IsLeastPhase, ArePlaces, AreOwn, AreDoneBefore, IsFirstLeft};
+ghost use Rattle.kt_core.specs.Agendas.{agenda_place, agenda_command, if_open, open_command, IsNextOf, IsDone, IsLeastPhase, ArePlaces, AreOwn, AreDoneBefore, IsFirstLeft};
 
 use kt_base::{Memory, ProcNo};
 use kt_plan::{Command, Plan};
@@ -34,7 +34,7 @@ impl Agenda {
     /// Nothing is done, and phase 0 is open.
     pub(crate) fn new(alloc: Global, plan: Plan) -> Result<Agenda, Memory>
         ensures plan { IfOk result (λ a. a.plan ≡ plan) }
-        ensures next { IfOk result (λ a. (p : ℕ) → p < 64 → IsNextOf plan.commands p 0 (place_of a p)) }
+        ensures next { IfOk result (λ a. (p : ℕ) → p < 64 → IsNextOf plan.commands p 0 (agenda_place a p)) }
         ensures phase { IfOk result (λ a. a.phase ≡ 0) }
     {
         let _size = plan.size();
@@ -65,14 +65,14 @@ impl Agenda {
 
     /// The place of a process's next command among all commands; their number where it has none.
     pub(crate) fn place(&self, p: ProcNo) -> usize
-        ensures { result ≡ place_of self.now p }
+        ensures { result ≡ agenda_place self.now p }
     {
         self.next[p.index()]
     }
 
     /// A process's next command, if it has one.
     fn next_command(&self, p: ProcNo) -> Option<Command>
-        ensures command { result ≡ next_command self.now p }
+        ensures command { result ≡ agenda_command self.now p }
         ensures allowed { IfSome result (IsCommandOf (length self.now.plan.names)) }
         ensures own { IfSome result (λ command. command.by ≡ p) }
     {
@@ -109,8 +109,8 @@ impl Agenda {
     pub(crate) fn advance(&mut self, p: ProcNo)
         ensures plan { self.new.plan ≡ self.old.plan }
         ensures phase { self.new.phase ≡ self.old.phase }
-        ensures next { place_of self.old p < length self.old.plan.commands → IsNextOf self.old.plan.commands p (place_of self.old p + 1) (place_of self.new p) }
-        ensures others { (q : ℕ) → q ≢ p → place_of self.new q ≡ place_of self.old q }
+        ensures next { agenda_place self.old p < length self.old.plan.commands → IsNextOf self.old.plan.commands p (agenda_place self.old p + 1) (agenda_place self.new p) }
+        ensures others { (q : ℕ) → q ≢ p → agenda_place self.new q ≡ agenda_place self.old q }
     {
         let place = self.place(p);
         if place < self.following.len() {
@@ -124,8 +124,8 @@ impl Agenda {
         ensures limits { IsPlan self.now.plan }
         ensures none { IfNone result (IsDone self.now) }
         ensures there { IfSome result (λ command. command.by < length self.now.plan.names) }
-        ensures next { IfSome result (λ command. next_command self.now command.by ≡ Some command) }
-        ensures first { IfSome result (λ command. (q : ℕ) → q < 64 → place_of self.now command.by ≤ place_of self.now q) }
+        ensures next { IfSome result (λ command. agenda_command self.now command.by ≡ Some command) }
+        ensures first { IfSome result (λ command. (q : ℕ) → q < 64 → agenda_place self.now command.by ≤ agenda_place self.now q) }
     {
         self.plan.commands.get(self.first).copied()
     }
@@ -133,7 +133,7 @@ impl Agenda {
     /// The process of the first command that is not done.
     pub(crate) fn first_process(&self) -> Option<ProcNo>
         ensures there { IfSome result (λ p. p < length self.now.plan.names) }
-        ensures first { IfSome result (λ p. (q : ℕ) → q < 64 → place_of self.now p ≤ place_of self.now q) }
+        ensures first { IfSome result (λ p. (q : ℕ) → q < 64 → agenda_place self.now p ≤ agenda_place self.now q) }
     {
         match self.first_left() {
             Some(command) => Some(command.by),

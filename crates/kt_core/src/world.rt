@@ -3,11 +3,10 @@
 ghost use Rattle.std.specs.Prelude.{◌≡◌, ◌<◌, ◌≤◌, ◌^◌, ◌*◌, ◌-◌, ℕ, IfOk, length, nat_lt};
 ghost use Rattle.kt_fifo.specs.Channels.{channel};
 ghost use Rattle.kt_system.specs.Reads.{tally_of};
-ghost use Rattle.kt_promises.specs.World.{start_world};
-ghost use Rattle.kt_promises.specs.World as run_world;
-ghost use Rattle.kt_promises.specs.Follows.{BeginsPlan};
-ghost use Rattle.kt_promises.specs.Headline.{IsPromised};
-ghost use Rattle.kt_promises.specs.Lines.{EachStandsOnce};
+ghost use Rattle.kt_plans.specs.Progress.{progress_at_start, Progress};
+ghost use Rattle.kt_plans.specs.Follows.{BeginsPlan};
+ghost use Rattle.kt_plans.specs.Headline.{IsPromised};
+ghost use Rattle.kt_plans.specs.Lines.{EachIsOnceOnItsLine};
 ghost use Rattle.kt_core.specs.Worlds.{IsOpening};
 ghost use Rattle.kt_core.specs.Shown.{Mirrors, IsReached, tally_shown};
 
@@ -49,7 +48,7 @@ impl World {
     /// The world in which nothing of a plan is done: where each run of the plan starts.
     pub fn new(alloc: Global, plan: Plan) -> Result<World, Memory>
         ensures opening { IfOk result (λ w. IsOpening w plan 0 (2 ^ 24)) }
-        ensures starts { IfOk result (λ w. Mirrors w.agenda w.system 0 (start_world plan 0)) }
+        ensures starts { IfOk result (λ w. Mirrors w.agenda w.system 0 (progress_at_start plan 0)) }
     {
         World::make(alloc, plan, no_label(), MAX_ROWS)
     }
@@ -57,7 +56,7 @@ impl World {
     /// The world in which nothing of a plan is done, where each process's labels come after `used`.
     pub fn with_labels(alloc: Global, plan: Plan, used: Label) -> Result<World, Memory>
         ensures opening { IfOk result (λ w. IsOpening w plan used (2 ^ 24)) }
-        ensures starts { IfOk result (λ w. Mirrors w.agenda w.system used (start_world plan used)) }
+        ensures starts { IfOk result (λ w. Mirrors w.agenda w.system used (progress_at_start plan used)) }
     {
         World::make(alloc, plan, used, MAX_ROWS)
     }
@@ -65,7 +64,7 @@ impl World {
     /// The world in which nothing of a plan is done, whose log is full at so many rows.
     pub fn with_rows(alloc: Global, plan: Plan, limit: RowNo) -> Result<World, Memory>
         ensures opening { IfOk result (λ w. IsOpening w plan 0 limit) }
-        ensures starts { IfOk result (λ w. Mirrors w.agenda w.system 0 (start_world plan 0)) }
+        ensures starts { IfOk result (λ w. Mirrors w.agenda w.system 0 (progress_at_start plan 0)) }
     {
         World::make(alloc, plan, no_label(), limit.get() as usize)
     }
@@ -75,7 +74,7 @@ impl World {
     fn make(alloc: Global, plan: Plan, used: Label, limit: usize) -> Result<World, Memory>
         requires { limit ≤ 2 ^ 24 }
         ensures opening { IfOk result (λ w. IsOpening w plan used limit) }
-        ensures starts { IfOk result (λ w. Mirrors w.agenda w.system used (start_world plan used)) }
+        ensures starts { IfOk result (λ w. Mirrors w.agenda w.system used (progress_at_start plan used)) }
     {
         let size = plan.size();
         let system = System::new(alloc, size, used, plan.commands.len())?;
@@ -112,12 +111,12 @@ impl World {
         ensures begins { BeginsPlan self.now.agenda.plan result.now.rows }
 
         // Each live message that was not dropped stands once: received by its receiver itself, held, or in the channel.
-        ensures once { (first : ℕ) (v : run_world.World) → Mirrors self.now.agenda self.now.system first v →
-            EachStandsOnce v.now }
+        ensures once { (first : ℕ) (v : Progress) → Mirrors self.now.agenda self.now.system first v →
+            EachIsOnceOnItsLine v.now }
     {
-        kt_promises::logs_of_worlds();
-        kt_promises::logs_follow_plans();
-        kt_promises::messages_of_worlds();
+        kt_plans::logs_of_runs();
+        kt_plans::logs_follow_plans();
+        kt_plans::messages_of_runs();
         self.system.log()
     }
 
@@ -127,8 +126,8 @@ impl World {
         ensures promised { IsPromised result.rows }
         ensures begins { BeginsPlan self.agenda.plan result.rows }
     {
-        kt_promises::logs_of_worlds();
-        kt_promises::logs_follow_plans();
+        kt_plans::logs_of_runs();
+        kt_plans::logs_follow_plans();
         self.system.into_log()
     }
 
@@ -144,14 +143,14 @@ impl World {
         ensures tally { result ≡ tally_of self.now.system inst }
 
         // It is what each run that leads here has put.
-        ensures in_runs { (first : ℕ) (v : run_world.World) → Mirrors self.now.agenda self.now.system first v → result ≡ tally_shown v.put inst }
+        ensures in_runs { (first : ℕ) (v : Progress) → Mirrors self.now.agenda self.now.system first v → result ≡ tally_shown v.put inst }
 
         // Of n processes each asks each other one at most once, and no ask has more than one reply and one decision.
         ensures asks { result.asks ≤ length self.now.agenda.plan.names * (length self.now.agenda.plan.names - 1) }
         ensures replies { result.replies ≤ result.asks }
         ensures decisions { result.decisions ≤ result.asks }
     {
-        kt_promises::tallies_of_worlds();
+        kt_plans::tallies_of_runs();
         self.system.tally(inst)
     }
 

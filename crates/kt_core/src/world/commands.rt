@@ -6,14 +6,14 @@ ghost use Rattle.kt_process.specs.Persons.{inst_of};
 ghost use Rattle.kt_tables.specs.Calls.{Speaks};
 ghost use Rattle.kt_seen.specs.Seen.{Seen};
 ghost use Rattle.kt_seen.specs.Transition.{transition};
-ghost use Rattle.kt_system.specs.Systems.{person, IsSame, Grows};
-ghost use Rattle.kt_system.specs.Shown.{Shows};
+ghost use Rattle.kt_system.specs.Systems.{person, IsSameSystem, LogGrows};
+ghost use Rattle.kt_system.specs.Shown.{ShowsState};
 ghost use Rattle.kt_system.specs.ShownActs.{acts_shown};
 ghost use Rattle.kt_system.specs.Tallies.{TalliesPut};
 ghost use Rattle.kt_values.specs.SeenActs.{seen_acts};
-ghost use Rattle.kt_phases.specs.Steps.{protocol_step};
+ghost use Rattle.kt_plans.specs.Steps.{protocol_step};
 ghost use Rattle.kt_core.specs.Making.{KeepsPlan, MakesStep};
-ghost use Rattle.kt_core.specs.Worlds.{refusal, is_send, IsSameWorld};
+ghost use Rattle.kt_core.specs.Worlds.{step_refusal, is_send, IsSameWorld};
 
 use super::World;
 use super::steps::settle;
@@ -24,19 +24,25 @@ use std::alloc::Global;
 
 impl World {
     /// A process does its next command; then the next phase may open.
-    pub(super) fn do_next(&mut self, p: ProcNo, give: Give) -> Result<[Act; 2], Memory>
-        requires { refusal self.old (Step.Do p) ≡ None }
+    pub(super) fn do_next(
+        &mut self,
+        p: ProcNo,
+        give: Give,
+        acts: &mut [Act; 2],
+    ) -> Result<(), Memory>
+        requires { step_refusal self.old (Step.Do p) ≡ None }
         ensures keeps { KeepsPlan self.old self.new }
         ensures err { OnErr result (IsSameWorld self.new self.old) }
-        ensures made { IfOk result (λ acts. MakesStep self.old (Step.Do p) give acts self.new) }
+        ensures made { OnOk result (MakesStep self.old (Step.Do p) give acts.new self.new) }
     {
         let Some(command) = self.agenda.open_command(p) else {
-            return Ok([Act::Nothing, Act::Nothing]);
+            return Ok(());
         };
-        let acts = do_job(self.alloc, &mut self.system, p, &command.job, give)?;
+        let told = do_job(self.alloc, &mut self.system, p, &command.job, give)?;
         self.agenda.advance(p);
         settle(&mut self.agenda, &self.system);
-        Ok(acts)
+        *acts = told;
+        Ok(())
     }
 }
 
@@ -54,13 +60,13 @@ fn do_job(
     requires left { is_send job.now ≡ true → (person system.old p).up ≡ true → (person system.old p).used < 2 ^ 48 - 1 }
     requires free { is_send job.now ≡ true → inst_of (person system.old p).side ≡ None }
     ensures size { system.new.size ≡ system.old.size }
-    ensures grows { Grows 4 system.old system.new }
-    ensures err { OnErr result (IsSame system.new system.old) }
+    ensures grows { LogGrows 4 system.old system.new }
+    ensures err { OnErr result (IsSameSystem system.new system.old) }
     ensures tallies { OnOk result (TalliesPut [] system.old system.new) }
-    ensures shows { (v : Seen) → Shows system.old v → system.old.begun < 4096 →
+    ensures shows { (v : Seen) → ShowsState system.old v → system.old.begun < 4096 →
         Speaks (((transition v (protocol_step p job.now give)).people p).calls) →
-        OnOk result (Shows system.new (transition v (protocol_step p job.now give))) }
-    ensures acts { (v : Seen) → Shows system.old v → system.old.begun < 4096 →
+        OnOk result (ShowsState system.new (transition v (protocol_step p job.now give))) }
+    ensures acts { (v : Seen) → ShowsState system.old v → system.old.begun < 4096 →
         IfOk result (λ acts. acts_shown acts ≡ seen_acts v (protocol_step p job.now give)) }
 {
     match *job {

@@ -1,33 +1,34 @@
 //! Which steps are enabled, and what they need.
 
-ghost use Rattle.std.specs.Prelude.{◌≡◌, ◌<◌, ◌+◌, ◌↔◌, ℕ, true, false, IsTrue, IfSome, IfNone};
-ghost use Rattle.kt_core.specs.Worlds.{enabled, can_do, look, look_of_step, lacks_label, is_send, IsAtRest, IsNextDo, IsFirstBelow, IsDefaultStep, IsNextStepOf};
-ghost use Rattle.kt_phases.specs.Steps.{stepper};
+ghost use Rattle.std.specs.Prelude.{◌≡◌, ◌<◌, ◌+◌, ◌↔◌, ℕ, true, false, Some, None, IsTrue, IfSome, IfNone, OnOk, IfOk, IfErr};
+ghost use Rattle.kt_core.specs.Worlds.{can_make, can_do, needs, needs_of_step, needs_of_command, step_refusal, is_full, sends_unlabelled, is_send, IsWorldAtRest, IsNextDo, IsFirstBelow, IsDefaultStep, IsNextStepOf};
+ghost use Rattle.kt_plans.specs.Steps.{process_of_step, enabled, is_at_rest};
+ghost use Rattle.kt_system.specs.Systems.{person};
 ghost use Rattle.std.specs.Option.{option_map};
-ghost use Rattle.kt_promises.specs.Follows.{FollowsPlan};
-ghost use Rattle.kt_promises.specs.World as run_world;
-ghost use Rattle.kt_promises.specs.Steps as run_steps;
-ghost use Rattle.kt_promises.specs.Looks as run_looks;
-ghost use Rattle.kt_promises.specs.Defaults as run_defaults;
+ghost use Rattle.kt_plans.specs.Follows.{FollowsPlan};
+ghost use Rattle.kt_plans.specs.Progress.{Progress};
+ghost use Rattle.kt_plans.specs.Looks.{look};
+ghost use Rattle.kt_plans.specs.Defaults.{default_step};
 ghost use Rattle.kt_core.specs.Shown.{Mirrors, IsReached};
 
 use super::World;
+use crate::faults::StepFault;
 use kt_base::ProcNo;
-use kt_plan::{Job, Look, Step};
+use kt_plan::{Command, Job, Look, Step};
 
 impl World {
     /// Whether a step can be made.
     pub fn enabled(&self, step: &Step) -> bool
-        ensures enabled { result ≡ enabled self.now step.now }
-        ensures in_runs { (first : ℕ) (v : run_world.World) → Mirrors self.now.agenda self.now.system first v →
-            result ≡ run_steps.enabled self.now.agenda.plan v step.now }
+        ensures enabled { result ≡ can_make self.now step.now }
+        ensures in_runs { (first : ℕ) (v : Progress) → Mirrors self.now.agenda self.now.system first v →
+            result ≡ enabled self.now.agenda.plan v step.now }
     {
         self.can_make(step)
     }
 
     /// Whether a step can be made.
     fn can_make(&self, step: &Step) -> bool
-        ensures { result ≡ enabled self.now step.now }
+        ensures { result ≡ can_make self.now step.now }
     {
         match *step {
             Step::Do(p) => self.is_there(p) && self.can_do(p),
@@ -50,40 +51,109 @@ impl World {
 
     /// What a step needs of the process's object.
     pub fn look(&self, step: &Step) -> Look
-        ensures look { result ≡ look self.now step.now }
-        ensures in_runs { (first : ℕ) (v : run_world.World) → Mirrors self.now.agenda self.now.system first v →
-            result ≡ run_looks.look self.now.agenda.plan v step.now }
+        ensures look { result ≡ needs self.now step.now }
+        ensures in_runs { (first : ℕ) (v : Progress) → Mirrors self.now.agenda self.now.system first v →
+            result ≡ look self.now.agenda.plan v step.now }
     {
         self.needs(step)
     }
 
     /// What a step needs of the process's object.
     fn needs(&self, step: &Step) -> Look
-        ensures { result ≡ look self.now step.now }
+        ensures { result ≡ needs self.now step.now }
     {
-        if !self.enabled(step) {
+        if !self.can_make(step) {
             return Look::Idle;
         }
         match *step {
-            Step::Do(p) => self.look_at_command(p),
-            Step::Take { at, from } => {
-                if self.system.would_save(at, from) {
-                    Look::NeedsSave
-                } else {
-                    Look::Plain
-                }
-            }
+            Step::Do(p) => self.look_at_next(p),
+            Step::Take { at, from } => self.look_at_parcel(at, from),
+        }
+    }
+
+    /// What a step needs of the process's object, where it can be made now; else why it is refused, but for want of memory.
+    pub fn ready(&self, step: &Step) -> Result<Look, StepFault>
+        ensures look { IfOk result (λ look. look ≡ needs self.now step.now) }
+        ensures allowed { OnOk result (step_refusal self.now step.now ≡ None) }
+        ensures refused { IfErr result (λ fault. step_refusal self.now step.now ≡ Some fault) }
+    {
+        if !self.can_make(step) {
+            return Err(StepFault::NotEnabled);
+        }
+        self.ready_found(step)
+    }
+
+    /// The same of a step that is enabled, as one that was found.
+    #[inline(always)]
+    pub fn ready_found(&self, step: &Step) -> Result<Look, StepFault>
+        requires { can_make self.now step.now ≡ true }
+        ensures look { IfOk result (λ look. look ≡ needs self.now step.now) }
+        ensures allowed { OnOk result (step_refusal self.now step.now ≡ None) }
+        ensures refused { IfErr result (λ fault. step_refusal self.now step.now ≡ Some fault) }
+    {
+        if self.is_full() {
+            return Err(StepFault::LogFull);
+        }
+        match *step {
+            Step::Do(p) => self.ready_to_do(p),
+            Step::Take { at, from } => Ok(self.look_at_parcel(at, from)),
+        }
+    }
+
+    /// Whether fewer than four rows of the limit are left.
+    fn is_full(&self) -> bool
+        ensures { result ≡ is_full self.now }
+    {
+        self.system.log().rows().len() + 4 > self.limit
+    }
+
+    /// What a process's next command, which can be done, needs of its object.
+    fn ready_to_do(&self, p: ProcNo) -> Result<Look, StepFault>
+        requires enabled { can_make self.now (Step.Do p) ≡ true }
+        requires room { is_full self.now ≡ false }
+        ensures look { IfOk result (λ look. look ≡ needs self.now (Step.Do p)) }
+        ensures allowed { OnOk result (step_refusal self.now (Step.Do p) ≡ None) }
+        ensures refused { IfErr result (λ fault. step_refusal self.now (Step.Do p) ≡ Some fault) }
+    {
+        let Some(command) = self.agenda.open_command(p) else {
+            return Err(StepFault::NotEnabled);
+        };
+        if self.has_no_label(p, &command) {
+            return Err(StepFault::LabelsSpent);
+        }
+        Ok(self.look_at_command(p, &command))
+    }
+
+    /// What the next parcel from another process needs of a process's object.
+    #[inline(always)]
+    fn look_at_parcel(&self, at: ProcNo, from: ProcNo) -> Look
+        requires at { at < self.now.system.size }
+        requires from { from < self.now.system.size }
+        ensures { result ≡ needs_of_step self.now (Step.Take at from) }
+    {
+        if self.system.would_save(at, from) {
+            Look::NeedsSave
+        } else {
+            Look::Plain
         }
     }
 
     /// What a process's next command needs of its object.
-    fn look_at_command(&self, p: ProcNo) -> Look
+    fn look_at_next(&self, p: ProcNo) -> Look
         requires { p < self.now.system.size }
-        ensures { result ≡ look_of_step self.now (Step.Do p) }
+        ensures { result ≡ needs_of_step self.now (Step.Do p) }
     {
-        let Some(command) = self.agenda.open_command(p) else {
-            return Look::Idle;
-        };
+        match self.agenda.open_command(p) {
+            Some(command) => self.look_at_command(p, &command),
+            None => Look::Idle,
+        }
+    }
+
+    /// What a command of a process needs of its object.
+    fn look_at_command(&self, p: ProcNo, command: &Command) -> Look
+        requires { p < self.now.system.size }
+        ensures { result ≡ needs_of_command (person self.now.system p) (Some command.now) }
+    {
         match command.job {
             Job::Send { body: None, .. } => {
                 if self.system.is_up(p) {
@@ -103,40 +173,34 @@ impl World {
         }
     }
 
-    /// Whether a step would send a message for which its sender has no label left.
-    pub(super) fn has_no_label(&self, step: &Step) -> bool
-        requires { enabled self.now step.now ≡ true }
-        ensures { result ≡ lacks_label self.now step.now }
+    /// Whether a command of a process would send a message for which the process has no label left.
+    fn has_no_label(&self, p: ProcNo, command: &Command) -> bool
+        requires { p < self.now.system.size }
+        ensures { result ≡ sends_unlabelled (person self.now.system p) (Some command.now) }
     {
-        let Step::Do(p) = *step else {
-            return false;
-        };
-        let Some(command) = self.agenda.open_command(p) else {
-            return false;
-        };
         is_send(&command.job) && self.system.is_up(p) && self.system.is_spent(p)
     }
 
     /// Whether all is done: all commands, all channels and held lists are empty, and no process is in an instance.
     pub fn at_rest(&self) -> bool
-        ensures rest { IsTrue result ↔ IsAtRest self.now }
-        ensures in_runs { (first : ℕ) (v : run_world.World) → Mirrors self.now.agenda self.now.system first v →
-            result ≡ run_steps.is_at_rest self.now.agenda.plan v }
+        ensures rest { IsTrue result ↔ IsWorldAtRest self.now }
+        ensures in_runs { (first : ℕ) (v : Progress) → Mirrors self.now.agenda self.now.system first v →
+            result ≡ is_at_rest self.now.agenda.plan v }
 
         // Never stuck: where no step is enabled, all is done.
-        ensures stuck { ((step : Step) → enabled self.now step ≡ false) → IsTrue result }
+        ensures stuck { ((step : Step) → can_make self.now step ≡ false) → IsTrue result }
 
         // Then the log is that of a whole run of the plan, told by its rows alone: each command has its row, each instance
         // is decided, no process is in one, and no message is under way.
         ensures follows { IsTrue result → FollowsPlan self.now.agenda.plan self.now.system.rows.rows }
     {
-        kt_promises::logs_follow_plans();
+        kt_plans::logs_follow_plans();
         self.is_over()
     }
 
     /// Whether all is done.
     fn is_over(&self) -> bool
-        ensures rest { IsTrue result ↔ IsAtRest self.now }
+        ensures rest { IsTrue result ↔ IsWorldAtRest self.now }
         ensures reached { IsReached self.now.agenda self.now.system }
     {
         self.agenda.is_done() && self.system.is_quiet()
@@ -146,10 +210,10 @@ impl World {
     /// none, the enabled `Do` whose command comes first.
     pub fn default_step(&self) -> Option<Step>
         ensures step { IfSome result (IsDefaultStep self.now) }
-        ensures enabled { IfSome result (λ step. enabled self.now step ≡ true) }
-        ensures none { IfNone result ((step : Step) → enabled self.now step ≡ false) }
-        ensures in_runs { (first : ℕ) (v : run_world.World) → Mirrors self.now.agenda self.now.system first v →
-            result ≡ run_defaults.default_step self.now.agenda.plan v }
+        ensures enabled { IfSome result (λ step. can_make self.now step ≡ true) }
+        ensures none { IfNone result ((step : Step) → can_make self.now step ≡ false) }
+        ensures in_runs { (first : ℕ) (v : Progress) → Mirrors self.now.agenda self.now.system first v →
+            result ≡ default_step self.now.agenda.plan v }
     {
         self.first_step()
     }
@@ -157,8 +221,8 @@ impl World {
     /// The step that is made where none is given.
     fn first_step(&self) -> Option<Step>
         ensures step { IfSome result (IsDefaultStep self.now) }
-        ensures enabled { IfSome result (λ step. enabled self.now step ≡ true) }
-        ensures none { IfNone result ((step : Step) → enabled self.now step ≡ false) }
+        ensures enabled { IfSome result (λ step. can_make self.now step ≡ true) }
+        ensures none { IfNone result ((step : Step) → can_make self.now step ≡ false) }
     {
         match self.system.next_take() {
             Some((at, from)) => Some(Step::Take { at, from }),
@@ -173,10 +237,10 @@ impl World {
     /// next command.
     pub fn next_step_of(&self, p: ProcNo) -> Option<Step>
         ensures step { IfSome result (IsNextStepOf self.now p) }
-        ensures enabled { IfSome result (λ step. enabled self.now step ≡ true) }
-        ensures none { IfNone result ((step : Step) → stepper step ≡ p → enabled self.now step ≡ false) }
-        ensures in_runs { (first : ℕ) (v : run_world.World) → Mirrors self.now.agenda self.now.system first v →
-            IfSome result (λ step. run_steps.enabled self.now.agenda.plan v step ≡ true) }
+        ensures enabled { IfSome result (λ step. can_make self.now step ≡ true) }
+        ensures none { IfNone result ((step : Step) → process_of_step step ≡ p → can_make self.now step ≡ false) }
+        ensures in_runs { (first : ℕ) (v : Progress) → Mirrors self.now.agenda self.now.system first v →
+            IfSome result (λ step. enabled self.now.agenda.plan v step ≡ true) }
     {
         self.step_of(p)
     }
@@ -184,8 +248,8 @@ impl World {
     /// The step that a process makes next.
     fn step_of(&self, p: ProcNo) -> Option<Step>
         ensures step { IfSome result (IsNextStepOf self.now p) }
-        ensures enabled { IfSome result (λ step. enabled self.now step ≡ true) }
-        ensures none { IfNone result ((step : Step) → stepper step ≡ p → enabled self.now step ≡ false) }
+        ensures enabled { IfSome result (λ step. can_make self.now step ≡ true) }
+        ensures none { IfNone result ((step : Step) → process_of_step step ≡ p → can_make self.now step ≡ false) }
     {
         if !self.is_there(p) {
             return None;

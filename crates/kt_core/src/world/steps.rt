@@ -1,12 +1,12 @@
 //! Steps.
 
 ghost use Rattle.std.specs.Prelude.{◌≡◌, ◌⊎◌, ◌<◌, ◌≤◌, ◌+◌, ◌^◌, ℕ, Some, None, Err, IfSome, IfOk, IfErr, OnOk, OnErr, drop, length, slice_get};
-ghost use Rattle.kt_process.specs.Persons.{part_of, IsNumbered};
+ghost use Rattle.kt_process.specs.Persons.{part_of_side, IsNumbered};
 ghost use Rattle.kt_system.specs.Systems.{person};
-ghost use Rattle.kt_promises.specs.World as run_world;
-ghost use Rattle.kt_promises.specs.Rows.{AreRowsOfStep};
+ghost use Rattle.kt_plans.specs.Progress.{Progress};
+ghost use Rattle.kt_plans.specs.Rows.{AreRowsOfStep};
 ghost use Rattle.kt_core.specs.Making.{KeepsPlan, MakesStep};
-ghost use Rattle.kt_core.specs.Worlds.{refusal, IsSameWorld, SettlesIn, numbered_row};
+ghost use Rattle.kt_core.specs.Worlds.{step_refusal, IsSameWorld, SettlesIn, numbered_row};
 ghost use Rattle.kt_core.specs.Shown.{Mirrors};
 
 use super::World;
@@ -17,6 +17,9 @@ use kt_plan::{Act, Give, Step, Told};
 use kt_spacetime::Event;
 use kt_system::System;
 
+/// Nothing to be done to an object.
+const NO_ACTS: [Act; 2] = [Act::Nothing, Act::Nothing];
+
 impl World {
     /// Makes a step, and tells its rows and what is to be done to the process's object. `give` has what `look` says that
     /// the step needs.
@@ -26,81 +29,81 @@ impl World {
     /// is as it was.
     pub fn step(&mut self, step: Step, give: Give) -> Result<Told, StepFault>
         ensures keeps { KeepsPlan self.old self.new }
-        ensures refused { IfSome (refusal self.old step) (λ fault. result ≡ Err fault) }
-        ensures fault { IfErr result (λ fault. (fault ≡ StepFault.Memory) ⊎ (refusal self.old step ≡ Some fault)) }
+        ensures refused { IfSome (step_refusal self.old step) (λ fault. result ≡ Err fault) }
+        ensures fault { IfErr result (λ fault. (fault ≡ StepFault.Memory) ⊎ (step_refusal self.old step ≡ Some fault)) }
         ensures err { OnErr result (IsSameWorld self.new self.old) }
         ensures made { IfOk result (λ told. MakesStep self.old step give told.acts self.new) }
-        ensures rows { (first : ℕ) (v : run_world.World) → Mirrors self.old.agenda self.old.system first v →
+        ensures rows { (first : ℕ) (v : Progress) → Mirrors self.old.agenda self.old.system first v →
             OnOk result (AreRowsOfStep self.old.agenda.plan v step give
             (drop (length self.old.system.rows.rows) self.new.system.rows.rows)) }
         ensures step { IfOk result (λ told. told.step ≡ step) }
         ensures told { IfOk result (λ told. (i : ℕ) → i < 4 → slice_get told.rows i ≡ Some (numbered_row self.new.system.rows.rows (length self.old.system.rows.rows + i))) }
     {
-        if let Some(fault) = self.refusal(&step) {
-            return Err(fault);
+        match self.ready(&step) {
+            Ok(_) => {
+                let count = self.system.log().rows().len();
+                let mut acts = NO_ACTS;
+                self.make_step(&step, give, &mut acts)?;
+                Ok(Told {
+                    step,
+                    rows: self.rows_after(count),
+                    acts,
+                })
+            }
+            Err(fault) => Err(fault),
         }
-        let count = self.system.log().rows().len();
-        let acts = self.make_step(&step, give)?;
-        Ok(Told {
-            step,
-            rows: self.rows_after(count),
-            acts,
-        })
     }
 
     /// Makes a step as `step` does, and tells only what is to be done to the process's object.
     pub fn act(&mut self, step: Step, give: Give) -> Result<[Act; 2], StepFault>
         ensures keeps { KeepsPlan self.old self.new }
-        ensures refused { IfSome (refusal self.old step) (λ fault. result ≡ Err fault) }
-        ensures fault { IfErr result (λ fault. (fault ≡ StepFault.Memory) ⊎ (refusal self.old step ≡ Some fault)) }
+        ensures refused { IfSome (step_refusal self.old step) (λ fault. result ≡ Err fault) }
+        ensures fault { IfErr result (λ fault. (fault ≡ StepFault.Memory) ⊎ (step_refusal self.old step ≡ Some fault)) }
         ensures err { OnErr result (IsSameWorld self.new self.old) }
         ensures made { IfOk result (λ acts. MakesStep self.old step give acts self.new) }
     {
-        if let Some(fault) = self.refusal(&step) {
-            return Err(fault);
+        match self.ready(&step) {
+            Ok(_) => {
+                let mut acts = NO_ACTS;
+                self.make_step(&step, give, &mut acts)?;
+                Ok(acts)
+            }
+            Err(fault) => Err(fault),
         }
-        Ok(self.make_step(&step, give)?)
     }
 
-    /// Why a step is refused, but for want of memory.
-    fn refusal(&self, step: &Step) -> Option<StepFault>
-        ensures { result ≡ refusal self.now step.now }
-    {
-        if !self.enabled(step) {
-            return Some(StepFault::NotEnabled);
-        }
-        if self.system.log().rows().len() + 4 > self.limit {
-            return Some(StepFault::LogFull);
-        }
-        if self.has_no_label(step) {
-            return Some(StepFault::LabelsSpent);
-        }
-        None
-    }
-
-    /// Makes a step that is enabled.
-    fn make_step(&mut self, step: &Step, give: Give) -> Result<[Act; 2], Memory>
-        requires { refusal self.old step.now ≡ None }
+    /// Makes a step that `ready` says can be made. After want of memory the world is as it was.
+    #[inline(always)]
+    pub fn make_step(&mut self, step: &Step, give: Give, acts: &mut [Act; 2]) -> Result<(), Memory>
+        requires { step_refusal self.old step.now ≡ None }
         ensures keeps { KeepsPlan self.old self.new }
         ensures err { OnErr result (IsSameWorld self.new self.old) }
-        ensures made { IfOk result (λ acts. MakesStep self.old step.now give acts self.new) }
+        ensures made { OnOk result (MakesStep self.old step.now give acts.new self.new) }
     {
         match *step {
-            Step::Do(p) => self.do_next(p, give),
-            Step::Take { at, from } => self.take(at, from, give),
+            Step::Do(p) => self.do_next(p, give, acts),
+            Step::Take { at, from } => self.take(at, from, give, acts),
         }
     }
 
     /// A process takes a parcel of another one; then the next phase may open.
-    fn take(&mut self, at: ProcNo, from: ProcNo, give: Give) -> Result<[Act; 2], Memory>
-        requires { refusal self.old (Step.Take at from) ≡ None }
+    #[inline(always)]
+    fn take(
+        &mut self,
+        at: ProcNo,
+        from: ProcNo,
+        give: Give,
+        acts: &mut [Act; 2],
+    ) -> Result<(), Memory>
+        requires { step_refusal self.old (Step.Take at from) ≡ None }
         ensures keeps { KeepsPlan self.old self.new }
         ensures err { OnErr result (IsSameWorld self.new self.old) }
-        ensures made { IfOk result (λ acts. MakesStep self.old (Step.Take at from) give acts self.new) }
+        ensures made { OnOk result (MakesStep self.old (Step.Take at from) give acts.new self.new) }
     {
-        let acts = self.system.take(self.alloc, at, from, give.able)?;
+        let told = self.system.take(self.alloc, at, from, give.able)?;
         settle(&mut self.agenda, &self.system);
-        Ok(acts)
+        *acts = told;
+        Ok(())
     }
 
     /// The rows after the first so many, four at most, with their numbers.
@@ -130,7 +133,7 @@ pub(super) fn settle(agenda: &mut Agenda, system: &System)
     ensures plan { agenda.new.plan ≡ agenda.old.plan }
     ensures next { agenda.new.next ≡ agenda.old.next }
     ensures settled { SettlesIn system.now agenda.old agenda.new }
-    ensures numbered { (p : ℕ) → p < system.now.size → IsNumbered (part_of (person system.now p).side) }
+    ensures numbered { (p : ℕ) → p < system.now.size → IsNumbered (part_of_side (person system.now p).side) }
 {
     let _processes = system.processes();
     if system.is_quiet() {

@@ -1,6 +1,6 @@
 use Rattle.std.proofs.Common.{◌∙◌, subst, sym, List}
 use Rattle.kt_spacetime.specs.declared.event.Event.{Event}
-use Rattle.kt_promises.specs.Follows.{FollowsPlan}
+use Rattle.kt_plans.specs.Follows.{FollowsPlan}
 use Rattle.kt_core.proofs.Defaults.{rest_is, never_stuck}
 use Rattle.kt_core.proofs.world.World.at_rest.Goals as goal
 

@@ -4,10 +4,10 @@ use Rattle.std.proofs.lemmas.Option.{slice_get_within}
 use Rattle.kt_plan.specs.Limits.{Planned}
 use Rattle.kt_plan.specs.declared.steps.Step.TheVariants.{Do}
 use Rattle.kt_system.specs.ShownActs.{acts_shown}
-use Rattle.kt_promises.specs.Steps.{world_after}
-use Rattle.kt_core.specs.Agendas.{place_of, IsNextOf}
+use Rattle.kt_plans.specs.Steps.{progress_after}
+use Rattle.kt_core.specs.Agendas.{agenda_place, IsNextOf}
 use Rattle.kt_core.specs.Making.{MakesStep}
-use Rattle.kt_core.specs.Worlds.{World, refusal}
+use Rattle.kt_core.specs.Worlds.{World, step_refusal}
 use Rattle.kt_core.proofs.Enabled.{few, enabled_is, enabled_if, does_there}
 use Rattle.kt_core.proofs.Making.{makes_step}
 use Rattle.kt_core.proofs.Leading.{do_acts, do_leads, run_same, open_is_next}
@@ -18,7 +18,7 @@ pub invariant_of-self : goal.invariant_of-self
 invariant_of-self c =
     let r = c.self.invariant.reached in
     record {
-      reached = (r.0, r.1, run_same c.self.inside.agenda c.self.inside.system c.do_job.new.system r.0 r.1 c.in_err-acts.ensures.err r.2);
+      reached = (r.0, r.1, run_same c.self.inside.agenda c.self.inside.system c.do_job.new.system r.0 r.1 c.in_err-told.ensures.err r.2);
       size = c.do_job.ensures.size ∙ c.self.invariant.size;
       rows = c.self.invariant.rows;
     }
@@ -30,7 +30,7 @@ invariant_of-self-2 c =
     let s = c.self.inside.system in
     let w : World = record { agenda = a; system = s; limit = c.self.inside.limit } in
     let p = c.args.p in
-    let allowed = subst (λ (z : World). refusal z (Do p) ≡ None) (sym c.self.view_is) c.requires in
+    let allowed = subst (λ (z : World). step_refusal z (Do p) ≡ None) (sym c.self.view_is) c.requires in
     let there = does_there w p allowed in
     let size = c.self.invariant.size in
     let command = sym c.in-Some.ensures.command in
@@ -40,9 +40,9 @@ invariant_of-self-2 c =
     record {
       reached = (
         r.0,
-        world_after a.plan r.1 (Do p) c.args.give,
+        progress_after a.plan r.1 (Do p) c.args.give,
         do_leads a c.advance.new.self c.settle.new.agenda s c.do_job.new.system p c.in-Some.command c.args.give r.0 r.1 r.2 (few w r.0 r.1 r.2 p there) command on
-            (λ h begun says. c.in_ok-acts.ensures.shows r.1.now h begun says) move.plan move.phase move.next move.others opened.plan opened.next opened.settled (c.do_job.ensures.size ∙ size) opened.numbered c.in_ok-acts.ensures.tallies,
+            (λ h begun says. c.in_ok-told.ensures.shows r.1.now h begun says) move.plan move.phase move.next move.others opened.plan opened.next opened.settled (c.do_job.ensures.size ∙ size) opened.numbered c.in_ok-told.ensures.tallies,
       );
       size = c.do_job.ensures.size ∙ (size ∙ ap (λ (plan : Planned). length plan.names) (sym (opened.plan ∙ move.plan)));
       rows = c.self.invariant.rows;
@@ -55,22 +55,22 @@ returns-clause-made c =
     let b = c.settle.new.agenda in
     let w : World = record { agenda = a; system = s; limit = c.self.inside.limit } in
     let p = c.args.p in
-    let allowed = subst (λ (z : World). refusal z (Do p) ≡ None) (sym c.self.view_is) c.requires in
+    let allowed = subst (λ (z : World). step_refusal z (Do p) ≡ None) (sym c.self.view_is) c.requires in
     let there = does_there w p allowed in
     let size = c.self.invariant.size in
     let command = sym c.in-Some.ensures.command in
     let move = c.advance.ensures in
     let opened = c.settle.ensures in
     let next = open_is_next a p c.in-Some.command command in
-    let same : (q : ℕ) → place_of b q ≡ place_of c.advance.new.self q = λ q. ap (λ (l : List ℕ). slice_index_or l q 0) opened.next in
-    subst (λ (z : World). MakesStep z (Do p) c.args.give c.in_ok-acts.acts (record { agenda = b; system = c.do_job.new.system; limit = c.self.inside.limit })) c.self.view_is
-    (makes_step w (record { agenda = b; system = c.do_job.new.system; limit = c.self.inside.limit }) (Do p) c.args.give c.in_ok-acts.acts c.self.invariant.reached allowed (
-      subst (λ (j : ℕ). IsNextOf a.plan.commands p (place_of a p + 1) j) (sym (same p)) (move.next (slice_get_within a.plan.commands (place_of a p) c.in-Some.command next)),
+    let same : (q : ℕ) → agenda_place b q ≡ agenda_place c.advance.new.self q = λ q. ap (λ (l : List ℕ). slice_index_or l q 0) opened.next in
+    subst (λ (z : World). MakesStep z (Do p) c.args.give c.in_ok-told.told (record { agenda = b; system = c.do_job.new.system; limit = c.self.inside.limit })) c.self.view_is
+    (makes_step w (record { agenda = b; system = c.do_job.new.system; limit = c.self.inside.limit }) (Do p) c.args.give c.in_ok-told.told c.self.invariant.reached allowed (
+      subst (λ (j : ℕ). IsNextOf a.plan.commands p (agenda_place a p + 1) j) (sym (same p)) (move.next (slice_get_within a.plan.commands (agenda_place a p) c.in-Some.command next)),
       λ q n. same q ∙ move.others q n,
     )
     (settles_from c.do_job.new.system a c.advance.new.self b move.phase opened.settled)
     (λ first v r. do_leads a c.advance.new.self b s c.do_job.new.system p c.in-Some.command c.args.give first v r (few w first v r p there) command
     (sym (enabled_is w first v r (Do p)) ∙ enabled_if w (Do p) allowed)
-    (λ h begun says. c.in_ok-acts.ensures.shows v.now h begun says) move.plan move.phase move.next move.others opened.plan opened.next opened.settled (c.do_job.ensures.size ∙ size) opened.numbered c.in_ok-acts.ensures.tallies)
-    (λ first v r. do_acts a s p c.in-Some.command c.args.give first v (acts_shown c.in_ok-acts.acts) r (few w first v r p there) command
-    (sym (enabled_is w first v r (Do p)) ∙ enabled_if w (Do p) allowed) (λ h begun. c.in_ok-acts.ensures.acts v.now h begun)))
+    (λ h begun says. c.in_ok-told.ensures.shows v.now h begun says) move.plan move.phase move.next move.others opened.plan opened.next opened.settled (c.do_job.ensures.size ∙ size) opened.numbered c.in_ok-told.ensures.tallies)
+    (λ first v r. do_acts a s p c.in-Some.command c.args.give first v (acts_shown c.in_ok-told.told) r (few w first v r p there) command
+    (sym (enabled_is w first v r (Do p)) ∙ enabled_if w (Do p) allowed) (λ h begun. c.in_ok-told.ensures.acts v.now h begun)))

@@ -1,8 +1,8 @@
 use Rattle.std.proofs.Common.{subst, sym, List}
 use Rattle.kt_spacetime.specs.declared.event.Event.{Event}
 use Rattle.kt_spacetime.specs.Logs.{Log}
-use Rattle.kt_promises.specs.Follows.{BeginsPlan}
-use Rattle.kt_promises.specs.Headline.{IsPromised}
+use Rattle.kt_plans.specs.Follows.{BeginsPlan}
+use Rattle.kt_plans.specs.Headline.{IsPromised}
 use Rattle.kt_core.specs.Worlds.{World}
 use Rattle.kt_core.proofs.world.World.log.Goals as goal
 
@@ -11,11 +11,11 @@ returns-clause-promised c =
     let r = c.self.invariant.reached in
     subst (λ (log : Log). IsPromised log.rows) (sym c.log.ensures)
     (subst (λ (rows : List Event). IsPromised rows) (sym r.2.now.log)
-    (c.logs_of_worlds.ensures.promised c.self.inside.agenda.plan r.0 r.1 r.2.limits r.2.reached))
+    (c.logs_of_runs.ensures.promised c.self.inside.agenda.plan r.0 r.1 r.2.limits r.2.reached))
 
 pub returns-clause-once : goal.returns-clause-once
 returns-clause-once c = λ first v r.
-    c.messages_of_worlds.ensures.once c.args.self.now.agenda.plan first v r.limits r.reached
+    c.messages_of_runs.ensures.once c.args.self.now.agenda.plan first v r.limits r.reached
 
 pub returns-clause-begins : goal.returns-clause-begins
 returns-clause-begins c =

@@ -4,9 +4,9 @@ use Rattle.std.proofs.Common.{◌∙◌, ℕ, List, arith, sym, subst, refl, sli
 use Rattle.kt_process.specs.Turns.{IsFresh}
 use Rattle.kt_system.specs.Systems.{person}
 use Rattle.kt_seen.specs.Transition.{opening_seen}
-use Rattle.kt_system.specs.Shown.{Shows}
-use Rattle.kt_promises.specs.World.{start_world}
-use Rattle.kt_core.specs.Agendas.{IsNextOf, place_of}
+use Rattle.kt_system.specs.Shown.{ShowsState}
+use Rattle.kt_plans.specs.Progress.{progress_at_start}
+use Rattle.kt_core.specs.Agendas.{IsNextOf, agenda_place}
 use Rattle.kt_core.specs.Shown.{Mirrors}
 use Rattle.kt_core.proofs.Leading.{start_leads}
 use Rattle.kt_core.proofs.Phases.{least_stays}
@@ -38,10 +38,10 @@ returns-clause-starts c =
     let first = c.in_ok-agenda.agenda in
     let last = c.open_next.new.self in
     let size = c.size-size.ensures in
-    subst (λ (plan : Planned). Mirrors last c.in_ok-system.system c.args.used (start_world plan c.args.used)) made.plan
+    subst (λ (plan : Planned). Mirrors last c.in_ok-system.system c.args.used (progress_at_start plan c.args.used)) made.plan
     (start_leads first last c.in_ok-system.system c.args.used (subst (λ (plan : Planned). IsPlan plan) (sym made.plan) size.plan) (c.in_ok-system.ensures.size ∙ (size.size ∙ ap (λ (plan : Planned). length plan.names) (sym made.plan))) c.processes-processes.ensures.numbered
-    (subst (λ (n : ℕ). Shows c.in_ok-system.system (opening_seen n c.args.used)) (size.size ∙ ap (λ (plan : Planned). length plan.names) (sym made.plan)) c.in_ok-system.ensures.shows)
-    (λ p low. subst (λ (plan : Planned). IsNextOf plan.commands p 0 (place_of first p)) (sym made.plan) (made.next p low))
+    (subst (λ (n : ℕ). ShowsState c.in_ok-system.system (opening_seen n c.args.used)) (size.size ∙ ap (λ (plan : Planned). length plan.names) (sym made.plan)) c.in_ok-system.ensures.shows)
+    (λ p low. subst (λ (plan : Planned). IsNextOf plan.commands p 0 (agenda_place first p)) (sym made.plan) (made.next p low))
     opened.plan opened.next
     (λ least l. opened.opens least (least_stays first last least opened.plan opened.next l) (let zero = made.phase in omega (arith, zero)))
     (let room = c.in_ok-system.ensures.instances in
@@ -56,7 +56,7 @@ invariant_of-result c =
     let opened = c.open_next.ensures in
     let system = c.in_ok-system.ensures in
     record {
-      reached = (c.args.used, start_world c.args.plan c.args.used, returns-clause-starts c);
+      reached = (c.args.used, progress_at_start c.args.plan c.args.used, returns-clause-starts c);
       size = system.size ∙ (c.size-size.ensures.size ∙ ap (λ (plan : Planned). length plan.names) (sym (opened.plan ∙ made.plan)));
       rows = c.requires;
     }

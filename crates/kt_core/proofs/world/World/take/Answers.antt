@@ -2,9 +2,9 @@ use Rattle.std.proofs.Common.{◌≡◌, None, length, ap, subst, sym, ◌∙◌
 use Rattle.kt_plan.specs.Limits.{Planned}
 use Rattle.kt_plan.specs.declared.steps.Step.TheVariants.{Take}
 use Rattle.kt_system.specs.ShownActs.{acts_shown}
-use Rattle.kt_promises.specs.Steps.{world_after}
+use Rattle.kt_plans.specs.Steps.{progress_after}
 use Rattle.kt_core.specs.Making.{MakesStep}
-use Rattle.kt_core.specs.Worlds.{World, refusal}
+use Rattle.kt_core.specs.Worlds.{World, step_refusal}
 use Rattle.kt_core.proofs.Enabled.{enabled_is, enabled_if}
 use Rattle.kt_core.proofs.Making.{makes_step}
 use Rattle.kt_core.proofs.Leading.{take_acts, take_leads, run_same}
@@ -14,7 +14,7 @@ pub invariant_of-self : goal.invariant_of-self
 invariant_of-self c =
     let r = c.self.invariant.reached in
     record {
-      reached = (r.0, r.1, run_same c.self.inside.agenda c.self.inside.system c.take.new.self r.0 r.1 c.in_err-acts.ensures.keeps.err r.2);
+      reached = (r.0, r.1, run_same c.self.inside.agenda c.self.inside.system c.take.new.self r.0 r.1 c.in_err-told.ensures.keeps.err r.2);
       size = c.take.ensures.keeps.size ∙ c.self.invariant.size;
       rows = c.self.invariant.rows;
     }
@@ -24,16 +24,16 @@ invariant_of-self-2 c =
     let r = c.self.invariant.reached in
     let a = c.self.inside.agenda in
     let w : World = record { agenda = a; system = c.self.inside.system; limit = c.self.inside.limit } in
-    let allowed = subst (λ (z : World). refusal z (Take c.args.at c.args.from) ≡ None) (sym c.self.view_is) c.requires in
+    let allowed = subst (λ (z : World). step_refusal z (Take c.args.at c.args.from) ≡ None) (sym c.self.view_is) c.requires in
     let size = c.self.invariant.size in
     let opened = c.settle.ensures in
     record {
       reached = (
         r.0,
-        world_after a.plan r.1 (Take c.args.at c.args.from) c.args.give,
+        progress_after a.plan r.1 (Take c.args.at c.args.from) c.args.give,
         take_leads a c.settle.new.agenda c.self.inside.system c.take.new.self c.args.at c.args.from c.args.give r.0 r.1 r.2
             (sym (enabled_is w r.0 r.1 r.2 (Take c.args.at c.args.from)) ∙ enabled_if w (Take c.args.at c.args.from) allowed)
-            (λ h says. c.in_ok-acts.ensures.shows r.1.now h says) opened.plan opened.next opened.settled (c.take.ensures.keeps.size ∙ size) opened.numbered c.in_ok-acts.ensures.keeps.tallies,
+            (λ h says. c.in_ok-told.ensures.shows r.1.now h says) opened.plan opened.next opened.settled (c.take.ensures.keeps.size ∙ size) opened.numbered c.in_ok-told.ensures.keeps.tallies,
       );
       size = c.take.ensures.keeps.size ∙ (size ∙ ap (λ (plan : Planned). length plan.names) (sym opened.plan));
       rows = c.self.invariant.rows;
@@ -43,14 +43,14 @@ pub returns-clause-made : goal.returns-clause-made
 returns-clause-made c =
     let a = c.self.inside.agenda in
     let w : World = record { agenda = a; system = c.self.inside.system; limit = c.self.inside.limit } in
-    let allowed = subst (λ (z : World). refusal z (Take c.args.at c.args.from) ≡ None) (sym c.self.view_is) c.requires in
+    let allowed = subst (λ (z : World). step_refusal z (Take c.args.at c.args.from) ≡ None) (sym c.self.view_is) c.requires in
     let size = c.self.invariant.size in
     let opened = c.settle.ensures in
-    subst (λ (z : World). MakesStep z (Take c.args.at c.args.from) c.args.give c.in_ok-acts.acts (record { agenda = c.settle.new.agenda; system = c.take.new.self; limit = c.self.inside.limit })) c.self.view_is
-    (makes_step w (record { agenda = c.settle.new.agenda; system = c.take.new.self; limit = c.self.inside.limit }) (Take c.args.at c.args.from) c.args.give c.in_ok-acts.acts c.self.invariant.reached allowed
+    subst (λ (z : World). MakesStep z (Take c.args.at c.args.from) c.args.give c.in_ok-told.told (record { agenda = c.settle.new.agenda; system = c.take.new.self; limit = c.self.inside.limit })) c.self.view_is
+    (makes_step w (record { agenda = c.settle.new.agenda; system = c.take.new.self; limit = c.self.inside.limit }) (Take c.args.at c.args.from) c.args.give c.in_ok-told.told c.self.invariant.reached allowed
     opened.next opened.settled
     (λ first v r. take_leads a c.settle.new.agenda c.self.inside.system c.take.new.self c.args.at c.args.from c.args.give first v r
     (sym (enabled_is w first v r (Take c.args.at c.args.from)) ∙ enabled_if w (Take c.args.at c.args.from) allowed)
-    (λ h says. c.in_ok-acts.ensures.shows v.now h says) opened.plan opened.next opened.settled (c.take.ensures.keeps.size ∙ size) opened.numbered c.in_ok-acts.ensures.keeps.tallies)
-    (λ first v r. take_acts a c.self.inside.system c.args.at c.args.from c.args.give first v (acts_shown c.in_ok-acts.acts) r
-    (sym (enabled_is w first v r (Take c.args.at c.args.from)) ∙ enabled_if w (Take c.args.at c.args.from) allowed) (λ h. c.in_ok-acts.ensures.acts v.now h)))
+    (λ h says. c.in_ok-told.ensures.shows v.now h says) opened.plan opened.next opened.settled (c.take.ensures.keeps.size ∙ size) opened.numbered c.in_ok-told.ensures.keeps.tallies)
+    (λ first v r. take_acts a c.self.inside.system c.args.at c.args.from c.args.give first v (acts_shown c.in_ok-told.told) r
+    (sym (enabled_is w first v r (Take c.args.at c.args.from)) ∙ enabled_if w (Take c.args.at c.args.from) allowed) (λ h. c.in_ok-told.ensures.acts v.now h)))

@@ -11,7 +11,7 @@ returns-clause-asks c =
     let of_run : c.tally.result ≡ tally_shown r.1.put c.args.inst = search rules in
     subst (λ (z : World). c.tally.result.asks ≤ length z.agenda.plan.names * (length z.agenda.plan.names - 1)) c.self.view_is
     (subst (λ (t : Tally). t.asks ≤ length plan.names * (length plan.names - 1)) (sym of_run)
-    (c.tallies_of_worlds.ensures.asks plan r.0 r.1 c.args.inst r.2.limits r.2.reached))
+    (c.tallies_of_runs.ensures.asks plan r.0 r.1 c.args.inst r.2.limits r.2.reached))
 
 pub returns-clause-replies : goal.returns-clause-replies
 returns-clause-replies c =
@@ -19,7 +19,7 @@ returns-clause-replies c =
     let plan = c.self.inside.agenda.plan in
     let of_run : c.tally.result ≡ tally_shown r.1.put c.args.inst = search rules in
     subst (λ (t : Tally). t.replies ≤ t.asks) (sym of_run)
-    (c.tallies_of_worlds.ensures.replies plan r.0 r.1 c.args.inst r.2.limits r.2.reached)
+    (c.tallies_of_runs.ensures.replies plan r.0 r.1 c.args.inst r.2.limits r.2.reached)
 
 pub returns-clause-decisions : goal.returns-clause-decisions
 returns-clause-decisions c =
@@ -27,4 +27,4 @@ returns-clause-decisions c =
     let plan = c.self.inside.agenda.plan in
     let of_run : c.tally.result ≡ tally_shown r.1.put c.args.inst = search rules in
     subst (λ (t : Tally). t.decisions ≤ t.asks) (sym of_run)
-    (c.tallies_of_worlds.ensures.decisions plan r.0 r.1 c.args.inst r.2.limits r.2.reached)
+    (c.tallies_of_runs.ensures.decisions plan r.0 r.1 c.args.inst r.2.limits r.2.reached)

@@ -1,14 +1,14 @@
 use Rattle.std.proofs.Common.{◌≡◌, IfOk, OnOk, subst, sym}
 use Rattle.kt_plan.specs.declared.commands.Job.{Job}
 use Rattle.kt_seen.specs.Transition.{transition}
-use Rattle.kt_system.specs.Shown.{Shows}
+use Rattle.kt_system.specs.Shown.{ShowsState}
 use Rattle.kt_system.specs.ShownActs.{acts_shown}
 use Rattle.kt_values.specs.SeenActs.{seen_acts}
-use Rattle.kt_phases.specs.Steps.{protocol_step}
+use Rattle.kt_plans.specs.Steps.{protocol_step}
 use Rattle.kt_core.proofs.world.commands.do_job.Goals as goal
 
 pub returns-in-Rollback-clause-shows : goal.returns-in-Rollback-clause-shows
-returns-in-Rollback-clause-shows c = λ v h few says. subst (λ (j : Job). OnOk c.begin_rollback.result (Shows c.begin_rollback.new.self (transition v (protocol_step c.args.p j c.args.give)))) (sym c.in-Rollback.is)
+returns-in-Rollback-clause-shows c = λ v h few says. subst (λ (j : Job). OnOk c.begin_rollback.result (ShowsState c.begin_rollback.new.self (transition v (protocol_step c.args.p j c.args.give)))) (sym c.in-Rollback.is)
     (c.begin_rollback.ensures.shows v c.args.give.able h few)
 
 pub returns-in-Send-clause-acts : goal.returns-in-Send-clause-acts
