@@ -16,37 +16,36 @@ use Rattle.kt_plan.specs.declared.steps.Act.{Act}
 use Rattle.kt_plan.specs.declared.steps.Told.{Told}
 use Rattle.kt_plan.specs.declared.steps.Look.{Look}
 use Rattle.kt_plan.specs.declared.steps.Look.TheVariants as look
-use Rattle.kt_promises.specs.Looks as promises
-use Rattle.kt_promises.specs.Offers.{GivesOffer}
-use Rattle.kt_promises.specs.Runs.{IsReachedWorld}
-use Rattle.kt_promises.specs.StepActs.{acts_of_step}
-use Rattle.kt_promises.specs.Steps.{enabled, world_after}
-use Rattle.kt_promises.specs.World as run_world
-use Rattle.kt_promises.proofs.ActsOfSteps.{values_lead, others_idle, object_seen, spares_next}
-use Rattle.kt_promises.proofs.OffersSent.{up_seen}
+use Rattle.kt_plans.specs.Looks.{look}
+use Rattle.kt_plans.specs.Offers.{GivesOffer}
+use Rattle.kt_plans.specs.Runs.{RunReaches}
+use Rattle.kt_plans.specs.StepActs.{acts_of_step}
+use Rattle.kt_plans.specs.Steps.{enabled, progress_after, process_of_step}
+use Rattle.kt_plans.specs.Progress.{Progress}
+use Rattle.kt_plans.proofs.ActsOfSteps.{values_lead, others_idle, object_seen, spares_next}
+use Rattle.kt_plans.proofs.OffersSent.{up_seen}
 use Rattle.kt_system.specs.ShownActs.{acts_shown}
 use Rattle.kt_values.specs.Done.{done}
 use Rattle.kt_values.specs.Values as values
 use Rattle.kt_values.specs.Values.{Rules, Due, due, first_due, acts_along}
 use Rattle.kt_core.specs.Shown.{Mirrors}
 use Rattle.kt_core.specs.Worlds.{World}
-use Rattle.kt_phases.specs.Steps.{stepper}
 use Rattle.kt_run.specs.Objects.{Belongings, belongings_of, first_of, rules_by, HoldDue}
 use Rattle.kt_run.specs.Runs.{scene, Tells, StepsTo}
 use Rattle.kt_run.proofs.Holding.{IsDone, AreAlong, hold_next, done_by}
 
 -- the acts of a step in a run
-module _ (plan : Planned) (first : ℕ) (v : run_world.World) (x : Step) (give : Give) (limits : IsPlan plan) (reached : IsReachedWorld plan first v)
+module _ (plan : Planned) (first : ℕ) (v : Progress) (x : Step) (give : Give) (limits : IsPlan plan) (reached : RunReaches plan first v)
     (on : enabled plan v x ≡ true) where
-  along : (rules : Rules (List ℤ)) (p : ℕ) → AreAlong rules p (acts_of_step plan v x give p) v.now.log (world_after plan v x give).now.log
+  along : (rules : Rules (List ℤ)) (p : ℕ) → AreAlong rules p (acts_of_step plan v x give p) v.now.log (progress_after plan v x give).now.log
   along rules p = record { lead = values_lead rules plan first v x give p limits reached on; spares = spares_next rules plan first v x give p limits reached on }
 
-  pub acts_along_step : (rules : Rules (List ℤ)) (acts : List values.Act) → acts ≡ acts_of_step plan v x give (stepper x)
-      → AreAlong rules (stepper x) acts v.now.log (world_after plan v x give).now.log
-  acts_along_step rules acts e = subst (λ (a : List values.Act). AreAlong rules (stepper x) a v.now.log (world_after plan v x give).now.log) (sym e) (along rules (stepper x))
+  pub acts_along_step : (rules : Rules (List ℤ)) (acts : List values.Act) → acts ≡ acts_of_step plan v x give (process_of_step x)
+      → AreAlong rules (process_of_step x) acts v.now.log (progress_after plan v x give).now.log
+  acts_along_step rules acts e = subst (λ (a : List values.Act). AreAlong rules (process_of_step x) a v.now.log (progress_after plan v x give).now.log) (sym e) (along rules (process_of_step x))
 
-  pub others_along : (rules : Rules (List ℤ)) (p : ℕ) → p ≢ stepper x → AreAlong rules p [] v.now.log (world_after plan v x give).now.log
-  others_along rules p n = subst (λ (a : List values.Act). AreAlong rules p a v.now.log (world_after plan v x give).now.log) (others_idle plan first v x give p limits reached on n) (along rules p)
+  pub others_along : (rules : Rules (List ℤ)) (p : ℕ) → p ≢ process_of_step x → AreAlong rules p [] v.now.log (progress_after plan v x give).now.log
+  others_along rules p n = subst (λ (a : List values.Act). AreAlong rules p a v.now.log (progress_after plan v x give).now.log) (others_idle plan first v x give p limits reached on n) (along rules p)
 
 needs_body : (l : Look) → l ≡ NeedsBody → l ≡ look.NeedsBody
 needs_body look.Idle e = absurd (cc (e))
@@ -65,14 +64,14 @@ given_offer first None present body up is asked = absurd (cc (up))
 given_offer first (Some value) present body up is asked = ap Some (sym (subst (λ (o : Option Content). IfSome o (λ c. body ≡ offered c.kind c.value)) is asked))
 
 module _ {X : Type 0} (f : X → Belongings) (xs : List X) (i : ℕ) (x y : X) (at : slice_get xs i ≡ Some x)
-    (old new : World) (before after : List (List Told)) (step : Step) (place : i ≡ stepper step) (give : Give) (acts : List Act) (l : Look)
-    (looks : (first : ℕ) (v : run_world.World) → Mirrors old.agenda old.system first v → l ≡ promises.look old.agenda.plan v step)
+    (old new : World) (before after : List (List Told)) (step : Step) (place : i ≡ process_of_step step) (give : Give) (acts : List Act) (l : Look)
+    (looks : (first : ℕ) (v : Progress) → Mirrors old.agenda old.system first v → l ≡ look old.agenda.plan v step)
     (asked : l ≡ look.NeedsBody → IfSome (f x).present (λ c. give.body ≡ offered c.kind c.value))
     (did : IsDone acts (f x) (f y)) (tells : Tells old before step give new after acts) where
-  whose : i ≡ stepper step
+  whose : i ≡ process_of_step step
   whose = place
 
-  module _ (first : ℕ) (v : run_world.World) (r : Mirrors old.agenda old.system first v) (cast : List (List Content)) (h : HoldDue cast v.now.log (map f xs)) where
+  module _ (first : ℕ) (v : Progress) (r : Mirrors old.agenda old.system first v) (cast : List (List Content)) (h : HoldDue cast v.now.log (map f xs)) where
     limits : IsPlan old.agenda.plan
     limits = r.limits
 
@@ -83,11 +82,11 @@ module _ {X : Type 0} (f : X → Belongings) (xs : List X) (i : ℕ) (x y : X) (
         (h.each i (f x) (slice_get-map f xs i ∙ ap (option_map f) at)).holds.object
         (asked (needs_body l (looks first v r ∙ n))))
 
-    holds : HoldDue cast (world_after old.agenda.plan v step give).now.log (map f (set xs i y))
+    holds : HoldDue cast (progress_after old.agenda.plan v step give).now.log (map f (set xs i y))
     holds =
         let t = tells.5 first v r in
-        hold_next f xs cast i x y acts v.now.log (world_after old.agenda.plan v step give).now.log at did
-        (subst (λ (p : ℕ). AreAlong (rules_by cast i) p (acts_shown acts) v.now.log (world_after old.agenda.plan v step give).now.log) (sym whose)
+        hold_next f xs cast i x y acts v.now.log (progress_after old.agenda.plan v step give).now.log at did
+        (subst (λ (p : ℕ). AreAlong (rules_by cast i) p (acts_shown acts) v.now.log (progress_after old.agenda.plan v step give).now.log) (sym whose)
         (acts_along_step old.agenda.plan first v step give limits r.reached t.0 (rules_by cast i) (acts_shown acts) (ap acts_shown tells.2 ∙ t.2.acts)))
         (λ p n. others_along old.agenda.plan first v step give limits r.reached t.0 (rules_by cast p) p (λ e. n (e ∙ sym whose)))
         h
@@ -104,8 +103,8 @@ module _ {X : Type 0} (f : X → Belongings) (xs : List X) (i : ℕ) (x y : X) (
 
 -- so it is with what is held itself
 pub held_to : {X : Type 0} {D : X → Type 0} (helds : List (Held X D)) (content_of : DynBox X Global D → Content) (i : ℕ) (x y : Held X D) → slice_get helds i ≡ Some x
-    → (old new : World) (before after : List (List Told)) (step : Step) → i ≡ stepper step → (give : Give) (acts : List Act) (l : Look)
-    → ((first : ℕ) (v : run_world.World) → Mirrors old.agenda old.system first v → l ≡ promises.look old.agenda.plan v step)
+    → (old new : World) (before after : List (List Told)) (step : Step) → i ≡ process_of_step step → (give : Give) (acts : List Act) (l : Look)
+    → ((first : ℕ) (v : Progress) → Mirrors old.agenda old.system first v → l ≡ look old.agenda.plan v step)
     → (l ≡ look.NeedsBody → IfSome x.present (λ b. give.body ≡ offered (content_of b).kind (content_of b).value))
     → ((h : Holding) → Holds h (option_map content_of x.present) x.depot → Holds (does_all h acts) (option_map content_of y.present) y.depot)
     → y.spares.items ≡ drop (spares_of_all (is_some x.present) acts) x.spares.items

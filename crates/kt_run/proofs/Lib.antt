@@ -6,3 +6,4 @@ pub mod Numbering
 pub mod Running
 pub mod Telling
 pub mod Spares
+pub mod Rejecting

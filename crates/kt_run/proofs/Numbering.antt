@@ -3,11 +3,11 @@ use Rattle.std.proofs.Common.{◌≡◌, ◌∙◌, ◌==◌, ◌<◌, ◌+◌, 
 use Rattle.std.specs.Prelude.{All, slice_index_or, if◌then◌else◌}
 use Rattle.std.proofs.lemmas.Bool.Decides.{nat_tests}
 use Rattle.std.proofs.lemmas.List.Elements.{filter-append}
-use Rattle.kt_phases.specs.Steps.{stepper}
+use Rattle.kt_plans.specs.Steps.{process_of_step}
 use Rattle.kt_plan.specs.declared.steps.Told.{Told}
 use Rattle.kt_spacetime.specs.Events.{process_of}
 use Rattle.kt_spacetime.specs.declared.event.Event.{Event}
-use Rattle.kt_run.specs.Telling.{numbered, rows_of, rows_told, rows_by, AreToldTheirRows, TellsItsRows, AreEmpty, told_here, IsNoted}
+use Rattle.kt_run.specs.Telling.{numbered, rows_of, numbered_rows_told, numbered_rows_by, AreToldTheirRows, TellsItsRows, AreEmpty, told_here, IsNoted}
 
 abbrev pub Row : Type 0
 Row = ℕ × Event
@@ -47,33 +47,33 @@ none_by p u n (x ∷ l) e own =
     left (is_by p) (n + 1, x) (numbered (n + 1) l) (other_of (process_of x) u p (own 0 x (omega arith)) e)
     ∙ none_by p u (n + 1) l e (λ i row h. own (suc i) row (omega (arith, h)))
 
-pub rows_told_append : (xs ys : List Told) → rows_told (xs ++ ys) ≡ rows_told xs ++ rows_told ys
+pub rows_told_append : (xs ys : List Told) → numbered_rows_told (xs ++ ys) ≡ numbered_rows_told xs ++ numbered_rows_told ys
 rows_told_append [] ys = refl
-rows_told_append (x ∷ xs) ys = ap (λ (l : List Row). rows_of x ++ l) (rows_told_append xs ys) ∙ sym (append_assoc (rows_of x) (rows_told xs) (rows_told ys))
+rows_told_append (x ∷ xs) ys = ap (λ (l : List Row). rows_of x ++ l) (rows_told_append xs ys) ∙ sym (append_assoc (rows_of x) (numbered_rows_told xs) (numbered_rows_told ys))
 
 -- the rows that a step adds are told to its process, and none to others
 module _ (told : Told) (before after : List Event) (t : TellsItsRows told before after) where
-  rows_here : (p : ℕ) (b : Bool) → (p == stepper told.step) ≡ b → filter (is_by p) (numbered (length before) t.added) ≡ rows_told (if b then told ∷ [] else [])
-  rows_here p true e = all_by p (stepper told.step) (length before) t.added e t.own ∙ (sym t.rows ∙ sym (append-nil (rows_of told)))
-  rows_here p false e = none_by p (stepper told.step) (length before) t.added e t.own
+  rows_here : (p : ℕ) (b : Bool) → (p == process_of_step told.step) ≡ b → filter (is_by p) (numbered (length before) t.added) ≡ numbered_rows_told (if b then told ∷ [] else [])
+  rows_here p true e = all_by p (process_of_step told.step) (length before) t.added e t.own ∙ (sym t.rows ∙ sym (append-nil (rows_of told)))
+  rows_here p false e = none_by p (process_of_step told.step) (length before) t.added e t.own
 
-  pub rows_by_more : (p : ℕ) → rows_by p after ≡ rows_by p before ++ rows_told (told_here p told)
+  pub rows_by_more : (p : ℕ) → numbered_rows_by p after ≡ numbered_rows_by p before ++ numbered_rows_told (told_here p told)
   rows_by_more p =
-      ap (rows_by p) t.log
+      ap (numbered_rows_by p) t.log
       ∙ (ap (λ (l : List Row). filter (is_by p) l) (numbered_along 0 (length before) before t.added (omega arith))
       ∙ (filter-append (is_by p) (numbered 0 before) (numbered (length before) t.added)
-      ∙ ap (λ (l : List Row). rows_by p before ++ l) (rows_here p (p == stepper told.step) refl)))
+      ∙ ap (λ (l : List Row). numbered_rows_by p before ++ l) (rows_here p (p == process_of_step told.step) refl)))
 
   -- so each process is told its own after the step, if it was before
   pub told_their_more : (lists more : List (List Told)) → IsNoted told lists more → AreToldTheirRows before lists → AreToldTheirRows after more
   told_their_more lists more noted h p l =
       let count = noted.count in
       let there : p < length lists = omega (arith, l, count) in
-      ap rows_told (noted.each p there)
+      ap numbered_rows_told (noted.each p there)
       ∙ (rows_told_append (slice_index_or lists p []) (told_here p told)
-      ∙ (ap (λ (rows : List Row). rows ++ rows_told (told_here p told)) (h p there)
+      ∙ (ap (λ (rows : List Row). rows ++ numbered_rows_told (told_here p told)) (h p there)
       ∙ sym (rows_by_more p)))
 
 -- where nothing is done, nothing is told
 pub told_their_none : (lists : List (List Told)) → AreEmpty lists → AreToldTheirRows [] lists
-told_their_none lists n p l = ap rows_told (n p)
+told_their_none lists n p l = ap numbered_rows_told (n p)

@@ -11,25 +11,22 @@ use Rattle.kt_plan.specs.declared.steps.Act.{Act}
 use Rattle.kt_held.specs.Holdings.{Content, content, AreSaved}
 use Rattle.kt_values.specs.Values.{Rules}
 use Rattle.kt_spacetime.specs.declared.event.Event.{Event}
-use Rattle.kt_phases.specs.Runs.{Move}
-use Rattle.kt_promises.specs.World as run_world
-use Rattle.kt_promises.specs.Follows.{FollowsPlan}
-use Rattle.kt_promises.proofs.FollowsRuns.{follows_seen}
-use Rattle.kt_promises.specs.Steps.{enabled, world_after}
-use Rattle.kt_promises.specs.Defaults.{default_step}
-use Rattle.kt_promises.specs.StepActs.{acts_of_step}
-use Rattle.kt_promises.specs.Told.{told_at}
-use Rattle.kt_promises.specs.Runs.{after_moves, IsReachedWorld}
-use Rattle.kt_promises.specs.Offers.{GivesOffer, GivesOffers, offer_places, AreOfferedAt}
-use Rattle.kt_promises.proofs.NeededBodies.{offers_seen}
-use Rattle.kt_promises.proofs.WholeLogs.{no_tentative}
-use Rattle.kt_promises.proofs.PhasesOpen.{opening_is}
-use Rattle.kt_promises.proofs.GoingOn.{play_append, goes_run, goes_first, goes_next, goes_below, goes_rest}
+use Rattle.kt_plans.specs.Runs.{Move, after_moves, RunReaches}
+use Rattle.kt_plans.specs.Progress.{Progress, progress_at_start}
+use Rattle.kt_plans.specs.Follows.{FollowsPlan}
+use Rattle.kt_plans.proofs.FollowsRuns.{follows_seen}
+use Rattle.kt_plans.specs.Steps.{enabled, progress_after, process_of_step}
+use Rattle.kt_plans.specs.Defaults.{default_step}
+use Rattle.kt_plans.specs.StepActs.{acts_of_step}
+use Rattle.kt_plans.specs.Told.{told_at}
+use Rattle.kt_plans.specs.Offers.{GivesOffer, GivesOffers, offer_places, AreOfferedAt}
+use Rattle.kt_plans.proofs.NeededBodies.{offers_seen}
+use Rattle.kt_plans.proofs.WholeLogs.{no_tentative}
+use Rattle.kt_plans.proofs.PhasesOpen.{opening_is}
+use Rattle.kt_plans.proofs.GoingOn.{play_append, goes_run, goes_first, goes_next, goes_below, goes_rest}
 use Rattle.kt_system.specs.ShownActs.{acts_shown}
-use Rattle.kt_system.specs.Systems.{Grows}
-use Rattle.kt_core.specs.Worlds.{World, refusal, is_full, numbered_row}
-use Rattle.kt_phases.specs.Steps.{stepper}
-use Rattle.kt_core.specs.Worlds as core
+use Rattle.kt_system.specs.Systems.{LogGrows}
+use Rattle.kt_core.specs.Worlds.{World, step_refusal, is_full, numbered_row, can_make}
 use Rattle.kt_core.specs.declared.faults.StepFault.TheVariants.{NotEnabled, LogFull}
 use Rattle.std.proofs.lemmas.Bool.{ltb-false}
 use Rattle.kt_core.specs.declared.faults.StepFault.{StepFault}
@@ -43,15 +40,15 @@ use Rattle.kt_run.proofs.Numbering.{told_their_none, told_their_more}
 use Rattle.kt_run.proofs.Telling.{told_as, tells_its_rows, tells_nothing, tells_more}
 
 -- where a step is not refused, the log has room for its rows
-room_left : (w : World) (x : Step) → refusal w x ≡ None → length w.system.rows.rows + 4 ≤ w.limit
-room_left w x e = ltb-false w.limit (length w.system.rows.rows + 4) (go (not (core.enabled w x)) (is_full w) _ e)
+room_left : (w : World) (x : Step) → step_refusal w x ≡ None → length w.system.rows.rows + 4 ≤ w.limit
+room_left w x e = ltb-false w.limit (length w.system.rows.rows + 4) (go (not (can_make w x)) (is_full w) _ e)
   where
     go : (a b : Bool) (more : Option StepFault) → (if a then Some NotEnabled else if b then Some LogFull else more) ≡ None → b ≡ false
     go true b more e = absurd (cc (e))
     go false true more e = absurd (cc (e))
     go false false more e = refl
 
-room_kept : (old new : World) (x : Step) → Grows 4 old.system new.system → refusal old x ≡ None → new.limit ≡ old.limit → length new.system.rows.rows ≤ new.limit
+room_kept : (old new : World) (x : Step) → LogGrows 4 old.system new.system → step_refusal old x ≡ None → new.limit ≡ old.limit → length new.system.rows.rows ≤ new.limit
 room_kept old new x grew e limit =
     let room = room_left old x e in
     let rows = ap (λ (l : List Event). length l) grew.rows ∙ length-append old.system.rows.rows grew.more in
@@ -59,16 +56,16 @@ room_kept old new x grew e limit =
     omega (arith, room, rows, few, limit)
 
 abbrev Leads : World → World → Give → Step → Type 0
-Leads old new give x = (first : ℕ) (v : run_world.World) → Mirrors old.agenda old.system first v → Mirrors new.agenda new.system first (world_after old.agenda.plan v x give)
+Leads old new give x = (first : ℕ) (v : Progress) → Mirrors old.agenda old.system first v → Mirrors new.agenda new.system first (progress_after old.agenda.plan v x give)
 
 abbrev Acts : World → List Act → Give → Step → Type 0
-Acts old acts give x = (first : ℕ) (v : run_world.World) → Mirrors old.agenda old.system first v → acts_shown acts ≡ acts_of_step old.agenda.plan v x give (stepper x)
+Acts old acts give x = (first : ℕ) (v : Progress) → Mirrors old.agenda old.system first v → acts_shown acts ≡ acts_of_step old.agenda.plan v x give (process_of_step x)
 
-pub tells_now : (old new : World) (before after : List (List Told)) (x : Step) (give : Give) (told : Told) (acts : List Act) → acts ≡ told.acts → told.step ≡ x → Grows 4 old.system new.system → length told.rows ≡ 4
+pub tells_now : (old new : World) (before after : List (List Told)) (x : Step) (give : Give) (told : Told) (acts : List Act) → acts ≡ told.acts → told.step ≡ x → LogGrows 4 old.system new.system → length told.rows ≡ 4
     → ((i : ℕ) → i < 4 → slice_get told.rows i ≡ Some (numbered_row new.system.rows.rows (length old.system.rows.rows + i))) → IsNoted told before after
-    → new.limit ≡ old.limit → refusal old x ≡ None → Leads old new give x → Acts old told.acts give x → Tells old before x give new after acts
+    → new.limit ≡ old.limit → step_refusal old x ≡ None → Leads old new give x → Acts old told.acts give x → Tells old before x give new after acts
 tells_now old new before after x give told acts same is grew four read noted limit =
-    subst (λ (y : Step). refusal old y ≡ None → Leads old new give y → Acts old told.acts give y → Tells old before y give new after acts) is
+    subst (λ (y : Step). step_refusal old y ≡ None → Leads old new give y → Acts old told.acts give y → Tells old before y give new after acts) is
     (λ allowed leads asks. (
       told,
       noted,
@@ -101,45 +98,45 @@ unfolding rows_at
 four_at rows n = refl
 
 -- so it does where nobody keeps what it tells
-pub tells_unkept : (old new : World) (x : Step) (give : Give) (acts : List Act) → Grows 4 old.system new.system → new.limit ≡ old.limit → refusal old x ≡ None → Leads old new give x → Acts old acts give x
+pub tells_unkept : (old new : World) (x : Step) (give : Give) (acts : List Act) → LogGrows 4 old.system new.system → new.limit ≡ old.limit → step_refusal old x ≡ None → Leads old new give x → Acts old acts give x
     → Tells old [] x give new [] acts
 tells_unkept old new x give acts grew limit allowed leads asks =
     let told : Told = record { step = x; rows = rows_at new.system.rows.rows (length old.system.rows.rows); acts = acts } in
     tells_now old new [] [] x give told acts refl refl grew (four_at new.system.rows.rows (length old.system.rows.rows)) (read_at new.system.rows.rows (length old.system.rows.rows))
     (record { count = refl; each = λ p l. absurd (omega (arith, l)) }) limit allowed leads asks
 
-abbrev Led : Planned → run_world.World → Step → World → Told → Give → Type 0
-Led plan v x new told give = (enabled plan v x ≡ true) × Mirrors new.agenda new.system 0 (world_after plan v x give)
+abbrev Led : Planned → Progress → Step → World → Told → Give → Type 0
+Led plan v x new told give = (enabled plan v x ≡ true) × Mirrors new.agenda new.system 0 (progress_after plan v x give)
     × IsToldAs told (told_at plan v (record { step = x; give = give }))
-    × TellsItsRows told v.now.log (world_after plan v x give).now.log
+    × TellsItsRows told v.now.log (progress_after plan v x give).now.log
 
-led : (plan : Planned) (old new : World) (before after : Scene) (x : Step) (v : run_world.World) → old.agenda.plan ≡ plan → (s : StepsTo old before x new after) → Mirrors old.agenda old.system 0 v → Led plan v x new s.0 s.1
+led : (plan : Planned) (old new : World) (before after : Scene) (x : Step) (v : Progress) → old.agenda.plan ≡ plan → (s : StepsTo old before x new after) → Mirrors old.agenda old.system 0 v → Led plan v x new s.0 s.1
 led plan old new before after x v e s r = let t = s.5 0 v r in subst (λ (z : Planned). Led z v x new s.0 s.1) e (t.0, t.1, t.2, t.3)
 
 -- what each process holds, and what is given
-abbrev Keeps : Planned → List (List Content) → run_world.World → Step → Give → Scene → Type 0
-Keeps plan cast v x give after = GivesOffer (rules_by cast) plan v x give × HoldDue cast (world_after plan v x give).now.log after.has
+abbrev Keeps : Planned → List (List Content) → Progress → Step → Give → Scene → Type 0
+Keeps plan cast v x give after = GivesOffer (rules_by cast) plan v x give × HoldDue cast (progress_after plan v x give).now.log after.has
 
-keeps : (plan : Planned) (cast : List (List Content)) (old new : World) (before after : Scene) (x : Step) (v : run_world.World) → old.agenda.plan ≡ plan → (s : StepsTo old before x new after) → Mirrors old.agenda old.system 0 v
+keeps : (plan : Planned) (cast : List (List Content)) (old new : World) (before after : Scene) (x : Step) (v : Progress) → old.agenda.plan ≡ plan → (s : StepsTo old before x new after) → Mirrors old.agenda old.system 0 v
     → HoldDue cast v.now.log before.has → Keeps plan cast v x s.1 after
 keeps plan cast old new before after x v e s r due = subst (λ (z : Planned). Keeps z cast v x s.1 after) e ((s.5 0 v r).4 cast due)
 
 -- what is given at some moves, and at one more
-gives_more : (rules : ℕ → Rules (List ℤ)) (plan : Planned) (xs : List Move) (m : Move) (u v : run_world.World) → after_moves plan u xs ≡ Some v
+gives_more : (rules : ℕ → Rules (List ℤ)) (plan : Planned) (xs : List Move) (m : Move) (u v : Progress) → after_moves plan u xs ≡ Some v
     → GivesOffers rules plan u xs → GivesOffer rules plan v m.step m.give → GivesOffers rules plan u (xs ++ m ∷ [])
-gives_more rules plan [] m u v e o g = (subst (λ (w : run_world.World). GivesOffer rules plan w m.step m.give) (sym (ap (λ (w : Option run_world.World). unwrap_or w u) e)) g, tt)
-gives_more rules plan (x ∷ xs) m u v e o g = (o.0, go (enabled plan u x.step) e (λ f. gives_more rules plan xs m (world_after plan u x.step x.give) v f o.1 g))
+gives_more rules plan [] m u v e o g = (subst (λ (w : Progress). GivesOffer rules plan w m.step m.give) (sym (ap (λ (w : Option Progress). unwrap_or w u) e)) g, tt)
+gives_more rules plan (x ∷ xs) m u v e o g = (o.0, go (enabled plan u x.step) e (λ f. gives_more rules plan xs m (progress_after plan u x.step x.give) v f o.1 g))
   where
-    go : (b : Bool) → (if b then after_moves plan (world_after plan u x.step x.give) xs else None) ≡ Some v
-        → (after_moves plan (world_after plan u x.step x.give) xs ≡ Some v → GivesOffers rules plan (world_after plan u x.step x.give) (xs ++ m ∷ []))
-        → GivesOffers rules plan (world_after plan u x.step x.give) (xs ++ m ∷ [])
+    go : (b : Bool) → (if b then after_moves plan (progress_after plan u x.step x.give) xs else None) ≡ Some v
+        → (after_moves plan (progress_after plan u x.step x.give) xs ≡ Some v → GivesOffers rules plan (progress_after plan u x.step x.give) (xs ++ m ∷ []))
+        → GivesOffers rules plan (progress_after plan u x.step x.give) (xs ++ m ∷ [])
     go true e f = f e
     go false e f = absurd (cc (e))
 
 pub begins_start : (plan : Planned) (cast : List (List Content)) (w : World) (at : Scene) → Starts plan w → AreEmpty at.told → HoldDue cast [] at.has → BeginsRun plan cast [] w at
 begins_start plan cast w at s n due = record {
   moves = [];
-  now = run_world.start_world plan 0;
+  now = progress_at_start plan 0;
   made = refl;
   leads = refl;
   shown = s.shown;
@@ -159,15 +156,15 @@ begins_more plan cast steps x old new before after e b s =
     let m : Move = record { step = x; give = s.1 } in
     record {
       moves = b.moves ++ m ∷ [];
-      now = world_after plan b.now x s.1;
+      now = progress_after plan b.now x s.1;
       made = map-append (λ (y : Move). y.step) b.moves (m ∷ []) ∙ ap (λ (ys : List Step). ys ++ x ∷ []) b.made;
-      leads = play_append plan b.moves (m ∷ []) (run_world.start_world plan 0) b.now (world_after plan b.now x s.1) b.leads (let on = l.0 in rw on refl);
+      leads = play_append plan b.moves (m ∷ []) (progress_at_start plan 0) b.now (progress_after plan b.now x s.1) b.leads (let on = l.0 in rw on refl);
       shown = l.1;
       limit = s.3 ∙ b.limit;
       few = s.4;
       tells = tells_more plan b.moves b.now m s.0 before.told after.told b.leads l.2 s.2 b.tells;
-      rows = told_their_more s.0 b.now.now.log (world_after plan b.now x s.1).now.log l.3 before.told after.told s.2 b.rows;
-      offers = gives_more (rules_by cast) plan b.moves m (run_world.start_world plan 0) b.now b.leads b.offers k.0;
+      rows = told_their_more s.0 b.now.now.log (progress_after plan b.now x s.1).now.log l.3 before.told after.told s.2 b.rows;
+      offers = gives_more (rules_by cast) plan b.moves m (progress_at_start plan 0) b.now b.leads b.offers k.0;
       due = k.1;
     }
 
@@ -188,7 +185,7 @@ goes_start plan cast steps w at b = (
     few = b.few;
     tells = subst (λ (moves : List Move). AreToldInRun plan moves at.told) (sym (append-nil b.moves)) b.tells;
     rows = b.rows;
-    offers = subst (λ (moves : List Move). GivesOffers (rules_by cast) plan (run_world.start_world plan 0) moves) (sym (append-nil b.moves)) b.offers;
+    offers = subst (λ (moves : List Move). GivesOffers (rules_by cast) plan (progress_at_start plan 0) moves) (sym (append-nil b.moves)) b.offers;
     due = b.due;
   },
   omega arith,
@@ -208,7 +205,7 @@ goes_more plan cast steps n x old new before after e h s d =
       record {
         given = g.given;
         more = g.more ++ m ∷ [];
-        now = world_after plan g.now x s.1;
+        now = progress_after plan g.now x s.1;
         begins = g.begins;
         goes_on = goes_next plan 0 g.given g.more g.now x s.1 limits g.goes_on (subst (λ (z : Planned). default_step z g.now ≡ Some x) e (sym d));
         shown = l.1;
@@ -216,9 +213,9 @@ goes_more plan cast steps n x old new before after e h s d =
         few = s.4;
         tells = subst (λ (moves : List Move). AreToldInRun plan moves after.told) (append_assoc g.given g.more (m ∷ []))
             (tells_more plan (g.given ++ g.more) g.now m s.0 before.told after.told run l.2 s.2 g.tells);
-        rows = told_their_more s.0 g.now.now.log (world_after plan g.now x s.1).now.log l.3 before.told after.told s.2 g.rows;
-        offers = subst (λ (moves : List Move). GivesOffers (rules_by cast) plan (run_world.start_world plan 0) moves) (append_assoc g.given g.more (m ∷ []))
-            (gives_more (rules_by cast) plan (g.given ++ g.more) m (run_world.start_world plan 0) g.now run g.offers k.0);
+        rows = told_their_more s.0 g.now.now.log (progress_after plan g.now x s.1).now.log l.3 before.told after.told s.2 g.rows;
+        offers = subst (λ (moves : List Move). GivesOffers (rules_by cast) plan (progress_at_start plan 0) moves) (append_assoc g.given g.more (m ∷ []))
+            (gives_more (rules_by cast) plan (g.given ++ g.more) m (progress_at_start plan 0) g.now run g.offers k.0);
         due = k.1;
       },
       omega (arith, more, so),
@@ -257,10 +254,10 @@ module _ (plan : Planned) (cast : List (List Content)) (steps : List Step) (w : 
   rows_are : rows ≡ r.run.now.now.log
   rows_are = log ∙ r.run.shown.now.log
 
-  leads : after_moves plan (run_world.start_world plan 0) (r.run.given ++ r.run.more) ≡ Some r.run.now
+  leads : after_moves plan (progress_at_start plan 0) (r.run.given ++ r.run.more) ≡ Some r.run.now
   leads = goes_run plan 0 r.run.given r.run.more r.run.now r.run.goes_on
 
-  reached : IsReachedWorld plan 0 r.run.now
+  reached : RunReaches plan 0 r.run.now
   reached = record { moves = r.run.given ++ r.run.more; leads = leads }
 
   pub run_of : IsPlayed plan cast steps rows
@@ -273,7 +270,7 @@ module _ (plan : Planned) (cast : List (List Content)) (steps : List Step) (w : 
       leads = leads;
       rest = r.rest;
       log = rows_are;
-      offers = subst (λ (l : List Event). AreOfferedAt (rules_by cast) l (offer_places plan (run_world.start_world plan 0) (r.run.given ++ r.run.more))) (sym rows_are)
+      offers = subst (λ (l : List Event). AreOfferedAt (rules_by cast) l (offer_places plan (progress_at_start plan 0) (r.run.given ++ r.run.more))) (sym rows_are)
           (offers_seen (rules_by cast) plan 0 limits (r.run.given ++ r.run.more) r.run.now leads r.run.offers);
     };
     goes_on = r.run.goes_on;
@@ -309,11 +306,11 @@ pub given_next : (plan : Planned) (cast : List (List Content)) (steps : List Ste
 given_next plan cast steps i w at x b l e = record { at = at; run = b; next = slice_get_read steps (length steps) i x refl l e }
 
 -- it is refused
-pub given_refused : (plan : Planned) (cast : List (List Content)) (steps : List Step) (i done : ℕ) (w : World) (x : Step) (fault : StepFault) → IsGivenNext plan cast steps i w x → done ≡ i → refusal w x ≡ Some fault → IsGivenRefused plan cast steps done fault
+pub given_refused : (plan : Planned) (cast : List (List Content)) (steps : List Step) (i done : ℕ) (w : World) (x : Step) (fault : StepFault) → IsGivenNext plan cast steps i w x → done ≡ i → step_refusal w x ≡ Some fault → IsGivenRefused plan cast steps done fault
 given_refused plan cast steps i done w x fault n count refused = subst (λ (k : ℕ). IsGivenRefused plan cast steps k fault) (sym count) (record { world = w; step = x; next = n; refused = refused })
 
 -- it is one of this process
-pub given_stopped : (plan : Planned) (cast : List (List Content)) (steps : List Step) (i : ℕ) (w : World) (x : Step) (p : ℕ) → IsGivenNext plan cast steps i w x → stepper x ≡ p → refusal w x ≡ None → IsStopped plan cast steps p
+pub given_stopped : (plan : Planned) (cast : List (List Content)) (steps : List Step) (i : ℕ) (w : World) (x : Step) (p : ℕ) → IsGivenNext plan cast steps i w x → process_of_step x ≡ p → step_refusal w x ≡ None → IsStopped plan cast steps p
 given_stopped plan cast steps i w x p n own made = record { done = i; world = w; step = x; next = inl n; own = own; made = made }
 
 -- the next default step
@@ -327,11 +324,11 @@ default_next plan cast steps n done w at x e h count next = record {
 }
 
 -- it is refused
-pub default_refused : (plan : Planned) (cast : List (List Content)) (steps : List Step) (done : ℕ) (w : World) (x : Step) (fault : StepFault) → IsDefaultNext plan cast steps done w x → refusal w x ≡ Some fault → IsDefaultRefused plan cast steps done fault
+pub default_refused : (plan : Planned) (cast : List (List Content)) (steps : List Step) (done : ℕ) (w : World) (x : Step) (fault : StepFault) → IsDefaultNext plan cast steps done w x → step_refusal w x ≡ Some fault → IsDefaultRefused plan cast steps done fault
 default_refused plan cast steps done w x fault n refused = record { world = w; step = x; next = n; refused = refused }
 
 -- it is one of this process
-pub default_stopped : (plan : Planned) (cast : List (List Content)) (steps : List Step) (done : ℕ) (w : World) (x : Step) (p : ℕ) → IsDefaultNext plan cast steps done w x → stepper x ≡ p → refusal w x ≡ None → IsStopped plan cast steps p
+pub default_stopped : (plan : Planned) (cast : List (List Content)) (steps : List Step) (done : ℕ) (w : World) (x : Step) (p : ℕ) → IsDefaultNext plan cast steps done w x → process_of_step x ≡ p → step_refusal w x ≡ None → IsStopped plan cast steps p
 default_stopped plan cast steps done w x p n own made = record { done = done; world = w; step = x; next = inr n; own = own; made = made }
 
 pub take_next : (xs : List Step) (i : ℕ) (x : Step) → i < length xs → x ≡ get_or xs i x → take (i + 1) xs ≡ take i xs ++ x ∷ []

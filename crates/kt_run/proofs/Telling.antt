@@ -7,22 +7,20 @@ use Rattle.std.proofs.lemmas.Option.{slice_get-get_or}
 use Rattle.std.proofs.Math.Seq.{drop-append_seam}
 use Rattle.kt_core.specs.Shown.{Mirrors}
 use Rattle.kt_core.specs.Worlds.{World, numbered_row}
-use Rattle.kt_phases.specs.Steps.{stepper}
+use Rattle.kt_plans.specs.Steps.{process_of_step, enabled, progress_after}
 use Rattle.kt_plan.specs.Limits.{Planned, IsPlan}
 use Rattle.kt_plan.specs.declared.steps.Give.{Give}
 use Rattle.kt_plan.specs.declared.steps.Told.{Told}
-use Rattle.kt_phases.specs.Runs.{Move}
-use Rattle.kt_promises.specs.Runs.{IsReachedWorld, after_moves}
-use Rattle.kt_promises.specs.StepActs.{rows_added, acts_of_step}
-use Rattle.kt_promises.specs.Steps.{enabled, world_after}
-use Rattle.kt_promises.specs.Told as run_told
-use Rattle.kt_promises.specs.World as run_world
-use Rattle.kt_promises.proofs.ActsOfSteps.{log_grows, rows_of_one}
-use Rattle.kt_promises.proofs.ToldAlong.{told_more}
+use Rattle.kt_plans.specs.Runs.{Move, RunReaches, after_moves}
+use Rattle.kt_plans.specs.StepActs.{rows_added, acts_of_step}
+use Rattle.kt_plans.specs.Told.{StepTold, told_at, told_by, told_by_move}
+use Rattle.kt_plans.specs.Progress.{Progress, progress_at_start}
+use Rattle.kt_plans.proofs.ActsOfSteps.{log_grows, rows_of_one}
+use Rattle.kt_plans.proofs.ToldAlong.{told_more}
 use Rattle.kt_spacetime.specs.Events.{process_of}
 use Rattle.kt_spacetime.specs.declared.event.Event.{Event}
 use Rattle.kt_system.specs.ShownActs.{acts_shown}
-use Rattle.kt_system.specs.Systems.{Grows}
+use Rattle.kt_system.specs.Systems.{LogGrows}
 use Rattle.kt_run.proofs.Numbering.{Row}
 use Rattle.kt_run.specs.Telling.{numbered, rows_of, IsToldAs, AreToldInRun, AreEmpty, TellsItsRows, told_here, IsNoted}
 
@@ -73,13 +71,13 @@ tells_rows told n rows four read few =
     reads i l = read i l ∙ ap (λ (o : Option Event). Some (option_map (λ (row : Event). (n + i + 1, row)) o)) (get_dropped n (n + i) i rows refl)
 
 -- one step, from a world that a run led to
-module _ (plan : Planned) (told : Told) (give : Give) (old new : World) (first : ℕ) (v : run_world.World) (plans : old.agenda.plan ≡ plan) (r : Mirrors old.agenda old.system first v)
-    (next : Mirrors new.agenda new.system first (world_after plan v told.step give))
-    (on : enabled plan v told.step ≡ true) (grew : Grows 4 old.system new.system) (four : length told.rows ≡ 4)
+module _ (plan : Planned) (told : Told) (give : Give) (old new : World) (first : ℕ) (v : Progress) (plans : old.agenda.plan ≡ plan) (r : Mirrors old.agenda old.system first v)
+    (next : Mirrors new.agenda new.system first (progress_after plan v told.step give))
+    (on : enabled plan v told.step ≡ true) (grew : LogGrows 4 old.system new.system) (four : length told.rows ≡ 4)
     (read : (i : ℕ) → i < 4 → slice_get told.rows i ≡ Some (numbered_row new.system.rows.rows (length old.system.rows.rows + i)))
-    (did : acts_shown told.acts ≡ acts_of_step old.agenda.plan v told.step give (stepper told.step)) where
-  abbrev w : run_world.World
-  w = world_after plan v told.step give
+    (did : acts_shown told.acts ≡ acts_of_step old.agenda.plan v told.step give (process_of_step told.step)) where
+  abbrev w : Progress
+  w = progress_after plan v told.step give
 
   abbrev added : List Event
   added = rows_added plan v told.step give
@@ -90,8 +88,8 @@ module _ (plan : Planned) (told : Told) (give : Give) (old new : World) (first :
   limits : IsPlan plan
   limits = subst (λ (p : Planned). IsPlan p) plans r.limits
 
-  reached : IsReachedWorld plan first v
-  reached = subst (λ (p : Planned). IsReachedWorld p first v) plans r.reached
+  reached : RunReaches plan first v
+  reached = subst (λ (p : Planned). RunReaches p first v) plans r.reached
 
   grows : w.now.log ≡ v.now.log ++ added
   grows = log_grows plan first v told.step give limits reached on
@@ -109,14 +107,14 @@ module _ (plan : Planned) (told : Told) (give : Give) (old new : World) (first :
       ∙ (ap (λ (rows : List Event). Some (numbered_row rows (length old.system.rows.rows + i))) next.now.log
       ∙ ap (λ (rows : List Event). Some (numbered_row w.now.log (length rows + i))) r.now.log)) few
 
-  own : (i : ℕ) (row : Event) → slice_get added i ≡ Some row → process_of row ≡ stepper told.step
+  own : (i : ℕ) (row : Event) → slice_get added i ≡ Some row → process_of row ≡ process_of_step told.step
   own i row h = rows_of_one plan first v told.step give i row limits reached on h
 
-  acts : acts_shown told.acts ≡ acts_of_step plan v told.step give (stepper told.step)
+  acts : acts_shown told.acts ≡ acts_of_step plan v told.step give (process_of_step told.step)
   acts =
-      subst (λ (p : Planned). acts_shown told.acts ≡ acts_of_step p v told.step give (stepper told.step)) plans did
+      subst (λ (p : Planned). acts_shown told.acts ≡ acts_of_step p v told.step give (process_of_step told.step)) plans did
 
-  pub told_as : IsToldAs told (run_told.told_at plan v (record { step = told.step; give = give }))
+  pub told_as : IsToldAs told (told_at plan v (record { step = told.step; give = give }))
   told_as = record { step = refl; rows = ap (λ (l : List Row). map (λ (row : Row). row.1) l) tells ∙ without_numbers n added; acts = acts }
 
   pub tells_its_rows : TellsItsRows told v.now.log w.now.log
@@ -133,24 +131,24 @@ all_zip_append R (x ∷ xs) more (y ∷ ys) also h k = (h.0, all_zip_append R xs
 pub tells_nothing : (plan : Planned) (told : List (List Told)) → AreEmpty told → AreToldInRun plan [] told
 tells_nothing plan told n p l = subst (λ (list : List Told). AllZip IsToldAs list []) (sym (n p)) tt
 
-told_now : (plan : Planned) (v : run_world.World) (x : Move) (p : ℕ) (told : Told) → IsToldAs told (run_told.told_at plan v x)
-    → AllZip IsToldAs (told_here p told) (run_told.told_by_move plan v p x)
+told_now : (plan : Planned) (v : Progress) (x : Move) (p : ℕ) (told : Told) → IsToldAs told (told_at plan v x)
+    → AllZip IsToldAs (told_here p told) (told_by_move plan v p x)
 told_now plan v x p told same =
-    subst (λ (q : ℕ). AllZip IsToldAs (told_here p told) (if p == q then run_told.told_at plan v x ∷ [] else []))
-    (ap stepper same.step) (at_both (p == stepper told.step))
+    subst (λ (q : ℕ). AllZip IsToldAs (told_here p told) (if p == q then told_at plan v x ∷ [] else []))
+    (ap process_of_step same.step) (at_both (p == process_of_step told.step))
   where
-    at_both : (b : Bool) → AllZip IsToldAs (if b then told ∷ [] else []) (if b then run_told.told_at plan v x ∷ [] else [])
+    at_both : (b : Bool) → AllZip IsToldAs (if b then told ∷ [] else []) (if b then told_at plan v x ∷ [] else [])
     at_both true = (same, tt)
     at_both false = tt
 
-pub tells_more : (plan : Planned) (moves : List Move) (v : run_world.World) (x : Move) (told : Told) (before after : List (List Told))
-    → after_moves plan (run_world.start_world plan 0) moves ≡ Some v → IsToldAs told (run_told.told_at plan v x)
+pub tells_more : (plan : Planned) (moves : List Move) (v : Progress) (x : Move) (told : Told) (before after : List (List Told))
+    → after_moves plan (progress_at_start plan 0) moves ≡ Some v → IsToldAs told (told_at plan v x)
     → IsNoted told before after → AreToldInRun plan moves before → AreToldInRun plan (moves ++ x ∷ []) after
 tells_more plan moves v x told before after e same noted h p l =
-    let start = run_world.start_world plan 0 in
+    let start = progress_at_start plan 0 in
     let count = noted.count in
     let there : p < length before = omega (arith, l, count) in
-    subst (λ (list : List Told). AllZip IsToldAs list (run_told.told_by plan start p (moves ++ x ∷ []))) (sym (noted.each p there))
-    (subst (λ (list : List run_told.Told). AllZip IsToldAs (slice_index_or before p [] ++ told_here p told) list) (sym (told_more plan p moves start v x e))
-    (all_zip_append IsToldAs (slice_index_or before p []) (told_here p told) (run_told.told_by plan start p moves) (run_told.told_by_move plan v p x)
+    subst (λ (list : List Told). AllZip IsToldAs list (told_by plan start p (moves ++ x ∷ []))) (sym (noted.each p there))
+    (subst (λ (list : List StepTold). AllZip IsToldAs (slice_index_or before p [] ++ told_here p told) list) (sym (told_more plan p moves start v x e))
+    (all_zip_append IsToldAs (slice_index_or before p []) (told_here p told) (told_by plan start p moves) (told_by_move plan v p x)
     (h p there) (told_now plan v x p told same)))

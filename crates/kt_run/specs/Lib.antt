@@ -3,3 +3,4 @@ pub mod Objects
 pub mod Refused
 pub mod Runs
 pub mod Telling
+pub mod Rejections

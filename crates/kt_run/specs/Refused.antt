@@ -3,9 +3,9 @@ use Rattle.std.specs.Prelude.{◌≡◌, ◌+◌, ◌⊎◌, ℕ, Some, None, Li
 use Rattle.kt_held.specs.Holdings.{Content}
 use Rattle.kt_plan.specs.Limits.{Planned}
 use Rattle.kt_plan.specs.declared.steps.Step.{Step}
-use Rattle.kt_phases.specs.Steps.{stepper}
-use Rattle.kt_promises.specs.Defaults.{default_step}
-use Rattle.kt_core.specs.Worlds.{World, refusal}
+use Rattle.kt_plans.specs.Steps.{process_of_step}
+use Rattle.kt_plans.specs.Defaults.{default_step}
+use Rattle.kt_core.specs.Worlds.{World, step_refusal}
 use Rattle.kt_core.specs.declared.faults.StepFault.{StepFault}
 use Rattle.kt_run.specs.Runs.{Scene, BeginsRun, Goes}
 
@@ -27,14 +27,14 @@ pub record IsGivenRefused (plan : Planned) (cast : List (List Content)) (steps :
   pub world : World
   pub step : Step
   pub next : IsGivenNext plan cast steps done world step
-  pub refused : refusal world step ≡ Some fault
+  pub refused : step_refusal world step ≡ Some fault
 
 -- a run by so many steps, all of these and then default ones, leads to a world that refuses the next default step
 pub record IsDefaultRefused (plan : Planned) (cast : List (List Content)) (steps : List Step) (done : ℕ) (fault : StepFault) : Type 0 where
   pub world : World
   pub step : Step
   pub next : IsDefaultNext plan cast steps done world step
-  pub refused : refusal world step ≡ Some fault
+  pub refused : step_refusal world step ≡ Some fault
 
 -- one of the two
 abbrev pub IsStepRefused : Planned → List (List Content) → List Step → ℕ → StepFault → Type 0
@@ -48,5 +48,5 @@ pub record IsStopped (plan : Planned) (cast : List (List Content)) (steps : List
   pub world : World
   pub step : Step
   pub next : IsGivenNext plan cast steps done world step ⊎ IsDefaultNext plan cast steps done world step
-  pub own : stepper step ≡ p
-  pub made : refusal world step ≡ None
+  pub own : process_of_step step ≡ p
+  pub made : step_refusal world step ≡ None

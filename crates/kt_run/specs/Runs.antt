@@ -10,13 +10,11 @@ use Rattle.kt_plan.specs.declared.steps.Step.{Step}
 use Rattle.kt_plan.specs.declared.steps.Give.{Give}
 use Rattle.kt_plan.specs.declared.steps.Act.{Act}
 use Rattle.kt_plan.specs.declared.steps.Told.{Told}
-use Rattle.kt_phases.specs.Runs.{Move}
-use Rattle.kt_promises.specs.World as run_world
-use Rattle.kt_promises.specs.Steps.{enabled, world_after, is_at_rest}
-use Rattle.kt_promises.specs.Runs.{GoesOn, after_moves}
-use Rattle.kt_promises.specs.Offers.{GivesOffer, GivesOffers, offer_places, AreOfferedAt}
-use Rattle.kt_promises.specs.Told.{told_at}
-use Rattle.kt_promises.specs.World.{start_world}
+use Rattle.kt_plans.specs.Runs.{Move, GoesOn, after_moves}
+use Rattle.kt_plans.specs.Progress.{Progress, progress_at_start}
+use Rattle.kt_plans.specs.Steps.{enabled, progress_after, is_at_rest}
+use Rattle.kt_plans.specs.Offers.{GivesOffer, GivesOffers, offer_places, AreOfferedAt}
+use Rattle.kt_plans.specs.Told.{told_at}
 use Rattle.kt_core.specs.Worlds.{World}
 use Rattle.kt_core.specs.Shown.{Mirrors}
 use Rattle.kt_run.specs.Objects.{Belongings, has_of, rules_by, HoldDue}
@@ -36,29 +34,29 @@ scene told helds content_of = record { told = told; has = has_of helds content_o
 abbrev pub Tells : World → List (List Told) → Step → Give → World → List (List Told) → List Act → Type 0
 Tells old before step give new after acts = (told : Told) × IsNoted told before after × (acts ≡ told.acts) × (new.limit ≡ old.limit)
     × (length new.system.rows.rows ≤ new.limit)
-    × ((first : ℕ) (v : run_world.World) → Mirrors old.agenda old.system first v →
+    × ((first : ℕ) (v : Progress) → Mirrors old.agenda old.system first v →
     (enabled old.agenda.plan v step ≡ true)
-    × Mirrors new.agenda new.system first (world_after old.agenda.plan v step give)
+    × Mirrors new.agenda new.system first (progress_after old.agenda.plan v step give)
     × IsToldAs told (told_at old.agenda.plan v (record { step = step; give = give }))
-    × TellsItsRows told v.now.log (world_after old.agenda.plan v step give).now.log)
+    × TellsItsRows told v.now.log (progress_after old.agenda.plan v step give).now.log)
 
 -- with something that its object gives, a step does so; and where each process holds what is due to it, what is given is
 -- what the object offers, if the step asks for that, and then again each process holds what is due to it
 abbrev pub StepsTo : World → Scene → Step → World → Scene → Type 0
 StepsTo old before step new after = (told : Told) × (give : Give) × IsNoted told before.told after.told × (new.limit ≡ old.limit)
     × (length new.system.rows.rows ≤ new.limit)
-    × ((first : ℕ) (v : run_world.World) → Mirrors old.agenda old.system first v →
+    × ((first : ℕ) (v : Progress) → Mirrors old.agenda old.system first v →
     (enabled old.agenda.plan v step ≡ true)
-    × Mirrors new.agenda new.system first (world_after old.agenda.plan v step give)
+    × Mirrors new.agenda new.system first (progress_after old.agenda.plan v step give)
     × IsToldAs told (told_at old.agenda.plan v (record { step = step; give = give }))
-    × TellsItsRows told v.now.log (world_after old.agenda.plan v step give).now.log
+    × TellsItsRows told v.now.log (progress_after old.agenda.plan v step give).now.log
     × ((cast : List (List Content)) → HoldDue cast v.now.log before.has →
     GivesOffer (rules_by cast) old.agenda.plan v step give
-    × HoldDue cast (world_after old.agenda.plan v step give).now.log after.has))
+    × HoldDue cast (progress_after old.agenda.plan v step give).now.log after.has))
 
 -- nothing is done in a world, whose log may have 2^24 rows and has none
 pub record Starts (plan : Planned) (world : World) : Type 0 where
-  pub shown : Mirrors world.agenda world.system 0 (start_world plan 0)
+  pub shown : Mirrors world.agenda world.system 0 (progress_at_start plan 0)
   pub limit : world.limit ≡ 2 ^ 24
   pub rows : world.system.rows.rows ≡ []
 
@@ -66,22 +64,22 @@ pub record Starts (plan : Planned) (world : World) : Type 0 where
 -- objects, holds what is due to it, and what was given at each step that asks for it is what its object offers
 pub record BeginsRun (plan : Planned) (cast : List (List Content)) (steps : List Step) (world : World) (at : Scene) : Type 0 where
   pub moves : List Move
-  pub now : run_world.World
+  pub now : Progress
   pub made : map (λ (m : Move). m.step) moves ≡ steps
-  pub leads : after_moves plan (start_world plan 0) moves ≡ Some now
+  pub leads : after_moves plan (progress_at_start plan 0) moves ≡ Some now
   pub shown : Mirrors world.agenda world.system 0 now
   pub limit : world.limit ≡ 2 ^ 24
   pub few : length world.system.rows.rows ≤ world.limit
   pub tells : AreToldInRun plan moves at.told
   pub rows : AreToldTheirRows now.now.log at.told
-  pub offers : GivesOffers (rules_by cast) plan (start_world plan 0) moves
+  pub offers : GivesOffers (rules_by cast) plan (progress_at_start plan 0) moves
   pub due : HoldDue cast now.now.log at.has
 
 -- so does a run that begins with these steps, and goes on by default steps
 pub record Goes (plan : Planned) (cast : List (List Content)) (steps : List Step) (world : World) (at : Scene) : Type 0 where
   pub given : List Move
   pub more : List Move
-  pub now : run_world.World
+  pub now : Progress
   pub begins : map (λ (m : Move). m.step) given ≡ steps
   pub goes_on : GoesOn plan 0 given more now
   pub shown : Mirrors world.agenda world.system 0 now
@@ -89,7 +87,7 @@ pub record Goes (plan : Planned) (cast : List (List Content)) (steps : List Step
   pub few : length world.system.rows.rows ≤ world.limit
   pub tells : AreToldInRun plan (given ++ more) at.told
   pub rows : AreToldTheirRows now.now.log at.told
-  pub offers : GivesOffers (rules_by cast) plan (start_world plan 0) (given ++ more)
+  pub offers : GivesOffers (rules_by cast) plan (progress_at_start plan 0) (given ++ more)
   pub due : HoldDue cast now.now.log at.has
 
 -- and has come to rest there
@@ -101,11 +99,11 @@ pub record Rests (plan : Planned) (cast : List (List Content)) (steps : List Ste
 -- these rows; each body that a command leaves to the object, of those that each process is given, is what that offers at
 -- its row
 pub record IsRun (plan : Planned) (cast : List (List Content)) (moves : List Move) (rows : List Event) : Type 0 where
-  pub end : run_world.World
-  pub leads : after_moves plan (start_world plan 0) moves ≡ Some end
+  pub end : Progress
+  pub leads : after_moves plan (progress_at_start plan 0) moves ≡ Some end
   pub rest : is_at_rest plan end ≡ true
   pub log : rows ≡ end.now.log
-  pub offers : AreOfferedAt (rules_by cast) rows (offer_places plan (start_world plan 0) moves)
+  pub offers : AreOfferedAt (rules_by cast) rows (offer_places plan (progress_at_start plan 0) moves)
 
 -- these are the rows of a run of the plan, in whatever order its steps are made
 abbrev pub IsLogOfRun : Planned → List (List Content) → List Event → Type 0

@@ -1,7 +1,7 @@
 //! What the processes of a run were told.
 
 ghost use Rattle.std.specs.Prelude.{◌≡◌, [], false, length, map, IfOk, OnOk};
-ghost use Rattle.kt_phases.specs.Steps.{stepper};
+ghost use Rattle.kt_plans.specs.Steps.{process_of_step};
 ghost use Rattle.kt_run.specs.Telling.{AreEmpty, IsNoted};
 
 use kt_base::{Memory, ProcNo};
@@ -74,7 +74,7 @@ impl Journals {
 
 /// Whose step it is.
 pub(crate) fn process_of(step: &Step) -> ProcNo
-    ensures { result ≡ stepper step.now }
+    ensures { result ≡ process_of_step step.now }
 {
     match step {
         Step::Do(p) => *p,

@@ -1,14 +1,16 @@
 //! Serial runs.
 
-ghost use Rattle.std.specs.Prelude.{◌≡◌, ◌<◌, ◌⊎◌, ℕ, length, None, All, map, OnOk, IfOk, IfErr};
+ghost use Rattle.std.specs.Prelude.{◌≡◌, ◌⊎◌, ℕ, [], None, All, map, slice_index, slice_index_or, OnOk, IfOk, IfErr};
 ghost use Rattle.std.specs.List.{AllZip};
 ghost use Rattle.kt_core.specs.declared.faults.StepFault.{StepFault};
 ghost use Rattle.kt_held.specs.Holdings.{content};
-ghost use Rattle.kt_promises.specs.Follows.{FollowsPlan};
-ghost use Rattle.kt_promises.specs.Headline.{IsPromised};
+ghost use Rattle.kt_held.specs.Refusals.{IsLeastRefused};
+ghost use Rattle.kt_plans.specs.Follows.{FollowsPlan};
+ghost use Rattle.kt_plans.specs.Headline.{IsPromised};
 ghost use Rattle.kt_run.specs.Faults.{IsCast, Answers};
 ghost use Rattle.kt_run.specs.Objects.{has_of, HoldDue, AreLeft};
 ghost use Rattle.kt_run.specs.Refused.{IsStepRefused, IsStopped};
+ghost use Rattle.kt_run.specs.Rejections.{MayReject};
 ghost use Rattle.kt_run.specs.Runs.{IsPlayed, IsToldPlay};
 ghost use Rattle.kt_run.specs.Telling.{AreToldTheirRows};
 
@@ -45,11 +47,15 @@ pub fn run(alloc: Global, plan: &Plan, steps: &[Step], cast: Cast) -> Result<Out
         IsStopped plan.now (map (λ row. map (λ b. content (kind_of b) (value_of b)) row.items)
         cast.items) steps.now p) }
 
-    // Where an object fails, it is that of a process of the plan: at first, or in a step of its own.
+    // Where an object fails, it is either at first, that of the least process whose save may be refused; or in a step of
+    // its own that was not refused, where one of the objects that the process was given may reject a saved state of their
+    // kind.
     ensures object { IfErr result (λ fault. (p : ℕ) → fault ≡ RunFault.Object p →
-        (p < length plan.now.names)
-        ⊎ IsStopped plan.now (map (λ row. map (λ b. content (kind_of b) (value_of b)) row.items)
-        cast.items) steps.now p) }
+        IsLeastRefused (λ b. may_save b) (λ b. may_refuse b) (map (λ row. row.items) cast.items) p
+        ⊎ (IsStopped plan.now (map (λ row. map (λ b. content (kind_of b) (value_of b)) row.items)
+        cast.items) steps.now p
+        × MayReject (λ b saved. may_reject b saved) (slice_index plan.now.kinds p)
+        (slice_index_or (map (λ row. row.items) cast.items) p []))) }
 
     // The log is that of a run of the plan which begins with the steps given, goes on by default steps, and comes to rest;
     // each process was told, step for step, what that run tells it; and all is so of the log that is promised of a run's.
@@ -100,11 +106,15 @@ pub fn log_of(alloc: Global, plan: &Plan, steps: &[Step], cast: Cast) -> Result<
         IsStopped plan.now (map (λ row. map (λ b. content (kind_of b) (value_of b)) row.items)
         cast.items) steps.now p) }
 
-    // Where an object fails, it is that of a process of the plan: at first, or in a step of its own.
+    // Where an object fails, it is either at first, that of the least process whose save may be refused; or in a step of
+    // its own that was not refused, where one of the objects that the process was given may reject a saved state of their
+    // kind.
     ensures object { IfErr result (λ fault. (p : ℕ) → fault ≡ RunFault.Object p →
-        (p < length plan.now.names)
-        ⊎ IsStopped plan.now (map (λ row. map (λ b. content (kind_of b) (value_of b)) row.items)
-        cast.items) steps.now p) }
+        IsLeastRefused (λ b. may_save b) (λ b. may_refuse b) (map (λ row. row.items) cast.items) p
+        ⊎ (IsStopped plan.now (map (λ row. map (λ b. content (kind_of b) (value_of b)) row.items)
+        cast.items) steps.now p
+        × MayReject (λ b saved. may_reject b saved) (slice_index plan.now.kinds p)
+        (slice_index_or (map (λ row. row.items) cast.items) p []))) }
 
     // It is that of a run of the plan which begins with the steps given, goes on by default steps, and comes to rest; and
     // all is so of it that is promised of a run's.

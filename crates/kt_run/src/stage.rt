@@ -1,14 +1,18 @@
 //! A world with the objects of its processes.
 
-ghost use Rattle.std.specs.Prelude.{◌≡◌, ◌≢◌, ◌<◌, ◌+◌, ◌-◌, ◌^◌, ℕ, List, [], Some, None, false, map, length, OnOk, IfOk, IfErr};
+ghost use Rattle.std.specs.Prelude.{◌≡◌, ◌≢◌, ◌<◌, ◌+◌, ◌-◌, ◌^◌, ℕ, List, [], Some, None, true, false, map, length, slice_index_or, OnOk, IfOk, IfErr};
 ghost use Rattle.std.specs.List.{AllZip};
-ghost use Rattle.kt_core.specs.Worlds.{refusal};
+ghost use Rattle.kt_core.specs.Worlds.{can_make, needs, step_refusal};
 ghost use Rattle.kt_core.specs.declared.faults.StepFault.{StepFault};
 ghost use Rattle.kt_held.specs.Holdings.{Content, content};
 ghost use Rattle.kt_plan.specs.declared.steps.Step.{Step};
-ghost use Rattle.kt_phases.specs.Steps.{stepper};
+ghost use Rattle.kt_plans.specs.Steps.{process_of_step};
 ghost use Rattle.kt_run.specs.Faults.{IsCast, Answers, is_of_cast, stopped_at};
-ghost use Rattle.kt_run.specs.Objects.{has_of, HoldDue, AreLeft};
+ghost use Rattle.kt_run.specs.Objects.{has_of, first_of, HoldDue, AreLeft};
+ghost use Rattle.kt_core.specs.Shown.{Mirrors};
+ghost use Rattle.kt_held.specs.Refusals.{IsLeastRefused};
+ghost use Rattle.kt_plans.specs.Progress.{Progress};
+ghost use Rattle.kt_run.specs.Rejections.{MayReject, objects_held, RejectNoMore, HaveSpares};
 ghost use Rattle.kt_run.specs.Refused.{IsGivenRefused, IsDefaultRefused, IsStepRefused, IsStopped};
 ghost use Rattle.kt_run.specs.Runs.{scene, Tells, StepsTo, Starts, BeginsRun, Rests};
 ghost use Rattle.kt_run.specs.Telling.{AreEmpty};
@@ -19,7 +23,7 @@ use kt_base::ProcNo;
 use kt_core::{StepFault, World};
 use kt_held::{Cast, Held, begin_all};
 use kt_object::Recoverable;
-use kt_plan::{Act, Give, Plan, Step, Told};
+use kt_plan::{Act, Give, Look, Plan, Step, Told};
 use std::alloc::Global;
 
 /// A world, what its processes hold, and what they were told.
@@ -42,7 +46,9 @@ impl Stage {
         ensures fault { IfErr result (Answers plan.now (map (λ row. map (λ b. kind_of b) row.items) cast.items)) }
         ensures early { IfErr result (λ fault. (done : ℕ) (why : StepFault) → fault ≢ RunFault.Step done why) }
         ensures object { IfErr result (λ fault. (p : ℕ) → fault ≡ RunFault.Object p →
-            p < length plan.now.names) }
+            IsLeastRefused (λ b. may_save b) (λ b. may_refuse b) (map (λ row. row.items) cast.items) p) }
+        ensures rejects { IfOk result (λ stage. RejectNoMore (λ b saved. may_reject b saved)
+            (map (λ row. row.items) cast.items) (objects_held stage.objects.items)) }
         ensures untold { IfErr result (λ fault. (p : ℕ) → fault ≢ RunFault.Journal p) }
         ensures starts { IfOk result (λ stage. Starts plan.now stage.world) }
         ensures plan { IfOk result (λ stage. stage.world.agenda.plan ≡ plan.now) }
@@ -96,6 +102,12 @@ impl Stage {
             (λ b. content (kind_of (b.vtable, b.value)) (value_of (b.vtable, b.value)))) →
             IfErr result (λ fault. (p : ℕ) → stopped_at fault ≡ Some p →
             IsStopped self.old.world.agenda.plan cast steps.now p) }
+        ensures object { (cast : List (List Content)) → HoldDue cast [] (has_of self.old.objects.items
+            (λ b. content (kind_of (b.vtable, b.value)) (value_of (b.vtable, b.value)))) →
+            HaveSpares self.old.world.agenda.plan cast →
+            IfErr result (λ fault. (p : ℕ) → fault ≡ RunFault.Object p →
+            MayReject (λ b saved. may_reject (b.vtable, b.value) saved) (first_of (slice_index_or cast p [])).kind
+            (slice_index_or (objects_held self.old.objects.items) p [])) }
         ensures count { OnOk result (length self.new.journals ≡ length self.old.journals) }
         ensures spares { OnOk result (AllZip (λ g h. AreLeft g.spares.items h.spares.items)
             self.old.objects.items self.new.objects.items) }
@@ -128,6 +140,14 @@ impl Stage {
             (λ b. content (kind_of (b.vtable, b.value)) (value_of (b.vtable, b.value)))) →
             IfErr result (λ fault. (p : ℕ) → stopped_at fault ≡ Some p →
             IsStopped self.old.world.agenda.plan cast steps.now p) }
+        ensures object { (cast : List (List Content)) → HoldDue cast [] (has_of self.old.objects.items
+            (λ b. content (kind_of (b.vtable, b.value)) (value_of (b.vtable, b.value)))) →
+            HaveSpares self.old.world.agenda.plan cast →
+            IfErr result (λ fault. (p : ℕ) → fault ≡ RunFault.Object p →
+            MayReject (λ b saved. may_reject (b.vtable, b.value) saved) (first_of (slice_index_or cast p [])).kind
+            (slice_index_or (objects_held self.old.objects.items) p [])) }
+        ensures rejects { OnOk result (RejectNoMore (λ b saved. may_reject (b.vtable, b.value) saved)
+            (objects_held self.old.objects.items) (objects_held self.new.objects.items)) }
         ensures count { OnOk result (length self.new.journals ≡ length self.old.journals) }
         ensures spares { OnOk result (AllZip (λ g h. AreLeft g.spares.items h.spares.items)
             self.old.objects.items self.new.objects.items) }
@@ -139,6 +159,9 @@ impl Stage {
             (λ b. content (kind_of (b.vtable, b.value)) (value_of (b.vtable, b.value))))) }
     {
         for step in steps {
+            if !self.world.enabled(step) {
+                return Err(RunFault::Step(self.done, StepFault::NotEnabled));
+            }
             self.make(*step)?;
         }
         Ok(())
@@ -167,6 +190,14 @@ impl Stage {
             self.old.done ≡ length steps →
             IfErr result (λ fault. (p : ℕ) → stopped_at fault ≡ Some p →
             IsStopped self.old.world.agenda.plan cast steps p) }
+        ensures object { (cast : List (List Content)) (steps : List Step) →
+            BeginsRun self.old.world.agenda.plan cast steps self.old.world
+            (scene self.old.journals self.old.objects.items
+            (λ b. content (kind_of (b.vtable, b.value)) (value_of (b.vtable, b.value)))) →
+            HaveSpares self.old.world.agenda.plan cast →
+            IfErr result (λ fault. (p : ℕ) → fault ≡ RunFault.Object p →
+            MayReject (λ b saved. may_reject (b.vtable, b.value) saved) (first_of (slice_index_or cast p [])).kind
+            (slice_index_or (objects_held self.old.objects.items) p [])) }
         ensures count { OnOk result (length self.new.journals ≡ length self.old.journals) }
         ensures spares { OnOk result (AllZip (λ g h. AreLeft g.spares.items h.spares.items)
             self.old.objects.items self.new.objects.items) }
@@ -186,8 +217,9 @@ impl Stage {
         unreachable!()
     }
 
-    /// Makes a step: asks the process's object for what it needs, notes what is told, and does it.
+    /// Makes a step that is enabled: asks the process's object for what it needs, notes what is told, and does it.
     fn make(&mut self, step: Step) -> Result<(), RunFault>
+        requires enabled { can_make self.old.world step ≡ true }
         requires few { self.old.done < 2 ^ 64 - 1 }
         requires seats { length self.old.objects.items ≡ self.old.world.system.size }
         ensures fault { IfErr result (λ fault. is_of_cast fault ≡ false) }
@@ -195,10 +227,19 @@ impl Stage {
         ensures done { OnOk result (self.new.done ≡ self.old.done + 1) }
         ensures seats { OnOk result (length self.new.objects.items ≡ self.new.world.system.size) }
         ensures refused { IfErr result (λ fault. (done : ℕ) (why : StepFault) → fault ≡ RunFault.Step done why →
-            (done ≡ self.old.done) × (refusal self.old.world step ≡ Some why)) }
-        ensures named { IfErr result (λ fault. (p : ℕ) → stopped_at fault ≡ Some p → stepper step ≡ p) }
+            (done ≡ self.old.done) × (step_refusal self.old.world step ≡ Some why)) }
+        ensures named { IfErr result (λ fault. (p : ℕ) → stopped_at fault ≡ Some p → process_of_step step ≡ p) }
         ensures made { IfErr result (λ fault. (p : ℕ) → stopped_at fault ≡ Some p →
-            refusal self.old.world step ≡ None) }
+            step_refusal self.old.world step ≡ None) }
+        ensures object { (cast : List (List Content)) (first : ℕ) (v : Progress) →
+            Mirrors self.old.world.agenda self.old.world.system first v →
+            HaveSpares self.old.world.agenda.plan cast → HoldDue cast v.now.log (has_of self.old.objects.items
+            (λ b. content (kind_of (b.vtable, b.value)) (value_of (b.vtable, b.value)))) →
+            IfErr result (λ fault. (p : ℕ) → fault ≡ RunFault.Object p →
+            MayReject (λ b saved. may_reject (b.vtable, b.value) saved) (first_of (slice_index_or cast p [])).kind
+            (slice_index_or (objects_held self.old.objects.items) p [])) }
+        ensures rejects { OnOk result (RejectNoMore (λ b saved. may_reject (b.vtable, b.value) saved)
+            (objects_held self.old.objects.items) (objects_held self.new.objects.items)) }
         ensures spares { OnOk result (AllZip (λ g h. AreLeft g.spares.items h.spares.items)
             self.old.objects.items self.new.objects.items) }
         ensures leads { OnOk result (StepsTo self.old.world
@@ -212,14 +253,15 @@ impl Stage {
         let Some(held) = self.objects.get_mut(p.index()) else {
             return Err(RunFault::Step(self.done, StepFault::NotEnabled));
         };
-        let look = self.world.look(&step);
+        let look = ready(&self.world, &step, self.done)?;
         let answer = held.ask(self.alloc, look);
-        let acts = step_once(
+        let mut acts = [Act::Nothing, Act::Nothing];
+        step_once(
             &mut self.world,
             &mut self.journals,
-            step,
+            &step,
             answer.give,
-            self.done,
+            &mut acts,
         )?;
         self.done += 1;
         match held.obey(acts, answer.saved) {
@@ -229,81 +271,94 @@ impl Stage {
     }
 }
 
-/// Makes a step, after so many, notes what is told, if journals are kept, and gives what is to be done to the object.
-fn step_once(
-    world: &mut World,
-    journals: &mut Journals,
-    step: Step,
-    give: Give,
-    done: usize,
-) -> Result<[Act; 2], RunFault>
+/// What an enabled step after so many needs of its process's object, where it can be made.
+#[inline(always)]
+fn ready(world: &World, step: &Step, done: usize) -> Result<Look, RunFault>
+    requires { can_make world.now step.now ≡ true }
     ensures fault { IfErr result (λ fault. is_of_cast fault ≡ false) }
-    ensures plan { world.new.agenda.plan ≡ world.old.agenda.plan }
-    ensures size { world.new.system.size ≡ world.old.system.size }
+    ensures look { IfOk result (λ look. look ≡ needs world.now step.now) }
+    ensures allowed { OnOk result (step_refusal world.now step.now ≡ None) }
     ensures refused { IfErr result (λ fault. (n : ℕ) (why : StepFault) → fault ≡ RunFault.Step n why →
-        (n ≡ done) × (refusal world.old step ≡ Some why)) }
-    ensures named { IfErr result (λ fault. (p : ℕ) → stopped_at fault ≡ Some p → stepper step ≡ p) }
+        (n ≡ done) × (step_refusal world.now step.now ≡ Some why)) }
+    ensures named { IfErr result (λ fault. (p : ℕ) → stopped_at fault ≡ Some p → process_of_step step.now ≡ p) }
     ensures made { IfErr result (λ fault. (p : ℕ) → stopped_at fault ≡ Some p →
-        refusal world.old step ≡ None) }
+        step_refusal world.now step.now ≡ None) }
     ensures objects { IfErr result (λ fault. (p : ℕ) → fault ≢ RunFault.Object p) }
-    ensures allowed { OnOk result (refusal world.old step ≡ None) }
-    ensures leads { IfOk result (λ acts. Tells world.old journals.old step give world.new journals.new acts) }
 {
-    if journals.are_kept() {
-        tell_once(world, journals, step, give, done)
-    } else {
-        act_once(world, step, give, done)
-    }
-}
-
-/// Makes a step, after so many, of which nothing is noted, and gives what is to be done to the object.
-fn act_once(world: &mut World, step: Step, give: Give, done: usize) -> Result<[Act; 2], RunFault>
-    ensures fault { IfErr result (λ fault. is_of_cast fault ≡ false) }
-    ensures plan { world.new.agenda.plan ≡ world.old.agenda.plan }
-    ensures size { world.new.system.size ≡ world.old.system.size }
-    ensures refused { IfErr result (λ fault. (n : ℕ) (why : StepFault) → fault ≡ RunFault.Step n why →
-        (n ≡ done) × (refusal world.old step ≡ Some why)) }
-    ensures named { IfErr result (λ fault. (p : ℕ) → stopped_at fault ≡ Some p → stepper step ≡ p) }
-    ensures made { IfErr result (λ fault. (p : ℕ) → stopped_at fault ≡ Some p →
-        refusal world.old step ≡ None) }
-    ensures objects { IfErr result (λ fault. (p : ℕ) → fault ≢ RunFault.Object p) }
-    ensures allowed { OnOk result (refusal world.old step ≡ None) }
-    ensures leads { IfOk result (λ acts. Tells world.old [] step give world.new [] acts) }
-{
-    match world.act(step, give) {
-        Ok(acts) => Ok(acts),
+    match world.ready_found(step) {
+        Ok(look) => Ok(look),
         Err(fault) => Err(RunFault::of_step(done, fault)),
     }
 }
 
-/// Makes a step, after so many, notes what is told, and gives what is to be done to the object.
-fn tell_once(
+/// Makes a step that can be made, notes what is told, if journals are kept, and tells what is to be done to the object.
+#[inline(always)]
+fn step_once(
     world: &mut World,
     journals: &mut Journals,
-    step: Step,
+    step: &Step,
     give: Give,
-    done: usize,
-) -> Result<[Act; 2], RunFault>
+    acts: &mut [Act; 2],
+) -> Result<(), RunFault>
+    requires { step_refusal world.old step.now ≡ None }
     ensures fault { IfErr result (λ fault. is_of_cast fault ≡ false) }
     ensures plan { world.new.agenda.plan ≡ world.old.agenda.plan }
     ensures size { world.new.system.size ≡ world.old.system.size }
-    ensures refused { IfErr result (λ fault. (n : ℕ) (why : StepFault) → fault ≡ RunFault.Step n why →
-        (n ≡ done) × (refusal world.old step ≡ Some why)) }
-    ensures named { IfErr result (λ fault. (p : ℕ) → stopped_at fault ≡ Some p → stepper step ≡ p) }
-    ensures made { IfErr result (λ fault. (p : ℕ) → stopped_at fault ≡ Some p →
-        refusal world.old step ≡ None) }
+    ensures early { IfErr result (λ fault. (n : ℕ) (why : StepFault) → fault ≢ RunFault.Step n why) }
+    ensures named { IfErr result (λ fault. (p : ℕ) → stopped_at fault ≡ Some p → process_of_step step.now ≡ p) }
     ensures objects { IfErr result (λ fault. (p : ℕ) → fault ≢ RunFault.Object p) }
-    ensures allowed { OnOk result (refusal world.old step ≡ None) }
-    ensures leads { IfOk result (λ acts. Tells world.old journals.old step give world.new journals.new acts) }
+    ensures leads { OnOk result (Tells world.old journals.old step.now give world.new journals.new acts.new) }
 {
-    let p = process_of(&step);
-    let told = match world.step(step, give) {
+    if journals.are_kept() {
+        tell_once(world, journals, step, give, acts)
+    } else {
+        act_once(world, step, give, acts)
+    }
+}
+
+/// Makes a step that can be made, of which nothing is noted, and tells what is to be done to the object.
+#[inline(always)]
+fn act_once(world: &mut World, step: &Step, give: Give, acts: &mut [Act; 2]) -> Result<(), RunFault>
+    requires { step_refusal world.old step.now ≡ None }
+    ensures fault { IfErr result (λ fault. is_of_cast fault ≡ false) }
+    ensures plan { world.new.agenda.plan ≡ world.old.agenda.plan }
+    ensures size { world.new.system.size ≡ world.old.system.size }
+    ensures early { IfErr result (λ fault. (n : ℕ) (why : StepFault) → fault ≢ RunFault.Step n why) }
+    ensures named { IfErr result (λ fault. (p : ℕ) → stopped_at fault ≡ Some p → process_of_step step.now ≡ p) }
+    ensures objects { IfErr result (λ fault. (p : ℕ) → fault ≢ RunFault.Object p) }
+    ensures leads { OnOk result (Tells world.old [] step.now give world.new [] acts.new) }
+{
+    match world.make_step(step, give, acts) {
+        Ok(()) => Ok(()),
+        Err(_) => Err(RunFault::Memory),
+    }
+}
+
+/// Makes a step that can be made, notes what is told, and tells what is to be done to the object.
+fn tell_once(
+    world: &mut World,
+    journals: &mut Journals,
+    step: &Step,
+    give: Give,
+    acts: &mut [Act; 2],
+) -> Result<(), RunFault>
+    requires { step_refusal world.old step.now ≡ None }
+    ensures fault { IfErr result (λ fault. is_of_cast fault ≡ false) }
+    ensures plan { world.new.agenda.plan ≡ world.old.agenda.plan }
+    ensures size { world.new.system.size ≡ world.old.system.size }
+    ensures early { IfErr result (λ fault. (n : ℕ) (why : StepFault) → fault ≢ RunFault.Step n why) }
+    ensures named { IfErr result (λ fault. (p : ℕ) → stopped_at fault ≡ Some p → process_of_step step.now ≡ p) }
+    ensures objects { IfErr result (λ fault. (p : ℕ) → fault ≢ RunFault.Object p) }
+    ensures leads { OnOk result (Tells world.old journals.old step.now give world.new journals.new acts.new) }
+{
+    let p = process_of(step);
+    let told = match world.step(*step, give) {
         Ok(told) => told,
-        Err(fault) => return Err(RunFault::of_step(done, fault)),
+        Err(_) => return Err(RunFault::Memory),
     };
-    let acts = acts_of(&told);
+    *acts = acts_of(&told);
     match journals.note(told) {
-        Ok(()) => Ok(acts),
+        Ok(()) => Ok(()),
         Err(_) => Err(RunFault::Journal(p)),
     }
 }
@@ -321,7 +376,9 @@ fn first_objects(alloc: Global, plan: &Plan, cast: Cast) -> Result<Vec<Held>, Ru
     ensures fault { IfErr result (Answers plan.now (map (λ row. map (λ b. kind_of b) row.items) cast.items)) }
     ensures early { IfErr result (λ fault. (done : ℕ) (why : StepFault) → fault ≢ RunFault.Step done why) }
     ensures object { IfErr result (λ fault. (p : ℕ) → fault ≡ RunFault.Object p →
-        p < length plan.now.names) }
+        IsLeastRefused (λ b. may_save b) (λ b. may_refuse b) (map (λ row. row.items) cast.items) p) }
+    ensures rejects { IfOk result (λ objects. RejectNoMore (λ b saved. may_reject b saved)
+        (map (λ row. row.items) cast.items) (objects_held objects.items)) }
     ensures untold { IfErr result (λ fault. (p : ℕ) → fault ≢ RunFault.Journal p) }
     ensures count { IfOk result (λ objects. length objects.items ≡ length plan.now.names) }
     ensures spares { IfOk result (λ objects.

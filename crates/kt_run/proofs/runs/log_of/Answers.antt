@@ -1,9 +1,12 @@
-use Rattle.std.proofs.Common.{rules, inl, inr, ◌≡◌, map, subst, ap}
-use Rattle.std.specs.Prelude.{Result, Err, IfErr}
+use Rattle.std.proofs.Common.{rules, inl, inr, ◌≡◌, [], map, refl, subst, sym, ap}
+use Rattle.std.specs.Prelude.{Result, Err, IfErr, slice_index_or}
 use Rattle.kt_held.specs.Holdings.{content}
+use Rattle.kt_run.specs.Objects.{first_of}
 use Rattle.kt_run.specs.Refused.{IsStepRefused, IsStopped}
 use Rattle.kt_run.specs.Faults.{stopped_at}
 use Rattle.kt_plan.specs.Limits.{Planned, IsPlan}
+use Rattle.kt_run.specs.Rejections.{objects_held, HaveSpares}
+use Rattle.kt_run.proofs.Rejecting.{have_spares, of_plan, rejected_of}
 use Rattle.kt_run.specs.Runs.{scene, Rests}
 use Rattle.kt_run.proofs.Running.{run_of, follows_of}
 use Rattle.kt_run.proofs.runs.log_of.Goals as goal
@@ -70,9 +73,14 @@ returns-in_err-stage-clause-object g c = if_err c.from_residual.result _ c.in_er
 
 pub returns-in_err-make_all-clause-object : goal.returns-in_err-make_all-clause-object
 returns-in_err-make_all-clause-object g c = if_err c.from_residual-in_err-make_all.result _ c.in_err-make_all.field-0.0 (search rules)
-    (λ p e. inr (subst (λ (z : Planned). IsStopped z
-    (map (λ row. map (λ b. content ((goal.Recoverable-dyn g (b.vtable, b.value)).kind_of b.value) ((goal.Recoverable-dyn g (b.vtable, b.value)).value_of b.value)) row.items) c.args.cast.items)
-    c.args.steps.now p) c.in_ok-stage.ensures.plan
-    (c.in_err-make_all.ensures.named
-    (map (λ row. map (λ b. content ((goal.Recoverable-dyn g (b.vtable, b.value)).kind_of b.value) ((goal.Recoverable-dyn g (b.vtable, b.value)).value_of b.value)) row.items) c.args.cast.items)
-    c.in_ok-stage.ensures.due p (ap stopped_at e))))
+    (λ p e. inr (
+      subst (λ (z : Planned). IsStopped z
+          (map (λ row. map (λ b. content ((goal.Recoverable-dyn g (b.vtable, b.value)).kind_of b.value) ((goal.Recoverable-dyn g (b.vtable, b.value)).value_of b.value)) row.items) c.args.cast.items)
+          c.args.steps.now p) c.in_ok-stage.ensures.plan
+          (c.in_err-make_all.ensures.named
+          (map (λ row. map (λ b. content ((goal.Recoverable-dyn g (b.vtable, b.value)).kind_of b.value) ((goal.Recoverable-dyn g (b.vtable, b.value)).value_of b.value)) row.items) c.args.cast.items)
+          c.in_ok-stage.ensures.due p (ap stopped_at e)),
+      of_plan (λ row. row.items) (λ b. (goal.Recoverable-dyn g (b.vtable, b.value)).kind_of b.value) (λ b. content ((goal.Recoverable-dyn g (b.vtable, b.value)).kind_of b.value) ((goal.Recoverable-dyn g (b.vtable, b.value)).value_of b.value)) (λ b. refl) (λ b saved. (goal.Recoverable-dyn g (b.vtable, b.value)).may_reject b.value saved) c.args.plan.now c.args.cast.items p c.in_ok-stage.ensures.cast
+          (rejected_of (λ b saved. (goal.Recoverable-dyn g (b.vtable, b.value)).may_reject b.value saved) (first_of (slice_index_or (map (λ row. map (λ b. content ((goal.Recoverable-dyn g (b.vtable, b.value)).kind_of b.value) ((goal.Recoverable-dyn g (b.vtable, b.value)).value_of b.value)) row.items) c.args.cast.items) p [])).kind p (map (λ row. row.items) c.args.cast.items) (objects_held c.in_ok-stage.stage.objects.items) c.in_ok-stage.ensures.rejects
+          (c.in_err-make_all.ensures.object (map (λ row. map (λ b. content ((goal.Recoverable-dyn g (b.vtable, b.value)).kind_of b.value) ((goal.Recoverable-dyn g (b.vtable, b.value)).value_of b.value)) row.items) c.args.cast.items) c.in_ok-stage.ensures.due (subst (λ (z : Planned). HaveSpares z (map (λ row. map (λ b. content ((goal.Recoverable-dyn g (b.vtable, b.value)).kind_of b.value) ((goal.Recoverable-dyn g (b.vtable, b.value)).value_of b.value)) row.items) c.args.cast.items)) (sym c.in_ok-stage.ensures.plan) (have_spares (λ row. row.items) (λ b. (goal.Recoverable-dyn g (b.vtable, b.value)).kind_of b.value) (λ b. content ((goal.Recoverable-dyn g (b.vtable, b.value)).kind_of b.value) ((goal.Recoverable-dyn g (b.vtable, b.value)).value_of b.value)) (λ b. refl) c.args.plan.now c.args.cast.items c.in_ok-stage.ensures.cast)) p e)),
+    ))

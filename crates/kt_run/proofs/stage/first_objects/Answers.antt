@@ -1,8 +1,10 @@
-use Rattle.std.proofs.Common.{◌∙◌, refl, sym, arith}
+use Rattle.std.proofs.Common.{◌∙◌, List, refl, sym, subst}
 use Rattle.std.proofs.lemmas.List.{length-map}
 use Rattle.kt_held.specs.Holdings.{content}
 use Rattle.kt_run.proofs.Casting.{answered, of_objects, of_none_told, of_object}
 use Rattle.kt_run.proofs.Holding.{hold_first, as_many_given}
+use Rattle.kt_run.specs.Rejections.{objects_held, RejectNoMore}
+use Rattle.kt_run.proofs.Rejecting.{all_given}
 use Rattle.kt_run.proofs.Spares.{left_given}
 use Rattle.kt_run.proofs.stage.first_objects.Goals as goal
 
@@ -29,7 +31,10 @@ pub returns-in-Ok-clause-spares : goal.returns-in-Ok-clause-spares
 returns-in-Ok-clause-spares g c = left_given (λ h. h.spares.items) (λ row. row.items) (λ h. h.present) c.args.cast.items c.in-Ok.objects.items c.in-Ok.ensures.objects (λ p h l. (c.in-Ok.ensures.holds p h l).0)
 
 pub returns-in-Err-clause-object : goal.returns-in-Err-clause-object
-returns-in-Err-clause-object g c = rw c.from.ensures (λ p e.
-    let l = c.in-Err.ensures.place p (of_object c.in-Err.fault p e) in
-    let n = c.size-size.ensures.plan.one_kind_each in
-    omega (arith, l, n))
+returns-in-Err-clause-object g c = rw c.from.ensures (λ p e. c.in-Err.ensures.object p (of_object c.in-Err.fault p e))
+
+pub returns-in-Ok-clause-rejects : goal.returns-in-Ok-clause-rejects
+returns-in-Ok-clause-rejects g c =
+    let held = c.in-Ok.objects.items in
+    subst (λ (rows : List (List _)). RejectNoMore (λ b saved. (goal.Recoverable-dyn g (b.vtable, b.value)).may_reject b.value saved) rows (objects_held held))
+    (all_given (λ row. row.items) c.args.cast.items held c.in-Ok.ensures.objects (λ p h l. (c.in-Ok.ensures.holds p h l).0)) (λ p saved any. any)

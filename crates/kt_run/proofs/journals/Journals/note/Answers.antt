@@ -1,6 +1,6 @@
 use Rattle.std.proofs.Common.{arith, ◌≡◌, ◌∙◌, List, map, set, subst, refl}
 use Rattle.std.proofs.lemmas.List.{length-map}
-use Rattle.kt_phases.specs.Steps.{stepper}
+use Rattle.kt_plans.specs.Steps.{process_of_step}
 use Rattle.kt_plan.specs.declared.steps.Told.{Told}
 use Rattle.kt_run.specs.Telling.{IsNoted}
 use Rattle.kt_run.proofs.Noting.{noted_there, noted_nowhere}
@@ -9,7 +9,7 @@ use Rattle.kt_run.proofs.journals.Journals.note.Goals.{in-Some+in_ok-extend_from
 
 pub returns : goal.returns
 returns c =
-    let place : c.index.result ≡ stepper c.args.told.step = c.index.ensures.value ∙ c.process_of-p.ensures in
+    let place : c.index.result ≡ process_of_step c.args.told.step = c.index.ensures.value ∙ c.process_of-p.ensures in
     elim c.match-get_mut.branch [
       | in-Some+in_ok-extend_from_slice w ↦
           rw w.self-inside-is

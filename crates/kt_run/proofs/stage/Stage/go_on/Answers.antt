@@ -1,19 +1,24 @@
-use Rattle.std.proofs.Common.{rules, ◌≡◌, ◌+◌, length, arith, refl, ◌∙◌}
-use Rattle.std.specs.Prelude.{Result, Err, IfErr}
+use Rattle.std.proofs.Common.{rules, ◌≡◌, ◌+◌, [], length, arith, refl, sym, subst, ◌∙◌}
+use Rattle.std.specs.Prelude.{Result, Err, IfErr, slice_index_or}
 use Rattle.kt_held.specs.Holdings.{content}
 use Rattle.kt_run.specs.Runs.{scene}
 use Rattle.kt_run.proofs.Spares.{left_same, left_then}
+use Rattle.kt_plan.specs.Limits.{Planned}
+use Rattle.kt_run.specs.Objects.{first_of}
+use Rattle.kt_run.specs.Rejections.{objects_held, HaveSpares}
+use Rattle.kt_run.proofs.Rejecting.{no_more_then, rejected_of}
 use Rattle.kt_run.proofs.Running.{goes_start, goes_more, rests_now, too_many, goes_few, default_next, default_refused, default_stopped}
 use Rattle.kt_run.proofs.stage.Stage.go_on.Goals as goal
 
 pub loop-number-init : goal.loop-number-init
-loop-number-init g c = record { plan = refl; count = refl; spares = left_same (λ h. h.spares.items) c.args.self.now.objects.items; done = omega arith; seats = c.requires.seats; goes = λ cast steps b. goes_start c.args.self.now.world.agenda.plan cast steps c.args.self.now.world (scene c.args.self.now.journals c.args.self.now.objects.items (λ b. content ((goal.Recoverable-dyn g (b.vtable, b.value)).kind_of b.value) ((goal.Recoverable-dyn g (b.vtable, b.value)).value_of b.value))) b }
+loop-number-init g c = record { plan = refl; count = refl; spares = left_same (λ h. h.spares.items) c.args.self.now.objects.items; rejects = λ p saved any. any; done = omega arith; seats = c.requires.seats; goes = λ cast steps b. goes_start c.args.self.now.world.agenda.plan cast steps c.args.self.now.world (scene c.args.self.now.journals c.args.self.now.objects.items (λ b. content ((goal.Recoverable-dyn g (b.vtable, b.value)).kind_of b.value) ((goal.Recoverable-dyn g (b.vtable, b.value)).value_of b.value))) b }
 
 pub loop-number-preserved : goal.loop-number-preserved
 loop-number-preserved g c = record {
   plan = c.in_ok-make.ensures.plan ∙ c.loop-number.invariant.plan;
   count = c.in_ok-make.ensures.leads.2.count ∙ c.loop-number.invariant.count;
   spares = left_then (λ h. h.spares.items) (λ h. h.spares.items) c.args.self.now.objects.items c.loop-number.self.objects.items c.make.new.self.objects.items c.loop-number.invariant.spares c.in_ok-make.ensures.spares;
+  rejects = no_more_then (λ b saved. (goal.Recoverable-dyn g (b.vtable, b.value)).may_reject b.value saved) (objects_held c.args.self.now.objects.items) (objects_held c.loop-number.self.objects.items) (objects_held c.make.new.self.objects.items) c.loop-number.invariant.rejects c.in_ok-make.ensures.rejects;
   done = let d = c.in_ok-make.ensures.done in let e = c.loop-number.invariant.done in omega (arith, d, e);
   seats = c.in_ok-make.ensures.seats;
   goes = λ cast steps b. let goes = c.loop-number.invariant.goes cast steps b in
@@ -57,3 +62,10 @@ returns-in_err-make-clause-named g c = λ cast steps b l. if_err c.from_residual
     let goes = c.loop-number.invariant.goes cast steps b in
     default_stopped c.args.self.now.world.agenda.plan cast steps (length steps + c.loop-number._number) c.loop-number.self.world c.in-Some.step p
     (default_next c.args.self.now.world.agenda.plan cast steps c.loop-number._number (length steps + c.loop-number._number) c.loop-number.self.world (scene c.loop-number.self.journals c.loop-number.self.objects.items (λ b. content ((goal.Recoverable-dyn g (b.vtable, b.value)).kind_of b.value) ((goal.Recoverable-dyn g (b.vtable, b.value)).value_of b.value))) c.in-Some.step c.loop-number.invariant.plan goes refl (c.in-Some.ensures.in_runs 0 goes.0.now goes.0.shown)) (c.in_err-make.ensures.named p e) (c.in_err-make.ensures.made p e))
+
+pub returns-in_err-make-clause-object : goal.returns-in_err-make-clause-object
+returns-in_err-make-clause-object g c = λ cast steps b spares. if_err c.from_residual.result _ c.in_err-make.field-0.0 (search rules)
+    (λ p e.
+    let goes = (c.loop-number.invariant.goes cast steps b).0 in
+    rejected_of (λ b saved. (goal.Recoverable-dyn g (b.vtable, b.value)).may_reject b.value saved) (first_of (slice_index_or cast p [])).kind p (objects_held c.args.self.now.objects.items) (objects_held c.loop-number.self.objects.items) c.loop-number.invariant.rejects
+    (c.in_err-make.ensures.object cast 0 goes.now goes.shown (subst (λ (z : Planned). HaveSpares z cast) (sym c.loop-number.invariant.plan) spares) goes.due p e))

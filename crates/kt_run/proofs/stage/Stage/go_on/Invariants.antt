@@ -4,6 +4,7 @@ use Rattle.std.specs.List.{AllZip}
 use Rattle.kt_run.specs.Objects.{AreLeft}
 use Rattle.kt_held.specs.Holdings.{Content, content}
 use Rattle.kt_plan.specs.declared.steps.Step.{Step}
+use Rattle.kt_run.specs.Rejections.{objects_held, RejectNoMore}
 use Rattle.kt_run.specs.Runs.{scene, BeginsRun}
 use Rattle.kt_run.proofs.Running.{GoesSo}
 use Rattle.kt_run.proofs.stage.Stage.go_on.Given as goal
@@ -13,6 +14,7 @@ invariant-loop-number g l = record {
   plan : l.self.world.agenda.plan ≡ l.fn.self.world.agenda.plan;
   count : length l.self.journals ≡ length l.fn.self.journals;
   spares : AllZip (λ g h. AreLeft g.spares.items h.spares.items) l.fn.self.objects.items l.self.objects.items;
+  rejects : RejectNoMore (λ b saved. (goal.Recoverable-dyn g (b.vtable, b.value)).may_reject b.value saved) (objects_held l.fn.self.objects.items) (objects_held l.self.objects.items);
   done : l.self.done ≡ l.fn.self.done + l._number;
   seats : length l.self.objects.items ≡ l.self.world.system.size;
   goes : (cast : List (List Content)) (steps : List Step) → BeginsRun l.fn.self.world.agenda.plan cast steps l.fn.self.world (scene l.fn.self.journals l.fn.self.objects.items (λ b. content ((goal.Recoverable-dyn g (b.vtable, b.value)).kind_of b.value) ((goal.Recoverable-dyn g (b.vtable, b.value)).value_of b.value)))

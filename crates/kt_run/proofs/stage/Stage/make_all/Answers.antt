@@ -1,9 +1,12 @@
-use Rattle.std.proofs.Common.{inr, subst, sym}
-use Rattle.std.specs.Prelude.{Result, Ok, Err, OnOk, IfErr}
+use Rattle.std.proofs.Common.{rules, ◌≡◌, [], inr, subst, sym}
+use Rattle.std.specs.Prelude.{Result, Ok, Err, OnOk, IfErr, slice_index_or}
 use Rattle.kt_run.specs.Refused.{IsDefaultRefused, IsStopped}
 use Rattle.kt_held.specs.Holdings.{content}
 use Rattle.kt_plan.specs.Limits.{Planned}
 use Rattle.kt_run.specs.Runs.{scene, BeginsRun, Rests}
+use Rattle.kt_run.specs.Objects.{first_of}
+use Rattle.kt_run.specs.Rejections.{objects_held, HaveSpares}
+use Rattle.kt_run.proofs.Rejecting.{rejected_of}
 use Rattle.kt_run.proofs.Spares.{left_then, on_ok_so}
 use Rattle.kt_run.proofs.stage.Stage.make_all.Goals as goal
 
@@ -53,3 +56,21 @@ returns-clause-spares g c =
     on_ok_so c.go_on.result
     (left_then (λ h. h.spares.items) (λ h. h.spares.items) c.args.self.now.objects.items c.make_given.new.self.objects.items c.go_on.new.self.objects.items c.in_ok-make_given.ensures.spares)
     c.go_on.ensures.spares
+
+pub returns-clause-object : goal.returns-clause-object
+returns-clause-object g c = λ cast due spares.
+    let same = c.in_ok-make_given.ensures.plan in
+    if_err_so _ _ c.go_on.result
+    (λ fault object p e. rejected_of (λ b saved. (goal.Recoverable-dyn g (b.vtable, b.value)).may_reject b.value saved) (first_of (slice_index_or cast p [])).kind p (objects_held c.args.self.now.objects.items) (objects_held c.make_given.new.self.objects.items)
+    c.in_ok-make_given.ensures.rejects (object p e))
+    (c.go_on.ensures.object cast c.args.steps.now
+    (subst (λ (p : Planned). BeginsRun p cast c.args.steps.now c.make_given.new.self.world (scene c.make_given.new.self.journals c.make_given.new.self.objects.items (λ b. content ((goal.Recoverable-dyn g (b.vtable, b.value)).kind_of b.value) ((goal.Recoverable-dyn g (b.vtable, b.value)).value_of b.value))))
+    (sym same) (c.in_ok-make_given.ensures.begun cast due))
+    (subst (λ (z : Planned). HaveSpares z cast) (sym same) spares))
+
+if_err : {T E : Type 0} (r : Result T E) (P : E → Type 0) (e : E) → r ≡ Err e → P e → IfErr r P
+if_err r P e is p = rw is p
+
+pub returns-in_err-make_given-clause-object : goal.returns-in_err-make_given-clause-object
+returns-in_err-make_given-clause-object g c = λ cast due spares.
+    if_err c.from_residual.result _ c.in_err-make_given.field-0.0 (search rules) (c.in_err-make_given.ensures.object cast due spares)
