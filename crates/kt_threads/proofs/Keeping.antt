@@ -3,7 +3,7 @@ use Rattle.std.proofs.Common.{◌≡◌, ◌∙◌, ◌<◌, arith, ℕ, zero, s
 use Rattle.std.specs.Prelude.{option_map, slice_get, slice_index_or}
 use Rattle.kt_held.specs.Holdings.{Content, content, AreSaved}
 use Rattle.kt_plan.specs.Limits.{Planned}
-use Rattle.kt_promises.specs.World as run_world
+use Rattle.kt_plans.specs.Progress.{progress_at_start}
 use Rattle.kt_run.specs.Objects.{Belongings, rules_of, first_of, rules_by, HoldsDue, HoldDue}
 use Rattle.kt_run.specs.Runs.{IsRun}
 use Rattle.kt_spacetime.specs.declared.event.Event.{Event}
@@ -57,7 +57,7 @@ module _ (plan : Planned) (steps : List Made) (rows : List Event) (lived : histo
   objects p = slice_index_or cast p []
 
   each : (p : ℕ) (c : Belongings) → slice_get news p ≡ Some c → HoldsDue (objects p) rows p c
-      × GivesOf (rules_by cast p) p plan (run_world.start_world plan 0) (map move_of steps)
+      × GivesOf (rules_by cast p) p plan (progress_at_start plan 0) (map move_of steps)
   each p c e =
       let t = at_each olds lists news served p c e in
       let l = within news p c e in
@@ -69,7 +69,7 @@ module _ (plan : Planned) (steps : List Made) (rows : List Event) (lived : histo
   pub due_then : HoldDue cast rows news
   due_then = record { count = (as_many olds lists news served).0 ∙ due.count; each = λ p c e. (each p c e).0 }
 
-  gives : (p : ℕ) → p < length plan.names → GivesOf (rules_by cast p) p plan (run_world.start_world plan 0) (map move_of steps)
+  gives : (p : ℕ) → p < length plan.names → GivesOf (rules_by cast p) p plan (progress_at_start plan 0) (map move_of steps)
   gives p l =
       let n = (as_many olds lists news served).1 in
       let m = theirs.count in

@@ -11,17 +11,17 @@ use Rattle.kt_core.proofs.Leading.{run_same}
 use Rattle.kt_held.specs.Holdings.{Content}
 use Rattle.kt_plan.specs.Limits.{Planned, IsPlan}
 use Rattle.kt_plan.specs.declared.steps.Told.{Told}
-use Rattle.kt_promises.specs.Offers.{AreOfferedAt, offer_places}
-use Rattle.kt_promises.specs.Runs.{after_moves, IsReachedWorld}
-use Rattle.kt_promises.specs.Steps.{enabled, world_after, is_at_rest}
-use Rattle.kt_promises.specs.Told.{told_by}
-use Rattle.kt_promises.specs.World as run_world
-use Rattle.kt_promises.proofs.NeededBodies.{offers_seen}
-use Rattle.kt_promises.proofs.PhasesOpen.{opening_is}
-use Rattle.kt_promises.proofs.WholeLogs.{no_tentative}
+use Rattle.kt_plans.specs.Offers.{AreOfferedAt, offer_places}
+use Rattle.kt_plans.specs.Runs.{after_moves, RunReaches}
+use Rattle.kt_plans.specs.Steps.{enabled, progress_after, is_at_rest}
+use Rattle.kt_plans.specs.Told.{told_by}
+use Rattle.kt_plans.specs.Progress.{Progress, progress_at_start}
+use Rattle.kt_plans.proofs.NeededBodies.{offers_seen}
+use Rattle.kt_plans.proofs.PhasesOpen.{opening_is}
+use Rattle.kt_plans.proofs.WholeLogs.{no_tentative}
 use Rattle.kt_run.specs.Objects.{Belongings, rules_of, rules_by, first_of, HoldsDue}
 use Rattle.kt_run.specs.Runs.{IsRun}
-use Rattle.kt_run.specs.Telling.{rows_by, rows_told, AreToldTheirRows, IsToldAs}
+use Rattle.kt_run.specs.Telling.{numbered_rows_by, numbered_rows_told, AreToldTheirRows, IsToldAs}
 use Rattle.kt_seen.specs.Seen.{Seen}
 use Rattle.kt_values.specs.Done.{done}
 use Rattle.kt_values.specs.Values.{Rules, due}
@@ -36,38 +36,38 @@ use Rattle.kt_threads.proofs.Telling.{rows_more, told_more}
 use Rattle.kt_threads.specs.declared.state.Made.{Made}
 
 -- a run of the plan leads to this world, and the moves of these steps lead there from v
-record Goes (plan : Planned) (first : ℕ) (v : run_world.World) (steps : List Made) (new : World) : Type 0 where
-  end : run_world.World
+record Goes (plan : Planned) (first : ℕ) (v : Progress) (steps : List Made) (new : World) : Type 0 where
+  end : Progress
   plans : new.agenda.plan ≡ plan
   leads : after_moves plan v (map move_of steps) ≡ Some end
   shown : Mirrors new.agenda new.system first end
-  rows : (p : ℕ) → rows_by p end.now.log ≡ rows_by p v.now.log ++ rows_told (told_to p steps)
+  rows : (p : ℕ) → numbered_rows_by p end.now.log ≡ numbered_rows_by p v.now.log ++ numbered_rows_told (told_to p steps)
   told : (p : ℕ) → AllZip IsToldAs (told_to p steps) (told_by plan v p (map move_of steps))
   served : (objects : List Content) (p : ℕ) → KeepsDue plan objects p v steps end
 
 -- a run leads to the same world with other spare room
-same_run : (new old : World) (first : ℕ) (v : run_world.World) → IsSameWorld new old → Mirrors old.agenda old.system first v
+same_run : (new old : World) (first : ℕ) (v : Progress) → IsSameWorld new old → Mirrors old.agenda old.system first v
     → Mirrors new.agenda new.system first v
 same_run new old first v same r =
     subst (λ (a : Agenda). Mirrors a new.system first v) (sym same.agenda) (run_same old.agenda old.system new.system first v same.system r)
 
 -- where an enabled move leads, and others after it
-one_more : (on : Bool) (there : Option run_world.World) (end : run_world.World) → on ≡ true → there ≡ Some end → (if on then there else None) ≡ Some end
+one_more : (on : Bool) (there : Option Progress) (end : Progress) → on ≡ true → there ≡ Some end → (if on then there else None) ≡ Some end
 one_more true there end e f = f
 one_more false there end e f = absurd (cc (e))
 
 -- a step that was made is enabled in a run that leads to its world
-is_enabled : (plan : Planned) (old new : World) (made : Made) (first : ℕ) (v : run_world.World) → old.agenda.plan ≡ plan → IsMade old made new
+is_enabled : (plan : Planned) (old new : World) (made : Made) (first : ℕ) (v : Progress) → old.agenda.plan ≡ plan → IsMade old made new
     → Mirrors old.agenda old.system first v → enabled plan v made.told.step ≡ true
 is_enabled plan old new made first v plans step r =
     subst (λ (p : Planned). enabled p v made.told.step ≡ true) plans
     (sym (enabled_is old first v r made.told.step) ∙ enabled_if old made.told.step step.allowed)
 
 -- where the steps after the first one lead, all lead
-goes_first : (plan : Planned) (made : Made) (steps : List Made) (before after new : World) (first : ℕ) (v : run_world.World) → before.agenda.plan ≡ plan
+goes_first : (plan : Planned) (made : Made) (steps : List Made) (before after new : World) (first : ℕ) (v : Progress) → before.agenda.plan ≡ plan
     → Mirrors before.agenda before.system first v → IsMade before made after
-    → Mirrors after.agenda after.system first (world_after plan v made.told.step made.give)
-    → Goes plan first (world_after plan v made.told.step made.give) steps new → Goes plan first v (made ∷ steps) new
+    → Mirrors after.agenda after.system first (progress_after plan v made.told.step made.give)
+    → Goes plan first (progress_after plan v made.told.step made.give) steps new → Goes plan first v (made ∷ steps) new
 goes_first plan made steps before after new first v plans r step next rest = record {
   end = rest.end;
   plans = rest.plans;
@@ -82,35 +82,35 @@ goes_first plan made steps before after new first v plans r step next rest = rec
     on = is_enabled plan before after made first v plans step r
 
 -- a run goes on by a step that was made
-run_after : (plan : Planned) (made : Made) (before after : World) (first : ℕ) (v : run_world.World) → before.agenda.plan ≡ plan
+run_after : (plan : Planned) (made : Made) (before after : World) (first : ℕ) (v : Progress) → before.agenda.plan ≡ plan
     → Mirrors before.agenda before.system first v → IsMade before made after
-    → Mirrors after.agenda after.system first (world_after plan v made.told.step made.give)
+    → Mirrors after.agenda after.system first (progress_after plan v made.told.step made.give)
 run_after plan made before after first v plans r step =
-    subst (λ (p : Planned). Mirrors after.agenda after.system first (world_after p v made.told.step made.give)) plans
+    subst (λ (p : Planned). Mirrors after.agenda after.system first (progress_after p v made.told.step made.give)) plans
     ((step.makes.runs first v r).leads)
 
-goes_on : (plan : Planned) (steps : List Made) (old new : World) (first : ℕ) (v : run_world.World) → old.agenda.plan ≡ plan
+goes_on : (plan : Planned) (steps : List Made) (old new : World) (first : ℕ) (v : Progress) → old.agenda.plan ≡ plan
     → Mirrors old.agenda old.system first v → Leads old steps new → Goes plan first v steps new
 goes_on plan [] old new first v plans r same = record {
   end = v;
   plans = ap (λ (a : Agenda). a.plan) same.agenda ∙ plans;
   leads = refl;
   shown = same_run new old first v same r;
-  rows = λ p. sym (append-nil (rows_by p v.now.log));
+  rows = λ p. sym (append-nil (numbered_rows_by p v.now.log));
   told = λ p. tt;
   served = λ objects p b now h same. (subst (λ (c : Belongings). HoldsDue objects v.now.log p c) (sym same) h, tt);
 }
 goes_on plan (made ∷ steps) old new first v plans r leads =
     let here : Mirrors leads.0.agenda leads.0.system first v = same_run leads.0 old first v leads.2 r in
     let kept : leads.0.agenda.plan ≡ plan = ap (λ (a : Agenda). a.plan) leads.2.agenda ∙ plans in
-    let w = world_after plan v made.told.step made.give in
+    let w = progress_after plan v made.told.step made.give in
     let next : Mirrors leads.1.agenda leads.1.system first w = run_after plan made leads.0 leads.1 first v kept here leads.3 in
     goes_first plan made steps leads.0 leads.1 new first v kept here leads.3 next
     (goes_on plan steps leads.1 new first w (leads.3.keeps.plan ∙ kept) next leads.4)
 
 module _ (plan : Planned) (steps : List Made) (rows : List Event) (lived : histories.IsWholeHistory plan steps rows) where
-  abbrev start : run_world.World
-  start = run_world.start_world plan 0
+  abbrev start : Progress
+  start = progress_at_start plan 0
 
   h : IsHistory plan steps lived.end
   h = lived.history
@@ -128,14 +128,14 @@ module _ (plan : Planned) (steps : List Made) (rows : List Event) (lived : histo
   opens : start.now.log ≡ []
   opens = ap (λ (v : Seen). v.log) (opening_is plan 0).now
 
-  their_rows : (p : ℕ) → rows_told (told_to p steps) ≡ rows_by p rows
+  their_rows : (p : ℕ) → numbered_rows_told (told_to p steps) ≡ numbered_rows_by p rows
   their_rows p =
-      ap (λ (l : List Event). rows_by p l ++ rows_told (told_to p steps)) (sym opens)
-      ∙ (sym (goes.rows p) ∙ ap (rows_by p) (sym rows_are))
+      ap (λ (l : List Event). numbered_rows_by p l ++ numbered_rows_told (told_to p steps)) (sym opens)
+      ∙ (sym (goes.rows p) ∙ ap (numbered_rows_by p) (sym rows_are))
 
   -- each process is told its rows, as the run tells them
   pub told_their_rows : (processes : ℕ) (told : List (List Told)) → AreTold processes steps told → AreToldTheirRows rows told
-  told_their_rows processes told t = λ p l. ap rows_told (t.each p (let n = t.count in omega (arith, l, n))) ∙ their_rows p
+  told_their_rows processes told t = λ p l. ap numbered_rows_told (t.each p (let n = t.count in omega (arith, l, n))) ∙ their_rows p
 
   pub told_as_in_run : (processes : ℕ) (told : List (List Told)) → AreTold processes steps told → AreToldAsInRun plan steps told
   told_as_in_run processes told t = λ p l.
@@ -152,8 +152,8 @@ module _ (plan : Planned) (steps : List Made) (rows : List Event) (lived : histo
   limits : IsPlan plan
   limits = subst (λ (p : Planned). IsPlan p) goes.plans goes.shown.limits
 
-  reached : IsReachedWorld plan 0 goes.end
-  reached = subst (λ (p : Planned). IsReachedWorld p 0 goes.end) goes.plans goes.shown.reached
+  reached : RunReaches plan 0 goes.end
+  reached = subst (λ (p : Planned). RunReaches p 0 goes.end) goes.plans goes.shown.reached
 
   -- the steps of a history that ends at rest are the moves of a run, where each process gives what its object offers
   pub run_of : (cast : List (List Content))

@@ -3,7 +3,7 @@ use Rattle.std.proofs.Common.{◌≡◌, ◌∙◌, ◌==◌, ◌<◌, ◌≤◌
 use Rattle.std.proofs.lemmas.List.{take_more, map_more, get_or-map, get_or-append_right, length-map, length-append, length-take-le, append-nil, append_assoc, take-append-drop}
 use Rattle.std.proofs.lemmas.List.Elements.{filter-append}
 use Rattle.std.specs.Prelude.{slice_index_or}
-use Rattle.kt_phases.specs.Steps.{stepper}
+use Rattle.kt_plans.specs.Steps.{process_of_step}
 use Rattle.kt_plan.specs.Limits.{Planned}
 use Rattle.kt_plan.specs.declared.steps.Told.{Told}
 use Rattle.kt_threads.specs.Histories.{made_by, AreTheirs, AreTold}
@@ -11,12 +11,12 @@ use Rattle.kt_threads.specs.declared.state.Made.{Made}
 use Rattle.kt_threads.proofs.Zips.{mapped}
 
 abbrev is_of : ℕ → Made → Bool
-is_of p made = stepper made.told.step == p
+is_of p made = process_of_step made.told.step == p
 
-made_here : (p : ℕ) (made : Made) → (stepper made.told.step == p) ≡ true → made_by p (made ∷ []) ≡ made ∷ []
+made_here : (p : ℕ) (made : Made) → (process_of_step made.told.step == p) ≡ true → made_by p (made ∷ []) ≡ made ∷ []
 made_here p made e = rw e refl
 
-made_elsewhere : (p : ℕ) (made : Made) → (stepper made.told.step == p) ≡ false → made_by p (made ∷ []) ≡ []
+made_elsewhere : (p : ℕ) (made : Made) → (process_of_step made.told.step == p) ≡ false → made_by p (made ∷ []) ≡ []
 made_elsewhere p made e = rw e refl
 
 made_read : (p i : ℕ) (steps : List Made) (made : Made) → i < length steps → made ≡ get_or steps i made
@@ -27,7 +27,7 @@ made_read p i steps made low is =
 
 -- a step of the process is next in its list
 pub made_next : (p i count : ℕ) (steps : List Made) (made : Made) (list : List Made) → i < length steps → made ≡ get_or steps i made
-    → count < length list → get_or list count made ≡ made → (stepper made.told.step == p) ≡ true
+    → count < length list → get_or list count made ≡ made → (process_of_step made.told.step == p) ≡ true
     → take count list ≡ made_by p (take i steps) → take (count + 1) list ≡ made_by p (take (i + 1) steps)
 made_next p i count steps made list low is there same own h =
     take_more list count made there
@@ -37,7 +37,7 @@ made_next p i count steps made list low is there same own h =
 
 -- a step of another process is not in it
 pub made_past : (p i count : ℕ) (steps : List Made) (made : Made) (list : List Made) → i < length steps → made ≡ get_or steps i made
-    → (stepper made.told.step == p) ≡ false
+    → (process_of_step made.told.step == p) ≡ false
     → take count list ≡ made_by p (take i steps) → take count list ≡ made_by p (take (i + 1) steps)
 made_past p i count steps made list low is other h =
     h ∙ sym (made_read p i steps made low is
@@ -45,7 +45,7 @@ made_past p i count steps made list low is other h =
 
 -- what is recorded of a process, from a step of it on
 made_from : (p i : ℕ) (steps : List Made) (made : Made) → i < length steps → made ≡ get_or steps i made
-    → (stepper made.told.step == p) ≡ true
+    → (process_of_step made.told.step == p) ≡ true
     → made_by p steps ≡ made_by p (take i steps) ++ made ∷ made_by p (drop (i + 1) steps)
 made_from p i steps made low is own =
     ap (λ (l : List Made). made_by p l) (sym (take-append-drop (i + 1) steps))
@@ -56,7 +56,7 @@ made_from p i steps made low is own =
 
 -- a list of all steps of the process goes on with that step
 goes_on : (p i count : ℕ) (steps : List Made) (made : Made) (list : List Made) → i < length steps → made ≡ get_or steps i made
-    → (stepper made.told.step == p) ≡ true → take count list ≡ made_by p (take i steps) → list ≡ made_by p steps
+    → (process_of_step made.told.step == p) ≡ true → take count list ≡ made_by p (take i steps) → list ≡ made_by p steps
     → list ≡ take count list ++ made ∷ made_by p (drop (i + 1) steps)
 goes_on p i count steps made list low is own h whole =
     whole ∙ (made_from p i steps made low is own
@@ -64,7 +64,7 @@ goes_on p i count steps made list low is own h whole =
 
 -- so it is longer than what was read of it
 pub made_longer : (p i count : ℕ) (steps : List Made) (made : Made) (list : List Made) → i < length steps → made ≡ get_or steps i made
-    → (stepper made.told.step == p) ≡ true → count ≤ length list → take count list ≡ made_by p (take i steps)
+    → (process_of_step made.told.step == p) ≡ true → count ≤ length list → take count list ≡ made_by p (take i steps)
     → list ≡ made_by p steps → count < length list
 made_longer p i count steps made list low is own there h whole =
     let rest = made_by p (drop (i + 1) steps) in
@@ -75,7 +75,7 @@ made_longer p i count steps made list low is own there h whole =
 
 -- and has that step there
 pub made_there : (p i count : ℕ) (steps : List Made) (made d : Made) (list : List Made) → i < length steps → made ≡ get_or steps i made
-    → (stepper made.told.step == p) ≡ true → count ≤ length list → take count list ≡ made_by p (take i steps)
+    → (process_of_step made.told.step == p) ≡ true → count ≤ length list → take count list ≡ made_by p (take i steps)
     → list ≡ made_by p steps → get_or list count d ≡ made
 made_there p i count steps made d list low is own there h whole =
     let rest = made ∷ made_by p (drop (i + 1) steps) in

@@ -3,27 +3,26 @@ use Rattle.std.proofs.Common.{◌≡◌, ◌∙◌, ◌<◌, ◌+◌, ◌^◌, �
 use Rattle.std.specs.Prelude.{slice_get}
 use Rattle.kt_core.specs.Making.{KeepsPlan, MakesStep}
 use Rattle.kt_core.specs.Shown.{Mirrors}
-use Rattle.kt_core.specs.Worlds.{World, IsSameWorld, IsOpening, numbered_row, refusal}
+use Rattle.kt_core.specs.Worlds.{World, IsSameWorld, IsOpening, numbered_row, step_refusal}
 use Rattle.kt_core.specs.declared.faults.StepFault.{StepFault}
 use Rattle.kt_plan.specs.Limits.{Planned}
 use Rattle.kt_plan.specs.declared.steps.Give.{Give}
 use Rattle.kt_plan.specs.declared.steps.Look.{Look}
 use Rattle.kt_plan.specs.declared.steps.Step.{Step}
 use Rattle.kt_plan.specs.declared.steps.Told.{Told}
-use Rattle.kt_promises.specs.Looks as run_looks
-use Rattle.kt_promises.specs.World as run_world
-use Rattle.kt_promises.specs.World.{start_world}
-use Rattle.kt_system.specs.Systems.{Whole, IsSame}
+use Rattle.kt_plans.specs.Looks as run_looks
+use Rattle.kt_plans.specs.Progress.{Progress, progress_at_start}
+use Rattle.kt_system.specs.Systems.{Whole, IsSameSystem}
 use Rattle.kt_threads.specs.Histories.{IsMade, Leads, IsHistory}
 use Rattle.kt_threads.specs.declared.state.Made.{Made}
 
-pub same_system : (s : Whole) → IsSame s s
+pub same_system : (s : Whole) → IsSameSystem s s
 same_system s = record { size = refl; people = refl; wires = refl; held = refl; kept = refl; rows = refl; begun = refl; put = refl }
 
 pub same_world : (w : World) → IsSameWorld w w
 same_world w = record { agenda = refl; system = same_system w.system; limit = refl }
 
-pub systems_along : (r s t : Whole) → IsSame r s → IsSame s t → IsSame r t
+pub systems_along : (r s t : Whole) → IsSameSystem r s → IsSameSystem s t → IsSameSystem r t
 systems_along r s t a b = record {
   size = a.size ∙ b.size;
   people = a.people ∙ b.people;
@@ -60,7 +59,7 @@ pub history_more : (steps : List Made) (made : Made) (now new : World) → IsMad
 history_more steps made now new step h = record {
   begin = h.begin;
   opening = subst (λ (p : Planned). IsOpening h.begin p 0 (2 ^ 24)) (sym step.keeps.plan) h.opening;
-  starts = subst (λ (p : Planned). Mirrors h.begin.agenda h.begin.system 0 (start_world p 0)) (sym step.keeps.plan) h.starts;
+  starts = subst (λ (p : Planned). Mirrors h.begin.agenda h.begin.system 0 (progress_at_start p 0)) (sym step.keeps.plan) h.starts;
   leads = leads_more steps made h.begin now new step h.leads;
 }
 
@@ -69,7 +68,7 @@ pub history_same : (steps : List Made) (now new : World) → IsSameWorld new now
 history_same steps now new same h = record {
   begin = h.begin;
   opening = subst (λ (p : Planned). IsOpening h.begin p 0 (2 ^ 24)) (ap (λ a. a.plan) (sym same.agenda)) h.opening;
-  starts = subst (λ (p : Planned). Mirrors h.begin.agenda h.begin.system 0 (start_world p 0)) (ap (λ a. a.plan) (sym same.agenda)) h.starts;
+  starts = subst (λ (p : Planned). Mirrors h.begin.agenda h.begin.system 0 (progress_at_start p 0)) (ap (λ a. a.plan) (sym same.agenda)) h.starts;
   leads = leads_same steps h.begin now new same h.leads;
 }
 
@@ -80,14 +79,14 @@ not_refused None result told is h = refl
 not_refused (Some fault) result told is h = absurd (cc (sym is ∙ h))
 
 -- a step leads from one world to another, and tells that it was made
-pub makes : (old new : World) (step : Step) (look : Look) (give : Give) (told : Told) → told.step ≡ step → refusal old step ≡ None
+pub makes : (old new : World) (step : Step) (look : Look) (give : Give) (told : Told) → told.step ≡ step → step_refusal old step ≡ None
     → KeepsPlan old new → MakesStep old step give told.acts new → length told.rows ≡ 4
     → ((i : ℕ) → i < 4 → slice_get told.rows i ≡ Some (numbered_row new.system.rows.rows (length old.system.rows.rows + i)))
-    → ((first : ℕ) (v : run_world.World) → Mirrors old.agenda old.system first v
+    → ((first : ℕ) (v : Progress) → Mirrors old.agenda old.system first v
     → look ≡ run_looks.look old.agenda.plan v step)
     → IsMade old (record { look = look; give = give; told = told }) new
 makes old new step look give told is allowed keeps made four rows looks = record {
-  allowed = subst (λ (s : Step). refusal old s ≡ None) (sym is) allowed;
+  allowed = subst (λ (s : Step). step_refusal old s ≡ None) (sym is) allowed;
   keeps = keeps;
   makes = subst (λ (s : Step). MakesStep old s give told.acts new) (sym is) made;
   four = four;

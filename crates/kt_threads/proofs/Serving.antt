@@ -8,23 +8,21 @@ use Rattle.kt_plan.specs.declared.steps.Give.{Give}
 use Rattle.kt_plan.specs.declared.steps.Step.TheVariants.{Do, Take}
 use Rattle.kt_core.specs.Shown.{Mirrors}
 use Rattle.kt_core.specs.Worlds.{World}
-use Rattle.kt_phases.specs.Steps.{stepper}
+use Rattle.kt_plans.specs.Steps.{process_of_step, enabled, progress_after}
 use Rattle.kt_core.proofs.Enabled.{below}
 use Rattle.kt_held.specs.Holdings.{Content, content}
 use Rattle.kt_object.specs.Value.{offered}
-use Rattle.kt_phases.specs.Runs.{Move}
-use Rattle.kt_phases.specs.Steps as run_steps
+use Rattle.kt_plans.specs.Runs.{Move, RunReaches, after_moves}
+use Rattle.kt_plans.specs.Steps as run_steps
 use Rattle.kt_plan.specs.Limits.{Planned, IsPlan}
 use Rattle.kt_plan.specs.declared.steps.Look.{Look}
 use Rattle.kt_plan.specs.declared.steps.Look.TheVariants as look
-use Rattle.kt_promises.specs.Looks as run_look
-use Rattle.kt_promises.specs.Offers.{GivesOffer, GivesOffers}
-use Rattle.kt_promises.specs.Runs.{IsReachedWorld, after_moves}
-use Rattle.kt_promises.specs.StepActs.{acts_of_step}
-use Rattle.kt_promises.specs.Steps.{enabled, world_after}
-use Rattle.kt_promises.specs.World as run_world
-use Rattle.kt_promises.proofs.ActsOfSteps.{object_seen}
-use Rattle.kt_promises.proofs.OffersSent.{up_seen}
+use Rattle.kt_plans.specs.Looks.{look}
+use Rattle.kt_plans.specs.Offers.{GivesOffer, GivesOffers}
+use Rattle.kt_plans.specs.StepActs.{acts_of_step}
+use Rattle.kt_plans.specs.Progress.{Progress}
+use Rattle.kt_plans.proofs.ActsOfSteps.{object_seen}
+use Rattle.kt_plans.proofs.OffersSent.{up_seen}
 use Rattle.kt_run.specs.Objects.{Belongings, rules_of, first_of, HoldsDue}
 use Rattle.kt_run.proofs.Acting.{acts_along_step, others_along}
 use Rattle.kt_run.proofs.Holding.{holds_next, holds_still}
@@ -51,17 +49,17 @@ given_offer first None present body up is asked = absurd (cc (up))
 given_offer first (Some value) present body up is asked = ap Some (sym (subst (λ (o : Option Content). IfSome o (λ c. body ≡ offered c.kind c.value)) is asked))
 
 -- at a process's own moves, what is given is what its object offers, if it is asked for
-abbrev pub GivesOf : Rules (List ℤ) → ℕ → Planned → run_world.World → List Move → Type 0
+abbrev pub GivesOf : Rules (List ℤ) → ℕ → Planned → Progress → List Move → Type 0
 GivesOf rules p plan w [] = Unit {0}
-GivesOf rules p plan w (x ∷ xs) = (p ≡ stepper x.step → GivesOffer (λ (_ : ℕ). rules) plan w x.step x.give) × GivesOf rules p plan (world_after plan w x.step x.give) xs
+GivesOf rules p plan w (x ∷ xs) = (p ≡ process_of_step x.step → GivesOffer (λ (_ : ℕ). rules) plan w x.step x.give) × GivesOf rules p plan (progress_after plan w x.step x.give) xs
 
 -- from one world of a run to another: a process that had what was due to it, and made its steps, has it again
-abbrev pub KeepsDue : Planned → List Content → ℕ → run_world.World → List Made → run_world.World → Type 0
+abbrev pub KeepsDue : Planned → List Content → ℕ → Progress → List Made → Progress → Type 0
 KeepsDue plan objects p v steps end = (b now : Belongings) → HoldsDue objects v.now.log p b → AreServed b (made_by p steps) now
     → HoldsDue objects end.now.log p now × GivesOf (rules_of (first_of objects)) p plan v (map move_of steps)
 
 -- one step, from a world that a run led to
-module _ (plan : Planned) (made : Made) (before after : World) (first : ℕ) (v : run_world.World) (plans : before.agenda.plan ≡ plan)
+module _ (plan : Planned) (made : Made) (before after : World) (first : ℕ) (v : Progress) (plans : before.agenda.plan ≡ plan)
     (r : Mirrors before.agenda before.system first v) (step : IsMade before made after)
     (on : enabled plan v made.told.step ≡ true) where
   abbrev x : Step
@@ -70,65 +68,65 @@ module _ (plan : Planned) (made : Made) (before after : World) (first : ℕ) (v 
   abbrev give : Give
   give = made.give
 
-  abbrev w : run_world.World
-  w = world_after plan v x give
+  abbrev w : Progress
+  w = progress_after plan v x give
 
   limits : IsPlan plan
   limits = subst (λ (p : Planned). IsPlan p) plans r.limits
 
-  reached : IsReachedWorld plan first v
-  reached = subst (λ (p : Planned). IsReachedWorld p first v) plans r.reached
+  reached : RunReaches plan first v
+  reached = subst (λ (p : Planned). RunReaches p first v) plans r.reached
 
-  acts : acts_shown made.told.acts ≡ acts_of_step plan v x give (stepper x)
+  acts : acts_shown made.told.acts ≡ acts_of_step plan v x give (process_of_step x)
   acts =
-      subst (λ (p : Planned). acts_shown made.told.acts ≡ acts_of_step p v x give (stepper made.told.step)) plans ((step.makes.runs first v r).asks)
+      subst (λ (p : Planned). acts_shown made.told.acts ≡ acts_of_step p v x give (process_of_step made.told.step)) plans ((step.makes.runs first v r).asks)
 
-  looks : made.look ≡ run_look.look plan v x
-  looks = subst (λ (p : Planned). made.look ≡ run_look.look p v x) plans (step.look first v r)
+  looks : made.look ≡ look plan v x
+  looks = subst (λ (p : Planned). made.look ≡ look p v x) plans (step.look first v r)
 
-  its : (objects : List Content) (b c : Belongings) → IsServed b made c → HoldsDue objects v.now.log (stepper x) b
-      → HoldsDue objects w.now.log (stepper x) c
+  its : (objects : List Content) (b c : Belongings) → IsServed b made c → HoldsDue objects v.now.log (process_of_step x) b
+      → HoldsDue objects w.now.log (process_of_step x) c
   its objects b c s h =
-      holds_next objects (stepper x) made.told.acts v.now.log w.now.log b c
+      holds_next objects (process_of_step x) made.told.acts v.now.log w.now.log b c
       (acts_along_step plan first v x give limits reached on (rules_of (first_of objects)) (acts_shown made.told.acts) acts)
       (record { does = s.does; spares = s.spares }) h
 
-  others : (objects : List Content) (p : ℕ) (b : Belongings) → p ≢ stepper x → HoldsDue objects v.now.log p b → HoldsDue objects w.now.log p b
+  others : (objects : List Content) (p : ℕ) (b : Belongings) → p ≢ process_of_step x → HoldsDue objects v.now.log p b → HoldsDue objects w.now.log p b
   others objects p b n h =
       holds_still objects p v.now.log w.now.log b
       (others_along plan first v x give limits reached on (rules_of (first_of objects)) p n) h
 
-  gives : (objects : List Content) (b c : Belongings) → IsServed b made c → HoldsDue objects v.now.log (stepper x) b
+  gives : (objects : List Content) (b c : Belongings) → IsServed b made c → HoldsDue objects v.now.log (process_of_step x) b
       → GivesOffer (λ (_ : ℕ). rules_of (first_of objects)) plan v x give
   gives objects b c s h n =
-      given_offer (first_of objects) (due (rules_of (first_of objects)) (done v.now.log) (stepper x)).object b.present made.give.body
-      (object_seen (rules_of (first_of objects)) plan first v (stepper x) limits reached ∙ up_seen plan v x n)
+      given_offer (first_of objects) (due (rules_of (first_of objects)) (done v.now.log) (process_of_step x)).object b.present made.give.body
+      (object_seen (rules_of (first_of objects)) plan first v (process_of_step x) limits reached ∙ up_seen plan v x n)
       h.holds.object (s.offers (needs_body made.look (looks ∙ n)))
 
-  of_first : (p : ℕ) → (stepper made.told.step == p) ≡ true → p ≡ stepper x
-  of_first p e = sym (equal_of (stepper made.told.step) p e)
+  of_first : (p : ℕ) → (process_of_step made.told.step == p) ≡ true → p ≡ process_of_step x
+  of_first p e = sym (equal_of (process_of_step made.told.step) p e)
 
-  of_other : (p : ℕ) → (stepper made.told.step == p) ≡ false → p ≢ stepper x
-  of_other p e = λ q. differs (stepper made.told.step) p e q
+  of_other : (p : ℕ) → (process_of_step made.told.step == p) ≡ false → p ≢ process_of_step x
+  of_other p e = λ q. differs (process_of_step made.told.step) p e q
     where
       differs : (a b : ℕ) → (a == b) ≡ false → b ≡ a → ⊥
       differs a b e s = let f : (a == b) ≡ true = grind (arith, nat_tests, s) in absurd (cc (e, f))
 
-  pub served_more : (objects : List Content) (p : ℕ) (steps : List Made) (end : run_world.World) → KeepsDue plan objects p w steps end
+  pub served_more : (objects : List Content) (p : ℕ) (steps : List Made) (end : Progress) → KeepsDue plan objects p w steps end
       → KeepsDue plan objects p v (made ∷ steps) end
-  served_more objects p steps end rest = λ b now h s. go b now h s (stepper made.told.step == p) refl
+  served_more objects p steps end rest = λ b now h s. go b now h s (process_of_step made.told.step == p) refl
     where
-      go : (b now : Belongings) → HoldsDue objects v.now.log p b → AreServed b (made_by p (made ∷ steps)) now → (t : Bool) → (stepper made.told.step == p) ≡ t
+      go : (b now : Belongings) → HoldsDue objects v.now.log p b → AreServed b (made_by p (made ∷ steps)) now → (t : Bool) → (process_of_step made.told.step == p) ≡ t
           → HoldsDue objects end.now.log p now × GivesOf (rules_of (first_of objects)) p plan v (map move_of (made ∷ steps))
       go b now h s true e =
           let q = of_first p e in
-          let here : HoldsDue objects v.now.log (stepper x) b = subst (λ (i : ℕ). HoldsDue objects v.now.log i b) q h in
-          let a : AreServed b (made ∷ made_by p steps) now = subst (λ (l : List Made). AreServed b l now) (kept (λ (m : Made). stepper m.told.step == p) made steps e) s in
+          let here : HoldsDue objects v.now.log (process_of_step x) b = subst (λ (i : ℕ). HoldsDue objects v.now.log i b) q h in
+          let a : AreServed b (made ∷ made_by p steps) now = subst (λ (l : List Made). AreServed b l now) (kept (λ (m : Made). process_of_step m.told.step == p) made steps e) s in
           let t = rest a.0 now (subst (λ (i : ℕ). HoldsDue objects w.now.log i a.0) (sym q) (its objects b a.0 a.1 here)) a.2 in
           (t.0, (λ _. gives objects b a.0 a.1 here, t.1))
       go b now h s false e =
           let n = of_other p e in
-          let a : AreServed b (made_by p steps) now = subst (λ (l : List Made). AreServed b l now) (left (λ (m : Made). stepper m.told.step == p) made steps e) s in
+          let a : AreServed b (made_by p steps) now = subst (λ (l : List Made). AreServed b l now) (left (λ (m : Made). process_of_step m.told.step == p) made steps e) s in
           let t = rest b now (others objects p b n h) a in
           (t.0, (λ q. absurd (n q), t.1))
 
@@ -138,17 +136,17 @@ and_left : (a b : Bool) → (a && b) ≡ true → a ≡ true
 and_left true b e = refl
 and_left false b e = absurd (cc (e))
 
-inside : (plan : Planned) (w : run_world.World) (x : Step) → enabled plan w x ≡ true → stepper x < (length plan.names)
+inside : (plan : Planned) (w : Progress) (x : Step) → enabled plan w x ≡ true → process_of_step x < (length plan.names)
 inside plan w (Do p) e = below p (length plan.names) (and_left (nat_lt p (length plan.names)) _ e)
 inside plan w (Take p q) e = below p (length plan.names) (and_left (nat_lt p (length plan.names)) (nat_lt q (length plan.names)) (and_left _ _ e))
 
-on_first : (b : Bool) (there : Option run_world.World) (end : run_world.World) → (if b then there else None) ≡ Some end → (b ≡ true) × (there ≡ Some end)
+on_first : (b : Bool) (there : Option Progress) (end : Progress) → (if b then there else None) ≡ Some end → (b ≡ true) × (there ≡ Some end)
 on_first true there end e = (refl, e)
 on_first false there end e = absurd (cc (e))
 
-pub gives_all : (rules : ℕ → Rules (List ℤ)) (plan : Planned) (xs : List Move) (v end : run_world.World) → after_moves plan v xs ≡ Some end
+pub gives_all : (rules : ℕ → Rules (List ℤ)) (plan : Planned) (xs : List Move) (v end : Progress) → after_moves plan v xs ≡ Some end
     → ((p : ℕ) → p < (length plan.names) → GivesOf (rules p) p plan v xs) → GivesOffers rules plan v xs
 gives_all rules plan [] v end e g = tt
 gives_all rules plan (x ∷ xs) v end e g =
-    let t = on_first (enabled plan v x.step) (after_moves plan (world_after plan v x.step x.give) xs) end e in
-    ((g (stepper x.step) (inside plan v x.step t.0)).0 refl, gives_all rules plan xs (world_after plan v x.step x.give) end t.1 (λ p l. (g p l).1))
+    let t = on_first (enabled plan v x.step) (after_moves plan (progress_after plan v x.step x.give) xs) end e in
+    ((g (process_of_step x.step) (inside plan v x.step t.0)).0 refl, gives_all rules plan xs (progress_after plan v x.step x.give) end t.1 (λ p l. (g p l).1))

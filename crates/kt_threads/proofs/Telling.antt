@@ -5,14 +5,13 @@ use Rattle.std.specs.Prelude.{if◌then◌else◌}
 use Rattle.std.proofs.lemmas.Bool.Decides.{nat_tests}
 use Rattle.kt_core.specs.Shown.{Mirrors}
 use Rattle.kt_core.specs.Worlds.{World}
-use Rattle.kt_phases.specs.Steps.{stepper}
+use Rattle.kt_plans.specs.Steps.{process_of_step, enabled, progress_after}
 use Rattle.kt_plan.specs.Limits.{Planned}
 use Rattle.kt_plan.specs.declared.steps.Told.{Told}
-use Rattle.kt_phases.specs.Steps as run_steps
-use Rattle.kt_promises.specs.Steps.{enabled, world_after}
-use Rattle.kt_promises.specs.Told as run_told
-use Rattle.kt_promises.specs.World as run_world
-use Rattle.kt_run.specs.Telling.{rows_told, rows_by, TellsItsRows, IsToldAs, told_here}
+use Rattle.kt_plans.specs.Steps as run_steps
+use Rattle.kt_plans.specs.Told.{StepTold, told_at, told_by, told_by_move}
+use Rattle.kt_plans.specs.Progress.{Progress}
+use Rattle.kt_run.specs.Telling.{numbered_rows_told, numbered_rows_by, TellsItsRows, IsToldAs, told_here}
 use Rattle.kt_run.proofs.Numbering.{Row, kept, left, rows_told_append, rows_by_more}
 use Rattle.kt_run.proofs.Telling as run
 use Rattle.kt_threads.specs.Histories.{IsMade, told_to}
@@ -35,57 +34,57 @@ turned a b c true e f = let k : (c == a) ≡ true = grind (arith, nat_tests, e, 
 turned a b c false e f = let k : (c == a) ≡ false = grind (arith, nat_tests, e, f) in k
 
 -- one step, from a world that a run led to
-module _ (plan : Planned) (made : Made) (before after : World) (first : ℕ) (v : run_world.World) (plans : before.agenda.plan ≡ plan)
+module _ (plan : Planned) (made : Made) (before after : World) (first : ℕ) (v : Progress) (plans : before.agenda.plan ≡ plan)
     (r : Mirrors before.agenda before.system first v) (step : IsMade before made after)
-    (next : Mirrors after.agenda after.system first (world_after plan v made.told.step made.give))
+    (next : Mirrors after.agenda after.system first (progress_after plan v made.told.step made.give))
     (on : enabled plan v made.told.step ≡ true) where
-  abbrev w : run_world.World
-  w = world_after plan v made.told.step made.give
+  abbrev w : Progress
+  w = progress_after plan v made.told.step made.give
 
   its_rows : TellsItsRows made.told v.now.log w.now.log
   its_rows = run.tells_its_rows plan made.told made.give before after first v plans r next on step.keeps.grows step.four step.rows ((step.makes.runs first v r).asks)
 
-  told_first : (p : ℕ) (steps : List Made) → (stepper made.told.step == p) ≡ true → told_to p (made ∷ steps) ≡ made.told ∷ told_to p steps
-  told_first p steps e = ap (λ (l : List Made). map (λ (m : Made). m.told) l) (kept (λ (m : Made). stepper m.told.step == p) made steps e)
+  told_first : (p : ℕ) (steps : List Made) → (process_of_step made.told.step == p) ≡ true → told_to p (made ∷ steps) ≡ made.told ∷ told_to p steps
+  told_first p steps e = ap (λ (l : List Made). map (λ (m : Made). m.told) l) (kept (λ (m : Made). process_of_step m.told.step == p) made steps e)
 
-  told_past : (p : ℕ) (steps : List Made) → (stepper made.told.step == p) ≡ false → told_to p (made ∷ steps) ≡ told_to p steps
-  told_past p steps e = ap (λ (l : List Made). map (λ (m : Made). m.told) l) (left (λ (m : Made). stepper m.told.step == p) made steps e)
+  told_past : (p : ℕ) (steps : List Made) → (process_of_step made.told.step == p) ≡ false → told_to p (made ∷ steps) ≡ told_to p steps
+  told_past p steps e = ap (λ (l : List Made). map (λ (m : Made). m.told) l) (left (λ (m : Made). process_of_step m.told.step == p) made steps e)
 
-  told_next : (p : ℕ) (steps : List Made) (b : Bool) → (stepper made.told.step == p) ≡ b → told_here p made.told ++ told_to p steps ≡ told_to p (made ∷ steps)
+  told_next : (p : ℕ) (steps : List Made) (b : Bool) → (process_of_step made.told.step == p) ≡ b → told_here p made.told ++ told_to p steps ≡ told_to p (made ∷ steps)
   told_next p steps true e =
-      ap (λ (l : List Told). l ++ told_to p steps) (if_true _ (made.told ∷ []) [] (turned (stepper made.told.step) (stepper made.told.step) p true refl e))
+      ap (λ (l : List Told). l ++ told_to p steps) (if_true _ (made.told ∷ []) [] (turned (process_of_step made.told.step) (process_of_step made.told.step) p true refl e))
       ∙ sym (told_first p steps e)
   told_next p steps false e =
-      ap (λ (l : List Told). l ++ told_to p steps) (if_false _ (made.told ∷ []) [] (turned (stepper made.told.step) (stepper made.told.step) p false refl e))
+      ap (λ (l : List Told). l ++ told_to p steps) (if_false _ (made.told ∷ []) [] (turned (process_of_step made.told.step) (process_of_step made.told.step) p false refl e))
       ∙ sym (told_past p steps e)
 
-  pub rows_more : (p : ℕ) (steps : List Made) → rows_by p w.now.log ++ rows_told (told_to p steps) ≡ rows_by p v.now.log ++ rows_told (told_to p (made ∷ steps))
+  pub rows_more : (p : ℕ) (steps : List Made) → numbered_rows_by p w.now.log ++ numbered_rows_told (told_to p steps) ≡ numbered_rows_by p v.now.log ++ numbered_rows_told (told_to p (made ∷ steps))
   rows_more p steps =
-      ap (λ (l : List Row). l ++ rows_told (told_to p steps)) (rows_by_more made.told v.now.log w.now.log its_rows p)
-      ∙ (append_assoc (rows_by p v.now.log) (rows_told (told_here p made.told)) (rows_told (told_to p steps))
-      ∙ ap (λ (l : List Row). rows_by p v.now.log ++ l)
-      (sym (rows_told_append (told_here p made.told) (told_to p steps)) ∙ ap rows_told (told_next p steps (stepper made.told.step == p) refl)))
+      ap (λ (l : List Row). l ++ numbered_rows_told (told_to p steps)) (rows_by_more made.told v.now.log w.now.log its_rows p)
+      ∙ (append_assoc (numbered_rows_by p v.now.log) (numbered_rows_told (told_here p made.told)) (numbered_rows_told (told_to p steps))
+      ∙ ap (λ (l : List Row). numbered_rows_by p v.now.log ++ l)
+      (sym (rows_told_append (told_here p made.told) (told_to p steps)) ∙ ap numbered_rows_told (told_next p steps (process_of_step made.told.step == p) refl)))
 
-  told_as : IsToldAs made.told (run_told.told_at plan v (move_of made))
+  told_as : IsToldAs made.told (told_at plan v (move_of made))
   told_as = run.told_as plan made.told made.give before after first v plans r next on step.keeps.grows step.four step.rows ((step.makes.runs first v r).asks)
 
-  by_test : (p : ℕ) (b : Bool) → (stepper made.told.step == p) ≡ b → (p == stepper made.told.step) ≡ b
-  by_test p b e = turned (stepper made.told.step) (stepper made.told.step) p b refl e
+  by_test : (p : ℕ) (b : Bool) → (process_of_step made.told.step == p) ≡ b → (p == process_of_step made.told.step) ≡ b
+  by_test p b e = turned (process_of_step made.told.step) (process_of_step made.told.step) p b refl e
 
-  pub told_more : (p : ℕ) (steps : List Made) → AllZip IsToldAs (told_to p steps) (run_told.told_by plan w p (map move_of steps))
-      → AllZip IsToldAs (told_to p (made ∷ steps)) (run_told.told_by plan v p (map move_of (made ∷ steps)))
-  told_more p steps h = go (stepper made.told.step == p) refl
+  pub told_more : (p : ℕ) (steps : List Made) → AllZip IsToldAs (told_to p steps) (told_by plan w p (map move_of steps))
+      → AllZip IsToldAs (told_to p (made ∷ steps)) (told_by plan v p (map move_of (made ∷ steps)))
+  told_more p steps h = go (process_of_step made.told.step == p) refl
     where
-      rest : List run_told.Told
-      rest = run_told.told_by plan w p (map move_of steps)
+      rest : List StepTold
+      rest = told_by plan w p (map move_of steps)
 
-      here : List run_told.Told
-      here = run_told.told_at plan v (move_of made) ∷ []
+      here : List StepTold
+      here = told_at plan v (move_of made) ∷ []
 
-      go : (b : Bool) → (stepper made.told.step == p) ≡ b → AllZip IsToldAs (told_to p (made ∷ steps)) (run_told.told_by_move plan v p (move_of made) ++ rest)
+      go : (b : Bool) → (process_of_step made.told.step == p) ≡ b → AllZip IsToldAs (told_to p (made ∷ steps)) (told_by_move plan v p (move_of made) ++ rest)
       go true e =
-          subst (λ (l : List Told). AllZip IsToldAs l (run_told.told_by_move plan v p (move_of made) ++ rest)) (sym (told_first p steps e))
-          (subst (λ (l : List run_told.Told). AllZip IsToldAs (made.told ∷ told_to p steps) (l ++ rest)) (sym (if_true _ here [] (by_test p true e))) (told_as, h))
+          subst (λ (l : List Told). AllZip IsToldAs l (told_by_move plan v p (move_of made) ++ rest)) (sym (told_first p steps e))
+          (subst (λ (l : List StepTold). AllZip IsToldAs (made.told ∷ told_to p steps) (l ++ rest)) (sym (if_true _ here [] (by_test p true e))) (told_as, h))
       go false e =
-          subst (λ (l : List Told). AllZip IsToldAs l (run_told.told_by_move plan v p (move_of made) ++ rest)) (sym (told_past p steps e))
-          (subst (λ (l : List run_told.Told). AllZip IsToldAs (told_to p steps) (l ++ rest)) (sym (if_false _ here [] (by_test p false e))) h)
+          subst (λ (l : List Told). AllZip IsToldAs l (told_by_move plan v p (move_of made) ++ rest)) (sym (told_past p steps e))
+          (subst (λ (l : List StepTold). AllZip IsToldAs (told_to p steps) (l ++ rest)) (sym (if_false _ here [] (by_test p false e))) h)

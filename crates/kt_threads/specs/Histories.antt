@@ -2,13 +2,13 @@
 use Rattle.std.specs.Prelude.{◌≡◌, ◌<◌, ◌+◌, ◌^◌, ◌==◌, ℕ, List, [], ◌∷◌, Option, Some, None, filter, map, length, slice_get, slice_index_or}
 use Rattle.kt_core.specs.Making.{KeepsPlan, MakesStep}
 use Rattle.kt_core.specs.Shown as core
-use Rattle.kt_core.specs.Worlds.{World, IsOpening, IsAtRest, IsSameWorld, numbered_row, refusal}
-use Rattle.kt_phases.specs.Steps.{stepper}
+use Rattle.kt_core.specs.Worlds.{World, IsOpening, IsWorldAtRest, IsSameWorld, numbered_row, step_refusal}
+use Rattle.kt_plans.specs.Steps.{process_of_step}
 use Rattle.kt_held.specs.Holdings.{Content}
 use Rattle.kt_plan.specs.Limits.{Planned}
 use Rattle.kt_plan.specs.declared.steps.Told.{Told}
-use Rattle.kt_promises.specs.Looks as run_looks
-use Rattle.kt_promises.specs.World as run_world
+use Rattle.kt_plans.specs.Looks as run_looks
+use Rattle.kt_plans.specs.Progress.{Progress, progress_at_start}
 use Rattle.kt_run.specs.Runs.{IsRun}
 use Rattle.kt_spacetime.specs.declared.event.Event.{Event}
 use Rattle.kt_threads.specs.declared.faults.LiveFault.{LiveFault}
@@ -19,13 +19,13 @@ use Rattle.kt_threads.specs.Telling.{AreToldAsInRun}
 -- a step that is not refused leads from one world to another, and tells its rows and its acts; in a run of the plan that
 -- leads to the one it needs what is recorded
 pub record IsMade (old : World) (made : Made) (new : World) : Type 0 where
-  pub allowed : refusal old made.told.step ≡ None
+  pub allowed : step_refusal old made.told.step ≡ None
   pub keeps : KeepsPlan old new
   pub makes : MakesStep old made.told.step made.give made.told.acts new
   pub four : length made.told.rows ≡ 4
   pub rows : (i : ℕ) → i < 4 → slice_get made.told.rows i
       ≡ Some (numbered_row new.system.rows.rows (length old.system.rows.rows + i))
-  pub look : (first : ℕ) (v : run_world.World) → core.Mirrors old.agenda old.system first v → made.look
+  pub look : (first : ℕ) (v : Progress) → core.Mirrors old.agenda old.system first v → made.look
       ≡ run_looks.look old.agenda.plan v made.told.step
 
 -- steps lead one after another from one world to another, where only spare room may come between
@@ -37,7 +37,7 @@ Leads old (made ∷ steps) new = (before : World) × (after : World) × IsSameWo
 pub record IsHistory (plan : Planned) (steps : List Made) (world : World) : Type 0 where
   pub begin : World
   pub opening : IsOpening begin plan 0 (2 ^ 24)
-  pub starts : core.Mirrors begin.agenda begin.system 0 (run_world.start_world plan 0)
+  pub starts : core.Mirrors begin.agenda begin.system 0 (progress_at_start plan 0)
   pub leads : Leads begin steps world
 
 -- a world, the steps that led to it, and the first fault
@@ -53,7 +53,7 @@ first_fault (Some first) fault = Some first
 
 -- the steps of a process, in order
 abbrev pub made_by : ℕ → List Made → List Made
-made_by p steps = filter (λ (made : Made). stepper made.told.step == p) steps
+made_by p steps = filter (λ (made : Made). process_of_step made.told.step == p) steps
 
 -- what they tell
 abbrev pub told_to : ℕ → List Made → List Told
@@ -63,7 +63,7 @@ told_to p steps = map (λ (made : Made). made.told) (made_by p steps)
 pub record IsWholeHistory (plan : Planned) (steps : List Made) (rows : List Event) : Type 0 where
   pub end : World
   pub history : IsHistory plan steps end
-  pub rest : IsAtRest end
+  pub rest : IsWorldAtRest end
   pub log : rows ≡ end.system.rows.rows
 
 -- each process has a list of its own steps

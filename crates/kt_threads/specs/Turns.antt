@@ -2,8 +2,8 @@
 use Rattle.std.specs.Prelude.{◌≡◌, ◌⊎◌, ℕ, true, false, Option, Some, None, IsSome}
 use Rattle.kt_core.specs.declared.faults.StepFault.{StepFault}
 use Rattle.kt_core.specs.declared.faults.StepFault.TheVariants as refused
-use Rattle.kt_core.specs.Worlds.{World, enabled, refusal, IsAtRest, IsNextStepOf}
-use Rattle.kt_phases.specs.Steps.{stepper}
+use Rattle.kt_core.specs.Worlds.{World, can_make, step_refusal, IsWorldAtRest, IsNextStepOf}
+use Rattle.kt_plans.specs.Steps.{process_of_step}
 use Rattle.kt_plan.specs.declared.steps.Step.{Step}
 use Rattle.kt_threads.specs.Faults.{live_of_step}
 use Rattle.kt_threads.specs.Histories.{History, first_fault}
@@ -11,21 +11,21 @@ use Rattle.kt_threads.specs.declared.faults.LiveFault.{LiveFault}
 
 -- the step that a process makes next, which can be made; none where no step of it can be made
 abbrev pub IsNext : World → ℕ → Option Step → Type 0
-IsNext w p None = (step : Step) → stepper step ≡ p → enabled w step ≡ false
-IsNext w p (Some step) = IsNextStepOf w p step × (enabled w step ≡ true)
+IsNext w p None = (step : Step) → process_of_step step ≡ p → can_make w step ≡ false
+IsNext w p (Some step) = IsNextStepOf w p step × (can_make w step ≡ true)
 
 -- a process can make a step
 pub record HasStep (w : World) (p : ℕ) : Type 0 where
   pub step : Step
-  pub own : stepper step ≡ p
-  pub able : enabled w step ≡ true
+  pub own : process_of_step step ≡ p
+  pub able : can_make w step ≡ true
 
 -- there was a fault, or the world is at rest
 abbrev pub IsOver : History → Type 0
-IsOver state = IsSome state.fault ⊎ IsAtRest state.world
+IsOver state = IsSome state.fault ⊎ IsWorldAtRest state.world
 
 -- a step was refused, or lacked memory, and that is kept where no fault was before
 pub record EndsBy (state : History) (step : Step) (fault : Option LiveFault) : Type 0 where
   pub why : StepFault
-  pub refused : (why ≡ refused.Memory) ⊎ (refusal state.world step ≡ Some why)
+  pub refused : (why ≡ refused.Memory) ⊎ (step_refusal state.world step ≡ Some why)
   pub kept : fault ≡ first_fault state.fault (live_of_step why)

@@ -1,8 +1,8 @@
 //! The lock, and what each thread does at it.
 
 ghost use Rattle.std.specs.Prelude.{◌≡◌, ◌≢◌, ◌<◌, ◌⊎◌, ◌↔◌, Some, None, IfSome, IfNone, IsSome, IsTrue};
-ghost use Rattle.kt_core.specs.Worlds as core;
-ghost use Rattle.kt_phases.specs.Steps.{stepper};
+ghost use Rattle.kt_core.specs.Worlds.{needs};
+ghost use Rattle.kt_plans.specs.Steps.{process_of_step};
 ghost use Rattle.kt_threads.specs.Turns.{HasStep, EndsBy, IsNext, IsOver};
 
 use crate::faults::LiveFault;
@@ -46,7 +46,7 @@ impl Board {
     pub(crate) fn advance<R: Wait>(&self, rt: &R, me: ProcNo) -> Next
         ensures sends { (made : _) → result ≡ Next.Made made → made.look ≢ Look.NeedsBody }
         ensures saves { (made : _) → result ≡ Next.Made made → made.look ≢ Look.NeedsSave }
-        ensures own { (made : _) → result ≡ Next.Made made → stepper made.told.step ≡ me }
+        ensures own { (made : _) → result ≡ Next.Made made → process_of_step made.told.step ≡ me }
     {
         let Some(news) = self.news.get(me.index()) else {
             return Next::End;
@@ -82,7 +82,7 @@ impl Board {
         ensures look { (made : _) → result ≡ Next.Made made → made.look ≡ look }
         ensures give { (made : _) → result ≡ Next.Made made → made.give ≡ give }
         ensures step { (made : _) → result ≡ Next.Made made → made.told.step ≡ step }
-        ensures own { (made : _) → result ≡ Next.Made made → stepper step ≡ me }
+        ensures own { (made : _) → result ≡ Next.Made made → process_of_step step ≡ me }
     {
         let mut state = self.state.lock(rt);
         if state.fault().is_some() {
@@ -138,7 +138,7 @@ fn must_wait(state: &State, me: ProcNo) -> bool
 
 /// The step that a process makes next, and what it needs of the process's object; None after a fault.
 fn next_in(state: &State, me: ProcNo) -> Option<(Step, Look)>
-    ensures look { IfSome result (λ next. next.1 ≡ core.look state.now.world next.0) }
+    ensures look { IfSome result (λ next. next.1 ≡ needs state.now.world next.0) }
     ensures next { IfSome result (λ next. IsNext state.now.world me (Some next.0)) }
     ensures going { IfSome result (λ _. state.now.fault ≡ None) }
     ensures none { IfNone result (IsSome state.now.fault ⊎ IsNext state.now.world me None) }
@@ -152,7 +152,7 @@ fn next_in(state: &State, me: ProcNo) -> Option<(Step, Look)>
 
 /// Makes a step under the lock. A step that is refused ends all.
 fn make_in(state: &mut State, step: Step, give: Give) -> Next
-    ensures look { (made : _) → result ≡ Next.Made made → made.look ≡ core.look state.old.world step }
+    ensures look { (made : _) → result ≡ Next.Made made → made.look ≡ needs state.old.world step }
     ensures give { (made : _) → result ≡ Next.Made made → made.give ≡ give }
     ensures step { (made : _) → result ≡ Next.Made made → made.told.step ≡ step }
     ensures end { result ≡ Next.End → EndsBy state.old step state.new.fault }

@@ -11,5 +11,5 @@ mod state;
 mod tells;
 
 pub use faults::LiveFault;
-pub use outcome::live;
+pub use outcome::{live, live_log_of};
 pub use state::{Made, State};

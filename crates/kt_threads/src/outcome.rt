@@ -1,17 +1,18 @@
 //! All processes, each in a thread of its own.
 
 ghost use Rattle.std.specs.List.{AllZip};
-ghost use Rattle.std.specs.Prelude.{◌≡◌, [], List, true, false, None, All, map, OnOk, IfOk, IfErr};
-ghost use Rattle.kt_core.specs.Worlds.{IsAtRest};
+ghost use Rattle.std.specs.Prelude.{◌≡◌, [], List, length, true, false, None, All, map, OnOk, IfOk, IfErr};
+ghost use Rattle.kt_core.specs.Worlds.{IsWorldAtRest};
 ghost use Rattle.kt_held.specs.Holdings.{Content, content};
-ghost use Rattle.kt_promises.specs.Follows.{FollowsPlan};
-ghost use Rattle.kt_promises.specs.Headline.{IsPromised};
+ghost use Rattle.kt_plans.specs.Follows.{FollowsPlan};
+ghost use Rattle.kt_plans.specs.Headline.{IsPromised};
 ghost use Rattle.kt_run.specs.Faults.{IsCast};
 ghost use Rattle.kt_run.specs.Objects.{has_of, HoldDue, AreLeft};
+ghost use Rattle.kt_run.specs.Runs.{IsLogOfRun};
 ghost use Rattle.kt_run.specs.Telling.{AreToldTheirRows};
 ghost use Rattle.kt_threads.specs.Faults.{AnswersLive, is_live_of_cast};
-ghost use Rattle.kt_threads.specs.Histories.{IsWholeHistory, IsLived};
-ghost use Rattle.kt_threads.specs.Seats.{KeepsServing};
+ghost use Rattle.kt_threads.specs.Histories.{AreTheirs, IsWholeHistory, IsLived};
+ghost use Rattle.kt_threads.specs.Seats.{AllServed, KeepsServing};
 
 use crate::board::Board;
 use crate::crew::{CrewFault, run_all};
@@ -102,7 +103,7 @@ fn finish(state: State, plan: &Plan) -> Result<(SpaceTime, Vec<Made>), LiveFault
 /// That a run of the plan ended at rest, or the fault that ended it.
 fn ended(state: &State, plan: &Plan) -> Result<(), LiveFault>
     ensures plan { OnOk result (state.now.world.agenda.plan ≡ plan.now) }
-    ensures rest { OnOk result (IsAtRest state.now.world) }
+    ensures rest { OnOk result (IsWorldAtRest state.now.world) }
     ensures follows { OnOk result (FollowsPlan plan.now state.now.world.system.rows.rows) }
     ensures fault { IfErr result (λ fault. is_live_of_cast fault ≡ false) }
 {
@@ -142,7 +143,43 @@ fn leave(alloc: Global, seats: Vec<Seat>) -> Result<(Vec<Vec<Made>>, Vec<Held>),
     Ok((lists, objects))
 }
 
-/// Runs a plan over what its processes hold at first, each in a thread of its own.
+/// Runs a plan over what its processes hold at first, each in a thread of its own: the log, the steps, those of each process,
+/// and what it holds.
+fn work_out<R: Threads + Wait + Sync>(
+    rt: &R,
+    alloc: Global,
+    plan: &Plan,
+    objects: Vec<Held>,
+) -> Result<(SpaceTime, Vec<Made>, Vec<Vec<Made>>, Vec<Held>), LiveFault>
+    ensures history { IfOk result (λ r. IsWholeHistory plan.now r.1.items r.0.rows) }
+    ensures theirs { IfOk result (λ r.
+        AreTheirs (length plan.now.names) r.1.items (map (λ list. list.items) r.2.items)) }
+    ensures served { IfOk result (λ r. AllServed
+        (has_of objects.items (λ b. content (kind_of (b.vtable, b.value)) (value_of (b.vtable, b.value))))
+        (map (λ list. list.items) r.2.items)
+        (has_of r.3.items (λ b. content (kind_of (b.vtable, b.value)) (value_of (b.vtable, b.value))))) }
+    ensures spares { IfOk result (λ r.
+        AllZip (λ g h. AreLeft g.spares.items h.spares.items) objects.items r.3.items) }
+    ensures promised { IfOk result (λ r. IsPromised r.0.rows) }
+    ensures follows { IfOk result (λ r. FollowsPlan plan.now r.0.rows) }
+    ensures fault { IfErr result (λ fault. is_live_of_cast fault ≡ false) }
+{
+    let seats = seats_of(alloc, objects)?;
+    let state = State::new(alloc, plan.copy(alloc)?)?;
+    let board = Board::new(alloc, state, plan.size())?;
+    let seats = match work_all(rt, alloc, &board, seats) {
+        Err(CrewFault::Memory) => return Err(LiveFault::Memory),
+        seats => seats,
+    };
+    let (log, steps) = finish(board.into_state(), plan)?;
+    let (lists, objects) = leave(alloc, seats?)?;
+    if !are_theirs(plan.size(), &steps, &lists) {
+        return Err(LiveFault::Differ);
+    }
+    Ok((log, steps, lists, objects))
+}
+
+/// Runs a plan over what its processes hold at first, each in a thread of its own, and keeps what each was told.
 fn live_with<R: Threads + Wait + Sync>(
     rt: &R,
     alloc: Global,
@@ -166,18 +203,7 @@ fn live_with<R: Threads + Wait + Sync>(
     ensures follows { IfOk result (λ o. FollowsPlan plan.now o.log.rows) }
     ensures fault { IfErr result (λ fault. is_live_of_cast fault ≡ false) }
 {
-    let seats = seats_of(alloc, objects)?;
-    let state = State::new(alloc, plan.copy(alloc)?)?;
-    let board = Board::new(alloc, state, plan.size())?;
-    let seats = match work_all(rt, alloc, &board, seats) {
-        Err(CrewFault::Memory) => return Err(LiveFault::Memory),
-        seats => seats,
-    };
-    let (log, steps) = finish(board.into_state(), plan)?;
-    let (lists, objects) = leave(alloc, seats?)?;
-    if !are_theirs(plan.size(), &steps, &lists) {
-        return Err(LiveFault::Differ);
-    }
+    let (log, _steps, lists, objects) = work_out(rt, alloc, plan, objects)?;
     let told = all_told(alloc, &lists)?;
     Ok(Outcome { log, told, objects })
 }
@@ -224,4 +250,30 @@ pub fn live<R: Threads + Wait + Sync>(
     let objects = first_objects(alloc, plan, cast)?;
     let outcome = live_with(rt, alloc, plan, objects)?;
     Ok(outcome)
+}
+
+/// The log of a run as `live` makes it, with no list of what the processes were told.
+pub fn live_log_of<R: Threads + Wait + Sync>(
+    rt: &R,
+    alloc: Global,
+    plan: &Plan,
+    cast: Cast,
+) -> Result<SpaceTime, LiveFault>
+    // It is that of a run of the plan that ends at rest. What is sent for an object is what it offers.
+    ensures lived { IfOk result (λ log. IsLogOfRun plan.now
+        (map (λ row. map (λ b. content (kind_of b) (value_of b)) row.items) cast.items) log.rows) }
+
+    // Of it all is so that is promised of every run's.
+    ensures promised { IfOk result (λ log. IsPromised log.rows) }
+
+    // It follows the plan, told by its rows alone.
+    ensures follows { IfOk result (λ log. FollowsPlan plan.now log.rows) }
+
+    // The objects are those that the plan asks for; else a fault says what is wrong with them.
+    ensures cast { OnOk result (IsCast plan.now (map (λ row. map (λ b. kind_of b) row.items) cast.items)) }
+    ensures fault { IfErr result (AnswersLive plan.now (map (λ row. map (λ b. kind_of b) row.items) cast.items)) }
+{
+    let objects = first_objects(alloc, plan, cast)?;
+    let (log, _steps, _lists, _objects) = work_out(rt, alloc, plan, objects)?;
+    Ok(log)
 }

@@ -1,10 +1,9 @@
 //! What lies under the lock: a world, and the steps that led to it.
 
 ghost use Rattle.std.specs.Prelude.{◌≡◌, ◌⊎◌, ◌+◌, ◌^◌, [], ◌∷◌, ◌++◌, None, Some, IfOk, IfErr, IfSome, OnErr, IsTrue, ◌↔◌};
-ghost use Rattle.kt_core.specs.Worlds as core;
-ghost use Rattle.kt_core.specs.Worlds.{refusal, IsAtRest, IsOpening, IsSameWorld};
-ghost use Rattle.kt_promises.specs.Follows.{FollowsPlan};
-ghost use Rattle.kt_promises.specs.Headline.{IsPromised};
+ghost use Rattle.kt_core.specs.Worlds.{needs, step_refusal, IsWorldAtRest, IsOpening, IsSameWorld};
+ghost use Rattle.kt_plans.specs.Follows.{FollowsPlan};
+ghost use Rattle.kt_plans.specs.Headline.{IsPromised};
 ghost use Rattle.kt_threads.specs.Histories.{IsMade, IsHistory, first_fault};
 ghost use Rattle.kt_threads.specs.Turns.{IsNext, IsOver};
 
@@ -66,10 +65,10 @@ impl State {
     pub fn make(&mut self, step: Step, give: Give) -> Result<Made, StepFault>
         ensures steps { IfOk result (λ made. self.new.steps ≡ self.old.steps ++ made ∷ []) }
         ensures made { IfOk result (λ made. IsMade self.old.world made self.new.world) }
-        ensures look { IfOk result (λ made. made.look ≡ core.look self.old.world step) }
+        ensures look { IfOk result (λ made. made.look ≡ needs self.old.world step) }
         ensures give { IfOk result (λ made. made.give ≡ give) }
         ensures step { IfOk result (λ made. made.told.step ≡ step) }
-        ensures refused { IfErr result (λ fault. (fault ≡ StepFault.Memory) ⊎ (refusal self.old.world step ≡ Some fault)) }
+        ensures refused { IfErr result (λ fault. (fault ≡ StepFault.Memory) ⊎ (step_refusal self.old.world step ≡ Some fault)) }
         ensures err_world { OnErr result (IsSameWorld self.new.world self.old.world) }
         ensures err_steps { OnErr result (self.new.steps ≡ self.old.steps) }
         ensures fault { self.new.fault ≡ self.old.fault }
@@ -109,7 +108,7 @@ impl State {
 
     /// Whether the world is at rest.
     pub(crate) fn at_rest(&self) -> bool
-        ensures rest { IsTrue result ↔ IsAtRest self.now.world }
+        ensures rest { IsTrue result ↔ IsWorldAtRest self.now.world }
         ensures follows { IsTrue result → FollowsPlan self.now.world.agenda.plan self.now.world.system.rows.rows }
     {
         self.world.at_rest()
@@ -131,7 +130,7 @@ impl State {
 
     /// What a step needs of the process's object.
     pub(crate) fn look(&self, step: &Step) -> Look
-        ensures { result ≡ core.look self.now.world step.now }
+        ensures { result ≡ needs self.now.world step.now }
     {
         self.world.look(step)
     }
@@ -139,7 +138,7 @@ impl State {
     /// Whether this is the step that a process makes next, and what it needs.
     pub(crate) fn is_next(&self, p: ProcNo, step: &Step, look: Look) -> bool
         ensures next { IsTrue result ↔
-            (IsNext self.now.world p (Some step.now) × (look ≡ core.look self.now.world step.now)) }
+            (IsNext self.now.world p (Some step.now) × (look ≡ needs self.now.world step.now)) }
     {
         match self.world.next_step_of(p) {
             Some(next) => next == *step && self.world.look(step) == look,

@@ -1,7 +1,7 @@
 //! Whether threads have what is recorded of their processes' steps; and what these tell.
 
 ghost use Rattle.std.specs.Prelude.{◌≡◌, ◌↔◌, map, IfOk, IsTrue};
-ghost use Rattle.kt_phases.specs.Steps.{stepper};
+ghost use Rattle.kt_plans.specs.Steps.{process_of_step};
 ghost use Rattle.kt_threads.specs.Histories.{made_by, AreTheirs};
 
 use crate::state::Made;
@@ -12,7 +12,7 @@ use std::alloc::Global;
 
 /// Whose step it is.
 fn process_of(step: &Step) -> ProcNo
-    ensures { result ≡ stepper step.now }
+    ensures { result ≡ process_of_step step.now }
 {
     match *step {
         Step::Do(p) => p,

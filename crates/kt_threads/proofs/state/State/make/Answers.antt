@@ -1,5 +1,5 @@
 use Rattle.std.proofs.Common.{Ok, refl, subst, rules}
-use Rattle.kt_core.specs.Worlds.{refusal}
+use Rattle.kt_core.specs.Worlds.{step_refusal}
 use Rattle.kt_threads.specs.Histories.{History, IsMade}
 use Rattle.kt_threads.specs.declared.state.Made.{Made}
 use Rattle.kt_threads.proofs.Replay.{history_same, history_more, not_refused, makes}
@@ -18,7 +18,7 @@ invariant_of-self-2 c =
     let told = c.in_ok-told.ensures in
     let step : IsMade old made new =
     makes old new c.args.step c.look-look.result c.args.give c.in_ok-told.told told.step
-    (not_refused (refusal old c.args.step) (Ok c.in_ok-told.told) c.in_ok-told.told refl told.refused)
+    (not_refused (step_refusal old c.args.step) (Ok c.in_ok-told.told) c.in_ok-told.told refl told.refused)
     told.keeps told.made (search rules) told.told c.look-look.ensures.in_runs in
     rw (c.push_reserved.ensures.items, c.reserve.ensures.items, c.made_of.ensures)
     (history_more c.self.inside.steps.items made old new step c.self.invariant)
@@ -32,5 +32,5 @@ returns-clause-made c =
     rw c.made_of-2.ensures
     (subst (λ (h : History). IsMade h.world made new) c.self.view_is
     (makes old new c.args.step c.look-look.result c.args.give c.in_ok-told.told told.step
-    (not_refused (refusal old c.args.step) (Ok c.in_ok-told.told) c.in_ok-told.told refl told.refused)
+    (not_refused (step_refusal old c.args.step) (Ok c.in_ok-told.told) c.in_ok-told.told refl told.refused)
     told.keeps told.made (search rules) told.told c.look-look.ensures.in_runs))
