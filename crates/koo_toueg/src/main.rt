@@ -1,4 +1,4 @@
-//! The program: runs scenarios of a checkpoint and rollback-recovery manager, and judges stored runs.
+//! The program: runs scenarios of a checkpoint and rollback-recovery manager, and certifies and judges stored runs.
 #![tactic(auto)]
 
 use kt_program::{run, stand_in};

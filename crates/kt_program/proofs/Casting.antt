@@ -4,10 +4,11 @@ use Rattle.std.specs.Prelude.{slice_index}
 use Rattle.std.proofs.lemmas.List.{length-map, map-append, get_or-map, get_or_append_left, get_or_push}
 use Rattle.std.proofs.lemmas.List.Elements.{All-cons, All-head, All-tail, All-nil, All-push}
 use Rattle.kt_plan.specs.declared.commands.Command.{Command}
-use Rattle.kt_plan.specs.Limits.{IsKind, Planned}
-use Rattle.kt_object.specs.Value.{opening}
+use Rattle.kt_plan.specs.Limits.{IsKindOfObject, Planned}
+use Rattle.kt_object.specs.Value.{opening_value}
 use Rattle.kt_held.specs.Holdings.{content}
-use Rattle.kt_held.specs.Casts.{failures_of, HasSizes, HasKind}
+use Rattle.kt_plan.specs.Failures.{failures_of}
+use Rattle.kt_held.specs.Casts.{HasSizes, HasKind}
 use Rattle.kt_held.proofs.CastFacts as held
 use Rattle.kt_run.specs.Objects.{first_of}
 use Rattle.kt_program.specs.CastRows.{IsMadeCast}
@@ -86,7 +87,7 @@ module _ {R O : Type 0} (cast : List R) (items : R → List O) (kind : O → ℕ
   all_kinds k (o ∷ objects) f made =
       All-cons (λ n. n ≡ k) (kind o) (map kind objects) (f o (All-head (Made k) o objects made)) (all_kinds k objects f (All-tail (Made k) o objects made))
 
-  pub kinds_of_cast : ((k : ℕ) (o : O) → IsKind k → Made k o → kind o ≡ k) → All IsKind kinds → IsMadeCast Made kinds commands (map items cast) → (p : ℕ) → p < length kinds
+  pub kinds_of_cast : ((k : ℕ) (o : O) → IsKindOfObject k → Made k o → kind o ≡ k) → All IsKindOfObject kinds → IsMadeCast Made kinds commands (map items cast) → (p : ℕ) → p < length kinds
       → HasKind kinds (map (λ row. map kind (items row)) cast) p
   kinds_of_cast f proper is p l =
       let e = rows_are is in
@@ -96,11 +97,11 @@ module _ {R O : Type 0} (cast : List R) (items : R → List O) (kind : O → ℕ
 -- something is made for a kind
 pub record IsMade {O : Type 0} (Made : ℕ → O → Type 0) (object : O) : Type 0 where
   pub kind : ℕ
-  pub proper : IsKind kind
+  pub proper : IsKindOfObject kind
   pub made : Made kind object
 
 -- all that is in the rows is made for a kind
-pub made_of_cast : {R O : Type 0} (cast : List R) (items : R → List O) (Made : ℕ → O → Type 0) (kinds : List ℕ) (commands : List Command) → All IsKind kinds
+pub made_of_cast : {R O : Type 0} (cast : List R) (items : R → List O) (Made : ℕ → O → Type 0) (kinds : List ℕ) (commands : List Command) → All IsKindOfObject kinds
     → IsMadeCast Made kinds commands (map items cast) → (p : ℕ) (d : R) → p < length cast → (i : ℕ) (other : O) → i < length (items (slice_index_or cast p d))
     → IsMade Made (slice_index_or (items (slice_index_or cast p d)) i other)
 made_of_cast cast items Made kinds commands proper is p d l i other m =
@@ -126,9 +127,9 @@ at_row g P (row ∷ rows) p l f = subst P (sym (get_or-map g (row ∷ rows) p ro
 pub are_new : {R O : Type 0} (cast : List R) (items : R → List O) (kind : O → ℕ) (value : O → List ℤ) (plan : Planned)
     → HasSizes plan.kinds plan.commands (map (λ row. map kind (items row)) cast)
     → ((p : ℕ) → p < length plan.kinds → HasKind plan.kinds (map (λ row. map kind (items row)) cast) p)
-    → All (λ row. All (λ b. value b ≡ opening (kind b)) (items row)) cast
+    → All (λ row. All (λ b. value b ≡ opening_value (kind b)) (items row)) cast
     → AreNew plan (map (λ row. map (λ b. content (kind b) (value b)) (items row)) cast)
-are_new {R} {O} cast items kind value plan sizes kinds values p l = at_row (λ row. map (λ b. content (kind b) (value b)) (items row)) (λ objects. first_of objects ≡ content k (opening k)) cast p within
+are_new {R} {O} cast items kind value plan sizes kinds values p l = at_row (λ row. map (λ b. content (kind b) (value b)) (items row)) (λ objects. first_of objects ≡ content k (opening_value k)) cast p within
     (λ row. first_is (items (slice_index_or cast p row))
     (held.from_image (λ r. map kind (items r)) (λ ns. length ns ≡ failures_of plan.commands p + 1) cast p row within (sizes.objects p l))
     (held.from_image (λ r. map kind (items r)) (λ ns. All (λ n. n ≡ k) ns) cast p row within (kinds p l)) (values p row within))
@@ -139,9 +140,9 @@ are_new {R} {O} cast items kind value plan sizes kinds values p l = at_row (λ r
     within : p < length cast
     within = let e = sym (length-map cast (λ row. map kind (items row))) ∙ sizes.processes in omega (arith, l, e)
 
-    first_is : (objects : List O) → length (map kind objects) ≡ failures_of plan.commands p + 1 → All (λ n. n ≡ k) (map kind objects) → All (λ b. value b ≡ opening (kind b)) objects
-        → first_of (map (λ b. content (kind b) (value b)) objects) ≡ content k (opening k)
+    first_is : (objects : List O) → length (map kind objects) ≡ failures_of plan.commands p + 1 → All (λ n. n ≡ k) (map kind objects) → All (λ b. value b ≡ opening_value (kind b)) objects
+        → first_of (map (λ b. content (kind b) (value b)) objects) ≡ content k (opening_value k)
     first_is [] long same opens = absurd (omega (arith, long))
     first_is (b ∷ objects) long same opens =
         let e = All-head (λ n. n ≡ k) (kind b) (map kind objects) same in
-        ap (content (kind b)) (All-head (λ x. value x ≡ opening (kind x)) b objects opens) ∙ ap (λ (n : ℕ). content n (opening n)) e
+        ap (content (kind b)) (All-head (λ x. value x ≡ opening_value (kind x)) b objects opens) ∙ ap (λ (n : ℕ). content n (opening_value n)) e

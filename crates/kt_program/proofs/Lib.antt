@@ -1,5 +1,6 @@
 pub mod Apart
 pub mod Casting
+pub mod StoredLogs
 pub mod Commands
 pub mod Exactly
 pub mod NewObjects

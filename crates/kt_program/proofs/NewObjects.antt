@@ -28,6 +28,7 @@ module _ (Are Be : List Event → Type 0) (so : (rows : List Event) → Are rows
   stops_so plan (app.Run fault) s = s
   stops_so plan (app.Live fault) s = s
   stops_so plan (app.Uncertified fault) s = s
+  stops_so plan (app.Unfit why) s = s
   stops_so plan app.Write s = writing_so plan s
   stops_so plan app.Memory (inl u) = inl u
   stops_so plan app.Memory (inr s) = inr (writing_so plan s)
@@ -75,3 +76,11 @@ step_of_run (run_fault.Object p) done why e = absurd (cc (e))
 step_of_run (run_fault.Journal p) done why e = absurd (cc (e))
 step_of_run (run_fault.Step n other) done why e = cc e
 step_of_run run_fault.Memory done why e = absurd (cc (e))
+
+pub object_of_run : (fault : RunFault) (p : ℕ) → of_run fault ≡ app.Run (run_fault.Object p) → fault ≡ run_fault.Object p
+object_of_run run_fault.CastSize p e = absurd (cc (e))
+object_of_run (run_fault.CastKind q) p e = absurd (cc (e))
+object_of_run (run_fault.Object q) p e = cc e
+object_of_run (run_fault.Journal q) p e = absurd (cc (e))
+object_of_run (run_fault.Step n other) p e = absurd (cc (e))
+object_of_run run_fault.Memory p e = absurd (cc (e))

@@ -7,11 +7,11 @@ use Rattle.clap.specs.declared.error.kind.ErrorKind.TheVariants.{OutOfMemory, Di
 use Rattle.kt_program.specs.declared.ask.AskFault.{AskFault}
 use Rattle.kt_program.specs.declared.ask.AskFault.TheVariants as ask
 use Rattle.kt_program.specs.declared.ending.Done.{Done}
-use Rattle.kt_program.specs.declared.ending.Done.TheVariants.{Judged, Played, Shown}
+use Rattle.kt_program.specs.declared.ending.Done.TheVariants.{Judged, Played, Certified, Shown}
 use Rattle.kt_program.specs.declared.fault.ProgramFault.{ProgramFault}
 use Rattle.kt_program.specs.declared.fault.ProgramFault.TheVariants as program
 use Rattle.kt_program.specs.declared.line.Asked.{Asked}
-use Rattle.kt_program.specs.declared.line.Asked.TheVariants.{Check, Live, Play}
+use Rattle.kt_program.specs.declared.line.Asked.TheVariants.{Certify, Check, Live, Play}
 use Rattle.kt_program.specs.Names.{IsApart, IsWriting}
 use Rattle.kt_program.specs.Program.{IsErrorFor, Names, program as definition}
 
@@ -37,34 +37,46 @@ IsMistake kind = (kind ≢ OutOfMemory) × (kind ≢ DisplayHelp) × (kind ≢ D
 abbrev pub AreAnswered : List Text → (ErrorKind → Type 0) → Type 0
 AreAnswered words P = (e : Error) × IsErrorFor words e × P (kind_of e)
 
--- whether a scenario is to be run, serially with steps that may be given, or by threads; or a stored run judged
+-- whether a scenario is to be run, serially with steps that may be given, or by threads; or a stored run judged, or a
+-- stored log certified
 abbrev pub IsOfRun : Asked → Type 0
 IsOfRun (Play scenario steps log cert) = Unit {0}
 IsOfRun (Live scenario log cert) = Unit {0}
 IsOfRun (Check log cert) = ⊥
+IsOfRun (Certify log cert) = ⊥
 
 -- whether a scenario is to be run serially
 abbrev pub IsPlay : Asked → Type 0
 IsPlay (Play scenario steps log cert) = Unit {0}
 IsPlay (Live scenario log cert) = ⊥
 IsPlay (Check log cert) = ⊥
+IsPlay (Certify log cert) = ⊥
 
 -- whether a stored run is to be judged
 abbrev pub IsCheck : Asked → Type 0
 IsCheck (Play scenario steps log cert) = ⊥
 IsCheck (Live scenario log cert) = ⊥
 IsCheck (Check log cert) = Unit {0}
+IsCheck (Certify log cert) = ⊥
+
+-- whether a stored log is to be certified
+abbrev pub IsCertify : Asked → Type 0
+IsCertify (Play scenario steps log cert) = ⊥
+IsCertify (Live scenario log cert) = ⊥
+IsCertify (Check log cert) = ⊥
+IsCertify (Certify log cert) = Unit {0}
 
 -- words that name something to do of such a sort, and no output by the name of an input or of another output
 abbrev pub Ask : List Text → (Asked → Type 0) → Type 0
 Ask words P = (asked : Asked) × Names (subcommand_of definition words) asked × IsApart asked × P asked
 
--- what is done for words: a scenario run or a run judged where they name that; help shown where they ask for it; they
+-- what is done for words: a scenario run, a run judged or a log certified where they name that; help shown where they ask for it; they
 -- are refused where they are a mistake or name a file twice, as one file under two names where a file is to be written,
 -- and a scenario or steps where they name them; other faults come with any words
 abbrev pub DoneFor : List Text → Done → Type 0
 DoneFor words (Judged passed) = Ask words IsCheck
 DoneFor words Played = Ask words IsOfRun
+DoneFor words Certified = Ask words IsCertify
 DoneFor words Shown = AreAnswered words IsRequest
 
 -- what is refused for words

@@ -1,7 +1,7 @@
 -- What a run begins with, whatever it is made of.
 use Rattle.std.specs.Prelude.{◌≡◌, ◌<◌, ◌+◌, ℕ, List, [], length, slice_index, slice_index_or, All}
 use Rattle.kt_plan.specs.declared.commands.Command.{Command}
-use Rattle.kt_held.specs.Casts.{failures_of}
+use Rattle.kt_plan.specs.Failures.{failures_of}
 
 -- by process: what is made for it, and a spare for each of its failures, each made for its kind
 pub record IsMadeCast {O : Type 0} (Made : ℕ → O → Type 0) (kinds : List ℕ) (commands : List Command) (cast : List (List O)) : Type 0 where

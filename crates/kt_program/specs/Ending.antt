@@ -6,18 +6,19 @@ use Rattle.kt_spacetime.specs.declared.event.Event.{Event}
 use Rattle.kt_plan.specs.declared.steps.Step.{Step}
 use Rattle.kt_plan.specs.Limits.{Planned}
 use Rattle.kt_checker.specs.declared.verdict.Verdict.{Verdict}
-use Rattle.kt_promises.specs.Follows.{FollowsPlan}
-use Rattle.kt_promises.specs.Headline.{IsPromised}
+use Rattle.kt_plans.specs.Follows.{FollowsPlan}
+use Rattle.kt_plans.specs.Headline.{IsPromised}
 use Rattle.kt_program.specs.declared.ending.Done.{Done}
-use Rattle.kt_program.specs.declared.ending.Done.TheVariants.{Judged, Played, Shown}
+use Rattle.kt_program.specs.declared.ending.Done.TheVariants.{Judged, Played, Certified, Shown}
 use Rattle.kt_program.specs.declared.fault.AppFault.{AppFault}
 use Rattle.kt_program.specs.declared.fault.AppFault.TheVariants as app
 use Rattle.kt_program.specs.declared.fault.ProgramFault.{ProgramFault}
 use Rattle.kt_program.specs.declared.fault.ProgramFault.TheVariants as program
 use Rattle.kt_program.specs.declared.line.Asked.{Asked}
-use Rattle.kt_program.specs.declared.line.Asked.TheVariants.{Check, Live, Play}
-use Rattle.kt_program.specs.Asking.{Ask, IsOfRun}
+use Rattle.kt_program.specs.declared.line.Asked.TheVariants.{Certify, Check, Live, Play}
+use Rattle.kt_program.specs.Asking.{Ask, IsCertify, IsOfRun}
 use Rattle.kt_run.specs.Runs.{IsLogOfRun, IsPlayed}
+use Rattle.kt_program.specs.Certified.{CertifiesTo, LeavesCertificates}
 use Rattle.kt_program.specs.Inputs.{AreGiven, IsPlanOfFile}
 use Rattle.kt_program.specs.Names.{Name}
 use Rattle.kt_program.specs.Played.{OverNew, report_text}
@@ -83,6 +84,7 @@ IsNotOfSteps (program.App fault) = Unit {0}
 abbrev pub LeavesDone : Done → Told → Told → Type 0
 LeavesDone (Judged passed) old new = AppendsAnswer passed old new
 LeavesDone Played old new = AppendsReport old new
+LeavesDone Certified old new = LeavesCertificates old new
 LeavesDone Shown old new = Unit {0}
 
 -- what is written for what is asked: the report of the scenario played with the steps of the file that is named, or of a
@@ -91,21 +93,41 @@ abbrev pub Plays : {F : Type 0} → (F → Told) → Told → Told → Asked →
 Plays told old new (Play scenario steps log cert) = AppendsPlay told steps old new
 Plays told old new (Live scenario log cert) = AppendsReport old new
 Plays told old new (Check log cert) = ⊥
+Plays told old new (Certify log cert) = ⊥
 
 -- where a scenario was run, that is written which these words ask for
 abbrev pub PlayedFor : {F : Type 0} → List Text → (F → Told) → Told → Told → Done → Type 0
 PlayedFor words told old new Played = Ask words (Plays told old new)
 PlayedFor words told old new (Judged passed) = Unit {0}
+PlayedFor words told old new Certified = Unit {0}
 PlayedFor words told old new Shown = Unit {0}
 
--- a fault where part of a report may be written: there was no memory for more of it
-abbrev pub IsInReport : List Text → ProgramFault → Type 0
-IsInReport words fault = (fault ≡ program.App app.Memory) × Ask words IsOfRun
+-- what is written of a log that is to be certified: its certificates go where that is asked
+abbrev pub Certifies : {F : Type 0} → (F → Told) → Told → Told → Asked → Type 0
+Certifies told old new (Certify log cert) = CertifiesTo told cert old new
+Certifies told old new (Play scenario steps log cert) = ⊥
+Certifies told old new (Live scenario log cert) = ⊥
+Certifies told old new (Check log cert) = ⊥
+
+-- where a log was certified, that is written which these words ask for
+abbrev pub CertifiedFor : {F : Type 0} → List Text → (F → Told) → Told → Told → Done → Type 0
+CertifiedFor words told old new Certified = Ask words (Certifies told old new)
+CertifiedFor words told old new Played = Unit {0}
+CertifiedFor words told old new (Judged passed) = Unit {0}
+CertifiedFor words told old new Shown = Unit {0}
+
+-- whether a text of any length is to be written to standard output: a report, or certificates
+abbrev pub IsOfText : Asked → Type 0
+IsOfText asked = IsOfRun asked ⊎ IsCertify asked
+
+-- a fault where part of such a text may be written: there was no memory for more of it
+abbrev pub IsInText : List Text → ProgramFault → Type 0
+IsInText words fault = (fault ≡ program.App app.Memory) × Ask words IsOfText
 
 -- what these words leave
 abbrev pub LeavesOutput : List Text → Result Done ProgramFault → Told → Told → Type 0
 LeavesOutput words (Ok what) old new = LeavesDone what old new
-LeavesOutput words (Err fault) old new = fault ≢ program.App app.Write → (new ≡ old) ⊎ IsInReport words fault
+LeavesOutput words (Err fault) old new = fault ≢ program.App app.Write → (new ≡ old) ⊎ IsInText words fault
 
 -- how the program ends: with the status of what it did for its words; standard output has what that left, and standard
 -- error nothing new unless there was a fault

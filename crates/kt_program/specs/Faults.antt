@@ -37,13 +37,14 @@ abbrev pub run_status : RunFault → ℕ
 run_status (run.Step done fault) = step_status fault
 run_status _ = 4
 
--- the exit status of a fault of a run, of a stored run or of writing
+-- the exit status of a fault of a run, of a stored run or of writing; a log without certificates is a no
 abbrev pub fault_status : AppFault → ℕ
 fault_status (app.Log fault) = log_status fault
 fault_status (app.Cert fault) = cert_status fault
 fault_status (app.Run fault) = run_status fault
 fault_status (app.Live fault) = 4
 fault_status (app.Uncertified fault) = 4
+fault_status (app.Unfit why) = 1
 fault_status app.Write = 3
 fault_status app.Memory = 4
 

@@ -1,5 +1,6 @@
 pub mod Asking
 pub mod CastRows
+pub mod Certified
 pub mod Ending
 pub mod Faults
 pub mod Inputs

@@ -2,7 +2,7 @@
 use Rattle.std.specs.Prelude.{◌≡◌, ◌≢◌, ◌<◌, ◌⊎◌, [], ◌∷◌, ℕ, List, length, map, slice_index, slice_index_or}
 use Rattle.std.specs.Io.KnownBytes.{Appends}
 use Rattle.kt_held.specs.Holdings.{Content, content}
-use Rattle.kt_object.specs.Value.{opening}
+use Rattle.kt_object.specs.Value.{opening_value}
 use Rattle.kt_spacetime.specs.declared.event.Event.{Event}
 use Rattle.kt_text.specs.Writing.{text_of, WritesFront}
 use Rattle.kt_text.specs.declared.fault.WriteFault.{WriteFault}
@@ -15,8 +15,8 @@ use Rattle.kt_certify.specs.declared.fault.CertFault.{CertFault}
 use Rattle.kt_certify.specs.declared.fault.CertFault.TheVariants as certify
 use Rattle.kt_report.specs.Exact.{report_of}
 use Rattle.kt_plan.specs.Limits.{Planned}
-use Rattle.kt_promises.specs.Follows.{FollowsPlan}
-use Rattle.kt_promises.specs.Headline.{IsPromised}
+use Rattle.kt_plans.specs.Follows.{FollowsPlan}
+use Rattle.kt_plans.specs.Headline.{IsPromised}
 use Rattle.kt_run.specs.Objects.{first_of}
 use Rattle.kt_run.specs.declared.faults.RunFault.{RunFault}
 use Rattle.kt_run.specs.declared.faults.RunFault.TheVariants as run
@@ -66,7 +66,7 @@ pub record IsWritten (Are : List Event → Type 0) (plan : Planned) (old new : O
 -- the object that each process has first is new: it is of its process's kind, and has that kind's opening value
 abbrev pub AreNew : Planned → List (List Content) → Type 0
 AreNew plan cast = (p : ℕ) → p < length plan.kinds
-    → first_of (slice_index_or cast p []) ≡ content (slice_index plan.kinds p) (opening (slice_index plan.kinds p))
+    → first_of (slice_index_or cast p []) ≡ content (slice_index plan.kinds p) (opening_value (slice_index plan.kinds p))
 
 -- with such objects these are such rows
 abbrev pub OverNew : Planned → (List (List Content) → List Event → Type 0) → List Event → Type 0
@@ -128,6 +128,7 @@ abbrev pub StopsAtFault : (List Event → Type 0) → Planned → Outputs → Ou
 StopsAtFault Are plan old new (app.Run fault) = (fault ≢ run.Memory) × IsUnwritten old new
 StopsAtFault Are plan old new (app.Live fault) = (fault ≢ live.Memory) × IsUnwritten old new
 StopsAtFault Are plan old new (app.Uncertified fault) = ⊥
+StopsAtFault Are plan old new (app.Unfit why) = ⊥
 StopsAtFault Are plan old new app.Write = StopsWriting Are plan old new
 StopsAtFault Are plan old new app.Memory = IsUnwritten old new ⊎ StopsWriting Are plan old new
 StopsAtFault Are plan old new (app.Log fault) = ⊥

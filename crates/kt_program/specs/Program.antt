@@ -8,7 +8,7 @@ use Rattle.clap.specs.declared.builder.command.Command.TheViews.{out-Command as 
 use Rattle.clap.specs.declared.builder.command.Command.{Command}
 use Rattle.clap.specs.declared.builder.arg.Arg.{Arg}
 use Rattle.kt_program.specs.declared.line.Asked.{Asked}
-use Rattle.kt_program.specs.declared.line.Asked.TheVariants.{Check, Live, Play}
+use Rattle.kt_program.specs.declared.line.Asked.TheVariants.{Certify, Check, Live, Play}
 
 -- a word that has to be there, with a name in help
 abbrev pub wanted : Text → Rule
@@ -30,13 +30,17 @@ live = with_rule (with_rule (with_rule (new_app (codes "live")) (wanted (codes "
 abbrev pub check : App
 check = with_rule (with_rule (new_app (codes "check")) (wanted (codes "log"))) (wanted (codes "cert"))
 
+-- the command that certifies a stored log
+abbrev pub certify : App
+certify = with_rule (with_rule (new_app (codes "certify")) (wanted (codes "log"))) (optional (codes "cert"))
+
 -- a command with a version
 abbrev pub with_version : App → App
 with_version app = record app { top = record app.top { has_version = true } }
 
 -- the program's command line
 abbrev pub program : App
-program = with_subcommand (with_subcommand (with_subcommand (with_version (new_app (codes "koo_toueg"))) play.top) live.top) check.top
+program = with_subcommand (with_subcommand (with_subcommand (with_subcommand (with_version (new_app (codes "koo_toueg"))) play.top) live.top) check.top) certify.top
 
 -- an argument that clap reads as this rule
 pub record IsRule (rule : Rule) (a : Arg) : Type 0 where
@@ -68,6 +72,7 @@ NamesIn name rows (Play scenario steps log cert) =
 NamesIn name rows (Live scenario log cert) =
     (name ≡ codes "live") × NamesLive rows scenario.now (option_map (λ s. s.now) log) (option_map (λ s. s.now) cert)
 NamesIn name rows (Check log cert) = (name ≡ codes "check") × (first_of (codes "log") rows ≡ Some log.now) × (first_of (codes "cert") rows ≡ Some cert.now)
+NamesIn name rows (Certify log cert) = (name ≡ codes "certify") × (first_of (codes "log") rows ≡ Some log.now) × (first_of (codes "cert") rows ≡ option_map (λ s. s.now) cert)
 
 -- what is asked for names the subcommand and its texts
 abbrev pub Names : Option (Text × List Row) → Asked → Type 0

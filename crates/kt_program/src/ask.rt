@@ -2,7 +2,7 @@
 
 ghost use Rattle.std.specs.Prelude.{◌≡◌, codes, IfOk, IfErr, IfSome, IfNone, Some, option_map};
 ghost use Rattle.clap.specs.Words.{first_of, kind_of, new_app, subcommand_of, subcommand_rows_of, rows_of, found_of};
-ghost use Rattle.kt_program.specs.Program.{program, check, live, play, optional, wanted, with_version, IsRule, IsDefined, Names, NamesIn};
+ghost use Rattle.kt_program.specs.Program.{program, certify, check, live, play, optional, wanted, with_version, IsRule, IsDefined, Names, NamesIn};
 ghost use Rattle.clap.specs.declared.error.kind.ErrorKind.TheVariants.{MissingSubcommand};
 ghost use Rattle.kt_program.specs.declared.line.Asked.{Asked};
 ghost use Rattle.kt_program.specs.Asking.{IsUnasked};
@@ -18,7 +18,7 @@ use std::alloc::{AllocError, Global};
 const VERSION: &str = "0.1.0";
 
 const ABOUT: &str =
-    "Runs scenarios of a checkpoint and rollback-recovery manager, and judges stored runs";
+    "Runs scenarios of a checkpoint and rollback-recovery manager, and certifies and judges stored runs";
 
 const ABOUT_PLAY: &str = "Plays a scenario, and prints a report of the run";
 
@@ -71,9 +71,21 @@ const LONG_ABOUT_CERT: &str = "The certificates, a CSV file with records of five
 record for each decided instance, followed by its member records.
 There are up to 2^19 records.";
 
+const ABOUT_CERTIFY: &str = "Writes the certificates of a stored log";
+
+const LONG_ABOUT_CERTIFY: &str =
+    "Writes the certificates of a stored log: for each decided instance its kind, its
+initiator and its decision, and for each member of a committed one the messages
+that led from the initiator to it. A log that breaks a rule has none, nor has one
+with a member that no message leads to: then nothing is written, and the line of
+the fault, which begins with no, tells where. Whether each committed instance
+took the least set of processes is asked of check.";
+
+const ABOUT_CERT_FILE: &str = "Where the certificates are written, else to standard output";
+
 const STATUSES: &str = "Exit status:
   0  done; the answer of check is yes
-  1  the answer of check is no
+  1  the answer of check is no, or the log has no certificates
   2  the command line or what a file says is refused, or a step is not enabled
   3  a file cannot be read, or the output not be written
   4  there is not enough memory, or a run cannot go on";
@@ -185,6 +197,15 @@ fn check_command<'a>(alloc: Global) -> Result<Command<'a>, AllocError>
     Ok(command)
 }
 
+fn certify_command<'a>(alloc: Global) -> Result<Command<'a>, AllocError>
+    ensures { IfOk result (IsDefined certify) }
+{
+    let command = command_of(alloc, "certify", ABOUT_CERTIFY, LONG_ABOUT_CERTIFY)
+        .arg(wanted_word(alloc, "log", "LOG", ABOUT_LOG, LONG_ABOUT_LOG))?
+        .arg(optional_word(alloc, "cert", ABOUT_CERT_FILE, ABOUT_CERT_FILE))?;
+    Ok(command)
+}
+
 // The program's command, without what it may be asked to do.
 fn bare_command<'a>(alloc: Global) -> Command<'a>
     ensures { IsDefined (with_version (new_app (codes "koo_toueg"))) result }
@@ -201,7 +222,8 @@ fn program_command<'a>(alloc: Global) -> Result<Command<'a>, AllocError>
     let command = bare_command(alloc)
         .subcommand(play_command(alloc)?)?
         .subcommand(live_command(alloc)?)?
-        .subcommand(check_command(alloc)?)?;
+        .subcommand(check_command(alloc)?)?
+        .subcommand(certify_command(alloc)?)?;
     Ok(command)
 }
 
@@ -248,6 +270,17 @@ fn asked_of_check<'a>(matches: &ArgMatches<'a>) -> Option<Asked<'a>>
     })
 }
 
+// What the matches of `certify` ask for.
+fn asked_of_certify<'a>(matches: &ArgMatches<'a>) -> Option<Asked<'a>>
+    ensures named { IfSome result (NamesIn (codes "certify") (rows_of (found_of matches.now))) }
+    ensures nothing { IfNone result ((asked : Asked) → ¬ NamesIn (codes "certify") (rows_of (found_of matches.now)) asked) }
+{
+    Some(Asked::Certify {
+        log: text_of(matches, "log")?,
+        cert: text_of(matches, "cert"),
+    })
+}
+
 // What the matches of a subcommand of this name ask for.
 fn asked_of<'a>(name: &str, matches: &ArgMatches<'a>) -> Option<Asked<'a>>
     ensures named { IfSome result (NamesIn name.now (rows_of (found_of matches.now))) }
@@ -257,6 +290,7 @@ fn asked_of<'a>(name: &str, matches: &ArgMatches<'a>) -> Option<Asked<'a>>
         "play" => asked_of_play(matches),
         "live" => asked_of_live(matches),
         "check" => asked_of_check(matches),
+        "certify" => asked_of_certify(matches),
         _ => None,
     }
 }

@@ -3,9 +3,10 @@
 ghost use Rattle.std.specs.Prelude.{◌≡◌, ◌<◌, ◌+◌, ℕ, List, false, Ok, IfOk, IfErr, OnOk, All, length, map};
 ghost use Rattle.kt_core.specs.declared.faults.StepFault.{StepFault};
 ghost use Rattle.kt_held.specs.Holdings.{Content};
-ghost use Rattle.kt_object.specs.Value.{opening};
-ghost use Rattle.kt_plan.specs.Limits.{IsKind};
-ghost use Rattle.kt_held.specs.Casts.{failures_of, HasSizes, HasKind};
+ghost use Rattle.kt_object.specs.Value.{opening_value};
+ghost use Rattle.kt_plan.specs.Limits.{IsKindOfObject};
+ghost use Rattle.kt_plan.specs.Failures.{failures_of};
+ghost use Rattle.kt_held.specs.Casts.{HasSizes, HasKind};
 ghost use Rattle.kt_program.specs.CastRows.{IsMadeCast};
 ghost use Rattle.kt_run.specs.Faults.{is_of_cast};
 ghost use Rattle.kt_run.specs.Refused.{IsStepRefused};
@@ -100,8 +101,8 @@ pub fn play_objects<L: Write, C: Write, R: Write>(
     let _processes = plan.size();
     let mut book = SlotBook::new(alloc);
     let make = |kind: u8| -> Result<Object, Memory>
-        ensures kind { IfOk result (λ object. IsKind kind → kind_of object ≡ kind) }
-        ensures value { IfOk result (λ object. IsKind kind → value_of object ≡ opening kind) }
+        ensures kind { IfOk result (λ object. IsKindOfObject kind → kind_of object ≡ kind) }
+        ensures value { IfOk result (λ object. IsKindOfObject kind → value_of object ≡ opening_value kind) }
     {
         let guard = book.open()?;
         match kind {
@@ -135,7 +136,7 @@ fn play_cast<L: Write, C: Write, R: Write>(
     requires sizes { HasSizes plan.now.kinds plan.now.commands (map (λ row. map (λ b. kind_of b) row.items) cast.items) }
     requires kinds { (p : ℕ) → p < length plan.now.kinds →
         HasKind plan.now.kinds (map (λ row. map (λ b. kind_of b) row.items) cast.items) p }
-    requires opening { All (λ row. All (λ b. value_of b ≡ opening (kind_of b)) row.items) cast.items }
+    requires opening { All (λ row. All (λ b. value_of b ≡ opening_value (kind_of b)) row.items) cast.items }
     ensures played { OnOk result (IsWritten (OverNew plan.now (λ cast. IsPlayed plan.now cast steps.now)) plan.now
         (outputs (L.contents log_writer.old) (C.contents cert_writer.old) (R.contents report_writer.old))
         (outputs (L.contents log_writer.new) (C.contents cert_writer.new) (R.contents report_writer.new))) }
@@ -179,8 +180,8 @@ pub fn live_objects<T: Threads + Wait + Sync, L: Write, C: Write, R: Write>(
     let _processes = plan.size();
     let mut book = SlotBook::new(alloc);
     let make = |kind: u8| -> Result<Object, Memory>
-        ensures kind { IfOk result (λ object. IsKind kind → kind_of object ≡ kind) }
-        ensures value { IfOk result (λ object. IsKind kind → value_of object ≡ opening kind) }
+        ensures kind { IfOk result (λ object. IsKindOfObject kind → kind_of object ≡ kind) }
+        ensures value { IfOk result (λ object. IsKindOfObject kind → value_of object ≡ opening_value kind) }
     {
         let guard = book.open()?;
         match kind {
@@ -214,7 +215,7 @@ fn live_cast<T: Threads + Wait + Sync, L: Write, C: Write, R: Write>(
     requires sizes { HasSizes plan.now.kinds plan.now.commands (map (λ row. map (λ b. kind_of b) row.items) cast.items) }
     requires kinds { (p : ℕ) → p < length plan.now.kinds →
         HasKind plan.now.kinds (map (λ row. map (λ b. kind_of b) row.items) cast.items) p }
-    requires opening { All (λ row. All (λ b. value_of b ≡ opening (kind_of b)) row.items) cast.items }
+    requires opening { All (λ row. All (λ b. value_of b ≡ opening_value (kind_of b)) row.items) cast.items }
     ensures lived { OnOk result (IsWritten (OverNew plan.now (IsLogOfRun plan.now)) plan.now
         (outputs (L.contents log_writer.old) (C.contents cert_writer.old) (R.contents report_writer.old))
         (outputs (L.contents log_writer.new) (C.contents cert_writer.new) (R.contents report_writer.new))) }

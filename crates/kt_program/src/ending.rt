@@ -17,6 +17,8 @@ pub enum Done {
     Judged(bool),
     /// It played a run and wrote its report.
     Played,
+    /// It wrote the certificates of a stored log.
+    Certified,
     /// It wrote the help or the version that was asked for.
     Shown,
 }
@@ -27,7 +29,7 @@ impl Done {
         ensures { result ≡ done_status self }
     {
         match self {
-            Done::Judged(true) | Done::Played | Done::Shown => 0,
+            Done::Judged(true) | Done::Played | Done::Certified | Done::Shown => 0,
             Done::Judged(false) => 1,
         }
     }

@@ -4,10 +4,11 @@ ghost use Rattle.std.specs.Prelude.{◌≡◌};
 ghost use Rattle.kt_program.specs.declared.fault.AppFault.TheVariants as app;
 ghost use Rattle.kt_program.specs.declared.fault.ProgramFault.TheVariants as program;
 ghost use Rattle.kt_program.specs.Faults.{fault_status, refusal_status};
+ghost use Rattle.kt_program.specs.Certified.{of_stream};
 ghost use Rattle.kt_program.specs.Played.{of_cert_fault, of_live, of_run, of_writing};
 
 use kt_base::Memory;
-use kt_certify::CertFault;
+use kt_certify::{CertFault, StreamFault, Unfit};
 use kt_chain::CertTextFault;
 use kt_core::StepFault;
 use kt_log_text::LogFault;
@@ -35,6 +36,9 @@ pub enum AppFault {
     /// The log of the run has no certificates.
     #[error("run: Uncertified")]
     Uncertified(CertFault),
+    /// A stored log has no certificates.
+    #[error(transparent)]
+    Unfit(Unfit),
     /// A writer failed.
     #[error("write fault")]
     Write,
@@ -44,8 +48,8 @@ pub enum AppFault {
 }
 
 impl AppFault {
-    /// The program's exit status: 2 for refused input, 3 for a read or write fault, 4 for want of memory or a run that
-    /// can't go on.
+    /// The program's exit status: 1 for a log that has no certificates, 2 for refused input, 3 for a read or write fault, 4
+    /// for want of memory or a run that can't go on.
     pub fn status(self) -> u8
         ensures { result ≡ fault_status self }
     {
@@ -55,6 +59,7 @@ impl AppFault {
             AppFault::Log(_) | AppFault::Cert(_) => 2,
             AppFault::Run(RunFault::Step(_, StepFault::NotEnabled)) => 2,
             AppFault::Run(_) | AppFault::Live(_) | AppFault::Uncertified(_) => 4,
+            AppFault::Unfit(_) => 1,
             AppFault::Write => 3,
             AppFault::Memory => 4,
         }
@@ -102,6 +107,18 @@ impl From<CertFault> for AppFault {
     }
 }
 
+impl From<StreamFault> for AppFault {
+    ghost from_gives = { λ fault f. f ≡ of_stream fault };
+
+    fn from(fault: StreamFault) -> AppFault {
+        match fault {
+            StreamFault::Log(LogFault::Memory) => AppFault::Memory,
+            StreamFault::Log(fault) => AppFault::Log(fault),
+            StreamFault::Unfit(unfit) => AppFault::Unfit(unfit),
+        }
+    }
+}
+
 impl From<WriteFault> for AppFault {
     ghost from_gives = { λ fault f. f ≡ of_writing fault };
 
@@ -138,8 +155,8 @@ pub enum ProgramFault {
 }
 
 impl ProgramFault {
-    /// The program's exit status: 2 for refused input, 3 for a read or write fault, 4 for want of memory or a run that
-    /// can't go on.
+    /// The program's exit status: 1 for a log that has no certificates, 2 for refused input, 3 for a read or write fault, 4
+    /// for want of memory or a run that can't go on.
     pub fn status(self) -> u8
         ensures { result ≡ refusal_status self }
     {

@@ -4,6 +4,8 @@
 
 pub mod ask;
 pub mod casts;
+pub mod certified;
+mod certifying;
 pub mod checked;
 pub mod ending;
 pub mod fault;
@@ -19,6 +21,7 @@ pub mod words;
 
 pub use ask::{AskFault, asked};
 pub use casts::{cast_of, live_objects, play_objects};
+pub use certified::certify_bytes;
 pub use checked::check_bytes;
 pub use ending::{Done, end, write_fault};
 pub use fault::{AppFault, ProgramFault};

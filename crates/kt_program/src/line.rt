@@ -25,6 +25,11 @@ pub enum Asked<'a> {
         log: &'a str,
         cert: &'a str,
     },
+    /// Certify a stored log, and write its certificates where that is asked, else to standard output.
+    Certify {
+        log: &'a str,
+        cert: Option<&'a str>,
+    },
 }
 
 impl<'a> Asked<'a> {
@@ -48,6 +53,7 @@ impl<'a> Asked<'a> {
                 cert,
             } => clash(&[Some(*scenario)], &[*log, *cert]),
             Asked::Check { log, cert } => clash(&[Some(*log), Some(*cert)], &[]),
+            Asked::Certify { log, cert } => clash(&[Some(*log)], &[*cert]),
         }
     }
 }

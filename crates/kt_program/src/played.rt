@@ -1,11 +1,13 @@
 //! Runs played: what is written of them.
 
-ghost use Rattle.std.specs.Prelude.{◌≡◌, ℕ, IfErr, OnOk, map};
+ghost use Rattle.std.specs.Prelude.{◌≡◌, ◌⊎◌, [], ℕ, IfErr, OnOk, map, slice_index, slice_index_or};
 ghost use Rattle.kt_core.specs.declared.faults.StepFault.{StepFault};
 ghost use Rattle.kt_held.specs.Holdings.{content};
-ghost use Rattle.kt_promises.specs.Headline.{IsPromised};
+ghost use Rattle.kt_held.specs.Refusals.{IsLeastRefused};
+ghost use Rattle.kt_plans.specs.Headline.{IsPromised};
 ghost use Rattle.kt_run.specs.Faults.{Answers};
-ghost use Rattle.kt_run.specs.Refused.{IsStepRefused};
+ghost use Rattle.kt_run.specs.Refused.{IsStepRefused, IsStopped};
+ghost use Rattle.kt_run.specs.Rejections.{MayReject};
 ghost use Rattle.kt_run.specs.Runs.{IsLogOfRun, IsPlayed};
 ghost use Rattle.kt_run.specs.declared.faults.RunFault.{RunFault};
 ghost use Rattle.kt_run.specs.declared.faults.RunFault.TheVariants as run_fault;
@@ -23,7 +25,7 @@ use kt_plan::{Plan, Step};
 use kt_report::report;
 use kt_run::log_of;
 use kt_spacetime::SpaceTime;
-use kt_threads::live;
+use kt_threads::live_log_of;
 use std::alloc::Global;
 use std::io::Write;
 use std::sync::Wait;
@@ -62,6 +64,15 @@ pub fn play_plan<L: Write, C: Write, R: Write>(
         Answers plan.now (map (λ row. map (λ b. kind_of b) row.items) cast.items) fault) }
     ensures refused { IfErr result (λ e. (done : ℕ) (why : StepFault) → e ≡ AppFault.Run (run_fault.Step done why) →
         IsStepRefused plan.now (map (λ row. map (λ b. content (kind_of b) (value_of b)) row.items) cast.items) steps.now done why) }
+    // Where an object fails, it is either at first, that of the least process whose save may be refused; or in a step of
+    // its own that was not refused, where one of the objects that the process was given may reject a saved state of their
+    // kind.
+    ensures object { IfErr result (λ e. (p : ℕ) → e ≡ AppFault.Run (run_fault.Object p) →
+        IsLeastRefused (λ b. may_save b) (λ b. may_refuse b) (map (λ row. row.items) cast.items) p
+        ⊎ (IsStopped plan.now (map (λ row. map (λ b. content (kind_of b) (value_of b)) row.items)
+        cast.items) steps.now p
+        × MayReject (λ b saved. may_reject b saved) (slice_index plan.now.kinds p)
+        (slice_index_or (map (λ row. row.items) cast.items) p []))) }
 {
     let log = log_of(alloc, plan, steps, cast)?;
     write_run(alloc, plan, &log, log_writer, cert_writer, report_writer)
@@ -98,15 +109,8 @@ pub fn live_plan<T: Threads + Wait + Sync, L: Write, C: Write, R: Write>(
     ensures fault { IfErr result (λ e. (fault : LiveFault) → e ≡ AppFault.Live fault →
         threads.AnswersLive plan.now (map (λ row. map (λ b. kind_of b) row.items) cast.items) fault) }
 {
-    let outcome = live(rt, alloc, plan, cast)?;
-    write_run(
-        alloc,
-        plan,
-        &outcome.log,
-        log_writer,
-        cert_writer,
-        report_writer,
-    )
+    let log = live_log_of(rt, alloc, plan, cast)?;
+    write_run(alloc, plan, &log, log_writer, cert_writer, report_writer)
 }
 
 // Writes the log of a run, then its certificates, then its report.

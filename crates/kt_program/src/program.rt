@@ -8,9 +8,10 @@ ghost use Rattle.kt_program.specs.declared.ending.Done.TheVariants.{Shown};
 ghost use Rattle.kt_program.specs.declared.fault.AppFault.TheVariants as app;
 ghost use Rattle.kt_program.specs.declared.fault.ProgramFault.TheVariants as program;
 ghost use Rattle.kt_program.specs.Asking.{EndsFor, IsRequest, IsUnshown};
-ghost use Rattle.kt_program.specs.Ending.{Ends, LeavesOutput, LeavesAnswer, PlayedFor};
+ghost use Rattle.kt_program.specs.Ending.{CertifiedFor, Ends, LeavesOutput, LeavesAnswer, PlayedFor};
 
 use crate::ask::{AskFault, asked};
+use crate::certifying::certify_files;
 use crate::checked::check_bytes;
 use crate::ending::{Done, end};
 use crate::fault::{AppFault, ProgramFault};
@@ -69,6 +70,8 @@ pub fn carry_out<F: Files + Threads + Wait + Sync, O: Write>(
     ensures output { LeavesOutput words.now result (O.contents out.old) (O.contents out.new) }
     // A scenario that is played begins with the steps of the file that the words name.
     ensures played { IfOk result (PlayedFor words.now F.File.remaining (O.contents out.old) (O.contents out.new)) }
+    // The certificates that are written are those of the rows that a file says, and go where the words ask.
+    ensures certified { IfOk result (CertifiedFor words.now F.File.remaining (O.contents out.old) (O.contents out.new)) }
 {
     match asked(alloc, words) {
         Ok(
@@ -95,6 +98,10 @@ pub fn carry_out<F: Files + Threads + Wait + Sync, O: Write>(
         Ok(Asked::Check { log, cert }) => match check_files(files, alloc, log, cert, out) {
             Ok(passed) => Ok(Done::Judged(passed)),
             Err(fault) => Err(ProgramFault::App(fault)),
+        },
+        Ok(Asked::Certify { log, cert }) => match certify_files(files, alloc, log, cert, out) {
+            Ok(()) => Ok(Done::Certified),
+            Err(fault) => Err(fault),
         },
         Err(AskFault::Line(error)) => show_text(out, &error),
         Err(AskFault::SameName) => Err(ProgramFault::Line),

@@ -1,7 +1,7 @@
 -- The report of a legal log: what each object offers, how many messages are lost, and the text.
 use Rattle.std.specs.Prelude.{ℕ, ℤ, Bool, false, List, ◌++◌, Option, Some, length, map, count_by, slice_index}
 use Rattle.std.specs.List.{flat_map, range_with_len}
-use Rattle.kt_object.specs.Value.{opening, after, offered}
+use Rattle.kt_object.specs.Value.{opening_value, after, offered}
 use Rattle.kt_plan.specs.Limits.{Planned}
 use Rattle.kt_spacetime.specs.declared.event.Event.{Event}
 use Rattle.kt_spacetime.specs.declared.event.Event.TheVariants.{Sent}
@@ -16,7 +16,7 @@ use Rattle.kt_report.specs.Report.{object_lines, dropped_in}
 
 -- how an object of a kind behaves: its first value, its value after a message, and what it offers
 abbrev pub rules_of_kind : ℕ → Rules (List ℤ)
-rules_of_kind kind = record { opening = opening kind; after = after kind; offered = offered kind }
+rules_of_kind kind = record { opening = opening_value kind; after = after kind; offered = offered kind }
 
 -- what the object of a process offers after a log, where it is up, if the processes have objects of these kinds
 abbrev pub offer_in : List ℕ → List Event → ℕ → Option ℤ

@@ -10,7 +10,7 @@ use Rattle.kt_plan.specs.declared.commands.Command.{Command}
 use Rattle.kt_plan.specs.declared.commands.Job.{Job}
 use Rattle.kt_plan.specs.declared.commands.Job.TheVariants as job
 use Rattle.kt_plan.specs.Names.{number_in}
-use Rattle.kt_plan.specs.Limits.{IsPlan, IsKind, IsJobOf, IsCommandOf}
+use Rattle.kt_plan.specs.Limits.{IsPlan, IsKindOfObject, IsJobOf, IsCommandOf}
 use Rattle.kt_plan.proofs.NameFacts.{one_more}
 use Rattle.kt_scenario.specs.declared.draft.Word.{Word}
 use Rattle.kt_scenario.specs.declared.draft.Word.TheVariants.{Object, Send, Checkpoint, Rollback, Fail, Settle}
@@ -36,10 +36,10 @@ nothing = record {
   phases = λ k d l. absurd (omega arith);
 }
 
-known_kind : (word : List ℕ) (kind : ℕ) → kind_in word ≡ Some kind → IsKind kind
+known_kind : (word : List ℕ) (kind : ℕ) → kind_in word ≡ Some kind → IsKindOfObject kind
 known_kind word kind = by (bytes_eq word _) (bytes_eq word _) (bytes_eq word _)
   where
-    by : (a b c : Bool) → (if a then Some 0 else if b then Some 1 else if c then Some 2 else None) ≡ Some kind → IsKind kind
+    by : (a b c : Bool) → (if a then Some 0 else if b then Some 1 else if c then Some 2 else None) ≡ Some kind → IsKindOfObject kind
     by true b c e = let same : 0 ≡ kind = cc e in omega arith
     by false true c e = let same : 1 ≡ kind = cc e in omega arith
     by false false true e = let same : 2 ≡ kind = cc e in omega arith
@@ -59,7 +59,7 @@ object old new name kind said o =
       plan = record {
         names = one_more old.names name said.plan.names o.proper o.unknown o.room;
         one_kind_each = omega (arith, long, length-append old.kinds (o.number ∷ []), said.plan.one_kind_each);
-        kinds = All-push IsKind old.kinds o.number said.plan.kinds (known_kind kind o.number o.known_kind);
+        kinds = All-push IsKindOfObject old.kinds o.number said.plan.kinds (known_kind kind o.number o.known_kind);
         few = said.plan.few;
         commands = subst (λ (m : ℕ). All (IsCommandOf m) old.commands) (sym n)
             (All-weaker (IsCommandOf (length old.names)) (IsCommandOf (length old.names + 1)) (λ c h. (omega (arith, h.0), wider_job _ _ _ h.1)) old.commands said.plan.commands);

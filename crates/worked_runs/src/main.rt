@@ -1,6 +1,6 @@
 //! Shows what is read from each stored run: its first broken rule, or what its histories are after each row, as both
 //! readers tell it, the checker's answer in both formats, whether what is written is what was read, and its answer to
-//! certificates that are made after each row. Then plays each scenario that a stored run is of, and runs each in
+//! certificates that are made after each row, and whether those made of its text are the stored ones. Then plays each scenario that a stored run is of, and runs each in
 //! threads.
 #![tactic(auto)]
 
@@ -8,6 +8,7 @@ mod certified;
 mod commands;
 mod facts;
 mod lives;
+mod made;
 mod plays;
 mod readers;
 mod texts;
@@ -20,9 +21,10 @@ use kt_histories::legal;
 use kt_log_text::read_csv;
 use kt_spacetime::SpaceTime;
 use lives::{show_large_live, show_lives};
+use made::{show_made, show_many};
 use plays::show_plays;
 use std::fs;
-use texts::show_texts;
+use texts::{HEADER, show_texts};
 
 // Shows why a log is not legal, or what its histories are.
 fn show_log<R: Print + AllocGlobal>(rt: &R, log: &SpaceTime) -> Result<()> {
@@ -40,7 +42,9 @@ fn show_run<R: Print + AllocGlobal>(rt: &R, text: &[u8], cert: &[u8]) -> Result<
     let log = read_csv(rt.alloc(), text)?;
     show_log(rt, &log)?;
     show_texts(rt, &log, text, cert)?;
-    show_certified(rt, &log)
+    show_certified(rt, &log)?;
+    show_made(rt, text, cert)?;
+    show_made(rt, text.strip_prefix(HEADER).unwrap_or(text), cert)
 }
 
 // Shows the stored run of this name.
@@ -64,5 +68,6 @@ fn main(rt: HostRuntime) -> Result<()> {
     show_all_stored(&rt, "runs.txt")?;
     show_plays(&rt, "plays.txt")?;
     show_lives(&rt, "lives.txt")?;
-    show_large_live(&rt)
+    show_large_live(&rt)?;
+    show_many(&rt)
 }

@@ -7,8 +7,8 @@ use kt_program::check_bytes;
 use kt_spacetime::SpaceTime;
 use std::alloc::Global;
 
-// The record that a text of format 2 begins with.
-const HEADER: &[u8] = b"kt,2,-,-\n";
+/// The record that a text of format 2 begins with.
+pub(crate) const HEADER: &[u8] = b"kt,2,-,-\n";
 
 // Whether a log is written as this text.
 fn is_written_as(alloc: Global, log: &SpaceTime, text: &[u8]) -> Result<bool> {

@@ -1,6 +1,6 @@
 use Rattle.std.proofs.Common.{rules, ◌≡◌, ◌+◌, ℕ, List, All, length, subst}
 use Rattle.std.specs.Prelude.{Ok, slice_index}
-use Rattle.kt_held.specs.Casts.{failures_of}
+use Rattle.kt_plan.specs.Failures.{failures_of}
 use Rattle.kt_program.proofs.Casting.{begun_pushed, begun_all}
 use Rattle.kt_program.proofs.casts.cast_of.Goals as goal
 

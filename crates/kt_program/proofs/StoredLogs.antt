@@ -1,0 +1,48 @@
+-- What becomes of a stored log that is certified.
+use Rattle.std.proofs.Common.{◌≡◌, ◌≢◌, ℕ, List, Some, None, sym, subst, inl, inr}
+use Rattle.std.specs.Prelude.{Result, Ok, Err, OnOk, IfErr}
+use Rattle.std.specs.Io.KnownBytes.{Appends}
+use Rattle.kt_log_text.specs.declared.fault.LogFault.TheVariants.{Read, TooLong, Version, Fields, Word, Number, Memory}
+use Rattle.kt_chain.specs.declared.certificate.Certificate.{Certificate}
+use Rattle.kt_certify.specs.Streamed.{IsFaultOfBytes}
+use Rattle.kt_certify.specs.declared.fault.StreamFault.{StreamFault}
+use Rattle.kt_certify.specs.declared.fault.StreamFault.TheVariants.{Log, Unfit}
+use Rattle.kt_program.specs.declared.fault.AppFault.{AppFault}
+use Rattle.kt_program.specs.declared.fault.AppFault.TheVariants as app
+use Rattle.kt_program.specs.declared.fault.ProgramFault.{ProgramFault}
+use Rattle.kt_program.specs.declared.fault.ProgramFault.TheVariants as program
+use Rattle.kt_program.specs.Certified.{AreOfFile, CertifiesTo, GoTo, IsUncertified, LeavesCertificates, LeavesCertified, of_stream, text_of_list}
+use Rattle.kt_program.specs.Names.{Name}
+use Rattle.kt_program.specs.Stored.{Told}
+
+-- a fault of the stream is one of the program
+of_fault : (bytes : Told) (fault : StreamFault) → IsFaultOfBytes bytes fault → IsUncertified bytes (of_stream fault)
+of_fault bytes (Log Memory) h = tt
+of_fault bytes (Log Read) h = ((λ e. cc), h)
+of_fault bytes (Log TooLong) h = ((λ e. cc), h)
+of_fault bytes (Log Version) h = ((λ e. cc), h)
+of_fault bytes (Log (Fields n)) h = ((λ e. cc), h)
+of_fault bytes (Log (Word n)) h = ((λ e. cc), h)
+of_fault bytes (Log (Number n)) h = ((λ e. cc), h)
+of_fault bytes (Unfit why) h = h
+
+pub uncertified : (bytes : Told) (fault : StreamFault) (answer : AppFault) → answer ≡ of_stream fault → IsFaultOfBytes bytes fault → IsUncertified bytes answer
+uncertified bytes fault answer e h = subst (IsUncertified bytes) (sym e) (of_fault bytes fault h)
+
+module _ {F : Type 0} (told : F → Told) (name : Name) (list : List Certificate) (old new : Told) (file : AreOfFile told list) where
+  -- what is left on standard output
+  leaves : GoTo name list old new → LeavesCertificates old new
+  leaves goes = by_name name goes
+    where
+      by_name : (n : Name) → GoTo n list old new → LeavesCertificates old new
+      by_name None h = inr (file.1.rows, file.1.fit, subst (λ (l : List Certificate). Appends old new (text_of_list l)) file.1.certificates h)
+      by_name (Some other) h = inl h
+
+  pub left : (result : Result Unit ProgramFault) → OnOk result (GoTo name list old new)
+      → IfErr result (λ fault. fault ≢ program.App app.Write → fault ≢ program.App app.Memory → new ≡ old) → LeavesCertified result old new
+  left (Ok u) goes kept = leaves goes
+  left (Err fault) goes kept = kept
+
+  pub certified_to : (result : Result Unit ProgramFault) → OnOk result (GoTo name list old new) → OnOk result (CertifiesTo told name old new)
+  certified_to (Ok u) goes = (list, file, goes)
+  certified_to (Err fault) goes = tt
