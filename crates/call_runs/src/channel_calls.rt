@@ -36,11 +36,10 @@ fn pair_of(channels: &Channels, words: &mut Words) -> Result<Pair>
     Ok(Pair { from, to })
 }
 
-// Makes room for parcels of a pair, which is always allowed.
+// Makes room for parcels of a pair; whether there is memory.
 fn make_room(channels: &mut Channels, words: &mut Words) -> Result<bool> {
     let Pair { from, to } = pair_of(channels, words)?;
-    channels.reserve_many(from, to, words.count()?)?;
-    Ok(true)
+    Ok(channels.reserve_many(from, to, words.count()?).is_ok())
 }
 
 // Makes room for a parcel to each of two processes, which is always allowed.

@@ -1,80 +1,56 @@
-//! Makes stored lists of calls of label tables and of channels, and shows what each call answers.
+//! Makes stored lists of calls of label tables and of channels, walks logs that stored scripts tell of, and makes stored
+//! lists of calls of messages in transit; shows what is answered.
 #![tactic(auto)]
 
+mod answers;
 mod channel_calls;
+mod cuts;
 mod lists;
+mod readers;
+mod rounds;
+mod rows;
+mod run;
+mod scripts;
 mod table_calls;
+mod transit;
 mod words;
 
-ghost use Rattle.std.specs.Prelude.{◌≤◌};
-
-use anyhow::{Result, bail};
-use channel_calls::show_channel_call;
-use kt_fifo::Channels;
-use kt_tables::Tables;
-use lists::{List, list_of};
+use anyhow::{Context, Result, bail};
+use lists::show_calls;
+use scripts::show_script;
 use std::fs;
-use table_calls::show_table_call;
+use transit::show_list;
 
-// Makes calls of tables, a line each, and shows what they answer.
-fn show_table_calls<R: Print>(rt: &R, tables: &mut Tables, calls: &str) -> Result<()> {
-    for line in calls.lines() {
-        show_table_call(rt, tables, line)?;
-    }
-    Ok(())
-}
-
-// Shows what tables answer to a list of calls.
-fn show_tables<R: Print + AllocGlobal>(rt: &R, list: &List) -> Result<()>
-    requires { list.now.processes ≤ 64 }
-{
-    let mut tables = Tables::new(rt.alloc(), list.processes)?;
-    show_table_calls(rt, &mut tables, list.calls)
-}
-
-// Makes calls of channels, a line each, and shows what they answer.
-fn show_channel_calls<R: Print>(
-    rt: &R,
-    held: &mut Channels,
-    kept: &mut Channels,
-    calls: &str,
-) -> Result<()> {
-    for line in calls.lines() {
-        show_channel_call(rt, held, kept, line)?;
-    }
-    Ok(())
-}
-
-// Shows what two systems of channels answer to a list of calls.
-fn show_channels<R: Print + AllocGlobal>(rt: &R, list: &List) -> Result<()>
-    requires { list.now.processes ≤ 64 }
-{
-    let mut held = Channels::new(rt.alloc(), list.processes)?;
-    let mut kept = Channels::new(rt.alloc(), list.processes)?;
-    show_channel_calls(rt, &mut held, &mut kept, list.calls)
-}
-
-// Shows what tables or channels answer to a list of calls.
-fn show_list<R: Print + AllocGlobal>(rt: &R, file: &str, text: &str) -> Result<()> {
-    let list = list_of(text)?;
-    println!(rt; "{}", list.title)?;
+// Shows what a script asks, or what a list of calls makes of messages in transit, under its title.
+fn show_script_or_list<R: Print + AllocGlobal>(rt: &R, file: &str, text: &str) -> Result<()> {
+    let (title, lines) = text.split_once('\n').context("no title")?;
+    println!(rt; "{title}")?;
     match file {
-        "tables" => show_tables(rt, &list),
-        "channels" => show_channels(rt, &list),
+        "scripts" => show_script(rt, lines),
+        "transit" => show_list(rt, lines),
         _ => bail!("no such file"),
     }
 }
 
-// Shows what is answered to each list of calls of a file.
+// Shows what is answered to a text of one of the files.
+fn show_text<R: Print + AllocGlobal>(rt: &R, file: &str, text: &str) -> Result<()> {
+    match file {
+        "tables" | "channels" => show_calls(rt, file, text),
+        _ => show_script_or_list(rt, file, text),
+    }
+}
+
 fn show_file(rt: &HostRuntime, file: &str) -> Result<()> {
-    let lists = fs::read_to_string(rt, file)?;
-    for text in lists.split("\n\n") {
-        show_list(rt, file, text)?;
+    let texts = fs::read_to_string(rt, file)?;
+    for text in texts.split("\n\n") {
+        show_text(rt, file, text)?;
     }
     Ok(())
 }
 
 fn main(rt: HostRuntime) -> Result<()> {
     show_file(&rt, "tables")?;
-    show_file(&rt, "channels")
+    show_file(&rt, "channels")?;
+    show_file(&rt, "scripts")?;
+    show_file(&rt, "transit")
 }

@@ -1,7 +1,7 @@
 //! The words of a line, read one by one.
 
 use anyhow::{Context, Result};
-use kt_base::{Label, MsgNo, ProcNo};
+use kt_base::{InstNo, Label, MsgNo, ProcNo};
 
 /// What is left of a line.
 #[derive(Clone, Copy)]
@@ -25,6 +25,10 @@ impl<'a> Words<'a> {
         Ok(self.word().parse::<usize>()?)
     }
 
+    pub(crate) fn number(&mut self) -> Result<u32> {
+        Ok(self.word().parse::<u32>()?)
+    }
+
     pub(crate) fn process(&mut self) -> Result<ProcNo> {
         ProcNo::new(self.word().parse::<u8>()?).context("no process")
     }
@@ -34,6 +38,10 @@ impl<'a> Words<'a> {
     }
 
     pub(crate) fn message(&mut self) -> Result<MsgNo> {
-        MsgNo::new(self.word().parse::<u32>()?).context("no message")
+        MsgNo::new(self.number()?).context("no message")
+    }
+
+    pub(crate) fn instance(&mut self) -> Result<InstNo> {
+        InstNo::new(self.word().parse::<u16>()?).context("no instance")
     }
 }

@@ -1,7 +1,7 @@
 //! An object of one's own.
 
 ghost use Rattle.std.specs.Prelude.{◌≡◌};
-ghost use Rattle.kt_object.specs.Value.{opening};
+ghost use Rattle.kt_object.specs.Value.{opening_value};
 
 use kt_base::ProcNo;
 use kt_object::{Recoverable, RestoreFault, SaveFault, SlotGuard, Sum};
@@ -23,7 +23,7 @@ impl Counter {
     /// A sum at 0, which holds this slot and adds to this count.
     pub(crate) fn new(guard: SlotGuard, taken: Count) -> Counter
         ensures kind { ⟦<Counter as Recoverable>⟧.kind_of result ≡ 0 }
-        ensures value { ⟦<Counter as Recoverable>⟧.value_of result ≡ opening 0 }
+        ensures value { ⟦<Counter as Recoverable>⟧.value_of result ≡ opening_value 0 }
         ensures slot { ⟦<Counter as Recoverable>⟧.slot_of result ≡ guard }
     {
         let sum = Sum::new(guard);
@@ -37,6 +37,10 @@ impl Recoverable for Counter {
     ghost value_of = { λ s. ⟦<Sum as Recoverable>⟧.value_of s.sum };
 
     ghost slot_of = { λ s. ⟦<Sum as Recoverable>⟧.slot_of s.sum };
+
+    ghost may_refuse = { λ s. ⟦<Sum as Recoverable>⟧.may_refuse s.sum };
+
+    ghost may_reject = { λ s saved. ⟦<Sum as Recoverable>⟧.may_reject s.sum saved };
 
     fn kind(&self) -> u8 {
         self.sum.kind()

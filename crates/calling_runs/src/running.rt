@@ -1,6 +1,6 @@
 //! Runs over objects of one's own, one step after another and in threads.
 
-ghost use Rattle.kt_promises.specs.Headline.{IsPromised};
+ghost use Rattle.kt_plans.specs.Headline.{IsPromised};
 
 use crate::counter::{Count, Counter};
 use crate::stepping::gets_yes;

@@ -1,8 +1,8 @@
 //! A world stepped by a loop of one's own.
 
 ghost use Rattle.std.specs.Prelude.{◌≡◌, ◌≢◌, ◌↔◌, true, IfOk, IfErr, IsTrue};
-ghost use Rattle.kt_core.specs.Worlds.{IsAtRest};
-ghost use Rattle.kt_promises.specs.Headline.{IsPromised};
+ghost use Rattle.kt_core.specs.Worlds.{IsWorldAtRest};
+ghost use Rattle.kt_plans.specs.Headline.{IsPromised};
 
 use crate::judging::log_passes;
 use anyhow::{Result, ensure};
@@ -31,7 +31,7 @@ fn stepped(alloc: Global, scenario: &[u8]) -> Result<SpaceTime>
 
 /// The processes make a step each by turns, until all is at rest or so many turns were taken; whether it is at rest.
 fn step_by_turns(world: &mut World, most: u32) -> Result<bool, StepFault>
-    ensures rest { IfOk result (λ rests. IsTrue rests ↔ IsAtRest world.new) }
+    ensures rest { IfOk result (λ rests. IsTrue rests ↔ IsWorldAtRest world.new) }
     ensures plan { world.new.agenda.plan ≡ world.old.agenda.plan }
     ensures fault { IfErr result (λ fault. fault ≢ StepFault.NotEnabled) }
 {

@@ -1,6 +1,7 @@
-//! Runs the program on the command lines of a stored file over other stored files, and ends with the status of the last one.
+//! Runs the program on the command lines of stored files over other stored files, and ends with the status of the last one.
 //!
-//! It prints each command line, what the program prints for it to either stream, and its exit status.
+//! It prints each command line, what the program prints for it to either stream, and its exit status. Other lines make
+//! files: `text 3 x` adds the line `x` three times to a text, and `file NAME` writes that text into a file.
 #![tactic(auto)]
 
 use kt_base::Memory;
@@ -35,11 +36,61 @@ fn run_line<R: Files + Threads + Wait + Sync + Print + AllocGlobal>(
     Ok(status)
 }
 
-fn main(rt: HostRuntime) -> io::Result<ExitCode> {
-    let mut status = 0;
-    let lines = fs::read_to_string(&rt, "lines")?;
-    for line in lines.lines() {
-        status = run_line(&rt, line)?;
+fn add_line(text: &mut String, line: &str) -> io::Result<()> {
+    text.push_str(line)?;
+    text.push_str("\n")?;
+    Ok(())
+}
+
+// Adds a line so many times to a text, as the words say.
+fn add_lines(text: &mut String, words: &str) -> io::Result<()> {
+    let (count, line) = words.split_once(' ').unwrap_or((words, ""));
+    for _ in 0..count.parse::<u32>().unwrap_or(0) {
+        add_line(text, line)?;
     }
+    Ok(())
+}
+
+// Writes a text into a file, and begins it anew.
+fn write_file<R: Files>(rt: &R, name: &str, text: &mut String) -> io::Result<()> {
+    fs::write(rt, name, text.as_str())?;
+    text.clear();
+    Ok(())
+}
+
+// Does what a line says; the exit status of a command line.
+fn do_line<R: Files + Threads + Wait + Sync + Print + AllocGlobal>(
+    rt: &R,
+    line: &str,
+    text: &mut String,
+) -> io::Result<u8> {
+    if let Some(words) = line.strip_prefix("text ") {
+        add_lines(text, words)?;
+        Ok(0)
+    } else if let Some(name) = line.strip_prefix("file ") {
+        write_file(rt, name, text)?;
+        Ok(0)
+    } else {
+        run_line(rt, line)
+    }
+}
+
+// Does what each line of a file says; the exit status of the last one.
+fn do_file<R: Files + Threads + Wait + Sync + Print + AllocGlobal>(
+    rt: &R,
+    file: &str,
+) -> io::Result<u8> {
+    let mut status = 0;
+    let mut text = String::new(rt.alloc());
+    let lines = fs::read_to_string(rt, file)?;
+    for line in lines.lines() {
+        status = do_line(rt, line, &mut text)?;
+    }
+    Ok(status)
+}
+
+fn main(rt: HostRuntime) -> io::Result<ExitCode> {
+    do_file(&rt, "made")?;
+    let status = do_file(&rt, "lines")?;
     Ok(ExitCode::from(status))
 }

@@ -91,6 +91,10 @@ impl Recoverable for Meeting {
 
     ghost slot_of = { λ s. ⟦<Sum as Recoverable>⟧.slot_of s.sum };
 
+    ghost may_refuse = { λ s. ⟦<Sum as Recoverable>⟧.may_refuse s.sum };
+
+    ghost may_reject = { λ s saved. ⟦<Sum as Recoverable>⟧.may_reject s.sum saved };
+
     fn kind(&self) -> u8 {
         self.sum.kind()
     }

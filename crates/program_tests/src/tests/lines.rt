@@ -14,15 +14,16 @@ use std::test::Fail;
 use std::thread::Threads;
 
 const HELP: &str =
-    "Runs scenarios of a checkpoint and rollback-recovery manager, and judges stored runs
+    "Runs scenarios of a checkpoint and rollback-recovery manager, and certifies and judges stored runs
 
 Usage: koo_toueg [COMMAND]
 
 Commands:
-  play   Plays a scenario, and prints a report of the run
-  live   Runs a scenario in threads, and prints a report of the run
-  check  Judges a stored log with its certificates
-  help   Print this message or the help of the given subcommand(s)
+  play     Plays a scenario, and prints a report of the run
+  live     Runs a scenario in threads, and prints a report of the run
+  check    Judges a stored log with its certificates
+  certify  Writes the certificates of a stored log
+  help     Print this message or the help of the given subcommand(s)
 
 Options:
   -h, --help     Print help
@@ -30,7 +31,7 @@ Options:
 
 Exit status:
   0  done; the answer of check is yes
-  1  the answer of check is no
+  1  the answer of check is no, or the log has no certificates
   2  the command line or what a file says is refused, or a step is not enabled
   3  a file cannot be read, or the output not be written
   4  there is not enough memory, or a run cannot go on
@@ -49,7 +50,7 @@ Options:
 
 Exit status:
   0  done; the answer of check is yes
-  1  the answer of check is no
+  1  the answer of check is no, or the log has no certificates
   2  the command line or what a file says is refused, or a step is not enabled
   3  a file cannot be read, or the output not be written
   4  there is not enough memory, or a run cannot go on
@@ -80,7 +81,7 @@ Options:
 
 Exit status:
   0  done; the answer of check is yes
-  1  the answer of check is no
+  1  the answer of check is no, or the log has no certificates
   2  the command line or what a file says is refused, or a step is not enabled
   3  a file cannot be read, or the output not be written
   4  there is not enough memory, or a run cannot go on

@@ -2,7 +2,7 @@
 
 ghost use Rattle.std.specs.Prelude.{◌≡◌, IfOk, OnOk, OnErr};
 ghost use Rattle.kt_object.specs.Bytes.{IsSavedState};
-ghost use Rattle.kt_object.specs.Value.{after, offered, opening};
+ghost use Rattle.kt_object.specs.Value.{after, offered, opening_value};
 
 use kt_base::ProcNo;
 use kt_object::{Object, Recoverable, RestoreFault, SaveFault, SlotGuard, Sum};
@@ -11,7 +11,7 @@ use std::alloc::{AllocError, Global};
 /// A sum in its box is at its opening value.
 pub fn boxed_sum(alloc: Global, guard: SlotGuard) -> Result<Object, AllocError>
     ensures kind { IfOk result (λ object. kind_of object ≡ 0) }
-    ensures value { IfOk result (λ object. value_of object ≡ opening 0) }
+    ensures value { IfOk result (λ object. value_of object ≡ opening_value 0) }
     ensures slot { IfOk result (λ object. slot_of object ≡ guard) }
 {
     Ok(Box::new(alloc, Sum::new(guard))?)

@@ -190,6 +190,16 @@ fn show_one<R: Print + AllocGlobal>(
     }
 }
 
+// Asks for room for so many rows, and shows whether there is.
+fn show_room<R: Print>(rt: &R, run: &mut Run, words: &mut Words) -> Result<()> {
+    let word = match run.log.reserve(words.count()?) {
+        Ok(()) => "made",
+        Err(_) => "refused",
+    };
+    print!(rt; "{word}")?;
+    Ok(())
+}
+
 /// Shows the answer to a question, in a line.
 pub(crate) fn show_answer<R: Print + AllocGlobal>(
     rt: &R,
@@ -198,6 +208,7 @@ pub(crate) fn show_answer<R: Print + AllocGlobal>(
 ) -> Result<()> {
     match words.word() {
         "rounds" => show_rounds(rt, run, words)?,
+        "room" => show_room(rt, run, words)?,
         word => show_one(rt, run, word, words)?,
     }
     println!(rt; "")?;

@@ -1,29 +1,15 @@
-//! Walks logs that stored scripts tell of, and shows what a walk and the plain reader say of them; then makes stored lists
-//! of calls of messages in transit.
+//! Stored scripts, of which each tells of a log: what a walk and the plain reader say of it.
 //!
-//! A script is a title and lines. A line with a comma is a row; one that begins with `?` is a question; any other tells of
-//! many rows.
-#![tactic(auto)]
+//! A script is lines. A line with a comma is a row; one that begins with `?` is a question; any other tells of many rows.
 
-mod answers;
-mod cuts;
-mod readers;
-mod rounds;
-mod rows;
-mod run;
-mod transit;
-mod words;
-
-use answers::show_answer;
-use anyhow::{Context, Result, bail};
+use crate::answers::show_answer;
+use crate::rows::add_rows;
+use crate::run::Run;
+use crate::words::Words;
+use anyhow::Result;
 use kt_log_text::read_csv;
 use kt_spacetime::{Event, SpaceTime};
-use rows::add_rows;
-use run::Run;
 use std::alloc::Global;
-use std::fs;
-use transit::show_list;
-use words::Words;
 
 // Feeds a row, and shows how many messages are held then, or why the row is refused.
 fn show_row<R: Print>(rt: &R, run: &mut Run, row: Event, line: &str) -> Result<()> {
@@ -71,32 +57,8 @@ fn show_lines<R: Print + AllocGlobal>(rt: &R, run: &mut Run, lines: &str) -> Res
     Ok(())
 }
 
-// Shows what the lines of a script ask.
-fn show_script<R: Print + AllocGlobal>(rt: &R, lines: &str) -> Result<()> {
+/// Shows what the lines of a script ask.
+pub(crate) fn show_script<R: Print + AllocGlobal>(rt: &R, lines: &str) -> Result<()> {
     let mut run = Run::new(rt.alloc())?;
     show_lines(rt, &mut run, lines)
-}
-
-// Shows what a script asks, or what a list of calls makes of messages in transit, under its title.
-fn show_text<R: Print + AllocGlobal>(rt: &R, file: &str, text: &str) -> Result<()> {
-    let (title, lines) = text.split_once('\n').context("no title")?;
-    println!(rt; "{title}")?;
-    match file {
-        "scripts" => show_script(rt, lines),
-        "transit" => show_list(rt, lines),
-        _ => bail!("no such file"),
-    }
-}
-
-fn show_file(rt: &HostRuntime, file: &str) -> Result<()> {
-    let texts = fs::read_to_string(rt, file)?;
-    for text in texts.split("\n\n") {
-        show_text(rt, file, text)?;
-    }
-    Ok(())
-}
-
-fn main(rt: HostRuntime) -> Result<()> {
-    show_file(&rt, "scripts")?;
-    show_file(&rt, "transit")
 }
