@@ -1,3 +1,4 @@
 pub mod NumbersLemmas
+pub mod ReliableKinds
 pub mod SavedOnce
 pub mod ValuesStay

@@ -1,3 +1,4 @@
 pub mod Bytes
+pub mod Reliable
 pub mod SavedStates
 pub mod Value

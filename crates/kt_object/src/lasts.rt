@@ -3,6 +3,7 @@
 ghost use Rattle.std.specs.Prelude.{◌≡◌, ◌↔◌, ◌++◌, ◌∷◌, [], ℕ, ℤ, pos, List, FitsSigned, Err, OnOk, OnErr, IsOkUnless};
 ghost use Rattle.std.specs.Int.{w64};
 ghost use Rattle.kt_object.specs.Bytes.{saved_bytes, IsSavedState};
+ghost use Rattle.kt_object.specs.Reliable.{IsReliable};
 ghost use Rattle.kt_object.specs.Value.{opening_value, IsValue};
 
 use crate::faults::{RestoreFault, SaveFault};
@@ -28,6 +29,8 @@ impl Last {
         ensures kind { ⟦<Last as Recoverable>⟧.kind_of result ≡ 1 }
         ensures value { ⟦<Last as Recoverable>⟧.value_of result ≡ opening_value 1 }
         ensures slot { ⟦<Last as Recoverable>⟧.slot_of result ≡ guard }
+        ensures reliable { IsReliable 1 (⟦<Last as Recoverable>⟧.may_refuse result)
+            (λ saved. ⟦<Last as Recoverable>⟧.may_reject result saved) }
     {
         Last { number: 0, guard }
     }

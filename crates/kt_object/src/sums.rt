@@ -3,6 +3,7 @@
 ghost use Rattle.std.specs.Prelude.{◌≡◌, ◌↔◌, ◌++◌, ◌∷◌, [], ℕ, ℤ, pos, List, FitsSigned, Err, OnOk, OnErr, IsOkUnless};
 ghost use Rattle.std.specs.Int.{w64};
 ghost use Rattle.kt_object.specs.Bytes.{saved_bytes, IsSavedState};
+ghost use Rattle.kt_object.specs.Reliable.{IsReliable};
 ghost use Rattle.kt_object.specs.Value.{opening_value, IsValue};
 
 use crate::faults::{RestoreFault, SaveFault};
@@ -28,6 +29,8 @@ impl Sum {
         ensures kind { ⟦<Sum as Recoverable>⟧.kind_of result ≡ 0 }
         ensures value { ⟦<Sum as Recoverable>⟧.value_of result ≡ opening_value 0 }
         ensures slot { ⟦<Sum as Recoverable>⟧.slot_of result ≡ guard }
+        ensures reliable { IsReliable 0 (⟦<Sum as Recoverable>⟧.may_refuse result)
+            (λ saved. ⟦<Sum as Recoverable>⟧.may_reject result saved) }
     {
         Sum { total: 0, guard }
     }

@@ -2,6 +2,7 @@
 
 ghost use Rattle.std.specs.Prelude.{◌≡◌, ◌↔◌, ◌++◌, ℕ, ℤ, List, Err, OnOk, OnErr, IsOkUnless};
 ghost use Rattle.kt_object.specs.Bytes.{saved_bytes, IsSavedState};
+ghost use Rattle.kt_object.specs.Reliable.{IsReliable};
 ghost use Rattle.kt_object.specs.Value.{opening_value, IsValue};
 
 use crate::faults::{RestoreFault, SaveFault};
@@ -27,6 +28,8 @@ impl Tail {
         ensures kind { ⟦<Tail as Recoverable>⟧.kind_of result ≡ 2 }
         ensures value { ⟦<Tail as Recoverable>⟧.value_of result ≡ opening_value 2 }
         ensures slot { ⟦<Tail as Recoverable>⟧.slot_of result ≡ guard }
+        ensures reliable { IsReliable 2 (⟦<Tail as Recoverable>⟧.may_refuse result)
+            (λ saved. ⟦<Tail as Recoverable>⟧.may_reject result saved) }
     {
         Tail {
             numbers: Numbers::none(),

@@ -1,0 +1,5 @@
+use Rattle.kt_object.proofs.ReliableKinds.{reliable}
+use Rattle.kt_object.proofs.sums.Sum.new.Goals as goal
+
+pub returns-clause-reliable : goal.returns-clause-reliable
+returns-clause-reliable c = reliable 0
