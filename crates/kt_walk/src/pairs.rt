@@ -176,7 +176,7 @@ impl Pairs {
     /// The least orphan, of a cut that keeps the permanent parts, between two processes of which one is a member.
     pub(crate) fn orphan_among(&self, members: ProcSet, cut: &Cut) -> Option<MsgNo>
         ensures orphan { IfSome result (λ msg. (s : Past) → ShowsPairs self.now s → IsInOrder s → (p : ℕ) × (q : ℕ)
-            × IsOrphanBetween s (slice_index cut.now) p q msg) }
+            × IsOrphanBetween s (slice_index cut.now) p q msg × ((has members p || has members q) ≡ true)) }
         ensures least { (s : Past) (p q msg : ℕ) → ShowsPairs self.now s → KeepsPermanent s cut.now
             → (has members p || has members q) ≡ true → IsOrphanBetween s (slice_index cut.now) p q msg
             → IsAtMost result msg }
@@ -281,6 +281,7 @@ fn shrink_all(pairs: &mut [Pair], places: &Peers)
 fn least_orphan_of(pairs: &[Pair], places: &Peers, cut: &Cut) -> Option<MsgNo>
     requires { length pairs.now ≡ 4096 }
     ensures orphan { IfSome result (λ msg. (k : ℕ) × (v : PairState) × (slice_get pairs.now k ≡ Some v)
+        × (is_in places.now k ≡ true)
         × ((s : Past) → IsInOrder s → ShowsReceived v.received_from s
         → IsOrphanBetween s (slice_index cut.now) v.received_from.receiver v.received_from.sender msg)) }
     ensures least { (k : ℕ) (v : PairState) (s : Past) (msg : ℕ) → is_in places.now k ≡ true

@@ -338,8 +338,8 @@ impl Walk {
         ensures none { IfNone result ((rows : List Event) (p q msg : ℕ) → WalkOf self.now rows
             → KeepsPermanent (past rows) cut.now → (has members p || has members q) ≡ true
             → IsOrphanBetween (past rows) (slice_index cut.now) p q msg → ⊥) }
-        ensures orphan { IfSome result (λ msg. (rows : List Event) → WalkOf self.now rows
-            → IsOrphan (past rows) (slice_index cut.now) msg) }
+        ensures orphan { IfSome result (λ msg. (rows : List Event) → WalkOf self.now rows → (p : ℕ) × (q : ℕ)
+            × IsOrphanBetween (past rows) (slice_index cut.now) p q msg × ((has members p || has members q) ≡ true)) }
         ensures least { IfSome result (λ msg. (rows : List Event) (p q other : ℕ) → WalkOf self.now rows
             → KeepsPermanent (past rows) cut.now → (has members p || has members q) ≡ true
             → IsOrphanBetween (past rows) (slice_index cut.now) p q other → msg ≤ other) }

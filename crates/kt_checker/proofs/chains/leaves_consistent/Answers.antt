@@ -2,6 +2,7 @@ use Rattle.std.proofs.Common.{◌≡◌, ◌<◌, ℕ, false}
 use Rattle.std.specs.List.{slice_index}
 use Rattle.kt_base.specs.Sets.{has}
 use Rattle.kt_cuts.specs.Past.{past}
+use Rattle.kt_cuts.proofs.OrphanFacts.{orphan_of}
 use Rattle.kt_checker.specs.Passing.{decided_cut, earlier_cut}
 use Rattle.kt_checker.proofs.Chaining.{consistent_of, exact_search, orphan_at_changed}
 use Rattle.kt_checker.proofs.Answering.{orphan_refutes}
@@ -31,4 +32,6 @@ returns c = λ rows h before undecided ready.
     exact_search c.orphan_among.result c.is_none-2.result _ _ _ c.is_none-2.ensures c.orphan_among.ensures.none c.orphan_among.ensures.orphan
     (λ none. consistent_of (past rows) cut decided same h.control.no_more
     (orphan_at_changed (past rows) cut (earlier_cut (past rows) certificate.kind) c.changed_in-changed.result earlier unchanged h.control.no_more (λ p q m at orphan. none rows p q m h keeps at orphan)))
-    (λ msg orphan. orphan_refutes (past rows) cut decided msg same h.control.no_more (orphan rows h))
+    (λ msg orphan.
+    let between = orphan rows h in
+    orphan_refutes (past rows) cut decided msg same h.control.no_more (orphan_of (past rows) cut between.0 between.1 msg between.2))

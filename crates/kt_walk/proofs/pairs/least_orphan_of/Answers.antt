@@ -16,8 +16,8 @@ loop-place-preserved c =
     let at = slice_get_read c.args.pairs.now (length c.args.pairs.now) c.in-Some.place c.index-pairs-place.result refl (omega (arith, found.1, c.requires)) c.index-pairs-place.is in
     let cut = slice_index c.args.cut.now in
     rw c.earlier-least.ensures (record {
-      orphan = some_earlier (IsOrphanIn c.args.pairs.now cut) _ _ c.loop-place.invariant.orphan
-          (some_weaker (IsOrphanOf c.index-pairs-place.result.received_from cut) (IsOrphanIn c.args.pairs.now cut) _ (λ m o. (_, c.index-pairs-place.result, at, o)) c.orphan.ensures.orphan);
+      orphan = some_earlier (IsOrphanIn c.args.pairs.now c.args.places.now cut) _ _ c.loop-place.invariant.orphan
+          (some_weaker (IsOrphanOf c.index-pairs-place.result.received_from cut) (IsOrphanIn c.args.pairs.now c.args.places.now cut) _ (λ m o. (_, c.index-pairs-place.result, at, found.2, o)) c.orphan.ensures.orphan);
       least = λ k v s m l there f last_permanent t o. elim (cases_eq k c.in-Some.place) [
         | inl same ↦
             let item : c.index-pairs-place.result ≡ v = some_same (sym at ∙ (ap (slice_get c.args.pairs.now) (sym same) ∙ f)) in

@@ -10,7 +10,7 @@ use Rattle.kt_walk.proofs.pairs.least_orphan_of.Given as goal
 
 abbrev pub invariant-loop-place : goal.invariant-loop-place
 invariant-loop-place l = record {
-  orphan : IfSome l.least (λ msg. (k : ℕ) × (v : PairState) × (slice_get l.pairs k ≡ Some v) × ((s : Past) → IsInOrder s → ShowsReceived v.received_from s → IsOrphanBetween s (slice_index l.cut) v.received_from.receiver v.received_from.sender msg));
+  orphan : IfSome l.least (λ msg. (k : ℕ) × (v : PairState) × (slice_get l.pairs k ≡ Some v) × (is_in l.places k ≡ true) × ((s : Past) → IsInOrder s → ShowsReceived v.received_from s → IsOrphanBetween s (slice_index l.cut) v.received_from.receiver v.received_from.sender msg));
   least : (k : ℕ) (v : PairState) (s : Past) (msg : ℕ) → k < l.next → is_in l.places k ≡ true → slice_get l.pairs k ≡ Some v → s.permanent v.received_from.sender ≤ slice_index l.cut v.received_from.sender → ShowsReceived v.received_from s → IsOrphanBetween s (slice_index l.cut) v.received_from.receiver v.received_from.sender msg → IsAtMost l.least msg;
 }
 

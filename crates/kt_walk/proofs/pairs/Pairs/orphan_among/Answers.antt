@@ -3,12 +3,12 @@ use Rattle.std.specs.List.{slice_index}
 use Rattle.std.specs.Prelude.{◌||◌}
 use Rattle.kt_base.specs.Sets.{has}
 use Rattle.kt_walk.specs.Pairs.{PairState, ShowsPairs}
-use Rattle.kt_walk.proofs.PairsFacts.{least_of_pairs, some_in_pairs}
-use Rattle.kt_walk.proofs.UsedFacts.{among_if_orphan}
+use Rattle.kt_walk.proofs.PairsFacts.{least_of_pairs}
+use Rattle.kt_walk.proofs.UsedFacts.{among_if_orphan, some_among}
 use Rattle.kt_walk.proofs.pairs.Pairs.orphan_among.Goals as goal
 
 pub returns-clause-orphan : goal.returns-clause-orphan
-returns-clause-orphan c = some_in_pairs c.self.inside.pairs.items c.args.self.now c.args.cut.now c.least_orphan_of.result c.self.view_is (rw c.deref.ensures.value at c.least_orphan_of.ensures.orphan)
+returns-clause-orphan c = some_among c.self.inside.pairs.items c.args.self.now c.self.inside.used c.of.result c.args.members c.args.cut.now c.least_orphan_of.result c.self.invariant.0 c.of.ensures c.self.view_is (rw c.deref.ensures.value at c.least_orphan_of.ensures.orphan)
 
 pub returns-clause-least : goal.returns-clause-least
 returns-clause-least c = λ s p q m h keeps member o.
