@@ -1,15 +1,15 @@
 //! Live histories and positions after the first rows of a log.
 
-ghost use Rattle.std.specs.Prelude.{◌≡◌, ◌≤◌, ◌+◌, ℕ, List, length, take, IfOk};
+ghost use Rattle.std.specs.Prelude.{◌≡◌, ◌≤◌, ◌<◌, ◌+◌, ◌^◌, ◌++◌, ◌∷◌, [], ℕ, List, length, vec_len, take, IfOk, OnOk};
 ghost use Rattle.kt_spacetime.specs.declared.event.Event.{Event};
 ghost use Rattle.kt_cuts.specs.Past.{Past, past};
-ghost use Rattle.kt_cuts.specs.Legal.{IsLegal};
+ghost use Rattle.kt_cuts.specs.Legal.{IsLegal, is_undelivered};
 
 use crate::replay::Replay;
 use crate::tables::Message;
 use kt_base::{InstNo, Kind, Memory, MsgNo, ProcNo};
 use kt_cuts::{Deed, Trace};
-use kt_spacetime::SpaceTime;
+use kt_spacetime::{Event, SpaceTime};
 use std::alloc::Global;
 
 /// The live histories and positions after the first rows of a legal log.
@@ -35,6 +35,44 @@ impl Histories {
             replay.add(row)?;
         }
         Ok(Histories { replay })
+    }
+
+    /// One more row, which breaks no rule of a legal log. At an error they stand for nothing.
+    pub fn add(&mut self, row: &Event) -> Result<(), Memory>
+        requires few { vec_len self.old.replay.messages < 2 ^ 24 }
+        ensures { OnOk result ((rows : List Event) → HistoriesOf self.old rows → IsLegal (rows ++ row.now ∷ [])
+            → HistoriesOf self.new (rows ++ row.now ∷ [])) }
+    {
+        self.replay.add(row)
+    }
+
+    /// Whether a process is up.
+    pub fn is_up(&self, p: ProcNo) -> bool
+        ensures { (rows : List Event) → HistoriesOf self.now rows → result ≡ (past rows).up p }
+    {
+        self.replay.process(p).up
+    }
+
+    /// The open instance that a process is in; None where it is in none.
+    pub fn open_in(&self, p: ProcNo) -> Option<InstNo>
+        ensures { (rows : List Event) → HistoriesOf self.now rows → result ≡ (past rows).open_in p }
+    {
+        self.replay.process(p).open_in
+    }
+
+    /// Whether a message was sent to a process by this sender and is live, and neither received, as the live history has it,
+    /// nor dropped.
+    pub fn is_undelivered(&self, p: ProcNo, from: ProcNo, msg: MsgNo) -> bool
+        ensures { (rows : List Event) → HistoriesOf self.now rows → result ≡ is_undelivered (past rows) p from msg }
+    {
+        self.replay.is_undelivered(p, from, msg)
+    }
+
+    /// Whether an instance was committed; None where it is not decided.
+    pub fn decision(&self, inst: InstNo) -> Option<bool>
+        ensures { (rows : List Event) → HistoriesOf self.now rows → result ≡ (past rows).decision inst }
+    {
+        self.replay.instance(inst)?.decision
     }
 
     /// The length of a process's live history.

@@ -62,7 +62,8 @@ impl Replay {
         }
     }
 
-    fn is_undelivered(&self, p: ProcNo, from: ProcNo, msg: MsgNo) -> bool
+    /// Whether a message from one process to another is live, not in its receiver's live history, and was not dropped.
+    pub(crate) fn is_undelivered(&self, p: ProcNo, from: ProcNo, msg: MsgNo) -> bool
         ensures { (s : Past) → ShowsPast self.now s → result ≡ is_undelivered s p from msg }
     {
         let Some(message) = self.message(msg) else {
