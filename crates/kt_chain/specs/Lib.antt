@@ -1,3 +1,4 @@
 pub mod Spelling
 pub mod Texts
 pub mod Reading
+pub mod FaultTexts

@@ -7,3 +7,4 @@ pub mod Spelling
 pub mod Texts
 pub mod Reading
 pub mod Progress
+pub mod FaultTexts

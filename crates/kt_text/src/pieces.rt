@@ -29,7 +29,18 @@ pub fn write_rest<W: Write>(text: &mut Vec<u8>, writer: &mut W) -> Result<(), Wr
     ensures stopped { OnErr result (WritesFront (W.contents writer.old) (W.contents writer.new)
         text.old.items) }
 {
-    write_piece(text, writer)?;
+    write_whole(text.as_slice(), writer)?;
+    text.clear();
+    Ok(())
+}
+
+/// Writes a text, and flushes the writer; at a fault, a front part of it is written.
+pub fn write_whole<W: Write>(text: &[u8], writer: &mut W) -> Result<(), WriteFault>
+    ensures written { OnOk result (Appends (W.contents writer.old) (W.contents writer.new) text.now) }
+    ensures stopped { OnErr result (WritesFront (W.contents writer.old) (W.contents writer.new)
+        text.now) }
+{
+    write_bytes(text, writer)?;
     match writer.flush() {
         Ok(()) => Ok(()),
         Err(_) => Err(WriteFault::Write),
