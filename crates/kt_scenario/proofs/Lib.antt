@@ -5,3 +5,5 @@ pub mod LineLaws
 pub mod SayingFacts
 pub mod StepFacts
 pub mod Meanings
+pub mod SendingFacts
+pub mod WrittenFacts

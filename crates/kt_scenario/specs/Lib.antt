@@ -5,3 +5,5 @@ pub mod Said
 pub mod Scenario
 pub mod Steps
 pub mod Draft
+pub mod FaultTexts
+pub mod Written

@@ -1,12 +1,14 @@
 //! Laws of the two texts; there is nothing to run.
 
-ghost use Rattle.std.specs.Prelude.{◌≡◌, ℕ, List};
+ghost use Rattle.std.specs.Prelude.{◌≡◌, ◌≤◌, ℕ, List, All, length};
 ghost use Rattle.kt_plan.specs.declared.steps.Step.{Step as steps};
 ghost use Rattle.kt_plan.specs.Limits.{Planned, IsPlan};
+ghost use Rattle.kt_plan.specs.Names.{AreNames};
 ghost use Rattle.kt_scenario.specs.declared.fault.ScenarioFault.{ScenarioFault as scenario_faults};
 ghost use Rattle.kt_scenario.specs.declared.fault.StepsFault.{StepsFault as steps_faults};
 ghost use Rattle.kt_scenario.specs.Scenario.{IsScenario, IsFirstFault};
-ghost use Rattle.kt_scenario.specs.Steps.{AreSteps, IsFirstStepFault};
+ghost use Rattle.kt_scenario.specs.Steps.{AreSteps, IsFirstStepFault, most_steps};
+ghost use Rattle.kt_scenario.specs.Written.{IsStepOf, steps_text};
 
 /// A text says one plan at most, or it has one first fault; never both. Each plan that is said keeps to the limits.
 pub fn scenarios_mean_one_plan()
@@ -21,4 +23,10 @@ pub fn texts_mean_one_list()
     ensures one_list { (names : List (List ℕ)) (text : List ℕ) (list other : List steps) → AreSteps names text list → AreSteps names text other → list ≡ other }
     ensures no_list { (names : List (List ℕ)) (text : List ℕ) (list : List steps) (fault : steps_faults) → IsFirstStepFault names text fault → AreSteps names text list → ⊥ }
     ensures one_fault { (names : List (List ℕ)) (text : List ℕ) (fault other : steps_faults) → IsFirstStepFault names text fault → IsFirstStepFault names text other → fault ≡ other }
+{}
+
+/// Steps that were written are read back: their text says them, where there are no more than a text of steps may have.
+pub fn steps_are_read_back()
+    ensures { (names : List (List ℕ)) (list : List steps) → AreNames names → All (IsStepOf (length names)) list →
+        length list ≤ most_steps → AreSteps names (steps_text names list) list }
 {}

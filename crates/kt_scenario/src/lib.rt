@@ -1,4 +1,4 @@
-//! The two texts that go into a run: scenarios and steps.
+//! The two texts that go into a run, scenarios and steps; steps are written too.
 #![tactic(auto)]
 
 mod draft;
@@ -7,8 +7,10 @@ mod laws;
 mod scenario;
 mod steps;
 mod words;
+mod writing;
 
 pub use fault::{ScenarioFault, StepsFault};
-pub use laws::{scenarios_mean_one_plan, texts_mean_one_list};
+pub use laws::{scenarios_mean_one_plan, steps_are_read_back, texts_mean_one_list};
 pub use scenario::parse;
 pub use steps::parse_steps;
+pub use writing::write_steps;
