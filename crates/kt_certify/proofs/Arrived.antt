@@ -13,23 +13,25 @@ use Rattle.kt_cuts.proofs.Lists.{get_drop, get_take, get_in_take, deed_place, ha
 use Rattle.kt_cuts.proofs.OrphanFacts.{get_from_drop}
 use Rattle.kt_walk.specs.declared.queue.Arrival.{Arrival}
 use Rattle.kt_walk.specs.Arrivals.{ReceivedParts, ShowsReceived}
-use Rattle.kt_certify.specs.Linking.{links, least_link, least_to}
+use Rattle.std.specs.Prelude.{find}
+use Rattle.std.specs.List.{range_with_len}
+use Rattle.kt_certify.specs.Linking.{links, least_link}
 use Rattle.kt_walk.specs.Searching.{IsFoundPast}
 use Rattle.kt_certify.proofs.Search.{least_is, least_found}
 use Rattle.kt_certify.proofs.Links.{link_numbered}
 
 -- a search that must find this, and one that must find nothing
-least_by : (test : ℕ → Bool) (bound m : ℕ) → test m ≡ true → 1 ≤ m → m ≤ bound → ((j : ℕ) → test j ≡ true → m ≤ j) → least_to test bound ≡ Some m
+least_by : (test : ℕ → Bool) (bound m : ℕ) → test m ≡ true → 1 ≤ m → m ≤ bound → ((j : ℕ) → test j ≡ true → m ≤ j) → find test (range_with_len 1 bound) ≡ Some m
 least_by test bound m passes low high least = least_found test bound m (record { low = low; high = high; passes = passes; first = λ j one less. fails j (test j) refl less })
   where
     fails : (j : ℕ) (b : Bool) → test j ≡ b → j < m → test j ≡ false
     fails j false e less = e
     fails j true e less = absurd (omega (arith, less, least j e))
 
-none_by : (test : ℕ → Bool) (bound : ℕ) → ((j : ℕ) → test j ≡ true → ⊥) → least_to test bound ≡ None
-none_by test bound never = from (least_to test bound) refl
+none_by : (test : ℕ → Bool) (bound : ℕ) → ((j : ℕ) → test j ≡ true → ⊥) → find test (range_with_len 1 bound) ≡ None
+none_by test bound never = from (find test (range_with_len 1 bound)) refl
   where
-    from : (o : Option ℕ) → least_to test bound ≡ o → least_to test bound ≡ None
+    from : (o : Option ℕ) → find test (range_with_len 1 bound) ≡ o → find test (range_with_len 1 bound) ≡ None
     from None e = e
     from (Some m) e = absurd (never m (least_is test bound m e).passes)
 

@@ -19,11 +19,11 @@ use Rattle.kt_cuts.proofs.SortedFacts.{some_same}
 use Rattle.kt_cuts.proofs.Traced.{next_unbroken}
 use Rattle.kt_chain.specs.declared.certificate.Certificate.{Certificate}
 use Rattle.kt_certify.specs.Linking.{chained}
-use Rattle.kt_certify.specs.Certificates.{certified, certified_by, decision_in, certificate_of, certificates}
+use Rattle.kt_certify.specs.Certificates.{certified, decision_in, certificate_of, certificates}
 use Rattle.kt_certify.specs.Decisions.{IsOfDecision}
 use Rattle.kt_certify.specs.Faults.{HasNoChain}
 use Rattle.kt_certify.proofs.Chained.{process, processes_are}
-use Rattle.kt_certify.proofs.Decisions.{IsCertificate, certificate_is}
+use Rattle.kt_certify.proofs.Decisions.{certified_by, IsCertificate, certificate_is}
 use Rattle.kt_certify.proofs.Pushed.{decision_known}
 use Rattle.kt_certify.proofs.Listed.{item_is, item_of, items_rise}
 use Rattle.kt_certify.proofs.Unlinked.{kind_known, initiator_known}

@@ -1,5 +1,7 @@
 -- The row that decides an instance, and the certificate that it makes.
 use Rattle.std.proofs.Common.{◌≡◌, ℕ, suc, ◌==◌, if◌then◌else◌, Bool, true, false, Option, Some, None, option_map, List, [], ◌∷◌, take, refl, ap, subst, arith}
+use Rattle.std.specs.Prelude.{option_and_then}
+use Rattle.std.specs.Option.{option_or}
 use Rattle.std.specs.List.{slice_get}
 use Rattle.std.proofs.lemmas.Bool.Decides.{nat_tests}
 use Rattle.kt_spacetime.specs.declared.event.Event.{Event}
@@ -8,7 +10,15 @@ use Rattle.kt_cuts.specs.Past.{Beginning, past, beginning_of}
 use Rattle.kt_cuts.specs.Chains.{members}
 use Rattle.kt_cuts.proofs.SortedFacts.{some_same}
 use Rattle.kt_chain.specs.declared.certificate.Certificate.{Certificate}
-use Rattle.kt_certify.specs.Certificates.{certified, decision_by, first_decision, decision_in, certified_by, certificate_of}
+use Rattle.kt_certify.specs.Certificates.{certified, certified_after, decision_by, decision_in, certificate_of}
+
+-- a decision by the first row, or one by a later row, with how many rows come before it
+abbrev pub first_decision : Option Bool → Option (ℕ × Bool) → Option (ℕ × Bool)
+first_decision v later = option_or (option_map (λ commit. (0, commit)) v) (option_map (λ d. (suc d.0, d.1)) later)
+
+-- the certificate by such a decision
+abbrev pub certified_by : List Event → ℕ → Option (ℕ × Bool) → Option Certificate
+certified_by log k o = option_and_then (λ d. certified_after (take d.0 log) k d.1) o
 
 pub deciding_row : (k : ℕ) (row : Event) (commit : Bool) → decision_by k row ≡ Some commit → (p : ℕ) × (row ≡ Decided p k commit)
 deciding_row k (Decided p j c) commit e = at_test (j == k) refl e

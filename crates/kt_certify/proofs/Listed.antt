@@ -1,6 +1,6 @@
 -- The items of a list by number.
-use Rattle.std.proofs.Common.{◌≡◌, ℕ, zero, suc, ◌<◌, ◌≤◌, Option, Some, None, List, [], ◌∷◌, ◌++◌, length, refl, sym, ap, ◌∙◌, arith, inl, inr}
-use Rattle.std.specs.List.{slice_get, filter_map, cons_option}
+use Rattle.std.proofs.Common.{◌≡◌, ℕ, zero, suc, ◌+◌, ◌<◌, ◌≤◌, Option, Some, None, List, [], ◌∷◌, ◌++◌, length, refl, sym, ap, ◌∙◌, arith, inl, inr}
+use Rattle.std.specs.List.{slice_get, filter_map, cons_option, range_with_len}
 use Rattle.std.proofs.lemmas.Bool.{cases_eq}
 use Rattle.std.proofs.lemmas.List.Elements.{filter_map-append}
 use Rattle.std.proofs.lemmas.List.{append-nil}
@@ -8,14 +8,18 @@ use Rattle.std.proofs.lemmas.Option.{slice_get_within}
 use Rattle.kt_cuts.proofs.Lists.{get_kept}
 use Rattle.kt_cuts.proofs.Items.{get_push}
 use Rattle.kt_cuts.proofs.Lists.{get_last}
-use Rattle.kt_certify.specs.Certificates.{numbers_to}
 
 -- the items that a function gives for the numbers to a bound
 abbrev pub by_number : {X : Type 0} → (ℕ → Option X) → ℕ → List X
-by_number f n = filter_map f (numbers_to n)
+by_number f n = filter_map f (range_with_len 1 n)
+
+-- one more number
+pub numbers_more : (a n j : ℕ) → a + n ≡ j → range_with_len a (suc n) ≡ range_with_len a n ++ j ∷ []
+numbers_more a zero j e = let same : a ≡ j = omega (arith, e) in ap (λ (k : ℕ). k ∷ []) same
+numbers_more a (suc n) j e = ap (λ (l : List ℕ). a ∷ l) (numbers_more (a + 1) n j (omega (arith, e)))
 
 next : {X : Type 0} (f : ℕ → Option X) (n : ℕ) → by_number f (suc n) ≡ by_number f n ++ cons_option (f (suc n)) []
-next f n = filter_map-append f (numbers_to n) (suc n ∷ [])
+next f n = ap (filter_map f) (numbers_more 1 n (suc n) (omega arith)) ∙ filter_map-append f (range_with_len 1 n) (suc n ∷ [])
 
 -- where an item comes from: an earlier number, or the last one
 pub data Comes {X : Type 0} (f : ℕ → Option X) (n i : ℕ) (x : X) : Type 0 where

@@ -17,7 +17,9 @@ use Rattle.kt_cuts.proofs.Items.{take_item, item_there, get_left}
 use Rattle.kt_cuts.proofs.Lists.{get_last}
 use Rattle.kt_cuts.proofs.LegalLogs.{past_push, legal_push}
 use Rattle.kt_cuts.proofs.RowRules.{may_take, may_get_ready}
-use Rattle.kt_certify.specs.Certificates.{certificate_of, numbers_to, certificates}
+use Rattle.std.specs.List.{range_with_len}
+use Rattle.kt_certify.specs.Certificates.{certificate_of, certificates}
+use Rattle.kt_certify.proofs.Listed.{numbers_more}
 use Rattle.kt_certify.specs.Instances.{InstanceParts, new_instance, instances_after, AreInstancesOf, beginning_kept, joined_kept, certificate_kept}
 use Rattle.kt_certify.proofs.Pushed.{certificate_stays}
 use Rattle.kt_certify.proofs.Entered.{members_stay, quiet, joining, deciding, beginning_there}
@@ -103,7 +105,7 @@ step log (Failed p) es s l unbroken known h = quiet log (Failed p) es (begun_sam
 step log (Refused p verb cause) es s l unbroken known h = quiet log (Refused p verb cause) es (begun_same log (Refused p verb cause) refl) (λ k. refl) (λ k. refl) h
 
 -- the certificates of the first instances
-by_entry : (log : List Event) (es : List InstanceParts) → ((k : ℕ) → certificate_kept (at_number es k) ≡ certificate_of log k) → (n : ℕ) → n ≤ length es → filter_map (λ e. e.certificate) (take n es) ≡ filter_map (certificate_of log) (numbers_to n)
+by_entry : (log : List Event) (es : List InstanceParts) → ((k : ℕ) → certificate_kept (at_number es k) ≡ certificate_of log k) → (n : ℕ) → n ≤ length es → filter_map (λ e. e.certificate) (take n es) ≡ filter_map (certificate_of log) (range_with_len 1 n)
 by_entry log es made zero low = refl
 by_entry log es made (suc n) low =
     let item = item_there es n (omega (arith, low)) in
@@ -113,10 +115,10 @@ by_entry log es made (suc n) low =
     ap (filter_map (λ e. e.certificate)) more
     ∙ (filter_map-append (λ e. e.certificate) (take n es) (item.0 ∷ [])
     ∙ ((λ i. by_entry log es made n (omega (arith, low)) i ++ cons_option (here i) [])
-    ∙ sym (filter_map-append (certificate_of log) (numbers_to n) (suc n ∷ []))))
+    ∙ sym (ap (filter_map (certificate_of log)) (numbers_more 1 n (suc n) (omega arith)) ∙ filter_map-append (certificate_of log) (range_with_len 1 n) (suc n ∷ []))))
 
 pub listed_of : (log : List Event) (es : List InstanceParts) → AreInstancesOf log es → filter_map (λ e. e.certificate) es ≡ certificates log
 listed_of log es h =
     let count : length (past log).begun ≡ length es = sym (ap length h.begun) ∙ length-map es beginning_kept in
     ap (filter_map (λ e. e.certificate)) (sym (take-length es))
-    ∙ (by_entry log es h.certificates (length es) (omega arith) ∙ ap (λ (n : ℕ). filter_map (certificate_of log) (numbers_to n)) (sym count))
+    ∙ (by_entry log es h.certificates (length es) (omega arith) ∙ ap (λ (n : ℕ). filter_map (certificate_of log) (range_with_len 1 n)) (sym count))

@@ -12,8 +12,8 @@ use Rattle.kt_cuts.specs.Legal.{IsLegal, broken_rule}
 use Rattle.kt_cuts.proofs.Items.{get_push}
 use Rattle.kt_cuts.proofs.LegalLogs.{past_push, legal_last, legal_log_induction}
 use Rattle.kt_cuts.proofs.RowRules.{may_decide}
-use Rattle.kt_certify.specs.Certificates.{certified_after, decision_by, first_decision, decision_in, certified_by, certificate_of}
-use Rattle.kt_certify.proofs.Decisions.{decision_is, decision_of_row}
+use Rattle.kt_certify.specs.Certificates.{certified_after, decision_by, decision_in, certificate_of}
+use Rattle.kt_certify.proofs.Decisions.{first_decision, certified_by, decision_is, decision_of_row}
 
 pub decision_stays : (k : ℕ) (log : List Event) (row : Event) (d : ℕ × Bool) → decision_in k log ≡ Some d → decision_in k (log ++ row ∷ []) ≡ Some d
 decision_stays k [] row d e = absurd (cc)

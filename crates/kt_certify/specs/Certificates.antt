@@ -1,6 +1,7 @@
 -- The certificates of a log.
-use Rattle.std.specs.Prelude.{ℕ, zero, suc, ◌==◌, if◌then◌else◌, Bool, Option, Some, None, option_map, List, [], ◌∷◌, ◌++◌, length, take}
-use Rattle.std.specs.List.{filter_map}
+use Rattle.std.specs.Prelude.{ℕ, suc, ◌==◌, if◌then◌else◌, Bool, Option, Some, None, option_map, option_and_then, List, [], ◌∷◌, length, take}
+use Rattle.std.specs.Option.{option_or}
+use Rattle.std.specs.List.{filter_map, range_with_len}
 use Rattle.kt_spacetime.specs.declared.event.Event.{Event}
 use Rattle.kt_spacetime.specs.declared.event.Event.TheVariants.{Decided}
 use Rattle.kt_cuts.specs.Past.{Past, Beginning, past, beginning_of}
@@ -28,29 +29,16 @@ abbrev pub decision_by : ℕ → Event → Option Bool
 decision_by k (Decided p j commit) = if j == k then Some commit else None
 decision_by k _ = None
 
--- a decision by the first row, or one by a later row, with how many rows come before it
-abbrev pub first_decision : Option Bool → Option (ℕ × Bool) → Option (ℕ × Bool)
-first_decision (Some commit) later = Some (0, commit)
-first_decision None later = option_map (λ d. (suc d.0, d.1)) later
-
--- how many rows come before the one that decides an instance, and whether that commits
+-- how many rows come before the first one that decides an instance, and whether that commits
 abbrev pub decision_in : ℕ → List Event → Option (ℕ × Bool)
 decision_in k [] = None
-decision_in k (row ∷ rows) = first_decision (decision_by k row) (decision_in k rows)
-
-abbrev pub certified_by : List Event → ℕ → Option (ℕ × Bool) → Option Certificate
-certified_by log k None = None
-certified_by log k (Some d) = certified_after (take d.0 log) k d.1
+decision_in k (row ∷ rows) =
+    option_or (option_map (λ commit. (0, commit)) (decision_by k row)) (option_map (λ d. (suc d.0, d.1)) (decision_in k rows))
 
 -- the certificate of an instance, where a row decides it
 abbrev pub certificate_of : List Event → ℕ → Option Certificate
-certificate_of log k = certified_by log k (decision_in k log)
-
--- the numbers from 1 to this one
-abbrev pub numbers_to : ℕ → List ℕ
-numbers_to zero = []
-numbers_to (suc n) = numbers_to n ++ suc n ∷ []
+certificate_of log k = option_and_then (λ d. certified_after (take d.0 log) k d.1) (decision_in k log)
 
 -- one for each decided instance, by rising number
 abbrev pub certificates : List Event → List Certificate
-certificates log = filter_map (certificate_of log) (numbers_to (length (past log).begun))
+certificates log = filter_map (certificate_of log) (range_with_len 1 (length (past log).begun))

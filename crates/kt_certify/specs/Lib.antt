@@ -9,3 +9,4 @@ pub mod Instances
 pub mod Stops
 pub mod PassOf
 pub mod Streamed
+pub mod FaultTexts

@@ -1,22 +1,12 @@
 -- The messages that link a member of an instance with an earlier one, and the chains that they make.
-use Rattle.std.specs.Prelude.{ℕ, zero, suc, ◌==◌, ◌&&◌, if◌then◌else◌, Bool, true, false, Option, Some, None, is_some, unwrap_or, List, [], ◌∷◌, ◌++◌, fold}
+use Rattle.std.specs.Prelude.{ℕ, ◌==◌, ◌&&◌, if◌then◌else◌, Bool, Option, Some, None, is_some, unwrap_or, find, List, [], ◌∷◌, ◌++◌, fold}
+use Rattle.std.specs.List.{range_with_len}
 use Rattle.kt_base.specs.declared.words.Kind.{Kind}
 use Rattle.kt_base.specs.declared.words.Kind.TheVariants.{Checkpoint, Rollback}
 use Rattle.kt_cuts.specs.declared.deeds.Deed.TheVariants as deed
 use Rattle.kt_cuts.specs.Past.{Past}
 use Rattle.kt_cuts.specs.Legal.{has_deed}
 use Rattle.kt_cuts.specs.Chains.{is_sent_past, is_received_within}
-
--- what was found, or else this number if it passes
-abbrev pub found_or : Option ℕ → Bool → ℕ → Option ℕ
-found_or (Some m) passes n = Some m
-found_or None true n = Some n
-found_or None false n = None
-
--- the least number, from 1 to a bound, that passes a test
-abbrev pub least_to : (ℕ → Bool) → ℕ → Option ℕ
-least_to test zero = None
-least_to test (suc n) = found_or (least_to test n) (test (suc n)) (suc n)
 
 -- whether a message links a process, p, with a member that joined before it, q: in a checkpoint p sent it past its
 -- permanent position and q received it within its new one, in a rollback q sent it past its permanent position and p has
@@ -25,9 +15,9 @@ abbrev pub links : Past → ℕ → Kind → ℕ → ℕ → ℕ → Bool
 links s k Checkpoint p q msg = is_sent_past s p q msg && (is_some (s.new k q) && is_received_within s k q p msg)
 links s k Rollback p q msg = is_sent_past s q p msg && has_deed (deed.Received msg q) (s.live p)
 
--- the least-numbered message that does; messages have the numbers of rows
+-- the least-numbered message that does; messages have the numbers of rows, from 1
 abbrev pub least_link : Past → ℕ → Kind → ℕ → ℕ → Option ℕ
-least_link s k kind p q = least_to (links s k kind p q) s.rows
+least_link s k kind p q = find (links s k kind p q) (range_with_len 1 s.rows)
 
 -- a chain and the message that leads on from its end, if there is one; or else another chain
 abbrev pub led_on : List ℕ → Option ℕ → Option (List ℕ) → Option (List ℕ)

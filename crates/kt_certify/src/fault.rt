@@ -6,6 +6,7 @@ ghost use Rattle.kt_certify.specs.Faults.{of_unfit};
 use kt_base::{InstNo, Memory, ProcNo, RowNo};
 use kt_cuts::Rule;
 use kt_log_text::LogFault;
+use std::fmt;
 use thiserror::Error;
 
 /// Why a log was not certified.
@@ -23,16 +24,33 @@ pub enum CertFault {
 }
 
 /// Why a log has no certificates.
-#[derive(Clone, Copy, Debug, PartialEq, Eq, Hash, Error)]
+#[derive(Clone, Copy, Debug, PartialEq, Eq, Hash)]
 pub enum Unfit {
     /// This row is the first that breaks a rule, and this the least rule that it breaks.
-    #[error("no row {0} BadLog {1}")]
     BadLog(RowNo, Rule),
     /// This row is the first that commits an instance with a member, other than the initiator, that no message links with
     /// an earlier one, and this the first such member.
-    #[error("no instance {0} row {1} process {2} NoChain")]
     NoChain(InstNo, RowNo, ProcNo),
 }
+
+impl fmt::Display for Unfit {
+    ghost use Rattle.std.specs.Prelude.{Some};
+    ghost use Rattle.kt_certify.specs.FaultTexts.{unfit_text};
+
+    ghost output = { λ why. Some (unfit_text why) };
+
+    fn fmt<W: fmt::Write>(&self, f: &mut fmt::Formatter<W>) -> fmt::Result {
+        match self {
+            Unfit::BadLog(row, rule) => write!(f, "no row {row} BadLog {rule}"),
+            Unfit::NoChain(inst, row, process) => write!(
+                f,
+                "no instance {inst} row {row} process {process} NoChain"
+            ),
+        }
+    }
+}
+
+impl std::error::Error for Unfit {}
 
 /// Why a stored log was not certified.
 #[derive(Clone, Copy, Debug, PartialEq, Eq, Hash, Error)]
