@@ -1,6 +1,6 @@
 -- What each step of a plan puts and takes is counted, so a run with few rows has few steps.
 use Rattle.std.proofs.Common.{◌≡◌, ℕ, ℤ, ◌+◌, ◌<◌, Bool, true, false, List, [], ◌∷◌, refl, arith}
-use Rattle.std.specs.Prelude.{◌==◌, ◌&&◌, ◌||◌, not, nat_lt, if◌then◌else◌}
+use Rattle.std.specs.Prelude.{◌==◌, ◌&&◌, ◌||◌, not, nat_lt, if◌then◌else◌, unwrap_or}
 use Rattle.kt_spacetime.specs.declared.event.Event.TheVariants.{Sent, Began, Failed, Refused}
 use Rattle.kt_base.specs.declared.words.Verb.{Verb}
 use Rattle.kt_base.specs.declared.words.Verb.TheVariants as verb
@@ -22,7 +22,7 @@ use Rattle.kt_protocol.specs.States.{State, is_ready, can_take}
 use Rattle.kt_protocol.specs.States as machine
 use Rattle.kt_plan.specs.declared.commands.Job.{Job}
 use Rattle.kt_plan.specs.declared.steps.Give.{Give}
-use Rattle.kt_plans.specs.Steps.{body_sent, protocol_step}
+use Rattle.kt_plans.specs.Steps.{protocol_step}
 use Rattle.kt_plan.specs.declared.commands.Job.TheVariants as job
 use Rattle.kt_plans.proofs.Totals.{length_push, under_way_with_parcel}
 use Rattle.kt_plans.proofs.StateFacts.{StateFacts}
@@ -73,7 +73,7 @@ sending_accounted n k s p q body = let l = length_push s.log (Sent p q body) in 
 pub job_accounted : (n k : ℕ) (s : State) (p : ℕ) (j : Job) (give : Give) → s.processes ≡ n → s.instances + 1 < k → Accounted n k 0 1 s (late_step s (protocol_step p j give))
 job_accounted n k s p (job.Send q body) give b h = at_if (Accounted n k 0 1 s) ((nat_lt p s.processes && nat_lt q s.processes) && (s.so_far.open_in p == 0 && not (q == p))) _ _
     (λ _. at_if (Accounted n k 0 1 s) (s.up p) _ _
-    (λ _. sending_accounted n k s p q (body_sent body give.body)) (λ _. refusal_accounted n k s p verb.Send Down))
+    (λ _. sending_accounted n k s p q (unwrap_or body give.body)) (λ _. refusal_accounted n k s p verb.Send Down))
     (λ _. enough n k 0 0 0 1 s s (omega arith) (omega arith) (accounted_same n k s))
 job_accounted n k s p job.Checkpoint give b h = at_if (Accounted n k 0 1 s) (s.so_far.open_in p == 0) _ _
     (λ _. at_if (Accounted n k 0 1 s) (give.able && s.up p) _ _ (λ _. beginning_accounted n k s p false b h) (λ _. refusal_accounted n k s p verb.Checkpoint (unable_cause (s.up p))))

@@ -89,7 +89,7 @@ telling plan first g x give k e = record {
   state = m.state;
   by = m.by;
   keeps = m.keeps;
-  same = after_same plan first g x give k e;
+  same = after_same plan first g x give k;
   grows = ap (λ (s : State). s.log) m.state ∙ (a.log ∙ ap (λ (l : List Event). g.state.log ++ l) (sym rows_are));
   invariant = g_good;
   legal = g_legal;
@@ -110,7 +110,7 @@ telling plan first g x give k e = record {
     a = adds_step g.state m.step g_good
 
     rows_are : rows_added plan (world_of first g) x give ≡ a.rows
-    rows_are = ap (λ (w : Progress). drop (length g.state.log) w.now.log) (sym (after_same plan first g x give k e)) ∙ (ap (λ (s : State). drop (length g.state.log) s.log) m.state ∙ (ap (drop (length g.state.log)) a.log ∙ drop-append_seam g.state.log a.rows))
+    rows_are = ap (λ (w : Progress). drop (length g.state.log) w.now.log) (sym (after_same plan first g x give k)) ∙ (ap (λ (s : State). drop (length g.state.log) s.log) m.state ∙ (ap (drop (length g.state.log)) a.log ∙ drop-append_seam g.state.log a.rows))
 
 pub tells : (plan : Planned) (first : ℕ) (w : Progress) (x : Step) (give : Give) (P : Progress → Type 0) → IsPlan plan → RunReaches plan first w → enabled plan w x ≡ true →
     ((g : MachineProgress) → RunFacts plan g → Telling plan first g x give → P (world_of first g)) → P w

@@ -1,6 +1,7 @@
 -- Where nothing is enabled, the plan is at rest.
+use Rattle.std.specs.List.{list_any}
 use Rattle.std.proofs.Common.{length, ◌≡◌, ℕ, ◌≤◌, ◌<◌, Bool, true, false, List, [], ◌∷◌, refl, arith, ap, subst, ◌∙◌, Some}
-use Rattle.std.specs.Prelude.{◌==◌, ◌&&◌, ◌||◌, not, nat_lt}
+use Rattle.std.specs.Prelude.{◌==◌, ◌&&◌, ◌||◌, not, nat_lt, slice_get, is_some}
 use Rattle.std.proofs.lemmas.Bool.Decides.{nat_tests}
 use Rattle.kt_closing.proofs.WholeSteps.{once_closed_rest}
 use Rattle.kt_closing.specs.OnceClosed.{once_closed}
@@ -13,7 +14,7 @@ use Rattle.kt_protocol.proofs.NeverStuck as stuck
 use Rattle.kt_plan.specs.declared.commands.Command.{Command}
 use Rattle.kt_plan.specs.declared.commands.Job.{Job}
 use Rattle.kt_plan.specs.Limits.{Planned}
-use Rattle.kt_plans.specs.Plans.{commands_of, first_command, has_command, has_phase, last_phase}
+use Rattle.kt_plans.specs.Plans.{commands_of, last_phase}
 use Rattle.kt_plans.proofs.MachineProgress.{MachineProgress, machine_commands_left, machine_is_phase_done, machine_is_quiet, machine_next_command}
 use Rattle.kt_plan.specs.declared.steps.Step.TheVariants.{Do, Take}
 use Rattle.kt_plan.specs.declared.steps.Step.{Step}
@@ -25,15 +26,15 @@ use Rattle.kt_plans.proofs.RunFacts.{RunFacts}
 use Rattle.kt_plans.proofs.StateFacts.{StateFacts, state_facts, can_take_same}
 
 -- the first that is left is of the open phase, where one of them is
-none_before : (n p k low : ℕ) (l : List Command) → k < low → Ordered n p low l → has_phase k l ≡ false
+none_before : (n p k low : ℕ) (l : List Command) → k < low → Ordered n p low l → list_any (λ (x : Command). x.phase == k) l ≡ false
 none_before n p k low [] h o = refl
-none_before n p k low (c ∷ cs) h o = go c.phase (has_phase k cs) o.2 (none_before n p k c.phase cs (let x = o.2 in omega (arith, h, x)) o.3)
+none_before n p k low (c ∷ cs) h o = go c.phase (list_any (λ (x : Command). x.phase == k) cs) o.2 (none_before n p k c.phase cs (let x = o.2 in omega (arith, h, x)) o.3)
   where
     go : (x : ℕ) (b : Bool) → low ≤ x → b ≡ false → (x == k || b) ≡ false
     go x b i e = grind (arith, nat_tests, h, i, e)
 
-pub first_in : (n p k : ℕ) (c : Command) (cs : List Command) → Ordered n p k (c ∷ cs) → has_phase k (c ∷ cs) ≡ true → (c.phase == k) ≡ true
-first_in n p k c cs o e = go c.phase (has_phase k cs) o.2 (λ h. none_before n p k c.phase cs h o.3) e
+pub first_in : (n p k : ℕ) (c : Command) (cs : List Command) → Ordered n p k (c ∷ cs) → list_any (λ (x : Command). x.phase == k) (c ∷ cs) ≡ true → (c.phase == k) ≡ true
+first_in n p k c cs o e = go c.phase (list_any (λ (x : Command). x.phase == k) cs) o.2 (λ h. none_before n p k c.phase cs h o.3) e
   where
     go : (x : ℕ) (b : Bool) → k ≤ x → (k < x → b ≡ false) → (x == k || b) ≡ true → (x == k) ≡ true
     go x true i f e = grind (arith, nat_tests, i, f, e)
@@ -53,10 +54,10 @@ second true b e f = f
 second false b e f = absurd (cc (e))
 
 -- closed, and something of the phase is left
-may_do_first : (plan : Planned) (g : MachineProgress) (p : ℕ) → Ordered (length plan.names) p g.phase (machine_commands_left plan g p) → g.state.so_far.open_in p ≡ 0 → has_phase g.phase (machine_commands_left plan g p) ≡ true → machine_enabled plan g (Do p) ≡ true
+may_do_first : (plan : Planned) (g : MachineProgress) (p : ℕ) → Ordered (length plan.names) p g.phase (machine_commands_left plan g p) → g.state.so_far.open_in p ≡ 0 → list_any (λ (x : Command). x.phase == g.phase) (machine_commands_left plan g p) ≡ true → machine_enabled plan g (Do p) ≡ true
 may_do_first plan g p o z h = go (machine_commands_left plan g p) o h
   where
-    go : (l : List Command) → Ordered (length plan.names) p g.phase l → has_phase g.phase l ≡ true → (nat_lt p (length plan.names) && machine_may_do g p (first_command l)) ≡ true
+    go : (l : List Command) → Ordered (length plan.names) p g.phase l → list_any (λ (x : Command). x.phase == g.phase) l ≡ true → (nat_lt p (length plan.names) && machine_may_do g p (slice_get l 0)) ≡ true
     go [] o h = absurd (cc (h))
     go (c ∷ cs) o h = both (nat_lt p (length plan.names)) (c.phase == g.phase && may_do_job (g.state.so_far.open_in p == 0) c.job) (low p (length plan.names) o.0)
         (both (c.phase == g.phase) (may_do_job (g.state.so_far.open_in p == 0) c.job) (first_in (length plan.names) p g.phase c cs o h) (starts_closed c.job (g.state.so_far.open_in p == 0) (zero_is (g.state.so_far.open_in p) z)))
@@ -102,7 +103,7 @@ pub record Rests (plan : Planned) (g : MachineProgress) : Type 0 where
 
 pub rests : (plan : Planned) (g : MachineProgress) → RunFacts plan g → ((x : Step) → machine_enabled plan g x ≡ false) → Rests plan g
 rests plan g k n = record {
-  flag = both (none_of (length plan.names) (λ p. has_command (machine_commands_left plan g p))) (machine_is_quiet (length plan.names) g.state) (none_of_if (length plan.names) (λ p. has_command (machine_commands_left plan g p)) (λ p _. none p)) quiet;
+  flag = both (none_of (length plan.names) (λ p. is_some (slice_get (machine_commands_left plan g p) 0))) (machine_is_quiet (length plan.names) g.state) (none_of_if (length plan.names) (λ p. is_some (slice_get (machine_commands_left plan g p) 0)) (λ p _. none p)) quiet;
   none_left = λ p. empty (machine_commands_left plan g p) (none p);
   machine = m;
 }
@@ -113,15 +114,15 @@ rests plan g k n = record {
     quiet : machine_is_quiet (length plan.names) g.state ≡ true
     quiet = quiet_at_rest (length plan.names) g.state m
 
-    unphased : (p : ℕ) → has_phase g.phase (machine_commands_left plan g p) ≡ false
-    unphased p = go (has_phase g.phase (machine_commands_left plan g p)) refl
+    unphased : (p : ℕ) → list_any (λ (x : Command). x.phase == g.phase) (machine_commands_left plan g p) ≡ false
+    unphased p = go (list_any (λ (x : Command). x.phase == g.phase) (machine_commands_left plan g p)) refl
       where
-        go : (b : Bool) → has_phase g.phase (machine_commands_left plan g p) ≡ b → has_phase g.phase (machine_commands_left plan g p) ≡ false
+        go : (b : Bool) → list_any (λ (x : Command). x.phase == g.phase) (machine_commands_left plan g p) ≡ b → list_any (λ (x : Command). x.phase == g.phase) (machine_commands_left plan g p) ≡ false
         go false e = e
         go true e = absurd (cc (may_do_first plan g p (k.ahead p) (m.closed p) e, n (Do p)))
 
     done : machine_is_phase_done plan g ≡ true
-    done = none_of_if (length plan.names) (λ p. has_phase g.phase (machine_commands_left plan g p)) (λ p _. unphased p)
+    done = none_of_if (length plan.names) (λ p. list_any (λ (x : Command). x.phase == g.phase) (machine_commands_left plan g p)) (λ p _. unphased p)
 
     no_later : last_phase plan.commands ≤ g.phase
     no_later = go g.phase (last_phase plan.commands) (second (machine_is_quiet (length plan.names) g.state) _ quiet (second (machine_is_phase_done plan g) _ done k.shut))
@@ -129,10 +130,10 @@ rests plan g k n = record {
         go : (x y : ℕ) → nat_lt x y ≡ false → y ≤ x
         go x y e = grind (arith, nat_tests, e)
 
-    none : (p : ℕ) → has_command (machine_commands_left plan g p) ≡ false
+    none : (p : ℕ) → is_some (slice_get (machine_commands_left plan g p) 0) ≡ false
     none p = none_left (length plan.names) p g.phase (last_phase plan.commands) (machine_commands_left plan g p) (k.ahead p) (up_to_drop (last_phase plan.commands) (g.done p) (commands_of p plan.commands) (up_to_of (last_phase plan.commands) p plan.commands (up_to_last plan.commands))) no_later (unphased p)
 
-    empty : (l : List Command) → has_command l ≡ false → l ≡ []
+    empty : (l : List Command) → is_some (slice_get l 0) ≡ false → l ≡ []
     empty [] e = refl
     empty (c ∷ cs) e = absurd (cc (e))
 
@@ -140,12 +141,12 @@ rests plan g k n = record {
 pub idle_at_rest : (plan : Planned) (g : MachineProgress) → machine_is_at_rest plan g ≡ true → (x : Step) → machine_enabled plan g x ≡ false
 idle_at_rest plan g r (Do p) = go (nat_lt p (length plan.names)) refl
   where
-    no_command : (l : List Command) → has_command l ≡ false → machine_may_do g p (first_command l) ≡ false
+    no_command : (l : List Command) → is_some (slice_get l 0) ≡ false → machine_may_do g p (slice_get l 0) ≡ false
     no_command [] e = refl
     no_command (c ∷ cs) e = absurd (cc (e))
 
-    none : nat_lt p (length plan.names) ≡ true → machine_may_do g p (first_command (machine_commands_left plan g p)) ≡ false
-    none b = no_command (machine_commands_left plan g p) (none_is (length plan.names) (λ p. has_command (machine_commands_left plan g p)) (front_of (none_of (length plan.names) (λ p. has_command (machine_commands_left plan g p))) _ r) p (low p (length plan.names) b))
+    none : nat_lt p (length plan.names) ≡ true → machine_may_do g p (slice_get (machine_commands_left plan g p) 0) ≡ false
+    none b = no_command (machine_commands_left plan g p) (none_is (length plan.names) (λ p. is_some (slice_get (machine_commands_left plan g p) 0)) (front_of (none_of (length plan.names) (λ p. is_some (slice_get (machine_commands_left plan g p) 0))) _ r) p (low p (length plan.names) b))
       where
         low : (a b : ℕ) → nat_lt a b ≡ true → a < b
         low a b h = grind (arith, nat_tests, h)
@@ -154,7 +155,7 @@ idle_at_rest plan g r (Do p) = go (nat_lt p (length plan.names)) refl
         front_of true b e = refl
         front_of false b e = absurd (cc (e))
 
-    go : (b : Bool) → nat_lt p (length plan.names) ≡ b → (b && machine_may_do g p (first_command (machine_commands_left plan g p))) ≡ false
+    go : (b : Bool) → nat_lt p (length plan.names) ≡ b → (b && machine_may_do g p (slice_get (machine_commands_left plan g p) 0)) ≡ false
     go true e = none e
     go false e = refl
 idle_at_rest plan g r (Take p q) = go (nat_lt p (length plan.names)) (nat_lt q (length plan.names)) refl refl
@@ -164,7 +165,7 @@ idle_at_rest plan g r (Take p q) = go (nat_lt p (length plan.names)) (nat_lt q (
     back_of false b e = absurd (cc (e))
 
     quiet : machine_is_quiet (length plan.names) g.state ≡ true
-    quiet = back_of (none_of (length plan.names) (λ p. has_command (machine_commands_left plan g p))) _ r
+    quiet = back_of (none_of (length plan.names) (λ p. is_some (slice_get (machine_commands_left plan g p) 0))) _ r
 
     low : (a b : ℕ) → nat_lt a b ≡ true → a < b
     low a b h = grind (arith, nat_tests, h)
@@ -195,20 +196,20 @@ pub attained : (plan : Planned) (g : MachineProgress) (p : ℕ) (c : Command) �
 attained plan g p c k quiet e = go (machine_is_phase_done plan g) refl
   where
     open_in : ℕ → Bool
-    open_in q = has_phase g.phase (machine_commands_left plan g q)
+    open_in q = list_any (λ (x : Command). x.phase == g.phase) (machine_commands_left plan g q)
 
-    found : (q : ℕ) → q < length plan.names → (cs : List Command) → machine_commands_left plan g q ≡ cs → has_phase g.phase cs ≡ true → (q : ℕ) × (d : Command) × (q < length plan.names) × (machine_next_command plan g q ≡ Some d) × (d.phase ≡ g.phase)
+    found : (q : ℕ) → q < length plan.names → (cs : List Command) → machine_commands_left plan g q ≡ cs → list_any (λ (x : Command). x.phase == g.phase) cs ≡ true → (q : ℕ) × (d : Command) × (q < length plan.names) × (machine_next_command plan g q ≡ Some d) × (d.phase ≡ g.phase)
     found q low [] is h = absurd (cc (h))
-    found q low (d ∷ ds) is h = (q, d, low, ap first_command is, (let t = first_in (length plan.names) q g.phase d ds (subst (λ (x : List Command). Ordered (length plan.names) q g.phase x) is (k.ahead q)) h in grind (arith, nat_tests, t)))
+    found q low (d ∷ ds) is h = (q, d, low, ap (λ (cs : List Command). slice_get cs 0) is, (let t = first_in (length plan.names) q g.phase d ds (subst (λ (x : List Command). Ordered (length plan.names) q g.phase x) is (k.ahead q)) h in grind (arith, nat_tests, t)))
 
-    low : (cs : List Command) → first_command cs ≡ Some c → Ordered (length plan.names) p g.phase cs → p < length plan.names
+    low : (cs : List Command) → slice_get cs 0 ≡ Some c → Ordered (length plan.names) p g.phase cs → p < length plan.names
     low [] f o = absurd (cc (f))
     low (x ∷ xs) f o = o.0
 
     late : (a b : ℕ) → nat_lt a b ≡ false → b ≤ a
     late a b h = grind (arith, nat_tests, h)
 
-    left : (cs : List Command) → first_command cs ≡ Some c → has_command cs ≡ false → ⊥
+    left : (cs : List Command) → slice_get cs 0 ≡ Some c → is_some (slice_get cs 0) ≡ false → ⊥
     left [] f h = cc (f)
     left (x ∷ xs) f h = cc (h)
 

@@ -5,7 +5,7 @@ use Rattle.kt_protocol.proofs.Choices.{same}
 use Rattle.kt_protocol.proofs.Updates.{is_same}
 use Rattle.kt_plans.specs.Order.{place_of_command}
 use Rattle.kt_plan.specs.declared.commands.Command.{Command}
-use Rattle.kt_plans.specs.Plans.{commands_of, first_command}
+use Rattle.kt_plans.specs.Plans.{commands_of}
 
 -- the command at i is the one of p after k others
 pub record IsAt (k p : ℕ) (l : List Command) (c : Command) (i : ℕ) : Type 0 where
@@ -20,17 +20,17 @@ later_other k p d l c i e h = record { there = h.there; mine = h.mine; rank = rw
 later_own : (k p : ℕ) (d : Command) (l : List Command) (c : Command) (i : ℕ) → (d.by == p) ≡ true → IsAt k p l c i → IsAt (suc k) p (d ∷ l) c (suc i)
 later_own k p d l c i e h = record { there = h.there; mine = h.mine; rank = rw e (ap suc h.rank); low = (let x = h.low in omega (arith, x)) }
 
-pub at_place : (k p : ℕ) (l : List Command) (c : Command) → first_command (drop k (commands_of p l)) ≡ Some c → IsAt k p l c (place_of_command k p l)
+pub at_place : (k p : ℕ) (l : List Command) (c : Command) → slice_get (drop k (commands_of p l)) 0 ≡ Some c → IsAt k p l c (place_of_command k p l)
 at_place zero p [] c e = absurd (cc (e))
 at_place (suc k) p [] c e = absurd (cc (e))
 at_place zero p (d ∷ l) c e = go (at_place zero p l c) (d.by == p) refl e
   where
-    go : (first_command (commands_of p l) ≡ Some c → IsAt zero p l c (place_of_command zero p l)) → (b : Bool) → (d.by == p) ≡ b → first_command (if b then d ∷ commands_of p l else commands_of p l) ≡ Some c → IsAt zero p (d ∷ l) c (if b then 0 else suc (place_of_command zero p l))
+    go : (slice_get (commands_of p l) 0 ≡ Some c → IsAt zero p l c (place_of_command zero p l)) → (b : Bool) → (d.by == p) ≡ b → slice_get (if b then d ∷ commands_of p l else commands_of p l) 0 ≡ Some c → IsAt zero p (d ∷ l) c (if b then 0 else suc (place_of_command zero p l))
     go r true i e = let x : d ≡ c = cc (e) in record { there = ap Some x; mine = rw (← x) (same d.by p i); rank = refl; low = omega arith }
     go r false i e = later_other zero p d l c (place_of_command zero p l) i (r e)
 at_place (suc k) p (d ∷ l) c e = go (at_place k p l c) (at_place (suc k) p l c) (d.by == p) refl e
   where
-    go : (first_command (drop k (commands_of p l)) ≡ Some c → IsAt k p l c (place_of_command k p l)) → (first_command (drop (suc k) (commands_of p l)) ≡ Some c → IsAt (suc k) p l c (place_of_command (suc k) p l)) → (b : Bool) → (d.by == p) ≡ b → first_command (drop (suc k) (if b then d ∷ commands_of p l else commands_of p l)) ≡ Some c → IsAt (suc k) p (d ∷ l) c (if b then suc (place_of_command k p l) else suc (place_of_command (suc k) p l))
+    go : (slice_get (drop k (commands_of p l)) 0 ≡ Some c → IsAt k p l c (place_of_command k p l)) → (slice_get (drop (suc k) (commands_of p l)) 0 ≡ Some c → IsAt (suc k) p l c (place_of_command (suc k) p l)) → (b : Bool) → (d.by == p) ≡ b → slice_get (drop (suc k) (if b then d ∷ commands_of p l else commands_of p l)) 0 ≡ Some c → IsAt (suc k) p (d ∷ l) c (if b then suc (place_of_command k p l) else suc (place_of_command (suc k) p l))
     go r t true i e = later_own k p d l c (place_of_command k p l) i (r e)
     go r t false i e = later_other (suc k) p d l c (place_of_command (suc k) p l) i (t e)
 
@@ -51,17 +51,17 @@ place_is (suc k) p (d ∷ l) c (suc i) e m r = go (place_is k p l c i e m) (plac
     go h t false x r = ap suc (t r)
 
 -- the command there is the first after k of p's
-pub place_get : (k p : ℕ) (l : List Command) → slice_get l (place_of_command k p l) ≡ first_command (drop k (commands_of p l))
+pub place_get : (k p : ℕ) (l : List Command) → slice_get l (place_of_command k p l) ≡ slice_get (drop k (commands_of p l)) 0
 place_get zero p [] = refl
 place_get (suc k) p [] = refl
 place_get zero p (d ∷ l) = go (place_get zero p l) (d.by == p)
   where
-    go : slice_get l (place_of_command zero p l) ≡ first_command (commands_of p l) → (b : Bool) → slice_get (d ∷ l) (if b then 0 else suc (place_of_command zero p l)) ≡ first_command (if b then d ∷ commands_of p l else commands_of p l)
+    go : slice_get l (place_of_command zero p l) ≡ slice_get (commands_of p l) 0 → (b : Bool) → slice_get (d ∷ l) (if b then 0 else suc (place_of_command zero p l)) ≡ slice_get (if b then d ∷ commands_of p l else commands_of p l) 0
     go r true = refl
     go r false = r
 place_get (suc k) p (d ∷ l) = go (place_get k p l) (place_get (suc k) p l) (d.by == p)
   where
-    go : slice_get l (place_of_command k p l) ≡ first_command (drop k (commands_of p l)) → slice_get l (place_of_command (suc k) p l) ≡ first_command (drop (suc k) (commands_of p l)) →
-        (b : Bool) → slice_get (d ∷ l) (if b then suc (place_of_command k p l) else suc (place_of_command (suc k) p l)) ≡ first_command (drop (suc k) (if b then d ∷ commands_of p l else commands_of p l))
+    go : slice_get l (place_of_command k p l) ≡ slice_get (drop k (commands_of p l)) 0 → slice_get l (place_of_command (suc k) p l) ≡ slice_get (drop (suc k) (commands_of p l)) 0 →
+        (b : Bool) → slice_get (d ∷ l) (if b then suc (place_of_command k p l) else suc (place_of_command (suc k) p l)) ≡ slice_get (drop (suc k) (if b then d ∷ commands_of p l else commands_of p l)) 0
     go r t true = r
     go r t false = t

@@ -32,7 +32,7 @@ none_among : (p : ℕ) (l : List Event) → has_command_row l ≡ false → comm
 none_among p [] e = refl
 none_among p (row ∷ l) e = let n = neither (is_command_row row) (has_command_row l) e in left_out (process_of row == p) (is_command_row row) row (command_rows p l) [] n.0 (none_among p l n.1)
 
-none_there : (l : List Event) (i : ℕ) (row : Event) → has_command_row l ≡ false → slice_get l i ≡ Some row → is_command_row row ≡ false
+pub none_there : (l : List Event) (i : ℕ) (row : Event) → has_command_row l ≡ false → slice_get l i ≡ Some row → is_command_row row ≡ false
 none_there [] i row n e = absurd (cc (e))
 none_there (x ∷ l) zero row n e = let s : x ≡ row = cc (e) in ap is_command_row (sym s) ∙ (neither (is_command_row x) (has_command_row l) n).0
 none_there (x ∷ l) (suc i) row n e = none_there l i row (neither (is_command_row x) (has_command_row l) n).1 e

@@ -96,9 +96,9 @@ default_first plan first w x y i r e b = (some_is plan w x e).first y b
 pub gives_same : (plan : Planned) (first : ℕ) (w : Progress) (x : Step) (a b : Give) → IsPlan plan → RunReaches plan first w → enabled plan w x ≡ true → (uses_able (look plan w x) ≡ true → a.able ≡ b.able) → (uses_body (look plan w x) ≡ true → a.body ≡ b.body) → progress_after plan w x a ≡ progress_after plan w x b
 gives_same plan first w x a b i r = carry plan first w (λ v. enabled plan v x ≡ true → (uses_able (look plan v x) ≡ true → a.able ≡ b.able) → (uses_body (look plan v x) ≡ true → a.body ≡ b.body) → progress_after plan v x a ≡ progress_after plan v x b) i r
     (λ g s e f h. let k = run_facts plan g s in
-    sym (after_same plan first g x a k (sym (enabled_same plan first g x) ∙ e)) ∙ (ap (world_of first) (plan_gives.gives_same plan g x a b (sym (enabled_same plan first g x) ∙ e)
+    sym (after_same plan first g x a k) ∙ (ap (world_of first) (plan_gives.gives_same plan g x a b (sym (enabled_same plan first g x) ∙ e)
     (λ u. f (ap uses_able (look_same plan first g x k) ∙ u)) (λ u. h (ap uses_body (look_same plan first g x k) ∙ u)))
-    ∙ after_same plan first g x b k (sym (enabled_same plan first g x) ∙ e)))
+    ∙ after_same plan first g x b k))
 
 -- a step that may be unwilling
 refuse_seen : (first : ℕ) (s : State) (p q k : ℕ) (able : Bool) (c : Cause) → protocol_refusals.MayBeUnwilling s p q k able c → MayRefuseToJoin s.so_far (seen first s) p q k able c
@@ -118,4 +118,4 @@ pub unwilling_seen : (plan : Planned) (first : ℕ) (w : Progress) (x : Step) (g
     slice_get (progress_after plan w x give).now.log t ≡ Some (Unwilling p k c) → length w.now.log ≤ t → IsUnwillingStep w x give t p k c
 unwilling_seen plan first w x give t p k c i r = carry plan first w (λ v. enabled plan v x ≡ true → slice_get (progress_after plan v x give).now.log t ≡ Some (Unwilling p k c) → length v.now.log ≤ t → IsUnwillingStep v x give t p k c) i r
     (λ g s b e l. let h = run_facts plan g s in unwilling_progress plan first g x give t p k c h
-    (unwilling plan g x give t p k c h (sym (enabled_same plan first g x) ∙ b) (ap (λ (v : Progress). slice_get v.now.log t) (after_same plan first g x give h (sym (enabled_same plan first g x) ∙ b)) ∙ e) l))
+    (unwilling plan g x give t p k c h (sym (enabled_same plan first g x) ∙ b) (ap (λ (v : Progress). slice_get v.now.log t) (after_same plan first g x give h) ∙ e) l))

@@ -1,6 +1,6 @@
 -- Restoring takes no more spares than there are commands to fail.
 use Rattle.std.proofs.Common.{length, ◌≡◌, ℕ, ℤ, suc, ◌+◌, ◌≤◌, Bool, true, false, List, [], ◌∷◌, ◌++◌, drop, refl, arith, sym, ap, inl, inr, ◌∙◌, Some, None, cond, zero-add}
-use Rattle.std.specs.Prelude.{◌==◌, ◌&&◌, nat_lt, if◌then◌else◌, Option}
+use Rattle.std.specs.Prelude.{◌==◌, ◌&&◌, nat_lt, if◌then◌else◌, Option, slice_get}
 use Rattle.std.proofs.lemmas.Bool.Decides.{nat_tests}
 use Rattle.kt_base.specs.declared.words.Cause.{Cause}
 use Rattle.kt_fifo.specs.declared.parcels.Parcel.{Parcel}
@@ -19,7 +19,7 @@ use Rattle.kt_values.proofs.Spares.{drops_more, balance}
 use Rattle.kt_plan.specs.Limits.{Planned, IsPlan}
 use Rattle.kt_plan.specs.declared.commands.Job.{Job}
 use Rattle.kt_plan.specs.declared.commands.Command.{Command}
-use Rattle.kt_plans.specs.Plans.{commands_of, first_command}
+use Rattle.kt_plans.specs.Plans.{commands_of}
 use Rattle.kt_plan.specs.declared.steps.Step.{Step}
 use Rattle.kt_plan.specs.declared.steps.Step.TheVariants.{Do, Take}
 use Rattle.kt_plan.specs.declared.steps.Give.{Give}
@@ -188,7 +188,7 @@ less_left : (plan : Planned) (w : Progress) (u p : ℕ) (c : Command) → next_c
 unfolding one
 less_left plan w u p c e = go (p == u) refl
   where
-    after : (l : List Command) → first_command l ≡ Some c → (cs : List Command) × (l ≡ c ∷ cs)
+    after : (l : List Command) → slice_get l 0 ≡ Some c → (cs : List Command) × (l ≡ c ∷ cs)
     after [] f = absurd (cc (f))
     after (x ∷ xs) f = (xs, (let y : x ≡ c = cc (f) in rw y refl))
 

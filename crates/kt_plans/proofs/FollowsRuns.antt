@@ -11,7 +11,7 @@ use Rattle.kt_plan.specs.declared.commands.Command.{Command}
 use Rattle.kt_plan.specs.declared.steps.Step.{Step}
 use Rattle.kt_plan.specs.declared.steps.Step.TheVariants.{Do, Take}
 use Rattle.kt_plan.specs.declared.steps.Give.{Give}
-use Rattle.kt_plans.specs.Plans.{commands_of, first_command}
+use Rattle.kt_plans.specs.Plans.{commands_of}
 use Rattle.kt_plans.specs.Progress.{Progress, commands_left, next_command, is_quiet, progress_at_start}
 use Rattle.kt_plans.specs.Steps.{enabled, progress_after, is_at_rest}
 use Rattle.kt_plans.specs.Runs.{RunReaches}
@@ -34,7 +34,7 @@ use Rattle.kt_plans.proofs.InstancesBegun.{run_facts}
 use Rattle.kt_plans.proofs.PhaseOrder.{Ordered, none_of_if}
 
 -- commands that are left
-first_left : (n : ℕ) (l : List Command) → first_command (drop n l) ≡ slice_get l n
+pub first_left : (n : ℕ) (l : List Command) → slice_get (drop n l) 0 ≡ slice_get l n
 first_left zero [] = refl
 first_left zero (c ∷ cs) = refl
 first_left (suc n) [] = refl
@@ -55,9 +55,9 @@ all_done (suc n) [] e = omega arith
 all_done (suc n) (c ∷ cs) e = let x = all_done n cs e in omega (arith, x)
 
 -- how far a run has come; and all is quiet as long as the open phase has no row
-record Follows (plan : Planned) (w : Progress) : Type 0 where
-  along : ComesAlong plan w.now.log w.done w.phase
-  quiet : ((n : ℕ) → phase_at plan w.now.log n ≢ Some w.phase) → is_quiet (length plan.names) w.now ≡ true
+pub record Follows (plan : Planned) (w : Progress) : Type 0 where
+  pub along : ComesAlong plan w.now.log w.done w.phase
+  pub quiet : ((n : ℕ) → phase_at plan w.now.log n ≢ Some w.phase) → is_quiet (length plan.names) w.now ≡ true
 
 moved : (plan : Planned) (l m : List Event) (d e : ℕ → ℕ) (k : ℕ) → m ≡ l → e ≡ d → ComesAlong plan l d k → ComesAlong plan m e k
 moved plan l m d e k f g a = subst (λ (x : List Event). ComesAlong plan x e k) (sym f) (subst (λ (x : ℕ → ℕ). ComesAlong plan l x k) (sym g) a)
@@ -132,7 +132,7 @@ module _ (plan : Planned) (first : ℕ) (i : IsPlan plan) where
     next_follows (Do p) e = does p e
     next_follows (Take p q) e = takes p q e
 
-  run_follows : (w : Progress) → RunReaches plan first w → Follows plan w
+  pub run_follows : (w : Progress) → RunReaches plan first w → Follows plan w
   run_follows = seen_keeps plan first (Follows plan) i starts (λ w x give r e f. next_follows w give r f x e)
 
 pub begins_seen : (plan : Planned) (first : ℕ) (w : Progress) → IsPlan plan → RunReaches plan first w → BeginsPlan plan w.now.log

@@ -1,4 +1,5 @@
 pub mod SameTallies
+pub mod PutRuns
 pub mod SameSteps
 pub mod SameLooks
 pub mod ReachedRuns

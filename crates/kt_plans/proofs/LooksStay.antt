@@ -1,6 +1,7 @@
 -- An enabled step stays enabled, and asks the same of its object, after any enabled step of another process.
+use Rattle.std.specs.List.{list_any}
 use Rattle.std.proofs.Common.{length, ◌≡◌, ◌≢◌, ℕ, zero, suc, ◌+◌, ◌-◌, ◌≤◌, ◌<◌, Bool, true, false, List, [], ◌∷◌, refl, arith, ap, ap₂, subst, ◌∙◌, drop, Some, None, inl, inr}
-use Rattle.std.specs.Prelude.{◌==◌, ◌&&◌, ◌||◌, not, nat_lt, if◌then◌else◌, Option}
+use Rattle.std.specs.Prelude.{◌==◌, ◌&&◌, ◌||◌, not, nat_lt, if◌then◌else◌, Option, slice_get, unwrap_or}
 use Rattle.std.proofs.lemmas.Bool.{cases_eq}
 use Rattle.std.proofs.lemmas.Bool.Decides.{nat_tests}
 use Rattle.kt_base.specs.declared.words.Verb.TheVariants as verb
@@ -19,11 +20,11 @@ use Rattle.kt_plan.specs.declared.steps.Look.TheVariants.{Idle, NeedsSave, Plain
 use Rattle.kt_plan.specs.declared.steps.Look.{Look}
 use Rattle.kt_plans.proofs.MachineLooks.{machine_look, machine_look_of_command, machine_look_of_front, machine_look_of_step}
 use Rattle.kt_plans.specs.Looks.{look_of_job}
-use Rattle.kt_plans.specs.Steps.{process_of_step, body_sent, protocol_step}
+use Rattle.kt_plans.specs.Steps.{process_of_step, protocol_step}
 use Rattle.kt_plan.specs.declared.commands.Command.{Command}
 use Rattle.kt_plan.specs.declared.commands.Job.{Job}
 use Rattle.kt_plan.specs.Limits.{Planned}
-use Rattle.kt_plans.specs.Plans.{commands_of, first_command, has_phase, last_phase}
+use Rattle.kt_plans.specs.Plans.{commands_of, last_phase}
 use Rattle.kt_plans.proofs.MachineProgress.{MachineProgress, machine_after_opening, machine_commands_left, machine_is_phase_done, machine_is_quiet, machine_next_command, machine_opens_next, machine_with_phases_open}
 use Rattle.kt_plan.specs.declared.steps.Step.TheVariants.{Do, Take}
 use Rattle.kt_plan.specs.declared.steps.Give.{Give}
@@ -39,7 +40,7 @@ use Rattle.kt_plans.proofs.PhaseOrder.{never_both}
 
 job_keeps_others : (s : State) (p : ℕ) (j : Job) (give : Give) → KeepsOthers p s (late_step s (protocol_step p j give))
 job_keeps_others s p (job.Send q body) give = at_if (KeepsOthers p s) ((nat_lt p s.processes && nat_lt q s.processes) && (s.so_far.open_in p == 0 && not (q == p))) _ _
-    (λ _. at_if (KeepsOthers p s) (s.up p) _ _ (λ _. sending_keeps_others p s q (body_sent body give.body)) (λ _. refusal_keeps_others p s verb.Send Down)) (λ _. still p s)
+    (λ _. at_if (KeepsOthers p s) (s.up p) _ _ (λ _. sending_keeps_others p s q (unwrap_or body give.body)) (λ _. refusal_keeps_others p s verb.Send Down)) (λ _. still p s)
 job_keeps_others s p job.Checkpoint give = at_if (KeepsOthers p s) (s.so_far.open_in p == 0) _ _
     (λ _. at_if (KeepsOthers p s) (give.able && s.up p) _ _ (λ _. beginning_keeps_others p s false) (λ _. refusal_keeps_others p s verb.Checkpoint (unable_cause (s.up p))))
     (λ _. refusal_keeps_others p s verb.Checkpoint (Busy (s.so_far.open_in p)))
@@ -89,11 +90,11 @@ stays_open plan g e = go (last_phase plan.commands - g.phase)
     go zero = refl
     go (suc k) = pick (machine_opens_next plan g) (machine_after_opening k plan (record g { phase = g.phase + 1 })) e
 
-not_done : (plan : Planned) (g : MachineProgress) (p : ℕ) → p < length plan.names → has_phase g.phase (machine_commands_left plan g p) ≡ true → machine_opens_next plan g ≡ false
+not_done : (plan : Planned) (g : MachineProgress) (p : ℕ) → p < length plan.names → list_any (λ (x : Command). x.phase == g.phase) (machine_commands_left plan g p) ≡ true → machine_opens_next plan g ≡ false
 not_done plan g p l h = go (machine_is_phase_done plan g) refl
   where
     go : (b : Bool) → machine_is_phase_done plan g ≡ b → (b && (machine_is_quiet (length plan.names) g.state && nat_lt g.phase (last_phase plan.commands))) ≡ false
-    go true e = absurd (let x = none_is (length plan.names) (λ p. has_phase g.phase (machine_commands_left plan g p)) e p l in cc (x, h))
+    go true e = absurd (let x = none_is (length plan.names) (λ p. list_any (λ (x : Command). x.phase == g.phase) (machine_commands_left plan g p)) e p l in cc (x, h))
     go false e = refl
 
 both : (a b : Bool) → a ≡ true → b ≡ true → (a && b) ≡ true
@@ -130,19 +131,19 @@ do_stays plan g g' y p n k m e = go (machine_next_command plan g p) refl e
 
     go : (o : Option Command) → machine_next_command plan g p ≡ o → (nat_lt p (length plan.names) && machine_may_do g p o) ≡ true → Stays plan g g' (Do p)
     go None i f = absurd (never_both (nat_lt p (length plan.names)) f)
-    go (Some c) i f = stays_by plan g g' (Do p) e on (ap (λ (h : MachineProgress). machine_look_of_step plan h (Do p)) g'_is ∙ (look_same (machine_next_command plan m.bare p) ∙ ap (λ (l : List Command). machine_look_of_command g p (first_command l)) left_same))
+    go (Some c) i f = stays_by plan g g' (Do p) e on (ap (λ (h : MachineProgress). machine_look_of_step plan h (Do p)) g'_is ∙ (look_same (machine_next_command plan m.bare p) ∙ ap (λ (l : List Command). machine_look_of_command g p (slice_get l 0)) left_same))
       where
         t : IsTurn plan g p c
         t = turn_of plan g p c k i f
 
-        in_phase : has_phase m.bare.phase (machine_commands_left plan m.bare p) ≡ true
-        in_phase = ap₂ (λ (k : ℕ) (l : List Command). has_phase k l) m.phase left_same ∙ (ap (λ (l : List Command). has_phase g.phase l) (after_front plan g p c i).1 ∙ phase_has g.phase c.phase (has_phase g.phase (after_front plan g p c i).0) t.of_phase)
+        in_phase : list_any (λ (x : Command). x.phase == m.bare.phase) (machine_commands_left plan m.bare p) ≡ true
+        in_phase = ap₂ (λ (k : ℕ) (l : List Command). list_any (λ (x : Command). x.phase == k) l) m.phase left_same ∙ (ap (λ (l : List Command). list_any (λ (x : Command). x.phase == g.phase) l) (after_front plan g p c i).1 ∙ phase_has g.phase c.phase (list_any (λ (x : Command). x.phase == g.phase) (after_front plan g p c i).0) t.of_phase)
 
         g'_is : g' ≡ m.bare
         g'_is = m.settles ∙ stays_open plan m.bare (not_done plan m.bare p (subst (λ (n : ℕ). p < n) (state_facts plan g k).processes t.low) in_phase)
 
         on : machine_enabled plan g' (Do p) ≡ true
-        on = ap (λ (h : MachineProgress). machine_enabled plan h (Do p)) g'_is ∙ (ap (λ (b : Bool). nat_lt p (length plan.names) && b) (test_same (machine_next_command plan m.bare p)) ∙ (ap (λ (l : List Command). nat_lt p (length plan.names) && machine_may_do g p (first_command l)) left_same ∙ e))
+        on = ap (λ (h : MachineProgress). machine_enabled plan h (Do p)) g'_is ∙ (ap (λ (b : Bool). nat_lt p (length plan.names) && b) (test_same (machine_next_command plan m.bare p)) ∙ (ap (λ (l : List Command). nat_lt p (length plan.names) && machine_may_do g p (slice_get l 0)) left_same ∙ e))
 
 -- a parcel
 open_low : (n : ℕ) (s : State) (p : ℕ) → StateFacts n s → s.so_far.open_in p ≤ s.instances

@@ -1,13 +1,14 @@
 -- The phases that open after a step.
+use Rattle.std.specs.List.{list_any}
 use Rattle.std.proofs.Common.{length, ◌≡◌, ℕ, zero, suc, ◌+◌, ◌-◌, ◌≤◌, ◌<◌, Bool, true, false, List, [], refl, arith, sym, ap, subst, ◌∙◌, inl, inr}
-use Rattle.std.specs.Prelude.{◌&&◌, nat_lt}
+use Rattle.std.specs.Prelude.{◌==◌, ◌&&◌, nat_lt}
 use Rattle.std.proofs.lemmas.Bool.{cases_lt}
 use Rattle.std.proofs.lemmas.Bool.Decides.{nat_tests}
 use Rattle.kt_protocol.proofs.Choices.{at_if}
 use Rattle.kt_protocol.proofs.StepFacts.{none_is}
 use Rattle.kt_plan.specs.declared.commands.Command.{Command}
 use Rattle.kt_plan.specs.Limits.{Planned}
-use Rattle.kt_plans.specs.Plans.{has_phase, last_phase}
+use Rattle.kt_plans.specs.Plans.{last_phase}
 use Rattle.kt_plans.proofs.MachineProgress.{MachineProgress, machine_after_opening, machine_commands_left, machine_is_phase_done, machine_is_quiet, machine_opens_next, machine_with_phases_open}
 use Rattle.kt_plans.proofs.PhaseOrder.{Ordered, past, beyond}
 
@@ -26,7 +27,7 @@ pub record Opened (plan : Planned) (g g' : MachineProgress) : Type 0 where
 
 one_on : (plan : Planned) (g : MachineProgress) → machine_opens_next plan g ≡ true → IsAhead plan g → IsAhead plan (record g { phase = g.phase + 1 })
 one_on plan g o a p = let e : g.phase + 1 ≡ suc g.phase = omega arith in subst (λ (k : ℕ). Ordered (length plan.names) p k (machine_commands_left plan g p)) (sym e) (elim (cases_lt p (length plan.names)) [
-  | inl l ↦ past (length plan.names) p g.phase (machine_commands_left plan g p) (a p) (none_is (length plan.names) (λ p. has_phase g.phase (machine_commands_left plan g p)) (first (machine_is_phase_done plan g) _ o) p l)
+  | inl l ↦ past (length plan.names) p g.phase (machine_commands_left plan g p) (a p) (none_is (length plan.names) (λ p. list_any (λ (x : Command). x.phase == g.phase) (machine_commands_left plan g p)) (first (machine_is_phase_done plan g) _ o) p l)
   | inr l ↦ past (length plan.names) p g.phase (machine_commands_left plan g p) (a p) (none (machine_commands_left plan g p) (beyond (length plan.names) p g.phase (machine_commands_left plan g p) l (a p)))
 ])
   where
@@ -34,7 +35,7 @@ one_on plan g o a p = let e : g.phase + 1 ≡ suc g.phase = omega arith in subst
     first true b e = refl
     first false b e = absurd (cc)
 
-    none : (l : List Command) → l ≡ [] → has_phase g.phase l ≡ false
+    none : (l : List Command) → l ≡ [] → list_any (λ (x : Command). x.phase == g.phase) l ≡ false
     none l e = rw e refl
 
 opened_are : (k : ℕ) (plan : Planned) (g : MachineProgress) → last_phase plan.commands ≤ g.phase + k → IsAhead plan g → Opened plan g (machine_after_opening k plan g)

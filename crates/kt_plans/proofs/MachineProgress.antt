@@ -1,11 +1,12 @@
 -- Of the machine's state behind a run: how far a plan has come, and when its next phase opens.
-use Rattle.std.specs.Prelude.{length, ℕ, List, drop, Option, Bool, not, ◌==◌, ◌||◌, ◌&&◌, nat_lt, zero, suc, if◌then◌else◌, ◌+◌, ◌-◌}
+use Rattle.std.specs.List.{list_any}
+use Rattle.std.specs.Prelude.{length, ℕ, List, drop, Option, Bool, not, ◌==◌, ◌||◌, ◌&&◌, nat_lt, zero, suc, if◌then◌else◌, ◌+◌, ◌-◌, slice_get}
 use Rattle.kt_protocol.specs.Deciding.{none_of}
 use Rattle.kt_protocol.specs.Parcels.{has_parcel}
 use Rattle.kt_protocol.specs.States.{State, opening}
 use Rattle.kt_plan.specs.Limits.{Planned}
 use Rattle.kt_plan.specs.declared.commands.Command.{Command}
-use Rattle.kt_plans.specs.Plans.{commands_of, first_command, has_phase, last_phase}
+use Rattle.kt_plans.specs.Plans.{commands_of, last_phase}
 use Rattle.kt_plans.specs.Progress.{Progress}
 use Rattle.kt_seen.specs.Seen.{seen}
 
@@ -21,7 +22,7 @@ machine_commands_left plan now p = drop (now.done p) (commands_of p plan.command
 
 -- the first of them
 abbrev pub machine_next_command : Planned → MachineProgress → ℕ → Option Command
-machine_next_command plan now p = first_command (machine_commands_left plan now p)
+machine_next_command plan now p = slice_get (machine_commands_left plan now p) 0
 
 -- nobody is in an instance, and no parcel is in a channel or held
 abbrev pub machine_is_quiet : ℕ → State → Bool
@@ -29,7 +30,7 @@ machine_is_quiet n s = none_of n (λ p. not (s.so_far.open_in p == 0) || not (no
 
 -- no command of the open phase is left
 abbrev pub machine_is_phase_done : Planned → MachineProgress → Bool
-machine_is_phase_done plan now = none_of (length plan.names) (λ p. has_phase now.phase (machine_commands_left plan now p))
+machine_is_phase_done plan now = none_of (length plan.names) (λ p. list_any (λ (x : Command). x.phase == now.phase) (machine_commands_left plan now p))
 
 -- the next phase opens: the open one is done, all is quiet, and a later one is there
 abbrev pub machine_opens_next : Planned → MachineProgress → Bool
@@ -54,5 +55,4 @@ world_of first progress = record {
   now = seen first progress.state;
   done = progress.done;
   phase = progress.phase;
-  put = record { asks = progress.state.asks; replies = progress.state.replies; decisions = progress.state.decisions };
 }

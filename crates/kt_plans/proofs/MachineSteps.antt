@@ -1,5 +1,5 @@
 -- Of the machine's state behind a run: the steps of a plan: when one may be made, and what it makes.
-use Rattle.std.specs.Prelude.{length, ℕ, Bool, Option, None, false, Some, ◌==◌, ◌&&◌, nat_lt, ◌+◌}
+use Rattle.std.specs.Prelude.{length, ℕ, Bool, Option, None, false, Some, ◌==◌, ◌&&◌, nat_lt, ◌+◌, slice_get, is_some}
 use Rattle.kt_closing.specs.LateSteps.{late_step}
 use Rattle.kt_cuts.specs.Past.{at_one}
 use Rattle.kt_protocol.specs.Deciding.{none_of}
@@ -9,7 +9,6 @@ use Rattle.kt_plan.specs.declared.steps.Step.{Step}
 use Rattle.kt_plan.specs.declared.steps.Step.TheVariants.{Do, Take}
 use Rattle.kt_plan.specs.declared.steps.Give.{Give}
 use Rattle.kt_plan.specs.Limits.{Planned}
-use Rattle.kt_plans.specs.Plans.{has_command}
 use Rattle.kt_plans.proofs.MachineProgress.{MachineProgress, machine_next_command, machine_commands_left, machine_is_quiet, machine_with_phases_open}
 use Rattle.kt_protocol.specs.States as machine
 use Rattle.kt_plans.specs.Steps.{may_do_job, protocol_step}
@@ -26,7 +25,7 @@ machine_enabled plan now (Take p q) = (nat_lt p (length plan.names) && nat_lt q 
 
 -- no command is left, and all is quiet
 abbrev pub machine_is_at_rest : Planned → MachineProgress → Bool
-machine_is_at_rest plan now = none_of (length plan.names) (λ p. has_command (machine_commands_left plan now p)) && machine_is_quiet (length plan.names) now.state
+machine_is_at_rest plan now = none_of (length plan.names) (λ p. is_some (slice_get (machine_commands_left plan now p) 0)) && machine_is_quiet (length plan.names) now.state
 
 -- p has done this command, if there is one, and phases have opened
 abbrev pub machine_after_command : Planned → MachineProgress → ℕ → Give → Option Command → MachineProgress

@@ -27,7 +27,6 @@ use Rattle.kt_fifo.specs.Queues.{has_parcel}
 use Rattle.kt_plans.specs.Runs.{RunReaches}
 use Rattle.kt_plans.specs.StepActs.{rows_added}
 use Rattle.kt_plans.proofs.RowsFit.{fits}
-use Rattle.kt_plans.specs.Offers.{sends_offer}
 
 save_not : (b : Bool) → uses_body (if b then NeedsSave else Plain) ≡ false
 save_not true = refl
@@ -95,6 +94,11 @@ and_false : (b : Bool) → (b && false) ≡ false
 and_false true = refl
 and_false false = refl
 
+-- a process that is up sends what its object offers, by its next command
+abbrev sends_offer : Planned → Progress → Step → Bool
+sends_offer plan w (Do p) = (w.now.people p).up && is_offer_command (next_command plan w p)
+sends_offer plan w (Take p q) = false
+
 -- where a step may be made, it asks for a body exactly where it sends what the object offers
 job_needs : (free u : Bool) (j : Job) → uses_body (look_of_job free u j) ≡ (u && is_offer_job j)
 job_needs free true (job.Send q None) = refl
@@ -104,7 +108,7 @@ job_needs free u job.Checkpoint = save_not (free && u) ∙ sym (and_false u)
 job_needs free u job.Rollback = sym (and_false u)
 job_needs free u job.Fail = sym (and_false u)
 
-pub body_needed : (plan : Planned) (w : Progress) (x : Step) → enabled plan w x ≡ true → uses_body (look plan w x) ≡ sends_offer plan w x
+body_needed : (plan : Planned) (w : Progress) (x : Step) → enabled plan w x ≡ true → uses_body (look plan w x) ≡ sends_offer plan w x
 body_needed plan w x e = ap (λ (b : Bool). uses_body (if b then look_of_step plan w x else Idle)) e ∙ of_step x
   where
     of_command : (p : ℕ) (o : Option Command) → uses_body (look_of_command w p o) ≡ ((w.now.people p).up && is_offer_command o)

@@ -30,7 +30,7 @@ pub quiet_seen : (plan : Planned) (first : ℕ) (w : Progress) (x : Step) (give 
     (w.phase ≤ (progress_after plan w x give).phase) × (w.phase < (progress_after plan w x give).phase → is_quiet (length plan.names) (progress_after plan w x give).now ≡ true)
 quiet_seen plan first w x give i r = carry plan first w (λ v. enabled plan v x ≡ true → (v.phase ≤ (progress_after plan v x give).phase) × (v.phase < (progress_after plan v x give).phase → is_quiet (length plan.names) (progress_after plan v x give).now ≡ true)) i r
     (λ g s e. let k = run_facts plan g s in let b = sym (enabled_same plan first g x) ∙ e in
-    subst (λ (v : Progress). (g.phase ≤ v.phase) × (g.phase < v.phase → is_quiet (length plan.names) v.now ≡ true)) (after_same plan first g x give k b)
+    subst (λ (v : Progress). (g.phase ≤ v.phase) × (g.phase < v.phase → is_quiet (length plan.names) v.now ≡ true)) (after_same plan first g x give k)
     (let q = quiet_between plan g x give k b in (q.0, λ l. quiet_same (length plan.names) first (after_machine_step plan g x give).state ∙ q.1 l)))
 
 pub attained_seen : (plan : Planned) (first : ℕ) (w : Progress) (p : ℕ) (c : Command) → IsPlan plan → RunReaches plan first w → is_quiet (length plan.names) w.now ≡ true → next_command plan w p ≡ Some c →

@@ -1,12 +1,13 @@
 -- What one process has to do: its own commands, whose phases never fall.
+use Rattle.std.specs.List.{list_any}
 use Rattle.std.proofs.Common.{◌≡◌, ℕ, zero, suc, ◌≤◌, ◌<◌, Bool, true, false, List, [], ◌∷◌, refl, arith, subst, drop}
-use Rattle.std.specs.Prelude.{◌==◌, ◌||◌, ◌&&◌, not, max}
+use Rattle.std.specs.Prelude.{◌==◌, ◌||◌, ◌&&◌, not, max, slice_get, is_some}
 use Rattle.std.proofs.lemmas.Bool.Decides.{nat_tests}
 use Rattle.kt_protocol.proofs.Choices.{at_if, same}
 use Rattle.kt_protocol.specs.Deciding.{none_of}
 use Rattle.kt_plan.specs.declared.commands.Command.{Command}
 use Rattle.kt_plan.specs.Limits.{IsJobOf}
-use Rattle.kt_plans.specs.Plans.{commands_of, has_command, has_phase, last_phase}
+use Rattle.kt_plans.specs.Plans.{commands_of, last_phase}
 
 -- each command is of one of n processes, and phases never fall from low on
 abbrev pub AreInPhases : ℕ → ℕ → List Command → Type 0
@@ -44,9 +45,9 @@ drop_next (suc k) [] c cs e = absurd (cc (e))
 drop_next (suc k) (x ∷ xs) c cs e = drop_next k xs c cs e
 
 -- without commands of a phase, the later ones are left
-pub past : (n p k : ℕ) (l : List Command) → Ordered n p k l → has_phase k l ≡ false → Ordered n p (suc k) l
+pub past : (n p k : ℕ) (l : List Command) → Ordered n p k l → list_any (λ (x : Command). x.phase == k) l ≡ false → Ordered n p (suc k) l
 past n p k [] o e = tt
-past n p k (c ∷ cs) o e = (o.0, o.1, later c.phase (has_phase k cs) o.2 e, o.3)
+past n p k (c ∷ cs) o e = (o.0, o.1, later c.phase (list_any (λ (x : Command). x.phase == k) cs) o.2 e, o.3)
   where
     later : (x : ℕ) (b : Bool) → k ≤ x → (x == k || b) ≡ false → suc k ≤ x
     later x b h e = grind (arith, nat_tests, h, e)
@@ -78,9 +79,9 @@ up_to_drop m (suc k) [] u = u
 up_to_drop m (suc k) (c ∷ cs) u = up_to_drop m k cs u.1
 
 -- none is left where the open phase has none and none is later
-pub none_left : (n p k m : ℕ) (l : List Command) → Ordered n p k l → UpTo m l → m ≤ k → has_phase k l ≡ false → has_command l ≡ false
+pub none_left : (n p k m : ℕ) (l : List Command) → Ordered n p k l → UpTo m l → m ≤ k → list_any (λ (x : Command). x.phase == k) l ≡ false → is_some (slice_get l 0) ≡ false
 none_left n p k m [] o u h e = refl
-none_left n p k m (c ∷ cs) o u h e = absurd (first c.phase (has_phase k cs) o.2 u.0 e)
+none_left n p k m (c ∷ cs) o u h e = absurd (first c.phase (list_any (λ (x : Command). x.phase == k) cs) o.2 u.0 e)
   where
     first : (x : ℕ) (b : Bool) → k ≤ x → x ≤ m → (x == k || b) ≡ false → ⊥
     first x b i j e = grind (arith, nat_tests, h, i, j, e)

@@ -9,28 +9,27 @@ use Rattle.kt_plan.specs.Limits.{Planned}
 use Rattle.kt_plans.specs.Plans.{last_phase}
 use Rattle.kt_plan.specs.declared.steps.Step.TheVariants.{Do, Take}
 use Rattle.kt_plan.specs.declared.steps.Give.{Give}
-use Rattle.kt_plans.specs.Steps.{protocol_step, with_seen, after_command, progress_after}
-use Rattle.kt_plans.specs.Tallies.{no_tallies}
+use Rattle.kt_plans.specs.Steps.{protocol_step, after_command, progress_after}
 use Rattle.kt_plans.specs.Runs.{IsSameButPhase}
 use Rattle.kt_plans.specs.Progress.{Progress, next_command, opens_next, after_opening, with_phases_open, progress_at_start}
 
 opened : (k : ℕ) (plan : Planned) (w : Progress) → IsSameButPhase w (after_opening k plan w)
-opened zero plan w = record { now = refl; done = refl; put = refl }
+opened zero plan w = record { now = refl; done = refl }
 opened (suc k) plan w = at_if (IsSameButPhase w) (opens_next plan w) (after_opening k plan (record w { phase = w.phase + 1 })) w
-    (λ _. let a = opened k plan (record w { phase = w.phase + 1 }) in record { now = a.now; done = a.done; put = a.put })
-    (λ _. record { now = refl; done = refl; put = refl })
+    (λ _. let a = opened k plan (record w { phase = w.phase + 1 }) in record { now = a.now; done = a.done })
+    (λ _. record { now = refl; done = refl })
 
 pub settling : (plan : Planned) (w : Progress) → IsSameButPhase w (with_phases_open plan w)
 settling plan w = opened (last_phase plan.commands - w.phase) plan w
 
-pub opening_is : (plan : Planned) (first : ℕ) → IsSameButPhase (record { now = opening_seen (length plan.names) first; done = λ p. 0; phase = 0; put = no_tallies }) (progress_at_start plan first)
-opening_is plan first = settling plan (record { now = opening_seen (length plan.names) first; done = λ p. 0; phase = 0; put = no_tallies })
+pub opening_is : (plan : Planned) (first : ℕ) → IsSameButPhase (record { now = opening_seen (length plan.names) first; done = λ p. 0; phase = 0 }) (progress_at_start plan first)
+opening_is plan first = settling plan (record { now = opening_seen (length plan.names) first; done = λ p. 0; phase = 0 })
 
 -- what a take makes, and what a command makes
-pub takes_is : (plan : Planned) (w : Progress) (p q : ℕ) (give : Give) → IsSameButPhase (with_seen plan w (Take p q) (transition w.now (machine.Take p q give.able))) (progress_after plan w (Take p q) give)
-takes_is plan w p q give = settling plan (with_seen plan w (Take p q) (transition w.now (machine.Take p q give.able)))
+pub takes_is : (plan : Planned) (w : Progress) (p q : ℕ) (give : Give) → IsSameButPhase (record w { now = transition w.now (machine.Take p q give.able) }) (progress_after plan w (Take p q) give)
+takes_is plan w p q give = settling plan (record w { now = transition w.now (machine.Take p q give.able) })
 
 pub does_is : (plan : Planned) (w : Progress) (p : ℕ) (give : Give) (c : Command) → next_command plan w p ≡ Some c →
-    IsSameButPhase (record (with_seen plan w (Do p) (transition w.now (protocol_step p c.job give))) { done = at_one p (w.done p + 1) w.done }) (progress_after plan w (Do p) give)
-does_is plan w p give c e = let s = settling plan (record (with_seen plan w (Do p) (transition w.now (protocol_step p c.job give))) { done = at_one p (w.done p + 1) w.done }) in let m = ap (after_command plan w p give) e in
-    record { now = ap (λ (v : Progress). v.now) m ∙ s.now; done = ap (λ (v : Progress). v.done) m ∙ s.done; put = ap (λ (v : Progress). v.put) m ∙ s.put }
+    IsSameButPhase (record w { now = transition w.now (protocol_step p c.job give); done = at_one p (w.done p + 1) w.done }) (progress_after plan w (Do p) give)
+does_is plan w p give c e = let s = settling plan (record w { now = transition w.now (protocol_step p c.job give); done = at_one p (w.done p + 1) w.done }) in let m = ap (after_command plan w p give) e in
+    record { now = ap (λ (v : Progress). v.now) m ∙ s.now; done = ap (λ (v : Progress). v.done) m ∙ s.done }

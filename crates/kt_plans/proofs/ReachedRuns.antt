@@ -30,7 +30,7 @@ shown_from plan first (x ∷ xs) m g w b e = at_if (λ (o : Option Progress). o 
     (λ on z. let f = sym (enabled_same plan first g x.step) ∙ on in
     let y : suc m + length xs ≡ m + suc (length xs) = omega arith in
     subst (λ (n : ℕ). Shown plan first w n) y (shown_from plan first xs (suc m) (after_machine_step plan g x.step x.give) w (behind_after plan m g x.step x.give b f)
-    (ap (λ (v : Progress). after_moves plan v xs) (after_same plan first g x.step x.give b.few.run_facts f) ∙ z)))
+    (ap (λ (v : Progress). after_moves plan v xs) (after_same plan first g x.step x.give b.few.run_facts) ∙ z)))
     (λ on z. absurd (cc (z))) e
 
 pub shown_by : (plan : Planned) (first : ℕ) (w : Progress) (moves : List Move) → IsPlan plan → after_moves plan (progress_at_start plan first) moves ≡ Some w → Shown plan first w (length moves)

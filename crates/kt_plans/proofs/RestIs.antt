@@ -1,12 +1,11 @@
 -- A plan is at rest exactly where all is done and nothing is under way.
 use Rattle.std.proofs.Common.{length, ◌≡◌, ℕ, ◌<◌, Bool, true, false, List, [], ◌∷◌, refl, ap, None}
-use Rattle.std.specs.Prelude.{◌==◌, ◌&&◌, ◌||◌, not, ◌↔◌}
+use Rattle.std.specs.Prelude.{◌==◌, ◌&&◌, ◌||◌, not, ◌↔◌, slice_get, is_some}
 use Rattle.kt_fifo.specs.declared.parcels.Parcel.{Parcel}
 use Rattle.kt_protocol.specs.Deciding.{none_of}
 use Rattle.kt_seen.specs.Seen.{Seen}
 use Rattle.kt_plan.specs.declared.commands.Command.{Command}
 use Rattle.kt_plan.specs.Limits.{Planned, IsPlan}
-use Rattle.kt_plans.specs.Plans.{first_command, has_command}
 use Rattle.kt_plans.proofs.PhaseOrder.{none_of_if}
 use Rattle.kt_fifo.specs.Queues.{has_parcel}
 use Rattle.kt_plans.specs.Progress.{Progress, commands_left, next_command, is_quiet}
@@ -15,7 +14,7 @@ use Rattle.kt_plans.specs.Runs.{RunReaches}
 use Rattle.kt_plans.specs.AtRest.{HasNothingUnderWay}
 use Rattle.kt_plans.proofs.WholeLogs.{rested}
 
-no_command : (l : List Command) → first_command l ≡ None → has_command l ≡ false
+no_command : (l : List Command) → slice_get l 0 ≡ None → is_some (slice_get l 0) ≡ false
 no_command [] e = refl
 no_command (c ∷ cs) e = absurd (cc (e))
 
@@ -34,6 +33,6 @@ both a b e f = rw (e, f) refl
 pub rest_is : (plan : Planned) (first : ℕ) (w : Progress) → IsPlan plan → RunReaches plan first w →
     (is_at_rest plan w ≡ true) ↔ (((p : ℕ) → p < length plan.names → next_command plan w p ≡ None) × HasNothingUnderWay w.now)
 rest_is plan first w i r = (
-  λ a. let h = rested plan first w i r a in (λ p _. ap first_command (h.1 p), h.0),
-  λ h. both (none_of (length plan.names) (λ p. has_command (commands_left plan w p))) (is_quiet (length plan.names) w.now) (none_of_if (length plan.names) (λ p. has_command (commands_left plan w p)) (λ p l. no_command (commands_left plan w p) (h.0 p l))) (quiet_if (length plan.names) w.now h.1),
+  λ a. let h = rested plan first w i r a in (λ p _. ap (λ (cs : List Command). slice_get cs 0) (h.1 p), h.0),
+  λ h. both (none_of (length plan.names) (λ p. is_some (slice_get (commands_left plan w p) 0))) (is_quiet (length plan.names) w.now) (none_of_if (length plan.names) (λ p. is_some (slice_get (commands_left plan w p) 0)) (λ p l. no_command (commands_left plan w p) (h.0 p l))) (quiet_if (length plan.names) w.now h.1),
 )

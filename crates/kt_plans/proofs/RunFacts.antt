@@ -1,6 +1,6 @@
 -- What is known of every run of a plan.
 use Rattle.std.proofs.Common.{length, ◌≡◌, ℕ, suc, ◌+◌, ◌≤◌, ◌<◌, Bool, true, false, List, [], ◌∷◌, ◌++◌, refl, arith, sym, ap, subst, ◌∙◌, drop, Some, None}
-use Rattle.std.specs.Prelude.{◌==◌, if◌then◌else◌, Option}
+use Rattle.std.specs.Prelude.{◌==◌, if◌then◌else◌, Option, slice_get}
 use Rattle.std.proofs.lemmas.Bool.Decides.{nat_tests}
 use Rattle.kt_cuts.specs.Past.{at_one}
 use Rattle.kt_closing.specs.LateSteps.{late_step, late_run}
@@ -8,7 +8,7 @@ use Rattle.kt_protocol.specs.States.{State, opening}
 use Rattle.kt_protocol.specs.States as machine
 use Rattle.kt_plan.specs.declared.commands.Command.{Command}
 use Rattle.kt_plan.specs.Limits.{IsPlan, Planned}
-use Rattle.kt_plans.specs.Plans.{commands_of, first_command}
+use Rattle.kt_plans.specs.Plans.{commands_of}
 use Rattle.kt_plans.proofs.MachineProgress.{MachineProgress, machine_commands_left, machine_next_command, machine_opens_next, machine_start, machine_with_phases_open}
 use Rattle.kt_plan.specs.declared.steps.Step.TheVariants.{Do, Take}
 use Rattle.kt_plan.specs.declared.steps.Give.{Give}
@@ -41,7 +41,7 @@ run_more s (y ∷ ys) x = run_more (late_step s y) ys x
 pub after_front : (plan : Planned) (g : MachineProgress) (p : ℕ) (c : Command) → machine_next_command plan g p ≡ Some c → (cs : List Command) × (machine_commands_left plan g p ≡ c ∷ cs)
 after_front plan g p c e = go (machine_commands_left plan g p) e
   where
-    go : (l : List Command) → first_command l ≡ Some c → (cs : List Command) × (l ≡ c ∷ cs)
+    go : (l : List Command) → slice_get l 0 ≡ Some c → (cs : List Command) × (l ≡ c ∷ cs)
     go [] e = absurd (cc (e))
     go (x ∷ xs) e = (xs, (let y : x ≡ c = cc (e) in rw y refl))
 

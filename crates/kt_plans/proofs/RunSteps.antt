@@ -24,7 +24,7 @@ use Rattle.kt_plans.proofs.RunFacts.{facts_after}
 pub start_reached_seen : (plan : Planned) (first : ℕ) → RunReaches plan first (progress_at_start plan first)
 start_reached_seen plan first = record { moves = []; leads = refl }
 
-moves_more : (plan : Planned) (moves : List Move) (u w : Progress) (x : Step) (give : Give) → after_moves plan u moves ≡ Some w → enabled plan w x ≡ true → after_moves plan u (moves ++ record { step = x; give = give } ∷ []) ≡ Some (progress_after plan w x give)
+pub moves_more : (plan : Planned) (moves : List Move) (u w : Progress) (x : Step) (give : Give) → after_moves plan u moves ≡ Some w → enabled plan w x ≡ true → after_moves plan u (moves ++ record { step = x; give = give } ∷ []) ≡ Some (progress_after plan w x give)
 moves_more plan [] u w x give e b = let i : u ≡ w = ap (λ (o : Option Progress). unwrap_or o u) e in rw i (rw b refl)
 moves_more plan (m ∷ ms) u w x give e b = at_if (λ (o : Option Progress). o ≡ Some w → (if enabled plan u m.step then after_moves plan (progress_after plan u m.step m.give) (ms ++ record { step = x; give = give } ∷ []) else None) ≡ Some (progress_after plan w x give)) (enabled plan u m.step) (after_moves plan (progress_after plan u m.step m.give) ms) None
     (λ i z. rw i (moves_more plan ms (progress_after plan u m.step m.give) w x give z b))
@@ -47,13 +47,13 @@ few_steps_seen plan first moves w i e = let s = shown_by plan first w moves i e 
 pub stays_on : (plan : Planned) (first : ℕ) (w : Progress) (x y : Step) (give : Give) → IsPlan plan → RunReaches plan first w → enabled plan w x ≡ true → enabled plan w y ≡ true → process_of_step x ≢ process_of_step y → enabled plan (progress_after plan w y give) x ≡ true
 stays_on plan first w x y give i r = carry plan first w (λ v. enabled plan v x ≡ true → enabled plan v y ≡ true → process_of_step x ≢ process_of_step y → enabled plan (progress_after plan v y give) x ≡ true) i r
     (λ g s a b n. let k = run_facts plan g s in
-    ap (λ (v : Progress). enabled plan v x) (sym (after_same plan first g y give k (sym (enabled_same plan first g y) ∙ b))) ∙ (enabled_same plan first (after_machine_step plan g y give) x
+    ap (λ (v : Progress). enabled plan v x) (sym (after_same plan first g y give k)) ∙ (enabled_same plan first (after_machine_step plan g y give) x
     ∙ (stays plan g x y give k (sym (enabled_same plan first g x) ∙ a) (sym (enabled_same plan first g y) ∙ b) n).on))
 
 pub stays_seen : (plan : Planned) (first : ℕ) (w : Progress) (x y : Step) (give : Give) → IsPlan plan → RunReaches plan first w → enabled plan w x ≡ true → enabled plan w y ≡ true → process_of_step x ≢ process_of_step y → look plan (progress_after plan w y give) x ≡ look plan w x
 stays_seen plan first w x y give i r = carry plan first w (λ v. enabled plan v x ≡ true → enabled plan v y ≡ true → process_of_step x ≢ process_of_step y → look plan (progress_after plan v y give) x ≡ look plan v x) i r
     (λ g s a b n. let k = run_facts plan g s in let k' = facts_after plan g y give k in
-    ap (λ (v : Progress). look plan v x) (sym (after_same plan first g y give k (sym (enabled_same plan first g y) ∙ b))) ∙ (look_same plan first (after_machine_step plan g y give) x k'
+    ap (λ (v : Progress). look plan v x) (sym (after_same plan first g y give k)) ∙ (look_same plan first (after_machine_step plan g y give) x k'
     ∙ ((stays plan g x y give k (sym (enabled_same plan first g x) ∙ a) (sym (enabled_same plan first g y) ∙ b) n).seen ∙ sym (look_same plan first g x k))))
 
 -- what holds at first, and after each enabled step of a run where it held before, holds in every run

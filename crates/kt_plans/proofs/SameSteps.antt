@@ -1,6 +1,6 @@
 -- What may be done and what it makes is the same by what code has.
 use Rattle.std.proofs.Common.{◌≡◌, ℕ, zero, suc, ◌+◌, ◌-◌, Bool, true, false, [], refl, sym, ap, subst, ◌∙◌, Some, None}
-use Rattle.std.specs.Prelude.{◌==◌, ◌&&◌, ◌||◌, not, nat_lt, if◌then◌else◌, Option, length}
+use Rattle.std.specs.Prelude.{◌==◌, ◌&&◌, ◌||◌, not, nat_lt, if◌then◌else◌, Option, length, slice_get, is_some}
 use Rattle.kt_cuts.specs.Past.{at_one}
 use Rattle.kt_protocol.specs.States.{State, opening}
 use Rattle.kt_protocol.specs.Deciding.{none_of}
@@ -11,19 +11,16 @@ use Rattle.kt_seen.specs.Transition as seen_transition
 use Rattle.kt_seen.proofs.Runs.{seen_after_run, seen_step}
 use Rattle.kt_plan.specs.declared.commands.Command.{Command}
 use Rattle.kt_plan.specs.Limits.{Planned}
-use Rattle.kt_plans.specs.Plans.{last_phase, has_command}
+use Rattle.kt_plans.specs.Plans.{last_phase}
 use Rattle.kt_plans.proofs.MachineProgress.{MachineProgress, machine_after_opening, machine_commands_left, machine_is_phase_done, machine_is_quiet, machine_next_command, machine_opens_next, machine_start, machine_with_phases_open, world_of}
 use Rattle.kt_plan.specs.declared.steps.Step.{Step}
 use Rattle.kt_plan.specs.declared.steps.Step.TheVariants.{Do, Take}
 use Rattle.kt_plan.specs.declared.steps.Give.{Give}
-use Rattle.kt_plans.specs.Steps.{protocol_step, may_do, can_take_from, enabled, is_at_rest, with_seen, after_command, progress_after}
-use Rattle.kt_plans.proofs.MachineTallies.{IsTallied, machine_taken_off}
+use Rattle.kt_plans.specs.Steps.{protocol_step, may_do, can_take_from, enabled, is_at_rest, after_command, progress_after}
 use Rattle.kt_plans.proofs.MachineSteps.{machine_after_command, after_machine_step, machine_enabled, machine_is_at_rest, machine_may_do}
 use Rattle.kt_plans.proofs.RunFacts.{RunFacts, bare_command, bare_take, opened_command, opened_take}
-use Rattle.kt_plans.proofs.TalliedSteps.{tallied}
-use Rattle.kt_plans.specs.Tallies.{Tallies, no_tallies}
 use Rattle.kt_plans.specs.Progress.{Progress, is_quiet, opens_next, after_opening, with_phases_open, progress_at_start}
-use Rattle.kt_plans.proofs.SameTallies.{ready_same, channel_any, held_any, raised_same}
+use Rattle.kt_plans.proofs.SameTallies.{ready_same, channel_any, held_any}
 
 pub can_same : (first : ℕ) (s : State) (p q : ℕ) → can_take_from (seen first s) p q ≡ machine.can_take s p q
 can_same first s p q = λ i. channel_any first s q p i || not (ready_same first s p i) && held_any first s q p i
@@ -49,7 +46,7 @@ opened_phases_same plan first g = opening_same (last_phase plan.commands - g.pha
 
 pub start_same : (plan : Planned) (first : ℕ) → world_of first (machine_start plan) ≡ progress_at_start plan first
 start_same plan first = opened_phases_same plan first (record { state = opening (length plan.names); done = λ p. 0; phase = 0 })
-    ∙ ap (λ (v : Seen). with_phases_open plan (record { now = v; done = λ p. 0; phase = 0; put = no_tallies })) (seen_after_run (length plan.names) first [])
+    ∙ ap (λ (v : Seen). with_phases_open plan (record { now = v; done = λ p. 0; phase = 0 })) (seen_after_run (length plan.names) first [])
 
 pub enabled_same : (plan : Planned) (first : ℕ) (g : MachineProgress) (x : Step) → enabled plan (world_of first g) x ≡ machine_enabled plan g x
 enabled_same plan first g (Do p) = go (machine_next_command plan g p)
@@ -60,27 +57,23 @@ enabled_same plan first g (Do p) = go (machine_next_command plan g p)
 enabled_same plan first g (Take p q) = ap (λ (b : Bool). (nat_lt p (length plan.names) && nat_lt q (length plan.names)) && b) (can_same first g.state p q)
 
 pub rest_same : (plan : Planned) (first : ℕ) (g : MachineProgress) → is_at_rest plan (world_of first g) ≡ machine_is_at_rest plan g
-rest_same plan first g = ap (λ (b : Bool). none_of (length plan.names) (λ p. has_command (machine_commands_left plan g p)) && b) (quiet_same (length plan.names) first g.state)
+rest_same plan first g = ap (λ (b : Bool). none_of (length plan.names) (λ p. is_some (slice_get (machine_commands_left plan g p) 0)) && b) (quiet_same (length plan.names) first g.state)
 
 -- one step
 step_same : (plan : Planned) (first : ℕ) (g : MachineProgress) (x : machine.Step) → RunFacts plan g → seen first (late_step g.state x) ≡ seen_transition.transition (seen first g.state) x
 step_same plan first g x k = subst (λ (s : State). seen first (late_step s x) ≡ seen_transition.transition (seen first s) x) (sym k.state_is) (seen_step (length plan.names) first k.steps x)
 
-tally_of : State → Tallies
-tally_of s = record { asks = s.asks; replies = s.replies; decisions = s.decisions }
-
 -- before phases open
-bare_same : (plan : Planned) (first : ℕ) (g : MachineProgress) (x : Step) (y : machine.Step) (d : ℕ → ℕ) → RunFacts plan g → IsTallied (length plan.names) (machine_taken_off g.state x) g.state (late_step g.state y) →
-    world_of first (record g { state = late_step g.state y; done = d }) ≡ record (with_seen plan (world_of first g) x (seen_transition.transition (seen first g.state) y)) { done = d }
-bare_same plan first g x y d k a = ap (λ (t : Tallies). record (world_of first g) { now = seen first (late_step g.state y); done = d; put = t }) (raised_same (length plan.names) first g.state (late_step g.state y) x a)
-    ∙ ap (λ (v : Seen). record (with_seen plan (world_of first g) x v) { done = d }) (step_same plan first g y k)
+bare_same : (plan : Planned) (first : ℕ) (g : MachineProgress) (y : machine.Step) (d : ℕ → ℕ) → RunFacts plan g →
+    world_of first (record g { state = late_step g.state y; done = d }) ≡ record (world_of first g) { now = seen_transition.transition (seen first g.state) y; done = d }
+bare_same plan first g y d k = ap (λ (v : Seen). record (world_of first g) { now = v; done = d }) (step_same plan first g y k)
 
-pub after_same : (plan : Planned) (first : ℕ) (g : MachineProgress) (x : Step) (give : Give) → RunFacts plan g → machine_enabled plan g x ≡ true → world_of first (after_machine_step plan g x give) ≡ progress_after plan (world_of first g) x give
-after_same plan first g (Do p) give k e = go (machine_next_command plan g p) refl (tallied plan g (Do p) give k e)
+pub after_same : (plan : Planned) (first : ℕ) (g : MachineProgress) (x : Step) (give : Give) → RunFacts plan g → world_of first (after_machine_step plan g x give) ≡ progress_after plan (world_of first g) x give
+after_same plan first g (Do p) give k = go (machine_next_command plan g p)
   where
-    go : (o : Option Command) → machine_next_command plan g p ≡ o → IsTallied (length plan.names) (machine_taken_off g.state (Do p)) g.state (machine_after_command plan g p give o).state → world_of first (machine_after_command plan g p give o) ≡ after_command plan (world_of first g) p give o
-    go None n a = refl
-    go (Some c) n a = opened_phases_same plan first (bare_command g p give c)
-        ∙ ap (with_phases_open plan) (bare_same plan first g (Do p) (protocol_step p c.job give) (at_one p (g.done p + 1) g.done) k (subst (IsTallied (length plan.names) (machine_taken_off g.state (Do p)) g.state) (opened_command plan g p give c k n).state a))
-after_same plan first g (Take p q) give k e = opened_phases_same plan first (bare_take g p q give)
-    ∙ ap (with_phases_open plan) (bare_same plan first g (Take p q) (machine.Take p q give.able) g.done k (subst (IsTallied (length plan.names) (machine_taken_off g.state (Take p q)) g.state) (opened_take plan g p q give k).state (tallied plan g (Take p q) give k e)))
+    go : (o : Option Command) → world_of first (machine_after_command plan g p give o) ≡ after_command plan (world_of first g) p give o
+    go None = refl
+    go (Some c) = opened_phases_same plan first (bare_command g p give c)
+        ∙ ap (with_phases_open plan) (bare_same plan first g (protocol_step p c.job give) (at_one p (g.done p + 1) g.done) k)
+after_same plan first g (Take p q) give k = opened_phases_same plan first (bare_take g p q give)
+    ∙ ap (with_phases_open plan) (bare_same plan first g (machine.Take p q give.able) g.done k)

@@ -80,10 +80,11 @@ one_same : (n first : ℕ) (s s' : State) (x : Step) (t' : ℕ → CodeParcel �
 one_same n first s s' x t' t h old new e k = less _ _ _ (e k)
     ∙ sym (λ i. channels_same first s' (t' k) (t k) (h k s') n i + off_same first s (t' k) (t k) (h k s) x i + old k - channels_same first s (t' k) (t k) (h k s) n i)
 
-abbrev tally_of : State → Tallies
-tally_of s = record { asks = s.asks; replies = s.replies; decisions = s.decisions }
+-- what the machine's instances have put
+abbrev pub tallies_of : State → Tallies
+tallies_of s = record { asks = s.asks; replies = s.replies; decisions = s.decisions }
 
-pub raised_same : (n first : ℕ) (s s' : State) (x : Step) → IsTallied n (machine_taken_off s x) s s' → tally_of s' ≡ raised_tally n (seen first s) x (seen first s') (tally_of s)
+pub raised_same : (n first : ℕ) (s s' : State) (x : Step) → IsTallied n (machine_taken_off s x) s s' → tallies_of s' ≡ raised_tally n (seen first s) x (seen first s') (tallies_of s)
 raised_same n first s s' x a = λ i. record {
   asks = λ k. one_same n first s s' x is_ask_of machine_is_ask_of (λ k z. ask_is first k z) s.asks s'.asks a.asks k i;
   replies = λ k. one_same n first s s' x is_reply_of machine_is_reply_of (λ k z. reply_is first k z) s.replies s'.replies a.replies k i;
@@ -96,7 +97,7 @@ one_raised : (n first : ℕ) (s s' : State) (x : Step) (t' : ℕ → CodeParcel 
 one_raised n first s s' x t' t h old new e k = (λ i. channels_same first s' (t' k) (t k) (h k s') n i + off_same first s (t' k) (t k) (h k s) x i + old k)
     ∙ (e k ∙ sym (λ i. channels_same first s (t' k) (t k) (h k s) n i + new k))
 
-pub raised_is : (n first : ℕ) (s s' : State) (x : Step) → IsTallied n (machine_taken_off s x) s s' → IsRaised n (seen first s) x (seen first s') (tally_of s) (tally_of s')
+pub raised_is : (n first : ℕ) (s s' : State) (x : Step) → IsTallied n (machine_taken_off s x) s s' → IsRaised n (seen first s) x (seen first s') (tallies_of s) (tallies_of s')
 raised_is n first s s' x a = record {
   asks = one_raised n first s s' x is_ask_of machine_is_ask_of (λ k z. ask_is first k z) s.asks s'.asks a.asks;
   replies = one_raised n first s s' x is_reply_of machine_is_reply_of (λ k z. reply_is first k z) s.replies s'.replies a.replies;

@@ -1,6 +1,6 @@
 -- Which command rows a step adds: its command's first row answers it, and there are no others.
 use Rattle.std.proofs.Common.{◌≡◌, ℕ, ℤ, Bool, true, false, List, [], ◌∷◌, refl, ap, ap₂, Some, None, inl, inr}
-use Rattle.std.specs.Prelude.{◌||◌, Option}
+use Rattle.std.specs.Prelude.{◌||◌, Option, unwrap_or}
 use Rattle.kt_base.specs.declared.words.Cause.{Cause}
 use Rattle.kt_spacetime.specs.declared.event.Event.{Event}
 use Rattle.kt_spacetime.specs.declared.event.Event.TheVariants.{Sent, Began, Took, Ready, Failed, Refused}
@@ -14,7 +14,6 @@ use Rattle.kt_seen.specs.Transition.{is_seen_ready}
 use Rattle.kt_plan.specs.declared.commands.Job.{Job}
 use Rattle.kt_plan.specs.declared.commands.Job.TheVariants as job
 use Rattle.kt_plans.specs.Rows.{verb_of, AreDecidingRows, AreRowsOfCommand, is_instance_row, are_instance_rows, AreRowsOfMessage, AreRowsOfTake}
-use Rattle.kt_plans.specs.Steps.{body_sent}
 use Rattle.kt_plans.specs.Follows.{is_command_row, AnswersJob}
 use Rattle.kt_plans.proofs.CommandRows.{has_command_row}
 
@@ -31,13 +30,13 @@ pub record Answered (p : ℕ) (j : Job) (rows : List Event) : Type 0 where
 ends_none : (p k : ℕ) (l : List Event) → AreDecidingRows p k l → has_command_row l ≡ false
 ends_none p k l e = elim e [ inl x ↦ ap has_command_row x | inr x ↦ ap has_command_row x.1 ]
 
-may_send : (b : Option ℤ) (z : ℤ) → body_sent b z ≡ body_sent b (body_sent b z)
+may_send : (b : Option ℤ) (z : ℤ) → unwrap_or b z ≡ unwrap_or b (unwrap_or b z)
 may_send None z = refl
 may_send (Some b) z = refl
 
 pub answered : (k p : ℕ) (j : Job) (z : ℤ) (o : Option Cause) (rows : List Event) → AreRowsOfCommand k p j z o rows → Answered p j rows
 answered k p j z (Some cause) rows e = record { row = Refused p (verb_of j) cause; more = []; are = e; kind = refl; by = refl; answers = refl; rest = refl }
-answered k p (job.Send q b) z None rows e = record { row = Sent p q (body_sent b z); more = []; are = e; kind = refl; by = refl; answers = (refl, may_send b z); rest = refl }
+answered k p (job.Send q b) z None rows e = record { row = Sent p q (unwrap_or b z); more = []; are = e; kind = refl; by = refl; answers = (refl, may_send b z); rest = refl }
 answered k p job.Checkpoint z None rows e = record { row = Began p k kind.Checkpoint; more = Took p k ∷ e.0; are = e.2; kind = refl; by = refl; answers = tt; rest = ends_none p k e.0 e.1 }
 answered k p job.Rollback z None rows e = record { row = Began p k kind.Rollback; more = Ready p k ∷ e.0; are = e.2; kind = refl; by = refl; answers = tt; rest = ends_none p k e.0 e.1 }
 answered k p job.Fail z None rows e = record { row = Failed p; more = []; are = e; kind = refl; by = refl; answers = tt; rest = refl }

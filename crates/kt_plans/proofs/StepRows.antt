@@ -1,6 +1,6 @@
 -- The rows that each enabled step of a plan adds.
 use Rattle.std.proofs.Common.{◌≡◌, ◌≢◌, ℕ, ℤ, ◌+◌, ◌<◌, ◌≤◌, length, Bool, true, false, List, [], ◌∷◌, ◌++◌, refl, arith, sym, ap, subst, ◌∙◌, append_assoc, append-nil, Some, None}
-use Rattle.std.specs.Prelude.{◌==◌, ◌&&◌, not, nat_lt, if◌then◌else◌, Option}
+use Rattle.std.specs.Prelude.{◌==◌, ◌&&◌, not, nat_lt, if◌then◌else◌, Option, unwrap_or}
 use Rattle.std.proofs.lemmas.Bool.Decides.{nat_tests}
 use Rattle.kt_spacetime.specs.declared.event.Event.{Event}
 use Rattle.kt_spacetime.specs.declared.event.Event.TheVariants.{Sent, Began, Took, Ready, Failed, Refused}
@@ -26,7 +26,7 @@ use Rattle.kt_plan.specs.declared.steps.Step.TheVariants.{Do, Take}
 use Rattle.kt_plan.specs.declared.steps.Give.{Give}
 use Rattle.kt_plan.specs.declared.steps.Step.{Step}
 use Rattle.kt_plans.proofs.MachineSteps.{machine_after_command, after_machine_step, machine_enabled, machine_may_do}
-use Rattle.kt_plans.specs.Steps.{body_sent, may_do_job, protocol_step}
+use Rattle.kt_plans.specs.Steps.{may_do_job, protocol_step}
 use Rattle.kt_plan.specs.declared.commands.Job.TheVariants as job
 use Rattle.kt_plans.proofs.PhaseOrder.{Ordered, never_both}
 use Rattle.kt_plans.proofs.RunFacts.{RunFacts, opened_command, opened_take, after_front}
@@ -69,8 +69,8 @@ job_adds s p (job.Send q body) give l i m = at_if (Commanded s p (job.Send q bod
     tests : (p q n o : ℕ) → p < n → q < n → q ≢ p → (o == 0) ≡ true → ((nat_lt p n && nat_lt q n) && (o == 0 && not (q == p))) ≡ false → ⊥
     tests p q n o a b c d e = grind (arith, nat_tests, a, b, c, d, e)
 
-    go : (b : Bool) → Adds (AreRowsOfCommand (s.instances + 1) p (job.Send q body) give.body (if b then None else Some Down)) s (if b then after_sending s p q (body_sent body give.body) else after_refusal s p verb.Send Down)
-    go true = record { rows = Sent p q (body_sent body give.body) ∷ []; log = refl; fit = refl }
+    go : (b : Bool) → Adds (AreRowsOfCommand (s.instances + 1) p (job.Send q body) give.body (if b then None else Some Down)) s (if b then after_sending s p q (unwrap_or body give.body) else after_refusal s p verb.Send Down)
+    go true = record { rows = Sent p q (unwrap_or body give.body) ∷ []; log = refl; fit = refl }
     go false = record { rows = Refused p verb.Send Down ∷ []; log = refl; fit = refl }
 job_adds s p job.Checkpoint give l i m = go (s.so_far.open_in p == 0)
   where

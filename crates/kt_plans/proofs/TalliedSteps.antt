@@ -1,6 +1,6 @@
 -- Each step raises the tallies by the asks, replies and decisions that it adds to the channels.
 use Rattle.std.proofs.Common.{length, ◌≡◌, ℕ, ℤ, ◌+◌, ◌<◌, Bool, true, false, List, [], ◌∷◌, refl, arith, sym, ap, subst, ◌∙◌, Some, None}
-use Rattle.std.specs.Prelude.{◌==◌, ◌&&◌, not, nat_lt, if◌then◌else◌, Option}
+use Rattle.std.specs.Prelude.{◌==◌, ◌&&◌, not, nat_lt, if◌then◌else◌, Option, unwrap_or}
 use Rattle.std.proofs.lemmas.Bool.Decides.{nat_tests}
 use Rattle.kt_base.specs.declared.words.Cause.TheVariants.{Busy}
 use Rattle.kt_closing.specs.LateClosing.{late_deciding_as, late_deciding, late_closing_checkpoint, late_closing_rollback, late_closing}
@@ -24,7 +24,7 @@ use Rattle.kt_plan.specs.declared.steps.Step.TheVariants.{Do, Take}
 use Rattle.kt_plan.specs.declared.steps.Give.{Give}
 use Rattle.kt_plan.specs.declared.steps.Step.{Step}
 use Rattle.kt_plans.proofs.MachineSteps.{machine_after_command, machine_enabled, machine_may_do}
-use Rattle.kt_plans.specs.Steps.{body_sent, protocol_step}
+use Rattle.kt_plans.specs.Steps.{protocol_step}
 use Rattle.kt_plans.proofs.MachineTallies.{IsTallied, IsTalliedStep, machine_count_in_channels, machine_count_in_front, machine_is_ask_of, machine_is_decision_of, machine_is_reply_of, machine_taken_off}
 use Rattle.kt_plan.specs.declared.commands.Job.TheVariants as job
 use Rattle.kt_plans.proofs.RunFacts.{RunFacts, opened_command, opened_take}
@@ -220,7 +220,7 @@ module _ (n : ℕ) where
 
   pub job_tallied : (s : State) (p : ℕ) (j : Job) (give : Give) → s.processes ≡ n → p < n → IsJobOf n p j → IsTallied n none s (late_step s (protocol_step p j give))
   job_tallied s p (job.Send q body) give b pl i = at_if (IsTallied n none s) ((nat_lt p s.processes && nat_lt q s.processes) && (s.so_far.open_in p == 0 && not (q == p))) _ _
-      (λ _. at_if (IsTallied n none s) (s.up p) _ _ (λ _. sending_tallied s p q (body_sent body give.body) pl i.0) (λ _. unchanged n s _ refl refl refl refl))
+      (λ _. at_if (IsTallied n none s) (s.up p) _ _ (λ _. sending_tallied s p q (unwrap_or body give.body) pl i.0) (λ _. unchanged n s _ refl refl refl refl))
       (λ _. unchanged n s s refl refl refl refl)
   job_tallied s p job.Checkpoint give b pl i = at_if (IsTallied n none s) (s.so_far.open_in p == 0) _ _
       (λ _. at_if (IsTallied n none s) (give.able && s.up p) _ _ (λ _. beginning_tallied s p false b pl) (λ _. unchanged n s _ refl refl refl refl))

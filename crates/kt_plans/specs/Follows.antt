@@ -1,6 +1,6 @@
 -- A log that follows a plan, told by its rows alone: each process answers its commands in their order, and a phase begins
 -- where nothing of the earlier ones is under way.
-use Rattle.std.specs.Prelude.{◌≡◌, ◌≢◌, ◌<◌, ◌≤◌, ℕ, ◌==◌, ◌&&◌, if◌then◌else◌, Bool, true, false, Option, Some, None, is_some, option_map, option_and_then, List, [], ◌∷◌, length, filter, take, slice_get}
+use Rattle.std.specs.Prelude.{◌≡◌, ◌≢◌, ◌<◌, ◌≤◌, ℕ, ◌==◌, ◌&&◌, if◌then◌else◌, Bool, true, false, Option, Some, None, is_some, option_map, option_and_then, List, [], ◌∷◌, length, filter, take, slice_get, unwrap_or}
 use Rattle.kt_base.specs.declared.words.Kind.TheVariants as kind
 use Rattle.kt_spacetime.specs.declared.event.Event.{Event}
 use Rattle.kt_spacetime.specs.declared.event.Event.TheVariants.{Sent, Began, Failed, Refused}
@@ -15,7 +15,6 @@ use Rattle.kt_plan.specs.Limits.{Planned}
 use Rattle.kt_plans.specs.Plans.{commands_of}
 use Rattle.kt_plans.specs.Rows.{verb_of}
 use Rattle.std.specs.List.{AllZip}
-use Rattle.kt_plans.specs.Steps.{body_sent}
 
 -- a row that a process adds by a command of its own
 abbrev pub is_command_row : Event → Bool
@@ -32,7 +31,7 @@ command_rows p log = filter (λ row. process_of row == p && is_command_row row) 
 -- a row answers a job: it is done there, a send with the body of the command if it has one, or refused
 abbrev pub AnswersJob : Job → Event → Type 0
 AnswersJob j (Refused p verb cause) = verb ≡ verb_of j
-AnswersJob (job.Send to body) (Sent p q sent) = (q ≡ to) × (sent ≡ body_sent body sent)
+AnswersJob (job.Send to body) (Sent p q sent) = (q ≡ to) × (sent ≡ unwrap_or body sent)
 AnswersJob job.Checkpoint (Began p k kind.Checkpoint) = Unit {0}
 AnswersJob job.Rollback (Began p k kind.Rollback) = Unit {0}
 AnswersJob job.Fail (Failed p) = Unit {0}

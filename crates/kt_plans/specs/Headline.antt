@@ -15,8 +15,8 @@ use Rattle.kt_protocol.specs.Logs.{HasLeastDecisions, HasLinkedDecisions, Aborts
 
 -- each row keeps every rule; the members of each committed instance are the least set, and each but the initiator has a
 -- linking message with an earlier one; at no row the permanent cut or the present cut has an orphan; an instance is aborted
--- exactly where a process was unwilling, which a message asked for; an abort changes no live history and no permanent
--- position; and it has certificates, of which the checker says yes
+-- exactly where a process was unwilling, which a message asked for; and an abort changes no live history and no permanent
+-- position
 pub record IsPromised (log : List Event) : Type 0 where
   pub legal : IsLegal log
   pub least_decisions : HasLeastDecisions log
@@ -26,6 +26,9 @@ pub record IsPromised (log : List Event) : Type 0 where
   pub aborts : AbortsWhereUnwilling log
   pub justified : JustifiesUnwilling log
   pub unchanged : AbortsChangeNothing log
+
+-- it has certificates, which are made but for want of memory; they pass, and the checker's answer to them is yes
+pub record IsCertified (log : List Event) : Type 0 where
   pub certified : (f : CertFault) → IsFaultOf log f → f ≡ Memory
   pub passed : IsPassed log (certificates log)
   pub answer : IsAnswer log (certificates log) Yes

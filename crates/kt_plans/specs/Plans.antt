@@ -7,22 +7,7 @@ abbrev pub commands_of : ℕ → List Command → List Command
 commands_of p [] = []
 commands_of p (c ∷ cs) = if c.by == p then c ∷ commands_of p cs else commands_of p cs
 
--- some command is of phase k
-abbrev pub has_phase : ℕ → List Command → Bool
-has_phase k [] = false
-has_phase k (c ∷ cs) = c.phase == k || has_phase k cs
-
 -- the greatest phase of a command
 abbrev pub last_phase : List Command → ℕ
 last_phase [] = 0
 last_phase (c ∷ cs) = max c.phase (last_phase cs)
-
--- the first of some commands
-abbrev pub first_command : List Command → Option Command
-first_command [] = None
-first_command (c ∷ cs) = Some c
-
--- there is a command
-abbrev pub has_command : List Command → Bool
-has_command [] = false
-has_command (c ∷ cs) = true

@@ -1,12 +1,12 @@
--- What code has of a run of a plan: what is seen of the protocol's state, how far the commands have come, and tallies.
-use Rattle.std.specs.Prelude.{length, ℕ, zero, suc, ◌+◌, ◌-◌, ◌==◌, ◌&&◌, ◌||◌, not, nat_lt, if◌then◌else◌, Bool, Option, List, drop}
+-- What code has of a run of a plan: what is seen of the protocol's state, and how far the commands have come.
+use Rattle.std.specs.List.{list_any}
+use Rattle.std.specs.Prelude.{length, ℕ, zero, suc, ◌+◌, ◌-◌, ◌==◌, ◌&&◌, ◌||◌, not, nat_lt, if◌then◌else◌, Bool, Option, List, drop, slice_get}
 use Rattle.kt_protocol.specs.Deciding.{none_of}
 use Rattle.kt_seen.specs.Seen.{Seen}
 use Rattle.kt_seen.specs.Transition.{opening_seen}
 use Rattle.kt_plan.specs.declared.commands.Command.{Command}
 use Rattle.kt_plan.specs.Limits.{Planned}
-use Rattle.kt_plans.specs.Plans.{commands_of, has_phase, last_phase, first_command}
-use Rattle.kt_plans.specs.Tallies.{Tallies, no_tallies}
+use Rattle.kt_plans.specs.Plans.{commands_of, last_phase}
 use Rattle.kt_fifo.specs.Queues.{has_parcel}
 
 -- a plan's run as code has it
@@ -15,8 +15,6 @@ pub record Progress : Type 0 where
   -- how many of its commands a process has done
   pub done : ℕ → ℕ
   pub phase : ℕ
-  -- what each instance has put into the channels
-  pub put : Tallies
 
 -- the commands that p has still to do
 abbrev pub commands_left : Planned → Progress → ℕ → List Command
@@ -24,7 +22,7 @@ commands_left plan w p = drop (w.done p) (commands_of p plan.commands)
 
 -- the first of them
 abbrev pub next_command : Planned → Progress → ℕ → Option Command
-next_command plan w p = first_command (commands_left plan w p)
+next_command plan w p = slice_get (commands_left plan w p) 0
 
 -- nobody is in an instance, and no parcel is in a channel or held
 abbrev pub is_quiet : ℕ → Seen → Bool
@@ -34,7 +32,7 @@ is_quiet n v =
 
 -- no command of the open phase is left
 abbrev pub is_phase_done : Planned → Progress → Bool
-is_phase_done plan w = none_of (length plan.names) (λ p. has_phase w.phase (commands_left plan w p))
+is_phase_done plan w = none_of (length plan.names) (λ p. list_any (λ (c : Command). c.phase == w.phase) (commands_left plan w p))
 
 -- the next phase opens: the open one is done, all is quiet, and a later one is there
 abbrev pub opens_next : Planned → Progress → Bool
@@ -52,4 +50,4 @@ with_phases_open plan w = after_opening (last_phase plan.commands - w.phase) pla
 -- nothing has been done, and phases without commands have opened
 abbrev pub progress_at_start : Planned → ℕ → Progress
 progress_at_start plan first =
-    with_phases_open plan (record { now = opening_seen (length plan.names) first; done = λ p. 0; phase = 0; put = no_tallies })
+    with_phases_open plan (record { now = opening_seen (length plan.names) first; done = λ p. 0; phase = 0 })

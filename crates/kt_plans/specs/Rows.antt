@@ -1,5 +1,5 @@
 -- Which rows one step adds to the log, by what code has.
-use Rattle.std.specs.Prelude.{◌≡◌, ℕ, ◌+◌, ◌==◌, ◌&&◌, not, if◌then◌else◌, Bool, true, false, Option, Some, None, List, [], ◌∷◌, ◌++◌, length, ◌⊎◌, ℤ, ◌≤◌, ◌||◌}
+use Rattle.std.specs.Prelude.{◌≡◌, ℕ, ◌+◌, ◌==◌, ◌&&◌, not, if◌then◌else◌, Bool, true, false, Option, Some, None, List, [], ◌∷◌, ◌++◌, length, ◌⊎◌, ℤ, ◌≤◌, ◌||◌, unwrap_or}
 use Rattle.kt_base.specs.declared.words.Cause.{Cause}
 use Rattle.kt_base.specs.declared.words.Cause.TheVariants.{Busy, Down, NoSave}
 use Rattle.kt_base.specs.declared.words.Verb.{Verb}
@@ -18,7 +18,7 @@ use Rattle.kt_plan.specs.declared.steps.Give.{Give}
 use Rattle.kt_plan.specs.declared.commands.Job.TheVariants as job
 use Rattle.kt_fifo.specs.Queues.{has_parcel}
 use Rattle.kt_plans.specs.Progress.{Progress, next_command}
-use Rattle.kt_plans.specs.Steps.{progress_after, body_sent}
+use Rattle.kt_plans.specs.Steps.{progress_after}
 use Rattle.kt_base.specs.declared.words.Kind.TheVariants as kind
 use Rattle.kt_base.specs.declared.words.Verb.TheVariants as verb
 
@@ -36,7 +36,7 @@ AreDecidingRows p k rows = (rows ≡ []) ⊎ ((commit : Bool) × (rows ≡ Decid
 -- the rows of p's job: that it is refused, or that it is done; k is the next instance
 abbrev pub AreRowsOfCommand : ℕ → ℕ → Job → ℤ → Option Cause → List Event → Type 0
 AreRowsOfCommand k p j body (Some cause) rows = rows ≡ Refused p (verb_of j) cause ∷ []
-AreRowsOfCommand k p (job.Send q b) body None rows = rows ≡ Sent p q (body_sent b body) ∷ []
+AreRowsOfCommand k p (job.Send q b) body None rows = rows ≡ Sent p q (unwrap_or b body) ∷ []
 AreRowsOfCommand k p job.Checkpoint body None rows = (more : List Event) × AreDecidingRows p k more × (rows ≡ Began p k kind.Checkpoint ∷ Took p k ∷ more)
 AreRowsOfCommand k p job.Rollback body None rows = (more : List Event) × AreDecidingRows p k more × (rows ≡ Began p k kind.Rollback ∷ Ready p k ∷ more)
 AreRowsOfCommand k p job.Fail body None rows = rows ≡ Failed p ∷ []

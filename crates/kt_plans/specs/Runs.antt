@@ -61,7 +61,6 @@ after_gives plan w (x ∷ xs) = next_default (λ s. after_gives plan (progress_a
 pub record IsSameButPhase (w w' : Progress) : Type 0 where
   pub now : w'.now ≡ w.now
   pub done : w'.done ≡ w.done
-  pub put : w'.put ≡ w.put
 
 -- the protocol's step for p's command, if there is one
 abbrev pub steps_of_command : ℕ → Give → Option Command → List machine.Step

@@ -1,5 +1,5 @@
 -- The steps of a plan, by what code has: when one may be made, and what it makes.
-use Rattle.std.specs.Prelude.{length, ℕ, ◌+◌, ◌==◌, ◌&&◌, ◌||◌, not, nat_lt, Bool, false, Option, Some, None, ℤ, true}
+use Rattle.std.specs.Prelude.{length, ℕ, ◌+◌, ◌==◌, ◌&&◌, ◌||◌, not, nat_lt, Bool, false, Option, Some, None, ℤ, true, is_some, unwrap_or}
 use Rattle.kt_cuts.specs.Past.{at_one}
 use Rattle.kt_protocol.specs.Deciding.{none_of}
 use Rattle.kt_protocol.specs.States as machine
@@ -7,12 +7,10 @@ use Rattle.kt_seen.specs.Seen.{Seen}
 use Rattle.kt_seen.specs.Transition.{is_seen_ready, transition}
 use Rattle.kt_plan.specs.declared.commands.Command.{Command}
 use Rattle.kt_plan.specs.Limits.{Planned}
-use Rattle.kt_plans.specs.Plans.{has_command}
 use Rattle.kt_plan.specs.declared.steps.Step.{Step}
 use Rattle.kt_plan.specs.declared.steps.Step.TheVariants.{Do, Take}
 use Rattle.kt_plan.specs.declared.steps.Give.{Give}
 use Rattle.kt_fifo.specs.Queues.{has_parcel}
-use Rattle.kt_plans.specs.Tallies.{raised_tally}
 use Rattle.kt_plans.specs.Progress.{Progress, commands_left, next_command, is_quiet, with_phases_open}
 use Rattle.kt_plan.specs.declared.commands.Job.{Job}
 use Rattle.kt_plan.specs.declared.commands.Job.TheVariants as job
@@ -22,14 +20,9 @@ abbrev pub may_do_job : Bool → Job → Bool
 may_do_job closed (job.Send q body) = closed
 may_do_job closed _ = true
 
--- the body of the command or, if it has none, the one that is offered
-abbrev pub body_sent : Option ℤ → ℤ → ℤ
-body_sent None z = z
-body_sent (Some b) z = b
-
--- the protocol's step for p's job
+-- the protocol's step for p's job: a send has the body of the command or, if it has none, the one that is offered
 abbrev pub protocol_step : ℕ → Job → Give → machine.Step
-protocol_step p (job.Send q body) give = machine.Send p q (body_sent body give.body)
+protocol_step p (job.Send q body) give = machine.Send p q (unwrap_or body give.body)
 protocol_step p job.Checkpoint give = machine.Begin p false give.able
 protocol_step p job.Rollback give = machine.Begin p true give.able
 protocol_step p job.Fail give = machine.Fail p
@@ -55,21 +48,19 @@ enabled plan w (Take p q) = (nat_lt p (length plan.names) && nat_lt q (length pl
 
 -- no command is left, and all is quiet
 abbrev pub is_at_rest : Planned → Progress → Bool
-is_at_rest plan w = none_of (length plan.names) (λ p. has_command (commands_left plan w p)) && is_quiet (length plan.names) w.now
-
--- step x has led to what is seen now, and the tallies count what it added to the channels
-abbrev pub with_seen : Planned → Progress → Step → Seen → Progress
-with_seen plan w x v = record w { now = v; put = raised_tally (length plan.names) w.now x v w.put }
+is_at_rest plan w = none_of (length plan.names) (λ p. is_some (next_command plan w p)) && is_quiet (length plan.names) w.now
 
 -- p has done this command, if there is one, and phases have opened
 abbrev pub after_command : Planned → Progress → ℕ → Give → Option Command → Progress
 after_command plan w p give None = w
 after_command plan w p give (Some c) =
-    with_phases_open plan (record (with_seen plan w (Do p) (transition w.now (protocol_step p c.job give)))
-    { done = at_one p (w.done p + 1) w.done })
+    with_phases_open plan (record w {
+      now = transition w.now (protocol_step p c.job give);
+      done = at_one p (w.done p + 1) w.done;
+    })
 
 -- what a step makes, with what the object gives
 abbrev pub progress_after : Planned → Progress → Step → Give → Progress
 progress_after plan w (Do p) give = after_command plan w p give (next_command plan w p)
 progress_after plan w (Take p q) give =
-    with_phases_open plan (with_seen plan w (Take p q) (transition w.now (machine.Take p q give.able)))
+    with_phases_open plan (record w { now = transition w.now (machine.Take p q give.able) })

@@ -1,12 +1,17 @@
 -- How many asks, replies and decisions of each instance have been put into the channels, by what code has.
-use Rattle.std.specs.Prelude.{◌≡◌, ℕ, ◌+◌, ◌-◌, ◌==◌, ◌&&◌, not, if◌then◌else◌, Bool, false, List, [], ◌∷◌, zero, suc}
+use Rattle.std.specs.Prelude.{◌≡◌, ℕ, ◌+◌, ◌-◌, ◌==◌, ◌&&◌, not, if◌then◌else◌, Bool, false, Some, List, [], ◌∷◌, length, zero, suc}
 use Rattle.kt_fifo.specs.Queues.{has_parcel}
 use Rattle.kt_fifo.specs.declared.parcels.Parcel.{Parcel}
 use Rattle.kt_fifo.specs.declared.parcels.Parcel.TheVariants.{Ask, Reply, Decide}
 use Rattle.kt_seen.specs.Seen.{SeenLists, Seen}
 use Rattle.kt_seen.specs.Transition.{is_seen_ready}
+use Rattle.kt_plan.specs.Limits.{Planned}
 use Rattle.kt_plan.specs.declared.steps.Step.{Step}
 use Rattle.kt_plan.specs.declared.steps.Step.TheVariants.{Do, Take}
+use Rattle.kt_plan.specs.declared.steps.Give.{Give}
+use Rattle.kt_plans.specs.Progress.{Progress, progress_at_start}
+use Rattle.kt_plans.specs.Steps.{progress_after}
+use Rattle.kt_plans.specs.Runs.{Move, after_moves}
 
 -- the sum over the numbers below n
 unfoldable pub total_below : ℕ → (ℕ → ℕ) → ℕ
@@ -84,3 +89,19 @@ pub record IsRaised (n : ℕ) (v : Seen) (x : Step) (v' : Seen) (old new : Talli
   pub decisions : (k : ℕ) →
       count_in_channels n (is_decision_of k) v'.channel + taken_off v x (is_decision_of k) + old.decisions k
       ≡ count_in_channels n (is_decision_of k) v.channel + new.decisions k
+
+-- the tallies after one more step of a run
+abbrev pub tallies_after : Planned → Progress → Step → Give → Tallies → Tallies
+tallies_after plan w x give put = raised_tally (length plan.names) w.now x (progress_after plan w x give).now put
+
+-- after some moves, one after another
+abbrev pub tallies_along : Planned → Progress → List Move → Tallies → Tallies
+tallies_along plan w [] put = put
+tallies_along plan w (x ∷ xs) put =
+    tallies_along plan (progress_after plan w x.step x.give) xs (tallies_after plan w x.step x.give put)
+
+-- a run of the plan leads here, and its instances have put so much
+pub record RunPuts (plan : Planned) (first : ℕ) (w : Progress) (put : Tallies) : Type 0 where
+  pub moves : List Move
+  pub leads : after_moves plan (progress_at_start plan first) moves ≡ Some w
+  pub counted : tallies_along plan (progress_at_start plan first) moves no_tallies ≡ put

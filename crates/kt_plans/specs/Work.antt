@@ -2,7 +2,7 @@
 use Rattle.std.specs.Prelude.{ℕ, ◌+◌, ◌-◌, length, Bool, false, true, List, [], ◌∷◌, if◌then◌else◌, ◌*◌}
 use Rattle.kt_seen.specs.Seen.{SeenLists}
 use Rattle.kt_plan.specs.Limits.{Planned}
-use Rattle.kt_plans.specs.Tallies.{total_below}
+use Rattle.kt_plans.specs.Tallies.{Tallies, total_below}
 use Rattle.kt_plans.specs.Progress.{Progress, commands_left}
 use Rattle.kt_plan.specs.declared.commands.Job.{Job}
 use Rattle.kt_plan.specs.declared.commands.Command.{Command}
@@ -32,16 +32,16 @@ abbrev pub parcels_under_way : ℕ → SeenLists → ℕ
 parcels_under_way n channel = total_below n (λ p. total_below n (λ q. length (channel p q)))
 
 -- how many rows there are, and asks, replies and decisions put of the instances below k
-abbrev pub put_so_far : ℕ → Progress → ℕ
-put_so_far k w =
-    length w.now.log + (total_below k w.put.asks + (total_below k w.put.replies + total_below k w.put.decisions))
+abbrev pub put_so_far : ℕ → Progress → Tallies → ℕ
+put_so_far k w put =
+    length w.now.log + (total_below k put.asks + (total_below k put.replies + total_below k put.decisions))
 
 -- how many commands are left
 abbrev pub count_left : Planned → Progress → ℕ
 count_left plan w = total_below (length plan.names) (λ p. length (commands_left plan w p))
 
 -- commands left, what may still be put within so many rows, and parcels to take
-abbrev pub work_left : ℕ → Planned → Progress → ℕ
-work_left rows plan w =
-    count_left plan w + ((rows + most_put plan) - put_so_far (length plan.commands + 1) w)
+abbrev pub work_left : ℕ → Planned → Progress → Tallies → ℕ
+work_left rows plan w put =
+    count_left plan w + ((rows + most_put plan) - put_so_far (length plan.commands + 1) w put)
     + parcels_under_way (length plan.names) w.now.channel

@@ -15,6 +15,7 @@ use Rattle.kt_plans.specs.WorkedPlans.{worked_plan, two, three, command, given, 
 use Rattle.kt_plans.specs.Progress.{Progress, progress_at_start}
 use Rattle.kt_plans.specs.Steps.{progress_after}
 use Rattle.kt_plans.specs.Defaults.{default_step}
+use Rattle.kt_plans.specs.Tallies.{Tallies, no_tallies, tallies_along}
 
 -- where labels begin after 100: the start, and where some moves lead
 abbrev pub start_after_hundred : Planned → Progress
@@ -26,6 +27,10 @@ led_by plan moves = after_moves plan (start_after_hundred plan) moves
 -- what is so where some moves lead
 abbrev pub at_end : {X : Type 0} → Planned → List Move → (Progress → X) → Option X
 at_end plan moves f = option_map f (led_by plan moves)
+
+-- what the instances put along some moves
+abbrev pub put_by : Planned → List Move → Tallies
+put_by plan moves = tallies_along plan (start_after_hundred plan) moves no_tallies
 
 -- at most n default steps from here, with the next one
 abbrev pub steps_from : ℕ → Planned → Progress → Option Step → List Step

@@ -1,6 +1,6 @@
 //! What is promised of every run of a plan, by what code has of it: each function has nothing to run, and its
-//! contract is the law. Progress is what code has: what is seen of the protocol's state, the commands done, the open
-//! phase and tallies.
+//! contract is the law. Progress is what code has: what is seen of the protocol's state, the commands done and the open
+//! phase.
 
 ghost use Rattle.std.specs.Prelude.{ℤ, ◌+◌, ◌∷◌, ◌==◌, ◌&&◌, not, is_some, ◌++◌, ◌≡◌, ◌≢◌, ◌<◌, ◌*◌, ◌-◌, ◌≤◌, ◌⊎◌, ◌↔◌, ℕ, true, false, Some, None, List, [], length, take, slice_get, pos};
 ghost use Rattle.kt_base.specs.declared.words.Cause.{Cause};
@@ -46,7 +46,7 @@ ghost use Rattle.kt_plans.specs.Runs.{Move, after_moves, RunReaches, protocol_st
 ghost use Rattle.kt_plan.specs.declared.steps.Step.{Step};
 ghost use Rattle.kt_plan.specs.declared.steps.Step.TheVariants.{Do, Take};
 ghost use Rattle.kt_plan.specs.declared.steps.Give.{Give};
-ghost use Rattle.kt_plans.specs.Steps.{process_of_step, protocol_step, enabled, with_seen, progress_after, is_at_rest};
+ghost use Rattle.kt_plans.specs.Steps.{process_of_step, protocol_step, enabled, progress_after, is_at_rest};
 ghost use Rattle.kt_plan.specs.declared.steps.Look.TheVariants.{Idle, NeedsBody, NeedsSave};
 ghost use Rattle.kt_plans.specs.Looks.{uses_able, uses_body, look};
 ghost use Rattle.kt_plans.specs.Work.{most_steps_of_run, count_begins, work_left};
@@ -55,9 +55,9 @@ ghost use Rattle.kt_plan.specs.declared.commands.Command.{Command};
 ghost use Rattle.kt_plans.specs.Plans.{commands_of};
 ghost use Rattle.kt_plans.specs.Rows.{has_took_row, has_sent_row, AreRowsOfStep, IsRefusedStep, is_offer_step};
 ghost use Rattle.kt_plans.specs.WorkedPlans.{given, moves_of, checkpoint_two_phases_later, checkpoint_two_phases_later_steps, checkpoint_two_phases_later_log, late_message, message_held, until_it_is_held, until_it_is_received, message_held_log};
-ghost use Rattle.kt_plans.specs.Tallies.{no_tallies, IsRaised};
+ghost use Rattle.kt_plans.specs.Tallies.{Tallies, no_tallies, tallies_after, IsRaised, RunPuts};
 ghost use Rattle.kt_plan.specs.Failures.{failures_of};
-ghost use Rattle.kt_plans.specs.Headline.{IsPromised};
+ghost use Rattle.kt_plans.specs.Headline.{IsPromised, IsCertified};
 ghost use Rattle.kt_plans.specs.Lines.{message_line, EachIsOnceOnItsLine, RetainsReceived, messages_among};
 ghost use Rattle.kt_plans.specs.Messages.{AreMessagesTo};
 ghost use Rattle.kt_plans.specs.Progress.{Progress, commands_left, next_command, opens_next, is_quiet, progress_at_start};
@@ -67,9 +67,9 @@ ghost use Rattle.kt_plans.specs.Order.{comes_before, next_place, IsFirstEnabled}
 ghost use Rattle.kt_plans.specs.AtRest.{HasNothingUnderWay};
 ghost use Rattle.kt_plans.specs.Unwilling.{IsUnwillingStep};
 ghost use Rattle.kt_plans.specs.StepActs.{rows_added, acts_of_step, keeps_only_first};
-ghost use Rattle.kt_plans.specs.Offers.{GivesOffers, offer_places, AreOfferedAt};
+ghost use Rattle.kt_plans.specs.Offers.{GivesOffers, SendsWhatIsOffered};
 ghost use Rattle.kt_plans.specs.Told.{told_by, told_by_move, acts_told, rows_told, rows_by, rows_along};
-ghost use Rattle.kt_plans.specs.WorkedRuns.{start_after_hundred, at_end, default_steps, gives, fails_twice, fails_twice_steps, fails_twice_log, rolls_back_then_aborts, until_it_holds, until_all_are_done, rolls_back_then_aborts_moves, rolls_back_then_aborts_log};
+ghost use Rattle.kt_plans.specs.WorkedRuns.{start_after_hundred, at_end, put_by, default_steps, gives, fails_twice, fails_twice_steps, fails_twice_log, rolls_back_then_aborts, until_it_holds, until_all_are_done, rolls_back_then_aborts_moves, rolls_back_then_aborts_log};
 ghost use Rattle.kt_plans.specs.WorkedFollows.{two_messages, two_messages_then_failure, both_arrive, one_left_out, swapped, too_early, not_quiet, one_arrives, failure_before_message, one_dropped, one_checkpoint, undecided};
 
 /// Where the next command of a process stands in its plan; and a process that has one is there.
@@ -184,18 +184,18 @@ pub fn rows_of_runs()
         × (slice_get (rows_added plan w x give) i ≢ Some (Dropped p q m)) }
 {}
 
-/// However far a plan has come: what a step makes but for the open phase is the transition of what is seen, one
-/// command done, and tallies raised by what is added to the channels.
+/// However far a plan has come: what a step makes but for the open phase is the transition of what is seen, and one
+/// command done.
 pub fn progress_after_steps()
     ensures start { (plan : Planned) (first : ℕ) →
-        IsSameButPhase (record { now = opening_seen (length plan.names) first; done = λ p. 0; phase = 0; put = no_tallies })
+        IsSameButPhase (record { now = opening_seen (length plan.names) first; done = λ p. 0; phase = 0 })
         (progress_at_start plan first) }
     ensures takes { (plan : Planned) (w : Progress) (p q : ℕ) (give : Give) →
-        IsSameButPhase (with_seen plan w (Take p q) (transition w.now (machine.Take p q give.able)))
+        IsSameButPhase (record w { now = transition w.now (machine.Take p q give.able) })
         (progress_after plan w (Take p q) give) }
     ensures does { (plan : Planned) (w : Progress) (p : ℕ) (give : Give) (c : Command) → next_command plan w p ≡ Some c →
-        IsSameButPhase (record (with_seen plan w (Do p) (transition w.now (protocol_step p c.job give)))
-        { done = at_one p (w.done p + 1) w.done }) (progress_after plan w (Do p) give) }
+        IsSameButPhase (record w { now = transition w.now (protocol_step p c.job give); done = at_one p (w.done p + 1) w.done })
+        (progress_after plan w (Do p) give) }
 {}
 
 /// The steps of the protocol behind those of a plan: they lead to what is seen, and a step has the acts of its own.
@@ -336,6 +336,15 @@ pub fn runs_that_go_on()
         most_steps_of_run plan rows < length given + length gives → is_at_rest plan (after_gives plan w gives) ≡ true }
 {}
 
+/// A log of which all is so that is promised of a run's, whoever wrote it: what its certificates are worth.
+pub fn certificates_of_promised_logs()
+    // It has some, but for want of memory; they pass, and the checker's answer is yes.
+    ensures certified { (log : List Event) → IsPromised log → IsCertified log }
+
+    // It can't be another one.
+    ensures yes { (log : List Event) (v : Verdict) → IsPromised log → IsAnswer log (certificates log) v → v ≡ Yes }
+{}
+
 /// For every run of every plan: the certificates of its log.
 pub fn certificates_of_runs()
     // One for each decided instance, by rising number, as the log has it.
@@ -396,16 +405,17 @@ pub fn runs_end()
         after_moves plan (progress_at_start plan first) moves ≡ Some w → length moves ≤ most_steps_of_run plan (length w.now.log) }
 
     // Each step that stays within the rows lowers the work that is left.
-    ensures falls { (plan : Planned) (first rows : ℕ) (w : Progress) (x : Step) (give : Give) → IsPlan plan →
-        RunReaches plan first w → enabled plan w x ≡ true → length (progress_after plan w x give).now.log ≤ rows →
-        work_left rows plan (progress_after plan w x give) < work_left rows plan w }
+    ensures falls { (plan : Planned) (first rows : ℕ) (w : Progress) (put : Tallies) (x : Step) (give : Give) →
+        IsPlan plan → RunPuts plan first w put → enabled plan w x ≡ true →
+        length (progress_after plan w x give).now.log ≤ rows →
+        work_left rows plan (progress_after plan w x give) (tallies_after plan w x give put) < work_left rows plan w put }
 
     // Default steps go on with the run, whatever objects give at each, and come to rest.
     ensures defaults { (n : ℕ) (plan : Planned) (first : ℕ) (give : Progress → Step → Give) (w : Progress) → IsPlan plan →
         RunReaches plan first w → RunReaches plan first (after_defaults n plan give w) }
-    ensures after { (n : ℕ) (plan : Planned) (first rows : ℕ) (give : Progress → Step → Give) (w : Progress) → IsPlan plan →
-        RunReaches plan first w → length (after_defaults n plan give w).now.log ≤ rows →
-        work_left rows plan w < n → is_at_rest plan (after_defaults n plan give w) ≡ true }
+    ensures after { (n : ℕ) (plan : Planned) (first rows : ℕ) (give : Progress → Step → Give) (w : Progress)
+        (put : Tallies) → IsPlan plan → RunPuts plan first w put → length (after_defaults n plan give w).now.log ≤ rows →
+        work_left rows plan w put < n → is_at_rest plan (after_defaults n plan give w) ≡ true }
     ensures rest { (n : ℕ) (plan : Planned) (first rows : ℕ) (give : Progress → Step → Give) → IsPlan plan →
         length (after_defaults n plan give (progress_at_start plan first)).now.log ≤ rows → most_steps_of_run plan rows < n →
         is_at_rest plan (after_defaults n plan give (progress_at_start plan first)) ≡ true }
@@ -521,7 +531,7 @@ pub fn values_of_runs<V>()
     ensures offers { (rules : ℕ → Rules V) (plan : Planned) (first : ℕ) (moves : List Move) (w : Progress) → IsPlan plan →
         after_moves plan (progress_at_start plan first) moves ≡ Some w →
         GivesOffers rules plan (progress_at_start plan first) moves →
-        AreOfferedAt rules w.now.log (offer_places plan (progress_at_start plan first) moves) }
+        SendsWhatIsOffered rules plan w.now.log }
 
     // A step that closes an aborted instance changes no object and no permanent state.
     ensures aborts_objects { (r : Rules V) (plan : Planned) (first : ℕ) (w : Progress) (x : Step) (give : Give)
@@ -596,10 +606,14 @@ pub fn objects_of_runs<V, B>()
 
 /// For every run of every plan: how many asks, replies and decisions each instance has put into the channels.
 pub fn tallies_of_runs()
-    // Each enabled step raises the tallies by what it adds to the channels.
-    ensures raised { (plan : Planned) (first : ℕ) (w : Progress) (x : Step) (give : Give) → IsPlan plan →
-        RunReaches plan first w → enabled plan w x ≡ true →
-        IsRaised (length plan.names) w.now x (progress_after plan w x give).now w.put (progress_after plan w x give).put }
+    // None at first; and each enabled step raises the tallies by what it adds to the channels.
+    ensures start { (plan : Planned) (first : ℕ) → RunPuts plan first (progress_at_start plan first) no_tallies }
+    ensures next { (plan : Planned) (first : ℕ) (w : Progress) (put : Tallies) (x : Step) (give : Give) →
+        RunPuts plan first w put → enabled plan w x ≡ true →
+        RunPuts plan first (progress_after plan w x give) (tallies_after plan w x give put) }
+    ensures raised { (plan : Planned) (first : ℕ) (w : Progress) (put : Tallies) (x : Step) (give : Give) → IsPlan plan →
+        RunPuts plan first w put → enabled plan w x ≡ true →
+        IsRaised (length plan.names) w.now x (progress_after plan w x give).now put (tallies_after plan w x give put) }
 
     // There are at most as many instances as commands that may begin one, and as long as a command is left, fewer than
     // commands. One that has not begun has put nothing, and each has put few.
@@ -607,14 +621,14 @@ pub fn tallies_of_runs()
         w.now.begun ≤ count_begins plan.commands }
     ensures fewer { (plan : Planned) (first : ℕ) (w : Progress) (p : ℕ) (c : Command) → IsPlan plan →
         RunReaches plan first w → next_command plan w p ≡ Some c → w.now.begun < length plan.commands }
-    ensures unbegun { (plan : Planned) (first : ℕ) (w : Progress) (k : ℕ) → IsPlan plan → RunReaches plan first w →
-        w.now.begun < k → w.put.asks k ≡ 0 }
-    ensures asks { (plan : Planned) (first : ℕ) (w : Progress) (k : ℕ) → IsPlan plan → RunReaches plan first w →
-        w.put.asks k ≤ length plan.names * (length plan.names - 1) }
-    ensures replies { (plan : Planned) (first : ℕ) (w : Progress) (k : ℕ) → IsPlan plan → RunReaches plan first w →
-        w.put.replies k ≤ w.put.asks k }
-    ensures decisions { (plan : Planned) (first : ℕ) (w : Progress) (k : ℕ) → IsPlan plan → RunReaches plan first w →
-        w.put.decisions k ≤ w.put.asks k }
+    ensures unbegun { (plan : Planned) (first : ℕ) (w : Progress) (put : Tallies) (k : ℕ) → IsPlan plan →
+        RunPuts plan first w put → w.now.begun < k → put.asks k ≡ 0 }
+    ensures asks { (plan : Planned) (first : ℕ) (w : Progress) (put : Tallies) (k : ℕ) → IsPlan plan →
+        RunPuts plan first w put → put.asks k ≤ length plan.names * (length plan.names - 1) }
+    ensures replies { (plan : Planned) (first : ℕ) (w : Progress) (put : Tallies) (k : ℕ) → IsPlan plan →
+        RunPuts plan first w put → put.replies k ≤ put.asks k }
+    ensures decisions { (plan : Planned) (first : ℕ) (w : Progress) (put : Tallies) (k : ℕ) → IsPlan plan →
+        RunPuts plan first w put → put.decisions k ≤ put.asks k }
 {}
 
 /// Logs that were worked out by hand: which follow their plan, and which do not.
@@ -700,9 +714,9 @@ pub fn worked_progress()
         (λ w. acts_of_step fails_twice w (Take 1 0) given 1) ≡ Some (Promote ∷ []) }
 
     // Its instance puts one ask, one reply and one decision; its certificate has a chain of that message.
-    ensures asks { at_end fails_twice (moves_of fails_twice_steps) (λ w. w.put.asks 1) ≡ Some 1 }
-    ensures replies { at_end fails_twice (moves_of fails_twice_steps) (λ w. w.put.replies 1) ≡ Some 1 }
-    ensures decisions { at_end fails_twice (moves_of fails_twice_steps) (λ w. w.put.decisions 1) ≡ Some 1 }
+    ensures asks { (put_by fails_twice (moves_of fails_twice_steps)).asks 1 ≡ 1 }
+    ensures replies { (put_by fails_twice (moves_of fails_twice_steps)).replies 1 ≡ 1 }
+    ensures decisions { (put_by fails_twice (moves_of fails_twice_steps)).decisions 1 ≡ 1 }
     ensures certified { certificates fails_twice_log ≡ record {
       inst = 1;
       kind = kind.Checkpoint;

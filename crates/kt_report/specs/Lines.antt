@@ -27,18 +27,13 @@ abbrev pub instance_line : List (List ℕ) → Certificate → List ℕ
 instance_line names c = line (codes "instance" ∷ decimal c.inst ∷ kind_word c.kind ∷ name_of names c.initiator ∷ decision_word c.commit ∷ [])
 
 -- between whom a message went, as the row that sent it says
-abbrev pub ends_word : List (List ℕ) → Event → List ℕ
-ends_word names (Sent p to body) = 58 ∷ (name_of names p ++ 62 ∷ name_of names to)
+abbrev pub ends_word : List (List ℕ) → Option Event → List ℕ
+ends_word names (Some (Sent p to body)) = 58 ∷ (name_of names p ++ 62 ∷ name_of names to)
 ends_word names _ = []
-
--- the same of a row that may not be there
-abbrev pub ends_if : List (List ℕ) → Option Event → List ℕ
-ends_if names (Some row) = ends_word names row
-ends_if names None = []
 
 -- a message of a chain: its number and between whom it went
 abbrev pub message_word : List (List ℕ) → List Event → ℕ → List ℕ
-message_word names rows msg = decimal msg ++ ends_if names (slice_get rows (msg - 1))
+message_word names rows msg = decimal msg ++ ends_word names (slice_get rows (msg - 1))
 
 -- the line of a member: its name and the messages of its chain
 abbrev pub member_line : List (List ℕ) → List Event → Member → List ℕ

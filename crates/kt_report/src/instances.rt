@@ -122,7 +122,7 @@ fn push_message(text: &mut Vec<u8>, names: &Names, rows: &[Event], msg: MsgNo) -
 
 // Between whom a message went, if this row sent it.
 fn push_ends(text: &mut Vec<u8>, names: &Names, row: Event) -> Result<(), Memory>
-    ensures { OnOk result (text.new.items ≡ text.old.items ++ ends_word names.now row) }
+    ensures { OnOk result (text.new.items ≡ text.old.items ++ ends_word names.now (Some row)) }
 {
     match row {
         Event::Sent { p, to, .. } => push_pair(text, name_text(names, p), name_text(names, to)),

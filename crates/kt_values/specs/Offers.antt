@@ -5,11 +5,11 @@ use Rattle.kt_spacetime.specs.declared.event.Event.TheVariants.{Sent}
 use Rattle.kt_protocol.specs.States.{Step, Send, Begin, Fail, Take, State}
 use Rattle.kt_closing.specs.LateSteps.{late_step}
 use Rattle.kt_values.specs.Done.{done}
-use Rattle.kt_values.specs.Values.{Rules, due}
+use Rattle.kt_values.specs.Values.{Rules, object_value}
 
 -- what p's object offers after a log, where it is up
 abbrev pub offer : {V : Type 0} → Rules V → List Event → ℕ → Option ℤ
-offer r log p = option_map r.offered (due r (done log) p).object
+offer r log p = option_map r.offered (object_value r (done log) p)
 
 -- each send of these steps that is to be at a marked place of the log has the body that its sender's object offers there
 abbrev pub SendsOffers : {V : Type 0} → Rules V → (ℕ → Bool) → State → List Step → Type 0

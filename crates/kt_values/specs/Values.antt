@@ -41,6 +41,10 @@ after_deed r body v (deed.Received msg from) = r.after v from (body msg)
 abbrev pub value : {V : Type 0} → Rules V → (ℕ → ℤ) → List Deed → V
 value r body deeds = fold (after_deed r body) r.opening deeds
 
+-- the value of p's object, where p is up: that of its own history
+abbrev pub object_value : {V : Type 0} → Rules V → Done → ℕ → Option V
+object_value r d p = if d.past.up p then Some (value r d.body (d.own p)) else None
+
 -- where a process in this instance took its checkpoint
 abbrev pub taken_in : Past → ℕ → Option ℕ → Option ℕ
 taken_in s p None = None
@@ -53,7 +57,7 @@ taken_at s p = taken_in s p (s.open_in p)
 -- what is due to p: its object has the value of its own history where p is up, and the saved states those of its parts
 abbrev pub due : {V : Type 0} → Rules V → Done → ℕ → Due V
 due r d p = record {
-  object = if d.past.up p then Some (value r d.body (d.own p)) else None;
+  object = object_value r d p;
   permanent = value r d.body (take (d.permanent p) (d.own p));
   tentative = option_map (λ n. value r d.body (take n (d.own p))) (taken_at d.past p);
 }

@@ -1,4 +1,4 @@
-use Rattle.std.proofs.Common.{length, inl, List, ◌+◌, false, refl, ap, ◌∙◌, take}
+use Rattle.std.proofs.Common.{length, List, ◌+◌, false, refl, ap, ◌∙◌, take}
 use Rattle.kt_spacetime.specs.declared.event.Event.{Event}
 use Rattle.kt_spacetime.specs.declared.event.Event.TheVariants.{Decided}
 use Rattle.kt_cuts.proofs.Items.{take_item}
@@ -14,9 +14,6 @@ use Rattle.kt_protocol.proofs.Walk.{invariant_after_run}
 use Rattle.kt_protocol.proofs.LawfulSteps.{lawful_after_run}
 use Rattle.kt_protocol.proofs.JustifiedRows.{justified}
 use Rattle.kt_protocol.proofs.LogMeaning.{all_consistent, all_linked, all_least, permanent_consistent, present_consistent, aborts, aborts_change_nothing}
-use Rattle.kt_certs.specs.DecidedWell.{IsDecidedWell}
-use Rattle.kt_certs.proofs.Passing.{passed, only_memory}
-use Rattle.kt_certs.proofs.Runs.{decided_well}
 use Rattle.kt_plans.proofs.ReachedRuns.{log_of}
 use Rattle.kt_plans.proofs.laws.logs_of_runs.Goals as goal
 
@@ -60,7 +57,4 @@ returns-clause-promised c = λ plan first w i r. record {
   aborts = returns-clause-aborts c plan first w i r;
   justified = returns-clause-justified c plan first w i r;
   unchanged = log_of plan first w (λ log. AbortsChangeNothing log) i r (λ s. aborts_change_nothing (run (opening (length plan.names)) s).log);
-  certified = λ f is. only_memory w.now.log f (log_of plan first w IsDecidedWell i r (decided_well (length plan.names))) is;
-  passed = passed w.now.log (log_of plan first w IsDecidedWell i r (decided_well (length plan.names)));
-  answer = inl (refl, passed w.now.log (log_of plan first w IsDecidedWell i r (decided_well (length plan.names))));
 }
