@@ -1,5 +1,5 @@
 -- The default step, and rest, as the laws have them.
-use Rattle.std.specs.Prelude.{◌==◌, ◌&&◌, ◌||◌, nat_lt, Option, option_map, slice_get, IfSome, IfNone, IsTrue, ◌↔◌}
+use Rattle.std.specs.Prelude.{◌==◌, ◌&&◌, ◌||◌, nat_lt, Option, option_map, slice_get, IfSome, IfNone, IsTrue, ◌↔◌, is_some}
 use Rattle.std.proofs.Common.{length, ◌≡◌, ◌⊎◌, ◌<◌, ℕ, Bool, true, false, Some, None, List, [], ◌∷◌, refl, sym, arith, ap, ◌∙◌, inl, inr}
 use Rattle.std.proofs.lemmas.Bool.{cases_lt}
 use Rattle.std.proofs.lemmas.Bool.Decides.{nat_tests}
@@ -12,7 +12,6 @@ use Rattle.kt_protocol.proofs.StepFacts.{none_is}
 use Rattle.kt_process.specs.Persons.{Person}
 use Rattle.kt_system.specs.Systems.{person}
 use Rattle.kt_system.specs.Reads.{can_take, IsNextTake, HasNoTake}
-use Rattle.kt_plans.specs.Plans.{first_command, has_command}
 use Rattle.kt_plans.proofs.CommandPlaces.{at_place}
 use Rattle.kt_plans.proofs.PhaseOrder.{none_of_if}
 use Rattle.kt_plans.specs.Progress as run_world
@@ -116,17 +115,17 @@ module _ (w : World) (first : ℕ) (v : run_world.Progress) (r : Mirrors w.agend
   default_is (Some (Do p)) a b n = sym (only_first plan first v (Do p) limits r.reached (on_there (Do p) b) (do_first p a.0 a.1))
   default_is (Some (Take at from)) a b n = sym (only_first plan first v (Take at from) limits r.reached (on_there (Take at from) b) (take_first at from a))
 
-  has_none : (p : ℕ) → p < 64 → agenda_command w.agenda p ≡ None → has_command (run_world.commands_left plan v p) ≡ false
+  has_none : (p : ℕ) → p < 64 → agenda_command w.agenda p ≡ None → is_some (slice_get (run_world.commands_left plan v p) 0) ≡ false
   has_none p low e = at_left (run_world.commands_left plan v p) (sym (next_is w.agenda v p r.places low) ∙ e)
     where
-      at_left : (l : List Command) → first_command l ≡ None → has_command l ≡ false
+      at_left : (l : List Command) → slice_get l 0 ≡ None → is_some (slice_get l 0) ≡ false
       at_left [] f = refl
       at_left (c ∷ cs) f = absurd (cc (f))
 
-  none_next : (p : ℕ) → p < 64 → has_command (run_world.commands_left plan v p) ≡ false → agenda_command w.agenda p ≡ None
+  none_next : (p : ℕ) → p < 64 → is_some (slice_get (run_world.commands_left plan v p) 0) ≡ false → agenda_command w.agenda p ≡ None
   none_next p low e = at_next (agenda_command w.agenda p) (next_is w.agenda v p r.places low) (at_left (run_world.commands_left plan v p) e)
     where
-      at_left : (l : List Command) → has_command l ≡ false → first_command l ≡ None
+      at_left : (l : List Command) → is_some (slice_get l 0) ≡ false → slice_get l 0 ≡ None
       at_left [] f = refl
       at_left (c ∷ cs) f = absurd (cc (f))
 
@@ -139,7 +138,7 @@ module _ (w : World) (first : ℕ) (v : run_world.Progress) (r : Mirrors w.agend
 
   rests : IsWorldAtRest w → is_at_rest plan v ≡ true
   rests h = rw (
-    none_of_if (length plan.names) (λ p. has_command (run_world.commands_left plan v p)) (λ p l. let k = few w first v r p (let z = r.size in omega (arith, l, z)) in has_none p k (h.done.none p k)),
+    none_of_if (length plan.names) (λ p. is_some (slice_get (run_world.commands_left plan v p) 0)) (λ p l. let k = few w first v r p (let z = r.size in omega (arith, l, z)) in has_none p k (h.done.none p k)),
     quiet_shown (length plan.names) w.system v.now r.now r.size r.numbered h.quiet,
   ) refl
 
@@ -149,12 +148,12 @@ module _ (w : World) (first : ℕ) (v : run_world.Progress) (r : Mirrors w.agend
     quiet = quiet_from (length plan.names) w.system v.now r.now r.size r.numbered tests.1;
   }
     where
-      tests : (none_of (length plan.names) (λ p. has_command (run_world.commands_left plan v p)) ≡ true) × (run_world.is_quiet (length plan.names) v.now ≡ true)
-      tests = both (none_of (length plan.names) (λ p. has_command (run_world.commands_left plan v p))) (run_world.is_quiet (length plan.names) v.now) e
+      tests : (none_of (length plan.names) (λ p. is_some (slice_get (run_world.commands_left plan v p) 0)) ≡ true) × (run_world.is_quiet (length plan.names) v.now ≡ true)
+      tests = both (none_of (length plan.names) (λ p. is_some (slice_get (run_world.commands_left plan v p) 0))) (run_world.is_quiet (length plan.names) v.now) e
 
       at_next : (p : ℕ) → p < 64 → (o : Option Command) → agenda_command w.agenda p ≡ o → agenda_command w.agenda p ≡ None
       at_next p low None f = f
-      at_next p low (Some c) f = none_next p low (none_is (length plan.names) (λ u. has_command (run_world.commands_left plan v u)) tests.0 p (let l = is_there p c low f in let z = r.size in omega (arith, l, z)))
+      at_next p low (Some c) f = none_next p low (none_is (length plan.names) (λ u. is_some (slice_get (run_world.commands_left plan v u) 0)) tests.0 p (let l = is_there p c low f in let z = r.size in omega (arith, l, z)))
 
   pub rest_is : (b : Bool) → IsTrue b ↔ IsWorldAtRest w → b ≡ is_at_rest plan v
   rest_is b i = at_test b (is_at_rest plan v) (λ e. rests (i.0 e)) (λ e. i.1 (rest_from e))

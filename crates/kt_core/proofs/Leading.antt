@@ -28,21 +28,22 @@ use Rattle.kt_system.proofs.Showing.{shows_same}
 use Rattle.kt_values.specs.Values.{Act}
 use Rattle.kt_values.specs.Acts.{stepper}
 use Rattle.kt_values.specs.SeenActs.{seen_acts}
-use Rattle.kt_plans.specs.Steps.{protocol_step, can_take_from, enabled, with_seen, progress_after}
+use Rattle.kt_plans.specs.Steps.{protocol_step, can_take_from, enabled, progress_after}
 use Rattle.kt_plans.specs.Progress as run_world
 use Rattle.kt_plans.specs.Runs.{RunReaches, IsSameButPhase, steps_of_command}
 use Rattle.kt_plans.specs.StepActs.{acts_of_step}
 use Rattle.kt_plans.proofs.ProtocolSteps.{seen_acts_are}
-use Rattle.kt_plans.specs.Tallies.{no_tallies}
+use Rattle.kt_plans.specs.Tallies.{Tallies, no_tallies, tallies_after, RunPuts}
 use Rattle.kt_plans.specs.Tallies as run_tallies
 use Rattle.kt_plans.proofs.OpenPhase.{ahead_seen, attained_seen, quiet_seen}
 use Rattle.kt_plans.proofs.PeopleKeep.{speaks_next_seen}
 use Rattle.kt_plans.proofs.PhasesOpen.{opening_is, takes_is, does_is}
+use Rattle.kt_plans.proofs.PutRuns.{put_at_start, put_next}
 use Rattle.kt_plans.proofs.RunsEnd.{fewer_begun_seen, raised_seen}
 use Rattle.kt_plans.proofs.RunSteps.{start_reached_seen, next_reached_seen}
 use Rattle.kt_core.specs.Agendas.{Agenda, agenda_place, agenda_command, if_open, open_command, IsNextOf, IsLeastPhase}
 use Rattle.kt_core.specs.Worlds.{SettlesIn}
-use Rattle.kt_core.specs.Shown.{Mirrors, tally_shown}
+use Rattle.kt_core.specs.Shown.{Mirrors, MirrorsPut}
 use Rattle.kt_core.proofs.Quiet.{AreNumbered, quiet_shown, quiet_from, quiet_opening}
 use Rattle.kt_core.proofs.Tallied.{taken_is, tallies_lead}
 use Rattle.kt_core.proofs.Places.{HasPlaces, next_is, next_shown, places_at_start, places_after, places_same}
@@ -95,9 +96,9 @@ phase_after a b s first v w i r h shows size num settles forward quiet same p c 
 -- a step that is enabled, after which phases open
 step_leads : (plan : Planned) (nx ny : List ℕ) (k l : ℕ) (s t : Whole) (first : ℕ) (v : run_world.Progress) (x : Step) (g : Give) → Mirrors (agenda plan nx k) s first v → enabled plan v x ≡ true →
     SettlesIn t (agenda plan ny k) (agenda plan ny l) → ShowsState t (progress_after plan v x g).now → HasPlaces (agenda plan ny l) (progress_after plan v x g) → t.size ≡ length plan.names → AreNumbered t →
-    ((p : ℕ) (c : Command) → p < 64 → agenda_command (agenda plan ny l) p ≡ Some c → k ≡ v.phase) → (taken : List Parcel) → ((f g : Parcel → Bool) → ((x : Parcel) → f x ≡ g x) → count_by f taken ≡ run_tallies.taken_off v.now x g) → TalliesPut taken s t →
+    ((p : ℕ) (c : Command) → p < 64 → agenda_command (agenda plan ny l) p ≡ Some c → k ≡ v.phase) → length t.put ≡ length s.put →
     Mirrors (agenda plan ny l) t first (progress_after plan v x g)
-step_leads plan nx ny k l s t first v x g r e settles shows places size num phase taken off counted = record {
+step_leads plan nx ny k l s t first v x g r e settles shows places size num phase many = record {
   limits = r.limits;
   size = size;
   numbered = num;
@@ -105,8 +106,7 @@ step_leads plan nx ny k l s t first v x g r e settles shows places size num phas
   now = shows;
   places = places;
   phase = λ p c low f. phase_after (agenda plan ny k) (agenda plan ny l) t first v w r.limits reached places shows size num settles on.0 on.1 (phase p c low f) p c low f;
-  instances = (let a = r.instances in let b = counted.instances in omega (arith, a, b));
-  put = tallies_lead plan first w r.limits reached s t v x taken r.size size r.now shows r.instances off r.put (raised_seen plan first v x g r.limits r.reached e) counted;
+  instances = (let a = r.instances in omega (arith, a, many));
 }
   where
     w : run_world.Progress
@@ -146,7 +146,7 @@ pub do_leads : (a m b : Agenda) (s t : Whole) (p : ℕ) (c : Command) (give : Gi
 do_leads a m b s t p c give first v r low opened e shows mp mk mn mo bp bn settles size num counted =
     subst (λ (z : Agenda). Mirrors z t first w) (sym (same_agenda b a.plan m.next b.phase (bp ∙ mp) bn refl))
     (step_leads a.plan a.next m.next a.phase b.phase s t first v (Do p) give r e (settles_as t m b a.plan a.phase mp mk bp bn settles) seen
-    (places_after a (agenda a.plan m.next b.phase) v w p r.places low refl within (mn within) mo is.done) size num (λ q d under f. r.phase p c low next) [] (λ f g h. refl) counted)
+    (places_after a (agenda a.plan m.next b.phase) v w p r.places low refl within (mn within) mo is.done) size num (λ q d under f. r.phase p c low next) counted.instances)
   where
     plan : Planned
     plan = a.plan
@@ -166,7 +166,7 @@ do_leads a m b s t p c give first v r low opened e shows mp mk mn mo bp bn settl
     there : run_world.next_command plan v p ≡ Some c
     there = next_shown a v p c r.places low next
 
-    is : IsSameButPhase (record (with_seen plan v (Do p) (transition v.now (protocol_step p c.job give))) { done = at_one p (v.done p + 1) v.done }) w
+    is : IsSameButPhase (record v { now = transition v.now (protocol_step p c.job give); done = at_one p (v.done p + 1) v.done }) w
     is = does_is plan v p give c there
 
     begun : s.begun < 4096
@@ -182,7 +182,7 @@ pub take_leads : (a b : Agenda) (s t : Whole) (p q : ℕ) (give : Give) (first :
 take_leads a b s t p q give first v r e shows bp bn settles size num counted =
     subst (λ (z : Agenda). Mirrors z t first w) (sym (same_agenda b a.plan a.next b.phase bp bn refl))
     (step_leads a.plan a.next a.next a.phase b.phase s t first v (Take p q) give r e (settles_as t a b a.plan a.phase refl refl bp bn settles) seen
-    (places_same a (agenda a.plan a.next b.phase) v w r.places refl refl is.done) size num (λ u d under f. r.phase u d under f) (taken_off s p q) (λ f g h. taken_is f g h s v.now p q r.now r.numbered there) counted)
+    (places_same a (agenda a.plan a.next b.phase) v w r.places refl refl is.done) size num (λ u d under f. r.phase u d under f) counted.instances)
   where
     plan : Planned
     plan = a.plan
@@ -190,13 +190,7 @@ take_leads a b s t p q give first v r e shows bp bn settles size num counted =
     w : run_world.Progress
     w = progress_after plan v (Take p q) give
 
-    takes : (n : ℕ) (x y : Bool) → ((nat_lt p n && x) && y) ≡ true → p < n
-    takes n x y f = grind (arith, nat_tests, f)
-
-    there : p < s.size
-    there = let l = takes (length plan.names) (nat_lt q (length plan.names)) (can_take_from v.now p q) e in let z = r.size in omega (arith, l, z)
-
-    is : IsSameButPhase (with_seen plan v (Take p q) (transition v.now (machine.Take p q give.able))) w
+    is : IsSameButPhase (record v { now = transition v.now (machine.Take p q give.able) }) w
     is = takes_is plan v p q give
 
     seen : ShowsState t w.now
@@ -204,8 +198,8 @@ take_leads a b s t p q give first v r e shows bp bn settles size num counted =
 
 -- at the start phases open from a to b
 pub start_leads : (a b : Agenda) (s : Whole) (first : ℕ) → IsPlan a.plan → s.size ≡ length a.plan.names → AreNumbered s → ShowsState s (opening_seen (length a.plan.names) first) → ((p : ℕ) → p < 64 → IsNextOf a.plan.commands p 0 (agenda_place a p)) → b.plan ≡ a.plan → b.next ≡ a.next →
-    ((least : ℕ) → IsLeastPhase b least → b.phase ≡ least) → length a.plan.commands ≤ length s.put → ((k : ℕ) → tally_of s k ≡ none_counted) → Mirrors b s first (run_world.progress_at_start a.plan first)
-start_leads a b s first i size num shows n bp bn opens room none =
+    ((least : ℕ) → IsLeastPhase b least → b.phase ≡ least) → length a.plan.commands ≤ length s.put → Mirrors b s first (run_world.progress_at_start a.plan first)
+start_leads a b s first i size num shows n bp bn opens room =
     subst (λ (z : Agenda). Mirrors z s first w) (sym same) (record {
       limits = i;
       size = size;
@@ -215,7 +209,6 @@ start_leads a b s first i size num shows n bp bn opens room none =
       places = places;
       phase = λ p c low e. subst (λ (z : Agenda). (least : ℕ) → IsLeastPhase z least → z.phase ≡ least) same opens w.phase (least_is (agenda a.plan a.next b.phase) first w p c i reached places quiet low e);
       instances = room;
-      put = λ k l. none k ∙ ap (λ (y : run_tallies.Tallies). tally_shown y k) (sym is.put);
     })
   where
     plan : Planned
@@ -227,7 +220,7 @@ start_leads a b s first i size num shows n bp bn opens room none =
     same : b ≡ agenda a.plan a.next b.phase
     same = same_agenda b a.plan a.next b.phase bp bn refl
 
-    is : IsSameButPhase (record { now = opening_seen (length plan.names) first; done = λ p. 0; phase = 0; put = no_tallies }) w
+    is : IsSameButPhase (record { now = opening_seen (length plan.names) first; done = λ p. 0; phase = 0 }) w
     is = opening_is plan first
 
     reached : RunReaches plan first w
@@ -254,8 +247,40 @@ run_same a s t first v e r = record {
   places = r.places;
   phase = r.phase;
   instances = subst (λ (l : List Tally). length a.plan.commands ≤ length l) (sym e.put) r.instances;
-  put = λ k l. ap (λ (l : List Tally). slice_index_or l (k - 1) none_counted) e.put ∙ r.put k l;
 }
+
+-- what the instances of a run put: at first, with other spare room, and after one more step
+pub start_puts : (a : Agenda) (s : Whole) (first : ℕ) (plan : Planned) → a.plan ≡ plan → ((k : ℕ) → tally_of s k ≡ none_counted) → MirrorsPut a s first (run_world.progress_at_start plan first) no_tallies
+start_puts a s first plan e none = record { run = subst (λ (p : Planned). RunPuts p first (run_world.progress_at_start plan first) no_tallies) (sym e) (put_at_start plan first); counted = λ k l. none k }
+
+pub puts_same : (a : Agenda) (s t : Whole) (first : ℕ) (v : run_world.Progress) (put : Tallies) → IsSameSystem t s → MirrorsPut a s first v put → MirrorsPut a t first v put
+puts_same a s t first v put e y = record { run = y.run; counted = λ k l. ap (λ (l : List Tally). slice_index_or l (k - 1) none_counted) e.put ∙ y.counted k l }
+
+step_puts : (a b : Agenda) (s t : Whole) (first : ℕ) (v : run_world.Progress) (put : Tallies) (x : Step) (g : Give) → b.plan ≡ a.plan → Mirrors a s first v → MirrorsPut a s first v put → enabled a.plan v x ≡ true →
+    Mirrors b t first (progress_after a.plan v x g) → (taken : List Parcel) → ((f h : Parcel → Bool) → ((z : Parcel) → f z ≡ h z) → count_by f taken ≡ run_tallies.taken_off v.now x h) → TalliesPut taken s t →
+    MirrorsPut b t first (progress_after a.plan v x g) (tallies_after a.plan v x g put)
+step_puts a b s t first v put x g same r y e next taken off counted = record {
+  run = subst (λ (p : Planned). RunPuts p first (progress_after a.plan v x g) (tallies_after a.plan v x g put)) (sym same) run;
+  counted = tallies_lead a.plan first (progress_after a.plan v x g) (tallies_after a.plan v x g put) r.limits run s t v put x taken r.size (next.size ∙ ap (λ (p : Planned). length p.names) same) r.now next.now r.instances off y.counted
+      (raised_seen a.plan first v put x g r.limits y.run e) counted;
+}
+  where
+    run : RunPuts a.plan first (progress_after a.plan v x g) (tallies_after a.plan v x g put)
+    run = put_next a.plan first v put x g y.run e
+
+pub do_puts : (a b : Agenda) (s t : Whole) (p : ℕ) (give : Give) (first : ℕ) (v : run_world.Progress) (put : Tallies) → b.plan ≡ a.plan → Mirrors a s first v → MirrorsPut a s first v put → enabled a.plan v (Do p) ≡ true →
+    Mirrors b t first (progress_after a.plan v (Do p) give) → TalliesPut [] s t → MirrorsPut b t first (progress_after a.plan v (Do p) give) (tallies_after a.plan v (Do p) give put)
+do_puts a b s t p give first v put same r y e next counted = step_puts a b s t first v put (Do p) give same r y e next [] (λ f h z. refl) counted
+
+pub take_puts : (a b : Agenda) (s t : Whole) (p q : ℕ) (give : Give) (first : ℕ) (v : run_world.Progress) (put : Tallies) → b.plan ≡ a.plan → Mirrors a s first v → MirrorsPut a s first v put → enabled a.plan v (Take p q) ≡ true →
+    Mirrors b t first (progress_after a.plan v (Take p q) give) → TalliesPut (taken_off s p q) s t → MirrorsPut b t first (progress_after a.plan v (Take p q) give) (tallies_after a.plan v (Take p q) give put)
+take_puts a b s t p q give first v put same r y e next counted = step_puts a b s t first v put (Take p q) give same r y e next (taken_off s p q) (λ f h z. taken_is f h z s v.now p q r.now r.numbered there) counted
+  where
+    takes : (n : ℕ) (x y : Bool) → ((nat_lt p n && x) && y) ≡ true → p < n
+    takes n x y f = grind (arith, nat_tests, f)
+
+    there : p < s.size
+    there = let l = takes (length a.plan.names) (nat_lt q (length a.plan.names)) (can_take_from v.now p q) e in let z = r.size in omega (arith, l, z)
 
 whose : (p : ℕ) (j : Job) (g : Give) → stepper (protocol_step p j g) ≡ p
 whose p (job.Send to body) g = refl

@@ -11,3 +11,4 @@ pub mod Phases
 pub mod Reaching
 pub mod Tallied
 pub mod Making
+pub mod Choices

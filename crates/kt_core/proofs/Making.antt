@@ -17,11 +17,12 @@ use Rattle.kt_plans.specs.Steps as run_steps
 use Rattle.kt_plans.specs.Progress.{Progress}
 use Rattle.kt_plans.specs.Steps.{enabled, progress_after, process_of_step}
 use Rattle.kt_plans.specs.StepActs.{acts_of_step}
+use Rattle.kt_plans.specs.Tallies.{Tallies, tallies_after}
 use Rattle.kt_plans.proofs.ActsOfSteps.{others_idle, abort_tells, values_lead, values_can}
 use Rattle.kt_plans.proofs.DefaultSteps.{unwilling_seen}
 use Rattle.kt_plans.proofs.RunsEnd.{raised_seen}
 use Rattle.kt_core.specs.Making.{DiscardsAtAborts, LeadsToDue, LeadsRun, MakesStep}
-use Rattle.kt_core.specs.Shown.{Mirrors, IsReached}
+use Rattle.kt_core.specs.Shown.{Mirrors, MirrorsPut, IsReached}
 use Rattle.kt_core.specs.Worlds.{World, HasDone, Settles, step_refusal}
 use Rattle.kt_core.proofs.Enabled.{enabled_is, enabled_if}
 
@@ -45,12 +46,13 @@ module _ (old new : World) (step : Step) (give : Give) (acts : List Act) (allowe
   on : enabled plan v x ≡ true
   on = sym (enabled_is old first v r step) ∙ enabled_if old step allowed
 
-  pub leads_run : LeadsRun old step give acts new first v
-  leads_run = record {
+  pub leads_run : ((put : Tallies) → MirrorsPut old.agenda old.system first v put → MirrorsPut new.agenda new.system first (progress_after plan v step give) (tallies_after plan v step give put)) → LeadsRun old step give acts new first v
+  leads_run puts = record {
     enabled = on;
     leads = next;
     asks = asks;
-    raised = raised_seen plan first v x g limits r.reached on;
+    puts = puts;
+    raised = λ put y. raised_seen plan first v put x g limits y.run on;
     unwilling = λ t p k cause there late. unwilling_seen plan first v x g t p k cause limits r.reached on
         (subst (λ (l : List Event). slice_get l t ≡ Some (Unwilling p k cause)) next.now.log there)
         (subst (λ (l : List Event). length l ≤ t) r.now.log late);
@@ -89,15 +91,17 @@ pub makes_step : (old new : World) (step : Step) (give : Give) (acts : List Act)
     → Mirrors new.agenda new.system first (progress_after old.agenda.plan v step give))
     → ((first : ℕ) (v : Progress) → Mirrors old.agenda old.system first v
     → acts_shown acts ≡ acts_of_step old.agenda.plan v step give (process_of_step step))
+    → ((first : ℕ) (v : Progress) (put : Tallies) → Mirrors old.agenda old.system first v → MirrorsPut old.agenda old.system first v put
+    → MirrorsPut new.agenda new.system first (progress_after old.agenda.plan v step give) (tallies_after old.agenda.plan v step give put))
     → MakesStep old step give acts new
-makes_step old new step give acts reached allowed done settled leads asks =
+makes_step old new step give acts reached allowed done settled leads asks puts =
     let first = reached.0 in
     let v = reached.1 in
     let r = reached.2 in
     record {
       done = done;
       settled = settled;
-      runs = λ n w s. leads_run old new step give acts allowed n w s (leads n w s) (asks n w s);
+      runs = λ n w s. leads_run old new step give acts allowed n w s (leads n w s) (asks n w s) (λ put y. puts n w put s y);
       aborts = discards old new step give acts allowed first v r (leads first v r) (asks first v r);
       due = leads_to_due old new step give acts allowed first v r (leads first v r) (asks first v r);
     }

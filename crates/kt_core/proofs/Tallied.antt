@@ -22,10 +22,10 @@ use Rattle.kt_system.specs.Shown.{ShowsState}
 use Rattle.kt_system.specs.Tallies as system
 use Rattle.kt_system.proofs.Replying.{ready_seen}
 use Rattle.kt_plans.specs.Work.{begins_instance, count_begins}
-use Rattle.kt_plans.specs.Tallies.{total_below, IsRaised, count_in_channels, count_in_front, count_where, is_ask_of, is_decision_of, is_reply_of, taken_off}
+use Rattle.kt_plans.specs.Tallies.{Tallies, total_below, IsRaised, RunPuts, count_in_channels, count_in_front, count_where, is_ask_of, is_decision_of, is_reply_of, taken_off}
 use Rattle.kt_plans.specs.Progress.{Progress}
 use Rattle.kt_fifo.specs.Queues.{has_parcel}
-use Rattle.kt_plans.specs.Runs.{RunReaches}
+use Rattle.kt_plans.proofs.PutRuns.{run_of}
 use Rattle.kt_plans.proofs.RunsEnd.{few_begun, none_put, few_asks, few_replies, few_decisions}
 use Rattle.kt_core.specs.Shown.{tally_shown}
 use Rattle.kt_core.proofs.Quiet.{AreNumbered}
@@ -110,55 +110,55 @@ begins_few (c ∷ cs) = let i = begins_few cs in at_test (begins_instance c.job)
     at_test false i = omega (arith, i)
 
 -- what an instance puts is little, and nothing where there are not so many commands
-module _ (plan : Planned) (first : ℕ) (w : Progress) (i : IsPlan plan) (r : RunReaches plan first w) where
-  asks_few : (k : ℕ) → w.put.asks k ≤ 4096
+module _ (plan : Planned) (first : ℕ) (w : Progress) (put : Tallies) (i : IsPlan plan) (r : RunPuts plan first w put) where
+  asks_few : (k : ℕ) → put.asks k ≤ 4096
   asks_few k =
       let few = i.names.few in
-      let most = few_asks plan first w i r k in
+      let most = few_asks plan first w put i r k in
       let low = mul-le (length plan.names) (length plan.names - 1) 64 64 (omega (arith, few)) (omega (arith, few)) in
       omega (arith, most, low)
 
-  replies_few : (k : ℕ) → w.put.replies k ≤ w.put.asks k
-  replies_few k = few_replies plan first w i r k
+  replies_few : (k : ℕ) → put.replies k ≤ put.asks k
+  replies_few k = few_replies plan first w put i r k
 
-  decisions_few : (k : ℕ) → w.put.decisions k ≤ w.put.asks k
-  decisions_few k = few_decisions plan first w i r k
+  decisions_few : (k : ℕ) → put.decisions k ≤ put.asks k
+  decisions_few k = few_decisions plan first w put i r k
 
-  none_past : (k : ℕ) → length plan.commands < k → w.put.asks k ≡ 0
+  none_past : (k : ℕ) → length plan.commands < k → put.asks k ≡ 0
   none_past k h =
-      let begun = few_begun plan first w i r in
+      let begun = few_begun plan first w i (run_of plan first w put r) in
       let few = begins_few plan.commands in
-      none_put plan first w i r k (omega (arith, begun, few, h))
+      none_put plan first w put i r k (omega (arith, begun, few, h))
 
   -- the tallies after a step
-  pub tallies_lead : (s t : Whole) (v : Progress) (x : Step) (taken : List Parcel) → s.size ≡ length plan.names → t.size ≡ length plan.names → ShowsState s v.now → ShowsState t w.now → length plan.commands ≤ length s.put →
-      ((f g : Parcel → Bool) → Same f g → count_by f taken ≡ taken_off v.now x g) → ((k : ℕ) → 0 < k → tally_of s k ≡ tally_shown v.put k) → IsRaised (length plan.names) v.now x w.now v.put w.put → system.TalliesPut taken s t →
-      (k : ℕ) → 0 < k → tally_of t k ≡ tally_shown w.put k
-  tallies_lead s t v x taken a b c d room off was raised counted k l = elim (cases_lt (length s.put) k) [
+  pub tallies_lead : (s t : Whole) (v : Progress) (old : Tallies) (x : Step) (taken : List Parcel) → s.size ≡ length plan.names → t.size ≡ length plan.names → ShowsState s v.now → ShowsState t w.now → length plan.commands ≤ length s.put →
+      ((f g : Parcel → Bool) → Same f g → count_by f taken ≡ taken_off v.now x g) → ((k : ℕ) → 0 < k → tally_of s k ≡ tally_shown old k) → IsRaised (length plan.names) v.now x w.now old put → system.TalliesPut taken s t →
+      (k : ℕ) → 0 < k → tally_of t k ≡ tally_shown put k
+  tallies_lead s t v old x taken a b c d room off was raised counted k l = elim (cases_lt (length s.put) k) [
     | inl h ↦ none h
     | inr h ↦ all h
   ]
     where
-      all : k ≤ length s.put → tally_of t k ≡ tally_shown w.put k
+      all : k ≤ length s.put → tally_of t k ≡ tally_shown put k
       all h = λ i. record { asks = asks i; replies = replies i; decisions = decisions i }
         where
-          asks : (tally_of t k).asks ≡ w.put.asks k
-          asks = one_after (system.is_ask_of k) (is_ask_of k) (ask_is k) s t v.now w.now (length plan.names) x taken _ _ (v.put.asks k) _ a b c d (off _ _ (ask_is k)) (ap (λ (y : Tally). y.asks) (was k l)) (raised.asks k) (asks_few k) (counted.asks k l h)
+          asks : (tally_of t k).asks ≡ put.asks k
+          asks = one_after (system.is_ask_of k) (is_ask_of k) (ask_is k) s t v.now w.now (length plan.names) x taken _ _ (old.asks k) _ a b c d (off _ _ (ask_is k)) (ap (λ (y : Tally). y.asks) (was k l)) (raised.asks k) (asks_few k) (counted.asks k l h)
 
-          replies : (tally_of t k).replies ≡ w.put.replies k
-          replies = one_after (system.is_reply_of k) (is_reply_of k) (reply_is k) s t v.now w.now (length plan.names) x taken _ _ (v.put.replies k) _ a b c d (off _ _ (reply_is k)) (ap (λ (y : Tally). y.replies) (was k l)) (raised.replies k)
+          replies : (tally_of t k).replies ≡ put.replies k
+          replies = one_after (system.is_reply_of k) (is_reply_of k) (reply_is k) s t v.now w.now (length plan.names) x taken _ _ (old.replies k) _ a b c d (off _ _ (reply_is k)) (ap (λ (y : Tally). y.replies) (was k l)) (raised.replies k)
               (let m = asks_few k in let n = replies_few k in omega (arith, m, n)) (counted.replies k l h)
 
-          decisions : (tally_of t k).decisions ≡ w.put.decisions k
-          decisions = one_after (system.is_decision_of k) (is_decision_of k) (decision_is k) s t v.now w.now (length plan.names) x taken _ _ (v.put.decisions k) _ a b c d (off _ _ (decision_is k)) (ap (λ (y : Tally). y.decisions) (was k l)) (raised.decisions k)
+          decisions : (tally_of t k).decisions ≡ put.decisions k
+          decisions = one_after (system.is_decision_of k) (is_decision_of k) (decision_is k) s t v.now w.now (length plan.names) x taken _ _ (old.decisions k) _ a b c d (off _ _ (decision_is k)) (ap (λ (y : Tally). y.decisions) (was k l)) (raised.decisions k)
               (let m = asks_few k in let n = decisions_few k in omega (arith, m, n)) (counted.decisions k l h)
 
-      none : length s.put < k → tally_of t k ≡ tally_shown w.put k
+      none : length s.put < k → tally_of t k ≡ tally_shown put k
       none h =
           let z = none_past k (omega (arith, h, room)) in
           let m = replies_few k in
           let n = decisions_few k in
-          let replies : 0 ≡ w.put.replies k = omega (arith, z, m) in
-          let decisions : 0 ≡ w.put.decisions k = omega (arith, z, n) in
+          let replies : 0 ≡ put.replies k = omega (arith, z, m) in
+          let decisions : 0 ≡ put.decisions k = omega (arith, z, n) in
           let many = counted.instances in
           get_or_past t.put (k - 1) no_tally (omega (arith, h, many)) ∙ (λ i. record { asks = sym z i; replies = replies i; decisions = decisions i })

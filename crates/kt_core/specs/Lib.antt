@@ -2,3 +2,5 @@ pub mod Agendas
 pub mod Worlds
 pub mod Shown
 pub mod Making
+pub mod FaultTexts
+pub mod Choices

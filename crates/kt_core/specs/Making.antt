@@ -13,9 +13,9 @@ use Rattle.kt_values.specs.Values.{Rules, due, does_all, can_all, closing}
 use Rattle.kt_plans.specs.Progress.{Progress}
 use Rattle.kt_plans.specs.Steps.{enabled, progress_after, process_of_step}
 use Rattle.kt_plans.specs.StepActs.{acts_of_step}
-use Rattle.kt_plans.specs.Tallies.{IsRaised}
+use Rattle.kt_plans.specs.Tallies.{Tallies, tallies_after, IsRaised}
 use Rattle.kt_plans.specs.Unwilling.{IsUnwillingStep}
-use Rattle.kt_core.specs.Shown.{Mirrors}
+use Rattle.kt_core.specs.Shown.{Mirrors, MirrorsPut}
 use Rattle.kt_core.specs.Worlds.{World, HasDone, Settles}
 
 -- what is so whether a step is made or not: the plan, the limit and the number of processes stay; the log keeps its rows,
@@ -49,9 +49,12 @@ pub record LeadsRun (old : World) (step : Step) (give : Give) (acts : List Act) 
   pub enabled : enabled old.agenda.plan v step ≡ true
   pub leads : Mirrors new.agenda new.system first (progress_after old.agenda.plan v step give)
   pub asks : acts_shown acts ≡ acts_of_step old.agenda.plan v step give (process_of_step step)
-  pub raised : IsRaised (length old.agenda.plan.names) v.now step
-      (progress_after old.agenda.plan v step give).now
-      v.put (progress_after old.agenda.plan v step give).put
+  pub puts : (put : Tallies) → MirrorsPut old.agenda old.system first v put
+      → MirrorsPut new.agenda new.system first (progress_after old.agenda.plan v step give)
+      (tallies_after old.agenda.plan v step give put)
+  pub raised : (put : Tallies) → MirrorsPut old.agenda old.system first v put
+      → IsRaised (length old.agenda.plan.names) v.now step (progress_after old.agenda.plan v step give).now
+      put (tallies_after old.agenda.plan v step give put)
   pub unwilling : (t p k : ℕ) (cause : Cause) → slice_get new.system.rows.rows t ≡ Some (Unwilling p k cause)
       → length old.system.rows.rows ≤ t → IsUnwillingStep v step give t p k cause
 

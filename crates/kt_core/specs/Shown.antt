@@ -15,7 +15,7 @@ use Rattle.kt_system.specs.declared.system.Tally.{Tally}
 use Rattle.kt_system.specs.Reads.{tally_of}
 use Rattle.kt_system.specs.Shown.{ShowsState}
 use Rattle.kt_plans.specs.Progress.{Progress}
-use Rattle.kt_plans.specs.Tallies.{Tallies}
+use Rattle.kt_plans.specs.Tallies.{Tallies, RunPuts}
 use Rattle.kt_plans.specs.Order.{next_place}
 use Rattle.kt_plans.specs.Runs.{RunReaches}
 use Rattle.kt_core.specs.Agendas.{Agenda, agenda_place, agenda_command}
@@ -25,8 +25,7 @@ abbrev pub tally_shown : Tallies → ℕ → Tally
 tally_shown put k = record { asks = put.asks k; replies = put.replies k; decisions = put.decisions k }
 
 -- a run of the plan, where counters of labels begin after this one, leads to v; and that is what the processes keep, which
--- commands are done, as long as one is left which phase is open, and what each instance has put into channels: there is a
--- tally for each one that may begin
+-- commands are done, and as long as one is left which phase is open; there is a tally for each instance that may begin
 pub record Mirrors (a : Agenda) (s : Whole) (first : ℕ) (v : Progress) : Type 0 where
   pub limits : IsPlan a.plan
   pub size : s.size ≡ length a.plan.names
@@ -36,8 +35,12 @@ pub record Mirrors (a : Agenda) (s : Whole) (first : ℕ) (v : Progress) : Type 
   pub places : (p : ℕ) → p < 64 → agenda_place a p ≡ next_place a.plan v p
   pub phase : (p : ℕ) (c : Command) → p < 64 → agenda_command a p ≡ Some c → a.phase ≡ v.phase
   pub instances : length a.plan.commands ≤ length s.put
-  pub put : (k : ℕ) → 0 < k → tally_of s k ≡ tally_shown v.put k
 
--- some run does
+-- a run of the plan leads to v, and what its instances have put into channels is what is counted
+pub record MirrorsPut (a : Agenda) (s : Whole) (first : ℕ) (v : Progress) (put : Tallies) : Type 0 where
+  pub run : RunPuts a.plan first v put
+  pub counted : (k : ℕ) → 0 < k → tally_of s k ≡ tally_shown put k
+
+-- some run does, with what its instances have put
 abbrev pub IsReached : Agenda → Whole → Type 0
-IsReached a s = (first : ℕ) × (v : Progress) × Mirrors a s first v
+IsReached a s = (first : ℕ) × (v : Progress) × Mirrors a s first v × (put : Tallies) × MirrorsPut a s first v put

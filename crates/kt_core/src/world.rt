@@ -5,10 +5,11 @@ ghost use Rattle.kt_fifo.specs.Channels.{channel};
 ghost use Rattle.kt_system.specs.Reads.{tally_of};
 ghost use Rattle.kt_plans.specs.Progress.{progress_at_start, Progress};
 ghost use Rattle.kt_plans.specs.Follows.{BeginsPlan};
-ghost use Rattle.kt_plans.specs.Headline.{IsPromised};
+ghost use Rattle.kt_plans.specs.Headline.{IsCertified, IsPromised};
 ghost use Rattle.kt_plans.specs.Lines.{EachIsOnceOnItsLine};
+ghost use Rattle.kt_plans.specs.Tallies.{Tallies};
 ghost use Rattle.kt_core.specs.Worlds.{IsOpening};
-ghost use Rattle.kt_core.specs.Shown.{Mirrors, IsReached, tally_shown};
+ghost use Rattle.kt_core.specs.Shown.{Mirrors, MirrorsPut, IsReached, tally_shown};
 
 use crate::agenda::Agenda;
 use kt_base::{InstNo, Label, Memory, ProcNo, RowNo};
@@ -18,6 +19,7 @@ use kt_system::{System, Tally};
 use std::alloc::Global;
 use std::marker::Model;
 
+mod choices;
 mod commands;
 mod looks;
 mod steps;
@@ -103,9 +105,12 @@ impl World {
         // A run of the plan leads here.
         ensures reached { IsReached self.now.agenda self.now.system }
 
-        // It is legal; the members of each committed instance are the least set; no cut has an orphan; an abort changes
-        // nothing; and the checker says yes to its certificates.
+        // It is legal; the members of each committed instance are the least set; no cut has an orphan; and an abort changes
+        // nothing.
         ensures promised { IsPromised result.now.rows }
+
+        // The checker says yes to its certificates.
+        ensures certified { IsCertified result.now.rows }
 
         // It follows the plan as far as it goes, told by the rows alone.
         ensures begins { BeginsPlan self.now.agenda.plan result.now.rows }
@@ -115,6 +120,7 @@ impl World {
             EachIsOnceOnItsLine v.now }
     {
         kt_plans::logs_of_runs();
+        kt_plans::certificates_of_promised_logs();
         kt_plans::logs_follow_plans();
         kt_plans::messages_of_runs();
         self.system.log()
@@ -124,9 +130,11 @@ impl World {
     pub fn into_log(self) -> SpaceTime
         ensures log { result ≡ self.system.rows }
         ensures promised { IsPromised result.rows }
+        ensures certified { IsCertified result.rows }
         ensures begins { BeginsPlan self.agenda.plan result.rows }
     {
         kt_plans::logs_of_runs();
+        kt_plans::certificates_of_promised_logs();
         kt_plans::logs_follow_plans();
         self.system.into_log()
     }
@@ -142,8 +150,9 @@ impl World {
     pub fn tally(&self, inst: InstNo) -> Tally
         ensures tally { result ≡ tally_of self.now.system inst }
 
-        // It is what each run that leads here has put.
-        ensures in_runs { (first : ℕ) (v : Progress) → Mirrors self.now.agenda self.now.system first v → result ≡ tally_shown v.put inst }
+        // It is what the instances of each run that leads here have put.
+        ensures in_runs { (first : ℕ) (v : Progress) (put : Tallies) →
+            MirrorsPut self.now.agenda self.now.system first v put → result ≡ tally_shown put inst }
 
         // Of n processes each asks each other one at most once, and no ask has more than one reply and one decision.
         ensures asks { result.asks ≤ length self.now.agenda.plan.names * (length self.now.agenda.plan.names - 1) }

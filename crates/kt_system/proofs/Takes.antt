@@ -48,6 +48,13 @@ pub can_take_either : (w : Whole) (at from : ℕ) → can_take w at from ≡ (is
 unfolding next_parcel
 can_take_either w at from = taken_if (is_ready (person w at).side) (channel w.held from at) (channel w.wires from at)
 
+-- of those whose parcels are in channels, and of those whose parcels are held
+pub joined_is : (w : Whole) (at q sent held all : ℕ) → has all q ≡ (has sent q || has held q) → has sent q ≡ is_sent w at q → has held q ≡ is_held w at q → has all q ≡ can_take w at q
+joined_is w at q sent held all e f g = e ∙ (ap (λ (b : Bool). b || has held q) f ∙ (ap (λ (b : Bool). is_sent w at q || b) g ∙ sym (can_take_either w at q)))
+
+pub joined_within : (n q sent held all : ℕ) → (has sent q ≡ true → q < n) → (has held q ≡ true → q < n) → has all q ≡ (has sent q || has held q) → has all q ≡ true → q < n
+joined_within n q sent held all f g e member = elim (or_cases (has sent q) (has held q) (sym e ∙ member)) [ inl s ↦ f s | inr h ↦ g h ]
+
 -- the lesser of the least with one property and the least with another is the least with either
 first_of_either : (P Q R : ℕ → Type 0) (a b : Option ℕ) → ((n : ℕ) → P n → R n) → ((n : ℕ) → Q n → R n) → ((n : ℕ) → R n → P n ⊎ Q n) → IsFirst P a → IsFirst Q b → IsFirst R (lesser a b)
 first_of_either P Q R None None f g h x y = λ n r. elim (h n r) [ inl p ↦ x n p | inr q ↦ y n q ]

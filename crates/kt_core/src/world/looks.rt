@@ -39,7 +39,7 @@ impl World {
     }
 
     /// Whether a process can do its next command.
-    fn can_do(&self, p: ProcNo) -> bool
+    pub(super) fn can_do(&self, p: ProcNo) -> bool
         requires { p < self.now.system.size }
         ensures { result ≡ can_do self.now p }
     {

@@ -1,6 +1,6 @@
 //! Who takes a parcel next.
 
-ghost use Rattle.std.specs.Prelude.{◌≡◌, ◌<◌, ℕ, true, IfSome, IfNone};
+ghost use Rattle.std.specs.Prelude.{◌≡◌, ◌<◌, ◌||◌, ℕ, true, IfSome, IfNone};
 ghost use Rattle.kt_base.specs.Sets.{has};
 ghost use Rattle.kt_system.specs.Reads.{can_take, IsNextTake, HasNoTake};
 ghost use Rattle.kt_system.specs.Takes.{is_sent, is_held, WithSome, IsFirst, lesser};
@@ -73,6 +73,15 @@ impl System {
         least(self.senders(at).first(), self.held_senders(at).first())
     }
 
+    /// The processes from which one can take a parcel.
+    pub fn all_senders(&self, at: ProcNo) -> ProcSet
+        requires { at < self.now.size }
+        ensures takes { (from : ℕ) → has result from ≡ can_take self.now at from }
+        ensures within { (from : ℕ) → has result from ≡ true → from < self.now.size }
+    {
+        joined(self.senders(at), self.held_senders(at))
+    }
+
     /// The least process that can take a parcel, and the least from which it can.
     pub fn next_take(&self) -> Option<(ProcNo, ProcNo)>
         ensures some { IfSome result (λ take. IsNextTake self.now take.0 take.1) }
@@ -82,6 +91,22 @@ impl System {
         let from = self.sender(at)?;
         Some((at, from))
     }
+}
+
+/// The members of two sets.
+fn joined(first: ProcSet, second: ProcSet) -> ProcSet
+    ensures { (q : ℕ) → has result q ≡ (has first q || has second q) }
+{
+    let mut all = first;
+    let mut left = second;
+    for _number in 0..ProcNo::COUNT {
+        let Some(p) = left.first() else {
+            return all;
+        };
+        all = all.with(p);
+        left = left.without(p);
+    }
+    all
 }
 
 /// The lesser of two processes.

@@ -1,16 +1,19 @@
-use Rattle.std.proofs.Common.{◌≡◌, ◌+◌, ℕ, None, length, ap, subst, sym, ◌∙◌}
+use Rattle.std.proofs.Common.{◌≡◌, ◌+◌, ℕ, None, true, length, ap, subst, sym, ◌∙◌}
 use Rattle.std.specs.Prelude.{List, slice_index_or}
 use Rattle.std.proofs.lemmas.Option.{slice_get_within}
 use Rattle.kt_plan.specs.Limits.{Planned}
 use Rattle.kt_plan.specs.declared.steps.Step.TheVariants.{Do}
 use Rattle.kt_system.specs.ShownActs.{acts_shown}
-use Rattle.kt_plans.specs.Steps.{progress_after}
+use Rattle.kt_plans.specs.Progress.{Progress}
+use Rattle.kt_plans.specs.Steps.{enabled, progress_after}
+use Rattle.kt_plans.specs.Tallies.{tallies_after}
+use Rattle.kt_core.specs.Shown.{Mirrors}
 use Rattle.kt_core.specs.Agendas.{agenda_place, IsNextOf}
 use Rattle.kt_core.specs.Making.{MakesStep}
 use Rattle.kt_core.specs.Worlds.{World, step_refusal}
 use Rattle.kt_core.proofs.Enabled.{few, enabled_is, enabled_if, does_there}
 use Rattle.kt_core.proofs.Making.{makes_step}
-use Rattle.kt_core.proofs.Leading.{do_acts, do_leads, run_same, open_is_next}
+use Rattle.kt_core.proofs.Leading.{do_acts, do_leads, do_puts, run_same, puts_same, open_is_next}
 use Rattle.kt_core.proofs.Phases.{settles_from}
 use Rattle.kt_core.proofs.world.World.do_next.Goals as goal
 
@@ -18,7 +21,7 @@ pub invariant_of-self : goal.invariant_of-self
 invariant_of-self c =
     let r = c.self.invariant.reached in
     record {
-      reached = (r.0, r.1, run_same c.self.inside.agenda c.self.inside.system c.do_job.new.system r.0 r.1 c.in_err-told.ensures.err r.2);
+      reached = (r.0, r.1, run_same c.self.inside.agenda c.self.inside.system c.do_job.new.system r.0 r.1 c.in_err-told.ensures.err r.2, r.3, puts_same c.self.inside.agenda c.self.inside.system c.do_job.new.system r.0 r.1 r.3 c.in_err-told.ensures.err r.4);
       size = c.do_job.ensures.size ∙ c.self.invariant.size;
       rows = c.self.invariant.rows;
     }
@@ -37,12 +40,15 @@ invariant_of-self-2 c =
     let on = sym (enabled_is w r.0 r.1 r.2 (Do p)) ∙ enabled_if w (Do p) allowed in
     let move = c.advance.ensures in
     let opened = c.settle.ensures in
+    let next = do_leads a c.advance.new.self c.settle.new.agenda s c.do_job.new.system p c.in-Some.command c.args.give r.0 r.1 r.2 (few w r.0 r.1 r.2 p there) command on
+    (λ h begun says. c.in_ok-told.ensures.shows r.1.now h begun says) move.plan move.phase move.next move.others opened.plan opened.next opened.settled (c.do_job.ensures.size ∙ size) opened.numbered c.in_ok-told.ensures.tallies in
     record {
       reached = (
         r.0,
         progress_after a.plan r.1 (Do p) c.args.give,
-        do_leads a c.advance.new.self c.settle.new.agenda s c.do_job.new.system p c.in-Some.command c.args.give r.0 r.1 r.2 (few w r.0 r.1 r.2 p there) command on
-            (λ h begun says. c.in_ok-told.ensures.shows r.1.now h begun says) move.plan move.phase move.next move.others opened.plan opened.next opened.settled (c.do_job.ensures.size ∙ size) opened.numbered c.in_ok-told.ensures.tallies,
+        next,
+        tallies_after a.plan r.1 (Do p) c.args.give r.3,
+        do_puts a c.settle.new.agenda s c.do_job.new.system p c.args.give r.0 r.1 r.3 (opened.plan ∙ move.plan) r.2 r.4 on next c.in_ok-told.ensures.tallies,
       );
       size = c.do_job.ensures.size ∙ (size ∙ ap (λ (plan : Planned). length plan.names) (sym (opened.plan ∙ move.plan)));
       rows = c.self.invariant.rows;
@@ -62,6 +68,10 @@ returns-clause-made c =
     let move = c.advance.ensures in
     let opened = c.settle.ensures in
     let next = open_is_next a p c.in-Some.command command in
+    let on : (first : ℕ) (v : Progress) → Mirrors a s first v → enabled a.plan v (Do p) ≡ true = λ first v r. sym (enabled_is w first v r (Do p)) ∙ enabled_if w (Do p) allowed in
+    let leads : (first : ℕ) (v : Progress) → Mirrors a s first v → Mirrors b c.do_job.new.system first (progress_after a.plan v (Do p) c.args.give) =
+    λ first v r. do_leads a c.advance.new.self b s c.do_job.new.system p c.in-Some.command c.args.give first v r (few w first v r p there) command (on first v r)
+    (λ h begun says. c.in_ok-told.ensures.shows v.now h begun says) move.plan move.phase move.next move.others opened.plan opened.next opened.settled (c.do_job.ensures.size ∙ size) opened.numbered c.in_ok-told.ensures.tallies in
     let same : (q : ℕ) → agenda_place b q ≡ agenda_place c.advance.new.self q = λ q. ap (λ (l : List ℕ). slice_index_or l q 0) opened.next in
     subst (λ (z : World). MakesStep z (Do p) c.args.give c.in_ok-told.told (record { agenda = b; system = c.do_job.new.system; limit = c.self.inside.limit })) c.self.view_is
     (makes_step w (record { agenda = b; system = c.do_job.new.system; limit = c.self.inside.limit }) (Do p) c.args.give c.in_ok-told.told c.self.invariant.reached allowed (
@@ -69,8 +79,6 @@ returns-clause-made c =
       λ q n. same q ∙ move.others q n,
     )
     (settles_from c.do_job.new.system a c.advance.new.self b move.phase opened.settled)
-    (λ first v r. do_leads a c.advance.new.self b s c.do_job.new.system p c.in-Some.command c.args.give first v r (few w first v r p there) command
-    (sym (enabled_is w first v r (Do p)) ∙ enabled_if w (Do p) allowed)
-    (λ h begun says. c.in_ok-told.ensures.shows v.now h begun says) move.plan move.phase move.next move.others opened.plan opened.next opened.settled (c.do_job.ensures.size ∙ size) opened.numbered c.in_ok-told.ensures.tallies)
-    (λ first v r. do_acts a s p c.in-Some.command c.args.give first v (acts_shown c.in_ok-told.told) r (few w first v r p there) command
-    (sym (enabled_is w first v r (Do p)) ∙ enabled_if w (Do p) allowed) (λ h begun. c.in_ok-told.ensures.acts v.now h begun)))
+    leads
+    (λ first v r. do_acts a s p c.in-Some.command c.args.give first v (acts_shown c.in_ok-told.told) r (few w first v r p there) command (on first v r) (λ h begun. c.in_ok-told.ensures.acts v.now h begun))
+    (λ first v put r y. do_puts a b s c.do_job.new.system p c.args.give first v put (opened.plan ∙ move.plan) r y (on first v r) (leads first v r) c.in_ok-told.ensures.tallies))

@@ -2,7 +2,7 @@ use Rattle.std.proofs.Common.{subst, sym, List}
 use Rattle.kt_spacetime.specs.declared.event.Event.{Event}
 use Rattle.kt_spacetime.specs.Logs.{Log}
 use Rattle.kt_plans.specs.Follows.{BeginsPlan}
-use Rattle.kt_plans.specs.Headline.{IsPromised}
+use Rattle.kt_plans.specs.Headline.{IsCertified, IsPromised}
 use Rattle.kt_core.specs.Worlds.{World}
 use Rattle.kt_core.proofs.world.World.log.Goals as goal
 
@@ -12,6 +12,14 @@ returns-clause-promised c =
     subst (λ (log : Log). IsPromised log.rows) (sym c.log.ensures)
     (subst (λ (rows : List Event). IsPromised rows) (sym r.2.now.log)
     (c.logs_of_runs.ensures.promised c.self.inside.agenda.plan r.0 r.1 r.2.limits r.2.reached))
+
+pub returns-clause-certified : goal.returns-clause-certified
+returns-clause-certified c =
+    let r = c.self.invariant.reached in
+    subst (λ (log : Log). IsCertified log.rows) (sym c.log.ensures)
+    (subst (λ (rows : List Event). IsCertified rows) (sym r.2.now.log)
+    (c.certificates_of_promised_logs.ensures.certified _
+    (c.logs_of_runs.ensures.promised c.self.inside.agenda.plan r.0 r.1 r.2.limits r.2.reached)))
 
 pub returns-clause-once : goal.returns-clause-once
 returns-clause-once c = λ first v r.

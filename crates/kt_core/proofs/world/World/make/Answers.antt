@@ -8,7 +8,8 @@ use Rattle.kt_system.specs.Shown.{ShowsState}
 use Rattle.kt_plans.specs.Progress.{progress_at_start}
 use Rattle.kt_core.specs.Agendas.{IsNextOf, agenda_place}
 use Rattle.kt_core.specs.Shown.{Mirrors}
-use Rattle.kt_core.proofs.Leading.{start_leads}
+use Rattle.kt_plans.specs.Tallies.{no_tallies}
+use Rattle.kt_core.proofs.Leading.{start_leads, start_puts}
 use Rattle.kt_core.proofs.Phases.{least_stays}
 use Rattle.kt_core.proofs.world.World.make.Goals as goal
 
@@ -48,7 +49,7 @@ returns-clause-starts c =
     let count = c.len.ensures in
     let seen = ap (λ (plan : Planned). length plan.commands) c.plan.view_is in
     let same = ap (λ (plan : Planned). length plan.commands) made.plan in
-    omega (arith, room, count, seen, same)) (λ k. c.in_ok-system.ensures.tallies k))
+    omega (arith, room, count, seen, same)))
 
 pub invariant_of-result : goal.invariant_of-result
 invariant_of-result c =
@@ -56,7 +57,13 @@ invariant_of-result c =
     let opened = c.open_next.ensures in
     let system = c.in_ok-system.ensures in
     record {
-      reached = (c.args.used, progress_at_start c.args.plan c.args.used, returns-clause-starts c);
+      reached = (
+        c.args.used,
+        progress_at_start c.args.plan c.args.used,
+        returns-clause-starts c,
+        no_tallies,
+        start_puts c.open_next.new.self c.in_ok-system.system c.args.used c.args.plan (opened.plan ∙ made.plan) system.tallies,
+      );
       size = system.size ∙ (c.size-size.ensures.size ∙ ap (λ (plan : Planned). length plan.names) (sym (opened.plan ∙ made.plan)));
       rows = c.requires;
     }

@@ -1,20 +1,23 @@
-use Rattle.std.proofs.Common.{◌≡◌, None, length, ap, subst, sym, ◌∙◌}
+use Rattle.std.proofs.Common.{◌≡◌, ℕ, None, true, length, ap, subst, sym, ◌∙◌}
 use Rattle.kt_plan.specs.Limits.{Planned}
 use Rattle.kt_plan.specs.declared.steps.Step.TheVariants.{Take}
 use Rattle.kt_system.specs.ShownActs.{acts_shown}
-use Rattle.kt_plans.specs.Steps.{progress_after}
+use Rattle.kt_plans.specs.Progress.{Progress}
+use Rattle.kt_plans.specs.Steps.{enabled, progress_after}
+use Rattle.kt_plans.specs.Tallies.{tallies_after}
+use Rattle.kt_core.specs.Shown.{Mirrors}
 use Rattle.kt_core.specs.Making.{MakesStep}
 use Rattle.kt_core.specs.Worlds.{World, step_refusal}
 use Rattle.kt_core.proofs.Enabled.{enabled_is, enabled_if}
 use Rattle.kt_core.proofs.Making.{makes_step}
-use Rattle.kt_core.proofs.Leading.{take_acts, take_leads, run_same}
+use Rattle.kt_core.proofs.Leading.{take_acts, take_leads, take_puts, run_same, puts_same}
 use Rattle.kt_core.proofs.world.World.take.Goals as goal
 
 pub invariant_of-self : goal.invariant_of-self
 invariant_of-self c =
     let r = c.self.invariant.reached in
     record {
-      reached = (r.0, r.1, run_same c.self.inside.agenda c.self.inside.system c.take.new.self r.0 r.1 c.in_err-told.ensures.keeps.err r.2);
+      reached = (r.0, r.1, run_same c.self.inside.agenda c.self.inside.system c.take.new.self r.0 r.1 c.in_err-told.ensures.keeps.err r.2, r.3, puts_same c.self.inside.agenda c.self.inside.system c.take.new.self r.0 r.1 r.3 c.in_err-told.ensures.keeps.err r.4);
       size = c.take.ensures.keeps.size ∙ c.self.invariant.size;
       rows = c.self.invariant.rows;
     }
@@ -27,13 +30,16 @@ invariant_of-self-2 c =
     let allowed = subst (λ (z : World). step_refusal z (Take c.args.at c.args.from) ≡ None) (sym c.self.view_is) c.requires in
     let size = c.self.invariant.size in
     let opened = c.settle.ensures in
+    let on = sym (enabled_is w r.0 r.1 r.2 (Take c.args.at c.args.from)) ∙ enabled_if w (Take c.args.at c.args.from) allowed in
+    let next = take_leads a c.settle.new.agenda c.self.inside.system c.take.new.self c.args.at c.args.from c.args.give r.0 r.1 r.2 on
+    (λ h says. c.in_ok-told.ensures.shows r.1.now h says) opened.plan opened.next opened.settled (c.take.ensures.keeps.size ∙ size) opened.numbered c.in_ok-told.ensures.keeps.tallies in
     record {
       reached = (
         r.0,
         progress_after a.plan r.1 (Take c.args.at c.args.from) c.args.give,
-        take_leads a c.settle.new.agenda c.self.inside.system c.take.new.self c.args.at c.args.from c.args.give r.0 r.1 r.2
-            (sym (enabled_is w r.0 r.1 r.2 (Take c.args.at c.args.from)) ∙ enabled_if w (Take c.args.at c.args.from) allowed)
-            (λ h says. c.in_ok-told.ensures.shows r.1.now h says) opened.plan opened.next opened.settled (c.take.ensures.keeps.size ∙ size) opened.numbered c.in_ok-told.ensures.keeps.tallies,
+        next,
+        tallies_after a.plan r.1 (Take c.args.at c.args.from) c.args.give r.3,
+        take_puts a c.settle.new.agenda c.self.inside.system c.take.new.self c.args.at c.args.from c.args.give r.0 r.1 r.3 opened.plan r.2 r.4 on next c.in_ok-told.ensures.keeps.tallies,
       );
       size = c.take.ensures.keeps.size ∙ (size ∙ ap (λ (plan : Planned). length plan.names) (sym opened.plan));
       rows = c.self.invariant.rows;
@@ -46,11 +52,14 @@ returns-clause-made c =
     let allowed = subst (λ (z : World). step_refusal z (Take c.args.at c.args.from) ≡ None) (sym c.self.view_is) c.requires in
     let size = c.self.invariant.size in
     let opened = c.settle.ensures in
+    let on : (first : ℕ) (v : Progress) → Mirrors a c.self.inside.system first v → enabled a.plan v (Take c.args.at c.args.from) ≡ true =
+    λ first v r. sym (enabled_is w first v r (Take c.args.at c.args.from)) ∙ enabled_if w (Take c.args.at c.args.from) allowed in
+    let leads : (first : ℕ) (v : Progress) → Mirrors a c.self.inside.system first v → Mirrors c.settle.new.agenda c.take.new.self first (progress_after a.plan v (Take c.args.at c.args.from) c.args.give) =
+    λ first v r. take_leads a c.settle.new.agenda c.self.inside.system c.take.new.self c.args.at c.args.from c.args.give first v r (on first v r)
+    (λ h says. c.in_ok-told.ensures.shows v.now h says) opened.plan opened.next opened.settled (c.take.ensures.keeps.size ∙ size) opened.numbered c.in_ok-told.ensures.keeps.tallies in
     subst (λ (z : World). MakesStep z (Take c.args.at c.args.from) c.args.give c.in_ok-told.told (record { agenda = c.settle.new.agenda; system = c.take.new.self; limit = c.self.inside.limit })) c.self.view_is
     (makes_step w (record { agenda = c.settle.new.agenda; system = c.take.new.self; limit = c.self.inside.limit }) (Take c.args.at c.args.from) c.args.give c.in_ok-told.told c.self.invariant.reached allowed
     opened.next opened.settled
-    (λ first v r. take_leads a c.settle.new.agenda c.self.inside.system c.take.new.self c.args.at c.args.from c.args.give first v r
-    (sym (enabled_is w first v r (Take c.args.at c.args.from)) ∙ enabled_if w (Take c.args.at c.args.from) allowed)
-    (λ h says. c.in_ok-told.ensures.shows v.now h says) opened.plan opened.next opened.settled (c.take.ensures.keeps.size ∙ size) opened.numbered c.in_ok-told.ensures.keeps.tallies)
-    (λ first v r. take_acts a c.self.inside.system c.args.at c.args.from c.args.give first v (acts_shown c.in_ok-told.told) r
-    (sym (enabled_is w first v r (Take c.args.at c.args.from)) ∙ enabled_if w (Take c.args.at c.args.from) allowed) (λ h. c.in_ok-told.ensures.acts v.now h)))
+    leads
+    (λ first v r. take_acts a c.self.inside.system c.args.at c.args.from c.args.give first v (acts_shown c.in_ok-told.told) r (on first v r) (λ h. c.in_ok-told.ensures.acts v.now h))
+    (λ first v put r y. take_puts a c.settle.new.agenda c.self.inside.system c.take.new.self c.args.at c.args.from c.args.give first v put opened.plan r y (on first v r) (leads first v r) c.in_ok-told.ensures.keeps.tallies))
