@@ -4,6 +4,10 @@ pub mod Holding
 pub mod Noting
 pub mod Numbering
 pub mod Running
+pub mod Ordering
+pub mod Drawing
+pub mod Choosing
+pub mod OneRun
 pub mod Telling
 pub mod Spares
 pub mod Rejecting

@@ -19,7 +19,7 @@ use Rattle.kt_plans.specs.Steps.{enabled, progress_after, process_of_step}
 use Rattle.kt_plans.specs.Defaults.{default_step}
 use Rattle.kt_plans.specs.StepActs.{acts_of_step}
 use Rattle.kt_plans.specs.Told.{told_at}
-use Rattle.kt_plans.specs.Offers.{GivesOffer, GivesOffers, offer_places, AreOfferedAt}
+use Rattle.kt_plans.specs.Offers.{GivesOffer, GivesOffers, SendsWhatIsOffered}
 use Rattle.kt_plans.proofs.NeededBodies.{offers_seen}
 use Rattle.kt_plans.proofs.WholeLogs.{no_tentative}
 use Rattle.kt_plans.proofs.PhasesOpen.{opening_is}
@@ -168,6 +168,25 @@ begins_more plan cast steps x old new before after e b s =
       due = k.1;
     }
 
+-- its moves are those before and this one
+pub begins_by : (plan : Planned) (cast : List (List Content)) (steps : List Step) (x : Step) (old new : World) (before after : Scene) → old.agenda.plan ≡ plan → (b : BeginsRun plan cast steps old before) → (s : StepsTo old before x new after)
+    → (r : BeginsRun plan cast (steps ++ x ∷ []) new after) × (r.moves ≡ b.moves ++ record { step = x; give = s.1 } ∷ []) × (r.now ≡ progress_after plan b.now x s.1) × (enabled plan b.now x ≡ true)
+unfolding begins_more
+begins_by plan cast steps x old new before after e b s = (begins_more plan cast steps x old new before after e b s, refl, refl, (led plan old new before after x b.now e s b.shown).0)
+
+-- so few that they are counted
+pub begins_few : (plan : Planned) (cast : List (List Content)) (steps : List Step) (w : World) (at : Scene) → w.agenda.plan ≡ plan → BeginsRun plan cast steps w at → length steps < 67108864
+begins_few plan cast steps w at e b =
+    let few = b.few in
+    let limit = b.limit in
+    let i = subst (λ (z : Planned). IsPlan z) e b.shown.limits in
+    let names = i.names.few in
+    let commands = i.few in
+    let log = ap (λ (l : List Event). length l) b.shown.now.log in
+    let below = goes_below plan 0 b.moves [] b.now i names (omega (arith, commands)) (omega (arith, few, limit, log)) (goes_first plan 0 b.moves b.now b.leads) in
+    let made = sym (length-map b.moves (λ (m : Move). m.step)) ∙ ap (λ (l : List Step). length l) b.made in
+    omega (arith, below, made)
+
 -- a run goes on from where the given steps lead, by so many steps
 abbrev pub GoesSo : Planned → List (List Content) → List Step → ℕ → World → Scene → Type 0
 GoesSo plan cast steps n w at = (g : Goes plan cast steps w at) × (n ≡ length g.more)
@@ -270,10 +289,12 @@ module _ (plan : Planned) (cast : List (List Content)) (steps : List Step) (w : 
       leads = leads;
       rest = r.rest;
       log = rows_are;
-      offers = subst (λ (l : List Event). AreOfferedAt (rules_by cast) l (offer_places plan (progress_at_start plan 0) (r.run.given ++ r.run.more))) (sym rows_are)
+      offers = subst (SendsWhatIsOffered (rules_by cast) plan) (sym rows_are)
           (offers_seen (rules_by cast) plan 0 limits (r.run.given ++ r.run.more) r.run.now leads r.run.offers);
     };
-    goes_on = r.run.goes_on;
+    begun = r.run.goes_on.begun;
+    leads = r.run.goes_on.begins;
+    default = r.run.goes_on.default;
   }
 
   pub follows_of : FollowsPlan plan rows

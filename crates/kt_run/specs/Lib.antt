@@ -4,3 +4,6 @@ pub mod Refused
 pub mod Runs
 pub mod Telling
 pub mod Rejections
+pub mod FaultTexts
+pub mod Orders
+pub mod OneRun

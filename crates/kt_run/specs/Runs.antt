@@ -10,10 +10,10 @@ use Rattle.kt_plan.specs.declared.steps.Step.{Step}
 use Rattle.kt_plan.specs.declared.steps.Give.{Give}
 use Rattle.kt_plan.specs.declared.steps.Act.{Act}
 use Rattle.kt_plan.specs.declared.steps.Told.{Told}
-use Rattle.kt_plans.specs.Runs.{Move, GoesOn, after_moves}
+use Rattle.kt_plans.specs.Runs.{Move, AreDefaultMoves, GoesOn, after_moves}
 use Rattle.kt_plans.specs.Progress.{Progress, progress_at_start}
 use Rattle.kt_plans.specs.Steps.{enabled, progress_after, is_at_rest}
-use Rattle.kt_plans.specs.Offers.{GivesOffer, GivesOffers, offer_places, AreOfferedAt}
+use Rattle.kt_plans.specs.Offers.{GivesOffer, GivesOffers, SendsWhatIsOffered}
 use Rattle.kt_plans.specs.Told.{told_at}
 use Rattle.kt_core.specs.Worlds.{World}
 use Rattle.kt_core.specs.Shown.{Mirrors}
@@ -103,19 +103,21 @@ pub record IsRun (plan : Planned) (cast : List (List Content)) (moves : List Mov
   pub leads : after_moves plan (progress_at_start plan 0) moves ≡ Some end
   pub rest : is_at_rest plan end ≡ true
   pub log : rows ≡ end.now.log
-  pub offers : AreOfferedAt (rules_by cast) rows (offer_places plan (progress_at_start plan 0) moves)
+  pub offers : SendsWhatIsOffered (rules_by cast) plan rows
 
 -- these are the rows of a run of the plan, in whatever order its steps are made
 abbrev pub IsLogOfRun : Planned → List (List Content) → List Event → Type 0
 IsLogOfRun plan cast rows = (moves : List Move) × IsRun plan cast moves rows
 
--- these are the rows of a run that begins with these steps and goes on by default steps
+-- these are the rows of a run that begins with these steps, and in which each further one is the default where it is made
 pub record IsPlayed (plan : Planned) (cast : List (List Content)) (steps : List Step) (rows : List Event) : Type 0 where
   pub given : List Move
   pub more : List Move
   pub begins : map (λ (m : Move). m.step) given ≡ steps
   pub run : IsRun plan cast (given ++ more) rows
-  pub goes_on : GoesOn plan 0 given more run.end
+  pub begun : Progress
+  pub leads : after_moves plan (progress_at_start plan 0) given ≡ Some begun
+  pub default : AreDefaultMoves plan begun more
 
 -- these are the rows of such a run, and each process is told, step for step, what the run tells it
 pub record IsToldPlay (plan : Planned) (cast : List (List Content)) (steps : List Step) (rows : List Event) (told : List (List Told)) : Type 0 where

@@ -1,7 +1,9 @@
 //! Why a run ends before its time.
 
-ghost use Rattle.std.specs.Prelude.{◌≡◌};
+ghost use Rattle.std.specs.Prelude.{◌≡◌, Some};
+ghost use Rattle.std.specs.Fmt.{DisplaysOnOk};
 ghost use Rattle.kt_run.specs.declared.faults.RunFault.TheVariants as run;
+ghost use Rattle.kt_run.specs.FaultTexts.{refused_step_text};
 ghost use Rattle.kt_run.specs.Faults.{of_act, of_cast, of_step};
 
 use kt_base::{Memory, ProcNo};
@@ -70,6 +72,11 @@ impl From<CastFault> for RunFault {
 }
 
 impl fmt::Display for RunFault {
+    ghost use Rattle.std.specs.Prelude.{Some};
+    ghost use Rattle.kt_run.specs.FaultTexts.{run_fault_text};
+
+    ghost output = { λ fault. Some (run_fault_text fault) };
+
     fn fmt<W: fmt::Write>(&self, f: &mut fmt::Formatter<W>) -> fmt::Result {
         match self {
             RunFault::CastSize => write!(f, "run: CastSize"),
@@ -87,7 +94,9 @@ fn write_step<W: fmt::Write>(
     f: &mut fmt::Formatter<W>,
     done: usize,
     fault: StepFault,
-) -> fmt::Result {
+) -> fmt::Result
+    ensures { DisplaysOnOk W.write_str_gives f.old result (Some (refused_step_text done fault)) f.new }
+{
     match fault {
         StepFault::NotEnabled => write!(f, "step {} not enabled", done.saturating_add(1)),
         StepFault::LogFull | StepFault::LabelsSpent | StepFault::Memory => write!(

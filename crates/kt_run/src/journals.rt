@@ -1,6 +1,6 @@
 //! What the processes of a run were told.
 
-ghost use Rattle.std.specs.Prelude.{◌≡◌, [], false, length, map, IfOk, OnOk};
+ghost use Rattle.std.specs.Prelude.{◌≡◌, ◌<◌, [], true, false, length, map, IfOk, OnOk};
 ghost use Rattle.kt_plans.specs.Steps.{process_of_step};
 ghost use Rattle.kt_run.specs.Telling.{AreEmpty, IsNoted};
 
@@ -27,7 +27,8 @@ impl Model for Journals {
 impl Journals {
     /// None are kept.
     pub(crate) fn none(alloc: Global) -> Journals
-        ensures { AreEmpty result }
+        ensures empty { AreEmpty result }
+        ensures none { length result ≡ 0 }
     {
         Journals {
             lists: Vec::new(alloc),
@@ -48,7 +49,8 @@ impl Journals {
 
     /// Whether any are kept.
     pub(crate) fn are_kept(&self) -> bool
-        ensures { result ≡ false → self.now ≡ [] }
+        ensures none { result ≡ false → self.now ≡ [] }
+        ensures some { result ≡ true → 0 < length self.now }
     {
         !self.lists.is_empty()
     }

@@ -1,10 +1,17 @@
-//! A serial run of a plan over the objects of its processes: given steps, then default ones until all is at rest.
+//! A serial run of a plan over the objects of its processes: given steps, then default ones, or steps that are drawn, until
+//! all is at rest.
 #![tactic(auto)]
 
 mod faults;
 mod journals;
+mod laws;
+mod orders;
+mod recorded;
 mod runs;
 mod stage;
 
 pub use faults::RunFault;
+pub use laws::one_run;
+pub use orders::Order;
+pub use recorded::{RecordedRun, recorded_run_of};
 pub use runs::{Outcome, log_of, run};

@@ -1,12 +1,12 @@
 //! Serial runs.
 
-ghost use Rattle.std.specs.Prelude.{◌≡◌, ◌⊎◌, ℕ, [], None, All, map, slice_index, slice_index_or, OnOk, IfOk, IfErr};
+ghost use Rattle.std.specs.Prelude.{◌≡◌, ◌≢◌, ◌⊎◌, ℕ, [], None, All, map, slice_index, slice_index_or, OnOk, IfOk, IfErr};
 ghost use Rattle.std.specs.List.{AllZip};
 ghost use Rattle.kt_core.specs.declared.faults.StepFault.{StepFault};
 ghost use Rattle.kt_held.specs.Holdings.{content};
 ghost use Rattle.kt_held.specs.Refusals.{IsLeastRefused};
 ghost use Rattle.kt_plans.specs.Follows.{FollowsPlan};
-ghost use Rattle.kt_plans.specs.Headline.{IsPromised};
+ghost use Rattle.kt_plans.specs.Headline.{IsCertified, IsPromised};
 ghost use Rattle.kt_run.specs.Faults.{IsCast, Answers};
 ghost use Rattle.kt_run.specs.Objects.{has_of, HoldDue, AreLeft};
 ghost use Rattle.kt_run.specs.Refused.{IsStepRefused, IsStopped};
@@ -74,6 +74,7 @@ pub fn run(alloc: Global, plan: &Plan, steps: &[Step], cast: Cast) -> Result<Out
         (has_of outcome.objects.items (λ b. content (kind_of b) (value_of b)))) }
     ensures settled { IfOk result (λ outcome. All (λ h. h.depot.tentative ≡ None) outcome.objects.items) }
     ensures promised { IfOk result (λ outcome. IsPromised outcome.log.rows) }
+    ensures certified { IfOk result (λ outcome. IsCertified outcome.log.rows) }
 
     // The spares of each process are the objects that it was given but for the first ones.
     ensures spares { IfOk result (λ outcome.
@@ -101,10 +102,8 @@ pub fn log_of(alloc: Global, plan: &Plan, steps: &[Step], cast: Cast) -> Result<
     ensures refused { IfErr result (λ fault. (done : ℕ) (why : StepFault) → fault ≡ RunFault.Step done why →
         IsStepRefused plan.now (map (λ row. map (λ b. content (kind_of b) (value_of b)) row.items) cast.items) steps.now done why) }
 
-    // Where there is no memory for what a process is told, the step is its own, and not refused.
-    ensures named { IfErr result (λ fault. (p : ℕ) → fault ≡ RunFault.Journal p →
-        IsStopped plan.now (map (λ row. map (λ b. content (kind_of b) (value_of b)) row.items)
-        cast.items) steps.now p) }
+    // No list is kept of what a process is told, so none lacks memory.
+    ensures untold { IfErr result (λ fault. (p : ℕ) → fault ≢ RunFault.Journal p) }
 
     // Where an object fails, it is either at first, that of the least process whose save may be refused; or in a step of
     // its own that was not refused, where one of the objects that the process was given may reject a saved state of their
@@ -121,6 +120,7 @@ pub fn log_of(alloc: Global, plan: &Plan, steps: &[Step], cast: Cast) -> Result<
     ensures run { IfOk result (λ log. IsPlayed plan.now
         (map (λ row. map (λ b. content (kind_of b) (value_of b)) row.items) cast.items) steps.now log.rows) }
     ensures promised { IfOk result (λ log. IsPromised log.rows) }
+    ensures certified { IfOk result (λ log. IsCertified log.rows) }
 
     // It follows the plan, told by its rows alone.
     ensures follows { IfOk result (λ log. FollowsPlan plan.now log.rows) }

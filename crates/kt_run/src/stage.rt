@@ -26,6 +26,8 @@ use kt_object::Recoverable;
 use kt_plan::{Act, Give, Look, Plan, Step, Told};
 use std::alloc::Global;
 
+mod in_order;
+
 /// A world, what its processes hold, and what they were told.
 #[derive(Drop)]
 pub(crate) struct Stage {
@@ -53,6 +55,7 @@ impl Stage {
         ensures starts { IfOk result (λ stage. Starts plan.now stage.world) }
         ensures plan { IfOk result (λ stage. stage.world.agenda.plan ≡ plan.now) }
         ensures journals { IfOk result (λ stage. AreEmpty stage.journals) }
+        ensures none { IfOk result (λ stage. length stage.journals ≡ 0) }
         ensures done { IfOk result (λ stage. stage.done ≡ 0) }
         ensures seats { IfOk result (λ stage. length stage.objects.items ≡ stage.world.system.size) }
         ensures spares { IfOk result (λ stage.
@@ -94,6 +97,8 @@ impl Stage {
         requires none { self.old.done ≡ 0 }
         requires seats { length self.old.objects.items ≡ self.old.world.system.size }
         ensures fault { IfErr result (λ fault. is_of_cast fault ≡ false) }
+        ensures untold { length self.old.journals ≡ 0 →
+            IfErr result (λ fault. (p : ℕ) → fault ≢ RunFault.Journal p) }
         ensures refused { (cast : List (List Content)) → HoldDue cast [] (has_of self.old.objects.items
             (λ b. content (kind_of (b.vtable, b.value)) (value_of (b.vtable, b.value)))) →
             IfErr result (λ fault. (done : ℕ) (why : StepFault) → fault ≡ RunFault.Step done why →
@@ -129,6 +134,8 @@ impl Stage {
         requires none { self.old.done ≡ 0 }
         requires seats { length self.old.objects.items ≡ self.old.world.system.size }
         ensures fault { IfErr result (λ fault. is_of_cast fault ≡ false) }
+        ensures untold { length self.old.journals ≡ 0 →
+            IfErr result (λ fault. (p : ℕ) → fault ≢ RunFault.Journal p) }
         ensures plan { self.new.world.agenda.plan ≡ self.old.world.agenda.plan }
         ensures done { OnOk result (self.new.done ≡ length steps.now) }
         ensures seats { OnOk result (length self.new.objects.items ≡ self.new.world.system.size) }
@@ -176,6 +183,8 @@ impl Stage {
             × (self.old.done ≡ length steps) }
         requires seats { length self.old.objects.items ≡ self.old.world.system.size }
         ensures fault { IfErr result (λ fault. is_of_cast fault ≡ false) }
+        ensures untold { length self.old.journals ≡ 0 →
+            IfErr result (λ fault. (p : ℕ) → fault ≢ RunFault.Journal p) }
         ensures refused { (cast : List (List Content)) (steps : List Step) →
             BeginsRun self.old.world.agenda.plan cast steps self.old.world
             (scene self.old.journals self.old.objects.items
@@ -223,6 +232,8 @@ impl Stage {
         requires few { self.old.done < 2 ^ 64 - 1 }
         requires seats { length self.old.objects.items ≡ self.old.world.system.size }
         ensures fault { IfErr result (λ fault. is_of_cast fault ≡ false) }
+        ensures untold { length self.old.journals ≡ 0 →
+            IfErr result (λ fault. (p : ℕ) → fault ≢ RunFault.Journal p) }
         ensures plan { self.new.world.agenda.plan ≡ self.old.world.agenda.plan }
         ensures done { OnOk result (self.new.done ≡ self.old.done + 1) }
         ensures seats { OnOk result (length self.new.objects.items ≡ self.new.world.system.size) }
@@ -284,6 +295,7 @@ fn ready(world: &World, step: &Step, done: usize) -> Result<Look, RunFault>
     ensures made { IfErr result (λ fault. (p : ℕ) → stopped_at fault ≡ Some p →
         step_refusal world.now step.now ≡ None) }
     ensures objects { IfErr result (λ fault. (p : ℕ) → fault ≢ RunFault.Object p) }
+    ensures untold { IfErr result (λ fault. (p : ℕ) → fault ≢ RunFault.Journal p) }
 {
     match world.ready_found(step) {
         Ok(look) => Ok(look),
@@ -307,6 +319,7 @@ fn step_once(
     ensures early { IfErr result (λ fault. (n : ℕ) (why : StepFault) → fault ≢ RunFault.Step n why) }
     ensures named { IfErr result (λ fault. (p : ℕ) → stopped_at fault ≡ Some p → process_of_step step.now ≡ p) }
     ensures objects { IfErr result (λ fault. (p : ℕ) → fault ≢ RunFault.Object p) }
+    ensures untold { length journals.old ≡ 0 → IfErr result (λ fault. (p : ℕ) → fault ≢ RunFault.Journal p) }
     ensures leads { OnOk result (Tells world.old journals.old step.now give world.new journals.new acts.new) }
 {
     if journals.are_kept() {
@@ -326,6 +339,7 @@ fn act_once(world: &mut World, step: &Step, give: Give, acts: &mut [Act; 2]) -> 
     ensures early { IfErr result (λ fault. (n : ℕ) (why : StepFault) → fault ≢ RunFault.Step n why) }
     ensures named { IfErr result (λ fault. (p : ℕ) → stopped_at fault ≡ Some p → process_of_step step.now ≡ p) }
     ensures objects { IfErr result (λ fault. (p : ℕ) → fault ≢ RunFault.Object p) }
+    ensures untold { IfErr result (λ fault. (p : ℕ) → fault ≢ RunFault.Journal p) }
     ensures leads { OnOk result (Tells world.old [] step.now give world.new [] acts.new) }
 {
     match world.make_step(step, give, acts) {

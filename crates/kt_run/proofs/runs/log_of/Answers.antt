@@ -56,17 +56,11 @@ returns-in_err-make_all-clause-refused g c = if_err c.from_residual-in_err-make_
     (map (λ row. map (λ b. content ((goal.Recoverable-dyn g (b.vtable, b.value)).kind_of b.value) ((goal.Recoverable-dyn g (b.vtable, b.value)).value_of b.value)) row.items) c.args.cast.items)
     c.in_ok-stage.ensures.due done why e))
 
-pub returns-in_err-stage-clause-named : goal.returns-in_err-stage-clause-named
-returns-in_err-stage-clause-named g c = if_err c.from_residual.result _ c.in_err-stage.field-0.0 (search rules) (λ p e. absurd (c.in_err-stage.ensures.untold p e))
+pub returns-in_err-stage-clause-untold : goal.returns-in_err-stage-clause-untold
+returns-in_err-stage-clause-untold g c = if_err c.from_residual.result _ c.in_err-stage.field-0.0 (search rules) c.in_err-stage.ensures.untold
 
-pub returns-in_err-make_all-clause-named : goal.returns-in_err-make_all-clause-named
-returns-in_err-make_all-clause-named g c = if_err c.from_residual-in_err-make_all.result _ c.in_err-make_all.field-0.0 (search rules)
-    (λ p e. subst (λ (z : Planned). IsStopped z
-    (map (λ row. map (λ b. content ((goal.Recoverable-dyn g (b.vtable, b.value)).kind_of b.value) ((goal.Recoverable-dyn g (b.vtable, b.value)).value_of b.value)) row.items) c.args.cast.items)
-    c.args.steps.now p) c.in_ok-stage.ensures.plan
-    (c.in_err-make_all.ensures.named
-    (map (λ row. map (λ b. content ((goal.Recoverable-dyn g (b.vtable, b.value)).kind_of b.value) ((goal.Recoverable-dyn g (b.vtable, b.value)).value_of b.value)) row.items) c.args.cast.items)
-    c.in_ok-stage.ensures.due p (ap stopped_at e)))
+pub returns-in_err-make_all-clause-untold : goal.returns-in_err-make_all-clause-untold
+returns-in_err-make_all-clause-untold g c = if_err c.from_residual-in_err-make_all.result _ c.in_err-make_all.field-0.0 (search rules) (c.in_err-make_all.ensures.untold c.in_ok-stage.ensures.none)
 
 pub returns-in_err-stage-clause-object : goal.returns-in_err-stage-clause-object
 returns-in_err-stage-clause-object g c = if_err c.from_residual.result _ c.in_err-stage.field-0.0 (search rules) (λ p e. inl (c.in_err-stage.ensures.object p e))

@@ -69,3 +69,6 @@ returns-in_err-make-clause-object g c = λ cast steps b spares. if_err c.from_re
     let goes = (c.loop-number.invariant.goes cast steps b).0 in
     rejected_of (λ b saved. (goal.Recoverable-dyn g (b.vtable, b.value)).may_reject b.value saved) (first_of (slice_index_or cast p [])).kind p (objects_held c.args.self.now.objects.items) (objects_held c.loop-number.self.objects.items) c.loop-number.invariant.rejects
     (c.in_err-make.ensures.object cast 0 goes.now goes.shown (subst (λ (z : Planned). HaveSpares z cast) (sym c.loop-number.invariant.plan) spares) goes.due p e))
+
+pub returns-in_err-make-clause-untold : goal.returns-in_err-make-clause-untold
+returns-in_err-make-clause-untold g c = λ none. if_err c.from_residual.result _ c.in_err-make.field-0.0 (search rules) (c.in_err-make.ensures.untold (c.loop-number.invariant.count ∙ none))

@@ -1,4 +1,4 @@
-use Rattle.std.proofs.Common.{rules, ◌≡◌, [], inr, subst, sym}
+use Rattle.std.proofs.Common.{rules, ◌≡◌, ◌∙◌, [], inr, subst, sym}
 use Rattle.std.specs.Prelude.{Result, Ok, Err, OnOk, IfErr, slice_index_or}
 use Rattle.kt_run.specs.Refused.{IsDefaultRefused, IsStopped}
 use Rattle.kt_held.specs.Holdings.{content}
@@ -74,3 +74,12 @@ if_err r P e is p = rw is p
 pub returns-in_err-make_given-clause-object : goal.returns-in_err-make_given-clause-object
 returns-in_err-make_given-clause-object g c = λ cast due spares.
     if_err c.from_residual.result _ c.in_err-make_given.field-0.0 (search rules) (c.in_err-make_given.ensures.object cast due spares)
+
+pub returns-in_err-make_given-clause-untold : goal.returns-in_err-make_given-clause-untold
+returns-in_err-make_given-clause-untold g c = λ none. if_err c.from_residual.result _ c.in_err-make_given.field-0.0 (search rules) (c.in_err-make_given.ensures.untold none)
+
+pub returns-clause-untold : goal.returns-clause-untold
+returns-clause-untold g c = λ none. c.go_on.ensures.untold (c.in_ok-make_given.ensures.count ∙ none)
+
+pub returns-in_err-make_given-clause-named : goal.returns-in_err-make_given-clause-named
+returns-in_err-make_given-clause-named g c = λ cast due. if_err c.from_residual.result _ c.in_err-make_given.field-0.0 (search rules) (c.in_err-make_given.ensures.named cast due)
