@@ -8,14 +8,15 @@ use Rattle.kt_run.specs.Objects.{Belongings, rules_of, first_of, rules_by, Holds
 use Rattle.kt_run.specs.Runs.{IsRun}
 use Rattle.kt_spacetime.specs.declared.event.Event.{Event}
 use Rattle.kt_threads.specs.Histories as histories
-use Rattle.kt_threads.specs.Histories.{made_by, AreTheirs}
+use Rattle.kt_threads.specs.Histories.{AreTheirs}
 use Rattle.kt_threads.specs.Moves.{move_of}
 use Rattle.kt_threads.specs.Seats.{AreServed, AllServed}
+use Rattle.kt_threads.specs.declared.errands.Errand.{Errand}
 use Rattle.kt_threads.specs.declared.state.Made.{Made}
 use Rattle.kt_threads.proofs.Moving.{run_of, served_of, nothing_tentative}
 use Rattle.kt_threads.proofs.Serving.{GivesOf}
 
-at_each : (olds : List Belongings) (lists : List (List Made)) (news : List Belongings) → AllServed olds lists news → (p : ℕ) (c : Belongings)
+at_each : (olds : List Belongings) (lists : List (List Errand)) (news : List Belongings) → AllServed olds lists news → (p : ℕ) (c : Belongings)
     → slice_get news p ≡ Some c → (b : Belongings) × (slice_get olds p ≡ Some b) × AreServed b (slice_index_or lists p []) c
 at_each [] [] [] s p c e = absurd (cc (e))
 at_each (old ∷ olds) (steps ∷ lists) (new ∷ news) s zero c e = let f : new ≡ c = cc (e) in (old, refl, subst (λ (x : Belongings). AreServed old steps x) f s.0)
@@ -25,7 +26,7 @@ at_each [] (steps ∷ lists) news s p c e = absurd s
 at_each (old ∷ olds) [] news s p c e = absurd s
 at_each (old ∷ olds) (steps ∷ lists) [] s p c e = absurd s
 
-as_many : (olds : List Belongings) (lists : List (List Made)) (news : List Belongings) → AllServed olds lists news
+as_many : (olds : List Belongings) (lists : List (List Errand)) (news : List Belongings) → AllServed olds lists news
     → (length news ≡ length olds) × (length lists ≡ length news)
 as_many [] [] [] s = (refl, refl)
 as_many (old ∷ olds) (steps ∷ lists) (new ∷ news) s = let t = as_many olds lists news s.1 in (ap suc t.0, ap suc t.1)
@@ -50,7 +51,7 @@ none_saved None (Some saved) e h = absurd h
 none_saved (Some c) t e h = absurd (cc (e))
 
 -- all have what is due to them
-module _ (plan : Planned) (steps : List Made) (rows : List Event) (lived : histories.IsWholeHistory plan steps rows) (lists : List (List Made))
+module _ (plan : Planned) (steps : List Made) (rows : List Event) (lived : histories.IsWholeHistory plan steps rows) (lists : List (List Errand))
     (theirs : AreTheirs (length plan.names) steps lists) (olds news : List Belongings) (served : AllServed olds lists news)
     (cast : List (List Content)) (due : HoldDue cast [] olds) where
   abbrev objects : ℕ → List Content
@@ -64,7 +65,7 @@ module _ (plan : Planned) (steps : List Made) (rows : List Event) (lived : histo
       let n = (as_many olds lists news served).1 in
       let m = theirs.count in
       served_of plan steps rows lived (objects p) p t.0 c (due.each p t.0 t.1)
-      (subst (λ (l : List Made). AreServed t.0 l c) (theirs.each p (omega (arith, l, n, m))) t.2)
+      (subst (λ (l : List Errand). AreServed t.0 l c) (theirs.each p (omega (arith, l, n, m))) t.2)
 
   pub due_then : HoldDue cast rows news
   due_then = record { count = (as_many olds lists news served).0 ∙ due.count; each = λ p c e. (each p c e).0 }

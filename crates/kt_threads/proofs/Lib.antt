@@ -2,6 +2,8 @@ pub mod Zips
 pub mod Casting
 pub mod Replay
 pub mod Reading
+pub mod Asking
+pub mod Noting
 pub mod Serving
 pub mod Moving
 pub mod Keeping

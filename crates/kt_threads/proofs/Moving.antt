@@ -11,7 +11,7 @@ use Rattle.kt_core.proofs.Leading.{run_same}
 use Rattle.kt_held.specs.Holdings.{Content}
 use Rattle.kt_plan.specs.Limits.{Planned, IsPlan}
 use Rattle.kt_plan.specs.declared.steps.Told.{Told}
-use Rattle.kt_plans.specs.Offers.{AreOfferedAt, offer_places}
+use Rattle.kt_plans.specs.Offers.{SendsWhatIsOffered}
 use Rattle.kt_plans.specs.Runs.{after_moves, RunReaches}
 use Rattle.kt_plans.specs.Steps.{enabled, progress_after, is_at_rest}
 use Rattle.kt_plans.specs.Told.{told_by}
@@ -26,6 +26,7 @@ use Rattle.kt_seen.specs.Seen.{Seen}
 use Rattle.kt_values.specs.Done.{done}
 use Rattle.kt_values.specs.Values.{Rules, due}
 use Rattle.kt_spacetime.specs.declared.event.Event.{Event}
+use Rattle.kt_threads.specs.Errands.{errands_of}
 use Rattle.kt_threads.specs.Histories as histories
 use Rattle.kt_threads.specs.Histories.{IsMade, Leads, IsHistory, made_by, told_to, AreTold}
 use Rattle.kt_threads.specs.Moves.{move_of}
@@ -143,7 +144,7 @@ module _ (plan : Planned) (steps : List Made) (rows : List Event) (lived : histo
       (sym (t.each p (let n = t.count in omega (arith, l, n)))) (goes.told p)
 
   -- a process that had what is due to it at first, and made its steps, has what is due to it
-  pub served_of : (objects : List Content) (p : ℕ) (b now : Belongings) → HoldsDue objects [] p b → AreServed b (made_by p steps) now
+  pub served_of : (objects : List Content) (p : ℕ) (b now : Belongings) → HoldsDue objects [] p b → AreServed b (errands_of (made_by p steps)) now
       → HoldsDue objects rows p now × GivesOf (rules_of (first_of objects)) p plan start (map move_of steps)
   served_of objects p b now h s =
       let t = goes.served objects p b now (subst (λ (l : List Event). HoldsDue objects l p b) (sym opens) h) s in
@@ -164,7 +165,7 @@ module _ (plan : Planned) (steps : List Made) (rows : List Event) (lived : histo
     leads = goes.leads;
     rest = at_rest;
     log = rows_are;
-    offers = subst (λ (l : List Event). AreOfferedAt (rules_by cast) l (offer_places plan start (map move_of steps))) (sym rows_are)
+    offers = subst (SendsWhatIsOffered (rules_by cast) plan) (sym rows_are)
         (offers_seen (rules_by cast) plan 0 limits (map move_of steps) goes.end goes.leads
         (gives_all (rules_by cast) plan (map move_of steps) start goes.end goes.leads gives));
   }

@@ -1,5 +1,5 @@
 -- A seat's next step, and what seats come to.
-use Rattle.std.proofs.Common.{◌≡◌, ◌∙◌, ◌+◌, true, List, [], ◌∷◌, ◌++◌, drop, map, refl, sym, ap, subst, All, IfSome, ℕ, suc, Some, None}
+use Rattle.std.proofs.Common.{◌≡◌, ◌∙◌, ◌+◌, true, List, [], ◌∷◌, ◌++◌, drop, map, refl, sym, ap, subst, All, IfSome, ℕ, ℤ, suc, Option, Some, None}
 use Rattle.std.specs.List.{AllZip}
 use Rattle.std.specs.Prelude.{is_some, option_map, slice_get}
 use Rattle.std.specs.declared.alloc.Global.{Global}
@@ -15,35 +15,51 @@ use Rattle.kt_plan.specs.declared.steps.Look.TheVariants as look
 use Rattle.kt_run.specs.Objects.{Belongings, belongings_of, has_of, AreLeft}
 use Rattle.kt_run.proofs.Acting.{of_content}
 use Rattle.kt_run.proofs.Holding.{IsDone, done_by}
+use Rattle.kt_threads.specs.Errands.{errand_of}
 use Rattle.kt_threads.specs.Seats.{IsServed, AreServed, KeepsServing, AllServed}
+use Rattle.kt_threads.specs.declared.errands.Errand.{Errand}
 use Rattle.kt_threads.specs.declared.seat.Seat.{Seat}
 use Rattle.kt_threads.specs.declared.state.Made.{Made}
+use Rattle.kt_threads.proofs.Asking.{noted_body}
 use Rattle.kt_threads.proofs.Zips.{mapped}
 
 -- fewer are left
 pub left_on : {A : Type 0} (all xs ys : List A) (n : ℕ) → ys ≡ drop n xs → AreLeft all xs → AreLeft all ys
 left_on all xs ys n is l = (l.0 + n, is ∙ (ap (λ (z : List _). drop n z) l.1 ∙ drop-drop n l.0 all))
 
--- one more step
-served_next : (steps : List Made) (made : Made) (first now new : Belongings) → IsServed now made new → AreServed first steps now
-    → AreServed first (steps ++ made ∷ []) new
-served_next [] made first now new step same = (new, subst (λ (b : Belongings). IsServed b made new) same step, refl)
-served_next (m ∷ steps) made first now new step s = (s.0, s.1, served_next steps made s.0 now new step s.2)
+-- what one more step asked
+served_next : (errands : List Errand) (errand : Errand) (first now new : Belongings) → IsServed now errand new → AreServed first errands now
+    → AreServed first (errands ++ errand ∷ []) new
+served_next [] errand first now new step same = (new, subst (λ (b : Belongings). IsServed b errand new) same step, refl)
+served_next (d ∷ errands) errand first now new step s = (s.0, s.1, served_next errands errand s.0 now new step s.2)
 
 module _ {X : Type 0} {D : X → Type 0} (content_of : DynBox X Global D → Content) where
-  pub served_on : (first : Belongings) (steps more : List Made) (made : Made) (acts : List Act) (x y : Held X D)
-      → more ≡ steps ++ made ∷ [] → acts ≡ made.told.acts
-      → (made.look ≡ look.NeedsBody → IfSome x.present (λ b. made.give.body ≡ offered (content_of b).kind (content_of b).value))
+  pub offers_held : (offered_body : Option ℤ) (present : Option (DynBox X Global D))
+      → IfSome offered_body (λ body. IfSome present (λ b. body ≡ offered (content_of b).kind (content_of b).value))
+      → IfSome offered_body (λ body. IfSome (option_map content_of present) (λ c. body ≡ offered c.kind c.value))
+  offers_held None present h = tt
+  offers_held (Some body) present h = of_content content_of present (λ c. body ≡ offered c.kind c.value) h
+
+  pub offers_noted : (made : Made) (errand : Errand) (present : Option (DynBox X Global D)) → errand ≡ errand_of made
+      → (made.look ≡ look.NeedsBody → IfSome present (λ b. made.give.body ≡ offered (content_of b).kind (content_of b).value))
+      → IfSome errand.offered (λ body. IfSome present (λ b. body ≡ offered (content_of b).kind (content_of b).value))
+  offers_noted made errand present is asked =
+      subst (λ (d : Errand). IfSome d.offered (λ body. IfSome present (λ b. body ≡ offered (content_of b).kind (content_of b).value))) (sym is)
+      (noted_body made.look made.give.body (λ (body : ℤ). IfSome present (λ b. body ≡ offered (content_of b).kind (content_of b).value)) asked)
+
+  pub served_on : (first : Belongings) (errands more : List Errand) (errand : Errand) (acts : List Act) (x y : Held X D)
+      → more ≡ errands ++ errand ∷ [] → acts ≡ errand.acts
+      → IfSome errand.offered (λ body. IfSome x.present (λ b. body ≡ offered (content_of b).kind (content_of b).value))
       → ((h : Holding) → Holds h (option_map content_of x.present) x.depot → Holds (does_all h acts) (option_map content_of y.present) y.depot)
       → y.spares.items ≡ drop (spares_of_all (is_some x.present) acts) x.spares.items
-      → AreServed first steps (belongings_of content_of x) → AreServed first more (belongings_of content_of y)
-  served_on first steps more made acts x y is told asked does spares s =
-      let done : IsDone made.told.acts (belongings_of content_of x) (belongings_of content_of y) =
-      subst (λ (a : List Act). IsDone a (belongings_of content_of x) (belongings_of content_of y)) told
+      → AreServed first errands (belongings_of content_of x) → AreServed first more (belongings_of content_of y)
+  served_on first errands more errand acts x y is_more same offers does spares s =
+      let done : IsDone errand.acts (belongings_of content_of x) (belongings_of content_of y) =
+      subst (λ (a : List Act). IsDone a (belongings_of content_of x) (belongings_of content_of y)) same
       (done_by content_of acts x.present y.present x.spares.items y.spares.items x.depot y.depot does spares) in
-      subst (λ (l : List Made). AreServed first l (belongings_of content_of y)) (sym is)
-      (served_next steps made first (belongings_of content_of x) (belongings_of content_of y)
-      (record { does = done.does; spares = done.spares; offers = λ n. of_content content_of x.present (λ c. made.give.body ≡ offered c.kind c.value) (asked n) }) s)
+      subst (λ (l : List Errand). AreServed first l (belongings_of content_of y)) (sym is_more)
+      (served_next errands errand first (belongings_of content_of x) (belongings_of content_of y)
+      (record { does = done.does; spares = done.spares; offers = offers_held errand.offered x.present offers }) s)
 
 -- one after the other
 pub keeps_then : {X : Type 0} {D : X → Type 0} (content_of : DynBox X Global D → Content) (a b c : Seat X D) → KeepsServing a b content_of → KeepsServing b c content_of
@@ -52,21 +68,21 @@ keeps_then content_of a b c k m = (λ first s. m.0 first (k.0 first s), λ all s
 
 -- what seats that have made nothing yet come to
 module _ {X : Type 0} {D : X → Type 0} (content_of : DynBox X Global D → Content) where
-  all_served : (ss ts : List (Seat X D)) → All (λ s. s.made.items ≡ []) ss → AllZip (λ s t. KeepsServing s t content_of) ss ts → All (λ t. t.whole ≡ true) ts
-      → AllServed (map (λ s. belongings_of content_of s.held) ss) (map (λ t. t.made.items) ts) (map (λ t. belongings_of content_of t.held) ts)
+  all_served : (ss ts : List (Seat X D)) → All (λ s. s.errands.items ≡ []) ss → AllZip (λ s t. KeepsServing s t content_of) ss ts → All (λ t. t.whole ≡ true) ts
+      → AllServed (map (λ s. belongings_of content_of s.held) ss) (map (λ t. t.errands.items) ts) (map (λ t. belongings_of content_of t.held) ts)
   all_served [] [] fresh works all = tt
   all_served [] (t ∷ ts) fresh works all = absurd works
   all_served (s ∷ ss) [] fresh works all = absurd works
   all_served (s ∷ ss) (t ∷ ts) fresh works all =
       let first = belongings_of content_of s.held in (
-        works.0.0 first (λ _. subst (λ (l : List Made). AreServed first l first) (sym (All-head (λ x. x.made.items ≡ []) s ss fresh)) refl)
+        works.0.0 first (λ _. subst (λ (l : List Errand). AreServed first l first) (sym (All-head (λ x. x.errands.items ≡ []) s ss fresh)) refl)
             (All-head (λ x. x.whole ≡ true) t ts all),
-        all_served ss ts (All-tail (λ x. x.made.items ≡ []) s ss fresh) works.1 (All-tail (λ x. x.whole ≡ true) t ts all),
+        all_served ss ts (All-tail (λ x. x.errands.items ≡ []) s ss fresh) works.1 (All-tail (λ x. x.whole ≡ true) t ts all),
       )
 
-  pub all_served_of : (olds news : List (Held X D)) (lists : List (List Made)) (ss ts : List (Seat X D))
-      → map (λ s. s.held) ss ≡ olds → news ≡ map (λ t. t.held) ts → lists ≡ map (λ t. t.made.items) ts
-      → All (λ s. s.made.items ≡ []) ss → AllZip (λ s t. KeepsServing s t content_of) ss ts → All (λ t. t.whole ≡ true) ts
+  pub all_served_of : (olds news : List (Held X D)) (lists : List (List Errand)) (ss ts : List (Seat X D))
+      → map (λ s. s.held) ss ≡ olds → news ≡ map (λ t. t.held) ts → lists ≡ map (λ t. t.errands.items) ts
+      → All (λ s. s.errands.items ≡ []) ss → AllZip (λ s t. KeepsServing s t content_of) ss ts → All (λ t. t.whole ≡ true) ts
       → AllServed (has_of olds content_of) lists (has_of news content_of)
   all_served_of olds news lists ss ts was are have fresh works all =
       let has : Seat X D → Belongings = λ s. belongings_of content_of s.held in
@@ -75,7 +91,7 @@ module _ {X : Type 0} {D : X → Type 0} (content_of : DynBox X Global D → Con
       let last : map has ts ≡ has_of news content_of = mapped (belongings_of content_of) held has (λ _. refl) ts ∙ ap (λ l. has_of l content_of) (sym are) in
       subst (λ (l : List Belongings). AllServed l lists (has_of news content_of)) first
       (subst (λ (l : List Belongings). AllServed (map has ss) lists l) last
-      (subst (λ (l : List (List Made)). AllServed (map has ss) l (map has ts)) (sym have)
+      (subst (λ (l : List (List Errand)). AllServed (map has ss) l (map has ts)) (sym have)
       (all_served ss ts fresh works all)))
 
   all_left : (ss ts : List (Seat X D)) → AllZip (λ s t. KeepsServing s t content_of) ss ts → All (λ t. t.whole ≡ true) ts

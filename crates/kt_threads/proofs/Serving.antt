@@ -30,10 +30,12 @@ use Rattle.kt_run.proofs.Numbering.{kept, left}
 use Rattle.kt_system.specs.ShownActs.{acts_shown}
 use Rattle.kt_values.specs.Done.{done}
 use Rattle.kt_values.specs.Values.{Rules, due}
+use Rattle.kt_threads.specs.Errands.{errands_of}
 use Rattle.kt_threads.specs.Histories.{IsMade, made_by}
 use Rattle.kt_threads.specs.Moves.{move_of}
-use Rattle.kt_threads.specs.Seats.{IsServed, AreServed}
+use Rattle.kt_threads.specs.Seats.{AreServed}
 use Rattle.kt_threads.specs.declared.state.Made.{Made}
+use Rattle.kt_threads.proofs.Asking.{IsMadeServed, first_served}
 use Rattle.kt_threads.proofs.Telling.{equal_of}
 
 needs_body : (l : Look) → l ≡ NeedsBody → l ≡ look.NeedsBody
@@ -55,7 +57,7 @@ GivesOf rules p plan w (x ∷ xs) = (p ≡ process_of_step x.step → GivesOffer
 
 -- from one world of a run to another: a process that had what was due to it, and made its steps, has it again
 abbrev pub KeepsDue : Planned → List Content → ℕ → Progress → List Made → Progress → Type 0
-KeepsDue plan objects p v steps end = (b now : Belongings) → HoldsDue objects v.now.log p b → AreServed b (made_by p steps) now
+KeepsDue plan objects p v steps end = (b now : Belongings) → HoldsDue objects v.now.log p b → AreServed b (errands_of (made_by p steps)) now
     → HoldsDue objects end.now.log p now × GivesOf (rules_of (first_of objects)) p plan v (map move_of steps)
 
 -- one step, from a world that a run led to
@@ -84,7 +86,7 @@ module _ (plan : Planned) (made : Made) (before after : World) (first : ℕ) (v 
   looks : made.look ≡ look plan v x
   looks = subst (λ (p : Planned). made.look ≡ look p v x) plans (step.look first v r)
 
-  its : (objects : List Content) (b c : Belongings) → IsServed b made c → HoldsDue objects v.now.log (process_of_step x) b
+  its : (objects : List Content) (b c : Belongings) → IsMadeServed b made c → HoldsDue objects v.now.log (process_of_step x) b
       → HoldsDue objects w.now.log (process_of_step x) c
   its objects b c s h =
       holds_next objects (process_of_step x) made.told.acts v.now.log w.now.log b c
@@ -96,7 +98,7 @@ module _ (plan : Planned) (made : Made) (before after : World) (first : ℕ) (v 
       holds_still objects p v.now.log w.now.log b
       (others_along plan first v x give limits reached on (rules_of (first_of objects)) p n) h
 
-  gives : (objects : List Content) (b c : Belongings) → IsServed b made c → HoldsDue objects v.now.log (process_of_step x) b
+  gives : (objects : List Content) (b c : Belongings) → IsMadeServed b made c → HoldsDue objects v.now.log (process_of_step x) b
       → GivesOffer (λ (_ : ℕ). rules_of (first_of objects)) plan v x give
   gives objects b c s h n =
       given_offer (first_of objects) (due (rules_of (first_of objects)) (done v.now.log) (process_of_step x)).object b.present made.give.body
@@ -116,17 +118,18 @@ module _ (plan : Planned) (made : Made) (before after : World) (first : ℕ) (v 
       → KeepsDue plan objects p v (made ∷ steps) end
   served_more objects p steps end rest = λ b now h s. go b now h s (process_of_step made.told.step == p) refl
     where
-      go : (b now : Belongings) → HoldsDue objects v.now.log p b → AreServed b (made_by p (made ∷ steps)) now → (t : Bool) → (process_of_step made.told.step == p) ≡ t
+      go : (b now : Belongings) → HoldsDue objects v.now.log p b → AreServed b (errands_of (made_by p (made ∷ steps))) now → (t : Bool) → (process_of_step made.told.step == p) ≡ t
           → HoldsDue objects end.now.log p now × GivesOf (rules_of (first_of objects)) p plan v (map move_of (made ∷ steps))
       go b now h s true e =
           let q = of_first p e in
           let here : HoldsDue objects v.now.log (process_of_step x) b = subst (λ (i : ℕ). HoldsDue objects v.now.log i b) q h in
-          let a : AreServed b (made ∷ made_by p steps) now = subst (λ (l : List Made). AreServed b l now) (kept (λ (m : Made). process_of_step m.told.step == p) made steps e) s in
+          let l : AreServed b (errands_of (made ∷ made_by p steps)) now = subst (λ (l : List Made). AreServed b (errands_of l) now) (kept (λ (m : Made). process_of_step m.told.step == p) made steps e) s in
+          let a = first_served made (errands_of (made_by p steps)) b now l in
           let t = rest a.0 now (subst (λ (i : ℕ). HoldsDue objects w.now.log i a.0) (sym q) (its objects b a.0 a.1 here)) a.2 in
           (t.0, (λ _. gives objects b a.0 a.1 here, t.1))
       go b now h s false e =
           let n = of_other p e in
-          let a : AreServed b (made_by p steps) now = subst (λ (l : List Made). AreServed b l now) (left (λ (m : Made). process_of_step m.told.step == p) made steps e) s in
+          let a : AreServed b (errands_of (made_by p steps)) now = subst (λ (l : List Made). AreServed b (errands_of l) now) (left (λ (m : Made). process_of_step m.told.step == p) made steps e) s in
           let t = rest b now (others objects p b n h) a in
           (t.0, (λ q. absurd (n q), t.1))
 

@@ -11,8 +11,10 @@ use Rattle.kt_plans.specs.Looks as run_looks
 use Rattle.kt_plans.specs.Progress.{Progress, progress_at_start}
 use Rattle.kt_run.specs.Runs.{IsRun}
 use Rattle.kt_spacetime.specs.declared.event.Event.{Event}
+use Rattle.kt_threads.specs.declared.errands.Errand.{Errand}
 use Rattle.kt_threads.specs.declared.faults.LiveFault.{LiveFault}
 use Rattle.kt_threads.specs.declared.state.Made.{Made}
+use Rattle.kt_threads.specs.Errands.{errands_of}
 use Rattle.kt_threads.specs.Moves.{move_of}
 use Rattle.kt_threads.specs.Telling.{AreToldAsInRun}
 
@@ -66,10 +68,10 @@ pub record IsWholeHistory (plan : Planned) (steps : List Made) (rows : List Even
   pub rest : IsWorldAtRest end
   pub log : rows ≡ end.system.rows.rows
 
--- each process has a list of its own steps
-pub record AreTheirs (processes : ℕ) (steps : List Made) (lists : List (List Made)) : Type 0 where
+-- each process has a list of what its own steps asked of its object
+pub record AreTheirs (processes : ℕ) (steps : List Made) (lists : List (List Errand)) : Type 0 where
   pub count : length lists ≡ processes
-  pub each : (p : ℕ) → p < processes → slice_index_or lists p [] ≡ made_by p steps
+  pub each : (p : ℕ) → p < processes → slice_index_or lists p [] ≡ errands_of (made_by p steps)
 
 -- each process is told what its own steps tell
 pub record AreTold (processes : ℕ) (steps : List Made) (told : List (List Told)) : Type 0 where

@@ -1,16 +1,21 @@
 //! The lock, and what each thread does at it.
 
-ghost use Rattle.std.specs.Prelude.{◌≡◌, ◌≢◌, ◌<◌, ◌⊎◌, ◌↔◌, Some, None, IfSome, IfNone, IsSome, IsTrue};
+ghost use Rattle.std.specs.Prelude.{◌≡◌, ◌≢◌, ◌⊎◌, ◌↔◌, Some, None, IfSome, IfNone, IsSome, IsTrue};
 ghost use Rattle.kt_core.specs.Worlds.{needs};
 ghost use Rattle.kt_plans.specs.Steps.{process_of_step};
-ghost use Rattle.kt_threads.specs.Turns.{HasStep, EndsBy, IsNext, IsOver};
+ghost use Rattle.kt_threads.specs.Turns.{HasStep, IsNext, IsOver};
 
+use crate::errands::errand_for;
 use crate::faults::LiveFault;
+use crate::minutes::Minutes;
 use crate::state::{Made, State};
 use kt_base::{Memory, ProcNo};
 use kt_plan::{Give, Look, Step};
 use std::alloc::Global;
 use std::sync::{Condvar, Mutex, Wait};
+
+/// How many steps of one process are made while the others wait for the lock.
+const MOST_IN_ONE_HOLD: usize = 1024;
 
 /// What comes next for a process.
 #[derive(Clone, Copy, Debug, PartialEq, Eq)]
@@ -25,24 +30,25 @@ pub(crate) enum Next {
     End,
 }
 
-/// A state under a lock, and for each process the news that it can make a step, or that all is over.
+/// Minutes under a lock, and for each process the news that it can make a step, or that all is over.
 #[derive(Drop)]
 pub(crate) struct Board {
-    state: Mutex<State>,
+    minutes: Mutex<Minutes>,
     news: Vec<Condvar>,
 }
 
 impl Board {
-    /// A board with this state, for so many processes.
-    pub(crate) fn new(alloc: Global, state: State, processes: usize) -> Result<Board, Memory> {
+    /// A board with these minutes, for so many processes.
+    pub(crate) fn new(alloc: Global, minutes: Minutes, processes: usize) -> Result<Board, Memory> {
         let news = news_of(alloc, processes)?;
         Ok(Board {
-            state: Mutex::new(state),
+            minutes: Mutex::new(minutes),
             news,
         })
     }
 
-    /// Waits until a process can make a step, or all is over. A step that needs nothing of its object is made.
+    /// Waits until a process can make a step, or all is over. Its steps that need nothing of its object are made, up to the
+    /// first one that asks something of it.
     pub(crate) fn advance<R: Wait>(&self, rt: &R, me: ProcNo) -> Next
         ensures sends { (made : _) → result ≡ Next.Made made → made.look ≢ Look.NeedsBody }
         ensures saves { (made : _) → result ≡ Next.Made made → made.look ≢ Look.NeedsSave }
@@ -51,22 +57,18 @@ impl Board {
         let Some(news) = self.news.get(me.index()) else {
             return Next::End;
         };
-        let mut state = news.wait_while(rt, self.state.lock(rt), |state| { must_wait(state, me) });
-        let Some((step, look)) = next_in(&state, me) else {
-            return Next::End;
-        };
-        if look == Look::NeedsSave || look == Look::NeedsBody {
-            return Next::Ask(step, look);
+        let mut minutes = self.minutes.lock(rt);
+        for _ in rt.forever() {
+            minutes.arrive(me);
+            if !must_wait(minutes.state(), me) {
+                break;
+            }
+            self.wake(&mut minutes, me);
+            minutes.sleep(me);
+            minutes = news.wait(rt, minutes);
         }
-        let next = make_in(
-            &mut state,
-            step,
-            Give {
-                able: false,
-                body: 0,
-            },
-        );
-        self.tell(&state);
+        let next = go_on(&mut minutes, me);
+        self.wake(&mut minutes, me);
         next
     }
 
@@ -84,39 +86,51 @@ impl Board {
         ensures step { (made : _) → result ≡ Next.Made made → made.told.step ≡ step }
         ensures own { (made : _) → result ≡ Next.Made made → process_of_step step ≡ me }
     {
-        let mut state = self.state.lock(rt);
-        if state.fault().is_some() {
+        let mut minutes = self.minutes.lock(rt);
+        if minutes.state().fault().is_some() {
             return Next::End;
         }
-        if !state.is_next(me, &step, look) {
+        if !minutes.state().is_next(me, &step, look) {
             return Next::Again;
         }
-        let next = make_in(&mut state, step, give);
-        self.tell(&state);
+        let next = minutes.make(step, give);
+        self.wake(&mut minutes, me);
         next
     }
 
     /// No more steps are made.
     pub(crate) fn stop<R: Wait>(&self, rt: &R, fault: LiveFault) {
-        let mut state = self.state.lock(rt);
-        state.stop(fault);
-        self.tell(&state);
+        let mut minutes = self.minutes.lock(rt);
+        minutes.stop(fault);
+        self.wake_all();
     }
 
-    /// Wakes each process that can make a step; all of them where all is over.
-    fn tell(&self, state: &State) {
-        let over = state.is_over();
-        for (number, news) in self.news.iter().enumerate() {
-            if is_woken(over, state, number) {
-                news.notify_all();
-            }
+    /// Who leaves the lock wakes the next process that sleeps though it can make a step, unless one was woken and has not come
+    /// yet; and all of them where all is over.
+    fn wake(&self, minutes: &mut Minutes, me: ProcNo) {
+        if minutes.state().is_over() {
+            self.wake_all();
+            return;
+        }
+        let Some(p) = minutes.call_after(me) else {
+            return;
+        };
+        if let Some(news) = self.news.get(p.index()) {
+            news.notify_one();
+        }
+    }
+
+    /// Wakes all.
+    fn wake_all(&self) {
+        for news in self.news.iter() {
+            news.notify_all();
         }
     }
 
     /// What lay under the lock.
-    pub(crate) fn into_state(self) -> State {
-        let Board { state, news: _ } = self;
-        state.into_inner()
+    pub(crate) fn into_minutes(self) -> Minutes {
+        let Board { minutes, news: _ } = self;
+        minutes.into_inner()
     }
 }
 
@@ -150,39 +164,51 @@ fn next_in(state: &State, me: ProcNo) -> Option<(Step, Look)>
     Some((step, state.look(&step)))
 }
 
-/// Makes a step under the lock. A step that is refused ends all.
-fn make_in(state: &mut State, step: Step, give: Give) -> Next
-    ensures look { (made : _) → result ≡ Next.Made made → made.look ≡ needs state.old.world step }
-    ensures give { (made : _) → result ≡ Next.Made made → made.give ≡ give }
-    ensures step { (made : _) → result ≡ Next.Made made → made.told.step ≡ step }
-    ensures end { result ≡ Next.End → EndsBy state.old step state.new.fault }
+/// Makes a process's next step, if it needs nothing of its object.
+fn make_next(minutes: &mut Minutes, me: ProcNo) -> Next
+    ensures sends { (made : _) → result ≡ Next.Made made → made.look ≢ Look.NeedsBody }
+    ensures saves { (made : _) → result ≡ Next.Made made → made.look ≢ Look.NeedsSave }
+    ensures own { (made : _) → result ≡ Next.Made made → process_of_step made.told.step ≡ me }
 {
-    match state.make(step, give) {
-        Ok(made) => Next::Made(made),
-        Err(fault) => {
-            state.stop(LiveFault::of_step(fault));
+    let Some((step, look)) = next_in(minutes.state(), me) else {
+        return if minutes.state().is_over() {
             Next::End
+        } else {
+            Next::Again
+        };
+    };
+    if look == Look::NeedsSave || look == Look::NeedsBody {
+        return Next::Ask(step, look);
+    }
+    minutes.make(
+        step,
+        Give {
+            able: false,
+            body: 0,
+        },
+    )
+}
+
+/// Whether a process's next step was made, and asked nothing of its object.
+fn is_done(next: &Next) -> bool {
+    match next {
+        Next::Made(made) => errand_for(made).is_none(),
+        Next::Ask(..) | Next::Again | Next::End => false,
+    }
+}
+
+/// Makes a process's steps, up to the first one that asks something of its object, or that can't be made yet, and at most so
+/// many that others don't wait long.
+fn go_on(minutes: &mut Minutes, me: ProcNo) -> Next
+    ensures sends { (made : _) → result ≡ Next.Made made → made.look ≢ Look.NeedsBody }
+    ensures saves { (made : _) → result ≡ Next.Made made → made.look ≢ Look.NeedsSave }
+    ensures own { (made : _) → result ≡ Next.Made made → process_of_step made.told.step ≡ me }
+{
+    for _ in 0..MOST_IN_ONE_HOLD {
+        let next = make_next(minutes, me);
+        if !is_done(&next) {
+            return next;
         }
     }
-}
-
-/// Whether the process of this number is woken: where all is over, or it can make a step.
-fn is_woken(over: bool, state: &State, number: usize) -> bool
-    ensures woken { IsTrue result ↔
-        (IsTrue over ⊎ ((number < 64) × HasStep state.now.world number)) }
-{
-    over || can_step(state, number)
-}
-
-/// Whether the process of this number can make a step.
-fn can_step(state: &State, number: usize) -> bool
-    ensures able { IsTrue result ↔ ((number < 64) × HasStep state.now.world number) }
-{
-    let Ok(number) = u8::try_from(number) else {
-        return false;
-    };
-    match ProcNo::new(number) {
-        Some(p) => state.next_step_of(p).is_some(),
-        None => false,
-    }
+    Next::Again
 }

@@ -3,12 +3,14 @@
 
 mod board;
 mod crew;
+mod errands;
 mod faults;
+mod lists;
+mod minutes;
 mod outcome;
 mod plans;
 mod seat;
 mod state;
-mod tells;
 
 pub use faults::LiveFault;
 pub use outcome::{live, live_log_of};

@@ -5,28 +5,31 @@ ghost use Rattle.std.specs.Prelude.{◌≡◌, [], List, length, true, false, No
 ghost use Rattle.kt_core.specs.Worlds.{IsWorldAtRest};
 ghost use Rattle.kt_held.specs.Holdings.{Content, content};
 ghost use Rattle.kt_plans.specs.Follows.{FollowsPlan};
-ghost use Rattle.kt_plans.specs.Headline.{IsPromised};
+ghost use Rattle.kt_plans.specs.Headline.{IsCertified, IsPromised};
 ghost use Rattle.kt_run.specs.Faults.{IsCast};
 ghost use Rattle.kt_run.specs.Objects.{has_of, HoldDue, AreLeft};
 ghost use Rattle.kt_run.specs.Runs.{IsLogOfRun};
 ghost use Rattle.kt_run.specs.Telling.{AreToldTheirRows};
 ghost use Rattle.kt_threads.specs.Faults.{AnswersLive, is_live_of_cast};
 ghost use Rattle.kt_threads.specs.Histories.{AreTheirs, IsWholeHistory, IsLived};
+ghost use Rattle.kt_threads.specs.Noted.{AreNoted, AreToldBy};
 ghost use Rattle.kt_threads.specs.Seats.{AllServed, KeepsServing};
 
 use crate::board::Board;
 use crate::crew::{CrewFault, run_all};
+use crate::errands::{Errand, are_all_same};
 use crate::faults::LiveFault;
+use crate::minutes::Minutes;
 use crate::seat::{Seat, work};
 use crate::state::{Made, State};
-use crate::tells::{all_told, are_theirs};
 use kt_base::ProcNo;
 use kt_held::{Cast, Held, begin_all};
 use kt_object::Recoverable;
-use kt_plan::Plan;
+use kt_plan::{Plan, Told};
 use kt_run::Outcome;
 use kt_spacetime::SpaceTime;
 use std::alloc::Global;
+use std::snapshot::Snapshot;
 use std::sync::Wait;
 use std::thread::Threads;
 
@@ -50,7 +53,7 @@ fn first_objects(alloc: Global, plan: &Plan, cast: Cast) -> Result<Vec<Held>, Li
 /// A seat for each process.
 fn seats_of(alloc: Global, objects: Vec<Held>) -> Result<Vec<Seat>, LiveFault>
     ensures held { IfOk result (λ seats. map (λ seat. seat.held) seats.items ≡ objects.items) }
-    ensures fresh { IfOk result (λ seats. All (λ seat. seat.made.items ≡ []) seats.items) }
+    ensures fresh { IfOk result (λ seats. All (λ seat. seat.errands.items ≡ []) seats.items) }
     ensures fault { IfErr result (λ fault. is_live_of_cast fault ≡ false) }
 {
     let mut seats = Vec::with_capacity(alloc, objects.len())?;
@@ -89,15 +92,31 @@ fn work_all<R: Threads + Wait + Sync>(
     )
 }
 
-/// The log and the steps of a run of the plan that ended at rest, or the fault that ended it.
-fn finish(state: State, plan: &Plan) -> Result<(SpaceTime, Vec<Made>), LiveFault>
-    ensures run { IfOk result (λ parts. IsWholeHistory plan.entry.now parts.1.items parts.0.rows) }
+/// The log of a run of the plan that ended at rest, its steps, and what was noted of them; or the fault that ended it.
+fn finish(
+    minutes: Minutes,
+    plan: &Plan,
+) -> Result<
+    (
+        SpaceTime,
+        Vec<Snapshot<Made>>,
+        Vec<Vec<Errand>>,
+        Vec<Vec<Told>>,
+    ),
+    LiveFault,
+>
+    ensures run { IfOk result (λ parts.
+        IsWholeHistory plan.entry.now (map (λ step. step.value) parts.1.items) parts.0.rows) }
+    ensures noted { IfOk result (λ parts. AreNoted (map (λ step. step.value) parts.1.items)
+        (map (λ list. list.items) parts.2.items) (map (λ list. list.items) parts.3.items)) }
     ensures promised { IfOk result (λ parts. IsPromised parts.0.rows) }
     ensures follows { IfOk result (λ parts. FollowsPlan plan.entry.now parts.0.rows) }
     ensures fault { IfErr result (λ fault. is_live_of_cast fault ≡ false) }
 {
-    ended(&state, plan)?;
-    Ok(state.into_parts())
+    ended(minutes.state(), plan)?;
+    let (state, asked, told) = minutes.into_parts();
+    let (log, steps) = state.into_parts();
+    Ok((log, steps, asked, told))
 }
 
 /// That a run of the plan ended at rest, or the fault that ended it.
@@ -105,6 +124,7 @@ fn ended(state: &State, plan: &Plan) -> Result<(), LiveFault>
     ensures plan { OnOk result (state.now.world.agenda.plan ≡ plan.now) }
     ensures rest { OnOk result (IsWorldAtRest state.now.world) }
     ensures follows { OnOk result (FollowsPlan plan.now state.now.world.system.rows.rows) }
+    ensures going { OnOk result (state.now.fault ≡ None) }
     ensures fault { IfErr result (λ fault. is_live_of_cast fault ≡ false) }
 {
     if let Some(fault) = state.fault() {
@@ -116,11 +136,11 @@ fn ended(state: &State, plan: &Plan) -> Result<(), LiveFault>
     Ok(())
 }
 
-/// The steps that each process made, and what it holds, if all acts that they told were done.
-fn leave(alloc: Global, seats: Vec<Seat>) -> Result<(Vec<Vec<Made>>, Vec<Held>), LiveFault>
+/// What each process's steps asked of its object, and what it holds, if all of that was done.
+fn leave(alloc: Global, seats: Vec<Seat>) -> Result<(Vec<Vec<Errand>>, Vec<Held>), LiveFault>
     ensures whole { OnOk result (All (λ seat. seat.whole ≡ true) seats.items) }
-    ensures made { IfOk result (λ parts.
-        map (λ list. list.items) parts.0.items ≡ map (λ seat. seat.made.items) seats.items) }
+    ensures errands { IfOk result (λ parts.
+        map (λ list. list.items) parts.0.items ≡ map (λ seat. seat.errands.items) seats.items) }
     ensures held { IfOk result (λ parts. parts.1.items ≡ map (λ seat. seat.held) seats.items) }
     ensures fault { IfErr result (λ fault. is_live_of_cast fault ≡ false) }
 {
@@ -130,53 +150,66 @@ fn leave(alloc: Global, seats: Vec<Seat>) -> Result<(Vec<Vec<Made>>, Vec<Held>),
         let Seat {
             me: _,
             held,
-            made,
+            errands,
             whole,
         } = seat;
         if !whole {
             return Err(LiveFault::Differ);
         }
-        if lists.push(made).is_err() || objects.push(held).is_err() {
+        if lists.push(errands).is_err() || objects.push(held).is_err() {
             return Err(LiveFault::Memory);
         }
     }
     Ok((lists, objects))
 }
 
-/// Runs a plan over what its processes hold at first, each in a thread of its own: the log, the steps, those of each process,
-/// and what it holds.
+/// Runs a plan over what its processes hold at first, each in a thread of its own: the log, the steps, what those of each
+/// process asked of its object, what they told it, where `tells`, and what it holds.
 fn work_out<R: Threads + Wait + Sync>(
     rt: &R,
     alloc: Global,
     plan: &Plan,
     objects: Vec<Held>,
-) -> Result<(SpaceTime, Vec<Made>, Vec<Vec<Made>>, Vec<Held>), LiveFault>
-    ensures history { IfOk result (λ r. IsWholeHistory plan.now r.1.items r.0.rows) }
-    ensures theirs { IfOk result (λ r.
-        AreTheirs (length plan.now.names) r.1.items (map (λ list. list.items) r.2.items)) }
+    tells: bool,
+) -> Result<
+    (
+        SpaceTime,
+        Vec<Snapshot<Made>>,
+        Vec<Vec<Errand>>,
+        Vec<Vec<Told>>,
+        Vec<Held>,
+    ),
+    LiveFault,
+>
+    ensures history { IfOk result (λ r. IsWholeHistory plan.now (map (λ step. step.value) r.1.items) r.0.rows) }
+    ensures theirs { IfOk result (λ r. AreTheirs (length plan.now.names)
+        (map (λ step. step.value) r.1.items) (map (λ list. list.items) r.2.items)) }
+    ensures told { IfOk result (λ r. AreToldBy
+        (map (λ step. step.value) r.1.items) (map (λ list. list.items) r.3.items)) }
     ensures served { IfOk result (λ r. AllServed
         (has_of objects.items (λ b. content (kind_of (b.vtable, b.value)) (value_of (b.vtable, b.value))))
         (map (λ list. list.items) r.2.items)
-        (has_of r.3.items (λ b. content (kind_of (b.vtable, b.value)) (value_of (b.vtable, b.value))))) }
+        (has_of r.4.items (λ b. content (kind_of (b.vtable, b.value)) (value_of (b.vtable, b.value))))) }
     ensures spares { IfOk result (λ r.
-        AllZip (λ g h. AreLeft g.spares.items h.spares.items) objects.items r.3.items) }
+        AllZip (λ g h. AreLeft g.spares.items h.spares.items) objects.items r.4.items) }
     ensures promised { IfOk result (λ r. IsPromised r.0.rows) }
     ensures follows { IfOk result (λ r. FollowsPlan plan.now r.0.rows) }
     ensures fault { IfErr result (λ fault. is_live_of_cast fault ≡ false) }
 {
     let seats = seats_of(alloc, objects)?;
     let state = State::new(alloc, plan.copy(alloc)?)?;
-    let board = Board::new(alloc, state, plan.size())?;
+    let minutes = Minutes::new(alloc, state, plan.size(), tells)?;
+    let board = Board::new(alloc, minutes, plan.size())?;
     let seats = match work_all(rt, alloc, &board, seats) {
         Err(CrewFault::Memory) => return Err(LiveFault::Memory),
         seats => seats,
     };
-    let (log, steps) = finish(board.into_state(), plan)?;
+    let (log, steps, asked, told) = finish(board.into_minutes(), plan)?;
     let (lists, objects) = leave(alloc, seats?)?;
-    if !are_theirs(plan.size(), &steps, &lists) {
+    if !are_all_same(plan.size(), &asked, &lists) {
         return Err(LiveFault::Differ);
     }
-    Ok((log, steps, lists, objects))
+    Ok((log, steps, lists, told, objects))
 }
 
 /// Runs a plan over what its processes hold at first, each in a thread of its own, and keeps what each was told.
@@ -203,8 +236,10 @@ fn live_with<R: Threads + Wait + Sync>(
     ensures follows { IfOk result (λ o. FollowsPlan plan.now o.log.rows) }
     ensures fault { IfErr result (λ fault. is_live_of_cast fault ≡ false) }
 {
-    let (log, _steps, lists, objects) = work_out(rt, alloc, plan, objects)?;
-    let told = all_told(alloc, &lists)?;
+    let (log, _steps, _lists, told, objects) = work_out(rt, alloc, plan, objects, true)?;
+    if told.len() != plan.size() {
+        return Err(LiveFault::Differ);
+    }
     Ok(Outcome { log, told, objects })
 }
 
@@ -239,6 +274,7 @@ pub fn live<R: Threads + Wait + Sync>(
 
     // Of the log all is so that is promised of every run's.
     ensures promised { IfOk result (λ o. IsPromised o.log.rows) }
+    ensures certified { IfOk result (λ o. IsCertified o.log.rows) }
 
     // The log follows the plan, told by its rows alone.
     ensures follows { IfOk result (λ o. FollowsPlan plan.now o.log.rows) }
@@ -247,6 +283,7 @@ pub fn live<R: Threads + Wait + Sync>(
     ensures cast { OnOk result (IsCast plan.now (map (λ row. map (λ b. kind_of b) row.items) cast.items)) }
     ensures fault { IfErr result (AnswersLive plan.now (map (λ row. map (λ b. kind_of b) row.items) cast.items)) }
 {
+    kt_plans::certificates_of_promised_logs();
     let objects = first_objects(alloc, plan, cast)?;
     let outcome = live_with(rt, alloc, plan, objects)?;
     Ok(outcome)
@@ -265,6 +302,7 @@ pub fn live_log_of<R: Threads + Wait + Sync>(
 
     // Of it all is so that is promised of every run's.
     ensures promised { IfOk result (λ log. IsPromised log.rows) }
+    ensures certified { IfOk result (λ log. IsCertified log.rows) }
 
     // It follows the plan, told by its rows alone.
     ensures follows { IfOk result (λ log. FollowsPlan plan.now log.rows) }
@@ -273,7 +311,8 @@ pub fn live_log_of<R: Threads + Wait + Sync>(
     ensures cast { OnOk result (IsCast plan.now (map (λ row. map (λ b. kind_of b) row.items) cast.items)) }
     ensures fault { IfErr result (AnswersLive plan.now (map (λ row. map (λ b. kind_of b) row.items) cast.items)) }
 {
+    kt_plans::certificates_of_promised_logs();
     let objects = first_objects(alloc, plan, cast)?;
-    let (log, _steps, _lists, _objects) = work_out(rt, alloc, plan, objects)?;
+    let (log, _steps, _lists, _told, _objects) = work_out(rt, alloc, plan, objects, false)?;
     Ok(log)
 }

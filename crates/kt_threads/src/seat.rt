@@ -1,48 +1,41 @@
 //! What one thread does.
 
-ghost use Rattle.std.specs.Prelude.{◌≡◌, ◌<◌, [], true, map, vec_len, vec_capacity, IfSome};
-ghost use Rattle.std.specs.Option.{option_map};
+ghost use Rattle.std.specs.Prelude.{◌≡◌, [], IfSome};
 ghost use Rattle.kt_object.specs.Bytes.{IsSavedState};
 ghost use Rattle.kt_object.specs.Value.{offered};
 ghost use Rattle.kt_held.specs.Holdings.{content};
 ghost use Rattle.kt_threads.specs.Seats.{KeepsServing};
 
 use crate::board::{Board, Next};
+use crate::errands::{Errand, copied, errand_for};
 use crate::faults::LiveFault;
 use crate::state::Made;
 use kt_base::ProcNo;
 use kt_held::Held;
 use kt_object::Recoverable;
-use kt_plan::{Act, Look, Step};
+use kt_plan::{Look, Step};
 use std::alloc::Global;
 use std::sync::Wait;
 
-/// A process's thread: what the process holds, the steps that it made, and whether all acts that they told were done.
+/// A process's thread: what the process holds, what its steps asked of its object, and whether all of that was done.
 #[derive(Drop)]
 pub(crate) struct Seat {
     pub(crate) me: ProcNo,
     pub(crate) held: Held,
-    pub(crate) made: Vec<Made>,
+    pub(crate) errands: Vec<Errand>,
     pub(crate) whole: bool,
-}
-
-/// What is to be done to the object.
-fn acts_of(made: &Made) -> [Act; 2]
-    ensures { result ≡ made.now.told.acts }
-{
-    [made.told.acts[0], made.told.acts[1]]
 }
 
 impl Seat {
     /// A process of which no step was made yet.
     pub(crate) fn new(alloc: Global, me: ProcNo, held: Held) -> Seat
         ensures held { result.held ≡ held }
-        ensures made { result.made.items ≡ [] }
+        ensures errands { result.errands.items ≡ [] }
     {
         Seat {
             me,
             held,
-            made: Vec::new(alloc),
+            errands: Vec::new(alloc),
             whole: true,
         }
     }
@@ -52,10 +45,6 @@ impl Seat {
         ensures { KeepsServing self.old self.new
             (λ b. content (kind_of (b.vtable, b.value)) (value_of (b.vtable, b.value))) }
     {
-        if self.made.reserve(1).is_err() {
-            board.stop(rt, LiveFault::Journal(self.me));
-            return false;
-        }
         match board.advance(rt, self.me) {
             Next::Ask(step, look) => self.ask(rt, alloc, board, step, look),
             Next::Made(made) => self.obey(rt, board, made, None),
@@ -67,7 +56,6 @@ impl Seat {
     /// Asks the object for what a step needs, makes the step if that still comes next, and does what it told. Whether there
     /// may be more.
     fn ask<R: Wait>(&mut self, rt: &R, alloc: Global, board: &Board, step: Step, look: Look) -> bool
-        requires { vec_len self.old.made < vec_capacity self.old.made }
         ensures { KeepsServing self.old self.new
             (λ b. content (kind_of (b.vtable, b.value)) (value_of (b.vtable, b.value))) }
     {
@@ -79,10 +67,9 @@ impl Seat {
         }
     }
 
-    /// Notes a step, and does what it told. `saved` is the object's state that was saved for the step. Whether there may be
-    /// more.
+    /// Does what a step that was made asks of the object. `saved` is the object's state that was saved for the step. Whether
+    /// there may be more.
     fn obey<R: Wait>(&mut self, rt: &R, board: &Board, made: Made, saved: Option<Vec<u8>>) -> bool
-        requires room { vec_len self.old.made < vec_capacity self.old.made }
         requires saved { IfSome saved (λ s. IfSome self.old.held.present (λ b.
             IsSavedState (kind_of (b.vtable, b.value)) (value_of (b.vtable, b.value)) s.items)) }
         requires offered { made.look ≡ Look.NeedsBody → IfSome self.old.held.present (λ b.
@@ -90,8 +77,33 @@ impl Seat {
         ensures { KeepsServing self.old self.new
             (λ b. content (kind_of (b.vtable, b.value)) (value_of (b.vtable, b.value))) }
     {
-        let acts = acts_of(&made);
-        self.made.push_reserved(made);
+        match errand_for(&made) {
+            Some(errand) => self.run_errand(rt, board, errand, saved),
+            None => true,
+        }
+    }
+
+    /// Does what a step asked of the object, and notes it. Whether there may be more.
+    fn run_errand<R: Wait>(
+        &mut self,
+        rt: &R,
+        board: &Board,
+        errand: Errand,
+        saved: Option<Vec<u8>>,
+    ) -> bool
+        requires saved { IfSome saved (λ s. IfSome self.old.held.present (λ b.
+            IsSavedState (kind_of (b.vtable, b.value)) (value_of (b.vtable, b.value)) s.items)) }
+        requires offers { IfSome errand.offered (λ body. IfSome self.old.held.present (λ b.
+            body ≡ offered (kind_of (b.vtable, b.value)) (value_of (b.vtable, b.value)))) }
+        ensures { KeepsServing self.old self.new
+            (λ b. content (kind_of (b.vtable, b.value)) (value_of (b.vtable, b.value))) }
+    {
+        let acts = copied(&errand.acts);
+        if self.errands.push(errand).is_err() {
+            self.whole = false;
+            board.stop(rt, LiveFault::Journal(self.me));
+            return false;
+        }
         if let Err(fault) = self.held.obey(acts, saved) {
             self.whole = false;
             board.stop(rt, LiveFault::of_act(self.me, fault));

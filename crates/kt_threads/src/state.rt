@@ -1,6 +1,6 @@
-//! What lies under the lock: a world, and the steps that led to it.
+//! A world, and the steps that led to it.
 
-ghost use Rattle.std.specs.Prelude.{◌≡◌, ◌⊎◌, ◌+◌, ◌^◌, [], ◌∷◌, ◌++◌, None, Some, IfOk, IfErr, IfSome, OnErr, IsTrue, ◌↔◌};
+ghost use Rattle.std.specs.Prelude.{◌≡◌, ◌⊎◌, ◌+◌, ◌^◌, [], ◌∷◌, ◌++◌, None, Some, IfOk, IfErr, IfSome, OnErr, IsTrue, ◌↔◌, ◌<◌, map, vec_len, vec_capacity};
 ghost use Rattle.kt_core.specs.Worlds.{needs, step_refusal, IsWorldAtRest, IsOpening, IsSameWorld};
 ghost use Rattle.kt_plans.specs.Follows.{FollowsPlan};
 ghost use Rattle.kt_plans.specs.Headline.{IsPromised};
@@ -15,6 +15,7 @@ use kt_plan::{Give, Look, Plan, Step, Told};
 use kt_spacetime::SpaceTime;
 use std::alloc::Global;
 use std::marker::Model;
+use std::snapshot::Snapshot;
 
 /// A step that was made: what it needed, what it was given, and what it told.
 #[derive(Clone, Copy, Debug, PartialEq, Eq)]
@@ -24,22 +25,24 @@ pub struct Made {
     pub told: Told,
 }
 
-/// A world with the steps that led to it from the world in which nothing of its plan is done, and the first fault.
+/// A world with the steps that led to it from the world in which nothing of its plan is done, and the first fault. A step
+/// takes no memory here: what is recorded of it is for contracts alone.
 #[derive(Drop)]
 pub struct State {
     world: World,
-    steps: Vec<Made>,
+    steps: Vec<Snapshot<Made>>,
     fault: Option<LiveFault>,
 }
 
 impl Model for State {
+    ghost use Rattle.std.specs.Prelude.{map};
     ghost use Rattle.kt_threads.specs.Histories.{History, IsHistory};
 
     ghost Value = { History };
 
-    ghost view = { λ s. record { world = s.world; steps = s.steps.items; fault = s.fault } };
+    ghost view = { λ s. record { world = s.world; steps = map (λ step. step.value) s.steps.items; fault = s.fault } };
 
-    ghost invariant = { λ s. IsHistory s.world.agenda.plan s.steps.items s.world };
+    ghost invariant = { λ s. IsHistory s.world.agenda.plan (map (λ step. step.value) s.steps.items) s.world };
 }
 
 impl State {
@@ -79,8 +82,9 @@ impl State {
         }
         let look = world.look(&step);
         let told = world.step(step, give)?;
-        steps.push_reserved(made_of(look, &give, &told));
-        Ok(made_of(look, &give, &told))
+        let made = made_of(look, &give, &told);
+        record_made(steps, &made);
+        Ok(made)
     }
 
     /// Keeps the first fault.
@@ -147,10 +151,10 @@ impl State {
     }
 
     /// The log, of which all is so that is promised of a run's, and the steps.
-    pub(crate) fn into_parts(self) -> (SpaceTime, Vec<Made>)
+    pub(crate) fn into_parts(self) -> (SpaceTime, Vec<Snapshot<Made>>)
         ensures log { result.0 ≡ self.world.system.rows }
         ensures promised { IsPromised result.0.rows }
-        ensures steps { result.1.items ≡ self.steps }
+        ensures steps { map (λ step. step.value) result.1.items ≡ self.steps }
         ensures history { IsHistory self.world.agenda.plan self.steps self.world }
     {
         let State { world, steps, .. } = self;
@@ -170,4 +174,12 @@ fn made_of(look: Look, give: &Give, told: &Told) -> Made
         },
         told: *told,
     }
+}
+
+/// Records a step, in the room made before.
+fn record_made(steps: &mut Vec<Snapshot<Made>>, made: &Made)
+    requires { vec_len steps.old < vec_capacity steps.old }
+    ensures { map (λ step. step.value) steps.new.items ≡ map (λ step. step.value) steps.old.items ++ made.now ∷ [] }
+{
+    steps.push_reserved(Snapshot::of(made));
 }

@@ -8,13 +8,13 @@ pub loop-seat-preserved : goal.loop-seat-preserved
 loop-seat-preserved g c =
     let seat = c.in-Some.seat in
     let whole : seat.whole ≡ true = search rules in
-    let lists : c.push.new.self.items ≡ c.loop-seat.lists.items ++ seat.made ∷ [] = search rules in
+    let lists : c.push.new.self.items ≡ c.loop-seat.lists.items ++ seat.errands ∷ [] = search rules in
     let objects : c.push-else-is_err.new.self.items ≡ c.loop-seat.objects.items ++ seat.held ∷ [] = search rules in
     record {
       can = tt;
       ends = tt;
       split = grind (arith, common_steps);
       whole = All-push (λ seat. seat.whole ≡ true) c.loop-seat.yielded seat c.loop-seat.invariant.whole whole;
-      made = rw lists (mapped_both (λ list. list.items) (λ seat. seat.made.items) c.loop-seat.lists.items c.loop-seat.yielded seat.made seat c.loop-seat.invariant.made refl);
+      errands = rw lists (mapped_both (λ list. list.items) (λ seat. seat.errands.items) c.loop-seat.lists.items c.loop-seat.yielded seat.errands seat c.loop-seat.invariant.errands refl);
       held = rw objects (mapped_last (λ seat. seat.held) c.loop-seat.objects.items c.loop-seat.yielded seat.held seat c.loop-seat.invariant.held refl);
     }

@@ -8,6 +8,6 @@ invariant-loop-seat g l = record {
   ends : (goal.iterator-loop-seat g).is_finite l.seat-iterator;
   split : l.yielded ++ into_iter_items l.seat-iterator ≡ l.fn.seats.items;
   whole : All (λ seat. seat.whole ≡ true) l.yielded;
-  made : map (λ list. list.items) l.lists.items ≡ map (λ seat. seat.made.items) l.yielded;
+  errands : map (λ list. list.items) l.lists.items ≡ map (λ seat. seat.errands.items) l.yielded;
   held : l.objects.items ≡ map (λ seat. seat.held) l.yielded;
 }

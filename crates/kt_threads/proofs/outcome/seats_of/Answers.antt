@@ -13,5 +13,5 @@ loop-held-preserved g c =
       ends = tt;
       split = grind (arith, common_steps);
       held = rw pushed (mapped_more (λ seat. seat.held) c.loop-held.seats.items c.loop-held.yielded seat c.in-Some.held c.loop-held.invariant.held c.new-in-loop-held.ensures.held);
-      fresh = rw pushed (All-push (λ seat. seat.made.items ≡ []) c.loop-held.seats.items seat c.loop-held.invariant.fresh c.new-in-loop-held.ensures.made);
+      fresh = rw pushed (All-push (λ seat. seat.errands.items ≡ []) c.loop-held.seats.items seat c.loop-held.invariant.fresh c.new-in-loop-held.ensures.errands);
     }

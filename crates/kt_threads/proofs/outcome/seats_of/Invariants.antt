@@ -8,5 +8,5 @@ invariant-loop-held g l = record {
   ends : (goal.iterator-loop-held g).is_finite l.held-iterator;
   split : l.yielded ++ into_iter_items l.held-iterator ≡ l.fn.objects.items;
   held : map (λ seat. seat.held) l.seats.items ≡ l.yielded;
-  fresh : All (λ seat. seat.made.items ≡ []) l.seats.items;
+  fresh : All (λ seat. seat.errands.items ≡ []) l.seats.items;
 }

@@ -1,4 +1,4 @@
-use Rattle.std.proofs.Common.{Ok, refl, subst, rules}
+use Rattle.std.proofs.Common.{Ok, refl, subst, map, rules}
 use Rattle.kt_core.specs.Worlds.{step_refusal}
 use Rattle.kt_threads.specs.Histories.{History, IsMade}
 use Rattle.kt_threads.specs.declared.state.Made.{Made}
@@ -8,7 +8,7 @@ use Rattle.kt_threads.proofs.state.State.make.Goals as goal
 pub invariant_of-self-in_err-told : goal.invariant_of-self-in_err-told
 invariant_of-self-in_err-told c =
     rw c.reserve.ensures.items
-    (history_same c.self.inside.steps.items c.self.inside.world c.step.new.self c.in_err-told.ensures.err c.self.invariant)
+    (history_same (map (λ step. step.value) c.self.inside.steps.items) c.self.inside.world c.step.new.self c.in_err-told.ensures.err c.self.invariant)
 
 pub invariant_of-self-2 : goal.invariant_of-self-2
 invariant_of-self-2 c =
@@ -20,8 +20,8 @@ invariant_of-self-2 c =
     makes old new c.args.step c.look-look.result c.args.give c.in_ok-told.told told.step
     (not_refused (step_refusal old c.args.step) (Ok c.in_ok-told.told) c.in_ok-told.told refl told.refused)
     told.keeps told.made (search rules) told.told c.look-look.ensures.in_runs in
-    rw (c.push_reserved.ensures.items, c.reserve.ensures.items, c.made_of.ensures)
-    (history_more c.self.inside.steps.items made old new step c.self.invariant)
+    rw (c.record_made.ensures, c.reserve.ensures.items, c.made_of-made.ensures)
+    (history_more (map (λ step. step.value) c.self.inside.steps.items) made old new step c.self.invariant)
 
 pub returns-clause-made : goal.returns-clause-made
 returns-clause-made c =
@@ -29,7 +29,7 @@ returns-clause-made c =
     let old = c.self.inside.world in
     let new = c.step.new.self in
     let told = c.in_ok-told.ensures in
-    rw c.made_of-2.ensures
+    rw c.made_of-made.ensures
     (subst (λ (h : History). IsMade h.world made new) c.self.view_is
     (makes old new c.args.step c.look-look.result c.args.give c.in_ok-told.told told.step
     (not_refused (step_refusal old c.args.step) (Ok c.in_ok-told.told) c.in_ok-told.told refl told.refused)

@@ -1,0 +1,164 @@
+-- What is noted of processes goes on by a step.
+use Rattle.std.proofs.Common.{arith, ◌≡◌, ◌≢◌, ◌∙◌, ◌<◌, ℕ, List, [], ◌∷◌, ◌++◌, append_assoc, append-nil, length, map, set, sym, ap, refl, get_or, Bool, true, false, Result, Ok, Err}
+use Rattle.std.specs.Prelude.{◌==◌, if◌then◌else◌, is_err, OnOk}
+use Rattle.std.proofs.lemmas.Bool.{eqb-true, eqb-false}
+use Rattle.std.proofs.lemmas.List.{map-append, map-set, length-map, length-set, get_or-map, get_or-set_same, get_or-set_other}
+use Rattle.std.proofs.lemmas.List.Elements.{filter-append}
+use Rattle.kt_plans.specs.Steps.{process_of_step}
+use Rattle.kt_plan.specs.declared.steps.Told.{Told}
+use Rattle.kt_threads.specs.Errands.{errand_of, errands_at, errands_of, is_no_errand}
+use Rattle.kt_threads.specs.Histories.{AreTheirs, AreTold, made_by, told_to}
+use Rattle.kt_threads.specs.Noted.{AreAskedBy, AreNoted, AreToldBy, IsNotedBy}
+use Rattle.kt_threads.specs.declared.errands.Errand.{Errand}
+use Rattle.kt_threads.specs.declared.state.Made.{Made}
+
+-- the list of a process goes on
+pub noted_there : {X Y : Type 0} (f : X → List Y) (xs : List X) (k p : ℕ) (old new : X) (item : Y) → k < length xs → k ≡ p
+    → old ≡ get_or xs k old → f new ≡ f old ++ item ∷ [] → IsNotedBy p item (map f xs) (map f (set xs k new))
+noted_there {X} {Y} f xs k p old new item within place at more = record {
+  count = length-map (set xs k new) f ∙ length-set xs k new ∙ sym (length-map xs f);
+  each = λ q l. ap (λ (lists : List (List Y)). get_or lists q []) (map-set f xs k new) ∙ go q (p == q) refl;
+}
+  where
+    inside : k < length (map f xs)
+    inside = simp length-map within
+
+    was : f old ≡ get_or (map f xs) k []
+    was = ap f at ∙ sym (get_or-map f xs k old [] within)
+
+    go : (q : ℕ) (b : Bool) → (p == q) ≡ b → get_or (set (map f xs) k (f new)) q [] ≡ get_or (map f xs) q [] ++ (if b then item ∷ [] else [])
+    go q true h = let here : q ≡ k = omega (arith, eqb-true p q h, place) in
+        ap (λ (j : ℕ). get_or (set (map f xs) k (f new)) j []) here ∙ get_or-set_same (map f xs) k (f new) [] inside ∙ more
+        ∙ ap (λ (list : List Y). list ++ item ∷ []) (was ∙ ap (λ (j : ℕ). get_or (map f xs) j []) (sym here))
+    go q false h = let there : q ≢ k = λ e. eqb-false p q h (omega (arith, e, place)) in
+        get_or-set_other (map f xs) k q (f new) [] there ∙ sym (append-nil (get_or (map f xs) q []))
+
+-- a process has no list
+pub noted_nowhere : {Y : Type 0} (lists : List (List Y)) (p : ℕ) (item : Y) → (p < length lists → false ≡ true) → IsNotedBy p item lists lists
+noted_nowhere lists p item past = record { count = refl; each = λ q l. go q l (p == q) refl }
+  where
+    go : (q : ℕ) → q < length lists → (b : Bool) → (p == q) ≡ b → get_or lists q [] ≡ get_or lists q [] ++ (if b then item ∷ [] else [])
+    go q l true h = let e = eqb-true p q h in let n = past (omega (arith, l, e)) in absurd (cc (n))
+    go q l false h = sym (append-nil (get_or lists q []))
+
+if_false : {X : Type 0} (b : Bool) (x y : X) → b ≡ false → (if b then x else y) ≡ y
+if_false true x y e = absurd (cc (e))
+if_false false x y e = refl
+
+if_true : {X : Type 0} (b : Bool) (x y : X) → b ≡ true → (if b then x else y) ≡ x
+if_true true x y e = refl
+if_true false x y e = absurd (cc (e))
+
+abbrev is_of : ℕ → Made → Bool
+is_of p made = process_of_step made.told.step == p
+
+made_here : (p : ℕ) (made : Made) → (process_of_step made.told.step == p) ≡ true → made_by p (made ∷ []) ≡ made ∷ []
+made_here p made e = rw e refl
+
+made_elsewhere : (p : ℕ) (made : Made) → (process_of_step made.told.step == p) ≡ false → made_by p (made ∷ []) ≡ []
+made_elsewhere p made e = rw e refl
+
+errands_append : (xs ys : List Made) → errands_of (xs ++ ys) ≡ errands_of xs ++ errands_of ys
+errands_append [] ys = refl
+errands_append (x ∷ xs) ys =
+    ap (λ (l : List Errand). errands_at x ++ l) (errands_append xs ys) ∙ sym (append_assoc (errands_at x) (errands_of xs) (errands_of ys))
+
+-- what one more step asks of a process's object
+errands_more : (q : ℕ) (steps : List Made) (made : Made) → errands_of (made_by q (steps ++ made ∷ []))
+    ≡ errands_of (made_by q steps) ++ (if process_of_step made.told.step == q then errands_at made else [])
+errands_more q steps made =
+    ap errands_of (filter-append (is_of q) steps (made ∷ []))
+    ∙ (errands_append (made_by q steps) (made_by q (made ∷ []))
+    ∙ ap (λ (l : List Errand). errands_of (made_by q steps) ++ l) (go (process_of_step made.told.step == q) refl))
+  where
+    go : (b : Bool) → (process_of_step made.told.step == q) ≡ b → errands_of (made_by q (made ∷ [])) ≡ (if b then errands_at made else [])
+    go true e = ap errands_of (made_here q made e) ∙ append-nil (errands_at made)
+    go false e = ap errands_of (made_elsewhere q made e)
+
+abbrev told_of : List Made → List Told
+told_of list = map (λ (m : Made). m.told) list
+
+-- and what it tells
+told_more : (q : ℕ) (steps : List Made) (made : Made) → told_to q (steps ++ made ∷ [])
+    ≡ told_to q steps ++ (if process_of_step made.told.step == q then made.told ∷ [] else [])
+told_more q steps made =
+    ap told_of (filter-append (is_of q) steps (made ∷ []))
+    ∙ (map-append (λ (m : Made). m.told) (made_by q steps) (made_by q (made ∷ []))
+    ∙ ap (λ (l : List Told). told_to q steps ++ l) (go (process_of_step made.told.step == q) refl))
+  where
+    go : (b : Bool) → (process_of_step made.told.step == q) ≡ b → told_of (made_by q (made ∷ [])) ≡ (if b then made.told ∷ [] else [])
+    go true e = ap told_of (made_here q made e)
+    go false e = ap told_of (made_elsewhere q made e)
+
+-- what is noted goes on so
+pub asked_next : (made : Made) (errand : Errand) (steps : List Made) (p : ℕ) (old new : List (List Errand)) → p ≡ process_of_step made.told.step
+    → errand ≡ errand_of made → is_no_errand (errand_of made) ≡ false → IsNotedBy p errand old new → AreAskedBy steps old → AreAskedBy (steps ++ made ∷ []) new
+asked_next made errand steps p old new place is busy noted asked = record { each = go }
+  where
+    go : (q : ℕ) → q < length new → get_or new q [] ≡ errands_of (made_by q (steps ++ made ∷ []))
+    go q l =
+        let low : q < length old = let n = noted.count in omega (arith, l, n) in
+        let one : errand ∷ [] ≡ errands_at made = ap (λ (d : Errand). d ∷ []) is ∙ sym (if_false (is_no_errand (errand_of made)) [] (errand_of made ∷ []) busy) in
+        noted.each q low
+        ∙ (ap (λ (l : List Errand). l ++ (if p == q then errand ∷ [] else [])) (asked.each q low)
+        ∙ (ap (λ (k : ℕ). errands_of (made_by q steps) ++ (if k == q then errand ∷ [] else [])) place
+        ∙ (ap (λ (d : List Errand). errands_of (made_by q steps) ++ (if process_of_step made.told.step == q then d else [])) one
+        ∙ sym (errands_more q steps made))))
+
+pub none_asked_next : (made : Made) (steps : List Made) (old : List (List Errand)) → is_no_errand (errand_of made) ≡ true
+    → AreAskedBy steps old → AreAskedBy (steps ++ made ∷ []) old
+none_asked_next made steps old idle asked = record { each = go }
+  where
+    nothing : (b : Bool) → (if b then errands_at made else []) ≡ []
+    nothing true = if_true (is_no_errand (errand_of made)) [] (errand_of made ∷ []) idle
+    nothing false = refl
+
+    go : (q : ℕ) → q < length old → get_or old q [] ≡ errands_of (made_by q (steps ++ made ∷ []))
+    go q l =
+        asked.each q l
+        ∙ (sym (append-nil (errands_of (made_by q steps)))
+        ∙ (ap (λ (d : List Errand). errands_of (made_by q steps) ++ d) (sym (nothing (process_of_step made.told.step == q)))
+        ∙ sym (errands_more q steps made)))
+
+pub told_next : (made : Made) (steps : List Made) (p : ℕ) (old new : List (List Told)) → p ≡ process_of_step made.told.step
+    → IsNotedBy p made.told old new → AreToldBy steps old → AreToldBy (steps ++ made ∷ []) new
+told_next made steps p old new place noted tells = record { each = go }
+  where
+    go : (q : ℕ) → q < length new → get_or new q [] ≡ told_to q (steps ++ made ∷ [])
+    go q l =
+        let low : q < length old = let n = noted.count in omega (arith, l, n) in
+        noted.each q low
+        ∙ (ap (λ (l : List Told). l ++ (if p == q then made.told ∷ [] else [])) (tells.each q low)
+        ∙ (ap (λ (k : ℕ). told_to q steps ++ (if k == q then made.told ∷ [] else [])) place
+        ∙ sym (told_more q steps made)))
+
+pub noted_next : (made : Made) (p : ℕ) (steps : List Made) (errands errands' : List (List Errand)) (told told' : List (List Told))
+    → p ≡ process_of_step made.told.step
+    → ((s : List Made) → AreAskedBy s errands → AreAskedBy (s ++ made ∷ []) errands')
+    → IsNotedBy p made.told told told'
+    → AreNoted steps errands told → AreNoted (steps ++ made ∷ []) errands' told'
+noted_next made p steps errands errands' told told' place asks noted n = record {
+  asked = asks steps n.asked;
+  tells = told_next made steps p told told' place noted n.tells;
+}
+
+pub at_ok : {T E : Type 0} (r : Result T E) (P : Type 0) → is_err r ≡ false → OnOk r P → P
+at_ok (Ok x) P e h = h
+at_ok (Err x) P e h = absurd (cc (e))
+
+-- lists that are those that were noted
+pub theirs_of : {X : Type 0} (items : X → List Errand) (processes : ℕ) (steps : List Made) (asked lists xs ys : List X)
+    → AreAskedBy steps (map items asked) → xs ≡ asked → ys ≡ lists → map items xs ≡ map items ys → length ys ≡ processes
+    → AreTheirs processes steps (map items lists)
+theirs_of {X} items processes steps asked lists xs ys noted one other same count =
+    let e : map items asked ≡ map items lists = ap (λ (l : List X). map items l) (sym one) ∙ (same ∙ ap (λ (l : List X). map items l) other) in
+    let n : length (map items lists) ≡ processes = length-map lists items ∙ (ap (λ (l : List X). length l) (sym other) ∙ count) in
+    let m : length (map items asked) ≡ length (map items lists) = ap (λ (ls : List (List Errand)). length ls) e in
+    record {
+      count = n;
+      each = λ p l. ap (λ (ls : List (List Errand)). get_or ls p []) (sym e) ∙ noted.each p (omega (arith, l, n, m));
+    }
+
+pub tells_of : (processes : ℕ) (steps : List Made) (told : List (List Told)) → AreToldBy steps told → length told ≡ processes
+    → AreTold processes steps told
+tells_of processes steps told noted count = record { count = count; each = λ p l. noted.each p (omega (arith, l, count)) }

@@ -1,0 +1,25 @@
+-- What is noted of processes, in a list for each.
+use Rattle.std.specs.Prelude.{◌≡◌, ◌<◌, ◌==◌, ℕ, List, [], ◌∷◌, ◌++◌, length, slice_index_or, if◌then◌else◌}
+use Rattle.kt_plan.specs.declared.steps.Told.{Told}
+use Rattle.kt_threads.specs.Errands.{errands_of}
+use Rattle.kt_threads.specs.Histories.{made_by, told_to}
+use Rattle.kt_threads.specs.declared.errands.Errand.{Errand}
+use Rattle.kt_threads.specs.declared.state.Made.{Made}
+
+-- the list of one process goes on by this, if it has one, and those of the others stay
+pub record IsNotedBy {X : Type 0} (p : ℕ) (item : X) (old new : List (List X)) : Type 0 where
+  pub count : length new ≡ length old
+  pub each : (q : ℕ) → q < length old → slice_index_or new q [] ≡ slice_index_or old q [] ++ (if p == q then item ∷ [] else [])
+
+-- each process that has a list has there what its own steps asked of its object
+pub record AreAskedBy (steps : List Made) (errands : List (List Errand)) : Type 0 where
+  pub each : (p : ℕ) → p < length errands → slice_index_or errands p [] ≡ errands_of (made_by p steps)
+
+-- each process that has a list has there what its own steps told
+pub record AreToldBy (steps : List Made) (told : List (List Told)) : Type 0 where
+  pub each : (p : ℕ) → p < length told → slice_index_or told p [] ≡ told_to p steps
+
+-- both
+pub record AreNoted (steps : List Made) (errands : List (List Errand)) (told : List (List Told)) : Type 0 where
+  pub asked : AreAskedBy steps errands
+  pub tells : AreToldBy steps told

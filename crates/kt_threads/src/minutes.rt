@@ -1,0 +1,186 @@
+//! What lies under the lock: a state, and what is noted of the steps that led to it.
+
+ghost use Rattle.std.specs.Prelude.{◌≡◌, [], ◌∷◌, ◌++◌, None, map, IfOk, IfSome, IsTrue, OnOk, ◌↔◌};
+ghost use Rattle.kt_core.specs.Worlds.{needs};
+ghost use Rattle.kt_threads.specs.Noted.{AreNoted};
+ghost use Rattle.kt_threads.specs.Turns.{EndsBy, HasStep};
+
+use crate::board::Next;
+use crate::errands::{Errand, note_errand, process_of};
+use crate::faults::LiveFault;
+use crate::lists::{ErrandLists, ToldLists};
+use crate::state::{Made, State};
+use kt_base::{Memory, ProcNo, ProcSet};
+use kt_plan::{Give, Step, Told};
+use std::alloc::Global;
+use std::marker::Model;
+
+/// A state; what each process's object was asked for; and what each process was told, where somebody asks for it. Beside
+/// these, which processes' threads sleep, and the one that was called and has not come yet.
+#[derive(Drop)]
+pub(crate) struct Minutes {
+    state: State,
+    errands: ErrandLists,
+    told: ToldLists,
+    asleep: ProcSet,
+    called: Option<ProcNo>,
+}
+
+impl Model for Minutes {
+    ghost use Rattle.std.specs.Prelude.{◌≡◌, None};
+    ghost use Rattle.kt_threads.specs.Histories.{History};
+    ghost use Rattle.kt_threads.specs.Noted.{AreNoted};
+
+    ghost Value = { History };
+
+    ghost view = { λ m. m.state };
+
+    ghost invariant = { λ m. m.state.fault ≡ None → AreNoted m.state.steps m.errands m.told };
+}
+
+impl Minutes {
+    /// Of a state to which no step led, for so many processes. What they are told is kept where `tells`.
+    pub(crate) fn new(
+        alloc: Global,
+        state: State,
+        processes: usize,
+        tells: bool,
+    ) -> Result<Minutes, Memory>
+        requires { state.steps ≡ [] }
+        ensures { IfOk result (λ minutes. minutes ≡ state) }
+    {
+        let errands = ErrandLists::of(alloc, processes)?;
+        let told = ToldLists::of(alloc, if tells { processes } else { 0 })?;
+        Ok(Minutes {
+            state,
+            errands,
+            told,
+            asleep: ProcSet::empty(),
+            called: None,
+        })
+    }
+
+    /// The state.
+    pub(crate) fn state(&self) -> &State
+        ensures { result.now ≡ self.now }
+    {
+        &self.state
+    }
+
+    /// Makes a step, and notes it. A step that is refused, or want of memory, ends all.
+    pub(crate) fn make(&mut self, step: Step, give: Give) -> Next
+        ensures look { (made : _) → result ≡ Next.Made made → made.look ≡ needs self.old.world step }
+        ensures give { (made : _) → result ≡ Next.Made made → made.give ≡ give }
+        ensures step { (made : _) → result ≡ Next.Made made → made.told.step ≡ step }
+        ensures end { result ≡ Next.End → EndsBy self.old step self.new.fault }
+    {
+        let Minutes {
+            state,
+            errands,
+            told,
+            ..
+        } = self;
+        let made = match state.make(step, give) {
+            Ok(made) => made,
+            Err(fault) => {
+                state.stop(LiveFault::of_step(fault));
+                return Next::End;
+            }
+        };
+        if note_made(errands, told, &made).is_err() {
+            state.stop(LiveFault::Memory);
+            return Next::End;
+        }
+        Next::Made(made)
+    }
+
+    /// A process's thread has come to the lock.
+    pub(crate) fn arrive(&mut self, me: ProcNo)
+        ensures { self.new ≡ self.old }
+    {
+        self.asleep = self.asleep.without(me);
+        if self.called == Some(me) {
+            self.called = None;
+        }
+    }
+
+    /// A process's thread goes to sleep.
+    pub(crate) fn sleep(&mut self, me: ProcNo)
+        ensures { self.new ≡ self.old }
+    {
+        self.asleep = self.asleep.with(me);
+    }
+
+    /// Calls the next process after this one, in a round, that sleeps though it can make a step; none while the one that was
+    /// called before has not come.
+    pub(crate) fn call_after(&mut self, me: ProcNo) -> Option<ProcNo>
+        ensures { self.new ≡ self.old }
+    {
+        if self.called.is_some() {
+            return None;
+        }
+        self.called = self.sleeper_after(me);
+        self.called
+    }
+
+    /// The next process after this one, in a round, that sleeps though it can make a step.
+    fn sleeper_after(&self, me: ProcNo) -> Option<ProcNo> {
+        for ahead in 1..64u8 {
+            let p = self.sleeper(me.get().saturating_add(ahead) % 64);
+            if p.is_some() {
+                return p;
+            }
+        }
+        None
+    }
+
+    /// The process of this number, if it sleeps though it can make a step.
+    fn sleeper(&self, number: u8) -> Option<ProcNo>
+        ensures { IfSome result (λ p. HasStep self.now.world p) }
+    {
+        let p = ProcNo::new(number)?;
+        if self.asleep.has(p) && can_step(&self.state, p) {
+            Some(p)
+        } else {
+            None
+        }
+    }
+
+    /// Keeps the first fault.
+    pub(crate) fn stop(&mut self, fault: LiveFault) {
+        self.state.stop(fault);
+    }
+
+    /// The state, and what was noted of the steps that led to it, where there was no fault.
+    pub(crate) fn into_parts(self) -> (State, Vec<Vec<Errand>>, Vec<Vec<Told>>)
+        ensures state { result.0 ≡ self }
+        ensures noted { self.fault ≡ None → AreNoted self.steps
+            (map (λ list. list.items) result.1.items) (map (λ list. list.items) result.2.items) }
+    {
+        let Minutes {
+            state,
+            errands,
+            told,
+            ..
+        } = self;
+        (state, errands.into_lists(), told.into_lists())
+    }
+}
+
+/// Notes what a step asked and told.
+#[tactic(auto, using(crate::proofs::Noting::noted_next))]
+fn note_made(errands: &mut ErrandLists, told: &mut ToldLists, made: &Made) -> Result<(), Memory>
+    ensures { OnOk result ((steps : _)
+        → AreNoted steps errands.old told.old → AreNoted (steps ++ made.now ∷ []) errands.new told.new) }
+{
+    note_errand(errands, made)?;
+    told.note(process_of(&made.told.step), made.told)?;
+    Ok(())
+}
+
+/// Whether a process can make a step.
+fn can_step(state: &State, p: ProcNo) -> bool
+    ensures able { IsTrue result ↔ HasStep state.now.world p }
+{
+    state.next_step_of(p).is_some()
+}
