@@ -1,0 +1,262 @@
+-- What an answer's reason says of a log and its certificates.
+use Rattle.std.proofs.Common.{◌≡◌, ℕ, ◌+◌, ◌<◌, ◌≤◌, Option, Some, None, List, [], ◌∷◌, length, take, refl, sym, ap, ◌∙◌, subst, inl, inr, arith}
+use Rattle.std.specs.List.{slice_get}
+use Rattle.kt_base.specs.declared.words.Kind.{Kind}
+use Rattle.kt_spacetime.specs.declared.event.Event.{Event}
+use Rattle.kt_cuts.specs.declared.rules.Rule.{Rule}
+use Rattle.kt_cuts.specs.Past.{Past, start, past, after, kind_of}
+use Rattle.kt_cuts.specs.Legal.{IsLegal, broken_rule, or_later, first_broken_after}
+use Rattle.kt_cuts.specs.Cuts.{IsConsistent}
+use Rattle.kt_cuts.specs.Chains.{members}
+use Rattle.kt_cuts.proofs.SortedFacts.{some_same}
+use Rattle.kt_chain.specs.declared.certificate.Certificate.{Certificate}
+use Rattle.kt_checker.specs.declared.verdict.Verdict.{Verdict}
+use Rattle.kt_checker.specs.declared.verdict.Verdict.TheVariants.{Yes, No}
+use Rattle.kt_checker.specs.declared.verdict.Why.{Why}
+use Rattle.kt_checker.specs.declared.verdict.Why.TheVariants as why
+use Rattle.kt_checker.specs.Unwilling.{has_unwilling}
+use Rattle.kt_checker.specs.Passing.{IsAsInLog, IsSecond, decided_cut}
+use Rattle.kt_checker.specs.Order.{IsAnswer, IsBadLog, IsWrong}
+use Rattle.kt_explain.specs.Told.{IsItsFirst, IsNoOf, listed_in}
+use Rattle.std.proofs.lemmas.Bool.{cases_order}
+use Rattle.kt_checker.proofs.Sound.{within}
+
+abbrev instance_told : Verdict → Option ℕ
+instance_told Yes = None
+instance_told (No inst row reason) = inst
+
+abbrev row_told : Verdict → Option ℕ
+row_told Yes = None
+row_told (No inst row reason) = row
+
+abbrev reason_told : Verdict → Option Why
+reason_told Yes = None
+reason_told (No inst row reason) = Some reason
+
+pub none_some : {X : Type 0} (x : X) → None ≡ Some x → ⊥
+none_some x e = cc
+
+-- the first row that breaks a rule is a row of the log
+pub broken_within : (s : Past) (log : List Event) (n : ℕ) (rule : Rule) → first_broken_after s log ≡ Some (n, rule) → (s.rows < n) × (n ≤ s.rows + length log)
+broken_within s [] n rule e = absurd (none_some (n, rule) e)
+broken_within s (row ∷ rows) n rule e = either (broken_rule s row) refl (broken_within (after s row) rows n rule)
+  where
+    either : (o : Option Rule) → broken_rule s row ≡ o → (first_broken_after (after s row) rows ≡ Some (n, rule) → (s.rows + 1 < n) × (n ≤ s.rows + 1 + length rows)) → (s.rows < n) × (n ≤ s.rows + length (row ∷ rows))
+    either (Some other) is later =
+        let found : Some (s.rows + 1, other) ≡ Some (n, rule) = sym (ap (λ (o : Option Rule). or_later o (s.rows + 1) (first_broken_after (after s row) rows)) is) ∙ e in
+        let number : s.rows + 1 ≡ n = ap (λ (x : ℕ × Rule). x.0) (some_same found) in
+        (omega (arith, number), omega (arith, number))
+    either None is later =
+        let h = later (sym (ap (λ (o : Option Rule). or_later o (s.rows + 1) (first_broken_after (after s row) rows)) is) ∙ e) in
+        (omega (arith, h.0), omega (arith, h.1))
+
+-- what a no without an instance says of the log
+pub record LogFault (rows : List Event) (row : Option ℕ) (reason : Why) : Type 0 where
+  pub number : ℕ
+  pub rule : Rule
+  pub row_is : row ≡ Some number
+  pub reason_is : reason ≡ why.BadLog rule
+  pub positive : 0 < number
+  pub within : number ≤ length rows
+
+pub log_fault : (rows : List Event) (row : Option ℕ) (reason : Why) → IsBadLog rows (No None row reason) → LogFault rows row reason
+log_fault rows row reason bad =
+    let h = broken_within start rows bad.0 bad.1 bad.3 in
+    record {
+      number = bad.0;
+      rule = bad.1;
+      row_is = ap row_told bad.2;
+      reason_is = some_same (ap reason_told bad.2);
+      positive = h.0;
+      within = omega (arith, h.1);
+    }
+
+-- a no without an instance is one to the log
+pub bad_without_instance : (rows : List Event) (certificates : List Certificate) (row : Option ℕ) (reason : Why) → IsAnswer rows certificates (No None row reason) → IsBadLog rows (No None row reason)
+bad_without_instance rows certificates row reason a = elim a [
+  | inl passed ↦ absurd (none_some reason (sym (ap reason_told passed.0)))
+  | inr fault ↦ elim fault [
+    | inl bad ↦ bad
+    | inr legal ↦ elim legal.1 [
+      | inl refused ↦ elim refused.4 [
+        | inl unknown ↦ absurd (none_some refused.1.inst (ap instance_told unknown.0))
+        | inr wrong ↦ absurd (none_some refused.1.inst (ap instance_told wrong.2))
+      ]
+      | inr missing ↦ absurd (none_some missing.3 (ap instance_told missing.5))
+    ]
+  ]
+]
+
+-- what a no to the first certificate of a decided instance says of this
+pub record CertificateFault (rows : List Event) (certificates : List Certificate) (k : ℕ) (row : Option ℕ) (reason : Why) : Type 0 where
+  pub legal : IsLegal rows
+  pub place : ℕ
+  pub row_is : row ≡ Some (place + 1)
+  pub certificate : Certificate
+  pub first : IsItsFirst certificates k certificate
+  pub of_instance : k ≡ certificate.inst
+  pub in_log : IsAsInLog rows certificate place
+  pub wrong : IsWrong (past (take place rows)) (members rows certificate.inst) (has_unwilling rows certificate.inst) certificate reason
+
+pub certificate_fault : (rows : List Event) (certificates : List Certificate) (k : ℕ) (row : Option ℕ) (reason : Why) → (reason ≡ why.Unknown → ⊥) → (reason ≡ why.Missing → ⊥) → IsAnswer rows certificates (No (Some k) row reason) → CertificateFault rows certificates k row reason
+certificate_fault rows certificates k row reason known certified a = elim a [
+  | inl passed ↦ absurd (none_some reason (sym (ap reason_told passed.0)))
+  | inr fault ↦ elim fault [
+    | inl bad ↦ absurd (none_some k (sym (ap instance_told bad.2)))
+    | inr legal ↦ elim legal.1 [
+      | inl refused ↦ elim refused.4 [
+        | inl unknown ↦ absurd (known (some_same (ap reason_told unknown.0)))
+        | inr wrong ↦
+            let inst : k ≡ refused.1.inst = some_same (ap instance_told wrong.2) in
+            record {
+              legal = legal.0;
+              place = wrong.0;
+              row_is = ap row_told wrong.2;
+              certificate = refused.1;
+              first = (refused.0, refused.2, sym inst, wrong.4);
+              of_instance = inst;
+              in_log = wrong.3;
+              wrong = subst (IsWrong (past (take wrong.0 rows)) (members rows refused.1.inst) (has_unwilling rows refused.1.inst) refused.1) (sym (some_same (ap reason_told wrong.2))) wrong.5;
+            }
+      ]
+      | inr missing ↦ absurd (certified (some_same (ap reason_told missing.5)))
+    ]
+  ]
+]
+
+-- no answer to an instance is that the log is not legal
+pub log_not_instance : (rows : List Event) (certificates : List Certificate) (k : ℕ) (row : Option ℕ) (rule : Rule) → IsAnswer rows certificates (No (Some k) row (why.BadLog rule)) → ⊥
+log_not_instance rows certificates k row rule a = (certificate_fault rows certificates k row (why.BadLog rule) (λ e. cc) (λ e. cc) a).wrong
+
+-- that a certificate is missing comes with a row
+pub missing_row : (rows : List Event) (certificates : List Certificate) (k : ℕ) → IsAnswer rows certificates (No (Some k) None why.Missing) → ⊥
+missing_row rows certificates k a = elim a [
+  | inl passed ↦ none_some why.Missing (sym (ap reason_told passed.0))
+  | inr fault ↦ elim fault [
+    | inl bad ↦ none_some k (sym (ap instance_told bad.2))
+    | inr legal ↦ elim legal.1 [
+      | inl refused ↦ elim refused.4 [
+        | inl unknown ↦
+            let e : why.Missing ≡ why.Unknown = some_same (ap reason_told unknown.0) in
+            absurd (cc)
+        | inr wrong ↦ none_some (wrong.0 + 1) (ap row_told wrong.2)
+      ]
+      | inr missing ↦ none_some (missing.1 + 1) (ap row_told missing.5)
+    ]
+  ]
+]
+
+-- an instance has one first certificate
+pub one_first : (certificates : List Certificate) (k : ℕ) (a b : Certificate) → IsItsFirst certificates k a → IsItsFirst certificates k b → a ≡ b
+one_first certificates k a b g h = elim (cases_order g.0 h.0) [
+  | inl same ↦ some_same (sym g.1 ∙ (ap (slice_get certificates) same ∙ h.1))
+  | inr other ↦ elim other [
+    | inl low ↦ absurd (h.3 (g.0, a, low, g.1, g.2 ∙ sym h.2))
+    | inr low ↦ absurd (g.3 (h.0, b, low, h.1, h.2 ∙ sym g.2))
+  ]
+]
+
+-- the list that is not an instance's members
+pub members_fault : (rows : List Event) (certificates : List Certificate) (k : ℕ) (row : Option ℕ) → IsAnswer rows certificates (No (Some k) row why.Members) → (c : Certificate) × IsItsFirst certificates k c × (listed_in c ≡ members rows k → ⊥)
+members_fault rows certificates k row a =
+    let h = certificate_fault rows certificates k row why.Members (λ e. cc) (λ e. cc) a in
+    (h.certificate, h.first, λ same. h.wrong.2 (same ∙ ap (members rows) h.of_instance))
+
+as_no : (rows : List Event) (certificates : List Certificate) (k : ℕ) (v : Verdict) (is : IsNoOf v k why.Members) → IsAnswer rows certificates v → IsAnswer rows certificates (No (Some k) is.0 why.Members)
+as_no rows certificates k v is a = subst (IsAnswer rows certificates) is.1 a
+
+-- the first certificate of an instance does not list its members, where that is the reason
+pub unlike_first : (rows : List Event) (certificates : List Certificate) (k : ℕ) (v : Verdict) (c : Certificate) → IsNoOf v k why.Members → IsAnswer rows certificates v → IsItsFirst certificates k c → listed_in c ≡ members rows k → ⊥
+unlike_first rows certificates k v c is a first same =
+    let h = members_fault rows certificates k is.0 (as_no rows certificates k v is a) in
+    h.2 (ap listed_in (one_first certificates k h.0 c h.1 first) ∙ same)
+
+-- the instance has a certificate then
+pub members_first : (rows : List Event) (certificates : List Certificate) (k : ℕ) (v : Verdict) → IsNoOf v k why.Members → IsAnswer rows certificates v → ((c : Certificate) → IsItsFirst certificates k c → ⊥) → ⊥
+members_first rows certificates k v is a none =
+    let h = members_fault rows certificates k is.0 (as_no rows certificates k v is a) in
+    none h.0 h.1
+
+-- what is known just before the decision of an instance of which the first certificate is answered by an orphan
+pub record Before (rows : List Event) (c : Certificate) (k r : ℕ) : Type 0 where
+  pub legal : IsLegal rows
+  pub place : ℕ
+  pub row_is : r ≡ place + 1
+  pub upto : place ≤ length rows
+  pub kind : kind_of (past (take place rows)) k ≡ Some c.kind
+
+pub before : (rows : List Event) (certificates : List Certificate) (k r : ℕ) (c : Certificate) → IsAnswer rows certificates (No (Some k) (Some r) why.Orphan) → IsItsFirst certificates k c → Before rows c k r
+before rows certificates k r c answer first =
+    let h = certificate_fault rows certificates k (Some r) why.Orphan (λ e. cc) (λ e. cc) answer in
+    let same : h.certificate ≡ c = one_first certificates k h.certificate c h.first first in
+    record {
+      legal = h.legal;
+      place = h.place;
+      row_is = some_same h.row_is;
+      upto = within rows h.place _ h.in_log.decided;
+      kind = ap (kind_of (past (take h.place rows))) h.of_instance ∙ (h.in_log.kind ∙ ap (λ (x : Certificate). Some x.kind) same);
+    }
+
+-- that there is an orphan comes with a row
+pub orphan_row : (rows : List Event) (certificates : List Certificate) (k : ℕ) → IsAnswer rows certificates (No (Some k) None why.Orphan) → ⊥
+orphan_row rows certificates k a =
+    let h = certificate_fault rows certificates k None why.Orphan (λ e. cc) (λ e. cc) a in
+    none_some (h.place + 1) h.row_is
+
+-- the first certificate of an instance that is answered by an orphan, and the cut that is not consistent
+pub record OrphanFault (rows : List Event) (certificates : List Certificate) (k r : ℕ) : Type 0 where
+  pub place : ℕ
+  pub row_is : r ≡ place + 1
+  pub certificate : Certificate
+  pub first : IsItsFirst certificates k certificate
+  pub orphaned : IsConsistent (past (take place rows)) (decided_cut (past (take place rows)) k certificate.kind) → ⊥
+
+pub orphan_fault : (rows : List Event) (certificates : List Certificate) (k r : ℕ) → IsAnswer rows certificates (No (Some k) (Some r) why.Orphan) → OrphanFault rows certificates k r
+orphan_fault rows certificates k r a =
+    let h = certificate_fault rows certificates k (Some r) why.Orphan (λ e. cc) (λ e. cc) a in
+    record {
+      place = h.place;
+      row_is = some_same h.row_is;
+      certificate = h.certificate;
+      first = h.first;
+      orphaned = λ consistent. h.wrong.4 (subst (λ (j : ℕ). IsConsistent (past (take h.place rows)) (decided_cut (past (take h.place rows)) j h.certificate.kind)) h.of_instance consistent);
+    }
+
+-- the first certificate of an instance that is answered by an orphan has not a kind of which the cut is consistent
+pub not_consistent : (rows : List Event) (certificates : List Certificate) (k r n : ℕ) (kind : Kind) → IsAnswer rows certificates (No (Some k) (Some r) why.Orphan) → r ≡ n + 1 → (c : Certificate) × IsItsFirst certificates k c × (c.kind ≡ kind) → IsConsistent (past (take n rows)) (decided_cut (past (take n rows)) k kind) → ⊥
+not_consistent rows certificates k r n kind a number first consistent =
+    let h = orphan_fault rows certificates k r a in
+    let same : n ≡ h.place = omega (arith, number, h.row_is) in
+    let of_kind : kind ≡ h.certificate.kind = sym first.2 ∙ ap (λ (c : Certificate). c.kind) (one_first certificates k first.0 h.certificate first.1 h.first) in
+    h.orphaned (subst (λ (x : Kind). IsConsistent (past (take h.place rows)) (decided_cut (past (take h.place rows)) k x)) of_kind
+    (subst (λ (m : ℕ). IsConsistent (past (take m rows)) (decided_cut (past (take m rows)) k kind)) same consistent))
+
+-- the certificate that is unknown
+pub unknown_fault : (rows : List Event) (certificates : List Certificate) (k : ℕ) (row : Option ℕ) → IsAnswer rows certificates (No (Some k) row why.Unknown)
+    → IsLegal rows × (i : ℕ) × (c : Certificate) × (slice_get certificates i ≡ Some c) × (c.inst ≡ k) × ((n : ℕ) → IsAsInLog rows c n → (IsSecond certificates i c → ⊥) → ⊥)
+unknown_fault rows certificates k row a = elim a [
+  | inl passed ↦ absurd (none_some why.Unknown (sym (ap reason_told passed.0)))
+  | inr fault ↦ elim fault [
+    | inl bad ↦ absurd (none_some k (sym (ap instance_told bad.2)))
+    | inr legal ↦ elim legal.1 [
+      | inl refused ↦ elim refused.4 [
+        | inl unknown ↦ (legal.0, refused.0, refused.1, refused.2, sym (some_same (ap instance_told unknown.0)), unknown.1)
+        | inr wrong ↦ absurd (subst (IsWrong (past (take wrong.0 rows)) (members rows refused.1.inst) (has_unwilling rows refused.1.inst) refused.1) (sym (some_same (ap reason_told wrong.2))) wrong.5)
+      ]
+      | inr missing ↦
+          let e : why.Unknown ≡ why.Missing = some_same (ap reason_told missing.5) in
+          absurd (cc)
+    ]
+  ]
+]
+
+-- each certificate of an instance is the first of it, and as the log has it: then none is unknown
+abbrev pub AreAsInLog : List Event → List Certificate → ℕ → Type 0
+AreAsInLog rows certificates k =
+    (i : ℕ) (c : Certificate) → slice_get certificates i ≡ Some c → c.inst ≡ k → ((n : ℕ) × IsAsInLog rows c n) × (IsSecond certificates i c → ⊥)
+
+pub none_unknown : (rows : List Event) (certificates : List Certificate) (k : ℕ) (v : Verdict) → IsNoOf v k why.Unknown → IsAnswer rows certificates v → (IsLegal rows → AreAsInLog rows certificates k) → ⊥
+none_unknown rows certificates k v is a known =
+    let h = unknown_fault rows certificates k is.0 (subst (IsAnswer rows certificates) is.1 a) in
+    let one = known h.0 h.1 h.2 h.3 h.4 in
+    h.5 one.0.0 one.0.1 one.1

@@ -1,0 +1,30 @@
+use Rattle.std.proofs.Common.{refl, sym, subst}
+use Rattle.std.proofs.lemmas.Grind.{put_three}
+use Rattle.std.specs.Fmt.{HasWritten}
+use Rattle.kt_explain.specs.declared.explanation.Explanation.{Explanation}
+use Rattle.kt_explain.specs.Words.{explanation_words}
+use Rattle.kt_explain.proofs.explanation.ExplanationDisplay.fmt.Goals as goal
+
+pub returns-in-Objection-clause-writes : goal.returns-in-Objection-clause-writes
+returns-in-Objection-clause-writes g c = λ plain ok.
+    subst (λ (x : Explanation). HasWritten {W = g.row.W.Denot} g.W.Write.write_str_gives c.args.f.now (explanation_words x) c.write-in-Objection.new.self) (sym c.in-Objection.is) (c.write-in-Objection.ensures.writes plain ok)
+
+pub returns-in-NoObjection-clause-writes : goal.returns-in-NoObjection-clause-writes
+returns-in-NoObjection-clause-writes g c = λ plain ok.
+    subst (λ (x : Explanation). HasWritten {W = g.row.W.Denot} g.W.Write.write_str_gives c.args.f.now (explanation_words x) c.write-in-NoObjection.new.self) (sym c.in-NoObjection.is) (c.write-in-NoObjection.ensures.writes plain ok)
+
+pub returns-in-Uncertified-clause-writes : goal.returns-in-Uncertified-clause-writes
+returns-in-Uncertified-clause-writes g c = λ plain ok.
+    subst (λ (x : Explanation). HasWritten {W = g.row.W.Denot} g.W.Write.write_str_gives c.args.f.now (explanation_words x) c.write-in-Uncertified.new.self) (sym c.in-Uncertified.is) (c.write-in-Uncertified.ensures.writes plain ok)
+
+pub returns-in_ok-write_listed-in-OtherMember-clause-writes : goal.returns-in_ok-write_listed-in-OtherMember-clause-writes
+returns-in_ok-write_listed-in-OtherMember-clause-writes g c = λ plain ok.
+    let a = c.in_ok-write-in-OtherMember.ensures.writes plain refl in
+    let b = c.in_ok-write_listed-in-OtherMember.ensures a.plain refl in
+    let d = c.write_joined.ensures b.plain ok in
+    subst (λ (x : Explanation). HasWritten {W = g.row.W.Denot} g.W.Write.write_str_gives c.args.f.now (explanation_words x) c.write_joined.new.f) (sym c.in-OtherMember.is)
+    (put_three g.W.Write.write_str_gives _ _ _ _ _ _ _ _ a b d refl)
+
+pub returns-in-Orphan-clause-writes : goal.returns-in-Orphan-clause-writes
+returns-in-Orphan-clause-writes g c = λ plain ok.
+    subst (λ (x : Explanation). HasWritten {W = g.row.W.Denot} g.W.Write.write_str_gives c.args.f.now (explanation_words x) c.write-in-Orphan.new.self) (sym c.in-Orphan.is) (c.write-in-Orphan.ensures.writes plain ok)

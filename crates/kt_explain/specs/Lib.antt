@@ -1,0 +1,4 @@
+pub mod Finding
+pub mod Words
+pub mod Orphans
+pub mod Told

@@ -1,0 +1,97 @@
+-- When what is told of an answer is so.
+use Rattle.std.specs.Prelude.{◌≡◌, ◌≢◌, ◌⊎◌, ◌<◌, ◌+◌, ℕ, Bool, false, Option, Some, None, List, [], map, take, slice_get}
+use Rattle.kt_spacetime.specs.declared.event.Event.{Event}
+use Rattle.kt_spacetime.specs.declared.event.Event.TheVariants as event
+use Rattle.kt_base.specs.declared.words.Kind.{Kind}
+use Rattle.kt_base.specs.declared.words.Cause.{Cause}
+use Rattle.kt_spacetime.specs.Events.{process_of}
+use Rattle.kt_cuts.specs.Past.{past}
+use Rattle.kt_cuts.specs.Messages.{row_at}
+use Rattle.kt_cuts.specs.Chains.{members}
+use Rattle.kt_chain.specs.declared.certificate.Certificate.{Certificate}
+use Rattle.kt_checker.specs.declared.verdict.Verdict.{Verdict}
+use Rattle.kt_checker.specs.declared.verdict.Verdict.TheVariants.{Yes, No}
+use Rattle.kt_checker.specs.declared.verdict.Why.{Why}
+use Rattle.kt_checker.specs.declared.verdict.Why.TheVariants as why
+use Rattle.kt_checker.specs.Unwilling.{is_unwilling}
+use Rattle.kt_checker.specs.Passing.{HasCertificate, IsSecond}
+use Rattle.kt_checker.specs.Judged.{IsFirstCertificate}
+use Rattle.kt_explain.specs.declared.bad_row.BadRow.{BadRow}
+use Rattle.kt_explain.specs.declared.difference.Difference.{Difference}
+use Rattle.kt_explain.specs.declared.difference.Difference.TheVariants as difference
+use Rattle.kt_explain.specs.declared.explanation.Explanation.{Explanation}
+use Rattle.kt_explain.specs.declared.explanation.Explanation.TheVariants.{Nothing, Unknown, Objection, NoObjection, OtherMember, Uncertified, Orphan, BadLog}
+use Rattle.kt_explain.specs.Orphans.{IsOrphanTold}
+use Rattle.kt_explain.specs.Finding.{HasNoRow, IsFirstRow, IsLastNumber, begins_inst, decides_inst, fails}
+
+-- a certificate is the first one of an instance
+abbrev pub IsItsFirst : List Certificate → ℕ → Certificate → Type 0
+IsItsFirst certificates k c = IsFirstCertificate certificates k (Some c)
+
+-- an instance has two certificates
+abbrev pub HasTwo : List Certificate → ℕ → Type 0
+HasTwo certificates k = (i : ℕ) × (c : Certificate) × (slice_get certificates i ≡ Some c) × (c.inst ≡ k) × IsSecond certificates i c
+
+-- what a log has otherwise than a certificate
+abbrev pub IsDifference : List Event → List Certificate → Certificate → Difference → Type 0
+IsDifference rows certificates c difference.Undecided = HasNoRow (decides_inst c.inst) rows
+IsDifference rows certificates c (difference.Kind kind row) =
+    (p : ℕ) × IsFirstRow (begins_inst c.inst) rows row (event.Began p c.inst kind) × (kind ≢ c.kind)
+IsDifference rows certificates c (difference.Initiator p row) =
+    (kind : Kind) × IsFirstRow (begins_inst c.inst) rows row (event.Began p c.inst kind) × (p ≢ c.initiator)
+IsDifference rows certificates c (difference.Decision commit row) =
+    (p : ℕ) × IsFirstRow (decides_inst c.inst) rows row (event.Decided p c.inst commit) × (commit ≢ c.commit)
+IsDifference rows certificates c difference.Members = (c.commit ≡ false) × (c.members ≢ [])
+IsDifference rows certificates c difference.Second = HasTwo certificates c.inst
+
+-- what a log has otherwise than the first certificate of an instance
+abbrev pub IsUnlike : List Event → List Certificate → ℕ → Difference → Type 0
+IsUnlike rows certificates k d = (c : Certificate) × IsItsFirst certificates k c × IsDifference rows certificates c d
+
+-- the processes that a certificate lists
+abbrev pub listed_in : Certificate → List ℕ
+listed_in c = map (λ m. m.0) c.members
+
+-- the first place, from 1, at which two lists differ, and what each has there
+pub record DifferAt (xs ys : List ℕ) (place : ℕ) (x y : Option ℕ) : Type 0 where
+  pub index : ℕ
+  pub place_is : place ≡ index + 1
+  pub left : slice_get xs index ≡ x
+  pub right : slice_get ys index ≡ y
+  pub differ : x ≢ y
+  pub first : (n : ℕ) → n < index → slice_get xs n ≡ slice_get ys n
+
+-- an answer is a no to a certificate of this instance, or for the want of one
+abbrev pub IsNoOf : Verdict → ℕ → Why → Type 0
+IsNoOf verdict k reason = (row : Option ℕ) × (verdict ≡ No (Some k) row reason)
+
+-- a row of a log, its process, and where this stands before it
+pub record IsBadRow (rows : List Event) (b : BadRow) (place : ℕ) (row : Event) : Type 0 where
+  pub row_is : b.row ≡ place + 1
+  pub there : slice_get rows place ≡ Some row
+  pub process : b.p ≡ process_of row
+  pub open_in : b.open_in ≡ (past (take place rows)).open_in b.p
+  pub failed : IsLastNumber (fails b.p) (take place rows) b.failed
+
+-- of which answers nothing is told: a yes, and a no to a list that is no chain
+abbrev pub IsUntold : Verdict → Type 0
+IsUntold verdict = (verdict ≡ Yes) ⊎ ((k : ℕ) × IsNoOf verdict k why.Chain)
+
+-- what is told of an answer is so
+abbrev pub IsExplanation : List Event → List Certificate → Verdict → Explanation → Type 0
+IsExplanation rows certificates verdict Nothing = IsUntold verdict
+IsExplanation rows certificates verdict (Unknown k d) = IsNoOf verdict k why.Unknown × IsUnlike rows certificates k d
+IsExplanation rows certificates verdict (Objection k p row) =
+    IsNoOf verdict k why.Cause × (cause : Cause) × IsFirstRow (is_unwilling k) rows row (event.Unwilling p k cause)
+IsExplanation rows certificates verdict (NoObjection k) = IsNoOf verdict k why.Cause × HasNoRow (is_unwilling k) rows
+IsExplanation rows certificates verdict (OtherMember k place listed joined) =
+    IsNoOf verdict k why.Members
+    × (c : Certificate) × IsItsFirst certificates k c × DifferAt (listed_in c) (members rows k) place listed joined
+IsExplanation rows certificates verdict (Uncertified k row) =
+    IsNoOf verdict k why.Missing
+    × (p : ℕ) × (commit : Bool) × (row_at rows row ≡ Some (event.Decided p k commit)) × (HasCertificate certificates k → ⊥)
+IsExplanation rows certificates verdict (Orphan k orphan) =
+    (n : ℕ) × (verdict ≡ No (Some k) (Some (n + 1)) why.Orphan)
+    × (c : Certificate) × IsItsFirst certificates k c × IsOrphanTold (take n rows) k c.kind orphan
+IsExplanation rows certificates verdict (BadLog b) =
+    (place : ℕ) × (row : Event) × (verdict ≡ No None (Some b.row) (why.BadLog b.rule)) × IsBadRow rows b place row

@@ -1,0 +1,92 @@
+-- The sentences that are written of an answer.
+use Rattle.std.specs.Prelude.{ℕ, Option, Some, None, List, [], ◌∷◌, ◌++◌, codes}
+use Rattle.std.specs.Fmt.{decimal}
+use Rattle.kt_text.specs.Words.{kind_word, decision_word}
+use Rattle.kt_cuts.specs.declared.rules.Rule.{Rule}
+use Rattle.kt_cuts.specs.declared.rules.Rule.TheVariants as rule
+use Rattle.kt_explain.specs.declared.bad_row.BadRow.{BadRow}
+use Rattle.kt_explain.specs.declared.difference.Difference.{Difference}
+use Rattle.kt_explain.specs.declared.difference.Difference.TheVariants.{Undecided, Kind, Initiator, Decision, Members, Second}
+use Rattle.kt_explain.specs.declared.explanation.Explanation.{Explanation}
+use Rattle.kt_explain.specs.declared.explanation.Explanation.TheVariants.{Nothing, Unknown, Objection, NoObjection, OtherMember, Uncertified, Orphan, BadLog}
+use Rattle.kt_explain.specs.declared.orphan.Orphan.{Orphan as OneOrphan}
+
+-- what the log has otherwise than a certificate of an instance
+abbrev pub difference_words : Difference → List ℕ
+difference_words Undecided = codes "no row decides it"
+difference_words (Kind kind row) = codes "row " ++ (decimal row ++ (codes " begins it as a " ++ (kind_word kind ++ codes ", and the certificate says otherwise")))
+difference_words (Initiator p row) = codes "process " ++ (decimal p ++ (codes " begins it in row " ++ (decimal row ++ codes ", and the certificate names another one")))
+difference_words (Decision commit row) = codes "row " ++ (decimal row ++ (codes " decides it, " ++ (decision_word commit ++ codes ", and the certificate says otherwise")))
+difference_words Members = codes "it is aborted, and its certificate lists members"
+difference_words Second = codes "it has an earlier certificate"
+
+-- a place of a list
+abbrev pub place_words : ℕ → ℕ → List ℕ
+place_words inst place = codes "member " ++ (decimal place ++ (codes " of instance " ++ (decimal inst ++ codes ": ")))
+
+-- who is listed at a place
+abbrev pub listed_words : Option ℕ → List ℕ
+listed_words (Some p) = codes "process " ++ decimal p ++ codes " is listed"
+listed_words None = codes "nobody is listed"
+
+-- who joined at a place
+abbrev pub joined_words : Option ℕ → List ℕ
+joined_words (Some p) = codes ", and process " ++ decimal p ++ codes " joined" ++ 10 ∷ []
+joined_words None = codes ", and nobody joined" ++ 10 ∷ []
+
+-- who would have had to join
+abbrev pub outsider_words : Option ℕ → List ℕ
+outsider_words None = []
+outsider_words (Some p) = codes "process " ++ decimal p ++ codes " did not join" ++ 10 ∷ []
+
+-- who sent an orphan, in which row
+abbrev pub sent_words : OneOrphan → List ℕ
+sent_words o = codes "message " ++ (decimal o.msg ++ (codes ": process " ++ (decimal o.from ++ (codes " sent it in row " ++ decimal o.msg))))
+
+-- who received it, in which row
+abbrev pub received_words : OneOrphan → List ℕ
+received_words o = codes ", process " ++ (decimal o.to ++ (codes " received it in row " ++ (decimal o.received ++ 10 ∷ [])))
+
+-- an orphan: its sender and its receiver with their rows, and who would have had to join
+abbrev pub orphan_words : OneOrphan → List ℕ
+orphan_words o =
+    sent_words o ++ (received_words o ++ outsider_words o.outsider)
+
+-- what a rule asks
+abbrev pub rule_words : Rule → List ℕ
+rule_words rule.Numbers = codes "an instance begins before it is named, by the next number, and a peer is another process"
+rule_words rule.Message = codes "what is received or dropped was sent to this process and not undone, received or dropped"
+rule_words rule.Order = codes "messages of one sender are taken in the order in which they were sent"
+rule_words rule.Sending = codes "who sends is up and in no open instance"
+rule_words rule.Receiving = codes "who receives is up, who drops is down, and neither is in an open rollback"
+rule_words rule.Joining = codes "who joins is in no open instance, joins once, before the decision, as the kind asks"
+rule_words rule.Deciding = codes "the initiator decides once, while it is in its instance"
+rule_words rule.Closing = codes "who closes is in the instance, and that is decided"
+rule_words rule.Causes = codes "a failure and a refusal have the cause that they name"
+
+-- the open instance that a process is in
+abbrev pub instance_words : Option ℕ → List ℕ
+instance_words (Some inst) = codes "in instance " ++ decimal inst
+instance_words None = codes "in no instance"
+
+-- the last row in which a process failed
+abbrev pub failure_words : Option ℕ → List ℕ
+failure_words (Some row) = codes ", failed in row " ++ decimal row ++ 10 ∷ []
+failure_words None = codes ", never failed" ++ 10 ∷ []
+
+-- a row that breaks a rule, what the rule asks, and where the row's process stands before it
+abbrev pub bad_row_words : BadRow → List ℕ
+bad_row_words b =
+    codes "row " ++ decimal b.row ++ codes ": " ++ rule_words b.rule ++ 10 ∷ []
+    ++ codes "process " ++ decimal b.p ++ codes ": " ++ instance_words b.open_in ++ failure_words b.failed
+
+-- the lines that are told of an answer
+abbrev pub explanation_words : Explanation → List ℕ
+explanation_words Nothing = []
+explanation_words (Unknown inst difference) = codes "instance " ++ decimal inst ++ codes ": " ++ difference_words difference ++ 10 ∷ []
+explanation_words (Objection inst p row) = codes "instance " ++ (decimal inst ++ (codes " is committed, and process " ++ (decimal p ++ (codes " was unwilling to join it in row " ++ (decimal row ++ 10 ∷ [])))))
+explanation_words (NoObjection inst) = codes "instance " ++ (decimal inst ++ (codes " is aborted, and no process was unwilling to join it" ++ 10 ∷ []))
+explanation_words (OtherMember inst place listed joined) = place_words inst place ++ (listed_words listed ++ joined_words joined)
+explanation_words (Uncertified inst row) = codes "row " ++ (decimal row ++ (codes " decides instance " ++ (decimal inst ++ (codes ", and no certificate is of it" ++ 10 ∷ []))))
+explanation_words (Orphan inst orphan) = codes "instance " ++ (decimal inst ++ (codes ": " ++ orphan_words orphan))
+explanation_words (BadLog b) = bad_row_words b

@@ -1,0 +1,84 @@
+//! A row that breaks a rule, as it is told.
+
+ghost use Rattle.std.specs.Prelude.{◌≡◌, Some};
+ghost use Rattle.std.specs.Fmt.{DisplaysOnOk};
+ghost use Rattle.kt_explain.specs.Words.{instance_words, failure_words, rule_words};
+
+use kt_base::{InstNo, ProcNo, RowNo};
+use kt_cuts::Rule;
+use std::fmt;
+
+/// A row that breaks a rule, and where its process stands before it.
+#[derive(Clone, Copy, Debug, PartialEq, Eq)]
+pub struct BadRow {
+    pub row: RowNo,
+    pub rule: Rule,
+    pub p: ProcNo,
+    /// The open instance that the process is in.
+    pub open_in: Option<InstNo>,
+    /// The last row before it in which the process failed.
+    pub failed: Option<RowNo>,
+}
+
+impl fmt::Display for BadRow {
+    ghost use Rattle.std.specs.Prelude.{Some};
+    ghost use Rattle.kt_explain.specs.Words.{bad_row_words};
+
+    ghost output = { λ b. Some (bad_row_words b) };
+
+    fn fmt<W: fmt::Write>(&self, f: &mut fmt::Formatter<W>) -> fmt::Result {
+        let BadRow {
+            row,
+            rule,
+            p,
+            open_in,
+            failed,
+        } = *self;
+        let name = rule_name(rule);
+        write!(f, "row {row}: {name}\n")?;
+        write!(f, "process {p}: ")?;
+        write_instance(f, open_in)?;
+        write_failure(f, failed)
+    }
+}
+
+// What a rule asks.
+fn rule_name(rule: Rule) -> &'static str
+    ensures { result.now ≡ rule_words rule }
+{
+    match rule {
+        Rule::Numbers =>
+            "an instance begins before it is named, by the next number, and a peer is another process",
+        Rule::Message =>
+            "what is received or dropped was sent to this process and not undone, received or dropped",
+        Rule::Order => "messages of one sender are taken in the order in which they were sent",
+        Rule::Sending => "who sends is up and in no open instance",
+        Rule::Receiving =>
+            "who receives is up, who drops is down, and neither is in an open rollback",
+        Rule::Joining =>
+            "who joins is in no open instance, joins once, before the decision, as the kind asks",
+        Rule::Deciding => "the initiator decides once, while it is in its instance",
+        Rule::Closing => "who closes is in the instance, and that is decided",
+        Rule::Causes => "a failure and a refusal have the cause that they name",
+    }
+}
+
+// The open instance that a process is in.
+fn write_instance<W: fmt::Write>(f: &mut fmt::Formatter<W>, inst: Option<InstNo>) -> fmt::Result
+    ensures { DisplaysOnOk W.write_str_gives f.old result (Some (instance_words inst)) f.new }
+{
+    match inst {
+        Some(inst) => write!(f, "in instance {inst}"),
+        None => write!(f, "in no instance"),
+    }
+}
+
+// The last row in which a process failed.
+fn write_failure<W: fmt::Write>(f: &mut fmt::Formatter<W>, failed: Option<RowNo>) -> fmt::Result
+    ensures { DisplaysOnOk W.write_str_gives f.old result (Some (failure_words failed)) f.new }
+{
+    match failed {
+        Some(row) => write!(f, ", failed in row {row}\n"),
+        None => write!(f, ", never failed\n"),
+    }
+}

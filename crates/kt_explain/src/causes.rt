@@ -1,0 +1,43 @@
+//! What is told of a decision without its cause, and of one without a certificate.
+
+ghost use Rattle.std.specs.Prelude.{◌≡◌, ◌≤◌, ◌^◌, List, Some, length};
+ghost use Rattle.kt_chain.specs.declared.certificate.Certificate.{Certificate};
+ghost use Rattle.kt_checker.specs.declared.verdict.Verdict.{Verdict};
+ghost use Rattle.kt_checker.specs.declared.verdict.Verdict.TheVariants.{No};
+ghost use Rattle.kt_checker.specs.declared.verdict.Why.TheVariants as why;
+ghost use Rattle.kt_spacetime.specs.declared.event.Event.{Event};
+ghost use Rattle.kt_checker.specs.Order.{IsAnswer};
+ghost use Rattle.kt_explain.specs.Told.{IsNoOf, IsExplanation};
+
+use crate::explanation::Explanation;
+use crate::finding::{Sought, first_row};
+use kt_base::{InstNo, RowNo};
+use kt_spacetime::Event;
+
+/// Who was first unwilling to join an instance, or that nobody was.
+pub(crate) fn objection(rows: &[Event], inst: InstNo) -> Explanation
+    requires few { length rows.now ≤ 2 ^ 24 }
+    ensures { (certificates : List Certificate) (verdict : Verdict) → IsNoOf verdict inst why.Cause
+        → IsExplanation rows.now certificates verdict result }
+{
+    let Some(found) = first_row(rows, &Sought::Unwilling(inst)) else {
+        return Explanation::NoObjection { inst };
+    };
+    Explanation::Objection {
+        inst,
+        p: found.row.process(),
+        row: found.number,
+    }
+}
+
+/// The instance that lacks a certificate, which this row decides.
+pub(crate) fn uncertified(inst: InstNo, row: Option<RowNo>) -> Explanation
+    ensures { (rows : List Event) (certificates : List Certificate)
+        → IsAnswer rows certificates (No (Some inst) row why.Missing)
+        → IsExplanation rows certificates (No (Some inst) row why.Missing) result }
+{
+    match row {
+        Some(row) => Explanation::Uncertified { inst, row },
+        None => Explanation::Nothing,
+    }
+}

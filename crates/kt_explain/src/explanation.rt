@@ -1,0 +1,119 @@
+//! What is told of an answer.
+
+ghost use Rattle.std.specs.Prelude.{◌≡◌, Some};
+ghost use Rattle.std.specs.Fmt.{DisplaysOnOk};
+ghost use Rattle.kt_explain.specs.Words.{listed_words, joined_words};
+
+use crate::bad_row::BadRow;
+use crate::difference::Difference;
+use crate::orphan::Orphan;
+use kt_base::{InstNo, ProcNo, RowNo};
+use std::fmt;
+
+/// What is told of an answer of the checker, in the words of the log.
+#[derive(Clone, Copy, Debug, PartialEq, Eq)]
+pub enum Explanation {
+    /// Nothing is told: after a yes, or of a list that is no chain.
+    Nothing,
+    /// A certificate says of its instance what the log has otherwise.
+    Unknown {
+        inst: InstNo,
+        difference: Difference,
+    },
+    /// A process was unwilling to join the instance, which is committed.
+    Objection {
+        inst: InstNo,
+        p: ProcNo,
+        row: RowNo,
+    },
+    /// No process was unwilling to join the instance, which is aborted.
+    NoObjection {
+        inst: InstNo,
+    },
+    /// The first place, from 1, at which the list of a certificate differs from the members: who is listed there, and who
+    /// joined.
+    OtherMember {
+        inst: InstNo,
+        place: usize,
+        listed: Option<ProcNo>,
+        joined: Option<ProcNo>,
+    },
+    /// The cut that the decision of the instance makes has this orphan, and no lesser one.
+    Orphan {
+        inst: InstNo,
+        orphan: Orphan,
+    },
+    /// This row breaks a rule.
+    BadLog(BadRow),
+    /// No certificate is of the instance, which this row decides.
+    Uncertified {
+        inst: InstNo,
+        row: RowNo,
+    },
+}
+
+impl fmt::Display for Explanation {
+    ghost use Rattle.std.specs.Prelude.{Some};
+    ghost use Rattle.kt_explain.specs.Words.{explanation_words};
+
+    ghost output = { λ e. Some (explanation_words e) };
+
+    fn fmt<W: fmt::Write>(&self, f: &mut fmt::Formatter<W>) -> fmt::Result {
+        match *self {
+            Explanation::Nothing => Ok(()),
+            Explanation::Unknown { inst, difference } => {
+                write!(f, "instance {inst}: {difference}\n")
+            }
+            Explanation::Objection { inst, p, row } => {
+                write!(
+                    f,
+                    "instance {inst} is committed, and process {p} was unwilling to join it in row {row}\n"
+                )
+            }
+            Explanation::NoObjection { inst } => {
+                write!(
+                    f,
+                    "instance {inst} is aborted, and no process was unwilling to join it\n"
+                )
+            }
+            Explanation::OtherMember {
+                inst,
+                place,
+                listed,
+                joined,
+            } => {
+                write!(f, "member {place} of instance {inst}: ")?;
+                write_listed(f, listed)?;
+                write_joined(f, joined)
+            }
+            Explanation::Orphan { inst, orphan } => write!(f, "instance {inst}: {orphan}"),
+            Explanation::BadLog(row) => write!(f, "{row}"),
+            Explanation::Uncertified { inst, row } => {
+                write!(
+                    f,
+                    "row {row} decides instance {inst}, and no certificate is of it\n"
+                )
+            }
+        }
+    }
+}
+
+// Who is listed at a place.
+fn write_listed<W: fmt::Write>(f: &mut fmt::Formatter<W>, listed: Option<ProcNo>) -> fmt::Result
+    ensures { DisplaysOnOk W.write_str_gives f.old result (Some (listed_words listed)) f.new }
+{
+    match listed {
+        Some(p) => write!(f, "process {p} is listed"),
+        None => write!(f, "nobody is listed"),
+    }
+}
+
+// Who joined at a place.
+fn write_joined<W: fmt::Write>(f: &mut fmt::Formatter<W>, joined: Option<ProcNo>) -> fmt::Result
+    ensures { DisplaysOnOk W.write_str_gives f.old result (Some (joined_words joined)) f.new }
+{
+    match joined {
+        Some(p) => write!(f, ", and process {p} joined\n"),
+        None => write!(f, ", and nobody joined\n"),
+    }
+}

@@ -1,0 +1,76 @@
+//! Rows that are sought in a log.
+
+ghost use Rattle.std.specs.Prelude.{◌≡◌, ◌≤◌, ◌^◌, length};
+ghost use Rattle.kt_explain.specs.Finding.{IsFirstFound, IsLastFound, is_sought};
+
+use kt_base::{InstNo, MsgNo, ProcNo, RowNo};
+use kt_spacetime::Event;
+
+/// What a row that is sought says.
+#[derive(Clone, Copy, Debug, PartialEq, Eq)]
+pub enum Sought {
+    /// A process was unwilling to join this instance.
+    Unwilling(InstNo),
+    /// This instance began.
+    Began(InstNo),
+    /// This instance was decided.
+    Decided(InstNo),
+    /// This process received from that one this message.
+    Received(ProcNo, ProcNo, MsgNo),
+    /// This process failed.
+    Failed(ProcNo),
+}
+
+/// A row that was found, with its number.
+#[derive(Clone, Copy, Debug, PartialEq, Eq)]
+pub struct Found {
+    pub number: RowNo,
+    pub row: Event,
+}
+
+/// The first row that says what is sought.
+pub(crate) fn first_row(rows: &[Event], sought: &Sought) -> Option<Found>
+    requires few { length rows.now ≤ 2 ^ 24 }
+    ensures { IsFirstFound (is_sought sought.now) rows.now result }
+{
+    for place in 0..rows.len() {
+        if is_sought(sought, &rows[place]) {
+            return Some(Found {
+                number: RowNo::after(place),
+                row: rows[place],
+            });
+        }
+    }
+    None
+}
+
+/// The last row that says what is sought.
+pub(crate) fn last_row(rows: &[Event], sought: &Sought) -> Option<Found>
+    requires few { length rows.now ≤ 2 ^ 24 }
+    ensures { IsLastFound (is_sought sought.now) rows.now result }
+{
+    let mut last = None;
+    for place in 0..rows.len() {
+        if is_sought(sought, &rows[place]) {
+            last = Some(Found {
+                number: RowNo::after(place),
+                row: rows[place],
+            });
+        }
+    }
+    last
+}
+
+// Whether a row says what is sought.
+fn is_sought(sought: &Sought, row: &Event) -> bool
+    ensures { result ≡ is_sought sought.now row.now }
+{
+    match *row {
+        Event::Unwilling { inst, .. } => *sought == Sought::Unwilling(inst),
+        Event::Began { inst, .. } => *sought == Sought::Began(inst),
+        Event::Decided { inst, .. } => *sought == Sought::Decided(inst),
+        Event::Received { p, from, msg } => *sought == Sought::Received(p, from, msg),
+        Event::Failed { p } => *sought == Sought::Failed(p),
+        _ => false,
+    }
+}
