@@ -1,0 +1,5 @@
+pub mod Gathering
+pub mod LaneFacts
+pub mod EscapeFacts
+pub mod WindowFacts
+pub mod LawFacts

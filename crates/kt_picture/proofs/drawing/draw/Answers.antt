@@ -1,0 +1,11 @@
+use Rattle.std.proofs.Common.{◌≡◌, ℕ, List, subst}
+use Rattle.std.proofs.lemmas.Result.{on_err_weaker}
+use Rattle.kt_text.specs.Writing.{WritesFront}
+use Rattle.kt_picture.proofs.drawing.draw.Goals as goal
+
+pub returns-clause-front : goal.returns-clause-front
+returns-clause-front g c =
+    let contents = g.W.Write.contents in
+    on_err_weaker c.write_rest.result
+    (λ out. subst (λ (x : List ℕ). WritesFront (contents c.args.writer.now) (contents c.write_rest.new.writer) x) c.in_ok-text.ensures.exact out)
+    c.write_rest.ensures.stopped

@@ -1,0 +1,13 @@
+use Rattle.kt_picture.proofs.Gathering.{gathered, then_piece}
+use Rattle.kt_picture.proofs.layers.push_cut_point.Goals as goal
+
+pub returns : goal.returns
+returns c =
+    let first = c.args.text.now.items in
+    let so_far-1 = then_piece first c.push_cut_x.new.text.items c.push_text.new.text.items _ _ c.in_ok-push_cut_x.ensures c.in_ok-push_text.ensures in
+    let so_far-2 = then_piece first c.push_text.new.text.items c.push_above.new.text.items _ _ so_far-1 c.in_ok-push_above.ensures in
+    let so_far-3 = then_piece first c.push_above.new.text.items c.push_text-2.new.text.items _ _ so_far-2 c.in_ok-push_text-2.ensures in
+    let so_far-4 = then_piece first c.push_text-2.new.text.items c.push_cut_x-2.new.text.items _ _ so_far-3 c.in_ok-push_cut_x-2.ensures in
+    let so_far-5 = then_piece first c.push_cut_x-2.new.text.items c.push_text-3.new.text.items _ _ so_far-4 c.in_ok-push_text-3.ensures in
+    let so_far-6 = then_piece first c.push_text-3.new.text.items c.push_below.new.text.items _ _ so_far-5 c.in_ok-push_below.ensures in
+    gathered c.push_text-4.result c.push_text-4.ensures (λ e. then_piece first c.push_below.new.text.items c.push_text-4.new.text.items _ _ so_far-6 e)

@@ -1,0 +1,18 @@
+use Rattle.std.proofs.Common.{rules, arith, ◌≡◌, ◌∙◌, ◌<◌, ◌++◌, ℕ, List, ap, length, get_or}
+use Rattle.std.specs.List.{flat_map}
+use Rattle.kt_picture.specs.Picture.{lane_name}
+use Rattle.kt_picture.proofs.Gathering.{gathers_item, gathers_all}
+use Rattle.kt_picture.proofs.layers.push_names.Goals as goal
+
+pub loop-p-preserved : goal.loop-p-preserved
+loop-p-preserved c =
+    let items = c.processes-p-items.result.now in
+    let within : c.loop-p.p-index < length items = omega arith in
+    let at : get_or items c.loop-p.p-index c.p-item.result ≡ c.p-item.result = search rules in
+    gathers_item (lane_name c.args.names.now c.args.lanes.now) c.args.text.now.items c.loop-p.text.items c.push_name.new.text.items items c.loop-p.p-index c.p-item.result within at c.loop-p.invariant c.in_ok-push_name.ensures
+
+pub returns : goal.returns
+returns c =
+    let f = lane_name c.args.names.now c.args.lanes.now in
+    gathers_all f c.args.text.now.items _ c.processes-p-items.result.now c.loop-p.p-index (omega arith) c.loop-p.invariant
+    ∙ ap (λ (x : List ℕ). c.args.text.now.items ++ flat_map f x) c.processes-p-items.ensures.processes

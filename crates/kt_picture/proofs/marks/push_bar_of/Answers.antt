@@ -1,0 +1,11 @@
+use Rattle.kt_picture.proofs.Gathering.{gathered, then_piece}
+use Rattle.kt_picture.proofs.marks.push_bar_of.Goals as goal
+
+pub returns : goal.returns
+returns c =
+    let first = c.args.text.now.items in
+    let so_far-1 = then_piece first c.push_text.new.text.items c.push_colour.new.text.items _ _ c.in_ok-push_text.ensures c.in_ok-push_colour.ensures in
+    let so_far-2 = then_piece first c.push_colour.new.text.items c.push_text-2.new.text.items _ _ so_far-1 c.in_ok-push_text-2.ensures in
+    let so_far-3 = then_piece first c.push_text-2.new.text.items c.push_point.new.text.items _ _ so_far-2 c.in_ok-push_point.ensures in
+    let so_far-4 = then_piece first c.push_point.new.text.items c.push_to_column.new.text.items _ _ so_far-3 c.in_ok-push_to_column.ensures in
+    gathered c.push_text-3.result c.push_text-3.ensures (λ e. then_piece first c.push_to_column.new.text.items c.push_text-3.new.text.items _ _ so_far-4 e)

@@ -1,0 +1,11 @@
+pub use Rattle.kt_spacetime.specs.Events
+pub mod Escaping
+pub mod Fates
+pub mod KnownOf
+pub mod Lanes
+pub mod Picture
+pub mod Seen
+pub mod Shapes
+pub mod Style
+pub mod Svg
+pub mod Window

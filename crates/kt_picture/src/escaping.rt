@@ -1,0 +1,45 @@
+//! Texts of others in a picture.
+
+ghost use Rattle.std.specs.Prelude.{◌≡◌, ◌<◌, ◌++◌, ℕ, List, true, OnOk, length, slice_index};
+ghost use Rattle.std.specs.List.{list_all};
+ghost use Rattle.kt_picture.specs.Escaping.{escaped_byte, escaped, is_plain};
+
+use crate::words::push_text;
+use kt_base::Memory;
+
+/// Gathers a text of others, in which nothing is read as a mark.
+pub(crate) fn push_escaped(text: &mut Vec<u8>, other: &[u8]) -> Result<(), Memory>
+    ensures { OnOk result (text.new.items ≡ text.old.items ++ escaped other.now) }
+{
+    for place in 0..other.len() {
+        push_byte_at(text, other, place)?;
+    }
+    Ok(())
+}
+
+// Gathers the byte at a place of such a text.
+fn push_byte_at(text: &mut Vec<u8>, other: &[u8], place: usize) -> Result<(), Memory>
+    requires { place < length other.now }
+    ensures { OnOk result (text.new.items ≡ text.old.items ++ escaped_byte (slice_index other.now place)) }
+{
+    push_byte(text, other[place])
+}
+
+// Gathers a byte of such a text.
+fn push_byte(text: &mut Vec<u8>, byte: u8) -> Result<(), Memory>
+    ensures { OnOk result (text.new.items ≡ text.old.items ++ escaped_byte byte) }
+{
+    match byte {
+        b'"' => push_text(text, b"&quot;"),
+        b'&' => push_text(text, b"&amp;"),
+        b'\'' => push_text(text, b"&apos;"),
+        b'<' => push_text(text, b"&lt;"),
+        b'>' => push_text(text, b"&gt;"),
+        _ => push_text(text, &[byte]),
+    }
+}
+
+/// No `<`, `>`, `"` or `'` comes through into a picture: a law, with nothing to run.
+pub fn escaped_has_no_mark()
+    ensures { (text : List ℕ) → list_all is_plain (escaped text) ≡ true }
+{}

@@ -1,0 +1,299 @@
+//! The layers of a picture: lanes, cuts, arrows, and what shows each row at its place.
+
+ghost use Rattle.std.specs.Prelude.{◌≡◌, ◌<◌, ◌^◌, ◌-◌, ◌+◌, ◌++◌, OnOk, length, slice_index_or};
+ghost use Rattle.std.specs.List.{flat_map};
+ghost use Rattle.std.specs.Fmt.{decimal};
+ghost use Rattle.kt_picture.specs.Escaping.{escaped};
+ghost use Rattle.kt_picture.specs.Lanes.{lane_of};
+ghost use Rattle.kt_picture.specs.Shapes.{y_of};
+ghost use Rattle.kt_picture.specs.Picture.{opening, width_of, height_of, lane_name, name_or_number, last_stretch, closing, lane_marks, row_marks, cut_x, cut_line, cut_points, picture_text};
+ghost use Rattle.kt_picture.specs.Svg.{stretch_of, arrow_of, figure_of};
+
+use crate::escaping::push_escaped;
+use crate::lanes::Lanes;
+use crate::marks::{push_arrow_of, push_figure_of, push_stretch, push_stretch_of};
+use crate::shapes::{push_colour_of, push_y, x_of, y_of};
+use crate::shown::{CutMark, End, Shown};
+use crate::style::{push_arrow_heads, push_style_by_day, push_style_by_night};
+use crate::window::Window;
+use crate::words::{push_inst, push_long, push_text};
+use kt_base::{Memory, ProcNo};
+use kt_plan::Names;
+
+/// Gathers a picture with these lanes, columns and marks, after so many rows.
+pub(crate) fn push_picture(
+    text: &mut Vec<u8>,
+    names: &Names,
+    lanes: &Lanes,
+    before: u32,
+    columns: u32,
+    window: &Window,
+    caption: &[u8],
+) -> Result<(), Memory>
+    requires { columns < 2 ^ 25 }
+    ensures { OnOk result (text.new.items ≡ text.old.items ++ picture_text names.now lanes.now before columns
+        window.now.shown.items window.now.cuts.items window.now.ends.items caption.now) }
+{
+    push_opening(text, columns, lanes)?;
+    push_lane_marks(text, names, lanes, columns, window)?;
+    push_row_marks(text, lanes, before, window)?;
+    push_closing(text, lanes, caption)
+}
+
+// Gathers how a document begins.
+fn push_opening(text: &mut Vec<u8>, columns: u32, lanes: &Lanes) -> Result<(), Memory>
+    requires { columns < 2 ^ 25 }
+    ensures { OnOk result (text.new.items ≡ text.old.items ++ opening columns lanes.now) }
+{
+    push_text(
+        text,
+        b"<svg xmlns='http://www.w3.org/2000/svg' viewBox='0 0 ",
+    )?;
+    push_width(text, columns)?;
+    push_text(text, b" ")?;
+    push_height(text, lanes)?;
+    push_text(text, b"' width='")?;
+    push_width(text, columns)?;
+    push_text(text, b"'>\n")?;
+    push_style_by_day(text)?;
+    push_style_by_night(text)?;
+    push_arrow_heads(text)
+}
+
+// Gathers how wide a picture is that has so many columns.
+fn push_width(text: &mut Vec<u8>, columns: u32) -> Result<(), Memory>
+    requires { columns < 2 ^ 25 }
+    ensures { OnOk result (text.new.items ≡ text.old.items ++ decimal (width_of columns)) }
+{
+    push_long(text, x_of(columns + 1) + 30)
+}
+
+// Gathers how high a picture is that has these lanes.
+fn push_height(text: &mut Vec<u8>, lanes: &Lanes) -> Result<(), Memory>
+    ensures { OnOk result (text.new.items ≡ text.old.items ++ decimal (height_of lanes.now)) }
+{
+    push_long(text, y_of(lanes.count()) + 10)
+}
+
+// Gathers what is said below the lanes, and the document's end.
+fn push_closing(text: &mut Vec<u8>, lanes: &Lanes, caption: &[u8]) -> Result<(), Memory>
+    ensures { OnOk result (text.new.items ≡ text.old.items ++ closing lanes.now caption.now) }
+{
+    push_text(text, b"<text x='92' y='")?;
+    push_foot(text, lanes)?;
+    push_text(text, b"' dy='-10'>")?;
+    push_escaped(text, caption)?;
+    push_text(text, b"</text>\n</svg>\n")
+}
+
+// Gathers where the lanes end.
+fn push_foot(text: &mut Vec<u8>, lanes: &Lanes) -> Result<(), Memory>
+    ensures { OnOk result (text.new.items ≡ text.old.items ++ decimal (y_of (length lanes.now))) }
+{
+    push_y(text, lanes.count())
+}
+
+// Gathers the marks of lanes.
+fn push_lane_marks(
+    text: &mut Vec<u8>,
+    names: &Names,
+    lanes: &Lanes,
+    columns: u32,
+    window: &Window,
+) -> Result<(), Memory>
+    requires { columns < 2 ^ 25 }
+    ensures { OnOk result (text.new.items ≡ text.old.items ++ lane_marks names.now lanes.now columns
+        window.now.shown.items window.now.ends.items) }
+{
+    push_names(text, names, lanes)?;
+    push_stretches(text, lanes, window.shown.as_slice())?;
+    push_last_stretches(text, lanes, columns, window.ends.as_slice())
+}
+
+// Gathers the marks of rows; so many rows come before the window.
+fn push_row_marks(
+    text: &mut Vec<u8>,
+    lanes: &Lanes,
+    before: u32,
+    window: &Window,
+) -> Result<(), Memory>
+    ensures { OnOk result (text.new.items ≡ text.old.items ++ row_marks lanes.now before
+        window.now.cuts.items window.now.shown.items) }
+{
+    push_cuts(text, lanes, window.cuts.as_slice())?;
+    push_arrows(text, lanes, before, window.shown.as_slice())?;
+    push_figures(text, lanes, window.shown.as_slice())
+}
+
+fn push_cuts(text: &mut Vec<u8>, lanes: &Lanes, cuts: &[CutMark]) -> Result<(), Memory>
+    ensures { OnOk result (text.new.items ≡ text.old.items ++ flat_map (cut_line lanes.now) cuts.now) }
+{
+    for cut in cuts {
+        push_cut_line(text, lanes, cut)?;
+    }
+    Ok(())
+}
+
+// Gathers the line of a permanent cut.
+fn push_cut_line(text: &mut Vec<u8>, lanes: &Lanes, cut: &CutMark) -> Result<(), Memory>
+    ensures { OnOk result (text.new.items ≡ text.old.items ++ cut_line lanes.now cut.now) }
+{
+    push_text(text, b"<polyline class='cut")?;
+    push_colour_of(text, cut.inst)?;
+    push_text(text, b"' points='")?;
+    push_cut_points(text, lanes, cut)?;
+    push_text(text, b"'><title>permanent cut after instance ")?;
+    push_inst(text, cut.inst)?;
+    push_text(text, b"</title></polyline>\n")
+}
+
+fn push_cut_points(text: &mut Vec<u8>, lanes: &Lanes, cut: &CutMark) -> Result<(), Memory>
+    ensures { OnOk result (text.new.items ≡ text.old.items ++ flat_map (cut_points lanes.now cut.now) lanes.now) }
+{
+    for p in lanes.processes() {
+        push_cut_point(text, lanes, cut, *p)?;
+    }
+    Ok(())
+}
+
+// Gathers two points of a cut, above and below a process's lane.
+fn push_cut_point(text: &mut Vec<u8>, lanes: &Lanes, cut: &CutMark, p: ProcNo) -> Result<(), Memory>
+    ensures { OnOk result (text.new.items ≡ text.old.items ++ cut_points lanes.now cut.now p) }
+{
+    push_cut_x(text, cut, p)?;
+    push_text(text, b",")?;
+    push_above(text, lanes, p)?;
+    push_text(text, b" ")?;
+    push_cut_x(text, cut, p)?;
+    push_text(text, b",")?;
+    push_below(text, lanes, p)?;
+    push_text(text, b" ")
+}
+
+// Gathers where a cut crosses a process's lane.
+fn push_cut_x(text: &mut Vec<u8>, cut: &CutMark, p: ProcNo) -> Result<(), Memory>
+    ensures { OnOk result (text.new.items ≡ text.old.items ++ decimal (cut_x cut.now p)) }
+{
+    push_long(
+        text,
+        x_of(cut.columns[p.index()]) - 3 * (u64::from(cut.inst.get()) % 4),
+    )
+}
+
+fn push_above(text: &mut Vec<u8>, lanes: &Lanes, p: ProcNo) -> Result<(), Memory>
+    ensures { OnOk result (text.new.items ≡ text.old.items ++ decimal (y_of (lane_of lanes.now p) - 15)) }
+{
+    push_long(text, y_of(lanes.of(p)) - 15)
+}
+
+fn push_below(text: &mut Vec<u8>, lanes: &Lanes, p: ProcNo) -> Result<(), Memory>
+    ensures { OnOk result (text.new.items ≡ text.old.items ++ decimal (y_of (lane_of lanes.now p) + 15)) }
+{
+    push_long(text, y_of(lanes.of(p)) + 15)
+}
+
+fn push_names(text: &mut Vec<u8>, names: &Names, lanes: &Lanes) -> Result<(), Memory>
+    ensures { OnOk result (text.new.items ≡ text.old.items ++ flat_map (lane_name names.now lanes.now) lanes.now) }
+{
+    for p in lanes.processes() {
+        push_name(text, names, lanes, *p)?;
+    }
+    Ok(())
+}
+
+// Gathers the name beside a process's lane.
+fn push_name(text: &mut Vec<u8>, names: &Names, lanes: &Lanes, p: ProcNo) -> Result<(), Memory>
+    ensures { OnOk result (text.new.items ≡ text.old.items ++ lane_name names.now lanes.now p) }
+{
+    push_text(text, b"<text class='name' x='80' y='")?;
+    push_lane_y(text, lanes, p)?;
+    push_text(text, b"' dy='4'>")?;
+    push_name_of(text, names, p)?;
+    push_text(text, b"</text>\n")
+}
+
+// Gathers where a process's lane is.
+fn push_lane_y(text: &mut Vec<u8>, lanes: &Lanes, p: ProcNo) -> Result<(), Memory>
+    ensures { OnOk result (text.new.items ≡ text.old.items ++ decimal (y_of (lane_of lanes.now p))) }
+{
+    push_y(text, lanes.of(p))
+}
+
+// Gathers the name of a process, or its number where it has none.
+fn push_name_of(text: &mut Vec<u8>, names: &Names, p: ProcNo) -> Result<(), Memory>
+    ensures { OnOk result (text.new.items ≡ text.old.items ++ escaped (name_or_number names.now p)) }
+{
+    let mut digits = itoa::Buffer::new();
+    push_escaped(text, name_or(names, p, digits.format(p.get()).as_bytes()))
+}
+
+// The name of a process, or what else it is called where it has none.
+fn name_or<'a>(names: &'a Names, p: ProcNo, other: &'a [u8]) -> &'a [u8]
+    ensures { result.now ≡ slice_index_or names.now p other.now }
+{
+    match names.list().get(p.index()) {
+        Some(name) => name.as_str().as_bytes(),
+        None => other,
+    }
+}
+
+fn push_stretches(text: &mut Vec<u8>, lanes: &Lanes, shown: &[Shown]) -> Result<(), Memory>
+    ensures { OnOk result (text.new.items ≡ text.old.items ++ flat_map (stretch_of lanes.now) shown.now) }
+{
+    for row in shown {
+        push_stretch_of(text, lanes, row)?;
+    }
+    Ok(())
+}
+
+fn push_last_stretches(
+    text: &mut Vec<u8>,
+    lanes: &Lanes,
+    columns: u32,
+    ends: &[End],
+) -> Result<(), Memory>
+    requires { columns < 2 ^ 25 }
+    ensures { OnOk result (text.new.items ≡ text.old.items ++ flat_map (last_stretch lanes.now columns) ends.now) }
+{
+    for end in ends {
+        push_last_stretch(text, lanes, columns, end)?;
+    }
+    Ok(())
+}
+
+// Gathers the last stretch of a lane, up to the right end.
+fn push_last_stretch(
+    text: &mut Vec<u8>,
+    lanes: &Lanes,
+    columns: u32,
+    end: &End,
+) -> Result<(), Memory>
+    requires { columns < 2 ^ 25 }
+    ensures { OnOk result (text.new.items ≡ text.old.items ++ last_stretch lanes.now columns end.now) }
+{
+    let lane = lanes.of(end.process);
+    push_stretch(text, lane, end.since, columns + 1, end.up, end.open_in)
+}
+
+fn push_arrows(
+    text: &mut Vec<u8>,
+    lanes: &Lanes,
+    before: u32,
+    shown: &[Shown],
+) -> Result<(), Memory>
+    ensures { OnOk result (text.new.items ≡ text.old.items ++ flat_map (arrow_of lanes.now before) shown.now) }
+{
+    for row in shown {
+        push_arrow_of(text, lanes, before, row)?;
+    }
+    Ok(())
+}
+
+fn push_figures(text: &mut Vec<u8>, lanes: &Lanes, shown: &[Shown]) -> Result<(), Memory>
+    ensures { OnOk result (text.new.items ≡ text.old.items ++ flat_map (figure_of lanes.now) shown.now) }
+{
+    for row in shown {
+        push_figure_of(text, lanes, row)?;
+    }
+    Ok(())
+}

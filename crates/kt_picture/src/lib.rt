@@ -1,0 +1,21 @@
+//! A run as a picture: the space-time diagram of some rows of a log, as one SVG document.
+#![tactic(auto)]
+
+mod drawing;
+mod escaping;
+mod fates;
+mod known;
+mod lanes;
+mod laws;
+mod layers;
+mod marks;
+mod record;
+mod shapes;
+mod shown;
+mod style;
+mod window;
+mod words;
+
+pub use drawing::{draw, picture};
+pub use escaping::escaped_has_no_mark;
+pub use laws::{each_row_is_shown, undone_is_not_live, unreceived_is_not_live};

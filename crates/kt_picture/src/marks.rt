@@ -1,0 +1,429 @@
+//! The marks of rows: stretches of lanes, arrows, and what shows a row at its place.
+
+ghost use Rattle.std.specs.Prelude.{◌≡◌, ◌∷◌, ◌++◌, [], codes, Some, OnOk, if◌then◌else◌};
+ghost use Rattle.kt_spacetime.specs.Events.{process_of};
+ghost use Rattle.kt_picture.specs.Lanes.{lane_of};
+ghost use Rattle.kt_picture.specs.Shapes.{point};
+ghost use Rattle.kt_picture.specs.Svg.{to_column, bar, stretch, stretch_of, lane_class, path_of, arrow_class, arrow, arrow_at, arrow_of, column_of, short_arrow, way, towards, title, word_at, kind_letter, dot_class, refusal, beginning, instance_figure, figure, figure_at, figure_of, row_number, number_at};
+
+use crate::lanes::Lanes;
+use crate::record::{push_cause, push_fields};
+use crate::shapes::{
+    diamond, fill_class, push_colour, push_coloured, push_point, push_shape, push_x, push_y,
+    square, triangle,
+};
+use crate::shown::Shown;
+use crate::words::{push_inst, push_number, push_text};
+use kt_base::{Cause, InstNo, Kind, Memory, MsgNo, ProcNo};
+use kt_spacetime::Event;
+
+/// Gathers a stretch of a lane, dashed while the process is down, over a bar while it is in an instance.
+pub(crate) fn push_stretch(
+    text: &mut Vec<u8>,
+    lane: u8,
+    since: u32,
+    column: u32,
+    up: bool,
+    open_in: Option<u16>,
+) -> Result<(), Memory>
+    ensures { OnOk result (text.new.items ≡ text.old.items ++ stretch lane since column up open_in) }
+{
+    push_bar(text, open_in, lane, since, column)?;
+    push_lane_path(text, up)?;
+    push_point(text, since, lane)?;
+    push_to_column(text, column)?;
+    push_text(text, b"'/>\n")
+}
+
+// Gathers the bar under a stretch.
+fn push_bar(
+    text: &mut Vec<u8>,
+    open_in: Option<u16>,
+    lane: u8,
+    since: u32,
+    column: u32,
+) -> Result<(), Memory>
+    ensures { OnOk result (text.new.items ≡ text.old.items ++ bar open_in lane since column) }
+{
+    match open_in {
+        Some(inst) => push_bar_of(text, inst, lane, since, column),
+        None => Ok(()),
+    }
+}
+
+// Gathers the bar of an instance.
+fn push_bar_of(
+    text: &mut Vec<u8>,
+    inst: u16,
+    lane: u8,
+    since: u32,
+    column: u32,
+) -> Result<(), Memory>
+    ensures { OnOk result (text.new.items ≡ text.old.items ++ bar (Some inst) lane since column) }
+{
+    push_text(text, b"<path class='in")?;
+    push_colour(text, inst)?;
+    push_text(text, b"' d='M")?;
+    push_point(text, since, lane)?;
+    push_to_column(text, column)?;
+    push_text(text, b"'/>")
+}
+
+// Gathers where a stretch of a lane goes.
+fn push_to_column(text: &mut Vec<u8>, column: u32) -> Result<(), Memory>
+    ensures { OnOk result (text.new.items ≡ text.old.items ++ to_column column) }
+{
+    push_text(text, b"H")?;
+    push_x(text, column)
+}
+
+// Gathers how the path of a stretch begins.
+fn push_lane_path(text: &mut Vec<u8>, up: bool) -> Result<(), Memory>
+    ensures { OnOk result (text.new.items ≡ text.old.items ++ path_of (lane_class up)) }
+{
+    push_path(text, lane_class(up))
+}
+
+// Gathers how a path of a class begins.
+fn push_path(text: &mut Vec<u8>, class: &[u8]) -> Result<(), Memory>
+    ensures { OnOk result (text.new.items ≡ text.old.items ++ path_of class.now) }
+{
+    push_text(text, b"<path class='")?;
+    push_text(text, class)?;
+    push_text(text, b"' d='M")
+}
+
+fn lane_class(up: bool) -> &'static [u8]
+    ensures { result.now ≡ lane_class up }
+{
+    if up { b"lane" } else { b"lane down" }
+}
+
+/// Gathers the stretch of a process's lane up to a row.
+pub(crate) fn push_stretch_of(text: &mut Vec<u8>, lanes: &Lanes, s: &Shown) -> Result<(), Memory>
+    ensures { OnOk result (text.new.items ≡ text.old.items ++ stretch_of lanes.now s.now) }
+{
+    let lane = lanes.of(s.event.process());
+    push_stretch(text, lane, s.since, s.column, s.up, s.open_in)
+}
+
+// Gathers how a tooltip begins, with the row's number and text.
+fn push_title(text: &mut Vec<u8>, s: &Shown) -> Result<(), Memory>
+    ensures { OnOk result (text.new.items ≡ text.old.items ++ title s.now) }
+{
+    push_text(text, b"<g><title>row ")?;
+    push_number(text, s.row)?;
+    push_text(text, b": ")?;
+    push_fields(text, s.event)?;
+    push_text(text, b"</title>")
+}
+
+/// Gathers the arrow of a row, where it has one; so many rows come before the window.
+pub(crate) fn push_arrow_of(
+    text: &mut Vec<u8>,
+    lanes: &Lanes,
+    before: u32,
+    s: &Shown,
+) -> Result<(), Memory>
+    ensures { OnOk result (text.new.items ≡ text.old.items ++ arrow_of lanes.now before s.now) }
+{
+    push_arrow_at(text, lanes, before, s, s.event)
+}
+
+// Gathers the arrow of this row, where it has one.
+fn push_arrow_at(
+    text: &mut Vec<u8>,
+    lanes: &Lanes,
+    before: u32,
+    s: &Shown,
+    event: Event,
+) -> Result<(), Memory>
+    ensures { OnOk result (text.new.items ≡ text.old.items ++ arrow_at lanes.now before s.now event) }
+{
+    match event {
+        Event::Sent { p, to, .. } => push_arrow_in_transit(text, lanes, s, p, to),
+        Event::Received { from, msg, .. } => push_arrow(text, lanes, before, s, from, msg),
+        Event::Dropped { from, msg, .. } => push_arrow(text, lanes, before, s, from, msg),
+        _ => Ok(()),
+    }
+}
+
+// Gathers the arrow of a message from where it was sent to where it was taken.
+fn push_arrow(
+    text: &mut Vec<u8>,
+    lanes: &Lanes,
+    before: u32,
+    s: &Shown,
+    from: ProcNo,
+    msg: MsgNo,
+) -> Result<(), Memory>
+    ensures { OnOk result (text.new.items ≡ text.old.items ++ arrow lanes.now before s.now from msg) }
+{
+    push_title(text, s)?;
+    push_arrow_path(text, s.is_undone, s.is_taken_back)?;
+    push_origin(text, lanes, before, from, msg)?;
+    push_text(text, b"L")?;
+    push_target(text, lanes, s)?;
+    push_text(text, b"'/></g>\n")
+}
+
+// Gathers how the path of an arrow begins.
+fn push_arrow_path(text: &mut Vec<u8>, is_undone: bool, is_taken_back: bool) -> Result<(), Memory>
+    ensures { OnOk result (text.new.items ≡ text.old.items ++ path_of (arrow_class is_undone is_taken_back)) }
+{
+    push_path(text, arrow_class(is_undone, is_taken_back))
+}
+
+fn arrow_class(is_undone: bool, is_taken_back: bool) -> &'static [u8]
+    ensures { result.now ≡ arrow_class is_undone is_taken_back }
+{
+    match (is_undone, is_taken_back) {
+        (false, false) => b"m",
+        (false, true) => b"m back",
+        (true, false) => b"m gone",
+        (true, true) => b"m gone back",
+    }
+}
+
+// Gathers where a message was sent.
+fn push_origin(
+    text: &mut Vec<u8>,
+    lanes: &Lanes,
+    before: u32,
+    from: ProcNo,
+    msg: MsgNo,
+) -> Result<(), Memory>
+    ensures { OnOk result (text.new.items ≡ text.old.items ++ point (column_of before msg) (lane_of lanes.now from)) }
+{
+    push_place(text, lanes, msg.get().saturating_sub(before), from)
+}
+
+// Gathers the place of a row in its process's lane.
+fn push_target(text: &mut Vec<u8>, lanes: &Lanes, s: &Shown) -> Result<(), Memory>
+    ensures { OnOk result (text.new.items ≡ text.old.items
+        ++ point s.now.column (lane_of lanes.now (process_of s.now.event))) }
+{
+    push_place(text, lanes, s.column, s.event.process())
+}
+
+// Gathers the place of a column in a process's lane.
+fn push_place(text: &mut Vec<u8>, lanes: &Lanes, column: u32, p: ProcNo) -> Result<(), Memory>
+    ensures { OnOk result (text.new.items ≡ text.old.items ++ point column (lane_of lanes.now p)) }
+{
+    push_point(text, column, lanes.of(p))
+}
+
+// Gathers the short arrow of a message that is in transit at the window's end.
+fn push_arrow_in_transit(
+    text: &mut Vec<u8>,
+    lanes: &Lanes,
+    s: &Shown,
+    p: ProcNo,
+    to: ProcNo,
+) -> Result<(), Memory>
+    ensures { OnOk result (text.new.items ≡ text.old.items
+        ++ (if s.now.is_in_transit then short_arrow lanes.now s.now p to else [])) }
+{
+    if s.is_in_transit {
+        push_short_arrow(text, lanes, s, p, to)
+    } else {
+        Ok(())
+    }
+}
+
+// Gathers a short arrow.
+fn push_short_arrow(
+    text: &mut Vec<u8>,
+    lanes: &Lanes,
+    s: &Shown,
+    p: ProcNo,
+    to: ProcNo,
+) -> Result<(), Memory>
+    ensures { OnOk result (text.new.items ≡ text.old.items ++ short_arrow lanes.now s.now p to) }
+{
+    push_title(text, s)?;
+    push_way(text, lanes, s.column, p, to)?;
+    push_text(text, b"</g>\n")
+}
+
+// Gathers the way that a message in transit has gone.
+fn push_way(
+    text: &mut Vec<u8>,
+    lanes: &Lanes,
+    column: u32,
+    p: ProcNo,
+    to: ProcNo,
+) -> Result<(), Memory>
+    ensures { OnOk result (text.new.items ≡ text.old.items ++ way lanes.now column p to) }
+{
+    let lane = lanes.of(p);
+    push_shape(text, b"m way", column, lane, towards(lane, lanes.of(to)))
+}
+
+fn towards(lane: u8, other: u8) -> &'static [u8]
+    ensures { result.now ≡ towards lane other }
+{
+    if lane < other { b"l12 18" } else { b"l12 -18" }
+}
+
+/// Gathers what shows a row at its place, and the number of each fifth row.
+pub(crate) fn push_figure_of(text: &mut Vec<u8>, lanes: &Lanes, s: &Shown) -> Result<(), Memory>
+    ensures { OnOk result (text.new.items ≡ text.old.items ++ figure_of lanes.now s.now) }
+{
+    push_number_at(text, s.row, s.column)?;
+    push_title(text, s)?;
+    push_figure_at(text, lanes, s)?;
+    push_text(text, b"</g>\n")
+}
+
+// Gathers the number of each fifth row.
+fn push_number_at(text: &mut Vec<u8>, row: u32, column: u32) -> Result<(), Memory>
+    ensures { OnOk result (text.new.items ≡ text.old.items ++ number_at row column) }
+{
+    if row % 5 == 0 {
+        push_row_number(text, row, column)
+    } else {
+        Ok(())
+    }
+}
+
+// Gathers the number of a row, above it.
+fn push_row_number(text: &mut Vec<u8>, row: u32, column: u32) -> Result<(), Memory>
+    ensures { OnOk result (text.new.items ≡ text.old.items ++ row_number row column) }
+{
+    push_text(text, b"<text class='num' x='")?;
+    push_x(text, column)?;
+    push_text(text, b"' y='20'>")?;
+    push_number(text, row)?;
+    push_text(text, b"</text>\n")
+}
+
+// Gathers what shows a row in its process's lane.
+fn push_figure_at(text: &mut Vec<u8>, lanes: &Lanes, s: &Shown) -> Result<(), Memory>
+    ensures { OnOk result (text.new.items ≡ text.old.items ++ figure_at lanes.now s.now) }
+{
+    push_figure(text, lanes.of(s.event.process()), s, s.event)
+}
+
+// Gathers what shows a row at its place.
+fn push_figure(text: &mut Vec<u8>, lane: u8, s: &Shown, event: Event) -> Result<(), Memory>
+    ensures { OnOk result (text.new.items ≡ text.old.items ++ figure lane s.now event) }
+{
+    let column = s.column;
+    match event {
+        Event::Sent { .. } => push_shape(
+            text,
+            dot_class(s.is_undone),
+            column,
+            lane,
+            b"m-3 0a3 3 0 1 0 6 0a3 3 0 1 0 -6 0",
+        ),
+        Event::Received { .. } => push_shape(text, b"open", column, lane, b"m0 -4v8"),
+        Event::Dropped { .. } => {
+            push_shape(text, b"x", column, lane, b"m-5 -5l10 10m0 -10l-10 10")
+        }
+        Event::Failed { .. } => {
+            push_shape(text, b"x", column, lane, b"m-7 -7l14 14m0 -14l-14 14")
+        }
+        Event::Unwilling { cause, .. } => push_refusal(text, column, lane, cause),
+        Event::Refused { cause, .. } => push_refusal(text, column, lane, cause),
+        _ => push_joining(text, lane, s, event),
+    }
+}
+
+fn dot_class(is_undone: bool) -> &'static [u8]
+    ensures { result.now ≡ dot_class is_undone }
+{
+    if is_undone { b"dot pale" } else { b"dot" }
+}
+
+// Gathers that a process did not do what it was asked, and why.
+fn push_refusal(text: &mut Vec<u8>, column: u32, lane: u8, cause: Cause) -> Result<(), Memory>
+    ensures { OnOk result (text.new.items ≡ text.old.items ++ refusal column lane cause) }
+{
+    push_shape(
+        text,
+        b"w",
+        column,
+        lane,
+        b"m-6 0a6 6 0 1 0 12 0a6 6 0 1 0 -12 0m2 -4l8 8",
+    )?;
+    push_word_at(text, b"bad", column, lane, b"20")?;
+    push_cause(text, cause)?;
+    push_text(text, b"</text>")
+}
+
+// Gathers how a word begins that stands so far below a place.
+fn push_word_at(
+    text: &mut Vec<u8>,
+    class: &[u8],
+    column: u32,
+    lane: u8,
+    below: &[u8],
+) -> Result<(), Memory>
+    ensures { OnOk result (text.new.items ≡ text.old.items ++ word_at class.now column lane below.now) }
+{
+    push_text(text, b"<text class='")?;
+    push_text(text, class)?;
+    push_text(text, b"' x='")?;
+    push_x(text, column)?;
+    push_text(text, b"' y='")?;
+    push_y(text, lane)?;
+    push_text(text, b"' dy='")?;
+    push_text(text, below)?;
+    push_text(text, b"'>")
+}
+
+// Gathers what shows a row of an instance.
+fn push_joining(text: &mut Vec<u8>, lane: u8, s: &Shown, event: Event) -> Result<(), Memory>
+    ensures { OnOk result (text.new.items ≡ text.old.items ++ instance_figure lane s.now event) }
+{
+    let column = s.column;
+    let fill = fill_class(s.decision);
+    match event {
+        Event::Began { inst, kind, .. } => push_beginning(text, column, lane, inst, kind),
+        Event::Took { inst, .. } => {
+            push_coloured(text, fill, inst, column, lane, square(s.decision))
+        }
+        Event::Ready { inst, .. } => {
+            push_coloured(text, fill, inst, column, lane, triangle(s.decision))
+        }
+        Event::Decided { inst, commit, .. } => push_coloured(
+            text,
+            fill_class(Some(commit)),
+            inst,
+            column,
+            lane,
+            diamond(commit),
+        ),
+        Event::Closed { inst, .. } => push_coloured(text, b"f", inst, column, lane, b"m0 -5v10"),
+        _ => Ok(()),
+    }
+}
+
+// Gathers that an instance begins, with its number.
+fn push_beginning(
+    text: &mut Vec<u8>,
+    column: u32,
+    lane: u8,
+    inst: InstNo,
+    kind: Kind,
+) -> Result<(), Memory>
+    ensures { OnOk result (text.new.items ≡ text.old.items ++ beginning column lane inst kind) }
+{
+    push_coloured(text, b"in", inst, column, lane, b"m-5 0h10")?;
+    push_word_at(text, b"inst", column, lane, b"-13")?;
+    push_kind_letter(text, kind)?;
+    push_inst(text, inst)?;
+    push_text(text, b"</text>")
+}
+
+// Gathers the letter of a kind of instance.
+fn push_kind_letter(text: &mut Vec<u8>, kind: Kind) -> Result<(), Memory>
+    ensures { OnOk result (text.new.items ≡ text.old.items ++ kind_letter kind) }
+{
+    match kind {
+        Kind::Checkpoint => push_text(text, b"C"),
+        Kind::Rollback => push_text(text, b"R"),
+    }
+}

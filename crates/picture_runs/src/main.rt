@@ -1,0 +1,46 @@
+//! Shows each stored run as a picture.
+#![tactic(auto)]
+
+ghost use Rattle.kt_cuts.specs.Legal.{IsLegal};
+
+use anyhow::Result;
+use kt_histories::legal;
+use kt_log_text::read_csv;
+use kt_picture::picture;
+use kt_plan::Names;
+use kt_spacetime::SpaceTime;
+use std::fs;
+
+// Shows a legal log as a picture.
+fn show_picture(rt: &HostRuntime, log: &SpaceTime) -> Result<()>
+    requires { IsLegal log.now.rows }
+{
+    let names = Names::new(rt.alloc());
+    let text = picture(rt.alloc(), log, 0, &names, b"<yes> & 'no'")?;
+    match std::str::from_utf8(text.as_slice()) {
+        Ok(text) => print!(rt; "{text}")?,
+        Err(_) => println!(rt; "no text")?,
+    }
+    Ok(())
+}
+
+// Shows the stored run of this name.
+fn show_stored(rt: &HostRuntime, name: &str) -> Result<()> {
+    let text = fs::read(rt, name)?;
+    let log = read_csv(rt.alloc(), text.as_slice())?;
+    match legal(rt.alloc(), &log) {
+        Ok(()) => show_picture(rt, &log),
+        Err(fault) => {
+            println!(rt; "{fault}")?;
+            Ok(())
+        }
+    }
+}
+
+fn main(rt: HostRuntime) -> Result<()> {
+    let names = fs::read_to_string(&rt, "pictures.txt")?;
+    for name in names.lines() {
+        show_stored(&rt, name)?;
+    }
+    Ok(())
+}
