@@ -6,3 +6,5 @@ pub mod Exactly
 pub mod NewObjects
 pub mod Reading
 pub mod Refused
+pub mod FaultLines
+pub mod Mapped

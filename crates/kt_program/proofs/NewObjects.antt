@@ -77,6 +77,14 @@ step_of_run (run_fault.Journal p) done why e = absurd (cc (e))
 step_of_run (run_fault.Step n other) done why e = cc e
 step_of_run run_fault.Memory done why e = absurd (cc (e))
 
+pub untold_of_run : (fault : RunFault) (p : ℕ) → of_run fault ≡ app.Run (run_fault.Journal p) → fault ≡ run_fault.Journal p
+untold_of_run run_fault.CastSize p e = absurd (cc (e))
+untold_of_run (run_fault.CastKind q) p e = absurd (cc (e))
+untold_of_run (run_fault.Object q) p e = absurd (cc (e))
+untold_of_run (run_fault.Journal q) p e = cc e
+untold_of_run (run_fault.Step n other) p e = absurd (cc (e))
+untold_of_run run_fault.Memory p e = absurd (cc (e))
+
 pub object_of_run : (fault : RunFault) (p : ℕ) → of_run fault ≡ app.Run (run_fault.Object p) → fault ≡ run_fault.Object p
 object_of_run run_fault.CastSize p e = absurd (cc (e))
 object_of_run (run_fault.CastKind q) p e = absurd (cc (e))

@@ -7,11 +7,11 @@ use Rattle.clap.specs.declared.error.kind.ErrorKind.TheVariants.{OutOfMemory, Di
 use Rattle.kt_program.specs.declared.ask.AskFault.{AskFault}
 use Rattle.kt_program.specs.declared.ask.AskFault.TheVariants as ask
 use Rattle.kt_program.specs.declared.ending.Done.{Done}
-use Rattle.kt_program.specs.declared.ending.Done.TheVariants.{Judged, Played, Certified, Shown}
+use Rattle.kt_program.specs.declared.ending.Done.TheVariants.{Judged, Explained, Played, Certified, Shown}
 use Rattle.kt_program.specs.declared.fault.ProgramFault.{ProgramFault}
 use Rattle.kt_program.specs.declared.fault.ProgramFault.TheVariants as program
 use Rattle.kt_program.specs.declared.line.Asked.{Asked}
-use Rattle.kt_program.specs.declared.line.Asked.TheVariants.{Certify, Check, Live, Play}
+use Rattle.kt_program.specs.declared.line.Asked.TheVariants.{Certify, Check, Explain, Live, Play}
 use Rattle.kt_program.specs.Names.{IsApart, IsWriting}
 use Rattle.kt_program.specs.Program.{IsErrorFor, Names, program as definition}
 
@@ -43,6 +43,7 @@ abbrev pub IsOfRun : Asked → Type 0
 IsOfRun (Play scenario steps log cert) = Unit {0}
 IsOfRun (Live scenario log cert) = Unit {0}
 IsOfRun (Check log cert) = ⊥
+IsOfRun (Explain log cert) = ⊥
 IsOfRun (Certify log cert) = ⊥
 
 -- whether a scenario is to be run serially
@@ -50,6 +51,7 @@ abbrev pub IsPlay : Asked → Type 0
 IsPlay (Play scenario steps log cert) = Unit {0}
 IsPlay (Live scenario log cert) = ⊥
 IsPlay (Check log cert) = ⊥
+IsPlay (Explain log cert) = ⊥
 IsPlay (Certify log cert) = ⊥
 
 -- whether a stored run is to be judged
@@ -57,13 +59,23 @@ abbrev pub IsCheck : Asked → Type 0
 IsCheck (Play scenario steps log cert) = ⊥
 IsCheck (Live scenario log cert) = ⊥
 IsCheck (Check log cert) = Unit {0}
+IsCheck (Explain log cert) = ⊥
 IsCheck (Certify log cert) = ⊥
+
+-- whether a stored run is to be judged, and the answer told of
+abbrev pub IsExplain : Asked → Type 0
+IsExplain (Play scenario steps log cert) = ⊥
+IsExplain (Live scenario log cert) = ⊥
+IsExplain (Check log cert) = ⊥
+IsExplain (Explain log cert) = Unit {0}
+IsExplain (Certify log cert) = ⊥
 
 -- whether a stored log is to be certified
 abbrev pub IsCertify : Asked → Type 0
 IsCertify (Play scenario steps log cert) = ⊥
 IsCertify (Live scenario log cert) = ⊥
 IsCertify (Check log cert) = ⊥
+IsCertify (Explain log cert) = ⊥
 IsCertify (Certify log cert) = Unit {0}
 
 -- words that name something to do of such a sort, and no output by the name of an input or of another output
@@ -75,6 +87,7 @@ Ask words P = (asked : Asked) × Names (subcommand_of definition words) asked ×
 -- and a scenario or steps where they name them; other faults come with any words
 abbrev pub DoneFor : List Text → Done → Type 0
 DoneFor words (Judged passed) = Ask words IsCheck
+DoneFor words (Explained passed) = Ask words IsExplain
 DoneFor words Played = Ask words IsOfRun
 DoneFor words Certified = Ask words IsCertify
 DoneFor words Shown = AreAnswered words IsRequest

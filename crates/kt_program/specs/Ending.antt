@@ -1,5 +1,5 @@
 -- What the program has written where it ends.
-use Rattle.std.specs.Prelude.{◌≡◌, ◌≢◌, ◌⊎◌, ℕ, Bool, List, Result, Ok, Err, OnOk}
+use Rattle.std.specs.Prelude.{◌≡◌, ◌≢◌, ◌⊎◌, ℕ, Bool, List, Result, Ok, Err, OnOk, IfErr}
 use Rattle.std.specs.Io.KnownBytes.{Appends}
 use Rattle.clap.specs.Words.{Text}
 use Rattle.kt_spacetime.specs.declared.event.Event.{Event}
@@ -9,16 +9,18 @@ use Rattle.kt_checker.specs.declared.verdict.Verdict.{Verdict}
 use Rattle.kt_plans.specs.Follows.{FollowsPlan}
 use Rattle.kt_plans.specs.Headline.{IsPromised}
 use Rattle.kt_program.specs.declared.ending.Done.{Done}
-use Rattle.kt_program.specs.declared.ending.Done.TheVariants.{Judged, Played, Certified, Shown}
+use Rattle.kt_program.specs.declared.ending.Done.TheVariants.{Judged, Explained, Played, Certified, Shown}
 use Rattle.kt_program.specs.declared.fault.AppFault.{AppFault}
 use Rattle.kt_program.specs.declared.fault.AppFault.TheVariants as app
 use Rattle.kt_program.specs.declared.fault.ProgramFault.{ProgramFault}
 use Rattle.kt_program.specs.declared.fault.ProgramFault.TheVariants as program
 use Rattle.kt_program.specs.declared.line.Asked.{Asked}
-use Rattle.kt_program.specs.declared.line.Asked.TheVariants.{Certify, Check, Live, Play}
+use Rattle.kt_program.specs.declared.line.Asked.TheVariants.{Certify, Check, Explain, Live, Play}
 use Rattle.kt_program.specs.Asking.{Ask, IsCertify, IsOfRun}
 use Rattle.kt_run.specs.Runs.{IsLogOfRun, IsPlayed}
 use Rattle.kt_program.specs.Certified.{CertifiesTo, LeavesCertificates}
+use Rattle.kt_program.specs.FaultTexts.{WritesLineOf}
+use Rattle.kt_program.specs.Explained.{AppendsExplained}
 use Rattle.kt_program.specs.Inputs.{AreGiven, IsPlanOfFile}
 use Rattle.kt_program.specs.Names.{Name}
 use Rattle.kt_program.specs.Played.{OverNew, report_text}
@@ -83,6 +85,7 @@ IsNotOfSteps (program.App fault) = Unit {0}
 -- the same of all that the program does; nothing is said of the text of help
 abbrev pub LeavesDone : Done → Told → Told → Type 0
 LeavesDone (Judged passed) old new = AppendsAnswer passed old new
+LeavesDone (Explained passed) old new = AppendsExplained passed old new
 LeavesDone Played old new = AppendsReport old new
 LeavesDone Certified old new = LeavesCertificates old new
 LeavesDone Shown old new = Unit {0}
@@ -93,12 +96,14 @@ abbrev pub Plays : {F : Type 0} → (F → Told) → Told → Told → Asked →
 Plays told old new (Play scenario steps log cert) = AppendsPlay told steps old new
 Plays told old new (Live scenario log cert) = AppendsReport old new
 Plays told old new (Check log cert) = ⊥
+Plays told old new (Explain log cert) = ⊥
 Plays told old new (Certify log cert) = ⊥
 
 -- where a scenario was run, that is written which these words ask for
 abbrev pub PlayedFor : {F : Type 0} → List Text → (F → Told) → Told → Told → Done → Type 0
 PlayedFor words told old new Played = Ask words (Plays told old new)
 PlayedFor words told old new (Judged passed) = Unit {0}
+PlayedFor words told old new (Explained passed) = Unit {0}
 PlayedFor words told old new Certified = Unit {0}
 PlayedFor words told old new Shown = Unit {0}
 
@@ -108,12 +113,14 @@ Certifies told old new (Certify log cert) = CertifiesTo told cert old new
 Certifies told old new (Play scenario steps log cert) = ⊥
 Certifies told old new (Live scenario log cert) = ⊥
 Certifies told old new (Check log cert) = ⊥
+Certifies told old new (Explain log cert) = ⊥
 
 -- where a log was certified, that is written which these words ask for
 abbrev pub CertifiedFor : {F : Type 0} → List Text → (F → Told) → Told → Told → Done → Type 0
 CertifiedFor words told old new Certified = Ask words (Certifies told old new)
 CertifiedFor words told old new Played = Unit {0}
 CertifiedFor words told old new (Judged passed) = Unit {0}
+CertifiedFor words told old new (Explained passed) = Unit {0}
 CertifiedFor words told old new Shown = Unit {0}
 
 -- whether a text of any length is to be written to standard output: a report, or certificates
@@ -130,10 +137,11 @@ LeavesOutput words (Ok what) old new = LeavesDone what old new
 LeavesOutput words (Err fault) old new = fault ≢ program.App app.Write → (new ≡ old) ⊎ IsInText words fault
 
 -- how the program ends: with the status of what it did for its words; standard output has what that left, and standard
--- error nothing new unless there was a fault
+-- error the line of a fault, or a front part of it, and nothing new without one
 pub record Ends (status : ℕ) (out_old out_new err_old err_new : Told) : Type 0 where
   pub words : List Text
   pub outcome : Result Done ProgramFault
   pub status_is : status ≡ status_of outcome
   pub output : LeavesOutput words outcome out_old out_new
   pub quiet : OnOk outcome (err_new ≡ err_old)
+  pub line : IfErr outcome (λ fault. WritesLineOf fault err_old err_new)

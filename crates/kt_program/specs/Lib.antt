@@ -1,6 +1,7 @@
 pub mod Asking
 pub mod CastRows
 pub mod Certified
+pub mod Explained
 pub mod Ending
 pub mod Faults
 pub mod Inputs
@@ -10,3 +11,4 @@ pub mod Played
 pub mod Program
 pub mod Status
 pub mod Stored
+pub mod FaultTexts

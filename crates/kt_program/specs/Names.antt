@@ -4,7 +4,7 @@ use Rattle.std.specs.List.{starts_with}
 use Rattle.std.specs.Borrow.{Bor}
 use Rattle.clap.specs.Words.{Text}
 use Rattle.kt_program.specs.declared.line.Asked.{Asked}
-use Rattle.kt_program.specs.declared.line.Asked.TheVariants.{Certify, Check, Live, Play}
+use Rattle.kt_program.specs.declared.line.Asked.TheVariants.{Certify, Check, Explain, Live, Play}
 
 -- whether a name is one of those of devices, which have no content to lose
 abbrev pub is_device : Text → Bool
@@ -30,12 +30,14 @@ abbrev pub inputs_of : Asked → List Name
 inputs_of (Play scenario steps log cert) = Some scenario ∷ steps ∷ []
 inputs_of (Live scenario log cert) = Some scenario ∷ []
 inputs_of (Check log cert) = Some log ∷ Some cert ∷ []
+inputs_of (Explain log cert) = Some log ∷ Some cert ∷ []
 inputs_of (Certify log cert) = Some log ∷ []
 
 abbrev pub outputs_of : Asked → List Name
 outputs_of (Play scenario steps log cert) = log ∷ cert ∷ []
 outputs_of (Live scenario log cert) = log ∷ cert ∷ []
 outputs_of (Check log cert) = []
+outputs_of (Explain log cert) = []
 outputs_of (Certify log cert) = cert ∷ []
 
 -- a name that is given, and is no device's
@@ -48,6 +50,7 @@ abbrev pub IsWriting : Asked → Type 0
 IsWriting (Play scenario steps log cert) = IsFileName log ⊎ IsFileName cert
 IsWriting (Live scenario log cert) = IsFileName log ⊎ IsFileName cert
 IsWriting (Check log cert) = ⊥
+IsWriting (Explain log cert) = ⊥
 IsWriting (Certify log cert) = IsFileName cert
 
 -- what is asked for loses nothing by its names

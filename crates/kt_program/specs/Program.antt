@@ -7,8 +7,9 @@ use Rattle.clap.specs.declared.error.kind.ErrorKind.TheVariants.{MissingSubcomma
 use Rattle.clap.specs.declared.builder.command.Command.TheViews.{out-Command as fields_of}
 use Rattle.clap.specs.declared.builder.command.Command.{Command}
 use Rattle.clap.specs.declared.builder.arg.Arg.{Arg}
+use Rattle.clap.specs.declared.builder.action.ArgAction.TheVariants.{SetTrue}
 use Rattle.kt_program.specs.declared.line.Asked.{Asked}
-use Rattle.kt_program.specs.declared.line.Asked.TheVariants.{Certify, Check, Live, Play}
+use Rattle.kt_program.specs.declared.line.Asked.TheVariants.{Certify, Check, Explain, Live, Play}
 
 -- a word that has to be there, with a name in help
 abbrev pub wanted : Text → Rule
@@ -17,6 +18,10 @@ wanted id = record (new_rule id) { required = true; value_names = 1 }
 -- an option with a value, named in help
 abbrev pub optional : Text → Rule
 optional id = record (new_rule id) { long = Some id; value_names = 1 }
+
+-- an option without a value
+abbrev pub switch : Text → Rule
+switch id = record (new_rule id) { long = Some id; action = Some SetTrue }
 
 -- the command that plays a scenario
 abbrev pub play : App
@@ -28,7 +33,7 @@ live = with_rule (with_rule (with_rule (new_app (codes "live")) (wanted (codes "
 
 -- the command that judges a stored run
 abbrev pub check : App
-check = with_rule (with_rule (new_app (codes "check")) (wanted (codes "log"))) (wanted (codes "cert"))
+check = with_rule (with_rule (with_rule (new_app (codes "check")) (wanted (codes "log"))) (wanted (codes "cert"))) (switch (codes "explain"))
 
 -- the command that certifies a stored log
 abbrev pub certify : App
@@ -65,13 +70,23 @@ pub record NamesLive (rows : List Row) (scenario : Text) (log cert : Option Text
   pub log_is : first_of (codes "log") rows ≡ log
   pub cert_is : first_of (codes "cert") rows ≡ cert
 
+-- an option without a value is given
+abbrev pub IsSet : Text → List Row → Type 0
+IsSet id rows = first_of id rows ≡ Some (codes "true")
+
+-- what the matches of `check` name
+pub record NamesCheck (rows : List Row) (log cert : Text) : Type 0 where
+  pub log_is : first_of (codes "log") rows ≡ Some log
+  pub cert_is : first_of (codes "cert") rows ≡ Some cert
+
 -- what a subcommand's matches name
 abbrev pub NamesIn : Text → List Row → Asked → Type 0
 NamesIn name rows (Play scenario steps log cert) =
     (name ≡ codes "play") × NamesPlay rows scenario.now (option_map (λ s. s.now) steps) (option_map (λ s. s.now) log) (option_map (λ s. s.now) cert)
 NamesIn name rows (Live scenario log cert) =
     (name ≡ codes "live") × NamesLive rows scenario.now (option_map (λ s. s.now) log) (option_map (λ s. s.now) cert)
-NamesIn name rows (Check log cert) = (name ≡ codes "check") × (first_of (codes "log") rows ≡ Some log.now) × (first_of (codes "cert") rows ≡ Some cert.now)
+NamesIn name rows (Check log cert) = (name ≡ codes "check") × NamesCheck rows log.now cert.now × ¬ IsSet (codes "explain") rows
+NamesIn name rows (Explain log cert) = (name ≡ codes "check") × NamesCheck rows log.now cert.now × IsSet (codes "explain") rows
 NamesIn name rows (Certify log cert) = (name ≡ codes "certify") × (first_of (codes "log") rows ≡ Some log.now) × (first_of (codes "cert") rows ≡ option_map (λ s. s.now) cert)
 
 -- what is asked for names the subcommand and its texts

@@ -1,8 +1,8 @@
 //! The command line, by clap.
 
-ghost use Rattle.std.specs.Prelude.{◌≡◌, codes, IfOk, IfErr, IfSome, IfNone, Some, option_map};
+ghost use Rattle.std.specs.Prelude.{◌≡◌, ◌↔◌, codes, IfOk, IfErr, IfSome, IfNone, IsTrue, Some, option_map};
 ghost use Rattle.clap.specs.Words.{first_of, kind_of, new_app, subcommand_of, subcommand_rows_of, rows_of, found_of};
-ghost use Rattle.kt_program.specs.Program.{program, certify, check, live, play, optional, wanted, with_version, IsRule, IsDefined, Names, NamesIn};
+ghost use Rattle.kt_program.specs.Program.{program, certify, check, live, play, optional, switch, wanted, with_version, IsRule, IsDefined, IsSet, Names, NamesIn};
 ghost use Rattle.clap.specs.declared.error.kind.ErrorKind.TheVariants.{MissingSubcommand};
 ghost use Rattle.kt_program.specs.declared.line.Asked.{Asked};
 ghost use Rattle.kt_program.specs.Asking.{IsUnasked};
@@ -12,7 +12,7 @@ ghost use Rattle.kt_program.specs.declared.ask.AskFault.TheVariants.{Line, Memor
 use crate::line::Asked;
 use crate::words::Words;
 use clap::error::ErrorKind;
-use clap::{Arg, ArgMatches, Command, Error};
+use clap::{Arg, ArgAction, ArgMatches, Command, Error};
 use std::alloc::{AllocError, Global};
 
 const VERSION: &str = "0.1.0";
@@ -70,6 +70,12 @@ const ABOUT_CERT: &str = "The certificates, a CSV file with records of five fiel
 const LONG_ABOUT_CERT: &str = "The certificates, a CSV file with records of five fields: a cert
 record for each decided instance, followed by its member records.
 There are up to 2^19 records.";
+
+const ABOUT_EXPLAIN: &str = "Tells below a no why";
+
+const LONG_ABOUT_EXPLAIN: &str = "Tells below a no why, by process, message and row: what the log
+has otherwise than a certificate, who was unwilling to join, which
+member is another one, which message is an orphan.";
 
 const ABOUT_CERTIFY: &str = "Writes the certificates of a stored log";
 
@@ -145,6 +151,17 @@ fn optional_word<'a>(alloc: Global, id: &'a str, help: &'a str, long_help: &'a s
         .long_help(long_help)
 }
 
+// An option without a value, with its texts in help.
+fn switch<'a>(alloc: Global, id: &'a str, help: &'a str, long_help: &'a str) -> Arg<'a>
+    ensures { IsRule (switch id.entry.now) result }
+{
+    Arg::new(alloc, id)
+        .long(id)
+        .action(ArgAction::SetTrue)
+        .help(help)
+        .long_help(long_help)
+}
+
 // A command with its texts in help.
 fn command_of<'a>(alloc: Global, name: &'a str, about: &'a str, long_about: &'a str) -> Command<'a>
     ensures { IsDefined (new_app name.entry.now) result }
@@ -193,7 +210,8 @@ fn check_command<'a>(alloc: Global) -> Result<Command<'a>, AllocError>
 {
     let command = command_of(alloc, "check", ABOUT_CHECK, LONG_ABOUT_CHECK)
         .arg(wanted_word(alloc, "log", "LOG", ABOUT_LOG, LONG_ABOUT_LOG))?
-        .arg(wanted_word(alloc, "cert", "CERT", ABOUT_CERT, LONG_ABOUT_CERT))?;
+        .arg(wanted_word(alloc, "cert", "CERT", ABOUT_CERT, LONG_ABOUT_CERT))?
+        .arg(switch(alloc, "explain", ABOUT_EXPLAIN, LONG_ABOUT_EXPLAIN))?;
     Ok(command)
 }
 
@@ -234,6 +252,16 @@ fn text_of<'a>(matches: &ArgMatches<'a>, id: &str) -> Option<&'a str>
     matches.get_str(id)
 }
 
+// Whether an option without a value is given.
+fn is_set(matches: &ArgMatches<'_>, id: &str) -> bool
+    ensures { IsTrue result ↔ IsSet id.now (rows_of (found_of matches.now)) }
+{
+    let Some(value) = text_of(matches, id) else {
+        return false;
+    };
+    matches!(value, "true")
+}
+
 // What the matches of `play` ask for.
 fn asked_of_play<'a>(matches: &ArgMatches<'a>) -> Option<Asked<'a>>
     ensures named { IfSome result (NamesIn (codes "play") (rows_of (found_of matches.now))) }
@@ -264,10 +292,13 @@ fn asked_of_check<'a>(matches: &ArgMatches<'a>) -> Option<Asked<'a>>
     ensures named { IfSome result (NamesIn (codes "check") (rows_of (found_of matches.now))) }
     ensures nothing { IfNone result ((asked : Asked) → ¬ NamesIn (codes "check") (rows_of (found_of matches.now)) asked) }
 {
-    Some(Asked::Check {
-        log: text_of(matches, "log")?,
-        cert: text_of(matches, "cert")?,
-    })
+    let log = text_of(matches, "log")?;
+    let cert = text_of(matches, "cert")?;
+    if is_set(matches, "explain") {
+        Some(Asked::Explain { log, cert })
+    } else {
+        Some(Asked::Check { log, cert })
+    }
 }
 
 // What the matches of `certify` ask for.

@@ -8,6 +8,7 @@ ghost use Rattle.kt_plan.specs.Limits.{IsKindOfObject};
 ghost use Rattle.kt_plan.specs.Failures.{failures_of};
 ghost use Rattle.kt_held.specs.Casts.{HasSizes, HasKind};
 ghost use Rattle.kt_program.specs.CastRows.{IsMadeCast};
+ghost use Rattle.kt_plans.specs.Headline.{IsCertified};
 ghost use Rattle.kt_run.specs.Faults.{is_of_cast};
 ghost use Rattle.kt_run.specs.Refused.{IsStepRefused};
 ghost use Rattle.kt_run.specs.Runs.{IsLogOfRun, IsPlayed};
@@ -90,6 +91,9 @@ pub fn play_objects<L: Write, C: Write, R: Write>(
     ensures played { OnOk result (IsWritten (OverNew plan.now (λ cast. IsPlayed plan.now cast steps.now)) plan.now
         (outputs (L.contents log_writer.old) (C.contents cert_writer.old) (R.contents report_writer.old))
         (outputs (L.contents log_writer.new) (C.contents cert_writer.new) (R.contents report_writer.new))) }
+    ensures certified { OnOk result (IsWritten IsCertified plan.now
+        (outputs (L.contents log_writer.old) (C.contents cert_writer.old) (R.contents report_writer.old))
+        (outputs (L.contents log_writer.new) (C.contents cert_writer.new) (R.contents report_writer.new))) }
     ensures stopped { IfErr result (StopsAtFault (OverNew plan.now (λ cast. IsPlayed plan.now cast steps.now)) plan.now
         (outputs (L.contents log_writer.old) (C.contents cert_writer.old) (R.contents report_writer.old))
         (outputs (L.contents log_writer.new) (C.contents cert_writer.new) (R.contents report_writer.new))) }
@@ -140,6 +144,9 @@ fn play_cast<L: Write, C: Write, R: Write>(
     ensures played { OnOk result (IsWritten (OverNew plan.now (λ cast. IsPlayed plan.now cast steps.now)) plan.now
         (outputs (L.contents log_writer.old) (C.contents cert_writer.old) (R.contents report_writer.old))
         (outputs (L.contents log_writer.new) (C.contents cert_writer.new) (R.contents report_writer.new))) }
+    ensures certified { OnOk result (IsWritten IsCertified plan.now
+        (outputs (L.contents log_writer.old) (C.contents cert_writer.old) (R.contents report_writer.old))
+        (outputs (L.contents log_writer.new) (C.contents cert_writer.new) (R.contents report_writer.new))) }
     ensures stopped { IfErr result (StopsAtFault (OverNew plan.now (λ cast. IsPlayed plan.now cast steps.now)) plan.now
         (outputs (L.contents log_writer.old) (C.contents cert_writer.old) (R.contents report_writer.old))
         (outputs (L.contents log_writer.new) (C.contents cert_writer.new) (R.contents report_writer.new))) }
@@ -169,6 +176,9 @@ pub fn live_objects<T: Threads + Wait + Sync, L: Write, C: Write, R: Write>(
     report_writer: &mut R,
 ) -> Result<(), AppFault>
     ensures lived { OnOk result (IsWritten (OverNew plan.now (IsLogOfRun plan.now)) plan.now
+        (outputs (L.contents log_writer.old) (C.contents cert_writer.old) (R.contents report_writer.old))
+        (outputs (L.contents log_writer.new) (C.contents cert_writer.new) (R.contents report_writer.new))) }
+    ensures certified { OnOk result (IsWritten IsCertified plan.now
         (outputs (L.contents log_writer.old) (C.contents cert_writer.old) (R.contents report_writer.old))
         (outputs (L.contents log_writer.new) (C.contents cert_writer.new) (R.contents report_writer.new))) }
     ensures stopped { IfErr result (StopsAtFault (OverNew plan.now (IsLogOfRun plan.now)) plan.now
@@ -217,6 +227,9 @@ fn live_cast<T: Threads + Wait + Sync, L: Write, C: Write, R: Write>(
         HasKind plan.now.kinds (map (λ row. map (λ b. kind_of b) row.items) cast.items) p }
     requires opening { All (λ row. All (λ b. value_of b ≡ opening_value (kind_of b)) row.items) cast.items }
     ensures lived { OnOk result (IsWritten (OverNew plan.now (IsLogOfRun plan.now)) plan.now
+        (outputs (L.contents log_writer.old) (C.contents cert_writer.old) (R.contents report_writer.old))
+        (outputs (L.contents log_writer.new) (C.contents cert_writer.new) (R.contents report_writer.new))) }
+    ensures certified { OnOk result (IsWritten IsCertified plan.now
         (outputs (L.contents log_writer.old) (C.contents cert_writer.old) (R.contents report_writer.old))
         (outputs (L.contents log_writer.new) (C.contents cert_writer.new) (R.contents report_writer.new))) }
     ensures stopped { IfErr result (StopsAtFault (OverNew plan.now (IsLogOfRun plan.now)) plan.now

@@ -82,8 +82,11 @@ fn judge_log<L: Read + Drop>(
     }
 }
 
-// The certificates that the reader tells.
-fn read_certificates<C: Read + Drop>(alloc: Global, reader: C) -> Result<Vec<Certificate>, AppFault>
+/// The certificates that the reader tells.
+pub(crate) fn read_certificates<C: Read + Drop>(
+    alloc: Global,
+    reader: C,
+) -> Result<Vec<Certificate>, AppFault>
     ensures certificates { IfOk result (λ certificates. SayCertificates (C.remaining reader) certificates.items) }
     ensures fault { IfErr result (λ e. (f : CertTextFault) × (e ≡ of_cert f)
         × IfSome (records_told (C.remaining reader)) (λ text. certs.IsFirstFault text f)) }
@@ -94,8 +97,8 @@ fn read_certificates<C: Read + Drop>(alloc: Global, reader: C) -> Result<Vec<Cer
     }
 }
 
-// A fault of a log; its want of memory is the program's own.
-fn log_fault(fault: LogFault) -> AppFault
+/// A fault of a log; its want of memory is the program's own.
+pub(crate) fn log_fault(fault: LogFault) -> AppFault
     ensures { result ≡ of_log fault }
 {
     match fault {
@@ -114,7 +117,7 @@ fn certificates_fault(fault: CertTextFault) -> AppFault
     }
 }
 
-fn is_yes(verdict: &Verdict) -> bool
+pub(crate) fn is_yes(verdict: &Verdict) -> bool
     ensures { result ≡ is_yes verdict.now }
 {
     match verdict {

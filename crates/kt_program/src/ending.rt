@@ -1,20 +1,29 @@
 //! How the program ends: its exit status, and its fault line.
 
-ghost use Rattle.std.specs.Prelude.{◌≡◌, ◌∷◌, ◌++◌, [], OnOk, IfSome, codes};
+ghost use Rattle.std.specs.Prelude.{◌≡◌, OnOk, OnErr, IfErr, IfSome};
 ghost use Rattle.std.specs.Io.KnownBytes.{Appends};
-ghost use Rattle.kt_program.specs.Status.{done_status, status_of};
+ghost use Rattle.kt_text.specs.Writing.{WritesFront};
+ghost use Rattle.kt_program.specs.FaultTexts.{WritesLineOf};
+ghost use Rattle.kt_program.specs.Status.{answer_status, done_status, status_of};
 ghost use Rattle.kt_program.specs.Faults.{fault_line, refusal_status};
 
 use crate::fault::ProgramFault;
-use std::fmt::Display;
-use std::io;
+use arrayvec::ArrayString;
+use kt_text::WriteFault;
+use kt_text::pieces::write_whole;
+use std::fmt::{Display, Write as WriteText};
 use std::io::Write;
+
+/// How many bytes the line of a fault has at most.
+const MAX_LINE: usize = 128;
 
 /// What the program did.
 #[derive(Clone, Copy, Debug, PartialEq, Eq)]
 pub enum Done {
     /// It wrote the checker's answer; true for a yes.
     Judged(bool),
+    /// It wrote the checker's answer and what is told of it; true for a yes.
+    Explained(bool),
     /// It played a run and wrote its report.
     Played,
     /// It wrote the certificates of a stored log.
@@ -29,16 +38,24 @@ impl Done {
         ensures { result ≡ done_status self }
     {
         match self {
-            Done::Judged(true) | Done::Played | Done::Certified | Done::Shown => 0,
-            Done::Judged(false) => 1,
+            Done::Judged(passed) | Done::Explained(passed) => answer_status(passed),
+            Done::Played | Done::Certified | Done::Shown => 0,
         }
     }
+}
+
+// The status of an answer: 0 yes, 1 no.
+fn answer_status(passed: bool) -> u8
+    ensures { result ≡ answer_status passed }
+{
+    if passed { 0 } else { 1 }
 }
 
 /// Ends the program: writes the line of a fault, and gives the exit status, whether the line could be written or not.
 pub fn end<E: Write>(outcome: Result<Done, ProgramFault>, err: &mut E) -> u8
     ensures status { result ≡ status_of outcome }
     ensures quiet { OnOk outcome (E.contents err.new ≡ E.contents err.old) }
+    ensures line { IfErr outcome (λ fault. WritesLineOf fault (E.contents err.old) (E.contents err.new)) }
 {
     match outcome {
         Ok(done) => done.status(),
@@ -48,18 +65,35 @@ pub fn end<E: Write>(outcome: Result<Done, ProgramFault>, err: &mut E) -> u8
 
 // Writes the line of a fault, and gives its exit status.
 fn report_fault<E: Write>(fault: ProgramFault, err: &mut E) -> u8
-    ensures { result ≡ refusal_status fault }
+    ensures status { result ≡ refusal_status fault }
+    ensures line { WritesLineOf fault (E.contents err.old) (E.contents err.new) }
 {
     let status = fault.status();
     let _ = write_fault(err, &fault);
     status
 }
 
-/// Writes the line of a fault: the program's name, the fault's words and a line feed.
-pub fn write_fault<W: Write, D: Display + Drop>(writer: &mut W, words: D) -> io::Result<()>
-    ensures { OnOk result (IfSome (D.output words)
+/// Writes the line of a fault: the program's name, the fault's words and a line feed. At a fault of the writer a front part of
+/// it is written; a line of more than 128 bytes is none that there is room for, and nothing of it is written.
+pub fn write_fault<W: Write, D: Display + Drop>(writer: &mut W, words: D) -> Result<(), WriteFault>
+    ensures written { OnOk result (IfSome (D.output words)
         (λ text. Appends (W.contents writer.old) (W.contents writer.new) (fault_line text))) }
+    ensures stopped { OnErr result (IfSome (D.output words)
+        (λ text. WritesFront (W.contents writer.old) (W.contents writer.new) (fault_line text))) }
 {
-    writeln!(writer, "koo_toueg: {words}")?;
-    writer.flush()
+    let Some(line) = whole_line(words) else {
+        return Err(WriteFault::Memory);
+    };
+    write_whole(line.as_bytes(), writer)
+}
+
+// The line of a fault with these words; None where it is longer than there is room for.
+fn whole_line<D: Display + Drop>(words: D) -> Option<ArrayString<MAX_LINE>>
+    ensures { IfSome result (λ line. IfSome (D.output words) (λ text. line.bytes ≡ fault_line text)) }
+{
+    let mut line = ArrayString::new();
+    match writeln!(line, "koo_toueg: {words}") {
+        Ok(()) => Some(line),
+        Err(_) => None,
+    }
 }

@@ -25,6 +25,11 @@ pub enum Asked<'a> {
         log: &'a str,
         cert: &'a str,
     },
+    /// Judge a stored log with its certificates, and tell of the answer.
+    Explain {
+        log: &'a str,
+        cert: &'a str,
+    },
     /// Certify a stored log, and write its certificates where that is asked, else to standard output.
     Certify {
         log: &'a str,
@@ -53,6 +58,7 @@ impl<'a> Asked<'a> {
                 cert,
             } => clash(&[Some(*scenario)], &[*log, *cert]),
             Asked::Check { log, cert } => clash(&[Some(*log), Some(*cert)], &[]),
+            Asked::Explain { log, cert } => clash(&[Some(*log), Some(*cert)], &[]),
             Asked::Certify { log, cert } => clash(&[Some(*log)], &[*cert]),
         }
     }

@@ -1,10 +1,10 @@
 //! Runs played: what is written of them.
 
-ghost use Rattle.std.specs.Prelude.{◌≡◌, ◌⊎◌, [], ℕ, IfErr, OnOk, map, slice_index, slice_index_or};
+ghost use Rattle.std.specs.Prelude.{◌≡◌, ◌≢◌, ◌⊎◌, [], ℕ, IfErr, OnOk, map, slice_index, slice_index_or};
 ghost use Rattle.kt_core.specs.declared.faults.StepFault.{StepFault};
 ghost use Rattle.kt_held.specs.Holdings.{content};
 ghost use Rattle.kt_held.specs.Refusals.{IsLeastRefused};
-ghost use Rattle.kt_plans.specs.Headline.{IsPromised};
+ghost use Rattle.kt_plans.specs.Headline.{IsCertified};
 ghost use Rattle.kt_run.specs.Faults.{Answers};
 ghost use Rattle.kt_run.specs.Refused.{IsStepRefused, IsStopped};
 ghost use Rattle.kt_run.specs.Rejections.{MayReject};
@@ -51,6 +51,10 @@ pub fn play_plan<L: Write, C: Write, R: Write>(
         plan.now
         (outputs (L.contents log_writer.old) (C.contents cert_writer.old) (R.contents report_writer.old))
         (outputs (L.contents log_writer.new) (C.contents cert_writer.new) (R.contents report_writer.new))) }
+    // To the certificates that are written the checker says yes.
+    ensures certified { OnOk result (IsWritten IsCertified plan.now
+        (outputs (L.contents log_writer.old) (C.contents cert_writer.old) (R.contents report_writer.old))
+        (outputs (L.contents log_writer.new) (C.contents cert_writer.new) (R.contents report_writer.new))) }
     // Where it stops: all of what comes earlier is written, of such a run, a front part of the text in which it stops, and
     // nothing of what comes later.
     ensures stopped { IfErr result (StopsAtFault
@@ -73,6 +77,8 @@ pub fn play_plan<L: Write, C: Write, R: Write>(
         cast.items) steps.now p
         × MayReject (λ b saved. may_reject b saved) (slice_index plan.now.kinds p)
         (slice_index_or (map (λ row. row.items) cast.items) p []))) }
+    // No list is kept of what a process is told, so none lacks memory.
+    ensures untold { IfErr result (λ e. (p : ℕ) → e ≢ AppFault.Run (run_fault.Journal p)) }
 {
     let log = log_of(alloc, plan, steps, cast)?;
     write_run(alloc, plan, &log, log_writer, cert_writer, report_writer)
@@ -96,6 +102,10 @@ pub fn live_plan<T: Threads + Wait + Sync, L: Write, C: Write, R: Write>(
     ensures lived { OnOk result (IsWritten
         (IsLogOfRun plan.now (map (λ row. map (λ b. content (kind_of b) (value_of b)) row.items) cast.items))
         plan.now
+        (outputs (L.contents log_writer.old) (C.contents cert_writer.old) (R.contents report_writer.old))
+        (outputs (L.contents log_writer.new) (C.contents cert_writer.new) (R.contents report_writer.new))) }
+    // To the certificates that are written the checker says yes.
+    ensures certified { OnOk result (IsWritten IsCertified plan.now
         (outputs (L.contents log_writer.old) (C.contents cert_writer.old) (R.contents report_writer.old))
         (outputs (L.contents log_writer.new) (C.contents cert_writer.new) (R.contents report_writer.new))) }
     // Where it stops: all of what comes earlier is written, of such a run, a front part of the text in which it stops, and
@@ -122,7 +132,7 @@ fn write_run<L: Write, C: Write, R: Write>(
     cert_writer: &mut C,
     report_writer: &mut R,
 ) -> Result<(), AppFault>
-    requires { IsPromised log.now.rows }
+    requires { IsCertified log.now.rows }
     ensures written { OnOk result (WritesRun plan.now log.now.rows
         (outputs (L.contents log_writer.old) (C.contents cert_writer.old) (R.contents report_writer.old))
         (outputs (L.contents log_writer.new) (C.contents cert_writer.new) (R.contents report_writer.new))) }

@@ -14,6 +14,7 @@ use crate::ask::{AskFault, asked};
 use crate::certifying::certify_files;
 use crate::checked::check_bytes;
 use crate::ending::{Done, end};
+use crate::explained::explain_files;
 use crate::fault::{AppFault, ProgramFault};
 use crate::line::Asked;
 use crate::playing::{live_files, play_files};
@@ -97,6 +98,10 @@ pub fn carry_out<F: Files + Threads + Wait + Sync, O: Write>(
         },
         Ok(Asked::Check { log, cert }) => match check_files(files, alloc, log, cert, out) {
             Ok(passed) => Ok(Done::Judged(passed)),
+            Err(fault) => Err(ProgramFault::App(fault)),
+        },
+        Ok(Asked::Explain { log, cert }) => match explain_files(files, alloc, log, cert, out) {
+            Ok(passed) => Ok(Done::Explained(passed)),
             Err(fault) => Err(ProgramFault::App(fault)),
         },
         Ok(Asked::Certify { log, cert }) => match certify_files(files, alloc, log, cert, out) {

@@ -1,0 +1,46 @@
+-- What the program writes of a stored run of which the answer is told.
+use Rattle.std.specs.Prelude.{◌≡◌, ◌≢◌, Bool, List, ℕ, ◌∷◌, ◌++◌, Result, Ok, Err}
+use Rattle.std.specs.Io.KnownBytes.{Appends}
+use Rattle.kt_spacetime.specs.declared.event.Event.{Event}
+use Rattle.kt_chain.specs.declared.certificate.Certificate.{Certificate}
+use Rattle.kt_checker.specs.declared.verdict.Verdict.{Verdict}
+use Rattle.kt_checker.specs.Order.{IsAnswer}
+use Rattle.kt_checker.specs.Streamed.{SaysRows}
+use Rattle.kt_checker.specs.Words.{verdict_words}
+use Rattle.kt_explain.specs.declared.explanation.Explanation.{Explanation}
+use Rattle.kt_explain.specs.Told.{IsExplanation}
+use Rattle.kt_explain.specs.Words.{explanation_words}
+use Rattle.kt_program.specs.declared.fault.AppFault.{AppFault}
+use Rattle.kt_program.specs.declared.fault.AppFault.TheVariants as app
+use Rattle.kt_program.specs.Stored.{Told, SayCertificates, is_yes}
+
+-- the checker's answer to rows and certificates, and what is told of it
+pub record IsExplained (rows : List Event) (certificates : List Certificate) (verdict : Verdict) (e : Explanation) : Type 0 where
+  pub answer : IsAnswer rows certificates verdict
+  pub told : IsExplanation rows certificates verdict e
+
+-- bytes say these rows and certificates
+pub record Say (log cert : Told) (rows : List Event) (certificates : List Certificate) : Type 0 where
+  pub rows_said : SaysRows log rows
+  pub certificates_said : SayCertificates cert certificates
+
+-- the checker's answer to the rows and the certificates that the bytes say, and what is told of it
+pub record IsExplainedOf (log cert : Told) (verdict : Verdict) (e : Explanation) : Type 0 where
+  pub rows : List Event
+  pub certificates : List Certificate
+  pub said : Say log cert rows certificates
+  pub explained : IsExplained rows certificates verdict e
+
+-- the line of an answer, and the lines of what is told of it
+abbrev pub explained_text : Verdict → Explanation → List ℕ
+explained_text verdict e = verdict_words verdict ++ 10 ∷ explanation_words e
+
+-- an answer and what is told of it, which is a yes exactly where this is true
+abbrev pub AppendsExplained : Bool → Told → Told → Type 0
+AppendsExplained passed old new =
+    (verdict : Verdict) × (e : Explanation) × (passed ≡ is_yes verdict) × Appends old new (explained_text verdict e)
+
+-- the answer and what is told of it; at a fault nothing, unless it is one of the writer
+abbrev pub LeavesExplained : Result Bool AppFault → Told → Told → Type 0
+LeavesExplained (Ok passed) old new = AppendsExplained passed old new
+LeavesExplained (Err fault) old new = fault ≢ app.Write → new ≡ old
