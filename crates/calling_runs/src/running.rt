@@ -1,6 +1,6 @@
 //! Runs over objects of one's own, one step after another and in threads.
 
-ghost use Rattle.kt_plans.specs.Headline.{IsPromised};
+ghost use Rattle.kt_plans.specs.Headline.{IsCertified};
 
 use crate::counter::{Count, Counter};
 use crate::stepping::gets_yes;
@@ -77,7 +77,7 @@ fn show_outcome<R: Print + AllocGlobal>(
     outcome: &Outcome,
     book: &mut SlotBook,
 ) -> Result<()>
-    requires promised { IsPromised outcome.now.log.rows }
+    requires certified { IsCertified outcome.now.log.rows }
 {
     let rows = outcome.log.rows().len();
     let yes = gets_yes(rt.alloc(), &outcome.log)?;

@@ -2,7 +2,7 @@
 
 ghost use Rattle.std.specs.Prelude.{◌≡◌, ◌≢◌, ◌↔◌, true, IfOk, IfErr, IsTrue};
 ghost use Rattle.kt_core.specs.Worlds.{IsWorldAtRest};
-ghost use Rattle.kt_plans.specs.Headline.{IsPromised};
+ghost use Rattle.kt_plans.specs.Headline.{IsCertified};
 
 use crate::judging::log_passes;
 use anyhow::{Result, ensure};
@@ -21,7 +21,7 @@ const MOST: u32 = 1_000_000;
 
 /// The log of a scenario, stepped to rest by turns.
 fn stepped(alloc: Global, scenario: &[u8]) -> Result<SpaceTime>
-    ensures { IfOk result (λ log. IsPromised log.rows) }
+    ensures { IfOk result (λ log. IsCertified log.rows) }
 {
     let plan = parse(alloc, scenario)?;
     let mut world = World::new(alloc, plan)?;
@@ -71,7 +71,7 @@ fn give_for(look: Look) -> Give
 
 /// Whether the checker says yes to a log and its own certificates: it always does.
 pub(crate) fn gets_yes(alloc: Global, log: &SpaceTime) -> Result<bool, CertFault>
-    requires promised { IsPromised log.now.rows }
+    requires certified { IsCertified log.now.rows }
     ensures yes { IfOk result (λ yes. IsTrue yes) }
     ensures fault { IfErr result (λ fault. fault ≡ CertFault.Memory) }
 {

@@ -1,17 +1,21 @@
-//! Shows runs over objects of its own that can't be saved or brought back, played and in threads. Then worlds at their
-//! limits, and how many parcels instances put.
+//! Shows runs over objects of its own: that can't be saved or brought back, that a plan does not ask for, and that wait
+//! for one another; what is left of them, and what is written, by writers that fail too. Then worlds at their limits, and
+//! how many parcels instances put.
 #![tactic(auto)]
 
-mod faults;
+mod cases;
+mod outcomes;
+mod papers;
+mod staged;
 mod texts;
-mod troubled;
 mod worlds;
 
 use anyhow::Result;
-use faults::show_faults;
+use cases::{show_cases, show_failing_writers};
 use worlds::show_worlds;
 
 fn main(rt: HostRuntime) -> Result<()> {
-    show_faults(&rt)?;
+    show_cases(&rt)?;
+    show_failing_writers(&rt)?;
     show_worlds(&rt)
 }

@@ -1,8 +1,8 @@
-//! What the runs need, and plans from files.
+//! What the runs need, and what is read from files.
 
 use anyhow::Result;
-use kt_plan::Plan;
-use kt_scenario::parse;
+use kt_plan::{Plan, Step};
+use kt_scenario::{parse, parse_steps};
 use std::fs;
 use std::rt::Files;
 use std::sync::Wait;
@@ -17,4 +17,13 @@ impl<R: Files + Threads + Wait + Sync + Print + AllocGlobal> Host for R {}
 pub(crate) fn plan_in<R: Host>(rt: &R, name: &str) -> Result<Plan> {
     let text = fs::read(rt, name)?;
     Ok(parse(rt.alloc(), text.as_slice())?)
+}
+
+/// The steps of a plan in a file; none for `-`.
+pub(crate) fn steps_in<R: Host>(rt: &R, name: &str, plan: &Plan) -> Result<Vec<Step>> {
+    if name == "-" {
+        return Ok(Vec::new(rt.alloc()));
+    }
+    let text = fs::read(rt, name)?;
+    Ok(parse_steps(rt.alloc(), text.as_slice(), plan)?)
 }

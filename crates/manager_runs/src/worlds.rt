@@ -4,10 +4,13 @@ use crate::texts::{Host, plan_in};
 use anyhow::Result;
 use kt_base::{InstNo, Label, ProcNo, RowNo};
 use kt_core::{StepFault, World};
+use kt_log_text::write_csv;
 use kt_plan::{Give, Plan, Step};
+use kt_program::{certify_bytes, check_bytes};
 use kt_scenario::parse;
-use kt_spacetime::Event;
+use kt_spacetime::{Event, SpaceTime};
 use std::alloc::Global;
+use std::io;
 
 // How many rows a log has at most.
 const LIMIT: u32 = 1_048_576;
@@ -67,11 +70,31 @@ fn show_counts<R: Host>(rt: &R, world: &World) -> Result<()> {
     Ok(())
 }
 
-// Shows how a world ends by default steps.
-fn show_end<R: Host>(rt: &R, mut world: World) -> Result<()> {
+// Shows how a world ends by default steps; its log.
+fn show_end<R: Host>(rt: &R, mut world: World) -> Result<SpaceTime> {
     let ended = step_on(&mut world);
     show_rest(rt, ended, world.at_rest())?;
-    show_counts(rt, &world)
+    show_counts(rt, &world)?;
+    Ok(world.into_log())
+}
+
+// Shows the answer to a stored log with its certificates.
+fn show_answer<R: Host>(rt: &R, log: &[u8]) -> Result<()> {
+    let mut cert = Vec::new(rt.alloc());
+    certify_bytes(rt.alloc(), log, &mut cert)?;
+    check_bytes(rt.alloc(), log, cert.as_slice(), &mut io::writer(rt))?;
+    Ok(())
+}
+
+// Shows the answers to a log in both formats.
+fn show_answers<R: Host>(rt: &R, log: &SpaceTime) -> Result<()> {
+    let mut text = Vec::new(rt.alloc());
+    write_csv(rt.alloc(), log, &mut text)?;
+    show_answer(rt, text.as_slice())?;
+    show_answer(
+        rt,
+        text.as_slice().strip_prefix(b"kt,2,-,-\n").unwrap_or(b""),
+    )
 }
 
 // A scenario of 64 processes whose instances all abort: half of the processes send to all of the other half, and fail;
@@ -103,16 +126,18 @@ fn plan_of_aborts(alloc: Global) -> Result<Plan> {
     Ok(parse(alloc, text.as_bytes())?)
 }
 
-// Shows how that plan ends with a log of so many rows at most.
+// Shows how that plan ends with a log of so many rows at most, and the answers to it.
 fn show_limited<R: Host>(rt: &R, limit: RowNo) -> Result<()> {
     let plan = plan_of_aborts(rt.alloc())?;
-    show_end(rt, World::with_rows(rt.alloc(), plan, limit)?)
+    let log = show_end(rt, World::with_rows(rt.alloc(), plan, limit)?)?;
+    show_answers(rt, &log)
 }
 
 // Shows how that plan ends with a log of its usual size.
 fn show_unlimited<R: Host>(rt: &R) -> Result<()> {
     let plan = plan_of_aborts(rt.alloc())?;
-    show_end(rt, World::new(rt.alloc(), plan)?)
+    show_end(rt, World::new(rt.alloc(), plan)?)?;
+    Ok(())
 }
 
 // Shows a log that is full, and one that is not.
@@ -128,7 +153,8 @@ fn show_full_log<R: Host>(rt: &R) -> Result<()> {
 // Shows a send by a process whose labels come after one that is used.
 fn show_after_label<R: Host>(rt: &R, used: Label) -> Result<()> {
     let plan = plan_in(rt, "checkpoint")?;
-    show_end(rt, World::with_labels(rt.alloc(), plan, used)?)
+    show_end(rt, World::with_labels(rt.alloc(), plan, used)?)?;
+    Ok(())
 }
 
 // Shows a send by a process that has so many labels left.
@@ -159,6 +185,30 @@ fn show_step<R: Host>(rt: &R, ended: Result<(), StepFault>, rows: usize) -> Resu
         Err(fault) => println!(rt; "{fault}")?,
     }
     println!(rt; "{rows} rows")?;
+    Ok(())
+}
+
+// Shows how many parcels are in the channels of the first two processes, and in one of a process that is not there.
+fn show_in_flight<R: Host>(rt: &R, world: &World) -> Result<()> {
+    let (a, b, none) = (ProcNo::nth(0), ProcNo::nth(1), ProcNo::nth(63));
+    let (there, back) = (world.in_flight(a, b), world.in_flight(b, a));
+    let elsewhere = world.in_flight(a, none);
+    println!(rt; "in flight: {there}, {back}, {elsewhere}")?;
+    Ok(())
+}
+
+// Shows how many parcels are in channels at first and after each default step of a scenario.
+fn show_channels<R: Host>(rt: &R, scenario: &str) -> Result<()> {
+    println!(rt; "channels of {scenario}")?;
+    let mut world = world_in(rt, scenario)?;
+    show_in_flight(rt, &world)?;
+    for _ in 0..MOST {
+        let Some(step) = world.default_step() else {
+            return Ok(());
+        };
+        step_once(&mut world, step)?;
+        show_in_flight(rt, &world)?;
+    }
     Ok(())
 }
 
@@ -193,6 +243,7 @@ fn show_tally<R: Host>(rt: &R, scenario: &str) -> Result<()> {
 /// Shows worlds whose log is full, whose labels are spent, a step that is not enabled, and how many parcels instances put.
 pub(crate) fn show_worlds<R: Host>(rt: &R) -> Result<()> {
     show_idle_step(rt)?;
+    show_channels(rt, "checkpoint")?;
     show_spent_labels(rt)?;
     show_tally(rt, "all_to_all")?;
     show_tally(rt, "ring")?;

@@ -39,14 +39,15 @@ Exit status:
 
 const SHORT_HELP_OF_CHECK: &str = "Judges a stored log with its certificates
 
-Usage: koo_toueg check <LOG> <CERT>
+Usage: koo_toueg check [OPTIONS] <LOG> <CERT>
 
 Arguments:
   <LOG>   The log, a CSV file with a record of four fields for each row
   <CERT>  The certificates, a CSV file with records of five fields
 
 Options:
-  -h, --help  Print help (see more with '--help')
+      --explain  Tells below a no why
+  -h, --help     Print help (see more with '--help')
 
 Exit status:
   0  done; the answer of check is yes
@@ -61,7 +62,7 @@ const HELP_OF_CHECK: &str =
 the instance, the row and the reason. A yes means that each committed instance
 took the least set of processes.
 
-Usage: koo_toueg check <LOG> <CERT>
+Usage: koo_toueg check [OPTIONS] <LOG> <CERT>
 
 Arguments:
   <LOG>
@@ -76,6 +77,11 @@ Arguments:
           There are up to 2^19 records.
 
 Options:
+      --explain
+          Tells below a no why, by process, message and row: what the log
+          has otherwise than a certificate, who was unwilling to join, which
+          member is another one, which message is an orphan.
+
   -h, --help
           Print help (see a summary with '-h')
 
@@ -133,14 +139,38 @@ fn a_check_is_asked_for(rt: HostRuntime) -> Result<(), Fail> {
     Ok(())
 }
 
+// The words of a command line that asks for a check, and for what is told of the answer.
+fn explain_words(alloc: Global) -> Result<Words, Fail> {
+    let mut words = Words::new(alloc);
+    for word in ["koo_toueg", "check", "--explain", "l.csv", "c.csv"] {
+        words.push(word)?;
+    }
+    Ok(words)
+}
+
+#[test]
+fn an_explanation_is_asked_for(rt: HostRuntime) -> Result<(), Fail> {
+    let words = explain_words(rt.alloc())?;
+    let Ok(asked) = asked(rt.alloc(), &words) else {
+        return Err(Fail::from("refused"));
+    };
+    let wanted = Asked::Explain {
+        log: "l.csv",
+        cert: "c.csv",
+    };
+    assert!(rt; asked == wanted);
+    Ok(())
+}
+
 #[test]
 fn other_command_lines_are_refused(rt: HostRuntime) -> Result<(), Fail> {
-    let table: [&[&[u8]]; 10] = [
+    let table: [&[&[u8]]; 11] = [
         &[],
         &[b"koo_toueg"],
         &[b"koo_toueg", b"check"],
         &[b"koo_toueg", b"check", b"l.csv"],
         &[b"koo_toueg", b"check", b"l.csv", b"c.csv", b"more"],
+        &[b"koo_toueg", b"check", b"l.csv", b"c.csv", b""],
         &[b"koo_toueg", b"check", b"--log", b"l.csv", b"c.csv"],
         &[b"koo_toueg", b"judge", b"l.csv", b"c.csv"],
         &[b"koo_toueg", b"play", b"--steps", b"s.txt"],
@@ -161,6 +191,12 @@ fn a_file_that_is_not_there_is_a_read_fault(rt: HostRuntime) -> Result<(), Fail>
         b"no such log",
         b"no such certificate",
     ];
+    expect_ran(&rt, &words, 3, "koo_toueg: read fault\n")
+}
+
+#[test]
+fn an_empty_word_is_a_word(rt: HostRuntime) -> Result<(), Fail> {
+    let words: [&[u8]; 4] = [b"koo_toueg", b"check", b"", b"c.csv"];
     expect_ran(&rt, &words, 3, "koo_toueg: read fault\n")
 }
 

@@ -1,0 +1,142 @@
+//! Writers that fail at one call.
+
+use crate::outcomes::show_text;
+use crate::texts::Host;
+use anyhow::Result;
+use std::alloc::Global;
+use std::io;
+use std::io::Write;
+
+/// Takes a byte a call, and fails at one call; a flush is a call.
+#[derive(Drop)]
+pub(crate) struct Paper {
+    taken: Vec<u8>,
+    calls: usize,
+    fails_at: usize,
+}
+
+impl Paper {
+    fn new(alloc: Global, fails_at: usize) -> Paper {
+        Paper {
+            taken: Vec::new(alloc),
+            calls: 0,
+            fails_at,
+        }
+    }
+
+    /// What it has taken.
+    pub(crate) fn taken(&self) -> &[u8] {
+        self.taken.as_slice()
+    }
+
+    /// Whether it has taken all of this text.
+    fn has_all(&self, whole: &Paper) -> bool {
+        self.taken() == whole.taken()
+    }
+
+    /// Whether it was called, and has taken a front part of this text.
+    fn has_part(&self, whole: &Paper) -> bool {
+        self.calls > 0 && whole.taken().starts_with(self.taken())
+    }
+
+    // Counts a call.
+    fn call(&mut self) -> io::Result<()> {
+        let call = self.calls;
+        self.calls = call.saturating_add(1);
+        if call == self.fails_at {
+            return Err(io::Error::from(io::ErrorKind::BrokenPipe));
+        }
+        Ok(())
+    }
+}
+
+impl Write for Paper {
+    fn write(&mut self, buf: &[u8]) -> io::Result<usize> {
+        self.call()?;
+        let count = buf.len().min(1);
+        self.taken.extend_from_slice(&buf[..count])?;
+        Ok(count)
+    }
+
+    fn flush(&mut self) -> io::Result<()> {
+        self.call()
+    }
+}
+
+/// One of the three texts of a run.
+#[derive(Clone, Copy, PartialEq, Eq)]
+pub(crate) enum Text {
+    Log,
+    Certificates,
+    Report,
+}
+
+/// What the three texts of a run are written on.
+#[derive(Drop)]
+pub(crate) struct Papers {
+    pub(crate) log: Paper,
+    pub(crate) cert: Paper,
+    pub(crate) report: Paper,
+}
+
+impl Papers {
+    /// Papers none of which fails.
+    pub(crate) fn whole(alloc: Global) -> Papers {
+        Papers {
+            log: Paper::new(alloc, usize::MAX),
+            cert: Paper::new(alloc, usize::MAX),
+            report: Paper::new(alloc, usize::MAX),
+        }
+    }
+
+    /// Papers of which that of one text fails at this call.
+    pub(crate) fn failing(alloc: Global, text: Text, call: usize) -> Papers {
+        let mut papers = Papers::whole(alloc);
+        match text {
+            Text::Log => papers.log.fails_at = call,
+            Text::Certificates => papers.cert.fails_at = call,
+            Text::Report => papers.report.fails_at = call,
+        }
+        papers
+    }
+
+    // Whether these are the same texts.
+    fn have_all(&self, before: &Papers) -> bool {
+        self.log.has_all(&before.log)
+            && self.cert.has_all(&before.cert)
+            && self.report.has_all(&before.report)
+    }
+
+    /// Shows the texts, if there are any, or that they are those before.
+    pub(crate) fn show<R: Host>(&self, rt: &R, before: &Papers) -> Result<()> {
+        if self.log.taken().is_empty() {
+            return Ok(());
+        }
+        if self.have_all(before) {
+            println!(rt; "the same texts")?;
+            return Ok(());
+        }
+        show_text(rt, self.log.taken())?;
+        show_text(rt, self.cert.taken())?;
+        show_text(rt, self.report.taken())
+    }
+
+    /// Whether the texts before this one are whole, this one was begun, and those after it were not.
+    pub(crate) fn stop_in(&self, text: Text, whole: &Papers) -> bool {
+        match text {
+            Text::Log => {
+                self.log.has_part(&whole.log) && self.cert.calls == 0 && self.report.calls == 0
+            }
+            Text::Certificates => {
+                self.log.has_all(&whole.log)
+                    && self.cert.has_part(&whole.cert)
+                    && self.report.calls == 0
+            }
+            Text::Report => {
+                self.log.has_all(&whole.log)
+                    && self.cert.has_all(&whole.cert)
+                    && self.report.has_part(&whole.report)
+            }
+        }
+    }
+}
