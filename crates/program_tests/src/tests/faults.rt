@@ -1,26 +1,16 @@
 //! Fault lines, and readers and writers that fail.
 
-use super::handles::{FailingReader, Holding, Interrupted};
+use super::handles::{FailingReader, Holding};
 use super::{
     Printed, TWO_PROCESSES, TWO_PROCESSES_CERT, expect, expect_refusals, expect_said, judged,
 };
-use kt_base::{ProcNo, RowNo};
+use kt_base::RowNo;
 use kt_chain::CertTextFault;
-use kt_core::StepFault;
 use kt_log_text::LogFault;
-use kt_program::ending::{Done, end};
+use kt_program::ending::end;
 use kt_program::fault::{AppFault, ProgramFault};
-use kt_program::{certify_bytes, read_scenario, read_steps};
-use kt_run::RunFault;
-use kt_threads::LiveFault;
-use std::alloc::Global;
-use std::cell::Cell;
 use std::process::Abort;
 use std::test::Fail;
-
-const SCENARIO: &str = "object a sum\nobject b sum\nsend a b 5\n";
-
-const STEPS: &str = "do a\ntake b a\n";
 
 const CUT: &str =
     "sent,0,1,5\nreceived,1,0,1\nbegan,1,1,checkpoint\ntook,1,1,-\ntook,0,1,-\ndecided,1,1,commit\nclosed,1,1,-\nclosed,0";
@@ -190,81 +180,6 @@ fn log_faults(row: RowNo) -> [(LogFault, u8, &'static str); 6] {
     ]
 }
 
-// Faults of runs, with their lines and statuses.
-fn run_faults(p: ProcNo) -> [(AppFault, u8, &'static str); 12] {
-    let refused = StepFault::NotEnabled;
-    [
-        (
-            AppFault::Run(RunFault::Step(2, refused)),
-            2,
-            "koo_toueg: step 3 not enabled\n",
-        ),
-        (
-            AppFault::Run(RunFault::Step(2, StepFault::LogFull)),
-            4,
-            "koo_toueg: run: LogFull\n",
-        ),
-        (
-            AppFault::Run(RunFault::Step(2, StepFault::LabelsSpent)),
-            4,
-            "koo_toueg: run: LabelsSpent\n",
-        ),
-        (
-            AppFault::Run(RunFault::Journal(p)),
-            4,
-            "koo_toueg: run: Journal\n",
-        ),
-        (
-            AppFault::Live(LiveFault::Step(refused)),
-            4,
-            "koo_toueg: run: NotEnabled\n",
-        ),
-        (
-            AppFault::Live(LiveFault::Step(StepFault::LogFull)),
-            4,
-            "koo_toueg: run: LogFull\n",
-        ),
-        (
-            AppFault::Live(LiveFault::Step(StepFault::LabelsSpent)),
-            4,
-            "koo_toueg: run: LabelsSpent\n",
-        ),
-        (
-            AppFault::Live(LiveFault::Journal(p)),
-            4,
-            "koo_toueg: run: Journal\n",
-        ),
-        (
-            AppFault::Live(LiveFault::CastSize),
-            4,
-            "koo_toueg: run: CastSize\n",
-        ),
-        (
-            AppFault::Live(LiveFault::CastKind(p)),
-            4,
-            "koo_toueg: run: CastKind\n",
-        ),
-        (
-            AppFault::Live(LiveFault::Spawn),
-            4,
-            "koo_toueg: run: Spawn\n",
-        ),
-        (
-            AppFault::Live(LiveFault::Differ),
-            4,
-            "koo_toueg: run: Differ\n",
-        ),
-    ]
-}
-
-#[test]
-fn each_fault_of_a_run_has_its_line_and_status(rt: HostRuntime) -> Result<(), Fail> {
-    for (fault, status, line) in &run_faults(ProcNo::nth(0)) {
-        expect_fault(&rt, ProgramFault::from(*fault), *status, line)?;
-    }
-    Ok(())
-}
-
 #[test]
 fn each_fault_has_its_line_and_status(rt: HostRuntime) -> Result<(), Fail> {
     let row = RowNo::new(16_777_216).ok_or("no row")?;
@@ -304,86 +219,34 @@ fn a_reader_that_fails_is_a_read_fault(rt: HostRuntime) -> Result<(), Fail> {
     Ok(())
 }
 
-// What a command writes.
-#[derive(Clone, Copy)]
-enum Written {
-    Answer,
-    Certificates,
-}
-
-// Does a command over the run of two processes.
-fn answered(alloc: Global, what: Written, out: &mut Holding) -> Result<Done, ProgramFault> {
-    let log = TWO_PROCESSES.as_bytes();
-    match what {
-        Written::Answer => judged(alloc, log, TWO_PROCESSES_CERT.as_bytes(), out),
-        Written::Certificates => {
-            certify_bytes(alloc, log, out)?;
-            Ok(Done::Certified)
-        }
-    }
-}
-
-// Checks the status, and what is handed over of what is written and of a fault's line, where the writer fails at this call.
+// Checks the status, and what is handed over of the answer and of a fault's line, where the answer's writer fails at this call.
 fn expect_handed_over(
     rt: &(impl Abort + AllocGlobal),
-    what: Written,
     k: usize,
-    wanted: (u8, &[u8], &[u8]),
+    status: u8,
+    answer: &[u8],
+    line: &[u8],
 ) {
     let mut out = Holding::new(rt.alloc(), k);
     let mut err = Holding::new(rt.alloc(), usize::MAX);
-    let outcome = answered(rt.alloc(), what, &mut out);
+    let outcome = judged(
+        rt.alloc(),
+        TWO_PROCESSES.as_bytes(),
+        TWO_PROCESSES_CERT.as_bytes(),
+        &mut out,
+    );
     let found = end(outcome, &mut err);
     let given = (found, out.given(), err.given());
-    assert_eq!(rt; given, wanted, "at call {k}");
-}
-
-// Checks that a text is handed over, or is a write fault where its writer fails at any of its calls.
-fn expect_text(rt: &(impl Abort + AllocGlobal), what: Written, text: &[u8]) {
-    let line = b"koo_toueg: write fault\n".as_slice();
-    let calls = text.len().saturating_add(1);
-    for k in 0..calls {
-        expect_handed_over(rt, what, k, (3, b"".as_slice(), line));
-    }
-    expect_handed_over(rt, what, calls, (0, text, b"".as_slice()));
+    assert_eq!(rt; given, (status, answer, line), "at call {k}");
 }
 
 #[test]
 fn an_answer_is_handed_over_or_a_write_fault(rt: HostRuntime) {
-    expect_text(&rt, Written::Answer, b"yes\n".as_slice());
-}
-
-#[test]
-fn certificates_are_handed_over_or_a_write_fault(rt: HostRuntime) {
-    expect_text(&rt, Written::Certificates, TWO_PROCESSES_CERT.as_bytes());
-}
-
-#[test]
-fn a_scenario_that_cannot_be_read_is_a_read_fault(rt: HostRuntime) {
-    for k in 0..SCENARIO.len() + 1 {
-        let reader = FailingReader::new(SCENARIO, k);
-        let fault = read_scenario(rt.alloc(), reader).err();
-        assert_eq!(rt; fault, Some(ProgramFault::Read), "at call {k}");
+    let text = b"yes\n".as_slice();
+    let line = b"koo_toueg: write fault\n".as_slice();
+    let calls = b"yes\n".len() + 1;
+    for k in 0..calls {
+        expect_handed_over(&rt, k, 3, b"".as_slice(), line);
     }
-}
-
-#[test]
-fn steps_that_cannot_be_read_are_a_read_fault(rt: HostRuntime) -> Result<(), Fail> {
-    let plan = read_scenario(rt.alloc(), SCENARIO.as_bytes())?;
-    for k in 0..STEPS.len() + 1 {
-        let reader = FailingReader::new(STEPS, k);
-        let fault = read_steps(rt.alloc(), reader, &plan).err();
-        assert_eq!(rt; fault, Some(ProgramFault::Read), "at call {k}");
-    }
-    Ok(())
-}
-
-#[test]
-fn a_text_is_read_from_a_bounded_number_of_times(rt: HostRuntime) {
-    let calls = Cell::new(0);
-    let fault = read_scenario(rt.alloc(), Interrupted { calls: &calls }).err();
-    assert_eq!(rt;
-        (fault, calls.get()),
-        (Some(ProgramFault::Read), 134_217_728)
-    );
+    expect_handed_over(&rt, calls, 0, text, b"".as_slice());
 }

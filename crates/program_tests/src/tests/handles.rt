@@ -1,7 +1,6 @@
 //! What stands in for the command line, files and streams.
 
 use std::alloc::Global;
-use std::cell::Cell;
 use std::env::FillError;
 use std::io;
 use std::io::{Read, Write};
@@ -76,20 +75,7 @@ impl Read for FailingReader<'_> {
     }
 }
 
-/// Never gives anything, but is interrupted at each call, and counts the calls.
-#[derive(Drop)]
-pub struct Interrupted<'a> {
-    pub calls: &'a Cell<u32>,
-}
-
-impl Read for Interrupted<'_> {
-    fn read(&mut self, _buf: &mut [u8]) -> io::Result<usize> {
-        self.calls.set(self.calls.get().saturating_add(1));
-        Err(io::Error::from(io::ErrorKind::Interrupted))
-    }
-}
-
-/// Gives a head, then a record so many times, and holds it once.
+/// Gives a record so many times, and holds it once.
 #[derive(Drop)]
 pub struct Repeated<'a> {
     record: &'a [u8],
@@ -98,10 +84,10 @@ pub struct Repeated<'a> {
 }
 
 impl<'a> Repeated<'a> {
-    pub fn new(head: &'a str, record: &'a str, times: u32) -> Repeated<'a> {
+    pub fn new(record: &'a str, times: u32) -> Repeated<'a> {
         Repeated {
             record: record.as_bytes(),
-            rest: head.as_bytes(),
+            rest: &[],
             times,
         }
     }

@@ -164,13 +164,12 @@ fn an_explanation_is_asked_for(rt: HostRuntime) -> Result<(), Fail> {
 
 #[test]
 fn other_command_lines_are_refused(rt: HostRuntime) -> Result<(), Fail> {
-    let table: [&[&[u8]]; 11] = [
+    let table: [&[&[u8]]; 10] = [
         &[],
         &[b"koo_toueg"],
         &[b"koo_toueg", b"check"],
         &[b"koo_toueg", b"check", b"l.csv"],
         &[b"koo_toueg", b"check", b"l.csv", b"c.csv", b"more"],
-        &[b"koo_toueg", b"check", b"l.csv", b"c.csv", b""],
         &[b"koo_toueg", b"check", b"--log", b"l.csv", b"c.csv"],
         &[b"koo_toueg", b"judge", b"l.csv", b"c.csv"],
         &[b"koo_toueg", b"play", b"--steps", b"s.txt"],
@@ -191,12 +190,6 @@ fn a_file_that_is_not_there_is_a_read_fault(rt: HostRuntime) -> Result<(), Fail>
         b"no such log",
         b"no such certificate",
     ];
-    expect_ran(&rt, &words, 3, "koo_toueg: read fault\n")
-}
-
-#[test]
-fn an_empty_word_is_a_word(rt: HostRuntime) -> Result<(), Fail> {
-    let words: [&[u8]; 4] = [b"koo_toueg", b"check", b"", b"c.csv"];
     expect_ran(&rt, &words, 3, "koo_toueg: read fault\n")
 }
 

@@ -87,30 +87,12 @@ fn a_text_is_too_long_past_its_last_record(rt: HostRuntime) -> Result<(), Fail> 
     let sent = "sent,0,1,1\n";
     let certificate = "cert,1,checkpoint,0,abort\n";
     let none = b"".as_slice();
-    let longest = Repeated::new("", sent, 1_048_576);
+    let longest = Repeated::new(sent, 1_048_576);
     expect_said(&rt, longest, none, 0, "yes\n")?;
-    let too_long = Repeated::new("", sent, 1_048_577);
+    let too_long = Repeated::new(sent, 1_048_577);
     expect_said(&rt, too_long, none, 2, "koo_toueg: log too long\n")?;
-    let longest = Repeated::new("", certificate, 524_288);
+    let longest = Repeated::new(certificate, 524_288);
     expect_said(&rt, none, longest, 1, "no instance 1 Unknown\n")?;
-    let too_long = Repeated::new("", certificate, 524_289);
+    let too_long = Repeated::new(certificate, 524_289);
     expect_said(&rt, none, too_long, 2, "koo_toueg: certificate too long\n")
-}
-
-// A log of format 2 with one row that a process fails, and so many that it is down.
-fn rows_of_format_2(times: u32) -> Repeated<'static> {
-    Repeated::new("kt,2,-,-\nfailed,0,-,-\n", "refused,0,send,down\n", times)
-}
-
-#[test]
-fn the_longest_log_of_format_2_is_judged(rt: HostRuntime) -> Result<(), Fail> {
-    let longest = rows_of_format_2(16_777_215);
-    expect_said(&rt, longest, b"".as_slice(), 0, "yes\n")
-}
-
-#[test]
-fn a_log_of_format_2_is_too_long_past_its_last_row(rt: HostRuntime) -> Result<(), Fail> {
-    let too_long = rows_of_format_2(16_777_216);
-    let line = "koo_toueg: log too long\n";
-    expect_said(&rt, too_long, b"".as_slice(), 2, line)
 }
