@@ -139,6 +139,7 @@ impl Channels {
     }
 
     /// Makes room for that many parcels more, from one process to another.
+    #[inline(always)]
     pub fn reserve_many(&mut self, from: ProcNo, to: ProcNo, count: usize) -> Result<(), Memory>
         requires from { from < self.old.processes }
         requires to { to < self.old.processes }
@@ -179,6 +180,7 @@ impl Channels {
     }
 
     /// Adds a parcel at the end of a list, in room made beforehand.
+    #[inline(always)]
     pub fn push_reserved(&mut self, from: ProcNo, to: ProcNo, parcel: Parcel)
         requires from { from < self.old.processes }
         requires to { to < self.old.processes }
@@ -197,6 +199,7 @@ impl Channels {
     }
 
     /// Takes the oldest parcel from one process to another; its room is spare room again.
+    #[inline(always)]
     pub fn pop(&mut self, from: ProcNo, to: ProcNo) -> Option<Parcel>
         requires from { from < self.old.processes }
         requires to { to < self.old.processes }

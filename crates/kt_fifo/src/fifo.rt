@@ -70,6 +70,7 @@ impl Fifo {
     }
 
     /// Adds a parcel at the end, in room made beforehand.
+    #[inline(always)]
     pub(crate) fn push_reserved(&mut self, parcel: Parcel)
         requires { 0 < self.old.spare }
         ensures { self.new ≡ record { parcels = self.old.parcels ++ parcel ∷ []; spare = self.old.spare - 1 } }

@@ -102,6 +102,7 @@ impl Held {
     }
 
     /// Asks the object, where the process is up, for what a step needs of it: that it is saved, or the body that it offers.
+    #[inline(always)]
     pub fn ask(&self, alloc: Global, look: Look) -> Answer
         ensures able { result.give.able ≡ is_some result.saved }
         ensures saved { IfSome result.saved (λ saved. IfSome self.now.present (λ b.
@@ -261,6 +262,7 @@ impl Held {
 
     /// Does the acts that a step tells, in order. `saved` is the object's state that was saved for the step; the first thing
     /// that is done keeps it, where that is to be kept. After a fault the acts before the one at fault are done, and no more.
+    #[inline(always)]
     pub fn obey(&mut self, acts: [Act; 2], saved: Option<Vec<u8>>) -> Result<(), ActFault>
         requires saved { IfSome saved (λ s. IfSome self.old.present (λ b. IsSavedState (kind_of b) (value_of b) s.items)) }
 

@@ -8,6 +8,7 @@ use kt_base::{Memory, ProcNo, ProcSet};
 use kt_fifo::Channels;
 
 /// Room for so many parcels more from a process to another one. What was refused leaves all lists as they were.
+#[inline(always)]
 pub fn make_room_to(
     channels: &mut Channels,
     p: ProcNo,
@@ -25,6 +26,7 @@ pub fn make_room_to(
 }
 
 /// Room for so many parcels more from a process to each of a set. What was refused leaves all lists as they were.
+#[inline(always)]
 pub fn make_room(
     channels: &mut Channels,
     p: ProcNo,

@@ -227,6 +227,7 @@ impl Stage {
     }
 
     /// Makes a step that is enabled: asks the process's object for what it needs, notes what is told, and does it.
+    #[inline(always)]
     fn make(&mut self, step: Step) -> Result<(), RunFault>
         requires enabled { can_make self.old.world step ≡ true }
         requires few { self.old.done < 2 ^ 64 - 1 }

@@ -13,3 +13,4 @@ pub mod Acting
 pub mod Counting
 pub mod Tallying
 pub mod Growing
+pub mod Saving

@@ -201,6 +201,7 @@ impl System {
     }
 
     /// What follows from an ask.
+    #[inline(always)]
     fn answer(
         &mut self,
         at: ProcNo,

@@ -85,6 +85,7 @@ impl System {
     }
 
     /// Room for four rows, and for two parcels to each of these processes.
+    #[inline(always)]
     pub(super) fn make_room(&mut self, p: ProcNo, targets: ProcSet) -> Result<(), Memory>
         requires p { p < self.old.size }
         requires within { (q : ℕ) → has targets q ≡ true → q < self.old.size }
@@ -124,6 +125,7 @@ impl System {
     }
 
     /// Room to hold all parcels that are kept for a process, where that is in a rollback.
+    #[inline(always)]
     pub(super) fn make_room_back_if_ready(&mut self, p: ProcNo) -> Result<(), Memory>
         requires { p < self.old.size }
         ensures same { IsSameSystem self.new self.old }

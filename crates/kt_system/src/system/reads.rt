@@ -1,7 +1,8 @@
 //! What can be read of a system.
 
-ghost use Rattle.std.specs.Prelude.{◌≡◌, ◌<◌, ◌≤◌, ◌^◌, ◌-◌, ◌↔◌, [], ℕ, true, false, IsTrue, IfSome, IfNone, length, is_none};
+ghost use Rattle.std.specs.Prelude.{◌≡◌, ◌<◌, ◌≤◌, ◌^◌, ◌-◌, ◌↔◌, ◌&&◌, [], ℕ, true, false, IsTrue, IfSome, IfNone, length, is_none};
 ghost use Rattle.std.specs.List.{list_all};
+ghost use Rattle.std.specs.Option.{option_copied};
 ghost use Rattle.kt_base.specs.declared.words.Kind.TheVariants as kind;
 ghost use Rattle.kt_fifo.specs.Channels.{channel};
 ghost use Rattle.kt_process.specs.Persons.{Person, part_of_side, is_ready, inst_of, IsNumbered};
@@ -119,8 +120,23 @@ impl System {
         requires from { from < self.now.size }
         ensures { result ≡ next_parcel self.now at from }
     {
-        self.held_parcel(at, from)
-            .or(self.channels.front(from, at).copied())
+        self.next_front(at, from).copied()
+    }
+
+    /// The parcel that a process would take next from another one, where it lies.
+    #[tactic(auto, using(crate::proofs::Saving::next_ready, crate::proofs::Saving::next_held, crate::proofs::Saving::next_sent))]
+    fn next_front(&self, at: ProcNo, from: ProcNo) -> Option<&Parcel>
+        requires at { at < self.now.size }
+        requires from { from < self.now.size }
+        ensures { option_copied result ≡ next_parcel self.now at from }
+    {
+        if self.is_ready(at) {
+            return self.channels.front(from, at);
+        }
+        match self.held.front(from, at) {
+            Some(parcel) => Some(parcel),
+            None => self.channels.front(from, at),
+        }
     }
 
     /// Whether a process can take a parcel of another one.
@@ -132,15 +148,29 @@ impl System {
         self.senders(at).has(from) || self.held_senders(at).has(from)
     }
 
+    /// Whether a process may take a tentative checkpoint, if its object can be saved: its object is up, and it is in no
+    /// instance.
+    fn may_save(&self, p: ProcNo) -> bool
+        requires { p < self.now.size }
+        ensures { result ≡ ((person self.now p).up && is_none (inst_of (person self.now p).side)) }
+    {
+        self.is_up(p) && self.in_inst(p).is_none()
+    }
+
     /// Whether the next parcel from another process makes this one take its tentative checkpoint, if its object can be
     /// saved.
+    #[inline(always)]
+    #[tactic(auto, using(crate::proofs::Saving::no_save))]
     pub fn would_save(&self, at: ProcNo, from: ProcNo) -> bool
         requires at { at < self.now.size }
         requires from { from < self.now.size }
         ensures { result ≡ would_save self.now at from }
     {
-        match self.next_parcel(at, from) {
-            Some(parcel) => saves_by(self.process(at), from, &parcel),
+        if !self.may_save(at) {
+            return false;
+        }
+        match self.next_front(at, from) {
+            Some(parcel) => saves_by(self.process(at), from, parcel),
             None => false,
         }
     }

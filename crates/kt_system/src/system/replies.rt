@@ -155,6 +155,7 @@ impl System {
 
     /// A process takes the next parcel from another one: the first message that is held, where it is in no rollback, else
     /// the front of the channel. Whether its object can be saved counts where it is asked to take a checkpoint.
+    #[inline(always)]
     pub fn take(
         &mut self,
         alloc: Global,
