@@ -1,26 +1,20 @@
 -- Phases that open leave the rest as it is.
-use Rattle.std.proofs.Common.{length, ◌≡◌, ℕ, zero, suc, ◌+◌, ◌-◌, refl, ap, ◌∙◌, Some}
+use Rattle.std.proofs.Common.{length, ◌≡◌, ℕ, ◌+◌, refl, ap, ◌∙◌, Some}
 use Rattle.kt_cuts.specs.Past.{at_one}
 use Rattle.kt_protocol.specs.States as machine
 use Rattle.kt_protocol.proofs.Choices.{at_if}
 use Rattle.kt_seen.specs.Transition.{transition, opening_seen}
 use Rattle.kt_plan.specs.declared.commands.Command.{Command}
 use Rattle.kt_plan.specs.Limits.{Planned}
-use Rattle.kt_plans.specs.Plans.{last_phase}
 use Rattle.kt_plan.specs.declared.steps.Step.TheVariants.{Do, Take}
 use Rattle.kt_plan.specs.declared.steps.Give.{Give}
 use Rattle.kt_plans.specs.Steps.{protocol_step, after_command, progress_after}
 use Rattle.kt_plans.specs.Runs.{IsSameButPhase}
-use Rattle.kt_plans.specs.Progress.{Progress, next_command, opens_next, after_opening, with_phases_open, progress_at_start}
-
-opened : (k : ℕ) (plan : Planned) (w : Progress) → IsSameButPhase w (after_opening k plan w)
-opened zero plan w = record { now = refl; done = refl }
-opened (suc k) plan w = at_if (IsSameButPhase w) (opens_next plan w) (after_opening k plan (record w { phase = w.phase + 1 })) w
-    (λ _. let a = opened k plan (record w { phase = w.phase + 1 }) in record { now = a.now; done = a.done })
-    (λ _. record { now = refl; done = refl })
+use Rattle.kt_plans.specs.Progress.{Progress, next_command, is_quiet, phase_to_open, with_phases_open, progress_at_start}
 
 pub settling : (plan : Planned) (w : Progress) → IsSameButPhase w (with_phases_open plan w)
-settling plan w = opened (last_phase plan.commands - w.phase) plan w
+settling plan w = at_if (IsSameButPhase w) (is_quiet (length plan.names) w.now) (record w { phase = phase_to_open plan w }) w
+    (λ _. record { now = refl; done = refl }) (λ _. record { now = refl; done = refl })
 
 pub opening_is : (plan : Planned) (first : ℕ) → IsSameButPhase (record { now = opening_seen (length plan.names) first; done = λ p. 0; phase = 0 }) (progress_at_start plan first)
 opening_is plan first = settling plan (record { now = opening_seen (length plan.names) first; done = λ p. 0; phase = 0 })

@@ -1,6 +1,6 @@
 -- What code has of a run of a plan: what is seen of the protocol's state, and how far the commands have come.
-use Rattle.std.specs.List.{list_any}
-use Rattle.std.specs.Prelude.{length, ℕ, zero, suc, ◌+◌, ◌-◌, ◌==◌, ◌&&◌, ◌||◌, not, nat_lt, if◌then◌else◌, Bool, Option, List, drop, slice_get}
+use Rattle.std.specs.List.{list_any, range_with_len}
+use Rattle.std.specs.Prelude.{length, max, ℕ, ◌-◌, ◌==◌, ◌&&◌, ◌||◌, not, nat_lt, if◌then◌else◌, Bool, Option, unwrap_or, List, drop, find, slice_get}
 use Rattle.kt_protocol.specs.Deciding.{none_of}
 use Rattle.kt_seen.specs.Seen.{Seen}
 use Rattle.kt_seen.specs.Transition.{opening_seen}
@@ -30,22 +30,24 @@ is_quiet n v =
     none_of n (λ p. not ((v.people p).inst == 0)
     || not (none_of n (λ q. has_parcel (v.channel q p) || has_parcel (v.held q p))))
 
--- no command of the open phase is left
-abbrev pub is_phase_done : Planned → Progress → Bool
-is_phase_done plan w = none_of (length plan.names) (λ p. list_any (λ (c : Command). c.phase == w.phase) (commands_left plan w p))
+-- no command of this phase is left
+abbrev pub is_phase_done : Planned → Progress → ℕ → Bool
+is_phase_done plan w k = none_of (length plan.names) (λ p. list_any (λ (c : Command). c.phase == k) (commands_left plan w p))
 
 -- the next phase opens: the open one is done, all is quiet, and a later one is there
 abbrev pub opens_next : Planned → Progress → Bool
-opens_next plan w = is_phase_done plan w && (is_quiet (length plan.names) w.now && nat_lt w.phase (last_phase plan.commands))
+opens_next plan w =
+    is_phase_done plan w w.phase && (is_quiet (length plan.names) w.now && nat_lt w.phase (last_phase plan.commands))
 
--- at most k phases open, one after another for as long as they may
-abbrev pub after_opening : ℕ → Planned → Progress → Progress
-after_opening zero plan w = w
-after_opening (suc k) plan w = if opens_next plan w then after_opening k plan (record w { phase = w.phase + 1 }) else w
+-- the first phase, from the open one on, of which a command is left; the last one, where none is
+abbrev pub phase_to_open : Planned → Progress → ℕ
+phase_to_open plan w =
+    unwrap_or (find (λ k. not (is_phase_done plan w k)) (range_with_len w.phase (last_phase plan.commands - w.phase)))
+    (max w.phase (last_phase plan.commands))
 
--- as many phases have opened as may
+-- once all is quiet, it is open
 abbrev pub with_phases_open : Planned → Progress → Progress
-with_phases_open plan w = after_opening (last_phase plan.commands - w.phase) plan w
+with_phases_open plan w = if is_quiet (length plan.names) w.now then record w { phase = phase_to_open plan w } else w
 
 -- nothing has been done, and phases without commands have opened
 abbrev pub progress_at_start : Planned → ℕ → Progress
