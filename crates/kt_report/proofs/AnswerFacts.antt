@@ -1,10 +1,40 @@
 -- The answers of those who were unwilling, kept by instance.
 use Rattle.std.proofs.Common.{arith, ◌≡◌, ◌≢◌, ◌∙◌, ◌<◌, ◌≤◌, ◌+◌, ◌-◌, ℕ, zero, suc, List, [], ◌∷◌, ◌++◌, length, map, set, sym, ap, refl, get_or, Bool, true, false}
-use Rattle.std.specs.Prelude.{◌==◌, if◌then◌else◌}
+use Rattle.std.specs.Prelude.{◌==◌, if◌then◌else◌, codes}
+use Rattle.std.specs.List.{flat_map}
+use Rattle.std.proofs.lemmas.Grind.{flat_map-append}
 use Rattle.std.proofs.lemmas.Bool.{eqb-true, eqb-false}
 use Rattle.std.proofs.lemmas.List.{map-append, map-set, length-map, get_or-map, get_or-set_same, get_or-set_other, append-nil}
-use Rattle.kt_report.specs.Lines.{Answer}
-use Rattle.kt_report.specs.Unwilling.{answers_to}
+use Rattle.kt_spacetime.specs.declared.event.Event.{Event}
+use Rattle.kt_spacetime.specs.declared.event.Event.TheVariants.{Unwilling}
+use Rattle.kt_chain.specs.declared.certificate.Certificate.{Certificate}
+use Rattle.kt_log_text.specs.Spelling.{cause_word}
+use Rattle.kt_report.specs.Lines.{line, name_of, member_line, unwilling_line}
+use Rattle.kt_report.specs.Unwilling.{Answer, answer_line, unwilling_in, unwilling_of, answers_to}
+
+-- a row has the line of its answer, where it is one to this instance
+line_at : (names : List (List ℕ)) (inst : ℕ) (row : Event) → flat_map (answer_line names) (unwilling_in inst row) ≡ unwilling_line names inst row
+line_at names inst (Unwilling p other cause) = go (other == inst)
+  where
+    words : List (List ℕ)
+    words = codes "unwilling" ∷ name_of names p ∷ cause_word cause ∷ []
+
+    go : (b : Bool) → flat_map (answer_line names) (if b then (p, cause) ∷ [] else []) ≡ (if b then line words else [])
+    go true = append-nil (line words)
+    go false = refl
+line_at names inst _ = refl
+
+-- the lines of the answers to an instance are those of the rows
+pub answer_lines : (names : List (List ℕ)) (inst : ℕ) (rows : List Event) → flat_map (answer_line names) (unwilling_of inst rows) ≡ flat_map (unwilling_line names inst) rows
+answer_lines names inst [] = refl
+answer_lines names inst (row ∷ rows) =
+    flat_map-append (answer_line names) (unwilling_in inst row) (unwilling_of inst rows)
+    ∙ ap (λ (l : List ℕ). l ++ flat_map (answer_line names) (unwilling_of inst rows)) (line_at names inst row)
+    ∙ ap (λ (l : List ℕ). unwilling_line names inst row ++ l) (answer_lines names inst rows)
+
+-- the lines of an instance but its own
+abbrev pub part_lines : List (List ℕ) → List Event → Certificate → List ℕ
+part_lines names rows c = if c.commit then flat_map (member_line names rows) c.members else flat_map (unwilling_line names c.inst) rows
 
 -- one more empty list
 pub get_or-empty : (lists : List (List Answer)) (k : ℕ) → get_or (lists ++ [] ∷ []) k [] ≡ get_or lists k []

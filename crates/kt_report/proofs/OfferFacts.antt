@@ -15,16 +15,20 @@ use Rattle.kt_plan.specs.declared.steps.Act.{Act as PlainAct}
 use Rattle.kt_values.specs.Done.{done}
 use Rattle.kt_object.specs.Value.{after, offered}
 use Rattle.kt_values.specs.Values.{Act, Apply, Rules, Due, due, first_due, does, does_all, acts_of}
+use Rattle.kt_values.specs.Offers.{offer}
 use Rattle.kt_values.proofs.ActsAlong.{along}
 use Rattle.kt_report.specs.declared.offers.Offers.{Offers}
-use Rattle.kt_report.specs.Exact.{rules_of_kind, offer_in, offers_in}
+use Rattle.kt_report.specs.Exact.{rules_of_kind, offers_in}
 use Rattle.kt_report.specs.Shown.{act_of, offers_of, ShowsOffers}
 
 -- what is offered is what the definition of the report says
 pub offers_are : (list : List Offers) (kinds : List ℕ) (rows : List Event) → ShowsOffers list kinds rows → map (λ o. o.now) list ≡ offers_in kinds rows
-offers_are list kinds rows h = fill_by_all (offer_in kinds rows) (map (λ o. o.now) list) (length kinds) None (length-map list (λ o. o.now) ∙ h.count) at
+offers_are list kinds rows h = fill_by_all offered_by (map (λ o. o.now) list) (length kinds) None (length-map list (λ o. o.now) ∙ h.count) at
   where
-    at : (p : ℕ) → p < length kinds → get_or (map (λ o. o.now) list) p None ≡ offer_in kinds rows p
+    offered_by : ℕ → Option ℤ
+    offered_by p = offer (rules_of_kind (slice_index kinds p)) rows p
+
+    at : (p : ℕ) → p < length kinds → get_or (map (λ o. o.now) list) p None ≡ offered_by p
     at p l =
         let there = item_there list p (omega (arith, l, h.count)) in
         get_or_from_slice_get (map (λ o. o.now) list) p there.0.now None (slice_get-map (λ o. o.now) list p ∙ ap (option_map (λ o. o.now)) there.1)

@@ -2,17 +2,12 @@
 use Rattle.std.specs.Prelude.{◌-◌, ◌==◌, ℕ, ℤ, List, [], ◌∷◌, ◌++◌, Option, Some, None, if◌then◌else◌, codes, map, slice_get, slice_index_or}
 use Rattle.std.specs.List.{flat_map, join_with_byte}
 use Rattle.std.specs.Fmt.{decimal, signed_decimal}
-use Rattle.kt_base.specs.declared.words.Cause.{Cause}
 use Rattle.kt_spacetime.specs.declared.event.Event.{Event}
 use Rattle.kt_spacetime.specs.declared.event.Event.TheVariants.{Sent, Unwilling, Refused}
 use Rattle.kt_text.specs.Words.{kind_word, decision_word}
 use Rattle.kt_chain.specs.Spelling.{Member}
 use Rattle.kt_chain.specs.declared.certificate.Certificate.{Certificate}
 use Rattle.kt_log_text.specs.Spelling.{verb_word, cause_word}
-
--- a process, and why it was unwilling
-abbrev pub Answer : Type 0
-Answer = ℕ × Cause
 
 -- words separated by blanks and ended by a line feed
 abbrev pub line : List (List ℕ) → List ℕ
@@ -39,40 +34,27 @@ message_word names rows msg = decimal msg ++ ends_word names (slice_get rows (ms
 abbrev pub member_line : List (List ℕ) → List Event → Member → List ℕ
 member_line names rows member = line (codes "member" ∷ name_of names member.0 ∷ map (message_word names rows) member.1)
 
--- the line of a process that was unwilling: its name and why
-abbrev pub unwilling_line : List (List ℕ) → Answer → List ℕ
-unwilling_line names answer = line (codes "unwilling" ∷ name_of names answer.0 ∷ cause_word answer.1 ∷ [])
+-- the line of a row by which a process is unwilling to join this instance: its name and why; nothing for another row
+abbrev pub unwilling_line : List (List ℕ) → ℕ → Event → List ℕ
+unwilling_line names inst (Unwilling p other cause) =
+    if other == inst then line (codes "unwilling" ∷ name_of names p ∷ cause_word cause ∷ []) else []
+unwilling_line names inst _ = []
 
--- what a row says of who was unwilling to join an instance
-abbrev pub unwilling_in : ℕ → Event → List Answer
-unwilling_in inst (Unwilling p other cause) = if other == inst then (p, cause) ∷ [] else []
-unwilling_in inst _ = []
-
--- who was unwilling to join an instance, in the order of the rows
-abbrev pub unwilling_of : ℕ → List Event → List Answer
-unwilling_of inst rows = flat_map (unwilling_in inst) rows
-
--- the lines of who took part in an instance that was committed, or who was unwilling where it was aborted
-abbrev pub part_lines : List (List ℕ) → List Event → Certificate → List ℕ
-part_lines names rows c = if c.commit then flat_map (member_line names rows) c.members else flat_map (unwilling_line names) (unwilling_of c.inst rows)
-
--- the lines of an instance
+-- the lines of an instance: its own, and those of its members if it was committed, of who was unwilling if it was aborted
 abbrev pub instance_lines : List (List ℕ) → List Event → Certificate → List ℕ
-instance_lines names rows c = instance_line names c ++ part_lines names rows c
+instance_lines names rows c =
+    instance_line names c
+    ++ (if c.commit then flat_map (member_line names rows) c.members else flat_map (unwilling_line names c.inst) rows)
 
 -- the line of a row that refuses a command: its process, the command and why; nothing for another row
 abbrev pub refusal_line : List (List ℕ) → Event → List ℕ
 refusal_line names (Refused p verb cause) = line (codes "refused" ∷ name_of names p ∷ verb_word verb ∷ cause_word cause ∷ [])
 refusal_line names _ = []
 
--- what is said of an object: that it is up and what it offers, or that it is down
-abbrev pub object_words : Option ℤ → List ℕ
-object_words (Some offer) = 32 ∷ (codes "up" ++ 32 ∷ signed_decimal offer)
-object_words None = 32 ∷ codes "down"
-
--- the line of an object: the name of its process, and what is said of it
+-- the line of an object: the name of its process, and that it is up and what it offers, or that it is down
 abbrev pub object_line : List ℕ → Option ℤ → List ℕ
-object_line name offer = codes "object" ++ 32 ∷ name ++ object_words offer ++ 10 ∷ []
+object_line name (Some offer) = line (codes "object" ∷ name ∷ codes "up" ∷ signed_decimal offer ∷ [])
+object_line name None = line (codes "object" ∷ name ∷ codes "down" ∷ [])
 
 -- the last line: how many messages were lost and how many dropped
 abbrev pub losses_line : ℕ → ℕ → List ℕ

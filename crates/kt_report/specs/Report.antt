@@ -13,10 +13,6 @@ abbrev pub is_drop : Event → Bool
 is_drop (Dropped p from msg) = true
 is_drop _ = false
 
--- how many messages were dropped
-abbrev pub dropped_in : List Event → ℕ
-dropped_in rows = count_by is_drop rows
-
 -- the lines of objects: of each name with what the object offers, if it is up
 abbrev pub object_lines : List (List ℕ) → List (Option ℤ) → List ℕ
 object_lines (name ∷ names) (offer ∷ offers) = object_line name offer ++ object_lines names offers
@@ -28,7 +24,7 @@ pub record IsReport (names : List (List ℕ)) (rows : List Event) (certificates 
   pub offers : List (Option ℤ)
   pub one_each : length offers ≡ length names
   pub lost : ℕ
-  pub is : text ≡ flat_map (instance_lines names rows) certificates ++ flat_map (refusal_line names) rows ++ object_lines names offers ++ losses_line lost (dropped_in rows)
+  pub is : text ≡ flat_map (instance_lines names rows) certificates ++ flat_map (refusal_line names) rows ++ object_lines names offers ++ losses_line lost (count_by is_drop rows)
 
 -- the report of a run is written after what was written before
 pub record WritesReport (old new : Option (List ℕ)) (names : List (List ℕ)) (rows : List Event) (certificates : List Certificate) : Type 0 where

@@ -4,8 +4,8 @@ ghost use Rattle.std.specs.Prelude.{◌≡◌, ◌∷◌, ◌++◌, ℕ, OnOk, O
 ghost use Rattle.std.specs.List.{flat_map};
 ghost use Rattle.kt_base.specs.Numbers.{IsInstNo};
 ghost use Rattle.kt_text.specs.Writing.{Sends, WritesFront};
-ghost use Rattle.kt_report.specs.Unwilling.{answers_to};
-ghost use Rattle.kt_report.specs.Lines.{ends_word, instance_line, instance_lines, member_line, message_word, unwilling_line, unwilling_of};
+ghost use Rattle.kt_report.specs.Unwilling.{answer_line, answers_to, unwilling_of};
+ghost use Rattle.kt_report.specs.Lines.{ends_word, instance_line, instance_lines, member_line, message_word};
 
 use crate::unwilling::Unwilling;
 use crate::words::{end_line, name_text, push_cause, push_number, push_word};
@@ -148,9 +148,9 @@ fn write_unwilling<W: Write>(
     unwilling: &[(ProcNo, Cause)],
     writer: &mut W,
 ) -> Result<(), WriteFault>
-    ensures sent { OnOk result (Sends (W.contents writer.old) (W.contents writer.new) text.old.items text.new.items (flat_map (unwilling_line names.now) unwilling.now)) }
+    ensures sent { OnOk result (Sends (W.contents writer.old) (W.contents writer.new) text.old.items text.new.items (flat_map (answer_line names.now) unwilling.now)) }
     ensures stopped { OnErr result (WritesFront (W.contents writer.old) (W.contents writer.new)
-        (text.old.items ++ flat_map (unwilling_line names.now) unwilling.now)) }
+        (text.old.items ++ flat_map (answer_line names.now) unwilling.now)) }
 {
     for answer in unwilling {
         push_unwilling(text, names, *answer)?;
@@ -161,7 +161,7 @@ fn write_unwilling<W: Write>(
 
 // The line of one who was unwilling.
 fn push_unwilling(text: &mut Vec<u8>, names: &Names, answer: (ProcNo, Cause)) -> Result<(), Memory>
-    ensures { OnOk result (text.new.items ≡ text.old.items ++ unwilling_line names.now answer) }
+    ensures { OnOk result (text.new.items ≡ text.old.items ++ answer_line names.now answer) }
 {
     let (process, cause) = answer;
     text.extend_from_slice(b"unwilling")?;

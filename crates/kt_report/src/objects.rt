@@ -1,7 +1,8 @@
 //! The lines of objects.
 
-ghost use Rattle.std.specs.Prelude.{◌≡◌, ◌++◌, Some, OnOk, length, map};
-ghost use Rattle.kt_report.specs.Lines.{object_line, object_words};
+ghost use Rattle.std.specs.Prelude.{◌≡◌, ◌∷◌, ◌++◌, [], OnOk, codes, length, map};
+ghost use Rattle.std.specs.Fmt.{signed_decimal};
+ghost use Rattle.kt_report.specs.Lines.{line, object_line};
 ghost use Rattle.kt_report.specs.Report.{object_lines};
 
 use crate::offers::Offers;
@@ -30,25 +31,26 @@ fn push_object(text: &mut Vec<u8>, name: &[u8], offer: Option<i64>) -> Result<()
 {
     text.extend_from_slice(b"object")?;
     push_word(text, name)?;
-    push_state(text, offer)?;
-    end_line(text)
-}
-
-// The words of an object: whether it is up, and what it offers then.
-fn push_state(text: &mut Vec<u8>, offer: Option<i64>) -> Result<(), Memory>
-    ensures { OnOk result (text.new.items ≡ text.old.items ++ object_words offer) }
-{
     match offer {
         Some(offer) => push_up(text, offer),
-        None => push_word(text, b"down"),
+        None => push_down(text),
     }
 }
 
-// The words of an object that is up.
+// The rest of the line of an object that is up: so it is said, and what it offers.
 fn push_up(text: &mut Vec<u8>, offer: i64) -> Result<(), Memory>
-    ensures { OnOk result (text.new.items ≡ text.old.items ++ object_words (Some offer)) }
+    ensures { OnOk result (text.new.items ≡ text.old.items ++ 32 ∷ line (codes "up" ∷ signed_decimal offer ∷ [])) }
 {
     let mut digits = itoa::Buffer::new();
     push_word(text, b"up")?;
-    push_word(text, digits.format(offer).as_bytes())
+    push_word(text, digits.format(offer).as_bytes())?;
+    end_line(text)
+}
+
+// The rest of the line of an object that is down.
+fn push_down(text: &mut Vec<u8>) -> Result<(), Memory>
+    ensures { OnOk result (text.new.items ≡ text.old.items ++ 32 ∷ line (codes "down" ∷ [])) }
+{
+    push_word(text, b"down")?;
+    end_line(text)
 }

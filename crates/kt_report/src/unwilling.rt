@@ -3,8 +3,7 @@
 ghost use Rattle.std.specs.Prelude.{◌≡◌, ◌<◌, ◌≤◌, ◌++◌, ◌∷◌, ◌≢◌, [], ℕ, length, OnOk, IfOk};
 ghost use Rattle.kt_base.specs.Numbers.{IsInstNo};
 ghost use Rattle.kt_spacetime.specs.declared.event.Event.TheVariants as event;
-ghost use Rattle.kt_report.specs.Lines.{unwilling_in, unwilling_of};
-ghost use Rattle.kt_report.specs.Unwilling.{answers_to};
+ghost use Rattle.kt_report.specs.Unwilling.{answers_to, unwilling_in, unwilling_of};
 
 use kt_base::{Cause, InstNo, Memory, ProcNo};
 use kt_spacetime::Event;
@@ -19,7 +18,7 @@ pub(crate) struct Unwilling {
 
 impl Model for Unwilling {
     ghost use Rattle.std.specs.Prelude.{List, Vec, map};
-    ghost use Rattle.kt_report.specs.Lines.{Answer};
+    ghost use Rattle.kt_report.specs.Unwilling.{Answer};
 
     ghost Value = { List (List Answer) };
 

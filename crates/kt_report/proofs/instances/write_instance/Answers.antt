@@ -2,7 +2,9 @@ use Rattle.std.proofs.Common.{◌≡◌, List, ℕ, Bool, ap, subst, sym, ◌++�
 use Rattle.std.proofs.lemmas.Result.{on_ok_weaker, on_err_weaker}
 use Rattle.std.specs.List.{flat_map}
 use Rattle.kt_text.specs.Writing.{Sends, WritesFront}
-use Rattle.kt_report.specs.Lines.{instance_line, member_line, unwilling_line, unwilling_of, part_lines}
+use Rattle.kt_report.specs.Lines.{instance_line, member_line, unwilling_line}
+use Rattle.kt_report.specs.Unwilling.{answer_line}
+use Rattle.kt_report.proofs.AnswerFacts.{answer_lines, part_lines}
 use Rattle.kt_report.proofs.SendingFacts.{sends_after, stops_after}
 use Rattle.kt_report.proofs.instances.write_instance.Goals as goal
 
@@ -12,9 +14,9 @@ returns-else-certificate-clause-sent g c =
     let names = c.args.names.now in
     let certificate = c.args.certificate.now in
     let same = c.of.ensures.answers ∙ c.requires certificate.inst c.of.ensures.in_range in
-    let lines : flat_map (unwilling_line names) c.of.result.now ≡ part_lines names c.args.rows.now certificate =
-    ap (flat_map (unwilling_line names)) same
-    ∙ sym (ap (λ (b : Bool). if b then flat_map (member_line names c.args.rows.now) certificate.members else flat_map (unwilling_line names) (unwilling_of certificate.inst c.args.rows.now)) c.if-certificate.false) in
+    let lines : flat_map (answer_line names) c.of.result.now ≡ part_lines names c.args.rows.now certificate =
+    ap (flat_map (answer_line names)) same ∙ answer_lines names certificate.inst c.args.rows.now
+    ∙ sym (ap (λ (b : Bool). if b then flat_map (member_line names c.args.rows.now) certificate.members else flat_map (unwilling_line names certificate.inst) c.args.rows.now) c.if-certificate.false) in
     on_ok_weaker c.write_unwilling.result (λ h. sends_after (contents c.args.writer.now) (contents c.write_unwilling.new.writer) c.args.text.now.items c.push_instance.new.text.items
     c.write_unwilling.new.text.items (instance_line names certificate) (part_lines names c.args.rows.now certificate) c.in_ok-push_instance.ensures
     (subst (λ (t : List ℕ). Sends (contents c.args.writer.now) (contents c.write_unwilling.new.writer) c.push_instance.new.text.items c.write_unwilling.new.text.items t) lines h)) c.write_unwilling.ensures.sent
@@ -27,9 +29,9 @@ returns-else-certificate-clause-stopped g c =
     let names = c.args.names.now in
     let certificate = c.args.certificate.now in
     let same = c.of.ensures.answers ∙ c.requires certificate.inst c.of.ensures.in_range in
-    let lines : flat_map (unwilling_line names) c.of.result.now ≡ part_lines names c.args.rows.now certificate =
-    ap (flat_map (unwilling_line names)) same
-    ∙ sym (ap (λ (b : Bool). if b then flat_map (member_line names c.args.rows.now) certificate.members else flat_map (unwilling_line names) (unwilling_of certificate.inst c.args.rows.now)) c.if-certificate.false) in
+    let lines : flat_map (answer_line names) c.of.result.now ≡ part_lines names c.args.rows.now certificate =
+    ap (flat_map (answer_line names)) same ∙ answer_lines names certificate.inst c.args.rows.now
+    ∙ sym (ap (λ (b : Bool). if b then flat_map (member_line names c.args.rows.now) certificate.members else flat_map (unwilling_line names certificate.inst) c.args.rows.now) c.if-certificate.false) in
     on_err_weaker c.write_unwilling.result (λ h. stops_after a d c.args.text.now.items c.push_instance.new.text.items (instance_line names certificate) (part_lines names c.args.rows.now certificate) c.in_ok-push_instance.ensures
     (subst (λ (t : List ℕ). WritesFront a d (c.push_instance.new.text.items ++ t)) lines h)) c.write_unwilling.ensures.stopped
 
@@ -41,6 +43,6 @@ returns-then-certificate-clause-stopped g c =
     let names = c.args.names.now in
     let certificate = c.args.certificate.now in
     let lines : flat_map (member_line names c.args.rows.now) certificate.members ≡ part_lines names c.args.rows.now certificate =
-    sym (ap (λ (b : Bool). if b then flat_map (member_line names c.args.rows.now) certificate.members else flat_map (unwilling_line names) (unwilling_of certificate.inst c.args.rows.now)) c.if-certificate.true) in
+    sym (ap (λ (b : Bool). if b then flat_map (member_line names c.args.rows.now) certificate.members else flat_map (unwilling_line names certificate.inst) c.args.rows.now) c.if-certificate.true) in
     on_err_weaker c.write_members.result (λ h. stops_after a d c.args.text.now.items c.push_instance.new.text.items (instance_line names certificate) (part_lines names c.args.rows.now certificate) c.in_ok-push_instance.ensures
     (subst (λ (t : List ℕ). WritesFront a d (c.push_instance.new.text.items ++ t)) lines h)) c.write_members.ensures.stopped

@@ -1,5 +1,5 @@
 use Rattle.std.proofs.Common.{rules, arith, ◌≡◌, ◌<◌, ◌∙◌, ◌++◌, List, ap, sym, length, get_or}
-use Rattle.kt_report.specs.Lines.{Answer, unwilling_in}
+use Rattle.kt_report.specs.Unwilling.{Answer, unwilling_in}
 use Rattle.kt_text.proofs.PieceFacts.{items_more}
 use Rattle.kt_report.proofs.unwilling.Unwilling.in_rows.Goals as goal
 

@@ -1,7 +1,6 @@
 use Rattle.std.proofs.Common.{◌≡◌, ℕ, take}
 use Rattle.kt_base.specs.Numbers.{IsInstNo}
-use Rattle.kt_report.specs.Unwilling.{answers_to}
-use Rattle.kt_report.specs.Lines.{unwilling_of}
+use Rattle.kt_report.specs.Unwilling.{answers_to, unwilling_of}
 use Rattle.kt_report.proofs.unwilling.Unwilling.in_rows.Given as goal
 
 abbrev pub invariant-loop-row : goal.invariant-loop-row

@@ -1,7 +1,6 @@
 use Rattle.std.proofs.Common.{arith, ◌<◌, ◌∙◌, ◌++◌, List, length, ap}
 use Rattle.std.proofs.lemmas.List.{length-map}
-use Rattle.kt_report.specs.Lines.{Answer, unwilling_in}
-use Rattle.kt_report.specs.Unwilling.{answers_to}
+use Rattle.kt_report.specs.Unwilling.{Answer, unwilling_in, answers_to}
 use Rattle.kt_spacetime.specs.declared.event.Event.TheVariants as event
 use Rattle.kt_report.proofs.AnswerFacts.{answers-more}
 use Rattle.kt_report.proofs.unwilling.Unwilling.push.Goals as goal
