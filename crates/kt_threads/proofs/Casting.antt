@@ -26,3 +26,10 @@ answers_later plan given (live.Step fault) e h = h
 answers_later plan given live.Spawn e h = h
 answers_later plan given live.Differ e h = h
 answers_later plan given live.Memory e h = h
+
+-- an object that can't be saved at first
+pub cast_object : (fault : CastFault) (p : ℕ) → live_of_cast fault ≡ live.Object p → fault ≡ cast.Object p
+cast_object cast.Size p e = absurd (cc (e))
+cast_object (cast.Kind q) p e = absurd (cc (e))
+cast_object (cast.Object q) p e = cc (e)
+cast_object cast.Memory p e = absurd (cc (e))

@@ -8,4 +8,5 @@ pub mod Serving
 pub mod Moving
 pub mod Keeping
 pub mod Seating
+pub mod Rejecting
 pub mod Telling

@@ -62,13 +62,13 @@ module _ {X : Type 0} {D : X → Type 0} (content_of : DynBox X Global D → Con
       (record { does = done.does; spares = done.spares; offers = offers_held errand.offered x.present offers }) s)
 
 -- one after the other
-pub keeps_then : {X : Type 0} {D : X → Type 0} (content_of : DynBox X Global D → Content) (a b c : Seat X D) → KeepsServing a b content_of → KeepsServing b c content_of
-    → KeepsServing a c content_of
-keeps_then content_of a b c k m = (λ first s. m.0 first (k.0 first s), λ all s. m.1 all (k.1 all s))
+pub keeps_then : {X : Type 0} {D : X → Type 0} (content_of : DynBox X Global D → Content) (may_reject : DynBox X Global D → List ℕ → Type 0) (a b c : Seat X D)
+    → KeepsServing a b content_of may_reject → KeepsServing b c content_of may_reject → KeepsServing a c content_of may_reject
+keeps_then content_of may_reject a b c k m = (λ first s. m.0 first (k.0 first s), λ all s. m.1 all (k.1 all s), λ kind objects s. m.2 kind objects (k.2 kind objects s))
 
 -- what seats that have made nothing yet come to
-module _ {X : Type 0} {D : X → Type 0} (content_of : DynBox X Global D → Content) where
-  all_served : (ss ts : List (Seat X D)) → All (λ s. s.errands.items ≡ []) ss → AllZip (λ s t. KeepsServing s t content_of) ss ts → All (λ t. t.whole ≡ true) ts
+module _ {X : Type 0} {D : X → Type 0} (content_of : DynBox X Global D → Content) (may_reject : DynBox X Global D → List ℕ → Type 0) where
+  all_served : (ss ts : List (Seat X D)) → All (λ s. s.errands.items ≡ []) ss → AllZip (λ s t. KeepsServing s t content_of may_reject) ss ts → All (λ t. t.fault ≡ None) ts
       → AllServed (map (λ s. belongings_of content_of s.held) ss) (map (λ t. t.errands.items) ts) (map (λ t. belongings_of content_of t.held) ts)
   all_served [] [] fresh works all = tt
   all_served [] (t ∷ ts) fresh works all = absurd works
@@ -76,13 +76,13 @@ module _ {X : Type 0} {D : X → Type 0} (content_of : DynBox X Global D → Con
   all_served (s ∷ ss) (t ∷ ts) fresh works all =
       let first = belongings_of content_of s.held in (
         works.0.0 first (λ _. subst (λ (l : List Errand). AreServed first l first) (sym (All-head (λ x. x.errands.items ≡ []) s ss fresh)) refl)
-            (All-head (λ x. x.whole ≡ true) t ts all),
-        all_served ss ts (All-tail (λ x. x.errands.items ≡ []) s ss fresh) works.1 (All-tail (λ x. x.whole ≡ true) t ts all),
+            (All-head (λ x. x.fault ≡ None) t ts all),
+        all_served ss ts (All-tail (λ x. x.errands.items ≡ []) s ss fresh) works.1 (All-tail (λ x. x.fault ≡ None) t ts all),
       )
 
   pub all_served_of : (olds news : List (Held X D)) (lists : List (List Errand)) (ss ts : List (Seat X D))
       → map (λ s. s.held) ss ≡ olds → news ≡ map (λ t. t.held) ts → lists ≡ map (λ t. t.errands.items) ts
-      → All (λ s. s.errands.items ≡ []) ss → AllZip (λ s t. KeepsServing s t content_of) ss ts → All (λ t. t.whole ≡ true) ts
+      → All (λ s. s.errands.items ≡ []) ss → AllZip (λ s t. KeepsServing s t content_of may_reject) ss ts → All (λ t. t.fault ≡ None) ts
       → AllServed (has_of olds content_of) lists (has_of news content_of)
   all_served_of olds news lists ss ts was are have fresh works all =
       let has : Seat X D → Belongings = λ s. belongings_of content_of s.held in
@@ -94,18 +94,18 @@ module _ {X : Type 0} {D : X → Type 0} (content_of : DynBox X Global D → Con
       (subst (λ (l : List (List Errand)). AllServed (map has ss) l (map has ts)) (sym have)
       (all_served ss ts fresh works all)))
 
-  all_left : (ss ts : List (Seat X D)) → AllZip (λ s t. KeepsServing s t content_of) ss ts → All (λ t. t.whole ≡ true) ts
+  all_left : (ss ts : List (Seat X D)) → AllZip (λ s t. KeepsServing s t content_of may_reject) ss ts → All (λ t. t.fault ≡ None) ts
       → AllZip (λ g h. AreLeft g.spares.items h.spares.items) (map (λ s. s.held) ss) (map (λ t. t.held) ts)
   all_left [] [] works all = tt
   all_left [] (t ∷ ts) works all = absurd works
   all_left (s ∷ ss) [] works all = absurd works
   all_left (s ∷ ss) (t ∷ ts) works all = (
-    works.0.1 s.held.spares.items (λ _. (0, refl)) (All-head (λ x. x.whole ≡ true) t ts all),
-    all_left ss ts works.1 (All-tail (λ x. x.whole ≡ true) t ts all),
+    works.0.1 s.held.spares.items (λ _. (0, refl)) (All-head (λ x. x.fault ≡ None) t ts all),
+    all_left ss ts works.1 (All-tail (λ x. x.fault ≡ None) t ts all),
   )
 
   pub all_left_of : (olds news : List (Held X D)) (ss ts : List (Seat X D)) → map (λ s. s.held) ss ≡ olds → news ≡ map (λ t. t.held) ts
-      → AllZip (λ s t. KeepsServing s t content_of) ss ts → All (λ t. t.whole ≡ true) ts
+      → AllZip (λ s t. KeepsServing s t content_of may_reject) ss ts → All (λ t. t.fault ≡ None) ts
       → AllZip (λ g h. AreLeft g.spares.items h.spares.items) olds news
   all_left_of olds news ss ts was are works all =
       subst (λ (l : List (Held X D)). AllZip (λ g h. AreLeft g.spares.items h.spares.items) l news) was

@@ -1,5 +1,5 @@
--- Which faults come before anything is saved.
-use Rattle.std.specs.Prelude.{ℕ, List, Bool, true, false}
+-- Which faults are answered.
+use Rattle.std.specs.Prelude.{◌≡◌, ◌⊎◌, ℕ, List, Bool, true, false, Option, Some, None, slice_index_or}
 use Rattle.kt_core.specs.declared.faults.StepFault.{StepFault}
 use Rattle.kt_core.specs.declared.faults.StepFault.TheVariants as step
 use Rattle.kt_held.specs.Casts.{HasSizes}
@@ -56,16 +56,27 @@ live_of_act p act.Unfit = Differ
 live_of_act p act.Form = Object p
 live_of_act p act.Memory = Memory
 
--- the fault that threads end by where this one was the first: what is wrong with the objects comes from no thread
-abbrev pub live_of_thread : LiveFault → LiveFault
-live_of_thread CastSize = Differ
-live_of_thread (CastKind p) = Differ
-live_of_thread (Object p) = Object p
-live_of_thread (Journal p) = Journal p
-live_of_thread (Step fault) = Step fault
-live_of_thread Spawn = Spawn
-live_of_thread Differ = Differ
-live_of_thread Memory = Memory
+-- the process that a fault names which comes once all objects are saved at first
+abbrev pub live_stopped_at : LiveFault → Option ℕ
+live_stopped_at CastSize = None
+live_stopped_at (CastKind p) = None
+live_stopped_at (Object p) = Some p
+live_stopped_at (Journal p) = Some p
+live_stopped_at (Step fault) = None
+live_stopped_at Spawn = None
+live_stopped_at Differ = None
+live_stopped_at Memory = None
+
+-- a fault is one that threads end by, where these are the faults that ended them, by process: what is wrong with the objects
+-- comes from no thread, and one that names a process has ended that process's thread
+abbrev pub IsOfThreads : List (Option LiveFault) → LiveFault → Type 0
+IsOfThreads ended fault = (is_live_of_cast fault ≡ false)
+    × ((p : ℕ) → live_stopped_at fault ≡ Some p → slice_index_or ended p None ≡ Some fault)
+
+-- what is answered where this fault was the first
+abbrev pub AnswersFirst : List (Option LiveFault) → LiveFault → LiveFault → Type 0
+AnswersFirst ended first answer = (IsOfThreads ended first × (answer ≡ first))
+    ⊎ ((¬ IsOfThreads ended first) × (answer ≡ Differ))
 
 -- the fault that a fault of the threads themselves is
 abbrev pub live_of_crew : CrewFault → LiveFault

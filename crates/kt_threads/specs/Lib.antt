@@ -1,5 +1,6 @@
 pub mod Errands
 pub mod Faults
+pub mod FaultTexts
 pub mod Histories
 pub mod Moves
 pub mod Noted

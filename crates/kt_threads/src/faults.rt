@@ -2,7 +2,7 @@
 
 ghost use Rattle.std.specs.Prelude.{◌≡◌, false};
 ghost use Rattle.kt_threads.specs.declared.faults.LiveFault.TheVariants as live;
-ghost use Rattle.kt_threads.specs.Faults.{is_live_of_cast, live_of_act, live_of_cast, live_of_crew, live_of_step, live_of_thread};
+ghost use Rattle.kt_threads.specs.Faults.{is_live_of_cast, live_of_act, live_of_cast, live_of_crew, live_of_step, live_stopped_at};
 
 use crate::crew::CrewFault;
 use kt_base::{Memory, ProcNo};
@@ -20,7 +20,7 @@ pub enum LiveFault {
     CastKind(ProcNo),
     /// The object of this process could not be saved at first, or could not be restored from its saved state.
     Object(ProcNo),
-    /// There was no memory for what this process was told.
+    /// There was no memory to note what a step asked of the object of this process.
     Journal(ProcNo),
     /// A step was refused.
     Step(StepFault),
@@ -55,14 +55,20 @@ impl LiveFault {
         }
     }
 
-    /// The fault that a thread ended by. None of the objects that are given comes from a thread.
-    pub(crate) fn of_thread(self) -> LiveFault
-        ensures fault { result ≡ live_of_thread self }
-        ensures ours { is_live_of_cast result ≡ false }
+    /// Whether it says what is wrong with the objects that are given.
+    pub(crate) fn is_of_cast(&self) -> bool
+        ensures { result ≡ is_live_of_cast self.now }
     {
-        match self {
-            LiveFault::CastSize | LiveFault::CastKind(_) => LiveFault::Differ,
-            _ => self,
+        matches!(self, LiveFault::CastSize | LiveFault::CastKind(_))
+    }
+
+    /// The process that it names, if it comes once all objects are saved at first.
+    pub(crate) fn process(&self) -> Option<ProcNo>
+        ensures { result ≡ live_stopped_at self.now }
+    {
+        match *self {
+            LiveFault::Object(p) | LiveFault::Journal(p) => Some(p),
+            _ => None,
         }
     }
 }
@@ -108,6 +114,11 @@ impl From<CastFault> for LiveFault {
 }
 
 impl fmt::Display for LiveFault {
+    ghost use Rattle.std.specs.Prelude.{Some};
+    ghost use Rattle.kt_threads.specs.FaultTexts.{live_fault_text};
+
+    ghost output = { λ fault. Some (live_fault_text fault) };
+
     fn fmt<W: fmt::Write>(&self, f: &mut fmt::Formatter<W>) -> fmt::Result {
         match self {
             LiveFault::CastSize => write!(f, "run: CastSize"),

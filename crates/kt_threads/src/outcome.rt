@@ -1,16 +1,18 @@
 //! All processes, each in a thread of its own.
 
 ghost use Rattle.std.specs.List.{AllZip};
-ghost use Rattle.std.specs.Prelude.{◌≡◌, [], List, length, true, false, None, All, map, OnOk, IfOk, IfErr};
+ghost use Rattle.std.specs.Prelude.{◌≡◌, ◌⊎◌, [], ℕ, List, length, true, false, None, Some, All, map, slice_index, slice_index_or, OnOk, IfOk, IfErr, IsTrue, ◌↔◌};
 ghost use Rattle.kt_core.specs.Worlds.{IsWorldAtRest};
 ghost use Rattle.kt_held.specs.Holdings.{Content, content};
+ghost use Rattle.kt_held.specs.Refusals.{IsLeastRefused};
 ghost use Rattle.kt_plans.specs.Follows.{FollowsPlan};
 ghost use Rattle.kt_plans.specs.Headline.{IsCertified, IsPromised};
 ghost use Rattle.kt_run.specs.Faults.{IsCast};
-ghost use Rattle.kt_run.specs.Objects.{has_of, HoldDue, AreLeft};
+ghost use Rattle.kt_run.specs.Objects.{first_of, has_of, HoldDue, AreLeft};
+ghost use Rattle.kt_run.specs.Rejections.{MayReject, objects_held};
 ghost use Rattle.kt_run.specs.Runs.{IsLogOfRun};
 ghost use Rattle.kt_run.specs.Telling.{AreToldTheirRows};
-ghost use Rattle.kt_threads.specs.Faults.{AnswersLive, is_live_of_cast};
+ghost use Rattle.kt_threads.specs.Faults.{AnswersFirst, AnswersLive, is_live_of_cast, live_stopped_at};
 ghost use Rattle.kt_threads.specs.Histories.{AreTheirs, IsWholeHistory, IsLived};
 ghost use Rattle.kt_threads.specs.Noted.{AreNoted, AreToldBy};
 ghost use Rattle.kt_threads.specs.Seats.{AllServed, KeepsServing};
@@ -37,6 +39,9 @@ use std::thread::Threads;
 fn first_objects(alloc: Global, plan: &Plan, cast: Cast) -> Result<Vec<Held>, LiveFault>
     ensures cast { OnOk result (IsCast plan.now (map (λ row. map (λ b. kind_of b) row.items) cast.items)) }
     ensures fault { IfErr result (AnswersLive plan.now (map (λ row. map (λ b. kind_of b) row.items) cast.items)) }
+    ensures object { IfErr result (λ fault. (p : ℕ) → fault ≡ LiveFault.Object p →
+        IsLeastRefused (λ b. may_save b) (λ b. may_refuse b) (map (λ row. row.items) cast.items) p) }
+    ensures given { IfOk result (λ objects. objects_held objects.items ≡ map (λ row. row.items) cast.items) }
     ensures due { IfOk result (λ objects. HoldDue
         (map (λ row. map (λ b. content (kind_of b) (value_of b)) row.items) cast.items) []
         (has_of objects.items (λ b. content (kind_of b) (value_of b)))) }
@@ -54,7 +59,9 @@ fn first_objects(alloc: Global, plan: &Plan, cast: Cast) -> Result<Vec<Held>, Li
 fn seats_of(alloc: Global, objects: Vec<Held>) -> Result<Vec<Seat>, LiveFault>
     ensures held { IfOk result (λ seats. map (λ seat. seat.held) seats.items ≡ objects.items) }
     ensures fresh { IfOk result (λ seats. All (λ seat. seat.errands.items ≡ []) seats.items) }
+    ensures going { IfOk result (λ seats. All (λ seat. seat.fault ≡ None) seats.items) }
     ensures fault { IfErr result (λ fault. is_live_of_cast fault ≡ false) }
+    ensures unnamed { IfErr result (λ fault. live_stopped_at fault ≡ None) }
 {
     let mut seats = Vec::with_capacity(alloc, objects.len())?;
     let mut number = 0u8;
@@ -78,7 +85,8 @@ fn work_all<R: Threads + Wait + Sync>(
     seats: Vec<Seat>,
 ) -> Result<Vec<Seat>, CrewFault>
     ensures { IfOk result (λ worked. AllZip (λ before after. KeepsServing before after
-        (λ b. content (kind_of (b.vtable, b.value)) (value_of (b.vtable, b.value)))) seats.items worked.items) }
+        (λ b. content (kind_of (b.vtable, b.value)) (value_of (b.vtable, b.value)))
+        (λ b saved. may_reject (b.vtable, b.value) saved)) seats.items worked.items) }
 {
     run_all(
         rt,
@@ -86,7 +94,8 @@ fn work_all<R: Threads + Wait + Sync>(
         seats,
         &|seat: Seat| -> Seat
             ensures { KeepsServing seat result
-                (λ b. content (kind_of (b.vtable, b.value)) (value_of (b.vtable, b.value))) }
+                (λ b. content (kind_of (b.vtable, b.value)) (value_of (b.vtable, b.value)))
+                (λ b saved. may_reject (b.vtable, b.value) saved) }
         { work(rt, alloc, board, seat) },
         &|| board.stop(rt, LiveFault::Spawn),
     )
@@ -96,6 +105,7 @@ fn work_all<R: Threads + Wait + Sync>(
 fn finish(
     minutes: Minutes,
     plan: &Plan,
+    seats: &[Seat],
 ) -> Result<
     (
         SpaceTime,
@@ -112,23 +122,52 @@ fn finish(
     ensures promised { IfOk result (λ parts. IsPromised parts.0.rows) }
     ensures follows { IfOk result (λ parts. FollowsPlan plan.entry.now parts.0.rows) }
     ensures fault { IfErr result (λ fault. is_live_of_cast fault ≡ false) }
+    ensures named { IfErr result (λ fault. (p : ℕ) → live_stopped_at fault ≡ Some p →
+        slice_index_or (map (λ seat. seat.fault) seats.entry.now) p None ≡ Some fault) }
 {
-    ended(minutes.state(), plan)?;
+    ended(minutes.state(), plan, seats)?;
     let (state, asked, told) = minutes.into_parts();
     let (log, steps) = state.into_parts();
     Ok((log, steps, asked, told))
 }
 
+/// The fault that is answered where this one was the first. Of the faults that name a process only one by which its thread
+/// ended is answered; and what is wrong with the objects comes from no thread.
+fn fault_of(first: LiveFault, seats: &[Seat]) -> LiveFault
+    ensures fault { AnswersFirst (map (λ seat. seat.fault) seats.now) first result }
+    ensures ours { is_live_of_cast result ≡ false }
+{
+    if first.is_of_cast() {
+        return LiveFault::Differ;
+    }
+    match first.process() {
+        Some(p) if !has_ended(seats, p, &first) => LiveFault::Differ,
+        _ => first,
+    }
+}
+
+/// Whether the thread of a process ended by this fault.
+fn has_ended(seats: &[Seat], p: ProcNo, fault: &LiveFault) -> bool
+    ensures { IsTrue result ↔ (slice_index_or (map (λ seat. seat.fault) seats.now) p None ≡ Some fault.now) }
+{
+    match seats.get(p.index()) {
+        Some(seat) => seat.ended_by(fault),
+        None => false,
+    }
+}
+
 /// That a run of the plan ended at rest, or the fault that ended it.
-fn ended(state: &State, plan: &Plan) -> Result<(), LiveFault>
+fn ended(state: &State, plan: &Plan, seats: &[Seat]) -> Result<(), LiveFault>
     ensures plan { OnOk result (state.now.world.agenda.plan ≡ plan.now) }
     ensures rest { OnOk result (IsWorldAtRest state.now.world) }
     ensures follows { OnOk result (FollowsPlan plan.now state.now.world.system.rows.rows) }
     ensures going { OnOk result (state.now.fault ≡ None) }
     ensures fault { IfErr result (λ fault. is_live_of_cast fault ≡ false) }
+    ensures named { IfErr result (λ fault. (p : ℕ) → live_stopped_at fault ≡ Some p →
+        slice_index_or (map (λ seat. seat.fault) seats.now) p None ≡ Some fault) }
 {
     if let Some(fault) = state.fault() {
-        return Err(fault.of_thread());
+        return Err(fault_of(fault, seats));
     }
     if !state.is_of(plan) || !state.at_rest() {
         return Err(LiveFault::Differ);
@@ -138,11 +177,12 @@ fn ended(state: &State, plan: &Plan) -> Result<(), LiveFault>
 
 /// What each process's steps asked of its object, and what it holds, if all of that was done.
 fn leave(alloc: Global, seats: Vec<Seat>) -> Result<(Vec<Vec<Errand>>, Vec<Held>), LiveFault>
-    ensures whole { OnOk result (All (λ seat. seat.whole ≡ true) seats.items) }
+    ensures whole { OnOk result (All (λ seat. seat.fault ≡ None) seats.items) }
     ensures errands { IfOk result (λ parts.
         map (λ list. list.items) parts.0.items ≡ map (λ seat. seat.errands.items) seats.items) }
     ensures held { IfOk result (λ parts. parts.1.items ≡ map (λ seat. seat.held) seats.items) }
     ensures fault { IfErr result (λ fault. is_live_of_cast fault ≡ false) }
+    ensures unnamed { IfErr result (λ fault. live_stopped_at fault ≡ None) }
 {
     let mut lists = Vec::with_capacity(alloc, seats.len())?;
     let mut objects = Vec::with_capacity(alloc, seats.len())?;
@@ -151,9 +191,9 @@ fn leave(alloc: Global, seats: Vec<Seat>) -> Result<(Vec<Vec<Errand>>, Vec<Held>
             me: _,
             held,
             errands,
-            whole,
+            fault,
         } = seat;
-        if !whole {
+        if fault.is_some() {
             return Err(LiveFault::Differ);
         }
         if lists.push(errands).is_err() || objects.push(held).is_err() {
@@ -195,17 +235,19 @@ fn work_out<R: Threads + Wait + Sync>(
     ensures promised { IfOk result (λ r. IsPromised r.0.rows) }
     ensures follows { IfOk result (λ r. FollowsPlan plan.now r.0.rows) }
     ensures fault { IfErr result (λ fault. is_live_of_cast fault ≡ false) }
+    ensures object { (cast : List (List Content)) → HoldDue cast [] (has_of objects.items
+        (λ b. content (kind_of (b.vtable, b.value)) (value_of (b.vtable, b.value)))) →
+        IfErr result (λ fault. (p : ℕ) → fault ≡ LiveFault.Object p →
+        MayReject (λ b saved. may_reject (b.vtable, b.value) saved) (first_of (slice_index_or cast p [])).kind
+        (slice_index_or (objects_held objects.items) p [])) }
 {
     let seats = seats_of(alloc, objects)?;
     let state = State::new(alloc, plan.copy(alloc)?)?;
     let minutes = Minutes::new(alloc, state, plan.size(), tells)?;
     let board = Board::new(alloc, minutes, plan.size())?;
-    let seats = match work_all(rt, alloc, &board, seats) {
-        Err(CrewFault::Memory) => return Err(LiveFault::Memory),
-        seats => seats,
-    };
-    let (log, steps, asked, told) = finish(board.into_minutes(), plan)?;
-    let (lists, objects) = leave(alloc, seats?)?;
+    let seats = work_all(rt, alloc, &board, seats)?;
+    let (log, steps, asked, told) = finish(board.into_minutes(), plan, &seats)?;
+    let (lists, objects) = leave(alloc, seats)?;
     if !are_all_same(plan.size(), &asked, &lists) {
         return Err(LiveFault::Differ);
     }
@@ -235,6 +277,11 @@ fn live_with<R: Threads + Wait + Sync>(
     ensures promised { IfOk result (λ o. IsPromised o.log.rows) }
     ensures follows { IfOk result (λ o. FollowsPlan plan.now o.log.rows) }
     ensures fault { IfErr result (λ fault. is_live_of_cast fault ≡ false) }
+    ensures object { (cast : List (List Content)) → HoldDue cast [] (has_of objects.items
+        (λ b. content (kind_of (b.vtable, b.value)) (value_of (b.vtable, b.value)))) →
+        IfErr result (λ fault. (p : ℕ) → fault ≡ LiveFault.Object p →
+        MayReject (λ b saved. may_reject (b.vtable, b.value) saved) (first_of (slice_index_or cast p [])).kind
+        (slice_index_or (objects_held objects.items) p [])) }
 {
     let (log, _steps, _lists, told, objects) = work_out(rt, alloc, plan, objects, true)?;
     if told.len() != plan.size() {
@@ -282,6 +329,13 @@ pub fn live<R: Threads + Wait + Sync>(
     // The objects are those that the plan asks for; else a fault says what is wrong with them.
     ensures cast { OnOk result (IsCast plan.now (map (λ row. map (λ b. kind_of b) row.items) cast.items)) }
     ensures fault { IfErr result (AnswersLive plan.now (map (λ row. map (λ b. kind_of b) row.items) cast.items)) }
+
+    // Where an object fails, it is either at first, that of the least process whose save may be refused; or one of the objects
+    // that the process was given may reject a saved state of their kind.
+    ensures object { IfErr result (λ fault. (p : ℕ) → fault ≡ LiveFault.Object p →
+        IsLeastRefused (λ b. may_save b) (λ b. may_refuse b) (map (λ row. row.items) cast.items) p
+        ⊎ MayReject (λ b saved. may_reject b saved) (slice_index plan.now.kinds p)
+        (slice_index_or (map (λ row. row.items) cast.items) p [])) }
 {
     kt_plans::certificates_of_promised_logs();
     let objects = first_objects(alloc, plan, cast)?;
@@ -310,6 +364,13 @@ pub fn live_log_of<R: Threads + Wait + Sync>(
     // The objects are those that the plan asks for; else a fault says what is wrong with them.
     ensures cast { OnOk result (IsCast plan.now (map (λ row. map (λ b. kind_of b) row.items) cast.items)) }
     ensures fault { IfErr result (AnswersLive plan.now (map (λ row. map (λ b. kind_of b) row.items) cast.items)) }
+
+    // Where an object fails, it is either at first, that of the least process whose save may be refused; or one of the objects
+    // that the process was given may reject a saved state of their kind.
+    ensures object { IfErr result (λ fault. (p : ℕ) → fault ≡ LiveFault.Object p →
+        IsLeastRefused (λ b. may_save b) (λ b. may_refuse b) (map (λ row. row.items) cast.items) p
+        ⊎ MayReject (λ b saved. may_reject b saved) (slice_index plan.now.kinds p)
+        (slice_index_or (map (λ row. row.items) cast.items) p [])) }
 {
     kt_plans::certificates_of_promised_logs();
     let objects = first_objects(alloc, plan, cast)?;

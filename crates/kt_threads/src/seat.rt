@@ -1,6 +1,6 @@
 //! What one thread does.
 
-ghost use Rattle.std.specs.Prelude.{◌≡◌, [], IfSome};
+ghost use Rattle.std.specs.Prelude.{◌≡◌, [], None, Some, IfSome, IsTrue, ◌↔◌};
 ghost use Rattle.kt_object.specs.Bytes.{IsSavedState};
 ghost use Rattle.kt_object.specs.Value.{offered};
 ghost use Rattle.kt_held.specs.Holdings.{content};
@@ -17,13 +17,14 @@ use kt_plan::{Look, Step};
 use std::alloc::Global;
 use std::sync::Wait;
 
-/// A process's thread: what the process holds, what its steps asked of its object, and whether all of that was done.
+/// A process's thread: what the process holds, what its steps asked of its object, and the fault by which it ended, where not
+/// all of that was done.
 #[derive(Drop)]
 pub(crate) struct Seat {
     pub(crate) me: ProcNo,
     pub(crate) held: Held,
     pub(crate) errands: Vec<Errand>,
-    pub(crate) whole: bool,
+    pub(crate) fault: Option<LiveFault>,
 }
 
 impl Seat {
@@ -31,19 +32,21 @@ impl Seat {
     pub(crate) fn new(alloc: Global, me: ProcNo, held: Held) -> Seat
         ensures held { result.held ≡ held }
         ensures errands { result.errands.items ≡ [] }
+        ensures going { result.fault ≡ None }
     {
         Seat {
             me,
             held,
             errands: Vec::new(alloc),
-            whole: true,
+            fault: None,
         }
     }
 
     /// Makes the next step. Whether there may be more.
     fn turn<R: Wait>(&mut self, rt: &R, alloc: Global, board: &Board) -> bool
         ensures { KeepsServing self.old self.new
-            (λ b. content (kind_of (b.vtable, b.value)) (value_of (b.vtable, b.value))) }
+            (λ b. content (kind_of (b.vtable, b.value)) (value_of (b.vtable, b.value)))
+            (λ b saved. may_reject (b.vtable, b.value) saved) }
     {
         match board.advance(rt, self.me) {
             Next::Ask(step, look) => self.ask(rt, alloc, board, step, look),
@@ -57,7 +60,8 @@ impl Seat {
     /// may be more.
     fn ask<R: Wait>(&mut self, rt: &R, alloc: Global, board: &Board, step: Step, look: Look) -> bool
         ensures { KeepsServing self.old self.new
-            (λ b. content (kind_of (b.vtable, b.value)) (value_of (b.vtable, b.value))) }
+            (λ b. content (kind_of (b.vtable, b.value)) (value_of (b.vtable, b.value)))
+            (λ b saved. may_reject (b.vtable, b.value) saved) }
     {
         let answer = self.held.ask(alloc, look);
         match board.make(rt, self.me, step, look, answer.give) {
@@ -75,7 +79,8 @@ impl Seat {
         requires offered { made.look ≡ Look.NeedsBody → IfSome self.old.held.present (λ b.
             made.give.body ≡ offered (kind_of (b.vtable, b.value)) (value_of (b.vtable, b.value))) }
         ensures { KeepsServing self.old self.new
-            (λ b. content (kind_of (b.vtable, b.value)) (value_of (b.vtable, b.value))) }
+            (λ b. content (kind_of (b.vtable, b.value)) (value_of (b.vtable, b.value)))
+            (λ b saved. may_reject (b.vtable, b.value) saved) }
     {
         match errand_for(&made) {
             Some(errand) => self.run_errand(rt, board, errand, saved),
@@ -96,27 +101,46 @@ impl Seat {
         requires offers { IfSome errand.offered (λ body. IfSome self.old.held.present (λ b.
             body ≡ offered (kind_of (b.vtable, b.value)) (value_of (b.vtable, b.value)))) }
         ensures { KeepsServing self.old self.new
-            (λ b. content (kind_of (b.vtable, b.value)) (value_of (b.vtable, b.value))) }
+            (λ b. content (kind_of (b.vtable, b.value)) (value_of (b.vtable, b.value)))
+            (λ b saved. may_reject (b.vtable, b.value) saved) }
     {
         let acts = copied(&errand.acts);
         if self.errands.push(errand).is_err() {
-            self.whole = false;
-            board.stop(rt, LiveFault::Journal(self.me));
+            self.end(rt, board, LiveFault::Journal(self.me));
             return false;
         }
         if let Err(fault) = self.held.obey(acts, saved) {
-            self.whole = false;
-            board.stop(rt, LiveFault::of_act(self.me, fault));
+            self.end(rt, board, LiveFault::of_act(self.me, fault));
             return false;
         }
         true
+    }
+
+    /// Whether the thread ended by this fault.
+    pub(crate) fn ended_by(&self, fault: &LiveFault) -> bool
+        ensures { IsTrue result ↔ (self.now.fault ≡ Some fault.now) }
+    {
+        match &self.fault {
+            Some(own) => own == fault,
+            None => false,
+        }
+    }
+
+    /// Ends the thread, and with it all others.
+    fn end<R: Wait>(&mut self, rt: &R, board: &Board, fault: LiveFault)
+        ensures { self.new ≡ record self.old { fault = Some fault } }
+    {
+        let kept = fault;
+        self.fault = Some(kept);
+        board.stop(rt, fault);
     }
 }
 
 /// Makes all steps of a process.
 pub(crate) fn work<R: Wait>(rt: &R, alloc: Global, board: &Board, mut seat: Seat) -> Seat
     ensures { KeepsServing seat result
-        (λ b. content (kind_of (b.vtable, b.value)) (value_of (b.vtable, b.value))) }
+        (λ b. content (kind_of (b.vtable, b.value)) (value_of (b.vtable, b.value)))
+        (λ b saved. may_reject (b.vtable, b.value) saved) }
 {
     for _ in rt.forever() {
         if !seat.turn(rt, alloc, board) {

@@ -2,8 +2,9 @@ use Rattle.std.proofs.Common.{refl}
 use Rattle.kt_held.specs.Holdings.{content}
 use Rattle.kt_run.proofs.Casting.{answered}
 use Rattle.kt_run.proofs.Holding.{hold_first}
+use Rattle.kt_run.proofs.Rejecting.{all_given}
 use Rattle.kt_run.proofs.Spares.{left_given}
-use Rattle.kt_threads.proofs.Casting.{of_run}
+use Rattle.kt_threads.proofs.Casting.{cast_object, of_run}
 use Rattle.kt_threads.proofs.outcome.first_objects.Goals as goal
 
 pub returns-in-Err-clause-fault : goal.returns-in-Err-clause-fault
@@ -17,3 +18,9 @@ returns-in-Ok-clause-due g c = hold_first (λ row. row.items) (λ b. content ((g
 
 pub returns-in-Ok-clause-spares : goal.returns-in-Ok-clause-spares
 returns-in-Ok-clause-spares g c = left_given (λ h. h.spares.items) (λ row. row.items) (λ h. h.present) c.args.cast.items c.in-Ok.objects.items c.in-Ok.ensures.objects (λ p h l. (c.in-Ok.ensures.holds p h l).0)
+
+pub returns-in-Ok-clause-given : goal.returns-in-Ok-clause-given
+returns-in-Ok-clause-given g c = all_given (λ row. row.items) c.args.cast.items c.in-Ok.objects.items c.in-Ok.ensures.objects (λ p h l. (c.in-Ok.ensures.holds p h l).0)
+
+pub returns-in-Err-clause-object : goal.returns-in-Err-clause-object
+returns-in-Err-clause-object g c = rw c.from.ensures (λ p e. c.in-Err.ensures.object p (cast_object c.in-Err.fault p e))

@@ -1,3 +1,9 @@
+use Rattle.std.proofs.Common.{rules, ◌≡◌, [], inl, inr, map, refl, subst}
+use Rattle.std.specs.Prelude.{Result, Err, IfErr, slice_index_or}
+use Rattle.kt_held.specs.Holdings.{content}
+use Rattle.kt_run.specs.Objects.{first_of}
+use Rattle.kt_run.specs.Rejections.{MayReject}
+use Rattle.kt_run.proofs.Rejecting.{of_plan}
 use Rattle.kt_run.proofs.Spares.{left_then}
 use Rattle.kt_threads.proofs.outcome.live.Goals as goal
 
@@ -8,3 +14,16 @@ pub returns-clause-spares : goal.returns-clause-spares
 returns-clause-spares g c =
     left_then (λ h. h.spares.items) (λ row. row.items) c.args.cast.items c.in_ok-objects.objects.items c.in_ok-outcome.outcome.objects.items
     c.in_ok-objects.ensures.spares c.in_ok-outcome.ensures.spares
+
+if_err : {T E : Type 0} (r : Result T E) (P : E → Type 0) (e : E) → r ≡ Err e → P e → IfErr r P
+if_err r P e is p = rw is p
+
+pub returns-in_err-objects-clause-object : goal.returns-in_err-objects-clause-object
+returns-in_err-objects-clause-object g c = if_err c.from_residual.result _ c.in_err-objects.field-0.0 (search rules) (λ p e. inl (c.in_err-objects.ensures.object p e))
+
+pub returns-in_err-outcome-clause-object : goal.returns-in_err-outcome-clause-object
+returns-in_err-outcome-clause-object g c = if_err c.from_residual-in_err-outcome.result _ c.in_err-outcome.field-0.0 (search rules)
+    (λ p e. inr (of_plan (λ row. row.items) (λ b. (goal.Recoverable-dyn g (b.vtable, b.value)).kind_of b.value) (λ b. content ((goal.Recoverable-dyn g (b.vtable, b.value)).kind_of b.value) ((goal.Recoverable-dyn g (b.vtable, b.value)).value_of b.value)) (λ b. refl) (λ b saved. (goal.Recoverable-dyn g (b.vtable, b.value)).may_reject b.value saved) c.args.plan.now c.args.cast.items p c.in_ok-objects.ensures.cast
+    (subst (λ objects. MayReject (λ b saved. (goal.Recoverable-dyn g (b.vtable, b.value)).may_reject b.value saved) (first_of (slice_index_or (map (λ row. map (λ b. content ((goal.Recoverable-dyn g (b.vtable, b.value)).kind_of b.value) ((goal.Recoverable-dyn g (b.vtable, b.value)).value_of b.value)) row.items) c.args.cast.items) p [])).kind (slice_index_or objects p []))
+    c.in_ok-objects.ensures.given
+    (c.in_err-outcome.ensures.object (map (λ row. map (λ b. content ((goal.Recoverable-dyn g (b.vtable, b.value)).kind_of b.value) ((goal.Recoverable-dyn g (b.vtable, b.value)).value_of b.value)) row.items) c.args.cast.items) c.in_ok-objects.ensures.due p e))))

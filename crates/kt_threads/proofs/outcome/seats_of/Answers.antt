@@ -1,4 +1,4 @@
-use Rattle.std.proofs.Common.{rules, ◌≡◌, [], ◌∷◌, ◌++◌, arith}
+use Rattle.std.proofs.Common.{rules, ◌≡◌, [], ◌∷◌, ◌++◌, None, arith}
 use Rattle.std.proofs.lemmas.Grind.{common_steps}
 use Rattle.std.proofs.lemmas.List.Elements.{All-push}
 use Rattle.kt_threads.proofs.Zips.{mapped_more}
@@ -14,4 +14,5 @@ loop-held-preserved g c =
       split = grind (arith, common_steps);
       held = rw pushed (mapped_more (λ seat. seat.held) c.loop-held.seats.items c.loop-held.yielded seat c.in-Some.held c.loop-held.invariant.held c.new-in-loop-held.ensures.held);
       fresh = rw pushed (All-push (λ seat. seat.errands.items ≡ []) c.loop-held.seats.items seat c.loop-held.invariant.fresh c.new-in-loop-held.ensures.errands);
+      going = rw pushed (All-push (λ seat. seat.fault ≡ None) c.loop-held.seats.items seat c.loop-held.invariant.going c.new-in-loop-held.ensures.going);
     }

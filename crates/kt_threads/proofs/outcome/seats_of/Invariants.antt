@@ -1,4 +1,4 @@
-use Rattle.std.proofs.Common.{◌≡◌, [], ◌++◌, map, All}
+use Rattle.std.proofs.Common.{◌≡◌, [], ◌++◌, None, map, All}
 use Rattle.std.specs.Vec.Iter.{into_iter_items}
 use Rattle.kt_threads.proofs.outcome.seats_of.Given as goal
 
@@ -9,4 +9,5 @@ invariant-loop-held g l = record {
   split : l.yielded ++ into_iter_items l.held-iterator ≡ l.fn.objects.items;
   held : map (λ seat. seat.held) l.seats.items ≡ l.yielded;
   fresh : All (λ seat. seat.errands.items ≡ []) l.seats.items;
+  going : All (λ seat. seat.fault ≡ None) l.seats.items;
 }

@@ -1,19 +1,17 @@
-use Rattle.std.proofs.Common.{rules, ◌≡◌, ◌∙◌, Ok, length, subst, sym, map, true}
-use Rattle.std.specs.Prelude.{Result, IfOk}
+use Rattle.std.proofs.Common.{rules, ◌≡◌, ◌∙◌, Some, ap, sym, length, map, true}
+use Rattle.std.specs.Prelude.{Result, Err, IfErr}
 use Rattle.kt_held.specs.Holdings.{content}
 use Rattle.kt_threads.proofs.Noting.{theirs_of}
+use Rattle.kt_threads.specs.Faults.{live_stopped_at}
+use Rattle.kt_threads.proofs.Rejecting.{not_object, rejected_in_thread}
 use Rattle.kt_threads.proofs.Seating.{all_served_of, all_left_of}
 use Rattle.kt_threads.proofs.outcome.work_out.Goals as goal
-use Rattle.kt_threads.proofs.outcome.work_out.Goals.{in_default, in_default-2}
-
-at_ok : {T E : Type 0} (r s : Result T E) (t : T) (P : T → Type 0) → s ≡ r → s ≡ Ok t → IfOk r P → P t
-at_ok r s t P same e h = subst (λ r. IfOk r P) (sym same ∙ e) h
 
 pub returns-clause-theirs : goal.returns-clause-theirs
 returns-clause-theirs g c =
     let is : c.are_all_same.result ≡ true = search rules in
     theirs_of (λ list. list.items) (length c.args.plan.now.names) (map (λ step. step.value) c.in_ok-log.steps.items)
-    c.in_ok-log.asked.items c.in_ok-lists.lists.items c.deref.result.now c.deref-2.result.now c.in_ok-log.ensures.noted.asked
+    c.in_ok-log.asked.items c.in_ok-lists.lists.items c.deref-2.result.now c.deref-3.result.now c.in_ok-log.ensures.noted.asked
     (search rules) (search rules) (c.are_all_same.ensures.same is) (c.are_all_same.ensures.count is ∙ (search rules))
 
 pub returns-clause-told : goal.returns-clause-told
@@ -21,22 +19,27 @@ returns-clause-told g c = c.in_ok-log.ensures.noted.tells
 
 pub returns-clause-served : goal.returns-clause-served
 returns-clause-served g c =
-    all_served_of (λ b. content ((goal.Recoverable-dyn g (b.vtable, b.value)).kind_of b.value) ((goal.Recoverable-dyn g (b.vtable, b.value)).value_of b.value))
-    c.args.objects.items c.in_ok-lists.objects.items (map (λ list. list.items) c.in_ok-lists.lists.items) c.in_ok-seats.seats.items c.in_ok-seats-2.field-0.items
+    all_served_of (λ b. content ((goal.Recoverable-dyn g (b.vtable, b.value)).kind_of b.value) ((goal.Recoverable-dyn g (b.vtable, b.value)).value_of b.value)) (λ b saved. (goal.Recoverable-dyn g (b.vtable, b.value)).may_reject b.value saved)
+    c.args.objects.items c.in_ok-lists.objects.items (map (λ list. list.items) c.in_ok-lists.lists.items) c.in_ok-seats.seats.items c.in_ok-seats-2.seats.items
     c.in_ok-seats.ensures.held c.in_ok-lists.ensures.held c.in_ok-lists.ensures.errands c.in_ok-seats.ensures.fresh
-    (at_ok c.work_all.result c.match-work_all.seats c.in_ok-seats-2.field-0 _
-    (elim c.match-work_all.branch [
-      | in_default w ↦ search rules
-      | in_default-2 w ↦ search rules
-    ]) c.in_ok-seats-2.was c.work_all.ensures) c.in_ok-lists.ensures.whole
+    c.in_ok-seats-2.ensures c.in_ok-lists.ensures.whole
 
 pub returns-clause-spares : goal.returns-clause-spares
 returns-clause-spares g c =
-    all_left_of (λ b. content ((goal.Recoverable-dyn g (b.vtable, b.value)).kind_of b.value) ((goal.Recoverable-dyn g (b.vtable, b.value)).value_of b.value))
-    c.args.objects.items c.in_ok-lists.objects.items c.in_ok-seats.seats.items c.in_ok-seats-2.field-0.items
+    all_left_of (λ b. content ((goal.Recoverable-dyn g (b.vtable, b.value)).kind_of b.value) ((goal.Recoverable-dyn g (b.vtable, b.value)).value_of b.value)) (λ b saved. (goal.Recoverable-dyn g (b.vtable, b.value)).may_reject b.value saved)
+    c.args.objects.items c.in_ok-lists.objects.items c.in_ok-seats.seats.items c.in_ok-seats-2.seats.items
     c.in_ok-seats.ensures.held c.in_ok-lists.ensures.held
-    (at_ok c.work_all.result c.match-work_all.seats c.in_ok-seats-2.field-0 _
-    (elim c.match-work_all.branch [
-      | in_default w ↦ search rules
-      | in_default-2 w ↦ search rules
-    ]) c.in_ok-seats-2.was c.work_all.ensures) c.in_ok-lists.ensures.whole
+    c.in_ok-seats-2.ensures c.in_ok-lists.ensures.whole
+
+if_err : {T E : Type 0} (r : Result T E) (P : E → Type 0) (e : E) → r ≡ Err e → P e → IfErr r P
+if_err r P e is p = rw is p
+
+pub returns-in_err-log-clause-object : goal.returns-in_err-log-clause-object
+returns-in_err-log-clause-object g c = λ cast due. if_err c.from_residual-in_err-log.result _ c.in_err-log.field-0.0 (search rules)
+    (λ p e. rejected_in_thread (λ b. content ((goal.Recoverable-dyn g (b.vtable, b.value)).kind_of b.value) ((goal.Recoverable-dyn g (b.vtable, b.value)).value_of b.value)) (λ b saved. (goal.Recoverable-dyn g (b.vtable, b.value)).may_reject b.value saved)
+    cast c.args.objects.items c.in_ok-seats.seats.items c.in_ok-seats-2.seats.items c.in_ok-seats.ensures.held due c.in_ok-seats.ensures.going c.in_ok-seats-2.ensures
+    p (rw (sym c.deref.ensures.value) (c.in_err-log.ensures.named p (ap live_stopped_at e) ∙ ap Some e)))
+
+pub returns-in_err-lists-clause-object : goal.returns-in_err-lists-clause-object
+returns-in_err-lists-clause-object g c = λ cast due. if_err c.from_residual-in_err-lists.result _ c.in_err-lists.field-0.0 (search rules)
+    (λ p e. absurd (not_object c.in_err-lists.field-0.0 p c.in_err-lists.ensures.unnamed e))

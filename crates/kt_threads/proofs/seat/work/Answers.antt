@@ -5,13 +5,13 @@ use Rattle.kt_threads.proofs.seat.work.Goals.{in-None, in-Some+then-not-turn}
 
 pub loop-preserved : goal.loop-preserved
 loop-preserved g c =
-    keeps_then (λ b. content ((goal.Recoverable-dyn g (b.vtable, b.value)).kind_of b.value) ((goal.Recoverable-dyn g (b.vtable, b.value)).value_of b.value))
+    keeps_then (λ b. content ((goal.Recoverable-dyn g (b.vtable, b.value)).kind_of b.value) ((goal.Recoverable-dyn g (b.vtable, b.value)).value_of b.value)) (λ b saved. (goal.Recoverable-dyn g (b.vtable, b.value)).may_reject b.value saved)
     c.args.seat c.loop.seat c.turn.new.self c.loop.invariant c.turn.ensures
 
 pub returns : goal.returns
 returns g c = elim c.match-next.branch [
   | in-None w ↦ rw w.seat-is c.loop.invariant
   | in-Some+then-not-turn w ↦ rw w.seat-is
-      (keeps_then (λ b. content ((goal.Recoverable-dyn g (b.vtable, b.value)).kind_of b.value) ((goal.Recoverable-dyn g (b.vtable, b.value)).value_of b.value))
+      (keeps_then (λ b. content ((goal.Recoverable-dyn g (b.vtable, b.value)).kind_of b.value) ((goal.Recoverable-dyn g (b.vtable, b.value)).value_of b.value)) (λ b saved. (goal.Recoverable-dyn g (b.vtable, b.value)).may_reject b.value saved)
       c.args.seat c.loop.seat w.turn.new.self c.loop.invariant w.turn.ensures)
 ]
