@@ -6,3 +6,5 @@ pub mod Faults
 pub mod SameLists
 pub mod ReceivedRows
 pub mod Begun
+pub mod ChainSteps
+pub mod Chained

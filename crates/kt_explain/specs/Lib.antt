@@ -1,4 +1,5 @@
 pub mod Finding
 pub mod Words
 pub mod Orphans
+pub mod BadChains
 pub mod Told

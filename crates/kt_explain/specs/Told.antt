@@ -1,5 +1,5 @@
 -- When what is told of an answer is so.
-use Rattle.std.specs.Prelude.{◌≡◌, ◌≢◌, ◌⊎◌, ◌<◌, ◌+◌, ℕ, Bool, false, Option, Some, None, List, [], map, take, slice_get}
+use Rattle.std.specs.Prelude.{◌≡◌, ◌≢◌, ◌<◌, ◌+◌, ℕ, Bool, false, Option, Some, None, List, [], map, take, slice_get}
 use Rattle.kt_spacetime.specs.declared.event.Event.{Event}
 use Rattle.kt_spacetime.specs.declared.event.Event.TheVariants as event
 use Rattle.kt_base.specs.declared.words.Kind.{Kind}
@@ -20,8 +20,9 @@ use Rattle.kt_explain.specs.declared.bad_row.BadRow.{BadRow}
 use Rattle.kt_explain.specs.declared.difference.Difference.{Difference}
 use Rattle.kt_explain.specs.declared.difference.Difference.TheVariants as difference
 use Rattle.kt_explain.specs.declared.explanation.Explanation.{Explanation}
-use Rattle.kt_explain.specs.declared.explanation.Explanation.TheVariants.{Nothing, Unknown, Objection, NoObjection, OtherMember, Uncertified, Orphan, BadLog}
+use Rattle.kt_explain.specs.declared.explanation.Explanation.TheVariants.{Nothing, Unknown, Objection, NoObjection, OtherMember, BadChain, Uncertified, Orphan, BadLog}
 use Rattle.kt_explain.specs.Orphans.{IsOrphanTold}
+use Rattle.kt_explain.specs.BadChains.{IsBadChain}
 use Rattle.kt_explain.specs.Finding.{HasNoRow, IsFirstRow, IsLastNumber, begins_inst, decides_inst, fails}
 
 -- a certificate is the first one of an instance
@@ -73,13 +74,9 @@ pub record IsBadRow (rows : List Event) (b : BadRow) (place : ℕ) (row : Event)
   pub open_in : b.open_in ≡ (past (take place rows)).open_in b.p
   pub failed : IsLastNumber (fails b.p) (take place rows) b.failed
 
--- of which answers nothing is told: a yes, and a no to a list that is no chain
-abbrev pub IsUntold : Verdict → Type 0
-IsUntold verdict = (verdict ≡ Yes) ⊎ ((k : ℕ) × IsNoOf verdict k why.Chain)
-
--- what is told of an answer is so
+-- what is told of an answer is so; after a yes alone nothing is told
 abbrev pub IsExplanation : List Event → List Certificate → Verdict → Explanation → Type 0
-IsExplanation rows certificates verdict Nothing = IsUntold verdict
+IsExplanation rows certificates verdict Nothing = verdict ≡ Yes
 IsExplanation rows certificates verdict (Unknown k d) = IsNoOf verdict k why.Unknown × IsUnlike rows certificates k d
 IsExplanation rows certificates verdict (Objection k p row) =
     IsNoOf verdict k why.Cause × (cause : Cause) × IsFirstRow (is_unwilling k) rows row (event.Unwilling p k cause)
@@ -87,6 +84,9 @@ IsExplanation rows certificates verdict (NoObjection k) = IsNoOf verdict k why.C
 IsExplanation rows certificates verdict (OtherMember k place listed joined) =
     IsNoOf verdict k why.Members
     × (c : Certificate) × IsItsFirst certificates k c × DifferAt (listed_in c) (members rows k) place listed joined
+IsExplanation rows certificates verdict (BadChain k chain) =
+    (n : ℕ) × (verdict ≡ No (Some k) (Some (n + 1)) why.Chain)
+    × (c : Certificate) × IsItsFirst certificates k c × IsBadChain (take n rows) c chain
 IsExplanation rows certificates verdict (Uncertified k row) =
     IsNoOf verdict k why.Missing
     × (p : ℕ) × (commit : Bool) × (row_at rows row ≡ Some (event.Decided p k commit)) × (HasCertificate certificates k → ⊥)

@@ -5,10 +5,16 @@ use Rattle.kt_text.specs.Words.{kind_word, decision_word}
 use Rattle.kt_cuts.specs.declared.rules.Rule.{Rule}
 use Rattle.kt_cuts.specs.declared.rules.Rule.TheVariants as rule
 use Rattle.kt_explain.specs.declared.bad_row.BadRow.{BadRow}
+use Rattle.kt_explain.specs.declared.bad_chain.Break.{Break}
+use Rattle.kt_explain.specs.declared.bad_chain.Demand.{Demand}
+use Rattle.kt_explain.specs.declared.bad_chain.Demand.TheVariants as demand
+use Rattle.kt_explain.specs.declared.bad_chain.Flaw.{Flaw}
+use Rattle.kt_explain.specs.declared.bad_chain.Flaw.TheVariants as flaw
+use Rattle.kt_explain.specs.declared.bad_chain.BadChain.{BadChain as OneBadChain}
 use Rattle.kt_explain.specs.declared.difference.Difference.{Difference}
 use Rattle.kt_explain.specs.declared.difference.Difference.TheVariants.{Undecided, Kind, Initiator, Decision, Members, Second}
 use Rattle.kt_explain.specs.declared.explanation.Explanation.{Explanation}
-use Rattle.kt_explain.specs.declared.explanation.Explanation.TheVariants.{Nothing, Unknown, Objection, NoObjection, OtherMember, Uncertified, Orphan, BadLog}
+use Rattle.kt_explain.specs.declared.explanation.Explanation.TheVariants.{Nothing, Unknown, Objection, NoObjection, OtherMember, BadChain, Uncertified, Orphan, BadLog}
 use Rattle.kt_explain.specs.declared.orphan.Orphan.{Orphan as OneOrphan}
 
 -- what the log has otherwise than a certificate of an instance
@@ -52,6 +58,28 @@ abbrev pub orphan_words : OneOrphan → List ℕ
 orphan_words o =
     sent_words o ++ (received_words o ++ outsider_words o.outsider)
 
+-- the demand that a message of a chain does not meet
+abbrev pub demand_words : Demand → List ℕ
+demand_words demand.Message = codes "was never sent" ++ 10 ∷ []
+demand_words (demand.Received p) = codes "is not received by process " ++ (decimal p ++ 10 ∷ [])
+demand_words (demand.Sent p) = codes "is not sent by process " ++ (decimal p ++ 10 ∷ [])
+demand_words (demand.Past p) = codes "is not sent past the permanent position of process " ++ (decimal p ++ 10 ∷ [])
+demand_words (demand.Within p) = codes "is not received within the new position of process " ++ (decimal p ++ 10 ∷ [])
+
+-- the place of a chain of which the message leads nowhere
+abbrev pub break_words : Break → List ℕ
+break_words b = (codes "and message " ++ (decimal b.msg ++ (codes ", in place " ++ (decimal b.place ++ codes " of its chain, ")))) ++ demand_words b.demand
+
+-- what is wrong with the list of a member
+abbrev pub flaw_words : Flaw → List ℕ
+flaw_words flaw.Initiator = codes "the initiator, and has a chain" ++ 10 ∷ []
+flaw_words (flaw.Elsewhere p) = codes "and its chain leads to process " ++ (decimal p ++ 10 ∷ [])
+flaw_words (flaw.Broken b) = break_words b
+
+-- a member whose list is no chain
+abbrev pub bad_chain_words : OneBadChain → List ℕ
+bad_chain_words b = (codes "member " ++ (decimal b.place ++ (codes " is process " ++ (decimal b.p ++ codes ", ")))) ++ flaw_words b.flaw
+
 -- what a rule asks
 abbrev pub rule_words : Rule → List ℕ
 rule_words rule.Numbers = codes "an instance begins before it is named, by the next number, and a peer is another process"
@@ -87,6 +115,7 @@ explanation_words (Unknown inst difference) = codes "instance " ++ decimal inst 
 explanation_words (Objection inst p row) = codes "instance " ++ (decimal inst ++ (codes " is committed, and process " ++ (decimal p ++ (codes " was unwilling to join it in row " ++ (decimal row ++ 10 ∷ [])))))
 explanation_words (NoObjection inst) = codes "instance " ++ (decimal inst ++ (codes " is aborted, and no process was unwilling to join it" ++ 10 ∷ []))
 explanation_words (OtherMember inst place listed joined) = place_words inst place ++ (listed_words listed ++ joined_words joined)
+explanation_words (BadChain inst chain) = codes "instance " ++ (decimal inst ++ (codes ": " ++ bad_chain_words chain))
 explanation_words (Uncertified inst row) = codes "row " ++ (decimal row ++ (codes " decides instance " ++ (decimal inst ++ (codes ", and no certificate is of it" ++ 10 ∷ []))))
 explanation_words (Orphan inst orphan) = codes "instance " ++ (decimal inst ++ (codes ": " ++ orphan_words orphan))
 explanation_words (BadLog b) = bad_row_words b

@@ -7,6 +7,7 @@ ghost use Rattle.kt_explain.specs.Told.{IsExplanation};
 
 use crate::bad_rows::bad_log;
 use crate::causes::{objection, uncertified};
+use crate::chains::no_chain;
 use crate::explanation::Explanation;
 use crate::members::other_member;
 use crate::orphans::orphan;
@@ -72,7 +73,7 @@ fn of_instance(
             Some(row) => orphan(alloc, log, certificates, inst, row),
             None => Ok(Explanation::Nothing),
         },
-        Why::Chain => Ok(Explanation::Nothing),
+        Why::Chain => no_chain(alloc, log, certificates, inst, row),
         Why::BadLog(_) => Ok(Explanation::Nothing),
     }
 }

@@ -4,6 +4,7 @@ ghost use Rattle.std.specs.Prelude.{◌≡◌, Some};
 ghost use Rattle.std.specs.Fmt.{DisplaysOnOk};
 ghost use Rattle.kt_explain.specs.Words.{listed_words, joined_words};
 
+use crate::bad_chain::BadChain;
 use crate::bad_row::BadRow;
 use crate::difference::Difference;
 use crate::orphan::Orphan;
@@ -13,7 +14,7 @@ use std::fmt;
 /// What is told of an answer of the checker, in the words of the log.
 #[derive(Clone, Copy, Debug, PartialEq, Eq)]
 pub enum Explanation {
-    /// Nothing is told: after a yes, or of a list that is no chain.
+    /// Nothing is told: after a yes.
     Nothing,
     /// A certificate says of its instance what the log has otherwise.
     Unknown {
@@ -37,6 +38,11 @@ pub enum Explanation {
         place: usize,
         listed: Option<ProcNo>,
         joined: Option<ProcNo>,
+    },
+    /// The first member whose list is no chain for it.
+    BadChain {
+        inst: InstNo,
+        chain: BadChain,
     },
     /// The cut that the decision of the instance makes has this orphan, and no lesser one.
     Orphan {
@@ -86,6 +92,7 @@ impl fmt::Display for Explanation {
                 write_listed(f, listed)?;
                 write_joined(f, joined)
             }
+            Explanation::BadChain { inst, chain } => write!(f, "instance {inst}: {chain}"),
             Explanation::Orphan { inst, orphan } => write!(f, "instance {inst}: {orphan}"),
             Explanation::BadLog(row) => write!(f, "{row}"),
             Explanation::Uncertified { inst, row } => {

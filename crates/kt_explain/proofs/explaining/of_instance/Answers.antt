@@ -1,4 +1,5 @@
-use Rattle.std.proofs.Common.{ℕ, Option, Some, None, List, sym, ap, subst, inr}
+use Rattle.std.proofs.Common.{ℕ, Option, Some, None, List, sym, ap, subst}
+use Rattle.std.specs.Prelude.{IfOk}
 use Rattle.kt_spacetime.specs.declared.event.Event.{Event}
 use Rattle.kt_checker.specs.declared.verdict.Verdict.{Verdict}
 use Rattle.kt_checker.specs.declared.verdict.Verdict.TheVariants.{No}
@@ -50,8 +51,12 @@ returns-in-Missing c =
     subst (λ (w : Why). IsExplanation rows certificates (No (Some c.args.inst) c.args.row w) c.uncertified.result) (sym c.in-Missing.is)
     (c.uncertified.ensures rows certificates (subst (λ (w : Why). IsAnswer rows certificates (No (Some c.args.inst) c.args.row w)) c.in-Missing.is c.requires.answer))
 
+pub no_chain-requires : goal.no_chain-requires
+no_chain-requires c = record { answer = subst (λ (w : Why). IsAnswer c.args.log.now.rows c.args.certificates.now (No (Some c.args.inst) c.args.row w)) c.in-Chain.is c.requires.answer }
+
 pub returns-in-Chain : goal.returns-in-Chain
-returns-in-Chain c = inr (c.args.inst, (c.args.row, ap (λ (w : Why). No (Some c.args.inst) c.args.row w) c.in-Chain.is))
+returns-in-Chain c =
+    subst (λ (w : Why). IfOk c.no_chain.result (IsExplanation c.args.log.now.rows c.args.certificates.now (No (Some c.args.inst) c.args.row w))) (sym c.in-Chain.is) c.no_chain.ensures
 
 pub returns-in-None : goal.returns-in-None
 returns-in-None c =

@@ -28,3 +28,7 @@ returns-in_ok-write_listed-in-OtherMember-clause-writes g c = λ plain ok.
 pub returns-in-Orphan-clause-writes : goal.returns-in-Orphan-clause-writes
 returns-in-Orphan-clause-writes g c = λ plain ok.
     subst (λ (x : Explanation). HasWritten {W = g.row.W.Denot} g.W.Write.write_str_gives c.args.f.now (explanation_words x) c.write-in-Orphan.new.self) (sym c.in-Orphan.is) (c.write-in-Orphan.ensures.writes plain ok)
+
+pub returns-in-BadChain-clause-writes : goal.returns-in-BadChain-clause-writes
+returns-in-BadChain-clause-writes g c = λ plain ok.
+    subst (λ (x : Explanation). HasWritten {W = g.row.W.Denot} g.W.Write.write_str_gives c.args.f.now (explanation_words x) c.write-in-BadChain.new.self) (sym c.in-BadChain.is) (c.write-in-BadChain.ensures.writes plain ok)
