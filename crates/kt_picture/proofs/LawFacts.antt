@@ -1,17 +1,15 @@
 -- Laws of pictures.
-use Rattle.std.proofs.Common.{◌≡◌, ◌∙◌, ◌+◌, ℕ, suc, ℤ, Bool, true, false, not, List, [], ◌∷◌, Option, Some, None, length, is_none, cond, refl, ap, sym}
+use Rattle.std.proofs.Common.{◌≡◌, ◌∙◌, ℕ, suc, ℤ, Bool, true, false, not, List, [], ◌∷◌, Option, Some, None, length, is_none, cond, refl, ap}
 use Rattle.std.specs.Prelude.{◌||◌}
 use Rattle.std.specs.Option.{option_map, option_flatten}
 use Rattle.kt_spacetime.specs.declared.event.Event.{Event}
 use Rattle.kt_spacetime.specs.declared.event.Event.TheVariants.{Sent}
 use Rattle.kt_cuts.specs.declared.deeds.Deed.{Deed}
-use Rattle.kt_cuts.specs.declared.deeds.Deed.TheVariants as deed
 use Rattle.kt_cuts.specs.Past.{past}
 use Rattle.kt_cuts.specs.Legal.{has_deed, is_deed}
 use Rattle.kt_cuts.specs.Messages.{row_at}
 use Rattle.kt_cuts.specs.Standing.{parties_of_row}
 use Rattle.kt_cuts.specs.Traces.{trace_of, trace_between, place_of}
-use Rattle.kt_picture.specs.Fates.{is_send_undone, is_unreceived}
 use Rattle.kt_picture.specs.Seen.{Seen, seen_after, shown_rows}
 
 -- as many are shown as there are rows

@@ -1,5 +1,5 @@
 -- What is known at each row of the window, one row after another.
-use Rattle.std.proofs.Common.{◌≡◌, ◌∙◌, ◌<◌, ◌≤◌, ◌+◌, ◌-◌, ℕ, zero, suc, List, [], ◌∷◌, ◌++◌, Option, Some, length, refl, sym, ap, subst, take, drop, fold, arith, append_assoc}
+use Rattle.std.proofs.Common.{◌≡◌, ◌∙◌, ◌<◌, ◌≤◌, ◌+◌, ◌-◌, ℕ, zero, suc, List, [], ◌∷◌, ◌++◌, Some, length, refl, sym, ap, subst, take, drop, fold, arith, append_assoc}
 use Rattle.std.proofs.lemmas.List.{length_push, append-nil, take-append-drop, length-append, length-take-le, length-drop, drop_all, take_all}
 use Rattle.std.proofs.lemmas.List.Sums.{fold-append}
 use Rattle.std.specs.List.{slice_get, slice_index}

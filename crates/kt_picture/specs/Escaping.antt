@@ -3,8 +3,8 @@ use Rattle.std.specs.Prelude.{ℕ, ◌==◌, ◌||◌, not, Bool, if◌then◌el
 use Rattle.std.specs.List.{flat_map}
 
 -- whether a byte neither begins nor ends a mark or a value in quotes
-abbrev pub is_plain : ℕ → Bool
-is_plain byte = not (byte == 60 || (byte == 62 || (byte == 34 || byte == 39)))
+abbrev pub is_no_mark : ℕ → Bool
+is_no_mark byte = not (byte == 60 || (byte == 62 || (byte == 34 || byte == 39)))
 
 -- a byte as it may stand between marks, or in quotes
 abbrev pub escaped_byte : ℕ → List ℕ

@@ -14,9 +14,9 @@ is_send_undone None = false
 is_send_undone (Some t) = is_none t.sent
 
 -- whether no receive of a message is in its receiver's live history
-abbrev pub is_unreceived : Option Trace → Bool
-is_unreceived None = true
-is_unreceived (Some t) = is_none t.received
+abbrev pub has_no_receive : Option Trace → Bool
+has_no_receive None = true
+has_no_receive (Some t) = is_none t.received
 
 -- whether a row receives this message
 abbrev pub receives : ℕ → Event → Bool
@@ -32,7 +32,7 @@ is_message_undone upto n _ = false
 
 -- whether a row receives a message, and that receive is undone after these rows, where the window goes on with the rest
 abbrev pub is_receive_undone : List Event → Event → List Event → Bool
-is_receive_undone upto (Received p from msg) rest = is_unreceived (trace_of upto msg) || list_any (receives msg) rest
+is_receive_undone upto (Received p from msg) rest = has_no_receive (trace_of upto msg) || list_any (receives msg) rest
 is_receive_undone upto _ rest = false
 
 -- whether a row of this number sends a message that is in transit after these rows

@@ -1,4 +1,5 @@
 pub use Rattle.kt_spacetime.specs.Events
+pub mod Breach
 pub mod Escaping
 pub mod Fates
 pub mod KnownOf

@@ -1,11 +1,13 @@
 -- A picture as text.
-use Rattle.std.specs.Prelude.{ℕ, ◌+◌, ◌-◌, ◌*◌, ◌%◌, List, ◌++◌, codes, length, drop, slice_index, slice_index_or}
+use Rattle.std.specs.Prelude.{ℕ, ◌+◌, ◌-◌, ◌*◌, ◌%◌, Option, List, ◌++◌, codes, length, drop, slice_index, slice_index_or}
 use Rattle.std.specs.List.{flat_map}
 use Rattle.std.specs.Fmt.{decimal}
 use Rattle.kt_spacetime.specs.declared.event.Event.{Event}
 use Rattle.kt_picture.specs.declared.shown.Shown.{Shown}
 use Rattle.kt_picture.specs.declared.shown.End.{End}
 use Rattle.kt_picture.specs.declared.shown.CutMark.{CutMark}
+use Rattle.kt_picture.specs.declared.breach.Breach.{Breach}
+use Rattle.kt_picture.specs.Breach.{breach_columns, breach_mark}
 use Rattle.kt_picture.specs.Escaping.{escaped}
 use Rattle.kt_picture.specs.Lanes.{lanes_in, lane_of}
 use Rattle.kt_picture.specs.Shapes.{x_of, y_of, colour}
@@ -21,8 +23,8 @@ abbrev pub height_of : List ℕ → ℕ
 height_of lanes = y_of (length lanes) + 10
 
 -- how a document begins
-abbrev pub opening : ℕ → List ℕ → List ℕ
-opening columns lanes =
+abbrev pub document_opening : ℕ → List ℕ → List ℕ
+document_opening columns lanes =
     codes "<svg xmlns='http://www.w3.org/2000/svg' viewBox='0 0 " ++ decimal (width_of columns) ++ codes " " ++ decimal (height_of lanes)
     ++ codes "' width='" ++ decimal (width_of columns) ++ codes "'>\n" ++ style_by_day ++ style_by_night ++ arrow_heads
 
@@ -40,8 +42,8 @@ abbrev pub last_stretch : List ℕ → ℕ → End → List ℕ
 last_stretch lanes columns e = stretch (lane_of lanes e.process) e.since (columns + 1) e.up e.open_in
 
 -- what is said below the lanes, and the document's end
-abbrev pub closing : List ℕ → List ℕ → List ℕ
-closing lanes caption = codes "<text x='92' y='" ++ decimal (y_of (length lanes)) ++ codes "' dy='-10'>" ++ escaped caption ++ codes "</text>\n</svg>\n"
+abbrev pub document_end : List ℕ → List ℕ → List ℕ
+document_end lanes caption = codes "<text x='92' y='" ++ decimal (y_of (length lanes)) ++ codes "' dy='-10'>" ++ escaped caption ++ codes "</text>\n</svg>\n"
 
 -- the marks of lanes: names, and stretches
 abbrev pub lane_marks : List (List ℕ) → List ℕ → ℕ → List Shown → List End → List ℕ
@@ -69,12 +71,22 @@ abbrev pub row_marks : List ℕ → ℕ → List CutMark → List Shown → List
 row_marks lanes before cuts shown =
     flat_map (cut_line lanes) cuts ++ flat_map (arrow_of lanes before) shown ++ flat_map (figure_of lanes) shown
 
--- a picture with these lanes, columns and marks, after so many rows
-abbrev pub picture_text : List (List ℕ) → List ℕ → ℕ → ℕ → List Shown → List CutMark → List End → List ℕ → List ℕ
-picture_text names lanes before columns shown cuts ends caption =
-    opening columns lanes ++ lane_marks names lanes columns shown ends ++ row_marks lanes before cuts shown ++ closing lanes caption
+-- a picture with these lanes, columns and marks, after so many rows, but for its end
+abbrev pub picture_text : List (List ℕ) → List ℕ → ℕ → ℕ → List Shown → List CutMark → List End → List ℕ
+picture_text names lanes before columns shown cuts ends =
+    document_opening columns lanes ++ lane_marks names lanes columns shown ends ++ row_marks lanes before cuts shown
 
--- a picture of a log after its first so many rows, with a line below
-abbrev pub picture_of : List (List ℕ) → List Event → ℕ → List ℕ → List ℕ
-picture_of names rows before caption =
-    picture_text names (lanes_in rows) before (length (drop before rows)) (shown_of rows before) (cuts_of rows before) (ends_of rows before) caption
+-- its end: the mark of the row of this number that breaks a rule, in the last column, and what is said below
+abbrev pub picture_end : List ℕ → ℕ → ℕ → Option Breach → List ℕ → List ℕ
+picture_end lanes number column breach caption = breach_mark lanes number column breach ++ document_end lanes caption
+
+-- how many columns a picture has: one for each row, and one for the row that breaks a rule
+abbrev pub columns_of : List Event → ℕ → Option Breach → ℕ
+columns_of rows before breach = length (drop before rows) + breach_columns breach
+
+-- a picture of a legal log after its first so many rows, with the row after it that breaks a rule, where there is one, and
+-- a line below
+abbrev pub picture_of : List (List ℕ) → List Event → ℕ → Option Breach → List ℕ → List ℕ
+picture_of names rows before breach caption =
+    picture_text names (lanes_in rows) before (columns_of rows before breach) (shown_of rows before) (cuts_of rows before) (ends_of rows before)
+    ++ picture_end (lanes_in rows) (before + columns_of rows before breach) (columns_of rows before breach) breach caption

@@ -14,8 +14,8 @@ use Rattle.kt_picture.specs.Lanes.{lane_of}
 use Rattle.kt_picture.specs.Shapes.{x_of, y_of, point, shape, colour, coloured, fill_class, square, triangle, diamond}
 
 -- how a tooltip begins, with the row's number and text
-abbrev pub title : Shown → List ℕ
-title s = codes "<g><title>row " ++ decimal s.row ++ codes ": " ++ joined (spelling s.event) ++ codes "</title>"
+abbrev pub title : ℕ → Event → List ℕ
+title number row = codes "<g><title>row " ++ decimal number ++ codes ": " ++ joined (spelling row) ++ codes "</title>"
 
 -- where a stretch of a lane goes
 abbrev pub to_column : ℕ → List ℕ
@@ -58,7 +58,7 @@ column_of before msg = msg - before
 -- an arrow from where a message was sent to where it was taken
 abbrev pub arrow : List ℕ → ℕ → Shown → ℕ → ℕ → List ℕ
 arrow lanes before s from msg =
-    title s ++ path_of (arrow_class s.is_undone s.is_taken_back) ++ point (column_of before msg) (lane_of lanes from)
+    title s.row s.event ++ path_of (arrow_class s.is_undone s.is_taken_back) ++ point (column_of before msg) (lane_of lanes from)
     ++ codes "L" ++ point s.column (lane_of lanes (process_of s.event)) ++ codes "'/></g>\n"
 
 -- where the short arrow of a message in transit points: down to a later lane, else up
@@ -71,7 +71,7 @@ way lanes column p to = shape (codes "m way") column (lane_of lanes p) (towards 
 
 -- the short arrow of a message that is in transit at the window's end
 abbrev pub short_arrow : List ℕ → Shown → ℕ → ℕ → List ℕ
-short_arrow lanes s p to = title s ++ way lanes s.column p to ++ codes "</g>\n"
+short_arrow lanes s p to = title s.row s.event ++ way lanes s.column p to ++ codes "</g>\n"
 
 -- the arrow of a row that takes a message, or that sends one which is in transit at the window's end
 abbrev pub arrow_at : List ℕ → ℕ → Shown → Event → List ℕ
@@ -99,8 +99,8 @@ dot_class true = codes "dot pale"
 dot_class false = codes "dot"
 
 -- a process did not do what it was asked, and why
-abbrev pub refusal : ℕ → ℕ → Cause → List ℕ
-refusal column lane cause =
+abbrev pub refusal_mark : ℕ → ℕ → Cause → List ℕ
+refusal_mark column lane cause =
     shape (codes "w") column lane (codes "m-6 0a6 6 0 1 0 12 0a6 6 0 1 0 -12 0m2 -4l8 8") ++ word_at (codes "bad") column lane (codes "20")
     ++ cause_word cause ++ codes "</text>"
 
@@ -125,8 +125,8 @@ figure lane s (Sent p to body) = shape (dot_class s.is_undone) s.column lane (co
 figure lane s (Received p from msg) = shape (codes "open") s.column lane (codes "m0 -4v8")
 figure lane s (Dropped p from msg) = shape (codes "x") s.column lane (codes "m-5 -5l10 10m0 -10l-10 10")
 figure lane s (Failed p) = shape (codes "x") s.column lane (codes "m-7 -7l14 14m0 -14l-14 14")
-figure lane s (Unwilling p inst cause) = refusal s.column lane cause
-figure lane s (Refused p verb cause) = refusal s.column lane cause
+figure lane s (Unwilling p inst cause) = refusal_mark s.column lane cause
+figure lane s (Refused p verb cause) = refusal_mark s.column lane cause
 figure lane s row = instance_figure lane s row
 
 -- the number of a row, above it
@@ -143,4 +143,4 @@ figure_at lanes s = figure (lane_of lanes (process_of s.event)) s s.event
 
 -- the same, under its tooltip, and the number of each fifth row
 abbrev pub figure_of : List ℕ → Shown → List ℕ
-figure_of lanes s = number_at s.row s.column ++ title s ++ figure_at lanes s ++ codes "</g>\n"
+figure_of lanes s = number_at s.row s.column ++ title s.row s.event ++ figure_at lanes s ++ codes "</g>\n"

@@ -1,13 +1,14 @@
 //! Pictures.
 
-ghost use Rattle.std.specs.Prelude.{◌≡◌, ◌≤◌, IfOk, OnOk, OnErr, length};
+ghost use Rattle.std.specs.Prelude.{◌≡◌, ◌≤◌, ◌+◌, ◌^◌, IfOk, OnOk, OnErr, if◌then◌else◌, length, drop};
 ghost use Rattle.std.specs.Io.KnownBytes.{Appends};
 ghost use Rattle.kt_cuts.specs.Legal.{IsLegal};
 ghost use Rattle.kt_text.specs.Writing.{WritesFront};
 ghost use Rattle.kt_picture.specs.Picture.{picture_of};
 
+use crate::breach::Breach;
 use crate::lanes::Lanes;
-use crate::layers::push_picture;
+use crate::layers::{push_picture, push_picture_end};
 use crate::window::Window;
 use kt_base::Memory;
 use kt_plan::Names;
@@ -18,7 +19,7 @@ use std::alloc::Global;
 use std::io::Write;
 
 /// Writes the space-time diagram of a legal log after its first `before` rows, as one SVG document, with a line of text
-/// below.
+/// below. The row after it that breaks a rule, where there is one, is marked in a column of its own.
 ///
 /// The processes that the log names have a lane each, from above by rising number, with their names or else their
 /// numbers; each row has a column, from left to right, and a tooltip with its number and its text. A lane is dashed
@@ -32,6 +33,7 @@ pub fn draw<W: Write>(
     alloc: Global,
     log: &SpaceTime,
     before: usize,
+    breach: Option<Breach>,
     names: &Names,
     caption: &[u8],
     writer: &mut W,
@@ -39,11 +41,11 @@ pub fn draw<W: Write>(
     requires legal { IsLegal log.now.rows }
     requires before { before ≤ length log.now.rows }
     ensures exact { OnOk result (Appends (W.contents writer.old) (W.contents writer.new)
-        (picture_of names.now log.now.rows before caption.now)) }
+        (picture_of names.now log.now.rows before breach caption.now)) }
     ensures front { OnErr result (WritesFront (W.contents writer.old) (W.contents writer.new)
-        (picture_of names.now log.now.rows before caption.now)) }
+        (picture_of names.now log.now.rows before breach caption.now)) }
 {
-    let mut text = picture(alloc, log, before, names, caption)?;
+    let mut text = picture(alloc, log, before, breach, names, caption)?;
     write_rest(&mut text, writer)
 }
 
@@ -52,25 +54,37 @@ pub fn picture(
     alloc: Global,
     log: &SpaceTime,
     before: usize,
+    breach: Option<Breach>,
     names: &Names,
     caption: &[u8],
 ) -> Result<Vec<u8>, Memory>
     requires legal { IsLegal log.now.rows }
     requires before { before ≤ length log.now.rows }
-    ensures exact { IfOk result (λ t. t.items ≡ picture_of names.now log.now.rows before caption.now) }
+    ensures exact { IfOk result (λ t. t.items ≡ picture_of names.now log.now.rows before breach caption.now) }
 {
     let lanes = Lanes::of_rows(alloc, log.rows())?;
     let window = Window::of_log(alloc, log, before, &lanes)?;
-    let columns = (log.rows().len() - before) as u32;
+    let columns = columns_of(log, before, breach.is_some());
+    let before = before as u32;
     let mut text = Vec::new(alloc);
-    push_picture(
+    push_picture(&mut text, names, &lanes, before, columns, &window)?;
+    push_picture_end(
         &mut text,
-        names,
         &lanes,
-        before as u32,
+        before + columns,
         columns,
-        &window,
+        breach,
         caption,
     )?;
     Ok(text)
+}
+
+// How many columns the picture of a log after its first so many rows has.
+fn columns_of(log: &SpaceTime, before: usize, is_broken: bool) -> u32
+    requires before { before ≤ length log.now.rows }
+    ensures exact { result ≡ length (drop before log.now.rows) + (if is_broken then 1 else 0) }
+    ensures few { before + result ≤ 2 ^ 24 + 1 }
+{
+    let rows = (log.rows().len() - before) as u32;
+    if is_broken { rows + 1 } else { rows }
 }

@@ -2,7 +2,7 @@
 
 ghost use Rattle.std.specs.Prelude.{◌≡◌, ◌<◌, ◌++◌, ℕ, List, true, OnOk, length, slice_index};
 ghost use Rattle.std.specs.List.{list_all};
-ghost use Rattle.kt_picture.specs.Escaping.{escaped_byte, escaped, is_plain};
+ghost use Rattle.kt_picture.specs.Escaping.{escaped_byte, escaped, is_no_mark};
 
 use crate::words::push_text;
 use kt_base::Memory;
@@ -41,5 +41,5 @@ fn push_byte(text: &mut Vec<u8>, byte: u8) -> Result<(), Memory>
 
 /// No `<`, `>`, `"` or `'` comes through into a picture: a law, with nothing to run.
 pub fn escaped_has_no_mark()
-    ensures { (text : List ℕ) → list_all is_plain (escaped text) ≡ true }
+    ensures { (text : List ℕ) → list_all is_no_mark (escaped text) ≡ true }
 {}

@@ -5,7 +5,7 @@ ghost use Rattle.std.specs.List.{list_any};
 ghost use Rattle.kt_spacetime.specs.declared.event.Event.{Event};
 ghost use Rattle.kt_cuts.specs.Traces.{trace_of};
 ghost use Rattle.kt_histories.specs.HistoriesOf.{HistoriesOf};
-ghost use Rattle.kt_picture.specs.Fates.{is_send_undone, is_unreceived, receives, is_message_undone, is_receive_undone, is_sent_in_transit, joined_decision};
+ghost use Rattle.kt_picture.specs.Fates.{is_send_undone, has_no_receive, receives, is_message_undone, is_receive_undone, is_sent_in_transit, joined_decision};
 
 use kt_base::MsgNo;
 use kt_histories::Histories;
@@ -38,13 +38,13 @@ pub(crate) fn is_receive_undone(end: &Histories, row: &Event, rest: &[Event]) ->
     ensures { (upto : List Event) → HistoriesOf end.now upto → result ≡ is_receive_undone upto row.now rest.now }
 {
     match *row {
-        Event::Received { msg, .. } => is_unreceived(end, msg) || is_received_in(rest, msg),
+        Event::Received { msg, .. } => has_no_receive(end, msg) || is_received_in(rest, msg),
         _ => false,
     }
 }
 
-fn is_unreceived(end: &Histories, msg: MsgNo) -> bool
-    ensures { (upto : List Event) → HistoriesOf end.now upto → result ≡ is_unreceived (trace_of upto msg) }
+fn has_no_receive(end: &Histories, msg: MsgNo) -> bool
+    ensures { (upto : List Event) → HistoriesOf end.now upto → result ≡ has_no_receive (trace_of upto msg) }
 {
     match end.trace(msg) {
         Some(trace) => trace.received.is_none(),

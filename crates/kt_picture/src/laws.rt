@@ -8,7 +8,7 @@ ghost use Rattle.kt_cuts.specs.Past.{past};
 ghost use Rattle.kt_cuts.specs.Legal.{has_deed};
 ghost use Rattle.kt_cuts.specs.Messages.{row_at};
 ghost use Rattle.kt_cuts.specs.Traces.{trace_of};
-ghost use Rattle.kt_picture.specs.Fates.{is_send_undone, is_unreceived};
+ghost use Rattle.kt_picture.specs.Fates.{is_send_undone, has_no_receive};
 ghost use Rattle.kt_picture.specs.Window.{shown_of};
 
 /// Each row of the window is shown once: a law.
@@ -25,5 +25,5 @@ pub fn undone_is_not_live()
 /// A message counts as not received exactly where its receiver's live history has no receive of it: a law.
 pub fn unreceived_is_not_live()
     ensures { (rows : List Event) (msg p q : ℕ) (body : ℤ) → row_at rows msg ≡ Some (Sent p q body)
-        → is_unreceived (trace_of rows msg) ≡ not (has_deed (deed.Received msg p) ((past rows).live q)) }
+        → has_no_receive (trace_of rows msg) ≡ not (has_deed (deed.Received msg p) ((past rows).live q)) }
 {}

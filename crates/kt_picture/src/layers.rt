@@ -6,9 +6,10 @@ ghost use Rattle.std.specs.Fmt.{decimal};
 ghost use Rattle.kt_picture.specs.Escaping.{escaped};
 ghost use Rattle.kt_picture.specs.Lanes.{lane_of};
 ghost use Rattle.kt_picture.specs.Shapes.{y_of};
-ghost use Rattle.kt_picture.specs.Picture.{opening, width_of, height_of, lane_name, name_or_number, last_stretch, closing, lane_marks, row_marks, cut_x, cut_line, cut_points, picture_text};
+ghost use Rattle.kt_picture.specs.Picture.{document_opening, width_of, height_of, lane_name, name_or_number, last_stretch, document_end, lane_marks, row_marks, cut_x, cut_line, cut_points, picture_text, picture_end};
 ghost use Rattle.kt_picture.specs.Svg.{stretch_of, arrow_of, figure_of};
 
+use crate::breach::{Breach, push_breach};
 use crate::escaping::push_escaped;
 use crate::lanes::Lanes;
 use crate::marks::{push_arrow_of, push_figure_of, push_stretch, push_stretch_of};
@@ -20,7 +21,7 @@ use crate::words::{push_inst, push_long, push_text};
 use kt_base::{Memory, ProcNo};
 use kt_plan::Names;
 
-/// Gathers a picture with these lanes, columns and marks, after so many rows.
+/// Gathers a picture with these lanes, columns and marks, after so many rows, but for its end.
 pub(crate) fn push_picture(
     text: &mut Vec<u8>,
     names: &Names,
@@ -28,22 +29,35 @@ pub(crate) fn push_picture(
     before: u32,
     columns: u32,
     window: &Window,
-    caption: &[u8],
 ) -> Result<(), Memory>
     requires { columns < 2 ^ 25 }
     ensures { OnOk result (text.new.items ≡ text.old.items ++ picture_text names.now lanes.now before columns
-        window.now.shown.items window.now.cuts.items window.now.ends.items caption.now) }
+        window.now.shown.items window.now.cuts.items window.now.ends.items) }
 {
     push_opening(text, columns, lanes)?;
     push_lane_marks(text, names, lanes, columns, window)?;
-    push_row_marks(text, lanes, before, window)?;
+    push_row_marks(text, lanes, before, window)
+}
+
+/// Gathers the end of a picture: the mark of the row of this number that breaks a rule, and what is said below.
+pub(crate) fn push_picture_end(
+    text: &mut Vec<u8>,
+    lanes: &Lanes,
+    number: u32,
+    column: u32,
+    breach: Option<Breach>,
+    caption: &[u8],
+) -> Result<(), Memory>
+    ensures { OnOk result (text.new.items ≡ text.old.items ++ picture_end lanes.now number column breach caption.now) }
+{
+    push_breach(text, lanes, number, column, breach)?;
     push_closing(text, lanes, caption)
 }
 
 // Gathers how a document begins.
 fn push_opening(text: &mut Vec<u8>, columns: u32, lanes: &Lanes) -> Result<(), Memory>
     requires { columns < 2 ^ 25 }
-    ensures { OnOk result (text.new.items ≡ text.old.items ++ opening columns lanes.now) }
+    ensures { OnOk result (text.new.items ≡ text.old.items ++ document_opening columns lanes.now) }
 {
     push_text(
         text,
@@ -77,7 +91,7 @@ fn push_height(text: &mut Vec<u8>, lanes: &Lanes) -> Result<(), Memory>
 
 // Gathers what is said below the lanes, and the document's end.
 fn push_closing(text: &mut Vec<u8>, lanes: &Lanes, caption: &[u8]) -> Result<(), Memory>
-    ensures { OnOk result (text.new.items ≡ text.old.items ++ closing lanes.now caption.now) }
+    ensures { OnOk result (text.new.items ≡ text.old.items ++ document_end lanes.now caption.now) }
 {
     push_text(text, b"<text x='92' y='")?;
     push_foot(text, lanes)?;

@@ -1,6 +1,7 @@
 //! A run as a picture: the space-time diagram of some rows of a log, as one SVG document.
 #![tactic(auto)]
 
+mod breach;
 mod drawing;
 mod escaping;
 mod fates;
@@ -16,6 +17,7 @@ mod style;
 mod window;
 mod words;
 
+pub use breach::{Breach, caption};
 pub use drawing::{draw, picture};
 pub use escaping::escaped_has_no_mark;
 pub use laws::{each_row_is_shown, undone_is_not_live, unreceived_is_not_live};

@@ -4,7 +4,7 @@ ghost use Rattle.std.specs.Prelude.{◌≡◌, ◌∷◌, ◌++◌, [], codes, S
 ghost use Rattle.kt_spacetime.specs.Events.{process_of};
 ghost use Rattle.kt_picture.specs.Lanes.{lane_of};
 ghost use Rattle.kt_picture.specs.Shapes.{point};
-ghost use Rattle.kt_picture.specs.Svg.{to_column, bar, stretch, stretch_of, lane_class, path_of, arrow_class, arrow, arrow_at, arrow_of, column_of, short_arrow, way, towards, title, word_at, kind_letter, dot_class, refusal, beginning, instance_figure, figure, figure_at, figure_of, row_number, number_at};
+ghost use Rattle.kt_picture.specs.Svg.{to_column, bar, stretch, stretch_of, lane_class, path_of, arrow_class, arrow, arrow_at, arrow_of, column_of, short_arrow, way, towards, title, word_at, kind_letter, dot_class, refusal_mark, beginning, instance_figure, figure, figure_at, figure_of, row_number, number_at};
 
 use crate::lanes::Lanes;
 use crate::record::{push_cause, push_fields};
@@ -107,14 +107,14 @@ pub(crate) fn push_stretch_of(text: &mut Vec<u8>, lanes: &Lanes, s: &Shown) -> R
     push_stretch(text, lane, s.since, s.column, s.up, s.open_in)
 }
 
-// Gathers how a tooltip begins, with the row's number and text.
-fn push_title(text: &mut Vec<u8>, s: &Shown) -> Result<(), Memory>
-    ensures { OnOk result (text.new.items ≡ text.old.items ++ title s.now) }
+/// Gathers how a tooltip begins, with the row's number and text.
+pub(crate) fn push_title(text: &mut Vec<u8>, number: u32, row: Event) -> Result<(), Memory>
+    ensures { OnOk result (text.new.items ≡ text.old.items ++ title number row) }
 {
     push_text(text, b"<g><title>row ")?;
-    push_number(text, s.row)?;
+    push_number(text, number)?;
     push_text(text, b": ")?;
-    push_fields(text, s.event)?;
+    push_fields(text, row)?;
     push_text(text, b"</title>")
 }
 
@@ -159,7 +159,7 @@ fn push_arrow(
 ) -> Result<(), Memory>
     ensures { OnOk result (text.new.items ≡ text.old.items ++ arrow lanes.now before s.now from msg) }
 {
-    push_title(text, s)?;
+    push_title(text, s.row, s.event)?;
     push_arrow_path(text, s.is_undone, s.is_taken_back)?;
     push_origin(text, lanes, before, from, msg)?;
     push_text(text, b"L")?;
@@ -241,7 +241,7 @@ fn push_short_arrow(
 ) -> Result<(), Memory>
     ensures { OnOk result (text.new.items ≡ text.old.items ++ short_arrow lanes.now s.now p to) }
 {
-    push_title(text, s)?;
+    push_title(text, s.row, s.event)?;
     push_way(text, lanes, s.column, p, to)?;
     push_text(text, b"</g>\n")
 }
@@ -271,7 +271,7 @@ pub(crate) fn push_figure_of(text: &mut Vec<u8>, lanes: &Lanes, s: &Shown) -> Re
     ensures { OnOk result (text.new.items ≡ text.old.items ++ figure_of lanes.now s.now) }
 {
     push_number_at(text, s.row, s.column)?;
-    push_title(text, s)?;
+    push_title(text, s.row, s.event)?;
     push_figure_at(text, lanes, s)?;
     push_text(text, b"</g>\n")
 }
@@ -339,7 +339,7 @@ fn dot_class(is_undone: bool) -> &'static [u8]
 
 // Gathers that a process did not do what it was asked, and why.
 fn push_refusal(text: &mut Vec<u8>, column: u32, lane: u8, cause: Cause) -> Result<(), Memory>
-    ensures { OnOk result (text.new.items ≡ text.old.items ++ refusal column lane cause) }
+    ensures { OnOk result (text.new.items ≡ text.old.items ++ refusal_mark column lane cause) }
 {
     push_shape(
         text,

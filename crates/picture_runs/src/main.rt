@@ -16,7 +16,7 @@ fn show_picture(rt: &HostRuntime, log: &SpaceTime) -> Result<()>
     requires { IsLegal log.now.rows }
 {
     let names = Names::new(rt.alloc());
-    let text = picture(rt.alloc(), log, 0, &names, b"<yes> & 'no'")?;
+    let text = picture(rt.alloc(), log, 0, None, &names, b"<yes> & 'no'")?;
     match std::str::from_utf8(text.as_slice()) {
         Ok(text) => print!(rt; "{text}")?,
         Err(_) => println!(rt; "no text")?,

@@ -1,4 +1,4 @@
-use Rattle.std.proofs.Common.{◌≡◌, ℕ, List, subst}
+use Rattle.std.proofs.Common.{ℕ, List, subst}
 use Rattle.std.proofs.lemmas.Result.{on_err_weaker}
 use Rattle.kt_text.specs.Writing.{WritesFront}
 use Rattle.kt_picture.proofs.drawing.draw.Goals as goal

@@ -1,7 +1,7 @@
-use Rattle.std.proofs.Common.{◌≡◌, ◌∙◌, ◌++◌, ◌-◌, ℕ, List, arith, ap, sym, length, drop}
-use Rattle.std.proofs.lemmas.List.{length-drop}
+use Rattle.std.proofs.Common.{◌∙◌, ◌++◌, ◌+◌, Bool, if◌then◌else◌, arith, ap, length, drop}
 use Rattle.kt_picture.specs.Lanes.{lanes_in}
-use Rattle.kt_picture.specs.Picture.{picture_text}
+use Rattle.kt_picture.specs.Picture.{picture_text, picture_end}
+use Rattle.kt_picture.proofs.Gathering.{then_piece}
 use Rattle.kt_picture.proofs.drawing.picture.Goals as goal
 
 pub of_log-requires-clause-lanes : goal.of_log-requires-clause-lanes
@@ -12,10 +12,11 @@ of_log-requires-clause-few c = omega (arith, c.requires.before, ap length c.rows
 
 pub returns : goal.returns
 returns c =
-    let rows = c.args.log.now.rows in
-    let before = c.args.before in
     let lanes = c.in_ok-lanes.ensures ∙ ap lanes_in c.rows.ensures.rows in
-    let columns : length c.rows-2.result.now - before ≡ length (drop before rows) = ap (λ (n : ℕ). n - before) (ap length c.rows-2.ensures.rows) ∙ sym (length-drop before rows) in
+    let columns = c.columns_of-columns.ensures.exact ∙ ap (λ (b : Bool). length (drop c.args.before c.args.log.now.rows) + (if b then 1 else 0)) c.is_some.ensures in
     record {
-      exact = c.in_ok-push_picture.ensures ∙ (λ j. c.new-text.ensures.items j ++ picture_text c.args.names.now (lanes j) before (columns j) (c.in_ok-window.ensures.shown j) (c.in_ok-window.ensures.cuts j) (c.in_ok-window.ensures.ends j) c.args.caption.now);
+      exact = then_piece c.new-text.result.items c.push_picture.new.text.items c.push_picture_end.new.text.items _ _ c.in_ok-push_picture.ensures c.in_ok-push_picture_end.ensures
+          ∙ (λ j. c.new-text.ensures.items j
+          ++ (picture_text c.args.names.now (lanes j) c.args.before (columns j) (c.in_ok-window.ensures.shown j) (c.in_ok-window.ensures.cuts j) (c.in_ok-window.ensures.ends j)
+          ++ picture_end (lanes j) (c.args.before + columns j) (columns j) c.args.breach c.args.caption.now));
     }

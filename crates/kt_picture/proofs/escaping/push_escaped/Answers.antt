@@ -1,4 +1,4 @@
-use Rattle.std.proofs.Common.{arith, ◌≡◌, ◌<◌, length, get_or}
+use Rattle.std.proofs.Common.{arith, ◌<◌, length, get_or}
 use Rattle.std.proofs.lemmas.List.{get_or_default}
 use Rattle.kt_picture.specs.Escaping.{escaped_byte}
 use Rattle.kt_picture.proofs.Gathering.{gathers_item, gathers_all}

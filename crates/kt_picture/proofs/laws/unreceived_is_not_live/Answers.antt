@@ -1,9 +1,9 @@
 use Rattle.std.proofs.Common.{◌∙◌, ap}
 use Rattle.kt_cuts.specs.declared.deeds.Deed.TheVariants as deed
 use Rattle.kt_cuts.specs.Past.{past}
-use Rattle.kt_picture.specs.Fates.{is_unreceived}
+use Rattle.kt_picture.specs.Fates.{has_no_receive}
 use Rattle.kt_picture.proofs.LawFacts.{no_place, trace_is}
 use Rattle.kt_picture.proofs.laws.unreceived_is_not_live.Goals as goal
 
 pub returns : goal.returns
-returns c = λ rows msg p q body at. ap is_unreceived (trace_is rows msg p q body at) ∙ no_place (deed.Received msg p) ((past rows).live q)
+returns c = λ rows msg p q body at. ap has_no_receive (trace_is rows msg p q body at) ∙ no_place (deed.Received msg p) ((past rows).live q)

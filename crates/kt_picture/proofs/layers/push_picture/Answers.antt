@@ -5,5 +5,4 @@ pub returns : goal.returns
 returns c =
     let first = c.args.text.now.items in
     let so_far-1 = then_piece first c.push_opening.new.text.items c.push_lane_marks.new.text.items _ _ c.in_ok-push_opening.ensures c.in_ok-push_lane_marks.ensures in
-    let so_far-2 = then_piece first c.push_lane_marks.new.text.items c.push_row_marks.new.text.items _ _ so_far-1 c.in_ok-push_row_marks.ensures in
-    gathered c.push_closing.result c.push_closing.ensures (λ e. then_piece first c.push_row_marks.new.text.items c.push_closing.new.text.items _ _ so_far-2 e)
+    gathered c.push_row_marks.result c.push_row_marks.ensures (λ e. then_piece first c.push_lane_marks.new.text.items c.push_row_marks.new.text.items _ _ so_far-1 e)

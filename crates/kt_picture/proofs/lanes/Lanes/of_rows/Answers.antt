@@ -1,4 +1,4 @@
-use Rattle.std.proofs.Common.{◌≡◌, ◌≤◌, ◌<◌, ◌+◌, ◌∙◌, ◌++◌, ◌∷◌, [], ℕ, List, Bool, ap, sym, cond, arith, length, subst, filter}
+use Rattle.std.proofs.Common.{◌≡◌, ◌≤◌, ◌+◌, ◌∙◌, ◌++◌, ◌∷◌, [], ℕ, List, ap, sym, cond, arith, length, subst, filter}
 use Rattle.std.specs.List.{range_with_len}
 use Rattle.kt_picture.specs.Lanes.{is_named}
 use Rattle.kt_picture.proofs.LaneFacts.{lanes_more, few_more}
