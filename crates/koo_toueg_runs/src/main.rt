@@ -1,7 +1,8 @@
 //! Runs the program on the command lines of stored files over other stored files, and ends with the status of the last one.
 //!
 //! It prints each command line, what the program prints for it to either stream, and its exit status. Other lines make
-//! files: `text 3 x` adds the line `x` three times to a text, and `file NAME` writes that text into a file.
+//! files: `text 3 x` adds the line `x` three times to a text, and `file NAME` writes that text into a file; or tell whether
+//! two files have the same: `same NAME OTHER`.
 #![tactic(auto)]
 
 use kt_base::Memory;
@@ -58,6 +59,14 @@ fn write_file<R: Files>(rt: &R, name: &str, text: &mut String) -> io::Result<()>
     Ok(())
 }
 
+// Prints whether two files have the same.
+fn compare_files<R: Files + Print + AllocGlobal>(rt: &R, names: &str) -> io::Result<()> {
+    let (one, other) = names.split_once(' ').unwrap_or((names, names));
+    let same = fs::read_to_string(rt, one)? == fs::read_to_string(rt, other)?;
+    let word = if same { "the same" } else { "not the same" };
+    println!(rt; "{names}: {word}")
+}
+
 // Does what a line says; the exit status of a command line.
 fn do_line<R: Files + Threads + Wait + Sync + Print + AllocGlobal>(
     rt: &R,
@@ -69,6 +78,9 @@ fn do_line<R: Files + Threads + Wait + Sync + Print + AllocGlobal>(
         Ok(0)
     } else if let Some(name) = line.strip_prefix("file ") {
         write_file(rt, name, text)?;
+        Ok(0)
+    } else if let Some(names) = line.strip_prefix("same ") {
+        compare_files(rt, names)?;
         Ok(0)
     } else {
         run_line(rt, line)

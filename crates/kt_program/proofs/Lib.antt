@@ -8,3 +8,6 @@ pub mod Reading
 pub mod Refused
 pub mod FaultLines
 pub mod Mapped
+pub mod KeptRuns
+pub mod OrderedRuns
+pub mod Seeds

@@ -14,7 +14,7 @@ use Rattle.kt_plan.specs.Limits.{Planned}
 use Rattle.kt_spacetime.specs.declared.event.Event.{Event}
 use Rattle.kt_program.specs.declared.fault.AppFault.{AppFault}
 use Rattle.kt_program.specs.declared.fault.AppFault.TheVariants as app
-use Rattle.kt_program.specs.Played.{Outputs, IsWritten, AreNew, OverNew, StopsWriting, StopsAtFault, of_run}
+use Rattle.kt_program.specs.Played.{Outputs, IsWritten, AreNew, OverNew, StopsWriting, StopsAtFault, of_live, of_run}
 
 -- what is written of such rows is written of others that they are
 module _ (Are Be : List Event → Type 0) (so : (rows : List Event) → Are rows → Be rows) (old new : Outputs) where
@@ -29,6 +29,7 @@ module _ (Are Be : List Event → Type 0) (so : (rows : List Event) → Are rows
   stops_so plan (app.Live fault) s = s
   stops_so plan (app.Uncertified fault) s = s
   stops_so plan (app.Unfit why) s = s
+  stops_so plan app.RecordTooLong s = s
   stops_so plan app.Write s = writing_so plan s
   stops_so plan app.Memory (inl u) = inl u
   stops_so plan app.Memory (inr s) = inr (writing_so plan s)
@@ -92,3 +93,13 @@ object_of_run (run_fault.Object q) p e = cc e
 object_of_run (run_fault.Journal q) p e = absurd (cc (e))
 object_of_run (run_fault.Step n other) p e = absurd (cc (e))
 object_of_run run_fault.Memory p e = absurd (cc (e))
+
+pub object_of_live : (fault : LiveFault) (p : ℕ) → of_live fault ≡ app.Live (live_fault.Object p) → fault ≡ live_fault.Object p
+object_of_live live_fault.CastSize p e = absurd (cc (e))
+object_of_live (live_fault.CastKind q) p e = absurd (cc (e))
+object_of_live (live_fault.Object q) p e = cc e
+object_of_live (live_fault.Journal q) p e = absurd (cc (e))
+object_of_live (live_fault.Step why) p e = absurd (cc (e))
+object_of_live live_fault.Spawn p e = absurd (cc (e))
+object_of_live live_fault.Differ p e = absurd (cc (e))
+object_of_live live_fault.Memory p e = absurd (cc (e))

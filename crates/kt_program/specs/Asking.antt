@@ -11,7 +11,7 @@ use Rattle.kt_program.specs.declared.ending.Done.TheVariants.{Judged, Explained,
 use Rattle.kt_program.specs.declared.fault.ProgramFault.{ProgramFault}
 use Rattle.kt_program.specs.declared.fault.ProgramFault.TheVariants as program
 use Rattle.kt_program.specs.declared.line.Asked.{Asked}
-use Rattle.kt_program.specs.declared.line.Asked.TheVariants.{Certify, Check, Explain, Live, Play}
+use Rattle.kt_program.specs.declared.line.Asked.TheVariants.{Certify, Check, Explain, Live, Play, PlayInOrder}
 use Rattle.kt_program.specs.Names.{IsApart, IsWriting}
 use Rattle.kt_program.specs.Program.{IsErrorFor, Names, program as definition}
 
@@ -41,6 +41,7 @@ AreAnswered words P = (e : Error) × IsErrorFor words e × P (kind_of e)
 -- stored log certified
 abbrev pub IsOfRun : Asked → Type 0
 IsOfRun (Play scenario steps log cert) = Unit {0}
+IsOfRun (PlayInOrder play) = Unit {0}
 IsOfRun (Live scenario log cert) = Unit {0}
 IsOfRun (Check log cert) = ⊥
 IsOfRun (Explain log cert) = ⊥
@@ -49,6 +50,7 @@ IsOfRun (Certify log cert) = ⊥
 -- whether a scenario is to be run serially
 abbrev pub IsPlay : Asked → Type 0
 IsPlay (Play scenario steps log cert) = Unit {0}
+IsPlay (PlayInOrder play) = Unit {0}
 IsPlay (Live scenario log cert) = ⊥
 IsPlay (Check log cert) = ⊥
 IsPlay (Explain log cert) = ⊥
@@ -57,6 +59,7 @@ IsPlay (Certify log cert) = ⊥
 -- whether a stored run is to be judged
 abbrev pub IsCheck : Asked → Type 0
 IsCheck (Play scenario steps log cert) = ⊥
+IsCheck (PlayInOrder play) = ⊥
 IsCheck (Live scenario log cert) = ⊥
 IsCheck (Check log cert) = Unit {0}
 IsCheck (Explain log cert) = ⊥
@@ -65,6 +68,7 @@ IsCheck (Certify log cert) = ⊥
 -- whether a stored run is to be judged, and the answer told of
 abbrev pub IsExplain : Asked → Type 0
 IsExplain (Play scenario steps log cert) = ⊥
+IsExplain (PlayInOrder play) = ⊥
 IsExplain (Live scenario log cert) = ⊥
 IsExplain (Check log cert) = ⊥
 IsExplain (Explain log cert) = Unit {0}
@@ -73,6 +77,7 @@ IsExplain (Certify log cert) = ⊥
 -- whether a stored log is to be certified
 abbrev pub IsCertify : Asked → Type 0
 IsCertify (Play scenario steps log cert) = ⊥
+IsCertify (PlayInOrder play) = ⊥
 IsCertify (Live scenario log cert) = ⊥
 IsCertify (Check log cert) = ⊥
 IsCertify (Explain log cert) = ⊥

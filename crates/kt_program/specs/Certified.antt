@@ -7,6 +7,7 @@ use Rattle.kt_log_text.specs.declared.fault.LogFault.TheVariants as log
 use Rattle.kt_log_text.specs.Texts as rows
 use Rattle.kt_chain.specs.declared.certificate.Certificate.{Certificate}
 use Rattle.kt_chain.specs.Spelling.{records_of}
+use Rattle.kt_certify.specs.Certificates.{certificates}
 use Rattle.kt_certify.specs.Faults.{IsFit, IsUnfit}
 use Rattle.kt_certify.specs.Streamed.{AreCertified, AreRowsOf}
 use Rattle.kt_certify.specs.declared.fault.StreamFault.{StreamFault}
@@ -16,7 +17,6 @@ use Rattle.kt_program.specs.declared.fault.AppFault.TheVariants as app
 use Rattle.kt_program.specs.declared.fault.ProgramFault.{ProgramFault}
 use Rattle.kt_program.specs.declared.fault.ProgramFault.TheVariants as program
 use Rattle.kt_program.specs.Names.{Name}
-use Rattle.kt_program.specs.Played.{certificate_text}
 use Rattle.kt_program.specs.Stored.{Told, records_told}
 
 -- the text of these certificates
@@ -37,6 +37,7 @@ IsUncertified bytes (app.Log fault) = (fault ≢ log.Memory) × IfSome (records_
 IsUncertified bytes (app.Unfit why) = (read : List Event) × AreRowsOf bytes read × IsUnfit read why
 IsUncertified bytes app.Memory = Unit {0}
 IsUncertified bytes app.Write = ⊥
+IsUncertified bytes app.RecordTooLong = ⊥
 IsUncertified bytes (app.Cert fault) = ⊥
 IsUncertified bytes (app.Run fault) = ⊥
 IsUncertified bytes (app.Live fault) = ⊥
@@ -67,7 +68,7 @@ CertifiesTo told name old new = (list : List Certificate) × AreOfFile told list
 
 -- standard output has the certificates of rows that are fit, or nothing new where they go into a file
 abbrev pub LeavesCertificates : Told → Told → Type 0
-LeavesCertificates old new = (new ≡ old) ⊎ ((read : List Event) × IsFit read × Appends old new (certificate_text read))
+LeavesCertificates old new = (new ≡ old) ⊎ ((read : List Event) × IsFit read × Appends old new (text_of_list (certificates read)))
 
 -- the same; at a fault nothing new, unless the writer failed or there was no memory for more of the certificates
 abbrev pub LeavesCertified : Result Unit ProgramFault → Told → Told → Type 0

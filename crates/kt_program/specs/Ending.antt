@@ -1,10 +1,12 @@
 -- What the program has written where it ends.
-use Rattle.std.specs.Prelude.{◌≡◌, ◌≢◌, ◌⊎◌, ℕ, Bool, List, Result, Ok, Err, OnOk, IfErr}
+use Rattle.std.specs.Prelude.{◌≡◌, ◌≢◌, ◌⊎◌, ℕ, Bool, List, Option, Result, Ok, Err, OnOk, IfErr}
 use Rattle.std.specs.Io.KnownBytes.{Appends}
 use Rattle.clap.specs.Words.{Text}
 use Rattle.kt_spacetime.specs.declared.event.Event.{Event}
 use Rattle.kt_plan.specs.declared.steps.Step.{Step}
 use Rattle.kt_plan.specs.Limits.{Planned}
+use Rattle.kt_certify.specs.Certificates.{certificates}
+use Rattle.kt_report.specs.Exact.{report_of}
 use Rattle.kt_checker.specs.declared.verdict.Verdict.{Verdict}
 use Rattle.kt_plans.specs.Follows.{FollowsPlan}
 use Rattle.kt_plans.specs.Headline.{IsPromised}
@@ -15,7 +17,7 @@ use Rattle.kt_program.specs.declared.fault.AppFault.TheVariants as app
 use Rattle.kt_program.specs.declared.fault.ProgramFault.{ProgramFault}
 use Rattle.kt_program.specs.declared.fault.ProgramFault.TheVariants as program
 use Rattle.kt_program.specs.declared.line.Asked.{Asked}
-use Rattle.kt_program.specs.declared.line.Asked.TheVariants.{Certify, Check, Explain, Live, Play}
+use Rattle.kt_program.specs.declared.line.Asked.TheVariants.{Certify, Check, Explain, Live, Play, PlayInOrder}
 use Rattle.kt_program.specs.Asking.{Ask, IsCertify, IsOfRun}
 use Rattle.kt_run.specs.Runs.{IsLogOfRun, IsPlayed}
 use Rattle.kt_program.specs.Certified.{CertifiesTo, LeavesCertificates}
@@ -23,7 +25,8 @@ use Rattle.kt_program.specs.FaultTexts.{WritesLineOf}
 use Rattle.kt_program.specs.Explained.{AppendsExplained}
 use Rattle.kt_program.specs.Inputs.{AreGiven, IsPlanOfFile}
 use Rattle.kt_program.specs.Names.{Name}
-use Rattle.kt_program.specs.Played.{OverNew, report_text}
+use Rattle.kt_program.specs.Played.{OverNew}
+use Rattle.kt_program.specs.Recorded.{IsKeptRun, order_of}
 use Rattle.kt_program.specs.Status.{status_of}
 use Rattle.kt_program.specs.Stored.{Told, is_yes, verdict_line}
 
@@ -43,7 +46,7 @@ pub record AppendsReport (old new : Told) : Type 0 where
   pub run : OverNew plan (IsLogOfRun plan) rows
   pub follows : FollowsPlan plan rows
   pub promised : IsPromised rows
-  pub report : Appends old new (report_text plan rows)
+  pub report : Appends old new (report_of plan rows (certificates rows))
 
 -- the report of a run over new objects, of a plan that a file says, which begins with the steps that are given
 pub record AppendsPlay {F : Type 0} (told : F → Told) (name : Name) (old new : Told) : Type 0 where
@@ -53,7 +56,19 @@ pub record AppendsPlay {F : Type 0} (told : F → Told) (name : Name) (old new :
   pub given : AreGiven told name plan.names steps
   pub rows : List Event
   pub played : OverNew plan (λ cast. IsPlayed plan cast steps) rows
-  pub report : Appends old new (report_text plan rows)
+  pub report : Appends old new (report_of plan rows (certificates rows))
+
+-- the report of a run over new objects, of a plan that a file says, which begins with the steps that are given and goes on
+-- as a seed draws them, or by default
+pub record AppendsOrderedPlay {F : Type 0} (told : F → Told) (name : Name) (seed : Option ℕ) (old new : Told) : Type 0 where
+  pub plan : Planned
+  pub planned : IsPlanOfFile told plan
+  pub given : List Step
+  pub begins : AreGiven told name plan.names given
+  pub steps : List Step
+  pub rows : List Event
+  pub played : OverNew plan (λ cast. IsKeptRun plan cast given (order_of seed) steps) rows
+  pub report : Appends old new (report_of plan rows (certificates rows))
 
 -- the run's report; at a fault nothing, unless a writer failed or there was no memory for more of the report
 abbrev pub LeavesPlayed : Result Unit ProgramFault → Told → Told → Type 0
@@ -90,10 +105,11 @@ LeavesDone Played old new = AppendsReport old new
 LeavesDone Certified old new = LeavesCertificates old new
 LeavesDone Shown old new = Unit {0}
 
--- what is written for what is asked: the report of the scenario played with the steps of the file that is named, or of a
--- run by threads
+-- what is written for what is asked: the report of the scenario played with the steps of the file that is named, by a seed
+-- where one is given, or of a run by threads
 abbrev pub Plays : {F : Type 0} → (F → Told) → Told → Told → Asked → Type 0
 Plays told old new (Play scenario steps log cert) = AppendsPlay told steps old new
+Plays told old new (PlayInOrder play) = AppendsOrderedPlay told play.steps play.seed old new
 Plays told old new (Live scenario log cert) = AppendsReport old new
 Plays told old new (Check log cert) = ⊥
 Plays told old new (Explain log cert) = ⊥
@@ -111,6 +127,7 @@ PlayedFor words told old new Shown = Unit {0}
 abbrev pub Certifies : {F : Type 0} → (F → Told) → Told → Told → Asked → Type 0
 Certifies told old new (Certify log cert) = CertifiesTo told cert old new
 Certifies told old new (Play scenario steps log cert) = ⊥
+Certifies told old new (PlayInOrder play) = ⊥
 Certifies told old new (Live scenario log cert) = ⊥
 Certifies told old new (Check log cert) = ⊥
 Certifies told old new (Explain log cert) = ⊥

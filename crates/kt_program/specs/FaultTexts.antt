@@ -6,6 +6,7 @@ use Rattle.kt_chain.specs.FaultTexts.{certificate_fault_text}
 use Rattle.kt_certify.specs.FaultTexts.{unfit_text}
 use Rattle.kt_scenario.specs.FaultTexts.{scenario_fault_text, steps_fault_text}
 use Rattle.kt_run.specs.FaultTexts.{run_fault_text}
+use Rattle.kt_threads.specs.FaultTexts.{live_fault_text}
 use Rattle.kt_program.specs.Faults.{fault_line}
 use Rattle.kt_program.specs.Stored.{Told}
 use Rattle.kt_program.specs.declared.fault.AppFault.{AppFault}
@@ -13,14 +14,15 @@ use Rattle.kt_program.specs.declared.fault.AppFault.TheVariants as app
 use Rattle.kt_program.specs.declared.fault.ProgramFault.{ProgramFault}
 use Rattle.kt_program.specs.declared.fault.ProgramFault.TheVariants as program
 
--- the words of a fault of a run, of a stored run or of writing; those of a run by threads are not told
+-- the words of a fault of a run, of a stored run or of writing
 abbrev pub app_fault_text : AppFault → Option (List ℕ)
 app_fault_text (app.Log fault) = Some (log_fault_text fault)
 app_fault_text (app.Cert fault) = Some (certificate_fault_text fault)
 app_fault_text (app.Run fault) = Some (run_fault_text fault)
-app_fault_text (app.Live fault) = None
+app_fault_text (app.Live fault) = Some (live_fault_text fault)
 app_fault_text (app.Uncertified fault) = Some (codes "run: Uncertified")
 app_fault_text (app.Unfit why) = Some (unfit_text why)
+app_fault_text app.RecordTooLong = Some (codes "record too long")
 app_fault_text app.Write = Some (codes "write fault")
 app_fault_text app.Memory = Some (codes "memory")
 

@@ -9,6 +9,7 @@ pub mod Names
 pub mod Outputs
 pub mod Played
 pub mod Program
+pub mod Recorded
 pub mod Status
 pub mod Stored
 pub mod FaultTexts

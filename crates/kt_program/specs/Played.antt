@@ -1,5 +1,5 @@
 -- What is written of a run.
-use Rattle.std.specs.Prelude.{◌≡◌, ◌≢◌, ◌<◌, ◌⊎◌, [], ◌∷◌, ℕ, List, length, map, slice_index, slice_index_or}
+use Rattle.std.specs.Prelude.{◌≡◌, ◌≢◌, ◌<◌, ◌⊎◌, [], ◌∷◌, ℕ, Option, List, length, map, slice_index, slice_index_or}
 use Rattle.std.specs.Io.KnownBytes.{Appends}
 use Rattle.kt_held.specs.Holdings.{Content, content}
 use Rattle.kt_object.specs.Value.{opening_value}
@@ -24,16 +24,15 @@ use Rattle.kt_threads.specs.declared.faults.LiveFault.{LiveFault}
 use Rattle.kt_threads.specs.declared.faults.LiveFault.TheVariants as live
 use Rattle.kt_program.specs.declared.fault.AppFault.{AppFault}
 use Rattle.kt_program.specs.declared.fault.AppFault.TheVariants as app
-use Rattle.kt_program.specs.Stored.{Told}
 
 -- what the three writers of a run hold, as far as they tell it
 pub record Outputs : Type 0 where
-  pub log : Told
-  pub certificates : Told
-  pub report : Told
+  pub log : Option (List ℕ)
+  pub certificates : Option (List ℕ)
+  pub report : Option (List ℕ)
 
 -- the same, of what three writers tell
-abbrev pub outputs : Told → Told → Told → Outputs
+abbrev pub outputs : Option (List ℕ) → Option (List ℕ) → Option (List ℕ) → Outputs
 outputs log certificates report = record { log = log; certificates = certificates; report = report }
 
 -- the text of a log of these rows
@@ -44,15 +43,11 @@ log_text rows = text_of (header ∷ map spelling rows)
 abbrev pub certificate_text : List Event → List ℕ
 certificate_text rows = text_of (records_of (certificates rows))
 
--- the text of the report of such a log of a run of this plan
-abbrev pub report_text : Planned → List Event → List ℕ
-report_text plan rows = report_of plan rows (certificates rows)
-
 -- a log of these rows, of a run of this plan, its certificates and its report are written
 pub record WritesRun (plan : Planned) (rows : List Event) (old new : Outputs) : Type 0 where
   pub log : Appends old.log new.log (log_text rows)
   pub chains : Appends old.certificates new.certificates (certificate_text rows)
-  pub report : Appends old.report new.report (report_text plan rows)
+  pub report : Appends old.report new.report (report_of plan rows (certificates rows))
 
 -- a run of this plan is written whose rows are such; they follow the plan, told by the rows alone, and all is so of them that
 -- is promised of a run
@@ -116,7 +111,7 @@ pub record StopsInCertificates (rows : List Event) (old new : Outputs) : Type 0 
 pub record StopsInReport (plan : Planned) (rows : List Event) (old new : Outputs) : Type 0 where
   pub log : Appends old.log new.log (log_text rows)
   pub chains : Appends old.certificates new.certificates (certificate_text rows)
-  pub report : WritesFront old.report new.report (report_text plan rows)
+  pub report : WritesFront old.report new.report (report_of plan rows (certificates rows))
 
 -- writing a run, whose rows are such, stops somewhere
 abbrev pub StopsWriting : (List Event → Type 0) → Planned → Outputs → Outputs → Type 0
@@ -129,6 +124,7 @@ StopsAtFault Are plan old new (app.Run fault) = (fault ≢ run.Memory) × IsUnwr
 StopsAtFault Are plan old new (app.Live fault) = (fault ≢ live.Memory) × IsUnwritten old new
 StopsAtFault Are plan old new (app.Uncertified fault) = ⊥
 StopsAtFault Are plan old new (app.Unfit why) = ⊥
+StopsAtFault Are plan old new app.RecordTooLong = ⊥
 StopsAtFault Are plan old new app.Write = StopsWriting Are plan old new
 StopsAtFault Are plan old new app.Memory = IsUnwritten old new ⊎ StopsWriting Are plan old new
 StopsAtFault Are plan old new (app.Log fault) = ⊥

@@ -1,5 +1,5 @@
 -- The command line as clap reads it.
-use Rattle.std.specs.Prelude.{◌≡◌, ◌⊎◌, List, Option, Some, None, option_map, codes, true, false}
+use Rattle.std.specs.Prelude.{◌≡◌, ◌<◌, ◌^◌, ◌⊎◌, ℕ, List, Option, Some, None, option_map, codes, true, false}
 use Rattle.clap.specs.Words.{App, Rule, Row, Text, rule_of, app_of, new_app, new_rule, with_rule, with_subcommand, first_of, subcommand_of}
 use Rattle.clap.specs.Words.{Kinds, HasKind, fault_of, kind_of}
 use Rattle.clap.specs.declared.error.Error.{Error}
@@ -8,8 +8,10 @@ use Rattle.clap.specs.declared.builder.command.Command.TheViews.{out-Command as 
 use Rattle.clap.specs.declared.builder.command.Command.{Command}
 use Rattle.clap.specs.declared.builder.arg.Arg.{Arg}
 use Rattle.clap.specs.declared.builder.action.ArgAction.TheVariants.{SetTrue}
+use Rattle.clap.specs.declared.builder.value_parser.ValueParser.TheVariants.{Unsigned}
+use Rattle.std.specs.Fmt.{decimal}
 use Rattle.kt_program.specs.declared.line.Asked.{Asked}
-use Rattle.kt_program.specs.declared.line.Asked.TheVariants.{Certify, Check, Explain, Live, Play}
+use Rattle.kt_program.specs.declared.line.Asked.TheVariants.{Certify, Check, Explain, Live, Play, PlayInOrder}
 
 -- a word that has to be there, with a name in help
 abbrev pub wanted : Text → Rule
@@ -23,9 +25,17 @@ optional id = record (new_rule id) { long = Some id; value_names = 1 }
 abbrev pub switch : Text → Rule
 switch id = record (new_rule id) { long = Some id; action = Some SetTrue }
 
--- the command that plays a scenario
+-- an option with a number of 64 bits, named in help
+abbrev pub numeric : Text → Rule
+numeric id = record (new_rule id) { long = Some id; value_names = 1; parser = Some (Unsigned 0 18446744073709551615) }
+
+-- the command that plays a scenario in an order
+abbrev pub play_order : App
+play_order = with_rule (with_rule (with_rule (with_rule (new_app (codes "play")) (wanted (codes "scenario"))) (optional (codes "steps"))) (numeric (codes "seed"))) (optional (codes "record"))
+
+-- the same with its log and its certificates: the command that plays a scenario
 abbrev pub play : App
-play = with_rule (with_rule (with_rule (with_rule (new_app (codes "play")) (wanted (codes "scenario"))) (optional (codes "steps"))) (optional (codes "log"))) (optional (codes "cert"))
+play = with_rule (with_rule play_order (optional (codes "log"))) (optional (codes "cert"))
 
 -- the command that runs one in threads
 abbrev pub live : App
@@ -70,6 +80,23 @@ pub record NamesLive (rows : List Row) (scenario : Text) (log cert : Option Text
   pub log_is : first_of (codes "log") rows ≡ log
   pub cert_is : first_of (codes "cert") rows ≡ cert
 
+-- what the matches of `play` have neither of: a seed, nor a file for the steps that were made
+pub record NamesNoOrder (rows : List Row) : Type 0 where
+  pub no_seed : first_of (codes "seed") rows ≡ None
+  pub no_record : first_of (codes "record") rows ≡ None
+
+-- a text that may be given spells a number of 64 bits, by its digits without a sign or a leading zero
+abbrev pub SpellsSeed : Option Text → Option ℕ → Type 0
+SpellsSeed None None = Unit {0}
+SpellsSeed (Some text) (Some n) = (n < 2 ^ 64) × (text ≡ decimal n)
+SpellsSeed _ _ = ⊥
+
+-- what they have of the two, and that they have one
+pub record NamesOrder (rows : List Row) (seed : Option ℕ) (kept : Option Text) : Type 0 where
+  pub seed_is : SpellsSeed (first_of (codes "seed") rows) seed
+  pub record_is : first_of (codes "record") rows ≡ kept
+  pub some : ¬ NamesNoOrder rows
+
 -- an option without a value is given
 abbrev pub IsSet : Text → List Row → Type 0
 IsSet id rows = first_of id rows ≡ Some (codes "true")
@@ -82,7 +109,9 @@ pub record NamesCheck (rows : List Row) (log cert : Text) : Type 0 where
 -- what a subcommand's matches name
 abbrev pub NamesIn : Text → List Row → Asked → Type 0
 NamesIn name rows (Play scenario steps log cert) =
-    (name ≡ codes "play") × NamesPlay rows scenario.now (option_map (λ s. s.now) steps) (option_map (λ s. s.now) log) (option_map (λ s. s.now) cert)
+    (name ≡ codes "play") × NamesPlay rows scenario.now (option_map (λ s. s.now) steps) (option_map (λ s. s.now) log) (option_map (λ s. s.now) cert) × NamesNoOrder rows
+NamesIn name rows (PlayInOrder play) =
+    (name ≡ codes "play") × NamesPlay rows play.scenario.now (option_map (λ s. s.now) play.steps) (option_map (λ s. s.now) play.log) (option_map (λ s. s.now) play.cert) × NamesOrder rows play.seed (option_map (λ s. s.now) play.kept)
 NamesIn name rows (Live scenario log cert) =
     (name ≡ codes "live") × NamesLive rows scenario.now (option_map (λ s. s.now) log) (option_map (λ s. s.now) cert)
 NamesIn name rows (Check log cert) = (name ≡ codes "check") × NamesCheck rows log.now cert.now × ¬ IsSet (codes "explain") rows

@@ -61,6 +61,7 @@ IsRefusal of_rows of_certs (app.Run fault) = ⊥
 IsRefusal of_rows of_certs (app.Live fault) = ⊥
 IsRefusal of_rows of_certs (app.Uncertified fault) = ⊥
 IsRefusal of_rows of_certs (app.Unfit why) = ⊥
+IsRefusal of_rows of_certs app.RecordTooLong = ⊥
 
 -- a fault of a log, as the program answers it
 abbrev pub of_log : LogFault → AppFault

@@ -1,18 +1,20 @@
 //! The command line, by clap.
 
-ghost use Rattle.std.specs.Prelude.{◌≡◌, ◌↔◌, codes, IfOk, IfErr, IfSome, IfNone, IsTrue, Some, option_map};
+ghost use Rattle.std.specs.Prelude.{◌≡◌, ◌≢◌, ◌<◌, ◌^◌, ◌↔◌, ℕ, codes, IfOk, IfErr, IfSome, IfNone, IsTrue, Some, option_map};
+ghost use Rattle.std.specs.Fmt.{decimal};
 ghost use Rattle.clap.specs.Words.{first_of, kind_of, new_app, subcommand_of, subcommand_rows_of, rows_of, found_of};
-ghost use Rattle.kt_program.specs.Program.{program, certify, check, live, play, optional, switch, wanted, with_version, IsRule, IsDefined, IsSet, Names, NamesIn};
+ghost use Rattle.kt_program.specs.Program.{program, certify, check, live, numeric, play, play_order, optional, switch, wanted, with_version, IsRule, IsDefined, IsSet, Names, NamesIn, NamesNoOrder};
 ghost use Rattle.clap.specs.declared.error.kind.ErrorKind.TheVariants.{MissingSubcommand};
 ghost use Rattle.kt_program.specs.declared.line.Asked.{Asked};
 ghost use Rattle.kt_program.specs.Asking.{IsUnasked};
 ghost use Rattle.kt_program.specs.Names.{IsApart};
 ghost use Rattle.kt_program.specs.declared.ask.AskFault.TheVariants.{Line, Memory as OutOfMemory, SameName};
 
-use crate::line::Asked;
+use crate::line::{Asked, OrderedPlay};
 use crate::words::Words;
 use clap::error::ErrorKind;
-use clap::{Arg, ArgAction, ArgMatches, Command, Error};
+use clap::{Arg, ArgAction, ArgMatches, Command, Error, value_parser};
+use itoa::Buffer;
 use std::alloc::{AllocError, Global};
 
 const VERSION: &str = "0.1.0";
@@ -39,7 +41,22 @@ const ABOUT_STEPS: &str = "A text of steps that come first, do A or take AT FROM
 
 const LONG_ABOUT_STEPS: &str =
     "A text of steps that come first, a line do A or take AT FROM for each.
-After them the run goes on by default steps until all is at rest.";
+After them the run goes on by default steps until all is at rest, or by
+drawn ones with --seed.";
+
+const ABOUT_SEED: &str = "Draws each step after those of --steps from all that are enabled";
+
+const LONG_ABOUT_SEED: &str =
+    "Draws each step after those of --steps from all that are enabled, each as
+likely as another, by the generator xoshiro256++, seeded from N (a number from
+0 to 2^64 - 1) by SplitMix64. The same seed gives the same run on every machine
+and with every later version. The run ends where no step is enabled.";
+
+const ABOUT_RECORD: &str = "Where the steps that were made are written";
+
+const LONG_ABOUT_RECORD: &str =
+    "Where the steps that were made are written, all of them in order, as a text
+for --steps: with it the same run is played again. It has at most 2^20 steps.";
 
 const ABOUT_LOG_OUT: &str = "Where the log is written, in format 2";
 
@@ -151,6 +168,18 @@ fn optional_word<'a>(alloc: Global, id: &'a str, help: &'a str, long_help: &'a s
         .long_help(long_help)
 }
 
+// An option with a number of 64 bits, with its texts in help.
+fn numeric_word<'a>(alloc: Global, id: &'a str, help: &'a str, long_help: &'a str) -> Arg<'a>
+    ensures { IsRule (numeric id.entry.now) result }
+{
+    Arg::new(alloc, id)
+        .long(id)
+        .value_name("N")
+        .value_parser(value_parser!(u64))
+        .help(help)
+        .long_help(long_help)
+}
+
 // An option without a value, with its texts in help.
 fn switch<'a>(alloc: Global, id: &'a str, help: &'a str, long_help: &'a str) -> Arg<'a>
     ensures { IsRule (switch id.entry.now) result }
@@ -172,8 +201,9 @@ fn command_of<'a>(alloc: Global, name: &'a str, about: &'a str, long_about: &'a 
         .after_help(STATUSES)
 }
 
-fn play_command<'a>(alloc: Global) -> Result<Command<'a>, AllocError>
-    ensures { IfOk result (IsDefined play) }
+// The command that plays a scenario in an order, without its log and its certificates.
+fn play_order_command<'a>(alloc: Global) -> Result<Command<'a>, AllocError>
+    ensures { IfOk result (IsDefined play_order) }
 {
     let command = command_of(alloc, "play", ABOUT_PLAY, LONG_ABOUT_PLAY)
         .arg(wanted_word(
@@ -184,6 +214,15 @@ fn play_command<'a>(alloc: Global) -> Result<Command<'a>, AllocError>
             LONG_ABOUT_SCENARIO,
         ))?
         .arg(optional_word(alloc, "steps", ABOUT_STEPS, LONG_ABOUT_STEPS))?
+        .arg(numeric_word(alloc, "seed", ABOUT_SEED, LONG_ABOUT_SEED))?
+        .arg(optional_word(alloc, "record", ABOUT_RECORD, LONG_ABOUT_RECORD))?;
+    Ok(command)
+}
+
+fn play_command<'a>(alloc: Global) -> Result<Command<'a>, AllocError>
+    ensures { IfOk result (IsDefined play) }
+{
+    let command = play_order_command(alloc)?
         .arg(optional_word(alloc, "log", ABOUT_LOG_OUT, ABOUT_LOG_OUT))?
         .arg(optional_word(alloc, "cert", ABOUT_CERT_OUT, ABOUT_CERT_OUT))?;
     Ok(command)
@@ -262,8 +301,72 @@ fn is_set(matches: &ArgMatches<'_>, id: &str) -> bool
     matches!(value, "true")
 }
 
+// The number of 64 bits that a text spells, if it spells one.
+fn seed_of(text: &str) -> Option<u64>
+    ensures found { IfSome result (λ n. text.now ≡ decimal n) }
+    ensures none { IfNone result ((n : ℕ) → n < 2 ^ 64 → text.now ≢ decimal n) }
+{
+    let Ok(number) = text.parse::<u64>() else {
+        return None;
+    };
+    let mut digits = Buffer::new();
+    if digits.format(number) != text {
+        return None;
+    }
+    Some(number)
+}
+
 // What the matches of `play` ask for.
 fn asked_of_play<'a>(matches: &ArgMatches<'a>) -> Option<Asked<'a>>
+    ensures named { IfSome result (NamesIn (codes "play") (rows_of (found_of matches.now))) }
+    ensures nothing { IfNone result ((asked : Asked) → ¬ NamesIn (codes "play") (rows_of (found_of matches.now)) asked) }
+{
+    match (text_of(matches, "seed"), text_of(matches, "record")) {
+        (None, None) => plain_play(matches),
+        (Some(seed), kept) => seeded_play(matches, seed, kept),
+        (None, Some(kept)) => recorded_play(matches, kept),
+    }
+}
+
+// What the matches of `play` ask for where they have a seed.
+#[tactic(auto, using(crate::proofs::Seeds::seeded, crate::proofs::Seeds::no_number))]
+fn seeded_play<'a>(matches: &ArgMatches<'a>, seed: &str, kept: Option<&'a str>) -> Option<Asked<'a>>
+    requires seed { first_of (codes "seed") (rows_of (found_of matches.now)) ≡ Some seed.now }
+    requires kept { first_of (codes "record") (rows_of (found_of matches.now)) ≡ option_map (λ s. s.now) kept }
+    ensures named { IfSome result (NamesIn (codes "play") (rows_of (found_of matches.now))) }
+    ensures nothing { IfNone result ((asked : Asked) → ¬ NamesIn (codes "play") (rows_of (found_of matches.now)) asked) }
+{
+    Some(Asked::PlayInOrder(OrderedPlay {
+        scenario: text_of(matches, "scenario")?,
+        steps: text_of(matches, "steps"),
+        seed: Some(seed_of(seed)?),
+        kept,
+        log: text_of(matches, "log"),
+        cert: text_of(matches, "cert"),
+    }))
+}
+
+// What they ask for where they have none, but a file for the steps that are made.
+#[tactic(auto, using(crate::proofs::Seeds::unseeded))]
+fn recorded_play<'a>(matches: &ArgMatches<'a>, kept: &'a str) -> Option<Asked<'a>>
+    requires seed { first_of (codes "seed") (rows_of (found_of matches.now)) ≡ None }
+    requires kept { first_of (codes "record") (rows_of (found_of matches.now)) ≡ Some kept.now }
+    ensures named { IfSome result (NamesIn (codes "play") (rows_of (found_of matches.now))) }
+    ensures nothing { IfNone result ((asked : Asked) → ¬ NamesIn (codes "play") (rows_of (found_of matches.now)) asked) }
+{
+    Some(Asked::PlayInOrder(OrderedPlay {
+        scenario: text_of(matches, "scenario")?,
+        steps: text_of(matches, "steps"),
+        seed: None,
+        kept: Some(kept),
+        log: text_of(matches, "log"),
+        cert: text_of(matches, "cert"),
+    }))
+}
+
+// What they ask for where they have neither.
+fn plain_play<'a>(matches: &ArgMatches<'a>) -> Option<Asked<'a>>
+    requires { NamesNoOrder (rows_of (found_of matches.now)) }
     ensures named { IfSome result (NamesIn (codes "play") (rows_of (found_of matches.now))) }
     ensures nothing { IfNone result ((asked : Asked) → ¬ NamesIn (codes "play") (rows_of (found_of matches.now)) asked) }
 {

@@ -34,6 +34,8 @@ pub enum AppFault {
     Uncertified(CertFault),
     /// A stored log has no certificates.
     Unfit(Unfit),
+    /// A run has more steps than a text of steps may have.
+    RecordTooLong,
     /// A writer failed.
     Write,
     /// There was no memory.
@@ -53,6 +55,7 @@ impl fmt::Display for AppFault {
             AppFault::Live(fault) => fmt::Display::fmt(fault, f),
             AppFault::Uncertified(_) => write!(f, "run: Uncertified"),
             AppFault::Unfit(why) => fmt::Display::fmt(why, f),
+            AppFault::RecordTooLong => write!(f, "record too long"),
             AppFault::Write => write!(f, "write fault"),
             AppFault::Memory => write!(f, "memory"),
         }
@@ -74,6 +77,7 @@ impl AppFault {
             AppFault::Run(RunFault::Step(_, StepFault::NotEnabled)) => 2,
             AppFault::Run(_) | AppFault::Live(_) | AppFault::Uncertified(_) => 4,
             AppFault::Unfit(_) => 1,
+            AppFault::RecordTooLong => 2,
             AppFault::Write => 3,
             AppFault::Memory => 4,
         }

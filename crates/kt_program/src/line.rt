@@ -4,6 +4,23 @@ ghost use Rattle.std.specs.Prelude.{MatchBool};
 
 use crate::names::clash;
 
+/// A scenario that is to be played in an order of its own, or of which the steps are to be kept, with the names of files.
+#[derive(Clone, Copy, Debug, PartialEq, Eq)]
+pub struct OrderedPlay<'a> {
+    /// The scenario.
+    pub scenario: &'a str,
+    /// The steps that come first, where that is asked.
+    pub steps: Option<&'a str>,
+    /// The seed by which the steps after these are drawn; none for default steps.
+    pub seed: Option<u64>,
+    /// Where all the steps that are made are written, where that is asked.
+    pub kept: Option<&'a str>,
+    /// Where the log is written, where that is asked.
+    pub log: Option<&'a str>,
+    /// Where the certificates are written, where that is asked.
+    pub cert: Option<&'a str>,
+}
+
 /// What the words of a command line ask for, with the names of files.
 #[derive(Clone, Copy, Debug, PartialEq, Eq)]
 pub enum Asked<'a> {
@@ -14,6 +31,8 @@ pub enum Asked<'a> {
         log: Option<&'a str>,
         cert: Option<&'a str>,
     },
+    /// Play a scenario by steps that are drawn, or with its steps written.
+    PlayInOrder(OrderedPlay<'a>),
     /// Run a scenario, each object in a thread of its own, and write its log and its certificates where that is asked.
     Live {
         scenario: &'a str,
@@ -52,6 +71,10 @@ impl<'a> Asked<'a> {
                 log,
                 cert,
             } => clash(&[Some(*scenario), *steps], &[*log, *cert]),
+            Asked::PlayInOrder(play) => clash(
+                &[Some(play.scenario), play.steps],
+                &[play.log, play.cert, play.kept],
+            ),
             Asked::Live {
                 scenario,
                 log,

@@ -18,7 +18,7 @@ use std::{fs, io};
 
 /// A file that is written, or nothing where none is asked for.
 #[derive(Drop)]
-pub(crate) enum Output<W> {
+pub enum Output<W> {
     File(W),
     Nowhere(Sink),
 }
@@ -63,6 +63,31 @@ pub(crate) fn outputs_of<F: Files>(
     empty(&log_file)?;
     empty(&cert_file)?;
     Ok((log_file, cert_file))
+}
+
+/// The files of these names for a log, for certificates and for the steps that are made, as far as names are given. They
+/// are opened in this order, and emptied as those for a log and for certificates alone.
+pub(crate) fn recorded_outputs_of<F: Files>(
+    files: &F,
+    inputs: &[Option<&str>],
+    log: Option<&str>,
+    cert: Option<&str>,
+    kept: Option<&str>,
+) -> Result<(Output<F::File>, Output<F::File>, Output<F::File>), ProgramFault>
+    ensures fault { IfErr result IsOfOutputs }
+    ensures named { IfErr result (λ fault. fault ≡ program.SameFile →
+        IsFileName log.entry ⊎ (IsFileName cert.entry ⊎ IsFileName kept.entry)) }
+{
+    let log_file = output_of(files, log)?;
+    let cert_file = output_of(files, cert)?;
+    let kept_file = output_of(files, kept)?;
+    if is_one_file(files, inputs, &[log, cert, kept]) {
+        return Err(ProgramFault::SameFile);
+    }
+    empty(&log_file)?;
+    empty(&cert_file)?;
+    empty(&kept_file)?;
+    Ok((log_file, cert_file, kept_file))
 }
 
 // Opens a file of this name, if one is given, or makes it. What it has stays.

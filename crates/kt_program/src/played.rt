@@ -13,6 +13,7 @@ ghost use Rattle.kt_run.specs.declared.faults.RunFault.{RunFault};
 ghost use Rattle.kt_run.specs.declared.faults.RunFault.TheVariants as run_fault;
 ghost use Rattle.kt_threads.specs.Faults as threads;
 ghost use Rattle.kt_threads.specs.declared.faults.LiveFault.{LiveFault};
+ghost use Rattle.kt_threads.specs.declared.faults.LiveFault.TheVariants as live_fault;
 ghost use Rattle.kt_program.specs.Played.{IsOfWriting, IsWritten, StopsAtFault, WritesRun, outputs};
 
 use crate::fault::AppFault;
@@ -118,6 +119,12 @@ pub fn live_plan<T: Threads + Wait + Sync, L: Write, C: Write, R: Write>(
     // A fault of the run is one of these objects, or comes once they are found right.
     ensures fault { IfErr result (λ e. (fault : LiveFault) → e ≡ AppFault.Live fault →
         threads.AnswersLive plan.now (map (λ row. map (λ b. kind_of b) row.items) cast.items) fault) }
+    // Where an object fails, it is either at first, that of the least process whose save may be refused; or one of the objects
+    // that the process was given may reject a saved state of their kind.
+    ensures object { IfErr result (λ e. (p : ℕ) → e ≡ AppFault.Live (live_fault.Object p) →
+        IsLeastRefused (λ b. may_save b) (λ b. may_refuse b) (map (λ row. row.items) cast.items) p
+        ⊎ MayReject (λ b saved. may_reject b saved) (slice_index plan.now.kinds p)
+        (slice_index_or (map (λ row. row.items) cast.items) p [])) }
 {
     let log = live_log_of(rt, alloc, plan, cast)?;
     write_run(alloc, plan, &log, log_writer, cert_writer, report_writer)

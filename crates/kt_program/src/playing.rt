@@ -70,7 +70,11 @@ pub(crate) fn live_files<F: Files + Threads + Wait + Sync, O: Write>(
 }
 
 // The plan of the scenario in this file.
-fn scenario_in<F: Files>(files: &F, alloc: Global, name: &str) -> Result<Plan, ProgramFault>
+pub(crate) fn scenario_in<F: Files>(
+    files: &F,
+    alloc: Global,
+    name: &str,
+) -> Result<Plan, ProgramFault>
     ensures plan { IfOk result (IsPlanOfFile F.File.remaining) }
     ensures input { IfErr result IsOfInput }
     ensures fault { IfErr result IsNotOfSteps }
@@ -82,7 +86,7 @@ fn scenario_in<F: Files>(files: &F, alloc: Global, name: &str) -> Result<Plan, P
 }
 
 // The steps in this file; none where none is named.
-fn steps_in<F: Files>(
+pub(crate) fn steps_in<F: Files>(
     files: &F,
     alloc: Global,
     name: Option<&str>,

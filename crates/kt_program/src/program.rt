@@ -18,6 +18,7 @@ use crate::explained::explain_files;
 use crate::fault::{AppFault, ProgramFault};
 use crate::line::Asked;
 use crate::playing::{live_files, play_files};
+use crate::recording::record_files;
 use crate::words::Words;
 use clap::Error;
 use clap::error::ErrorKind;
@@ -83,6 +84,10 @@ pub fn carry_out<F: Files + Threads + Wait + Sync, O: Write>(
                 cert,
             },
         ) => match play_files(files, alloc, scenario, steps, log, cert, out) {
+            Ok(()) => Ok(Done::Played),
+            Err(fault) => Err(fault),
+        },
+        Ok(Asked::PlayInOrder(play)) => match record_files(files, alloc, &play, out) {
             Ok(()) => Ok(Done::Played),
             Err(fault) => Err(fault),
         },

@@ -1,0 +1,101 @@
+-- A run played again by its steps is the same.
+use Rattle.std.proofs.Common.{◌≡◌, ◌<◌, ◌≤◌, ℕ, ℤ, Bool, true, false, List, [], ◌∷◌, ◌++◌, length, map, take, append-nil, arith, refl, sym, ap, subst, ◌∙◌, Some, None}
+use Rattle.std.specs.Prelude.{Option, slice_get, unwrap_or, if◌then◌else◌}
+use Rattle.std.proofs.lemmas.List.{get_or_append_left, length-append, take-append-le}
+use Rattle.std.proofs.lemmas.Option.{slice_get-get_or, slice_get_within}
+use Rattle.kt_spacetime.specs.declared.event.Event.{Event}
+use Rattle.kt_spacetime.specs.declared.event.Event.TheVariants.{Sent}
+use Rattle.kt_held.specs.Holdings.{Content}
+use Rattle.kt_plan.specs.Limits.{Planned, IsPlan}
+use Rattle.kt_plan.specs.declared.commands.Command.{Command}
+use Rattle.kt_plan.specs.declared.steps.Step.{Step}
+use Rattle.kt_plans.specs.Follows.{command_answered}
+use Rattle.kt_plans.specs.Headline.{IsCertified}
+use Rattle.kt_plans.specs.Offers.{SendsWhatIsOffered}
+use Rattle.kt_plans.specs.Progress.{Progress, progress_at_start}
+use Rattle.kt_plans.specs.Runs.{Move, AreDefaultMoves, RunReaches, after_moves}
+use Rattle.kt_plans.specs.Steps.{enabled, is_at_rest, progress_after}
+use Rattle.kt_plans.specs.Told.{rows_along}
+use Rattle.kt_plans.proofs.DefaultSteps.{nothing_default, rest_default}
+use Rattle.kt_plans.proofs.RunSteps.{start_reached_seen}
+use Rattle.kt_plans.proofs.WholeLogs.{log_from}
+use Rattle.kt_run.specs.Objects.{rules_by}
+use Rattle.kt_run.specs.OneRun.{SavesAll}
+use Rattle.kt_run.specs.Orders.{IsInOrder}
+use Rattle.kt_run.specs.Runs.{IsPlayed, IsRun}
+use Rattle.kt_run.specs.declared.orders.Order.{Order}
+use Rattle.kt_run.proofs.OneRun.{same_end}
+use Rattle.kt_program.specs.Recorded.{IsKeptRun, IsPlayedAgain}
+
+at_if : {X : Type 0} (P : X → Type 0) (b : Bool) (x y : X) → (b ≡ true → P x) → (b ≡ false → P y) → P (if b then x else y)
+at_if P true x y f g = f refl
+at_if P false x y f g = g refl
+
+-- where moves lead, the later ones lead on
+leads_on : (plan : Planned) (xs ys : List Move) (u v : Progress) → after_moves plan u xs ≡ Some v → after_moves plan u (xs ++ ys) ≡ after_moves plan v ys
+leads_on plan [] ys u v e = ap (λ (o : Option Progress). after_moves plan (unwrap_or o u) ys) e
+leads_on plan (x ∷ xs) ys u v e = at_if (λ (o : Option Progress). o ≡ Some v → (if enabled plan u x.step then after_moves plan (progress_after plan u x.step x.give) (xs ++ ys) else None) ≡ after_moves plan v ys) (enabled plan u x.step) (after_moves plan (progress_after plan u x.step x.give) xs) None
+    (λ b z. rw b (leads_on plan xs ys (progress_after plan u x.step x.give) v z))
+    (λ b z. absurd (cc (z))) e
+
+saves_first : (plan : Planned) (xs ys : List Move) (u : Progress) → SavesAll plan u (xs ++ ys) → SavesAll plan u xs
+saves_first plan [] ys u s = tt
+saves_first plan (x ∷ xs) ys u s = (s.0, saves_first plan xs ys (progress_after plan u x.step x.give) s.1)
+
+-- what is so of all sends of a log is so of those of its front
+offered_first : (cast : List (List Content)) (plan : Planned) (xs ys : List Event) → SendsWhatIsOffered (rules_by cast) plan (xs ++ ys) → SendsWhatIsOffered (rules_by cast) plan xs
+offered_first cast plan xs ys all n p q body c there answers own =
+    let within : n < length xs = slice_get_within xs n (Sent p q body) there in
+    let e : Event = Sent p q body in
+    let front : take n (xs ++ ys) ≡ take n xs = take-append-le n xs ys (omega (arith, within)) in
+    let same : slice_get (xs ++ ys) n ≡ slice_get xs n =
+    slice_get-get_or (xs ++ ys) n e (let l = length-append xs ys in omega (arith, within, l))
+    ∙ (ap Some (get_or_append_left xs ys e n within) ∙ sym (slice_get-get_or xs n e within)) in
+    let answered : command_answered plan (take n (xs ++ ys)) e ≡ Some c = subst (λ (l : List Event). command_answered plan l e ≡ Some c) (sym front) answers in
+    rw (front) at (all n p q body c (same ∙ there) answered own)
+
+module _ (plan : Planned) (cast : List (List Content)) (limits : IsPlan plan) where
+  -- no default step is made where all is at rest
+  none_more : (w : Progress) (ms : List Move) → RunReaches plan 0 w → is_at_rest plan w ≡ true → AreDefaultMoves plan w ms → ms ≡ []
+  none_more w [] r rest d = refl
+  none_more w (m ∷ ms) r rest d =
+      let on : enabled plan w m.step ≡ true = d.0.on in
+      let off : enabled plan w m.step ≡ false = nothing_default plan 0 w limits r (rest_default plan 0 w limits r rest) m.step in
+      absurd (cc (on, off))
+
+  module _ (steps : List Step) (rows : List Event) (moves : List Move) (made : map (λ (m : Move). m.step) moves ≡ steps) (run : IsRun plan cast moves rows) where
+    abbrev start : Progress
+    start = progress_at_start plan 0
+
+    -- the run by these moves begins with them
+    abbrev play : IsPlayed plan cast steps rows
+    play = record {
+      given = moves;
+      more = [];
+      begins = made;
+      run = subst (λ (ms : List Move). IsRun plan cast ms rows) (sym (append-nil moves)) run;
+      begun = run.end;
+      leads = run.leads;
+      default = tt;
+    }
+
+    same_play : (others : List Event) (other : IsPlayed plan cast steps others) → SavesAll plan start (moves ++ []) → SavesAll plan start (other.given ++ other.more) → others ≡ rows
+    same_play others other s t =
+        let reached : RunReaches plan 0 other.begun = record { moves = other.given; leads = other.leads } in
+        let on : after_moves plan other.begun other.more ≡ Some other.run.end = sym (leads_on plan other.given other.more start other.begun other.leads) ∙ other.run.leads in
+        let log = log_from plan 0 limits other.more other.begun other.run.end reached on in
+        let offers = offered_first cast plan other.begun.now.log (rows_along plan other.begun other.more)
+        (subst (λ (l : List Event). SendsWhatIsOffered (rules_by cast) plan l) (other.run.log ∙ log) other.run.offers) in
+        let here : other.begun ≡ run.end = same_end (rules_by cast) plan 0 limits other.given moves start other.begun run.end (start_reached_seen plan 0) (other.begins ∙ sym made)
+        (other.leads, offers, saves_first plan other.given other.more start t)
+        (run.leads, subst (λ (l : List Event). SendsWhatIsOffered (rules_by cast) plan l) run.log run.offers, saves_first plan moves [] start s) in
+        let none = none_more other.begun other.more reached (subst (λ (w : Progress). is_at_rest plan w ≡ true) (sym here) run.rest) other.default in
+        let end : other.begun ≡ other.run.end = ap (λ (o : Option Progress). unwrap_or o other.begun) (subst (λ (ms : List Move). after_moves plan other.begun ms ≡ Some other.run.end) none on) in
+        other.run.log ∙ (ap (λ (w : Progress). w.now.log) (sym end ∙ here) ∙ sym run.log)
+
+  pub kept_run : (given : List Step) (order : Order) (steps : List Step) (rows : List Event) → IsInOrder plan cast given order steps rows → IsCertified rows → IsKeptRun plan cast given order steps rows
+  kept_run given order steps rows o certified = record {
+    run = o;
+    certified = certified;
+    again = record { play = play steps rows o.by.moves o.by.made o.by.run; same = same_play steps rows o.by.moves o.by.made o.by.run };
+  }

@@ -1,0 +1,143 @@
+-- What is written of runs whose steps are kept, and over new objects.
+use Rattle.std.proofs.Common.{◌≡◌, ◌≢◌, ◌<◌, ◌∙◌, ℕ, inl, inr, List, ap, length, refl, subst, sym}
+use Rattle.std.specs.Prelude.{Option, Result, Ok, Err, IfOk, IfErr, OnOk}
+use Rattle.std.specs.Io.KnownBytes.{Appends}
+use Rattle.kt_plans.specs.Follows.{FollowsPlan}
+use Rattle.kt_plans.specs.Headline.{IsPromised}
+use Rattle.kt_scenario.specs.Steps.{most_steps}
+use Rattle.kt_scenario.specs.Written.{steps_text}
+use Rattle.kt_text.specs.Writing.{WritesFront}
+use Rattle.kt_held.specs.Holdings.{Content}
+use Rattle.kt_plan.specs.Limits.{Planned}
+use Rattle.kt_plan.specs.declared.steps.Step.{Step}
+use Rattle.kt_spacetime.specs.declared.event.Event.{Event}
+use Rattle.kt_run.specs.Runs.{IsLogOfRun}
+use Rattle.kt_run.specs.declared.orders.Order.{Order}
+use Rattle.kt_program.specs.Ending.{AppendsOrderedPlay, AppendsReport, LeavesPlayed}
+use Rattle.kt_program.specs.Inputs.{AreGiven, IsPlanOfFile}
+use Rattle.kt_program.specs.Names.{Name}
+use Rattle.kt_program.specs.Played.{AreNew, IsOfWriting, OverNew, WritesRun, outputs}
+use Rattle.kt_program.specs.Recorded.{IsKeptRun, IsOfRecording, IsRecorded, KeptOutputs, OfSome, StopsRecording, WritesLog, kept_outputs, order_of}
+use Rattle.kt_program.specs.Stored.{Told}
+use Rattle.kt_program.specs.declared.fault.AppFault.{AppFault}
+use Rattle.kt_program.specs.declared.fault.AppFault.TheVariants as app
+use Rattle.kt_program.specs.declared.fault.ProgramFault.TheVariants as program
+
+-- what is written of such a run is written of one that is other things too
+module _ (Are Be : List Step → List Event → Type 0) (so : (steps : List Step) (rows : List Event) → Are steps rows → Be steps rows) (plan : Planned) (old new : KeptOutputs) where
+  pub recorded_so : IsRecorded Are plan old new → IsRecorded Be plan old new
+  recorded_so w = (
+    w.0,
+    record { rows = w.1.rows; run = so w.0 w.1.rows w.1.run; follows = w.1.follows; promised = w.1.promised; writes = w.1.writes },
+    w.2,
+  )
+
+  some_so : (At : List Step → List Event → Type 0) → OfSome Are At → OfSome Be At
+  some_so At s = (s.0, s.1, so s.0 s.1 s.2, s.3)
+
+  pub recording_so : (fault : AppFault) → StopsRecording Are plan old new fault → StopsRecording Be plan old new fault
+  recording_so (app.Run fault) s = s
+  recording_so app.RecordTooLong s = some_so _ s
+  recording_so app.Write s = some_so _ s
+  recording_so app.Memory (inl u) = inl u
+  recording_so app.Memory (inr s) = inr (some_so _ s)
+  recording_so (app.Live fault) s = s
+  recording_so (app.Uncertified fault) s = s
+  recording_so (app.Unfit why) s = s
+  recording_so (app.Log fault) s = s
+  recording_so (app.Cert fault) s = s
+
+-- over objects that are new
+pub kept_over_new : (plan : Planned) (cast : List (List Content)) (given : List Step) (order : Order) → AreNew plan cast → (steps : List Step) (rows : List Event) → IsKeptRun plan cast given order steps rows
+    → OverNew plan (λ c. IsKeptRun plan c given order steps) rows
+kept_over_new plan cast given order new steps rows run = (cast, new, run)
+
+-- it is a run of the plan
+pub log_over_new : (plan : Planned) (given steps : List Step) (order : Order) (rows : List Event) → OverNew plan (λ c. IsKeptRun plan c given order steps) rows → OverNew plan (IsLogOfRun plan) rows
+log_over_new plan given steps order rows o = (o.0, o.1, (o.2.run.by.moves, o.2.run.by.run))
+
+-- standard output has the report of such a run
+module _ (plan : Planned) (given : List Step) (order : Order) (l c r s l' c' r' s' : Told) where
+  -- over new objects
+  abbrev New : List Step → List Event → Type 0
+  New made = OverNew plan (λ cast. IsKeptRun plan cast given order made)
+
+  pub report_of_kept : IsRecorded New plan (kept_outputs (outputs l c r) s) (kept_outputs (outputs l' c' r') s') → AppendsReport r r'
+  report_of_kept w = record {
+    plan = plan;
+    rows = w.1.rows;
+    run = log_over_new plan given w.0 order w.1.rows w.1.run;
+    follows = w.1.follows;
+    promised = w.1.promised;
+    report = w.1.writes.report;
+  }
+
+  pub ordered_of_kept : {F : Type 0} (told : F → Told) (name : Name) (seed : Option ℕ) → order ≡ order_of seed → IsPlanOfFile told plan → AreGiven told name plan.names given
+      → IsRecorded New plan (kept_outputs (outputs l c r) s) (kept_outputs (outputs l' c' r') s') → AppendsOrderedPlay told name seed r r'
+  ordered_of_kept told name seed e planned begins w = record {
+    plan = plan;
+    planned = planned;
+    given = given;
+    begins = begins;
+    steps = w.0;
+    rows = w.1.rows;
+    played = subst (λ (o : Order). OverNew plan (λ cast. IsKeptRun plan cast given o w.0) w.1.rows) e w.1.run;
+    report = w.1.writes.report;
+  }
+
+-- or nothing new
+pub report_kept : (Are : List Step → List Event → Type 0) (plan : Planned) (old new : KeptOutputs) (fault : AppFault) → StopsRecording Are plan old new fault → fault ≢ app.Write → fault ≢ app.Memory
+    → new.run.report ≡ old.run.report
+report_kept Are plan old new (app.Run fault) s w m = ap (λ (o : KeptOutputs). o.run.report) s.1
+report_kept Are plan old new app.RecordTooLong s w m = s.3.log.report
+report_kept Are plan old new app.Write s w m = absurd (w refl)
+report_kept Are plan old new app.Memory s w m = absurd (m refl)
+report_kept Are plan old new (app.Live fault) s w m = absurd s
+report_kept Are plan old new (app.Uncertified fault) s w m = absurd s
+report_kept Are plan old new (app.Unfit why) s w m = absurd s
+report_kept Are plan old new (app.Log fault) s w m = absurd s
+report_kept Are plan old new (app.Cert fault) s w m = absurd s
+
+-- at a fault of such a run standard output has nothing new, unless the writer failed or there was no memory
+pub left_of_kept : (Are : List Step → List Event → Type 0) (plan : Planned) (l c r s l' c' r' s' : Told) (fault : AppFault)
+    → StopsRecording Are plan (kept_outputs (outputs l c r) s) (kept_outputs (outputs l' c' r') s') fault → LeavesPlayed (Err (program.App fault)) r r'
+left_of_kept Are plan l c r s l' c' r' s' fault stops = (
+  (λ e. cc (e)),
+  λ w m. report_kept Are plan (kept_outputs (outputs l c r) s) (kept_outputs (outputs l' c' r') s') fault stops (λ e. w (ap program.App e)) (λ e. m (ap program.App e)),
+)
+
+-- what follows of two facts of an answer
+pub if_ok_both : {T E : Type 0} (r : Result T E) (P Q R : T → Type 0) → ((value : T) → P value → Q value → R value) → IfOk r P → IfOk r Q → IfOk r R
+if_ok_both (Ok value) P Q R f p q = f value p q
+if_ok_both (Err fault) P Q R f p q = tt
+
+-- writing stops at the steps
+pub made_stopped : (Are : List Step → List Event → Type 0) (plan : Planned) (steps : List Step) (rows : List Event) (old new : KeptOutputs) (fault : AppFault) → Are steps rows → WritesLog rows old.run new.run → IsOfRecording fault
+    → (fault ≡ app.RecordTooLong → (most_steps < length steps) × (new.steps ≡ old.steps)) → (IsOfWriting fault → WritesFront old.steps new.steps (steps_text plan.names steps)) → StopsRecording Are plan old new fault
+made_stopped Are plan steps rows old new fault are log (inl e) long front =
+    subst (StopsRecording Are plan old new) (sym e) (steps, rows, are, record { many = (long e).0; log = log; none = (long e).1 })
+made_stopped Are plan steps rows old new fault are log (inr (inl e)) long front =
+    subst (StopsRecording Are plan old new) (sym e) (steps, rows, are, inr (inr (inl (record { log = log; front = front (inl e) }))))
+made_stopped Are plan steps rows old new fault are log (inr (inr e)) long front =
+    subst (StopsRecording Are plan old new) (sym e) (inr (steps, rows, are, inr (inr (inl (record { log = log; front = front (inr e) })))))
+
+-- a run that is written
+module _ (r : Result Unit AppFault) (Are : List Step → List Event → Type 0) (plan : Planned) (steps made : List Step) (rows : List Event) (old new : KeptOutputs) (same : made ≡ steps) (are : Are steps rows) where
+  pub recorded_by : FollowsPlan plan rows → IsPromised rows → OnOk r (WritesRun plan rows old.run new.run) → OnOk r (Appends old.steps new.steps (steps_text plan.names made)) → OnOk r (IsRecorded Are plan old new)
+  recorded_by follows promised = go r
+    where
+      go : (x : Result Unit AppFault) → OnOk x (WritesRun plan rows old.run new.run) → OnOk x (Appends old.steps new.steps (steps_text plan.names made)) → OnOk x (IsRecorded Are plan old new)
+      go (Ok u) writes text = (
+        steps,
+        record { rows = rows; run = are; follows = follows; promised = promised; writes = writes },
+        subst (λ (l : List Step). Appends old.steps new.steps (steps_text plan.names l)) same text,
+      )
+      go (Err fault) writes text = tt
+
+  pub stopped_by : IfErr r (StopsRecording (λ m q. (m ≡ made) × (q ≡ rows)) plan old new) → IfErr r (StopsRecording Are plan old new)
+  stopped_by = go r
+    where
+      go : (x : Result Unit AppFault) → IfErr x (StopsRecording (λ m q. (m ≡ made) × (q ≡ rows)) plan old new) → IfErr x (StopsRecording Are plan old new)
+      go (Ok u) h = tt
+      go (Err fault) h = recording_so (λ m q. (m ≡ made) × (q ≡ rows)) Are
+          (λ m q e. subst (λ (l : List Event). Are m l) (sym e.1) (subst (λ (l : List Step). Are l rows) (sym (e.0 ∙ same)) are)) plan old new fault h
