@@ -2,6 +2,7 @@ mod faults;
 mod handles;
 mod lines;
 mod long;
+mod writers;
 
 use kt_chain::read_certs;
 use kt_checker::check;

@@ -1,16 +1,23 @@
-//! Fault lines, and readers and writers that fail.
+//! Fault lines, and readers that fail.
 
-use super::handles::{FailingReader, Holding};
-use super::{
-    Printed, TWO_PROCESSES, TWO_PROCESSES_CERT, expect, expect_refusals, expect_said, judged,
-};
-use kt_base::RowNo;
+use super::handles::{FailingReader, Interrupted};
+use super::{Printed, TWO_PROCESSES, TWO_PROCESSES_CERT, expect, expect_refusals, expect_said};
+use kt_base::{ProcNo, RowNo};
 use kt_chain::CertTextFault;
+use kt_core::StepFault;
 use kt_log_text::LogFault;
 use kt_program::ending::end;
 use kt_program::fault::{AppFault, ProgramFault};
+use kt_program::{read_scenario, read_steps};
+use kt_run::RunFault;
+use kt_threads::LiveFault;
+use std::cell::Cell;
 use std::process::Abort;
 use std::test::Fail;
+
+const SCENARIO: &str = "object a sum\nobject b sum\nsend a b 5\n";
+
+const STEPS: &str = "do a\ntake b a\n";
 
 const CUT: &str =
     "sent,0,1,5\nreceived,1,0,1\nbegan,1,1,checkpoint\ntook,1,1,-\ntook,0,1,-\ndecided,1,1,commit\nclosed,1,1,-\nclosed,0";
@@ -180,6 +187,64 @@ fn log_faults(row: RowNo) -> [(LogFault, u8, &'static str); 6] {
     ]
 }
 
+// Faults of runs but for a step that is not enabled, with the words of their lines.
+fn run_faults(p: ProcNo) -> [(RunFault, &'static str); 6] {
+    [
+        (RunFault::CastSize, "run: CastSize"),
+        (RunFault::CastKind(p), "run: CastKind"),
+        (RunFault::Object(p), "run: Object"),
+        (RunFault::Journal(p), "run: Journal"),
+        (RunFault::Step(2, StepFault::LogFull), "run: LogFull"),
+        (
+            RunFault::Step(2, StepFault::LabelsSpent),
+            "run: LabelsSpent",
+        ),
+    ]
+}
+
+// Faults of runs in threads, with the words of their lines.
+fn live_faults(p: ProcNo) -> [(LiveFault, &'static str); 9] {
+    [
+        (LiveFault::CastSize, "run: CastSize"),
+        (LiveFault::CastKind(p), "run: CastKind"),
+        (LiveFault::Object(p), "run: Object"),
+        (LiveFault::Journal(p), "run: Journal"),
+        (LiveFault::Step(StepFault::NotEnabled), "run: NotEnabled"),
+        (LiveFault::Step(StepFault::LogFull), "run: LogFull"),
+        (LiveFault::Step(StepFault::LabelsSpent), "run: LabelsSpent"),
+        (LiveFault::Spawn, "run: Spawn"),
+        (LiveFault::Differ, "run: Differ"),
+    ]
+}
+
+// Checks the line and the status of a fault of a run.
+fn expect_run_fault<R: Abort + AllocGlobal>(
+    rt: &R,
+    fault: AppFault,
+    status: u8,
+    words: &str,
+) -> Result<(), Fail> {
+    let line = format!(in rt.alloc(); "koo_toueg: {words}\n")?;
+    expect_fault(rt, ProgramFault::from(fault), status, line.as_str())
+}
+
+#[test]
+fn each_fault_of_a_run_has_its_line_and_status(rt: HostRuntime) -> Result<(), Fail> {
+    for (fault, words) in &run_faults(ProcNo::nth(1)) {
+        expect_run_fault(&rt, AppFault::Run(*fault), 4, words)?;
+    }
+    let refused = RunFault::Step(2, StepFault::NotEnabled);
+    expect_run_fault(&rt, AppFault::Run(refused), 2, "step 3 not enabled")
+}
+
+#[test]
+fn each_fault_of_a_run_in_threads_has_its_line_and_status(rt: HostRuntime) -> Result<(), Fail> {
+    for (fault, words) in &live_faults(ProcNo::nth(1)) {
+        expect_run_fault(&rt, AppFault::Live(*fault), 4, words)?;
+    }
+    Ok(())
+}
+
 #[test]
 fn each_fault_has_its_line_and_status(rt: HostRuntime) -> Result<(), Fail> {
     let row = RowNo::new(16_777_216).ok_or("no row")?;
@@ -219,34 +284,32 @@ fn a_reader_that_fails_is_a_read_fault(rt: HostRuntime) -> Result<(), Fail> {
     Ok(())
 }
 
-// Checks the status, and what is handed over of the answer and of a fault's line, where the answer's writer fails at this call.
-fn expect_handed_over(
-    rt: &(impl Abort + AllocGlobal),
-    k: usize,
-    status: u8,
-    answer: &[u8],
-    line: &[u8],
-) {
-    let mut out = Holding::new(rt.alloc(), k);
-    let mut err = Holding::new(rt.alloc(), usize::MAX);
-    let outcome = judged(
-        rt.alloc(),
-        TWO_PROCESSES.as_bytes(),
-        TWO_PROCESSES_CERT.as_bytes(),
-        &mut out,
-    );
-    let found = end(outcome, &mut err);
-    let given = (found, out.given(), err.given());
-    assert_eq!(rt; given, (status, answer, line), "at call {k}");
+#[test]
+fn a_scenario_that_cannot_be_read_is_a_read_fault(rt: HostRuntime) {
+    for k in 0..SCENARIO.len() + 1 {
+        let reader = FailingReader::new(SCENARIO, k);
+        let fault = read_scenario(rt.alloc(), reader).err();
+        assert_eq!(rt; fault, Some(ProgramFault::Read), "at call {k}");
+    }
 }
 
 #[test]
-fn an_answer_is_handed_over_or_a_write_fault(rt: HostRuntime) {
-    let text = b"yes\n".as_slice();
-    let line = b"koo_toueg: write fault\n".as_slice();
-    let calls = b"yes\n".len() + 1;
-    for k in 0..calls {
-        expect_handed_over(&rt, k, 3, b"".as_slice(), line);
+fn steps_that_cannot_be_read_are_a_read_fault(rt: HostRuntime) -> Result<(), Fail> {
+    let plan = read_scenario(rt.alloc(), SCENARIO.as_bytes())?;
+    for k in 0..STEPS.len() + 1 {
+        let reader = FailingReader::new(STEPS, k);
+        let fault = read_steps(rt.alloc(), reader, &plan).err();
+        assert_eq!(rt; fault, Some(ProgramFault::Read), "at call {k}");
     }
-    expect_handed_over(&rt, calls, 0, text, b"".as_slice());
+    Ok(())
+}
+
+#[test]
+fn a_text_is_read_from_a_bounded_number_of_times(rt: HostRuntime) {
+    let calls = Cell::new(0);
+    let fault = read_scenario(rt.alloc(), Interrupted { calls: &calls }).err();
+    assert_eq!(rt;
+        (fault, calls.get()),
+        (Some(ProgramFault::Read), 134_217_728)
+    );
 }

@@ -1,6 +1,7 @@
 //! What stands in for the command line, files and streams.
 
 use std::alloc::Global;
+use std::cell::Cell;
 use std::env::FillError;
 use std::io;
 use std::io::{Read, Write};
@@ -75,7 +76,20 @@ impl Read for FailingReader<'_> {
     }
 }
 
-/// Gives a record so many times, and holds it once.
+/// Never gives anything, but is interrupted at each call, and counts the calls.
+#[derive(Drop)]
+pub struct Interrupted<'a> {
+    pub calls: &'a Cell<u32>,
+}
+
+impl Read for Interrupted<'_> {
+    fn read(&mut self, _buf: &mut [u8]) -> io::Result<usize> {
+        self.calls.set(self.calls.get().saturating_add(1));
+        Err(io::Error::from(io::ErrorKind::Interrupted))
+    }
+}
+
+/// Gives a head, then a record so many times, and holds it once.
 #[derive(Drop)]
 pub struct Repeated<'a> {
     record: &'a [u8],
@@ -84,10 +98,10 @@ pub struct Repeated<'a> {
 }
 
 impl<'a> Repeated<'a> {
-    pub fn new(record: &'a str, times: u32) -> Repeated<'a> {
+    pub fn new(head: &'a str, record: &'a str, times: u32) -> Repeated<'a> {
         Repeated {
             record: record.as_bytes(),
-            rest: &[],
+            rest: head.as_bytes(),
             times,
         }
     }
@@ -133,6 +147,11 @@ impl Holding {
             calls: 0,
             fails_at,
         }
+    }
+
+    /// What it took and did not hand over.
+    pub fn held(&self) -> &[u8] {
+        self.held.as_slice()
     }
 
     /// What was handed over.

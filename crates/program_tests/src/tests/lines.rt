@@ -93,6 +93,32 @@ Exit status:
   4  there is not enough memory, or a run cannot go on
 ";
 
+// Command lines that are refused.
+const REFUSED: [&[&[u8]]; 11] = [
+    &[],
+    &[b"koo_toueg"],
+    &[b"koo_toueg", b"check"],
+    &[b"koo_toueg", b"check", b"l.csv"],
+    &[b"koo_toueg", b"check", b"l.csv", b"c.csv", b"more"],
+    &[b"koo_toueg", b"check", b"l.csv", b"c.csv", b""],
+    &[b"koo_toueg", b"check", b"--log", b"l.csv", b"c.csv"],
+    &[b"koo_toueg", b"judge", b"l.csv", b"c.csv"],
+    &[b"koo_toueg", b"play", b"--steps", b"s.txt"],
+    &[b"koo_toueg", b"check", b"l\xff.csv", b"c.csv"],
+    &[b"koo_toueg", b"--help", b"\xff"],
+];
+
+// Command lines that ask for help or the version, and what is shown.
+const SHOWN: [(&[&[u8]], &str); 7] = [
+    (&[b"koo_toueg", b"--help"], HELP),
+    (&[b"koo_toueg", b"help"], HELP),
+    (&[b"koo_toueg", b"check", b"-h"], SHORT_HELP_OF_CHECK),
+    (&[b"koo_toueg", b"check", b"--help"], HELP_OF_CHECK),
+    (&[b"koo_toueg", b"help", b"check"], HELP_OF_CHECK),
+    (&[b"koo_toueg", b"--version"], "koo_toueg 0.1.0\n"),
+    (&[b"bin/koo_toueg", b"-V"], "koo_toueg 0.1.0\n"),
+];
+
 // What the program prints, called with these words.
 fn ran<R: Files + Threads + Wait + Sync + AllocGlobal>(
     rt: &R,
@@ -164,19 +190,7 @@ fn an_explanation_is_asked_for(rt: HostRuntime) -> Result<(), Fail> {
 
 #[test]
 fn other_command_lines_are_refused(rt: HostRuntime) -> Result<(), Fail> {
-    let table: [&[&[u8]]; 10] = [
-        &[],
-        &[b"koo_toueg"],
-        &[b"koo_toueg", b"check"],
-        &[b"koo_toueg", b"check", b"l.csv"],
-        &[b"koo_toueg", b"check", b"l.csv", b"c.csv", b"more"],
-        &[b"koo_toueg", b"check", b"--log", b"l.csv", b"c.csv"],
-        &[b"koo_toueg", b"judge", b"l.csv", b"c.csv"],
-        &[b"koo_toueg", b"play", b"--steps", b"s.txt"],
-        &[b"koo_toueg", b"check", b"l\xff.csv", b"c.csv"],
-        &[b"koo_toueg", b"--help", b"\xff"],
-    ];
-    for words in table {
+    for words in &REFUSED {
         expect_ran(&rt, words, 2, "koo_toueg: command line refused\n")?;
     }
     Ok(())
@@ -194,17 +208,14 @@ fn a_file_that_is_not_there_is_a_read_fault(rt: HostRuntime) -> Result<(), Fail>
 }
 
 #[test]
+fn an_empty_word_is_a_word(rt: HostRuntime) -> Result<(), Fail> {
+    let words: [&[u8]; 4] = [b"koo_toueg", b"check", b"", b"c.csv"];
+    expect_ran(&rt, &words, 3, "koo_toueg: read fault\n")
+}
+
+#[test]
 fn help_and_the_version_are_shown(rt: HostRuntime) -> Result<(), Fail> {
-    let table: [(&[&[u8]], &str); 7] = [
-        (&[b"koo_toueg", b"--help"], HELP),
-        (&[b"koo_toueg", b"help"], HELP),
-        (&[b"koo_toueg", b"check", b"-h"], SHORT_HELP_OF_CHECK),
-        (&[b"koo_toueg", b"check", b"--help"], HELP_OF_CHECK),
-        (&[b"koo_toueg", b"help", b"check"], HELP_OF_CHECK),
-        (&[b"koo_toueg", b"--version"], "koo_toueg 0.1.0\n"),
-        (&[b"bin/koo_toueg", b"-V"], "koo_toueg 0.1.0\n"),
-    ];
-    for (words, text) in table {
+    for (words, text) in &SHOWN {
         expect_ran(&rt, words, 0, text)?;
     }
     Ok(())

@@ -5,8 +5,8 @@ use super::{expect_answer, expect_said};
 use std::process::Abort;
 use std::test::Fail;
 
-// Adds a message of process 0 that process 1 receives, after this many rows.
-fn push_message(log: &mut String, rows: u32) -> Result<(), Fail> {
+/// Adds a message of process 0 that process 1 receives, after this many rows.
+pub fn push_message(log: &mut String, rows: u32) -> Result<(), Fail> {
     let msg = rows.saturating_add(1);
     write!(log, "sent,0,1,1\nreceived,1,0,{msg}\n")?;
     Ok(())
@@ -22,8 +22,8 @@ fn push_messages(log: &mut String, rows: u32) -> Result<u32, Fail> {
     Ok(rows)
 }
 
-// Adds a checkpoint of process 1, which process 0 has to take for the last message.
-fn push_checkpoint(log: &mut String, inst: u32) -> Result<(), Fail> {
+/// Adds a checkpoint of process 1, which process 0 has to take for the last message.
+pub fn push_checkpoint(log: &mut String, inst: u32) -> Result<(), Fail> {
     write!(
         log,
         "began,1,{inst},checkpoint
@@ -37,8 +37,8 @@ closed,0,{inst},-
     Ok(())
 }
 
-// Adds the certificate of that checkpoint, whose last message is this one.
-fn push_certificate(cert: &mut String, inst: u32, msg: u32) -> Result<(), Fail> {
+/// Adds the certificate of that checkpoint, whose last message is this one.
+pub fn push_certificate(cert: &mut String, inst: u32, msg: u32) -> Result<(), Fail> {
     write!(
         cert,
         "cert,{inst},checkpoint,1,commit
@@ -87,12 +87,30 @@ fn a_text_is_too_long_past_its_last_record(rt: HostRuntime) -> Result<(), Fail> 
     let sent = "sent,0,1,1\n";
     let certificate = "cert,1,checkpoint,0,abort\n";
     let none = b"".as_slice();
-    let longest = Repeated::new(sent, 1_048_576);
+    let longest = Repeated::new("", sent, 1_048_576);
     expect_said(&rt, longest, none, 0, "yes\n")?;
-    let too_long = Repeated::new(sent, 1_048_577);
+    let too_long = Repeated::new("", sent, 1_048_577);
     expect_said(&rt, too_long, none, 2, "koo_toueg: log too long\n")?;
-    let longest = Repeated::new(certificate, 524_288);
+    let longest = Repeated::new("", certificate, 524_288);
     expect_said(&rt, none, longest, 1, "no instance 1 Unknown\n")?;
-    let too_long = Repeated::new(certificate, 524_289);
+    let too_long = Repeated::new("", certificate, 524_289);
     expect_said(&rt, none, too_long, 2, "koo_toueg: certificate too long\n")
+}
+
+// A log of format 2 with one row that a process fails, and so many that it is down.
+fn rows_of_format_2(times: u32) -> Repeated<'static> {
+    Repeated::new("kt,2,-,-\nfailed,0,-,-\n", "refused,0,send,down\n", times)
+}
+
+#[test]
+fn the_longest_log_of_format_2_is_judged(rt: HostRuntime) -> Result<(), Fail> {
+    let longest = rows_of_format_2(16_777_215);
+    expect_said(&rt, longest, b"".as_slice(), 0, "yes\n")
+}
+
+#[test]
+fn a_log_of_format_2_is_too_long_past_its_last_row(rt: HostRuntime) -> Result<(), Fail> {
+    let too_long = rows_of_format_2(16_777_216);
+    let line = "koo_toueg: log too long\n";
+    expect_said(&rt, too_long, b"".as_slice(), 2, line)
 }
