@@ -1,5 +1,5 @@
 -- A run played again by its steps is the same.
-use Rattle.std.proofs.Common.{◌≡◌, ◌<◌, ◌≤◌, ℕ, ℤ, Bool, true, false, List, [], ◌∷◌, ◌++◌, length, map, take, append-nil, arith, refl, sym, ap, subst, ◌∙◌, Some, None}
+use Rattle.std.proofs.Common.{◌≡◌, ◌<◌, Bool, true, false, List, [], ◌∷◌, ◌++◌, length, map, take, append-nil, arith, refl, sym, ap, subst, ◌∙◌, Some, None}
 use Rattle.std.specs.Prelude.{Option, slice_get, unwrap_or, if◌then◌else◌}
 use Rattle.std.proofs.lemmas.List.{get_or_append_left, length-append, take-append-le}
 use Rattle.std.proofs.lemmas.Option.{slice_get-get_or, slice_get_within}
@@ -7,7 +7,6 @@ use Rattle.kt_spacetime.specs.declared.event.Event.{Event}
 use Rattle.kt_spacetime.specs.declared.event.Event.TheVariants.{Sent}
 use Rattle.kt_held.specs.Holdings.{Content}
 use Rattle.kt_plan.specs.Limits.{Planned, IsPlan}
-use Rattle.kt_plan.specs.declared.commands.Command.{Command}
 use Rattle.kt_plan.specs.declared.steps.Step.{Step}
 use Rattle.kt_plans.specs.Follows.{command_answered}
 use Rattle.kt_plans.specs.Headline.{IsCertified}
@@ -25,7 +24,7 @@ use Rattle.kt_run.specs.Orders.{IsInOrder}
 use Rattle.kt_run.specs.Runs.{IsPlayed, IsRun}
 use Rattle.kt_run.specs.declared.orders.Order.{Order}
 use Rattle.kt_run.proofs.OneRun.{same_end}
-use Rattle.kt_program.specs.Recorded.{IsKeptRun, IsPlayedAgain}
+use Rattle.kt_program.specs.Recorded.{IsKeptRun}
 
 at_if : {X : Type 0} (P : X → Type 0) (b : Bool) (x y : X) → (b ≡ true → P x) → (b ≡ false → P y) → P (if b then x else y)
 at_if P true x y f g = f refl

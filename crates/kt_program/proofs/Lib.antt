@@ -4,6 +4,8 @@ pub mod StoredLogs
 pub mod Commands
 pub mod Exactly
 pub mod NewObjects
+pub mod Numbers
+pub mod Pictures
 pub mod Reading
 pub mod Refused
 pub mod FaultLines

@@ -29,6 +29,7 @@ module _ (Are Be : List Event → Type 0) (so : (rows : List Event) → Are rows
   stops_so plan (app.Live fault) s = s
   stops_so plan (app.Uncertified fault) s = s
   stops_so plan (app.Unfit why) s = s
+  stops_so plan (app.Picture why) s = s
   stops_so plan app.RecordTooLong s = s
   stops_so plan app.Write s = writing_so plan s
   stops_so plan app.Memory (inl u) = inl u

@@ -4,8 +4,8 @@ use Rattle.std.specs.Prelude.{Option, codes}
 use Rattle.std.specs.Fmt.{decimal}
 use Rattle.clap.specs.Words.{Row, Text, first_of}
 use Rattle.kt_program.specs.declared.line.Asked.{Asked}
-use Rattle.kt_program.specs.declared.line.Asked.TheVariants.{Certify, Check, Explain, Live, Play, PlayInOrder}
-use Rattle.kt_program.specs.Program.{NamesIn, NamesNoOrder, NamesOrder, SpellsSeed}
+use Rattle.kt_program.specs.declared.line.Asked.TheVariants.{Certify, Check, Explain, Live, Play, PlayInOrder, Draw}
+use Rattle.kt_program.specs.Program.{NamesIn, NamesOrder, SpellsSeed}
 
 spells : (named : Option Text) (text : Text) (n : ℕ) → named ≡ Some text → n < 2 ^ 64 → text ≡ decimal n → SpellsSeed named (Some n)
 spells named text n e within is = subst (λ (o : Option Text). SpellsSeed o (Some n)) (sym e) (within, is)
@@ -45,3 +45,4 @@ module _ (rows : List Row) where
   no_number text e none (Check log cert) named = let bad : 112 ≡ 99 = first_letter named.0 in absurd (omega (arith, bad))
   no_number text e none (Explain log cert) named = let bad : 112 ≡ 99 = first_letter named.0 in absurd (omega (arith, bad))
   no_number text e none (Certify log cert) named = let bad : 112 ≡ 99 = first_letter named.0 in absurd (omega (arith, bad))
+  no_number text e none (Draw asked) named = let bad : 112 ≡ 100 = first_letter named.0 in absurd (omega (arith, bad))

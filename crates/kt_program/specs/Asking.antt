@@ -7,12 +7,12 @@ use Rattle.clap.specs.declared.error.kind.ErrorKind.TheVariants.{OutOfMemory, Di
 use Rattle.kt_program.specs.declared.ask.AskFault.{AskFault}
 use Rattle.kt_program.specs.declared.ask.AskFault.TheVariants as ask
 use Rattle.kt_program.specs.declared.ending.Done.{Done}
-use Rattle.kt_program.specs.declared.ending.Done.TheVariants.{Judged, Explained, Played, Certified, Shown}
+use Rattle.kt_program.specs.declared.ending.Done.TheVariants.{Judged, Explained, Played, Certified, Drawn, Shown}
 use Rattle.kt_program.specs.declared.fault.ProgramFault.{ProgramFault}
 use Rattle.kt_program.specs.declared.fault.ProgramFault.TheVariants as program
 use Rattle.kt_program.specs.declared.line.Asked.{Asked}
-use Rattle.kt_program.specs.declared.line.Asked.TheVariants.{Certify, Check, Explain, Live, Play, PlayInOrder}
-use Rattle.kt_program.specs.Names.{IsApart, IsWriting}
+use Rattle.kt_program.specs.declared.line.Asked.TheVariants.{Certify, Check, Explain, Live, Play, PlayInOrder, Draw}
+use Rattle.kt_program.specs.Names.{IsApart, IsWriting, IsNamed}
 use Rattle.kt_program.specs.Program.{IsErrorFor, Names, program as definition}
 
 -- words that name something to do, and an output by the name of an input or of another output
@@ -46,6 +46,7 @@ IsOfRun (Live scenario log cert) = Unit {0}
 IsOfRun (Check log cert) = ⊥
 IsOfRun (Explain log cert) = ⊥
 IsOfRun (Certify log cert) = ⊥
+IsOfRun (Draw asked) = ⊥
 
 -- whether a scenario is to be run serially
 abbrev pub IsPlay : Asked → Type 0
@@ -55,6 +56,7 @@ IsPlay (Live scenario log cert) = ⊥
 IsPlay (Check log cert) = ⊥
 IsPlay (Explain log cert) = ⊥
 IsPlay (Certify log cert) = ⊥
+IsPlay (Draw asked) = ⊥
 
 -- whether a stored run is to be judged
 abbrev pub IsCheck : Asked → Type 0
@@ -64,6 +66,7 @@ IsCheck (Live scenario log cert) = ⊥
 IsCheck (Check log cert) = Unit {0}
 IsCheck (Explain log cert) = ⊥
 IsCheck (Certify log cert) = ⊥
+IsCheck (Draw asked) = ⊥
 
 -- whether a stored run is to be judged, and the answer told of
 abbrev pub IsExplain : Asked → Type 0
@@ -73,6 +76,7 @@ IsExplain (Live scenario log cert) = ⊥
 IsExplain (Check log cert) = ⊥
 IsExplain (Explain log cert) = Unit {0}
 IsExplain (Certify log cert) = ⊥
+IsExplain (Draw asked) = ⊥
 
 -- whether a stored log is to be certified
 abbrev pub IsCertify : Asked → Type 0
@@ -82,28 +86,50 @@ IsCertify (Live scenario log cert) = ⊥
 IsCertify (Check log cert) = ⊥
 IsCertify (Explain log cert) = ⊥
 IsCertify (Certify log cert) = Unit {0}
+IsCertify (Draw asked) = ⊥
+
+-- whether a stored log is to be drawn
+abbrev pub IsDraw : Asked → Type 0
+IsDraw (Play scenario steps log cert) = ⊥
+IsDraw (PlayInOrder play) = ⊥
+IsDraw (Live scenario log cert) = ⊥
+IsDraw (Check log cert) = ⊥
+IsDraw (Explain log cert) = ⊥
+IsDraw (Certify log cert) = ⊥
+IsDraw (Draw asked) = Unit {0}
+
+-- whether a scenario is to be read: to be run, or for the names of its objects
+abbrev pub IsOfScenario : Asked → Type 0
+IsOfScenario (Play scenario steps log cert) = Unit {0}
+IsOfScenario (PlayInOrder play) = Unit {0}
+IsOfScenario (Live scenario log cert) = Unit {0}
+IsOfScenario (Check log cert) = ⊥
+IsOfScenario (Explain log cert) = ⊥
+IsOfScenario (Certify log cert) = ⊥
+IsOfScenario (Draw asked) = IsNamed asked.names
 
 -- words that name something to do of such a sort, and no output by the name of an input or of another output
 abbrev pub Ask : List Text → (Asked → Type 0) → Type 0
 Ask words P = (asked : Asked) × Names (subcommand_of definition words) asked × IsApart asked × P asked
 
--- what is done for words: a scenario run, a run judged or a log certified where they name that; help shown where they ask for it; they
--- are refused where they are a mistake or name a file twice, as one file under two names where a file is to be written,
--- and a scenario or steps where they name them; other faults come with any words
+-- what is done for words: a scenario run, a run judged, a log certified or drawn where they name that; help shown where they
+-- ask for it; they are refused where they are a mistake or name a file twice, as one file under two names where a file is to
+-- be written, and a scenario or steps where they name them; other faults come with any words
 abbrev pub DoneFor : List Text → Done → Type 0
 DoneFor words (Judged passed) = Ask words IsCheck
 DoneFor words (Explained passed) = Ask words IsExplain
 DoneFor words Played = Ask words IsOfRun
 DoneFor words Certified = Ask words IsCertify
+DoneFor words Drawn = Ask words IsDraw
 DoneFor words Shown = AreAnswered words IsRequest
 
 -- what is refused for words
 abbrev pub RefusedFor : List Text → ProgramFault → Type 0
 RefusedFor words program.Line = AreAnswered words IsMistake ⊎ NameTwice words
 RefusedFor words program.SameFile = Ask words IsWriting
-RefusedFor words (program.Scenario fault) = Ask words IsOfRun
+RefusedFor words (program.Scenario fault) = Ask words IsOfScenario
 RefusedFor words (program.Steps fault) = Ask words IsPlay
-RefusedFor words program.Read = Ask words IsOfRun
+RefusedFor words program.Read = Ask words IsOfScenario
 RefusedFor words (program.App fault) = Unit {0}
 
 -- why the text of an error of such a kind is not shown: it is a mistake, or that is a fault of writing or of memory

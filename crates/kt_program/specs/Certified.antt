@@ -42,6 +42,7 @@ IsUncertified bytes (app.Cert fault) = ⊥
 IsUncertified bytes (app.Run fault) = ⊥
 IsUncertified bytes (app.Live fault) = ⊥
 IsUncertified bytes (app.Uncertified fault) = ⊥
+IsUncertified bytes (app.Picture why) = ⊥
 
 -- it has none and nothing is written, or writing them stops
 abbrev pub IsNotWritten : Told → Told → Told → AppFault → Type 0

@@ -11,16 +11,17 @@ use Rattle.kt_checker.specs.declared.verdict.Verdict.{Verdict}
 use Rattle.kt_plans.specs.Follows.{FollowsPlan}
 use Rattle.kt_plans.specs.Headline.{IsPromised}
 use Rattle.kt_program.specs.declared.ending.Done.{Done}
-use Rattle.kt_program.specs.declared.ending.Done.TheVariants.{Judged, Explained, Played, Certified, Shown}
+use Rattle.kt_program.specs.declared.ending.Done.TheVariants.{Judged, Explained, Played, Certified, Drawn, Shown}
 use Rattle.kt_program.specs.declared.fault.AppFault.{AppFault}
 use Rattle.kt_program.specs.declared.fault.AppFault.TheVariants as app
 use Rattle.kt_program.specs.declared.fault.ProgramFault.{ProgramFault}
 use Rattle.kt_program.specs.declared.fault.ProgramFault.TheVariants as program
 use Rattle.kt_program.specs.declared.line.Asked.{Asked}
-use Rattle.kt_program.specs.declared.line.Asked.TheVariants.{Certify, Check, Explain, Live, Play, PlayInOrder}
+use Rattle.kt_program.specs.declared.line.Asked.TheVariants.{Certify, Check, Explain, Live, Play, PlayInOrder, Draw}
 use Rattle.kt_program.specs.Asking.{Ask, IsCertify, IsOfRun}
 use Rattle.kt_run.specs.Runs.{IsLogOfRun, IsPlayed}
 use Rattle.kt_program.specs.Certified.{CertifiesTo, LeavesCertificates}
+use Rattle.kt_program.specs.Drawn.{DrawsTo, LeavesPicture}
 use Rattle.kt_program.specs.FaultTexts.{WritesLineOf}
 use Rattle.kt_program.specs.Explained.{AppendsExplained}
 use Rattle.kt_program.specs.Inputs.{AreGiven, IsPlanOfFile}
@@ -103,6 +104,7 @@ LeavesDone (Judged passed) old new = AppendsAnswer passed old new
 LeavesDone (Explained passed) old new = AppendsExplained passed old new
 LeavesDone Played old new = AppendsReport old new
 LeavesDone Certified old new = LeavesCertificates old new
+LeavesDone Drawn old new = LeavesPicture old new
 LeavesDone Shown old new = Unit {0}
 
 -- what is written for what is asked: the report of the scenario played with the steps of the file that is named, by a seed
@@ -114,6 +116,7 @@ Plays told old new (Live scenario log cert) = AppendsReport old new
 Plays told old new (Check log cert) = ⊥
 Plays told old new (Explain log cert) = ⊥
 Plays told old new (Certify log cert) = ⊥
+Plays told old new (Draw asked) = ⊥
 
 -- where a scenario was run, that is written which these words ask for
 abbrev pub PlayedFor : {F : Type 0} → List Text → (F → Told) → Told → Told → Done → Type 0
@@ -121,6 +124,7 @@ PlayedFor words told old new Played = Ask words (Plays told old new)
 PlayedFor words told old new (Judged passed) = Unit {0}
 PlayedFor words told old new (Explained passed) = Unit {0}
 PlayedFor words told old new Certified = Unit {0}
+PlayedFor words told old new Drawn = Unit {0}
 PlayedFor words told old new Shown = Unit {0}
 
 -- what is written of a log that is to be certified: its certificates go where that is asked
@@ -131,6 +135,7 @@ Certifies told old new (PlayInOrder play) = ⊥
 Certifies told old new (Live scenario log cert) = ⊥
 Certifies told old new (Check log cert) = ⊥
 Certifies told old new (Explain log cert) = ⊥
+Certifies told old new (Draw asked) = ⊥
 
 -- where a log was certified, that is written which these words ask for
 abbrev pub CertifiedFor : {F : Type 0} → List Text → (F → Told) → Told → Told → Done → Type 0
@@ -138,7 +143,27 @@ CertifiedFor words told old new Certified = Ask words (Certifies told old new)
 CertifiedFor words told old new Played = Unit {0}
 CertifiedFor words told old new (Judged passed) = Unit {0}
 CertifiedFor words told old new (Explained passed) = Unit {0}
+CertifiedFor words told old new Drawn = Unit {0}
 CertifiedFor words told old new Shown = Unit {0}
+
+-- what is written of a log that is to be drawn: its picture goes where that is asked
+abbrev pub DrawsFor : {F : Type 0} → (F → Told) → Told → Told → Asked → Type 0
+DrawsFor told old new (Draw asked) = DrawsTo told asked.names asked.span asked.svg old new
+DrawsFor told old new (Play scenario steps log cert) = ⊥
+DrawsFor told old new (PlayInOrder play) = ⊥
+DrawsFor told old new (Live scenario log cert) = ⊥
+DrawsFor told old new (Check log cert) = ⊥
+DrawsFor told old new (Explain log cert) = ⊥
+DrawsFor told old new (Certify log cert) = ⊥
+
+-- where a log was drawn, that is written which these words ask for
+abbrev pub DrawnFor : {F : Type 0} → List Text → (F → Told) → Told → Told → Done → Type 0
+DrawnFor words told old new Drawn = Ask words (DrawsFor told old new)
+DrawnFor words told old new Certified = Unit {0}
+DrawnFor words told old new Played = Unit {0}
+DrawnFor words told old new (Judged passed) = Unit {0}
+DrawnFor words told old new (Explained passed) = Unit {0}
+DrawnFor words told old new Shown = Unit {0}
 
 -- whether a text of any length is to be written to standard output: a report, or certificates
 abbrev pub IsOfText : Asked → Type 0

@@ -4,6 +4,7 @@ use Rattle.kt_text.specs.Writing.{WritesFront}
 use Rattle.kt_log_text.specs.FaultTexts.{log_fault_text}
 use Rattle.kt_chain.specs.FaultTexts.{certificate_fault_text}
 use Rattle.kt_certify.specs.FaultTexts.{unfit_text}
+use Rattle.kt_draw.specs.Drawn.{picture_fault_text}
 use Rattle.kt_scenario.specs.FaultTexts.{scenario_fault_text, steps_fault_text}
 use Rattle.kt_run.specs.FaultTexts.{run_fault_text}
 use Rattle.kt_threads.specs.FaultTexts.{live_fault_text}
@@ -23,6 +24,7 @@ app_fault_text (app.Live fault) = Some (live_fault_text fault)
 app_fault_text (app.Uncertified fault) = Some (codes "run: Uncertified")
 app_fault_text (app.Unfit why) = Some (unfit_text why)
 app_fault_text app.RecordTooLong = Some (codes "record too long")
+app_fault_text (app.Picture why) = Some (picture_fault_text why)
 app_fault_text app.Write = Some (codes "write fault")
 app_fault_text app.Memory = Some (codes "memory")
 

@@ -46,6 +46,7 @@ fault_status (app.Live fault) = 4
 fault_status (app.Uncertified fault) = 4
 fault_status (app.Unfit why) = 1
 fault_status app.RecordTooLong = 2
+fault_status (app.Picture why) = 2
 fault_status app.Write = 3
 fault_status app.Memory = 4
 

@@ -1,6 +1,7 @@
 pub mod Asking
 pub mod CastRows
 pub mod Certified
+pub mod Drawn
 pub mod Explained
 pub mod Ending
 pub mod Faults

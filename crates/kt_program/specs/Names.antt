@@ -4,7 +4,7 @@ use Rattle.std.specs.List.{starts_with}
 use Rattle.std.specs.Borrow.{Bor}
 use Rattle.clap.specs.Words.{Text}
 use Rattle.kt_program.specs.declared.line.Asked.{Asked}
-use Rattle.kt_program.specs.declared.line.Asked.TheVariants.{Certify, Check, Explain, Live, Play, PlayInOrder}
+use Rattle.kt_program.specs.declared.line.Asked.TheVariants.{Certify, Check, Explain, Live, Play, PlayInOrder, Draw}
 
 -- whether a name is one of those of devices, which have no content to lose
 abbrev pub is_device : Text → Bool
@@ -33,6 +33,7 @@ inputs_of (Live scenario log cert) = Some scenario ∷ []
 inputs_of (Check log cert) = Some log ∷ Some cert ∷ []
 inputs_of (Explain log cert) = Some log ∷ Some cert ∷ []
 inputs_of (Certify log cert) = Some log ∷ []
+inputs_of (Draw asked) = Some asked.log ∷ asked.names ∷ []
 
 abbrev pub outputs_of : Asked → List Name
 outputs_of (Play scenario steps log cert) = log ∷ cert ∷ []
@@ -41,11 +42,17 @@ outputs_of (Live scenario log cert) = log ∷ cert ∷ []
 outputs_of (Check log cert) = []
 outputs_of (Explain log cert) = []
 outputs_of (Certify log cert) = cert ∷ []
+outputs_of (Draw asked) = asked.svg ∷ []
 
 -- a name that is given, and is no device's
 abbrev pub IsFileName : Name → Type 0
 IsFileName (Some name) = ¬ IsTrue (is_device name.now)
 IsFileName None = ⊥
+
+-- a name is given
+abbrev pub IsNamed : Name → Type 0
+IsNamed (Some name) = Unit {0}
+IsNamed None = ⊥
 
 -- a file is to be written
 abbrev pub IsWriting : Asked → Type 0
@@ -55,6 +62,7 @@ IsWriting (Live scenario log cert) = IsFileName log ⊎ IsFileName cert
 IsWriting (Check log cert) = ⊥
 IsWriting (Explain log cert) = ⊥
 IsWriting (Certify log cert) = IsFileName cert
+IsWriting (Draw asked) = IsFileName asked.svg
 
 -- what is asked for loses nothing by its names
 abbrev pub IsApart : Asked → Type 0

@@ -1,6 +1,7 @@
 -- The command line as clap reads it.
 use Rattle.std.specs.Prelude.{◌≡◌, ◌<◌, ◌^◌, ◌⊎◌, ℕ, List, Option, Some, None, option_map, codes, true, false}
 use Rattle.clap.specs.Words.{App, Rule, Row, Text, rule_of, app_of, new_app, new_rule, with_rule, with_subcommand, first_of, subcommand_of}
+use Rattle.std.specs.Fmt.{decimal}
 use Rattle.clap.specs.Words.{Kinds, HasKind, fault_of, kind_of}
 use Rattle.clap.specs.declared.error.Error.{Error}
 use Rattle.clap.specs.declared.error.kind.ErrorKind.TheVariants.{MissingSubcommand}
@@ -9,9 +10,9 @@ use Rattle.clap.specs.declared.builder.command.Command.{Command}
 use Rattle.clap.specs.declared.builder.arg.Arg.{Arg}
 use Rattle.clap.specs.declared.builder.action.ArgAction.TheVariants.{SetTrue}
 use Rattle.clap.specs.declared.builder.value_parser.ValueParser.TheVariants.{Unsigned}
-use Rattle.std.specs.Fmt.{decimal}
 use Rattle.kt_program.specs.declared.line.Asked.{Asked}
-use Rattle.kt_program.specs.declared.line.Asked.TheVariants.{Certify, Check, Explain, Live, Play, PlayInOrder}
+use Rattle.kt_program.specs.declared.line.Asked.TheVariants.{Certify, Check, Explain, Live, Play, PlayInOrder, Draw}
+use Rattle.kt_program.specs.declared.line.Drawing.{Drawing}
 
 -- a word that has to be there, with a name in help
 abbrev pub wanted : Text → Rule
@@ -49,13 +50,17 @@ check = with_rule (with_rule (with_rule (new_app (codes "check")) (wanted (codes
 abbrev pub certify : App
 certify = with_rule (with_rule (new_app (codes "certify")) (wanted (codes "log"))) (optional (codes "cert"))
 
+-- the command that draws a stored log
+abbrev pub draw : App
+draw = with_rule (with_rule (with_rule (with_rule (with_rule (new_app (codes "draw")) (wanted (codes "log"))) (optional (codes "names"))) (optional (codes "from"))) (optional (codes "to"))) (optional (codes "svg"))
+
 -- a command with a version
 abbrev pub with_version : App → App
 with_version app = record app { top = record app.top { has_version = true } }
 
 -- the program's command line
 abbrev pub program : App
-program = with_subcommand (with_subcommand (with_subcommand (with_subcommand (with_version (new_app (codes "koo_toueg"))) play.top) live.top) check.top) certify.top
+program = with_subcommand (with_subcommand (with_subcommand (with_subcommand (with_subcommand (with_version (new_app (codes "koo_toueg"))) play.top) live.top) check.top) certify.top) draw.top
 
 -- an argument that clap reads as this rule
 pub record IsRule (rule : Rule) (a : Arg) : Type 0 where
@@ -106,6 +111,19 @@ pub record NamesCheck (rows : List Row) (log cert : Text) : Type 0 where
   pub log_is : first_of (codes "log") rows ≡ Some log
   pub cert_is : first_of (codes "cert") rows ≡ Some cert
 
+-- a number of an option: below 2^32, and spelled by its digits; none where the option is missing
+abbrev pub IsGivenNumber : Text → List Row → Option ℕ → Type 0
+IsGivenNumber id rows None = first_of id rows ≡ None
+IsGivenNumber id rows (Some number) = (number < 2 ^ 32) × (first_of id rows ≡ Some (decimal number))
+
+-- what the matches of `draw` name
+pub record NamesDraw (rows : List Row) (asked : Drawing) : Type 0 where
+  pub log_is : first_of (codes "log") rows ≡ Some asked.log.now
+  pub names_are : first_of (codes "names") rows ≡ option_map (λ s. s.now) asked.names
+  pub from_is : IsGivenNumber (codes "from") rows asked.span.from
+  pub to_is : IsGivenNumber (codes "to") rows asked.span.to
+  pub svg_is : first_of (codes "svg") rows ≡ option_map (λ s. s.now) asked.svg
+
 -- what a subcommand's matches name
 abbrev pub NamesIn : Text → List Row → Asked → Type 0
 NamesIn name rows (Play scenario steps log cert) =
@@ -117,6 +135,7 @@ NamesIn name rows (Live scenario log cert) =
 NamesIn name rows (Check log cert) = (name ≡ codes "check") × NamesCheck rows log.now cert.now × ¬ IsSet (codes "explain") rows
 NamesIn name rows (Explain log cert) = (name ≡ codes "check") × NamesCheck rows log.now cert.now × IsSet (codes "explain") rows
 NamesIn name rows (Certify log cert) = (name ≡ codes "certify") × (first_of (codes "log") rows ≡ Some log.now) × (first_of (codes "cert") rows ≡ option_map (λ s. s.now) cert)
+NamesIn name rows (Draw asked) = (name ≡ codes "draw") × NamesDraw rows asked
 
 -- what is asked for names the subcommand and its texts
 abbrev pub Names : Option (Text × List Row) → Asked → Type 0

@@ -101,5 +101,6 @@ StopsRecording Are plan old new app.Memory = AreUnwritten old new ⊎ OfSome Are
 StopsRecording Are plan old new (app.Live fault) = ⊥
 StopsRecording Are plan old new (app.Uncertified fault) = ⊥
 StopsRecording Are plan old new (app.Unfit why) = ⊥
+StopsRecording Are plan old new (app.Picture why) = ⊥
 StopsRecording Are plan old new (app.Log fault) = ⊥
 StopsRecording Are plan old new (app.Cert fault) = ⊥

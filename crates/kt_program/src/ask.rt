@@ -1,26 +1,28 @@
 //! The command line, by clap.
 
-ghost use Rattle.std.specs.Prelude.{◌≡◌, ◌≢◌, ◌<◌, ◌^◌, ◌↔◌, ℕ, codes, IfOk, IfErr, IfSome, IfNone, IsTrue, Some, option_map};
+ghost use Rattle.std.specs.Prelude.{◌≡◌, ◌≢◌, ◌<◌, ◌^◌, ◌↔◌, ℕ, codes, IfOk, IfErr, IfSome, IfNone, IsTrue, Some, option_map, Option};
 ghost use Rattle.std.specs.Fmt.{decimal};
 ghost use Rattle.clap.specs.Words.{first_of, kind_of, new_app, subcommand_of, subcommand_rows_of, rows_of, found_of};
-ghost use Rattle.kt_program.specs.Program.{program, certify, check, live, numeric, play, play_order, optional, switch, wanted, with_version, IsRule, IsDefined, IsSet, Names, NamesIn, NamesNoOrder};
+ghost use Rattle.kt_program.specs.Program.{program, certify, check, live, numeric, play, play_order, optional, switch, wanted, with_version, IsRule, IsDefined, IsSet, Names, NamesIn, NamesNoOrder, draw, IsGivenNumber};
 ghost use Rattle.clap.specs.declared.error.kind.ErrorKind.TheVariants.{MissingSubcommand};
 ghost use Rattle.kt_program.specs.declared.line.Asked.{Asked};
 ghost use Rattle.kt_program.specs.Asking.{IsUnasked};
 ghost use Rattle.kt_program.specs.Names.{IsApart};
 ghost use Rattle.kt_program.specs.declared.ask.AskFault.TheVariants.{Line, Memory as OutOfMemory, SameName};
 
-use crate::line::{Asked, OrderedPlay};
+use crate::line::{Asked, Drawing, OrderedPlay};
 use crate::words::Words;
 use clap::error::ErrorKind;
 use clap::{Arg, ArgAction, ArgMatches, Command, Error, value_parser};
 use itoa::Buffer;
+use kt_draw::Span;
+use kt_text::fields::number_of;
 use std::alloc::{AllocError, Global};
 
 const VERSION: &str = "0.1.0";
 
 const ABOUT: &str =
-    "Runs scenarios of a checkpoint and rollback-recovery manager, and certifies and judges stored runs";
+    "Runs scenarios of a checkpoint and rollback-recovery manager, and certifies, judges and draws stored runs";
 
 const ABOUT_PLAY: &str = "Plays a scenario, and prints a report of the run";
 
@@ -104,6 +106,22 @@ with a member that no message leads to: then nothing is written, and the line of
 the fault, which begins with no, tells where. Whether each committed instance
 took the least set of processes is asked of check.";
 
+const ABOUT_DRAW: &str = "Draws a stored log as an SVG picture";
+
+const LONG_ABOUT_DRAW: &str =
+    "Draws rows of a stored log as an SVG picture: a line for each process, an arrow
+for each message, and what became of instances, checkpoints and failures. The
+line below says that the log is legal, or which row breaks which rule; what comes
+after that row is not drawn. A picture has at most 4096 rows.";
+
+const ABOUT_NAMES: &str = "A scenario whose objects name the processes";
+
+const ABOUT_FROM: &str = "The number of the first row that is drawn, else 1";
+
+const ABOUT_TO: &str = "The number of the last row that is drawn, else that of the last row";
+
+const ABOUT_SVG: &str = "Where the picture is written, else to standard output";
+
 const ABOUT_CERT_FILE: &str = "Where the certificates are written, else to standard output";
 
 const STATUSES: &str = "Exit status:
@@ -178,6 +196,13 @@ fn numeric_word<'a>(alloc: Global, id: &'a str, help: &'a str, long_help: &'a st
         .value_parser(value_parser!(u64))
         .help(help)
         .long_help(long_help)
+}
+
+// An option with a value of this name, with its text in help.
+fn optional_value<'a>(alloc: Global, id: &'a str, name: &'a str, help: &'a str) -> Arg<'a>
+    ensures { IsRule (optional id.entry.now) result }
+{
+    Arg::new(alloc, id).long(id).value_name(name).help(help)
 }
 
 // An option without a value, with its texts in help.
@@ -263,6 +288,18 @@ fn certify_command<'a>(alloc: Global) -> Result<Command<'a>, AllocError>
     Ok(command)
 }
 
+fn draw_command<'a>(alloc: Global) -> Result<Command<'a>, AllocError>
+    ensures { IfOk result (IsDefined draw) }
+{
+    let command = command_of(alloc, "draw", ABOUT_DRAW, LONG_ABOUT_DRAW)
+        .arg(wanted_word(alloc, "log", "LOG", ABOUT_LOG, LONG_ABOUT_LOG))?
+        .arg(optional_value(alloc, "names", "SCENARIO", ABOUT_NAMES))?
+        .arg(optional_value(alloc, "from", "ROW", ABOUT_FROM))?
+        .arg(optional_value(alloc, "to", "ROW", ABOUT_TO))?
+        .arg(optional_value(alloc, "svg", "FILE", ABOUT_SVG))?;
+    Ok(command)
+}
+
 // The program's command, without what it may be asked to do.
 fn bare_command<'a>(alloc: Global) -> Command<'a>
     ensures { IsDefined (with_version (new_app (codes "koo_toueg"))) result }
@@ -280,7 +317,8 @@ fn program_command<'a>(alloc: Global) -> Result<Command<'a>, AllocError>
         .subcommand(play_command(alloc)?)?
         .subcommand(live_command(alloc)?)?
         .subcommand(check_command(alloc)?)?
-        .subcommand(certify_command(alloc)?)?;
+        .subcommand(certify_command(alloc)?)?
+        .subcommand(draw_command(alloc)?)?;
     Ok(command)
 }
 
@@ -415,6 +453,44 @@ fn asked_of_certify<'a>(matches: &ArgMatches<'a>) -> Option<Asked<'a>>
     })
 }
 
+// What is given is no number below 2^32.
+#[derive(Clone, Copy)]
+struct NotANumber;
+
+// The number that an option has, where it is given.
+fn number_in(matches: &ArgMatches<'_>, id: &str) -> Result<Option<u32>, NotANumber>
+    ensures number { IfOk result (IsGivenNumber id.now (rows_of (found_of matches.now))) }
+    ensures none { IfErr result (λ _. (number : Option ℕ) → ¬ IsGivenNumber id.now (rows_of (found_of matches.now)) number) }
+{
+    let Some(text) = text_of(matches, id) else {
+        return Ok(None);
+    };
+    match number_of(text.as_bytes()) {
+        Some(number) => Ok(Some(number)),
+        None => Err(NotANumber),
+    }
+}
+
+// What the matches of `draw` ask for.
+fn asked_of_draw<'a>(matches: &ArgMatches<'a>) -> Option<Asked<'a>>
+    ensures named { IfSome result (NamesIn (codes "draw") (rows_of (found_of matches.now))) }
+    ensures nothing { IfNone result ((asked : Asked) → ¬ NamesIn (codes "draw") (rows_of (found_of matches.now)) asked) }
+{
+    let log = text_of(matches, "log")?;
+    let Ok(from) = number_in(matches, "from") else {
+        return None;
+    };
+    let Ok(to) = number_in(matches, "to") else {
+        return None;
+    };
+    Some(Asked::Draw(Drawing {
+        log,
+        names: text_of(matches, "names"),
+        span: Span { from, to },
+        svg: text_of(matches, "svg"),
+    }))
+}
+
 // What the matches of a subcommand of this name ask for.
 fn asked_of<'a>(name: &str, matches: &ArgMatches<'a>) -> Option<Asked<'a>>
     ensures named { IfSome result (NamesIn name.now (rows_of (found_of matches.now))) }
@@ -425,6 +501,7 @@ fn asked_of<'a>(name: &str, matches: &ArgMatches<'a>) -> Option<Asked<'a>>
         "live" => asked_of_live(matches),
         "check" => asked_of_check(matches),
         "certify" => asked_of_certify(matches),
+        "draw" => asked_of_draw(matches),
         _ => None,
     }
 }
@@ -460,7 +537,7 @@ fn apart<'a>(asked: Asked<'a>) -> Result<Asked<'a>, AskFault>
 }
 
 /// What the words ask for.
-#[tactic(auto, using(crate::proofs::Refused::unasked))]
+#[tactic(auto)]
 pub fn asked<'a>(alloc: Global, words: &'a Words) -> Result<Asked<'a>, AskFault>
     // What it names is what clap's definition of the command line gives for the words.
     ensures named { IfOk result (Names (subcommand_of program words.entry.now)) }

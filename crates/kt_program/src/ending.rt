@@ -28,6 +28,8 @@ pub enum Done {
     Played,
     /// It wrote the certificates of a stored log.
     Certified,
+    /// It drew a stored log.
+    Drawn,
     /// It wrote the help or the version that was asked for.
     Shown,
 }
@@ -39,7 +41,7 @@ impl Done {
     {
         match self {
             Done::Judged(passed) | Done::Explained(passed) => answer_status(passed),
-            Done::Played | Done::Certified | Done::Shown => 0,
+            Done::Played | Done::Certified | Done::Drawn | Done::Shown => 0,
         }
     }
 }

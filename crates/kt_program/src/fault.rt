@@ -5,12 +5,14 @@ ghost use Rattle.kt_program.specs.declared.fault.AppFault.TheVariants as app;
 ghost use Rattle.kt_program.specs.declared.fault.ProgramFault.TheVariants as program;
 ghost use Rattle.kt_program.specs.Faults.{fault_status, refusal_status};
 ghost use Rattle.kt_program.specs.Certified.{of_stream};
+ghost use Rattle.kt_program.specs.Drawn.{of_draw};
 ghost use Rattle.kt_program.specs.Played.{of_cert_fault, of_live, of_run, of_writing};
 
 use kt_base::Memory;
 use kt_certify::{CertFault, StreamFault, Unfit};
 use kt_chain::CertTextFault;
 use kt_core::StepFault;
+use kt_draw::{DrawFault, PictureFault};
 use kt_log_text::LogFault;
 use kt_run::RunFault;
 use kt_scenario::{ScenarioFault, StepsFault};
@@ -19,7 +21,7 @@ use kt_threads::LiveFault;
 use std::error::Error;
 use std::fmt;
 
-/// Why a run was not played, or a stored run not judged.
+/// Why a run was not played, or a stored run not judged, certified or drawn.
 #[derive(Clone, Copy, Debug, PartialEq, Eq, Hash)]
 pub enum AppFault {
     /// The log's text was refused.
@@ -36,6 +38,8 @@ pub enum AppFault {
     Unfit(Unfit),
     /// A run has more steps than a text of steps may have.
     RecordTooLong,
+    /// A stored log has no such picture.
+    Picture(PictureFault),
     /// A writer failed.
     Write,
     /// There was no memory.
@@ -56,6 +60,7 @@ impl fmt::Display for AppFault {
             AppFault::Uncertified(_) => write!(f, "run: Uncertified"),
             AppFault::Unfit(why) => fmt::Display::fmt(why, f),
             AppFault::RecordTooLong => write!(f, "record too long"),
+            AppFault::Picture(why) => fmt::Display::fmt(why, f),
             AppFault::Write => write!(f, "write fault"),
             AppFault::Memory => write!(f, "memory"),
         }
@@ -73,7 +78,7 @@ impl AppFault {
         match self {
             AppFault::Log(LogFault::Read) | AppFault::Cert(CertTextFault::Read) => 3,
             AppFault::Log(LogFault::Memory) | AppFault::Cert(CertTextFault::Memory) => 4,
-            AppFault::Log(_) | AppFault::Cert(_) => 2,
+            AppFault::Log(_) | AppFault::Cert(_) | AppFault::Picture(_) => 2,
             AppFault::Run(RunFault::Step(_, StepFault::NotEnabled)) => 2,
             AppFault::Run(_) | AppFault::Live(_) | AppFault::Uncertified(_) => 4,
             AppFault::Unfit(_) => 1,
@@ -133,6 +138,18 @@ impl From<StreamFault> for AppFault {
             StreamFault::Log(LogFault::Memory) => AppFault::Memory,
             StreamFault::Log(fault) => AppFault::Log(fault),
             StreamFault::Unfit(unfit) => AppFault::Unfit(unfit),
+        }
+    }
+}
+
+impl From<DrawFault> for AppFault {
+    ghost from_gives = { λ fault f. f ≡ of_draw fault };
+
+    fn from(fault: DrawFault) -> AppFault {
+        match fault {
+            DrawFault::Log(LogFault::Memory) => AppFault::Memory,
+            DrawFault::Log(fault) => AppFault::Log(fault),
+            DrawFault::Picture(why) => AppFault::Picture(why),
         }
     }
 }

@@ -3,6 +3,7 @@
 ghost use Rattle.std.specs.Prelude.{MatchBool};
 
 use crate::names::clash;
+use kt_draw::Span;
 
 /// A scenario that is to be played in an order of its own, or of which the steps are to be kept, with the names of files.
 #[derive(Clone, Copy, Debug, PartialEq, Eq)]
@@ -54,6 +55,18 @@ pub enum Asked<'a> {
         log: &'a str,
         cert: Option<&'a str>,
     },
+    /// Draw rows of a stored log.
+    Draw(Drawing<'a>),
+}
+
+/// A picture that is asked for: of which log, with the names of which scenario's objects, of which rows, and into which
+/// file, else to standard output.
+#[derive(Clone, Copy, Debug, PartialEq, Eq)]
+pub struct Drawing<'a> {
+    pub log: &'a str,
+    pub names: Option<&'a str>,
+    pub span: Span,
+    pub svg: Option<&'a str>,
 }
 
 impl<'a> Asked<'a> {
@@ -83,6 +96,7 @@ impl<'a> Asked<'a> {
             Asked::Check { log, cert } => clash(&[Some(*log), Some(*cert)], &[]),
             Asked::Explain { log, cert } => clash(&[Some(*log), Some(*cert)], &[]),
             Asked::Certify { log, cert } => clash(&[Some(*log)], &[*cert]),
+            Asked::Draw(asked) => clash(&[Some(asked.log), asked.names], &[asked.svg]),
         }
     }
 }

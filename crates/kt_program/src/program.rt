@@ -8,11 +8,12 @@ ghost use Rattle.kt_program.specs.declared.ending.Done.TheVariants.{Shown};
 ghost use Rattle.kt_program.specs.declared.fault.AppFault.TheVariants as app;
 ghost use Rattle.kt_program.specs.declared.fault.ProgramFault.TheVariants as program;
 ghost use Rattle.kt_program.specs.Asking.{EndsFor, IsRequest, IsUnshown};
-ghost use Rattle.kt_program.specs.Ending.{CertifiedFor, Ends, LeavesOutput, LeavesAnswer, PlayedFor};
+ghost use Rattle.kt_program.specs.Ending.{CertifiedFor, DrawnFor, Ends, LeavesOutput, LeavesAnswer, PlayedFor};
 
 use crate::ask::{AskFault, asked};
 use crate::certifying::certify_files;
 use crate::checked::check_bytes;
+use crate::drawing::draw_files;
 use crate::ending::{Done, end};
 use crate::explained::explain_files;
 use crate::fault::{AppFault, ProgramFault};
@@ -74,6 +75,9 @@ pub fn carry_out<F: Files + Threads + Wait + Sync, O: Write>(
     ensures played { IfOk result (PlayedFor words.now F.File.remaining (O.contents out.old) (O.contents out.new)) }
     // The certificates that are written are those of the rows that a file says, and go where the words ask.
     ensures certified { IfOk result (CertifiedFor words.now F.File.remaining (O.contents out.old) (O.contents out.new)) }
+    // The picture that is drawn is that of the rows that the words ask for, of the log that a file says, and goes where they
+    // ask.
+    ensures drawn { IfOk result (DrawnFor words.now F.File.remaining (O.contents out.old) (O.contents out.new)) }
 {
     match asked(alloc, words) {
         Ok(
@@ -113,6 +117,7 @@ pub fn carry_out<F: Files + Threads + Wait + Sync, O: Write>(
             Ok(()) => Ok(Done::Certified),
             Err(fault) => Err(fault),
         },
+        Ok(Asked::Draw(picture)) => draw_files(files, alloc, &picture, out),
         Err(AskFault::Line(error)) => show_text(out, &error),
         Err(AskFault::SameName) => Err(ProgramFault::Line),
         Err(AskFault::Memory) => Err(ProgramFault::App(AppFault::Memory)),

@@ -14,7 +14,7 @@ use std::test::Fail;
 use std::thread::Threads;
 
 const HELP: &str =
-    "Runs scenarios of a checkpoint and rollback-recovery manager, and certifies and judges stored runs
+    "Runs scenarios of a checkpoint and rollback-recovery manager, and certifies, judges and draws stored runs
 
 Usage: koo_toueg [COMMAND]
 
@@ -23,6 +23,7 @@ Commands:
   live     Runs a scenario in threads, and prints a report of the run
   check    Judges a stored log with its certificates
   certify  Writes the certificates of a stored log
+  draw     Draws a stored log as an SVG picture
   help     Print this message or the help of the given subcommand(s)
 
 Options:

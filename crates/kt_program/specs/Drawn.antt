@@ -1,0 +1,91 @@
+-- What the program draws of a stored log.
+use Rattle.std.specs.Prelude.{◌≡◌, ◌≢◌, ◌⊎◌, ℕ, List, [], Some, None, Result, Ok, Err, IfSome}
+use Rattle.std.specs.Io.KnownBytes.{Appends}
+use Rattle.kt_spacetime.specs.declared.event.Event.{Event}
+use Rattle.kt_log_text.specs.declared.fault.LogFault.TheVariants as log
+use Rattle.kt_log_text.specs.Texts as texts
+use Rattle.kt_checker.specs.Streamed.{SaysRows}
+use Rattle.kt_draw.specs.declared.fault.DrawFault.{DrawFault}
+use Rattle.kt_draw.specs.declared.fault.DrawFault.TheVariants as draw
+use Rattle.kt_draw.specs.declared.span.Span.{Span}
+use Rattle.kt_draw.specs.Drawn.{IsNoPicture, IsPicture, IsPictureOf}
+use Rattle.kt_plan.specs.Limits.{Planned}
+use Rattle.kt_program.specs.declared.ending.Done.{Done}
+use Rattle.kt_program.specs.declared.fault.AppFault.{AppFault}
+use Rattle.kt_program.specs.declared.fault.AppFault.TheVariants as app
+use Rattle.kt_program.specs.declared.fault.ProgramFault.{ProgramFault}
+use Rattle.kt_program.specs.declared.fault.ProgramFault.TheVariants as program
+use Rattle.kt_program.specs.Inputs.{IsPlanOfFile}
+use Rattle.kt_program.specs.Names.{Name, IsNamed}
+use Rattle.kt_program.specs.Stored.{Told, records_told}
+
+-- it is written
+abbrev pub Draws : List (List ℕ) → Span → Told → Told → Told → Type 0
+Draws names span bytes old new = (text : List ℕ) × IsPictureOf names span bytes text × Appends old new text
+
+-- why a stored log is not drawn: its first fault, or why it has no such picture; nothing is said of want of memory
+abbrev pub IsUndrawn : Span → Told → AppFault → Type 0
+IsUndrawn span bytes (app.Log fault) = (fault ≢ log.Memory) × IfSome (records_told bytes) (λ text. texts.IsFirstFault text fault)
+IsUndrawn span bytes (app.Picture why) = (read : List Event) × SaysRows bytes read × IsNoPicture span read why
+IsUndrawn span bytes app.Memory = Unit {0}
+IsUndrawn span bytes app.Write = ⊥
+IsUndrawn span bytes (app.Cert fault) = ⊥
+IsUndrawn span bytes (app.Run fault) = ⊥
+IsUndrawn span bytes (app.Live fault) = ⊥
+IsUndrawn span bytes (app.Uncertified fault) = ⊥
+IsUndrawn span bytes (app.Unfit why) = ⊥
+IsUndrawn span bytes app.RecordTooLong = ⊥
+
+-- a fault of a stored log that is drawn, as the program answers it
+abbrev pub of_draw : DrawFault → AppFault
+of_draw (draw.Log log.Memory) = app.Memory
+of_draw (draw.Log fault) = app.Log fault
+of_draw (draw.Picture why) = app.Picture why
+
+-- the names of processes: those of the scenario that a file says, where one is named, and else none
+abbrev pub AreNamesOf : {F : Type 0} → (F → Told) → Name → List (List ℕ) → Type 0
+AreNamesOf told None names = names ≡ []
+AreNamesOf told (Some name) names = (plan : Planned) × IsPlanOfFile told plan × (names ≡ plan.names)
+
+-- a text goes to standard output where no file is named for it
+abbrev pub TextGoesTo : Name → List ℕ → Told → Told → Type 0
+TextGoesTo None text old new = Appends old new text
+TextGoesTo (Some name) text old new = new ≡ old
+
+-- a text is a picture of the log that a file says, with the names of the scenario that is named
+pub record IsPictureOfFile {F : Type 0} (told : F → Told) (scenario : Name) (span : Span) (text : List ℕ) : Type 0 where
+  pub names : List (List ℕ)
+  pub named : AreNamesOf told scenario names
+  pub file : F
+  pub picture : IsPictureOf names span (told file) text
+
+-- such a picture goes where it is asked for
+abbrev pub DrawsTo : {F : Type 0} → (F → Told) → Name → Span → Name → Told → Told → Type 0
+DrawsTo told scenario span svg old new = (text : List ℕ) × IsPictureOfFile told scenario span text × TextGoesTo svg text old new
+
+-- standard output has the picture of a log, or nothing new where it goes into a file
+abbrev pub LeavesPicture : Told → Told → Type 0
+LeavesPicture old new = (new ≡ old) ⊎ ((names : List (List ℕ)) × (span : Span) × (read : List Event) × (text : List ℕ) × IsPicture names span read text × Appends old new text)
+
+-- the same; at a fault nothing new, unless the writer failed
+abbrev pub LeavesDrawn : Result Done ProgramFault → Told → Told → Type 0
+LeavesDrawn (Ok what) old new = LeavesPicture old new
+LeavesDrawn (Err fault) old new = fault ≢ program.App app.Write → new ≡ old
+
+-- a fault of a scenario that is read for its names, where one is named
+abbrev pub IsOfNames : Name → ProgramFault → Type 0
+IsOfNames name (program.Scenario fault) = IsNamed name
+IsOfNames name program.Read = IsNamed name
+IsOfNames name (program.App fault) = Unit {0}
+IsOfNames name program.Line = ⊥
+IsOfNames name program.SameFile = ⊥
+IsOfNames name (program.Steps fault) = ⊥
+
+-- a fault of a picture: of the scenario where one is named, of the log, or of writing
+abbrev pub IsOfDrawing : Name → ProgramFault → Type 0
+IsOfDrawing name (program.Scenario fault) = IsNamed name
+IsOfDrawing name program.Read = IsNamed name
+IsOfDrawing name (program.App fault) = Unit {0}
+IsOfDrawing name program.SameFile = Unit {0}
+IsOfDrawing name program.Line = ⊥
+IsOfDrawing name (program.Steps fault) = ⊥
