@@ -18,6 +18,7 @@ use Rattle.kt_cuts.proofs.RowRules.{may_decide}
 use Rattle.kt_cuts.proofs.SortedFacts.{some_same}
 use Rattle.kt_cuts.proofs.Traced.{next_unbroken}
 use Rattle.kt_chain.specs.declared.certificate.Certificate.{Certificate}
+use Rattle.kt_checker.specs.Passing.{IsChain}
 use Rattle.kt_certify.specs.Linking.{chained}
 use Rattle.kt_certify.specs.Certificates.{certified, decision_in, certificate_of, certificates}
 use Rattle.kt_certify.specs.Decisions.{IsOfDecision}
@@ -27,7 +28,7 @@ use Rattle.kt_certify.proofs.Decisions.{certified_by, IsCertificate, certificate
 use Rattle.kt_certify.proofs.Pushed.{decision_known}
 use Rattle.kt_certify.proofs.Listed.{item_is, item_of, items_rise}
 use Rattle.kt_certify.proofs.Unlinked.{kind_known, initiator_known}
-use Rattle.kt_certify.proofs.Leading.{Leads, all_led}
+use Rattle.kt_certify.proofs.Leading.{all_led}
 
 -- what is made of the rows before a decision
 of_made : (log : List Event) (n p k : ℕ) (commit : Bool) (b : Beginning) → slice_get log n ≡ Some (Decided p k commit) → beginning_of (past (take n log)) k ≡ Some b
@@ -87,18 +88,18 @@ rising log i j c d low e f = items_rise (certificate_of log) (λ (x : Certificat
 
 -- where no member lacks a chain, each list leads to its member
 led_made : (log : List Event) (n decider k : ℕ) (commit : Bool) (b : Beginning) (j p : ℕ) (chain : List ℕ) → slice_get log n ≡ Some (Decided decider k commit) → beginning_of (past (take n log)) k ≡ Some b → ((q : ℕ) → HasNoChain log k q → ⊥)
-    → slice_get (if commit then chained (past (take n log)) k b.kind b.initiator (members (take n log) k) else []) j ≡ Some (p, chain) → Leads (past (take n log)) k b.kind b.initiator chain p
+    → slice_get (if commit then chained (past (take n log)) k b.kind b.initiator (members (take n log) k) else []) j ≡ Some (p, chain) → IsChain (past (take n log)) k b.kind b.initiator chain p
 led_made log n decider k true b j p chain decided began never at = (all_led log n decider k b decided began never).each j p chain at
 led_made log n decider k false b j p chain decided began never at = absurd (cc)
 
 led_at : (log : List Event) (k : ℕ) (c : Certificate) → (is : IsCertificate log k c) → ((q : ℕ) → HasNoChain log c.inst q → ⊥) → (j p : ℕ) (chain : List ℕ) → slice_get c.members j ≡ Some (p, chain)
-    → Leads (past (take (IsCertificate.row is) log)) c.inst c.kind c.initiator chain p
+    → IsChain (past (take (IsCertificate.row is) log)) c.inst c.kind c.initiator chain p
 led_at log k c is =
-    subst (λ (x : Certificate). ((q : ℕ) → HasNoChain log x.inst q → ⊥) → (j p : ℕ) (chain : List ℕ) → slice_get x.members j ≡ Some (p, chain) → Leads (past (take is.row log)) x.inst x.kind x.initiator chain p) is.made
+    subst (λ (x : Certificate). ((q : ℕ) → HasNoChain log x.inst q → ⊥) → (j p : ℕ) (chain : List ℕ) → slice_get x.members j ≡ Some (p, chain) → IsChain (past (take is.row log)) x.inst x.kind x.initiator chain p) is.made
     (λ never j p chain at. led_made log is.row is.decider k is.commit is.beginning j p chain is.decided is.began never at)
 
 pub led_list : (log : List Event) (i n j p : ℕ) (c : Certificate) (chain : List ℕ) → IsLegal log → ((q : ℕ) → HasNoChain log c.inst q → ⊥) → slice_get (certificates log) i ≡ Some c → IsOfDecision log n c
-    → slice_get c.members j ≡ Some (p, chain) → Leads (past (take n log)) c.inst c.kind c.initiator chain p
+    → slice_get c.members j ≡ Some (p, chain) → IsChain (past (take n log)) c.inst c.kind c.initiator chain p
 led_list log i n j p c chain l never e of at =
     let number = item_is (certificate_of log) (length (past log).begun) i c e in
     let is = certificate_is log number.0 c number.3 in
@@ -106,14 +107,14 @@ led_list log i n j p c chain l never e of at =
     let there = decision_known c.inst log l n of.process c.commit of.decided in
     let inst : c.inst ≡ number.0 = instance_of log number.0 c number.3 in
     let same : is.row ≡ n = ap (λ (d : ℕ × Bool). d.0) (some_same (sym here ∙ (ap (λ (k : ℕ). decision_in k log) (sym inst) ∙ there))) in
-    subst (λ (m : ℕ). Leads (past (take m log)) c.inst c.kind c.initiator chain p) same (led_at log number.0 c is never j p chain at)
+    subst (λ (m : ℕ). IsChain (past (take m log)) c.inst c.kind c.initiator chain p) same (led_at log number.0 c is never j p chain at)
 
 pub checkpoint_led : (log : List Event) (i n j p : ℕ) (c : Certificate) (chain : List ℕ) → IsLegal log → ((q : ℕ) → HasNoChain log c.inst q → ⊥) → slice_get (certificates log) i ≡ Some c → IsOfDecision log n c
     → slice_get c.members j ≡ Some (p, chain) → c.kind ≡ Checkpoint → IsCheckpointChain (past (take n log)) c.inst c.initiator chain p
 checkpoint_led log i n j p c chain l never e of at kind =
-    subst (λ (x : Kind). Leads (past (take n log)) c.inst x c.initiator chain p) kind (led_list log i n j p c chain l never e of at)
+    subst (λ (x : Kind). IsChain (past (take n log)) c.inst x c.initiator chain p) kind (led_list log i n j p c chain l never e of at)
 
 pub rollback_led : (log : List Event) (i n j p : ℕ) (c : Certificate) (chain : List ℕ) → IsLegal log → ((q : ℕ) → HasNoChain log c.inst q → ⊥) → slice_get (certificates log) i ≡ Some c → IsOfDecision log n c
     → slice_get c.members j ≡ Some (p, chain) → c.kind ≡ Rollback → IsRollbackChain (past (take n log)) c.initiator chain p
 rollback_led log i n j p c chain l never e of at kind =
-    subst (λ (x : Kind). Leads (past (take n log)) c.inst x c.initiator chain p) kind (led_list log i n j p c chain l never e of at)
+    subst (λ (x : Kind). IsChain (past (take n log)) c.inst x c.initiator chain p) kind (led_list log i n j p c chain l never e of at)

@@ -1,46 +1,29 @@
 -- Each list of a committed instance's certificate is a chain that leads from the initiator to its member.
 use Rattle.std.proofs.Common.{◌≡◌, ℕ, zero, suc, ◌≤◌, ◌==◌, if◌then◌else◌, Bool, true, false, Option, Some, None, unwrap_or, List, [], ◌∷◌, ◌++◌, length, take, refl, sym, subst, arith, inl, inr}
-use Rattle.std.specs.Prelude.{is_some, ◌&&◌}
 use Rattle.std.specs.List.{slice_get}
-use Rattle.std.proofs.lemmas.Bool.{and_parts}
 use Rattle.std.proofs.lemmas.Bool.Decides.{nat_tests}
 use Rattle.std.proofs.Math.Seq.{take-length}
 use Rattle.kt_base.specs.declared.words.Kind.{Kind}
 use Rattle.kt_base.specs.declared.words.Kind.TheVariants.{Checkpoint, Rollback}
 use Rattle.kt_spacetime.specs.declared.event.Event.{Event}
 use Rattle.kt_spacetime.specs.declared.event.Event.TheVariants.{Decided}
-use Rattle.kt_cuts.specs.declared.deeds.Deed.TheVariants as deed
 use Rattle.kt_cuts.specs.Past.{Past, Beginning, past, beginning_of}
-use Rattle.kt_cuts.specs.Legal.{has_deed}
-use Rattle.kt_cuts.specs.Chains.{members, is_sent_past, is_received_within, IsCheckpointChain, IsRollbackChain}
+use Rattle.kt_cuts.specs.Chains.{members, IsCheckpointChain, IsRollbackChain}
 use Rattle.kt_cuts.proofs.Items.{item_there, get_push}
-use Rattle.kt_certify.specs.Linking.{links, least_link, chain_through, chain_of, chained}
+use Rattle.kt_checker.specs.Passing.{IsChain}
+use Rattle.kt_certify.specs.Linking.{least_link, chain_through, chain_of, chained}
 use Rattle.kt_certify.specs.Faults.{HasNoChain}
 use Rattle.kt_certify.specs.Stops.{AreChained}
-use Rattle.kt_certify.proofs.Links.{link_passes}
+use Rattle.kt_certify.proofs.ChainLinks.{link_chain}
 use Rattle.kt_certify.proofs.Through.{through_is}
 use Rattle.kt_certify.proofs.Chained.{processes_are, chained_more}
 use Rattle.kt_certify.proofs.Unlinked.{without_chain}
 
--- a chain from a process to another, of an instance of this kind
-abbrev pub Leads : Past → ℕ → Kind → ℕ → List ℕ → ℕ → Type 0
-Leads s k Checkpoint q chain p = IsCheckpointChain s k q chain p
-Leads s k Rollback q chain p = IsRollbackChain s q chain p
-
-link_leads : (s : Past) (k : ℕ) (kind : Kind) (p q msg : ℕ) → links s k kind p q msg ≡ true → Leads s k kind q (msg ∷ []) p
-link_leads s k Checkpoint p q msg e =
-    let a = and_parts (is_sent_past s p q msg) (is_some (s.new k q) && is_received_within s k q p msg) e in
-    let b = and_parts (is_some (s.new k q)) (is_received_within s k q p msg) a.1 in
-    (p, record { sent = a.0; member = b.0; received = b.1 }, refl)
-link_leads s k Rollback p q msg e =
-    let a = and_parts (is_sent_past s q p msg) (has_deed (deed.Received msg q) (s.live p)) e in
-    (p, record { sent = a.0; received = a.1 }, refl)
-
-leads_nowhere : (s : Past) (k : ℕ) (kind : Kind) (q p : ℕ) → q ≡ p → Leads s k kind q [] p
+leads_nowhere : (s : Past) (k : ℕ) (kind : Kind) (q p : ℕ) → q ≡ p → IsChain s k kind q [] p
 leads_nowhere s k Checkpoint q p same = same
 leads_nowhere s k Rollback q p same = same
 
-leads_on : (s : Past) (k : ℕ) (kind : Kind) (q x y m : ℕ) (chain : List ℕ) → Leads s k kind q chain x → Leads s k kind x (m ∷ []) y → Leads s k kind q (chain ++ m ∷ []) y
+leads_on : (s : Past) (k : ℕ) (kind : Kind) (q x y m : ℕ) (chain : List ℕ) → IsChain s k kind q chain x → IsChain s k kind x (m ∷ []) y → IsChain s k kind q (chain ++ m ∷ []) y
 leads_on s k Checkpoint q x y m [] h step = subst (λ (z : ℕ). IsCheckpointChain s k z (m ∷ []) y) (sym h) step
 leads_on s k Checkpoint q x y m (n ∷ chain) h step = (h.0, h.1, leads_on s k Checkpoint h.0 x y m chain h.2 step)
 leads_on s k Rollback q x y m [] h step = subst (λ (z : ℕ). IsRollbackChain s z (m ∷ []) y) (sym h) step
@@ -48,20 +31,20 @@ leads_on s k Rollback q x y m (n ∷ chain) h step = (h.0, h.1, leads_on s k Rol
 
 -- each of these members has a chain from the initiator
 pub record AreLed (s : Past) (k : ℕ) (kind : Kind) (initiator : ℕ) (done : List (ℕ × List ℕ)) : Type 0 where
-  pub each : (i p : ℕ) (chain : List ℕ) → slice_get done i ≡ Some (p, chain) → Leads s k kind initiator chain p
+  pub each : (i p : ℕ) (chain : List ℕ) → slice_get done i ≡ Some (p, chain) → IsChain s k kind initiator chain p
 
 led_next : (s : Past) (k : ℕ) (kind : Kind) (initiator : ℕ) (done : List (ℕ × List ℕ)) (p : ℕ) → (chain_of s k kind initiator done p ≡ None → ⊥) → AreLed s k kind initiator done
-    → Leads s k kind initiator (unwrap_or (chain_of s k kind initiator done p) []) p
+    → IsChain s k kind initiator (unwrap_or (chain_of s k kind initiator done p) []) p
 led_next s k kind initiator done p some led = at_test (p == initiator) refl some
   where
-    through : (o : Option (List ℕ)) → chain_through (least_link s k kind p) done ≡ o → (o ≡ None → ⊥) → Leads s k kind initiator (unwrap_or o []) p
+    through : (o : Option (List ℕ)) → chain_through (least_link s k kind p) done ≡ o → (o ≡ None → ⊥) → IsChain s k kind initiator (unwrap_or o []) p
     through None e some = absurd (some refl)
     through (Some chain) e some =
         let t = through_is (least_link s k kind p) done chain e in
-        let step = link_leads s k kind p t.member t.msg (link_passes s k kind p t.member t.msg t.linked) in
-        subst (λ (l : List ℕ). Leads s k kind initiator l p) t.made (leads_on s k kind initiator t.member p t.msg t.before (led.each t.place t.member t.before t.there) step)
+        let step = link_chain s k kind p t.member t.msg t.linked in
+        subst (λ (l : List ℕ). IsChain s k kind initiator l p) t.made (leads_on s k kind initiator t.member p t.msg t.before (led.each t.place t.member t.before t.there) step)
 
-    at_test : (b : Bool) → (p == initiator) ≡ b → ((if b then Some [] else chain_through (least_link s k kind p) done) ≡ None → ⊥) → Leads s k kind initiator (unwrap_or (if b then Some [] else chain_through (least_link s k kind p) done) []) p
+    at_test : (b : Bool) → (p == initiator) ≡ b → ((if b then Some [] else chain_through (least_link s k kind p) done) ≡ None → ⊥) → IsChain s k kind initiator (unwrap_or (if b then Some [] else chain_through (least_link s k kind p) done) []) p
     at_test true e some =
         let same : initiator ≡ p = grind (arith, nat_tests, e) in
         leads_nowhere s k kind initiator p same
@@ -78,7 +61,7 @@ led_to rows k kind initiator joined (suc n) low all = more (item_there joined n 
     more (p, at) led = subst (AreLed (past rows) k kind initiator) (sym (chained_more rows k kind initiator joined n p at)) (record {
       each = λ i q chain e. elim (get_push done (p, unwrap_or (chain_of (past rows) k kind initiator done p) []) i (q, chain) e) [
         | inl old ↦ led.each i q chain old
-        | inr new ↦ subst (λ (m : ℕ × List ℕ). Leads (past rows) k kind initiator m.1 m.0) (sym new.1) (led_next (past rows) k kind initiator done p (all n p (omega (arith, low)) at) led)
+        | inr new ↦ subst (λ (m : ℕ × List ℕ). IsChain (past rows) k kind initiator m.1 m.0) (sym new.1) (led_next (past rows) k kind initiator done p (all n p (omega (arith, low)) at) led)
       ];
     })
 

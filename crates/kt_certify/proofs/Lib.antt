@@ -23,3 +23,12 @@ pub mod Whole
 pub mod Fit
 pub mod Reading
 pub mod Worked
+pub mod ChainLinks
+pub mod MadeLists
+pub mod LedLists
+pub mod Claims
+pub mod Passing
+pub mod ShortLists
+pub mod NamedMessages
+pub mod WholePass
+pub mod FirstArrivals

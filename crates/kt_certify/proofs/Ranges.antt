@@ -19,7 +19,7 @@ use Rattle.kt_cuts.proofs.SortedFacts.{some_same}
 use Rattle.kt_cuts.proofs.Traced.{next_unbroken}
 use Rattle.kt_walk.proofs.ItemPlaces.{get_mapped, mapped_get}
 use Rattle.kt_chain.specs.declared.certificate.Certificate.{Certificate}
-use Rattle.kt_chain.specs.Spelling.{IsInRange, IsMemberInRange, HasShortChains, certificate_records, member_record, records_of}
+use Rattle.kt_chain.specs.Spelling.{IsInRange, IsMemberInRange, certificate_records, member_record, records_of}
 use Rattle.kt_chain.specs.Texts.{IsCertText}
 use Rattle.kt_certify.specs.Linking.{chained}
 use Rattle.kt_certify.specs.Certificates.{certificate_of, certificates}
@@ -89,9 +89,6 @@ all_in_range log l all size i d low =
     let at = slice_get-get_or (certificates log) i d low in
     let number = item_is (certificate_of log) (length (past log).begun) i (slice_index_or (certificates log) i d) at in
     of_instance log number.0 (slice_index_or (certificates log) i d) l all size number.3
-
-pub short_chains : (log : List Event) → IsLegal log → All events.IsInRange log → length log ≤ 2 ^ 24 → All HasShortChains (certificates log)
-short_chains log l all size i d low j m within = ((all_in_range log l all size i d low).members j m within).few
 
 once : (log : List Event) (i j x : ℕ) → slice_get (map (λ (c : Certificate). c.inst) (certificates log)) i ≡ Some x → slice_get (map (λ (c : Certificate). c.inst) (certificates log)) j ≡ Some x → i ≡ j
 once log i j x e f =

@@ -21,14 +21,14 @@ use Rattle.kt_certify.proofs.Fit.{fit_so_far}
 use Rattle.kt_certify.proofs.Whole.{all_certified, writable, says}
 
 -- what is known while rows are read: these were, and the pass has seen them
-pub record HasSeen (source : Option (List ℕ)) (reader : RowsRead) (pass : Pass) : Type 0 where
+pub record HasRead (source : Option (List ℕ)) (reader : RowsRead) (pass : Pass) : Type 0 where
   pub seen : List Event
   pub gathers : Gathers source reader seen
   pub pass_of : PassOf pass seen
   pub in_range : All IsInRange seen
 
-pub seen_none : (source : Option (List ℕ)) (reader : RowsRead) (pass : Pass) → reader ≡ rows_unread source → PassOf pass [] → HasSeen source reader pass
-seen_none source reader pass e h = record {
+pub read_none : (source : Option (List ℕ)) (reader : RowsRead) (pass : Pass) → reader ≡ rows_unread source → PassOf pass [] → HasRead source reader pass
+read_none source reader pass e h = record {
   seen = [];
   gathers = subst (λ (r : RowsRead). Gathers source r []) (sym e) (gathers_none source);
   pass_of = h;
@@ -39,12 +39,12 @@ seen_none source reader pass e h = record {
     none = λ k d low. absurd (omega (arith, low))
 
 -- there is room for one more row
-pub seen_few : {source : Option (List ℕ)} (old new : RowsRead) (pass : Pass) (row : Event) → HasSeen source old pass → GivesRow old new row → pass.walk.rows < 2 ^ 24
-seen_few old new pass row h s = omega (arith, h.pass_of.few, h.gathers.count, s.few, most_rows_le s.format)
+pub read_few : {source : Option (List ℕ)} (old new : RowsRead) (pass : Pass) (row : Event) → HasRead source old pass → GivesRow old new row → pass.walk.rows < 2 ^ 24
+read_few old new pass row h s = omega (arith, h.pass_of.few, h.gathers.count, s.few, most_rows_le s.format)
 
-pub seen_more : {source : Option (List ℕ)} (old new : RowsRead) (was now : Pass) (row : Event) → HasSeen source old was → GivesRow old new row
-    → ((rows : List Event) → PassOf was rows → PassOf now (rows ++ row ∷ [])) → HasSeen source new now
-seen_more {source} old new was now row h s fed = record {
+pub read_more : {source : Option (List ℕ)} (old new : RowsRead) (was now : Pass) (row : Event) → HasRead source old was → GivesRow old new row
+    → ((rows : List Event) → PassOf was rows → PassOf now (rows ++ row ∷ [])) → HasRead source new now
+read_more {source} old new was now row h s fed = record {
   seen = h.seen ++ row ∷ [];
   gathers = gathers_more source old new h.seen row h.gathers s;
   pass_of = fed h.seen h.pass_of;
@@ -62,7 +62,7 @@ rows_of {source} old new rows g s = record { says = said; only = from (rows_unre
     from None h = tt
     from (Some text) h = λ others other. one_log text others rows other h
 
-pub certified_at : {source : Option (List ℕ)} (old new : RowsRead) (pass : Pass) (list : List Certificate) → HasSeen source old pass → MeetsEnd old new → pass.unfit ≡ None
+pub certified_at : {source : Option (List ℕ)} (old new : RowsRead) (pass : Pass) (list : List Certificate) → HasRead source old pass → MeetsEnd old new → pass.unfit ≡ None
     → list ≡ filter_map (λ v. v.certificate) pass.instances.items → AreCertified source list
 certified_at old new pass list h s none found =
     let fit = fit_so_far pass h.seen h.pass_of none in
@@ -73,18 +73,18 @@ certified_at old new pass list h s none found =
       certificates = all_certified pass h.seen list fit found;
     }
 
-pub unfit_at : {source : Option (List ℕ)} (old new : RowsRead) (pass : Pass) (why : Unfit) → HasSeen source old pass → MeetsEnd old new → pass.unfit ≡ Some why
+pub unfit_at : {source : Option (List ℕ)} (old new : RowsRead) (pass : Pass) (why : Unfit) → HasRead source old pass → MeetsEnd old new → pass.unfit ≡ Some why
     → (rows : List Event) × AreRowsOf source rows × IsUnfit rows why
 unfit_at old new pass why h s some = (h.seen, rows_of old new h.seen h.gathers s, h.pass_of.unfit why some)
 
 -- and they can be written
-few_seen : {source : Option (List ℕ)} (reader : RowsRead) (pass : Pass) (h : HasSeen source reader pass) → length h.seen ≤ 2 ^ 24
+few_seen : {source : Option (List ℕ)} (reader : RowsRead) (pass : Pass) (h : HasRead source reader pass) → length h.seen ≤ 2 ^ 24
 few_seen reader pass h = omega (arith, h.gathers.count, h.gathers.few)
 
-pub short_at : {source : Option (List ℕ)} (reader : RowsRead) (pass : Pass) (list : List Certificate) → HasSeen source reader pass → pass.unfit ≡ None
+pub short_at : {source : Option (List ℕ)} (reader : RowsRead) (pass : Pass) (list : List Certificate) → HasRead source reader pass → pass.unfit ≡ None
     → list ≡ filter_map (λ v. v.certificate) pass.instances.items → All HasShortChains list
-short_at reader pass list h none found = writable pass h.seen list (fit_so_far pass h.seen h.pass_of none) found h.in_range (few_seen reader pass h)
+short_at reader pass list h none found = writable pass h.seen list (fit_so_far pass h.seen h.pass_of none) found h.in_range
 
-pub text_at : {source : Option (List ℕ)} (reader : RowsRead) (pass : Pass) (list : List Certificate) → HasSeen source reader pass → pass.unfit ≡ None
+pub text_at : {source : Option (List ℕ)} (reader : RowsRead) (pass : Pass) (list : List Certificate) → HasRead source reader pass → pass.unfit ≡ None
     → list ≡ filter_map (λ v. v.certificate) pass.instances.items → IsCertText (records_of list) list
 text_at reader pass list h none found = says pass h.seen list (fit_so_far pass h.seen h.pass_of none) found h.in_range (few_seen reader pass h)

@@ -15,7 +15,7 @@ use Rattle.kt_certify.specs.Linking.{least_link}
 use Rattle.kt_certify.proofs.Arrived.{rollback_searched, checkpoint_searched}
 
 -- the receiver and the sender of the pair at a place
-pair_at : (pair_states : List PairState) (s : Past) (receiver sender : ℕ) (v : PairState) → ShowsPairs pair_states s → receiver < 64 → sender < 64 → slice_get pair_states (receiver * 64 + sender) ≡ Some v → (v.received_from.receiver ≡ receiver) × (v.received_from.sender ≡ sender)
+pub pair_at : (pair_states : List PairState) (s : Past) (receiver sender : ℕ) (v : PairState) → ShowsPairs pair_states s → receiver < 64 → sender < 64 → slice_get pair_states (receiver * 64 + sender) ≡ Some v → (v.received_from.receiver ≡ receiver) × (v.received_from.sender ≡ sender)
 pair_at pair_states s receiver sender v h low down e =
     let there = mapped_get received_from_of pair_states (receiver * 64 + sender) v e in
     let place = h.arrivals.by_pair.place (receiver * 64 + sender) v.received_from there in
@@ -23,7 +23,7 @@ pair_at pair_states s receiver sender v h low down e =
     let t = h.arrivals.by_pair.sender (receiver * 64 + sender) v.received_from there in
     (omega (arith, place, r, t, low, down), omega (arith, place, r, t, low, down))
 
-shown_at : (pair_states : List PairState) (s : Past) (i : ℕ) (v : PairState) → ShowsPairs pair_states s → slice_get pair_states i ≡ Some v → ShowsReceived v.received_from s
+pub shown_at : (pair_states : List PairState) (s : Past) (i : ℕ) (v : PairState) → ShowsPairs pair_states s → slice_get pair_states i ≡ Some v → ShowsReceived v.received_from s
 shown_at pair_states s i v h e = h.arrivals.each i v.received_from (mapped_get received_from_of pair_states i v e)
 
 -- a search between other places that are the same

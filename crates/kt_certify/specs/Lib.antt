@@ -10,3 +10,7 @@ pub mod Stops
 pub mod PassOf
 pub mod Streamed
 pub mod FaultTexts
+pub mod Making
+pub mod Just
+pub mod OnePass
+pub mod Arriving

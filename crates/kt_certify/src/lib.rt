@@ -1,4 +1,4 @@
-//! The certificates of a log, by one pass over its rows.
+//! The certificates of a log, by one pass over its rows; laws say what they are, and when they pass.
 #![tactic(auto)]
 
 mod certifying;
@@ -11,5 +11,8 @@ mod streaming;
 
 pub use certifying::certify;
 pub use fault::{CertFault, StreamFault, Unfit};
-pub use laws::certificates_of_logs;
+pub use laws::{
+    certificates_in_one_pass, certificates_of_fit_logs, certificates_of_legal_logs,
+    certificates_of_logs, linking_messages_of_walks,
+};
 pub use streaming::certify_stream;

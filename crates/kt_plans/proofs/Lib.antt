@@ -66,3 +66,4 @@ pub mod Totals
 pub mod UnwillingSteps
 pub mod WorkedLimits
 pub mod DefaultOrder
+pub mod DecidedLogs

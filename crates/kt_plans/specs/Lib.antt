@@ -20,3 +20,5 @@ pub mod Offers
 pub mod Follows
 pub mod WorkedRuns
 pub mod WorkedFollows
+pub mod DecidedWell
+pub mod WorkedCertificates

@@ -16,15 +16,7 @@ ghost use Rattle.kt_cuts.specs.declared.deeds.Deed.TheVariants as deed;
 ghost use Rattle.kt_cuts.specs.Cuts.{IsConsistent, permanent_cut, present_cut};
 ghost use Rattle.kt_cuts.specs.Throughout.{HasConsistentDecisions};
 ghost use Rattle.kt_tables.specs.Calls.{Speaks};
-ghost use Rattle.kt_chain.specs.declared.certificate.Certificate.{Certificate};
-ghost use Rattle.kt_checker.specs.declared.verdict.Verdict.{Verdict};
-ghost use Rattle.kt_checker.specs.declared.verdict.Verdict.TheVariants.{Yes};
-ghost use Rattle.kt_checker.specs.Passing.{IsPassed, AreComplete, IsAsInLog, HasLists};
-ghost use Rattle.kt_checker.specs.Order.{IsAnswer};
 ghost use Rattle.kt_certify.specs.Certificates.{certificates};
-ghost use Rattle.kt_certify.specs.Faults.{HasNoChain, IsFaultOf};
-ghost use Rattle.kt_certify.specs.declared.fault.CertFault.{CertFault};
-ghost use Rattle.kt_certify.specs.declared.fault.CertFault.TheVariants.{Memory};
 ghost use Rattle.kt_protocol.specs.Logs.{HasLinkedDecisions, HasLeastDecisions, AbortsWhereUnwilling, JustifiesUnwilling};
 ghost use Rattle.kt_protocol.specs.UnderWay.{times, received_of};
 ghost use Rattle.kt_protocol.specs.States.{opening};
@@ -57,7 +49,7 @@ ghost use Rattle.kt_plans.specs.Rows.{has_took_row, has_sent_row, AreRowsOfStep,
 ghost use Rattle.kt_plans.specs.WorkedPlans.{given, moves_of, checkpoint_two_phases_later, checkpoint_two_phases_later_steps, checkpoint_two_phases_later_log, late_message, message_held, until_it_is_held, until_it_is_received, message_held_log};
 ghost use Rattle.kt_plans.specs.Tallies.{Tallies, no_tallies, tallies_after, IsRaised, RunPuts};
 ghost use Rattle.kt_plan.specs.Failures.{failures_of};
-ghost use Rattle.kt_plans.specs.Headline.{IsPromised, IsCertified};
+ghost use Rattle.kt_plans.specs.Headline.{IsPromised};
 ghost use Rattle.kt_plans.specs.Lines.{message_line, EachIsOnceOnItsLine, RetainsReceived, messages_among};
 ghost use Rattle.kt_plans.specs.Messages.{AreMessagesTo};
 ghost use Rattle.kt_plans.specs.Progress.{Progress, commands_left, next_command, opens_next, is_quiet, progress_at_start};
@@ -334,44 +326,6 @@ pub fn runs_that_go_on()
     ensures after { (plan : Planned) (first rows : ℕ) (given : List Move) (w : Progress) (gives : List Give) → IsPlan plan →
         after_moves plan (progress_at_start plan first) given ≡ Some w → length (after_gives plan w gives).now.log ≤ rows →
         most_steps_of_run plan rows < length given + length gives → is_at_rest plan (after_gives plan w gives) ≡ true }
-{}
-
-/// A log of which all is so that is promised of a run's, whoever wrote it: what its certificates are worth.
-pub fn certificates_of_promised_logs()
-    // It has some, but for want of memory; they pass, and the checker's answer is yes.
-    ensures certified { (log : List Event) → IsPromised log → IsCertified log }
-
-    // It can't be another one.
-    ensures yes { (log : List Event) (v : Verdict) → IsPromised log → IsAnswer log (certificates log) v → v ≡ Yes }
-{}
-
-/// For every run of every plan: the certificates of its log.
-pub fn certificates_of_runs()
-    // One for each decided instance, by rising number, as the log has it.
-    ensures complete { (plan : Planned) (first : ℕ) (w : Progress) → IsPlan plan → RunReaches plan first w →
-        AreComplete w.now.log (certificates w.now.log) }
-    ensures rising { (plan : Planned) (first : ℕ) (w : Progress) (i j : ℕ) (c d : Certificate) → i < j →
-        slice_get (certificates w.now.log) i ≡ Some c → slice_get (certificates w.now.log) j ≡ Some d →
-        c.inst < d.inst }
-    ensures stated { (plan : Planned) (first : ℕ) (w : Progress) (i : ℕ) (c : Certificate) →
-        slice_get (certificates w.now.log) i ≡ Some c → (n : ℕ) × IsAsInLog w.now.log c n }
-
-    // Each list of a committed one is a chain, and no member lacks one; so there is no fault but want of memory.
-    ensures lists { (plan : Planned) (first : ℕ) (w : Progress) (i n : ℕ) (c : Certificate) → IsPlan plan →
-        RunReaches plan first w → slice_get (certificates w.now.log) i ≡ Some c → IsAsInLog w.now.log c n →
-        c.commit ≡ true → HasLists (past (take n w.now.log)) c }
-    ensures chained { (plan : Planned) (first : ℕ) (w : Progress) (k p : ℕ) → IsPlan plan → RunReaches plan first w →
-        HasNoChain w.now.log k p → ⊥ }
-    ensures certified { (plan : Planned) (first : ℕ) (w : Progress) (f : CertFault) → IsPlan plan →
-        RunReaches plan first w → IsFaultOf w.now.log f → f ≡ Memory }
-
-    // The checker's answer is yes, and can't be another one.
-    ensures passed { (plan : Planned) (first : ℕ) (w : Progress) → IsPlan plan → RunReaches plan first w →
-        IsPassed w.now.log (certificates w.now.log) }
-    ensures answer { (plan : Planned) (first : ℕ) (w : Progress) → IsPlan plan → RunReaches plan first w →
-        IsAnswer w.now.log (certificates w.now.log) Yes }
-    ensures yes { (plan : Planned) (first : ℕ) (w : Progress) (v : Verdict) → IsPlan plan → RunReaches plan first w →
-        IsAnswer w.now.log (certificates w.now.log) v → v ≡ Yes }
 {}
 
 /// For every run of every plan: where no step is enabled it is at rest.

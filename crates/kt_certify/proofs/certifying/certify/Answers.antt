@@ -52,7 +52,7 @@ returns-clause-short c =
     let rows = c.rows-row-items.result.now in
     let whole = subst (PassOf c.loop-row.pass) (take_all c.loop-row.row-index rows c.loop-row-test.false) c.loop-row.invariant in
     let fit = fit_so_far c.loop-row.pass rows whole (sym c.unfit.ensures ∙ c.in-None.is) in
-    writable c.loop-row.pass rows c.in_ok-found-in-None.field-0.items fit c.in_ok-found-in-None.ensures c.rows-row-items.ensures.in_range c.rows-row-items.ensures.few
+    writable c.loop-row.pass rows c.in_ok-found-in-None.field-0.items fit c.in_ok-found-in-None.ensures c.rows-row-items.ensures.in_range
 
 pub returns-clause-text : goal.returns-clause-text
 returns-clause-text c =

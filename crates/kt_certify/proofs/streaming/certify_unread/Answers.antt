@@ -1,10 +1,10 @@
 use Rattle.std.proofs.Common.{sym, ◌∙◌}
 use Rattle.kt_log_text.proofs.GatherFacts.{at_end}
-use Rattle.kt_certify.proofs.Reading.{seen_more, certified_at, unfit_at, short_at, text_at}
+use Rattle.kt_certify.proofs.Reading.{read_more, certified_at, unfit_at, short_at, text_at}
 use Rattle.kt_certify.proofs.streaming.certify_unread.Goals as goal
 
 pub loop-row-preserved : goal.loop-row-preserved
-loop-row-preserved g c = λ source e. seen_more c.loop-row.rows c.next.new.self c.loop-row.pass c.feed.new.self c.in-Some.row (c.loop-row.invariant source e) (rw c.in-Some.is at c.in_ok-row.ensures.steps) c.in_ok-feed.ensures
+loop-row-preserved g c = λ source e. read_more c.loop-row.rows c.next.new.self c.loop-row.pass c.feed.new.self c.in-Some.row (c.loop-row.invariant source e) (rw c.in-Some.is at c.in_ok-row.ensures.steps) c.in_ok-feed.ensures
 
 pub returns-in-Some-unfit-clause-fault : goal.returns-in-Some-unfit-clause-fault
 returns-in-Some-unfit-clause-fault g c = λ source e.

@@ -1,0 +1,147 @@
+//! Laws of the certificates of runs, and of logs that are as those of runs: each function has nothing to run, and its
+//! contract is the law. Those that are called in it are laws that its proof stands on.
+
+ghost use Rattle.std.specs.Prelude.{◌≡◌, ◌<◌, ℕ, true, Some, None, List, take, slice_get};
+ghost use Rattle.kt_spacetime.specs.declared.event.Event.{Event};
+ghost use Rattle.kt_cuts.specs.Past.{past};
+ghost use Rattle.kt_cuts.specs.Legal.{first_broken};
+ghost use Rattle.kt_cuts.specs.Chains.{members};
+ghost use Rattle.kt_chain.specs.declared.certificate.Certificate.{Certificate};
+ghost use Rattle.kt_checker.specs.declared.verdict.Verdict.{Verdict};
+ghost use Rattle.kt_checker.specs.declared.verdict.Verdict.TheVariants.{Yes};
+ghost use Rattle.kt_checker.specs.declared.verdict.Why.TheVariants as why;
+ghost use Rattle.kt_checker.specs.Unwilling.{has_unwilling};
+ghost use Rattle.kt_checker.specs.Passing.{IsAsInLog, HasLists, IsPassed, AreComplete};
+ghost use Rattle.kt_checker.specs.Order.{IsAnswer, IsBadLog, IsUnknown, IsWrong, IsMissing};
+ghost use Rattle.kt_certify.specs.declared.fault.CertFault.{CertFault};
+ghost use Rattle.kt_certify.specs.declared.fault.CertFault.TheVariants.{Memory};
+ghost use Rattle.kt_certify.specs.Certificates.{certificates};
+ghost use Rattle.kt_certify.specs.Faults.{HasNoChain, IsFaultOf};
+ghost use Rattle.kt_protocol.specs.States.{Step, opening};
+ghost use Rattle.kt_protocol.specs.Steps.{run};
+ghost use Rattle.kt_protocol.specs.WorkedRuns.{checkpoint_of_two_steps, checkpoint_round_a_ring_steps, second_checkpoint_of_two_steps, two_checkpoints_at_once_steps, rollback_through_three_steps, messages_received_again_steps, busy_process_refuses_steps};
+ghost use Rattle.kt_plan.specs.Limits.{Planned, IsPlan};
+ghost use Rattle.kt_plans.specs.Progress.{Progress};
+ghost use Rattle.kt_plans.specs.Runs.{RunReaches};
+ghost use Rattle.kt_plans.specs.Headline.{IsPromised, IsCertified};
+ghost use Rattle.kt_plans.specs.DecidedWell.{IsDecidedWell};
+ghost use Rattle.kt_plans.specs.WorkedCertificates.{of_checkpoint_of_two, of_checkpoint_round_a_ring, of_second_checkpoint_of_two, of_two_checkpoints_at_once, of_rollback_through_three, of_messages_received_again, of_busy_process_refuses, of_busy_process_refuses_so_far};
+
+/// A log whose decisions are linked, consistent and aborted exactly where a process was unwilling: none of the faults
+/// that the checker knows is there, and its answer is yes.
+pub fn certificates_of_well_decided_logs()
+    // Each fault, in the checker's order.
+    ensures no_bad_log { (log : List Event) (v : Verdict) → IsDecidedWell log → IsBadLog log v → ⊥ }
+    ensures no_unknown { (log : List Event) (i : ℕ) (c : Certificate) (v : Verdict) →
+        slice_get (certificates log) i ≡ Some c → IsUnknown log (certificates log) i c v → ⊥ }
+    ensures no_cause { (log : List Event) (i n : ℕ) (c : Certificate) → IsDecidedWell log →
+        slice_get (certificates log) i ≡ Some c → IsAsInLog log c n →
+        IsWrong (past (take n log)) (members log c.inst) (has_unwilling log c.inst) c why.Cause → ⊥ }
+    ensures no_members { (log : List Event) (i n : ℕ) (c : Certificate) → IsDecidedWell log →
+        slice_get (certificates log) i ≡ Some c → IsAsInLog log c n →
+        IsWrong (past (take n log)) (members log c.inst) (has_unwilling log c.inst) c why.Members → ⊥ }
+    ensures no_chain { (log : List Event) (i n : ℕ) (c : Certificate) → IsDecidedWell log →
+        slice_get (certificates log) i ≡ Some c → IsAsInLog log c n →
+        IsWrong (past (take n log)) (members log c.inst) (has_unwilling log c.inst) c why.Chain → ⊥ }
+    ensures no_orphan { (log : List Event) (i n : ℕ) (c : Certificate) → IsDecidedWell log →
+        slice_get (certificates log) i ≡ Some c → IsAsInLog log c n →
+        IsWrong (past (take n log)) (members log c.inst) (has_unwilling log c.inst) c why.Orphan → ⊥ }
+    ensures no_missing { (log : List Event) (v : Verdict) → IsDecidedWell log → IsMissing log (certificates log) v → ⊥ }
+
+    // So the certificates pass, and no other answer than yes is right.
+    ensures passed { (log : List Event) → IsDecidedWell log → IsPassed log (certificates log) }
+    ensures yes { (log : List Event) (v : Verdict) → IsDecidedWell log → IsAnswer log (certificates log) v → v ≡ Yes }
+
+    // No member lacks a chain, and that a log has no certificates can't be but for want of memory.
+    ensures chained { (log : List Event) (k p : ℕ) → IsDecidedWell log → HasNoChain log k p → ⊥ }
+    ensures certified { (log : List Event) (f : CertFault) → IsDecidedWell log → IsFaultOf log f → f ≡ Memory }
+{
+    kt_certify::certificates_of_logs();
+    kt_certify::certificates_of_legal_logs();
+    kt_certify::certificates_of_fit_logs();
+}
+
+/// For every list of steps: the log of the run and its certificates.
+pub fn certificates_of_protocol_runs()
+    // The log is one of those: legal, so never a broken rule; each member but the initiator of a committed instance has
+    // a message that links it with an earlier one, so never a member without a chain; so no fault but want of memory.
+    ensures well { (n : ℕ) (steps : List Step) → IsDecidedWell (run (opening n) steps).log }
+    ensures unbroken { (n : ℕ) (steps : List Step) → first_broken (run (opening n) steps).log ≡ None }
+    ensures chained { (n : ℕ) (steps : List Step) (k p : ℕ) → HasNoChain (run (opening n) steps).log k p → ⊥ }
+    ensures certified { (n : ℕ) (steps : List Step) (f : CertFault) →
+        IsFaultOf (run (opening n) steps).log f → f ≡ Memory }
+
+    // The checker's answer is yes, and can't be another one.
+    ensures passed { (n : ℕ) (steps : List Step) →
+        IsPassed (run (opening n) steps).log (certificates (run (opening n) steps).log) }
+    ensures answer { (n : ℕ) (steps : List Step) →
+        IsAnswer (run (opening n) steps).log (certificates (run (opening n) steps).log) Yes }
+    ensures yes { (n : ℕ) (steps : List Step) (v : Verdict) →
+        IsAnswer (run (opening n) steps).log (certificates (run (opening n) steps).log) v → v ≡ Yes }
+{
+    certificates_of_well_decided_logs();
+}
+
+/// A log of which all is so that is promised of a run's, whoever wrote it: what its certificates are worth.
+pub fn certificates_of_promised_logs()
+    // It has some, but for want of memory; they pass, and the checker's answer is yes.
+    ensures certified { (log : List Event) → IsPromised log → IsCertified log }
+
+    // It can't be another one.
+    ensures yes { (log : List Event) (v : Verdict) → IsPromised log → IsAnswer log (certificates log) v → v ≡ Yes }
+{
+    certificates_of_well_decided_logs();
+}
+
+/// For every run of every plan: the certificates of its log.
+pub fn certificates_of_runs()
+    // One for each decided instance, by rising number, as the log has it.
+    ensures complete { (plan : Planned) (first : ℕ) (w : Progress) → IsPlan plan → RunReaches plan first w →
+        AreComplete w.now.log (certificates w.now.log) }
+    ensures rising { (plan : Planned) (first : ℕ) (w : Progress) (i j : ℕ) (c d : Certificate) → i < j →
+        slice_get (certificates w.now.log) i ≡ Some c → slice_get (certificates w.now.log) j ≡ Some d →
+        c.inst < d.inst }
+    ensures stated { (plan : Planned) (first : ℕ) (w : Progress) (i : ℕ) (c : Certificate) →
+        slice_get (certificates w.now.log) i ≡ Some c → (n : ℕ) × IsAsInLog w.now.log c n }
+
+    // Each list of a committed one is a chain, and no member lacks one; so there is no fault but want of memory.
+    ensures lists { (plan : Planned) (first : ℕ) (w : Progress) (i n : ℕ) (c : Certificate) → IsPlan plan →
+        RunReaches plan first w → slice_get (certificates w.now.log) i ≡ Some c → IsAsInLog w.now.log c n →
+        c.commit ≡ true → HasLists (past (take n w.now.log)) c }
+    ensures chained { (plan : Planned) (first : ℕ) (w : Progress) (k p : ℕ) → IsPlan plan → RunReaches plan first w →
+        HasNoChain w.now.log k p → ⊥ }
+    ensures certified { (plan : Planned) (first : ℕ) (w : Progress) (f : CertFault) → IsPlan plan →
+        RunReaches plan first w → IsFaultOf w.now.log f → f ≡ Memory }
+
+    // The checker's answer is yes, and can't be another one.
+    ensures passed { (plan : Planned) (first : ℕ) (w : Progress) → IsPlan plan → RunReaches plan first w →
+        IsPassed w.now.log (certificates w.now.log) }
+    ensures answer { (plan : Planned) (first : ℕ) (w : Progress) → IsPlan plan → RunReaches plan first w →
+        IsAnswer w.now.log (certificates w.now.log) Yes }
+    ensures yes { (plan : Planned) (first : ℕ) (w : Progress) (v : Verdict) → IsPlan plan → RunReaches plan first w →
+        IsAnswer w.now.log (certificates w.now.log) v → v ≡ Yes }
+{
+    kt_certify::certificates_of_logs();
+    kt_certify::certificates_of_legal_logs();
+    certificates_of_well_decided_logs();
+}
+
+/// Logs of runs that were worked out by hand have the certificates that they have to.
+pub fn worked_certificates()
+    ensures checkpoint_of_two { certificates (run (opening 2) checkpoint_of_two_steps).log
+        ≡ of_checkpoint_of_two }
+    ensures checkpoint_round_a_ring { certificates (run (opening 3) checkpoint_round_a_ring_steps).log
+        ≡ of_checkpoint_round_a_ring }
+    ensures second_checkpoint_of_two { certificates (run (opening 2) second_checkpoint_of_two_steps).log
+        ≡ of_second_checkpoint_of_two }
+    ensures two_checkpoints_at_once { certificates (run (opening 2) two_checkpoints_at_once_steps).log
+        ≡ of_two_checkpoints_at_once }
+    ensures rollback_through_three { certificates (run (opening 3) rollback_through_three_steps).log
+        ≡ of_rollback_through_three }
+    ensures messages_received_again { certificates (run (opening 2) messages_received_again_steps).log
+        ≡ of_messages_received_again }
+    ensures busy_process_refuses { certificates (run (opening 3) busy_process_refuses_steps).log
+        ≡ of_busy_process_refuses }
+    ensures undecided { certificates (take 11 (run (opening 3) busy_process_refuses_steps).log)
+        ≡ of_busy_process_refuses_so_far }
+{}
