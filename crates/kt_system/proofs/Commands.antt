@@ -27,7 +27,7 @@ use Rattle.kt_seen.specs.SeenReplies.{seen_replying, seen_unwilling}
 use Rattle.kt_seen.specs.SeenClosing.{seen_settling}
 use Rattle.kt_seen.specs.SeenMessages.{seen_refusal}
 use Rattle.kt_seen.specs.Transition.{transition, seen_beginning, seen_begin_command, seen_ask}
-use Rattle.kt_system.specs.Systems.{Whole, person, Begins, Hears}
+use Rattle.kt_system.specs.Systems.{Whole, person}
 use Rattle.kt_system.specs.Shown.{ShowsState, IsTurned, IsInside, JoinsAs, turned_to, begun_as, answered_as, with_cause}
 use Rattle.kt_system.proofs.Messages.{at_same}
 use Rattle.kt_system.proofs.Replying.{same_person}
@@ -212,21 +212,18 @@ hears_rollback b v p q k label able marks (Settle commit tell) rest s = absurd s
 joined_inside : (kind : Kind) (k : ℕ) (parent : Option ℕ) (before after : Person) (action : Action) → HasJoined kind k parent before after action → inst_of after.side ≡ None → ⊥
 joined_inside kind k parent before after action j e = let i : inst_of after.side ≡ Some j.part.inst = ap inst_of_part j.is in absurd (cc (e, i))
 
-pub begins_inside : (a b : Whole) (kind : Kind) (k p : ℕ) (action : Action) (asks : List (ℕ × ℕ)) (goes : Then) → Begins kind k p a b action → action ≡ Join asks goes → IsInside b p
-begins_inside a b kind k p action asks goes s e i =
-    let j = subst (λ (z : Action). IsBegin kind k s.before s.after z) e s.begins in
-    joined_inside kind k None s.before s.after (Join asks goes) j (sym (ap (λ (x : Person). inst_of x.side) s.turn.is) ∙ i)
+pub begins_inside : (a b : Whole) (kind : Kind) (k p : ℕ) (action : Action) (asks : List (ℕ × ℕ)) (goes : Then) → IsBegin kind k (person a p) (person b p) action → action ≡ Join asks goes → IsInside b p
+begins_inside a b kind k p action asks goes s e =
+    joined_inside kind k None (person a p) (person b p) (Join asks goes) (subst (λ (z : Action). IsBegin kind k (person a p) (person b p) z) e s)
 
-pub hears_inside : (a b : Whole) (kind : Kind) (able : Bool) (from k label p : ℕ) (action : Action) (asks : List (ℕ × ℕ)) (goes : Then) → Hears kind able from k label p a b action → action ≡ Join asks goes → IsInside b p
-hears_inside a b kind able from k label p action asks goes s e i =
-    let j = subst (λ (z : Action). IsHeard kind able from k label s.before s.after z) e s.hears in
-    joined_inside kind k (Some from) s.before s.after (Join asks goes) j.1 (sym (ap (λ (x : Person). inst_of x.side) s.turn.is) ∙ i)
+pub hears_inside : (a b : Whole) (kind : Kind) (able : Bool) (from k label p : ℕ) (action : Action) (asks : List (ℕ × ℕ)) (goes : Then) → IsHeard kind able from k label (person a p) (person b p) action → action ≡ Join asks goes → IsInside b p
+hears_inside a b kind able from k label p action asks goes s e =
+    joined_inside kind k (Some from) (person a p) (person b p) (Join asks goes) (subst (λ (z : Action). IsHeard kind able from k label (person a p) (person b p) z) e s).1
 
 -- and its labels say that it joins
-pub hears_joins : (a b : Whole) (kind : Kind) (able : Bool) (from k label p : ℕ) (action : Action) (asks : List (ℕ × ℕ)) (goes : Then) → Hears kind able from k label p a b action → action ≡ Join asks goes → joins_by (person a p) kind able from label ≡ true
-hears_joins a b kind able from k label p action asks goes s e =
-    let j = subst (λ (z : Action). IsHeard kind able from k label s.before s.after z) e s.hears in
-    sym (ap (λ (x : Person). joins_by x kind able from label) s.turn.was) ∙ j.0
+pub hears_joins : (a b : Whole) (kind : Kind) (able : Bool) (from k label p : ℕ) (action : Action) (asks : List (ℕ × ℕ)) (goes : Then) → IsHeard kind able from k label (person a p) (person b p) action → action ≡ Join asks goes →
+    joins_by (person a p) kind able from label ≡ true
+hears_joins a b kind able from k label p action asks goes s e = (subst (λ (z : Action). IsHeard kind able from k label (person a p) (person b p) z) e s).0
 
 -- marks count where it joins
 pub hears_marked : (kind : Kind) (able : Bool) (n q k label : ℕ) (old new : ℕ → ℕ) (y : SeenPerson) (x : Person) (action : Action) → ((asks : List (ℕ × ℕ)) (goes : Then) → action ≡ Join asks goes → old ≡ new) →

@@ -5,7 +5,8 @@ use Rattle.kt_base.specs.Sets.{has}
 use Rattle.kt_fifo.specs.Channels.{Wires, channel, spare_of}
 use Rattle.kt_parts.specs.declared.actions.Then.{Then}
 use Rattle.kt_process.specs.Persons.{Person, asked_of, is_ready}
-use Rattle.kt_system.specs.Systems.{Whole, person, room_to, HasBack, KeepsParcels, KeepsPeople, KeepsRoom, GivesRoom, UsesRoom, CanJoin, CanClose, Leaves}
+use Rattle.kt_system.specs.Systems.{Whole, person, room_to, HasBack, KeepsParcels, KeepsPeople, KeepsRoom, GivesRoom, UsesRoom, CanJoin, CanClose}
+use Rattle.kt_system.specs.Shown.{IsTurned}
 
 person_same : (a b : Whole) → b.people ≡ a.people → (p : ℕ) → person b p ≡ person a p
 unfolding person
@@ -21,6 +22,13 @@ back_same a b s e f p h = record {
       (subst (λ (held : Wires). (q : ℕ) → q < a.size → length (channel b.kept q p) ≤ spare_of held q p) (sym e)
       (subst (λ (kept : Wires). (q : ℕ) → q < a.size → length (channel kept q p) ≤ spare_of a.held q p) (sym f) h.back));
 }
+
+-- the turn of a process leaves all room
+pub room_turned : (a b : Whole) (p : ℕ) → IsTurned a b p → (u v : ℕ) → room_to b u v ≡ room_to a u v
+room_turned a b p t = room_same a b t.wires
+
+pub back_turned : (a b : Whole) (p : ℕ) → IsTurned a b p → (q : ℕ) → HasBack a q → HasBack b q
+back_turned a b p t = back_same a b t.size t.held t.kept
 
 -- only the log or the tallies change
 pub keeps_parcels : (a b seen : Whole) → a ≡ seen → b.size ≡ a.size → b.people ≡ a.people → b.wires ≡ a.wires → b.held ≡ a.held → b.kept ≡ a.kept → KeepsParcels seen b
@@ -73,8 +81,7 @@ can_join_kept a b p asks goes k h = record {
   back = λ e r. k.back p (h.back e (sym (ap (λ (z : Person). is_ready z.side) (k.person p)) ∙ r));
 }
 
-pub can_tell : (a b d : Whole) (p set : ℕ) → CanClose a p → KeepsRoom a b → Leaves p set b d → (q : ℕ) → has set q ≡ true → 1 ≤ room_to d p q
-can_tell a b d p set h k l q e =
-    let who : l.before ≡ person a p = l.turn.was ∙ k.person p in
-    let asked : asked_of (person a p).side q ≡ true = ap (λ (z : Person). asked_of z.side q) (sym who) ∙ (sym (l.tell q) ∙ e) in
-    let x = h.parcels q asked in let y = k.room p q in let z = l.turn.room p q in omega arith
+pub can_tell : (a b d : Whole) (p set : ℕ) → CanClose a p → KeepsRoom a b → IsTurned b d p → ((q : ℕ) → has set q ≡ asked_of (person b p).side q) → (q : ℕ) → has set q ≡ true → 1 ≤ room_to d p q
+can_tell a b d p set h k t tell q e =
+    let asked : asked_of (person a p).side q ≡ true = ap (λ (z : Person). asked_of z.side q) (sym (k.person p)) ∙ (sym (tell q) ∙ e) in
+    let x = h.parcels q asked in let y = k.room p q in let z = room_turned b d p t p q in omega (arith, x, y, z)

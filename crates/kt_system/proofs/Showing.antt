@@ -117,6 +117,11 @@ placed a b seen p i y e sound l j people =
     ap (λ (z : List Person). get_or z p nobody) people
     ∙ (ap (λ (z : ℕ). get_or (set a.people z y) p nobody) j ∙ get_or-set_same a.people p y nobody (let m = ap (λ (w : Whole). w.size) e in let z = sound.people in omega arith))
 
+-- what is so of a process before and after its turn, in the system
+pub in_system : (P : Person → Person → Type 0) (a b seen : Whole) (p i : ℕ) (x y : Person) → a ≡ seen → IsSound a → p < seen.size → i ≡ p → x ≡ get_or a.people i x → b.people ≡ set a.people i y → P x y → P (person seen p) (person b p)
+in_system P a b seen p i x y e sound l j was people h =
+    subst (λ (z : Person). P z (person b p)) (person_at a seen p i x e sound l j was) (subst (λ (z : Person). P x z) (sym (placed a b seen p i y e sound l j people)) h)
+
 -- as many processes as its tables have
 pub sized : (a seen : Whole) (p i : ℕ) (x : Person) (v : Seen) → a ≡ seen → IsSound a → p < seen.size → i ≡ p → x ≡ get_or a.people i x → ShowsState seen v → x.tables.processes ≡ v.processes
 sized a seen p i x v e sound b j was h = ap (λ (z : Person). z.tables.processes) (person_at a seen p i x e sound b j was) ∙ (tables_at a seen p e sound b ∙ h.processes)

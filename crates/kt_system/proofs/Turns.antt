@@ -1,11 +1,10 @@
--- One process of a system, before and after a turn of its own.
+-- One process of a system, by its place.
 use Rattle.std.specs.Prelude.{All}
-use Rattle.std.proofs.Common.{◌≡◌, ℕ, ◌<◌, List, length, get_or, set, arith, ap, subst, ◌∙◌}
-use Rattle.std.proofs.lemmas.List.{get_or-set_same, get_or_default}
+use Rattle.std.proofs.Common.{◌≡◌, ℕ, ◌<◌, length, get_or, arith, ap, subst, ◌∙◌}
+use Rattle.std.proofs.lemmas.List.{get_or_default}
 use Rattle.std.proofs.lemmas.List.Elements.{All-get_or}
 use Rattle.kt_process.specs.Persons.{Person}
-use Rattle.kt_system.specs.Systems.{Whole, person, nobody, IsSound, Turns, room_to, HasBack}
-use Rattle.kt_system.proofs.Frames.{room_same, back_same}
+use Rattle.kt_system.specs.Systems.{Whole, person, nobody, IsSound}
 
 -- who stands at a place
 pub person_at : (a seen : Whole) (p i : ℕ) (x : Person) → a ≡ seen → IsSound a → p < seen.size → i ≡ p → x ≡ get_or a.people i x → x ≡ person seen p
@@ -25,16 +24,3 @@ tables_at a seen p v sound b =
     let n = ap (λ (w : Whole). w.size) v in
     let here = All-get_or (λ (x : Person). x.tables.processes ≡ a.size) a.people p nobody (let k = sound.people in omega arith) sound.tables in
     subst (λ (w : Whole). (get_or w.people p nobody).tables.processes ≡ w.size) v here
-
--- a turn of who stands at a place
-pub turned : (a b seen : Whole) (p i : ℕ) (x y : Person) → a ≡ seen → IsSound a → p < seen.size → i ≡ p → x ≡ get_or a.people i x → b.people ≡ set a.people i y → b.size ≡ a.size → b.wires ≡ a.wires → b.held ≡ a.held → b.kept ≡ a.kept →
-    Turns seen b p x y
-unfolding person
-turned a b seen p i x y v sound l e was f s w g k = record {
-  was = person_at a seen p i x v sound l e was;
-  is = ap (λ (people : List Person). get_or people p nobody) f
-      ∙ (ap (λ (j : ℕ). get_or (set a.people j y) p nobody) e ∙ get_or-set_same a.people p y nobody (let m = ap (λ (w : Whole). w.size) v in let z = sound.people in omega arith));
-  size = s ∙ ap (λ (w : Whole). w.size) v;
-  room = subst (λ (o : Whole). (p q : ℕ) → room_to b p q ≡ room_to o p q) v (room_same a b w);
-  back = subst (λ (o : Whole). (q : ℕ) → HasBack o q → HasBack b q) v (back_same a b s g k);
-}

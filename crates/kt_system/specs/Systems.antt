@@ -10,10 +10,7 @@ use Rattle.kt_parts.specs.declared.actions.Action.{Action}
 use Rattle.kt_parts.specs.declared.actions.Action.TheVariants.{Join, Reply, Settle}
 use Rattle.kt_parts.specs.declared.actions.Then.{Then}
 use Rattle.kt_parts.specs.declared.actions.Then.TheVariants.{Answer, Commit}
-use Rattle.kt_parts.specs.Rules.{after_reply}
 use Rattle.kt_process.specs.Persons.{Person, part_of_side, is_ready, asked_of, IsNumbered}
-use Rattle.kt_process.specs.Turns.{IsBegin, IsHeard, reply_of}
-use Rattle.std.specs.Option.{option_map}
 use Rattle.kt_base.specs.Sets.{has}
 use Rattle.kt_base.specs.declared.words.Kind.{Kind}
 use Rattle.kt_system.specs.declared.system.Tally.{Tally}
@@ -122,45 +119,6 @@ pub record UsesRoom (old new : Whole) (p : ℕ) : Type 0 where
   pub person : (q : ℕ) → person new q ≡ person old q
   pub room : (q : ℕ) → room_to old p q ≤ room_to new p q + 1
   pub back : (q : ℕ) → HasBack old q → HasBack new q
-
--- process p alone changes, from before to after
-pub record Turns (old new : Whole) (p : ℕ) (before after : Person) : Type 0 where
-  pub was : before ≡ person old p
-  pub is : person new p ≡ after
-  pub size : new.size ≡ old.size
-  pub room : (u v : ℕ) → room_to new u v ≡ room_to old u v
-  pub back : (q : ℕ) → HasBack old q → HasBack new q
-
--- process p begins an instance, or refuses
-pub record Begins (kind : Kind) (k p : ℕ) (old new : Whole) (action : Action) : Type 0 where
-  pub before : Person
-  pub after : Person
-  pub turn : Turns old new p before after
-  pub begins : IsBegin kind k before after action
-
--- process p hears an ask of another one
-pub record Hears (kind : Kind) (able : Bool) (from k label p : ℕ) (old new : Whole) (action : Action) : Type 0 where
-  pub before : Person
-  pub after : Person
-  pub turn : Turns old new p before after
-  pub hears : IsHeard kind able from k label before after action
-
--- process p hears a reply
-pub record Counts (willing : Bool) (p : ℕ) (old new : Whole) (action : Action) : Type 0 where
-  pub before : Person
-  pub after : Person
-  pub turn : Turns old new p before after
-  pub follows : action ≡ reply_of (part_of_side before.side) willing
-  pub part : part_of_side after.side ≡ option_map (λ part. after_reply part willing) (part_of_side before.side)
-  pub ready : is_ready after.side ≡ is_ready before.side
-
--- process p leaves its instance, and tells this set
-pub record Leaves (p set : ℕ) (old new : Whole) : Type 0 where
-  pub before : Person
-  pub after : Person
-  pub turn : Turns old new p before after
-  pub tell : (q : ℕ) → has set q ≡ asked_of before.side q
-  pub within : (q : ℕ) → has set q ≡ true → q < old.size
 
 -- the log keeps its rows, and has so many more at most
 pub record LogGrows (most : ℕ) (old new : Whole) : Type 0 where

@@ -1,13 +1,16 @@
 //! One process of a system: how it is read, and each of its turns.
 
 ghost use Rattle.std.specs.Prelude.{◌≡◌, ◌<◌, ◌+◌, ◌-◌, ◌^◌, ℕ, true, OnErr, IfOk, length};
+ghost use Rattle.std.specs.Option.{option_map};
+ghost use Rattle.kt_base.specs.Sets.{has};
 ghost use Rattle.kt_base.specs.declared.words.Kind.TheVariants as kind;
-ghost use Rattle.kt_process.specs.Turns.{joins_by};
-ghost use Rattle.kt_system.specs.Systems.{person, Begins, Hears, Counts, Leaves};
+ghost use Rattle.kt_parts.specs.Rules.{after_reply};
+ghost use Rattle.kt_process.specs.Turns.{joins_by, reply_of, IsBegin, IsHeard};
+ghost use Rattle.kt_system.specs.Systems.{person};
 ghost use Rattle.std.specs.Prelude.{[], ◌∷◌, ◌++◌, None, false};
 ghost use Rattle.kt_tables.specs.Calls.{sent, received, Speaks};
 ghost use Rattle.kt_seen.specs.Seen.{Seen};
-ghost use Rattle.kt_process.specs.Persons.{inst_of};
+ghost use Rattle.kt_process.specs.Persons.{part_of_side, is_ready, inst_of, asked_of};
 ghost use Rattle.kt_process.specs.Shown.{IsSeenAs, BeginsAs, HearsAs, counted_as, closed_as, mark_of, no_mark};
 ghost use Rattle.kt_system.specs.Shown.{ShowsState, IsTurned};
 
@@ -32,9 +35,6 @@ impl System {
         requires to { to < self.old.size }
         requires left { (person self.old p).used < 2 ^ 48 - 1 }
         ensures label { result ≡ (person self.old p).used + 1 }
-        ensures size { self.new.size ≡ self.old.size }
-        ensures rows { self.new.rows ≡ self.old.rows }
-        ensures wires { self.new.wires ≡ self.old.wires }
         ensures turned { IsTurned self.old self.new p }
         ensures shows { (v : Seen) → ShowsState self.old v → Speaks ((v.people p).calls ++ sent to ((v.people p).used + 1) ∷ []) →
             IsSeenAs (person self.new p) (record (v.people p) { calls = (v.people p).calls ++ sent to ((v.people p).used + 1) ∷ []; used = (v.people p).used + 1 }) }
@@ -46,9 +46,6 @@ impl System {
     pub(super) fn note_received(&mut self, p: ProcNo, from: ProcNo, label: Label)
         requires p { p < self.old.size }
         requires from { from < self.old.size }
-        ensures size { self.new.size ≡ self.old.size }
-        ensures rows { self.new.rows ≡ self.old.rows }
-        ensures kept { self.new.kept ≡ self.old.kept }
         ensures turned { IsTurned self.old self.new p }
         ensures shows { (v : Seen) → ShowsState self.old v → Speaks ((v.people p).calls ++ received from label ∷ []) →
             IsSeenAs (person self.new p) (record (v.people p) { calls = (v.people p).calls ++ received from label ∷ [] }) }
@@ -59,8 +56,6 @@ impl System {
     /// A process's object fails.
     pub(super) fn put_down(&mut self, p: ProcNo)
         requires { p < self.old.size }
-        ensures size { self.new.size ≡ self.old.size }
-        ensures rows { self.new.rows ≡ self.old.rows }
         ensures turned { IsTurned self.old self.new p }
         ensures shows { (v : Seen) → ShowsState self.old v → IsSeenAs (person self.new p) (record (v.people p) { up = false }) }
     {
@@ -78,8 +73,8 @@ impl System {
         requires p { p < self.old.size }
         requires marks { length marks.items ≡ self.old.size }
         ensures err { OnErr result (self.new ≡ self.old) }
-        ensures begins { IfOk result (λ action. Begins kind.Checkpoint inst p self.old self.new action) }
-        ensures rows { self.new.rows ≡ self.old.rows }
+        ensures begins { IfOk result (λ action.
+            IsBegin kind.Checkpoint inst (person self.old p) (person self.new p) action) }
         ensures turned { IsTurned self.old self.new p }
         ensures shows { IfOk result (λ action. (v : Seen) → ShowsState self.old v → BeginsAs kind.Checkpoint able v.processes inst (mark_of marks.items) (v.people p) (person self.new p) action) }
     {
@@ -90,8 +85,8 @@ impl System {
     pub(super) fn tell_to_roll(&mut self, p: ProcNo, inst: InstNo) -> Result<Action, Memory>
         requires { p < self.old.size }
         ensures err { OnErr result (self.new ≡ self.old) }
-        ensures begins { IfOk result (λ action. Begins kind.Rollback inst p self.old self.new action) }
-        ensures rows { self.new.rows ≡ self.old.rows }
+        ensures begins { IfOk result (λ action.
+            IsBegin kind.Rollback inst (person self.old p) (person self.new p) action) }
         ensures turned { IsTurned self.old self.new p }
         ensures shows { IfOk result (λ action. (v : Seen) → ShowsState self.old v → BeginsAs kind.Rollback true v.processes inst no_mark (v.people p) (person self.new p) action) }
     {
@@ -112,8 +107,8 @@ impl System {
         requires from { from < self.old.size }
         requires marks { joins_by (person self.old p) kind.Checkpoint able from label ≡ true → length marks.items ≡ self.old.size }
         ensures err { OnErr result (self.new ≡ self.old) }
-        ensures hears { IfOk result (λ action. Hears kind.Checkpoint able from inst label p self.old self.new action) }
-        ensures rows { self.new.rows ≡ self.old.rows }
+        ensures hears { IfOk result (λ action.
+            IsHeard kind.Checkpoint able from inst label (person self.old p) (person self.new p) action) }
         ensures turned { IsTurned self.old self.new p }
         ensures shows { IfOk result (λ action. (v : Seen) → ShowsState self.old v → HearsAs kind.Checkpoint able v.processes from inst label (mark_of marks.items) (v.people p) (person self.new p) action) }
     {
@@ -131,8 +126,8 @@ impl System {
         requires p { p < self.old.size }
         requires from { from < self.old.size }
         ensures err { OnErr result (self.new ≡ self.old) }
-        ensures hears { IfOk result (λ action. Hears kind.Rollback true from inst label p self.old self.new action) }
-        ensures rows { self.new.rows ≡ self.old.rows }
+        ensures hears { IfOk result (λ action.
+            IsHeard kind.Rollback true from inst label (person self.old p) (person self.new p) action) }
         ensures turned { IsTurned self.old self.new p }
         ensures shows { IfOk result (λ action. (v : Seen) → ShowsState self.old v → HearsAs kind.Rollback true v.processes from inst label no_mark (v.people p) (person self.new p) action) }
     {
@@ -142,8 +137,10 @@ impl System {
     /// A process hears a reply.
     pub(super) fn hear_reply(&mut self, p: ProcNo, willing: bool) -> Action
         requires { p < self.old.size }
-        ensures counts { Counts willing p self.old self.new result }
-        ensures rows { self.new.rows ≡ self.old.rows }
+        ensures action { result ≡ reply_of (part_of_side (person self.old p).side) willing }
+        ensures part { part_of_side (person self.new p).side ≡
+            option_map (λ part. after_reply part willing) (part_of_side (person self.old p).side) }
+        ensures ready { is_ready (person self.new p).side ≡ is_ready (person self.old p).side }
         ensures turned { IsTurned self.old self.new p }
         ensures shows { (v : Seen) → ShowsState self.old v → IsSeenAs (person self.new p) (counted_as willing (v.people p)) }
     {
@@ -153,9 +150,8 @@ impl System {
     /// A process leaves its instance, and answers whom it tells the decision.
     pub(super) fn leave(&mut self, p: ProcNo, commit: bool) -> ProcSet
         requires { p < self.old.size }
-        ensures leaves { Leaves p result self.old self.new }
-        ensures rows { self.new.rows ≡ self.old.rows }
-        ensures wires { self.new.wires ≡ self.old.wires }
+        ensures tell { (q : ℕ) → has result q ≡ asked_of (person self.old p).side q }
+        ensures within { (q : ℕ) → has result q ≡ true → q < self.old.size }
         ensures turned { IsTurned self.old self.new p }
         ensures shows { (v : Seen) → ShowsState self.old v → (inst_of (person self.old p).side ≡ None → ⊥) → IsSeenAs (person self.new p) (closed_as commit (v.people p)) }
     {

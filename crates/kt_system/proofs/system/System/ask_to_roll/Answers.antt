@@ -3,20 +3,16 @@ use Rattle.std.proofs.Common.{ℕ, true}
 use Rattle.std.proofs.lemmas.Result.{IfOk-weaker}
 use Rattle.kt_base.specs.declared.words.Kind.TheVariants as kind
 use Rattle.kt_process.specs.Persons.{Person}
+use Rattle.kt_process.specs.Turns.{IsHeard}
 use Rattle.kt_process.specs.Shown.{HearsAs, no_mark}
-use Rattle.kt_system.proofs.Showing.{is_turned, stood, placed, sized}
+use Rattle.kt_system.proofs.Showing.{is_turned, stood, placed, in_system, sized}
 use Rattle.std.proofs.Common.{refl}
 use Rattle.std.proofs.lemmas.Result.{IfOk-weaker}
-use Rattle.kt_system.proofs.Turns.{turned}
 use Rattle.kt_system.proofs.system.System.ask_to_roll.Goals as goal
 
 pub returns-clause-hears : goal.returns-clause-hears
-returns-clause-hears c = IfOk-weaker c.hear_ask_to_roll.result _ _ (λ action h. record {
-  before = c.index_mut.result.now;
-  after = c.hear_ask_to_roll.new.self;
-  turn = turned _ _ _ c.args.p c.index.result c.index_mut.result.now c.hear_ask_to_roll.new.self c.self.view_is c.self.invariant c.requires.p c.index.ensures.value c.index_mut.ensures.value refl refl refl refl refl;
-  hears = h;
-}) c.hear_ask_to_roll.ensures.hears
+returns-clause-hears c = IfOk-weaker c.hear_ask_to_roll.result _ _ (λ action h.
+    in_system (λ x y. IsHeard kind.Rollback true c.args.from c.args.inst c.args.label x y action) _ _ _ c.args.p c.index.result c.index_mut.result.now c.hear_ask_to_roll.new.self c.self.view_is c.self.invariant c.requires.p c.index.ensures.value c.index_mut.ensures.value refl h) c.hear_ask_to_roll.ensures.hears
 
 pub returns-clause-turned : goal.returns-clause-turned
 returns-clause-turned c = is_turned _ _ _ c.args.p c.index.result c.hear_ask_to_roll.new.self c.self.view_is c.index.ensures.value refl refl refl refl refl refl refl refl

@@ -4,21 +4,17 @@ use Rattle.std.proofs.lemmas.Result.{IfOk-weaker}
 use Rattle.kt_base.specs.declared.words.Kind.TheVariants as kind
 use Rattle.kt_process.specs.Persons.{Person}
 use Rattle.kt_process.specs.Shown.{HearsAs, mark_of}
-use Rattle.kt_system.proofs.Showing.{is_turned, stood, placed, sized}
+use Rattle.kt_system.proofs.Showing.{is_turned, stood, placed, in_system, sized}
 use Rattle.std.proofs.Common.{refl, sym, ap, ◌∙◌}
 use Rattle.std.proofs.lemmas.Result.{IfOk-weaker}
 use Rattle.kt_base.specs.declared.words.Kind.TheVariants as kind
-use Rattle.kt_process.specs.Turns.{joins_by}
-use Rattle.kt_system.proofs.Turns.{turned, person_at, tables_at}
+use Rattle.kt_process.specs.Turns.{joins_by, IsHeard}
+use Rattle.kt_system.proofs.Turns.{person_at, tables_at}
 use Rattle.kt_system.proofs.system.System.ask_to_save.Goals as goal
 
 pub returns-clause-hears : goal.returns-clause-hears
-returns-clause-hears c = IfOk-weaker c.hear_ask_to_save.result _ _ (λ action h. record {
-  before = c.index_mut.result.now;
-  after = c.hear_ask_to_save.new.self;
-  turn = turned _ _ _ c.args.p c.index.result c.index_mut.result.now c.hear_ask_to_save.new.self c.self.view_is c.self.invariant c.requires.p c.index.ensures.value c.index_mut.ensures.value refl refl refl refl refl;
-  hears = h;
-}) c.hear_ask_to_save.ensures.hears
+returns-clause-hears c = IfOk-weaker c.hear_ask_to_save.result _ _ (λ action h.
+    in_system (λ x y. IsHeard kind.Checkpoint c.args.able c.args.from c.args.inst c.args.label x y action) _ _ _ c.args.p c.index.result c.index_mut.result.now c.hear_ask_to_save.new.self c.self.view_is c.self.invariant c.requires.p c.index.ensures.value c.index_mut.ensures.value refl h) c.hear_ask_to_save.ensures.hears
 
 pub hear_ask_to_save-requires-clause-marks : goal.hear_ask_to_save-requires-clause-marks
 hear_ask_to_save-requires-clause-marks c e =

@@ -1,14 +1,25 @@
 use Rattle.std.proofs.Common.{◌≡◌, ℕ, ◌+◌, length, ap, subst, ◌∙◌}
 use Rattle.kt_lists.specs.Kept.{kept_of}
 use Rattle.kt_base.specs.declared.words.Kind.TheVariants as which
+use Rattle.kt_process.specs.Persons.{Person}
+use Rattle.kt_process.specs.Turns.{peers_of}
 use Rattle.kt_process.specs.Shown.{BeginsAs, asked_by, label_by, mark_of}
 use Rattle.kt_seen.specs.Seen.{Seen, SeenLists}
 use Rattle.kt_system.specs.Systems.{person}
 use Rattle.kt_system.specs.Shown.{ShowsState, begun_as}
+use Rattle.kt_system.proofs.Fits.{begins_fit, saving_free}
 use Rattle.kt_system.proofs.Showing.{shows_same}
 use Rattle.kt_system.proofs.Commands.{turned_by, begin_shows, begin_joins, begins_checkpoint, begins_inside}
 use Rattle.kt_system.proofs.Acting.{begin_acts_save}
 use Rattle.kt_system.proofs.system.System.begin_checkpoint.Goals as goal
+
+pub begin-requires-clause-room : goal.begin-requires-clause-room
+begin-requires-clause-room c =
+    let gives = c.make_room.ensures.gives in
+    begins_fit which.Checkpoint c.in-Some.inst c.args.p c.peers-targets.result c.args.self.now c.make_room.new.self c.tell_to_save.new.self c.in_ok-action.action
+    c.in_ok-make_room.ensures.parcels (record { size = gives.size; person = gives.person })
+    c.process.ensures.tables (λ q. c.peers-targets.ensures.peers q ∙ ap (λ (x : Person). peers_of x.tables which.Checkpoint q) c.process.ensures.process)
+    (λ s r. absurd (saving_free (person c.tell_to_save.new.self c.args.p).side s r)) c.tell_to_save.ensures.turned c.in_ok-action.ensures.begins
 
 pub returns-clause-shows : goal.returns-clause-shows
 returns-clause-shows c = λ v h few.

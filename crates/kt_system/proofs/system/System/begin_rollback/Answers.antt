@@ -1,14 +1,28 @@
-use Rattle.std.proofs.Common.{◌≡◌, ℕ, ◌+◌, ap, subst, ◌∙◌}
+use Rattle.std.proofs.Common.{◌≡◌, ℕ, ◌+◌, arith, ap, subst, ◌∙◌}
 use Rattle.std.specs.Prelude.{true}
 use Rattle.kt_base.specs.declared.words.Kind.TheVariants as which
+use Rattle.kt_process.specs.Persons.{Person}
+use Rattle.kt_process.specs.Turns.{peers_of}
 use Rattle.kt_process.specs.Shown.{BeginsAs, asked_by, label_by, no_mark}
 use Rattle.kt_seen.specs.Seen.{Seen}
 use Rattle.kt_system.specs.Systems.{person}
 use Rattle.kt_system.specs.Shown.{ShowsState, begun_as}
+use Rattle.kt_system.proofs.Fits.{begins_fit}
 use Rattle.kt_system.proofs.Showing.{shows_same}
 use Rattle.kt_system.proofs.Commands.{turned_by, begin_shows, begin_joins, begins_rollback, begins_inside}
 use Rattle.kt_system.proofs.Acting.{begin_acts_roll}
 use Rattle.kt_system.proofs.system.System.begin_rollback.Goals as goal
+
+pub begin-requires-clause-room : goal.begin-requires-clause-room
+begin-requires-clause-room c =
+    let room = c.in_ok-make_room.ensures.parcels in
+    let gives = c.make_room.ensures.gives in
+    let keeps = c.make_room_back.ensures.keeps in
+    begins_fit which.Rollback c.in-Some.inst c.args.p c.peers-targets.result c.args.self.now c.make_room_back.new.self c.tell_to_roll.new.self c.in_ok-action.action
+    (record { room = λ q l e. let x = room.room q (let z = keeps.size in omega (arith, l, z)) e in let y = keeps.room c.args.p q in omega (arith, x, y) })
+    (record { size = keeps.size ∙ gives.size; person = λ q. keeps.person q ∙ gives.person q })
+    c.process.ensures.tables (λ q. c.peers-targets.ensures.peers q ∙ ap (λ (x : Person). peers_of x.tables which.Rollback q) c.process.ensures.process)
+    (λ s r. c.in_ok-make_room_back.ensures.back) c.tell_to_roll.ensures.turned c.in_ok-action.ensures.begins
 
 pub returns-clause-shows : goal.returns-clause-shows
 returns-clause-shows c = λ v able h few.

@@ -4,7 +4,7 @@ use Rattle.std.proofs.Common.{ap, subst, sym, ◌∙◌}
 use Rattle.std.proofs.Math.Path.{fun_ext}
 use Rattle.kt_base.specs.Sets.{has}
 use Rattle.kt_seen.specs.Seen.{Seen}
-use Rattle.kt_process.specs.Persons.{Person, asked_of, inst_of}
+use Rattle.kt_process.specs.Persons.{Person, inst_of}
 use Rattle.kt_process.specs.Shown.{closed_as}
 use Rattle.kt_system.specs.Shown.{ShowsState, lists_closed}
 use Rattle.kt_system.proofs.Showing.{shows_turned}
@@ -14,7 +14,7 @@ use Rattle.kt_system.proofs.Frames.{can_tell}
 use Rattle.kt_system.proofs.system.System.close.Goals as goal
 
 pub tell-requires-clause-room : goal.tell-requires-clause-room
-tell-requires-clause-room c = can_tell _ _ _ _ _ c.requires.room c.settle_kept.ensures.keeps c.leave-set.ensures.leaves
+tell-requires-clause-room c = can_tell _ _ _ _ _ c.requires.room c.settle_kept.ensures.keeps c.leave-set.ensures.turned c.leave-set.ensures.tell
 
 pub returns-clause-shows : goal.returns-clause-shows
 returns-clause-shows c = λ v h there.
@@ -24,7 +24,7 @@ returns-clause-shows c = λ v h there.
     let left = c.leave-set.ensures.shows (lists_closed v p c.args.commit) one (λ e. there (sym (ap (λ (x : Person). inst_of x.side) (c.settle_kept.ensures.keeps.person p)) ∙ e)) in
     let two = shows_turned _ _ (lists_closed v p c.args.commit) p (closed_as c.args.commit (v.people p)) c.leave-set.ensures.turned left one in
     let four = c.write.ensures.shows _ (c.tell.ensures.shows _ two) in
-    let set = fun_ext (λ q. c.leave-set.ensures.leaves.tell q ∙ (ap (λ (x : Person). asked_of x.side q) c.leave-set.ensures.leaves.turn.was ∙ asked_is _ _ mid q)) in
+    let set = fun_ext (λ q. c.leave-set.ensures.tell q ∙ asked_is _ _ mid q) in
     subst (λ (z : Seen). ShowsState c.write.new.self z) (closes_as v p c.args.inst c.args.commit (has c.leave-set.result) set) four
 
 pub returns-clause-keeps : goal.returns-clause-keeps

@@ -1,22 +1,21 @@
 use Rattle.std.proofs.Common.{refl, subst, sym, ◌∙◌}
-use Rattle.kt_process.specs.Persons.{Person, inst_of}
+use Rattle.kt_process.specs.Persons.{Person, inst_of, asked_of}
 use Rattle.kt_process.specs.Shown.{IsSeenAs, closed_as}
 use Rattle.kt_system.proofs.Showing.{is_turned, stood, placed}
 use Rattle.std.proofs.Common.{◌≡◌, refl, arith, ap, ◌∙◌}
-use Rattle.kt_system.proofs.Turns.{person_at, tables_at, turned}
+use Rattle.kt_system.proofs.Turns.{person_at, tables_at}
 use Rattle.kt_system.proofs.system.System.leave.Goals as goal
 
-pub returns-clause-leaves : goal.returns-clause-leaves
-returns-clause-leaves c =
+pub returns-clause-tell : goal.returns-clause-tell
+returns-clause-tell c = λ q.
+    let was = person_at _ _ c.args.p c.index.result c.index_mut.result.now c.self.view_is c.self.invariant c.requires c.index.ensures.value c.index_mut.ensures.value in
+    c.close.ensures.tell q ∙ ap (λ (x : Person). asked_of x.side q) was
+
+pub returns-clause-within : goal.returns-clause-within
+returns-clause-within c = λ q h.
     let was = person_at _ _ c.args.p c.index.result c.index_mut.result.now c.self.view_is c.self.invariant c.requires c.index.ensures.value c.index_mut.ensures.value in
     let size : c.index_mut.result.now.tables.processes ≡ c.args.self.now.size = ap (λ (x : Person). x.tables.processes) was ∙ tables_at _ _ c.args.p c.self.view_is c.self.invariant c.requires in
-    record {
-      before = c.index_mut.result.now;
-      after = c.close.new.self;
-      turn = turned _ _ _ c.args.p c.index.result c.index_mut.result.now c.close.new.self c.self.view_is c.self.invariant c.requires c.index.ensures.value c.index_mut.ensures.value refl refl refl refl refl;
-      tell = c.close.ensures.tell;
-      within = λ q h. let k = c.close.ensures.within q h in omega arith;
-    }
+    let k = c.close.ensures.within q h in omega arith
 
 pub returns-clause-turned : goal.returns-clause-turned
 returns-clause-turned c = is_turned _ _ _ c.args.p c.index.result c.close.new.self c.self.view_is c.index.ensures.value refl refl refl refl refl refl refl refl

@@ -24,7 +24,7 @@ note_sent-label-requires-clause-left c =
 
 pub put-requires-clause-room : goal.put-requires-clause-room
 put-requires-clause-room c =
-    let same = room_same c.make_room_to.new.self c.note_sent-label.new.self c.note_sent-label.ensures.wires c.args.p c.args.to in
+    let same = room_same c.make_room_to.new.self c.note_sent-label.new.self c.note_sent-label.ensures.turned.wires c.args.p c.args.to in
     let room = c.in_ok-make_room_to.ensures.parcel in
     omega (arith, same, room)
 

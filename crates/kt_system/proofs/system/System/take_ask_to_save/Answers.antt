@@ -13,20 +13,24 @@ use Rattle.kt_system.specs.Shown.{ShowsState}
 use Rattle.kt_system.proofs.Showing.{shows_same}
 use Rattle.kt_process.specs.Persons.{Person, inst_of, is_ready}
 use Rattle.kt_system.proofs.Commands.{heard_by, hear_shows, hear_joins, hears_inside, hears_joins, hears_marked, heard_channel, asked_by_front, hears_checkpoint}
-use Rattle.std.proofs.Common.{ap, ◌∙◌}
 use Rattle.kt_base.specs.declared.words.Kind.TheVariants as kind
 use Rattle.kt_process.specs.Turns.{joins_by}
-use Rattle.kt_system.proofs.Fits.{hears_fit}
+use Rattle.kt_system.proofs.Fits.{asker_room, hears_fit}
 use Rattle.kt_system.specs.ShownActs.{acts_carried_out}
 use Rattle.kt_system.proofs.Acting.{hear_acts_save}
 use Rattle.kt_system.proofs.system.System.take_ask_to_save.Goals as goal
+
+pub answer-requires-clause-reply : goal.answer-requires-clause-reply
+answer-requires-clause-reply c =
+    asker_room c.args.at c.args.from c.targets-targets.result c.args.self.now c.make_room.new.self c.ask_to_save.new.self c.pop.new.self c.in_ok-make_room.ensures.parcels c.targets-targets.ensures.from c.requires.can.other
+    c.make_room.ensures.gives c.ask_to_save.ensures.turned c.pop.ensures.gives
 
 pub answer-requires-clause-room : goal.answer-requires-clause-room
 answer-requires-clause-room c =
     hears_fit kind.Checkpoint c.args.able c.args.from c.args.inst c.args.label c.args.at c.targets-targets.result c.args.self.now c.make_room.new.self c.ask_to_save.new.self c.pop.new.self c.joins_checkpoint-joins.result c.in_ok-action.action
     c.in_ok-make_room.ensures.parcels c.targets-targets.ensures.from c.requires.can.other c.process.ensures.tables
     (c.joins_checkpoint-joins.ensures ∙ ap (λ (x : Person). joins_by x kind.Checkpoint c.args.able c.args.from c.args.label) c.process.ensures.process)
-    c.targets-targets.ensures.asks c.make_room.ensures.gives c.in_ok-action.ensures.hears c.pop.ensures.gives
+    c.targets-targets.ensures.asks c.make_room.ensures.gives c.ask_to_save.ensures.turned c.in_ok-action.ensures.hears c.pop.ensures.gives
 
 pub returns-clause-shows : goal.returns-clause-shows
 returns-clause-shows c = λ v h.

@@ -8,7 +8,7 @@ use Rattle.std.proofs.Common.{◌≡◌, drop, arith, ap, subst, sym, ◌∙◌}
 use Rattle.kt_parts.specs.declared.actions.Action.{Action}
 use Rattle.kt_seen.specs.Seen.{Seen}
 use Rattle.kt_seen.specs.SeenMessages.{seen_without_front}
-use Rattle.kt_process.specs.Persons.{Person, part_of_side, inst_of}
+use Rattle.kt_process.specs.Persons.{Person, part_of_side}
 use Rattle.kt_process.specs.Turns.{reply_of}
 use Rattle.kt_process.specs.Shown.{counted_as}
 use Rattle.kt_system.specs.Shown.{ShowsState, turned_to, gone_on}
@@ -26,11 +26,10 @@ returns-clause-shows c = λ v h.
     let three = c.pop.ensures.shows v two in
     let state = seen_without_front v at from rest in
     let four = shows_turned _ _ state at (counted_as c.args.willing (v.people at)) c.hear_reply-action.ensures.turned (c.hear_reply-action.ensures.shows state three) three in
-    let counts = c.hear_reply-action.ensures.counts in
     let seen = three.people at (let a = c.make_room.ensures.same.size in let b = c.make_room_back_if_ready.ensures.same.size in let d = c.pop.ensures.gives.size in let e = c.requires.can.process in omega (arith, a, b, d, e)) in
-    let action : c.hear_reply-action.result ≡ reply_of (part_of_side (person c.pop.new.self at).side) c.args.willing = counts.follows ∙ ap (λ (x : Person). reply_of (part_of_side x.side) c.args.willing) counts.turn.was in
+    let action : c.hear_reply-action.result ≡ reply_of (part_of_side (person c.pop.new.self at).side) c.args.willing = c.hear_reply-action.ensures.action in
     let five = c.go_on.ensures.shows (turned_to state at (counted_as c.args.willing (v.people at))) four
-    (λ commit tell e i. settles_inside counts.before.side counts.after.side c.args.willing commit tell (sym counts.follows ∙ e) counts.part (sym (ap (λ (x : Person). inst_of x.side) counts.turn.is) ∙ i)) in
+    (λ commit tell e. settles_inside (person c.pop.new.self at).side (person c.hear_reply-action.new.self at).side c.args.willing commit tell (sym action ∙ e) c.hear_reply-action.ensures.part) in
     subst (λ (z : Seen). ShowsState c.go_on.new.self z) (replies_as (person c.pop.new.self at) v at from c.args.inst c.args.willing rest seen)
     (subst (λ (a : Action). ShowsState c.go_on.new.self (gone_on (turned_to state at (counted_as c.args.willing (v.people at))) at c.args.inst a)) action five)
 
@@ -50,4 +49,4 @@ go_on-requires-clause-room c =
     replies_fit c.args.at c.partners-targets.result c.args.willing c.args.self.now c.make_room.new.self c.make_room_back_if_ready.new.self c.pop.new.self c.hear_reply-action.new.self c.hear_reply-action.result
     (subst (λ (x : Person). HasPartners (part_of_side x.side) c.partners-targets.result) c.process.ensures.process c.partners-targets.ensures.partners)
     (λ q e. let l = c.partners-targets.ensures.within q e in let n = ap (λ (x : Person). x.tables.processes) c.process.ensures.process in let m = c.process.ensures.tables in omega (arith, l, n, m))
-    c.in_ok-make_room.ensures.parcels c.make_room.ensures.gives c.make_room_back_if_ready.ensures.keeps c.in_ok-make_room_back_if_ready.ensures.back c.pop.ensures.gives c.hear_reply-action.ensures.counts
+    c.in_ok-make_room.ensures.parcels c.make_room.ensures.gives c.make_room_back_if_ready.ensures.keeps c.in_ok-make_room_back_if_ready.ensures.back c.pop.ensures.gives c.hear_reply-action.ensures.turned c.hear_reply-action.ensures.action c.hear_reply-action.ensures.part c.hear_reply-action.ensures.ready
