@@ -1,6 +1,6 @@
 -- Which steps can be made, as the laws have it.
 use Rattle.std.specs.Prelude.{◌==◌, ◌&&◌, ◌||◌, not, nat_lt, nat_le, if◌then◌else◌, Option, IfSome, option_map, is_none}
-use Rattle.std.proofs.Common.{◌≡◌, ◌<◌, ◌≤◌, ℕ, Bool, true, false, Some, None, length, refl, sym, arith, ap, ◌∙◌}
+use Rattle.std.proofs.Common.{◌≡◌, ◌<◌, ◌≤◌, ℕ, Bool, true, false, Some, None, length, refl, sym, subst, arith, ap, ◌∙◌}
 use Rattle.std.proofs.lemmas.Bool.Decides.{nat_tests}
 use Rattle.kt_plan.specs.declared.commands.Command.{Command}
 use Rattle.kt_plan.specs.declared.commands.Job.{Job}
@@ -13,7 +13,7 @@ use Rattle.kt_system.specs.Reads.{can_take}
 use Rattle.kt_plans.specs.Steps as run_steps
 use Rattle.kt_plans.specs.Progress.{Progress}
 use Rattle.kt_plans.proofs.OpenPhase.{ahead_seen}
-use Rattle.kt_core.specs.Agendas.{agenda_command, if_open}
+use Rattle.kt_core.specs.Agendas.{agenda_command, if_open, open_command}
 use Rattle.kt_core.specs.Worlds.{World, is_send, process_may_do, can_do, can_make, step_refusal, is_full, lacks_label}
 use Rattle.kt_core.specs.declared.faults.StepFault.TheVariants.{NotEnabled, LogFull, LabelsSpent}
 use Rattle.kt_core.specs.Shown.{Mirrors}
@@ -98,3 +98,18 @@ does_there w p e = below p w.system.size (left (nat_lt p w.system.size) (can_do 
     left : (a b : Bool) → (a && b) ≡ true → a ≡ true
     left true b f = refl
     left false b f = absurd (cc (f))
+
+-- where a process's command is not refused, it is of the open phase
+pub opened_as : (w : World) (p : ℕ) (c : Command) → step_refusal w (Do p) ≡ None → agenda_command w.agenda p ≡ Some c → open_command w.agenda p ≡ Some c
+opened_as w p c e there = ap (λ (o : Option Command). if_open w.agenda.phase o) there ∙ mayed (nat_le c.phase w.agenda.phase) able
+  where
+    right : (a b : Bool) → (a && b) ≡ true → b ≡ true
+    right true b f = f
+    right false b f = absurd (cc (f))
+
+    able : process_may_do (person w.system p) (if_open w.agenda.phase (Some c)) ≡ true
+    able = subst (λ (o : Option Command). process_may_do (person w.system p) (if_open w.agenda.phase o) ≡ true) there (right (nat_lt p w.system.size) (can_do w p) (enabled_if w (Do p) e))
+
+    mayed : (b : Bool) → process_may_do (person w.system p) (if b then Some c else None) ≡ true → (if b then Some c else None) ≡ Some c
+    mayed true f = refl
+    mayed false f = absurd (cc (f))

@@ -70,13 +70,14 @@ impl Agenda {
         self.next[p.index()]
     }
 
-    /// A process's next command, if it has one.
-    fn next_command(&self, p: ProcNo) -> Option<Command>
+    /// A process's next command, which stands at this place, if it has one.
+    pub(crate) fn command_at(&self, p: ProcNo, place: usize) -> Option<Command>
+        requires { place ≡ agenda_place self.now p }
         ensures command { result ≡ agenda_command self.now p }
         ensures allowed { IfSome result (IsCommandOf (length self.now.plan.names)) }
         ensures own { IfSome result (λ command. command.by ≡ p) }
     {
-        self.plan.commands.get(self.place(p)).copied()
+        self.plan.commands.get(place).copied()
     }
 
     /// A process's next command, if that is of the open phase.
@@ -85,7 +86,7 @@ impl Agenda {
         ensures allowed { IfSome result (IsCommandOf (length self.now.plan.names)) }
         ensures own { IfSome result (λ command. command.by ≡ p) }
     {
-        let command = self.next_command(p);
+        let command = self.command_at(p, self.place(p));
         self.if_open(command)
     }
 

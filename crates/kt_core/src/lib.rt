@@ -3,7 +3,9 @@
 
 mod agenda;
 mod faults;
+mod ready;
 mod world;
 
 pub use faults::StepFault;
+pub use ready::Ready;
 pub use world::World;

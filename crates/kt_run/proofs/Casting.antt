@@ -1,12 +1,13 @@
 -- The faults of the objects that a run begins with.
 use Rattle.std.proofs.Common.{◌≡◌, ◌≢◌, ◌<◌, ℕ, List, false, length, refl, ap}
 use Rattle.kt_core.specs.declared.faults.StepFault.{StepFault}
-use Rattle.kt_run.specs.declared.faults.RunFault.TheVariants.{Step, Journal, Object}
+use Rattle.kt_run.specs.declared.faults.RunFault.{RunFault}
+use Rattle.kt_run.specs.declared.faults.RunFault.TheVariants.{CastSize, CastKind, Step, Journal, Object, Memory}
 use Rattle.kt_held.specs.Casts.{HasSizes, HasKind, is_checked}
 use Rattle.kt_held.specs.declared.faults.CastFault.{CastFault}
 use Rattle.kt_held.specs.declared.faults.CastFault.TheVariants as cast
 use Rattle.kt_plan.specs.Limits.{Planned}
-use Rattle.kt_run.specs.Faults.{Answers, of_cast}
+use Rattle.kt_run.specs.Faults.{Answers, IsCast, is_of_cast, of_cast}
 
 pub answered : (plan : Planned) (given : List (List ℕ)) (fault : CastFault)
     → (fault ≡ cast.Size → ¬ HasSizes plan.kinds plan.commands given)
@@ -44,3 +45,12 @@ of_object cast.Size p e = absurd (cc (e))
 of_object (cast.Kind q) p e = absurd (cc (e))
 of_object (cast.Object q) p e = let s : q ≡ p = cc (e) in ap (λ (i : ℕ). cast.Object i) s
 of_object cast.Memory p e = absurd (cc (e))
+
+-- a fault that is none of the objects comes once they are found right
+pub of_right : (plan : Planned) (given : List (List ℕ)) (fault : RunFault) → IsCast plan given → is_of_cast fault ≡ false → Answers plan given fault
+of_right plan given CastSize is none = absurd (cc (none))
+of_right plan given (CastKind p) is none = absurd (cc (none))
+of_right plan given (Object p) is none = is
+of_right plan given (Journal p) is none = is
+of_right plan given (Step done why) is none = is
+of_right plan given Memory is none = is

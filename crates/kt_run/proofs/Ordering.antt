@@ -1,30 +1,29 @@
 -- A run goes on in an order.
 use Rattle.std.specs.Prelude.{Option, unwrap_or, if◌then◌else◌}
-use Rattle.std.proofs.Common.{◌≡◌, ℕ, Bool, true, false, Some, None, List, [], ◌∷◌, ◌++◌, append_assoc, append-nil, arith, length, map, take, refl, sym, ap, subst, ◌∙◌}
+use Rattle.std.proofs.Common.{◌≡◌, ◌⊎◌, inl, inr, ℕ, Bool, true, false, Some, None, List, [], ◌∷◌, ◌++◌, append_assoc, append-nil, arith, length, map, take, refl, sym, ap, subst, ◌∙◌}
 use Rattle.std.proofs.lemmas.List.{length-take}
 use Rattle.std.proofs.lemmas.Option.{slice_get_within}
 use Rattle.kt_plan.specs.Limits.{Planned, IsPlan}
 use Rattle.kt_plan.specs.declared.steps.Step.{Step}
-use Rattle.kt_plan.specs.declared.steps.Give.{Give}
 use Rattle.kt_held.specs.Holdings.{Content}
 use Rattle.kt_spacetime.specs.declared.event.Event.{Event}
-use Rattle.kt_plans.specs.Runs.{Move, after_moves, RunReaches}
-use Rattle.kt_plans.specs.Progress.{Progress, progress_at_start}
-use Rattle.kt_plans.specs.Steps.{enabled, progress_after, is_at_rest}
+use Rattle.kt_plans.specs.Runs.{Move, after_moves}
+use Rattle.kt_plans.specs.Progress.{Progress}
+use Rattle.kt_plans.specs.Steps.{enabled, process_of_step, progress_after}
 use Rattle.kt_plans.specs.Follows.{FollowsPlan}
 use Rattle.kt_plans.specs.Offers.{SendsWhatIsOffered}
 use Rattle.kt_plans.proofs.FollowsRuns.{follows_seen}
-use Rattle.kt_plans.proofs.GoingOn.{play_append}
+use Rattle.kt_plans.proofs.GoingOn.{play_append, goes_run}
 use Rattle.kt_plans.proofs.NeededBodies.{offers_seen}
 use Rattle.kt_plans.proofs.RunSteps.{rest_seen}
 use Rattle.kt_core.specs.Worlds.{World, can_make, step_refusal}
 use Rattle.kt_core.specs.declared.faults.StepFault.{StepFault}
 use Rattle.kt_core.proofs.Enabled.{enabled_is}
 use Rattle.kt_run.specs.Objects.{rules_by}
-use Rattle.kt_run.specs.Refused.{IsGivenRefused}
+use Rattle.kt_run.specs.Refused.{IsGivenNext, IsDefaultNext, IsGivenRefused, IsStopped}
 use Rattle.kt_run.specs.declared.orders.Order.{Order}
-use Rattle.kt_run.specs.Orders.{Generator, step_in_order, generator_next, generator_after, generator_of, AreInOrder, GoesInOrder, RestsInOrder, IsInOrder, IsOneRefused}
-use Rattle.kt_run.specs.Runs.{Scene, StepsTo, BeginsRun}
+use Rattle.kt_run.specs.Orders.{Generator, step_in_order, generator_next, generator_after, generator_of, AreInOrder, GoesInOrder, RestsInOrder, IsInOrder, IsOneRefused, IsOneStopped}
+use Rattle.kt_run.specs.Runs.{Scene, StepsTo, BeginsRun, Goes}
 use Rattle.kt_run.proofs.Running.{begins_by}
 
 -- one move more is in order, and the generator is that after it
@@ -108,6 +107,34 @@ given_one_refused plan cast steps done fault r = record {
   step = r.step;
   refused = r.refused;
 }
+
+-- a step of this process is not refused
+pub one_stopped : (plan : Planned) (cast : List (List Content)) (steps : List Step) (w : World) (at : Scene) (x : Step) (p : ℕ) → BeginsRun plan cast steps w at → process_of_step x ≡ p → step_refusal w x ≡ None → IsOneStopped plan cast p
+one_stopped plan cast steps w at x p b own made = record { steps = steps; world = w; at = at; run = b; step = x; own = own; made = made }
+
+-- a run that goes on by default steps is one by all its steps
+goes_begins : (plan : Planned) (cast : List (List Content)) (given : List Step) (w : World) (at : Scene) (h : Goes plan cast given w at) → BeginsRun plan cast (map (λ (m : Move). m.step) (h.given ++ h.more)) w at
+goes_begins plan cast given w at h = record {
+  moves = h.given ++ h.more;
+  now = h.now;
+  made = refl;
+  leads = goes_run plan 0 h.given h.more h.now h.goes_on;
+  shown = h.shown;
+  limit = h.limit;
+  few = h.few;
+  tells = h.tells;
+  rows = h.rows;
+  offers = h.offers;
+  due = h.due;
+}
+
+-- so is one of those given, or a default one after them
+pub given_one_stopped : (plan : Planned) (cast : List (List Content)) (given : List Step) (p : ℕ) → IsStopped plan cast given p → IsOneStopped plan cast p
+given_one_stopped plan cast given p s = go s.next
+  where
+    go : IsGivenNext plan cast given s.done s.world s.step ⊎ IsDefaultNext plan cast given s.done s.world s.step → IsOneStopped plan cast p
+    go (inl n) = one_stopped plan cast (take s.done given) s.world n.at s.step p n.run s.own s.made
+    go (inr n) = one_stopped plan cast (map (λ (m : Move). m.step) (n.run.given ++ n.run.more)) s.world n.at s.step p (goes_begins plan cast given s.world n.at n.run) s.own s.made
 
 module _ (plan : Planned) (cast : List (List Content)) (given steps : List Step) (order : Order) (w : World) (at : Scene) (rows : List Event) (limits : IsPlan plan) (r : RestsInOrder plan cast given steps (generator_of order) w at) (log : rows ≡ w.system.rows.rows) where
   rows_are : rows ≡ r.goes.run.now.now.log

@@ -8,7 +8,7 @@ use Rattle.kt_plan.specs.Limits.{Planned}
 use Rattle.kt_plan.specs.declared.steps.Step.{Step}
 use Rattle.kt_plans.specs.Runs.{Move, after_moves}
 use Rattle.kt_plans.specs.Progress.{Progress, progress_at_start}
-use Rattle.kt_plans.specs.Steps.{is_at_rest, progress_after}
+use Rattle.kt_plans.specs.Steps.{is_at_rest, process_of_step, progress_after}
 use Rattle.kt_plans.specs.Defaults.{default_step}
 use Rattle.kt_core.specs.Choices.{enabled_steps}
 use Rattle.kt_core.specs.Worlds.{World, step_refusal}
@@ -111,3 +111,13 @@ pub record IsOneRefused (plan : Planned) (cast : List (List Content)) (done : �
   pub count : done ≡ length steps
   pub step : Step
   pub refused : step_refusal world step ≡ Some fault
+
+-- a run by some steps leads to a world that does not refuse a next one, which is one of this process
+pub record IsOneStopped (plan : Planned) (cast : List (List Content)) (p : ℕ) : Type 0 where
+  pub steps : List Step
+  pub world : World
+  pub at : Scene
+  pub run : BeginsRun plan cast steps world at
+  pub step : Step
+  pub own : process_of_step step ≡ p
+  pub made : step_refusal world step ≡ None

@@ -1,12 +1,14 @@
 //! Runs whose steps are listed.
 
-ghost use Rattle.std.specs.Prelude.{◌≡◌, ℕ, map, OnOk, IfOk, IfErr};
+ghost use Rattle.std.specs.Prelude.{◌≡◌, ◌≢◌, ◌⊎◌, [], ℕ, map, slice_index, slice_index_or, OnOk, IfOk, IfErr};
 ghost use Rattle.kt_core.specs.declared.faults.StepFault.{StepFault};
 ghost use Rattle.kt_held.specs.Holdings.{content};
+ghost use Rattle.kt_held.specs.Refusals.{IsLeastRefused};
 ghost use Rattle.kt_plans.specs.Follows.{FollowsPlan};
 ghost use Rattle.kt_plans.specs.Headline.{IsPromised};
 ghost use Rattle.kt_run.specs.Faults.{IsCast, Answers};
-ghost use Rattle.kt_run.specs.Orders.{IsInOrder, IsOneRefused};
+ghost use Rattle.kt_run.specs.Orders.{IsInOrder, IsOneRefused, IsOneStopped};
+ghost use Rattle.kt_run.specs.Rejections.{MayReject};
 
 use crate::faults::RunFault;
 use crate::orders::Order;
@@ -40,6 +42,18 @@ pub fn recorded_run_of(
     // A step is refused only where those before it, as many as are told, are a run.
     ensures refused { IfErr result (λ fault. (done : ℕ) (why : StepFault) → fault ≡ RunFault.Step done why →
         IsOneRefused plan.now (map (λ row. map (λ b. content (kind_of b) (value_of b)) row.items) cast.items) done why) }
+
+    // No list is kept of what a process is told, so none lacks memory.
+    ensures untold { IfErr result (λ fault. (p : ℕ) → fault ≢ RunFault.Journal p) }
+
+    // Where an object fails, it is either at first, that of the least process whose save may be refused; or in a step of
+    // its own that was not refused, where one of the objects that the process was given may reject a saved state of their
+    // kind.
+    ensures object { IfErr result (λ fault. (p : ℕ) → fault ≡ RunFault.Object p →
+        IsLeastRefused (λ b. may_save b) (λ b. may_refuse b) (map (λ row. row.items) cast.items) p
+        ⊎ (IsOneStopped plan.now (map (λ row. map (λ b. content (kind_of b) (value_of b)) row.items) cast.items) p
+        × MayReject (λ b saved. may_reject b saved) (slice_index plan.now.kinds p)
+        (slice_index_or (map (λ row. row.items) cast.items) p []))) }
 
     // The log is that of a run of the plan by just the steps that are listed, which has come to rest; they begin with the
     // steps given and go on by those that come next in the order. What is sent for an object is what it offers.

@@ -2,6 +2,7 @@
 
 ghost use Rattle.std.specs.Prelude.{◌≡◌, ◌≢◌, ◌<◌, ◌+◌, ◌-◌, ◌^◌, ℕ, List, [], Some, None, true, false, map, length, slice_index_or, OnOk, IfOk, IfErr};
 ghost use Rattle.std.specs.List.{AllZip};
+ghost use Rattle.kt_core.specs.Ready.{IsReady};
 ghost use Rattle.kt_core.specs.Worlds.{can_make, needs, step_refusal};
 ghost use Rattle.kt_core.specs.declared.faults.StepFault.{StepFault};
 ghost use Rattle.kt_held.specs.Holdings.{Content, content};
@@ -20,10 +21,10 @@ ghost use Rattle.kt_run.specs.Telling.{AreEmpty};
 use crate::faults::RunFault;
 use crate::journals::{Journals, process_of};
 use kt_base::ProcNo;
-use kt_core::{StepFault, World};
+use kt_core::{Ready, StepFault, World};
 use kt_held::{Cast, Held, begin_all};
 use kt_object::Recoverable;
-use kt_plan::{Act, Give, Look, Plan, Step, Told};
+use kt_plan::{Act, Give, Plan, Step, Told};
 use std::alloc::Global;
 
 mod in_order;
@@ -265,13 +266,13 @@ impl Stage {
         let Some(held) = self.objects.get_mut(p.index()) else {
             return Err(RunFault::Step(self.done, StepFault::NotEnabled));
         };
-        let look = ready(&self.world, &step, self.done)?;
-        let answer = held.ask(self.alloc, look);
+        let ready = ready(&self.world, &step, self.done)?;
+        let answer = held.ask(self.alloc, ready.look);
         let mut acts = [Act::Nothing, Act::Nothing];
         step_once(
             &mut self.world,
             &mut self.journals,
-            &step,
+            &ready,
             answer.give,
             &mut acts,
         )?;
@@ -283,12 +284,14 @@ impl Stage {
     }
 }
 
-/// What an enabled step after so many needs of its process's object, where it can be made.
+/// An enabled step after so many, with what was looked up for it, where it can be made.
 #[inline(always)]
-fn ready(world: &World, step: &Step, done: usize) -> Result<Look, RunFault>
+fn ready(world: &World, step: &Step, done: usize) -> Result<Ready, RunFault>
     requires { can_make world.now step.now ≡ true }
     ensures fault { IfErr result (λ fault. is_of_cast fault ≡ false) }
-    ensures look { IfOk result (λ look. look ≡ needs world.now step.now) }
+    ensures step { IfOk result (λ ready. ready.step ≡ step.now) }
+    ensures look { IfOk result (λ ready. ready.look ≡ needs world.now step.now) }
+    ensures ready { IfOk result (IsReady world.now) }
     ensures allowed { OnOk result (step_refusal world.now step.now ≡ None) }
     ensures refused { IfErr result (λ fault. (n : ℕ) (why : StepFault) → fault ≡ RunFault.Step n why →
         (n ≡ done) × (step_refusal world.now step.now ≡ Some why)) }
@@ -299,7 +302,7 @@ fn ready(world: &World, step: &Step, done: usize) -> Result<Look, RunFault>
     ensures untold { IfErr result (λ fault. (p : ℕ) → fault ≢ RunFault.Journal p) }
 {
     match world.ready_found(step) {
-        Ok(look) => Ok(look),
+        Ok(ready) => Ok(ready),
         Err(fault) => Err(RunFault::of_step(done, fault)),
     }
 }
@@ -309,41 +312,46 @@ fn ready(world: &World, step: &Step, done: usize) -> Result<Look, RunFault>
 fn step_once(
     world: &mut World,
     journals: &mut Journals,
-    step: &Step,
+    ready: &Ready,
     give: Give,
     acts: &mut [Act; 2],
 ) -> Result<(), RunFault>
-    requires { step_refusal world.old step.now ≡ None }
+    requires { IsReady world.old ready.now }
     ensures fault { IfErr result (λ fault. is_of_cast fault ≡ false) }
     ensures plan { world.new.agenda.plan ≡ world.old.agenda.plan }
     ensures size { world.new.system.size ≡ world.old.system.size }
     ensures early { IfErr result (λ fault. (n : ℕ) (why : StepFault) → fault ≢ RunFault.Step n why) }
-    ensures named { IfErr result (λ fault. (p : ℕ) → stopped_at fault ≡ Some p → process_of_step step.now ≡ p) }
+    ensures named { IfErr result (λ fault. (p : ℕ) → stopped_at fault ≡ Some p → process_of_step ready.now.step ≡ p) }
     ensures objects { IfErr result (λ fault. (p : ℕ) → fault ≢ RunFault.Object p) }
     ensures untold { length journals.old ≡ 0 → IfErr result (λ fault. (p : ℕ) → fault ≢ RunFault.Journal p) }
-    ensures leads { OnOk result (Tells world.old journals.old step.now give world.new journals.new acts.new) }
+    ensures leads { OnOk result (Tells world.old journals.old ready.now.step give world.new journals.new acts.new) }
 {
     if journals.are_kept() {
-        tell_once(world, journals, step, give, acts)
+        tell_once(world, journals, ready, give, acts)
     } else {
-        act_once(world, step, give, acts)
+        act_once(world, ready, give, acts)
     }
 }
 
 /// Makes a step that can be made, of which nothing is noted, and tells what is to be done to the object.
 #[inline(always)]
-fn act_once(world: &mut World, step: &Step, give: Give, acts: &mut [Act; 2]) -> Result<(), RunFault>
-    requires { step_refusal world.old step.now ≡ None }
+fn act_once(
+    world: &mut World,
+    ready: &Ready,
+    give: Give,
+    acts: &mut [Act; 2],
+) -> Result<(), RunFault>
+    requires { IsReady world.old ready.now }
     ensures fault { IfErr result (λ fault. is_of_cast fault ≡ false) }
     ensures plan { world.new.agenda.plan ≡ world.old.agenda.plan }
     ensures size { world.new.system.size ≡ world.old.system.size }
     ensures early { IfErr result (λ fault. (n : ℕ) (why : StepFault) → fault ≢ RunFault.Step n why) }
-    ensures named { IfErr result (λ fault. (p : ℕ) → stopped_at fault ≡ Some p → process_of_step step.now ≡ p) }
+    ensures named { IfErr result (λ fault. (p : ℕ) → stopped_at fault ≡ Some p → process_of_step ready.now.step ≡ p) }
     ensures objects { IfErr result (λ fault. (p : ℕ) → fault ≢ RunFault.Object p) }
     ensures untold { IfErr result (λ fault. (p : ℕ) → fault ≢ RunFault.Journal p) }
-    ensures leads { OnOk result (Tells world.old [] step.now give world.new [] acts.new) }
+    ensures leads { OnOk result (Tells world.old [] ready.now.step give world.new [] acts.new) }
 {
-    match world.make_step(step, give, acts) {
+    match world.make_step(ready, give, acts) {
         Ok(()) => Ok(()),
         Err(_) => Err(RunFault::Memory),
     }
@@ -353,21 +361,22 @@ fn act_once(world: &mut World, step: &Step, give: Give, acts: &mut [Act; 2]) -> 
 fn tell_once(
     world: &mut World,
     journals: &mut Journals,
-    step: &Step,
+    ready: &Ready,
     give: Give,
     acts: &mut [Act; 2],
 ) -> Result<(), RunFault>
-    requires { step_refusal world.old step.now ≡ None }
+    requires { IsReady world.old ready.now }
     ensures fault { IfErr result (λ fault. is_of_cast fault ≡ false) }
     ensures plan { world.new.agenda.plan ≡ world.old.agenda.plan }
     ensures size { world.new.system.size ≡ world.old.system.size }
     ensures early { IfErr result (λ fault. (n : ℕ) (why : StepFault) → fault ≢ RunFault.Step n why) }
-    ensures named { IfErr result (λ fault. (p : ℕ) → stopped_at fault ≡ Some p → process_of_step step.now ≡ p) }
+    ensures named { IfErr result (λ fault. (p : ℕ) → stopped_at fault ≡ Some p → process_of_step ready.now.step ≡ p) }
     ensures objects { IfErr result (λ fault. (p : ℕ) → fault ≢ RunFault.Object p) }
-    ensures leads { OnOk result (Tells world.old journals.old step.now give world.new journals.new acts.new) }
+    ensures leads { OnOk result (Tells world.old journals.old ready.now.step give world.new journals.new acts.new) }
 {
-    let p = process_of(step);
-    let told = match world.step(*step, give) {
+    let step = ready.step;
+    let p = process_of(&step);
+    let told = match world.step(step, give) {
         Ok(told) => told,
         Err(_) => return Err(RunFault::Memory),
     };

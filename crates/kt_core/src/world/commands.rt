@@ -12,6 +12,7 @@ ghost use Rattle.kt_system.specs.ShownActs.{acts_shown};
 ghost use Rattle.kt_system.specs.Tallies.{TalliesPut};
 ghost use Rattle.kt_values.specs.SeenActs.{seen_acts};
 ghost use Rattle.kt_plans.specs.Steps.{protocol_step};
+ghost use Rattle.kt_core.specs.Agendas.{agenda_place};
 ghost use Rattle.kt_core.specs.Making.{KeepsPlan, MakesStep};
 ghost use Rattle.kt_core.specs.Worlds.{step_refusal, is_send, IsSameWorld};
 
@@ -23,19 +24,21 @@ use kt_system::System;
 use std::alloc::Global;
 
 impl World {
-    /// A process does its next command; then the next phase may open.
+    /// A process does its next command, which stands at this place; then the next phase may open.
     pub(super) fn do_next(
         &mut self,
         p: ProcNo,
+        place: usize,
         give: Give,
         acts: &mut [Act; 2],
     ) -> Result<(), Memory>
-        requires { step_refusal self.old (Step.Do p) ≡ None }
+        requires allowed { step_refusal self.old (Step.Do p) ≡ None }
+        requires place { place ≡ agenda_place self.old.agenda p }
         ensures keeps { KeepsPlan self.old self.new }
         ensures err { OnErr result (IsSameWorld self.new self.old) }
         ensures made { OnOk result (MakesStep self.old (Step.Do p) give acts.new self.new) }
     {
-        let Some(command) = self.agenda.open_command(p) else {
+        let Some(command) = self.agenda.command_at(p, place) else {
             return Ok(());
         };
         let told = do_job(self.alloc, &mut self.system, p, &command.job, give)?;

@@ -1,7 +1,7 @@
 //! Which steps are enabled, and what they need.
 
-ghost use Rattle.std.specs.Prelude.{◌≡◌, ◌<◌, ◌+◌, ◌↔◌, ℕ, true, false, Some, None, IsTrue, IfSome, IfNone, OnOk, IfOk, IfErr};
-ghost use Rattle.kt_core.specs.Worlds.{can_make, can_do, needs, needs_of_step, needs_of_command, step_refusal, is_full, sends_unlabelled, is_send, IsWorldAtRest, IsNextDo, IsFirstBelow, IsDefaultStep, IsNextStepOf};
+ghost use Rattle.std.specs.Prelude.{◌≡◌, ◌<◌, ◌+◌, ◌↔◌, ℕ, true, false, Some, None, IsTrue, is_some, IfSome, IfNone, OnOk, IfOk, IfErr};
+ghost use Rattle.kt_core.specs.Worlds.{process_may_do, can_make, can_do, needs, needs_of_step, needs_of_command, step_refusal, is_full, sends_unlabelled, is_send, IsWorldAtRest, IsNextDo, IsFirstBelow, IsDefaultStep, IsNextStepOf};
 ghost use Rattle.kt_plans.specs.Steps.{process_of_step, enabled, is_at_rest};
 ghost use Rattle.kt_system.specs.Systems.{person};
 ghost use Rattle.std.specs.Option.{option_map};
@@ -9,10 +9,13 @@ ghost use Rattle.kt_plans.specs.Follows.{FollowsPlan};
 ghost use Rattle.kt_plans.specs.Progress.{Progress};
 ghost use Rattle.kt_plans.specs.Looks.{look};
 ghost use Rattle.kt_plans.specs.Defaults.{default_step};
-ghost use Rattle.kt_core.specs.Shown.{Mirrors, IsReached};
+ghost use Rattle.kt_core.specs.Agendas.{open_command};
+ghost use Rattle.kt_core.specs.Ready.{IsReady};
+ghost use Rattle.kt_core.specs.Shown.{Mirrors};
 
 use super::World;
 use crate::faults::StepFault;
+use crate::ready::Ready;
 use kt_base::ProcNo;
 use kt_plan::{Command, Job, Look, Step};
 
@@ -22,13 +25,6 @@ impl World {
         ensures enabled { result ≡ can_make self.now step.now }
         ensures in_runs { (first : ℕ) (v : Progress) → Mirrors self.now.agenda self.now.system first v →
             result ≡ enabled self.now.agenda.plan v step.now }
-    {
-        self.can_make(step)
-    }
-
-    /// Whether a step can be made.
-    fn can_make(&self, step: &Step) -> bool
-        ensures { result ≡ can_make self.now step.now }
     {
         match *step {
             Step::Do(p) => self.is_there(p) && self.can_do(p),
@@ -43,10 +39,38 @@ impl World {
         requires { p < self.now.system.size }
         ensures { result ≡ can_do self.now p }
     {
-        let Some(command) = self.agenda.open_command(p) else {
-            return false;
-        };
+        match self.agenda.open_command(p) {
+            Some(command) => self.may_do(p, &command),
+            None => false,
+        }
+    }
+
+    /// Whether a process may do a command that is its next one.
+    fn may_do(&self, p: ProcNo, command: &Command) -> bool
+        requires { p < self.now.system.size }
+        ensures { result ≡ process_may_do (person self.now.system p) (Some command.now) }
+    {
         !is_send(&command.job) || self.system.in_inst(p).is_none()
+    }
+
+    /// A process's next command, if the process can do it.
+    fn command_of(&self, p: ProcNo) -> Option<Command>
+        ensures able { is_some result ≡ can_make self.now (Step.Do p) }
+        ensures next { IfSome result (λ command. open_command self.now.agenda p ≡ Some command) }
+    {
+        if !self.is_there(p) {
+            return None;
+        }
+        match self.agenda.open_command(p) {
+            Some(command) => {
+                if self.may_do(p, &command) {
+                    Some(command)
+                } else {
+                    None
+                }
+            }
+            None => None,
+        }
     }
 
     /// What a step needs of the process's object.
@@ -55,14 +79,7 @@ impl World {
         ensures in_runs { (first : ℕ) (v : Progress) → Mirrors self.now.agenda self.now.system first v →
             result ≡ look self.now.agenda.plan v step.now }
     {
-        self.needs(step)
-    }
-
-    /// What a step needs of the process's object.
-    fn needs(&self, step: &Step) -> Look
-        ensures { result ≡ needs self.now step.now }
-    {
-        if !self.can_make(step) {
+        if !self.enabled(step) {
             return Look::Idle;
         }
         match *step {
@@ -71,32 +88,45 @@ impl World {
         }
     }
 
-    /// What a step needs of the process's object, where it can be made now; else why it is refused, but for want of memory.
-    pub fn ready(&self, step: &Step) -> Result<Look, StepFault>
-        ensures look { IfOk result (λ look. look ≡ needs self.now step.now) }
+    /// A step with what was looked up for it, where it can be made now; else why it is refused, but for want of memory.
+    pub fn ready(&self, step: &Step) -> Result<Ready, StepFault>
+        ensures step { IfOk result (λ ready. ready.step ≡ step.now) }
+        ensures look { IfOk result (λ ready. ready.look ≡ needs self.now step.now) }
+        ensures ready { IfOk result (IsReady self.now) }
         ensures allowed { OnOk result (step_refusal self.now step.now ≡ None) }
         ensures refused { IfErr result (λ fault. step_refusal self.now step.now ≡ Some fault) }
     {
-        if !self.can_make(step) {
-            return Err(StepFault::NotEnabled);
+        match *step {
+            Step::Do(p) => match self.command_of(p) {
+                Some(command) => self.ready_to_do(p, &command),
+                None => Err(StepFault::NotEnabled),
+            },
+            Step::Take { at, from } => {
+                if self.enabled(step) {
+                    self.ready_to_take(at, from)
+                } else {
+                    Err(StepFault::NotEnabled)
+                }
+            }
         }
-        self.ready_found(step)
     }
 
     /// The same of a step that is enabled, as one that was found.
     #[inline(always)]
-    pub fn ready_found(&self, step: &Step) -> Result<Look, StepFault>
+    pub fn ready_found(&self, step: &Step) -> Result<Ready, StepFault>
         requires { can_make self.now step.now ≡ true }
-        ensures look { IfOk result (λ look. look ≡ needs self.now step.now) }
+        ensures step { IfOk result (λ ready. ready.step ≡ step.now) }
+        ensures look { IfOk result (λ ready. ready.look ≡ needs self.now step.now) }
+        ensures ready { IfOk result (IsReady self.now) }
         ensures allowed { OnOk result (step_refusal self.now step.now ≡ None) }
         ensures refused { IfErr result (λ fault. step_refusal self.now step.now ≡ Some fault) }
     {
-        if self.is_full() {
-            return Err(StepFault::LogFull);
-        }
         match *step {
-            Step::Do(p) => self.ready_to_do(p),
-            Step::Take { at, from } => Ok(self.look_at_parcel(at, from)),
+            Step::Do(p) => match self.agenda.open_command(p) {
+                Some(command) => self.ready_to_do(p, &command),
+                None => Err(StepFault::NotEnabled),
+            },
+            Step::Take { at, from } => self.ready_to_take(at, from),
         }
     }
 
@@ -107,21 +137,47 @@ impl World {
         self.system.log().rows().len() + 4 > self.limit
     }
 
-    /// What a process's next command, which can be done, needs of its object.
-    fn ready_to_do(&self, p: ProcNo) -> Result<Look, StepFault>
+    /// A process's next command, which can be done, as a step.
+    fn ready_to_do(&self, p: ProcNo, command: &Command) -> Result<Ready, StepFault>
         requires enabled { can_make self.now (Step.Do p) ≡ true }
-        requires room { is_full self.now ≡ false }
-        ensures look { IfOk result (λ look. look ≡ needs self.now (Step.Do p)) }
+        requires next { open_command self.now.agenda p ≡ Some command.now }
+        ensures step { IfOk result (λ ready. ready.step ≡ Step.Do p) }
+        ensures look { IfOk result (λ ready. ready.look ≡ needs self.now (Step.Do p)) }
+        ensures ready { IfOk result (IsReady self.now) }
         ensures allowed { OnOk result (step_refusal self.now (Step.Do p) ≡ None) }
         ensures refused { IfErr result (λ fault. step_refusal self.now (Step.Do p) ≡ Some fault) }
     {
-        let Some(command) = self.agenda.open_command(p) else {
-            return Err(StepFault::NotEnabled);
-        };
-        if self.has_no_label(p, &command) {
+        if self.is_full() {
+            return Err(StepFault::LogFull);
+        }
+        if self.has_no_label(p, command) {
             return Err(StepFault::LabelsSpent);
         }
-        Ok(self.look_at_command(p, &command))
+        Ok(Ready {
+            step: Step::Do(p),
+            look: self.look_at_command(p, command),
+            place: self.agenda.place(p),
+        })
+    }
+
+    /// The next parcel from another process, which can be taken, as a step.
+    #[inline(always)]
+    fn ready_to_take(&self, at: ProcNo, from: ProcNo) -> Result<Ready, StepFault>
+        requires { can_make self.now (Step.Take at from) ≡ true }
+        ensures step { IfOk result (λ ready. ready.step ≡ Step.Take at from) }
+        ensures look { IfOk result (λ ready. ready.look ≡ needs self.now (Step.Take at from)) }
+        ensures ready { IfOk result (IsReady self.now) }
+        ensures allowed { OnOk result (step_refusal self.now (Step.Take at from) ≡ None) }
+        ensures refused { IfErr result (λ fault. step_refusal self.now (Step.Take at from) ≡ Some fault) }
+    {
+        if self.is_full() {
+            return Err(StepFault::LogFull);
+        }
+        Ok(Ready {
+            step: Step::Take { at, from },
+            look: self.look_at_parcel(at, from),
+            place: self.agenda.place(at),
+        })
     }
 
     /// What the next parcel from another process needs of a process's object.
@@ -195,14 +251,6 @@ impl World {
         ensures follows { IsTrue result → FollowsPlan self.now.agenda.plan self.now.system.rows.rows }
     {
         kt_plans::logs_follow_plans();
-        self.is_over()
-    }
-
-    /// Whether all is done.
-    fn is_over(&self) -> bool
-        ensures rest { IsTrue result ↔ IsWorldAtRest self.now }
-        ensures reached { IsReached self.now.agenda self.now.system }
-    {
         self.agenda.is_done() && self.system.is_quiet()
     }
 
@@ -214,15 +262,6 @@ impl World {
         ensures none { IfNone result ((step : Step) → can_make self.now step ≡ false) }
         ensures in_runs { (first : ℕ) (v : Progress) → Mirrors self.now.agenda self.now.system first v →
             result ≡ default_step self.now.agenda.plan v }
-    {
-        self.first_step()
-    }
-
-    /// The step that is made where none is given.
-    fn first_step(&self) -> Option<Step>
-        ensures step { IfSome result (IsDefaultStep self.now) }
-        ensures enabled { IfSome result (λ step. can_make self.now step ≡ true) }
-        ensures none { IfNone result ((step : Step) → can_make self.now step ≡ false) }
     {
         match self.system.next_take() {
             Some((at, from)) => Some(Step::Take { at, from }),
@@ -241,15 +280,6 @@ impl World {
         ensures none { IfNone result ((step : Step) → process_of_step step ≡ p → can_make self.now step ≡ false) }
         ensures in_runs { (first : ℕ) (v : Progress) → Mirrors self.now.agenda self.now.system first v →
             IfSome result (λ step. enabled self.now.agenda.plan v step ≡ true) }
-    {
-        self.step_of(p)
-    }
-
-    /// The step that a process makes next.
-    fn step_of(&self, p: ProcNo) -> Option<Step>
-        ensures step { IfSome result (IsNextStepOf self.now p) }
-        ensures enabled { IfSome result (λ step. can_make self.now step ≡ true) }
-        ensures none { IfNone result ((step : Step) → process_of_step step ≡ p → can_make self.now step ≡ false) }
     {
         if !self.is_there(p) {
             return None;

@@ -7,11 +7,13 @@ ghost use Rattle.kt_plans.specs.Progress.{Progress};
 ghost use Rattle.kt_plans.specs.Rows.{AreRowsOfStep};
 ghost use Rattle.kt_core.specs.Making.{KeepsPlan, MakesStep};
 ghost use Rattle.kt_core.specs.Worlds.{step_refusal, IsSameWorld, SettlesIn, numbered_row};
+ghost use Rattle.kt_core.specs.Ready.{IsReady};
 ghost use Rattle.kt_core.specs.Shown.{Mirrors};
 
 use super::World;
 use crate::agenda::Agenda;
 use crate::faults::StepFault;
+use crate::ready::Ready;
 use kt_base::{Memory, ProcNo, RowNo};
 use kt_plan::{Act, Give, Step, Told};
 use kt_spacetime::Event;
@@ -40,10 +42,10 @@ impl World {
         ensures told { IfOk result (λ told. (i : ℕ) → i < 4 → slice_get told.rows i ≡ Some (numbered_row self.new.system.rows.rows (length self.old.system.rows.rows + i))) }
     {
         match self.ready(&step) {
-            Ok(_) => {
+            Ok(ready) => {
                 let count = self.system.log().rows().len();
                 let mut acts = NO_ACTS;
-                self.make_step(&step, give, &mut acts)?;
+                self.make_step(&ready, give, &mut acts)?;
                 Ok(Told {
                     step,
                     rows: self.rows_after(count),
@@ -63,25 +65,30 @@ impl World {
         ensures made { IfOk result (λ acts. MakesStep self.old step give acts self.new) }
     {
         match self.ready(&step) {
-            Ok(_) => {
+            Ok(ready) => {
                 let mut acts = NO_ACTS;
-                self.make_step(&step, give, &mut acts)?;
+                self.make_step(&ready, give, &mut acts)?;
                 Ok(acts)
             }
             Err(fault) => Err(fault),
         }
     }
 
-    /// Makes a step that `ready` says can be made. After want of memory the world is as it was.
+    /// Makes a step that `ready` gave, of which nothing is looked up again. After want of memory the world is as it was.
     #[inline(always)]
-    pub fn make_step(&mut self, step: &Step, give: Give, acts: &mut [Act; 2]) -> Result<(), Memory>
-        requires { step_refusal self.old step.now ≡ None }
+    pub fn make_step(
+        &mut self,
+        ready: &Ready,
+        give: Give,
+        acts: &mut [Act; 2],
+    ) -> Result<(), Memory>
+        requires { IsReady self.old ready.now }
         ensures keeps { KeepsPlan self.old self.new }
         ensures err { OnErr result (IsSameWorld self.new self.old) }
-        ensures made { OnOk result (MakesStep self.old step.now give acts.new self.new) }
+        ensures made { OnOk result (MakesStep self.old ready.now.step give acts.new self.new) }
     {
-        match *step {
-            Step::Do(p) => self.do_next(p, give, acts),
+        match ready.step {
+            Step::Do(p) => self.do_next(p, ready.place, give, acts),
             Step::Take { at, from } => self.take(at, from, give, acts),
         }
     }

@@ -1,11 +1,12 @@
 //! Steps in an order, which are listed.
 
-ghost use Rattle.std.specs.Prelude.{◌≡◌, ◌∷◌, ◌++◌, ℕ, List, [], false, length, OnOk, IfOk, IfErr};
+ghost use Rattle.std.specs.Prelude.{◌≡◌, ◌≢◌, ◌∷◌, ◌++◌, ℕ, List, [], Some, false, length, slice_index_or, OnOk, IfOk, IfErr};
 ghost use Rattle.kt_core.specs.declared.faults.StepFault.{StepFault};
 ghost use Rattle.kt_held.specs.Holdings.{Content, content};
-ghost use Rattle.kt_run.specs.Faults.{is_of_cast};
-ghost use Rattle.kt_run.specs.Objects.{has_of, HoldDue};
-ghost use Rattle.kt_run.specs.Orders.{IsOneRefused, RestsInOrder};
+ghost use Rattle.kt_run.specs.Faults.{is_of_cast, stopped_at};
+ghost use Rattle.kt_run.specs.Objects.{first_of, has_of, HoldDue};
+ghost use Rattle.kt_run.specs.Orders.{IsOneRefused, IsOneStopped, RestsInOrder};
+ghost use Rattle.kt_run.specs.Rejections.{MayReject, objects_held, HaveSpares};
 ghost use Rattle.kt_run.specs.Runs.{scene, BeginsRun, Starts};
 ghost use Rattle.kt_run.specs.Telling.{AreEmpty};
 
@@ -34,6 +35,18 @@ impl Stage {
             (λ b. content (kind_of (b.vtable, b.value)) (value_of (b.vtable, b.value)))) →
             IfErr result (λ fault. (done : ℕ) (why : StepFault) → fault ≡ RunFault.Step done why →
             IsOneRefused self.old.world.agenda.plan cast done why) }
+        ensures untold { length self.old.journals ≡ 0 →
+            IfErr result (λ fault. (p : ℕ) → fault ≢ RunFault.Journal p) }
+        ensures named { (cast : List (List Content)) → HoldDue cast [] (has_of self.old.objects.items
+            (λ b. content (kind_of (b.vtable, b.value)) (value_of (b.vtable, b.value)))) →
+            IfErr result (λ fault. (p : ℕ) → stopped_at fault ≡ Some p →
+            IsOneStopped self.old.world.agenda.plan cast p) }
+        ensures object { (cast : List (List Content)) → HoldDue cast [] (has_of self.old.objects.items
+            (λ b. content (kind_of (b.vtable, b.value)) (value_of (b.vtable, b.value)))) →
+            HaveSpares self.old.world.agenda.plan cast →
+            IfErr result (λ fault. (p : ℕ) → fault ≡ RunFault.Object p →
+            MayReject (λ b saved. may_reject (b.vtable, b.value) saved) (first_of (slice_index_or cast p [])).kind
+            (slice_index_or (objects_held self.old.objects.items) p [])) }
         ensures rests { (cast : List (List Content)) → HoldDue cast [] (has_of self.old.objects.items
             (λ b. content (kind_of (b.vtable, b.value)) (value_of (b.vtable, b.value)))) →
             IfOk result (λ made. RestsInOrder self.old.world.agenda.plan cast steps.now made.items generator.old
@@ -68,6 +81,22 @@ impl Stage {
             (λ b. content (kind_of (b.vtable, b.value)) (value_of (b.vtable, b.value)))) →
             IfErr result (λ fault. (done : ℕ) (why : StepFault) → fault ≡ RunFault.Step done why →
             IsOneRefused self.old.world.agenda.plan cast done why) }
+        ensures untold { length self.old.journals ≡ 0 →
+            IfErr result (λ fault. (p : ℕ) → fault ≢ RunFault.Journal p) }
+        ensures named { (cast : List (List Content)) →
+            BeginsRun self.old.world.agenda.plan cast made.old.items self.old.world
+            (scene self.old.journals self.old.objects.items
+            (λ b. content (kind_of (b.vtable, b.value)) (value_of (b.vtable, b.value)))) →
+            IfErr result (λ fault. (p : ℕ) → stopped_at fault ≡ Some p →
+            IsOneStopped self.old.world.agenda.plan cast p) }
+        ensures object { (cast : List (List Content)) →
+            BeginsRun self.old.world.agenda.plan cast made.old.items self.old.world
+            (scene self.old.journals self.old.objects.items
+            (λ b. content (kind_of (b.vtable, b.value)) (value_of (b.vtable, b.value)))) →
+            HaveSpares self.old.world.agenda.plan cast →
+            IfErr result (λ fault. (p : ℕ) → fault ≡ RunFault.Object p →
+            MayReject (λ b saved. may_reject (b.vtable, b.value) saved) (first_of (slice_index_or cast p [])).kind
+            (slice_index_or (objects_held self.old.objects.items) p [])) }
         ensures rests { (cast : List (List Content)) →
             BeginsRun self.old.world.agenda.plan cast made.old.items self.old.world
             (scene self.old.journals self.old.objects.items

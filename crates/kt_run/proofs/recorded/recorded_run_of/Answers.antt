@@ -1,10 +1,15 @@
-use Rattle.std.proofs.Common.{rules, ◌≡◌, [], map, subst, sym, ap}
-use Rattle.std.specs.Prelude.{Option, Result, Err, IfErr}
+use Rattle.std.proofs.Common.{rules, inl, inr, ◌≡◌, [], map, refl, subst, sym, ap}
+use Rattle.std.specs.Prelude.{Option, Result, Err, IfErr, slice_index_or}
 use Rattle.kt_held.specs.Holdings.{content}
 use Rattle.kt_plan.specs.Limits.{Planned, IsPlan}
-use Rattle.kt_run.specs.Orders.{Generator, IsOneRefused, RestsInOrder, generator_of}
+use Rattle.kt_run.specs.Faults.{stopped_at}
+use Rattle.kt_run.specs.Objects.{first_of}
+use Rattle.kt_run.specs.Orders.{Generator, IsOneRefused, IsOneStopped, RestsInOrder}
+use Rattle.kt_run.specs.Rejections.{objects_held, HaveSpares}
 use Rattle.kt_run.specs.Runs.{scene}
+use Rattle.kt_run.proofs.Casting.{of_right}
 use Rattle.kt_run.proofs.Ordering.{run_in_order, follows_in_order}
+use Rattle.kt_run.proofs.Rejecting.{have_spares, of_plan, rejected_of}
 use Rattle.kt_run.proofs.recorded.recorded_run_of.Goals as goal
 
 pub returns-clause-run : goal.returns-clause-run
@@ -30,3 +35,30 @@ returns-in_err-stage-clause-refused g c = if_err c.from_residual.result _ c.in_e
 pub returns-in_err-made-clause-refused : goal.returns-in_err-made-clause-refused
 returns-in_err-made-clause-refused g c = if_err c.from_residual-in_err-made.result _ c.in_err-made.field-0.0 (search rules)
     (λ done why e. subst (λ (p : Planned). IsOneRefused p (map (λ row. map (λ b. content ((goal.Recoverable-dyn g (b.vtable, b.value)).kind_of b.value) ((goal.Recoverable-dyn g (b.vtable, b.value)).value_of b.value)) row.items) c.args.cast.items) done why) c.in_ok-stage.ensures.plan (c.in_err-made.ensures.refused (map (λ row. map (λ b. content ((goal.Recoverable-dyn g (b.vtable, b.value)).kind_of b.value) ((goal.Recoverable-dyn g (b.vtable, b.value)).value_of b.value)) row.items) c.args.cast.items) c.in_ok-stage.ensures.due done why e))
+
+pub returns-in_err-stage-clause-untold : goal.returns-in_err-stage-clause-untold
+returns-in_err-stage-clause-untold g c = if_err c.from_residual.result _ c.in_err-stage.field-0.0 (search rules) c.in_err-stage.ensures.untold
+
+pub returns-in_err-made-clause-untold : goal.returns-in_err-made-clause-untold
+returns-in_err-made-clause-untold g c = if_err c.from_residual-in_err-made.result _ c.in_err-made.field-0.0 (search rules) (c.in_err-made.ensures.untold c.in_ok-stage.ensures.none)
+
+pub returns-in_err-stage-clause-object : goal.returns-in_err-stage-clause-object
+returns-in_err-stage-clause-object g c = if_err c.from_residual.result _ c.in_err-stage.field-0.0 (search rules) (λ p e. inl (c.in_err-stage.ensures.object p e))
+
+pub returns-in_err-made-clause-object : goal.returns-in_err-made-clause-object
+returns-in_err-made-clause-object g c = if_err c.from_residual-in_err-made.result _ c.in_err-made.field-0.0 (search rules)
+    (λ p e. inr (
+      subst (λ (z : Planned). IsOneStopped z
+          (map (λ row. map (λ b. content ((goal.Recoverable-dyn g (b.vtable, b.value)).kind_of b.value) ((goal.Recoverable-dyn g (b.vtable, b.value)).value_of b.value)) row.items) c.args.cast.items)
+          p) c.in_ok-stage.ensures.plan
+          (c.in_err-made.ensures.named
+          (map (λ row. map (λ b. content ((goal.Recoverable-dyn g (b.vtable, b.value)).kind_of b.value) ((goal.Recoverable-dyn g (b.vtable, b.value)).value_of b.value)) row.items) c.args.cast.items)
+          c.in_ok-stage.ensures.due p (ap stopped_at e)),
+      of_plan (λ row. row.items) (λ b. (goal.Recoverable-dyn g (b.vtable, b.value)).kind_of b.value) (λ b. content ((goal.Recoverable-dyn g (b.vtable, b.value)).kind_of b.value) ((goal.Recoverable-dyn g (b.vtable, b.value)).value_of b.value)) (λ b. refl) (λ b saved. (goal.Recoverable-dyn g (b.vtable, b.value)).may_reject b.value saved) c.args.plan.now c.args.cast.items p c.in_ok-stage.ensures.cast
+          (rejected_of (λ b saved. (goal.Recoverable-dyn g (b.vtable, b.value)).may_reject b.value saved) (first_of (slice_index_or (map (λ row. map (λ b. content ((goal.Recoverable-dyn g (b.vtable, b.value)).kind_of b.value) ((goal.Recoverable-dyn g (b.vtable, b.value)).value_of b.value)) row.items) c.args.cast.items) p [])).kind p (map (λ row. row.items) c.args.cast.items) (objects_held c.in_ok-stage.stage.objects.items) c.in_ok-stage.ensures.rejects
+          (c.in_err-made.ensures.object (map (λ row. map (λ b. content ((goal.Recoverable-dyn g (b.vtable, b.value)).kind_of b.value) ((goal.Recoverable-dyn g (b.vtable, b.value)).value_of b.value)) row.items) c.args.cast.items) c.in_ok-stage.ensures.due (subst (λ (z : Planned). HaveSpares z (map (λ row. map (λ b. content ((goal.Recoverable-dyn g (b.vtable, b.value)).kind_of b.value) ((goal.Recoverable-dyn g (b.vtable, b.value)).value_of b.value)) row.items) c.args.cast.items)) (sym c.in_ok-stage.ensures.plan) (have_spares (λ row. row.items) (λ b. (goal.Recoverable-dyn g (b.vtable, b.value)).kind_of b.value) (λ b. content ((goal.Recoverable-dyn g (b.vtable, b.value)).kind_of b.value) ((goal.Recoverable-dyn g (b.vtable, b.value)).value_of b.value)) (λ b. refl) c.args.plan.now c.args.cast.items c.in_ok-stage.ensures.cast)) p e)),
+    ))
+
+pub returns-in_err-made-clause-fault : goal.returns-in_err-made-clause-fault
+returns-in_err-made-clause-fault g c = if_err c.from_residual-in_err-made.result _ c.in_err-made.field-0.0 (search rules)
+    (of_right c.args.plan.now _ c.in_err-made.field-0.0 c.in_ok-stage.ensures.cast c.in_err-made.ensures.fault)

@@ -1,5 +1,15 @@
+use Rattle.std.proofs.Common.{rules}
 use Rattle.kt_core.proofs.Defaults.{default_is}
 use Rattle.kt_core.proofs.world.World.default_step.Goals as goal
 
-pub returns-clause-in_runs : goal.returns-clause-in_runs
-returns-clause-in_runs c = λ first v r. default_is c.args.self.now first v r c.first_step.result c.first_step.ensures.step c.first_step.ensures.enabled c.first_step.ensures.none
+pub returns-in-Some-clause-in_runs : goal.returns-in-Some-clause-in_runs
+returns-in-Some-clause-in_runs c = λ first v r.
+    default_is c.args.self.now first v r _ (search rules) (search rules) (search rules)
+
+pub returns-in-Some-first_do-clause-in_runs : goal.returns-in-Some-first_do-clause-in_runs
+returns-in-Some-first_do-clause-in_runs c = λ first v r.
+    default_is c.args.self.now first v r _ (search rules) (search rules) (search rules)
+
+pub returns-in-None-first_do-clause-in_runs : goal.returns-in-None-first_do-clause-in_runs
+returns-in-None-first_do-clause-in_runs c = λ first v r.
+    default_is c.args.self.now first v r _ (search rules) (search rules) (search rules)

@@ -11,7 +11,7 @@ use Rattle.kt_core.specs.Shown.{Mirrors}
 use Rattle.kt_core.specs.Agendas.{agenda_place, IsNextOf}
 use Rattle.kt_core.specs.Making.{MakesStep}
 use Rattle.kt_core.specs.Worlds.{World, step_refusal}
-use Rattle.kt_core.proofs.Enabled.{few, enabled_is, enabled_if, does_there}
+use Rattle.kt_core.proofs.Enabled.{few, enabled_is, enabled_if, does_there, opened_as}
 use Rattle.kt_core.proofs.Making.{makes_step}
 use Rattle.kt_core.proofs.Leading.{do_acts, do_leads, do_puts, run_same, puts_same, open_is_next}
 use Rattle.kt_core.proofs.Phases.{settles_from}
@@ -33,10 +33,10 @@ invariant_of-self-2 c =
     let s = c.self.inside.system in
     let w : World = record { agenda = a; system = s; limit = c.self.inside.limit } in
     let p = c.args.p in
-    let allowed = subst (λ (z : World). step_refusal z (Do p) ≡ None) (sym c.self.view_is) c.requires in
+    let allowed = subst (λ (z : World). step_refusal z (Do p) ≡ None) (sym c.self.view_is) c.requires.allowed in
     let there = does_there w p allowed in
     let size = c.self.invariant.size in
-    let command = sym c.in-Some.ensures.command in
+    let command = opened_as w p c.in-Some.command allowed (sym c.in-Some.ensures.command) in
     let on = sym (enabled_is w r.0 r.1 r.2 (Do p)) ∙ enabled_if w (Do p) allowed in
     let move = c.advance.ensures in
     let opened = c.settle.ensures in
@@ -61,10 +61,10 @@ returns-clause-made c =
     let b = c.settle.new.agenda in
     let w : World = record { agenda = a; system = s; limit = c.self.inside.limit } in
     let p = c.args.p in
-    let allowed = subst (λ (z : World). step_refusal z (Do p) ≡ None) (sym c.self.view_is) c.requires in
+    let allowed = subst (λ (z : World). step_refusal z (Do p) ≡ None) (sym c.self.view_is) c.requires.allowed in
     let there = does_there w p allowed in
     let size = c.self.invariant.size in
-    let command = sym c.in-Some.ensures.command in
+    let command = opened_as w p c.in-Some.command allowed (sym c.in-Some.ensures.command) in
     let move = c.advance.ensures in
     let opened = c.settle.ensures in
     let next = open_is_next a p c.in-Some.command command in

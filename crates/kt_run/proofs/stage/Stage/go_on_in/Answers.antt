@@ -1,18 +1,24 @@
-use Rattle.std.proofs.Common.{rules, ◌≡◌, ◌+◌, List, [], ◌∷◌, ◌++◌, length, true, arith, refl, sym, ap, subst, ◌∙◌}
-use Rattle.std.specs.Prelude.{Option, Result, Err, IfErr, IfSome, IfNone, false}
+use Rattle.std.proofs.Common.{rules, ◌≡◌, List, [], length, true, arith, refl, sym, ap, subst, ◌∙◌}
+use Rattle.std.specs.Prelude.{Option, Result, Err, IfErr, IfSome, IfNone, false, slice_index_or}
 use Rattle.std.proofs.lemmas.List.{length_push}
 use Rattle.kt_held.specs.Holdings.{content}
 use Rattle.kt_core.specs.Worlds.{can_make}
+use Rattle.kt_plan.specs.Limits.{Planned}
 use Rattle.kt_plan.specs.declared.steps.Step.{Step}
+use Rattle.kt_run.specs.Objects.{first_of}
 use Rattle.kt_run.specs.Orders.{GoesInOrder, generator_next}
+use Rattle.kt_run.specs.Rejections.{objects_held, HaveSpares}
 use Rattle.kt_run.specs.Runs.{scene}
+use Rattle.kt_run.proofs.Rejecting.{no_more_then, rejected_of}
 use Rattle.kt_run.proofs.Running.{begins_few}
-use Rattle.kt_run.proofs.Ordering.{in_order_start, in_order_more, in_order_rest, one_refused}
+use Rattle.kt_run.proofs.Ordering.{in_order_start, in_order_more, in_order_rest, one_refused, one_stopped}
 use Rattle.kt_run.proofs.stage.Stage.go_on_in.Goals as goal
 
 pub loop-number-init : goal.loop-number-init
 loop-number-init g c = record {
   plan = refl;
+  count = refl;
+  rejects = λ p saved any. any;
   done = c.requires.done;
   many = omega arith;
   seats = c.requires.seats;
@@ -39,6 +45,8 @@ loop-number-preserved g c =
     let many = c.loop-number.invariant.many in
     record {
       plan = c.in_ok-make.ensures.plan ∙ c.loop-number.invariant.plan;
+      count = c.in_ok-make.ensures.leads.2.count ∙ c.loop-number.invariant.count;
+      rejects = no_more_then (λ b saved. (goal.Recoverable-dyn g (b.vtable, b.value)).may_reject b.value saved) (objects_held c.args.self.now.objects.items) (objects_held c.loop-number.self.objects.items) (objects_held c.make.new.self.objects.items) c.loop-number.invariant.rejects c.in_ok-make.ensures.rejects;
       done = omega (arith, items, longer, done, was);
       many = omega (arith, items, longer, many);
       seats = c.in_ok-make.ensures.seats;
@@ -72,3 +80,18 @@ returns-in_err-make-clause-refused g c = λ cast b. if_err c.from_residual-in_er
     let r = c.in_err-make.ensures.refused done why e in
     let goes = c.loop-number.invariant.goes cast b in
     one_refused c.args.self.now.world.agenda.plan cast c.loop-number.made.items done c.loop-number.self.world (scene c.loop-number.self.journals c.loop-number.self.objects.items (λ b. content ((goal.Recoverable-dyn g (b.vtable, b.value)).kind_of b.value) ((goal.Recoverable-dyn g (b.vtable, b.value)).value_of b.value))) c.in-Some.step why goes.run (r.0 ∙ c.loop-number.invariant.done) r.1)
+
+pub returns-in_err-make-clause-named : goal.returns-in_err-make-clause-named
+returns-in_err-make-clause-named g c = λ cast b. if_err c.from_residual-in_err-make.result _ c.in_err-make.field-0.0 (search rules)
+    (λ p e. one_stopped c.args.self.now.world.agenda.plan cast c.loop-number.made.items c.loop-number.self.world (scene c.loop-number.self.journals c.loop-number.self.objects.items (λ b. content ((goal.Recoverable-dyn g (b.vtable, b.value)).kind_of b.value) ((goal.Recoverable-dyn g (b.vtable, b.value)).value_of b.value))) c.in-Some.step p (c.loop-number.invariant.goes cast b).run
+    (c.in_err-make.ensures.named p e) (c.in_err-make.ensures.made p e))
+
+pub returns-in_err-make-clause-object : goal.returns-in_err-make-clause-object
+returns-in_err-make-clause-object g c = λ cast b spares. if_err c.from_residual-in_err-make.result _ c.in_err-make.field-0.0 (search rules)
+    (λ p e.
+    let goes = c.loop-number.invariant.goes cast b in
+    rejected_of (λ b saved. (goal.Recoverable-dyn g (b.vtable, b.value)).may_reject b.value saved) (first_of (slice_index_or cast p [])).kind p (objects_held c.args.self.now.objects.items) (objects_held c.loop-number.self.objects.items) c.loop-number.invariant.rejects
+    (c.in_err-make.ensures.object cast 0 goes.run.now goes.run.shown (subst (λ (z : Planned). HaveSpares z cast) (sym c.loop-number.invariant.plan) spares) goes.run.due p e))
+
+pub returns-in_err-make-clause-untold : goal.returns-in_err-make-clause-untold
+returns-in_err-make-clause-untold g c = λ none. if_err c.from_residual-in_err-make.result _ c.in_err-make.field-0.0 (search rules) (c.in_err-make.ensures.untold (c.loop-number.invariant.count ∙ none))

@@ -1,11 +1,14 @@
-use Rattle.std.proofs.Common.{rules, ◌≡◌, ◌++◌, List, length, sym, ap, subst, ◌∙◌}
-use Rattle.std.specs.Prelude.{Option, Result, Err, IfErr}
+use Rattle.std.proofs.Common.{rules, ◌≡◌, ◌++◌, [], List, length, sym, ap, subst, ◌∙◌}
+use Rattle.std.specs.Prelude.{Result, Err, IfErr, slice_index_or}
 use Rattle.kt_held.specs.Holdings.{content}
 use Rattle.kt_plan.specs.Limits.{Planned}
 use Rattle.kt_plan.specs.declared.steps.Step.{Step}
-use Rattle.kt_run.specs.Orders.{IsOneRefused, RestsInOrder}
+use Rattle.kt_run.specs.Objects.{first_of}
+use Rattle.kt_run.specs.Orders.{IsOneRefused, IsOneStopped, RestsInOrder}
+use Rattle.kt_run.specs.Rejections.{objects_held, HaveSpares}
 use Rattle.kt_run.specs.Runs.{scene, BeginsRun}
-use Rattle.kt_run.proofs.Ordering.{given_one_refused}
+use Rattle.kt_run.proofs.Ordering.{given_one_refused, given_one_stopped}
+use Rattle.kt_run.proofs.Rejecting.{rejected_of}
 use Rattle.kt_run.proofs.stage.Stage.make_in_order.Goals as goal
 use Rattle.kt_run.proofs.stage.Stage.make_in_order.Goals.{After-go_on_in}
 
@@ -42,3 +45,35 @@ returns-in_err-go_on_in-clause-refused g c = λ cast due.
     (subst (λ (p : Planned). BeginsRun p cast c.args.steps.now c.make_given.new.self.world (scene c.make_given.new.self.journals c.make_given.new.self.objects.items (λ b. content ((goal.Recoverable-dyn g (b.vtable, b.value)).kind_of b.value) ((goal.Recoverable-dyn g (b.vtable, b.value)).value_of b.value)))) (sym same) (c.in_ok-make_given.ensures.begun cast due)) in
     if_err c.from_residual-in_err-go_on_in.result _ c.in_err-go_on_in.field-0.0 (search rules)
     (λ done why e. subst (λ (p : Planned). IsOneRefused p cast done why) same (c.in_err-go_on_in.ensures.refused cast begun done why e))
+
+pub returns-in_err-make_given-clause-named : goal.returns-in_err-make_given-clause-named
+returns-in_err-make_given-clause-named g c = λ cast due. if_err c.from_residual.result _ c.in_err-make_given.field-0.0 (search rules)
+    (λ p e. given_one_stopped c.args.self.now.world.agenda.plan cast c.args.steps.now p (c.in_err-make_given.ensures.named cast due p e))
+
+pub returns-in_err-go_on_in-clause-named : goal.returns-in_err-go_on_in-clause-named
+returns-in_err-go_on_in-clause-named g c = λ cast due.
+    let same = c.in_ok-make_given.ensures.plan in
+    let begun = subst (λ (l : List Step). BeginsRun c.make_given.new.self.world.agenda.plan cast l c.make_given.new.self.world (scene c.make_given.new.self.journals c.make_given.new.self.objects.items (λ b. content ((goal.Recoverable-dyn g (b.vtable, b.value)).kind_of b.value) ((goal.Recoverable-dyn g (b.vtable, b.value)).value_of b.value)))) (sym (c.in-Ok.ensures.items ∙ ap (λ (l : List Step). l ++ c.args.steps.now) c.new-made.ensures.items))
+    (subst (λ (p : Planned). BeginsRun p cast c.args.steps.now c.make_given.new.self.world (scene c.make_given.new.self.journals c.make_given.new.self.objects.items (λ b. content ((goal.Recoverable-dyn g (b.vtable, b.value)).kind_of b.value) ((goal.Recoverable-dyn g (b.vtable, b.value)).value_of b.value)))) (sym same) (c.in_ok-make_given.ensures.begun cast due)) in
+    if_err c.from_residual-in_err-go_on_in.result _ c.in_err-go_on_in.field-0.0 (search rules)
+    (λ p e. subst (λ (z : Planned). IsOneStopped z cast p) same (c.in_err-go_on_in.ensures.named cast begun p e))
+
+pub returns-in_err-make_given-clause-object : goal.returns-in_err-make_given-clause-object
+returns-in_err-make_given-clause-object g c = λ cast due spares.
+    if_err c.from_residual.result _ c.in_err-make_given.field-0.0 (search rules) (c.in_err-make_given.ensures.object cast due spares)
+
+pub returns-in_err-go_on_in-clause-object : goal.returns-in_err-go_on_in-clause-object
+returns-in_err-go_on_in-clause-object g c = λ cast due spares.
+    let same = c.in_ok-make_given.ensures.plan in
+    let begun = subst (λ (l : List Step). BeginsRun c.make_given.new.self.world.agenda.plan cast l c.make_given.new.self.world (scene c.make_given.new.self.journals c.make_given.new.self.objects.items (λ b. content ((goal.Recoverable-dyn g (b.vtable, b.value)).kind_of b.value) ((goal.Recoverable-dyn g (b.vtable, b.value)).value_of b.value)))) (sym (c.in-Ok.ensures.items ∙ ap (λ (l : List Step). l ++ c.args.steps.now) c.new-made.ensures.items))
+    (subst (λ (p : Planned). BeginsRun p cast c.args.steps.now c.make_given.new.self.world (scene c.make_given.new.self.journals c.make_given.new.self.objects.items (λ b. content ((goal.Recoverable-dyn g (b.vtable, b.value)).kind_of b.value) ((goal.Recoverable-dyn g (b.vtable, b.value)).value_of b.value)))) (sym same) (c.in_ok-make_given.ensures.begun cast due)) in
+    if_err c.from_residual-in_err-go_on_in.result _ c.in_err-go_on_in.field-0.0 (search rules)
+    (λ p e. rejected_of (λ b saved. (goal.Recoverable-dyn g (b.vtable, b.value)).may_reject b.value saved) (first_of (slice_index_or cast p [])).kind p (objects_held c.args.self.now.objects.items) (objects_held c.make_given.new.self.objects.items) c.in_ok-make_given.ensures.rejects
+    (c.in_err-go_on_in.ensures.object cast begun (subst (λ (z : Planned). HaveSpares z cast) (sym same) spares) p e))
+
+pub returns-in_err-make_given-clause-untold : goal.returns-in_err-make_given-clause-untold
+returns-in_err-make_given-clause-untold g c = λ none. if_err c.from_residual.result _ c.in_err-make_given.field-0.0 (search rules) (c.in_err-make_given.ensures.untold none)
+
+pub returns-in_err-go_on_in-clause-untold : goal.returns-in_err-go_on_in-clause-untold
+returns-in_err-go_on_in-clause-untold g c = λ none. if_err c.from_residual-in_err-go_on_in.result _ c.in_err-go_on_in.field-0.0 (search rules)
+    (c.in_err-go_on_in.ensures.untold (c.in_ok-make_given.ensures.count ∙ none))
