@@ -1,14 +1,17 @@
 -- What is noted of processes goes on by a step.
 use Rattle.std.proofs.Common.{arith, ◌≡◌, ◌≢◌, ◌∙◌, ◌<◌, ℕ, List, [], ◌∷◌, ◌++◌, append_assoc, append-nil, length, map, set, sym, ap, refl, get_or, Bool, true, false, Result, Ok, Err}
-use Rattle.std.specs.Prelude.{◌==◌, if◌then◌else◌, is_err, OnOk}
+use Rattle.std.specs.Prelude.{◌==◌, if◌then◌else◌, is_err, option_map, Option, Some, None, OnOk}
 use Rattle.std.proofs.lemmas.Bool.{eqb-true, eqb-false}
 use Rattle.std.proofs.lemmas.List.{map-append, map-set, length-map, length-set, get_or-map, get_or-set_same, get_or-set_other}
 use Rattle.std.proofs.lemmas.List.Elements.{filter-append}
+use Rattle.kt_plans.specs.Runs.{Move}
 use Rattle.kt_plans.specs.Steps.{process_of_step}
+use Rattle.kt_plan.specs.declared.steps.Step.{Step}
 use Rattle.kt_plan.specs.declared.steps.Told.{Told}
 use Rattle.kt_threads.specs.Errands.{errand_of, errands_at, errands_of, is_no_errand}
 use Rattle.kt_threads.specs.Histories.{AreTheirs, AreTold, made_by, told_to}
-use Rattle.kt_threads.specs.Noted.{AreAskedBy, AreNoted, AreToldBy, IsNotedBy}
+use Rattle.kt_threads.specs.Moves.{move_of}
+use Rattle.kt_threads.specs.Noted.{AreAskedBy, AreListed, AreNoted, AreToldBy, IsNotedBy, made_steps}
 use Rattle.kt_threads.specs.declared.errands.Errand.{Errand}
 use Rattle.kt_threads.specs.declared.state.Made.{Made}
 
@@ -132,14 +135,27 @@ told_next made steps p old new place noted tells = record { each = go }
         ∙ (ap (λ (k : ℕ). told_to q steps ++ (if k == q then made.told ∷ [] else [])) place
         ∙ sym (told_more q steps made)))
 
+-- a list for the steps, if there is one, has none at first
+pub listed_first : (lists : Bool) (steps : List Made) (listed : Option (List Step)) → steps ≡ [] → listed ≡ (if lists then Some [] else None) → AreListed steps listed
+listed_first true steps listed none e = rw (none, e) refl
+listed_first false steps listed none e = rw e tt
+
+-- one more step stands in the list of all, if there is one
+listed_next : (made : Made) (steps : List Made) (old new : Option (List Step)) → new ≡ option_map (λ list. list ++ made.told.step ∷ []) old
+    → AreListed steps old → AreListed (steps ++ made ∷ []) new
+listed_next made steps None new e listed = rw e tt
+listed_next made steps (Some list) new e listed =
+    rw e (ap (λ (l : List Step). l ++ made.told.step ∷ []) listed ∙ sym (map-append (λ (m : Made). m.told.step) steps (made ∷ [])))
+
 pub noted_next : (made : Made) (p : ℕ) (steps : List Made) (errands errands' : List (List Errand)) (told told' : List (List Told))
-    → p ≡ process_of_step made.told.step
+    (listed listed' : Option (List Step)) → p ≡ process_of_step made.told.step
     → ((s : List Made) → AreAskedBy s errands → AreAskedBy (s ++ made ∷ []) errands')
-    → IsNotedBy p made.told told told'
-    → AreNoted steps errands told → AreNoted (steps ++ made ∷ []) errands' told'
-noted_next made p steps errands errands' told told' place asks noted n = record {
+    → IsNotedBy p made.told told told' → listed' ≡ option_map (λ list. list ++ made.told.step ∷ []) listed
+    → AreNoted steps errands told listed → AreNoted (steps ++ made ∷ []) errands' told' listed'
+noted_next made p steps errands errands' told told' listed listed' place asks noted more n = record {
   asked = asks steps n.asked;
   tells = told_next made steps p told told' place noted n.tells;
+  lists = listed_next made steps listed listed' more n.lists;
 }
 
 pub at_ok : {T E : Type 0} (r : Result T E) (P : Type 0) → is_err r ≡ false → OnOk r P → P
@@ -162,3 +178,8 @@ theirs_of {X} items processes steps asked lists xs ys noted one other same count
 pub tells_of : (processes : ℕ) (steps : List Made) (told : List (List Told)) → AreToldBy steps told → length told ≡ processes
     → AreTold processes steps told
 tells_of processes steps told noted count = record { count = count; each = λ p l. noted.each p (omega (arith, l, count)) }
+
+-- the steps of the moves that steps are
+pub steps_of_moves : (steps : List Made) → map (λ (m : Move). m.step) (map move_of steps) ≡ made_steps steps
+steps_of_moves [] = refl
+steps_of_moves (made ∷ steps) = ap (λ (l : List Step). made.told.step ∷ l) (steps_of_moves steps)

@@ -1,5 +1,6 @@
--- What is noted of processes, in a list for each.
-use Rattle.std.specs.Prelude.{◌≡◌, ◌<◌, ◌==◌, ℕ, List, [], ◌∷◌, ◌++◌, length, slice_index_or, if◌then◌else◌}
+-- What is noted of steps: of processes, in a list for each, and of all of them, in one list.
+use Rattle.std.specs.Prelude.{◌≡◌, ◌<◌, ◌==◌, ℕ, List, [], ◌∷◌, ◌++◌, Option, IfSome, length, map, slice_index_or, if◌then◌else◌}
+use Rattle.kt_plan.specs.declared.steps.Step.{Step}
 use Rattle.kt_plan.specs.declared.steps.Told.{Told}
 use Rattle.kt_threads.specs.Errands.{errands_of}
 use Rattle.kt_threads.specs.Histories.{made_by, told_to}
@@ -19,7 +20,16 @@ pub record AreAskedBy (steps : List Made) (errands : List (List Errand)) : Type 
 pub record AreToldBy (steps : List Made) (told : List (List Told)) : Type 0 where
   pub each : (p : ℕ) → p < length told → slice_index_or told p [] ≡ told_to p steps
 
--- both
-pub record AreNoted (steps : List Made) (errands : List (List Errand)) (told : List (List Told)) : Type 0 where
+-- the steps themselves, of steps that were made
+abbrev pub made_steps : List Made → List Step
+made_steps steps = map (λ (made : Made). made.told.step) steps
+
+-- where there is a list for the steps themselves, it has them all, in order
+abbrev pub AreListed : List Made → Option (List Step) → Type 0
+AreListed steps listed = IfSome listed (λ list. list ≡ made_steps steps)
+
+-- all three
+pub record AreNoted (steps : List Made) (errands : List (List Errand)) (told : List (List Told)) (listed : Option (List Step)) : Type 0 where
   pub asked : AreAskedBy steps errands
   pub tells : AreToldBy steps told
+  pub lists : AreListed steps listed

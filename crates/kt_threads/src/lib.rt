@@ -9,9 +9,11 @@ mod lists;
 mod minutes;
 mod outcome;
 mod plans;
+mod recorded;
 mod seat;
 mod state;
 
 pub use faults::LiveFault;
 pub use outcome::{live, live_log_of};
+pub use recorded::live_recorded_run_of;
 pub use state::{Made, State};

@@ -1,11 +1,11 @@
-//! What is noted of processes: a list for each, or for none where nobody asks for it.
+//! What is noted of steps: a list for each process, or for none where nobody asks for it, and a list of all.
 
-ghost use Rattle.std.specs.Prelude.{◌≡◌, [], map, slice_index_or, IfOk, OnOk};
+ghost use Rattle.std.specs.Prelude.{◌≡◌, [], ◌∷◌, ◌++◌, Some, None, map, option_map, slice_index_or, if◌then◌else◌, IfOk, OnOk};
 ghost use Rattle.kt_threads.specs.Noted.{IsNotedBy};
 
 use crate::errands::Errand;
 use kt_base::{Memory, ProcNo};
-use kt_plan::Told;
+use kt_plan::{Step, Told};
 use std::alloc::Global;
 use std::marker::Model;
 
@@ -96,5 +96,48 @@ impl ToldLists {
         ensures { map (λ list. list.items) result.items ≡ self }
     {
         self.lists
+    }
+}
+
+/// The steps of all processes, in the order in which they were made, where somebody asks for them.
+#[derive(Drop)]
+pub(crate) struct StepList {
+    list: Option<Vec<Step>>,
+}
+
+impl Model for StepList {
+    ghost use Rattle.std.specs.Prelude.{List, Option, option_map};
+    ghost use Rattle.kt_plan.specs.declared.steps.Step.{Step};
+
+    ghost Value = { Option (List Step) };
+
+    ghost view = { λ s. option_map (λ list. list.items) s.list };
+}
+
+impl StepList {
+    /// A list without a step, where `lists`; else none.
+    pub(crate) fn of(alloc: Global, lists: bool) -> StepList
+        ensures { result ≡ (if lists then Some [] else None) }
+    {
+        StepList {
+            list: if lists { Some(Vec::new(alloc)) } else { None },
+        }
+    }
+
+    /// Notes a step.
+    pub(crate) fn note(&mut self, step: Step) -> Result<(), Memory>
+        ensures { OnOk result (self.new ≡ option_map (λ list. list ++ step ∷ []) self.old) }
+    {
+        if let Some(list) = &mut self.list {
+            list.push(step)?;
+        }
+        Ok(())
+    }
+
+    /// The list itself.
+    pub(crate) fn into_list(self) -> Option<Vec<Step>>
+        ensures { option_map (λ list. list.items) result ≡ self }
+    {
+        self.list
     }
 }

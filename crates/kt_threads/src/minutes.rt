@@ -1,6 +1,6 @@
 //! What lies under the lock: a state, and what is noted of the steps that led to it.
 
-ghost use Rattle.std.specs.Prelude.{◌≡◌, [], ◌∷◌, ◌++◌, None, map, IfOk, IfSome, IsTrue, OnOk, ◌↔◌};
+ghost use Rattle.std.specs.Prelude.{◌≡◌, [], ◌∷◌, ◌++◌, None, map, option_map, IfOk, IfSome, IsTrue, OnOk, ◌↔◌};
 ghost use Rattle.kt_core.specs.Worlds.{needs};
 ghost use Rattle.kt_threads.specs.Noted.{AreNoted};
 ghost use Rattle.kt_threads.specs.Turns.{EndsBy, HasStep};
@@ -8,20 +8,32 @@ ghost use Rattle.kt_threads.specs.Turns.{EndsBy, HasStep};
 use crate::board::Next;
 use crate::errands::{Errand, note_errand, process_of};
 use crate::faults::LiveFault;
-use crate::lists::{ErrandLists, ToldLists};
+use crate::lists::{ErrandLists, StepList, ToldLists};
 use crate::state::{Made, State};
 use kt_base::{Memory, ProcNo, ProcSet};
 use kt_plan::{Give, Step, Told};
 use std::alloc::Global;
 use std::marker::Model;
 
-/// A state; what each process's object was asked for; and what each process was told, where somebody asks for it. Beside
-/// these, which processes' threads sleep, and the one that was called and has not come yet.
+/// What is kept of the steps of a run, beside its log.
+#[derive(Clone, Copy, Debug, PartialEq, Eq)]
+pub(crate) enum Keep {
+    /// Nothing.
+    Nothing,
+    /// What each process was told.
+    Told,
+    /// The steps themselves.
+    Steps,
+}
+
+/// A state; what each process's object was asked for; and what each process was told, or all steps, where somebody asks for
+/// them. Beside these, which processes' threads sleep, and the one that was called and has not come yet.
 #[derive(Drop)]
 pub(crate) struct Minutes {
     state: State,
     errands: ErrandLists,
     told: ToldLists,
+    steps: StepList,
     asleep: ProcSet,
     called: Option<ProcNo>,
 }
@@ -35,26 +47,28 @@ impl Model for Minutes {
 
     ghost view = { λ m. m.state };
 
-    ghost invariant = { λ m. m.state.fault ≡ None → AreNoted m.state.steps m.errands m.told };
+    ghost invariant = { λ m. m.state.fault ≡ None → AreNoted m.state.steps m.errands m.told m.steps };
 }
 
 impl Minutes {
-    /// Of a state to which no step led, for so many processes. What they are told is kept where `tells`.
+    /// Of a state to which no step led, for so many processes, with what is to be kept of its steps.
+    #[tactic(auto, using(crate::proofs::Noting::listed_first))]
     pub(crate) fn new(
         alloc: Global,
         state: State,
         processes: usize,
-        tells: bool,
+        keep: Keep,
     ) -> Result<Minutes, Memory>
         requires { state.steps ≡ [] }
         ensures { IfOk result (λ minutes. minutes ≡ state) }
     {
         let errands = ErrandLists::of(alloc, processes)?;
-        let told = ToldLists::of(alloc, if tells { processes } else { 0 })?;
+        let told = ToldLists::of(alloc, if keep == Keep::Told { processes } else { 0 })?;
         Ok(Minutes {
             state,
             errands,
             told,
+            steps: StepList::of(alloc, keep == Keep::Steps),
             asleep: ProcSet::empty(),
             called: None,
         })
@@ -78,6 +92,7 @@ impl Minutes {
             state,
             errands,
             told,
+            steps,
             ..
         } = self;
         let made = match state.make(step, give) {
@@ -87,7 +102,7 @@ impl Minutes {
                 return Next::End;
             }
         };
-        if note_made(errands, told, &made).is_err() {
+        if note_made(errands, told, steps, &made).is_err() {
             state.stop(LiveFault::Memory);
             return Next::End;
         }
@@ -152,29 +167,42 @@ impl Minutes {
     }
 
     /// The state, and what was noted of the steps that led to it, where there was no fault.
-    pub(crate) fn into_parts(self) -> (State, Vec<Vec<Errand>>, Vec<Vec<Told>>)
+    pub(crate) fn into_parts(self) -> (State, Vec<Vec<Errand>>, Vec<Vec<Told>>, Option<Vec<Step>>)
         ensures state { result.0 ≡ self }
         ensures noted { self.fault ≡ None → AreNoted self.steps
-            (map (λ list. list.items) result.1.items) (map (λ list. list.items) result.2.items) }
+            (map (λ list. list.items) result.1.items) (map (λ list. list.items) result.2.items)
+            (option_map (λ list. list.items) result.3) }
     {
         let Minutes {
             state,
             errands,
             told,
+            steps,
             ..
         } = self;
-        (state, errands.into_lists(), told.into_lists())
+        (
+            state,
+            errands.into_lists(),
+            told.into_lists(),
+            steps.into_list(),
+        )
     }
 }
 
-/// Notes what a step asked and told.
+/// Notes what a step asked and told, and the step itself.
 #[tactic(auto, using(crate::proofs::Noting::noted_next))]
-fn note_made(errands: &mut ErrandLists, told: &mut ToldLists, made: &Made) -> Result<(), Memory>
-    ensures { OnOk result ((steps : _)
-        → AreNoted steps errands.old told.old → AreNoted (steps ++ made.now ∷ []) errands.new told.new) }
+fn note_made(
+    errands: &mut ErrandLists,
+    told: &mut ToldLists,
+    steps: &mut StepList,
+    made: &Made,
+) -> Result<(), Memory>
+    ensures { OnOk result ((before : _) → AreNoted before errands.old told.old steps.old
+        → AreNoted (before ++ made.now ∷ []) errands.new told.new steps.new) }
 {
     note_errand(errands, made)?;
     told.note(process_of(&made.told.step), made.told)?;
+    steps.note(made.told.step)?;
     Ok(())
 }
 

@@ -1,7 +1,7 @@
 //! All processes, each in a thread of its own.
 
 ghost use Rattle.std.specs.List.{AllZip};
-ghost use Rattle.std.specs.Prelude.{◌≡◌, ◌⊎◌, [], ℕ, List, length, true, false, None, Some, All, map, slice_index, slice_index_or, OnOk, IfOk, IfErr, IsTrue, ◌↔◌};
+ghost use Rattle.std.specs.Prelude.{◌≡◌, ◌⊎◌, [], ℕ, List, length, true, false, None, Some, All, map, option_map, slice_index, slice_index_or, OnOk, IfOk, IfErr, IsTrue, ◌↔◌};
 ghost use Rattle.kt_core.specs.Worlds.{IsWorldAtRest};
 ghost use Rattle.kt_held.specs.Holdings.{Content, content};
 ghost use Rattle.kt_held.specs.Refusals.{IsLeastRefused};
@@ -14,20 +14,20 @@ ghost use Rattle.kt_run.specs.Runs.{IsLogOfRun};
 ghost use Rattle.kt_run.specs.Telling.{AreToldTheirRows};
 ghost use Rattle.kt_threads.specs.Faults.{AnswersFirst, AnswersLive, is_live_of_cast, live_stopped_at};
 ghost use Rattle.kt_threads.specs.Histories.{AreTheirs, IsWholeHistory, IsLived};
-ghost use Rattle.kt_threads.specs.Noted.{AreNoted, AreToldBy};
+ghost use Rattle.kt_threads.specs.Noted.{AreListed, AreNoted, AreToldBy};
 ghost use Rattle.kt_threads.specs.Seats.{AllServed, KeepsServing};
 
 use crate::board::Board;
 use crate::crew::{CrewFault, run_all};
 use crate::errands::{Errand, are_all_same};
 use crate::faults::LiveFault;
-use crate::minutes::Minutes;
+use crate::minutes::{Keep, Minutes};
 use crate::seat::{Seat, work};
 use crate::state::{Made, State};
 use kt_base::ProcNo;
 use kt_held::{Cast, Held, begin_all};
 use kt_object::Recoverable;
-use kt_plan::{Plan, Told};
+use kt_plan::{Plan, Step, Told};
 use kt_run::Outcome;
 use kt_spacetime::SpaceTime;
 use std::alloc::Global;
@@ -36,7 +36,7 @@ use std::sync::Wait;
 use std::thread::Threads;
 
 /// What the processes of a plan hold at first.
-fn first_objects(alloc: Global, plan: &Plan, cast: Cast) -> Result<Vec<Held>, LiveFault>
+pub(crate) fn first_objects(alloc: Global, plan: &Plan, cast: Cast) -> Result<Vec<Held>, LiveFault>
     ensures cast { OnOk result (IsCast plan.now (map (λ row. map (λ b. kind_of b) row.items) cast.items)) }
     ensures fault { IfErr result (AnswersLive plan.now (map (λ row. map (λ b. kind_of b) row.items) cast.items)) }
     ensures object { IfErr result (λ fault. (p : ℕ) → fault ≡ LiveFault.Object p →
@@ -112,13 +112,15 @@ fn finish(
         Vec<Snapshot<Made>>,
         Vec<Vec<Errand>>,
         Vec<Vec<Told>>,
+        Option<Vec<Step>>,
     ),
     LiveFault,
 >
     ensures run { IfOk result (λ parts.
         IsWholeHistory plan.entry.now (map (λ step. step.value) parts.1.items) parts.0.rows) }
     ensures noted { IfOk result (λ parts. AreNoted (map (λ step. step.value) parts.1.items)
-        (map (λ list. list.items) parts.2.items) (map (λ list. list.items) parts.3.items)) }
+        (map (λ list. list.items) parts.2.items) (map (λ list. list.items) parts.3.items)
+        (option_map (λ list. list.items) parts.4)) }
     ensures promised { IfOk result (λ parts. IsPromised parts.0.rows) }
     ensures follows { IfOk result (λ parts. FollowsPlan plan.entry.now parts.0.rows) }
     ensures fault { IfErr result (λ fault. is_live_of_cast fault ≡ false) }
@@ -126,9 +128,9 @@ fn finish(
         slice_index_or (map (λ seat. seat.fault) seats.entry.now) p None ≡ Some fault) }
 {
     ended(minutes.state(), plan, seats)?;
-    let (state, asked, told) = minutes.into_parts();
+    let (state, asked, told, listed) = minutes.into_parts();
     let (log, steps) = state.into_parts();
-    Ok((log, steps, asked, told))
+    Ok((log, steps, asked, told, listed))
 }
 
 /// The fault that is answered where this one was the first. Of the faults that name a process only one by which its thread
@@ -204,13 +206,14 @@ fn leave(alloc: Global, seats: Vec<Seat>) -> Result<(Vec<Vec<Errand>>, Vec<Held>
 }
 
 /// Runs a plan over what its processes hold at first, each in a thread of its own: the log, the steps, what those of each
-/// process asked of its object, what they told it, where `tells`, and what it holds.
-fn work_out<R: Threads + Wait + Sync>(
+/// process asked of its object, what they told it, where that is to be kept, what it holds, and a list of the steps, where
+/// that is to be kept.
+pub(crate) fn work_out<R: Threads + Wait + Sync>(
     rt: &R,
     alloc: Global,
     plan: &Plan,
     objects: Vec<Held>,
-    tells: bool,
+    keep: Keep,
 ) -> Result<
     (
         SpaceTime,
@@ -218,6 +221,7 @@ fn work_out<R: Threads + Wait + Sync>(
         Vec<Vec<Errand>>,
         Vec<Vec<Told>>,
         Vec<Held>,
+        Option<Vec<Step>>,
     ),
     LiveFault,
 >
@@ -226,6 +230,8 @@ fn work_out<R: Threads + Wait + Sync>(
         (map (λ step. step.value) r.1.items) (map (λ list. list.items) r.2.items)) }
     ensures told { IfOk result (λ r. AreToldBy
         (map (λ step. step.value) r.1.items) (map (λ list. list.items) r.3.items)) }
+    ensures listed { IfOk result (λ r. AreListed
+        (map (λ step. step.value) r.1.items) (option_map (λ list. list.items) r.5)) }
     ensures served { IfOk result (λ r. AllServed
         (has_of objects.items (λ b. content (kind_of (b.vtable, b.value)) (value_of (b.vtable, b.value))))
         (map (λ list. list.items) r.2.items)
@@ -243,15 +249,15 @@ fn work_out<R: Threads + Wait + Sync>(
 {
     let seats = seats_of(alloc, objects)?;
     let state = State::new(alloc, plan.copy(alloc)?)?;
-    let minutes = Minutes::new(alloc, state, plan.size(), tells)?;
+    let minutes = Minutes::new(alloc, state, plan.size(), keep)?;
     let board = Board::new(alloc, minutes, plan.size())?;
     let seats = work_all(rt, alloc, &board, seats)?;
-    let (log, steps, asked, told) = finish(board.into_minutes(), plan, &seats)?;
+    let (log, steps, asked, told, listed) = finish(board.into_minutes(), plan, &seats)?;
     let (lists, objects) = leave(alloc, seats)?;
     if !are_all_same(plan.size(), &asked, &lists) {
         return Err(LiveFault::Differ);
     }
-    Ok((log, steps, lists, told, objects))
+    Ok((log, steps, lists, told, objects, listed))
 }
 
 /// Runs a plan over what its processes hold at first, each in a thread of its own, and keeps what each was told.
@@ -283,7 +289,13 @@ fn live_with<R: Threads + Wait + Sync>(
         MayReject (λ b saved. may_reject (b.vtable, b.value) saved) (first_of (slice_index_or cast p [])).kind
         (slice_index_or (objects_held objects.items) p [])) }
 {
-    let (log, _steps, _lists, told, objects) = work_out(rt, alloc, plan, objects, true)?;
+    let (log, _steps, _lists, told, objects, _listed) = work_out(
+        rt,
+        alloc,
+        plan,
+        objects,
+        Keep::Told,
+    )?;
     if told.len() != plan.size() {
         return Err(LiveFault::Differ);
     }
@@ -374,6 +386,12 @@ pub fn live_log_of<R: Threads + Wait + Sync>(
 {
     kt_plans::certificates_of_promised_logs();
     let objects = first_objects(alloc, plan, cast)?;
-    let (log, _steps, _lists, _told, _objects) = work_out(rt, alloc, plan, objects, false)?;
+    let (log, _steps, _lists, _told, _objects, _listed) = work_out(
+        rt,
+        alloc,
+        plan,
+        objects,
+        Keep::Nothing,
+    )?;
     Ok(log)
 }

@@ -1,5 +1,6 @@
 use Rattle.std.proofs.Common.{rules, ◌≡◌, ◌∙◌, Some, ap, sym, length, map, true}
 use Rattle.std.specs.Prelude.{Result, Err, IfErr}
+use Rattle.std.proofs.lemmas.Result.{err_from_is_err_and}
 use Rattle.kt_held.specs.Holdings.{content}
 use Rattle.kt_threads.proofs.Noting.{theirs_of}
 use Rattle.kt_threads.specs.Faults.{live_stopped_at}
@@ -16,6 +17,9 @@ returns-clause-theirs g c =
 
 pub returns-clause-told : goal.returns-clause-told
 returns-clause-told g c = c.in_ok-log.ensures.noted.tells
+
+pub returns-clause-listed : goal.returns-clause-listed
+returns-clause-listed g c = c.in_ok-log.ensures.noted.lists
 
 pub returns-clause-served : goal.returns-clause-served
 returns-clause-served g c =
@@ -41,5 +45,9 @@ returns-in_err-log-clause-object g c = λ cast due. if_err c.from_residual-in_er
     p (rw (sym c.deref.ensures.value) (c.in_err-log.ensures.named p (ap live_stopped_at e) ∙ ap Some e)))
 
 pub returns-in_err-lists-clause-object : goal.returns-in_err-lists-clause-object
-returns-in_err-lists-clause-object g c = λ cast due. if_err c.from_residual-in_err-lists.result _ c.in_err-lists.field-0.0 (search rules)
+returns-in_err-lists-clause-object g c = λ cast due.
+    let fault = err_from_is_err_and c.from_residual-in_err-lists.result c.from_residual-in_err-lists.ensures.1 in
+    let err = fault.1 in
+    let same = fault.2 in
+    if_err c.from_residual-in_err-lists.result _ c.in_err-lists.field-0.0 (cc (err, same))
     (λ p e. absurd (not_object c.in_err-lists.field-0.0 p c.in_err-lists.ensures.unnamed e))
