@@ -4,6 +4,7 @@ use Rattle.std.specs.Prelude.{nat_le}
 use Rattle.std.specs.List.{slice_get}
 use Rattle.std.proofs.lemmas.Bool.{and_parts}
 use Rattle.std.proofs.lemmas.Bool.Decides.{nat_tests}
+use Rattle.std.proofs.lemmas.Option.{slice_get_within}
 use Rattle.kt_base.specs.declared.words.Kind.{Kind}
 use Rattle.kt_spacetime.specs.declared.event.Event.{Event}
 use Rattle.kt_spacetime.specs.declared.event.Event.TheVariants.{Sent, Received, Dropped, Began, Took, Ready, Unwilling, Decided, Closed, Failed, Refused}
@@ -107,3 +108,29 @@ as_rows_say log c n p m l decided began no_members =
       initiator = ap (λ (o : Option Beginning). option_map (λ b. b.initiator) o) known.1 ∙ ap (λ (b : Beginning). Some b.initiator) same;
       no_members = no_members;
     }
+
+-- an instance that no row begins has not begun
+pub unbegun : (log : List Event) (k : ℕ) → IsLegal log → HasNoRow (begins_inst k) log → has_begun (past log) k ≡ false
+unbegun log k l none = at (has_begun (past log) k) refl
+  where
+    at : (b : Bool) → has_begun (past log) k ≡ b → has_begun (past log) k ≡ false
+    at false is = is
+    at true is =
+        let known = begun_before (past log) k is in
+        let a = (legal_log_induction BegunRows begun_rows_start begun_rows_keep log l).row k known.0 known.1 in
+        absurd (none a.0 (Began known.0.initiator k known.0.kind) a.1 (itself k))
+
+-- an instance of which it is known how it began has begun
+pub has_begun_by : (s : Past) (k : ℕ) (b : Beginning) → beginning_of s k ≡ Some b → has_begun s k ≡ true
+has_begun_by s zero b e = absurd (cc)
+has_begun_by s (suc k) b e =
+    let low = slice_get_within s.begun k b e in
+    grind (arith, nat_tests, low)
+
+-- of one that has not begun nothing is known
+pub not_known : (s : Past) (k : ℕ) → has_begun s k ≡ false → beginning_of s k ≡ None
+not_known s k e = at (beginning_of s k) refl
+  where
+    at : (o : Option Beginning) → beginning_of s k ≡ o → beginning_of s k ≡ None
+    at None is = is
+    at (Some b) is = absurd (cc (has_begun_by s k b is, e))

@@ -88,13 +88,13 @@ module _ (rows : List Event) (l : IsLegal rows) where
   once p i j d e f = deed_once (past rows) (sent_places rows) (received_places rows l) p i j d e f
 
   -- a deed with no place was not done
-  unplaced : (p : ℕ) (d : Deed) → place_of d ((past rows).live p) ≡ None → has_deed d ((past rows).live p) ≡ false
+  pub unplaced : (p : ℕ) (d : Deed) → place_of d ((past rows).live p) ≡ None → has_deed d ((past rows).live p) ≡ false
   unplaced p d none = is_false (has_deed d ((past rows).live p)) (λ has.
       let there = place_of_deed d ((past rows).live p) has in
       none_some _ (sym none ∙ place_at d ((past rows).live p) there.0 there.1 (λ j f. once p j there.0 d f there.1)))
 
   -- one with a place was
-  placed_deed : (p n : ℕ) (d : Deed) → place_of d ((past rows).live p) ≡ Some n → has_deed d ((past rows).live p) ≡ true
+  pub placed_deed : (p n : ℕ) (d : Deed) → place_of d ((past rows).live p) ≡ Some n → has_deed d ((past rows).live p) ≡ true
   placed_deed p n d e =
       let there = place_found d ((past rows).live p) n e in
       has_at d ((past rows).live p) there.0 there.2
@@ -117,12 +117,12 @@ module _ (rows : List Event) (l : IsLegal rows) where
       absurd (high (omega (arith, same, there.1, low))))
 
   -- who sent a message is its sender, and who received it its receiver
-  sent_message : (p q m : ℕ) → has_sent (past rows) p q m ≡ true → IsMessage rows m p q
+  pub sent_message : (p q m : ℕ) → has_sent (past rows) p q m ≡ true → IsMessage rows m p q
   sent_message p q m e =
       let there = place_of_deed (deed.Sent m q) ((past rows).live p) e in
       (rowed rows l).sent p there.0 m q there.1
 
-  received_message : (p q m : ℕ) → has_received (past rows) q p m ≡ true → IsMessage rows m p q
+  pub received_message : (p q m : ℕ) → has_received (past rows) q p m ≡ true → IsMessage rows m p q
   received_message p q m e =
       let there = place_of_deed (deed.Received m p) ((past rows).live q) e in
       (rowed rows l).received q there.0 m p there.1

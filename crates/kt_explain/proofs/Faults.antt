@@ -1,13 +1,16 @@
 -- What an answer's reason says of a log and its certificates.
-use Rattle.std.proofs.Common.{◌≡◌, ℕ, ◌+◌, ◌<◌, ◌≤◌, Option, Some, None, List, [], ◌∷◌, length, take, refl, sym, ap, ◌∙◌, subst, inl, inr, arith}
+use Rattle.std.specs.Prelude.{Bool, true, false, fold, find, cond, not}
+use Rattle.std.proofs.Common.{◌≡◌, ℕ, suc, ◌+◌, ◌-◌, ◌<◌, ◌≤◌, Option, Some, None, List, [], ◌∷◌, length, take, refl, sym, ap, ◌∙◌, subst, inl, inr, arith}
 use Rattle.std.specs.List.{slice_get}
 use Rattle.kt_base.specs.declared.words.Kind.{Kind}
 use Rattle.kt_spacetime.specs.declared.event.Event.{Event}
 use Rattle.kt_cuts.specs.declared.rules.Rule.{Rule}
 use Rattle.kt_cuts.specs.Past.{Past, start, past, after, kind_of}
-use Rattle.kt_cuts.specs.Legal.{IsLegal, broken_rule, or_later, first_broken_after}
+use Rattle.kt_cuts.specs.Rules.{all_rules}
+use Rattle.kt_cuts.specs.Legal.{IsLegal, IsLegalAfter, keeps, broken_rule, or_later, first_broken_after, first_broken}
 use Rattle.kt_cuts.specs.Cuts.{IsConsistent}
 use Rattle.kt_cuts.specs.Chains.{members}
+use Rattle.kt_cuts.proofs.RowRules.{not_true}
 use Rattle.kt_cuts.proofs.SortedFacts.{some_same}
 use Rattle.kt_chain.specs.declared.certificate.Certificate.{Certificate}
 use Rattle.kt_checker.specs.declared.verdict.Verdict.{Verdict}
@@ -50,6 +53,57 @@ broken_within s (row ∷ rows) n rule e = either (broken_rule s row) refl (broke
         let h = later (sym (ap (λ (o : Option Rule). or_later o (s.rows + 1) (first_broken_after (after s row) rows)) is) ∙ e) in
         (omega (arith, h.0), omega (arith, h.1))
 
+-- the first row that breaks a rule: the rows before it are legal, and it does not keep the rule
+pub record BrokenRow (s : Past) (log : List Event) (n : ℕ) (rule : Rule) : Type 0 where
+  pub place : ℕ
+  pub number_is : n ≡ s.rows + (place + 1)
+  pub row : Event
+  pub there : slice_get log place ≡ Some row
+  pub legal : IsLegalAfter s (take place log)
+  pub broken : broken_rule (fold after s (take place log)) row ≡ Some rule
+
+pub broken_row : (s : Past) (log : List Event) (n : ℕ) (rule : Rule) → first_broken_after s log ≡ Some (n, rule) → BrokenRow s log n rule
+broken_row s [] n rule e = absurd (none_some (n, rule) e)
+broken_row s (row ∷ rows) n rule e = either (broken_rule s row) refl (broken_row (after s row) rows n rule)
+  where
+    either : (o : Option Rule) → broken_rule s row ≡ o → (first_broken_after (after s row) rows ≡ Some (n, rule) → BrokenRow (after s row) rows n rule) → BrokenRow s (row ∷ rows) n rule
+    either (Some other) is later =
+        let found : Some (s.rows + 1, other) ≡ Some (n, rule) = sym (ap (λ (o : Option Rule). or_later o (s.rows + 1) (first_broken_after (after s row) rows)) is) ∙ e in
+        let number : s.rows + 1 ≡ n = ap (λ (x : ℕ × Rule). x.0) (some_same found) in
+        let same : other ≡ rule = ap (λ (x : ℕ × Rule). x.1) (some_same found) in
+        record { place = 0; number_is = omega (arith, number); row = row; there = refl; legal = tt; broken = is ∙ ap (λ (r : Rule). Some r) same }
+    either None is later =
+        let h = later (sym (ap (λ (o : Option Rule). or_later o (s.rows + 1) (first_broken_after (after s row) rows)) is) ∙ e) in
+        record { place = suc h.place; number_is = omega (arith, h.number_is); row = h.row; there = h.there; legal = (is, h.legal); broken = h.broken }
+
+-- a rule that a row breaks is not kept
+found_passes : {X : Type 0} (test : X → Bool) (xs : List X) (x : X) → find test xs ≡ Some x → test x ≡ true
+found_passes test [] x e = absurd (none_some x e)
+found_passes test (y ∷ ys) x e = at (test y) refl e (found_passes test ys x)
+  where
+    at : (b : Bool) → test y ≡ b → cond b (Some y) (find test ys) ≡ Some x → (find test ys ≡ Some x → test x ≡ true) → test x ≡ true
+    at true is e later = subst (λ (z : _). test z ≡ true) (some_same e) is
+    at false is e later = later e
+
+pub not_kept : (s : Past) (row : Event) (rule : Rule) → broken_rule s row ≡ Some rule → keeps rule s row ≡ false
+not_kept s row rule e = not_true (keeps rule s row) (found_passes (λ r. not (keeps r s row)) all_rules rule e)
+
+-- the rows before the first one that breaks a rule are legal, and it does not keep the rule
+pub legal_before : (rows : List Event) (n m : ℕ) (rule : Rule) → first_broken rows ≡ Some (n, rule) → m ≡ n - 1 → IsLegal (take m rows) × (n ≡ m + 1)
+legal_before rows n m rule e at =
+    let h = broken_row start rows n rule e in
+    let number : n ≡ 0 + (h.place + 1) = h.number_is in
+    let same : h.place ≡ m = omega (arith, number, at) in
+    (subst (λ (k : ℕ). IsLegal (take k rows)) same h.legal, omega (arith, number, same))
+
+pub breaks_there : (rows : List Event) (n m : ℕ) (rule : Rule) (row : Event) → first_broken rows ≡ Some (n, rule) → m ≡ n - 1 → slice_get rows m ≡ Some row → keeps rule (past (take m rows)) row ≡ false
+breaks_there rows n m rule row e at there =
+    let h = broken_row start rows n rule e in
+    let number : n ≡ 0 + (h.place + 1) = h.number_is in
+    let same : h.place ≡ m = omega (arith, number, at) in
+    let row_same : h.row ≡ row = some_same (sym h.there ∙ (ap (slice_get rows) same ∙ there)) in
+    sym (λ i. keeps rule (past (take (same i) rows)) (row_same i)) ∙ not_kept (past (take h.place rows)) h.row rule h.broken
+
 -- what a no without an instance says of the log
 pub record LogFault (rows : List Event) (row : Option ℕ) (reason : Why) : Type 0 where
   pub number : ℕ
@@ -70,6 +124,15 @@ log_fault rows row reason bad =
       positive = h.0;
       within = omega (arith, h.1);
     }
+
+pub first_of_no : (rows : List Event) (row : ℕ) (rule : Rule) → IsBadLog rows (No None (Some row) (why.BadLog rule)) → first_broken rows ≡ Some (row, rule)
+first_of_no rows row rule bad =
+    let number : row ≡ bad.0 = some_same (ap row_told bad.2) in
+    let same : rule ≡ bad.1 = rule_same (some_same (ap reason_told bad.2)) in
+    bad.3 ∙ (λ i. Some (sym number i, sym same i))
+  where
+    rule_same : {a b : Rule} → why.BadLog a ≡ why.BadLog b → a ≡ b
+    rule_same e = cc
 
 -- a no without an instance is one to the log
 pub bad_without_instance : (rows : List Event) (certificates : List Certificate) (row : Option ℕ) (reason : Why) → IsAnswer rows certificates (No None row reason) → IsBadLog rows (No None row reason)

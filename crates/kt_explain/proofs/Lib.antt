@@ -1,3 +1,6 @@
+pub mod Leftovers
+pub mod Receivers
+pub mod FilledSets
 pub mod LastRows
 pub mod FoundRows
 pub mod Gives
@@ -8,3 +11,7 @@ pub mod ReceivedRows
 pub mod Begun
 pub mod ChainSteps
 pub mod Chained
+pub mod Delivered
+pub mod Demands
+pub mod KnownRows
+pub mod Replaying

@@ -12,7 +12,7 @@ use Rattle.kt_cuts.specs.Legal.{IsLegal, broken_rule, has_deed}
 use Rattle.kt_cuts.specs.Cuts.{part, IsOrphan, IsConsistent}
 use Rattle.kt_cuts.specs.Messages.{IsMessage}
 use Rattle.kt_cuts.proofs.LegalLogs.{past_push, legal_log_induction}
-use Rattle.kt_cuts.proofs.Lists.{get_kept, get_last}
+use Rattle.kt_cuts.proofs.Lists.{get_kept, get_last, deed_place}
 use Rattle.kt_cuts.proofs.Places.{Comes, old, sent, received, comes, rowed, one_message}
 use Rattle.kt_cuts.proofs.OrphanFacts.{between_of, received_of, orphan_of}
 use Rattle.kt_cuts.proofs.Consistency.{consistent_from}
@@ -90,3 +90,10 @@ no_lost_orphan rows cut msg from to l orphan message none =
     none h.place (Received h.to h.from msg) h.received_in
     (subst (λ (f : ℕ). receives to f msg (Received h.to h.from msg) ≡ true) one.0
     (subst (λ (t : ℕ). receives t h.from msg (Received h.to h.from msg) ≡ true) one.1 (receives_itself h.to h.from msg)))
+
+-- what is in a live history as received is found among the rows
+pub no_lost_receive : (rows : List Event) (p from msg : ℕ) → IsLegal rows → has_deed (deed.Received msg from) ((past rows).live p) ≡ true → HasNoRow (receives p from msg) rows → ⊥
+no_lost_receive rows p from msg l has none =
+    let at = deed_place (deed.Received msg from) ((past rows).live p) has in
+    let there = (legal_log_induction ReceivedRows received_rows_start received_rows_keep rows l).row p at.0 msg from at.1 in
+    none there.0 (Received p from msg) there.1 (receives_itself p from msg)

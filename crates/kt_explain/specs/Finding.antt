@@ -2,9 +2,10 @@
 use Rattle.std.specs.Prelude.{◌≡◌, ◌<◌, ◌+◌, ◌==◌, ◌&&◌, ℕ, Bool, true, false, Option, Some, None, List, slice_get}
 use Rattle.kt_spacetime.specs.declared.event.Event.{Event}
 use Rattle.kt_spacetime.specs.declared.event.Event.TheVariants as event
+use Rattle.kt_cuts.specs.Legal.{is_join}
 use Rattle.kt_checker.specs.Unwilling.{is_unwilling}
 use Rattle.kt_explain.specs.declared.finding.Sought.{Sought}
-use Rattle.kt_explain.specs.declared.finding.Sought.TheVariants.{Unwilling, Began, Decided, Received, Failed}
+use Rattle.kt_explain.specs.declared.finding.Sought.TheVariants.{Unwilling, Began, Decided, Received, Failed, Dropped, Joined}
 use Rattle.kt_explain.specs.declared.finding.Found.{Found}
 
 -- whether a row begins an instance
@@ -27,6 +28,11 @@ abbrev pub fails : ℕ → Event → Bool
 fails p (event.Failed q) = q == p
 fails p _ = false
 
+-- whether this message is dropped by a row
+abbrev pub drops : ℕ → Event → Bool
+drops msg (event.Dropped p from n) = n == msg
+drops msg _ = false
+
 -- whether a row says what is sought
 abbrev pub is_sought : Sought → Event → Bool
 is_sought (Unwilling k) row = is_unwilling k row
@@ -34,6 +40,8 @@ is_sought (Began k) row = begins_inst k row
 is_sought (Decided k) row = decides_inst k row
 is_sought (Received p from msg) row = receives p from msg row
 is_sought (Failed p) row = fails p row
+is_sought (Dropped msg) row = drops msg row
+is_sought (Joined p k) row = is_join p k row
 
 -- no row passes a test
 abbrev pub HasNoRow : (Event → Bool) → List Event → Type 0

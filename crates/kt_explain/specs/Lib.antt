@@ -1,5 +1,9 @@
 pub mod Finding
 pub mod Words
+pub mod BreachWords
 pub mod Orphans
 pub mod BadChains
+pub mod Breaches
+pub mod LeftOpen
+pub mod LeftOpenWords
 pub mod Told

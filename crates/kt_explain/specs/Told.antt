@@ -6,6 +6,7 @@ use Rattle.kt_base.specs.declared.words.Kind.{Kind}
 use Rattle.kt_base.specs.declared.words.Cause.{Cause}
 use Rattle.kt_spacetime.specs.Events.{process_of}
 use Rattle.kt_cuts.specs.Past.{past}
+use Rattle.kt_cuts.specs.Legal.{keeps}
 use Rattle.kt_cuts.specs.Messages.{row_at}
 use Rattle.kt_cuts.specs.Chains.{members}
 use Rattle.kt_chain.specs.declared.certificate.Certificate.{Certificate}
@@ -20,8 +21,10 @@ use Rattle.kt_explain.specs.declared.bad_row.BadRow.{BadRow}
 use Rattle.kt_explain.specs.declared.difference.Difference.{Difference}
 use Rattle.kt_explain.specs.declared.difference.Difference.TheVariants as difference
 use Rattle.kt_explain.specs.declared.explanation.Explanation.{Explanation}
-use Rattle.kt_explain.specs.declared.explanation.Explanation.TheVariants.{Nothing, Unknown, Objection, NoObjection, OtherMember, BadChain, Uncertified, Orphan, BadLog}
+use Rattle.kt_explain.specs.declared.explanation.Explanation.TheVariants.{Nothing, Unknown, Objection, NoObjection, OtherMember, BadChain, Uncertified, Orphan, BadLog, LeftOpen}
+use Rattle.kt_explain.specs.LeftOpen.{IsLeftOpen, LeavesNothing}
 use Rattle.kt_explain.specs.Orphans.{IsOrphanTold}
+use Rattle.kt_explain.specs.Breaches.{IsBreach}
 use Rattle.kt_explain.specs.BadChains.{IsBadChain}
 use Rattle.kt_explain.specs.Finding.{HasNoRow, IsFirstRow, IsLastNumber, begins_inst, decides_inst, fails}
 
@@ -66,17 +69,19 @@ pub record DifferAt (xs ys : List ℕ) (place : ℕ) (x y : Option ℕ) : Type 0
 abbrev pub IsNoOf : Verdict → ℕ → Why → Type 0
 IsNoOf verdict k reason = (row : Option ℕ) × (verdict ≡ No (Some k) row reason)
 
--- a row of a log, its process, and where this stands before it
+-- a row of a log, what breaks the rule, the row's process, and where this stands before it
 pub record IsBadRow (rows : List Event) (b : BadRow) (place : ℕ) (row : Event) : Type 0 where
   pub row_is : b.row ≡ place + 1
   pub there : slice_get rows place ≡ Some row
+  pub breach_is : IsBreach (take place rows) (λ s. keeps b.rule s row) b.breach
   pub process : b.p ≡ process_of row
   pub open_in : b.open_in ≡ (past (take place rows)).open_in b.p
   pub failed : IsLastNumber (fails b.p) (take place rows) b.failed
 
--- what is told of an answer is so; after a yes alone nothing is told
+-- what is told of an answer is so; nothing is told after a yes to a log that leaves nothing open, and else never
 abbrev pub IsExplanation : List Event → List Certificate → Verdict → Explanation → Type 0
-IsExplanation rows certificates verdict Nothing = verdict ≡ Yes
+IsExplanation rows certificates verdict Nothing = (verdict ≡ Yes) × LeavesNothing rows
+IsExplanation rows certificates verdict (LeftOpen l) = (verdict ≡ Yes) × IsLeftOpen rows l
 IsExplanation rows certificates verdict (Unknown k d) = IsNoOf verdict k why.Unknown × IsUnlike rows certificates k d
 IsExplanation rows certificates verdict (Objection k p row) =
     IsNoOf verdict k why.Cause × (cause : Cause) × IsFirstRow (is_unwilling k) rows row (event.Unwilling p k cause)

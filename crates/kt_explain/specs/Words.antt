@@ -4,6 +4,7 @@ use Rattle.std.specs.Fmt.{decimal}
 use Rattle.kt_text.specs.Words.{kind_word, decision_word}
 use Rattle.kt_cuts.specs.declared.rules.Rule.{Rule}
 use Rattle.kt_cuts.specs.declared.rules.Rule.TheVariants as rule
+use Rattle.kt_explain.specs.BreachWords.{breach_words}
 use Rattle.kt_explain.specs.declared.bad_row.BadRow.{BadRow}
 use Rattle.kt_explain.specs.declared.bad_chain.Break.{Break}
 use Rattle.kt_explain.specs.declared.bad_chain.Demand.{Demand}
@@ -14,8 +15,9 @@ use Rattle.kt_explain.specs.declared.bad_chain.BadChain.{BadChain as OneBadChain
 use Rattle.kt_explain.specs.declared.difference.Difference.{Difference}
 use Rattle.kt_explain.specs.declared.difference.Difference.TheVariants.{Undecided, Kind, Initiator, Decision, Members, Second}
 use Rattle.kt_explain.specs.declared.explanation.Explanation.{Explanation}
-use Rattle.kt_explain.specs.declared.explanation.Explanation.TheVariants.{Nothing, Unknown, Objection, NoObjection, OtherMember, BadChain, Uncertified, Orphan, BadLog}
+use Rattle.kt_explain.specs.declared.explanation.Explanation.TheVariants.{Nothing, Unknown, Objection, NoObjection, OtherMember, BadChain, Uncertified, Orphan, BadLog, LeftOpen}
 use Rattle.kt_explain.specs.declared.orphan.Orphan.{Orphan as OneOrphan}
+use Rattle.kt_explain.specs.LeftOpenWords.{left_open_words}
 
 -- what the log has otherwise than a certificate of an instance
 abbrev pub difference_words : Difference → List ℕ
@@ -80,17 +82,17 @@ flaw_words (flaw.Broken b) = break_words b
 abbrev pub bad_chain_words : OneBadChain → List ℕ
 bad_chain_words b = (codes "member " ++ (decimal b.place ++ (codes " is process " ++ (decimal b.p ++ codes ", ")))) ++ flaw_words b.flaw
 
--- what a rule asks
+-- a rule by number and name, and what it asks
 abbrev pub rule_words : Rule → List ℕ
-rule_words rule.Numbers = codes "an instance begins before it is named, by the next number, and a peer is another process"
-rule_words rule.Message = codes "what is received or dropped was sent to this process and not undone, received or dropped"
-rule_words rule.Order = codes "messages of one sender are taken in the order in which they were sent"
-rule_words rule.Sending = codes "who sends is up and in no open instance"
-rule_words rule.Receiving = codes "who receives is up, who drops is down, and neither is in an open rollback"
-rule_words rule.Joining = codes "who joins is in no open instance, joins once, before the decision, as the kind asks"
-rule_words rule.Deciding = codes "the initiator decides once, while it is in its instance"
-rule_words rule.Closing = codes "who closes is in the instance, and that is decided"
-rule_words rule.Causes = codes "a failure and a refusal have the cause that they name"
+rule_words rule.Numbers = codes "rule 1, numbers: an instance begins before it is named, by the next number, and a peer is another process"
+rule_words rule.Message = codes "rule 2, message: what is received or dropped was sent to this process and not undone, received or dropped"
+rule_words rule.Order = codes "rule 3, order: messages of one sender are taken in the order in which they were sent"
+rule_words rule.Sending = codes "rule 4, sending: who sends is up and in no open instance"
+rule_words rule.Receiving = codes "rule 5, receiving: who receives is up, who drops is down, and neither is in an open rollback"
+rule_words rule.Joining = codes "rule 6, joining: who joins is in no open instance, joins once, before the decision, as the kind asks"
+rule_words rule.Deciding = codes "rule 7, deciding: the initiator decides once, while it is in its instance"
+rule_words rule.Closing = codes "rule 8, closing: who closes is in the instance, and that is decided"
+rule_words rule.Causes = codes "rule 9, causes: a failure and a refusal have the cause that they name"
 
 -- the open instance that a process is in
 abbrev pub instance_words : Option ℕ → List ℕ
@@ -102,10 +104,10 @@ abbrev pub failure_words : Option ℕ → List ℕ
 failure_words (Some row) = codes ", failed in row " ++ decimal row ++ 10 ∷ []
 failure_words None = codes ", never failed" ++ 10 ∷ []
 
--- a row that breaks a rule, what the rule asks, and where the row's process stands before it
+-- a row that breaks a rule, the rule, what breaks it, and where the row's process stands before it
 abbrev pub bad_row_words : BadRow → List ℕ
 bad_row_words b =
-    codes "row " ++ decimal b.row ++ codes ": " ++ rule_words b.rule ++ 10 ∷ []
+    codes "row " ++ decimal b.row ++ codes ": " ++ rule_words b.rule ++ 10 ∷ [] ++ breach_words b.breach
     ++ codes "process " ++ decimal b.p ++ codes ": " ++ instance_words b.open_in ++ failure_words b.failed
 
 -- the lines that are told of an answer
@@ -119,3 +121,4 @@ explanation_words (BadChain inst chain) = codes "instance " ++ (decimal inst ++ 
 explanation_words (Uncertified inst row) = codes "row " ++ (decimal row ++ (codes " decides instance " ++ (decimal inst ++ (codes ", and no certificate is of it" ++ 10 ∷ []))))
 explanation_words (Orphan inst orphan) = codes "instance " ++ (decimal inst ++ (codes ": " ++ orphan_words orphan))
 explanation_words (BadLog b) = bad_row_words b
+explanation_words (LeftOpen l) = left_open_words l

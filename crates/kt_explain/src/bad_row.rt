@@ -4,15 +4,17 @@ ghost use Rattle.std.specs.Prelude.{◌≡◌, Some};
 ghost use Rattle.std.specs.Fmt.{DisplaysOnOk};
 ghost use Rattle.kt_explain.specs.Words.{instance_words, failure_words, rule_words};
 
+use crate::breach::Breach;
 use kt_base::{InstNo, ProcNo, RowNo};
 use kt_cuts::Rule;
 use std::fmt;
 
-/// A row that breaks a rule, and where its process stands before it.
+/// A row that breaks a rule, what breaks it, and where its process stands before it.
 #[derive(Clone, Copy, Debug, PartialEq, Eq)]
 pub struct BadRow {
     pub row: RowNo,
     pub rule: Rule,
+    pub breach: Breach,
     pub p: ProcNo,
     /// The open instance that the process is in.
     pub open_in: Option<InstNo>,
@@ -30,36 +32,39 @@ impl fmt::Display for BadRow {
         let BadRow {
             row,
             rule,
+            breach,
             p,
             open_in,
             failed,
         } = *self;
         let name = rule_name(rule);
-        write!(f, "row {row}: {name}\n")?;
+        write!(f, "row {row}: {name}\n{breach}")?;
         write!(f, "process {p}: ")?;
         write_instance(f, open_in)?;
         write_failure(f, failed)
     }
 }
 
-// What a rule asks.
+// A rule by number and name, and what it asks.
 fn rule_name(rule: Rule) -> &'static str
     ensures { result.now ≡ rule_words rule }
 {
     match rule {
         Rule::Numbers =>
-            "an instance begins before it is named, by the next number, and a peer is another process",
+            "rule 1, numbers: an instance begins before it is named, by the next number, and a peer is another process",
         Rule::Message =>
-            "what is received or dropped was sent to this process and not undone, received or dropped",
-        Rule::Order => "messages of one sender are taken in the order in which they were sent",
-        Rule::Sending => "who sends is up and in no open instance",
+            "rule 2, message: what is received or dropped was sent to this process and not undone, received or dropped",
+        Rule::Order =>
+            "rule 3, order: messages of one sender are taken in the order in which they were sent",
+        Rule::Sending => "rule 4, sending: who sends is up and in no open instance",
         Rule::Receiving =>
-            "who receives is up, who drops is down, and neither is in an open rollback",
+            "rule 5, receiving: who receives is up, who drops is down, and neither is in an open rollback",
         Rule::Joining =>
-            "who joins is in no open instance, joins once, before the decision, as the kind asks",
-        Rule::Deciding => "the initiator decides once, while it is in its instance",
-        Rule::Closing => "who closes is in the instance, and that is decided",
-        Rule::Causes => "a failure and a refusal have the cause that they name",
+            "rule 6, joining: who joins is in no open instance, joins once, before the decision, as the kind asks",
+        Rule::Deciding =>
+            "rule 7, deciding: the initiator decides once, while it is in its instance",
+        Rule::Closing => "rule 8, closing: who closes is in the instance, and that is decided",
+        Rule::Causes => "rule 9, causes: a failure and a refusal have the cause that they name",
     }
 }
 

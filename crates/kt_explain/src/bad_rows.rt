@@ -1,75 +1,82 @@
 //! What is told of a log that is not legal.
 
-ghost use Rattle.std.specs.Prelude.{◌≡◌, ◌≤◌, ◌^◌, List, None, Some, length};
+ghost use Rattle.std.specs.Prelude.{◌≡◌, ◌≤◌, ◌^◌, List, None, Some, IfOk, length};
 ghost use Rattle.kt_cuts.specs.declared.rules.Rule.{Rule as Rules};
 ghost use Rattle.kt_chain.specs.declared.certificate.Certificate.{Certificate};
 ghost use Rattle.kt_checker.specs.declared.verdict.Verdict.TheVariants.{No};
 ghost use Rattle.kt_checker.specs.declared.verdict.Why.TheVariants as why;
 ghost use Rattle.kt_checker.specs.Order.{IsBadLog};
-ghost use Rattle.kt_explain.specs.Finding.{fails, IsLastNumber};
+ghost use Rattle.kt_cuts.specs.Legal.{first_broken};
 ghost use Rattle.kt_explain.specs.Told.{IsExplanation};
 
 use crate::bad_row::BadRow;
+use crate::breach::before::Before;
 use crate::explanation::Explanation;
-use crate::finding::{Sought, last_row};
+use crate::finding::{Sought, last_number};
 use crate::standing::open_in;
-use kt_base::{ProcNo, RowNo};
+use kt_base::{Memory, RowNo};
 use kt_checker::Why;
 use kt_cuts::Rule;
 use kt_spacetime::Event;
+use std::alloc::Global;
 
 /// What is told of a log that is not legal.
-pub(crate) fn bad_log(rows: &[Event], row: Option<RowNo>, why: Why) -> Explanation
+pub(crate) fn bad_log(
+    alloc: Global,
+    rows: &[Event],
+    row: Option<RowNo>,
+    why: Why,
+) -> Result<Explanation, Memory>
     requires few { length rows.now ≤ 2 ^ 24 }
     requires bad { IsBadLog rows.now (No None row why) }
-    ensures { (certificates : List Certificate)
-        → IsExplanation rows.now certificates (No None row why) result }
+    ensures { IfOk result (λ e. (certificates : List Certificate)
+        → IsExplanation rows.now certificates (No None row why) e) }
 {
     match why {
-        Why::BadLog(rule) => broken(rows, row, rule),
-        _ => Explanation::Nothing,
+        Why::BadLog(rule) => broken(alloc, rows, row, rule),
+        _ => Ok(Explanation::Nothing),
     }
 }
 
 // The row that breaks a rule.
-fn broken(rows: &[Event], row: Option<RowNo>, rule: Rule) -> Explanation
+fn broken(
+    alloc: Global,
+    rows: &[Event],
+    row: Option<RowNo>,
+    rule: Rule,
+) -> Result<Explanation, Memory>
     requires few { length rows.now ≤ 2 ^ 24 }
     requires bad { IsBadLog rows.now (No None row (why.BadLog rule)) }
-    ensures { (certificates : List Certificate)
-        → IsExplanation rows.now certificates (No None row (why.BadLog rule)) result }
+    ensures { IfOk result (λ e. (certificates : List Certificate)
+        → IsExplanation rows.now certificates (No None row (why.BadLog rule)) e) }
 {
     match row {
-        Some(row) => bad_row(rows, row, rule),
-        None => Explanation::Nothing,
+        Some(row) => bad_row(alloc, rows, row, rule),
+        None => Ok(Explanation::Nothing),
     }
 }
 
-// The row of this number, which breaks a rule, and where its process stands before it.
-fn bad_row(rows: &[Event], row: RowNo, rule: Rule) -> Explanation
+// The row of this number, which is the first that breaks a rule, what breaks it, and where its process stands before it.
+fn bad_row(alloc: Global, rows: &[Event], row: RowNo, rule: Rule) -> Result<Explanation, Memory>
     requires few { length rows.now ≤ 2 ^ 24 }
     requires within { row ≤ length rows.now }
-    ensures { (certificates : List Certificate)
-        → IsExplanation rows.now certificates (No None (Some row) (why.BadLog rule)) result }
+    requires bad { first_broken rows.now ≡ Some (row, rule) }
+    ensures { IfOk result (λ e. (certificates : List Certificate)
+        → IsExplanation rows.now certificates (No None (Some row) (why.BadLog rule)) e) }
 {
     let index = row.get() as usize - 1;
     let p = rows[index].process();
     let before = &rows[..index];
-    Explanation::BadLog(BadRow {
-        row,
-        rule,
-        p,
-        open_in: open_in(before, p),
-        failed: last_failure(before, p),
-    })
-}
-
-// The last row in which a process failed.
-fn last_failure(rows: &[Event], p: ProcNo) -> Option<RowNo>
-    requires few { length rows.now ≤ 2 ^ 24 }
-    ensures { IsLastNumber (fails p) rows.now result }
-{
-    match last_row(rows, &Sought::Failed(p)) {
-        Some(found) => Some(found.number),
-        None => None,
+    let known = Before::of(alloc, before)?;
+    match known.keeps(rule, &rows[index]) {
+        Err(breach) => Ok(Explanation::BadLog(BadRow {
+            row,
+            rule,
+            breach,
+            p,
+            open_in: open_in(before, p),
+            failed: last_number(before, &Sought::Failed(p)),
+        })),
+        Ok(()) => Ok(Explanation::Nothing),
     }
 }

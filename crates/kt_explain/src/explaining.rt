@@ -9,6 +9,7 @@ use crate::bad_rows::bad_log;
 use crate::causes::{objection, uncertified};
 use crate::chains::no_chain;
 use crate::explanation::Explanation;
+use crate::log_end::at_end;
 use crate::members::other_member;
 use crate::orphans::orphan;
 use crate::unknown::unlike;
@@ -29,7 +30,7 @@ pub fn explain(
     ensures told { IfOk result (IsExplanation log.now.rows certificates.now verdict.now) }
 {
     match *verdict {
-        Verdict::Yes => Ok(Explanation::Nothing),
+        Verdict::Yes => at_end(alloc, log),
         Verdict::No { inst, row, why } => explain_no(alloc, log, certificates, inst, row, why),
     }
 }
@@ -48,7 +49,7 @@ fn explain_no(
 {
     match inst {
         Some(inst) => of_instance(alloc, log, certificates, inst, row, why),
-        None => Ok(bad_log(log.rows(), row, why)),
+        None => bad_log(alloc, log.rows(), row, why),
     }
 }
 

@@ -7,6 +7,7 @@ ghost use Rattle.kt_explain.specs.Words.{listed_words, joined_words};
 use crate::bad_chain::BadChain;
 use crate::bad_row::BadRow;
 use crate::difference::Difference;
+use crate::left_open::LeftOpen;
 use crate::orphan::Orphan;
 use kt_base::{InstNo, ProcNo, RowNo};
 use std::fmt;
@@ -14,8 +15,10 @@ use std::fmt;
 /// What is told of an answer of the checker, in the words of the log.
 #[derive(Clone, Copy, Debug, PartialEq, Eq)]
 pub enum Explanation {
-    /// Nothing is told: after a yes.
+    /// Nothing is told: after a yes to a log that leaves nothing open.
     Nothing,
+    /// The log passes, and leaves this open.
+    LeftOpen(LeftOpen),
     /// A certificate says of its instance what the log has otherwise.
     Unknown {
         inst: InstNo,
@@ -67,6 +70,7 @@ impl fmt::Display for Explanation {
     fn fmt<W: fmt::Write>(&self, f: &mut fmt::Formatter<W>) -> fmt::Result {
         match *self {
             Explanation::Nothing => Ok(()),
+            Explanation::LeftOpen(left) => write!(f, "{left}"),
             Explanation::Unknown { inst, difference } => {
                 write!(f, "instance {inst}: {difference}\n")
             }

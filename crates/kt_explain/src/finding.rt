@@ -1,7 +1,7 @@
 //! Rows that are sought in a log.
 
 ghost use Rattle.std.specs.Prelude.{◌≡◌, ◌≤◌, ◌^◌, length};
-ghost use Rattle.kt_explain.specs.Finding.{IsFirstFound, IsLastFound, is_sought};
+ghost use Rattle.kt_explain.specs.Finding.{IsFirstFound, IsLastFound, IsLastNumber, is_sought};
 
 use kt_base::{InstNo, MsgNo, ProcNo, RowNo};
 use kt_spacetime::Event;
@@ -19,6 +19,10 @@ pub enum Sought {
     Received(ProcNo, ProcNo, MsgNo),
     /// This process failed.
     Failed(ProcNo),
+    /// This message was dropped.
+    Dropped(MsgNo),
+    /// This process joined this instance.
+    Joined(ProcNo, InstNo),
 }
 
 /// A row that was found, with its number.
@@ -61,6 +65,17 @@ pub(crate) fn last_row(rows: &[Event], sought: &Sought) -> Option<Found>
     last
 }
 
+/// The number of the last row that says what is sought.
+pub(crate) fn last_number(rows: &[Event], sought: &Sought) -> Option<RowNo>
+    requires few { length rows.now ≤ 2 ^ 24 }
+    ensures { IsLastNumber (is_sought sought.now) rows.now result }
+{
+    match last_row(rows, sought) {
+        Some(found) => Some(found.number),
+        None => None,
+    }
+}
+
 // Whether a row says what is sought.
 fn is_sought(sought: &Sought, row: &Event) -> bool
     ensures { result ≡ is_sought sought.now row.now }
@@ -71,6 +86,8 @@ fn is_sought(sought: &Sought, row: &Event) -> bool
         Event::Decided { inst, .. } => *sought == Sought::Decided(inst),
         Event::Received { p, from, msg } => *sought == Sought::Received(p, from, msg),
         Event::Failed { p } => *sought == Sought::Failed(p),
+        Event::Dropped { msg, .. } => *sought == Sought::Dropped(msg),
+        Event::Took { p, inst } | Event::Ready { p, inst } => *sought == Sought::Joined(p, inst),
         _ => false,
     }
 }

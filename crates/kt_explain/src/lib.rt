@@ -1,15 +1,19 @@
-//! Why the checker says no, in words: what is told of an answer, each thing named exactly.
+//! Why the checker says no, and what a log that passes leaves open, in words: what is told of an answer, each thing
+//! named exactly.
 #![tactic(auto)]
 
 mod bad_chain;
 mod bad_row;
 mod bad_rows;
+mod breach;
 mod causes;
 mod chains;
 mod difference;
 mod explaining;
 mod explanation;
 mod finding;
+mod left_open;
+mod log_end;
 mod members;
 mod orphan;
 mod orphans;
@@ -18,7 +22,9 @@ mod unknown;
 
 pub use bad_chain::{BadChain, Break, Demand, Flaw};
 pub use bad_row::BadRow;
+pub use breach::{Breach, InstanceBreach, MessageBreach, ProcessBreach};
 pub use difference::Difference;
 pub use explaining::explain;
 pub use explanation::Explanation;
+pub use left_open::{LeftOpen, OpenInstance};
 pub use orphan::Orphan;

@@ -1,14 +1,21 @@
-use Rattle.std.proofs.Common.{◌≡◌, ◌∙◌, ℕ, Option, None, sym, subst, arith}
+use Rattle.std.proofs.Common.{◌≡◌, ◌∙◌, ℕ, Option, None, List, sym, subst, arith}
+use Rattle.std.specs.Prelude.{IfOk}
+use Rattle.kt_chain.specs.declared.certificate.Certificate.{Certificate}
 use Rattle.kt_checker.specs.declared.verdict.Verdict.TheVariants.{No}
 use Rattle.kt_checker.specs.declared.verdict.Why.TheVariants as why
+use Rattle.kt_checker.specs.Order.{IsBadLog}
 use Rattle.kt_explain.specs.Told.{IsExplanation}
 use Rattle.kt_cuts.proofs.SortedFacts.{some_same}
-use Rattle.kt_explain.proofs.Faults.{log_fault, none_some}
+use Rattle.kt_explain.proofs.Faults.{log_fault, none_some, first_of_no}
 use Rattle.kt_explain.proofs.bad_rows.broken.Goals as goal
 
 pub returns-in-Some : goal.returns-in-Some
-returns-in-Some c = λ certificates.
-    subst (λ (o : Option ℕ). IsExplanation c.args.rows.now certificates (No None o (why.BadLog c.args.rule)) c.bad_row.result) (sym c.in-Some.is) (c.bad_row.ensures certificates)
+returns-in-Some c =
+    subst (λ (o : Option ℕ). IfOk c.bad_row.result (λ e. (certificates : List Certificate) → IsExplanation c.args.rows.now certificates (No None o (why.BadLog c.args.rule)) e)) (sym c.in-Some.is) c.bad_row.ensures
+
+pub bad_row-requires-clause-bad : goal.bad_row-requires-clause-bad
+bad_row-requires-clause-bad c =
+    first_of_no c.args.rows.now c.in-Some.row c.args.rule (subst (λ (o : Option ℕ). IsBadLog c.args.rows.now (No None o (why.BadLog c.args.rule))) c.in-Some.is c.requires.bad)
 
 pub bad_row-requires-clause-within : goal.bad_row-requires-clause-within
 bad_row-requires-clause-within c =

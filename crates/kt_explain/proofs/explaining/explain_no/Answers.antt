@@ -1,10 +1,13 @@
 use Rattle.std.proofs.Common.{ℕ, Option, None, List, sym, subst}
 use Rattle.std.specs.Prelude.{IfOk}
 use Rattle.kt_spacetime.specs.declared.event.Event.{Event}
+use Rattle.kt_chain.specs.declared.certificate.Certificate.{Certificate}
 use Rattle.kt_checker.specs.declared.verdict.Verdict.TheVariants.{No}
 use Rattle.kt_checker.specs.Order.{IsAnswer, IsBadLog}
+use Rattle.kt_explain.specs.declared.explanation.Explanation.{Explanation}
 use Rattle.kt_explain.specs.Told.{IsExplanation}
 use Rattle.kt_explain.proofs.Faults.{bad_without_instance}
+use Rattle.kt_explain.proofs.Gives.{ok_gives}
 use Rattle.kt_explain.proofs.explaining.explain_no.Goals as goal
 
 pub of_instance-requires : goal.of_instance-requires
@@ -16,9 +19,13 @@ returns-in-Some c =
 
 pub returns-in-None : goal.returns-in-None
 returns-in-None c =
+    let rows = c.args.log.now.rows in
     let certificates = c.args.certificates.now in
-    subst (λ (o : Option ℕ). IsExplanation c.args.log.now.rows certificates (No o c.args.row c.args.why) c.bad_log.result) (sym c.in-None.is)
-    (subst (λ (rows : List Event). IsExplanation rows certificates (No None c.args.row c.args.why) c.bad_log.result) c.rows.ensures.rows (c.bad_log.ensures certificates))
+    subst (λ (o : Option ℕ). IfOk c.bad_log.result (IsExplanation rows certificates (No o c.args.row c.args.why))) (sym c.in-None.is)
+    (ok_gives c.bad_log.result
+    (λ (e : Explanation). (list : List Certificate) → IsExplanation c.rows.result.now list (No None c.args.row c.args.why) e)
+    (IsExplanation rows certificates (No None c.args.row c.args.why))
+    (λ e f. subst (λ (list : List Event). IsExplanation list certificates (No None c.args.row c.args.why) e) c.rows.ensures.rows (f certificates)) c.bad_log.ensures)
 
 pub bad_log-requires-clause-bad : goal.bad_log-requires-clause-bad
 bad_log-requires-clause-bad c =

@@ -69,3 +69,11 @@ pub returns-in-BadLog : goal.returns-in-BadLog
 returns-in-BadLog c =
     absurd (log_not_instance c.args.log.now.rows c.args.certificates.now c.args.inst c.args.row c.in-BadLog.field-0
     (subst (λ (w : Why). IsAnswer c.args.log.now.rows c.args.certificates.now (No (Some c.args.inst) c.args.row w)) c.in-BadLog.is c.requires.answer))
+
+pub returns-in-Some : goal.returns-in-Some
+returns-in-Some c =
+    let rows = c.args.log.now.rows in
+    let certificates = c.args.certificates.now in
+    let k = c.args.inst in
+    subst (λ (o : Option ℕ). IfOk c.orphan.result (IsExplanation rows certificates (No (Some k) o c.args.why))) (sym c.in-Some.is)
+    (subst (λ (w : Why). IfOk c.orphan.result (IsExplanation rows certificates (No (Some k) (Some c.in-Some.row) w))) (sym c.in-Orphan.is) c.orphan.ensures)

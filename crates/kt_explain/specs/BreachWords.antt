@@ -1,0 +1,74 @@
+-- The sentences that are written of what breaks a rule.
+use Rattle.std.specs.Prelude.{ℕ, Some, None, List, [], ◌∷◌, ◌++◌, codes}
+use Rattle.std.specs.Fmt.{decimal}
+use Rattle.kt_base.specs.declared.words.Kind.TheVariants.{Checkpoint, Rollback}
+use Rattle.kt_explain.specs.declared.breach.Breach.{Breach}
+use Rattle.kt_explain.specs.declared.breach.Breach.TheVariants as breach
+use Rattle.kt_explain.specs.declared.breach.MessageBreach.{MessageBreach}
+use Rattle.kt_explain.specs.declared.breach.MessageBreach.TheVariants as message
+use Rattle.kt_explain.specs.declared.breach.ProcessBreach.{ProcessBreach}
+use Rattle.kt_explain.specs.declared.breach.ProcessBreach.TheVariants as process
+use Rattle.kt_explain.specs.declared.breach.InstanceBreach.{InstanceBreach}
+use Rattle.kt_explain.specs.declared.breach.InstanceBreach.TheVariants as instance
+
+-- what is so of a message that is received or dropped
+abbrev pub message_breach_words : MessageBreach → List ℕ
+message_breach_words (message.NotSent msg) =
+    codes "message " ++ (decimal msg ++ (codes " was not sent before; a message has the number of the row that sends it" ++ 10 ∷ []))
+message_breach_words (message.SentBetween msg from to) =
+    codes "message " ++ (decimal msg ++ (codes " was sent by process " ++ (decimal from ++ (codes " to process " ++ (decimal to ++ 10 ∷ [])))))
+message_breach_words (message.Undone msg from to) =
+    codes "message " ++ (decimal msg ++ (codes " is undone: process " ++ (decimal from ++ (codes " rolled back to before it sent it" ++ 10 ∷ []))))
+message_breach_words (message.Received p from msg row) =
+    codes "process " ++ (decimal p ++ (codes " received message " ++ (decimal msg ++ (codes " already, in row " ++ (decimal row ++ 10 ∷ [])))))
+message_breach_words (message.Dropped msg row) =
+    codes "message " ++ (decimal msg ++ (codes " was dropped in row " ++ (decimal row ++ 10 ∷ [])))
+message_breach_words (message.ReceivedLater p from msg row) =
+    codes "process " ++ (decimal p ++ (codes " received the later message " ++ (decimal msg ++ (codes " of process "
+    ++ (decimal from ++ (codes " before, in row " ++ (decimal row ++ 10 ∷ [])))))))
+message_breach_words (message.DroppedLater p from msg row) =
+    codes "process " ++ (decimal p ++ (codes " dropped the later message " ++ (decimal msg ++ (codes " of process "
+    ++ (decimal from ++ (codes " before, in row " ++ (decimal row ++ 10 ∷ [])))))))
+
+-- what is so of a process
+abbrev pub process_breach_words : ProcessBreach → List ℕ
+process_breach_words (process.OwnPeer p) = codes "both processes of the row are process " ++ (decimal p ++ 10 ∷ [])
+process_breach_words (process.Down p row) = codes "process " ++ (decimal p ++ (codes " is down since row " ++ (decimal row ++ 10 ∷ [])))
+process_breach_words (process.Up p) = codes "process " ++ (decimal p ++ (codes " is up" ++ 10 ∷ []))
+process_breach_words (process.Inside p inst row) =
+    codes "process " ++ (decimal p ++ (codes " is in instance " ++ (decimal inst ++ (codes " since row " ++ (decimal row ++ 10 ∷ [])))))
+process_breach_words (process.Rolling p inst row) =
+    codes "process " ++ (decimal p ++ (codes " is in instance " ++ (decimal inst ++ (codes ", a rollback, since row " ++ (decimal row ++ 10 ∷ [])))))
+process_breach_words (process.NotInside p inst (Some other)) =
+    codes "process " ++ (decimal p ++ (codes " is in instance " ++ (decimal other ++ (codes ", and not in instance " ++ (decimal inst ++ 10 ∷ [])))))
+process_breach_words (process.NotInside p inst None) =
+    codes "process " ++ (decimal p ++ (codes " is not in instance " ++ (decimal inst ++ (codes ", and in no other one" ++ 10 ∷ []))))
+process_breach_words (process.Joined p inst row) =
+    codes "process " ++ (decimal p ++ (codes " joined instance " ++ (decimal inst ++ (codes " already, in row " ++ (decimal row ++ 10 ∷ [])))))
+
+-- what is so of an instance
+abbrev pub instance_breach_words : InstanceBreach → List ℕ
+instance_breach_words (instance.Next number) = codes "the next instance to begin has number " ++ (decimal number ++ 10 ∷ [])
+instance_breach_words (instance.NotBegun inst) = codes "instance " ++ (decimal inst ++ (codes " has not begun" ++ 10 ∷ []))
+instance_breach_words (instance.Decided inst row) =
+    codes "instance " ++ (decimal inst ++ (codes " was decided in row " ++ (decimal row ++ 10 ∷ [])))
+instance_breach_words (instance.Undecided inst) = codes "instance " ++ (decimal inst ++ (codes " is not decided" ++ 10 ∷ []))
+instance_breach_words (instance.OfKind inst Checkpoint row) =
+    codes "instance " ++ (decimal inst ++ (codes " began in row " ++ (decimal row ++ (codes ", as a checkpoint" ++ 10 ∷ []))))
+instance_breach_words (instance.OfKind inst Rollback row) =
+    codes "instance " ++ (decimal inst ++ (codes " began in row " ++ (decimal row ++ (codes ", as a rollback" ++ 10 ∷ []))))
+instance_breach_words (instance.Initiator inst p row) =
+    codes "the initiator of instance " ++ (decimal inst ++ (codes " is process " ++ (decimal p
+    ++ (codes ", which began it in row " ++ (decimal row ++ 10 ∷ [])))))
+instance_breach_words (instance.JustBegun p inst) =
+    codes "process " ++ (decimal p ++ (codes " began instance " ++ (decimal inst
+    ++ (codes " in the row before, and is to join it in this one" ++ 10 ∷ []))))
+instance_breach_words (instance.OwnCause inst) =
+    codes "instance " ++ (decimal inst ++ (codes " is refused, and can't be the cause of it" ++ 10 ∷ []))
+
+-- what breaks a rule
+abbrev pub breach_words : Breach → List ℕ
+breach_words (breach.Message b) = message_breach_words b
+breach_words (breach.Process b) = process_breach_words b
+breach_words (breach.Instance b) = instance_breach_words b
+breach_words breach.NoCause = codes "no such command is refused for such a cause" ++ 10 ∷ []

@@ -1,0 +1,76 @@
+-- What a log leaves open.
+use Rattle.std.specs.Prelude.{◌≡◌, ℕ, ◌<◌, ◌||◌, ◌↔◌, not, if◌then◌else◌, Bool, true, false, Option, Some, None, is_none, List, [], length, slice_get, count_by, Contains}
+use Rattle.std.specs.List.{filter_map, list_any, range_with_len}
+use Rattle.kt_base.specs.Sets.{has}
+use Rattle.kt_spacetime.specs.declared.event.Event.{Event}
+use Rattle.kt_spacetime.specs.declared.event.Event.TheVariants as event
+use Rattle.kt_cuts.specs.Past.{Past, past}
+use Rattle.kt_cuts.specs.Legal.{is_in, is_undelivered}
+use Rattle.kt_cuts.specs.Messages.{row_at}
+use Rattle.kt_explain.specs.declared.left_open.OpenInstance.{OpenInstance}
+use Rattle.kt_explain.specs.declared.left_open.LeftOpen.{LeftOpen}
+
+-- whether a process is in an instance
+unfoldable pub is_anyone_in : Past → ℕ → Bool
+is_anyone_in s k = list_any (λ p. is_in s p k) (range_with_len 0 64)
+
+-- whether an instance that began is open: it is undecided, or a process is in it
+abbrev pub is_left_open : Past → ℕ → Bool
+is_left_open s k = is_none (s.decision k) || is_anyone_in s k
+
+-- the instance that a row begins, if it is open
+abbrev pub begun_open : Past → Event → Option ℕ
+begun_open s (event.Began p k kind) = if is_left_open s k then Some k else None
+begun_open s _ = None
+
+-- the instances that a log leaves open, in the order in which they began
+abbrev pub open_instances : List Event → List ℕ
+open_instances rows = filter_map (begun_open (past rows)) rows
+
+-- an open instance as it is told, with the processes that are in it; or none, where there is none
+abbrev pub IsOpenInstance : Past → Option ℕ → Option OpenInstance → Type 0
+IsOpenInstance s None None = Unit {0}
+IsOpenInstance s (Some k) (Some o) = (o.inst ≡ k) × ((p : ℕ) → p < 64 → has o.inside p ≡ is_in s p k)
+IsOpenInstance s _ _ = ⊥
+
+-- who is to receive the message that a row of this number sent, if it is in transit
+abbrev pub receiver_in_transit : Past → ℕ → Option Event → Option ℕ
+receiver_in_transit s msg (Some (event.Sent p to body)) = if is_undelivered s to p msg then Some to else None
+receiver_in_transit s msg _ = None
+
+-- the receivers of the messages in transit, one for each message; they are numbered as the rows, from 1
+abbrev pub receivers_in_transit : List Event → List ℕ
+receivers_in_transit rows =
+    filter_map (λ msg. receiver_in_transit (past rows) msg (row_at rows msg)) (range_with_len 1 (length rows))
+
+-- whether a message is dropped by a row
+abbrev pub is_drop : Event → Bool
+is_drop (event.Dropped p from msg) = true
+is_drop _ = false
+
+-- what a log leaves open
+pub record IsLeftOpen (rows : List Event) (l : LeftOpen) : Type 0 where
+  -- how many instances are open, and the first four of them
+  pub count : l.open_count ≡ length (open_instances rows)
+  pub instances : (i : ℕ) (o : Option OpenInstance) → slice_get l.instances i ≡ Some o
+      → IsOpenInstance (past rows) (slice_get (open_instances rows) i) o
+  -- how many messages are in transit, and to whom
+  pub in_transit : l.in_transit ≡ length (receivers_in_transit rows)
+  pub receivers : (q : ℕ) → has l.receivers q ≡ true ↔ Contains (receivers_in_transit rows) q
+  -- who is down, and how many messages were dropped
+  pub down : (p : ℕ) → p < 64 → has l.down p ≡ not ((past rows).up p)
+  pub dropped : l.dropped ≡ count_by is_drop rows
+
+-- it is told that nothing is left open
+pub record TellsNothing (l : LeftOpen) : Type 0 where
+  pub closed : l.open_count ≡ 0
+  pub received : l.in_transit ≡ 0
+  pub up : (p : ℕ) → has l.down p ≡ false
+  pub dropped : l.dropped ≡ 0
+
+-- a log leaves nothing open
+pub record LeavesNothing (rows : List Event) : Type 0 where
+  pub closed : open_instances rows ≡ []
+  pub received : receivers_in_transit rows ≡ []
+  pub up : (p : ℕ) → p < 64 → (past rows).up p ≡ true
+  pub dropped : count_by is_drop rows ≡ 0

@@ -1,0 +1,269 @@
+//! What breaks a rule, as it is told.
+
+pub(crate) mod before;
+mod deliveries;
+mod rules;
+
+use kt_base::{InstNo, Kind, MsgNo, ProcNo, RowNo};
+use std::fmt;
+
+/// What is so before a row, and is against the rule that the row breaks.
+#[derive(Clone, Copy, Debug, PartialEq, Eq)]
+pub enum Breach {
+    Message(MessageBreach),
+    Process(ProcessBreach),
+    Instance(InstanceBreach),
+    /// No such command is refused for such a cause.
+    NoCause,
+}
+
+/// What is so of a message that is received or dropped.
+#[derive(Clone, Copy, Debug, PartialEq, Eq)]
+pub enum MessageBreach {
+    /// No row sends it.
+    NotSent(MsgNo),
+    /// It was sent by one process to another.
+    SentBetween {
+        msg: MsgNo,
+        from: ProcNo,
+        to: ProcNo,
+    },
+    /// Its send was undone.
+    Undone {
+        msg: MsgNo,
+        from: ProcNo,
+        to: ProcNo,
+    },
+    /// The process received it from its sender, in this row.
+    Received {
+        p: ProcNo,
+        from: ProcNo,
+        msg: MsgNo,
+        row: RowNo,
+    },
+    /// It was dropped in this row.
+    Dropped {
+        msg: MsgNo,
+        row: RowNo,
+    },
+    /// This is the latest message of the sender that the process received, in this row.
+    ReceivedLater {
+        p: ProcNo,
+        from: ProcNo,
+        msg: MsgNo,
+        row: RowNo,
+    },
+    /// This is the latest message of the sender that the process dropped since it is down, in this row.
+    DroppedLater {
+        p: ProcNo,
+        from: ProcNo,
+        msg: MsgNo,
+        row: RowNo,
+    },
+}
+
+/// What is so of a process.
+#[derive(Clone, Copy, Debug, PartialEq, Eq)]
+pub enum ProcessBreach {
+    /// It is also the other process of the row's message.
+    OwnPeer(ProcNo),
+    /// It is down since this row.
+    Down {
+        p: ProcNo,
+        row: RowNo,
+    },
+    /// It is up.
+    Up(ProcNo),
+    /// It is in the open instance, which it joined in this row.
+    Inside {
+        p: ProcNo,
+        inst: InstNo,
+        row: RowNo,
+    },
+    /// It is in the open instance, a rollback, which it joined in this row.
+    Rolling {
+        p: ProcNo,
+        inst: InstNo,
+        row: RowNo,
+    },
+    /// It is not in the instance, but in this open one, or in none.
+    NotInside {
+        p: ProcNo,
+        inst: InstNo,
+        open_in: Option<InstNo>,
+    },
+    /// It joined the instance in this row.
+    Joined {
+        p: ProcNo,
+        inst: InstNo,
+        row: RowNo,
+    },
+}
+
+/// What is so of an instance.
+#[derive(Clone, Copy, Debug, PartialEq, Eq)]
+pub enum InstanceBreach {
+    /// The next one to begin has this number.
+    Next(usize),
+    /// It has not begun.
+    NotBegun(InstNo),
+    /// It was decided in this row.
+    Decided {
+        inst: InstNo,
+        row: RowNo,
+    },
+    /// It is not decided.
+    Undecided(InstNo),
+    /// It began in this row, as one of this kind.
+    OfKind {
+        inst: InstNo,
+        kind: Kind,
+        row: RowNo,
+    },
+    /// This process began it in this row.
+    Initiator {
+        inst: InstNo,
+        p: ProcNo,
+        row: RowNo,
+    },
+    /// This process began it in the row before.
+    JustBegun {
+        p: ProcNo,
+        inst: InstNo,
+    },
+    /// It is the one that is refused, and the one that the cause names.
+    OwnCause(InstNo),
+}
+
+impl fmt::Display for Breach {
+    ghost use Rattle.std.specs.Prelude.{Some};
+    ghost use Rattle.kt_explain.specs.BreachWords.{breach_words};
+
+    ghost output = { λ b. Some (breach_words b) };
+
+    fn fmt<W: fmt::Write>(&self, f: &mut fmt::Formatter<W>) -> fmt::Result {
+        match *self {
+            Breach::Message(breach) => write!(f, "{breach}"),
+            Breach::Process(breach) => write!(f, "{breach}"),
+            Breach::Instance(breach) => write!(f, "{breach}"),
+            Breach::NoCause => write!(f, "no such command is refused for such a cause\n"),
+        }
+    }
+}
+
+impl fmt::Display for MessageBreach {
+    ghost use Rattle.std.specs.Prelude.{Some};
+    ghost use Rattle.kt_explain.specs.BreachWords.{message_breach_words};
+
+    ghost output = { λ b. Some (message_breach_words b) };
+
+    fn fmt<W: fmt::Write>(&self, f: &mut fmt::Formatter<W>) -> fmt::Result {
+        match *self {
+            MessageBreach::NotSent(msg) => write!(
+                f,
+                "message {msg} was not sent before; a message has the number of the row that sends it\n"
+            ),
+            MessageBreach::SentBetween { msg, from, to } => {
+                write!(
+                    f,
+                    "message {msg} was sent by process {from} to process {to}\n"
+                )
+            }
+            MessageBreach::Undone { msg, from, .. } => write!(
+                f,
+                "message {msg} is undone: process {from} rolled back to before it sent it\n"
+            ),
+            MessageBreach::Received { p, msg, row, .. } => {
+                write!(
+                    f,
+                    "process {p} received message {msg} already, in row {row}\n"
+                )
+            }
+            MessageBreach::Dropped { msg, row } => {
+                write!(f, "message {msg} was dropped in row {row}\n")
+            }
+            MessageBreach::ReceivedLater { p, from, msg, row } => write!(
+                f,
+                "process {p} received the later message {msg} of process {from} before, in row {row}\n"
+            ),
+            MessageBreach::DroppedLater { p, from, msg, row } => write!(
+                f,
+                "process {p} dropped the later message {msg} of process {from} before, in row {row}\n"
+            ),
+        }
+    }
+}
+
+impl fmt::Display for ProcessBreach {
+    ghost use Rattle.std.specs.Prelude.{Some};
+    ghost use Rattle.kt_explain.specs.BreachWords.{process_breach_words};
+
+    ghost output = { λ b. Some (process_breach_words b) };
+
+    fn fmt<W: fmt::Write>(&self, f: &mut fmt::Formatter<W>) -> fmt::Result {
+        match *self {
+            ProcessBreach::OwnPeer(p) => write!(f, "both processes of the row are process {p}\n"),
+            ProcessBreach::Down { p, row } => write!(f, "process {p} is down since row {row}\n"),
+            ProcessBreach::Up(p) => write!(f, "process {p} is up\n"),
+            ProcessBreach::Inside { p, inst, row } => {
+                write!(f, "process {p} is in instance {inst} since row {row}\n")
+            }
+            ProcessBreach::Rolling { p, inst, row } => write!(
+                f,
+                "process {p} is in instance {inst}, a rollback, since row {row}\n"
+            ),
+            ProcessBreach::NotInside { p, inst, open_in } => match open_in {
+                Some(other) => write!(
+                    f,
+                    "process {p} is in instance {other}, and not in instance {inst}\n"
+                ),
+                None => write!(
+                    f,
+                    "process {p} is not in instance {inst}, and in no other one\n"
+                ),
+            },
+            ProcessBreach::Joined { p, inst, row } => write!(
+                f,
+                "process {p} joined instance {inst} already, in row {row}\n"
+            ),
+        }
+    }
+}
+
+impl fmt::Display for InstanceBreach {
+    ghost use Rattle.std.specs.Prelude.{Some};
+    ghost use Rattle.kt_explain.specs.BreachWords.{instance_breach_words};
+
+    ghost output = { λ b. Some (instance_breach_words b) };
+
+    fn fmt<W: fmt::Write>(&self, f: &mut fmt::Formatter<W>) -> fmt::Result {
+        match *self {
+            InstanceBreach::Next(number) => {
+                write!(f, "the next instance to begin has number {number}\n")
+            }
+            InstanceBreach::NotBegun(inst) => write!(f, "instance {inst} has not begun\n"),
+            InstanceBreach::Decided { inst, row } => {
+                write!(f, "instance {inst} was decided in row {row}\n")
+            }
+            InstanceBreach::Undecided(inst) => write!(f, "instance {inst} is not decided\n"),
+            InstanceBreach::OfKind { inst, kind, row } => match kind {
+                Kind::Checkpoint => {
+                    write!(f, "instance {inst} began in row {row}, as a checkpoint\n")
+                }
+                Kind::Rollback => write!(f, "instance {inst} began in row {row}, as a rollback\n"),
+            },
+            InstanceBreach::Initiator { inst, p, row } => write!(
+                f,
+                "the initiator of instance {inst} is process {p}, which began it in row {row}\n"
+            ),
+            InstanceBreach::JustBegun { p, inst } => write!(
+                f,
+                "process {p} began instance {inst} in the row before, and is to join it in this one\n"
+            ),
+            InstanceBreach::OwnCause(inst) => write!(
+                f,
+                "instance {inst} is refused, and can't be the cause of it\n"
+            ),
+        }
+    }
+}
