@@ -9,6 +9,7 @@ use Rattle.kt_cuts.specs.Past.{Past, start, after}
 use Rattle.kt_cuts.specs.Legal.{IsLegal, IsLegalAfter, broken_rule, first_broken, first_broken_after, or_later}
 use Rattle.kt_cuts.proofs.LegalLogs.{legal_take}
 use Rattle.kt_cuts.proofs.SortedFacts.{some_same}
+use Rattle.kt_chain.specs.declared.certificate.Certificate.{Certificate}
 use Rattle.kt_picture.specs.declared.breach.Breach.{Breach}
 use Rattle.kt_picture.specs.Breach.{breach_columns}
 use Rattle.kt_log_text.specs.declared.fault.LogFault.TheVariants as log
@@ -16,7 +17,7 @@ use Rattle.kt_draw.specs.declared.fault.DrawFault.{DrawFault}
 use Rattle.kt_draw.specs.declared.fault.DrawFault.TheVariants as draw
 use Rattle.kt_draw.specs.declared.span.Span.{Span}
 use Rattle.kt_draw.specs.declared.fault.PictureFault.{PictureFault}
-use Rattle.kt_draw.specs.Drawn.{HasRows, IsNoPicture, IsNoWindow, IsPicture, IsReadTo, IsShort, IsUndrawnLog, drawn_text, first_row, last_row, rows_drawn, rows_seen}
+use Rattle.kt_draw.specs.Drawn.{HasRows, IsDrawn, IsNoPicture, IsNoWindow, IsPictureTo, IsReadTo, IsShort, IsUndrawnLog, drawn_text, first_row, last_row, line_below, rows_drawn, rows_seen}
 
 -- the rows before the first one that breaks a rule break none
 front_after : (s : Past) (log : List Event) (k : ℕ) (rule : Rule) → first_broken_after s log ≡ Some (s.rows + (k + 1), rule) → IsLegalAfter s (take k log)
@@ -114,15 +115,12 @@ last_seen seen (Some n) = at_test (nat_lt n seen) refl
 
 module _ (names : List (List ℕ)) (span : Span) (log : List Event) (kept count seen : ℕ) (b : Option Breach) (read : IsReadTo log kept b) (counted : count ≡ length log) (last_read : seen ≡ rows_seen kept b) where
   -- the picture of a window is that of the rows that are asked for
-  pub pictured : (first last : ℕ) (text : List ℕ) → first ≡ first_row span.from → last ≡ last_row seen span.to → HasRows count seen span → IsShort seen span → text ≡ drawn_text names log kept b first last
-      → IsPicture names span log text
-  pictured first last text first_is last_is there short text_is = record {
-    kept = kept;
-    breach = b;
-    read = read;
+  pub pictured : (certificates : List Certificate) (orphan : Option ℕ) (line : List ℕ) (first last : ℕ) (text : List ℕ) → first ≡ first_row span.from → last ≡ last_row seen span.to → HasRows count seen span → IsShort seen span
+      → text ≡ drawn_text names log kept b first last certificates orphan line → IsPictureTo names span log kept b certificates orphan line text
+  pictured certificates orphan line first last text first_is last_is there short text_is = record {
     there = subst (λ (n : ℕ). HasRows n (rows_seen kept b) span) counted (subst (λ (m : ℕ). HasRows count m span) last_read there);
     short = subst (λ (m : ℕ). IsShort m span) last_read short;
-    text_is = text_is ∙ (λ j. drawn_text names log kept b (first_is j) ((last_is ∙ ap (λ (m : ℕ). last_row m span.to) last_read) j));
+    text_is = text_is ∙ (λ j. drawn_text names log kept b (first_is j) ((last_is ∙ ap (λ (m : ℕ). last_row m span.to) last_read) j) certificates orphan line);
   }
 
   -- where there is no such window, there is no such picture
@@ -133,6 +131,16 @@ module _ (names : List (List ℕ)) (span : Span) (log : List Event) (kept count 
     read = read;
     window = subst (λ (n : ℕ). IsNoWindow n (rows_seen kept b) span why) counted (subst (λ (m : ℕ). IsNoWindow count m span why) last_read none);
   }
+
+-- a picture of a log that is read so far, with this line below, if there is one
+pub told_drawn : (names : List (List ℕ)) (span : Span) (log : List Event) (kept : ℕ) (b : Option Breach) (certificates : List Certificate) (orphan : Option ℕ) (line : Option (List ℕ)) (below text : List ℕ) → IsReadTo log kept b
+    → below ≡ line_below kept b line → IsPictureTo names span log kept b certificates orphan below text → IsDrawn names span log certificates orphan line text
+told_drawn names span log kept b certificates orphan line below text read e h = record {
+  kept = kept;
+  breach = b;
+  read = read;
+  drawn = subst (λ (l : List ℕ). IsPictureTo names span log kept b certificates orphan l text) e h;
+}
 
 -- what follows from an answer, and from a fault
 pub ok_weaker : {X E : Type 0} (r : Result X E) (P Q : X → Type 0) → IfOk r P → ((x : X) → P x → Q x) → IfOk r Q

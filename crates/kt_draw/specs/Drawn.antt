@@ -1,11 +1,18 @@
 -- Which rows of a stored log are drawn, and what the picture is.
-use Rattle.std.specs.Prelude.{◌≡◌, ◌≤◌, ◌<◌, ◌+◌, ◌-◌, ℕ, if◌then◌else◌, nat_lt, List, take, length, slice_get, Option, Some, None, IfSome, codes}
+use Rattle.std.specs.Prelude.{◌≡◌, ◌≤◌, ◌<◌, ◌+◌, ◌-◌, ℕ, if◌then◌else◌, nat_lt, List, [], take, length, slice_get, Option, Some, None, IfSome, codes}
 use Rattle.kt_spacetime.specs.declared.event.Event.{Event}
 use Rattle.kt_cuts.specs.Legal.{IsLegal, first_broken}
 use Rattle.kt_log_text.specs.declared.fault.LogFault.TheVariants as log
 use Rattle.kt_log_text.specs.Reading.{rows_unread}
 use Rattle.kt_log_text.specs.Texts.{IsFirstFault}
+use Rattle.kt_chain.specs.declared.certificate.Certificate.{Certificate}
+use Rattle.kt_checker.specs.declared.verdict.Verdict.{Verdict}
+use Rattle.kt_checker.specs.Order.{IsAnswer}
 use Rattle.kt_checker.specs.Streamed.{SaysRows}
+use Rattle.kt_checker.specs.Words.{verdict_words}
+use Rattle.kt_explain.specs.declared.explanation.Explanation.{Explanation}
+use Rattle.kt_explain.specs.declared.explanation.Explanation.TheVariants.{Orphan}
+use Rattle.kt_explain.specs.Told.{IsExplanation}
 use Rattle.kt_picture.specs.declared.breach.Breach.{Breach}
 use Rattle.kt_picture.specs.Breach.{breach_columns, caption_of}
 use Rattle.kt_picture.specs.Picture.{picture_of}
@@ -72,19 +79,52 @@ rows_drawn kept last = if nat_lt kept last then kept else last
 abbrev pub breach_drawn : ℕ → ℕ → Option Breach → Option Breach
 breach_drawn kept last breach = if nat_lt kept last then breach else None
 
--- the picture of a log from one row to another, with the names of processes
-abbrev pub drawn_text : List (List ℕ) → List Event → ℕ → Option Breach → ℕ → ℕ → List ℕ
-drawn_text names log kept breach first last =
-    picture_of names (take (rows_drawn kept last) log) (first - 1) (breach_drawn kept last breach) (caption_of (kept + 1) breach)
+-- the picture of a log from one row to another, with the names of processes, what certificates tell of it, the orphan that
+-- stands out, and the line below
+abbrev pub drawn_text : List (List ℕ) → List Event → ℕ → Option Breach → ℕ → ℕ → List Certificate → Option ℕ → List ℕ → List ℕ
+drawn_text names log kept breach first last certificates orphan line =
+    picture_of names (take (rows_drawn kept last) log) (first - 1) (breach_drawn kept last breach) certificates orphan line
 
--- a text is the picture of the rows that are asked for
-pub record IsPicture (names : List (List ℕ)) (span : Span) (log : List Event) (text : List ℕ) : Type 0 where
+-- a text is the picture of the rows that are asked for, of a log that is read so far
+pub record IsPictureTo (names : List (List ℕ)) (span : Span) (log : List Event) (kept : ℕ) (breach : Option Breach) (certificates : List Certificate) (orphan : Option ℕ) (line text : List ℕ) : Type 0 where
+  pub there : HasRows (length log) (rows_seen kept breach) span
+  pub short : IsShort (rows_seen kept breach) span
+  pub text_is : text ≡ drawn_text names log kept breach (first_row span.from) (last_row (rows_seen kept breach) span.to) certificates orphan line
+
+-- the line below a picture: this one, if there is one, else that the log is legal, or which row breaks which rule
+abbrev pub line_below : ℕ → Option Breach → Option (List ℕ) → List ℕ
+line_below kept breach None = caption_of (kept + 1) breach
+line_below kept breach (Some line) = line
+
+-- a text is the picture of the rows that are asked for, with these certificates, this orphan, and this line below, if there
+-- is one
+pub record IsDrawn (names : List (List ℕ)) (span : Span) (log : List Event) (certificates : List Certificate) (orphan : Option ℕ) (line : Option (List ℕ)) (text : List ℕ) : Type 0 where
   pub kept : ℕ
   pub breach : Option Breach
   pub read : IsReadTo log kept breach
-  pub there : HasRows (length log) (rows_seen kept breach) span
-  pub short : IsShort (rows_seen kept breach) span
-  pub text_is : text ≡ drawn_text names log kept breach (first_row span.from) (last_row (rows_seen kept breach) span.to)
+  pub drawn : IsPictureTo names span log kept breach certificates orphan (line_below kept breach line) text
+
+-- a text is the picture of the rows that are asked for, without certificates
+abbrev pub IsPicture : List (List ℕ) → Span → List Event → List ℕ → Type 0
+IsPicture names span log text = IsDrawn names span log [] None None text
+
+-- the orphan that is told of an answer
+abbrev pub orphan_told : Explanation → Option ℕ
+orphan_told (Orphan inst orphan) = Some orphan.msg
+orphan_told _ = None
+
+-- an orphan is the one that is told of the checker's answer to a log and certificates
+abbrev pub IsOrphanTold : List Event → List Certificate → Verdict → Option ℕ → Type 0
+IsOrphanTold log certificates verdict orphan = (told : Explanation) × IsExplanation log certificates verdict told × (orphan ≡ orphan_told told)
+
+-- the same with certificates: their chains are drawn, the least orphan stands out where the checker's answer is that there
+-- is one, and below stands that answer
+pub record IsCertifiedPicture (names : List (List ℕ)) (span : Span) (log : List Event) (certificates : List Certificate) (text : List ℕ) : Type 0 where
+  pub verdict : Verdict
+  pub answer : IsAnswer log certificates verdict
+  pub orphan : Option ℕ
+  pub told : IsOrphanTold log certificates verdict orphan
+  pub drawn : IsDrawn names span log certificates orphan (Some (verdict_words verdict)) text
 
 -- why a log has no such picture
 pub record IsNoPicture (span : Span) (log : List Event) (why : PictureFault) : Type 0 where

@@ -1,24 +1,30 @@
 //! Rows of a stored log drawn.
 
 ghost use Rattle.std.specs.Prelude.{◌≡◌, ◌≤◌, ◌<◌, ◌^◌, ℕ, Some, IfOk, IfErr, IfSome, length, take};
+ghost use Rattle.std.specs.Option.{option_copied};
 ghost use Rattle.kt_cuts.specs.declared.legality.LegalFault.TheVariants as legality;
 ghost use Rattle.kt_cuts.specs.declared.rules.Rule.{Rule as Rules};
 ghost use Rattle.kt_cuts.specs.Legal.{IsLegal, first_broken};
+ghost use Rattle.kt_checker.specs.Order.{IsAnswer};
 ghost use Rattle.kt_checker.specs.Streamed.{SaysRows};
+ghost use Rattle.kt_checker.specs.Words.{verdict_words};
 ghost use Rattle.kt_log_text.specs.declared.fault.LogFault.{LogFault as LogFaults};
 ghost use Rattle.kt_log_text.specs.declared.fault.LogFault.TheVariants as log_fault;
 ghost use Rattle.kt_log_text.specs.Reading.{rows_unread};
 ghost use Rattle.kt_log_text.specs.Texts.{IsFirstFault};
 ghost use Rattle.kt_draw.specs.declared.fault.DrawFault.TheVariants as draw;
-ghost use Rattle.kt_draw.specs.Drawn.{IsNoPictureOf, IsPicture, IsPictureOf, IsReadTo, IsUndrawnLog, breach_drawn, drawn_text, rows_drawn, rows_seen};
+ghost use Rattle.kt_draw.specs.Drawn.{IsCertifiedPicture, IsDrawn, IsNoPictureOf, IsOrphanTold, IsPicture, IsPictureOf, IsPictureTo, IsReadTo, IsUndrawnLog, breach_drawn, drawn_text, orphan_told, rows_drawn, rows_seen};
 
 use crate::fault::DrawFault;
 use crate::span::{Span, Window, window_of};
-use kt_base::{Memory, RowNo};
+use kt_base::{Memory, MsgNo, RowNo};
+use kt_chain::Certificate;
+use kt_checker::{Verdict, check};
 use kt_cuts::{LegalFault, Rule};
+use kt_explain::{Explanation, explain};
 use kt_histories::legal;
 use kt_log_text::{LogFault, read_csv};
-use kt_picture::{Breach, caption, picture};
+use kt_picture::{Breach, Evidence, caption, picture};
 use kt_plan::Names;
 use kt_spacetime::SpaceTime;
 use std::alloc::Global;
@@ -43,7 +49,7 @@ pub fn draw_stream<L: Read + Drop>(
     ensures fault { IfErr result (IsNoPictureOf span (L.remaining reader)) }
 {
     let log = read_log(alloc, reader)?;
-    draw_rows(alloc, &log, names, span)
+    draw_plain(alloc, &log, names, span)
 }
 
 // The log that the reader tells.
@@ -58,8 +64,67 @@ fn read_log<L: Read + Drop>(alloc: Global, reader: L) -> Result<SpaceTime, DrawF
     }
 }
 
-// The picture of rows of a log.
-fn draw_rows(
+/// The picture of rows of a log as `draw_stream` has it, with what certificates tell of it: the messages of their chains in
+/// the colours of the instances, and why each member took part. The line below is the checker's answer; where that is an
+/// orphan, the least one stands out.
+///
+/// Fails where there are no such rows, or more than 4,096 of them, or where memory is wanting.
+pub fn draw_certified(
+    alloc: Global,
+    log: &SpaceTime,
+    certificates: &[Certificate],
+    names: &Names,
+    span: Span,
+) -> Result<Vec<u8>, DrawFault>
+    ensures picture { IfOk result (λ text. IsCertifiedPicture names.now span log.now.rows certificates.now text.items) }
+    ensures fault { IfErr result (IsUndrawnLog span log.now.rows) }
+{
+    let verdict = check(alloc, log, certificates)?;
+    let orphan = orphan_in(alloc, log, certificates, &verdict)?;
+    let line = line_of(alloc, &verdict)?;
+    let evidence = Evidence {
+        certificates,
+        orphan,
+    };
+    draw_rows(alloc, log, &evidence, Some(line.as_bytes()), names, span)
+}
+
+// The orphan that is told of the checker's answer to a log and certificates.
+fn orphan_in(
+    alloc: Global,
+    log: &SpaceTime,
+    certificates: &[Certificate],
+    verdict: &Verdict,
+) -> Result<Option<MsgNo>, Memory>
+    requires { IsAnswer log.now.rows certificates.now verdict.now }
+    ensures { IfOk result (IsOrphanTold log.now.rows certificates.now verdict.now) }
+{
+    match explain(alloc, log, certificates, verdict) {
+        Ok(told) => Ok(orphan_told(&told)),
+        Err(Memory) => Err(Memory),
+    }
+}
+
+// The line of an answer.
+fn line_of(alloc: Global, verdict: &Verdict) -> Result<String, Memory>
+    ensures { IfOk result (λ line. line.bytes.items ≡ verdict_words verdict.now) }
+{
+    let line = format!(in alloc; "{verdict}")?;
+    Ok(line)
+}
+
+// The orphan that is told of an answer.
+fn orphan_told(told: &Explanation) -> Option<MsgNo>
+    ensures { result ≡ orphan_told told.now }
+{
+    match told {
+        Explanation::Orphan { orphan, .. } => Some(orphan.msg),
+        _ => None,
+    }
+}
+
+// The picture of rows of a log, without certificates.
+fn draw_plain(
     alloc: Global,
     log: &SpaceTime,
     names: &Names,
@@ -68,9 +133,29 @@ fn draw_rows(
     ensures picture { IfOk result (λ text. IsPicture names.now span log.now.rows text.items) }
     ensures fault { IfErr result (IsUndrawnLog span log.now.rows) }
 {
+    let evidence = Evidence {
+        certificates: &[],
+        orphan: None,
+    };
+    draw_rows(alloc, log, &evidence, None, names, span)
+}
+
+// The picture of rows of a log, with this line below, if there is one.
+fn draw_rows(
+    alloc: Global,
+    log: &SpaceTime,
+    evidence: &Evidence<'_>,
+    line: Option<&[u8]>,
+    names: &Names,
+    span: Span,
+) -> Result<Vec<u8>, DrawFault>
+    ensures picture { IfOk result (λ text. IsDrawn names.now span log.now.rows
+        evidence.now.certificates.now evidence.now.orphan (option_copied line.entry) text.items) }
+    ensures fault { IfErr result (IsUndrawnLog span log.now.rows) }
+{
     match legal(alloc, log) {
-        Ok(()) => draw_reach(alloc, log, &whole(log), names, span),
-        Err(fault) => draw_illegal(alloc, log, fault, names, span),
+        Ok(()) => draw_told(alloc, log, &whole(log), evidence, line, names, span),
+        Err(fault) => draw_illegal(alloc, log, fault, evidence, line, names, span),
     }
 }
 
@@ -79,19 +164,48 @@ fn draw_illegal(
     alloc: Global,
     log: &SpaceTime,
     fault: LegalFault,
+    evidence: &Evidence<'_>,
+    line: Option<&[u8]>,
     names: &Names,
     span: Span,
 ) -> Result<Vec<u8>, DrawFault>
     requires { (row : ℕ) (rule : Rules) → fault ≡ legality.Broken row rule
         → first_broken log.now.rows ≡ Some (row, rule) }
-    ensures picture { IfOk result (λ text. IsPicture names.now span log.now.rows text.items) }
+    ensures picture { IfOk result (λ text. IsDrawn names.now span log.now.rows
+        evidence.now.certificates.now evidence.now.orphan (option_copied line.entry) text.items) }
     ensures fault { IfErr result (IsUndrawnLog span log.now.rows) }
 {
     match fault {
         LegalFault::Broken(row, rule) => {
-            draw_reach(alloc, log, &broken(log, row, rule), names, span)
+            let reach = broken(log, row, rule);
+            draw_told(alloc, log, &reach, evidence, line, names, span)
         }
         LegalFault::Memory => Err(DrawFault::Log(LogFault::Memory)),
+    }
+}
+
+// The picture of rows of a log that is read so far, with this line below, if there is one, else one that says how far.
+fn draw_told(
+    alloc: Global,
+    log: &SpaceTime,
+    reach: &Reach,
+    evidence: &Evidence<'_>,
+    line: Option<&[u8]>,
+    names: &Names,
+    span: Span,
+) -> Result<Vec<u8>, DrawFault>
+    requires read { IsReadTo log.now.rows reach.now.kept reach.now.breach }
+    requires few { reach.now.kept ≤ 2 ^ 24 }
+    ensures picture { IfOk result (λ text. IsDrawn names.now span log.now.rows
+        evidence.now.certificates.now evidence.now.orphan (option_copied line.entry) text.items) }
+    ensures fault { IfErr result (IsUndrawnLog span log.now.rows) }
+{
+    match line {
+        Some(line) => draw_reach(alloc, log, reach, evidence, line, names, span),
+        None => {
+            let line = caption(alloc, reach.kept as u32 + 1, reach.breach)?;
+            draw_reach(alloc, log, reach, evidence, line.as_slice(), names, span)
+        }
     }
 }
 
@@ -100,16 +214,19 @@ fn draw_reach(
     alloc: Global,
     log: &SpaceTime,
     reach: &Reach,
+    evidence: &Evidence<'_>,
+    line: &[u8],
     names: &Names,
     span: Span,
 ) -> Result<Vec<u8>, DrawFault>
     requires read { IsReadTo log.now.rows reach.now.kept reach.now.breach }
     requires few { reach.now.kept ≤ 2 ^ 24 }
-    ensures picture { IfOk result (λ text. IsPicture names.now span log.now.rows text.items) }
+    ensures picture { IfOk result (λ text. IsPictureTo names.now span log.now.rows reach.now.kept reach.now.breach
+        evidence.now.certificates.now evidence.now.orphan line.now text.items) }
     ensures fault { IfErr result (IsUndrawnLog span log.now.rows) }
 {
     match window_of(log.rows().len(), reach.seen(), span) {
-        Ok(window) => draw_window(alloc, log, reach, &window, names),
+        Ok(window) => draw_window(alloc, log, reach, &window, evidence, line, names),
         Err(why) => Err(DrawFault::Picture(why)),
     }
 }
@@ -182,6 +299,8 @@ fn draw_window(
     log: &SpaceTime,
     reach: &Reach,
     window: &Window,
+    evidence: &Evidence<'_>,
+    line: &[u8],
     names: &Names,
 ) -> Result<Vec<u8>, DrawFault>
     requires read { IsReadTo log.now.rows reach.now.kept reach.now.breach }
@@ -190,18 +309,19 @@ fn draw_window(
     requires some { window.now.first ≤ window.now.last }
     requires last { window.now.last ≤ rows_seen reach.now.kept reach.now.breach }
     ensures exact { IfOk result (λ text. text.items
-        ≡ drawn_text names.now log.now.rows reach.now.kept reach.now.breach window.now.first window.now.last) }
+        ≡ drawn_text names.now log.now.rows reach.now.kept reach.now.breach window.now.first window.now.last
+        evidence.now.certificates.now evidence.now.orphan line.now) }
     ensures fault { IfErr result (λ e. e ≡ draw.Log log_fault.Memory) }
 {
-    let below = caption(alloc, reach.kept as u32 + 1, reach.breach)?;
     let front = front_of(alloc, log, reach.rows_drawn(window.last))?;
     let text = picture(
         alloc,
         &front,
         window.first - 1,
         reach.breach_drawn(window.last),
+        evidence,
         names,
-        below.as_slice(),
+        line,
     )?;
     Ok(text)
 }

@@ -5,6 +5,6 @@ mod drawing;
 mod fault;
 mod span;
 
-pub use drawing::draw_stream;
+pub use drawing::{draw_certified, draw_stream};
 pub use fault::{DrawFault, PictureFault};
 pub use span::Span;

@@ -1,5 +1,6 @@
 pub mod Gathering
 pub mod LaneFacts
+pub mod LinkFacts
 pub mod EscapeFacts
 pub mod WindowFacts
 pub mod LawFacts

@@ -1,9 +1,12 @@
 pub use Rattle.kt_spacetime.specs.Events
 pub mod Breach
 pub mod Escaping
+pub mod Evidence
 pub mod Fates
 pub mod KnownOf
 pub mod Lanes
+pub mod Links
+pub mod Notes
 pub mod Picture
 pub mod Seen
 pub mod Shapes

@@ -1,5 +1,5 @@
 -- A picture as text.
-use Rattle.std.specs.Prelude.{ℕ, ◌+◌, ◌-◌, ◌*◌, ◌%◌, Option, List, ◌++◌, codes, length, drop, slice_index, slice_index_or}
+use Rattle.std.specs.Prelude.{ℕ, ◌+◌, ◌-◌, ◌*◌, ◌%◌, Option, List, ◌++◌, codes, length, drop, slice_index}
 use Rattle.std.specs.List.{flat_map}
 use Rattle.std.specs.Fmt.{decimal}
 use Rattle.kt_spacetime.specs.declared.event.Event.{Event}
@@ -8,8 +8,10 @@ use Rattle.kt_picture.specs.declared.shown.End.{End}
 use Rattle.kt_picture.specs.declared.shown.CutMark.{CutMark}
 use Rattle.kt_picture.specs.declared.breach.Breach.{Breach}
 use Rattle.kt_picture.specs.Breach.{breach_columns, breach_mark}
+use Rattle.kt_chain.specs.declared.certificate.Certificate.{Certificate}
 use Rattle.kt_picture.specs.Escaping.{escaped}
-use Rattle.kt_picture.specs.Lanes.{lanes_in, lane_of}
+use Rattle.kt_picture.specs.Evidence.{message_class, reason_of}
+use Rattle.kt_picture.specs.Lanes.{lanes_in, lane_of, name_or_number}
 use Rattle.kt_picture.specs.Shapes.{x_of, y_of, colour}
 use Rattle.kt_picture.specs.Style.{style_by_day, style_by_night, arrow_heads}
 use Rattle.kt_picture.specs.Svg.{stretch, stretch_of, arrow_of, figure_of}
@@ -27,10 +29,6 @@ abbrev pub document_opening : ℕ → List ℕ → List ℕ
 document_opening columns lanes =
     codes "<svg xmlns='http://www.w3.org/2000/svg' viewBox='0 0 " ++ decimal (width_of columns) ++ codes " " ++ decimal (height_of lanes)
     ++ codes "' width='" ++ decimal (width_of columns) ++ codes "'>\n" ++ style_by_day ++ style_by_night ++ arrow_heads
-
--- the name of a process, or its number where it has none
-abbrev pub name_or_number : List (List ℕ) → ℕ → List ℕ
-name_or_number names p = slice_index_or names p (decimal p)
 
 -- the name beside a process's lane
 abbrev pub lane_name : List (List ℕ) → List ℕ → ℕ → List ℕ
@@ -66,15 +64,15 @@ cut_line lanes c =
     codes "<polyline class='cut" ++ colour c.inst ++ codes "' points='" ++ flat_map (cut_points lanes c) lanes
     ++ codes "'><title>permanent cut after instance " ++ decimal c.inst ++ codes "</title></polyline>\n"
 
--- the marks of rows: cuts, arrows, and over them what shows each row at its place
-abbrev pub row_marks : List ℕ → ℕ → List CutMark → List Shown → List ℕ
-row_marks lanes before cuts shown =
-    flat_map (cut_line lanes) cuts ++ flat_map (arrow_of lanes before) shown ++ flat_map (figure_of lanes) shown
+-- the marks of rows: cuts, arrows, and over them what shows each row at its place, with why a process took part
+abbrev pub row_marks : (ℕ → List ℕ) → (Event → List ℕ) → List ℕ → ℕ → List CutMark → List Shown → List ℕ
+row_marks class reason lanes before cuts shown =
+    flat_map (cut_line lanes) cuts ++ flat_map (arrow_of class lanes before) shown ++ flat_map (figure_of reason lanes) shown
 
 -- a picture with these lanes, columns and marks, after so many rows, but for its end
-abbrev pub picture_text : List (List ℕ) → List ℕ → ℕ → ℕ → List Shown → List CutMark → List End → List ℕ
-picture_text names lanes before columns shown cuts ends =
-    document_opening columns lanes ++ lane_marks names lanes columns shown ends ++ row_marks lanes before cuts shown
+abbrev pub picture_text : (ℕ → List ℕ) → (Event → List ℕ) → List (List ℕ) → List ℕ → ℕ → ℕ → List Shown → List CutMark → List End → List ℕ
+picture_text class reason names lanes before columns shown cuts ends =
+    document_opening columns lanes ++ lane_marks names lanes columns shown ends ++ row_marks class reason lanes before cuts shown
 
 -- its end: the mark of the row of this number that breaks a rule, in the last column, and what is said below
 abbrev pub picture_end : List ℕ → ℕ → ℕ → Option Breach → List ℕ → List ℕ
@@ -84,9 +82,9 @@ picture_end lanes number column breach caption = breach_mark lanes number column
 abbrev pub columns_of : List Event → ℕ → Option Breach → ℕ
 columns_of rows before breach = length (drop before rows) + breach_columns breach
 
--- a picture of a legal log after its first so many rows, with the row after it that breaks a rule, where there is one, and
--- a line below
-abbrev pub picture_of : List (List ℕ) → List Event → ℕ → Option Breach → List ℕ → List ℕ
-picture_of names rows before breach caption =
-    picture_text names (lanes_in rows) before (columns_of rows before breach) (shown_of rows before) (cuts_of rows before) (ends_of rows before)
+-- a picture of a legal log after its first so many rows, with the row after it that breaks a rule, where there is one, with
+-- what certificates tell of it, the orphan that stands out, where there is one, and a line below
+abbrev pub picture_of : List (List ℕ) → List Event → ℕ → Option Breach → List Certificate → Option ℕ → List ℕ → List ℕ
+picture_of names rows before breach certificates orphan caption =
+    picture_text (message_class (length rows) certificates orphan) (reason_of names rows certificates) names (lanes_in rows) before (columns_of rows before breach) (shown_of rows before) (cuts_of rows before) (ends_of rows before)
     ++ picture_end (lanes_in rows) (before + columns_of rows before breach) (columns_of rows before breach) breach caption

@@ -14,8 +14,16 @@ use Rattle.kt_picture.specs.Lanes.{lane_of}
 use Rattle.kt_picture.specs.Shapes.{x_of, y_of, point, shape, colour, coloured, fill_class, square, triangle, diamond}
 
 -- how a tooltip begins, with the row's number and text
+abbrev pub row_words : ℕ → Event → List ℕ
+row_words number row = codes "<g><title>row " ++ decimal number ++ codes ": " ++ joined (spelling row)
+
+-- a tooltip with the row's number and text
 abbrev pub title : ℕ → Event → List ℕ
-title number row = codes "<g><title>row " ++ decimal number ++ codes ": " ++ joined (spelling row) ++ codes "</title>"
+title number row = row_words number row ++ codes "</title>"
+
+-- the same, with what else is said
+abbrev pub title_with : List ℕ → ℕ → Event → List ℕ
+title_with more number row = row_words number row ++ more ++ codes "</title>"
 
 -- where a stretch of a lane goes
 abbrev pub to_column : ℕ → List ℕ
@@ -55,10 +63,10 @@ arrow_class true true = codes "m gone back"
 abbrev pub column_of : ℕ → ℕ → ℕ
 column_of before msg = msg - before
 
--- an arrow from where a message was sent to where it was taken
-abbrev pub arrow : List ℕ → ℕ → Shown → ℕ → ℕ → List ℕ
-arrow lanes before s from msg =
-    title s.row s.event ++ path_of (arrow_class s.is_undone s.is_taken_back) ++ point (column_of before msg) (lane_of lanes from)
+-- an arrow from where a message was sent to where it was taken, of a class more
+abbrev pub arrow : List ℕ → List ℕ → ℕ → Shown → ℕ → ℕ → List ℕ
+arrow more lanes before s from msg =
+    title s.row s.event ++ path_of (arrow_class s.is_undone s.is_taken_back ++ more) ++ point (column_of before msg) (lane_of lanes from)
     ++ codes "L" ++ point s.column (lane_of lanes (process_of s.event)) ++ codes "'/></g>\n"
 
 -- where the short arrow of a message in transit points: down to a later lane, else up
@@ -73,15 +81,16 @@ way lanes column p to = shape (codes "m way") column (lane_of lanes p) (towards 
 abbrev pub short_arrow : List ℕ → Shown → ℕ → ℕ → List ℕ
 short_arrow lanes s p to = title s.row s.event ++ way lanes s.column p to ++ codes "</g>\n"
 
--- the arrow of a row that takes a message, or that sends one which is in transit at the window's end
-abbrev pub arrow_at : List ℕ → ℕ → Shown → Event → List ℕ
-arrow_at lanes before s (Sent p to body) = if s.is_in_transit then short_arrow lanes s p to else []
-arrow_at lanes before s (Received p from msg) = arrow lanes before s from msg
-arrow_at lanes before s (Dropped p from msg) = arrow lanes before s from msg
-arrow_at lanes before s _ = []
+-- the arrow of a row that takes a message, of its message's class more, or that sends one which is in transit at the
+-- window's end
+abbrev pub arrow_at : (ℕ → List ℕ) → List ℕ → ℕ → Shown → Event → List ℕ
+arrow_at class lanes before s (Sent p to body) = if s.is_in_transit then short_arrow lanes s p to else []
+arrow_at class lanes before s (Received p from msg) = arrow (class msg) lanes before s from msg
+arrow_at class lanes before s (Dropped p from msg) = arrow (class msg) lanes before s from msg
+arrow_at class lanes before s _ = []
 
-abbrev pub arrow_of : List ℕ → ℕ → Shown → List ℕ
-arrow_of lanes before s = arrow_at lanes before s s.event
+abbrev pub arrow_of : (ℕ → List ℕ) → List ℕ → ℕ → Shown → List ℕ
+arrow_of class lanes before s = arrow_at class lanes before s s.event
 
 -- how a word begins that stands so far below a place
 abbrev pub word_at : List ℕ → ℕ → ℕ → List ℕ → List ℕ
@@ -141,6 +150,6 @@ number_at row column = if row % 5 == 0 then row_number row column else []
 abbrev pub figure_at : List ℕ → Shown → List ℕ
 figure_at lanes s = figure (lane_of lanes (process_of s.event)) s s.event
 
--- the same, under its tooltip, and the number of each fifth row
-abbrev pub figure_of : List ℕ → Shown → List ℕ
-figure_of lanes s = number_at s.row s.column ++ title s.row s.event ++ figure_at lanes s ++ codes "</g>\n"
+-- the same, under its tooltip, which says why a process took part, and the number of each fifth row
+abbrev pub figure_of : (Event → List ℕ) → List ℕ → Shown → List ℕ
+figure_of reason lanes s = number_at s.row s.column ++ title_with (reason s.event) s.row s.event ++ figure_at lanes s ++ codes "</g>\n"

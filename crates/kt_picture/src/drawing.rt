@@ -7,8 +7,10 @@ ghost use Rattle.kt_text.specs.Writing.{WritesFront};
 ghost use Rattle.kt_picture.specs.Picture.{picture_of};
 
 use crate::breach::Breach;
+use crate::evidence::{Evidence, Notes};
 use crate::lanes::Lanes;
 use crate::layers::{push_picture, push_picture_end};
+use crate::links::Links;
 use crate::window::Window;
 use kt_base::Memory;
 use kt_plan::Names;
@@ -28,12 +30,16 @@ use std::io::Write;
 /// receive is, short where the message is in transit; squares (`took`) and triangles (`ready`) are filled after a
 /// commit and crossed after an abort. The names and the text below are escaped.
 ///
+/// A message that certificates have in a chain is drawn in the colour of the instance, and the row in which a member joins
+/// tells in its tooltip which messages bound it; the orphan that is named stands out.
+///
 /// The whole text is gathered before any of it is written. After a fault, a front part of it is written.
 pub fn draw<W: Write>(
     alloc: Global,
     log: &SpaceTime,
     before: usize,
     breach: Option<Breach>,
+    evidence: &Evidence<'_>,
     names: &Names,
     caption: &[u8],
     writer: &mut W,
@@ -41,11 +47,13 @@ pub fn draw<W: Write>(
     requires legal { IsLegal log.now.rows }
     requires before { before ≤ length log.now.rows }
     ensures exact { OnOk result (Appends (W.contents writer.old) (W.contents writer.new)
-        (picture_of names.now log.now.rows before breach caption.now)) }
+        (picture_of names.now log.now.rows before breach
+        evidence.now.certificates.now evidence.now.orphan caption.now)) }
     ensures front { OnErr result (WritesFront (W.contents writer.old) (W.contents writer.new)
-        (picture_of names.now log.now.rows before breach caption.now)) }
+        (picture_of names.now log.now.rows before breach
+        evidence.now.certificates.now evidence.now.orphan caption.now)) }
 {
-    let mut text = picture(alloc, log, before, breach, names, caption)?;
+    let mut text = picture(alloc, log, before, breach, evidence, names, caption)?;
     write_rest(&mut text, writer)
 }
 
@@ -55,19 +63,29 @@ pub fn picture(
     log: &SpaceTime,
     before: usize,
     breach: Option<Breach>,
+    evidence: &Evidence<'_>,
     names: &Names,
     caption: &[u8],
 ) -> Result<Vec<u8>, Memory>
     requires legal { IsLegal log.now.rows }
     requires before { before ≤ length log.now.rows }
-    ensures exact { IfOk result (λ t. t.items ≡ picture_of names.now log.now.rows before breach caption.now) }
+    ensures exact { IfOk result (λ t. t.items ≡ picture_of names.now log.now.rows before breach
+        evidence.now.certificates.now evidence.now.orphan caption.now) }
 {
     let lanes = Lanes::of_rows(alloc, log.rows())?;
     let window = Window::of_log(alloc, log, before, &lanes)?;
     let columns = columns_of(log, before, breach.is_some());
+    let links = Links::of(alloc, evidence.certificates, log.rows().len())?;
+    let notes = Notes {
+        certificates: evidence.certificates,
+        orphan: evidence.orphan,
+        names,
+        rows: log.rows(),
+        links,
+    };
     let before = before as u32;
     let mut text = Vec::new(alloc);
-    push_picture(&mut text, names, &lanes, before, columns, &window)?;
+    push_picture(&mut text, &lanes, before, columns, &notes, &window)?;
     push_picture_end(
         &mut text,
         &lanes,

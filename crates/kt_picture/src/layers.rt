@@ -4,13 +4,15 @@ ghost use Rattle.std.specs.Prelude.{◌≡◌, ◌<◌, ◌^◌, ◌-◌, ◌+�
 ghost use Rattle.std.specs.List.{flat_map};
 ghost use Rattle.std.specs.Fmt.{decimal};
 ghost use Rattle.kt_picture.specs.Escaping.{escaped};
-ghost use Rattle.kt_picture.specs.Lanes.{lane_of};
+ghost use Rattle.kt_picture.specs.Lanes.{lane_of, name_or_number};
+ghost use Rattle.kt_picture.specs.Notes.{class_in, reason_in};
 ghost use Rattle.kt_picture.specs.Shapes.{y_of};
-ghost use Rattle.kt_picture.specs.Picture.{document_opening, width_of, height_of, lane_name, name_or_number, last_stretch, document_end, lane_marks, row_marks, cut_x, cut_line, cut_points, picture_text, picture_end};
+ghost use Rattle.kt_picture.specs.Picture.{document_opening, width_of, height_of, lane_name, last_stretch, document_end, lane_marks, row_marks, cut_x, cut_line, cut_points, picture_text, picture_end};
 ghost use Rattle.kt_picture.specs.Svg.{stretch_of, arrow_of, figure_of};
 
 use crate::breach::{Breach, push_breach};
 use crate::escaping::push_escaped;
+use crate::evidence::Notes;
 use crate::lanes::Lanes;
 use crate::marks::{push_arrow_of, push_figure_of, push_stretch, push_stretch_of};
 use crate::shapes::{push_colour_of, push_y, x_of, y_of};
@@ -24,19 +26,20 @@ use kt_plan::Names;
 /// Gathers a picture with these lanes, columns and marks, after so many rows, but for its end.
 pub(crate) fn push_picture(
     text: &mut Vec<u8>,
-    names: &Names,
     lanes: &Lanes,
     before: u32,
     columns: u32,
+    notes: &Notes<'_>,
     window: &Window,
 ) -> Result<(), Memory>
     requires { columns < 2 ^ 25 }
-    ensures { OnOk result (text.new.items ≡ text.old.items ++ picture_text names.now lanes.now before columns
+    ensures { OnOk result (text.new.items ≡ text.old.items
+        ++ picture_text (class_in notes.now) (reason_in notes.now) notes.now.names.now lanes.now before columns
         window.now.shown.items window.now.cuts.items window.now.ends.items) }
 {
     push_opening(text, columns, lanes)?;
-    push_lane_marks(text, names, lanes, columns, window)?;
-    push_row_marks(text, lanes, before, window)
+    push_lane_marks(text, notes.names, lanes, columns, window)?;
+    push_row_marks(text, lanes, before, notes, window)
 }
 
 /// Gathers the end of a picture: the mark of the row of this number that breaks a rule, and what is said below.
@@ -129,14 +132,16 @@ fn push_row_marks(
     text: &mut Vec<u8>,
     lanes: &Lanes,
     before: u32,
+    notes: &Notes<'_>,
     window: &Window,
 ) -> Result<(), Memory>
-    ensures { OnOk result (text.new.items ≡ text.old.items ++ row_marks lanes.now before
+    ensures { OnOk result (text.new.items ≡ text.old.items
+        ++ row_marks (class_in notes.now) (reason_in notes.now) lanes.now before
         window.now.cuts.items window.now.shown.items) }
 {
     push_cuts(text, lanes, window.cuts.as_slice())?;
-    push_arrows(text, lanes, before, window.shown.as_slice())?;
-    push_figures(text, lanes, window.shown.as_slice())
+    push_arrows(text, lanes, before, notes, window.shown.as_slice())?;
+    push_figures(text, lanes, notes, window.shown.as_slice())
 }
 
 fn push_cuts(text: &mut Vec<u8>, lanes: &Lanes, cuts: &[CutMark]) -> Result<(), Memory>
@@ -233,8 +238,8 @@ fn push_lane_y(text: &mut Vec<u8>, lanes: &Lanes, p: ProcNo) -> Result<(), Memor
     push_y(text, lanes.of(p))
 }
 
-// Gathers the name of a process, or its number where it has none.
-fn push_name_of(text: &mut Vec<u8>, names: &Names, p: ProcNo) -> Result<(), Memory>
+/// Gathers the name of a process, or its number where it has none.
+pub(crate) fn push_name_of(text: &mut Vec<u8>, names: &Names, p: ProcNo) -> Result<(), Memory>
     ensures { OnOk result (text.new.items ≡ text.old.items ++ escaped (name_or_number names.now p)) }
 {
     let mut digits = itoa::Buffer::new();
@@ -293,21 +298,29 @@ fn push_arrows(
     text: &mut Vec<u8>,
     lanes: &Lanes,
     before: u32,
+    notes: &Notes<'_>,
     shown: &[Shown],
 ) -> Result<(), Memory>
-    ensures { OnOk result (text.new.items ≡ text.old.items ++ flat_map (arrow_of lanes.now before) shown.now) }
+    ensures { OnOk result (text.new.items ≡ text.old.items
+        ++ flat_map (arrow_of (class_in notes.now) lanes.now before) shown.now) }
 {
     for row in shown {
-        push_arrow_of(text, lanes, before, row)?;
+        push_arrow_of(text, lanes, before, notes, row)?;
     }
     Ok(())
 }
 
-fn push_figures(text: &mut Vec<u8>, lanes: &Lanes, shown: &[Shown]) -> Result<(), Memory>
-    ensures { OnOk result (text.new.items ≡ text.old.items ++ flat_map (figure_of lanes.now) shown.now) }
+fn push_figures(
+    text: &mut Vec<u8>,
+    lanes: &Lanes,
+    notes: &Notes<'_>,
+    shown: &[Shown],
+) -> Result<(), Memory>
+    ensures { OnOk result (text.new.items ≡ text.old.items
+        ++ flat_map (figure_of (reason_in notes.now) lanes.now) shown.now) }
 {
     for row in shown {
-        push_figure_of(text, lanes, row)?;
+        push_figure_of(text, lanes, notes, row)?;
     }
     Ok(())
 }

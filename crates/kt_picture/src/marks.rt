@@ -4,8 +4,10 @@ ghost use Rattle.std.specs.Prelude.{◌≡◌, ◌∷◌, ◌++◌, [], codes, S
 ghost use Rattle.kt_spacetime.specs.Events.{process_of};
 ghost use Rattle.kt_picture.specs.Lanes.{lane_of};
 ghost use Rattle.kt_picture.specs.Shapes.{point};
-ghost use Rattle.kt_picture.specs.Svg.{to_column, bar, stretch, stretch_of, lane_class, path_of, arrow_class, arrow, arrow_at, arrow_of, column_of, short_arrow, way, towards, title, word_at, kind_letter, dot_class, refusal_mark, beginning, instance_figure, figure, figure_at, figure_of, row_number, number_at};
+ghost use Rattle.kt_picture.specs.Svg.{to_column, bar, stretch, stretch_of, lane_class, path_of, arrow_class, arrow, arrow_at, arrow_of, column_of, short_arrow, way, towards, row_words, title, title_with, word_at, kind_letter, dot_class, refusal_mark, beginning, instance_figure, figure, figure_at, figure_of, row_number, number_at};
+ghost use Rattle.kt_picture.specs.Notes.{class_in, reason_in};
 
+use crate::evidence::{Notes, push_class_of, push_reason_of};
 use crate::lanes::Lanes;
 use crate::record::{push_cause, push_fields};
 use crate::shapes::{
@@ -107,15 +109,32 @@ pub(crate) fn push_stretch_of(text: &mut Vec<u8>, lanes: &Lanes, s: &Shown) -> R
     push_stretch(text, lane, s.since, s.column, s.up, s.open_in)
 }
 
-/// Gathers how a tooltip begins, with the row's number and text.
+/// Gathers a tooltip with a row's number and text.
 pub(crate) fn push_title(text: &mut Vec<u8>, number: u32, row: Event) -> Result<(), Memory>
     ensures { OnOk result (text.new.items ≡ text.old.items ++ title number row) }
+{
+    push_row_words(text, number, row)?;
+    push_text(text, b"</title>")
+}
+
+// Gathers a tooltip with a row's number and text, and why its process took part.
+fn push_title_with_reason(text: &mut Vec<u8>, notes: &Notes<'_>, s: &Shown) -> Result<(), Memory>
+    ensures { OnOk result (text.new.items ≡ text.old.items
+        ++ title_with (reason_in notes.now s.now.event) s.now.row s.now.event) }
+{
+    push_row_words(text, s.row, s.event)?;
+    push_reason_of(text, notes, s.event)?;
+    push_text(text, b"</title>")
+}
+
+// Gathers how a tooltip begins, with a row's number and text.
+fn push_row_words(text: &mut Vec<u8>, number: u32, row: Event) -> Result<(), Memory>
+    ensures { OnOk result (text.new.items ≡ text.old.items ++ row_words number row) }
 {
     push_text(text, b"<g><title>row ")?;
     push_number(text, number)?;
     push_text(text, b": ")?;
-    push_fields(text, row)?;
-    push_text(text, b"</title>")
+    push_fields(text, row)
 }
 
 /// Gathers the arrow of a row, where it has one; so many rows come before the window.
@@ -123,11 +142,12 @@ pub(crate) fn push_arrow_of(
     text: &mut Vec<u8>,
     lanes: &Lanes,
     before: u32,
+    notes: &Notes<'_>,
     s: &Shown,
 ) -> Result<(), Memory>
-    ensures { OnOk result (text.new.items ≡ text.old.items ++ arrow_of lanes.now before s.now) }
+    ensures { OnOk result (text.new.items ≡ text.old.items ++ arrow_of (class_in notes.now) lanes.now before s.now) }
 {
-    push_arrow_at(text, lanes, before, s, s.event)
+    push_arrow_at(text, lanes, before, notes, s, s.event)
 }
 
 // Gathers the arrow of this row, where it has one.
@@ -135,15 +155,17 @@ fn push_arrow_at(
     text: &mut Vec<u8>,
     lanes: &Lanes,
     before: u32,
+    notes: &Notes<'_>,
     s: &Shown,
     event: Event,
 ) -> Result<(), Memory>
-    ensures { OnOk result (text.new.items ≡ text.old.items ++ arrow_at lanes.now before s.now event) }
+    ensures { OnOk result (text.new.items ≡ text.old.items
+        ++ arrow_at (class_in notes.now) lanes.now before s.now event) }
 {
     match event {
         Event::Sent { p, to, .. } => push_arrow_in_transit(text, lanes, s, p, to),
-        Event::Received { from, msg, .. } => push_arrow(text, lanes, before, s, from, msg),
-        Event::Dropped { from, msg, .. } => push_arrow(text, lanes, before, s, from, msg),
+        Event::Received { from, msg, .. } => push_arrow(text, lanes, before, notes, s, from, msg),
+        Event::Dropped { from, msg, .. } => push_arrow(text, lanes, before, notes, s, from, msg),
         _ => Ok(()),
     }
 }
@@ -153,25 +175,36 @@ fn push_arrow(
     text: &mut Vec<u8>,
     lanes: &Lanes,
     before: u32,
+    notes: &Notes<'_>,
     s: &Shown,
     from: ProcNo,
     msg: MsgNo,
 ) -> Result<(), Memory>
-    ensures { OnOk result (text.new.items ≡ text.old.items ++ arrow lanes.now before s.now from msg) }
+    ensures { OnOk result (text.new.items ≡ text.old.items
+        ++ arrow (class_in notes.now msg) lanes.now before s.now from msg) }
 {
     push_title(text, s.row, s.event)?;
-    push_arrow_path(text, s.is_undone, s.is_taken_back)?;
+    push_arrow_path(text, notes, s, msg)?;
     push_origin(text, lanes, before, from, msg)?;
     push_text(text, b"L")?;
     push_target(text, lanes, s)?;
     push_text(text, b"'/></g>\n")
 }
 
-// Gathers how the path of an arrow begins.
-fn push_arrow_path(text: &mut Vec<u8>, is_undone: bool, is_taken_back: bool) -> Result<(), Memory>
-    ensures { OnOk result (text.new.items ≡ text.old.items ++ path_of (arrow_class is_undone is_taken_back)) }
+// Gathers how the path of the arrow of a message begins.
+fn push_arrow_path(
+    text: &mut Vec<u8>,
+    notes: &Notes<'_>,
+    s: &Shown,
+    msg: MsgNo,
+) -> Result<(), Memory>
+    ensures { OnOk result (text.new.items ≡ text.old.items
+        ++ path_of (arrow_class s.now.is_undone s.now.is_taken_back ++ class_in notes.now msg)) }
 {
-    push_path(text, arrow_class(is_undone, is_taken_back))
+    push_text(text, b"<path class='")?;
+    push_text(text, arrow_class(s.is_undone, s.is_taken_back))?;
+    push_class_of(text, notes, msg)?;
+    push_text(text, b"' d='M")
 }
 
 fn arrow_class(is_undone: bool, is_taken_back: bool) -> &'static [u8]
@@ -267,11 +300,16 @@ fn towards(lane: u8, other: u8) -> &'static [u8]
 }
 
 /// Gathers what shows a row at its place, and the number of each fifth row.
-pub(crate) fn push_figure_of(text: &mut Vec<u8>, lanes: &Lanes, s: &Shown) -> Result<(), Memory>
-    ensures { OnOk result (text.new.items ≡ text.old.items ++ figure_of lanes.now s.now) }
+pub(crate) fn push_figure_of(
+    text: &mut Vec<u8>,
+    lanes: &Lanes,
+    notes: &Notes<'_>,
+    s: &Shown,
+) -> Result<(), Memory>
+    ensures { OnOk result (text.new.items ≡ text.old.items ++ figure_of (reason_in notes.now) lanes.now s.now) }
 {
     push_number_at(text, s.row, s.column)?;
-    push_title(text, s.row, s.event)?;
+    push_title_with_reason(text, notes, s)?;
     push_figure_at(text, lanes, s)?;
     push_text(text, b"</g>\n")
 }

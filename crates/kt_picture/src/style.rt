@@ -28,7 +28,7 @@ pub(crate) fn push_style_by_day(text: &mut Vec<u8>) -> Result<(), Memory>
     )?;
     push_text(
         text,
-        b".way{marker-end:url(#o)}.gone{stroke:#a3abb5;stroke-dasharray:6 4;marker-end:url(#g)}.back{stroke-width:.6}",
+        b".way{marker-end:url(#o)}.gone{stroke:#a3abb5;stroke-dasharray:6 4;marker-end:url(#g)}.back{stroke-width:.6}.link{stroke-width:2.6}",
     )?;
     push_text(
         text,
@@ -46,7 +46,10 @@ pub(crate) fn push_style_by_day(text: &mut Vec<u8>) -> Result<(), Memory>
         text,
         b".full.c0{fill:#0b3d75}.full.c1{fill:#c2571a}.full.c2{fill:#1e7a4a}.full.c3{fill:#8a5cc2}.full.c4{fill:#7a5a00}",
     )?;
-    push_text(text, b".full.c5{fill:#c23a6b}")
+    push_text(
+        text,
+        b".full.c5{fill:#c23a6b}.orphan{stroke:#a8201a;stroke-width:4}",
+    )
 }
 
 /// Gathers: what differs where a dark page is asked for.
@@ -71,7 +74,7 @@ pub(crate) fn push_style_by_night(text: &mut Vec<u8>) -> Result<(), Memory>
     )?;
     push_text(
         text,
-        b".full.c2{fill:#5fcf96}.full.c3{fill:#c6a5f2}.full.c4{fill:#d9b84a}.full.c5{fill:#f58fb4}}</style>",
+        b".full.c2{fill:#5fcf96}.full.c3{fill:#c6a5f2}.full.c4{fill:#d9b84a}.full.c5{fill:#f58fb4}.orphan{stroke:#ff7a70}}</style>",
     )
 }
 

@@ -3,7 +3,7 @@
 ghost use Rattle.std.specs.Prelude.{◌≡◌, ◌++◌, OnOk};
 ghost use Rattle.std.specs.Fmt.{decimal};
 
-use kt_base::{InstNo, Memory};
+use kt_base::{InstNo, Memory, MsgNo};
 
 /// Gathers a text.
 pub(crate) fn push_text(text: &mut Vec<u8>, word: &[u8]) -> Result<(), Memory>
@@ -35,4 +35,11 @@ pub(crate) fn push_inst(text: &mut Vec<u8>, inst: InstNo) -> Result<(), Memory>
 {
     let mut digits = itoa::Buffer::new();
     push_text(text, digits.format(inst.get()).as_bytes())
+}
+
+/// Gathers the number of a message.
+pub(crate) fn push_message(text: &mut Vec<u8>, msg: MsgNo) -> Result<(), Memory>
+    ensures { OnOk result (text.new.items ≡ text.old.items ++ decimal msg) }
+{
+    push_number(text, msg.get())
 }

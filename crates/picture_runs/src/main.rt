@@ -6,7 +6,7 @@ ghost use Rattle.kt_cuts.specs.Legal.{IsLegal};
 use anyhow::Result;
 use kt_histories::legal;
 use kt_log_text::read_csv;
-use kt_picture::picture;
+use kt_picture::{Evidence, picture};
 use kt_plan::Names;
 use kt_spacetime::SpaceTime;
 use std::fs;
@@ -16,7 +16,11 @@ fn show_picture(rt: &HostRuntime, log: &SpaceTime) -> Result<()>
     requires { IsLegal log.now.rows }
 {
     let names = Names::new(rt.alloc());
-    let text = picture(rt.alloc(), log, 0, None, &names, b"<yes> & 'no'")?;
+    let evidence = Evidence {
+        certificates: &[],
+        orphan: None,
+    };
+    let text = picture(rt.alloc(), log, 0, None, &evidence, &names, b"<yes> & 'no'")?;
     match std::str::from_utf8(text.as_slice()) {
         Ok(text) => print!(rt; "{text}")?,
         Err(_) => println!(rt; "no text")?,

@@ -16,7 +16,7 @@ returns-in-Ok-clause-picture c =
     let reach = c.args.reach.now in
     let log = c.args.log.now.rows in
     ok_weaker c.draw_window.result _ _ c.draw_window.ensures.exact
-    (λ text e. pictured c.args.names.now c.args.span log reach.kept _ c.seen.result reach.breach c.requires.read (ap length c.rows.ensures.rows) c.seen.ensures c.in-Ok.window.first c.in-Ok.window.last text.items c.in-Ok.ensures.first c.in-Ok.ensures.last c.in-Ok.ensures.rows c.in-Ok.ensures.short e)
+    (λ text e. pictured c.args.names.now c.args.span log reach.kept _ c.seen.result reach.breach c.requires.read (ap length c.rows.ensures.rows) c.seen.ensures c.args.evidence.now.certificates.now c.args.evidence.now.orphan c.args.line.now c.in-Ok.window.first c.in-Ok.window.last text.items c.in-Ok.ensures.first c.in-Ok.ensures.last c.in-Ok.ensures.rows c.in-Ok.ensures.short e)
 
 pub returns-in-Ok-clause-fault : goal.returns-in-Ok-clause-fault
 returns-in-Ok-clause-fault c = memory_undrawn c.args.span c.args.log.now.rows c.draw_window.result c.draw_window.ensures.fault

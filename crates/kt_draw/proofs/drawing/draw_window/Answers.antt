@@ -1,4 +1,4 @@
-use Rattle.std.proofs.Common.{rules, ◌≡◌, ◌∙◌, ◌-◌, ℕ, arith, ap, sym, subst, length, take}
+use Rattle.std.proofs.Common.{◌∙◌, ◌-◌, ℕ, arith, ap, sym, subst, length, take}
 use Rattle.kt_cuts.specs.Legal.{IsLegal}
 use Rattle.kt_picture.specs.Picture.{picture_of}
 use Rattle.kt_draw.proofs.Fronts.{drawn_few, drawn_legal, drawn_length, drawn_all}
@@ -28,6 +28,5 @@ returns-clause-exact c =
     let kept = c.args.reach.now.kept in
     let breach = c.args.reach.now.breach in
     let front = c.in_ok-front.ensures ∙ ap (λ (n : ℕ). take n log) c.rows_drawn.ensures in
-    let same : c.as_slice.result.now ≡ c.in_ok-below.below.items = search rules in
-    let below = same ∙ c.in_ok-below.ensures.exact in
-    c.in_ok-text.ensures.exact ∙ (λ j. picture_of c.args.names.now (front j) (c.args.window.now.first - 1) (c.breach_drawn.ensures j) (below j))
+    c.in_ok-text.ensures.exact
+    ∙ (λ j. picture_of c.args.names.now (front j) (c.args.window.now.first - 1) (c.breach_drawn.ensures j) c.args.evidence.now.certificates.now c.args.evidence.now.orphan c.args.line.now)

@@ -1,0 +1,84 @@
+-- What certificates add to a picture: whose chain has a message, and why a member took part.
+use Rattle.std.specs.Prelude.{◌==◌, ℕ, zero, suc, nat_lt, if◌then◌else◌, Bool, Option, Some, None, List, [], ◌++◌, codes, length, find}
+use Rattle.std.specs.List.{list_any, flat_map}
+use Rattle.std.specs.Fmt.{decimal}
+use Rattle.std.specs.Option.{option_map}
+use Rattle.kt_spacetime.specs.declared.event.Event.{Event}
+use Rattle.kt_spacetime.specs.declared.event.Event.TheVariants.{Sent, Took, Ready}
+use Rattle.kt_cuts.specs.Messages.{row_at}
+use Rattle.kt_chain.specs.declared.certificate.Certificate.{Certificate}
+use Rattle.kt_picture.specs.Escaping.{escaped}
+use Rattle.kt_picture.specs.Lanes.{name_or_number}
+use Rattle.kt_picture.specs.Shapes.{colour}
+
+-- whether a chain has a message
+abbrev pub has_message : ℕ → List ℕ → Bool
+has_message msg chain = list_any (λ m. m == msg) chain
+
+-- whether one of a certificate's chains has it
+abbrev pub has_chained : ℕ → Certificate → Bool
+has_chained msg c = list_any (λ m. has_message msg m.1) c.members
+
+-- the instance of the first certificate that has a message in a chain
+abbrev pub chained_by : List Certificate → ℕ → Option ℕ
+chained_by certificates msg = option_map (λ c. c.inst) (find (has_chained msg) certificates)
+
+-- the same of a message of a log with so many rows
+abbrev pub link_of : ℕ → List Certificate → ℕ → Option ℕ
+link_of count certificates zero = None
+link_of count certificates (suc n) = if nat_lt n count then chained_by certificates (suc n) else None
+
+-- how a message of a chain is drawn: in the colour of the instance
+abbrev pub link_class : Option ℕ → List ℕ
+link_class None = []
+link_class (Some inst) = codes " link" ++ colour inst
+
+-- how the orphan is drawn that stands out
+abbrev pub orphan_class : Option ℕ → ℕ → List ℕ
+orphan_class None msg = []
+orphan_class (Some orphan) msg = if orphan == msg then codes " orphan" else []
+
+-- how a message of a log with so many rows is drawn, beside what became of it
+abbrev pub message_class : ℕ → List Certificate → Option ℕ → ℕ → List ℕ
+message_class count certificates orphan msg = link_class (link_of count certificates msg) ++ orphan_class orphan msg
+
+-- the chain of a member; none where there is no member
+abbrev pub chain_of_member : Option (ℕ × List ℕ) → List ℕ
+chain_of_member None = []
+chain_of_member (Some m) = m.1
+
+-- the chain that a certificate lists for a process
+abbrev pub chain_listed : Option Certificate → ℕ → List ℕ
+chain_listed None p = []
+chain_listed (Some c) p = chain_of_member (find (λ m. m.0 == p) c.members)
+
+-- the chain that the first certificate of an instance lists for a process
+abbrev pub chain_for : List Certificate → ℕ → ℕ → List ℕ
+chain_for certificates inst p = chain_listed (find (λ c. c.inst == inst) certificates) p
+
+-- between whom a message went
+abbrev pub ends_between : List (List ℕ) → ℕ → ℕ → List ℕ
+ends_between names p to = codes ":" ++ escaped (name_or_number names p) ++ codes "&gt;" ++ escaped (name_or_number names to)
+
+-- the same, as the row that sent it says
+abbrev pub ends_of_message : List (List ℕ) → Option Event → List ℕ
+ends_of_message names (Some (Sent p to body)) = ends_between names p to
+ends_of_message names _ = []
+
+-- a message of a chain: its number and between whom it went
+abbrev pub chain_word : List (List ℕ) → List Event → ℕ → List ℕ
+chain_word names rows msg = codes " " ++ decimal msg ++ ends_of_message names (row_at rows msg)
+
+-- the messages of a chain, by which a member took part
+abbrev pub reason_words : List (List ℕ) → List Event → List ℕ → List ℕ
+reason_words names rows chain = codes "; took part because of" ++ flat_map (chain_word names rows) chain
+
+-- why a member took part: nothing where its chain has no message
+abbrev pub reason : List (List ℕ) → List Event → List ℕ → List ℕ
+reason names rows chain = if length chain == 0 then [] else reason_words names rows chain
+
+-- the same of the process that joins an instance by a row
+abbrev pub reason_of : List (List ℕ) → List Event → List Certificate → Event → List ℕ
+reason_of names rows certificates (Took p inst) = reason names rows (chain_for certificates inst p)
+reason_of names rows certificates (Ready p inst) = reason names rows (chain_for certificates inst p)
+reason_of names rows certificates _ = []
