@@ -2,11 +2,20 @@
 #![tactic(auto)]
 
 use kt_program::{run, stand_in};
+use std::io::IsTerminal;
 use std::process::ExitCode;
 
 fn main(rt: HostRuntime) -> ExitCode {
     // No file of the program gets the descriptor of a standard stream that is closed.
     let _stand_ins = [stand_in(&rt), stand_in(&rt), stand_in(&rt)];
-    let status = run(&rt, &rt, rt.alloc(), &mut rt.stdout(), &mut rt.stderr());
+    let terminal = rt.stderr().is_terminal();
+    let status = run(
+        &rt,
+        &rt,
+        rt.alloc(),
+        terminal,
+        &mut rt.stdout(),
+        &mut rt.stderr(),
+    );
     ExitCode::from(status)
 }

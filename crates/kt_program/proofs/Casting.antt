@@ -9,7 +9,6 @@ use Rattle.kt_object.specs.Value.{opening_value}
 use Rattle.kt_held.specs.Holdings.{content}
 use Rattle.kt_plan.specs.Failures.{failures_of}
 use Rattle.kt_held.specs.Casts.{HasSizes, HasKind}
-use Rattle.kt_held.proofs.CastFacts as held
 use Rattle.kt_run.specs.Objects.{first_of}
 use Rattle.kt_program.specs.CastRows.{IsMadeCast}
 use Rattle.kt_program.specs.Played.{AreNew}
@@ -131,14 +130,17 @@ pub are_new : {R O : Type 0} (cast : List R) (items : R → List O) (kind : O �
     → AreNew plan (map (λ row. map (λ b. content (kind b) (value b)) (items row)) cast)
 are_new {R} {O} cast items kind value plan sizes kinds values p l = at_row (λ row. map (λ b. content (kind b) (value b)) (items row)) (λ objects. first_of objects ≡ content k (opening_value k)) cast p within
     (λ row. first_is (items (slice_index_or cast p row))
-    (held.from_image (λ r. map kind (items r)) (λ ns. length ns ≡ failures_of plan.commands p + 1) cast p row within (sizes.objects p l))
-    (held.from_image (λ r. map kind (items r)) (λ ns. All (λ n. n ≡ k) ns) cast p row within (kinds p l)) (values p row within))
+    (subst (λ ns. length ns ≡ failures_of plan.commands p + 1) (kinds_at row) (sizes.objects p l))
+    (subst (λ ns. All (λ n. n ≡ k) ns) (kinds_at row) (kinds p l)) (values p row within))
   where
     k : ℕ
     k = slice_index plan.kinds p
 
     within : p < length cast
     within = let e = sym (length-map cast (λ row. map kind (items row))) ∙ sizes.processes in omega (arith, l, e)
+
+    kinds_at : (row : R) → slice_index_or (map (λ r. map kind (items r)) cast) p [] ≡ map kind (items (slice_index_or cast p row))
+    kinds_at row = get_or-map (λ r. map kind (items r)) cast p row [] within
 
     first_is : (objects : List O) → length (map kind objects) ≡ failures_of plan.commands p + 1 → All (λ n. n ≡ k) (map kind objects) → All (λ b. value b ≡ opening_value (kind b)) objects
         → first_of (map (λ b. content (kind b) (value b)) objects) ≡ content k (opening_value k)

@@ -3,12 +3,14 @@ pub mod Casting
 pub mod StoredLogs
 pub mod Commands
 pub mod Exactly
+pub mod NewCasts
 pub mod NewObjects
 pub mod Numbers
 pub mod Pictures
 pub mod Reading
 pub mod Refused
 pub mod FaultLines
+pub mod HintFacts
 pub mod Mapped
 pub mod KeptRuns
 pub mod OrderedRuns

@@ -1,18 +1,24 @@
 -- What becomes of a stored log that is drawn.
-use Rattle.std.proofs.Common.{◌≡◌, ◌≢◌, ℕ, List, Some, None, sym, subst, inl, inr}
+use Rattle.std.proofs.Common.{◌≡◌, ◌≢◌, ℕ, List, Some, None, refl, sym, subst, inl, inr}
 use Rattle.std.specs.Prelude.{Result, Ok, Err, OnOk}
 use Rattle.std.specs.Io.KnownBytes.{Appends}
+use Rattle.kt_log_text.specs.declared.fault.LogFault.{LogFault}
 use Rattle.kt_log_text.specs.declared.fault.LogFault.TheVariants.{Read, TooLong, Version, Fields, Word, Number, Memory}
+use Rattle.kt_spacetime.specs.declared.event.Event.{Event}
+use Rattle.kt_chain.specs.declared.certificate.Certificate.{Certificate}
+use Rattle.kt_checker.specs.Streamed.{SaysRows}
 use Rattle.kt_draw.specs.declared.fault.DrawFault.{DrawFault}
 use Rattle.kt_draw.specs.declared.fault.DrawFault.TheVariants as draw
 use Rattle.kt_draw.specs.declared.span.Span.{Span}
-use Rattle.kt_draw.specs.Drawn.{IsNoPictureOf, IsPictureOf}
+use Rattle.kt_draw.specs.Drawn.{IsNoPictureOf, IsPictureOf, IsUndrawnLog}
 use Rattle.kt_program.specs.declared.fault.AppFault.{AppFault}
+use Rattle.kt_program.specs.declared.fault.AppFault.TheVariants as app
 use Rattle.kt_program.specs.declared.fault.ProgramFault.{ProgramFault}
 use Rattle.kt_program.specs.declared.fault.ProgramFault.TheVariants as program
-use Rattle.kt_program.specs.Drawn.{Draws, IsOfDrawing, IsOfNames, IsPictureOfFile, IsUndrawn, LeavesPicture, TextGoesTo, of_draw}
+use Rattle.kt_program.specs.Drawn.{Draws, DrawsCertified, IsCertifiedPictureOf, IsOfDrawing, IsOfNames, IsPictureOfFile, IsPictureWith, IsSomePicture, IsUndrawn, IsUndrawnRun, LeavesPicture, TextGoesTo, of_draw}
+use Rattle.kt_program.specs.Explained.{Say}
 use Rattle.kt_program.specs.Names.{Name}
-use Rattle.kt_program.specs.Stored.{Told}
+use Rattle.kt_program.specs.Stored.{IsRefusal, Told}
 
 -- a fault of the bytes is one of the program
 of_fault : (span : Span) (bytes : Told) (fault : DrawFault) → IsNoPictureOf span bytes fault → IsUndrawn span bytes (of_draw fault)
@@ -43,11 +49,44 @@ of_names name program.Line h = absurd h
 of_names name program.SameFile h = absurd h
 of_names name (program.Steps fault) h = absurd h
 
-module _ {F : Type 0} (told : F → Told) (scenario : Name) (span : Span) (svg : Name) (text : List ℕ) (old new : Told) (picture : IsPictureOfFile told scenario span text) where
+-- a stored run is not read
+pub unread_run : (span : Span) (log cert : Told) (fault : AppFault) → fault ≢ app.Write → IsRefusal log cert fault → IsUndrawnRun span log cert fault
+unread_run span log cert (app.Log fault) write h = h
+unread_run span log cert (app.Cert fault) write h = h
+unread_run span log cert app.Memory write h = tt
+unread_run span log cert app.Write write h = absurd (write refl)
+unread_run span log cert (app.Run fault) write h = h
+unread_run span log cert (app.Live fault) write h = h
+unread_run span log cert (app.Uncertified fault) write h = h
+unread_run span log cert (app.Unfit why) write h = h
+unread_run span log cert app.RecordTooLong write h = h
+unread_run span log cert (app.Picture why) write h = absurd h
+
+-- it is not drawn
+of_run_fault : (span : Span) (log cert : Told) (read : List Event) (fault : DrawFault) → SaysRows log read → IsUndrawnLog span read fault → IsUndrawnRun span log cert (of_draw fault)
+of_run_fault span log cert read (draw.Picture why) says h = (read, says, h)
+of_run_fault span log cert read (draw.Log fault) says h = subst (λ (f : LogFault). IsUndrawnRun span log cert (of_draw (draw.Log f))) (sym h) tt
+
+pub undrawn_run : (span : Span) (log cert : Told) (read : List Event) (certificates : List Certificate) (fault : DrawFault) (answer : AppFault) → answer ≡ of_draw fault → Say log cert read certificates → IsUndrawnLog span read fault
+    → IsUndrawnRun span log cert answer
+undrawn_run span log cert read certificates fault answer e said h = subst (IsUndrawnRun span log cert) (sym e) (of_run_fault span log cert read fault said.rows_said h)
+
+-- a picture with certificates is written
+pub drawn_certified : (names : List (List ℕ)) (span : Span) (log cert old new : Told) (text : List ℕ) (result : Result Unit AppFault) → IsCertifiedPictureOf names span log cert text
+    → OnOk result (Appends old new text) → OnOk result (DrawsCertified names span log cert old new)
+drawn_certified names span log cert old new text (Ok u) picture written = (text, picture, written)
+drawn_certified names span log cert old new text (Err fault) picture written = tt
+
+-- a picture of a stored log is one of some log
+some_picture : {F : Type 0} (told : F → Told) (cert : Name) (names : List (List ℕ)) (span : Span) (log : Told) (text : List ℕ) → IsPictureWith told cert names span log text → IsSomePicture text
+some_picture told None names span log text h = record { names = names; span = span; read = h.0; picture = inl h.2 }
+some_picture told (Some file) names span log text h = record { names = names; span = span; read = h.1.0; picture = inr (h.1.1, h.1.3) }
+
+module _ {F : Type 0} (told : F → Told) (scenario cert : Name) (span : Span) (svg : Name) (text : List ℕ) (old new : Told) (picture : IsPictureOfFile told scenario cert span text) where
   -- what is left on standard output
   pub leaves : TextGoesTo svg text old new → LeavesPicture old new
   leaves goes = by_name svg goes
     where
       by_name : (n : Name) → TextGoesTo n text old new → LeavesPicture old new
-      by_name None h = inr (picture.names, span, picture.picture.0, text, picture.picture.2, h)
+      by_name None h = inr (text, some_picture told cert picture.names span (told picture.file) text picture.picture, h)
       by_name (Some other) h = inl h

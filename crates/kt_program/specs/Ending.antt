@@ -22,7 +22,7 @@ use Rattle.kt_program.specs.Asking.{Ask, IsCertify, IsOfRun}
 use Rattle.kt_run.specs.Runs.{IsLogOfRun, IsPlayed}
 use Rattle.kt_program.specs.Certified.{CertifiesTo, LeavesCertificates}
 use Rattle.kt_program.specs.Drawn.{DrawsTo, LeavesPicture}
-use Rattle.kt_program.specs.FaultTexts.{WritesLineOf}
+use Rattle.kt_program.specs.Hints.{IsHinted}
 use Rattle.kt_program.specs.Explained.{AppendsExplained}
 use Rattle.kt_program.specs.Inputs.{AreGiven, IsPlanOfFile}
 use Rattle.kt_program.specs.Names.{Name}
@@ -148,7 +148,7 @@ CertifiedFor words told old new Shown = Unit {0}
 
 -- what is written of a log that is to be drawn: its picture goes where that is asked
 abbrev pub DrawsFor : {F : Type 0} → (F → Told) → Told → Told → Asked → Type 0
-DrawsFor told old new (Draw asked) = DrawsTo told asked.names asked.span asked.svg old new
+DrawsFor told old new (Draw asked) = DrawsTo told asked old new
 DrawsFor told old new (Play scenario steps log cert) = ⊥
 DrawsFor told old new (PlayInOrder play) = ⊥
 DrawsFor told old new (Live scenario log cert) = ⊥
@@ -178,12 +178,16 @@ abbrev pub LeavesOutput : List Text → Result Done ProgramFault → Told → To
 LeavesOutput words (Ok what) old new = LeavesDone what old new
 LeavesOutput words (Err fault) old new = fault ≢ program.App app.Write → (new ≡ old) ⊎ IsInText words fault
 
--- how the program ends: with the status of what it did for its words; standard output has what that left, and standard
--- error the line of a fault, or a front part of it, and nothing new without one
-pub record Ends (status : ℕ) (out_old out_new err_old err_new : Told) : Type 0 where
-  pub words : List Text
+-- how the program ends for these words: with the status of what it did; standard output has what that left, and standard
+-- error the line of a fault, or a front part of it, and hints below it where they are told; and nothing new without a fault
+pub record EndsOn {F : Type 0} (told : F → Told) (terminal : Bool) (words : List Text) (status : ℕ) (out_old out_new err_old err_new : Told) : Type 0 where
   pub outcome : Result Done ProgramFault
   pub status_is : status ≡ status_of outcome
   pub output : LeavesOutput words outcome out_old out_new
   pub quiet : OnOk outcome (err_new ≡ err_old)
-  pub line : IfErr outcome (λ fault. WritesLineOf fault err_old err_new)
+  pub line : IfErr outcome (λ fault. IsHinted told terminal words fault err_old err_new)
+
+-- how it ends for the words that it was called with
+abbrev pub Ends : {F : Type 0} → (F → Told) → Bool → ℕ → Told → Told → Told → Told → Type 0
+Ends told terminal status out_old out_new err_old err_new =
+    (words : List Text) × EndsOn told terminal words status out_old out_new err_old err_new

@@ -24,6 +24,10 @@ IsWholeOrLong most whole text = (text ≡ whole) ⊎ ((most < length text) × (r
 abbrev pub IsRead : ℕ → Told → List ℕ → Type 0
 IsRead most told text = IfSome told (λ whole. IsWholeOrLong most whole text)
 
+-- some file has this text, as far as files tell what they have
+abbrev pub IsTextOfFile : {F : Type 0} → (F → Told) → List ℕ → Type 0
+IsTextOfFile {F} told text = (file : F) × IfSome (told file) (λ whole. whole ≡ text)
+
 -- the bytes say this plan
 abbrev pub IsScenarioOf : Told → Planned → Type 0
 IsScenarioOf told plan = IfSome told (λ text. IsScenario text plan)

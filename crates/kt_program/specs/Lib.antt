@@ -14,3 +14,4 @@ pub mod Recorded
 pub mod Status
 pub mod Stored
 pub mod FaultTexts
+pub mod Hints

@@ -33,7 +33,7 @@ inputs_of (Live scenario log cert) = Some scenario ∷ []
 inputs_of (Check log cert) = Some log ∷ Some cert ∷ []
 inputs_of (Explain log cert) = Some log ∷ Some cert ∷ []
 inputs_of (Certify log cert) = Some log ∷ []
-inputs_of (Draw asked) = Some asked.log ∷ asked.names ∷ []
+inputs_of (Draw asked) = Some asked.log ∷ asked.names ∷ asked.cert ∷ []
 
 abbrev pub outputs_of : Asked → List Name
 outputs_of (Play scenario steps log cert) = log ∷ cert ∷ []

@@ -52,15 +52,19 @@ certify = with_rule (with_rule (new_app (codes "certify")) (wanted (codes "log")
 
 -- the command that draws a stored log
 abbrev pub draw : App
-draw = with_rule (with_rule (with_rule (with_rule (with_rule (new_app (codes "draw")) (wanted (codes "log"))) (optional (codes "names"))) (optional (codes "from"))) (optional (codes "to"))) (optional (codes "svg"))
+draw = with_rule (with_rule (with_rule (with_rule (with_rule (with_rule (new_app (codes "draw")) (wanted (codes "log"))) (optional (codes "cert"))) (optional (codes "names"))) (optional (codes "from"))) (optional (codes "to"))) (optional (codes "svg"))
 
 -- a command with a version
 abbrev pub with_version : App → App
 with_version app = record app { top = record app.top { has_version = true } }
 
+-- the program's command with its switch
+abbrev pub switched : App
+switched = with_rule (with_version (new_app (codes "koo_toueg"))) (switch (codes "hints"))
+
 -- the program's command line
 abbrev pub program : App
-program = with_subcommand (with_subcommand (with_subcommand (with_subcommand (with_subcommand (with_version (new_app (codes "koo_toueg"))) play.top) live.top) check.top) certify.top) draw.top
+program = with_subcommand (with_subcommand (with_subcommand (with_subcommand (with_subcommand switched play.top) live.top) check.top) certify.top) draw.top
 
 -- an argument that clap reads as this rule
 pub record IsRule (rule : Rule) (a : Arg) : Type 0 where
@@ -119,6 +123,7 @@ IsGivenNumber id rows (Some number) = (number < 2 ^ 32) × (first_of id rows ≡
 -- what the matches of `draw` name
 pub record NamesDraw (rows : List Row) (asked : Drawing) : Type 0 where
   pub log_is : first_of (codes "log") rows ≡ Some asked.log.now
+  pub cert_is : first_of (codes "cert") rows ≡ option_map (λ s. s.now) asked.cert
   pub names_are : first_of (codes "names") rows ≡ option_map (λ s. s.now) asked.names
   pub from_is : IsGivenNumber (codes "from") rows asked.span.from
   pub to_is : IsGivenNumber (codes "to") rows asked.span.to

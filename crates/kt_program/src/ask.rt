@@ -3,7 +3,7 @@
 ghost use Rattle.std.specs.Prelude.{◌≡◌, ◌≢◌, ◌<◌, ◌^◌, ◌↔◌, ℕ, codes, IfOk, IfErr, IfSome, IfNone, IsTrue, Some, option_map, Option};
 ghost use Rattle.std.specs.Fmt.{decimal};
 ghost use Rattle.clap.specs.Words.{first_of, kind_of, new_app, subcommand_of, subcommand_rows_of, rows_of, found_of};
-ghost use Rattle.kt_program.specs.Program.{program, certify, check, live, numeric, play, play_order, optional, switch, wanted, with_version, IsRule, IsDefined, IsSet, Names, NamesIn, NamesNoOrder, draw, IsGivenNumber};
+ghost use Rattle.kt_program.specs.Program.{program, certify, check, live, numeric, play, play_order, optional, switch, switched, wanted, with_version, IsRule, IsDefined, IsSet, Names, NamesIn, NamesNoOrder, draw, IsGivenNumber};
 ghost use Rattle.clap.specs.declared.error.kind.ErrorKind.TheVariants.{MissingSubcommand};
 ghost use Rattle.kt_program.specs.declared.line.Asked.{Asked};
 ghost use Rattle.kt_program.specs.Asking.{IsUnasked};
@@ -114,6 +114,9 @@ for each message, and what became of instances, checkpoints and failures. The
 line below says that the log is legal, or which row breaks which rule; what comes
 after that row is not drawn. A picture has at most 4096 rows.";
 
+const ABOUT_DRAWN_CERT: &str =
+    "Certificates, whose chains are coloured; the line below is what check answers";
+
 const ABOUT_NAMES: &str = "A scenario whose objects name the processes";
 
 const ABOUT_FROM: &str = "The number of the first row that is drawn, else 1";
@@ -123,6 +126,8 @@ const ABOUT_TO: &str = "The number of the last row that is drawn, else that of t
 const ABOUT_SVG: &str = "Where the picture is written, else to standard output";
 
 const ABOUT_CERT_FILE: &str = "Where the certificates are written, else to standard output";
+
+const ABOUT_HINTS: &str = "Tells below a fault's line what is wrong, and where";
 
 const STATUSES: &str = "Exit status:
   0  done; the answer of check is yes
@@ -216,6 +221,16 @@ fn switch<'a>(alloc: Global, id: &'a str, help: &'a str, long_help: &'a str) -> 
         .long_help(long_help)
 }
 
+// An option without a value, with its text in help.
+fn plain_switch<'a>(alloc: Global, id: &'a str, help: &'a str) -> Arg<'a>
+    ensures { IsRule (switch id.entry.now) result }
+{
+    Arg::new(alloc, id)
+        .long(id)
+        .action(ArgAction::SetTrue)
+        .help(help)
+}
+
 // A command with its texts in help.
 fn command_of<'a>(alloc: Global, name: &'a str, about: &'a str, long_about: &'a str) -> Command<'a>
     ensures { IsDefined (new_app name.entry.now) result }
@@ -293,6 +308,7 @@ fn draw_command<'a>(alloc: Global) -> Result<Command<'a>, AllocError>
 {
     let command = command_of(alloc, "draw", ABOUT_DRAW, LONG_ABOUT_DRAW)
         .arg(wanted_word(alloc, "log", "LOG", ABOUT_LOG, LONG_ABOUT_LOG))?
+        .arg(optional_value(alloc, "cert", "CERT", ABOUT_DRAWN_CERT))?
         .arg(optional_value(alloc, "names", "SCENARIO", ABOUT_NAMES))?
         .arg(optional_value(alloc, "from", "ROW", ABOUT_FROM))?
         .arg(optional_value(alloc, "to", "ROW", ABOUT_TO))?
@@ -300,7 +316,7 @@ fn draw_command<'a>(alloc: Global) -> Result<Command<'a>, AllocError>
     Ok(command)
 }
 
-// The program's command, without what it may be asked to do.
+// The program's command, without its switch and without what it may be asked to do.
 fn bare_command<'a>(alloc: Global) -> Command<'a>
     ensures { IsDefined (with_version (new_app (codes "koo_toueg"))) result }
 {
@@ -310,10 +326,18 @@ fn bare_command<'a>(alloc: Global) -> Command<'a>
         .after_help(STATUSES)
 }
 
+// The same with its switch.
+fn switched_command<'a>(alloc: Global) -> Result<Command<'a>, AllocError>
+    ensures { IfOk result (IsDefined switched) }
+{
+    let command = bare_command(alloc).arg(plain_switch(alloc, "hints", ABOUT_HINTS))?;
+    Ok(command)
+}
+
 fn program_command<'a>(alloc: Global) -> Result<Command<'a>, AllocError>
     ensures { IfOk result (IsDefined program) }
 {
-    let command = bare_command(alloc)
+    let command = switched_command(alloc)?
         .subcommand(play_command(alloc)?)?
         .subcommand(live_command(alloc)?)?
         .subcommand(check_command(alloc)?)?
@@ -485,6 +509,7 @@ fn asked_of_draw<'a>(matches: &ArgMatches<'a>) -> Option<Asked<'a>>
     };
     Some(Asked::Draw(Drawing {
         log,
+        cert: text_of(matches, "cert"),
         names: text_of(matches, "names"),
         span: Span { from, to },
         svg: text_of(matches, "svg"),
@@ -520,7 +545,10 @@ fn nothing_asked(alloc: Global) -> Result<Error, AllocError>
     ensures { IfOk result (λ e. kind_of e ≡ MissingSubcommand) }
 {
     let mut command = program_command(alloc)?;
-    command.error(ErrorKind::MissingSubcommand, "a subcommand is missing")
+    command.error(
+        ErrorKind::MissingSubcommand,
+        "a command is missing, or a number is not spelled by its digits",
+    )
 }
 
 // What is asked for, where its names lose nothing.

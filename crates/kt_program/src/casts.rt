@@ -1,16 +1,19 @@
 //! The objects that a run begins with.
 
-ghost use Rattle.std.specs.Prelude.{◌≡◌, ◌<◌, ◌+◌, ℕ, List, false, Ok, IfOk, IfErr, OnOk, All, length, map};
+ghost use Rattle.std.specs.Prelude.{◌≡◌, ◌≢◌, ◌<◌, ◌+◌, [], ℕ, List, false, Ok, IfOk, IfErr, OnOk, All, length, map, slice_index, slice_index_or};
 ghost use Rattle.kt_core.specs.declared.faults.StepFault.{StepFault};
 ghost use Rattle.kt_held.specs.Holdings.{Content};
+ghost use Rattle.kt_object.specs.Reliable.{IsReliable};
 ghost use Rattle.kt_object.specs.Value.{opening_value};
 ghost use Rattle.kt_plan.specs.Limits.{IsKindOfObject};
 ghost use Rattle.kt_plan.specs.Failures.{failures_of};
 ghost use Rattle.kt_held.specs.Casts.{HasSizes, HasKind};
+ghost use Rattle.kt_held.specs.Refusals.{IsLeastRefused};
 ghost use Rattle.kt_program.specs.CastRows.{IsMadeCast};
 ghost use Rattle.kt_plans.specs.Headline.{IsCertified};
 ghost use Rattle.kt_run.specs.Faults.{is_of_cast};
 ghost use Rattle.kt_run.specs.Refused.{IsStepRefused};
+ghost use Rattle.kt_run.specs.Rejections.{MayReject};
 ghost use Rattle.kt_run.specs.Runs.{IsLogOfRun, IsPlayed};
 ghost use Rattle.kt_run.specs.declared.faults.RunFault.{RunFault};
 ghost use Rattle.kt_run.specs.declared.faults.RunFault.TheVariants as run_fault;
@@ -101,12 +104,17 @@ pub fn play_objects<L: Write, C: Write, R: Write>(
     ensures fault { IfErr result (λ e. (fault : RunFault) → e ≡ AppFault.Run fault → is_of_cast fault ≡ false) }
     ensures refused { IfErr result (λ e. (done : ℕ) (why : StepFault) → e ≡ AppFault.Run (run_fault.Step done why) →
         (cast : List (List Content)) × AreNew plan.now cast × IsStepRefused plan.now cast steps.now done why) }
+    // They can always be saved and brought back, and no list is kept of what a process is told.
+    ensures objects { IfErr result (λ e. (p : ℕ) → e ≢ AppFault.Run (run_fault.Object p)) }
+    ensures untold { IfErr result (λ e. (p : ℕ) → e ≢ AppFault.Run (run_fault.Journal p)) }
 {
     let _processes = plan.size();
     let mut book = SlotBook::new(alloc);
     let make = |kind: u8| -> Result<Object, Memory>
         ensures kind { IfOk result (λ object. IsKindOfObject kind → kind_of object ≡ kind) }
         ensures value { IfOk result (λ object. IsKindOfObject kind → value_of object ≡ opening_value kind) }
+        ensures reliable { IfOk result (λ object. IsReliable (kind_of object) (may_refuse object)
+            (λ saved. may_reject object saved)) }
     {
         let guard = book.open()?;
         match kind {
@@ -141,6 +149,10 @@ fn play_cast<L: Write, C: Write, R: Write>(
     requires kinds { (p : ℕ) → p < length plan.now.kinds →
         HasKind plan.now.kinds (map (λ row. map (λ b. kind_of b) row.items) cast.items) p }
     requires opening { All (λ row. All (λ b. value_of b ≡ opening_value (kind_of b)) row.items) cast.items }
+    requires saved { (p : ℕ) →
+        ¬ IsLeastRefused (λ b. may_save b) (λ b. may_refuse b) (map (λ row. row.items) cast.items) p }
+    requires taken { (p : ℕ) → ¬ MayReject (λ b saved. may_reject b saved) (slice_index plan.now.kinds p)
+        (slice_index_or (map (λ row. row.items) cast.items) p []) }
     ensures played { OnOk result (IsWritten (OverNew plan.now (λ cast. IsPlayed plan.now cast steps.now)) plan.now
         (outputs (L.contents log_writer.old) (C.contents cert_writer.old) (R.contents report_writer.old))
         (outputs (L.contents log_writer.new) (C.contents cert_writer.new) (R.contents report_writer.new))) }
@@ -154,6 +166,9 @@ fn play_cast<L: Write, C: Write, R: Write>(
     ensures fault { IfErr result (λ e. (fault : RunFault) → e ≡ AppFault.Run fault → is_of_cast fault ≡ false) }
     ensures refused { IfErr result (λ e. (done : ℕ) (why : StepFault) → e ≡ AppFault.Run (run_fault.Step done why) →
         (cast : List (List Content)) × AreNew plan.now cast × IsStepRefused plan.now cast steps.now done why) }
+    // They can always be saved and brought back, and no list is kept of what a process is told.
+    ensures objects { IfErr result (λ e. (p : ℕ) → e ≢ AppFault.Run (run_fault.Object p)) }
+    ensures untold { IfErr result (λ e. (p : ℕ) → e ≢ AppFault.Run (run_fault.Journal p)) }
 {
     play_plan(
         alloc,

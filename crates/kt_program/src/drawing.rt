@@ -4,15 +4,17 @@ ghost use Rattle.std.specs.Prelude.{◌≡◌, ◌≢◌, IfOk, IfErr, OnOk};
 ghost use Rattle.kt_program.specs.declared.ending.Done.TheVariants.{Drawn};
 ghost use Rattle.kt_program.specs.declared.fault.AppFault.TheVariants as app;
 ghost use Rattle.kt_program.specs.declared.fault.ProgramFault.TheVariants as program;
-ghost use Rattle.kt_program.specs.Drawn.{AreNamesOf, DrawsTo, IsOfDrawing, IsOfNames, IsPictureOfFile, LeavesDrawn, TextGoesTo};
+ghost use Rattle.kt_program.specs.Drawn.{AreNamesOf, DrawsTo, IsOfDrawing, IsOfNames, IsPictureOfFile, IsPictureWith, LeavesDrawn, TextGoesTo};
 ghost use Rattle.kt_program.specs.Names.{IsFileName};
 
-use crate::drawn::{draw_log, write_picture};
+use crate::drawn::{draw_log, draw_run, write_picture};
 use crate::ending::Done;
 use crate::fault::{AppFault, ProgramFault};
 use crate::line::Drawing;
 use crate::outputs::outputs_of;
 use crate::playing::scenario_in;
+use kt_chain::CertTextFault;
+use kt_draw::Span;
 use kt_log_text::LogFault;
 use kt_plan::Names;
 use std::alloc::Global;
@@ -32,8 +34,7 @@ pub(crate) fn draw_files<F: Files, O: Write>(
     out: &mut O,
 ) -> Result<Done, ProgramFault>
     ensures done { IfOk result (λ what. what ≡ Drawn) }
-    ensures drawn { OnOk result (DrawsTo F.File.remaining asked.now.names asked.now.span asked.now.svg
-        (O.contents out.old) (O.contents out.new)) }
+    ensures drawn { OnOk result (DrawsTo F.File.remaining asked.now (O.contents out.old) (O.contents out.new)) }
     ensures fault { IfErr result (IsOfDrawing asked.now.names) }
     ensures output { LeavesDrawn result (O.contents out.old) (O.contents out.new) }
     ensures named { IfErr result (λ fault. fault ≡ program.SameFile → IsFileName asked.now.svg) }
@@ -49,15 +50,37 @@ fn picture_in<F: Files>(
     alloc: Global,
     asked: &Drawing<'_>,
 ) -> Result<Vec<u8>, ProgramFault>
-    ensures picture { IfOk result (λ text. IsPictureOfFile F.File.remaining asked.now.names asked.now.span text.items) }
+    ensures picture { IfOk result (λ text. IsPictureOfFile F.File.remaining asked.now.names asked.now.cert asked.now.span
+        text.items) }
     ensures fault { IfErr result (IsOfNames asked.now.names) }
 {
     let names = names_in(files, alloc, asked.names)?;
     let Ok(log) = fs::open(files, asked.log) else {
         return Err(ProgramFault::App(AppFault::Log(LogFault::Read)));
     };
-    let text = draw_log(alloc, log, &names, asked.span)?;
+    let text = drawn_with(files, alloc, log, asked.cert, &names, asked.span)?;
     Ok(text)
+}
+
+// The picture of the log that a reader tells, with the certificates in this file, where one is named.
+fn drawn_with<F: Files>(
+    files: &F,
+    alloc: Global,
+    log: F::File,
+    cert: Option<&str>,
+    names: &Names,
+    span: Span,
+) -> Result<Vec<u8>, AppFault>
+    ensures { IfOk result (λ text. IsPictureWith F.File.remaining cert.entry names.now span
+        (F.File.remaining log) text.items) }
+{
+    let Some(cert) = cert else {
+        return draw_log(alloc, log, names, span);
+    };
+    match fs::open(files, cert) {
+        Ok(cert) => draw_run(alloc, log, cert, names, span),
+        Err(_) => Err(AppFault::Cert(CertTextFault::Read)),
+    }
 }
 
 // The names of the objects of the scenario in this file; none where none is named.
@@ -92,7 +115,7 @@ fn write_to<F: Files, O: Write>(
         write_picture(text, out)?;
         return Ok(());
     };
-    let inputs = [Some(asked.log), asked.names];
+    let inputs = [Some(asked.log), asked.names, asked.cert];
     let (_log, mut file) = outputs_of(files, &inputs, None, Some(svg))?;
     write_picture(text, &mut file)?;
     Ok(())

@@ -5,7 +5,7 @@ ghost use Rattle.std.specs.Io.KnownBytes.{Appends};
 ghost use Rattle.kt_text.specs.Writing.{WritesFront};
 ghost use Rattle.kt_program.specs.FaultTexts.{WritesLineOf};
 ghost use Rattle.kt_program.specs.Status.{answer_status, done_status, status_of};
-ghost use Rattle.kt_program.specs.Faults.{fault_line, refusal_status};
+ghost use Rattle.kt_program.specs.Faults.{fault_line};
 
 use crate::fault::ProgramFault;
 use arrayvec::ArrayString;
@@ -61,18 +61,19 @@ pub fn end<E: Write>(outcome: Result<Done, ProgramFault>, err: &mut E) -> u8
 {
     match outcome {
         Ok(done) => done.status(),
-        Err(fault) => report_fault(fault, err),
+        Err(fault) => {
+            let status = fault.status();
+            report_fault(&fault, err);
+            status
+        }
     }
 }
 
-// Writes the line of a fault, and gives its exit status.
-fn report_fault<E: Write>(fault: ProgramFault, err: &mut E) -> u8
-    ensures status { result ≡ refusal_status fault }
-    ensures line { WritesLineOf fault (E.contents err.old) (E.contents err.new) }
+/// Writes the line of a fault; true where all of it was written.
+pub(crate) fn report_fault<E: Write>(fault: &ProgramFault, err: &mut E) -> bool
+    ensures { WritesLineOf fault.now (E.contents err.old) (E.contents err.new) }
 {
-    let status = fault.status();
-    let _ = write_fault(err, &fault);
-    status
+    write_fault(err, fault).is_ok()
 }
 
 /// Writes the line of a fault: the program's name, the fault's words and a line feed. At a fault of the writer a front part of

@@ -23,11 +23,11 @@ use std::fs;
 use std::io::{Read, Write};
 use std::rt::Files;
 
-// A stored run that was read.
+/// A stored run that was read.
 #[derive(Drop)]
-struct StoredRun {
-    log: SpaceTime,
-    certificates: Vec<Certificate>,
+pub(crate) struct StoredRun {
+    pub(crate) log: SpaceTime,
+    pub(crate) certificates: Vec<Certificate>,
 }
 
 // The checker's answer, and what is told of it.
@@ -61,8 +61,8 @@ pub fn explain_bytes<L: Read + Drop, C: Read + Drop, W: Write>(
     Ok(is_yes(&answer.verdict))
 }
 
-// The log and the certificates that the readers tell.
-fn read_stored<L: Read + Drop, C: Read + Drop>(
+/// The log and the certificates that the readers tell.
+pub(crate) fn read_stored<L: Read + Drop, C: Read + Drop>(
     alloc: Global,
     log_reader: L,
     cert_reader: C,

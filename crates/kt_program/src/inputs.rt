@@ -1,16 +1,17 @@
 //! The texts that a run is made of, read and parsed.
 
-ghost use Rattle.std.specs.Prelude.{◌≡◌, ◌≢◌, ◌++◌, ℕ, List, IfOk, IfErr, IsTrue, false};
+ghost use Rattle.std.specs.Prelude.{◌≡◌, ◌≢◌, ◌++◌, ℕ, List, IfOk, IfErr, IfSome, IsTrue, false};
 ghost use Rattle.std.specs.Io.KnownBytes.{Consumes, IsAtEnd};
-ghost use Rattle.kt_program.specs.Inputs.{AreStepsOf, IsRead, IsScenarioOf, IsScenarioRefusal, IsStepsRefusal, of_read, of_scenario, of_steps};
+ghost use Rattle.kt_program.specs.Inputs.{AreStepsOf, IsRead, IsScenarioOf, IsScenarioRefusal, IsStepsRefusal, IsTextOfFile, of_read, of_scenario, of_steps};
 
 use crate::fault::{AppFault, ProgramFault};
 use kt_plan::{Plan, Step};
 use kt_scenario::{ScenarioFault, StepsFault, parse, parse_steps};
 use kt_text::ReadFault;
 use std::alloc::Global;
-use std::io;
 use std::io::Read;
+use std::rt::Files;
+use std::{fs, io};
 
 // How often a text is read from at most.
 const MOST_READS: u32 = 134_217_728;
@@ -51,6 +52,41 @@ pub fn read_steps<R: Read + Drop>(
     match parse_steps(alloc, text.as_slice(), plan) {
         Ok(steps) => Ok(steps),
         Err(fault) => Err(steps_fault(fault)),
+    }
+}
+
+/// What a regular file has, where it can be read and has no more bytes than a text of steps.
+pub(crate) fn text_of_file<F: Files>(files: &F, alloc: Global, name: &str) -> Option<Vec<u8>>
+    ensures { IfSome result (λ text. IsTextOfFile F.File.remaining text.items) }
+{
+    if !is_regular(files, name) {
+        return None;
+    }
+    let Ok(file) = fs::open(files, name) else {
+        return None;
+    };
+    whole_text(alloc, file)
+}
+
+// The text that a reader tells, where it has no more bytes than a text of steps.
+#[tactic(auto, using(crate::proofs::HintFacts::whole_of))]
+fn whole_text<R: Read + Drop>(alloc: Global, mut reader: R) -> Option<Vec<u8>>
+    ensures { IfSome result (λ text. IfSome (R.remaining reader) (λ whole. whole ≡ text.items)) }
+{
+    let Ok(text) = read_text(alloc, &mut reader, MOST_STEP_BYTES) else {
+        return None;
+    };
+    if text.len() > MOST_STEP_BYTES {
+        return None;
+    }
+    Some(text)
+}
+
+// Whether a name leads to a regular file, which neither waits to be opened nor to be read.
+fn is_regular<F: Files>(files: &F, name: &str) -> bool {
+    match fs::metadata(files, name) {
+        Ok(metadata) => metadata.is_file(),
+        Err(_) => false,
     }
 }
 

@@ -59,11 +59,12 @@ pub enum Asked<'a> {
     Draw(Drawing<'a>),
 }
 
-/// A picture that is asked for: of which log, with the names of which scenario's objects, of which rows, and into which
-/// file, else to standard output.
+/// A picture that is asked for: of which log, with which certificates, with the names of which scenario's objects, of which
+/// rows, and into which file, else to standard output.
 #[derive(Clone, Copy, Debug, PartialEq, Eq)]
 pub struct Drawing<'a> {
     pub log: &'a str,
+    pub cert: Option<&'a str>,
     pub names: Option<&'a str>,
     pub span: Span,
     pub svg: Option<&'a str>,
@@ -96,7 +97,7 @@ impl<'a> Asked<'a> {
             Asked::Check { log, cert } => clash(&[Some(*log), Some(*cert)], &[]),
             Asked::Explain { log, cert } => clash(&[Some(*log), Some(*cert)], &[]),
             Asked::Certify { log, cert } => clash(&[Some(*log)], &[*cert]),
-            Asked::Draw(asked) => clash(&[Some(asked.log), asked.names], &[asked.svg]),
+            Asked::Draw(asked) => clash(&[Some(asked.log), asked.names, asked.cert], &[asked.svg]),
         }
     }
 }

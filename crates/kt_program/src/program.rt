@@ -1,14 +1,14 @@
 //! What the program does, whatever gives its words, its files and its writers.
 
-ghost use Rattle.std.specs.Prelude.{◌≡◌, ◌≢◌, List, IfOk, IfErr};
+ghost use Rattle.std.specs.Prelude.{◌≡◌, ◌≢◌, IfOk, IfErr};
 ghost use Rattle.std.specs.IoError.{error_kind};
 ghost use Rattle.std.specs.declared.io.ErrorKind.TheVariants as io;
-ghost use Rattle.clap.specs.Words.{Text, kind_of};
+ghost use Rattle.clap.specs.Words.{kind_of};
 ghost use Rattle.kt_program.specs.declared.ending.Done.TheVariants.{Shown};
 ghost use Rattle.kt_program.specs.declared.fault.AppFault.TheVariants as app;
 ghost use Rattle.kt_program.specs.declared.fault.ProgramFault.TheVariants as program;
 ghost use Rattle.kt_program.specs.Asking.{EndsFor, IsRequest, IsUnshown};
-ghost use Rattle.kt_program.specs.Ending.{CertifiedFor, DrawnFor, Ends, LeavesOutput, LeavesAnswer, PlayedFor};
+ghost use Rattle.kt_program.specs.Ending.{CertifiedFor, DrawnFor, Ends, EndsOn, LeavesOutput, LeavesAnswer, PlayedFor};
 
 use crate::ask::{AskFault, asked};
 use crate::certifying::certify_files;
@@ -17,6 +17,7 @@ use crate::drawing::draw_files;
 use crate::ending::{Done, end};
 use crate::explained::explain_files;
 use crate::fault::{AppFault, ProgramFault};
+use crate::hints::end_hinted;
 use crate::line::Asked;
 use crate::playing::{live_files, play_files};
 use crate::recording::record_files;
@@ -33,32 +34,38 @@ use std::thread::Threads;
 use std::{env, fs, io};
 
 /// Does what the words of the command line ask, writes the answer to `out` and a fault's line to `err`, and gives the exit
-/// status.
+/// status. Below that line it writes what is wrong, and where, if `err` is a terminal or `--hints` stands before the command.
 pub fn run<V: Env, F: Files + Threads + Wait + Sync, O: Write, E: Write>(
     env: &V,
     files: &F,
     alloc: Global,
+    terminal: bool,
     out: &mut O,
     err: &mut E,
 ) -> u8
-    ensures { Ends result (O.contents out.old) (O.contents out.new)
+    ensures { Ends F.File.remaining terminal result (O.contents out.old) (O.contents out.new)
         (E.contents err.old) (E.contents err.new) }
 {
-    let outcome = do_words(env, files, alloc, out);
-    end(outcome, err)
+    match words_of(env, alloc) {
+        Ok(words) => run_words(files, alloc, &words, terminal, out, err),
+        Err(fault) => end(Err(fault), err),
+    }
 }
 
-// Does what the words of the command line ask.
-fn do_words<V: Env, F: Files + Threads + Wait + Sync, O: Write>(
-    env: &V,
+/// Does what these words ask, as `run` does what those of the command line ask.
+pub fn run_words<F: Files + Threads + Wait + Sync, O: Write, E: Write>(
     files: &F,
     alloc: Global,
+    words: &Words,
+    terminal: bool,
     out: &mut O,
-) -> Result<Done, ProgramFault>
-    ensures { (words : List Text) × LeavesOutput words result (O.contents out.old) (O.contents out.new) }
+    err: &mut E,
+) -> u8
+    ensures { EndsOn F.File.remaining terminal words.now result (O.contents out.old) (O.contents out.new)
+        (E.contents err.old) (E.contents err.new) }
 {
-    let words = words_of(env, alloc)?;
-    carry_out(files, alloc, &words, out)
+    let outcome = carry_out(files, alloc, words, out);
+    end_hinted(files, alloc, words, terminal, outcome, err)
 }
 
 /// Does what these words ask, and writes the answer or the help to `out`.

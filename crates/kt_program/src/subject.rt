@@ -1,0 +1,139 @@
+//! What a fault is about: which file, and which line of it.
+
+ghost use Rattle.std.specs.Prelude.{◌≡◌};
+ghost use Rattle.kt_program.specs.Hints.{app_file_of, certificates_of, file_of, line_of, log_of, scenario_line, scenario_of, steps_line, steps_of};
+
+use crate::fault::{AppFault, ProgramFault};
+use crate::line::Asked;
+use kt_chain::CertTextFault;
+use kt_core::StepFault;
+use kt_log_text::LogFault;
+use kt_run::RunFault;
+use kt_scenario::{ScenarioFault, StepsFault};
+
+/// The file whose text a fault is about.
+pub(crate) fn file_of<'a>(asked: &Asked<'a>, fault: &ProgramFault) -> Option<&'a str>
+    ensures { result ≡ file_of asked.now fault.now }
+{
+    match fault {
+        ProgramFault::Line | ProgramFault::SameFile | ProgramFault::Read => None,
+        ProgramFault::Scenario(_) => scenario_of(asked),
+        ProgramFault::Steps(_) => steps_of(asked),
+        ProgramFault::App(fault) => app_file_of(asked, fault),
+    }
+}
+
+fn app_file_of<'a>(asked: &Asked<'a>, fault: &AppFault) -> Option<&'a str>
+    ensures { result ≡ app_file_of asked.now fault.now }
+{
+    match fault {
+        AppFault::Log(LogFault::Read | LogFault::Memory)
+        | AppFault::Cert(CertTextFault::Read | CertTextFault::Memory) => None,
+        AppFault::Log(_) | AppFault::Unfit(_) | AppFault::Picture(_) => log_of(asked),
+        AppFault::Cert(_) => certificates_of(asked),
+        AppFault::Run(RunFault::Step(_, StepFault::NotEnabled)) => steps_of(asked),
+        AppFault::Run(_)
+        | AppFault::Live(_)
+        | AppFault::Uncertified(_)
+        | AppFault::RecordTooLong
+        | AppFault::Write
+        | AppFault::Memory => None,
+    }
+}
+
+/// The number of the line that a fault names.
+pub(crate) fn line_of(fault: &ProgramFault) -> Option<usize>
+    ensures { result ≡ line_of fault.now }
+{
+    match fault {
+        ProgramFault::Scenario(fault) => scenario_line(fault),
+        ProgramFault::Steps(fault) => steps_line(fault),
+        ProgramFault::Line | ProgramFault::SameFile | ProgramFault::Read | ProgramFault::App(_) =>
+            None,
+    }
+}
+
+// The number of the line of a scenario that a fault names.
+fn scenario_line(fault: &ScenarioFault) -> Option<usize>
+    ensures { result ≡ scenario_line fault.now }
+{
+    match fault {
+        ScenarioFault::TooLong | ScenarioFault::Memory => None,
+        ScenarioFault::Command(line)
+        | ScenarioFault::Words(line)
+        | ScenarioFault::Name(line)
+        | ScenarioFault::Twice(line)
+        | ScenarioFault::KindWord(line)
+        | ScenarioFault::TooManyObjects(line)
+        | ScenarioFault::Unknown(line)
+        | ScenarioFault::Itself(line)
+        | ScenarioFault::Number(line)
+        | ScenarioFault::TooManyCommands(line) => Some(*line),
+    }
+}
+
+// The number of the line of a text of steps that a fault names.
+fn steps_line(fault: &StepsFault) -> Option<usize>
+    ensures { result ≡ steps_line fault.now }
+{
+    match fault {
+        StepsFault::TooLong | StepsFault::Memory => None,
+        StepsFault::Command(line)
+        | StepsFault::Words(line)
+        | StepsFault::Unknown(line)
+        | StepsFault::Itself(line)
+        | StepsFault::TooMany(line) => Some(*line),
+    }
+}
+
+/// The scenario that is read, where one is named.
+pub(crate) fn scenario_of<'a>(asked: &Asked<'a>) -> Option<&'a str>
+    ensures { result ≡ scenario_of asked.now }
+{
+    match asked {
+        Asked::Play { scenario, .. } | Asked::Live { scenario, .. } => Some(*scenario),
+        Asked::PlayInOrder(play) => Some(play.scenario),
+        Asked::Check { .. } | Asked::Explain { .. } | Asked::Certify { .. } => None,
+        Asked::Draw(picture) => picture.names,
+    }
+}
+
+/// The steps that come first, where they are named.
+pub(crate) fn steps_of<'a>(asked: &Asked<'a>) -> Option<&'a str>
+    ensures { result ≡ steps_of asked.now }
+{
+    match asked {
+        Asked::Play { steps, .. } => *steps,
+        Asked::PlayInOrder(play) => play.steps,
+        Asked::Live { .. }
+        | Asked::Check { .. }
+        | Asked::Explain { .. }
+        | Asked::Certify { .. }
+        | Asked::Draw(_) => None,
+    }
+}
+
+/// The log that is read, where one is named.
+pub(crate) fn log_of<'a>(asked: &Asked<'a>) -> Option<&'a str>
+    ensures { result ≡ log_of asked.now }
+{
+    match asked {
+        Asked::Check { log, .. } | Asked::Explain { log, .. } | Asked::Certify { log, .. } => Some(
+            *log,
+        ),
+        Asked::Draw(picture) => Some(picture.log),
+        Asked::Play { .. } | Asked::PlayInOrder(_) | Asked::Live { .. } => None,
+    }
+}
+
+/// The certificates that are read, where they are named.
+pub(crate) fn certificates_of<'a>(asked: &Asked<'a>) -> Option<&'a str>
+    ensures { result ≡ certificates_of asked.now }
+{
+    match asked {
+        Asked::Check { cert, .. } | Asked::Explain { cert, .. } => Some(*cert),
+        Asked::Draw(picture) => picture.cert,
+        Asked::Play { .. } | Asked::PlayInOrder(_) | Asked::Live { .. } | Asked::Certify { .. } =>
+            None,
+    }
+}
