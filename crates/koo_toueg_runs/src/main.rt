@@ -6,7 +6,7 @@
 #![tactic(auto)]
 
 use kt_base::Memory;
-use kt_program::{Words, carry_out, end};
+use kt_program::{Words, run_words};
 use std::alloc::Global;
 use std::process::ExitCode;
 use std::rt::Files;
@@ -31,8 +31,14 @@ fn run_line<R: Files + Threads + Wait + Sync + Print + AllocGlobal>(
     let Ok(words) = words_of(rt.alloc(), line) else {
         return Err(io::Error::from(io::ErrorKind::OutOfMemory));
     };
-    let outcome = carry_out(rt, rt.alloc(), &words, &mut io::writer(rt));
-    let status = end(outcome, &mut io::writer(rt));
+    let status = run_words(
+        rt,
+        rt.alloc(),
+        &words,
+        false,
+        &mut io::writer(rt),
+        &mut io::writer(rt),
+    );
     println!(rt; "status {status}")?;
     Ok(status)
 }

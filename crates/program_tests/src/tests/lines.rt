@@ -16,7 +16,7 @@ use std::thread::Threads;
 const HELP: &str =
     "Runs scenarios of a checkpoint and rollback-recovery manager, and certifies, judges and draws stored runs
 
-Usage: koo_toueg [COMMAND]
+Usage: koo_toueg [OPTIONS] [COMMAND]
 
 Commands:
   play     Plays a scenario, and prints a report of the run
@@ -27,6 +27,7 @@ Commands:
   help     Print this message or the help of the given subcommand(s)
 
 Options:
+      --hints    Tells below a fault's line what is wrong, and where
   -h, --help     Print help
   -V, --version  Print version
 
@@ -127,7 +128,7 @@ fn ran<R: Files + Threads + Wait + Sync + AllocGlobal>(
 ) -> Result<Printed, Fail> {
     let mut out = Vec::new(rt.alloc());
     let mut err = Vec::new(rt.alloc());
-    let status = run(&Line { words }, rt, rt.alloc(), &mut out, &mut err);
+    let status = run(&Line { words }, rt, rt.alloc(), false, &mut out, &mut err);
     Printed::new(status, out, err)
 }
 
@@ -232,7 +233,14 @@ fn expect_version(
     let mut out = Holding::new(rt.alloc(), out_call);
     let mut err = Holding::new(rt.alloc(), err_call);
     let words: [&[u8]; 2] = [b"koo_toueg", b"--version"];
-    let status = run(&Line { words: &words }, rt, rt.alloc(), &mut out, &mut err);
+    let status = run(
+        &Line { words: &words },
+        rt,
+        rt.alloc(),
+        false,
+        &mut out,
+        &mut err,
+    );
     let given = (status, out.given(), err.given());
     assert_eq!(rt; given, wanted, "at calls {out_call} and {err_call}");
 }
@@ -253,4 +261,21 @@ fn a_fault_line_that_cannot_be_written_changes_no_status(rt: HostRuntime) {
     for k in 0..b"koo_toueg: write fault\n".len() + 1 {
         expect_version(&rt, (0, k), (3, b"".as_slice(), b"".as_slice()));
     }
+}
+
+#[test]
+fn a_terminal_is_told_which_file(rt: HostRuntime) {
+    let mut out = Vec::new(rt.alloc());
+    let mut err = Vec::new(rt.alloc());
+    let words: [&[u8]; 3] = [b"koo_toueg", b"play", b"no\x1b such"];
+    let status = run(
+        &Line { words: &words },
+        &rt,
+        rt.alloc(),
+        true,
+        &mut out,
+        &mut err,
+    );
+    let text = b"koo_toueg: read fault\n  open: no\\x1B such\n".as_slice();
+    assert_eq!(&rt; (status, err.as_slice()), (3, text));
 }
