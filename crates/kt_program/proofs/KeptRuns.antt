@@ -1,5 +1,5 @@
 -- A run played again by its steps is the same.
-use Rattle.std.proofs.Common.{◌≡◌, ◌<◌, Bool, true, false, List, [], ◌∷◌, ◌++◌, length, map, take, append-nil, arith, refl, sym, ap, subst, ◌∙◌, Some, None}
+use Rattle.std.proofs.Common.{◌≡◌, ◌<◌, ◌≤◌, ℕ, All, Bool, true, false, List, [], ◌∷◌, ◌++◌, length, map, take, append-nil, arith, refl, sym, ap, subst, ◌∙◌, Some, None}
 use Rattle.std.specs.Prelude.{Option, slice_get, unwrap_or, if◌then◌else◌}
 use Rattle.std.proofs.lemmas.List.{get_or_append_left, length-append, take-append-le}
 use Rattle.std.proofs.lemmas.Option.{slice_get-get_or, slice_get_within}
@@ -7,6 +7,7 @@ use Rattle.kt_spacetime.specs.declared.event.Event.{Event}
 use Rattle.kt_spacetime.specs.declared.event.Event.TheVariants.{Sent}
 use Rattle.kt_held.specs.Holdings.{Content}
 use Rattle.kt_plan.specs.Limits.{Planned, IsPlan}
+use Rattle.kt_plan.specs.Names.{AreNames}
 use Rattle.kt_plan.specs.declared.steps.Step.{Step}
 use Rattle.kt_plans.specs.Follows.{command_answered}
 use Rattle.kt_plans.specs.Headline.{IsCertified}
@@ -20,11 +21,15 @@ use Rattle.kt_plans.proofs.RunSteps.{start_reached_seen}
 use Rattle.kt_plans.proofs.WholeLogs.{log_from}
 use Rattle.kt_run.specs.Objects.{rules_by}
 use Rattle.kt_run.specs.OneRun.{SavesAll}
-use Rattle.kt_run.specs.Orders.{IsInOrder}
+use Rattle.kt_run.specs.Orders.{IsInOrder, IsRunBy}
 use Rattle.kt_run.specs.Runs.{IsPlayed, IsRun}
 use Rattle.kt_run.specs.declared.orders.Order.{Order}
 use Rattle.kt_run.proofs.OneRun.{same_end}
-use Rattle.kt_program.specs.Recorded.{IsKeptRun}
+use Rattle.kt_scenario.specs.Steps.{AreSteps, most_steps}
+use Rattle.kt_scenario.specs.Written.{IsStepOf, steps_text}
+use Rattle.kt_program.specs.Recorded.{AreReadBack, IsKeptRun, IsPlayedAgain}
+use Rattle.kt_program.specs.KeptLives.{IsKeptLive}
+use Rattle.kt_program.proofs.OfOthers.{steps_of_run}
 
 at_if : {X : Type 0} (P : X → Type 0) (b : Bool) (x y : X) → (b ≡ true → P x) → (b ≡ false → P y) → P (if b then x else y)
 at_if P true x y f g = f refl
@@ -92,9 +97,18 @@ module _ (plan : Planned) (cast : List (List Content)) (limits : IsPlan plan) wh
         let end : other.begun ≡ other.run.end = ap (λ (o : Option Progress). unwrap_or o other.begun) (subst (λ (ms : List Move). after_moves plan other.begun ms ≡ Some other.run.end) none on) in
         other.run.log ∙ (ap (λ (w : Progress). w.now.log) (sym end ∙ here) ∙ sym run.log)
 
-  pub kept_run : (given : List Step) (order : Order) (steps : List Step) (rows : List Event) → IsInOrder plan cast given order steps rows → IsCertified rows → IsKeptRun plan cast given order steps rows
-  kept_run given order steps rows o certified = record {
-    run = o;
-    certified = certified;
-    again = record { play = play steps rows o.by.moves o.by.made o.by.run; same = same_play steps rows o.by.moves o.by.made o.by.run };
-  }
+  played_again : (steps : List Step) (rows : List Event) → IsRunBy plan cast steps rows → IsPlayedAgain plan cast steps rows
+  played_again steps rows by = record { play = play steps rows by.moves by.made by.run; same = same_play steps rows by.moves by.made by.run }
+
+  -- the law of a text of steps
+  abbrev Reads : Type 0
+  Reads = (names : List (List ℕ)) (list : List Step) → AreNames names → All (IsStepOf (length names)) list → length list ≤ most_steps → AreSteps names (steps_text names list) list
+
+  read_back : Reads → (steps : List Step) (rows : List Event) → IsRunBy plan cast steps rows → AreReadBack plan steps
+  read_back reads steps rows by few = reads plan.names steps limits.names (steps_of_run plan limits cast steps rows by) few
+
+  pub kept_run : (given : List Step) (order : Order) (steps : List Step) (rows : List Event) → Reads → IsInOrder plan cast given order steps rows → IsCertified rows → IsKeptRun plan cast given order steps rows
+  kept_run given order steps rows reads o certified = record { run = o; certified = certified; again = played_again steps rows o.by; read = read_back reads steps rows o.by }
+
+  pub kept_live : (steps : List Step) (rows : List Event) → Reads → IsRunBy plan cast steps rows → IsCertified rows → IsKeptLive plan cast steps rows
+  kept_live steps rows reads by certified = record { run = by; certified = certified; again = played_again steps rows by; read = read_back reads steps rows by }

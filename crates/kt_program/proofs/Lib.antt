@@ -12,6 +12,8 @@ pub mod Refused
 pub mod FaultLines
 pub mod HintFacts
 pub mod Mapped
+pub mod OfOthers
 pub mod KeptRuns
 pub mod OrderedRuns
+pub mod KeptLives
 pub mod Seeds

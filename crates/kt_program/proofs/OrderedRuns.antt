@@ -1,6 +1,6 @@
 -- What is written of runs whose steps are kept, and over new objects.
-use Rattle.std.proofs.Common.{◌≡◌, ◌≢◌, ◌<◌, ◌∙◌, ℕ, inl, inr, List, ap, length, refl, subst, sym}
-use Rattle.std.specs.Prelude.{Option, Result, Ok, Err, IfOk, IfErr, OnOk}
+use Rattle.std.proofs.Common.{◌≡◌, ◌≢◌, ◌<◌, ◌≤◌, ◌∙◌, ℕ, Some, None, inl, inr, List, ap, length, refl, subst, sym}
+use Rattle.std.specs.Prelude.{Option, Result, Ok, Err, IfOk, IfErr, IfSome, OnOk}
 use Rattle.std.specs.Io.KnownBytes.{Appends}
 use Rattle.kt_plans.specs.Follows.{FollowsPlan}
 use Rattle.kt_plans.specs.Headline.{IsPromised}
@@ -17,7 +17,7 @@ use Rattle.kt_program.specs.Ending.{AppendsOrderedPlay, AppendsReport, LeavesPla
 use Rattle.kt_program.specs.Inputs.{AreGiven, IsPlanOfFile}
 use Rattle.kt_program.specs.Names.{Name}
 use Rattle.kt_program.specs.Played.{AreNew, IsOfWriting, OverNew, WritesRun, outputs}
-use Rattle.kt_program.specs.Recorded.{IsKeptRun, IsOfRecording, IsRecorded, KeptOutputs, OfSome, StopsRecording, WritesLog, kept_outputs, order_of}
+use Rattle.kt_program.specs.Recorded.{IsKeptRun, IsOfRecording, IsRecorded, KeptOutputs, OfSome, StopsRecording, WritesLog, WritesSteps, kept_outputs, order_of}
 use Rattle.kt_program.specs.Stored.{Told}
 use Rattle.kt_program.specs.declared.fault.AppFault.{AppFault}
 use Rattle.kt_program.specs.declared.fault.AppFault.TheVariants as app
@@ -113,6 +113,14 @@ pub if_ok_both : {T E : Type 0} (r : Result T E) (P Q R : T → Type 0) → ((va
 if_ok_both (Ok value) P Q R f p q = f value p q
 if_ok_both (Err fault) P Q R f p q = tt
 
+-- as many steps as can be read are written
+pub writes_steps : (plan : Planned) (steps : List Step) (old new : Told) → Appends old new (steps_text plan.names steps) → length steps ≤ most_steps → WritesSteps plan steps old new
+writes_steps plan steps old new text few = record { text = text; few = go new }
+  where
+    go : (o : Told) → IfSome o (λ _. length steps ≤ most_steps)
+    go None = tt
+    go (Some bytes) = few
+
 -- writing stops at the steps
 pub made_stopped : (Are : List Step → List Event → Type 0) (plan : Planned) (steps : List Step) (rows : List Event) (old new : KeptOutputs) (fault : AppFault) → Are steps rows → WritesLog rows old.run new.run → IsOfRecording fault
     → (fault ≡ app.RecordTooLong → (most_steps < length steps) × (new.steps ≡ old.steps)) → (IsOfWriting fault → WritesFront old.steps new.steps (steps_text plan.names steps)) → StopsRecording Are plan old new fault
@@ -125,14 +133,14 @@ made_stopped Are plan steps rows old new fault are log (inr (inr e)) long front 
 
 -- a run that is written
 module _ (r : Result Unit AppFault) (Are : List Step → List Event → Type 0) (plan : Planned) (steps made : List Step) (rows : List Event) (old new : KeptOutputs) (same : made ≡ steps) (are : Are steps rows) where
-  pub recorded_by : FollowsPlan plan rows → IsPromised rows → OnOk r (WritesRun plan rows old.run new.run) → OnOk r (Appends old.steps new.steps (steps_text plan.names made)) → OnOk r (IsRecorded Are plan old new)
+  pub recorded_by : FollowsPlan plan rows → IsPromised rows → OnOk r (WritesRun plan rows old.run new.run) → OnOk r (WritesSteps plan made old.steps new.steps) → OnOk r (IsRecorded Are plan old new)
   recorded_by follows promised = go r
     where
-      go : (x : Result Unit AppFault) → OnOk x (WritesRun plan rows old.run new.run) → OnOk x (Appends old.steps new.steps (steps_text plan.names made)) → OnOk x (IsRecorded Are plan old new)
+      go : (x : Result Unit AppFault) → OnOk x (WritesRun plan rows old.run new.run) → OnOk x (WritesSteps plan made old.steps new.steps) → OnOk x (IsRecorded Are plan old new)
       go (Ok u) writes text = (
         steps,
         record { rows = rows; run = are; follows = follows; promised = promised; writes = writes },
-        subst (λ (l : List Step). Appends old.steps new.steps (steps_text plan.names l)) same text,
+        subst (λ (l : List Step). WritesSteps plan l old.steps new.steps) same text,
       )
       go (Err fault) writes text = tt
 

@@ -4,7 +4,7 @@ use Rattle.std.specs.Prelude.{Option, codes}
 use Rattle.std.specs.Fmt.{decimal}
 use Rattle.clap.specs.Words.{Row, Text, first_of}
 use Rattle.kt_program.specs.declared.line.Asked.{Asked}
-use Rattle.kt_program.specs.declared.line.Asked.TheVariants.{Certify, Check, Explain, Live, Play, PlayInOrder, Draw}
+use Rattle.kt_program.specs.declared.line.Asked.TheVariants.{Certify, Check, Explain, Live, LiveRecorded, Play, PlayInOrder, Draw}
 use Rattle.kt_program.specs.Program.{NamesIn, NamesOrder, SpellsSeed}
 
 spells : (named : Option Text) (text : Text) (n : ℕ) → named ≡ Some text → n < 2 ^ 64 → text ≡ decimal n → SpellsSeed named (Some n)
@@ -42,6 +42,7 @@ module _ (rows : List Row) where
   no_number text e none (Play scenario steps log cert) named = (let d = named.2.no_seed in cc (d, e))
   no_number text e none (PlayInOrder play) named = let s = spelt (first_of (codes "seed") rows) text play.seed e named.2.seed_is in none s.0 s.1 s.2
   no_number text e none (Live scenario log cert) named = let bad : 112 ≡ 108 = first_letter named.0 in absurd (omega (arith, bad))
+  no_number text e none (LiveRecorded live) named = let bad : 112 ≡ 108 = first_letter named.0 in absurd (omega (arith, bad))
   no_number text e none (Check log cert) named = let bad : 112 ≡ 99 = first_letter named.0 in absurd (omega (arith, bad))
   no_number text e none (Explain log cert) named = let bad : 112 ≡ 99 = first_letter named.0 in absurd (omega (arith, bad))
   no_number text e none (Certify log cert) named = let bad : 112 ≡ 99 = first_letter named.0 in absurd (omega (arith, bad))

@@ -11,7 +11,7 @@ use Rattle.kt_program.specs.declared.ending.Done.TheVariants.{Judged, Explained,
 use Rattle.kt_program.specs.declared.fault.ProgramFault.{ProgramFault}
 use Rattle.kt_program.specs.declared.fault.ProgramFault.TheVariants as program
 use Rattle.kt_program.specs.declared.line.Asked.{Asked}
-use Rattle.kt_program.specs.declared.line.Asked.TheVariants.{Certify, Check, Explain, Live, Play, PlayInOrder, Draw}
+use Rattle.kt_program.specs.declared.line.Asked.TheVariants.{Certify, Check, Explain, Live, LiveRecorded, Play, PlayInOrder, Draw}
 use Rattle.kt_program.specs.Names.{IsApart, IsWriting, IsNamed}
 use Rattle.kt_program.specs.Program.{IsErrorFor, Names, program as definition}
 
@@ -43,6 +43,7 @@ abbrev pub IsOfRun : Asked → Type 0
 IsOfRun (Play scenario steps log cert) = Unit {0}
 IsOfRun (PlayInOrder play) = Unit {0}
 IsOfRun (Live scenario log cert) = Unit {0}
+IsOfRun (LiveRecorded live) = Unit {0}
 IsOfRun (Check log cert) = ⊥
 IsOfRun (Explain log cert) = ⊥
 IsOfRun (Certify log cert) = ⊥
@@ -53,6 +54,7 @@ abbrev pub IsPlay : Asked → Type 0
 IsPlay (Play scenario steps log cert) = Unit {0}
 IsPlay (PlayInOrder play) = Unit {0}
 IsPlay (Live scenario log cert) = ⊥
+IsPlay (LiveRecorded live) = ⊥
 IsPlay (Check log cert) = ⊥
 IsPlay (Explain log cert) = ⊥
 IsPlay (Certify log cert) = ⊥
@@ -63,6 +65,7 @@ abbrev pub IsCheck : Asked → Type 0
 IsCheck (Play scenario steps log cert) = ⊥
 IsCheck (PlayInOrder play) = ⊥
 IsCheck (Live scenario log cert) = ⊥
+IsCheck (LiveRecorded live) = ⊥
 IsCheck (Check log cert) = Unit {0}
 IsCheck (Explain log cert) = ⊥
 IsCheck (Certify log cert) = ⊥
@@ -73,6 +76,7 @@ abbrev pub IsExplain : Asked → Type 0
 IsExplain (Play scenario steps log cert) = ⊥
 IsExplain (PlayInOrder play) = ⊥
 IsExplain (Live scenario log cert) = ⊥
+IsExplain (LiveRecorded live) = ⊥
 IsExplain (Check log cert) = ⊥
 IsExplain (Explain log cert) = Unit {0}
 IsExplain (Certify log cert) = ⊥
@@ -83,6 +87,7 @@ abbrev pub IsCertify : Asked → Type 0
 IsCertify (Play scenario steps log cert) = ⊥
 IsCertify (PlayInOrder play) = ⊥
 IsCertify (Live scenario log cert) = ⊥
+IsCertify (LiveRecorded live) = ⊥
 IsCertify (Check log cert) = ⊥
 IsCertify (Explain log cert) = ⊥
 IsCertify (Certify log cert) = Unit {0}
@@ -93,6 +98,7 @@ abbrev pub IsDraw : Asked → Type 0
 IsDraw (Play scenario steps log cert) = ⊥
 IsDraw (PlayInOrder play) = ⊥
 IsDraw (Live scenario log cert) = ⊥
+IsDraw (LiveRecorded live) = ⊥
 IsDraw (Check log cert) = ⊥
 IsDraw (Explain log cert) = ⊥
 IsDraw (Certify log cert) = ⊥
@@ -103,6 +109,7 @@ abbrev pub IsOfScenario : Asked → Type 0
 IsOfScenario (Play scenario steps log cert) = Unit {0}
 IsOfScenario (PlayInOrder play) = Unit {0}
 IsOfScenario (Live scenario log cert) = Unit {0}
+IsOfScenario (LiveRecorded live) = Unit {0}
 IsOfScenario (Check log cert) = ⊥
 IsOfScenario (Explain log cert) = ⊥
 IsOfScenario (Certify log cert) = ⊥

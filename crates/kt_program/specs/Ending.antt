@@ -17,7 +17,7 @@ use Rattle.kt_program.specs.declared.fault.AppFault.TheVariants as app
 use Rattle.kt_program.specs.declared.fault.ProgramFault.{ProgramFault}
 use Rattle.kt_program.specs.declared.fault.ProgramFault.TheVariants as program
 use Rattle.kt_program.specs.declared.line.Asked.{Asked}
-use Rattle.kt_program.specs.declared.line.Asked.TheVariants.{Certify, Check, Explain, Live, Play, PlayInOrder, Draw}
+use Rattle.kt_program.specs.declared.line.Asked.TheVariants.{Certify, Check, Explain, Live, LiveRecorded, Play, PlayInOrder, Draw}
 use Rattle.kt_program.specs.Asking.{Ask, IsCertify, IsOfRun}
 use Rattle.kt_run.specs.Runs.{IsLogOfRun, IsPlayed}
 use Rattle.kt_program.specs.Certified.{CertifiesTo, LeavesCertificates}
@@ -28,6 +28,7 @@ use Rattle.kt_program.specs.Inputs.{AreGiven, IsPlanOfFile}
 use Rattle.kt_program.specs.Names.{Name}
 use Rattle.kt_program.specs.Played.{OverNew}
 use Rattle.kt_program.specs.Recorded.{IsKeptRun, order_of}
+use Rattle.kt_program.specs.KeptLives.{IsKeptLive}
 use Rattle.kt_program.specs.Status.{status_of}
 use Rattle.kt_program.specs.Stored.{Told, is_yes, verdict_line}
 
@@ -69,6 +70,15 @@ pub record AppendsOrderedPlay {F : Type 0} (told : F → Told) (name : Name) (se
   pub steps : List Step
   pub rows : List Event
   pub played : OverNew plan (λ cast. IsKeptRun plan cast given (order_of seed) steps) rows
+  pub report : Appends old new (report_of plan rows (certificates rows))
+
+-- the report of a run in threads over new objects, of a plan that a file says, of which the steps are kept
+pub record AppendsRecordedLive {F : Type 0} (told : F → Told) (old new : Told) : Type 0 where
+  pub plan : Planned
+  pub planned : IsPlanOfFile told plan
+  pub steps : List Step
+  pub rows : List Event
+  pub lived : OverNew plan (λ cast. IsKeptLive plan cast steps) rows
   pub report : Appends old new (report_of plan rows (certificates rows))
 
 -- the run's report; at a fault nothing, unless a writer failed or there was no memory for more of the report
@@ -113,6 +123,7 @@ abbrev pub Plays : {F : Type 0} → (F → Told) → Told → Told → Asked →
 Plays told old new (Play scenario steps log cert) = AppendsPlay told steps old new
 Plays told old new (PlayInOrder play) = AppendsOrderedPlay told play.steps play.seed old new
 Plays told old new (Live scenario log cert) = AppendsReport old new
+Plays told old new (LiveRecorded live) = AppendsRecordedLive told old new
 Plays told old new (Check log cert) = ⊥
 Plays told old new (Explain log cert) = ⊥
 Plays told old new (Certify log cert) = ⊥
@@ -133,6 +144,7 @@ Certifies told old new (Certify log cert) = CertifiesTo told cert old new
 Certifies told old new (Play scenario steps log cert) = ⊥
 Certifies told old new (PlayInOrder play) = ⊥
 Certifies told old new (Live scenario log cert) = ⊥
+Certifies told old new (LiveRecorded live) = ⊥
 Certifies told old new (Check log cert) = ⊥
 Certifies told old new (Explain log cert) = ⊥
 Certifies told old new (Draw asked) = ⊥
@@ -152,6 +164,7 @@ DrawsFor told old new (Draw asked) = DrawsTo told asked old new
 DrawsFor told old new (Play scenario steps log cert) = ⊥
 DrawsFor told old new (PlayInOrder play) = ⊥
 DrawsFor told old new (Live scenario log cert) = ⊥
+DrawsFor told old new (LiveRecorded live) = ⊥
 DrawsFor told old new (Check log cert) = ⊥
 DrawsFor told old new (Explain log cert) = ⊥
 DrawsFor told old new (Certify log cert) = ⊥

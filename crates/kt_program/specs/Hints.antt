@@ -28,7 +28,7 @@ use Rattle.kt_program.specs.declared.fault.AppFault.TheVariants as app
 use Rattle.kt_program.specs.declared.fault.ProgramFault.{ProgramFault}
 use Rattle.kt_program.specs.declared.fault.ProgramFault.TheVariants as program
 use Rattle.kt_program.specs.declared.line.Asked.{Asked}
-use Rattle.kt_program.specs.declared.line.Asked.TheVariants.{Certify, Check, Explain, Live, Play, PlayInOrder, Draw}
+use Rattle.kt_program.specs.declared.line.Asked.TheVariants.{Certify, Check, Explain, Live, LiveRecorded, Play, PlayInOrder, Draw}
 
 -- words that ask for hints: `--hints` stands before the command
 abbrev pub AskForHints : List Text → Type 0
@@ -43,6 +43,7 @@ abbrev pub scenario_of : Asked → Name
 scenario_of (Play scenario steps log cert) = Some scenario
 scenario_of (PlayInOrder play) = Some play.scenario
 scenario_of (Live scenario log cert) = Some scenario
+scenario_of (LiveRecorded live) = Some live.scenario
 scenario_of (Check log cert) = None
 scenario_of (Explain log cert) = None
 scenario_of (Certify log cert) = None
@@ -53,6 +54,7 @@ abbrev pub steps_of : Asked → Name
 steps_of (Play scenario steps log cert) = steps
 steps_of (PlayInOrder play) = play.steps
 steps_of (Live scenario log cert) = None
+steps_of (LiveRecorded live) = None
 steps_of (Check log cert) = None
 steps_of (Explain log cert) = None
 steps_of (Certify log cert) = None
@@ -63,6 +65,7 @@ abbrev pub log_of : Asked → Name
 log_of (Play scenario steps log cert) = None
 log_of (PlayInOrder play) = None
 log_of (Live scenario log cert) = None
+log_of (LiveRecorded live) = None
 log_of (Check log cert) = Some log
 log_of (Explain log cert) = Some log
 log_of (Certify log cert) = Some log
@@ -73,6 +76,7 @@ abbrev pub certificates_of : Asked → Name
 certificates_of (Play scenario steps log cert) = None
 certificates_of (PlayInOrder play) = None
 certificates_of (Live scenario log cert) = None
+certificates_of (LiveRecorded live) = None
 certificates_of (Check log cert) = Some cert
 certificates_of (Explain log cert) = Some cert
 certificates_of (Certify log cert) = None

@@ -11,6 +11,7 @@ pub mod Outputs
 pub mod Played
 pub mod Program
 pub mod Recorded
+pub mod KeptLives
 pub mod Status
 pub mod Stored
 pub mod FaultTexts

@@ -4,7 +4,7 @@ use Rattle.std.specs.List.{starts_with}
 use Rattle.std.specs.Borrow.{Bor}
 use Rattle.clap.specs.Words.{Text}
 use Rattle.kt_program.specs.declared.line.Asked.{Asked}
-use Rattle.kt_program.specs.declared.line.Asked.TheVariants.{Certify, Check, Explain, Live, Play, PlayInOrder, Draw}
+use Rattle.kt_program.specs.declared.line.Asked.TheVariants.{Certify, Check, Explain, Live, LiveRecorded, Play, PlayInOrder, Draw}
 
 -- whether a name is one of those of devices, which have no content to lose
 abbrev pub is_device : Text → Bool
@@ -30,6 +30,7 @@ abbrev pub inputs_of : Asked → List Name
 inputs_of (Play scenario steps log cert) = Some scenario ∷ steps ∷ []
 inputs_of (PlayInOrder play) = Some play.scenario ∷ play.steps ∷ []
 inputs_of (Live scenario log cert) = Some scenario ∷ []
+inputs_of (LiveRecorded live) = Some live.scenario ∷ []
 inputs_of (Check log cert) = Some log ∷ Some cert ∷ []
 inputs_of (Explain log cert) = Some log ∷ Some cert ∷ []
 inputs_of (Certify log cert) = Some log ∷ []
@@ -39,6 +40,7 @@ abbrev pub outputs_of : Asked → List Name
 outputs_of (Play scenario steps log cert) = log ∷ cert ∷ []
 outputs_of (PlayInOrder play) = play.log ∷ play.cert ∷ play.kept ∷ []
 outputs_of (Live scenario log cert) = log ∷ cert ∷ []
+outputs_of (LiveRecorded live) = live.log ∷ live.cert ∷ Some live.kept ∷ []
 outputs_of (Check log cert) = []
 outputs_of (Explain log cert) = []
 outputs_of (Certify log cert) = cert ∷ []
@@ -59,6 +61,7 @@ abbrev pub IsWriting : Asked → Type 0
 IsWriting (Play scenario steps log cert) = IsFileName log ⊎ IsFileName cert
 IsWriting (PlayInOrder play) = IsFileName play.log ⊎ (IsFileName play.cert ⊎ IsFileName play.kept)
 IsWriting (Live scenario log cert) = IsFileName log ⊎ IsFileName cert
+IsWriting (LiveRecorded live) = IsFileName live.log ⊎ (IsFileName live.cert ⊎ IsFileName (Some live.kept))
 IsWriting (Check log cert) = ⊥
 IsWriting (Explain log cert) = ⊥
 IsWriting (Certify log cert) = IsFileName cert

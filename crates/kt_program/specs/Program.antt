@@ -11,7 +11,7 @@ use Rattle.clap.specs.declared.builder.arg.Arg.{Arg}
 use Rattle.clap.specs.declared.builder.action.ArgAction.TheVariants.{SetTrue}
 use Rattle.clap.specs.declared.builder.value_parser.ValueParser.TheVariants.{Unsigned}
 use Rattle.kt_program.specs.declared.line.Asked.{Asked}
-use Rattle.kt_program.specs.declared.line.Asked.TheVariants.{Certify, Check, Explain, Live, Play, PlayInOrder, Draw}
+use Rattle.kt_program.specs.declared.line.Asked.TheVariants.{Certify, Check, Explain, Live, LiveRecorded, Play, PlayInOrder, Draw}
 use Rattle.kt_program.specs.declared.line.Drawing.{Drawing}
 
 -- a word that has to be there, with a name in help
@@ -40,7 +40,7 @@ play = with_rule (with_rule play_order (optional (codes "log"))) (optional (code
 
 -- the command that runs one in threads
 abbrev pub live : App
-live = with_rule (with_rule (with_rule (new_app (codes "live")) (wanted (codes "scenario"))) (optional (codes "log"))) (optional (codes "cert"))
+live = with_rule (with_rule (with_rule (with_rule (new_app (codes "live")) (wanted (codes "scenario"))) (optional (codes "record"))) (optional (codes "log"))) (optional (codes "cert"))
 
 -- the command that judges a stored run
 abbrev pub check : App
@@ -136,7 +136,9 @@ NamesIn name rows (Play scenario steps log cert) =
 NamesIn name rows (PlayInOrder play) =
     (name ≡ codes "play") × NamesPlay rows play.scenario.now (option_map (λ s. s.now) play.steps) (option_map (λ s. s.now) play.log) (option_map (λ s. s.now) play.cert) × NamesOrder rows play.seed (option_map (λ s. s.now) play.kept)
 NamesIn name rows (Live scenario log cert) =
-    (name ≡ codes "live") × NamesLive rows scenario.now (option_map (λ s. s.now) log) (option_map (λ s. s.now) cert)
+    (name ≡ codes "live") × NamesLive rows scenario.now (option_map (λ s. s.now) log) (option_map (λ s. s.now) cert) × (first_of (codes "record") rows ≡ None)
+NamesIn name rows (LiveRecorded live) =
+    (name ≡ codes "live") × NamesLive rows live.scenario.now (option_map (λ s. s.now) live.log) (option_map (λ s. s.now) live.cert) × (first_of (codes "record") rows ≡ Some live.kept.now)
 NamesIn name rows (Check log cert) = (name ≡ codes "check") × NamesCheck rows log.now cert.now × ¬ IsSet (codes "explain") rows
 NamesIn name rows (Explain log cert) = (name ≡ codes "check") × NamesCheck rows log.now cert.now × IsSet (codes "explain") rows
 NamesIn name rows (Certify log cert) = (name ≡ codes "certify") × (first_of (codes "log") rows ≡ Some log.now) × (first_of (codes "cert") rows ≡ option_map (λ s. s.now) cert)

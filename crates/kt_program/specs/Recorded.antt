@@ -1,5 +1,5 @@
 -- What is written of runs of which the steps are kept.
-use Rattle.std.specs.Prelude.{◌≡◌, ◌≢◌, ◌<◌, ◌⊎◌, ◌++◌, ℕ, List, Option, Some, None, length}
+use Rattle.std.specs.Prelude.{◌≡◌, ◌≢◌, ◌<◌, ◌≤◌, ◌⊎◌, ◌++◌, ℕ, List, Option, Some, None, IfSome, length}
 use Rattle.std.specs.Io.KnownBytes.{Appends}
 use Rattle.kt_text.specs.Writing.{WritesFront}
 use Rattle.kt_spacetime.specs.declared.event.Event.{Event}
@@ -14,7 +14,7 @@ use Rattle.kt_run.specs.Runs.{IsPlayed}
 use Rattle.kt_run.specs.declared.faults.RunFault.TheVariants as run
 use Rattle.kt_run.specs.declared.orders.Order.{Order}
 use Rattle.kt_run.specs.declared.orders.Order.TheVariants.{Default, Drawn}
-use Rattle.kt_scenario.specs.Steps.{most_steps}
+use Rattle.kt_scenario.specs.Steps.{AreSteps, most_steps}
 use Rattle.kt_scenario.specs.Written.{steps_text}
 use Rattle.kt_program.specs.Played.{Outputs, IsOfWriting, IsWritten, StopsInLog, StopsInCertificates, StopsInReport, certificate_text, log_text}
 use Rattle.kt_program.specs.Stored.{Told}
@@ -33,11 +33,16 @@ pub record IsPlayedAgain (plan : Planned) (cast : List (List Content)) (steps : 
   pub same : (others : List Event) → (other : IsPlayed plan cast steps others)
       → SavesAll plan (progress_at_start plan 0) (play.given ++ play.more) → SavesAll plan (progress_at_start plan 0) (other.given ++ other.more) → others ≡ rows
 
+-- as many steps as a text of steps may have are read back as they are written
+abbrev pub AreReadBack : Planned → List Step → Type 0
+AreReadBack plan steps = length steps ≤ most_steps → AreSteps plan.names (steps_text plan.names steps) steps
+
 -- these are the rows of a run by just these steps, those given and then those that come next in an order; played again by
--- these steps it is the same; and to its certificates the checker says yes
+-- these steps, which are read back as they are written, it is the same; and to its certificates the checker says yes
 pub record IsKeptRun (plan : Planned) (cast : List (List Content)) (given : List Step) (order : Order) (steps : List Step) (rows : List Event) : Type 0 where
   pub run : IsInOrder plan cast given order steps rows
   pub again : IsPlayedAgain plan cast steps rows
+  pub read : AreReadBack plan steps
   pub certified : IsCertified rows
 
 -- what the four writers of such a run hold, as far as they tell it
@@ -49,10 +54,15 @@ pub record KeptOutputs : Type 0 where
 abbrev pub kept_outputs : Outputs → Told → KeptOutputs
 kept_outputs run steps = record { run = run; steps = steps }
 
+-- the text of such steps is written, if it is asked for, and has no more of them than can be read
+pub record WritesSteps (plan : Planned) (steps : List Step) (old new : Told) : Type 0 where
+  pub text : Appends old new (steps_text plan.names steps)
+  pub few : IfSome new (λ _. length steps ≤ most_steps)
+
 -- such a run by such steps is written, and the text of its steps
 abbrev pub IsRecorded : (List Step → List Event → Type 0) → Planned → KeptOutputs → KeptOutputs → Type 0
 IsRecorded Are plan old new =
-    (steps : List Step) × IsWritten (Are steps) plan old.run new.run × Appends old.steps new.steps (steps_text plan.names steps)
+    (steps : List Step) × IsWritten (Are steps) plan old.run new.run × WritesSteps plan steps old.steps new.steps
 
 -- the log of these rows and their certificates are written, and no report
 pub record WritesLog (rows : List Event) (old new : Outputs) : Type 0 where

@@ -10,7 +10,7 @@ ghost use Rattle.kt_program.specs.Asking.{IsUnasked};
 ghost use Rattle.kt_program.specs.Names.{IsApart};
 ghost use Rattle.kt_program.specs.declared.ask.AskFault.TheVariants.{Line, Memory as OutOfMemory, SameName};
 
-use crate::line::{Asked, Drawing, OrderedPlay};
+use crate::line::{Asked, Drawing, OrderedPlay, RecordedLive};
 use crate::words::Words;
 use clap::error::ErrorKind;
 use clap::{Arg, ArgAction, ArgMatches, Command, Error, value_parser};
@@ -59,6 +59,11 @@ const ABOUT_RECORD: &str = "Where the steps that were made are written";
 const LONG_ABOUT_RECORD: &str =
     "Where the steps that were made are written, all of them in order, as a text
 for --steps: with it the same run is played again. It has at most 2^20 steps.";
+
+const LONG_ABOUT_RECORD_LIVE: &str =
+    "Where the steps that were made are written, all of them in order, as a text
+for --steps of play: with it the same run is played again. It has at most 2^20
+steps.";
 
 const ABOUT_LOG_OUT: &str = "Where the log is written, in format 2";
 
@@ -279,6 +284,7 @@ fn live_command<'a>(alloc: Global) -> Result<Command<'a>, AllocError>
             ABOUT_SCENARIO,
             LONG_ABOUT_SCENARIO,
         ))?
+        .arg(optional_word(alloc, "record", ABOUT_RECORD, LONG_ABOUT_RECORD_LIVE))?
         .arg(optional_word(alloc, "log", ABOUT_LOG_OUT, ABOUT_LOG_OUT))?
         .arg(optional_word(alloc, "cert", ABOUT_CERT_OUT, ABOUT_CERT_OUT))?;
     Ok(command)
@@ -442,6 +448,32 @@ fn plain_play<'a>(matches: &ArgMatches<'a>) -> Option<Asked<'a>>
 
 // What the matches of `live` ask for.
 fn asked_of_live<'a>(matches: &ArgMatches<'a>) -> Option<Asked<'a>>
+    ensures named { IfSome result (NamesIn (codes "live") (rows_of (found_of matches.now))) }
+    ensures nothing { IfNone result ((asked : Asked) → ¬ NamesIn (codes "live") (rows_of (found_of matches.now)) asked) }
+{
+    match text_of(matches, "record") {
+        None => plain_live(matches),
+        Some(kept) => recorded_live(matches, kept),
+    }
+}
+
+// What the matches of `live` ask for where they have a file for the steps that are made.
+fn recorded_live<'a>(matches: &ArgMatches<'a>, kept: &'a str) -> Option<Asked<'a>>
+    requires { first_of (codes "record") (rows_of (found_of matches.now)) ≡ Some kept.now }
+    ensures named { IfSome result (NamesIn (codes "live") (rows_of (found_of matches.now))) }
+    ensures nothing { IfNone result ((asked : Asked) → ¬ NamesIn (codes "live") (rows_of (found_of matches.now)) asked) }
+{
+    Some(Asked::LiveRecorded(RecordedLive {
+        scenario: text_of(matches, "scenario")?,
+        kept,
+        log: text_of(matches, "log"),
+        cert: text_of(matches, "cert"),
+    }))
+}
+
+// What they ask for where they have none.
+fn plain_live<'a>(matches: &ArgMatches<'a>) -> Option<Asked<'a>>
+    requires { first_of (codes "record") (rows_of (found_of matches.now)) ≡ None }
     ensures named { IfSome result (NamesIn (codes "live") (rows_of (found_of matches.now))) }
     ensures nothing { IfNone result ((asked : Asked) → ¬ NamesIn (codes "live") (rows_of (found_of matches.now)) asked) }
 {

@@ -22,6 +22,19 @@ pub struct OrderedPlay<'a> {
     pub cert: Option<&'a str>,
 }
 
+/// A scenario that is to be run in threads, of which the steps are to be kept, with the names of files.
+#[derive(Clone, Copy, Debug, PartialEq, Eq)]
+pub struct RecordedLive<'a> {
+    /// The scenario.
+    pub scenario: &'a str,
+    /// Where the steps that are made are written.
+    pub kept: &'a str,
+    /// Where the log is written, where that is asked.
+    pub log: Option<&'a str>,
+    /// Where the certificates are written, where that is asked.
+    pub cert: Option<&'a str>,
+}
+
 /// What the words of a command line ask for, with the names of files.
 #[derive(Clone, Copy, Debug, PartialEq, Eq)]
 pub enum Asked<'a> {
@@ -40,6 +53,8 @@ pub enum Asked<'a> {
         log: Option<&'a str>,
         cert: Option<&'a str>,
     },
+    /// Run a scenario so, with its steps written.
+    LiveRecorded(RecordedLive<'a>),
     /// Judge a stored log with its certificates.
     Check {
         log: &'a str,
@@ -94,6 +109,10 @@ impl<'a> Asked<'a> {
                 log,
                 cert,
             } => clash(&[Some(*scenario)], &[*log, *cert]),
+            Asked::LiveRecorded(live) => clash(
+                &[Some(live.scenario)],
+                &[live.log, live.cert, Some(live.kept)],
+            ),
             Asked::Check { log, cert } => clash(&[Some(*log), Some(*cert)], &[]),
             Asked::Explain { log, cert } => clash(&[Some(*log), Some(*cert)], &[]),
             Asked::Certify { log, cert } => clash(&[Some(*log)], &[*cert]),

@@ -20,7 +20,7 @@ use crate::fault::{AppFault, ProgramFault};
 use crate::hints::end_hinted;
 use crate::line::Asked;
 use crate::playing::{live_files, play_files};
-use crate::recording::record_files;
+use crate::recording::{record_files, record_live_files};
 use crate::words::Words;
 use clap::Error;
 use clap::error::ErrorKind;
@@ -112,6 +112,7 @@ pub fn carry_out<F: Files + Threads + Wait + Sync, O: Write>(
             Ok(()) => Ok(Done::Played),
             Err(fault) => Err(fault),
         },
+        Ok(Asked::LiveRecorded(live)) => record_live_files(files, alloc, &live, out),
         Ok(Asked::Check { log, cert }) => match check_files(files, alloc, log, cert, out) {
             Ok(passed) => Ok(Done::Judged(passed)),
             Err(fault) => Err(ProgramFault::App(fault)),

@@ -1,7 +1,6 @@
 //! Runs in an order, with the steps that were made: what is written of them.
 
 ghost use Rattle.std.specs.Prelude.{◌≡◌, ◌<◌, ◌⊎◌, ℕ, List, false, IfOk, IfErr, OnOk, All, length, map};
-ghost use Rattle.std.specs.Io.KnownBytes.{Appends};
 ghost use Rattle.kt_core.specs.declared.faults.StepFault.{StepFault};
 ghost use Rattle.kt_held.specs.Casts.{HasSizes, HasKind};
 ghost use Rattle.kt_held.specs.Holdings.{Content, content};
@@ -19,7 +18,7 @@ ghost use Rattle.kt_text.specs.Writing.{WritesFront};
 ghost use Rattle.kt_program.specs.declared.fault.AppFault.TheVariants as app;
 ghost use Rattle.kt_program.specs.Outputs.{contents_of};
 ghost use Rattle.kt_program.specs.Played.{AreNew, IsOfWriting, OverNew, WritesRun, outputs};
-ghost use Rattle.kt_program.specs.Recorded.{IsKeptRun, IsOfRecording, IsRecorded, StopsRecording, kept_outputs};
+ghost use Rattle.kt_program.specs.Recorded.{IsKeptRun, IsOfRecording, IsRecorded, StopsRecording, WritesSteps, kept_outputs};
 
 use crate::casts::cast_of;
 use crate::fault::AppFault;
@@ -120,12 +119,13 @@ fn recorded_cast(
 {
     let _processes = plan.size();
     kt_plans::certificates_of_promised_logs();
+    kt_scenario::steps_are_read_back();
     recorded_run_of(alloc, plan, steps, order, cast)
 }
 
 // Writes the log of a run, then its certificates, then its steps, where that is asked, then its report.
 #[tactic(auto, using(crate::proofs::OrderedRuns::made_stopped))]
-fn write_recorded<L: Write, C: Write, S: Write, R: Write>(
+pub(crate) fn write_recorded<L: Write, C: Write, S: Write, R: Write>(
     alloc: Global,
     plan: &Plan,
     log: &SpaceTime,
@@ -139,8 +139,8 @@ fn write_recorded<L: Write, C: Write, S: Write, R: Write>(
     ensures written { OnOk result (WritesRun plan.now log.now.rows
         (outputs (L.contents log_writer.old) (C.contents cert_writer.old) (R.contents report_writer.old))
         (outputs (L.contents log_writer.new) (C.contents cert_writer.new) (R.contents report_writer.new))) }
-    ensures steps { OnOk result (Appends (contents_of S.contents steps_writer.old)
-        (contents_of S.contents steps_writer.new) (steps_text plan.now.names steps.now)) }
+    ensures steps { OnOk result (WritesSteps plan.now steps.now (contents_of S.contents steps_writer.old)
+        (contents_of S.contents steps_writer.new)) }
     ensures stopped { IfErr result (StopsRecording
         (λ made rows. (made ≡ steps.now) × (rows ≡ log.now.rows)) plan.now
         (kept_outputs (outputs (L.contents log_writer.old) (C.contents cert_writer.old) (R.contents report_writer.old))
@@ -158,14 +158,15 @@ fn write_recorded<L: Write, C: Write, S: Write, R: Write>(
 }
 
 // Writes the steps that were made, where that is asked.
+#[tactic(auto, using(crate::proofs::OrderedRuns::writes_steps))]
 fn write_made<S: Write>(
     alloc: Global,
     plan: &Plan,
     steps: &[Step],
     writer: &mut Output<S>,
 ) -> Result<(), AppFault>
-    ensures written { OnOk result (Appends (contents_of S.contents writer.old) (contents_of S.contents writer.new)
-        (steps_text plan.now.names steps.now)) }
+    ensures written { OnOk result (WritesSteps plan.now steps.now (contents_of S.contents writer.old)
+        (contents_of S.contents writer.new)) }
     ensures long { IfErr result (λ fault. fault ≡ app.RecordTooLong → (most_steps < length steps.now)
         × (contents_of S.contents writer.new ≡ contents_of S.contents writer.old)) }
     ensures stopped { IfErr result (λ fault. IsOfWriting fault → WritesFront (contents_of S.contents writer.old)

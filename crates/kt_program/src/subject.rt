@@ -93,6 +93,7 @@ pub(crate) fn scenario_of<'a>(asked: &Asked<'a>) -> Option<&'a str>
     match asked {
         Asked::Play { scenario, .. } | Asked::Live { scenario, .. } => Some(*scenario),
         Asked::PlayInOrder(play) => Some(play.scenario),
+        Asked::LiveRecorded(live) => Some(live.scenario),
         Asked::Check { .. } | Asked::Explain { .. } | Asked::Certify { .. } => None,
         Asked::Draw(picture) => picture.names,
     }
@@ -106,6 +107,7 @@ pub(crate) fn steps_of<'a>(asked: &Asked<'a>) -> Option<&'a str>
         Asked::Play { steps, .. } => *steps,
         Asked::PlayInOrder(play) => play.steps,
         Asked::Live { .. }
+        | Asked::LiveRecorded(_)
         | Asked::Check { .. }
         | Asked::Explain { .. }
         | Asked::Certify { .. }
@@ -122,7 +124,8 @@ pub(crate) fn log_of<'a>(asked: &Asked<'a>) -> Option<&'a str>
             *log,
         ),
         Asked::Draw(picture) => Some(picture.log),
-        Asked::Play { .. } | Asked::PlayInOrder(_) | Asked::Live { .. } => None,
+        Asked::Play { .. } | Asked::PlayInOrder(_) | Asked::Live { .. } | Asked::LiveRecorded(_) =>
+            None,
     }
 }
 
@@ -133,7 +136,10 @@ pub(crate) fn certificates_of<'a>(asked: &Asked<'a>) -> Option<&'a str>
     match asked {
         Asked::Check { cert, .. } | Asked::Explain { cert, .. } => Some(*cert),
         Asked::Draw(picture) => picture.cert,
-        Asked::Play { .. } | Asked::PlayInOrder(_) | Asked::Live { .. } | Asked::Certify { .. } =>
-            None,
+        Asked::Play { .. }
+        | Asked::PlayInOrder(_)
+        | Asked::Live { .. }
+        | Asked::LiveRecorded(_)
+        | Asked::Certify { .. } => None,
     }
 }

@@ -1,0 +1,27 @@
+use Rattle.std.proofs.Common.{map}
+use Rattle.kt_held.specs.Holdings.{content}
+use Rattle.kt_program.specs.Played.{AreNew}
+use Rattle.kt_program.proofs.Casting.{are_new}
+use Rattle.kt_program.proofs.NewObjects.{on_ok_so, if_err_so, right_for_live}
+use Rattle.kt_program.proofs.OrderedRuns.{recorded_so}
+use Rattle.kt_program.proofs.KeptLives.{lived_over_new, live_so}
+use Rattle.kt_program.proofs.recorded_live.live_new.Goals as goal
+use Rattle.kt_program.proofs.recorded_live.live_new.Goals.{After-live_recorded}
+
+new : (g : _) (c : After-live_recorded g) → AreNew c.args.plan.now (map (λ row. map (λ b. content ((goal.Recoverable-dyn g (b.vtable, b.value)).kind_of b.value) ((goal.Recoverable-dyn g (b.vtable, b.value)).value_of b.value)) row.items) c.args.cast.items)
+new g c = are_new c.args.cast.items (λ row. row.items) _ _ c.args.plan.now c.requires.sizes c.requires.kinds c.requires.opening
+
+pub returns-clause-lived : goal.returns-clause-lived
+returns-clause-lived g c = on_ok_so c.live_recorded.result
+    (recorded_so _ _ (lived_over_new c.args.plan.now (map (λ row. map (λ b. content ((goal.Recoverable-dyn g (b.vtable, b.value)).kind_of b.value) ((goal.Recoverable-dyn g (b.vtable, b.value)).value_of b.value)) row.items) c.args.cast.items) (new g c)) _ _ _)
+    c.live_recorded.ensures.lived
+
+pub returns-clause-stopped : goal.returns-clause-stopped
+returns-clause-stopped g c = if_err_so _ _ c.live_recorded.result
+    (live_so _ _ (lived_over_new c.args.plan.now (map (λ row. map (λ b. content ((goal.Recoverable-dyn g (b.vtable, b.value)).kind_of b.value) ((goal.Recoverable-dyn g (b.vtable, b.value)).value_of b.value)) row.items) c.args.cast.items) (new g c)) _ _ _)
+    c.live_recorded.ensures.stopped
+
+pub returns-clause-fault : goal.returns-clause-fault
+returns-clause-fault g c = if_err_so _ _ c.live_recorded.result
+    (λ e answers fault is. right_for_live c.args.plan.now _ c.requires.sizes c.requires.kinds fault (answers fault is))
+    c.live_recorded.ensures.fault

@@ -1,0 +1,19 @@
+use Rattle.std.proofs.Common.{rules, All, ◌∙◌, ap, sym}
+use Rattle.kt_object.specs.Value.{opening_value}
+use Rattle.kt_plan.specs.Limits.{IsKindOfObject}
+use Rattle.kt_program.proofs.Casting.{sizes_of_cast, kinds_of_cast, made_of_cast}
+use Rattle.kt_program.proofs.recorded_live.record_live_objects.Goals as goal
+
+pub live_new-requires-clause-sizes : goal.live_new-requires-clause-sizes
+live_new-requires-clause-sizes g c = λ k outlives. sizes_of_cast c.in_ok-cast.cast.items (λ row. row.items) _ _ _ _ c.in_ok-cast.ensures
+
+pub live_new-requires-clause-kinds : goal.live_new-requires-clause-kinds
+live_new-requires-clause-kinds g c = λ k outlives.
+    let proper : All IsKindOfObject c.args.plan.now.kinds = search rules in
+    kinds_of_cast c.in_ok-cast.cast.items (λ row. row.items) _ _ _ _ (λ number o is made. made.2.met.1.0 is) proper c.in_ok-cast.ensures
+
+pub live_new-requires-clause-opening : goal.live_new-requires-clause-opening
+live_new-requires-clause-opening g c = λ k outlives p row l i object m.
+    let proper : All IsKindOfObject c.args.plan.now.kinds = search rules in
+    let made = made_of_cast c.in_ok-cast.cast.items (λ row. row.items) _ _ _ proper c.in_ok-cast.ensures p row l i object m in
+    made.made.2.met.1.1 made.proper ∙ ap opening_value (sym (made.made.2.met.1.0 made.proper))
