@@ -20,6 +20,11 @@ pub(crate) const LOG: &str = "run.log.csv";
 
 pub(crate) const CERT: &str = "run.cert.csv";
 
+/// Where they are written once the run was played again by its steps.
+pub(crate) const LOG_AGAIN: &str = "again.log.csv";
+
+pub(crate) const CERT_AGAIN: &str = "again.cert.csv";
+
 /// The words of a command line, which stand behind single spaces.
 pub(crate) fn words_of(alloc: Global, line: &str) -> Result<Words, Memory> {
     let mut words = Words::new(alloc);
@@ -52,6 +57,12 @@ pub(crate) fn stored<R: Files + AllocGlobal>(rt: &R, name: &str, ending: &str) -
 fn has_bytes<R: Host>(rt: &R, file: &str, bytes: &[u8]) -> Result<bool> {
     let found = fs::read(rt, file)?;
     Ok(found.as_slice() == bytes)
+}
+
+/// Whether two files have the same.
+pub(crate) fn are_same<R: Host>(rt: &R, one: &str, other: &str) -> Result<bool> {
+    let bytes = fs::read(rt, other)?;
+    has_bytes(rt, one, bytes.as_slice())
 }
 
 // Whether what was written to a file is what is stored under this name with this ending.

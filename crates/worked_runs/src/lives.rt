@@ -1,10 +1,16 @@
 //! Runs scenarios in threads, and judges what comes out.
 
-use crate::commands::{CERT, Host, LOG, carry_out_words, show_command, show_written, words_of};
+use crate::commands::{
+    CERT, CERT_AGAIN, Host, LOG, LOG_AGAIN, are_same, carry_out_words, show_command, show_written,
+    words_of,
+};
 use anyhow::Result;
 use kt_program::Words;
 use std::alloc::Global;
 use std::fs;
+
+// Where the steps of a run are written.
+const STEPS: &str = "run.steps";
 
 // How often a scenario is run whose threads meet in many ways.
 const TIMES: u32 = 100;
@@ -50,11 +56,53 @@ fn well_of<R: Host>(rt: &R, words: &Words, times: u32) -> Result<u32> {
     Ok(well)
 }
 
-// Runs the scenario of the stored run of this name so often, and shows how many runs came out well.
+// The words that run the scenario of this name in threads, with its steps written.
+fn recorded_words(alloc: Global, name: &str) -> Result<Words> {
+    let line = format!(in alloc;
+        "koo_toueg live {name}.scenario --record {STEPS} --log {LOG} --cert {CERT}"
+    )?;
+    Ok(words_of(alloc, line.as_str())?)
+}
+
+// The words that play it by these steps.
+fn again_words(alloc: Global, name: &str) -> Result<Words> {
+    let line = format!(in alloc;
+        "koo_toueg play {name}.scenario --steps {STEPS} --log {LOG_AGAIN} --cert {CERT_AGAIN}"
+    )?;
+    Ok(words_of(alloc, line.as_str())?)
+}
+
+// Runs a scenario in threads and plays it again by the steps that were made: whether log, certificates and report are the
+// same.
+fn is_played_again<R: Host>(rt: &R, live: &Words, again: &Words) -> Result<bool> {
+    let mut lived = Vec::new(rt.alloc());
+    let mut played = Vec::new(rt.alloc());
+    let lives = carry_out_words(rt, live, &mut lived) == 0;
+    let plays = carry_out_words(rt, again, &mut played) == 0;
+    let same = are_same(rt, LOG, LOG_AGAIN)? && are_same(rt, CERT, CERT_AGAIN)?;
+    Ok(lives && plays && same && lived.as_slice() == played.as_slice())
+}
+
+// Does so that often: how many runs are the same when played again.
+fn again_of<R: Host>(rt: &R, name: &str, times: u32) -> Result<u32> {
+    let live = recorded_words(rt.alloc(), name)?;
+    let again = again_words(rt.alloc(), name)?;
+    let mut same: u32 = 0;
+    for _ in 0..times {
+        if is_played_again(rt, &live, &again)? {
+            same = same.saturating_add(1);
+        }
+    }
+    Ok(same)
+}
+
+// Runs the scenario of the stored run of this name so often, and shows how many runs came out well, and of so many others how
+// many are the same when they are played again by their steps.
 fn show_lives_of<R: Host>(rt: &R, name: &str, times: u32) -> Result<()> {
     let words = live_words(rt.alloc(), name)?;
     let well = well_of(rt, &words, times)?;
-    println!(rt; "live {name}: {well} of {times} well")?;
+    let same = again_of(rt, name, times)?;
+    println!(rt; "live {name}: {well} of {times} well, {same} of {times} the same again")?;
     Ok(())
 }
 
