@@ -6,7 +6,7 @@ use Rattle.kt_base.specs.declared.words.Standing.{Standing}
 use Rattle.kt_tables.specs.Calls.{Call}
 use Rattle.kt_parts.specs.Answers.{replies, joins}
 use Rattle.kt_parts.specs.Joins.{Joins}
-use Rattle.kt_parts.specs.Shares.{Share}
+use Rattle.kt_parts.specs.Parts.{Part}
 use Rattle.kt_parts.specs.declared.actions.Action.{Action}
 use Rattle.kt_parts.specs.declared.actions.Action.TheVariants.{Nothing, Refuse, Join, Reply, Settle}
 use Rattle.kt_ckpt.specs.Rules.{refusal, answer, must_join}
@@ -32,7 +32,7 @@ pub joined : (o : Option ℕ) (up able : Bool) (k : ℕ) (must b : Bool) → o �
 joined o up able k must b e f g r = let s : refusal None up able ≡ None = ap (λ x. refusal x up able) (sym e) ∙ r in rw (e, ← f, g) (joined_in up able k s)
 
 -- who joins does so by an action that joins
-pub join_answers : (calls : List Call) (s : Standing) (inst from label n : ℕ) (parent : Option ℕ) (side : Share) (action : Action) → Joins n inst parent side action →
+pub join_answers : (calls : List Call) (s : Standing) (inst from label n : ℕ) (parent : Option ℕ) (side : Part) (action : Action) → Joins n inst parent side action →
     answer s.in_inst s.up s.able inst (must_join calls from label) ≡ joins → IsAnswer calls s inst from label (Some side) action
 join_answers calls s inst from label n parent side (Join asks goes) j e = e
 join_answers calls s inst from label n parent side Nothing j e = absurd j

@@ -3,7 +3,7 @@ use Rattle.std.specs.Prelude.{◌≡◌, ℕ, Option, Some, None, List}
 use Rattle.kt_base.specs.declared.words.Standing.{Standing}
 use Rattle.kt_tables.specs.Calls.{Call}
 use Rattle.kt_tables.specs.Peers.{IsCohort}
-use Rattle.kt_parts.specs.Shares.{Share}
+use Rattle.kt_parts.specs.Parts.{Part}
 use Rattle.kt_parts.specs.Answers.{replies, joins}
 use Rattle.kt_parts.specs.declared.actions.Action.{Action}
 use Rattle.kt_parts.specs.declared.actions.Action.TheVariants.{Refuse, Join, Reply}
@@ -15,13 +15,13 @@ AsksCohort calls (Join asks goes) = IsCohort asks (is_asked calls) (asked_label 
 AsksCohort calls action = ⊥
 
 -- it joins where nothing forbids that
-abbrev pub IsStart : Standing → Option Share → Action → Type 0
+abbrev pub IsStart : Standing → Option Part → Action → Type 0
 IsStart s None (Refuse cause) = refusal s.in_inst s.up s.able ≡ Some cause
 IsStart s (Some side) (Join asks goes) = refusal s.in_inst s.up s.able ≡ None
 IsStart s side action = ⊥
 
 -- it replies to the asker, or joins, as the rule says
-abbrev pub IsAnswer : List Call → Standing → ℕ → ℕ → ℕ → Option Share → Action → Type 0
+abbrev pub IsAnswer : List Call → Standing → ℕ → ℕ → ℕ → Option Part → Action → Type 0
 IsAnswer calls s inst from label None (Reply to willing cause) = (to ≡ from) × (answer s.in_inst s.up s.able inst (must_join calls from label) ≡ replies willing cause)
 IsAnswer calls s inst from label (Some side) (Join asks goes) = answer s.in_inst s.up s.able inst (must_join calls from label) ≡ joins
 IsAnswer calls s inst from label side action = ⊥

@@ -5,16 +5,16 @@ use Rattle.std.proofs.lemmas.Bool.Decides.{nat_tests}
 use Rattle.kt_protocol.proofs.Answering.{reply_facts}
 use Rattle.kt_protocol.proofs.Beginning.{decide_facts}
 use Rattle.kt_protocol.proofs.Choices.{same, closed_of}
-use Rattle.kt_protocol.proofs.Deciding.{all_await_nobody, willing_has_none}
+use Rattle.kt_protocol.proofs.Deciding.{all_await_none, willing_has_none}
 use Rattle.kt_protocol.proofs.Invariant.{Invariant}
 use Rattle.kt_protocol.proofs.Receiving.{Taking, message_facts}
 use Rattle.kt_protocol.proofs.Replying.{ask_facts}
-use Rattle.kt_protocol.proofs.StepFacts.{awaits_nobody, joining, rolling_in, noted_invariant, new_undecided, new_joining, from_channel, from_held}
+use Rattle.kt_protocol.proofs.StepFacts.{awaits_none, joining, rolling_in, noted_invariant, new_undecided, new_joining, from_channel, from_held}
 use Rattle.kt_protocol.proofs.Transitions.{invariant_began, invariant_reply, invariant_joining_checkpoint, invariant_joining_rollback, invariant_opening}
 use Rattle.kt_protocol.proofs.Updates.{at_one_here, at_pair_here}
 use Rattle.kt_protocol.proofs.NotedFirst.{quiet}
 use Rattle.kt_protocol.proofs.WholeSteps.{all_after_run}
-use Rattle.kt_protocol.specs.UnderWay.{IsQuiet}
+use Rattle.kt_protocol.specs.InTransit.{IsQuiet}
 use Rattle.kt_protocol.proofs.Walk.{invariant_step}
 use Rattle.kt_protocol.specs.Deciding.{after_deciding_as, after_deciding, after_closing, after_decision, none_of}
 use Rattle.kt_protocol.specs.Joining.{after_began, after_joining_checkpoint, after_joining_rollback, must_take, must_roll}
@@ -83,7 +83,7 @@ agrees_deciding c p k g d j n i quiet =
     let f = decision_facts c p k p (c.all_willing k p) (c.so_far.is_rollback k) in
     let x = agrees_closing (late_deciding c p k) p k (c.all_willing k p) pos (f.0 ∙ g.positions.member_open k p j n) f.1 f.2 (kept_deciding c p k (c.all_willing k p) (c.so_far.is_rollback k) g pos n refl d) in
     record {
-      same = x.same ∙ ap (λ (s : State). after_closing s p k (c.all_willing k p)) (once_closed_deciding c p k (c.all_willing k p) (c.so_far.is_rollback k) g pos n refl (exact (c.all_willing k p) refl q) (all_await_nobody (once_closed c) k g q));
+      same = x.same ∙ ap (λ (s : State). after_closing s p k (c.all_willing k p)) (once_closed_deciding c p k (c.all_willing k p) (c.so_far.is_rollback k) g pos n refl (exact (c.all_willing k p) refl q) (all_await_none (once_closed c) k g q));
       kept = x.kept;
     }
   where
@@ -94,7 +94,7 @@ agrees_deciding c p k g d j n i quiet =
 agrees_settling : (c : State) (p k : ℕ) → Invariant (once_closed c) → KeptLists c → c.so_far.joined k p ≡ true → c.so_far.is_decided k ≡ false → Agrees (late_settling c p k) (after_settling (once_closed c) p k)
 agrees_settling c p k g d j n = at_both (none_of c.processes (c.awaits k p))
     (λ b. at_both (p == c.initiator k)
-    (λ e. agrees_deciding c p k g d j n (same p (c.initiator k) e) (awaits_nobody (once_closed c) p k g b))
+    (λ e. agrees_deciding c p k g d j n (same p (c.initiator k) e) (awaits_none (once_closed c) p k g b))
     (λ _. record { same = refl; kept = record { received = d.received; parted = d.parted; kept_messages = d.kept_messages; held_messages = d.held_messages } }))
     (λ _. record { same = refl; kept = d })
 

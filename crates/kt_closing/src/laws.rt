@@ -9,7 +9,7 @@ ghost use Rattle.kt_protocol.specs.Parcels.{App};
 ghost use Rattle.kt_protocol.specs.Summary.{summary};
 ghost use Rattle.kt_protocol.specs.States.{Step, Take, opening};
 ghost use Rattle.kt_protocol.specs.Steps.{run};
-ghost use Rattle.kt_protocol.specs.UnderWay.{IsQuiet};
+ghost use Rattle.kt_protocol.specs.InTransit.{IsQuiet};
 ghost use Rattle.kt_protocol.specs.Logs.{HasLinkedDecisions, HasLeastDecisions, AbortsWhereUnwilling, AbortsChangeNothing, JustifiesUnwilling};
 ghost use Rattle.kt_closing.specs.LateClosing.{is_newer};
 ghost use Rattle.kt_closing.specs.LateSteps.{late_run};

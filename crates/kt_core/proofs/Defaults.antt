@@ -9,8 +9,8 @@ use Rattle.kt_plan.specs.declared.steps.Step.{Step}
 use Rattle.kt_plan.specs.declared.steps.Step.TheVariants.{Do, Take}
 use Rattle.kt_protocol.specs.Deciding.{none_of}
 use Rattle.kt_protocol.proofs.StepFacts.{none_is}
-use Rattle.kt_process.specs.Persons.{Person}
-use Rattle.kt_system.specs.Systems.{person}
+use Rattle.kt_process.specs.ProcessStates.{ProcessState}
+use Rattle.kt_system.specs.Systems.{state_of}
 use Rattle.kt_system.specs.Reads.{can_take, IsNextTake, HasNoTake}
 use Rattle.kt_plans.proofs.CommandPlaces.{at_place}
 use Rattle.kt_plans.proofs.PhaseOrder.{none_of_if}
@@ -42,7 +42,7 @@ both false b e = absurd (cc (e))
 three : (a b c : Bool) → (a && (b && c)) ≡ true → (a ≡ true) × (b ≡ true) × (c ≡ true)
 three a b c e = let x = both a (b && c) e in let y = both b c x.1 in (x.0, y.0, y.1)
 
-some_if : (x : Person) (o : Option Command) → process_may_do x o ≡ true → (c : Command) × (o ≡ Some c)
+some_if : (x : ProcessState) (o : Option Command) → process_may_do x o ≡ true → (c : Command) × (o ≡ Some c)
 some_if x None e = absurd (cc (e))
 some_if x (Some c) e = (c, refl)
 
@@ -86,7 +86,7 @@ module _ (w : World) (first : ℕ) (v : run_world.Progress) (r : Mirrors w.agend
 
   command_there : (p : ℕ) → p < w.system.size → can_do w p ≡ true → (c : Command) × (agenda_command w.agenda p ≡ Some c) × (c.by ≡ p)
   command_there p l e =
-      let s = some_if (person w.system p) (open_command w.agenda p) e in
+      let s = some_if (state_of w.system p) (open_command w.agenda p) e in
       let n = open_is_next w.agenda p s.0 s.1 in
       (s.0, n, own_is w.agenda v p s.0 r.places (few w first v r p l) n)
 

@@ -7,8 +7,8 @@ use Rattle.kt_plan.specs.declared.commands.Job.{Job}
 use Rattle.kt_plan.specs.declared.commands.Job.TheVariants.{Send, Checkpoint, Rollback, Fail}
 use Rattle.kt_plan.specs.declared.steps.Step.{Step}
 use Rattle.kt_plan.specs.declared.steps.Step.TheVariants.{Do, Take}
-use Rattle.kt_process.specs.Persons.{inst_of}
-use Rattle.kt_system.specs.Systems.{person}
+use Rattle.kt_process.specs.ProcessStates.{inst_of}
+use Rattle.kt_system.specs.Systems.{state_of}
 use Rattle.kt_system.specs.Reads.{can_take}
 use Rattle.kt_plans.specs.Steps as run_steps
 use Rattle.kt_plans.specs.Progress.{Progress}
@@ -55,19 +55,19 @@ module _ (w : World) (first : ℕ) (v : Progress) (r : Mirrors w.agenda w.system
   pub few : (p : ℕ) → p < w.system.size → p < 64
   few p l = let f = r.limits.names.few in omega (arith, l, size, f)
 
-  may_do_job : (p : ℕ) → p < w.system.size → (j : Job) → (not (is_send j) || is_none (inst_of (person w.system p).side)) ≡ run_steps.may_do_job ((v.now.people p).inst == 0) j
-  may_do_job p l (Send to body) = closed_is (person w.system p) (v.now.people p) (r.now.people p l) (num p l)
+  may_do_job : (p : ℕ) → p < w.system.size → (j : Job) → (not (is_send j) || is_none (inst_of (state_of w.system p).side)) ≡ run_steps.may_do_job ((v.now.states p).inst == 0) j
+  may_do_job p l (Send to body) = closed_is (state_of w.system p) (v.now.states p) (r.now.states p l) (num p l)
   may_do_job p l Checkpoint = refl
   may_do_job p l Rollback = refl
   may_do_job p l Fail = refl
 
-  may_do_is : (p : ℕ) → p < w.system.size → (o : Option Command) → agenda_command w.agenda p ≡ o → process_may_do (person w.system p) (if_open w.agenda.phase o) ≡ run_steps.may_do v p o
+  may_do_is : (p : ℕ) → p < w.system.size → (o : Option Command) → agenda_command w.agenda p ≡ o → process_may_do (state_of w.system p) (if_open w.agenda.phase o) ≡ run_steps.may_do v p o
   may_do_is p l None e = refl
   may_do_is p l (Some c) e =
       let ahead = ahead_seen w.agenda.plan first v p c r.limits r.reached (next_shown w.agenda v p c r.places (few p l) e) in
       go (nat_le c.phase w.agenda.phase) (phase_test c.phase w.agenda.phase v.phase (r.phase p c (few p l) e) ahead)
     where
-      go : (b : Bool) → (c.phase == v.phase) ≡ b → process_may_do (person w.system p) (if b then Some c else None) ≡ ((c.phase == v.phase) && run_steps.may_do_job ((v.now.people p).inst == 0) c.job)
+      go : (b : Bool) → (c.phase == v.phase) ≡ b → process_may_do (state_of w.system p) (if b then Some c else None) ≡ ((c.phase == v.phase) && run_steps.may_do_job ((v.now.states p).inst == 0) c.job)
       go true f = rw f (may_do_job p l c.job)
       go false f = rw f refl
 
@@ -107,9 +107,9 @@ opened_as w p c e there = ap (λ (o : Option Command). if_open w.agenda.phase o)
     right true b f = f
     right false b f = absurd (cc (f))
 
-    able : process_may_do (person w.system p) (if_open w.agenda.phase (Some c)) ≡ true
-    able = subst (λ (o : Option Command). process_may_do (person w.system p) (if_open w.agenda.phase o) ≡ true) there (right (nat_lt p w.system.size) (can_do w p) (enabled_if w (Do p) e))
+    able : process_may_do (state_of w.system p) (if_open w.agenda.phase (Some c)) ≡ true
+    able = subst (λ (o : Option Command). process_may_do (state_of w.system p) (if_open w.agenda.phase o) ≡ true) there (right (nat_lt p w.system.size) (can_do w p) (enabled_if w (Do p) e))
 
-    mayed : (b : Bool) → process_may_do (person w.system p) (if b then Some c else None) ≡ true → (if b then Some c else None) ≡ Some c
+    mayed : (b : Bool) → process_may_do (state_of w.system p) (if b then Some c else None) ≡ true → (if b then Some c else None) ≡ Some c
     mayed true f = refl
     mayed false f = absurd (cc (f))

@@ -17,8 +17,8 @@ use Rattle.kt_plan.specs.declared.steps.Give.{Give}
 use Rattle.kt_protocol.specs.States as machine
 use Rattle.kt_seen.specs.Seen.{Seen}
 use Rattle.kt_seen.specs.Transition.{transition, opening_seen}
-use Rattle.kt_process.specs.Persons.{Person, part_of_side, IsNumbered}
-use Rattle.kt_system.specs.Systems.{Whole, person, nobody, IsSameSystem}
+use Rattle.kt_process.specs.ProcessStates.{ProcessState, part_of_side, IsNumbered}
+use Rattle.kt_system.specs.Systems.{Whole, state_of, no_process, IsSameSystem}
 use Rattle.kt_system.specs.declared.system.Tally.{Tally}
 use Rattle.kt_system.specs.Reads.{tally_of}
 use Rattle.kt_system.specs.Reads.{no_tally as none_counted}
@@ -36,7 +36,7 @@ use Rattle.kt_plans.proofs.ProtocolSteps.{seen_acts_are}
 use Rattle.kt_plans.specs.Tallies.{Tallies, no_tallies, tallies_after, RunPuts}
 use Rattle.kt_plans.specs.Tallies as run_tallies
 use Rattle.kt_plans.proofs.OpenPhase.{ahead_seen, attained_seen, quiet_seen}
-use Rattle.kt_plans.proofs.PeopleKeep.{speaks_next_seen}
+use Rattle.kt_plans.proofs.StatesKeep.{speaks_next_seen}
 use Rattle.kt_plans.proofs.PhasesOpen.{opening_is, takes_is, does_is}
 use Rattle.kt_plans.proofs.PutRuns.{put_at_start, put_next}
 use Rattle.kt_plans.proofs.RunsEnd.{fewer_begun_seen, raised_seen}
@@ -54,7 +54,7 @@ agenda plan next phase = record { plan = plan; next = next; phase = phase }
 same_agenda : (m : Agenda) (plan : Planned) (next : List ℕ) (k : ℕ) → m.plan ≡ plan → m.next ≡ next → m.phase ≡ k → m ≡ agenda plan next k
 same_agenda m plan next k e f g = λ i. record { plan = e i; next = f i; phase = g i }
 
--- the open phase is the least one that has commands left, where nothing is under way
+-- the open phase is the least one that has commands left, where nothing is in transit
 least_is : (b : Agenda) (first : ℕ) (w : run_world.Progress) (p : ℕ) (c : Command) → IsPlan b.plan → RunReaches b.plan first w → HasPlaces b w →
     run_world.is_quiet (length b.plan.names) w.now ≡ true → p < 64 → agenda_command b p ≡ Some c → IsLeastPhase b w.phase
 least_is b first w p c i r h quiet low e = record {
@@ -140,7 +140,7 @@ begun_few a s first v p c r there = let f = fewer_begun_seen a.plan first v r.li
 
 -- a command: the system makes the step, the agenda goes on from a to m, and phases open from m to b
 pub do_leads : (a m b : Agenda) (s t : Whole) (p : ℕ) (c : Command) (give : Give) (first : ℕ) (v : run_world.Progress) → Mirrors a s first v → p < 64 → open_command a p ≡ Some c → enabled a.plan v (Do p) ≡ true →
-    (ShowsState s v.now → s.begun < 4096 → Speaks ((transition v.now (protocol_step p c.job give)).people p).calls → ShowsState t (transition v.now (protocol_step p c.job give))) →
+    (ShowsState s v.now → s.begun < 4096 → Speaks ((transition v.now (protocol_step p c.job give)).states p).calls → ShowsState t (transition v.now (protocol_step p c.job give))) →
     m.plan ≡ a.plan → m.phase ≡ a.phase → (agenda_place a p < length a.plan.commands → IsNextOf a.plan.commands p (agenda_place a p + 1) (agenda_place m p)) → ((q : ℕ) → q ≢ p → agenda_place m q ≡ agenda_place a q) →
     b.plan ≡ m.plan → b.next ≡ m.next → SettlesIn t m b → t.size ≡ length a.plan.names → AreNumbered t → TalliesPut [] s t → Mirrors b t first (progress_after a.plan v (Do p) give)
 do_leads a m b s t p c give first v r low opened e shows mp mk mn mo bp bn settles size num counted =
@@ -177,7 +177,7 @@ do_leads a m b s t p c give first v r low opened e shows mp mk mn mo bp bn settl
 
 -- a take
 pub take_leads : (a b : Agenda) (s t : Whole) (p q : ℕ) (give : Give) (first : ℕ) (v : run_world.Progress) → Mirrors a s first v → enabled a.plan v (Take p q) ≡ true →
-    (ShowsState s v.now → Speaks ((transition v.now (machine.Take p q give.able)).people p).calls → ShowsState t (transition v.now (machine.Take p q give.able))) →
+    (ShowsState s v.now → Speaks ((transition v.now (machine.Take p q give.able)).states p).calls → ShowsState t (transition v.now (machine.Take p q give.able))) →
     b.plan ≡ a.plan → b.next ≡ a.next → SettlesIn t a b → t.size ≡ length a.plan.names → AreNumbered t → TalliesPut (taken_off s p q) s t → Mirrors b t first (progress_after a.plan v (Take p q) give)
 take_leads a b s t p q give first v r e shows bp bn settles size num counted =
     subst (λ (z : Agenda). Mirrors z t first w) (sym (same_agenda b a.plan a.next b.phase bp bn refl))
@@ -234,8 +234,8 @@ start_leads a b s first i size num shows n bp bn opens room =
 
 -- the same but for spare room
 numbered_same : (s t : Whole) → IsSameSystem t s → AreNumbered s → AreNumbered t
-unfolding person
-numbered_same s t e num p l = subst (λ (people : List Person). IsNumbered (part_of_side (slice_index_or people p nobody).side)) (sym e.people) (num p (let z = e.size in omega (arith, l, z)))
+unfolding state_of
+numbered_same s t e num p l = subst (λ (states : List ProcessState). IsNumbered (part_of_side (slice_index_or states p no_process).side)) (sym e.states) (num p (let z = e.size in omega (arith, l, z)))
 
 pub run_same : (a : Agenda) (s t : Whole) (first : ℕ) (v : run_world.Progress) → IsSameSystem t s → Mirrors a s first v → Mirrors a t first v
 run_same a s t first v e r = record {

@@ -18,19 +18,19 @@ use Rattle.kt_plan.specs.declared.commands.Job.TheVariants.{Send, Checkpoint, Ro
 use Rattle.kt_plan.specs.declared.steps.Step.{Step}
 use Rattle.kt_plan.specs.declared.steps.Step.TheVariants.{Do, Take}
 use Rattle.kt_plan.specs.declared.steps.Look.TheVariants.{Idle, NeedsSave, NeedsBody, Plain}
-use Rattle.kt_process.specs.Persons.{Person, inst_of, is_ready, part_of_side, IsNumbered}
+use Rattle.kt_process.specs.ProcessStates.{ProcessState, inst_of, is_ready, part_of_side, IsNumbered}
 use Rattle.kt_process.specs.Shown.{IsSeenAs}
-use Rattle.kt_seen.specs.Seen.{Seen, SeenPerson, SeenLists}
+use Rattle.kt_seen.specs.Seen.{Seen, SeenProcess, SeenLists}
 use Rattle.kt_seen.specs.CallTests.{must_take}
 use Rattle.kt_seen.specs.Messages.{AreMessagesBy}
-use Rattle.kt_system.specs.Systems.{person}
+use Rattle.kt_system.specs.Systems.{state_of}
 use Rattle.kt_system.specs.Reads.{next_parcel, saves_by, would_save}
 use Rattle.kt_system.proofs.Replying.{ready_seen}
 use Rattle.kt_plans.specs.Looks as run_looks
 use Rattle.kt_plans.specs.Progress.{Progress}
 use Rattle.kt_plans.specs.Steps.{enabled}
 use Rattle.kt_fifo.specs.Queues.{has_parcel}
-use Rattle.kt_plans.proofs.PeopleKeep.{held_seen}
+use Rattle.kt_plans.proofs.StatesKeep.{held_seen}
 use Rattle.kt_core.specs.Agendas.{open_command}
 use Rattle.kt_core.specs.Worlds.{World, process_may_do, can_do, can_make, needs_of_job, needs_of_step, needs}
 use Rattle.kt_core.specs.Shown.{Mirrors}
@@ -49,7 +49,7 @@ either_way true false = refl
 either_way false true = refl
 either_way false false = refl
 
-job_look : (x : Person) (y : SeenPerson) (j : Job) → IsSeenAs x y → IsNumbered (part_of_side x.side) → (needs_of_job x j) ≡ run_looks.look_of_job (y.inst == 0) y.up j
+job_look : (x : ProcessState) (y : SeenProcess) (j : Job) → IsSeenAs x y → IsNumbered (part_of_side x.side) → (needs_of_job x j) ≡ run_looks.look_of_job (y.inst == 0) y.up j
 job_look x y (Send to None) h n = at_test x.up y.up h.up
   where
     at_test : (a b : Bool) → a ≡ b → (if a then NeedsBody else Plain) ≡ (if b then NeedsBody else Plain)
@@ -75,15 +75,15 @@ job_look x y Rollback h n = refl
 job_look x y Fail h n = refl
 
 -- an ask in front
-ask_look : (x : Person) (v : Seen) (p q k l : ℕ) (d : Kind) (rest : List Parcel) → IsSeenAs x (v.people p) → IsNumbered (part_of_side x.side) →
+ask_look : (x : ProcessState) (v : Seen) (p q k l : ℕ) (d : Kind) (rest : List Parcel) → IsSeenAs x (v.states p) → IsNumbered (part_of_side x.side) →
     (if saves_by x q (Ask k d l) then NeedsSave else Plain) ≡ run_looks.look_of_front v p q (Ask k d l ∷ rest)
-ask_look x v p q k l kind.Rollback rest h n = at_tests ((v.people p).inst == 0) (must_take (v.people p).calls q l && (v.people p).up)
+ask_look x v p q k l kind.Rollback rest h n = at_tests ((v.states p).inst == 0) (must_take (v.states p).calls q l && (v.states p).up)
   where
     at_tests : (a b : Bool) → Plain ≡ (if (a && false) && b then NeedsSave else Plain)
     at_tests true b = refl
     at_tests false b = refl
-ask_look x v p q k l kind.Checkpoint rest h n = at_tests (is_none (inst_of x.side)) x.up (standing.must_take x.tables q l) ((v.people p).inst == 0) (v.people p).up (must_take (v.people p).calls q l)
-    (closed_is x (v.people p) h n) h.up (takes_is x.tables (v.people p).calls q l h.stands)
+ask_look x v p q k l kind.Checkpoint rest h n = at_tests (is_none (inst_of x.side)) x.up (standing.must_take x.tables q l) ((v.states p).inst == 0) (v.states p).up (must_take (v.states p).calls q l)
+    (closed_is x (v.states p) h n) h.up (takes_is x.tables (v.states p).calls q l h.stands)
   where
     at_tests : (a b c d e f : Bool) → a ≡ d → b ≡ e → c ≡ f → (if a && (b && (true && c)) then NeedsSave else Plain) ≡ (if (d && true) && (f && e) then NeedsSave else Plain)
     at_tests a b c d e f x y z = same a b c ∙ λ i. if (x i && true) && (z i && y i) then NeedsSave else Plain
@@ -96,7 +96,7 @@ ask_look x v p q k l kind.Checkpoint rest h n = at_tests (is_none (inst_of x.sid
         same false b c = refl
 
 -- what is in front
-front_look : (x : Person) (v : Seen) (p q : ℕ) (l : List Parcel) → IsSeenAs x (v.people p) → IsNumbered (part_of_side x.side) → (if option_map_or (saves_by x q) (slice_get l 0) false then NeedsSave else Plain) ≡ run_looks.look_of_front v p q l
+front_look : (x : ProcessState) (v : Seen) (p q : ℕ) (l : List Parcel) → IsSeenAs x (v.states p) → IsNumbered (part_of_side x.side) → (if option_map_or (saves_by x q) (slice_get l 0) false then NeedsSave else Plain) ≡ run_looks.look_of_front v p q l
 front_look x v p q [] h n = refl
 front_look x v p q (App l m body ∷ rest) h n = refl
 front_look x v p q (Ask k d l ∷ rest) h n = ask_look x v p q k l d rest h n
@@ -104,14 +104,14 @@ front_look x v p q (Reply k w ∷ rest) h n = refl
 front_look x v p q (Decide k c ∷ rest) h n = refl
 
 -- what is held is a message
-held_look : (x : Person) (first : ℕ) (log : List Event) (q : ℕ) (y : Parcel) (ys : List Parcel) → AreMessagesBy first log q (y ∷ ys) → (if saves_by x q y then NeedsSave else Plain) ≡ Plain
+held_look : (x : ProcessState) (first : ℕ) (log : List Event) (q : ℕ) (y : Parcel) (ys : List Parcel) → AreMessagesBy first log q (y ∷ ys) → (if saves_by x q y then NeedsSave else Plain) ≡ Plain
 held_look x first log q (App l m body) ys h = refl
 held_look x first log q (Ask k d l) ys h = absurd h.0
 held_look x first log q (Reply k w) ys h = refl
 held_look x first log q (Decide k c) ys h = refl
 
 -- what p would take of q
-parcel_look : (x : Person) (v : Seen) (first p q : ℕ) (r : Bool) (held sent : List Parcel) → is_ready x.side ≡ r → IsSeenAs x (v.people p) → IsNumbered (part_of_side x.side) → AreMessagesBy first v.log q held →
+parcel_look : (x : ProcessState) (v : Seen) (first p q : ℕ) (r : Bool) (held sent : List Parcel) → is_ready x.side ≡ r → IsSeenAs x (v.states p) → IsNumbered (part_of_side x.side) → AreMessagesBy first v.log q held →
     (if option_map_or (saves_by x q) (option_or (if r then None else slice_get held 0) (slice_get sent 0)) false then NeedsSave else Plain) ≡ (if not r && has_parcel held then Plain else run_looks.look_of_front v p q sent)
 parcel_look x v first p q true held sent e h n m = front_look x v p q sent h n
 parcel_look x v first p q false [] sent e h n m = front_look x v p q sent h n
@@ -124,17 +124,17 @@ module _ (w : World) (first : ℕ) (v : Progress) (r : Mirrors w.agenda w.system
   take_look : (p q : ℕ) → p < w.system.size → (if would_save w.system p q then NeedsSave else Plain) ≡ run_looks.look_of_step plan v ((Take p q))
   unfolding next_parcel
   take_look p q l =
-      parcel_look (person w.system p) v.now first p q (is_ready (person w.system p).side) (channel w.system.held q p) (channel w.system.wires q p) refl (r.now.people p l) (r.numbered p l)
+      parcel_look (state_of w.system p) v.now first p q (is_ready (state_of w.system p).side) (channel w.system.held q p) (channel w.system.channels q p) refl (r.now.states p l) (r.numbered p l)
       (subst (λ (f : SeenLists). AreMessagesBy first v.now.log q (f q p)) (sym r.now.held) (held_seen plan first v r.limits r.reached q p))
-      ∙ λ i. if not (ready_seen (person w.system p) v.now p (r.now.people p l) (r.numbered p l) i) && has_parcel (r.now.held i q p) then Plain else run_looks.look_of_front v.now p q (r.now.wires i q p)
+      ∙ λ i. if not (ready_seen (state_of w.system p) v.now p (r.now.states p l) (r.numbered p l) i) && has_parcel (r.now.held i q p) then Plain else run_looks.look_of_front v.now p q (r.now.channels i q p)
 
   do_look : (p : ℕ) (c : Command) → p < w.system.size → open_command w.agenda p ≡ Some c → (needs_of_step w (Do p)) ≡ run_looks.look_of_step plan v ((Do p))
   do_look p c l e =
-      ap (λ (o : Option Command). (Rattle.kt_core.specs.Worlds.needs_of_command (person w.system p) o)) e
-      ∙ (job_look (person w.system p) (v.now.people p) c.job (r.now.people p l) (r.numbered p l)
+      ap (λ (o : Option Command). (Rattle.kt_core.specs.Worlds.needs_of_command (state_of w.system p) o)) e
+      ∙ (job_look (state_of w.system p) (v.now.states p) c.job (r.now.states p l) (r.numbered p l)
       ∙ ap (λ (o : Option Command). run_looks.look_of_command v p o) (sym (next_shown w.agenda v p c r.places (few w first v r p l) (open_is_next w.agenda p c e))))
 
-  some_if : (p : ℕ) (o : Option Command) → process_may_do (person w.system p) o ≡ true → (c : Command) × (o ≡ Some c)
+  some_if : (p : ℕ) (o : Option Command) → process_may_do (state_of w.system p) o ≡ true → (c : Command) × (o ≡ Some c)
   some_if p None e = absurd (cc (e))
   some_if p (Some c) e = (c, refl)
 

@@ -1,4 +1,4 @@
--- A system where nothing is under way, and who is in no instance, as the laws have it.
+-- A system where nothing is in transit, and who is in no instance, as the laws have it.
 use Rattle.std.specs.Prelude.{◌==◌, ◌&&◌, ◌||◌, not, if◌then◌else◌, Option, is_none, is_some, slice_get}
 use Rattle.std.specs.Option.{option_or}
 use Rattle.std.proofs.Common.{◌≡◌, ◌<◌, ◌≤◌, ℕ, Bool, true, false, Some, None, List, [], ◌∷◌, refl, sym, arith, ap, ◌∙◌}
@@ -7,13 +7,13 @@ use Rattle.kt_fifo.specs.Channels.{channel}
 use Rattle.kt_fifo.specs.declared.parcels.Parcel.{Parcel}
 use Rattle.kt_protocol.specs.Deciding.{none_of}
 use Rattle.kt_protocol.proofs.StepFacts.{none_is}
-use Rattle.kt_process.specs.Persons.{Person, part_of_side, inst_of, is_ready, IsNumbered}
+use Rattle.kt_process.specs.ProcessStates.{ProcessState, part_of_side, inst_of, is_ready, IsNumbered}
 use Rattle.kt_process.specs.Shown.{IsSeenAs, inst_shown}
 use Rattle.kt_process.specs.declared.side.Side.{Side}
 use Rattle.kt_process.specs.declared.side.Side.TheVariants as side
-use Rattle.kt_seen.specs.Seen.{Seen, SeenPerson, SeenLists}
+use Rattle.kt_seen.specs.Seen.{Seen, SeenProcess, SeenLists}
 use Rattle.kt_seen.specs.Transition.{opening_seen, is_seen_ready}
-use Rattle.kt_system.specs.Systems.{Whole, person}
+use Rattle.kt_system.specs.Systems.{Whole, state_of}
 use Rattle.kt_system.specs.Reads.{IsQuiet, next_parcel, can_take}
 use Rattle.kt_system.specs.Shown.{ShowsState}
 use Rattle.kt_system.proofs.Replying.{ready_seen}
@@ -24,13 +24,13 @@ use Rattle.kt_fifo.specs.Queues.{has_parcel}
 
 -- all instances that processes are in have numbers from 1 on
 abbrev pub AreNumbered : Whole → Type 0
-AreNumbered s = (p : ℕ) → p < s.size → IsNumbered (part_of_side (person s p).side)
+AreNumbered s = (p : ℕ) → p < s.size → IsNumbered (part_of_side (state_of s p).side)
 
 positive : (n : ℕ) → 1 ≤ n → (n == 0) ≡ false
 positive n h = grind (arith, nat_tests)
 
 -- who is in no instance
-pub closed_is : (x : Person) (y : SeenPerson) → IsSeenAs x y → IsNumbered (part_of_side x.side) → is_none (inst_of x.side) ≡ (y.inst == 0)
+pub closed_is : (x : ProcessState) (y : SeenProcess) → IsSeenAs x y → IsNumbered (part_of_side x.side) → is_none (inst_of x.side) ≡ (y.inst == 0)
 closed_is x y h n = at_side x.side h.inst n
   where
     at_side : (s : Option Side) → inst_shown s ≡ y.inst → IsNumbered (part_of_side s) → is_none (inst_of s) ≡ (y.inst == 0)
@@ -69,32 +69,32 @@ abbrev has_any : Seen → ℕ → ℕ → Bool
 has_any v p q = has_parcel (v.channel q p) || has_parcel (v.held q p)
 
 abbrev is_busy : ℕ → Seen → ℕ → Bool
-is_busy n v p = not ((v.people p).inst == 0) || not (none_of n (λ q. has_parcel (v.channel q p) || has_parcel (v.held q p)))
+is_busy n v p = not ((v.states p).inst == 0) || not (none_of n (λ q. has_parcel (v.channel q p) || has_parcel (v.held q p)))
 
 pair_at : (f g : SeenLists) (p q : ℕ) → f ≡ g → f p q ≡ g p q
 pair_at f g p q e = ap (λ (h : SeenLists). h p q) e
 
--- where nothing is under way
+-- where nothing is in transit
 pub quiet_shown : (n : ℕ) (s : Whole) (v : Seen) → ShowsState s v → s.size ≡ n → AreNumbered s → IsQuiet s → is_quiet n v ≡ true
 quiet_shown n s v h e num quiet = none_of_if n (is_busy n v) (λ p l. let low : p < s.size = omega (arith, l, e) in
-    quiet_at (v.people p).inst (none_of n (has_any v p)) (sym (closed_is (person s p) (v.people p) (h.people p low) (num p low)) ∙ inside (inst_of (person s p).side) (quiet.outside p low))
+    quiet_at (v.states p).inst (none_of n (has_any v p)) (sym (closed_is (state_of s p) (v.states p) (h.states p low) (num p low)) ∙ inside (inst_of (state_of s p).side) (quiet.outside p low))
     (none_of_if n (has_any v p) (λ q k. let there : q < s.size = omega (arith, k, e) in
-    no_parcel (v.channel q p) (v.held q p) (sym (pair_at (channel s.wires) v.channel q p h.wires) ∙ quiet.wires q p there low) (sym (pair_at (channel s.held) v.held q p h.held) ∙ quiet.held q p there low))))
+    no_parcel (v.channel q p) (v.held q p) (sym (pair_at (channel s.channels) v.channel q p h.channels) ∙ quiet.channels q p there low) (sym (pair_at (channel s.held) v.held q p h.held) ∙ quiet.held q p there low))))
 
 pub quiet_from : (n : ℕ) (s : Whole) (v : Seen) → ShowsState s v → s.size ≡ n → AreNumbered s → is_quiet n v ≡ true → IsQuiet s
 quiet_from n s v h e num quiet = record {
-  wires = λ p q l k. pair_at (channel s.wires) v.channel p q h.wires ∙ (empty_lists (v.channel p q) (v.held p q) (lists q p k l)).0;
+  channels = λ p q l k. pair_at (channel s.channels) v.channel p q h.channels ∙ (empty_lists (v.channel p q) (v.held p q) (lists q p k l)).0;
   held = λ p q l k. pair_at (channel s.held) v.held p q h.held ∙ (empty_lists (v.channel p q) (v.held p q) (lists q p k l)).1;
-  outside = λ p l. outside (inst_of (person s p).side) (closed_is (person s p) (v.people p) (h.people p l) (num p l) ∙ (parts p l).0);
+  outside = λ p l. outside (inst_of (state_of s p).side) (closed_is (state_of s p) (v.states p) (h.states p l) (num p l) ∙ (parts p l).0);
 }
   where
-    parts : (p : ℕ) → p < s.size → (((v.people p).inst == 0) ≡ true) × (none_of n (has_any v p) ≡ true)
-    parts p l = quiet_parts ((v.people p).inst == 0) (none_of n (has_any v p)) (none_is n (is_busy n v) quiet p (omega (arith, l, e)))
+    parts : (p : ℕ) → p < s.size → (((v.states p).inst == 0) ≡ true) × (none_of n (has_any v p) ≡ true)
+    parts p l = quiet_parts ((v.states p).inst == 0) (none_of n (has_any v p)) (none_is n (is_busy n v) quiet p (omega (arith, l, e)))
 
     lists : (p q : ℕ) → p < s.size → q < s.size → has_any v p q ≡ false
     lists p q l k = none_is n (has_any v p) (parts p l).1 q (omega (arith, k, e))
 
--- nothing is under way at the start
+-- nothing is in transit at the start
 pub quiet_opening : (n first : ℕ) → is_quiet n (opening_seen n first) ≡ true
 quiet_opening n first = none_of_if n (is_busy n (opening_seen n first)) (λ p l. quiet_at 0 (none_of n (has_any (opening_seen n first) p)) refl (none_of_if n (has_any (opening_seen n first) p) (λ q k. refl)))
 
@@ -109,7 +109,7 @@ taken_if false (y ∷ ys) (x ∷ xs) = refl
 -- what can be taken
 pub can_take_is : (s : Whole) (v : Seen) (p q : ℕ) → ShowsState s v → AreNumbered s → p < s.size → can_take s p q ≡ can_take_from v p q
 unfolding next_parcel
-can_take_is s v p q h num l = taken_if (is_ready (person s p).side) (channel s.held q p) (channel s.wires q p)
-    ∙ (ap (λ (b : Bool). has_parcel (channel s.wires q p) || not b && has_parcel (channel s.held q p)) (ready_seen (person s p) v p (h.people p l) (num p l))
-    ∙ (ap (λ (f : SeenLists). has_parcel (f q p) || not (is_seen_ready v p) && has_parcel (channel s.held q p)) h.wires
+can_take_is s v p q h num l = taken_if (is_ready (state_of s p).side) (channel s.held q p) (channel s.channels q p)
+    ∙ (ap (λ (b : Bool). has_parcel (channel s.channels q p) || not b && has_parcel (channel s.held q p)) (ready_seen (state_of s p) v p (h.states p l) (num p l))
+    ∙ (ap (λ (f : SeenLists). has_parcel (f q p) || not (is_seen_ready v p) && has_parcel (channel s.held q p)) h.channels
     ∙ ap (λ (f : SeenLists). has_parcel (v.channel q p) || not (is_seen_ready v p) && has_parcel (f q p)) h.held))

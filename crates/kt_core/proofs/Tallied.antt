@@ -14,9 +14,9 @@ use Rattle.kt_fifo.specs.declared.parcels.Parcel.TheVariants.{App, Ask, Reply, D
 use Rattle.kt_plan.specs.Limits.{Planned, IsPlan}
 use Rattle.kt_seen.specs.Seen.{Seen, SeenLists}
 use Rattle.kt_seen.specs.Transition.{is_seen_ready}
-use Rattle.kt_process.specs.Persons.{is_ready}
+use Rattle.kt_process.specs.ProcessStates.{is_ready}
 use Rattle.kt_system.specs.declared.system.Tally.{Tally}
-use Rattle.kt_system.specs.Systems.{Whole, person}
+use Rattle.kt_system.specs.Systems.{Whole, state_of}
 use Rattle.kt_system.specs.Reads.{tally_of, no_tally}
 use Rattle.kt_system.specs.Shown.{ShowsState}
 use Rattle.kt_system.specs.Tallies as system
@@ -68,15 +68,15 @@ module _ (f g : Parcel → Bool) (h : Same f g) where
       ∙ ((λ i. total_below n (λ p. total_is n (λ q. count_by f (lists p q)) i)) ∙ (λ i. total_below n (λ p. total_below n (λ q. count_is (lists p q) i))))
 
   channels_are : (s : Whole) (v : Seen) (n : ℕ) → s.size ≡ n → ShowsState s v → system.count_in_channels f s ≡ count_in_channels n g v.channel
-  channels_are s v n e shows = (λ i. system.count_in_lists (e i) f (shows.wires i)) ∙ lists_are n v.channel
+  channels_are s v n e shows = (λ i. system.count_in_lists (e i) f (shows.channels i)) ∙ lists_are n v.channel
 
   -- what is taken off a channel
   pub taken_is : (s : Whole) (v : Seen) (p q : ℕ) → ShowsState s v → AreNumbered s → p < s.size → count_by f (system.taken_off s p q) ≡ taken_off v (Take p q) g
   taken_is s v p q shows num l =
-      at_lists (is_ready (person s p).side) (channel s.held q p) (channel s.wires q p)
-      ∙ (ap (λ (b : Bool). if not b && has_parcel (channel s.held q p) then 0 else count_in_front g (channel s.wires q p)) (ready_seen (person s p) v p (shows.people p l) (num p l))
-      ∙ (ap (λ (x : SeenLists). if not (is_seen_ready v p) && has_parcel (x q p) then 0 else count_in_front g (channel s.wires q p)) shows.held
-      ∙ ap (λ (x : SeenLists). if not (is_seen_ready v p) && has_parcel (v.held q p) then 0 else count_in_front g (x q p)) shows.wires))
+      at_lists (is_ready (state_of s p).side) (channel s.held q p) (channel s.channels q p)
+      ∙ (ap (λ (b : Bool). if not b && has_parcel (channel s.held q p) then 0 else count_in_front g (channel s.channels q p)) (ready_seen (state_of s p) v p (shows.states p l) (num p l))
+      ∙ (ap (λ (x : SeenLists). if not (is_seen_ready v p) && has_parcel (x q p) then 0 else count_in_front g (channel s.channels q p)) shows.held
+      ∙ ap (λ (x : SeenLists). if not (is_seen_ready v p) && has_parcel (v.held q p) then 0 else count_in_front g (x q p)) shows.channels))
     where
       at_front : (sent : List Parcel) → count_by f (take 1 sent) ≡ count_in_front g sent
       at_front [] = refl

@@ -9,8 +9,8 @@ use Rattle.kt_plan.specs.declared.steps.Step.TheVariants.{Do, Take}
 use Rattle.kt_plan.specs.declared.steps.Give.{Give}
 use Rattle.kt_plan.specs.declared.steps.Look.{Look}
 use Rattle.kt_plan.specs.declared.steps.Look.TheVariants.{Idle, NeedsSave, NeedsBody, Plain}
-use Rattle.kt_process.specs.Persons.{part_of_side, IsNumbered}
-use Rattle.kt_system.specs.Systems.{Whole, person}
+use Rattle.kt_process.specs.ProcessStates.{part_of_side, IsNumbered}
+use Rattle.kt_system.specs.Systems.{Whole, state_of}
 use Rattle.kt_system.specs.declared.system.Tally.{Tally}
 use Rattle.kt_system.specs.Reads.{tally_of}
 use Rattle.kt_system.specs.Shown.{ShowsState}
@@ -29,7 +29,7 @@ tally_shown put k = record { asks = put.asks k; replies = put.replies k; decisio
 pub record Mirrors (a : Agenda) (s : Whole) (first : ℕ) (v : Progress) : Type 0 where
   pub limits : IsPlan a.plan
   pub size : s.size ≡ length a.plan.names
-  pub numbered : (p : ℕ) → p < s.size → IsNumbered (part_of_side (person s p).side)
+  pub numbered : (p : ℕ) → p < s.size → IsNumbered (part_of_side (state_of s p).side)
   pub reached : RunReaches a.plan first v
   pub now : ShowsState s v.now
   pub places : (p : ℕ) → p < 64 → agenda_place a p ≡ next_place a.plan v p

@@ -10,10 +10,10 @@ use Rattle.kt_plan.specs.declared.steps.Step.TheVariants.{Do, Take}
 use Rattle.kt_plan.specs.declared.steps.Look.{Look}
 use Rattle.kt_plan.specs.declared.steps.Look.TheVariants.{Idle, NeedsSave, NeedsBody, Plain}
 use Rattle.kt_fifo.specs.Channels.{channel}
-use Rattle.kt_process.specs.Persons.{Person, inst_of}
+use Rattle.kt_process.specs.ProcessStates.{ProcessState, inst_of}
 use Rattle.kt_process.specs.Turns.{IsFresh}
 use Rattle.kt_spacetime.specs.declared.event.Event.{Event}
-use Rattle.kt_system.specs.Systems.{Whole, person, IsSameSystem}
+use Rattle.kt_system.specs.Systems.{Whole, state_of, IsSameSystem}
 use Rattle.kt_system.specs.Reads.{can_take, would_save, tally_of, no_tally, IsQuiet, IsNextTake, HasNoTake}
 use Rattle.kt_core.specs.Agendas.{Agenda, agenda_place, open_command, IsDone, IsLeastPhase, IsNextOf}
 use Rattle.kt_core.specs.Shown.{IsReached}
@@ -40,13 +40,13 @@ is_send Rollback = false
 is_send Fail = false
 
 -- whether a process in an instance, or in none, may do a command
-abbrev pub process_may_do : Person → Option Command → Bool
+abbrev pub process_may_do : ProcessState → Option Command → Bool
 process_may_do x None = false
 process_may_do x (Some command) = not (is_send command.job) || is_none (inst_of x.side)
 
 -- whether a process can do its next command
 abbrev pub can_do : World → ℕ → Bool
-can_do w p = process_may_do (person w.system p) (open_command w.agenda p)
+can_do w p = process_may_do (state_of w.system p) (open_command w.agenda p)
 
 -- whether a step can be made
 abbrev pub can_make : World → Step → Bool
@@ -54,20 +54,20 @@ can_make w (Do p) = nat_lt p w.system.size && can_do w p
 can_make w (Take at from) = nat_lt at w.system.size && (nat_lt from w.system.size && can_take w.system at from)
 
 -- what a command needs of the object of the process that does it
-abbrev pub needs_of_job : Person → Job → Look
+abbrev pub needs_of_job : ProcessState → Job → Look
 needs_of_job x (Send to None) = if x.up then NeedsBody else Plain
 needs_of_job x (Send to (Some body)) = Plain
 needs_of_job x Checkpoint = if x.up && is_none (inst_of x.side) then NeedsSave else Plain
 needs_of_job x Rollback = Plain
 needs_of_job x Fail = Plain
 
-abbrev pub needs_of_command : Person → Option Command → Look
+abbrev pub needs_of_command : ProcessState → Option Command → Look
 needs_of_command x None = Idle
 needs_of_command x (Some command) = needs_of_job x command.job
 
 -- what an enabled step needs
 abbrev pub needs_of_step : World → Step → Look
-needs_of_step w (Do p) = needs_of_command (person w.system p) (open_command w.agenda p)
+needs_of_step w (Do p) = needs_of_command (state_of w.system p) (open_command w.agenda p)
 needs_of_step w (Take at from) = if would_save w.system at from then NeedsSave else Plain
 
 -- what a step needs
@@ -75,13 +75,13 @@ abbrev pub needs : World → Step → Look
 needs w step = if can_make w step then needs_of_step w step else Idle
 
 -- whether a process that does a command would send a message without a label
-abbrev pub sends_unlabelled : Person → Option Command → Bool
+abbrev pub sends_unlabelled : ProcessState → Option Command → Bool
 sends_unlabelled x None = false
 sends_unlabelled x (Some command) = is_send command.job && (x.up && nat_le (2 ^ 48 - 1) x.used)
 
 -- whether a step would send a message without a label
 abbrev pub lacks_label : World → Step → Bool
-lacks_label w (Do p) = sends_unlabelled (person w.system p) (open_command w.agenda p)
+lacks_label w (Do p) = sends_unlabelled (state_of w.system p) (open_command w.agenda p)
 lacks_label w (Take at from) = false
 
 -- whether fewer than four rows of the limit are left
@@ -96,7 +96,7 @@ step_refusal w step =
     else if lacks_label w step then Some LabelsSpent
     else None
 
--- all commands are done, no parcel is under way, and no process is in an instance
+-- all commands are done, no parcel is in transit, and no process is in an instance
 pub record IsWorldAtRest (w : World) : Type 0 where
   pub done : IsDone w.agenda
   pub quiet : IsQuiet w.system
@@ -144,8 +144,8 @@ pub record IsOpening (w : World) (plan : Planned) (used limit : ℕ) : Type 0 wh
   pub plans : w.agenda.plan ≡ plan
   pub next : (p : ℕ) → p < 64 → IsNextOf plan.commands p 0 (agenda_place w.agenda p)
   pub phase : (least : ℕ) → IsLeastPhase w.agenda least → w.agenda.phase ≡ least
-  pub people : (p : ℕ) → p < w.system.size → IsFresh w.system.size used (person w.system p)
-  pub wires : (p q : ℕ) → channel w.system.wires p q ≡ []
+  pub states : (p : ℕ) → p < w.system.size → IsFresh w.system.size used (state_of w.system p)
+  pub channels : (p q : ℕ) → channel w.system.channels p q ≡ []
   pub held : (p q : ℕ) → channel w.system.held p q ≡ []
   pub kept : (p q : ℕ) → channel w.system.kept p q ≡ []
   pub rows : w.system.rows.rows ≡ []

@@ -141,7 +141,7 @@ impl World {
 
     /// How many parcels are in the channel from one process to another.
     pub fn in_flight(&self, from: ProcNo, to: ProcNo) -> usize
-        ensures { result ≡ length (channel self.now.system.wires from to) }
+        ensures { result ≡ length (channel self.now.system.channels from to) }
     {
         self.system.in_flight(from, to)
     }

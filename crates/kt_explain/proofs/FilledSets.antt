@@ -57,6 +57,6 @@ pub someone_in : (s : Past) (k p : ℕ) → p < 64 → is_in s p k ≡ true → 
 unfolding is_anyone_in
 someone_in s k p low e = any_of_range (λ q. is_in s q k) 0 64 p (omega arith) (omega (arith, low)) e
 
-pub nobody_in : (s : Past) (k : ℕ) → ((p : ℕ) → p < 64 → is_in s p k ≡ false) → is_anyone_in s k ≡ false
+pub none_is_in : (s : Past) (k : ℕ) → ((p : ℕ) → p < 64 → is_in s p k ≡ false) → is_anyone_in s k ≡ false
 unfolding is_anyone_in
-nobody_in s k none = none_of_range (λ q. is_in s q k) 0 64 (λ p low. none p (omega (arith, low)))
+none_is_in s k none = none_of_range (λ q. is_in s q k) 0 64 (λ p low. none p (omega (arith, low)))

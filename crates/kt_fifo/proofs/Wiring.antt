@@ -9,7 +9,7 @@ use Rattle.std.proofs.lemmas.Grind.{get_or-set_at}
 use Rattle.kt_base.specs.Sets.{has}
 use Rattle.kt_fifo.specs.declared.parcels.Parcel.{Parcel}
 use Rattle.kt_fifo.specs.Queues.{Queue, no_queue, has_parcel}
-use Rattle.kt_fifo.specs.Channels.{Wires, queue, channel, spare_of, at_pair, IsWired}
+use Rattle.kt_fifo.specs.Channels.{ChannelLists, queue, channel, spare_of, at_pair, IsWired}
 
 row_above : (n p from : ℕ) → p < from → p * n + n ≤ from * n
 row_above n p from h = grind arith
@@ -27,17 +27,17 @@ pub in_square : (n p q : ℕ) → p < n → q < n → p * n + q < n * n
 in_square n p q a b = omega (arith, row_above n p n a)
 
 -- where the queue of a pair stands
-pub record IsPlace (w : Wires) (from to i : ℕ) : Type 0 where
+pub record IsPlace (w : ChannelLists) (from to i : ℕ) : Type 0 where
   pub square : length w.queues ≡ w.processes * w.processes
   pub from_in : from < w.processes
   pub to_in : to < w.processes
   pub place : i ≡ from * w.processes + to
 
 -- another queue at one place
-abbrev pub written : Wires → ℕ → Queue → Wires
+abbrev pub written : ChannelLists → ℕ → Queue → ChannelLists
 written w i q = record { processes = w.processes; queues = set w.queues i q }
 
-pub place_within : (w : Wires) (from to i : ℕ) → IsPlace w from to i → i < length w.queues
+pub place_within : (w : ChannelLists) (from to i : ℕ) → IsPlace w from to i → i < length w.queues
 place_within w from to i h = omega (arith, in_square w.processes from to h.from_in h.to_in, h.square, h.place)
 
 queue_set : (n from to : ℕ) (qs : List Queue) (x : Queue) → length qs ≡ n * n → from < n → to < n → (p q : ℕ) →
@@ -48,13 +48,13 @@ queue_set n from to qs x e a b p q =
     let at = in_square n from to a b in
     grind (arith, nat_tests, get_or-set_other, get_or-set_at)
 
-pub queue_written : (w : Wires) (from to i : ℕ) (x : Queue) → IsPlace w from to i → queue (written w i x) ≡ at_pair from to x (queue w)
+pub queue_written : (w : ChannelLists) (from to i : ℕ) (x : Queue) → IsPlace w from to i → queue (written w i x) ≡ at_pair from to x (queue w)
 queue_written w from to i x h =
     subst (λ (j : ℕ). queue (written w j x) ≡ at_pair from to x (queue w)) (sym h.place)
     (fun_ext (λ p. fun_ext (λ q. queue_set w.processes from to w.queues x h.square h.from_in h.to_in p q)))
 
 -- the queue that was read
-pub queue_read : (w : Wires) (from to i : ℕ) (x : Queue) → IsPlace w from to i → x ≡ get_or w.queues i x → queue w from to ≡ x
+pub queue_read : (w : ChannelLists) (from to i : ℕ) (x : Queue) → IsPlace w from to i → x ≡ get_or w.queues i x → queue w from to ≡ x
 queue_read w from to i x h r =
     let d = get_or_default w.queues i x no_queue (place_within w from to i h) in
     let k : get_or w.queues (from * w.processes + to) no_queue ≡ x = subst (λ (j : ℕ). get_or w.queues j no_queue ≡ x) h.place (sym d ∙ sym r) in
@@ -70,38 +70,38 @@ spare_if : (b : Bool) (x y : Queue) → (if b then x else y).spare ≡ (if b the
 spare_if true x y = refl
 spare_if false x y = refl
 
-pub channel_written : (w : Wires) (from to i : ℕ) (x : Queue) → IsPlace w from to i → channel (written w i x) ≡ at_pair from to x.parcels (channel w)
+pub channel_written : (w : ChannelLists) (from to i : ℕ) (x : Queue) → IsPlace w from to i → channel (written w i x) ≡ at_pair from to x.parcels (channel w)
 channel_written w from to i x h =
     ap (λ (f : ℕ → ℕ → Queue). λ (p q : ℕ). (f p q).parcels) (queue_written w from to i x h)
     ∙ fun_ext (λ p. fun_ext (λ q. parcels_if (nat_eq p from && nat_eq q to) x (queue w p q)))
 
-pub spare_written : (w : Wires) (from to i : ℕ) (x : Queue) → IsPlace w from to i → spare_of (written w i x) ≡ at_pair from to x.spare (spare_of w)
+pub spare_written : (w : ChannelLists) (from to i : ℕ) (x : Queue) → IsPlace w from to i → spare_of (written w i x) ≡ at_pair from to x.spare (spare_of w)
 spare_written w from to i x h =
     ap (λ (f : ℕ → ℕ → Queue). λ (p q : ℕ). (f p q).spare) (queue_written w from to i x h)
     ∙ fun_ext (λ p. fun_ext (λ q. spare_if (nat_eq p from && nat_eq q to) x (queue w p q)))
 
 -- the list of one pair becomes what f makes of it
-pub lists_changed : (w : Wires) (from to i : ℕ) (x y : Queue) (f : List Parcel → List Parcel) → IsPlace w from to i → x ≡ get_or w.queues i x → y.parcels ≡ f x.parcels →
+pub lists_changed : (w : ChannelLists) (from to i : ℕ) (x y : Queue) (f : List Parcel → List Parcel) → IsPlace w from to i → x ≡ get_or w.queues i x → y.parcels ≡ f x.parcels →
     channel (written w i y) ≡ at_pair from to (f (channel w from to)) (channel w)
 lists_changed w from to i x y f h r e =
     channel_written w from to i y h
     ∙ ap (λ (l : List Parcel). at_pair from to l (channel w)) (e ∙ ap (λ (q : Queue). f q.parcels) (sym (queue_read w from to i x h r)))
 
 -- the room of one pair becomes what f makes of its queue
-pub spare_changed : (w : Wires) (from to i : ℕ) (x y : Queue) (f : Queue → ℕ) → IsPlace w from to i → x ≡ get_or w.queues i x → y.spare ≡ f x →
+pub spare_changed : (w : ChannelLists) (from to i : ℕ) (x y : Queue) (f : Queue → ℕ) → IsPlace w from to i → x ≡ get_or w.queues i x → y.spare ≡ f x →
     spare_of (written w i y) ≡ at_pair from to (f (queue w from to)) (spare_of w)
 spare_changed w from to i x y f h r e =
     spare_written w from to i y h
     ∙ ap (λ (n : ℕ). at_pair from to n (spare_of w)) (e ∙ ap f (sym (queue_read w from to i x h r)))
 
-pub channel_here : (w : Wires) (from to i : ℕ) (y : Queue) → IsPlace w from to i → channel (written w i y) from to ≡ y.parcels
+pub channel_here : (w : ChannelLists) (from to i : ℕ) (y : Queue) → IsPlace w from to i → channel (written w i y) from to ≡ y.parcels
 channel_here w from to i y h = ap (λ (f : ℕ → ℕ → List Parcel). f from to) (channel_written w from to i y h) ∙ at_itself from to y.parcels (channel w from to)
   where
     at_itself : (p q : ℕ) (x y : List Parcel) → (if nat_eq p p && nat_eq q q then x else y) ≡ x
     at_itself p q x y = grind (arith, nat_tests)
 
 -- what goes leaves room
-pub spare_freed : (w : Wires) (from to i : ℕ) (x y : Queue) → IsPlace w from to i → x ≡ get_or w.queues i x → y.spare ≡ x.spare + (length x.parcels - length y.parcels) →
+pub spare_freed : (w : ChannelLists) (from to i : ℕ) (x y : Queue) → IsPlace w from to i → x ≡ get_or w.queues i x → y.spare ≡ x.spare + (length x.parcels - length y.parcels) →
     spare_of (written w i y) ≡ at_pair from to (spare_of w from to + (length (channel w from to) - length (channel (written w i y) from to))) (spare_of w)
 spare_freed w from to i x y h r e =
     spare_changed w from to i x y (λ q. q.spare + (length q.parcels - length (channel (written w i y) from to))) h r
@@ -125,12 +125,12 @@ off_second : (p q from to : ℕ) (x y : List Parcel) → q ≢ to → (if nat_eq
 off_second p q from to x y n = grind (arith, nat_tests)
 
 -- the lists to another receiver stay
-apart_written : (w : Wires) (from to i : ℕ) (y : Queue) → IsPlace w from to i → (p q : ℕ) → q ≢ to → channel (written w i y) p q ≡ channel w p q
+apart_written : (w : ChannelLists) (from to i : ℕ) (y : Queue) → IsPlace w from to i → (p q : ℕ) → q ≢ to → channel (written w i y) p q ≡ channel w p q
 apart_written w from to i y h p q other =
     ap (λ (f : ℕ → ℕ → List Parcel). f p q) (channel_written w from to i y h) ∙ off_second p q from to y.parcels (channel w p q) other
 
 -- the senders to the receiver of the pair
-here_written : (w : Wires) (senders : List ℕ) (receivers from to i s f : ℕ) (y : Queue) → IsWired w senders receivers → IsPlace w from to i →
+here_written : (w : ChannelLists) (senders : List ℕ) (receivers from to i s f : ℕ) (y : Queue) → IsWired w senders receivers → IsPlace w from to i →
     NotesSender senders receivers from to s f y.parcels → (p : ℕ) → has s p ≡ has_parcel (channel (written w i y) p to)
 here_written w senders receivers from to i s f y k h n p =
     let e : channel (written w i y) p to ≡ at_pair from to y.parcels (channel w) p to = ap (λ (g : ℕ → ℕ → List Parcel). g p to) (channel_written w from to i y h) in
@@ -143,7 +143,7 @@ no_parcel : (l : List Parcel) → has_parcel l ≡ false → l ≡ []
 no_parcel [] e = refl
 no_parcel (x ∷ xs) e = cc
 
-noted_written : (w : Wires) (senders : List ℕ) (receivers from to i s f : ℕ) (y : Queue) → IsWired w senders receivers → IsPlace w from to i →
+noted_written : (w : ChannelLists) (senders : List ℕ) (receivers from to i s f : ℕ) (y : Queue) → IsWired w senders receivers → IsPlace w from to i →
     NotesSender senders receivers from to s f y.parcels → IsWired (written w i y) (set senders to s) f
 noted_written w senders receivers from to i s f y k h n =
     let long : to < length senders = omega (arith, h.to_in, k.one_each) in
@@ -172,7 +172,7 @@ noted_written w senders receivers from to i s f y k h n =
     }
 
 -- a write at one place, with the senders to its receiver and the receivers
-pub wired_written : (w : Wires) (senders : List ℕ) (receivers from to i r s t f : ℕ) (y : Queue) → IsWired w senders receivers → IsPlace w from to i →
+pub wired_written : (w : ChannelLists) (senders : List ℕ) (receivers from to i r s t f : ℕ) (y : Queue) → IsWired w senders receivers → IsPlace w from to i →
     r ≡ to → t ≡ get_or senders r t → has s from ≡ has_parcel y.parcels → ((p : ℕ) → p ≢ from → has s p ≡ has t p) →
     (has f to ≡ true → (p : ℕ) × (has s p ≡ true)) → (has f to ≡ false → (p : ℕ) → has s p ≡ false) → ((q : ℕ) → q ≢ to → has f q ≡ has receivers q) →
     IsWired (written w i y) (set senders r s) f
@@ -188,9 +188,9 @@ wired_written w senders receivers from to i r s t f y k h it read here others so
     }))
 
 -- the place that the code finds
-pub place_of : (w v : Wires) (from to i : ℕ) → w ≡ v → length w.queues ≡ w.processes * w.processes → from < v.processes → to < v.processes → i ≡ from * v.processes + to → IsPlace w from to i
+pub place_of : (w v : ChannelLists) (from to i : ℕ) → w ≡ v → length w.queues ≡ w.processes * w.processes → from < v.processes → to < v.processes → i ≡ from * v.processes + to → IsPlace w from to i
 place_of w v from to i e square a b k =
-    let n : w.processes ≡ v.processes = ap (λ (x : Wires). x.processes) e in
+    let n : w.processes ≡ v.processes = ap (λ (x : ChannelLists). x.processes) e in
     record {
       square = square;
       from_in = omega arith;
@@ -204,7 +204,7 @@ has_parcel-append new [] x e = ap has_parcel e
 has_parcel-append new (y ∷ ys) x e = ap has_parcel e
 
 -- the room of one pair is whatever it is now
-pub spare_here : (w : Wires) (from to i : ℕ) (y : Queue) → IsPlace w from to i → spare_of (written w i y) ≡ at_pair from to (spare_of (written w i y) from to) (spare_of w)
+pub spare_here : (w : ChannelLists) (from to i : ℕ) (y : Queue) → IsPlace w from to i → spare_of (written w i y) ≡ at_pair from to (spare_of (written w i y) from to) (spare_of w)
 spare_here w from to i y h =
     let e = spare_written w from to i y h in
     let k : spare_of (written w i y) from to ≡ y.spare = ap (λ (f : ℕ → ℕ → ℕ). f from to) e ∙ at_itself from to y.spare (spare_of w from to) in

@@ -5,20 +5,20 @@ use Rattle.kt_fifo.specs.declared.parcels.Parcel.{Parcel}
 use Rattle.kt_fifo.specs.Queues.{Queue, no_queue, has_parcel}
 
 -- how many processes there are, and a queue for each ordered pair
-pub record Wires : Type 0 where
+pub record ChannelLists : Type 0 where
   pub processes : ℕ
   pub queues : List Queue
 
 -- the queue from one process to another
-abbrev pub queue : Wires → ℕ → ℕ → Queue
+abbrev pub queue : ChannelLists → ℕ → ℕ → Queue
 queue w from to = if nat_lt from w.processes && nat_lt to w.processes then slice_index_or w.queues (from * w.processes + to) no_queue else no_queue
 
 -- the parcels in transit from one process to another, the oldest first
-abbrev pub channel : Wires → ℕ → ℕ → List Parcel
+abbrev pub channel : ChannelLists → ℕ → ℕ → List Parcel
 channel w from to = (queue w from to).parcels
 
 -- how many parcels more there is room for
-abbrev pub spare_of : Wires → ℕ → ℕ → ℕ
+abbrev pub spare_of : ChannelLists → ℕ → ℕ → ℕ
 spare_of w from to = (queue w from to).spare
 
 -- f with another value at one pair
@@ -35,7 +35,7 @@ IsTarget from targets p q = (p ≡ from) × (has targets q ≡ true)
 
 -- a queue for each pair; for each receiver the set of those whose list to it is not empty; and the set of those to whom
 -- some list is not empty
-pub record IsWired (w : Wires) (senders : List ℕ) (receivers : ℕ) : Type 0 where
+pub record IsWired (w : ChannelLists) (senders : List ℕ) (receivers : ℕ) : Type 0 where
   pub few : w.processes ≤ 64
   pub square : length w.queues ≡ w.processes * w.processes
   pub one_each : length senders ≡ w.processes

@@ -25,9 +25,9 @@ pub struct Channels {
 }
 
 impl Model for Channels {
-    ghost use Rattle.kt_fifo.specs.Channels.{Wires, IsWired};
+    ghost use Rattle.kt_fifo.specs.Channels.{ChannelLists, IsWired};
 
-    ghost Value = { Wires };
+    ghost Value = { ChannelLists };
 
     ghost view = { λ c. record { processes = c.processes; queues = c.fifos.items } };
 

@@ -7,14 +7,14 @@ use Rattle.std.proofs.lemmas.Bool.Decides.{nat_tests}
 use Rattle.kt_fifo.specs.declared.parcels.Parcel.{Parcel}
 use Rattle.kt_fifo.specs.Parcels.{stays, without_above}
 use Rattle.kt_fifo.specs.Queues.{has_parcel}
-use Rattle.kt_fifo.specs.Channels.{Wires, channel, at_pair}
+use Rattle.kt_fifo.specs.Channels.{ChannelLists, channel, at_pair}
 use Rattle.kt_seen.specs.Seen.{SeenLists}
 use Rattle.kt_seen.specs.ListChanges.{low}
 use Rattle.kt_lists.specs.Kept.{lowered, put_back, emptied}
 use Rattle.kt_lists.proofs.Trimmed.{Change, changed}
 
 -- nothing stands in the lists of who is not there
-pub outside : (w : Wires) (q u : ℕ) → w.processes ≤ q → channel w q u ≡ []
+pub outside : (w : ChannelLists) (q u : ℕ) → w.processes ≤ q → channel w q u ≡ []
 outside w q u h = grind (arith, nat_tests)
 
 pub drop_nil : (k : ℕ) (xs : List Parcel) → xs ≡ [] → drop k xs ≡ []
@@ -84,7 +84,7 @@ not_less : (q n : ℕ) → nat_lt q n ≡ false → n ≤ q
 not_less q n e = grind (arith, nat_tests)
 
 -- beyond the last process
-beyond : (w : Wires) (q u n : ℕ) → w.processes ≤ n → nat_lt q n ≡ false → channel w q u ≡ []
+beyond : (w : ChannelLists) (q u n : ℕ) → w.processes ≤ n → nat_lt q n ≡ false → channel w q u ≡ []
 beyond w q u n h e = outside w q u (omega (arith, not_less q n e))
 
 pub low_nil : (note : Option ℕ) → low note [] ≡ []
@@ -112,7 +112,7 @@ front_of_lowered p noted kept held = fun_ext (λ q. fun_ext (λ u. elim (cases_e
   | inr e ↦ grind (arith, nat_tests)
 ]))
 
-pub back_all : (n p : ℕ) (noted : ℕ → Option ℕ) (kept held : Wires) → kept.processes ≤ n → held.processes ≤ n → put_back n p noted (channel kept) (channel held) ≡ back_in p noted (channel kept) (channel held)
+pub back_all : (n p : ℕ) (noted : ℕ → Option ℕ) (kept held : ChannelLists) → kept.processes ≤ n → held.processes ≤ n → put_back n p noted (channel kept) (channel held) ≡ back_in p noted (channel kept) (channel held)
 unfolding put_back
 back_all n p noted kept held a b = fun_ext (λ q. fun_ext (λ u. at_test q u (nat_lt q n) refl))
   where
@@ -129,7 +129,7 @@ back_all n p noted kept held a b = fun_ext (λ q. fun_ext (λ u. at_test q u (na
     at_test q u true e = plain (channel kept) (channel held) q u e
     at_test q u false e = none (channel kept) (channel held) q u e (beyond kept q u n a e) (beyond held q u n b e)
 
-pub gone_all : (n p : ℕ) (kept : Wires) → kept.processes ≤ n → emptied n p (channel kept) ≡ gone p (channel kept)
+pub gone_all : (n p : ℕ) (kept : ChannelLists) → kept.processes ≤ n → emptied n p (channel kept) ≡ gone p (channel kept)
 unfolding emptied
 gone_all n p kept a = fun_ext (λ q. fun_ext (λ u. at_test q u (nat_lt q n) refl))
   where

@@ -2,7 +2,7 @@
 use Rattle.std.specs.Prelude.{ℕ, ◌==◌, if◌then◌else◌, Option, Some, None, length}
 use Rattle.kt_base.specs.Sets.{count_of}
 use Rattle.kt_parts.specs.Rules.{way_on}
-use Rattle.kt_parts.specs.Shares.{Share}
+use Rattle.kt_parts.specs.Parts.{Part}
 use Rattle.kt_parts.specs.declared.actions.Action.{Action}
 use Rattle.kt_parts.specs.declared.actions.Action.TheVariants.{Nothing, Refuse, Join, Reply, Settle}
 use Rattle.kt_parts.specs.declared.actions.Then.{Then}
@@ -36,11 +36,11 @@ counts_of (Reply to willing cause) = one_reply
 counts_of (Settle commit tell) = decisions_to tell
 
 -- an ask for each process that was asked, and the reply of a participant that asked nobody
-abbrev pub counts_at_join : Share → Counts
+abbrev pub counts_at_join : Part → Counts
 counts_at_join part = record { asks = count_of part.asked; replies = replies_of (way_on part); decisions = 0 }
 
 -- those of a process that joins, and others of one that doesn't
-abbrev pub counts_if_joined : Counts → Option Share → Counts
+abbrev pub counts_if_joined : Counts → Option Part → Counts
 counts_if_joined others None = others
 counts_if_joined others (Some part) = counts_at_join part
 
@@ -50,5 +50,5 @@ counts_at_last (Some to) asked = one_reply
 counts_at_last None asked = decisions_to asked
 
 -- after any other reply nothing
-abbrev pub counts_at_reply : Share → Counts
+abbrev pub counts_at_reply : Part → Counts
 counts_at_reply part = if part.awaited == 1 then counts_at_last part.parent part.asked else no_parcel

@@ -4,4 +4,4 @@ pub mod Counts
 pub mod Joins
 pub mod Replies
 pub mod Rules
-pub mod Shares
+pub mod Parts

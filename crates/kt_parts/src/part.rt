@@ -21,9 +21,9 @@ pub struct Part {
 }
 
 impl Model for Part {
-    ghost use Rattle.kt_parts.specs.Shares.{Share};
+    ghost use Rattle.kt_parts.specs.Parts.{Part};
 
-    ghost Value = { Share };
+    ghost Value = { Part };
 
     ghost view = { λ p. record { inst = p.inst; parent = p.parent; asked = p.asked; awaited = p.awaited; willing = p.willing } };
 }

@@ -24,7 +24,7 @@ use Rattle.kt_plan.specs.declared.commands.Job.{Job}
 use Rattle.kt_plan.specs.declared.steps.Give.{Give}
 use Rattle.kt_plans.specs.Steps.{protocol_step}
 use Rattle.kt_plan.specs.declared.commands.Job.TheVariants as job
-use Rattle.kt_plans.proofs.Totals.{length_push, under_way_with_parcel}
+use Rattle.kt_plans.proofs.Totals.{length_push, in_transit_with_parcel}
 use Rattle.kt_plans.proofs.StateFacts.{StateFacts}
 use Rattle.kt_plans.proofs.Accounts.{Accounted, after, enough, accounted_same, Low, settling_accounted, joining_checkpoint_accounted, joining_rollback_accounted, arrival_accounted, front_accounted}
 
@@ -68,7 +68,7 @@ beginning_accounted n k s p true b h = after n k 0 1 0 0 s (after_began s p true
     (settling_accounted n k (after_joining_rollback (after_began s p true) s.channel p (s.instances + 1) true p 0) p (s.instances + 1) b h))
 
 sending_accounted : (n k : ℕ) (s : State) (p q : ℕ) (body : ℤ) → Accounted n k 0 1 s (after_sending s p q body)
-sending_accounted n k s p q body = let l = length_push s.log (Sent p q body) in let x = under_way_with_parcel n s.channel p q (App (s.so_far.rows + 1)) in record { room = omega (arith, l, x); instances = omega arith; processes = refl }
+sending_accounted n k s p q body = let l = length_push s.log (Sent p q body) in let x = in_transit_with_parcel n s.channel p q (App (s.so_far.rows + 1)) in record { room = omega (arith, l, x); instances = omega arith; processes = refl }
 
 pub job_accounted : (n k : ℕ) (s : State) (p : ℕ) (j : Job) (give : Give) → s.processes ≡ n → s.instances + 1 < k → Accounted n k 0 1 s (late_step s (protocol_step p j give))
 job_accounted n k s p (job.Send q body) give b h = at_if (Accounted n k 0 1 s) ((nat_lt p s.processes && nat_lt q s.processes) && (s.so_far.open_in p == 0 && not (q == p))) _ _

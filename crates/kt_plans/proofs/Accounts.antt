@@ -12,13 +12,13 @@ use Rattle.kt_protocol.specs.Messages.{after_arrival}
 use Rattle.kt_protocol.specs.Parcels.{Parcel, App, Ask, Reply, Decide, Lists, with_rest, with_checkpoint_asks, with_rollback_asks, with_decisions, has_parcel}
 use Rattle.kt_protocol.specs.Replies.{after_noting, after_replying, after_unwilling, after_reply, after_answering}
 use Rattle.kt_protocol.specs.States.{State, is_ready}
-use Rattle.kt_plans.proofs.MachineWork.{machine_parcels_under_way, machine_put_so_far}
+use Rattle.kt_plans.proofs.MachineWork.{machine_parcels_in_transit, machine_put_so_far}
 use Rattle.kt_plans.specs.Tallies.{total_below}
-use Rattle.kt_plans.proofs.Totals.{total_at, length_push, under_way_with_parcel, under_way_checkpoint_asks, under_way_rollback_asks, under_way_decisions, under_way_with_rest}
+use Rattle.kt_plans.proofs.Totals.{total_at, length_push, in_transit_with_parcel, checkpoint_asks_in_transit, rollback_asks_in_transit, decisions_in_transit, in_transit_with_rest}
 
 -- from s to s' at least d more are put than come into channels, and at most i more instances begin
 pub record Accounted (n k d i : ℕ) (s s' : State) : Type 0 where
-  pub room : machine_parcels_under_way n s'.channel + machine_put_so_far k s + d ≤ machine_parcels_under_way n s.channel + machine_put_so_far k s'
+  pub room : machine_parcels_in_transit n s'.channel + machine_put_so_far k s + d ≤ machine_parcels_in_transit n s.channel + machine_put_so_far k s'
   pub instances : s'.instances ≤ s.instances + i
   pub processes : s'.processes ≡ s.processes
 
@@ -44,8 +44,8 @@ module _ (n k : ℕ) where
   closing_accounted : (s : State) (p j : ℕ) (c : Bool) → s.processes ≡ n → j < k → Accounted n k 0 0 s (late_closing s p j c)
   closing_accounted s p j c b h = at_if (Accounted n k 0 0 s) (s.so_far.is_rollback j) _ _ (λ _. rolls c) (λ _. takes c)
     where
-      f : (c : Bool) → machine_parcels_under_way n (with_decisions s.channel s.asked p j c) ≤ machine_parcels_under_way n s.channel + count_below s.processes (s.asked j p)
-      f c = let x = under_way_decisions n s.channel s.asked p j c in subst (λ (m : ℕ). machine_parcels_under_way n (with_decisions s.channel s.asked p j c) ≤ machine_parcels_under_way n s.channel + count_below m (s.asked j p)) (sym b) x
+      f : (c : Bool) → machine_parcels_in_transit n (with_decisions s.channel s.asked p j c) ≤ machine_parcels_in_transit n s.channel + count_below s.processes (s.asked j p)
+      f c = let x = decisions_in_transit n s.channel s.asked p j c in subst (λ (m : ℕ). machine_parcels_in_transit n (with_decisions s.channel s.asked p j c) ≤ machine_parcels_in_transit n s.channel + count_below m (s.asked j p)) (sym b) x
 
       d : total_below k (λ v. if v == j then s.decisions j + count_below s.processes (s.asked j p) else s.decisions v) ≡ total_below k s.decisions + count_below s.processes (s.asked j p)
       d = total_at k j (count_below s.processes (s.asked j p)) s.decisions h
@@ -60,7 +60,7 @@ module _ (n k : ℕ) where
 
   answering_accounted : (s : State) (p j : ℕ) → j < k → Accounted n k 0 0 s (after_answering s p j)
   answering_accounted s p j h =
-      let x = under_way_with_parcel n s.channel p (s.parent j p) (Reply j (s.all_willing j p)) in
+      let x = in_transit_with_parcel n s.channel p (s.parent j p) (Reply j (s.all_willing j p)) in
       let y = total_at k j 1 s.replies h in
       record { room = omega (arith, x, y); instances = omega arith; processes = refl }
 
@@ -71,36 +71,36 @@ module _ (n k : ℕ) where
       (λ _. answering_accounted s p j h))
       (λ _. accounted_same s)
 
-  pub joining_checkpoint_accounted : (s : State) (channel : Lists) (p j : ℕ) (is_first : Bool) (par lnk d : ℕ) → s.processes ≡ n → j < k → machine_parcels_under_way n channel + d ≤ machine_parcels_under_way n s.channel → Accounted n k d 0 s (after_joining_checkpoint s channel p j is_first par lnk)
+  pub joining_checkpoint_accounted : (s : State) (channel : Lists) (p j : ℕ) (is_first : Bool) (par lnk d : ℕ) → s.processes ≡ n → j < k → machine_parcels_in_transit n channel + d ≤ machine_parcels_in_transit n s.channel → Accounted n k d 0 s (after_joining_checkpoint s channel p j is_first par lnk)
   joining_checkpoint_accounted s channel p j is_first par lnk d b h e =
-      let x = subst (λ (m : ℕ). machine_parcels_under_way n (with_checkpoint_asks channel s.last_received p j) ≤ machine_parcels_under_way n channel + count_below m (λ v. nat_lt 0 (s.last_received p v))) (sym b) (under_way_checkpoint_asks n channel s.last_received p j) in
+      let x = subst (λ (m : ℕ). machine_parcels_in_transit n (with_checkpoint_asks channel s.last_received p j) ≤ machine_parcels_in_transit n channel + count_below m (λ v. nat_lt 0 (s.last_received p v))) (sym b) (checkpoint_asks_in_transit n channel s.last_received p j) in
       let y = total_at k j (count_below s.processes (λ v. nat_lt 0 (s.last_received p v))) s.asks h in
       let l = length_push s.log (Took p j) in
       record { room = omega (arith, x, y, l, e); instances = omega arith; processes = refl }
 
-  pub joining_rollback_accounted : (s : State) (channel : Lists) (p j : ℕ) (is_first : Bool) (par lnk d : ℕ) → s.processes ≡ n → j < k → machine_parcels_under_way n channel + d ≤ machine_parcels_under_way n s.channel → Accounted n k d 0 s (after_joining_rollback s channel p j is_first par lnk)
+  pub joining_rollback_accounted : (s : State) (channel : Lists) (p j : ℕ) (is_first : Bool) (par lnk d : ℕ) → s.processes ≡ n → j < k → machine_parcels_in_transit n channel + d ≤ machine_parcels_in_transit n s.channel → Accounted n k d 0 s (after_joining_rollback s channel p j is_first par lnk)
   joining_rollback_accounted s channel p j is_first par lnk d b h e =
-      let x = subst (λ (m : ℕ). machine_parcels_under_way n (with_rollback_asks channel s.first_sent s.last_sent p j) ≤ machine_parcels_under_way n channel + count_below m (λ v. nat_lt 0 (s.first_sent p v))) (sym b) (under_way_rollback_asks n channel s.first_sent s.last_sent p j) in
+      let x = subst (λ (m : ℕ). machine_parcels_in_transit n (with_rollback_asks channel s.first_sent s.last_sent p j) ≤ machine_parcels_in_transit n channel + count_below m (λ v. nat_lt 0 (s.first_sent p v))) (sym b) (rollback_asks_in_transit n channel s.first_sent s.last_sent p j) in
       let y = total_at k j (count_below s.processes (λ v. nat_lt 0 (s.first_sent p v))) s.asks h in
       let l = length_push s.log (Ready p j) in
       record { room = omega (arith, x, y, l, e); instances = omega arith; processes = refl }
 
   -- what p takes of q in the channel
   module _ (s : State) (p q : ℕ) (b : s.processes ≡ n) (pl : p < n) (ql : q < n) where
-    pop : (x : Parcel) (rest : List Parcel) → s.channel q p ≡ x ∷ rest → machine_parcels_under_way n s.channel ≡ machine_parcels_under_way n (with_rest s.channel q p rest) + 1
-    pop x rest e = under_way_with_rest n s.channel q p x rest e ql pl
+    pop : (x : Parcel) (rest : List Parcel) → s.channel q p ≡ x ∷ rest → machine_parcels_in_transit n s.channel ≡ machine_parcels_in_transit n (with_rest s.channel q p rest) + 1
+    pop x rest e = in_transit_with_rest n s.channel q p x rest e ql pl
 
     replying_accounted : (j : ℕ) (w : Bool) (x : Parcel) (rest : List Parcel) → s.channel q p ≡ x ∷ rest → j < k → Accounted n k 1 0 s (after_replying s p q j w rest)
     replying_accounted j w x rest e h =
         let a = pop x rest e in
-        let c = under_way_with_parcel n (with_rest s.channel q p rest) p q (Reply j w) in
+        let c = in_transit_with_parcel n (with_rest s.channel q p rest) p q (Reply j w) in
         let y = total_at k j 1 s.replies h in
         record { room = omega (arith, a, c, y); instances = omega arith; processes = refl }
 
     unwilling_accounted : (j : ℕ) (cause : Cause) (x : Parcel) (rest : List Parcel) → s.channel q p ≡ x ∷ rest → j < k → Accounted n k 1 0 s (after_unwilling s p q j cause rest)
     unwilling_accounted j cause x rest e h =
         let a = pop x rest e in
-        let c = under_way_with_parcel n (with_rest s.channel q p rest) p q (Reply j false) in
+        let c = in_transit_with_parcel n (with_rest s.channel q p rest) p q (Reply j false) in
         let y = total_at k j 1 s.replies h in
         let l = length_push s.log (Unwilling p j cause) in
         record { room = omega (arith, a, c, y, l); instances = omega arith; processes = refl }
@@ -113,7 +113,7 @@ module _ (n k : ℕ) where
         (λ _. at_if (Accounted n k 1 0 s) (not (must_take s p q l)) _ _ (λ _. replying_accounted j true (Ask j l) rest e h)
         (λ _. at_if (Accounted n k 1 0 s) (not (able && s.up p)) _ _ (λ _. unwilling_accounted j _ (Ask j l) rest e h) (λ _. joins)))))
       where
-        less : machine_parcels_under_way n (with_rest s.channel q p rest) + 1 ≤ machine_parcels_under_way n s.channel
+        less : machine_parcels_in_transit n (with_rest s.channel q p rest) + 1 ≤ machine_parcels_in_transit n s.channel
         less = let a = pop (Ask j l) rest e in omega (arith, a)
 
         noted : Accounted n k 1 0 s (after_replying (after_noting s p q j l) p q j true rest)
@@ -127,7 +127,7 @@ module _ (n k : ℕ) where
         joins : Accounted n k 1 0 s (late_settling (after_joining_checkpoint s (with_rest s.channel q p rest) p j false q l) p j)
         joins = after n k 1 0 0 0 s (after_joining_checkpoint s (with_rest s.channel q p rest) p j false q l) _ (joining_checkpoint_accounted s (with_rest s.channel q p rest) p j false q l 1 b h less) (settling_accounted (after_joining_checkpoint s (with_rest s.channel q p rest) p j false q l) p j b h)
 
-    pub arrival_accounted : (channel held : Lists) (m : ℕ) → machine_parcels_under_way n channel ≤ machine_parcels_under_way n s.channel → Accounted n k 1 0 s (after_arrival s channel held p q m)
+    pub arrival_accounted : (channel held : Lists) (m : ℕ) → machine_parcels_in_transit n channel ≤ machine_parcels_in_transit n s.channel → Accounted n k 1 0 s (after_arrival s channel held p q m)
     arrival_accounted channel held m e = at_if (Accounted n k 1 0 s) (s.up p) _ _
         (λ _. let l = length_push s.log (Received p q m) in record { room = omega (arith, l, e); instances = omega arith; processes = refl })
         (λ _. let l = length_push s.log (Dropped p q m) in record { room = omega (arith, l, e); instances = omega arith; processes = refl })

@@ -168,12 +168,12 @@ abort_stays {V} r plan first w x give i p k u a b e = tells plan first w x give 
     (λ y l c. abort_keeps g.state t.step t.invariant t.legal r i p k u y l c))
 
 -- who has an object, and a tentative state
-pub object_seen : {V : Type 0} (r : Rules V) (plan : Planned) (first : ℕ) (w : Progress) (p : ℕ) → IsPlan plan → RunReaches plan first w → is_some (due r (done w.now.log) p).object ≡ (w.now.people p).up
-object_seen {V} r plan first w p a b = carry plan first w (λ v. is_some (due r (done v.now.log) p).object ≡ (v.now.people p).up) a b
+pub object_seen : {V : Type 0} (r : Rules V) (plan : Planned) (first : ℕ) (w : Progress) (p : ℕ) → IsPlan plan → RunReaches plan first w → is_some (due r (done w.now.log) p).object ≡ (w.now.states p).up
+object_seen {V} r plan first w p a b = carry plan first w (λ v. is_some (due r (done v.now.log) p).object ≡ (v.now.states p).up) a b
     (λ g s. let k = run_facts plan g s in subst (λ (y : State). is_some (due r (done y.log) p).object ≡ y.up p) (sym k.state_is) (has_object r (length plan.names) k.steps p))
 
-pub tentative_seen : {V : Type 0} (r : Rules V) (plan : Planned) (first : ℕ) (w : Progress) (p : ℕ) → IsPlan plan → RunReaches plan first w → is_some (due r (done w.now.log) p).tentative ≡ (not ((w.now.people p).inst == 0) && not (w.now.people p).part.is_rollback)
-tentative_seen {V} r plan first w p a b = carry plan first w (λ v. is_some (due r (done v.now.log) p).tentative ≡ (not ((v.now.people p).inst == 0) && not (v.now.people p).part.is_rollback)) a b
+pub tentative_seen : {V : Type 0} (r : Rules V) (plan : Planned) (first : ℕ) (w : Progress) (p : ℕ) → IsPlan plan → RunReaches plan first w → is_some (due r (done w.now.log) p).tentative ≡ (not ((w.now.states p).inst == 0) && not (w.now.states p).part.is_rollback)
+tentative_seen {V} r plan first w p a b = carry plan first w (λ v. is_some (due r (done v.now.log) p).tentative ≡ (not ((v.now.states p).inst == 0) && not (v.now.states p).part.is_rollback)) a b
     (λ g s. let k = run_facts plan g s in subst (λ (y : State). is_some (due r (done y.log) p).tentative ≡ is_in_checkpoint y.so_far p) (sym k.state_is) (has_tentative r (length plan.names) k.steps p) ∙ go g (g.state.so_far.open_in p == 0))
   where
     go : (g : MachineProgress) (z : Bool) → (not z && not (g.state.so_far.is_rollback (g.state.so_far.open_in p))) ≡ (not z && not (if z then no_part else part_of (labelling first g.state.log) g.state p (g.state.so_far.open_in p)).is_rollback)

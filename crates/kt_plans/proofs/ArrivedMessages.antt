@@ -1,4 +1,4 @@
--- Where nothing is under way each live message that isn't dropped has been received, and that is live.
+-- Where nothing is in transit each live message that isn't dropped has been received, and that is live.
 use Rattle.std.proofs.Common.{length, ◌≡◌, ℕ, Bool, true, false, List, ◌++◌, append-nil, refl, arith, sym, ap, ap₂, ◌∙◌, Some, None}
 use Rattle.std.specs.Prelude.{◌==◌, if◌then◌else◌}
 use Rattle.kt_fifo.specs.declared.parcels.Parcel.{Parcel}
@@ -6,7 +6,7 @@ use Rattle.kt_cuts.specs.declared.deeds.Deed.TheVariants as deed
 use Rattle.kt_cuts.specs.Legal.{IsLegal, has_deed}
 use Rattle.kt_cuts.specs.Past.{past}
 use Rattle.kt_protocol.specs.Summary.{Summary, summary}
-use Rattle.kt_protocol.specs.UnderWay.{times, received_of}
+use Rattle.kt_protocol.specs.InTransit.{times, received_of}
 use Rattle.kt_protocol.proofs.LawfulSteps.{lawful_after_run}
 use Rattle.kt_protocol.proofs.SummaryTies.{tied}
 use Rattle.kt_values.specs.Done.{done}
@@ -17,21 +17,21 @@ use Rattle.kt_plan.specs.Limits.{Planned, IsPlan}
 use Rattle.kt_plans.proofs.InstancesBegun.{run_facts}
 use Rattle.kt_plans.specs.Progress.{Progress}
 use Rattle.kt_plans.specs.Runs.{RunReaches}
-use Rattle.kt_plans.specs.AtRest.{HasNothingUnderWay}
+use Rattle.kt_plans.specs.AtRest.{HasNothingInTransit}
 use Rattle.kt_plans.specs.Lines.{messages_among, message_line, EachIsOnceOnItsLine}
 use Rattle.kt_plans.proofs.ReachedRuns.{carry, seen_of, log_of}
 use Rattle.kt_plans.proofs.LinesOfRuns.{once_seen}
 use Rattle.kt_plans.proofs.DefaultSteps.{numbers_are, legal_progress}
 
 -- who is in no instance is in none by the log
-pub open_none : (plan : Planned) (first : ℕ) (w : Progress) (p : ℕ) → IsPlan plan → RunReaches plan first w → (w.now.people p).inst ≡ 0 → (past w.now.log).open_in p ≡ None
-open_none plan first w p i r = carry plan first w (λ v. (v.now.people p).inst ≡ 0 → (past v.now.log).open_in p ≡ None) i r
+pub open_none : (plan : Planned) (first : ℕ) (w : Progress) (p : ℕ) → IsPlan plan → RunReaches plan first w → (w.now.states p).inst ≡ 0 → (past w.now.log).open_in p ≡ None
+open_none plan first w p i r = carry plan first w (λ v. (v.now.states p).inst ≡ 0 → (past v.now.log).open_in p ≡ None) i r
     (λ g s z. let k = run_facts plan g s in (tied g.state.log (legal_progress plan g k)).open_in p ∙ none ((summary g.state.log).open_in p) (ap (λ (h : Summary). h.open_in p) (sym (numbers_are plan g k)) ∙ z))
   where
     none : (n : ℕ) → n ≡ 0 → (if n == 0 then None else Some n) ≡ None
     none n e = rw e refl
 
-module _ (plan : Planned) (first : ℕ) (w : Progress) (i : IsPlan plan) (r : RunReaches plan first w) (quiet : HasNothingUnderWay w.now) where
+module _ (plan : Planned) (first : ℕ) (w : Progress) (i : IsPlan plan) (r : RunReaches plan first w) (quiet : HasNothingInTransit w.now) where
   -- a live history is what the process itself did
   pub own_live : (q : ℕ) → (past w.now.log).live q ≡ (done w.now.log).own q
   own_live q = live_is w.now.log q (log_of plan first w IsLegal i r (λ s. (lawful_after_run (length plan.names) s).legal))

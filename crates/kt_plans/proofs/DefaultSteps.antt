@@ -34,7 +34,7 @@ use Rattle.kt_plans.specs.Steps.{enabled, progress_after, is_at_rest}
 use Rattle.kt_plans.specs.Defaults.{default_step}
 use Rattle.kt_plans.specs.Runs.{RunReaches}
 use Rattle.kt_plans.specs.Order.{comes_before}
-use Rattle.kt_plans.specs.AtRest.{HasNothingUnderWay}
+use Rattle.kt_plans.specs.AtRest.{HasNothingInTransit}
 use Rattle.kt_plans.specs.Unwilling.{MayRefuseToJoin, IsUnwillingStep}
 use Rattle.kt_plans.proofs.SameSteps.{enabled_same, rest_same, after_same}
 use Rattle.kt_plans.proofs.SameLooks.{look_same}
@@ -56,7 +56,7 @@ none_seen : (label : ℕ → ℕ) (body : ℕ → ℤ) (roll : ℕ → Bool) (l 
 unfolding seen_parcels
 none_seen label body roll l e = ap (seen_parcels label body roll) e
 
-pub quiet_of_progress : (plan : Planned) (first : ℕ) (g : MachineProgress) → RunFacts plan g → protocol_at_rest.IsAtRest g.state → HasNothingUnderWay (seen first g.state)
+pub quiet_of_progress : (plan : Planned) (first : ℕ) (g : MachineProgress) → RunFacts plan g → protocol_at_rest.IsAtRest g.state → HasNothingInTransit (seen first g.state)
 quiet_of_progress plan first g k a = record {
   decided = λ j pos low. ap is_some ((tied g.state.log (legal_progress plan g k)).decision j) ∙ some (j) (ap (λ (h : Summary). h.is_decided j) (sym (numbers_are plan g k)) ∙ a.decided j pos low);
   closed = a.closed;
@@ -67,8 +67,8 @@ quiet_of_progress plan first g k a = record {
     some : (j : ℕ) → (summary g.state.log).is_decided j ≡ true → is_some (if (summary g.state.log).is_decided j then Some ((summary g.state.log).is_committed j) else None) ≡ true
     some j e = rw e refl
 
-pub quiet_seen_at_rest : (plan : Planned) (first : ℕ) (w : Progress) → IsPlan plan → RunReaches plan first w → ((x : Step) → enabled plan w x ≡ false) → HasNothingUnderWay w.now
-quiet_seen_at_rest plan first w i r = carry plan first w (λ v. ((x : Step) → enabled plan v x ≡ false) → HasNothingUnderWay v.now) i r
+pub quiet_seen_at_rest : (plan : Planned) (first : ℕ) (w : Progress) → IsPlan plan → RunReaches plan first w → ((x : Step) → enabled plan w x ≡ false) → HasNothingInTransit w.now
+quiet_seen_at_rest plan first w i r = carry plan first w (λ v. ((x : Step) → enabled plan v x ≡ false) → HasNothingInTransit v.now) i r
     (λ g s n. let k = run_facts plan g s in quiet_of_progress plan first g k (rests plan g k (nothing_on plan first g n)).machine)
 
 pub done_seen : (plan : Planned) (first : ℕ) (w : Progress) (p : ℕ) → IsPlan plan → RunReaches plan first w → ((x : Step) → enabled plan w x ≡ false) → commands_left plan w p ≡ []

@@ -134,7 +134,7 @@ message_failed a u q m v v' x false false l e = rw e refl
 take_failed : (a u q : ℕ) (v v' : Seen) (from : List Parcel) (l : List Event) → AreRowsOfTake v v' u q from l → failed a l ≡ 0
 unfolding failed is_failed
 take_failed a u q v v' [] l e = rw e refl
-take_failed a u q v v' (App i m body ∷ rest) l e = message_failed a u q m v v' (App i m body) (is_seen_ready v u) (v.people u).up l e
+take_failed a u q v v' (App i m body ∷ rest) l e = message_failed a u q m v v' (App i m body) (is_seen_ready v u) (v.states u).up l e
 take_failed a u q v v' (Ask k kind i ∷ rest) l e = parts_failed a u l e.0
 take_failed a u q v v' (Reply k w ∷ rest) l e = parts_failed a u l e.0
 take_failed a u q v v' (Decide k c ∷ rest) l e = parts_failed a u l e.0
@@ -211,7 +211,7 @@ do_failing plan w u p give l None n f b e i = absurd (no_turn b)
 do_failing plan w u p give l (Some c) n f b e i = record {
   few = (let a = ap (failed p) e in
       let m = failed_more p w.now.log l in
-      let j = job_failed p (w.now.begun + 1) u c.job give.body (refusal_cause (w.now.people u) give.able c.job) l f in
+      let j = job_failed p (w.now.begun + 1) u c.job give.body (refusal_cause (w.now.states u) give.able c.job) l f in
       let d = left_at plan p (at_one u (w.done u + 1) w.done) (progress_after plan w (Do u) give).done (does_is plan w u give c n).done in
       let x = less_left plan w u p c n in
       let y = i.few in

@@ -15,7 +15,7 @@ use Rattle.kt_plans.specs.Plans.{commands_of}
 use Rattle.kt_plans.specs.Progress.{Progress, commands_left, next_command, is_quiet, progress_at_start}
 use Rattle.kt_plans.specs.Steps.{enabled, progress_after, is_at_rest}
 use Rattle.kt_plans.specs.Runs.{RunReaches}
-use Rattle.kt_plans.specs.AtRest.{HasNothingUnderWay}
+use Rattle.kt_plans.specs.AtRest.{HasNothingInTransit}
 use Rattle.kt_plans.specs.StepActs.{rows_added}
 use Rattle.kt_plans.specs.Rows.{refusal_cause, list_taken, AreRowsOfDo}
 use Rattle.kt_plans.specs.Follows.{command_rows, phase_at, FollowsPlan, BeginsPlan}
@@ -122,7 +122,7 @@ module _ (plan : Planned) (first : ℕ) (i : IsPlan plan) where
         rows = rows_added plan w (Do p) give
 
         a : Answered p c.0.job rows
-        a = answered (w.now.begun + 1) p c.0.job give.body (refusal_cause (w.now.people p) give.able c.0.job) rows
+        a = answered (w.now.begun + 1) p c.0.job give.body (refusal_cause (w.now.states p) give.able c.0.job) rows
             (subst (λ (o : Option Command). AreRowsOfDo w.now p give o rows) c.1 (fits plan first w (Do p) give i r e).fit)
 
         grows : (progress_after plan w (Do p) give).now.log ≡ (w.now.log ++ a.row ∷ []) ++ a.more
@@ -148,5 +148,5 @@ follows_seen plan first w i r e = record {
     a : ComesAlong plan w.now.log w.done w.phase
     a = (run_follows plan first i w r).along
 
-    rests : HasNothingUnderWay w.now × ((p : ℕ) → commands_left plan w p ≡ [])
+    rests : HasNothingInTransit w.now × ((p : ℕ) → commands_left plan w p ≡ [])
     rests = rested plan first w i r e

@@ -39,10 +39,10 @@ job_asks closed up job.Fail = plain
 
 command_asks : (w : Progress) (p : ℕ) (o : Option Command) → look_of_command w p o ≢ Idle
 command_asks w p None = plain
-command_asks w p (Some c) = job_asks ((w.now.people p).inst == 0) (w.now.people p).up c.job
+command_asks w p (Some c) = job_asks ((w.now.states p).inst == 0) (w.now.states p).up c.job
 
 front_asks : (v : Seen) (p q : ℕ) (l : List Parcel) → look_of_front v p q l ≢ Idle
-front_asks v p q (Ask k kind l ∷ rest) = at_if (λ (x : Look). x ≢ Idle) (((v.people p).inst == 0 && not (is_rollback_kind (Some kind))) && (must_take (v.people p).calls q l && (v.people p).up)) NeedsSave Plain (λ _. saves) (λ _. plain)
+front_asks v p q (Ask k kind l ∷ rest) = at_if (λ (x : Look). x ≢ Idle) (((v.states p).inst == 0 && not (is_rollback_kind (Some kind))) && (must_take (v.states p).calls q l && (v.states p).up)) NeedsSave Plain (λ _. saves) (λ _. plain)
 front_asks v p q _ = plain
 
 step_asks : (plan : Planned) (w : Progress) (x : Step) → look_of_step plan w x ≢ Idle

@@ -13,7 +13,7 @@ pub mod PhasesOpen
 pub mod RowsFit
 pub mod RefusedRows
 pub mod OpenPhase
-pub mod PeopleKeep
+pub mod StatesKeep
 pub mod FailuresEnough
 pub mod OffersSent
 pub mod KeepsFirst
@@ -59,6 +59,7 @@ pub mod PhaseOrder
 pub mod RowsAdded
 pub mod RunFacts
 pub mod StateFacts
+pub mod TakesOfOthers
 pub mod StepBounds
 pub mod StepRows
 pub mod TalliedSteps

@@ -1,7 +1,7 @@
 -- Where the messages of a run are, by what code has.
 use Rattle.std.proofs.Common.{◌≡◌, ℕ, ℤ, Bool, List, [], ◌∷◌, ◌++◌, refl, sym, ap, ap₂, subst, ◌∙◌}
 use Rattle.kt_protocol.specs.Parcels.{messages as messages_of_protocol, Parcel, App, Ask, Reply, Decide}
-use Rattle.kt_protocol.specs.UnderWay.{times, received_of}
+use Rattle.kt_protocol.specs.InTransit.{times, received_of}
 use Rattle.kt_protocol.specs.States.{State, Step, opening}
 use Rattle.kt_closing.specs.LateSteps.{late_run}
 use Rattle.kt_seen.specs.Labelling.{labelling}

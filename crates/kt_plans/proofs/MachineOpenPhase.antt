@@ -1,4 +1,4 @@
--- The open phase: its commands alone are enabled, and it ends where nothing is under way.
+-- The open phase: its commands alone are enabled, and it ends where nothing is in transit.
 use Rattle.std.proofs.Common.{length, ◌≡◌, ℕ, ◌≤◌, ◌<◌, Bool, true, false, refl, Some, None, subst, sym}
 use Rattle.std.specs.Prelude.{◌&&◌, nat_lt, Option}
 use Rattle.kt_plan.specs.declared.commands.Command.{Command}

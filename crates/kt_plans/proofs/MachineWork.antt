@@ -12,8 +12,8 @@ abbrev pub machine_count_left : Planned → MachineProgress → ℕ
 machine_count_left plan now = total_below (length plan.names) (λ p. length (machine_commands_left plan now p))
 
 -- how many parcels are in the channels of n processes
-abbrev pub machine_parcels_under_way : ℕ → Lists → ℕ
-machine_parcels_under_way n channel = total_below n (λ p. total_below n (λ q. length (channel p q)))
+abbrev pub machine_parcels_in_transit : ℕ → Lists → ℕ
+machine_parcels_in_transit n channel = total_below n (λ p. total_below n (λ q. length (channel p q)))
 
 -- how many rows there are, and asks, replies and decisions put of the instances below k
 abbrev pub machine_put_so_far : ℕ → State → ℕ
@@ -21,4 +21,4 @@ machine_put_so_far k s = length s.log + (total_below k s.asks + (total_below k s
 
 -- commands left, what may still be put within so many rows, and parcels to take
 abbrev pub machine_work_left : ℕ → Planned → MachineProgress → ℕ
-machine_work_left rows plan now = machine_count_left plan now + ((rows + most_put plan) - machine_put_so_far (length plan.commands + 1) now.state) + machine_parcels_under_way (length plan.names) now.state.channel
+machine_work_left rows plan now = machine_count_left plan now + ((rows + most_put plan) - machine_put_so_far (length plan.commands + 1) now.state) + machine_parcels_in_transit (length plan.names) now.state.channel

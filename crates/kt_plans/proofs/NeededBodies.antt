@@ -102,7 +102,7 @@ module _ {V : Type 0} (rules : ℕ → Rules V) (plan : Planned) (first : ℕ) (
         rows = rows_added plan w (Do p) give
 
         a : Answered p c.0.job rows
-        a = answered (w.now.begun + 1) p c.0.job give.body (refusal_cause (w.now.people p) give.able c.0.job) rows
+        a = answered (w.now.begun + 1) p c.0.job give.body (refusal_cause (w.now.states p) give.able c.0.job) rows
             (subst (λ (o : Option Command). AreRowsOfDo w.now p give o rows) c.1 (fits plan first w (Do p) give i r e).fit)
 
         grows : (progress_after plan w (Do p) give).now.log ≡ (w.now.log ++ a.row ∷ []) ++ a.more

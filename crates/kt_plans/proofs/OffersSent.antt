@@ -35,14 +35,14 @@ save_not false = refl
 not_it : (l : Look) → uses_body l ≡ false → l ≡ NeedsBody → ⊥
 not_it l e f = let x = ap uses_body f in cc (x, e)
 
-job_offered : (v : Seen) (p k : ℕ) (able : Bool) (j : Job) (z : ℤ) (l : List Event) → look_of_job ((v.people p).inst == 0) (v.people p).up j ≡ NeedsBody → AreRowsOfCommand k p j z (refusal_cause (v.people p) able j) l → (q : ℕ) × (l ≡ Sent p q z ∷ [])
-job_offered v p k able (job.Send q None) z l e f = go (v.people p).up e f
+job_offered : (v : Seen) (p k : ℕ) (able : Bool) (j : Job) (z : ℤ) (l : List Event) → look_of_job ((v.states p).inst == 0) (v.states p).up j ≡ NeedsBody → AreRowsOfCommand k p j z (refusal_cause (v.states p) able j) l → (q : ℕ) × (l ≡ Sent p q z ∷ [])
+job_offered v p k able (job.Send q None) z l e f = go (v.states p).up e f
   where
     go : (u : Bool) → (if u then NeedsBody else Plain) ≡ NeedsBody → AreRowsOfCommand k p (job.Send q None) z (if u then None else Some Down) l → (q : ℕ) × (l ≡ Sent p q z ∷ [])
     go true e f = (q, f)
     go false e f = absurd (cc (e))
 job_offered v p k able (job.Send q (Some b)) z l e f = absurd (cc (e))
-job_offered v p k able job.Checkpoint z l e f = absurd (not_it _ (save_not ((v.people p).inst == 0 && (v.people p).up)) e)
+job_offered v p k able job.Checkpoint z l e f = absurd (not_it _ (save_not ((v.states p).inst == 0 && (v.states p).up)) e)
 job_offered v p k able job.Rollback z l e f = absurd (cc (e))
 job_offered v p k able job.Fail z l e f = absurd (cc (e))
 
@@ -70,24 +70,24 @@ job_up free u job.Checkpoint e = absurd (not_it _ (save_not (free && u)) e)
 job_up free u job.Rollback e = absurd (cc (e))
 job_up free u job.Fail e = absurd (cc (e))
 
-command_up : (w : Progress) (p : ℕ) (o : Option Command) → look_of_command w p o ≡ NeedsBody → (w.now.people p).up ≡ true
+command_up : (w : Progress) (p : ℕ) (o : Option Command) → look_of_command w p o ≡ NeedsBody → (w.now.states p).up ≡ true
 command_up w p None e = absurd (cc (e))
-command_up w p (Some c) e = job_up ((w.now.people p).inst == 0) (w.now.people p).up c.job e
+command_up w p (Some c) e = job_up ((w.now.states p).inst == 0) (w.now.states p).up c.job e
 
 front_not : (v : Seen) (p q : ℕ) (l : List Parcel) → uses_body (look_of_front v p q l) ≡ false
 front_not v p q (Ask k kind l ∷ rest) =
-    save_not (((v.people p).inst == 0 && not (is_rollback_kind (Some kind))) && (must_take (v.people p).calls q l && (v.people p).up))
+    save_not (((v.states p).inst == 0 && not (is_rollback_kind (Some kind))) && (must_take (v.states p).calls q l && (v.states p).up))
 front_not v p q _ = refl
 
 take_not : (b : Bool) (l : Look) → uses_body l ≡ false → uses_body (if b then Plain else l) ≡ false
 take_not true l e = refl
 take_not false l e = e
 
-step_up : (plan : Planned) (w : Progress) (x : Step) → look_of_step plan w x ≡ NeedsBody → (w.now.people (process_of_step x)).up ≡ true
+step_up : (plan : Planned) (w : Progress) (x : Step) → look_of_step plan w x ≡ NeedsBody → (w.now.states (process_of_step x)).up ≡ true
 step_up plan w (Do p) e = command_up w p (next_command plan w p) e
 step_up plan w (Take p q) e = absurd (not_it _ (take_not (not (is_seen_ready w.now p) && has_parcel (w.now.held q p)) _ (front_not w.now p q (w.now.channel q p))) e)
 
-pub up_seen : (plan : Planned) (w : Progress) (x : Step) → look plan w x ≡ NeedsBody → (w.now.people (process_of_step x)).up ≡ true
+pub up_seen : (plan : Planned) (w : Progress) (x : Step) → look plan w x ≡ NeedsBody → (w.now.states (process_of_step x)).up ≡ true
 up_seen plan w x e = step_up plan w x (looked plan w x e).1
 
 and_false : (b : Bool) → (b && false) ≡ false
@@ -96,7 +96,7 @@ and_false false = refl
 
 -- a process that is up sends what its object offers, by its next command
 abbrev sends_offer : Planned → Progress → Step → Bool
-sends_offer plan w (Do p) = (w.now.people p).up && is_offer_command (next_command plan w p)
+sends_offer plan w (Do p) = (w.now.states p).up && is_offer_command (next_command plan w p)
 sends_offer plan w (Take p q) = false
 
 -- where a step may be made, it asks for a body exactly where it sends what the object offers
@@ -111,28 +111,28 @@ job_needs free u job.Fail = sym (and_false u)
 body_needed : (plan : Planned) (w : Progress) (x : Step) → enabled plan w x ≡ true → uses_body (look plan w x) ≡ sends_offer plan w x
 body_needed plan w x e = ap (λ (b : Bool). uses_body (if b then look_of_step plan w x else Idle)) e ∙ of_step x
   where
-    of_command : (p : ℕ) (o : Option Command) → uses_body (look_of_command w p o) ≡ ((w.now.people p).up && is_offer_command o)
-    of_command p None = sym (and_false (w.now.people p).up)
-    of_command p (Some c) = job_needs ((w.now.people p).inst == 0) (w.now.people p).up c.job
+    of_command : (p : ℕ) (o : Option Command) → uses_body (look_of_command w p o) ≡ ((w.now.states p).up && is_offer_command o)
+    of_command p None = sym (and_false (w.now.states p).up)
+    of_command p (Some c) = job_needs ((w.now.states p).inst == 0) (w.now.states p).up c.job
 
     of_step : (x : Step) → uses_body (look_of_step plan w x) ≡ sends_offer plan w x
     of_step (Do p) = of_command p (next_command plan w p)
     of_step (Take p q) = take_not (not (is_seen_ready w.now p) && has_parcel (w.now.held q p)) _ (front_not w.now p q (w.now.channel q p))
 
 -- what an object offers is sent exactly there
-job_sent : (v : Seen) (p k : ℕ) (able : Bool) (j : Job) (z : ℤ) (l : List Event) → AreRowsOfCommand k p j z (refusal_cause (v.people p) able j) l → (is_offer_job j && has_sent_row l) ≡ ((v.people p).up && is_offer_job j)
-job_sent v p k able (job.Send q None) z l e = go (v.people p).up e
+job_sent : (v : Seen) (p k : ℕ) (able : Bool) (j : Job) (z : ℤ) (l : List Event) → AreRowsOfCommand k p j z (refusal_cause (v.states p) able j) l → (is_offer_job j && has_sent_row l) ≡ ((v.states p).up && is_offer_job j)
+job_sent v p k able (job.Send q None) z l e = go (v.states p).up e
   where
     go : (u : Bool) → AreRowsOfCommand k p (job.Send q None) z (if u then None else Some Down) l → has_sent_row l ≡ (u && true)
     go true e = rw e refl
     go false e = rw e refl
-job_sent v p k able (job.Send q (Some b)) z l e = sym (and_false (v.people p).up)
-job_sent v p k able job.Checkpoint z l e = sym (and_false (v.people p).up)
-job_sent v p k able job.Rollback z l e = sym (and_false (v.people p).up)
-job_sent v p k able job.Fail z l e = sym (and_false (v.people p).up)
+job_sent v p k able (job.Send q (Some b)) z l e = sym (and_false (v.states p).up)
+job_sent v p k able job.Checkpoint z l e = sym (and_false (v.states p).up)
+job_sent v p k able job.Rollback z l e = sym (and_false (v.states p).up)
+job_sent v p k able job.Fail z l e = sym (and_false (v.states p).up)
 
-command_sent : (v : Seen) (p : ℕ) (give : Give) (o : Option Command) (l : List Event) → AreRowsOfDo v p give o l → (is_offer_command o && has_sent_row l) ≡ ((v.people p).up && is_offer_command o)
-command_sent v p give None l e = sym (and_false (v.people p).up)
+command_sent : (v : Seen) (p : ℕ) (give : Give) (o : Option Command) (l : List Event) → AreRowsOfDo v p give o l → (is_offer_command o && has_sent_row l) ≡ ((v.states p).up && is_offer_command o)
+command_sent v p give None l e = sym (and_false (v.states p).up)
 command_sent v p give (Some c) l e = job_sent v p (v.begun + 1) give.able c.job give.body l e
 
 pub sent_seen : (plan : Planned) (first : ℕ) (w : Progress) (x : Step) (give : Give) → IsPlan plan → RunReaches plan first w → enabled plan w x ≡ true → (is_offer_step plan w x && has_sent_row (rows_added plan w x give)) ≡ uses_body (look plan w x)

@@ -21,7 +21,7 @@ use Rattle.kt_plans.specs.Progress.{Progress, is_quiet}
 use Rattle.kt_plans.proofs.MachineProgress.{world_of}
 use Rattle.kt_plans.specs.Steps.{can_take_from, enabled}
 use Rattle.kt_plans.specs.Runs.{RunReaches}
-use Rattle.kt_plans.specs.AtRest.{HasNothingUnderWay}
+use Rattle.kt_plans.specs.AtRest.{HasNothingInTransit}
 use Rattle.kt_plans.specs.Follows.{IsQuietPast}
 use Rattle.kt_plans.proofs.ReachedRuns.{carry, seen_of}
 use Rattle.kt_plans.proofs.SameSteps.{enabled_same}
@@ -33,8 +33,8 @@ quiet_can : (n : ℕ) (v : Seen) (p q : ℕ) → is_quiet n v ≡ true → p < n
 quiet_can n v p q e a b = none (not (is_seen_ready v p)) (neither (has_parcel (v.channel q p)) (has_parcel (v.held q p)) (none_is n (λ u. has_parcel (v.channel u p) || has_parcel (v.held u p)) all q b))
   where
     all : none_of n (λ u. has_parcel (v.channel u p) || has_parcel (v.held u p)) ≡ true
-    all = yes (none_of n (λ u. has_parcel (v.channel u p) || has_parcel (v.held u p))) (neither (not ((v.people p).inst == 0)) (not (none_of n (λ u. has_parcel (v.channel u p) || has_parcel (v.held u p))))
-        (none_is n (λ u. not ((v.people u).inst == 0) || not (none_of n (λ x. has_parcel (v.channel x u) || has_parcel (v.held x u)))) e p a)).1
+    all = yes (none_of n (λ u. has_parcel (v.channel u p) || has_parcel (v.held u p))) (neither (not ((v.states p).inst == 0)) (not (none_of n (λ u. has_parcel (v.channel u p) || has_parcel (v.held u p))))
+        (none_is n (λ u. not ((v.states u).inst == 0) || not (none_of n (λ x. has_parcel (v.channel x u) || has_parcel (v.held x u)))) e p a)).1
       where
         yes : (b : Bool) → not b ≡ false → b ≡ true
         yes true e = refl
@@ -56,8 +56,8 @@ quiet_takes plan w p q e = go (nat_lt p (length plan.names)) (nat_lt q (length p
     go false b f g = refl
 
 module _ (plan : Planned) (first : ℕ) (w : Progress) (i : IsPlan plan) (r : RunReaches plan first w) where
-  nothing : is_quiet (length plan.names) w.now ≡ true → HasNothingUnderWay w.now
-  nothing = carry plan first w (λ v. is_quiet (length plan.names) v.now ≡ true → HasNothingUnderWay v.now) i r
+  nothing : is_quiet (length plan.names) w.now ≡ true → HasNothingInTransit w.now
+  nothing = carry plan first w (λ v. is_quiet (length plan.names) v.now ≡ true → HasNothingInTransit v.now) i r
       (λ g s e. let k = run_facts plan g s in quiet_of_progress plan first g k (state_rests plan g k (λ p q. sym (enabled_same plan first g (Take p q)) ∙ quiet_takes plan (world_of first g) p q e)))
 
   -- how many instances have begun
@@ -67,7 +67,7 @@ module _ (plan : Planned) (first : ℕ) (w : Progress) (i : IsPlan plan) (r : Ru
       late : (s : _) → (late_run (opening (length plan.names)) s).instances ≡ length (past (late_run (opening (length plan.names)) s).log).begun
       late s = ap (λ (x : State). x.instances) (agrees_after_run (length plan.names) s).same ∙ ((lawful_after_run (length plan.names) s).count ∙ ap (λ (l : _). length (past l).begun) (sym (same_log (length plan.names) s)))
 
-  pub nothing_quiet : HasNothingUnderWay w.now → IsQuietPast (past w.now.log)
+  pub nothing_quiet : HasNothingInTransit w.now → IsQuietPast (past w.now.log)
   nothing_quiet h = record {
     decided = λ k pos low. h.decided k pos (let c = counted in omega (arith, low, c));
     closed = λ p. open_none plan first w p i r (h.closed p);

@@ -70,7 +70,7 @@ message_none v v' p q m x false false l e = rw e refl
 take_none : (v v' : Seen) (p q : ℕ) (from : List Parcel) (l : List Event) → AreRowsOfTake v v' p q from l → has_refused l ≡ false
 unfolding has_refused is_refused
 take_none v v' p q [] l e = rw e refl
-take_none v v' p q (App a m body ∷ rest) l e = message_none v v' p q m (App a m body) (is_seen_ready v p) (v.people p).up l e
+take_none v v' p q (App a m body ∷ rest) l e = message_none v v' p q m (App a m body) (is_seen_ready v p) (v.states p).up l e
 take_none v v' p q (Ask k kind a ∷ rest) l e = parts_none p l e.0
 take_none v v' p q (Reply k w ∷ rest) l e = parts_none p l e.0
 take_none v v' p q (Decide k c ∷ rest) l e = parts_none p l e.0
@@ -105,10 +105,10 @@ record InStep (plan : Planned) (w : Progress) (x : Step) (give : Give) (i p : �
   next : next_command plan w p ≡ Some command
   word : verb ≡ verb_of command.job
   at : i ≡ 0
-  justified : refusal_cause (w.now.people p) give.able command.job ≡ Some cause
+  justified : refusal_cause (w.now.states p) give.able command.job ≡ Some cause
 
 module _ (plan : Planned) (w : Progress) (give : Give) (i p : ℕ) (verb : Verb) (cause : Cause) (l : List Event) (row : slice_get l i ≡ Some (Refused p verb cause)) where
-  by_cause : (u : ℕ) (c : Command) → next_command plan w u ≡ Some c → (o : Option Cause) → refusal_cause (w.now.people u) give.able c.job ≡ o → AreRowsOfCommand (w.now.begun + 1) u c.job give.body o l → InStep plan w (Do u) give i p verb cause
+  by_cause : (u : ℕ) (c : Command) → next_command plan w u ≡ Some c → (o : Option Cause) → refusal_cause (w.now.states u) give.able c.job ≡ o → AreRowsOfCommand (w.now.begun + 1) u c.job give.body o l → InStep plan w (Do u) give i p verb cause
   by_cause u c n None y f = absurd (not_both (has_refused l) (there l i p verb cause row) (job_none (w.now.begun + 1) u c.job give.body l f))
   by_cause u c n (Some d) y f = let a = alone p u (verb_of c.job) verb d cause i l f row in record {
     command = c;
@@ -116,12 +116,12 @@ module _ (plan : Planned) (w : Progress) (give : Give) (i p : ℕ) (verb : Verb)
     next = ap (next_command plan w) (sym a.1) ∙ n;
     word = sym a.2;
     at = a.0;
-    justified = ap (λ (v : ℕ). refusal_cause (w.now.people v) give.able c.job) (sym a.1) ∙ (y ∙ ap Some a.3);
+    justified = ap (λ (v : ℕ). refusal_cause (w.now.states v) give.able c.job) (sym a.1) ∙ (y ∙ ap Some a.3);
   }
 
   by_command : (u : ℕ) (o : Option Command) → next_command plan w u ≡ o → AreRowsOfDo w.now u give o l → InStep plan w (Do u) give i p verb cause
   by_command u None n f = absurd (not_both (has_refused l) (there l i p verb cause row) (nothing l f))
-  by_command u (Some c) n f = by_cause u c n (refusal_cause (w.now.people u) give.able c.job) refl f
+  by_command u (Some c) n f = by_cause u c n (refusal_cause (w.now.states u) give.able c.job) refl f
 
   by_step : (x : Step) → AreRowsOfStep plan w x give l → InStep plan w x give i p verb cause
   by_step (Do u) f = by_command u (next_command plan w u) refl f

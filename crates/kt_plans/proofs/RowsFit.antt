@@ -38,7 +38,7 @@ use Rattle.kt_plans.proofs.SameLooks.{look_same}
 use Rattle.kt_plans.proofs.PhasesOpen.{takes_is}
 use Rattle.kt_plans.proofs.ActsOfSteps.{Telling, tells, none_took}
 
-cause_same : (first : ℕ) (s : State) (p : ℕ) (able : Bool) (j : Job) → refusal_cause ((seen first s).people p) able j ≡ machine_refusal_cause s p able j
+cause_same : (first : ℕ) (s : State) (p : ℕ) (able : Bool) (j : Job) → refusal_cause ((seen first s).states p) able j ≡ machine_refusal_cause s p able j
 cause_same first s p able (job.Send q body) = refl
 cause_same first s p able job.Checkpoint = refl
 cause_same first s p able job.Rollback = refl

@@ -29,7 +29,7 @@ use Rattle.kt_plans.specs.Defaults.{default_step}
 use Rattle.kt_plans.proofs.ActsOfSteps.{log_grows}
 use Rattle.kt_plans.proofs.RunSteps.{start_reached_seen, next_reached_seen, rest_seen}
 use Rattle.kt_plans.proofs.DefaultOrder.{none_is, some_is}
-use Rattle.kt_plans.proofs.StepBounds.{work_falls, count_at_start, none_under_way_at_start}
+use Rattle.kt_plans.proofs.StepBounds.{work_falls, count_at_start, none_in_transit_at_start}
 
 pub work_same : (plan : Planned) (first rows : ℕ) (g : MachineProgress) → work_left rows plan (world_of first g) (tallies_of g.state) ≡ machine_work_left rows plan g
 work_same plan first rows g = ap (λ (f : ℕ → ℕ → ℕ). machine_count_left plan g + ((rows + (length plan.commands + 1) * (3 * (length plan.names * (length plan.names - 1)))) - machine_put_so_far (length plan.commands + 1) g.state) + total_below (length plan.names) (λ p. total_below (length plan.names) (λ q. f p q)))
@@ -90,7 +90,7 @@ work_at_start plan first rows i =
     let s : work_left rows plan (progress_at_start plan first) no_tallies ≡ machine_work_left rows plan (machine_start plan) =
     ap (λ (v : Progress). work_left rows plan v no_tallies) (sym (start_same plan first))
     ∙ (ap (work_left rows plan (world_of first (machine_start plan))) (sym (none_at_start plan i)) ∙ work_same plan first rows (machine_start plan)) in
-    let a = count_at_start plan i in let b = none_under_way_at_start plan i in omega (arith, s, a, b)
+    let a = count_at_start plan i in let b = none_in_transit_at_start plan i in omega (arith, s, a, b)
 
 pub start_rests_seen : (n : ℕ) (plan : Planned) (first rows : ℕ) (give : Progress → Step → Give) → IsPlan plan → length (after_defaults n plan give (progress_at_start plan first)).now.log ≤ rows → most_steps_of_run plan rows < n → is_at_rest plan (after_defaults n plan give (progress_at_start plan first)) ≡ true
 start_rests_seen n plan first rows give i l b = defaults_rest_seen n plan first rows give (progress_at_start plan first) no_tallies i (put_at_start plan first) l (let a = work_at_start plan first rows i in omega (arith, a, b))

@@ -60,7 +60,7 @@ message_none v v' p q m x false false l e = ap has_command_row e
 
 pub take_none : (v v' : Seen) (p q : ℕ) (from : List Parcel) (l : List Event) → AreRowsOfTake v v' p q from l → has_command_row l ≡ false
 take_none v v' p q [] l e = ap has_command_row e
-take_none v v' p q (App a m body ∷ rest) l e = message_none v v' p q m (App a m body) (is_seen_ready v p) (v.people p).up l e
+take_none v v' p q (App a m body ∷ rest) l e = message_none v v' p q m (App a m body) (is_seen_ready v p) (v.states p).up l e
 take_none v v' p q (Ask k kind a ∷ rest) l e = parts_none p l e.0
 take_none v v' p q (Reply k w ∷ rest) l e = parts_none p l e.0
 take_none v v' p q (Decide k c ∷ rest) l e = parts_none p l e.0

@@ -18,7 +18,7 @@ use Rattle.kt_plan.specs.declared.steps.Give.{Give}
 use Rattle.kt_plan.specs.declared.steps.Step.{Step}
 use Rattle.kt_plans.proofs.MachineSteps.{machine_after_command, after_machine_step, machine_enabled, machine_may_do}
 use Rattle.kt_plans.specs.Steps.{protocol_step}
-use Rattle.kt_plans.proofs.MachineWork.{machine_count_left, machine_parcels_under_way, machine_put_so_far, machine_work_left}
+use Rattle.kt_plans.proofs.MachineWork.{machine_count_left, machine_parcels_in_transit, machine_put_so_far, machine_work_left}
 use Rattle.kt_plans.specs.Work.{most_steps_of_run}
 use Rattle.kt_plans.specs.Tallies.{total_below}
 use Rattle.kt_plans.proofs.InPhases.{own_ordered}
@@ -55,13 +55,13 @@ each_of n (c ∷ cs) =
 -- what one step does to commands, parcels and instances
 pub record Falls (plan : Planned) (g g' : MachineProgress) : Type 0 where
   pub begun : g'.state.instances + machine_count_left plan g' ≤ g.state.instances + machine_count_left plan g
-  pub steps : machine_count_left plan g' + machine_parcels_under_way (length plan.names) g'.state.channel + machine_put_so_far (length plan.commands + 1) g.state + 1 ≤ machine_count_left plan g + machine_parcels_under_way (length plan.names) g.state.channel + machine_put_so_far (length plan.commands + 1) g'.state
+  pub steps : machine_count_left plan g' + machine_parcels_in_transit (length plan.names) g'.state.channel + machine_put_so_far (length plan.commands + 1) g.state + 1 ≤ machine_count_left plan g + machine_parcels_in_transit (length plan.names) g.state.channel + machine_put_so_far (length plan.commands + 1) g'.state
 
 -- phases change none of these
 falls_opened : (plan : Planned) (g g' g'' : MachineProgress) → Opened plan g' g'' → Falls plan g g' → Falls plan g g''
 falls_opened plan g g' g'' s f = record {
   begun = (let a = f.begun in let c = left_is in let i = ap (λ (t : State). t.instances) s.state in omega (arith, a, c, i));
-  steps = (let a = f.steps in let c = left_is in let i = ap (λ (t : State). machine_parcels_under_way (length plan.names) t.channel) s.state in let j = ap (λ (t : State). machine_put_so_far (length plan.commands + 1) t) s.state in omega (arith, a, c, i, j));
+  steps = (let a = f.steps in let c = left_is in let i = ap (λ (t : State). machine_parcels_in_transit (length plan.names) t.channel) s.state in let j = ap (λ (t : State). machine_put_so_far (length plan.commands + 1) t) s.state in omega (arith, a, c, i, j));
 }
   where
     left_is : machine_count_left plan g'' ≡ machine_count_left plan g'
@@ -115,7 +115,7 @@ falls plan g (Take p q) give k h b = falls_opened plan g (bare_take g p q give) 
 pub record Few (plan : Planned) (m : ℕ) (g : MachineProgress) : Type 0 where
   pub run_facts : RunFacts plan g
   pub begun : g.state.instances + machine_count_left plan g ≤ length plan.commands
-  pub steps : m + machine_count_left plan g + machine_parcels_under_way (length plan.names) g.state.channel ≤ length plan.commands + machine_put_so_far (length plan.commands + 1) g.state
+  pub steps : m + machine_count_left plan g + machine_parcels_in_transit (length plan.names) g.state.channel ≤ length plan.commands + machine_put_so_far (length plan.commands + 1) g.state
 
 pub few_after : (plan : Planned) (m : ℕ) (g : MachineProgress) (x : Step) (give : Give) → Few plan m g → machine_enabled plan g x ≡ true → Few plan (suc m) (after_machine_step plan g x give)
 few_after plan m g x give f e = let d = falls plan g x give f.run_facts f.begun e in record {
@@ -131,14 +131,14 @@ opened_start plan i = opened_is plan (record { state = opening (length plan.name
 pub count_at_start : (plan : Planned) → IsPlan plan → machine_count_left plan (machine_start plan) ≤ length plan.commands
 count_at_start plan i = let a = each_of (length plan.names) plan.commands in let b = ap (λ (d : ℕ → ℕ). total_below (length plan.names) (λ p. length (drop (d p) (commands_of p plan.commands)))) (opened_start plan i).done in omega (arith, a, b)
 
-pub none_under_way_at_start : (plan : Planned) → IsPlan plan → machine_parcels_under_way (length plan.names) (machine_start plan).state.channel ≡ 0
-none_under_way_at_start plan i = ap (λ (t : State). machine_parcels_under_way (length plan.names) t.channel) (opened_start plan i).state ∙ (total_same (length plan.names) (λ p. total_below (length plan.names) (λ q. 0)) (λ p. 0) (λ p. nothing (length plan.names)) ∙ nothing (length plan.names))
+pub none_in_transit_at_start : (plan : Planned) → IsPlan plan → machine_parcels_in_transit (length plan.names) (machine_start plan).state.channel ≡ 0
+none_in_transit_at_start plan i = ap (λ (t : State). machine_parcels_in_transit (length plan.names) t.channel) (opened_start plan i).state ∙ (total_same (length plan.names) (λ p. total_below (length plan.names) (λ q. 0)) (λ p. 0) (λ p. nothing (length plan.names)) ∙ nothing (length plan.names))
 
 pub few_at_start : (plan : Planned) → IsPlan plan → Few plan 0 (machine_start plan)
 few_at_start plan i = record {
   run_facts = facts_at_start plan i;
   begun = (let a = count_at_start plan i in let b = ap (λ (t : State). t.instances) (opened_start plan i).state in omega (arith, a, b));
-  steps = (let a = count_at_start plan i in let b = none_under_way_at_start plan i in omega (arith, a, b));
+  steps = (let a = count_at_start plan i in let b = none_in_transit_at_start plan i in omega (arith, a, b));
 }
 
 -- what is put is bounded

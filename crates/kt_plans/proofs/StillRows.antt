@@ -9,7 +9,7 @@ use Rattle.kt_spacetime.specs.declared.event.Event.{Event}
 use Rattle.kt_spacetime.specs.declared.event.Event.TheVariants.{Sent, Received, Dropped}
 use Rattle.kt_cuts.proofs.RowRules.{both, neither, not_true}
 use Rattle.kt_protocol.proofs.Choices.{at_if}
-use Rattle.kt_seen.specs.Seen.{SeenPerson, Seen}
+use Rattle.kt_seen.specs.Seen.{SeenProcess, Seen}
 use Rattle.kt_seen.specs.Transition.{is_seen_ready}
 use Rattle.kt_plan.specs.declared.commands.Job.{Job}
 use Rattle.kt_plan.specs.declared.commands.Command.{Command}
@@ -52,7 +52,7 @@ instance_rows p [] e = refl
 instance_rows p (x ∷ l) e = let b = both (is_instance_row p x) (are_instance_rows p l) e in ap₂ (λ (s t : Bool). s || t) (instance_row p x b.0) (instance_rows p l b.1)
 
 -- in an instance no command of its process concerns a message
-job_still : (k p : ℕ) (j : Job) (body : ℤ) (y : SeenPerson) (able : Bool) (rows : List Event) → (y.inst == 0) ≡ false → may_do_job (y.inst == 0) j ≡ true → AreRowsOfCommand k p j body (refusal_cause y able j) rows → any_of_message rows ≡ false
+job_still : (k p : ℕ) (j : Job) (body : ℤ) (y : SeenProcess) (able : Bool) (rows : List Event) → (y.inst == 0) ≡ false → may_do_job (y.inst == 0) j ≡ true → AreRowsOfCommand k p j body (refusal_cause y able j) rows → any_of_message rows ≡ false
 job_still k p (job.Send q b) body y able rows z d f = absurd (cc (d, z))
 job_still k p job.Checkpoint body y able rows z d f =
     let c : refusal_cause y able job.Checkpoint ≡ Some (Busy y.inst) = rw z refl in
@@ -64,7 +64,7 @@ job_still k p job.Fail body y able rows z d f = at_if (λ (o : Option Cause). Ar
 
 take_still : (v v' : Seen) (p q : ℕ) (l : List Parcel) (rows : List Event) → is_seen_ready v p ≡ true → AreRowsOfTake v v' p q l rows → any_of_message rows ≡ false
 take_still v v' p q [] rows z f = ap any_of_message f
-take_still v v' p q (App l m body ∷ rest) rows z f = ap any_of_message (subst (λ (b : Bool). AreRowsOfMessage v v' p q (App l m body) m b (v.people p).up rows) z f).0
+take_still v v' p q (App l m body ∷ rest) rows z f = ap any_of_message (subst (λ (b : Bool). AreRowsOfMessage v v' p q (App l m body) m b (v.states p).up rows) z f).0
 take_still v v' p q (Ask k kind l ∷ rest) rows z f = instance_rows p rows f.0
 take_still v v' p q (Reply k w ∷ rest) rows z f = instance_rows p rows f.0
 take_still v v' p q (Decide k c ∷ rest) rows z f = instance_rows p rows f.0
@@ -72,12 +72,12 @@ take_still v v' p q (Decide k c ∷ rest) rows z f = instance_rows p rows f.0
 step_still : (plan : Planned) (w : Progress) (x : Step) (give : Give) (rows : List Event) → enabled plan w x ≡ true → is_seen_ready w.now (process_of_step x) ≡ true → AreRowsOfStep plan w x give rows → any_of_message rows ≡ false
 step_still plan w (Do p) give rows e z f = go (next_command plan w p) (both (nat_lt p (length plan.names)) (may_do w p (next_command plan w p)) e).1 f
   where
-    inside : ((w.now.people p).inst == 0) ≡ false
-    inside = not_true ((w.now.people p).inst == 0) (both (not ((w.now.people p).inst == 0)) (w.now.people p).part.is_rollback z).0
+    inside : ((w.now.states p).inst == 0) ≡ false
+    inside = not_true ((w.now.states p).inst == 0) (both (not ((w.now.states p).inst == 0)) (w.now.states p).part.is_rollback z).0
 
     go : (o : Option Command) → may_do w p o ≡ true → AreRowsOfDo w.now p give o rows → any_of_message rows ≡ false
     go None d f = ap any_of_message f
-    go (Some c) d f = job_still (w.now.begun + 1) p c.job give.body (w.now.people p) give.able rows inside (both (c.phase == w.phase) (may_do_job ((w.now.people p).inst == 0) c.job) d).1 f
+    go (Some c) d f = job_still (w.now.begun + 1) p c.job give.body (w.now.states p) give.able rows inside (both (c.phase == w.phase) (may_do_job ((w.now.states p).inst == 0) c.job) d).1 f
 step_still plan w (Take p q) give rows e z f = take_still w.now (progress_after plan w (Take p q) give).now p q (list_taken w.now p q) rows z f
 
 pub still_seen : (plan : Planned) (first : ℕ) (w : Progress) (x : Step) (give : Give) (i p q m : ℕ) (body : ℤ) → IsPlan plan → RunReaches plan first w → enabled plan w x ≡ true → is_seen_ready w.now (process_of_step x) ≡ true →

@@ -6,7 +6,7 @@ use Rattle.kt_cuts.specs.Past.{at_one}
 use Rattle.kt_protocol.proofs.Updates.{is_same, is_other}
 use Rattle.kt_protocol.specs.Joining.{count_below}
 use Rattle.kt_protocol.specs.Parcels.{Parcel, Ask, Decide, Lists, with_parcel, with_rest, with_checkpoint_asks, with_decisions, with_rollback_asks}
-use Rattle.kt_plans.proofs.MachineWork.{machine_parcels_under_way}
+use Rattle.kt_plans.proofs.MachineWork.{machine_parcels_in_transit}
 use Rattle.kt_plans.specs.Tallies.{total_below}
 
 pub total_same : (n : ℕ) (f g : ℕ → ℕ) → ((v : ℕ) → f v ≡ g v) → total_below n f ≡ total_below n g
@@ -88,8 +88,8 @@ row_le n p u t = go (u == p)
     go false = none n
 
 -- some channels of p get at most one more parcel each
-pub under_way_more : (n p : ℕ) (t : ℕ → Bool) (channel channel' : Lists) → ((u v : ℕ) → length (channel' u v) ≤ length (channel u v) + bit (u == p && t v)) → machine_parcels_under_way n channel' ≤ machine_parcels_under_way n channel + count_below n t
-under_way_more n p t channel channel' h =
+pub in_transit_more : (n p : ℕ) (t : ℕ → Bool) (channel channel' : Lists) → ((u v : ℕ) → length (channel' u v) ≤ length (channel u v) + bit (u == p && t v)) → machine_parcels_in_transit n channel' ≤ machine_parcels_in_transit n channel + count_below n t
+in_transit_more n p t channel channel' h =
     let a = total_le n (λ u. total_below n (λ v. length (channel' u v))) (λ u. total_below n (λ v. length (channel u v)) + spike p (count_below n t) u) row in
     let b = total_add n (λ u. total_below n (λ v. length (channel u v))) (spike p (count_below n t)) in
     let c = total_spike_le n p (count_below n t) in
@@ -113,25 +113,25 @@ push_le false l x = omega arith
 number_one : (n q : ℕ) → count_below n (λ v. v == q) ≤ 1
 number_one n q = let e = number_is n (λ v. v == q) in let i = total_spike_le n q 1 in omega (arith, e, i)
 
-pub under_way_with_parcel : (n : ℕ) (channel : Lists) (p q : ℕ) (x : Parcel) → machine_parcels_under_way n (with_parcel channel p q x) ≤ machine_parcels_under_way n channel + 1
+pub in_transit_with_parcel : (n : ℕ) (channel : Lists) (p q : ℕ) (x : Parcel) → machine_parcels_in_transit n (with_parcel channel p q x) ≤ machine_parcels_in_transit n channel + 1
 unfolding with_parcel
-under_way_with_parcel n channel p q x = let a = under_way_more n p (λ v. v == q) channel (with_parcel channel p q x) (λ u v. push_le (u == p && v == q) (channel u v) x) in let b = number_one n q in omega (arith, a, b)
+in_transit_with_parcel n channel p q x = let a = in_transit_more n p (λ v. v == q) channel (with_parcel channel p q x) (λ u v. push_le (u == p && v == q) (channel u v) x) in let b = number_one n q in omega (arith, a, b)
 
-pub under_way_checkpoint_asks : (n : ℕ) (channel : Lists) (last : ℕ → ℕ → ℕ) (p k : ℕ) → machine_parcels_under_way n (with_checkpoint_asks channel last p k) ≤ machine_parcels_under_way n channel + count_below n (λ v. nat_lt 0 (last p v))
+pub checkpoint_asks_in_transit : (n : ℕ) (channel : Lists) (last : ℕ → ℕ → ℕ) (p k : ℕ) → machine_parcels_in_transit n (with_checkpoint_asks channel last p k) ≤ machine_parcels_in_transit n channel + count_below n (λ v. nat_lt 0 (last p v))
 unfolding with_checkpoint_asks
-under_way_checkpoint_asks n channel last p k = under_way_more n p (λ v. nat_lt 0 (last p v)) channel (with_checkpoint_asks channel last p k) (λ u v. push_le (u == p && nat_lt 0 (last p v)) (channel u v) (Ask k (last p v)))
+checkpoint_asks_in_transit n channel last p k = in_transit_more n p (λ v. nat_lt 0 (last p v)) channel (with_checkpoint_asks channel last p k) (λ u v. push_le (u == p && nat_lt 0 (last p v)) (channel u v) (Ask k (last p v)))
 
-pub under_way_rollback_asks : (n : ℕ) (channel : Lists) (first last_sent : ℕ → ℕ → ℕ) (p k : ℕ) → machine_parcels_under_way n (with_rollback_asks channel first last_sent p k) ≤ machine_parcels_under_way n channel + count_below n (λ v. nat_lt 0 (first p v))
+pub rollback_asks_in_transit : (n : ℕ) (channel : Lists) (first last_sent : ℕ → ℕ → ℕ) (p k : ℕ) → machine_parcels_in_transit n (with_rollback_asks channel first last_sent p k) ≤ machine_parcels_in_transit n channel + count_below n (λ v. nat_lt 0 (first p v))
 unfolding with_rollback_asks
-under_way_rollback_asks n channel first last_sent p k = under_way_more n p (λ v. nat_lt 0 (first p v)) channel (with_rollback_asks channel first last_sent p k) (λ u v. push_le (u == p && nat_lt 0 (first p v)) (channel u v) (Ask k (last_sent p v)))
+rollback_asks_in_transit n channel first last_sent p k = in_transit_more n p (λ v. nat_lt 0 (first p v)) channel (with_rollback_asks channel first last_sent p k) (λ u v. push_le (u == p && nat_lt 0 (first p v)) (channel u v) (Ask k (last_sent p v)))
 
-pub under_way_decisions : (n : ℕ) (channel : Lists) (asked : ℕ → ℕ → ℕ → Bool) (p k : ℕ) (c : Bool) → machine_parcels_under_way n (with_decisions channel asked p k c) ≤ machine_parcels_under_way n channel + count_below n (asked k p)
+pub decisions_in_transit : (n : ℕ) (channel : Lists) (asked : ℕ → ℕ → ℕ → Bool) (p k : ℕ) (c : Bool) → machine_parcels_in_transit n (with_decisions channel asked p k c) ≤ machine_parcels_in_transit n channel + count_below n (asked k p)
 unfolding with_decisions
-under_way_decisions n channel asked p k c = under_way_more n p (asked k p) channel (with_decisions channel asked p k c) (λ u v. push_le (u == p && asked k p v) (channel u v) (Decide k c))
+decisions_in_transit n channel asked p k c = in_transit_more n p (asked k p) channel (with_decisions channel asked p k c) (λ u v. push_le (u == p && asked k p v) (channel u v) (Decide k c))
 
-pub under_way_with_rest : (n : ℕ) (channel : Lists) (q p : ℕ) (x : Parcel) (rest : List Parcel) → channel q p ≡ x ∷ rest → q < n → p < n → machine_parcels_under_way n channel ≡ machine_parcels_under_way n (with_rest channel q p rest) + 1
+pub in_transit_with_rest : (n : ℕ) (channel : Lists) (q p : ℕ) (x : Parcel) (rest : List Parcel) → channel q p ≡ x ∷ rest → q < n → p < n → machine_parcels_in_transit n channel ≡ machine_parcels_in_transit n (with_rest channel q p rest) + 1
 unfolding with_rest
-under_way_with_rest n channel q p x rest e a b = total_less n q (λ u. total_below n (λ v. length (channel u v))) (λ u. total_below n (λ v. length (with_rest channel q p rest u v))) a
+in_transit_with_rest n channel q p x rest e a b = total_less n q (λ u. total_below n (λ v. length (channel u v))) (λ u. total_below n (λ v. length (with_rest channel q p rest u v))) a
     (total_less n p (λ v. length (channel q v)) (λ v. length (with_rest channel q p rest q v)) b here (λ v d. there q v (is_other v p d)))
     (λ u d. total_same n (λ v. length (channel u v)) (λ v. length (with_rest channel q p rest u v)) (λ v. away u v (is_other u q d)))
   where

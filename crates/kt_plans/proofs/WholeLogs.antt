@@ -14,7 +14,7 @@ use Rattle.kt_plan.specs.declared.steps.Step.{Step}
 use Rattle.kt_plans.specs.Runs.{Move, after_moves, RunReaches}
 use Rattle.kt_plans.specs.Progress.{Progress, commands_left, progress_at_start}
 use Rattle.kt_plans.specs.Steps.{enabled, progress_after, is_at_rest}
-use Rattle.kt_plans.specs.AtRest.{HasNothingUnderWay}
+use Rattle.kt_plans.specs.AtRest.{HasNothingInTransit}
 use Rattle.kt_plans.specs.StepActs.{rows_added}
 use Rattle.kt_plans.specs.Told.{rows_along}
 use Rattle.kt_plans.proofs.ReachedRuns.{log_of}
@@ -26,7 +26,7 @@ use Rattle.kt_plans.proofs.ActsOfSteps.{log_grows, tentative_seen}
 idle : (plan : Planned) (first : ℕ) (w : Progress) → IsPlan plan → RunReaches plan first w → is_at_rest plan w ≡ true → (x : Step) → enabled plan w x ≡ false
 idle plan first w i r a = nothing_default plan first w i r (rest_default plan first w i r a)
 
-pub rested : (plan : Planned) (first : ℕ) (w : Progress) → IsPlan plan → RunReaches plan first w → is_at_rest plan w ≡ true → HasNothingUnderWay w.now × ((p : ℕ) → commands_left plan w p ≡ [])
+pub rested : (plan : Planned) (first : ℕ) (w : Progress) → IsPlan plan → RunReaches plan first w → is_at_rest plan w ≡ true → HasNothingInTransit w.now × ((p : ℕ) → commands_left plan w p ≡ [])
 rested plan first w i r a = (quiet_seen_at_rest plan first w i r (idle plan first w i r a), λ p. done_seen plan first w p i r (idle plan first w i r a))
 
 none_is : {V : Type 0} (o : Option V) → is_some o ≡ false → o ≡ None
@@ -35,7 +35,7 @@ none_is (Some v) e = absurd (cc (e))
 
 pub no_tentative : {V : Type 0} (r : Rules V) (plan : Planned) (first : ℕ) (w : Progress) (p : ℕ) → IsPlan plan → RunReaches plan first w → is_at_rest plan w ≡ true → (due r (done w.now.log) p).tentative ≡ None
 no_tentative r plan first w p i s a = none_is (due r (done w.now.log) p).tentative
-    (tentative_seen r plan first w p i s ∙ ap (λ (n : ℕ). not (n == 0) && not (w.now.people p).part.is_rollback) ((rested plan first w i s a).0.closed p))
+    (tentative_seen r plan first w p i s ∙ ap (λ (n : ℕ). not (n == 0) && not (w.now.states p).part.is_rollback) ((rested plan first w i s a).0.closed p))
 
 -- the acts of the whole log
 pub whole_seen : {V : Type 0} (r : Rules V) (plan : Planned) (first : ℕ) (w : Progress) (p : ℕ) → IsPlan plan → RunReaches plan first w →

@@ -1,5 +1,5 @@
 -- A log that follows a plan, told by its rows alone: each process answers its commands in their order, and a phase begins
--- where nothing of the earlier ones is under way.
+-- where nothing of the earlier ones is in transit.
 use Rattle.std.specs.Prelude.{◌≡◌, ◌≢◌, ◌<◌, ◌≤◌, ℕ, ◌==◌, ◌&&◌, if◌then◌else◌, Bool, true, false, Option, Some, None, is_some, option_map, option_and_then, List, [], ◌∷◌, length, filter, take, slice_get, unwrap_or}
 use Rattle.kt_base.specs.declared.words.Kind.TheVariants as kind
 use Rattle.kt_spacetime.specs.declared.event.Event.{Event}

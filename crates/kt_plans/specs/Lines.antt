@@ -5,7 +5,7 @@ use Rattle.kt_fifo.specs.declared.parcels.Parcel.TheVariants.{App}
 use Rattle.kt_cuts.specs.Past.{past}
 use Rattle.kt_cuts.specs.Legal.{has_deed}
 use Rattle.kt_cuts.specs.declared.deeds.Deed.TheVariants as deed
-use Rattle.kt_protocol.specs.UnderWay.{times, received_of}
+use Rattle.kt_protocol.specs.InTransit.{times, received_of}
 use Rattle.kt_seen.specs.Seen.{Seen}
 use Rattle.kt_values.specs.Done.{done}
 

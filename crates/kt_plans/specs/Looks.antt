@@ -37,14 +37,14 @@ uses_body _ = false
 -- of p's command, if it has one
 abbrev pub look_of_command : Progress → ℕ → Option Command → Look
 look_of_command w p None = Plain
-look_of_command w p (Some c) = look_of_job ((w.now.people p).inst == 0) (w.now.people p).up c.job
+look_of_command w p (Some c) = look_of_job ((w.now.states p).inst == 0) (w.now.states p).up c.job
 
 -- of what is in front in the channel from q: an ask that makes p take a checkpoint needs to know whether its object can
 -- be saved
 abbrev pub look_of_front : Seen → ℕ → ℕ → List Parcel → Look
 look_of_front v p q (Ask k kind l ∷ rest) =
-    if ((v.people p).inst == 0 && not (is_rollback_kind (Some kind)))
-    && (must_take (v.people p).calls q l && (v.people p).up) then NeedsSave else Plain
+    if ((v.states p).inst == 0 && not (is_rollback_kind (Some kind)))
+    && (must_take (v.states p).calls q l && (v.states p).up) then NeedsSave else Plain
 look_of_front v p q _ = Plain
 
 -- of an enabled step: a message that is held asks for nothing

@@ -27,7 +27,7 @@ next_command plan w p = slice_get (commands_left plan w p) 0
 -- nobody is in an instance, and no parcel is in a channel or held
 abbrev pub is_quiet : ℕ → Seen → Bool
 is_quiet n v =
-    none_of n (λ p. not ((v.people p).inst == 0)
+    none_of n (λ p. not ((v.states p).inst == 0)
     || not (none_of n (λ q. has_parcel (v.channel q p) || has_parcel (v.held q p))))
 
 -- no command of this phase is left

@@ -7,7 +7,7 @@ use Rattle.kt_fifo.specs.declared.parcels.Parcel.{Parcel}
 use Rattle.kt_fifo.specs.declared.parcels.Parcel.TheVariants.{App, Ask, Reply, Decide}
 use Rattle.kt_spacetime.specs.declared.event.Event.{Event}
 use Rattle.kt_spacetime.specs.declared.event.Event.TheVariants.{Received, Dropped, Decided, Closed, Refused, Sent, Began, Took, Ready, Failed, Unwilling}
-use Rattle.kt_seen.specs.Seen.{SeenPerson, Seen}
+use Rattle.kt_seen.specs.Seen.{SeenProcess, Seen}
 use Rattle.kt_seen.specs.Transition.{is_seen_ready}
 use Rattle.kt_plan.specs.declared.commands.Job.{Job}
 use Rattle.kt_plan.specs.declared.commands.Command.{Command}
@@ -90,7 +90,7 @@ is_offer_command None = false
 is_offer_command (Some c) = is_offer_job c.job
 
 -- why a process refuses a job, if it does
-abbrev pub refusal_cause : SeenPerson → Bool → Job → Option Cause
+abbrev pub refusal_cause : SeenProcess → Bool → Job → Option Cause
 refusal_cause y able (job.Send q body) = if y.up then None else Some Down
 refusal_cause y able job.Checkpoint =
     if y.inst == 0 then (if able && y.up then None else Some (if y.up then NoSave else Down)) else Some (Busy y.inst)
@@ -112,7 +112,7 @@ AreRowsOfMessage v v' p q x m false false rows = rows ≡ Dropped p q m ∷ []
 abbrev pub AreRowsOfTake : Seen → Seen → ℕ → ℕ → List Parcel → List Event → Type 0
 AreRowsOfTake v v' p q [] rows = rows ≡ []
 AreRowsOfTake v v' p q (App l m body ∷ rest) rows =
-    AreRowsOfMessage v v' p q (App l m body) m (is_seen_ready v p) (v.people p).up rows
+    AreRowsOfMessage v v' p q (App l m body) m (is_seen_ready v p) (v.states p).up rows
 AreRowsOfTake v v' p q (Ask k kind l ∷ rest) rows = AreInstanceRows p rows
 AreRowsOfTake v v' p q (Reply k w ∷ rest) rows = AreInstanceRows p rows
 AreRowsOfTake v v' p q (Decide k c ∷ rest) rows = AreInstanceRows p rows
@@ -121,7 +121,7 @@ AreRowsOfTake v v' p q (Decide k c ∷ rest) rows = AreInstanceRows p rows
 abbrev pub AreRowsOfDo : Seen → ℕ → Give → Option Command → List Event → Type 0
 AreRowsOfDo v p give None rows = rows ≡ []
 AreRowsOfDo v p give (Some c) rows =
-    AreRowsOfCommand (v.begun + 1) p c.job give.body (refusal_cause (v.people p) give.able c.job) rows
+    AreRowsOfCommand (v.begun + 1) p c.job give.body (refusal_cause (v.states p) give.able c.job) rows
 
 -- the rows of a step
 abbrev pub AreRowsOfStep : Planned → Progress → Step → Give → List Event → Type 0
@@ -136,7 +136,7 @@ pub record IsRefusedStep (plan : Planned) (w : Progress) (x : Step) (give : Give
   pub next : next_command plan w p ≡ Some command
   pub word : verb ≡ verb_of command.job
   pub row : t ≡ length w.now.log
-  pub justified : refusal_cause (w.now.people p) give.able command.job ≡ Some cause
+  pub justified : refusal_cause (w.now.states p) give.able command.job ≡ Some cause
 
 -- a step that sends what the object offers
 abbrev pub is_offer_step : Planned → Progress → Step → Bool

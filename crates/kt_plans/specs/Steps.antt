@@ -35,7 +35,7 @@ process_of_step (Take p q) = p
 -- p may do this command next: it is of the open phase, and a send waits while its process is in an instance
 abbrev pub may_do : Progress → ℕ → Option Command → Bool
 may_do w p None = false
-may_do w p (Some c) = c.phase == w.phase && may_do_job ((w.now.people p).inst == 0) c.job
+may_do w p (Some c) = c.phase == w.phase && may_do_job ((w.now.states p).inst == 0) c.job
 
 -- p has something of q to take: what is in the channel, or a message that it holds and is in no rollback to apply
 abbrev pub can_take_from : Seen → ℕ → ℕ → Bool

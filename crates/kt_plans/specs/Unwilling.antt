@@ -13,7 +13,7 @@ use Rattle.kt_plans.specs.Progress.{Progress}
 -- p is in another instance j
 pub record IsBusyElsewhere (h : Summary) (v : Seen) (p q k j : ℕ) : Type 0 where
   pub positive : 0 < j
-  pub open_in : (v.people p).inst ≡ j
+  pub open_in : (v.states p).inst ≡ j
   pub other : j ≢ k
   pub received : h.is_rollback k ≡ false → HasReceived h q p k
   pub sent : h.is_rollback k ≡ true → HasSent h q p
@@ -21,14 +21,14 @@ pub record IsBusyElsewhere (h : Summary) (v : Seen) (p q k j : ℕ) : Type 0 whe
 -- p is in none, and has to join a checkpoint
 pub record IsFreeToJoin (h : Summary) (v : Seen) (p q k : ℕ) : Type 0 where
   pub checkpoint : h.is_rollback k ≡ false
-  pub closed : (v.people p).inst ≡ 0
+  pub closed : (v.states p).inst ≡ 0
   pub has_to : HasToJoin h p q k
 
 -- this cause to be unwilling holds of p, which takes an ask of q to join k; and whether its object can be saved
 abbrev pub HasCauseToRefuse : Summary → Seen → ℕ → ℕ → ℕ → Bool → Cause → Type 0
 HasCauseToRefuse h v p q k able (Busy j) = IsBusyElsewhere h v p q k j
-HasCauseToRefuse h v p q k able Down = IsFreeToJoin h v p q k × ((v.people p).up ≡ false)
-HasCauseToRefuse h v p q k able NoSave = IsFreeToJoin h v p q k × ((v.people p).up ≡ true) × (able ≡ false)
+HasCauseToRefuse h v p q k able Down = IsFreeToJoin h v p q k × ((v.states p).up ≡ false)
+HasCauseToRefuse h v p q k able NoSave = IsFreeToJoin h v p q k × ((v.states p).up ≡ true) × (able ≡ false)
 
 -- p may be unwilling at an ask of q to join k, where h is the summary of the log
 pub record MayRefuseToJoin (h : Summary) (v : Seen) (p q k : ℕ) (able : Bool) (why : Cause) : Type 0 where

@@ -28,8 +28,8 @@ abbrev pub most_steps_of_run : Planned → ℕ → ℕ
 most_steps_of_run plan rows = length plan.commands + rows + most_put plan
 
 -- how many parcels are in the channels of n processes
-abbrev pub parcels_under_way : ℕ → SeenLists → ℕ
-parcels_under_way n channel = total_below n (λ p. total_below n (λ q. length (channel p q)))
+abbrev pub parcels_in_transit : ℕ → SeenLists → ℕ
+parcels_in_transit n channel = total_below n (λ p. total_below n (λ q. length (channel p q)))
 
 -- how many rows there are, and asks, replies and decisions put of the instances below k
 abbrev pub put_so_far : ℕ → Progress → Tallies → ℕ
@@ -44,4 +44,4 @@ count_left plan w = total_below (length plan.names) (λ p. length (commands_left
 abbrev pub work_left : ℕ → Planned → Progress → Tallies → ℕ
 work_left rows plan w put =
     count_left plan w + ((rows + most_put plan) - put_so_far (length plan.commands + 1) w put)
-    + parcels_under_way (length plan.names) w.now.channel
+    + parcels_in_transit (length plan.names) w.now.channel

@@ -37,11 +37,11 @@ swapped = Sent 0 1 (pos 7) ∷ Sent 0 1 (pos 5) ∷ Received 1 0 1 ∷ Received 
 abbrev pub too_early : List Event
 too_early = Sent 0 1 (pos 5) ∷ Received 1 0 1 ∷ Failed 1 ∷ Sent 0 1 (pos 7) ∷ Dropped 1 0 4 ∷ []
 
--- the later phase begins while a message is under way
+-- the later phase begins while a message is in transit
 abbrev pub not_quiet : List Event
 not_quiet = Sent 0 1 (pos 5) ∷ Sent 0 1 (pos 7) ∷ Received 1 0 1 ∷ Failed 1 ∷ Dropped 1 0 2 ∷ []
 
--- of the two messages alone: the second is still under way at the end
+-- of the two messages alone: the second is still in transit at the end
 abbrev pub one_arrives : List Event
 one_arrives = take 3 both_arrive
 

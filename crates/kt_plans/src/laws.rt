@@ -18,7 +18,7 @@ ghost use Rattle.kt_cuts.specs.Throughout.{HasConsistentDecisions};
 ghost use Rattle.kt_tables.specs.Calls.{Speaks};
 ghost use Rattle.kt_certify.specs.Certificates.{certificates};
 ghost use Rattle.kt_protocol.specs.Logs.{HasLinkedDecisions, HasLeastDecisions, AbortsWhereUnwilling, JustifiesUnwilling};
-ghost use Rattle.kt_protocol.specs.UnderWay.{times, received_of};
+ghost use Rattle.kt_protocol.specs.InTransit.{times, received_of};
 ghost use Rattle.kt_protocol.specs.States.{opening};
 ghost use Rattle.kt_protocol.specs.States as machine;
 ghost use Rattle.kt_closing.specs.LateSteps.{late_run};
@@ -56,7 +56,7 @@ ghost use Rattle.kt_plans.specs.Progress.{Progress, commands_left, next_command,
 ghost use Rattle.kt_plans.specs.Follows.{command_rows, phase_at, IsQuietPast, FollowsPlan, BeginsPlan};
 ghost use Rattle.kt_plans.specs.Defaults.{default_step};
 ghost use Rattle.kt_plans.specs.Order.{comes_before, next_place, IsFirstEnabled};
-ghost use Rattle.kt_plans.specs.AtRest.{HasNothingUnderWay};
+ghost use Rattle.kt_plans.specs.AtRest.{HasNothingInTransit};
 ghost use Rattle.kt_plans.specs.Unwilling.{IsUnwillingStep};
 ghost use Rattle.kt_plans.specs.StepActs.{rows_added, acts_of_step, keeps_only_first};
 ghost use Rattle.kt_plans.specs.Offers.{GivesOffers, SendsWhatIsOffered};
@@ -227,7 +227,7 @@ pub fn phases_of_runs()
         (q : ℕ) × (d : Command) × (q < length plan.names) × (next_command plan w q ≡ Some d) × (d.phase ≡ w.phase) }
 
     // Only commands of the open phase are enabled. No step goes back to an earlier phase; and where one opens a later
-    // phase, no parcel is under way and nobody is in an instance.
+    // phase, no parcel is in transit and nobody is in an instance.
     ensures in_phase { (plan : Planned) (first : ℕ) (w : Progress) (p : ℕ) → IsPlan plan → RunReaches plan first w →
         enabled plan w (Do p) ≡ true → (c : Command) × (next_command plan w p ≡ Some c) × (c.phase ≡ w.phase) }
     ensures forward { (plan : Planned) (first : ℕ) (w : Progress) (x : Step) (give : Give) → IsPlan plan →
@@ -279,27 +279,27 @@ pub fn processes_of_runs()
 
     // The last label used is the first one and the number of the process's `sent` rows.
     ensures used { (plan : Planned) (first : ℕ) (w : Progress) (p : ℕ) → IsPlan plan → RunReaches plan first w →
-        (w.now.people p).used ≡ first + sends_of p w.now.log }
+        (w.now.states p).used ≡ first + sends_of p w.now.log }
 
     // The calls of each process are a list that tables answer for, before a step and after it.
     ensures speaks { (plan : Planned) (first : ℕ) (w : Progress) (p : ℕ) → IsPlan plan → RunReaches plan first w →
-        Speaks (w.now.people p).calls }
+        Speaks (w.now.states p).calls }
     ensures speaks_next { (plan : Planned) (first : ℕ) (w : Progress) (x : machine.Step) (p : ℕ) → IsPlan plan →
-        RunReaches plan first w → Speaks ((transition w.now x).people p).calls }
+        RunReaches plan first w → Speaks ((transition w.now x).states p).calls }
 
     // A process in no instance has no part, and whom it would ask is a process; so is whom a part asked or answers.
     ensures no_part { (plan : Planned) (first : ℕ) (w : Progress) (p : ℕ) → IsPlan plan → RunReaches plan first w →
-        (w.now.people p).inst ≡ 0 → (w.now.people p).part ≡ no_part }
+        (w.now.states p).inst ≡ 0 → (w.now.states p).part ≡ no_part }
     ensures would_ask_in_checkpoint { (plan : Planned) (first : ℕ) (w : Progress) (p q : ℕ) → IsPlan plan →
-        RunReaches plan first w → (w.now.people p).inst ≡ 0 →
-        is_asked_in_checkpoint (w.now.people p).calls q ≡ true → q < length plan.names }
+        RunReaches plan first w → (w.now.states p).inst ≡ 0 →
+        is_asked_in_checkpoint (w.now.states p).calls q ≡ true → q < length plan.names }
     ensures would_ask_in_rollback { (plan : Planned) (first : ℕ) (w : Progress) (p q : ℕ) → IsPlan plan →
-        RunReaches plan first w → (w.now.people p).inst ≡ 0 →
-        is_asked_in_rollback (w.now.people p).calls q ≡ true → q < length plan.names }
+        RunReaches plan first w → (w.now.states p).inst ≡ 0 →
+        is_asked_in_rollback (w.now.states p).calls q ≡ true → q < length plan.names }
     ensures asked { (plan : Planned) (first : ℕ) (w : Progress) (p q : ℕ) → IsPlan plan → RunReaches plan first w →
-        (w.now.people p).part.asked q ≡ true → q < length plan.names }
+        (w.now.states p).part.asked q ≡ true → q < length plan.names }
     ensures parent { (plan : Planned) (first : ℕ) (w : Progress) (p to : ℕ) → IsPlan plan → RunReaches plan first w →
-        (w.now.people p).part.parent ≡ Some to → to < length plan.names }
+        (w.now.states p).part.parent ≡ Some to → to < length plan.names }
 {}
 
 /// A run that begins with given moves and goes on by default steps, with whatever objects give.
@@ -337,20 +337,20 @@ pub fn never_stuck()
     ensures done { (plan : Planned) (first : ℕ) (w : Progress) (p : ℕ) → IsPlan plan → RunReaches plan first w →
         ((x : Step) → enabled plan w x ≡ false) → commands_left plan w p ≡ [] }
     ensures quiet { (plan : Planned) (first : ℕ) (w : Progress) → IsPlan plan → RunReaches plan first w →
-        ((x : Step) → enabled plan w x ≡ false) → HasNothingUnderWay w.now }
+        ((x : Step) → enabled plan w x ≡ false) → HasNothingInTransit w.now }
 
     // So it is wherever a plan is at rest, and that is exactly where there is no default step.
     ensures rested_done { (plan : Planned) (first : ℕ) (w : Progress) (p : ℕ) → IsPlan plan → RunReaches plan first w →
         is_at_rest plan w ≡ true → commands_left plan w p ≡ [] }
     ensures rested_quiet { (plan : Planned) (first : ℕ) (w : Progress) → IsPlan plan → RunReaches plan first w →
-        is_at_rest plan w ≡ true → HasNothingUnderWay w.now }
+        is_at_rest plan w ≡ true → HasNothingInTransit w.now }
     ensures exactly { (plan : Planned) (first : ℕ) (w : Progress) → IsPlan plan → RunReaches plan first w →
         (is_at_rest plan w ≡ true) ↔ (default_step plan w ≡ None) }
 
-    // A plan is at rest exactly where nobody has a command left and nothing is under way.
+    // A plan is at rest exactly where nobody has a command left and nothing is in transit.
     ensures rests { (plan : Planned) (first : ℕ) (w : Progress) → IsPlan plan → RunReaches plan first w →
         (is_at_rest plan w ≡ true)
-        ↔ (((p : ℕ) → p < length plan.names → next_command plan w p ≡ None) × HasNothingUnderWay w.now) }
+        ↔ (((p : ℕ) → p < length plan.names → next_command plan w p ≡ None) × HasNothingInTransit w.now) }
 {}
 
 /// For every run of every plan: it has few steps for its commands and its rows, so within a number of rows it ends.
@@ -410,6 +410,10 @@ pub fn steps_of_runs()
         RunReaches plan first w → enabled plan w x ≡ true → AreOfOthers (process_of_step x) moves →
         after_moves plan w moves ≡ Some v → look plan v x ≡ look plan w x }
 
+    // No process takes of itself.
+    ensures of_another { (plan : Planned) (first : ℕ) (w : Progress) (p q : ℕ) → IsPlan plan → RunReaches plan first w →
+        enabled plan w (Take p q) ≡ true → p ≢ q }
+
     // In every world, reached or not, a look is idle exactly where its step is not enabled.
     ensures idle { (plan : Planned) (w : Progress) (x : Step) → (look plan w x ≡ Idle) ↔ (enabled plan w x ≡ false) }
 
@@ -454,10 +458,10 @@ pub fn values_of_runs<V>()
 
     // An object is due exactly where its process is up, and a tentative state exactly while it is in a checkpoint.
     ensures objects { (r : Rules V) (plan : Planned) (first : ℕ) (w : Progress) (p : ℕ) → IsPlan plan →
-        RunReaches plan first w → is_some (due r (done w.now.log) p).object ≡ (w.now.people p).up }
+        RunReaches plan first w → is_some (due r (done w.now.log) p).object ≡ (w.now.states p).up }
     ensures tentatives { (r : Rules V) (plan : Planned) (first : ℕ) (w : Progress) (p : ℕ) → IsPlan plan →
         RunReaches plan first w → is_some (due r (done w.now.log) p).tentative
-        ≡ (not ((w.now.people p).inst == 0) && not (w.now.people p).part.is_rollback) }
+        ≡ (not ((w.now.states p).inst == 0) && not (w.now.states p).part.is_rollback) }
 
     // As long as a process is in a checkpoint, its tentative state has the value that was due to its object where it
     // was taken.
@@ -605,7 +609,7 @@ pub fn worked_follows()
     ensures not_quiet { BeginsPlan two_messages_then_failure not_quiet → ⊥ }
     ensures unasked { BeginsPlan two_messages both_arrive → ⊥ }
 
-    // These are legal and have a row for each command, but do not end quietly: a message is under way, an instance
+    // These are legal and have a row for each command, but do not end quietly: a message is in transit, an instance
     // undecided.
     ensures legal_open { IsLegal one_arrives × IsLegal undecided }
     ensures on_its_way { FollowsPlan two_messages one_arrives → ⊥ }
@@ -619,7 +623,7 @@ pub fn worked_plans()
     ensures steps { default_steps 20 checkpoint_two_phases_later ≡ checkpoint_two_phases_later_steps }
     ensures rows { at_end checkpoint_two_phases_later (moves_of checkpoint_two_phases_later_steps) (λ w. w.now.log)
         ≡ Some checkpoint_two_phases_later_log }
-    ensures under_way { at_end checkpoint_two_phases_later (moves_of (Do 0 ∷ [])) (λ w. w.phase) ≡ Some 0 }
+    ensures in_transit { at_end checkpoint_two_phases_later (moves_of (Do 0 ∷ [])) (λ w. w.phase) ≡ Some 0 }
     ensures arrived { at_end checkpoint_two_phases_later (moves_of (Do 0 ∷ Take 1 0 ∷ [])) (λ w. w.phase) ≡ Some 2 }
     ensures too_soon { at_end checkpoint_two_phases_later (moves_of (Do 0 ∷ Do 1 ∷ [])) (λ w. w.phase) ≡ None }
     ensures rest { at_end checkpoint_two_phases_later (moves_of checkpoint_two_phases_later_steps)
@@ -643,14 +647,14 @@ pub fn worked_plans()
 
 /// Runs that were worked out by hand come as far as they have to, with labels that begin after 100.
 pub fn worked_progress()
-    // Default steps lead to rest. No phase opens while a message is under way; then two open at once.
+    // Default steps lead to rest. No phase opens while a message is in transit; then two open at once.
     ensures is_plan { IsPlan fails_twice }
     ensures steps { default_steps 20 fails_twice ≡ fails_twice_steps }
     ensures log { at_end fails_twice (moves_of fails_twice_steps) (λ w. w.now.log) ≡ Some fails_twice_log }
     ensures by_gives { (after_gives fails_twice (start_after_hundred fails_twice) (gives 13)).now.log
         ≡ fails_twice_log }
     ensures rest { at_end fails_twice (moves_of fails_twice_steps) (λ w. is_at_rest fails_twice w) ≡ Some true }
-    ensures under_way { at_end fails_twice (moves_of (Do 0 ∷ [])) (λ w. w.phase) ≡ Some 0 }
+    ensures in_transit { at_end fails_twice (moves_of (Do 0 ∷ [])) (λ w. w.phase) ≡ Some 0 }
     ensures arrived { at_end fails_twice (moves_of (Do 0 ∷ Take 1 0 ∷ [])) (λ w. w.phase) ≡ Some 2 }
     ensures too_soon { at_end fails_twice (moves_of (Do 0 ∷ Do 1 ∷ [])) (λ w. w.phase) ≡ None }
 

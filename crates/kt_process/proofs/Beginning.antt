@@ -12,7 +12,7 @@ use Rattle.kt_tables.specs.Standing.{StandsFor}
 use Rattle.kt_tables.specs.States.{State}
 use Rattle.kt_parts.specs.Joins.{Joins}
 use Rattle.kt_parts.specs.Rules.{way_on, way_alone}
-use Rattle.kt_parts.specs.Shares.{Share}
+use Rattle.kt_parts.specs.Parts.{Part}
 use Rattle.kt_parts.specs.declared.actions.Action.{Action}
 use Rattle.kt_parts.specs.declared.actions.Action.TheVariants.{Nothing, Refuse, Join, Reply, Settle}
 use Rattle.kt_parts.specs.declared.actions.Then.{Then}
@@ -22,10 +22,10 @@ use Rattle.kt_roll.specs.Rules as roll
 use Rattle.kt_roll.specs.Actions as roll_actions
 use Rattle.kt_roll.specs.Notes.{note_of}
 use Rattle.kt_roll.specs.Sides.{RollSide}
-use Rattle.kt_seen.specs.Seen.{SeenPart, no_part, SeenPerson}
+use Rattle.kt_seen.specs.Seen.{SeenPart, no_part, SeenProcess}
 use Rattle.kt_seen.specs.SeenJoining.{no_note, new_part}
 use Rattle.kt_seen.specs.CallTests.{is_asked_in_checkpoint, is_asked_in_rollback}
-use Rattle.kt_process.specs.Persons.{Person, part_of_side, inst_of, IsNumbered}
+use Rattle.kt_process.specs.ProcessStates.{ProcessState, part_of_side, inst_of, IsNumbered}
 use Rattle.kt_process.specs.declared.side.Side.{Side}
 use Rattle.kt_process.specs.declared.side.Side.TheVariants as side
 use Rattle.kt_process.specs.Shown.{IsSeenAs, BeginsAs, IsJoined, begin_cause, mark_of, no_mark, inst_shown, part_as, goes_on, joined_as}
@@ -35,7 +35,7 @@ pub is_some : (n : ℕ) → 1 ≤ n → (n == 0) ≡ false
 is_some n h = grind (arith, nat_tests)
 
 -- why it does not begin a checkpoint
-pub save_cause : (x : Option Side) (able up : Bool) (y : SeenPerson) → IsNumbered (part_of_side x) → inst_shown x ≡ y.inst → up ≡ y.up → ckpt.refusal (inst_of x) up able ≡ begin_cause kind.Checkpoint able y
+pub save_cause : (x : Option Side) (able up : Bool) (y : SeenProcess) → IsNumbered (part_of_side x) → inst_shown x ≡ y.inst → up ≡ y.up → ckpt.refusal (inst_of x) up able ≡ begin_cause kind.Checkpoint able y
 save_cause x able up y h i u = rw (← i, ← u) (at_side x able up h)
   where
     busy : (n : ℕ) (up able : Bool) → 1 ≤ n → Some (Busy n) ≡ (if not (n == 0) then Some (Busy n) else if able && up then None else Some (Rattle.kt_protocol.specs.Replies.unable_cause up))
@@ -50,11 +50,11 @@ save_cause x able up y h i u = rw (← i, ← u) (at_side x able up h)
     at_side (Some (side.Checkpoint s)) able up h = busy s.part.inst up able h
     at_side (Some (side.Rollback s)) able up h = busy s.part.inst up able h
 
-cause_as : (s : Standing) (x : Option Side) (able : Bool) (y : SeenPerson) → s.able ≡ able → IsNumbered (part_of_side x) → s.in_inst ≡ inst_of x → inst_shown x ≡ y.inst → s.up ≡ y.up → ckpt.refusal s.in_inst s.up s.able ≡ begin_cause kind.Checkpoint able y
+cause_as : (s : Standing) (x : Option Side) (able : Bool) (y : SeenProcess) → s.able ≡ able → IsNumbered (part_of_side x) → s.in_inst ≡ inst_of x → inst_shown x ≡ y.inst → s.up ≡ y.up → ckpt.refusal s.in_inst s.up s.able ≡ begin_cause kind.Checkpoint able y
 cause_as s x able y a num i j u = rw (i, a) (save_cause x able s.up y num j u)
 
 -- why it does not begin a rollback
-pub roll_cause : (x : Option Side) (able : Bool) (y : SeenPerson) → IsNumbered (part_of_side x) → inst_shown x ≡ y.inst → roll.refusal (inst_of x) ≡ begin_cause kind.Rollback able y
+pub roll_cause : (x : Option Side) (able : Bool) (y : SeenProcess) → IsNumbered (part_of_side x) → inst_shown x ≡ y.inst → roll.refusal (inst_of x) ≡ begin_cause kind.Rollback able y
 roll_cause x able y h i = rw (← i) (at_side x h)
   where
     busy : (n : ℕ) → 1 ≤ n → Some (Busy n) ≡ (if not (n == 0) then Some (Busy n) else None)
@@ -66,7 +66,7 @@ roll_cause x able y h i = rw (← i) (at_side x h)
     at_side (Some (side.Rollback s)) h = busy s.part.inst h
 
 -- it takes its tentative checkpoint
-pub joined_save_as : (x : Person) (y : SeenPerson) (t : State) (part : Share) (marks : List ℕ) (n k : ℕ) (parent : Option ℕ) (noted : ℕ → Option ℕ) (asks : List (ℕ × ℕ)) (goes : Then) →
+pub joined_save_as : (x : ProcessState) (y : SeenProcess) (t : State) (part : Part) (marks : List ℕ) (n k : ℕ) (parent : Option ℕ) (noted : ℕ → Option ℕ) (asks : List (ℕ × ℕ)) (goes : Then) →
     IsSeenAs x y → n ≤ 64 → Joins n k parent part (Join asks goes) → ((calls : List Call) → StandsFor x.tables calls → ckpt_actions.AsksCohort calls (Join asks goes)) →
     ((calls : List Call) → StandsFor x.tables calls → StandsFor t (calls ++ on_tentative ∷ [])) →
     IsJoined kind.Checkpoint n k parent (mark_of marks) noted y (record { tables = t; side = Some (side.Checkpoint (record { part = part; marks = marks })); up = x.up; used = x.used }) asks goes
@@ -80,7 +80,7 @@ joined_save_as x y t part marks n k parent noted asks goes h few joins cohort st
       way = joins.1 ∙ ap (λ (r : SeenPart). goes_on r) made;
     }
 
-pub begins_save : (x : Person) (y : SeenPerson) (t : State) (s : Standing) (able : Bool) (part : Share) (marks : List ℕ) (n k : ℕ) (action : Action) → s.able ≡ able → IsSeenAs x y → IsNumbered (part_of_side x.side) → n ≤ 64 →
+pub begins_save : (x : ProcessState) (y : SeenProcess) (t : State) (s : Standing) (able : Bool) (part : Part) (marks : List ℕ) (n k : ℕ) (action : Action) → s.able ≡ able → IsSeenAs x y → IsNumbered (part_of_side x.side) → n ≤ 64 →
     s.in_inst ≡ inst_of x.side → s.up ≡ x.up → ckpt_actions.IsStart s (Some part) action → Joins n k None part action → ((calls : List Call) → StandsFor x.tables calls → ckpt_actions.AsksCohort calls action) →
     ((calls : List Call) → StandsFor x.tables calls → StandsFor t (calls ++ on_tentative ∷ [])) →
     BeginsAs kind.Checkpoint able n k (mark_of marks) y (record { tables = t; side = Some (side.Checkpoint (record { part = part; marks = marks })); up = x.up; used = x.used }) action
@@ -94,7 +94,7 @@ begins_save x y t s able part marks n k (Reply to willing cause) a h num few i u
 begins_save x y t s able part marks n k (Settle commit tell) a h num few i u start joins cohort stands = absurd start
 
 -- it refuses
-pub refuses_save : (x : Person) (y : SeenPerson) (s : Standing) (able : Bool) (marks : ℕ → ℕ) (n k : ℕ) (action : Action) → s.able ≡ able → IsSeenAs x y → IsNumbered (part_of_side x.side) →
+pub refuses_save : (x : ProcessState) (y : SeenProcess) (s : Standing) (able : Bool) (marks : ℕ → ℕ) (n k : ℕ) (action : Action) → s.able ≡ able → IsSeenAs x y → IsNumbered (part_of_side x.side) →
     s.in_inst ≡ inst_of x.side → s.up ≡ x.up → ckpt_actions.IsStart s None action → BeginsAs kind.Checkpoint able n k marks y x action
 refuses_save x y s able marks n k (Refuse cause) a h num i u start = (sym (cause_as s x.side able y a num i h.inst (u ∙ h.up)) ∙ start, h)
 refuses_save x y s able marks n k Nothing a h num i u start = absurd start
@@ -103,7 +103,7 @@ refuses_save x y s able marks n k (Reply to willing cause) a h num i u start = a
 refuses_save x y s able marks n k (Settle commit tell) a h num i u start = absurd start
 
 -- it gets ready
-pub joined_roll_as : (x : Person) (y : SeenPerson) (r : RollSide) (n k : ℕ) (parent : Option ℕ) (marks : ℕ → ℕ) (noted : ℕ → Option ℕ) (asks : List (ℕ × ℕ)) (goes : Then) →
+pub joined_roll_as : (x : ProcessState) (y : SeenProcess) (r : RollSide) (n k : ℕ) (parent : Option ℕ) (marks : ℕ → ℕ) (noted : ℕ → Option ℕ) (asks : List (ℕ × ℕ)) (goes : Then) →
     IsSeenAs x y → n ≤ 64 → Joins n k parent r.part (Join asks goes) → ((calls : List Call) → StandsFor x.tables calls → roll_actions.AsksCohort calls (Join asks goes)) →
     note_of r.notes ≡ noted → IsJoined kind.Rollback n k parent marks noted y (record x { side = Some (side.Rollback r) }) asks goes
 unfolding roll.is_asked roll.asked_label is_asked_in_rollback Rattle.kt_seen.specs.CallTests.rollback_label
@@ -116,7 +116,7 @@ joined_roll_as x y r n k parent marks noted asks goes h few joins cohort notes =
       way = joins.1 ∙ ap (λ (r : SeenPart). goes_on r) made;
     }
 
-pub begins_roll : (x : Person) (y : SeenPerson) (s : Standing) (r : RollSide) (marks : ℕ → ℕ) (n k : ℕ) (action : Action) → IsSeenAs x y → IsNumbered (part_of_side x.side) → n ≤ 64 →
+pub begins_roll : (x : ProcessState) (y : SeenProcess) (s : Standing) (r : RollSide) (marks : ℕ → ℕ) (n k : ℕ) (action : Action) → IsSeenAs x y → IsNumbered (part_of_side x.side) → n ≤ 64 →
     s.in_inst ≡ inst_of x.side → roll_actions.IsStart s (Some r) action → Joins n k None r.part action → ((calls : List Call) → StandsFor x.tables calls → roll_actions.AsksCohort calls action) →
     note_of r.notes ≡ no_note → BeginsAs kind.Rollback true n k marks y (record x { side = Some (side.Rollback r) }) action
 begins_roll x y s r marks n k (Join asks goes) h num few i start joins cohort notes = (
@@ -128,7 +128,7 @@ begins_roll x y s r marks n k (Refuse cause) h num few i start joins cohort note
 begins_roll x y s r marks n k (Reply to willing cause) h num few i start joins cohort notes = absurd start
 begins_roll x y s r marks n k (Settle commit tell) h num few i start joins cohort notes = absurd start
 
-pub refuses_roll : (x : Person) (y : SeenPerson) (s : Standing) (marks : ℕ → ℕ) (n k : ℕ) (action : Action) → IsSeenAs x y → IsNumbered (part_of_side x.side) →
+pub refuses_roll : (x : ProcessState) (y : SeenProcess) (s : Standing) (marks : ℕ → ℕ) (n k : ℕ) (action : Action) → IsSeenAs x y → IsNumbered (part_of_side x.side) →
     s.in_inst ≡ inst_of x.side → roll_actions.IsStart s None action → BeginsAs kind.Rollback true n k marks y x action
 refuses_roll x y s marks n k (Refuse cause) h num i start = (sym (ap (λ (o : Option ℕ). roll.refusal o) i ∙ roll_cause x.side true y num h.inst) ∙ start, h)
 refuses_roll x y s marks n k Nothing h num i start = absurd start

@@ -7,7 +7,7 @@ use Rattle.kt_base.specs.Sets.{has, count_below, count_of}
 use Rattle.kt_tables.specs.Peers.{IsCohort, count_peers}
 use Rattle.kt_parts.specs.Asks.{is_asked_in}
 use Rattle.kt_parts.specs.Joins.{IsJoin}
-use Rattle.kt_parts.specs.Shares.{Share}
+use Rattle.kt_parts.specs.Parts.{Part}
 use Rattle.kt_seen.specs.Seen.{SeenPart}
 use Rattle.kt_seen.specs.SeenJoining.{new_part}
 use Rattle.kt_process.specs.Shown.{part_as}
@@ -69,7 +69,7 @@ count_more n (suc k) test h =
 count_within : (n : ℕ) (set : ℕ) (test : ℕ → Bool) → n ≤ 64 → ((q : ℕ) → has set q ≡ test q) → ((q : ℕ) → test q ≡ true → q < n) → count_of set ≡ count_peers n test
 count_within n set test b h k = count_same set 64 test h ∙ (ap (λ (m : ℕ). count_peers m test) (let e : 64 ≡ (64 - n) + n = omega arith in e) ∙ count_more n (64 - n) test k)
 
-pub made_part : (n k : ℕ) (roll : Bool) (parent : Option ℕ) (noted : ℕ → Option ℕ) (marks : ℕ → ℕ) (part : Share) (asks : Pairs) (test : ℕ → Bool) (label : ℕ → ℕ) →
+pub made_part : (n k : ℕ) (roll : Bool) (parent : Option ℕ) (noted : ℕ → Option ℕ) (marks : ℕ → ℕ) (part : Part) (asks : Pairs) (test : ℕ → Bool) (label : ℕ → ℕ) →
     n ≤ 64 → IsJoin n k parent part asks → IsCohort asks test label → part_as roll part noted marks ≡ new_part n roll parent test noted marks
 made_part n k roll parent noted marks part asks test label few join cohort =
     let is : (q : ℕ) → has part.asked q ≡ test q = λ q. join.part.asked q ∙ cohort_asked asks test label cohort q in

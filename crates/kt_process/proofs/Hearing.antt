@@ -19,7 +19,7 @@ use Rattle.kt_tables.proofs.LabelLists.{least_decides, greatest_decides}
 use Rattle.kt_tables.proofs.Tests.{up_to_test, above_test}
 use Rattle.kt_parts.specs.Answers.{Answer, replies, joins}
 use Rattle.kt_parts.specs.Joins.{Joins}
-use Rattle.kt_parts.specs.Shares.{Share}
+use Rattle.kt_parts.specs.Parts.{Part}
 use Rattle.kt_parts.specs.declared.actions.Action.{Action}
 use Rattle.kt_parts.specs.declared.actions.Action.TheVariants.{Nothing, Refuse, Join, Reply, Settle}
 use Rattle.kt_ckpt.specs.Rules as ckpt
@@ -28,10 +28,10 @@ use Rattle.kt_roll.specs.Rules as roll
 use Rattle.kt_roll.specs.Actions as roll_actions
 use Rattle.kt_roll.specs.Notes.{note_of, with_note}
 use Rattle.kt_roll.specs.Sides.{RollSide, IsAfter}
-use Rattle.kt_seen.specs.Seen.{SeenPart, SeenPerson}
+use Rattle.kt_seen.specs.Seen.{SeenPart, SeenProcess}
 use Rattle.kt_seen.specs.SeenJoining.{no_note, part_after_ask}
 use Rattle.kt_seen.specs.CallTests.{must_take, must_roll}
-use Rattle.kt_process.specs.Persons.{Person, part_of_side, inst_of, is_ready, IsNumbered}
+use Rattle.kt_process.specs.ProcessStates.{ProcessState, part_of_side, inst_of, is_ready, IsNumbered}
 use Rattle.kt_process.specs.declared.side.Side.{Side}
 use Rattle.kt_process.specs.declared.side.Side.TheVariants as side
 use Rattle.kt_process.specs.Shown.{IsSeenAs, part_shown, HearsAs, answer_as, answer_by, noted_as, mark_of, no_mark, inst_shown, part_as}
@@ -71,7 +71,7 @@ zero_other : (k : ℕ) → 1 ≤ k → (0 == k) ≡ false
 zero_other k h = grind (arith, nat_tests)
 
 -- what comes of an ask to take a checkpoint
-pub save_answer : (x : Option Side) (able up : Bool) (q k l : ℕ) (y : SeenPerson) → IsNumbered (part_of_side x) → inst_shown x ≡ y.inst → up ≡ y.up → 1 ≤ k → Speaks y.calls →
+pub save_answer : (x : Option Side) (able up : Bool) (q k l : ℕ) (y : SeenProcess) → IsNumbered (part_of_side x) → inst_shown x ≡ y.inst → up ≡ y.up → 1 ≤ k → Speaks y.calls →
     ckpt.answer (inst_of x) up able k (ckpt.must_join y.calls q l) ≡ answer_as kind.Checkpoint able q k l y
 save_answer x able up q k l y num i u k1 speaks = rw (← i, ← u, takes_as y.calls q l speaks) (at_side x (must_take y.calls q l) num)
   where
@@ -93,7 +93,7 @@ save_answer x able up q k l y num i u k1 speaks = rw (← i, ← u, takes_as y.c
     at_side (Some (side.Checkpoint s)) must h = busy s.part.inst _ h
     at_side (Some (side.Rollback s)) must h = busy s.part.inst _ h
 
-pub roll_answer : (x : Option Side) (able : Bool) (q k l : ℕ) (y : SeenPerson) → IsNumbered (part_of_side x) → inst_shown x ≡ y.inst → 1 ≤ k →
+pub roll_answer : (x : Option Side) (able : Bool) (q k l : ℕ) (y : SeenProcess) → IsNumbered (part_of_side x) → inst_shown x ≡ y.inst → 1 ≤ k →
     roll.answer (inst_of x) k (roll.must_join y.calls q l) ≡ answer_as kind.Rollback able q k l y
 roll_answer x able q k l y num i k1 = rw (← i, rolls_as y.calls q l) (at_side x (must_roll y.calls q l) num)
   where
@@ -110,11 +110,11 @@ roll_answer x able q k l y num i k1 = rw (← i, rolls_as y.calls q l) (at_side 
     at_side (Some (side.Checkpoint s)) must h = busy s.part.inst _ h
     at_side (Some (side.Rollback s)) must h = busy s.part.inst _ h
 
-answer_is : (s : Standing) (x : Option Side) (able : Bool) (q k l : ℕ) (y : SeenPerson) → s.able ≡ able → IsNumbered (part_of_side x) → s.in_inst ≡ inst_of x → inst_shown x ≡ y.inst → s.up ≡ y.up → 1 ≤ k → Speaks y.calls →
+answer_is : (s : Standing) (x : Option Side) (able : Bool) (q k l : ℕ) (y : SeenProcess) → s.able ≡ able → IsNumbered (part_of_side x) → s.in_inst ≡ inst_of x → inst_shown x ≡ y.inst → s.up ≡ y.up → 1 ≤ k → Speaks y.calls →
     ckpt.answer s.in_inst s.up s.able k (ckpt.must_join y.calls q l) ≡ answer_as kind.Checkpoint able q k l y
 answer_is s x able q k l y a num i j u k1 speaks = rw (i, a) (save_answer x able s.up q k l y num j u k1 speaks)
 
-pub hears_save : (x : Person) (y : SeenPerson) (t : State) (s : Standing) (able : Bool) (part : Share) (marks : List ℕ) (n q k l : ℕ) (action : Action) → s.able ≡ able → IsSeenAs x y → IsNumbered (part_of_side x.side) → n ≤ 64 → 1 ≤ k →
+pub hears_save : (x : ProcessState) (y : SeenProcess) (t : State) (s : Standing) (able : Bool) (part : Part) (marks : List ℕ) (n q k l : ℕ) (action : Action) → s.able ≡ able → IsSeenAs x y → IsNumbered (part_of_side x.side) → n ≤ 64 → 1 ≤ k →
     s.in_inst ≡ inst_of x.side → s.up ≡ x.up → ((calls : List Call) → StandsFor x.tables calls → ckpt_actions.IsAnswer calls s k q l (Some part) action) → Joins n k (Some q) part action →
     ((calls : List Call) → StandsFor x.tables calls → ckpt_actions.AsksCohort calls action) → ((calls : List Call) → StandsFor x.tables calls → StandsFor t (calls ++ on_tentative ∷ [])) →
     HearsAs kind.Checkpoint able n q k l (mark_of marks) y (record { tables = t; side = Some (side.Checkpoint (record { part = part; marks = marks })); up = x.up; used = x.used }) action
@@ -128,7 +128,7 @@ hears_save x y t s able part marks n q k l (Reply to willing cause) a h num few 
 hears_save x y t s able part marks n q k l (Settle commit tell) a h num few k1 i u rule join cohort stands = absurd join
 
 -- it replies, and stays where it is
-pub replies_save : (x : Person) (y : SeenPerson) (s : Standing) (able : Bool) (marks : ℕ → ℕ) (n q k l : ℕ) (action : Action) → s.able ≡ able → IsSeenAs x y → IsNumbered (part_of_side x.side) → 1 ≤ k →
+pub replies_save : (x : ProcessState) (y : SeenProcess) (s : Standing) (able : Bool) (marks : ℕ → ℕ) (n q k l : ℕ) (action : Action) → s.able ≡ able → IsSeenAs x y → IsNumbered (part_of_side x.side) → 1 ≤ k →
     s.in_inst ≡ inst_of x.side → s.up ≡ x.up → ((calls : List Call) → StandsFor x.tables calls → ckpt_actions.IsAnswer calls s k q l None action) → HearsAs kind.Checkpoint able n q k l marks y x action
 replies_save x y s able marks n q k l (Reply to willing cause) a h num k1 i u rule =
     let r = rule y.calls h.stands in
@@ -138,7 +138,7 @@ replies_save x y s able marks n q k l (Refuse cause) a h num k1 i u rule = absur
 replies_save x y s able marks n q k l (Join asks goes) a h num k1 i u rule = absurd (rule y.calls h.stands)
 replies_save x y s able marks n q k l (Settle commit tell) a h num k1 i u rule = absurd (rule y.calls h.stands)
 
-pub hears_roll : (x : Person) (y : SeenPerson) (s : Standing) (r : RollSide) (marks : ℕ → ℕ) (n q k l : ℕ) (action : Action) → IsSeenAs x y → IsNumbered (part_of_side x.side) → n ≤ 64 → 1 ≤ k →
+pub hears_roll : (x : ProcessState) (y : SeenProcess) (s : Standing) (r : RollSide) (marks : ℕ → ℕ) (n q k l : ℕ) (action : Action) → IsSeenAs x y → IsNumbered (part_of_side x.side) → n ≤ 64 → 1 ≤ k →
     s.in_inst ≡ inst_of x.side → ((calls : List Call) → StandsFor x.tables calls → roll_actions.IsAnswer calls s k q l (Some r) action) → Joins n k (Some q) r.part action →
     ((calls : List Call) → StandsFor x.tables calls → roll_actions.AsksCohort calls action) → note_of r.notes ≡ with_note q l no_note →
     HearsAs kind.Rollback true n q k l marks y (record x { side = Some (side.Rollback r) }) action
@@ -152,7 +152,7 @@ hears_roll x y s r marks n q k l (Reply to willing cause) h num few k1 i rule jo
 hears_roll x y s r marks n q k l (Settle commit tell) h num few k1 i rule join cohort notes = absurd join
 
 -- it replies; the process becomes one that has noted
-pub replies_roll : (x new : Person) (y : SeenPerson) (s : Standing) (marks : ℕ → ℕ) (n q k l : ℕ) (action : Action) → IsSeenAs x y → IsNumbered (part_of_side x.side) → 1 ≤ k →
+pub replies_roll : (x new : ProcessState) (y : SeenProcess) (s : Standing) (marks : ℕ → ℕ) (n q k l : ℕ) (action : Action) → IsSeenAs x y → IsNumbered (part_of_side x.side) → 1 ≤ k →
     s.in_inst ≡ inst_of x.side → ((calls : List Call) → StandsFor x.tables calls → roll_actions.IsAnswer calls s k q l None action) → IsSeenAs new (noted_as kind.Rollback q k l y) →
     HearsAs kind.Rollback true n q k l marks y new action
 replies_roll x new y s marks n q k l (Reply to willing cause) h num k1 i rule noted =
@@ -167,7 +167,7 @@ noting_none : (r : SeenPart) (q l : ℕ) → r.is_rollback ≡ false → part_af
 noting_none r q l e = rw e refl
 
 -- a process that is in no rollback notes nothing
-pub notes_nothing : (x : Person) (y : SeenPerson) (q k l : ℕ) → IsSeenAs x y → is_ready x.side ≡ false → 1 ≤ k → IsSeenAs x (noted_as kind.Rollback q k l y)
+pub notes_nothing : (x : ProcessState) (y : SeenProcess) (q k l : ℕ) → IsSeenAs x y → is_ready x.side ≡ false → 1 ≤ k → IsSeenAs x (noted_as kind.Rollback q k l y)
 notes_nothing x y q k l h free k1 = at_side x.side h.inst h.part free
   where
     same : y.part.is_rollback ≡ false → (b : Bool) → IsSeenAs x (if b then record y { part = part_after_ask y.part q l } else y)
@@ -183,7 +183,7 @@ notes_nothing x y q k l h free k1 = at_side x.side h.inst h.part free
     at_side (Some (side.Rollback s)) i p f = absurd (cc (f))
 
 -- a process that is in a rollback notes the label of an ask for that one
-pub notes_label : (x : Person) (y : SeenPerson) (r new : RollSide) (q k l : ℕ) → x.side ≡ Some (side.Rollback r) → IsSeenAs x y → IsAfter (roll.is_in (inst_of x.side) k) q l r new →
+pub notes_label : (x : ProcessState) (y : SeenProcess) (r new : RollSide) (q k l : ℕ) → x.side ≡ Some (side.Rollback r) → IsSeenAs x y → IsAfter (roll.is_in (inst_of x.side) k) q l r new →
     IsSeenAs (record x { side = Some (side.Rollback new) }) (noted_as kind.Rollback q k l y)
 notes_label x y r new q k l is h after =
     let i : r.part.inst ≡ y.inst = subst (λ (s : Option Side). inst_shown s ≡ y.inst) is h.inst in
@@ -196,8 +196,8 @@ notes_label x y r new q k l is h after =
     at_test false a i p = record { stands = h.stands; inst = ap (λ (s : RollSide). s.part.inst) a ∙ i; part = ap (λ (s : RollSide). part_as true s.part (note_of s.notes) no_mark) a ∙ p; up = h.up; used = h.used }
     at_test true a i p = record {
       stands = h.stands;
-      inst = ap (λ (s : Share). s.inst) a.part ∙ i;
-      part = ap (λ (s : Share). part_as true s (note_of new.notes) no_mark) a.part ∙ (ap (λ (f : ℕ → Option ℕ). part_as true r.part f no_mark) a.noted ∙ ap (λ (s : SeenPart). part_after_ask s q l) p);
+      inst = ap (λ (s : Part). s.inst) a.part ∙ i;
+      part = ap (λ (s : Part). part_as true s (note_of new.notes) no_mark) a.part ∙ (ap (λ (f : ℕ → Option ℕ). part_as true r.part f no_mark) a.noted ∙ ap (λ (s : SeenPart). part_after_ask s q l) p);
       up = h.up;
       used = h.used;
     }

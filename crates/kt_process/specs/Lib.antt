@@ -1,4 +1,4 @@
-pub mod Persons
+pub mod ProcessStates
 pub mod Sides
 pub mod Turns
 pub mod Shown

@@ -12,18 +12,18 @@ use Rattle.kt_tables.specs.Peers.{IsCohort}
 use Rattle.kt_tables.specs.Standing.{StandsFor}
 use Rattle.kt_parts.specs.Answers.{Answer, replies, joins}
 use Rattle.kt_parts.specs.Rules.{way_alone}
-use Rattle.kt_parts.specs.Shares.{Share}
+use Rattle.kt_parts.specs.Parts.{Part}
 use Rattle.kt_parts.specs.declared.actions.Action.{Action}
 use Rattle.kt_parts.specs.declared.actions.Action.TheVariants.{Nothing, Refuse, Join, Reply, Settle}
 use Rattle.kt_parts.specs.declared.actions.Then.{Then}
 use Rattle.kt_parts.specs.declared.actions.Then.TheVariants.{Wait}
 use Rattle.kt_roll.specs.Notes.{note_of}
-use Rattle.kt_seen.specs.Seen.{SeenPart, no_part, SeenPerson}
+use Rattle.kt_seen.specs.Seen.{SeenPart, no_part, SeenProcess}
 use Rattle.kt_seen.specs.SeenJoining.{new_part, no_note, part_after_ask}
 use Rattle.kt_seen.specs.CallTests.{must_take, must_roll, is_asked_in_checkpoint, checkpoint_label, is_asked_in_rollback, rollback_label}
 use Rattle.kt_seen.specs.SeenReplies.{part_after_reply}
-use Rattle.kt_seen.specs.InOnePiece.{person_after_checkpoint, person_after_rollback}
-use Rattle.kt_process.specs.Persons.{Person}
+use Rattle.kt_seen.specs.InOnePiece.{process_after_checkpoint, process_after_rollback}
+use Rattle.kt_process.specs.ProcessStates.{ProcessState}
 use Rattle.kt_process.specs.declared.side.Side.{Side}
 use Rattle.kt_process.specs.declared.side.Side.TheVariants as side
 
@@ -35,7 +35,7 @@ abbrev pub no_mark : ℕ → ℕ
 no_mark q = 0
 
 -- its part in an instance, and the instance; 0 for none
-abbrev pub part_as : Bool → Share → (ℕ → Option ℕ) → (ℕ → ℕ) → SeenPart
+abbrev pub part_as : Bool → Part → (ℕ → Option ℕ) → (ℕ → ℕ) → SeenPart
 part_as roll part noted marks = record { is_rollback = roll; parent = part.parent; asked = has part.asked; awaited = part.awaited; willing = part.willing; noted = noted; marks = marks }
 
 abbrev pub part_shown : Option Side → SeenPart
@@ -49,7 +49,7 @@ inst_shown (Some (side.Checkpoint s)) = s.part.inst
 inst_shown (Some (side.Rollback s)) = s.part.inst
 
 -- a process is the one that the machine has
-pub record IsSeenAs (x : Person) (y : SeenPerson) : Type 0 where
+pub record IsSeenAs (x : ProcessState) (y : SeenProcess) : Type 0 where
   pub stands : StandsFor x.tables y.calls
   pub inst : inst_shown x.side ≡ y.inst
   pub part : part_shown x.side ≡ y.part
@@ -67,7 +67,7 @@ label_by Rollback calls = rollback_label calls
 
 -- a process that has joined instance k of a kind, among n processes: a checkpoint with these marks, a rollback with
 -- these labels noted
-abbrev pub joined_as : Kind → ℕ → ℕ → Option ℕ → (ℕ → ℕ) → (ℕ → Option ℕ) → SeenPerson → SeenPerson
+abbrev pub joined_as : Kind → ℕ → ℕ → Option ℕ → (ℕ → ℕ) → (ℕ → Option ℕ) → SeenProcess → SeenProcess
 joined_as Checkpoint n k parent marks noted y =
     record y { calls = y.calls ++ on_tentative ∷ []; inst = k; part = new_part n false parent (is_asked_in_checkpoint y.calls) no_note marks }
 joined_as Rollback n k parent marks noted y = record y { inst = k; part = new_part n true parent (is_asked_in_rollback y.calls) noted no_mark }
@@ -77,49 +77,49 @@ abbrev pub goes_on : SeenPart → Then
 goes_on part = if part.awaited == 0 then way_alone part.parent else Wait
 
 -- it joins so, asks its cohort, and goes on
-pub record IsJoined (kind : Kind) (n k : ℕ) (parent : Option ℕ) (marks : ℕ → ℕ) (noted : ℕ → Option ℕ) (y : SeenPerson) (new : Person) (asks : List (ℕ × ℕ)) (goes : Then) : Type 0 where
+pub record IsJoined (kind : Kind) (n k : ℕ) (parent : Option ℕ) (marks : ℕ → ℕ) (noted : ℕ → Option ℕ) (y : SeenProcess) (new : ProcessState) (asks : List (ℕ × ℕ)) (goes : Then) : Type 0 where
   pub process : IsSeenAs new (joined_as kind n k parent marks noted y)
   pub cohort : IsCohort asks (asked_by kind y.calls) (label_by kind y.calls)
   pub way : goes ≡ goes_on (joined_as kind n k parent marks noted y).part
 
 -- why a process does not begin an instance
-abbrev pub begin_cause : Kind → Bool → SeenPerson → Option Cause
+abbrev pub begin_cause : Kind → Bool → SeenProcess → Option Cause
 begin_cause Checkpoint able y = if not (y.inst == 0) then Some (Busy y.inst) else if able && y.up then None else Some (unable_cause y.up)
 begin_cause Rollback able y = if not (y.inst == 0) then Some (Busy y.inst) else None
 
 -- a command to begin instance k among n processes: it refuses and stays as it is, or it joins
-abbrev pub BeginsAs : Kind → Bool → ℕ → ℕ → (ℕ → ℕ) → SeenPerson → Person → Action → Type 0
+abbrev pub BeginsAs : Kind → Bool → ℕ → ℕ → (ℕ → ℕ) → SeenProcess → ProcessState → Action → Type 0
 BeginsAs kind able n k marks y new (Refuse cause) = (begin_cause kind able y ≡ Some cause) × IsSeenAs new y
 BeginsAs kind able n k marks y new (Join asks goes) = (begin_cause kind able y ≡ None) × IsJoined kind n k None marks no_note y new asks goes
 BeginsAs kind able n k marks y new action = ⊥
 
 -- what comes of an ask to a process in no instance
-abbrev pub answer_by : Kind → Bool → ℕ → ℕ → SeenPerson → Answer
+abbrev pub answer_by : Kind → Bool → ℕ → ℕ → SeenProcess → Answer
 answer_by Checkpoint able q label y = if not (must_take y.calls q label) then replies true None else if not (able && y.up) then replies false (Some (unable_cause y.up)) else joins
 answer_by Rollback able q label y = if must_roll y.calls q label then joins else replies true None
 
 -- what comes of an ask of q for instance k
-abbrev pub answer_as : Kind → Bool → ℕ → ℕ → ℕ → SeenPerson → Answer
+abbrev pub answer_as : Kind → Bool → ℕ → ℕ → ℕ → SeenProcess → Answer
 answer_as kind able q k label y =
     if y.inst == k then replies true None
     else if not (y.inst == 0) then replies false (Some (Busy y.inst))
     else answer_by kind able q label y
 
 -- a process that is in instance k notes the label of an ask to roll back
-abbrev pub noted_as : Kind → ℕ → ℕ → ℕ → SeenPerson → SeenPerson
+abbrev pub noted_as : Kind → ℕ → ℕ → ℕ → SeenProcess → SeenProcess
 noted_as Checkpoint q k label y = y
 noted_as Rollback q k label y = if y.inst == k then record y { part = part_after_ask y.part q label } else y
 
 -- an ask of q for instance k among n processes: it replies, or it joins
-abbrev pub HearsAs : Kind → Bool → ℕ → ℕ → ℕ → ℕ → (ℕ → ℕ) → SeenPerson → Person → Action → Type 0
+abbrev pub HearsAs : Kind → Bool → ℕ → ℕ → ℕ → ℕ → (ℕ → ℕ) → SeenProcess → ProcessState → Action → Type 0
 HearsAs kind able n q k label marks y new (Reply to willing cause) = (to ≡ q) × (answer_as kind able q k label y ≡ replies willing cause) × IsSeenAs new (noted_as kind q k label y)
 HearsAs kind able n q k label marks y new (Join asks goes) = (answer_as kind able q k label y ≡ joins) × IsJoined kind n k (Some q) marks (at_one q (Some label) no_note) y new asks goes
 HearsAs kind able n q k label marks y new action = ⊥
 
 -- a process after a reply; what it does not await changes nothing
-abbrev pub counted_as : Bool → SeenPerson → SeenPerson
+abbrev pub counted_as : Bool → SeenProcess → SeenProcess
 counted_as willing y = if y.part.awaited == 0 then y else record y { part = part_after_reply y.part willing }
 
 -- a process that has closed its instance
-abbrev pub closed_as : Bool → SeenPerson → SeenPerson
-closed_as commit y = if y.part.is_rollback then person_after_rollback y commit else person_after_checkpoint y commit
+abbrev pub closed_as : Bool → SeenProcess → SeenProcess
+closed_as commit y = if y.part.is_rollback then process_after_rollback y commit else process_after_checkpoint y commit

@@ -8,9 +8,9 @@ ghost use Rattle.kt_tables.specs.Calls.{Call, sent, received, on_tentative, Spea
 ghost use Rattle.kt_tables.specs.Standing.{StandsFor, CanReceive};
 ghost use Rattle.kt_parts.specs.Rules.{after_reply, settle_action};
 ghost use Rattle.kt_roll.specs.Notes.{note_of};
-ghost use Rattle.kt_process.specs.Persons.{Person, part_of_side, is_saving, is_ready, inst_of, asked_of, IsNear, IsNumbered, Fits};
+ghost use Rattle.kt_process.specs.ProcessStates.{ProcessState, part_of_side, is_saving, is_ready, inst_of, asked_of, IsNear, IsNumbered, Fits};
 ghost use Rattle.kt_process.specs.Turns.{reply_of, HasPartners, IsTold, joins_by, peers_of, marks_of, noted_by, IsFresh, IsBegin, IsHeard};
-ghost use Rattle.kt_seen.specs.Seen.{SeenPerson};
+ghost use Rattle.kt_seen.specs.Seen.{SeenProcess};
 ghost use Rattle.kt_process.specs.Shown.{IsSeenAs, BeginsAs, HearsAs, counted_as, closed_as, mark_of, no_mark, inst_shown};
 
 use crate::side::{Saving, Side};
@@ -31,9 +31,9 @@ pub struct Process {
 }
 
 impl Model for Process {
-    ghost use Rattle.kt_process.specs.Persons.{Person, Fits};
+    ghost use Rattle.kt_process.specs.ProcessStates.{ProcessState, Fits};
 
-    ghost Value = { Person };
+    ghost Value = { ProcessState };
 
     ghost view = { λ p. record { tables = p.tables; side = p.side; up = p.up; used = p.labels } };
 
@@ -197,7 +197,7 @@ impl Process {
         ensures side { self.new.side ≡ self.old.side }
         ensures up { self.new.up ≡ self.old.up }
         ensures stands { (calls : List Call) → StandsFor self.old.tables calls → Speaks (calls ++ sent to result ∷ []) → StandsFor self.new.tables (calls ++ sent to result ∷ []) }
-        ensures shows { (y : SeenPerson) → IsSeenAs self.old y → Speaks (y.calls ++ sent to (y.used + 1) ∷ []) → IsSeenAs self.new (record y { calls = y.calls ++ sent to (y.used + 1) ∷ []; used = y.used + 1 }) }
+        ensures shows { (y : SeenProcess) → IsSeenAs self.old y → Speaks (y.calls ++ sent to (y.used + 1) ∷ []) → IsSeenAs self.new (record y { calls = y.calls ++ sent to (y.used + 1) ∷ []; used = y.used + 1 }) }
     {
         let label = self.labels.next().unwrap();
         self.tables.sent(to, label);
@@ -212,7 +212,7 @@ impl Process {
         ensures side { self.new.side ≡ self.old.side }
         ensures up { self.new.up ≡ self.old.up }
         ensures stands { (calls : List Call) → StandsFor self.old.tables calls → Speaks (calls ++ received from label ∷ []) → StandsFor self.new.tables (calls ++ received from label ∷ []) }
-        ensures shows { (y : SeenPerson) → IsSeenAs self.old y → Speaks (y.calls ++ received from label ∷ []) → IsSeenAs self.new (record y { calls = y.calls ++ received from label ∷ [] }) }
+        ensures shows { (y : SeenProcess) → IsSeenAs self.old y → Speaks (y.calls ++ received from label ∷ []) → IsSeenAs self.new (record y { calls = y.calls ++ received from label ∷ [] }) }
         ensures unnoted { (CanReceive self.old.tables from label → ⊥) → self.new ≡ self.old }
     {
         kt_tables::labels_that_follow();
@@ -224,7 +224,7 @@ impl Process {
     /// Its object fails.
     pub fn fail(&mut self)
         ensures fails { self.new ≡ record self.old { up = false } }
-        ensures shows { (y : SeenPerson) → IsSeenAs self.old y → IsSeenAs self.new (record y { up = false }) }
+        ensures shows { (y : SeenProcess) → IsSeenAs self.old y → IsSeenAs self.new (record y { up = false }) }
     {
         self.up = false;
     }
@@ -239,7 +239,7 @@ impl Process {
         requires { length marks.items ≡ self.old.tables.processes }
         ensures err { OnErr result (self.new ≡ self.old) }
         ensures begins { IfOk result (λ action. IsBegin kind.Checkpoint inst self.old self.new action) }
-        ensures shows { IfOk result (λ action. (y : SeenPerson) → IsSeenAs self.old y → BeginsAs kind.Checkpoint able self.old.tables.processes inst (mark_of marks.items) y self.new action) }
+        ensures shows { IfOk result (λ action. (y : SeenProcess) → IsSeenAs self.old y → BeginsAs kind.Checkpoint able self.old.tables.processes inst (mark_of marks.items) y self.new action) }
         ensures processes { self.new.tables.processes ≡ self.old.tables.processes }
         ensures used { self.new.used ≡ self.old.used }
         ensures up { self.new.up ≡ self.old.up }
@@ -256,7 +256,7 @@ impl Process {
     pub fn begin_rollback(&mut self, inst: InstNo) -> Result<Action, Memory>
         ensures err { OnErr result (self.new ≡ self.old) }
         ensures begins { IfOk result (λ action. IsBegin kind.Rollback inst self.old self.new action) }
-        ensures shows { IfOk result (λ action. (y : SeenPerson) → IsSeenAs self.old y → BeginsAs kind.Rollback true self.old.tables.processes inst no_mark y self.new action) }
+        ensures shows { IfOk result (λ action. (y : SeenProcess) → IsSeenAs self.old y → BeginsAs kind.Rollback true self.old.tables.processes inst no_mark y self.new action) }
         ensures processes { self.new.tables.processes ≡ self.old.tables.processes }
         ensures used { self.new.used ≡ self.old.used }
         ensures up { self.new.up ≡ self.old.up }
@@ -283,7 +283,7 @@ impl Process {
         requires marks { joins_by self.old kind.Checkpoint able from label ≡ true → length marks.items ≡ self.old.tables.processes }
         ensures err { OnErr result (self.new ≡ self.old) }
         ensures hears { IfOk result (λ action. IsHeard kind.Checkpoint able from inst label self.old self.new action) }
-        ensures shows { IfOk result (λ action. (y : SeenPerson) → IsSeenAs self.old y → HearsAs kind.Checkpoint able self.old.tables.processes from inst label (mark_of marks.items) y self.new action) }
+        ensures shows { IfOk result (λ action. (y : SeenProcess) → IsSeenAs self.old y → HearsAs kind.Checkpoint able self.old.tables.processes from inst label (mark_of marks.items) y self.new action) }
         ensures processes { self.new.tables.processes ≡ self.old.tables.processes }
         ensures used { self.new.used ≡ self.old.used }
         ensures up { self.new.up ≡ self.old.up }
@@ -306,7 +306,7 @@ impl Process {
         requires { from < self.old.tables.processes }
         ensures err { OnErr result (self.new ≡ self.old) }
         ensures hears { IfOk result (λ action. IsHeard kind.Rollback true from inst label self.old self.new action) }
-        ensures shows { IfOk result (λ action. (y : SeenPerson) → IsSeenAs self.old y → HearsAs kind.Rollback true self.old.tables.processes from inst label no_mark y self.new action) }
+        ensures shows { IfOk result (λ action. (y : SeenProcess) → IsSeenAs self.old y → HearsAs kind.Rollback true self.old.tables.processes from inst label no_mark y self.new action) }
         ensures processes { self.new.tables.processes ≡ self.old.tables.processes }
         ensures used { self.new.used ≡ self.old.used }
         ensures up { self.new.up ≡ self.old.up }
@@ -349,7 +349,7 @@ impl Process {
     pub fn hear_reply(&mut self, willing: bool) -> Action
         ensures action { result ≡ reply_of (part_of_side self.old.side) willing }
         ensures part { part_of_side self.new.side ≡ option_map (λ part. after_reply part willing) (part_of_side self.old.side) }
-        ensures shows { (y : SeenPerson) → IsSeenAs self.old y → IsSeenAs self.new (counted_as willing y) }
+        ensures shows { (y : SeenProcess) → IsSeenAs self.old y → IsSeenAs self.new (counted_as willing y) }
         ensures ready { is_ready self.new.side ≡ is_ready self.old.side }
         ensures tables { self.new.tables ≡ self.old.tables }
         ensures used { self.new.used ≡ self.old.used }
@@ -370,7 +370,7 @@ impl Process {
         ensures processes { self.new.tables.processes ≡ self.old.tables.processes }
         ensures used { self.new.used ≡ self.old.used }
         ensures up { self.new.up ≡ (self.old.up || (commit && is_ready self.old.side)) }
-        ensures shows { (y : SeenPerson) → IsSeenAs self.old y → (inst_of self.old.side ≡ None → ⊥) → IsSeenAs self.new (closed_as commit y) }
+        ensures shows { (y : SeenProcess) → IsSeenAs self.old y → (inst_of self.old.side ≡ None → ⊥) → IsSeenAs self.new (closed_as commit y) }
         ensures outside { inst_of self.old.side ≡ None → self.new ≡ self.old }
     {
         match self.side.take() {

@@ -1,4 +1,4 @@
--- Who has asks under way.
+-- Who has asks in transit.
 use Rattle.std.proofs.Common.{◌≡◌, ℕ, ◌≤◌, ◌<◌, Bool, true, false, List, [], ◌∷◌, refl, arith, inl, inr}
 use Rattle.std.proofs.lemmas.Bool.{cases_eq}
 use Rattle.std.proofs.lemmas.Bool.Decides.{nat_tests}
@@ -14,7 +14,7 @@ no_ask (Reply i w ∷ xs) h = let c = weigh_cons any_ask (Reply i w) xs in let d
 no_ask (Decide i w ∷ xs) h = let c = weigh_cons any_ask (Decide i w) xs in let d = no_ask xs (λ k. let a = h k in let b = weigh_cons (is_ask k) (Decide i w) xs in omega (arith, a, b)) in omega (arith, c, d)
 no_ask (Ask k l ∷ xs) h = let a = h k in let b = weigh_cons (is_ask k) (Ask k l) xs in absurd (grind (arith, nat_tests, a, b))
 
--- who is in no instance has no ask under way
+-- who is in no instance has no ask in transit
 pub closed_no_ask : (s : State) (p : ℕ) → s.so_far.open_in p ≡ 0 → Invariant s → (v : ℕ) → weigh any_ask (s.channel p v) ≡ 0
 closed_no_ask s p o g v = no_ask (s.channel p v) (λ k. let a = none k in grind (arith, nat_tests, g.asks.one_each k p v, a))
   where

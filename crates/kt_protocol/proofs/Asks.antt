@@ -24,7 +24,7 @@ use Rattle.kt_protocol.proofs.Closing.{tells_true, tells_false, tells}
 use Rattle.kt_protocol.proofs.JoiningCheckpoints.{same_weight, count_joins, linked_joins, ask_label_joins, linked_rollback_joins}
 use Rattle.kt_protocol.proofs.Joining.{Joining, Label, RollbackLabel}
 use Rattle.kt_protocol.proofs.JoiningRollbacks.{same_weight_rollback, count_joins_rollback, linked_rollback_rolls, linked_rolls, ask_label_rolls}
-use Rattle.kt_protocol.proofs.Deciding.{undecided_before, no_member_of_other, below, all_await_nobody}
+use Rattle.kt_protocol.proofs.Deciding.{undecided_before, no_member_of_other, below, all_await_none}
 use Rattle.kt_protocol.proofs.RollingBack.{still_got, saver}
 use Rattle.kt_protocol.proofs.NewMembers.{parent_joins}
 use Rattle.kt_spacetime.specs.declared.event.Event.{Event}
@@ -250,9 +250,9 @@ asks_answering s p k j0 a0 quiet g = record {
 }
 
 pub asks_aborting : (s : State) (p k : ℕ) → Invariant s → s.so_far.joined k p ≡ true → p ≡ s.initiator k → s.so_far.is_decided k ≡ false → s.so_far.has_unwilling k ≡ true → ((u v : ℕ) → s.awaits k u v ≡ false) → Asks (record s { log = s.log ++ Decided p k false ∷ []; so_far = summary_after s.so_far (Decided p k false) })
-asks_aborting s p k g j0 i d w all_await_nobody = record {
+asks_aborting s p k g j0 i d w all_await_none = record {
   one_each = g.asks.one_each;
-  awaits_joined = λ j u v a. grind (arith, nat_tests, g.asks.awaits_joined j u v a, all_await_nobody u v);
+  awaits_joined = λ j u v a. grind (arith, nat_tests, g.asks.awaits_joined j u v a, all_await_none u v);
   answered_awaits = g.asks.answered_awaits;
   parent_first = g.asks.parent_first;
   joined_low = λ j u a. grind (arith, g.asks.joined_low j u a);
@@ -264,9 +264,9 @@ asks_aborting s p k g j0 i d w all_await_nobody = record {
 }
 
 pub asks_committing_checkpoint : (s : State) (p k : ℕ) → Invariant s → s.so_far.is_rollback k ≡ false → s.so_far.joined k p ≡ true → p ≡ s.initiator k → s.so_far.is_decided k ≡ false → s.so_far.has_unwilling k ≡ false → ((u v : ℕ) → s.awaits k u v ≡ false) → Asks (after_deciding_as true false s p k)
-asks_committing_checkpoint s p k g r j0 i d w all_await_nobody = record {
+asks_committing_checkpoint s p k g r j0 i d w all_await_none = record {
   one_each = g.asks.one_each;
-  awaits_joined = λ j u v a. grind (arith, nat_tests, g.asks.awaits_joined j u v a, all_await_nobody u v);
+  awaits_joined = λ j u v a. grind (arith, nat_tests, g.asks.awaits_joined j u v a, all_await_none u v);
   answered_awaits = g.asks.answered_awaits;
   parent_first = g.asks.parent_first;
   joined_low = λ j u a. grind (arith, g.asks.joined_low j u a);
@@ -281,15 +281,15 @@ asks_committing_checkpoint s p k g r j0 i d w all_await_nobody = record {
     asked_far j l u v f c e = let n : j ≢ k = λ x. (let y : s.so_far.is_rollback k ≡ true = rw x at c in absurd (cc (y, r))) in rw (no_member_of_other s k j u g d f.1 n f.0) e
 
 pub asks_committing_rollback : (s : State) (p k : ℕ) → Invariant s → s.so_far.is_rollback k ≡ true → s.so_far.joined k p ≡ true → p ≡ s.initiator k → s.so_far.is_decided k ≡ false → s.so_far.has_unwilling k ≡ false → ((u v : ℕ) → s.awaits k u v ≡ false) → Asks (after_deciding_as true true s p k)
-asks_committing_rollback s p k g r j0 i d w all_await_nobody = record {
+asks_committing_rollback s p k g r j0 i d w all_await_none = record {
   one_each = g.asks.one_each;
-  awaits_joined = λ j u v a. grind (arith, nat_tests, g.asks.awaits_joined j u v a, all_await_nobody u v);
+  awaits_joined = λ j u v a. grind (arith, nat_tests, g.asks.awaits_joined j u v a, all_await_none u v);
   answered_awaits = g.asks.answered_awaits;
   parent_first = g.asks.parent_first;
   joined_low = λ j u a. grind (arith, g.asks.joined_low j u a);
-  ask_label = λ j l u v a. let f = asker_open s j l u v a g in let x = g.asks.ask_label j l u v a in (λ c. let y = x.0 c in let n = saver s k g d r w all_await_nobody j u (g.positions.member_open j u f.0 f.1) c in (still_got s k g d r w all_await_nobody l y.0 (rw y.1 n), y.1, y.2, y.3), x.1);
-  linked = λ j q a b c n. let x = undecided_before s k j b in let y = g.asks.linked j q a x.0 c n in let t = g.asks.parent_first j q a n in let z = no_member_of_other s k j (s.parent j q) g d x.0 x.1 t.0 in (still_got s k g d r w all_await_nobody (s.link j q) y.0 (rw y.2 z), y.1, y.2, y.3, y.4);
-  linked_rollback = λ j q a b c n. let x = undecided_before s k j b in let y = g.asks.linked_rollback j q a x.0 c n in let z = no_member_of_other s k j q g d x.0 x.1 a in (still_got s k g d r w all_await_nobody (s.link j q) y.0 (rw y.2 z), y.1, y.2, y.3);
+  ask_label = λ j l u v a. let f = asker_open s j l u v a g in let x = g.asks.ask_label j l u v a in (λ c. let y = x.0 c in let n = saver s k g d r w all_await_none j u (g.positions.member_open j u f.0 f.1) c in (still_got s k g d r w all_await_none l y.0 (rw y.1 n), y.1, y.2, y.3), x.1);
+  linked = λ j q a b c n. let x = undecided_before s k j b in let y = g.asks.linked j q a x.0 c n in let t = g.asks.parent_first j q a n in let z = no_member_of_other s k j (s.parent j q) g d x.0 x.1 t.0 in (still_got s k g d r w all_await_none (s.link j q) y.0 (rw y.2 z), y.1, y.2, y.3, y.4);
+  linked_rollback = λ j q a b c n. let x = undecided_before s k j b in let y = g.asks.linked_rollback j q a x.0 c n in let z = no_member_of_other s k j q g d x.0 x.1 a in (still_got s k g d r w all_await_none (s.link j q) y.0 (rw y.2 z), y.1, y.2, y.3);
   decide_is = λ j x u v a. grind (arith, nat_tests, g.asks.decide_is j x u v a);
   noted_is = λ j u y a. let x = g.asks.noted_is j u y a in (x.0, λ b. x.1 (undecided_before s k j b).0);
 }

@@ -27,7 +27,7 @@ use Rattle.kt_protocol.proofs.Replying.{ask_facts, undone_swapped}
 use Rattle.kt_protocol.proofs.JoiningCheckpoints.{consistent_joins, undone_joins}
 use Rattle.kt_protocol.proofs.Joining.{Joining, Label, RollbackLabel}
 use Rattle.kt_protocol.proofs.JoiningRollbacks.{consistent_rolls, undone_rolls}
-use Rattle.kt_protocol.proofs.Deciding.{checkpoint_cut_consistent, decision_holds, undecided_before, no_member_of_other, below, all_await_nobody}
+use Rattle.kt_protocol.proofs.Deciding.{checkpoint_cut_consistent, decision_holds, undecided_before, no_member_of_other, below, all_await_none}
 use Rattle.kt_protocol.proofs.RollingBack.{was_sent, was_got}
 use Rattle.kt_spacetime.specs.declared.event.Event.{Event}
 use Rattle.kt_protocol.proofs.RowFacts.{HoldsBefore}
@@ -164,32 +164,32 @@ consistent_answering s p k j0 a0 quiet g = record {
 }
 
 pub consistent_aborting : (s : State) (p k : ℕ) → Invariant s → s.so_far.joined k p ≡ true → p ≡ s.initiator k → s.so_far.is_decided k ≡ false → s.so_far.has_unwilling k ≡ true → ((u v : ℕ) → s.awaits k u v ≡ false) → Consistent (record s { log = s.log ++ Decided p k false ∷ []; so_far = summary_after s.so_far (Decided p k false) })
-consistent_aborting s p k g j0 i d w all_await_nobody = record {
+consistent_aborting s p k g j0 i d w all_await_none = record {
   sent_permanently = g.consistent.sent_permanently;
   sent_or_asked = λ j m b. g.consistent.sent_or_asked j m (undecided_before s k j b).0;
   undone_or_asked = λ j m b. g.consistent.undone_or_asked j m (undecided_before s k j b).0;
-  rows_hold = rows_hold_push s (Decided p k false) g (decision_holds s p k false g i d w all_await_nobody);
+  rows_hold = rows_hold_push s (Decided p k false) g (decision_holds s p k false g i d w all_await_none);
 }
 
 pub consistent_committing_checkpoint : (s : State) (p k : ℕ) → Invariant s → s.so_far.is_rollback k ≡ false → s.so_far.joined k p ≡ true → p ≡ s.initiator k → s.so_far.is_decided k ≡ false → s.so_far.has_unwilling k ≡ false → ((u v : ℕ) → s.awaits k u v ≡ false) → Consistent (after_deciding_as true false s p k)
-consistent_committing_checkpoint s p k g r j0 i d w all_await_nobody = record {
-  sent_permanently = λ m a l. checkpoint_cut_consistent s k g d r w all_await_nobody m a l;
+consistent_committing_checkpoint s p k g r j0 i d w all_await_none = record {
+  sent_permanently = λ m a l. checkpoint_cut_consistent s k g d r w all_await_none m a l;
   sent_or_asked = λ j m a b x y z u. let v = undecided_before s k j a in grind (arith, nat_tests, g.consistent.sent_or_asked j m v.0 b x y z u, g.positions.permanent_new k (s.so_far.from m));
   undone_or_asked = λ j m a b x y z. let v = undecided_before s k j a in let f = no_member_of_other s k j (s.so_far.from m) g d v.0 v.1 y in rw f (g.consistent.undone_or_asked j m v.0 b x y z);
-  rows_hold = rows_hold_push s (Decided p k true) g (decision_holds s p k true g i d w all_await_nobody);
+  rows_hold = rows_hold_push s (Decided p k true) g (decision_holds s p k true g i d w all_await_none);
 }
 
 pub consistent_committing_rollback : (s : State) (p k : ℕ) → Invariant s → s.so_far.is_rollback k ≡ true → s.so_far.joined k p ≡ true → p ≡ s.initiator k → s.so_far.is_decided k ≡ false → s.so_far.has_unwilling k ≡ false → ((u v : ℕ) → s.awaits k u v ≡ false) → Consistent (after_deciding_as true true s p k)
-consistent_committing_rollback s p k g r j0 i d w all_await_nobody = record {
-  sent_permanently = λ m a l. g.consistent.sent_permanently m (was_got s k g d r w all_await_nobody m a).0 l;
-  sent_or_asked = λ j m a b c e h l. g.consistent.sent_or_asked j m (undecided_before s k j a).0 b c e (was_got s k g d r w all_await_nobody m h).0 l;
+consistent_committing_rollback s p k g r j0 i d w all_await_none = record {
+  sent_permanently = λ m a l. g.consistent.sent_permanently m (was_got s k g d r w all_await_none m a).0 l;
+  sent_or_asked = λ j m a b c e h l. g.consistent.sent_or_asked j m (undecided_before s k j a).0 b c e (was_got s k g d r w all_await_none m h).0 l;
   undone_or_asked = undone_after;
-  rows_hold = rows_hold_push s (Decided p k true) g (decision_holds s p k true g i d w all_await_nobody);
+  rows_hold = rows_hold_push s (Decided p k true) g (decision_holds s p k true g i d w all_await_none);
 }
   where
     undone_after : (j m : ℕ) → at_one k true s.so_far.is_decided j ≡ false → s.so_far.is_rollback j ≡ true → s.so_far.has_unwilling j ≡ false → s.so_far.joined j (s.so_far.from m) ≡ true → (s.so_far.is_sent m && not (is_undone s.so_far k m)) ≡ true → s.so_far.permanent (s.so_far.from m) ≤ s.so_far.sent_at m →
         (0 < weigh (is_ask j) (s.channel (s.so_far.from m) (s.so_far.to m))) ⊎ ((weigh (is_message m) (s.channel (s.so_far.from m) (s.so_far.to m)) ≡ 0) × (((s.so_far.joined j (s.so_far.to m) ≡ true) × (s.noted j (s.so_far.to m) (s.so_far.from m) ≡ true)) ⊎ (((s.so_far.is_received m && not (is_unreceived s.so_far k m)) ≡ false) × (weigh (is_message m) (put_back (λ m. not (is_undone s.so_far k m)) (s.so_far.joined k) s.kept s.held (s.so_far.from m) (s.so_far.to m)) ≡ 0))))
-    undone_after j m a b c e h l = elim (g.consistent.undone_or_asked j m (undecided_before s k j a).0 b c e (was_sent s k g d r w all_await_nobody m h).0 l) [
+    undone_after j m a b c e h l = elim (g.consistent.undone_or_asked j m (undecided_before s k j a).0 b c e (was_sent s k g d r w all_await_none m h).0 l) [
       | inl x ↦ inl x
       | inr x ↦ inr (
         x.0,

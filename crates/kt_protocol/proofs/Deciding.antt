@@ -33,8 +33,8 @@ module _ (s : State) (k : ℕ) (g : Invariant s) (quiet : (v : ℕ) → s.awaits
   pub all_answered : (q : ℕ) → s.so_far.joined k q ≡ true → q ≢ s.initiator k → s.has_answered k q ≡ true
   all_answered q j n = below (suc (s.so_far.joined_at k q)) q (omega arith) j n
 
-  pub all_await_nobody : (u v : ℕ) → s.awaits k u v ≡ false
-  all_await_nobody u v = at_test (s.awaits k u v) refl
+  pub all_await_none : (u v : ℕ) → s.awaits k u v ≡ false
+  all_await_none u v = at_test (s.awaits k u v) refl
     where
       at_test : (b : Bool) → s.awaits k u v ≡ b → s.awaits k u v ≡ false
       at_test false e = e
@@ -67,7 +67,7 @@ module _ (s : State) (k : ℕ) (g : Invariant s) (quiet : (v : ℕ) → s.awaits
           let z = g.willing.somewhere k e d in
           let a = weigh_le (is_unwilling_reply k) (is_reply k) nay_reply (s.channel z.0 z.1) in
           let b = g.asks.one_each k z.1 z.0 in
-          let c = all_await_nobody z.1 z.0 in
+          let c = all_await_none z.1 z.0 in
           let n = not_sour z.0 in
           absurd (grind (arith, nat_tests, a, b, c, n, z.2))
 
@@ -79,27 +79,27 @@ ask_over k m (Ask j l) = grind (arith, nat_tests)
 
 -- the cut of a willing instance that awaits nobody
 pub sent_within_cut : (s : State) (k : ℕ) → Invariant s → s.so_far.is_decided k ≡ false → s.so_far.is_rollback k ≡ false → s.so_far.has_unwilling k ≡ false → ((u v : ℕ) → s.awaits k u v ≡ false) → (m : ℕ) → s.so_far.is_received m ≡ true → s.so_far.joined k (s.so_far.to m) ≡ true → s.so_far.received_at m < s.so_far.new k (s.so_far.to m) → s.so_far.sent_at m < checkpoint_cut_of s.so_far k (s.so_far.from m)
-sent_within_cut s k g d r w all_await_nobody m a j l = elim (g.consistent.sent_or_asked k m d r w j a l) [
+sent_within_cut s k g d r w all_await_none m a j l = elim (g.consistent.sent_or_asked k m d r w j a l) [
   | inl x ↦ x
   | inr y ↦ (
       let b = weigh_le (is_ask_over k m) (is_ask k) (ask_over k m) (s.channel (s.so_far.to m) (s.so_far.from m)) in
       let c = g.asks.one_each k (s.so_far.to m) (s.so_far.from m) in
-      let e = all_await_nobody (s.so_far.to m) (s.so_far.from m) in
+      let e = all_await_none (s.so_far.to m) (s.so_far.from m) in
       absurd (grind (arith, nat_tests, b, c, e)))
 ]
 
 pub checkpoint_cut_consistent : (s : State) (k : ℕ) → Invariant s → s.so_far.is_decided k ≡ false → s.so_far.is_rollback k ≡ false → s.so_far.has_unwilling k ≡ false → ((u v : ℕ) → s.awaits k u v ≡ false) → (m : ℕ) → s.so_far.is_received m ≡ true → s.so_far.received_at m < checkpoint_cut_of s.so_far k (s.so_far.to m) → s.so_far.sent_at m < checkpoint_cut_of s.so_far k (s.so_far.from m)
-checkpoint_cut_consistent s k g d r w all_await_nobody m a l = at_test (s.so_far.joined k (s.so_far.to m)) refl
+checkpoint_cut_consistent s k g d r w all_await_none m a l = at_test (s.so_far.joined k (s.so_far.to m)) refl
   where
     at_test : (b : Bool) → s.so_far.joined k (s.so_far.to m) ≡ b → s.so_far.sent_at m < checkpoint_cut_of s.so_far k (s.so_far.from m)
-    at_test true e = sent_within_cut s k g d r w all_await_nobody m a e (grind (arith, l, e))
+    at_test true e = sent_within_cut s k g d r w all_await_none m a e (grind (arith, l, e))
     at_test false e = grind (arith, nat_tests, l, g.consistent.sent_permanently m a, g.positions.permanent_new k (s.so_far.from m))
 
 -- where nobody is awaited, what a member would undo is received_by_members but at members
 pub received_by_members : (s : State) (k : ℕ) → Invariant s → s.so_far.is_decided k ≡ false → s.so_far.is_rollback k ≡ true → s.so_far.has_unwilling k ≡ false → ((u v : ℕ) → s.awaits k u v ≡ false) → (m : ℕ) → s.so_far.is_sent m ≡ true → is_undone s.so_far k m ≡ true →
     (weigh (is_message m) (s.channel (s.so_far.from m) (s.so_far.to m)) ≡ 0) × (((s.so_far.joined k (s.so_far.to m) ≡ true) × (s.noted k (s.so_far.to m) (s.so_far.from m) ≡ true)) ⊎ ((s.so_far.is_received m ≡ false) × (weigh (is_message m) (s.held (s.so_far.from m) (s.so_far.to m)) ≡ 0)))
-received_by_members s k g d r w all_await_nobody m a u = let f = two u in elim (g.consistent.undone_or_asked k m d r w f.0 a f.1) [
-  | inl c ↦ (let x = g.asks.one_each k (s.so_far.from m) (s.so_far.to m) in let y = all_await_nobody (s.so_far.from m) (s.so_far.to m) in absurd (grind (arith, nat_tests, c, x, y)))
+received_by_members s k g d r w all_await_none m a u = let f = two u in elim (g.consistent.undone_or_asked k m d r w f.0 a f.1) [
+  | inl c ↦ (let x = g.asks.one_each k (s.so_far.from m) (s.so_far.to m) in let y = all_await_none (s.so_far.from m) (s.so_far.to m) in absurd (grind (arith, nat_tests, c, x, y)))
   | inr c ↦ c
 ]
   where
@@ -107,13 +107,13 @@ received_by_members s k g d r w all_await_nobody m a u = let f = two u in elim (
     two u = grind (arith, nat_tests, u)
 
 pub rollback_cut_consistent : (s : State) (k : ℕ) → Invariant s → s.so_far.is_decided k ≡ false → s.so_far.is_rollback k ≡ true → s.so_far.has_unwilling k ≡ false → ((u v : ℕ) → s.awaits k u v ≡ false) → (m : ℕ) → s.so_far.is_received m ≡ true → s.so_far.received_at m < rollback_cut_of s.so_far k (s.so_far.to m) → s.so_far.sent_at m < rollback_cut_of s.so_far k (s.so_far.from m)
-rollback_cut_consistent s k g d r w all_await_nobody m a l = at_test (s.so_far.joined k (s.so_far.from m)) refl
+rollback_cut_consistent s k g d r w all_await_none m a l = at_test (s.so_far.joined k (s.so_far.from m)) refl
   where
     at_test : (b : Bool) → s.so_far.joined k (s.so_far.from m) ≡ b → s.so_far.sent_at m < rollback_cut_of s.so_far k (s.so_far.from m)
     at_test false e = rw e (g.messages.received_sent m a)
     at_test true e = rw e (elim (cases_lt (s.so_far.sent_at m) (s.so_far.permanent (s.so_far.from m))) [
       | inl x ↦ x
-      | inr x ↦ (let n = received_by_members s k g d r w all_await_nobody m (g.messages.received_low m a).0 (grind (arith, nat_tests, e, x)) in elim n.1 [
+      | inr x ↦ (let n = received_by_members s k g d r w all_await_none m (g.messages.received_low m a).0 (grind (arith, nat_tests, e, x)) in elim n.1 [
         | inl y ↦ (let y0 = y.0 in g.consistent.sent_permanently m a (rw y0 at l))
         | inr y ↦ (let z = y.0 in absurd (cc (a, z)))
       ])
@@ -153,12 +153,12 @@ checkpoint_links s k p g d r j n =
     }
 
 pub decision_holds : (s : State) (p k : ℕ) (c : Bool) → Invariant s → p ≡ s.initiator k → s.so_far.is_decided k ≡ false → s.so_far.has_unwilling k ≡ not c → ((u v : ℕ) → s.awaits k u v ≡ false) → HoldsBefore s.so_far (Decided p k c)
-decision_holds s p k c g i d w all_await_nobody = (
+decision_holds s p k c g i d w all_await_none = (
   permanent_has_no_orphan s g,
   present_has_no_orphan s g,
   record {
-    consistent = λ e r. cut_no_orphan s (checkpoint_cut_of s.so_far k) g (checkpoint_cut_consistent s k g d r (w ∙ ap not e) all_await_nobody);
-    consistent_back = λ e r. cut_no_orphan s (rollback_cut_of s.so_far k) g (rollback_cut_consistent s k g d r (w ∙ ap not e) all_await_nobody);
+    consistent = λ e r. cut_no_orphan s (checkpoint_cut_of s.so_far k) g (checkpoint_cut_consistent s k g d r (w ∙ ap not e) all_await_none);
+    consistent_back = λ e r. cut_no_orphan s (rollback_cut_of s.so_far k) g (rollback_cut_consistent s k g d r (w ∙ ap not e) all_await_none);
     linked = λ r q j n. checkpoint_links s k q g d r j (λ e. n (e ∙ sym i));
     linked_back = λ r q j n. rollback_links s k q g d r j (λ e. n (e ∙ sym i));
     exact = w;

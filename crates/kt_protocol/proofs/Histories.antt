@@ -21,7 +21,7 @@ use Rattle.kt_protocol.proofs.Beginning.{summary_began_row}
 use Rattle.kt_protocol.proofs.Sending.{sent_is_push, sent_there_push, received_is_push, received_there_push}
 use Rattle.kt_protocol.proofs.Receiving.{Taking, message_facts, received_is_taken, received_there_taken}
 use Rattle.kt_protocol.proofs.Joining.{Joining, Label, RollbackLabel}
-use Rattle.kt_protocol.proofs.Deciding.{summary_commits, below, all_await_nobody}
+use Rattle.kt_protocol.proofs.Deciding.{summary_commits, below, all_await_none}
 use Rattle.kt_protocol.proofs.RollingBack.{cut_cases, cut_there, cut_length, was_sent, was_got}
 use Rattle.kt_spacetime.specs.declared.event.Event.{Event}
 use Rattle.kt_protocol.proofs.RowFacts.{HoldsBefore}
@@ -176,7 +176,7 @@ histories_answering s p k j0 a0 quiet g = record {
 }
 
 pub histories_aborting : (s : State) (p k : ℕ) → Invariant s → s.so_far.joined k p ≡ true → p ≡ s.initiator k → s.so_far.is_decided k ≡ false → s.so_far.has_unwilling k ≡ true → ((u v : ℕ) → s.awaits k u v ≡ false) → Histories (record s { log = s.log ++ Decided p k false ∷ []; so_far = summary_after s.so_far (Decided p k false) })
-histories_aborting s p k g j0 i d w all_await_nobody = record {
+histories_aborting s p k g j0 i d w all_await_none = record {
   of_log = summary_push s.so_far s.log (Decided p k false) g.histories.of_log;
   size_is = g.histories.size_is;
   sent_is = g.histories.sent_is;
@@ -186,7 +186,7 @@ histories_aborting s p k g j0 i d w all_await_nobody = record {
 }
 
 pub histories_committing_checkpoint : (s : State) (p k : ℕ) → Invariant s → s.so_far.is_rollback k ≡ false → s.so_far.joined k p ≡ true → p ≡ s.initiator k → s.so_far.is_decided k ≡ false → s.so_far.has_unwilling k ≡ false → ((u v : ℕ) → s.awaits k u v ≡ false) → Histories (after_deciding_as true false s p k)
-histories_committing_checkpoint s p k g r j0 i d w all_await_nobody = record {
+histories_committing_checkpoint s p k g r j0 i d w all_await_none = record {
   of_log = summary_commits s p k false r g;
   size_is = g.histories.size_is;
   sent_is = g.histories.sent_is;
@@ -196,13 +196,13 @@ histories_committing_checkpoint s p k g r j0 i d w all_await_nobody = record {
 }
 
 pub histories_committing_rollback : (s : State) (p k : ℕ) → Invariant s → s.so_far.is_rollback k ≡ true → s.so_far.joined k p ≡ true → p ≡ s.initiator k → s.so_far.is_decided k ≡ false → s.so_far.has_unwilling k ≡ false → ((u v : ℕ) → s.awaits k u v ≡ false) → Histories (after_deciding_as true true s p k)
-histories_committing_rollback s p k g r j0 i d w all_await_nobody = record {
+histories_committing_rollback s p k g r j0 i d w all_await_none = record {
   of_log = summary_commits s p k true r g;
   size_is = λ u. cut_length (s.so_far.joined k u) (s.so_far.permanent u) (s.so_far.size u) (s.so_far.live u) (g.histories.size_is u) (permanent_low s u g);
   sent_is = λ x j m t h. let a = cut_cases (s.so_far.joined k x) (s.so_far.permanent x) (s.so_far.live x) j (deed.Sent m t) h in let b = g.histories.sent_is x j m t a.0 in let b0 = b.0 in let b1 = b.1 in let b2 = b.2 in let a1 = a.1 in (grind (arith, nat_tests, b0, b1, b2, a1), b.1, b.2, b.3);
-  sent_there = λ m h. let a = was_sent s k g d r w all_await_nobody m h in cut_there (s.so_far.joined k (s.so_far.from m)) (s.so_far.permanent (s.so_far.from m)) (s.so_far.live (s.so_far.from m)) (s.so_far.sent_at m) (deed.Sent m (s.so_far.to m)) a.1 (g.histories.sent_there m a.0);
+  sent_there = λ m h. let a = was_sent s k g d r w all_await_none m h in cut_there (s.so_far.joined k (s.so_far.from m)) (s.so_far.permanent (s.so_far.from m)) (s.so_far.live (s.so_far.from m)) (s.so_far.sent_at m) (deed.Sent m (s.so_far.to m)) a.1 (g.histories.sent_there m a.0);
   received_is = λ x j m t h. let a = cut_cases (s.so_far.joined k x) (s.so_far.permanent x) (s.so_far.live x) j (deed.Received m t) h in let b = g.histories.received_is x j m t a.0 in let b0 = b.0 in let b1 = b.1 in let b2 = b.2 in let a1 = a.1 in (grind (arith, nat_tests, b0, b1, b2, a1), b.1, b.2, b.3);
-  received_there = λ m h. let a = was_got s k g d r w all_await_nobody m h in cut_there (s.so_far.joined k (s.so_far.to m)) (s.so_far.permanent (s.so_far.to m)) (s.so_far.live (s.so_far.to m)) (s.so_far.received_at m) (deed.Received m (s.so_far.from m)) a.1 (g.histories.received_there m a.0);
+  received_there = λ m h. let a = was_got s k g d r w all_await_none m h in cut_there (s.so_far.joined k (s.so_far.to m)) (s.so_far.permanent (s.so_far.to m)) (s.so_far.live (s.so_far.to m)) (s.so_far.received_at m) (deed.Received m (s.so_far.from m)) a.1 (g.histories.received_there m a.0);
 }
 
 pub histories_closing_checkpoint : (s : State) (p k : ℕ) (c : Bool) → s.so_far.is_rollback k ≡ false → 0 < k → s.so_far.open_in p ≡ k → s.so_far.is_decided k ≡ true → s.so_far.is_committed k ≡ c → Invariant s → Histories (after_closing_checkpoint s p k c)

@@ -9,7 +9,7 @@ use Rattle.kt_cuts.proofs.Lists.{get_drop, has_from_place, deed_place}
 use Rattle.kt_cuts.proofs.OrphanFacts.{get_from_drop}
 use Rattle.kt_protocol.specs.States.{State}
 use Rattle.kt_protocol.specs.SummaryMeaning.{AgreesWith}
-use Rattle.kt_protocol.specs.UnderWay.{IsKept}
+use Rattle.kt_protocol.specs.InTransit.{IsKept}
 use Rattle.kt_protocol.proofs.Choices.{both, same}
 use Rattle.kt_protocol.proofs.Invariant.{Invariant, one}
 use Rattle.kt_protocol.proofs.Lines.{times_apps}

@@ -16,7 +16,7 @@ use Rattle.kt_cuts.proofs.LegalLogs.{Kept}
 use Rattle.kt_protocol.proofs.Invariant.{Invariant, is_message}
 use Rattle.kt_protocol.proofs.Lines.{Over, Rising, over_has, over_right, rising_split, times_apps}
 use Rattle.kt_protocol.specs.Parcels.{messages, Lists}
-use Rattle.kt_protocol.specs.UnderWay.{times}
+use Rattle.kt_protocol.specs.InTransit.{times}
 use Rattle.kt_protocol.proofs.Updates.{is_same}
 use Rattle.kt_protocol.proofs.SummaryTies.{tied}
 use Rattle.kt_protocol.proofs.Weights.{weigh}
@@ -24,7 +24,7 @@ use Rattle.kt_protocol.specs.States.{State, is_ready}
 use Rattle.kt_protocol.specs.SummaryMeaning.{AgreesWith}
 use Rattle.kt_protocol.specs.Summary.{Summary}
 
--- the messages under way from u to v, in order; what v received past its permanent position stands before them
+-- the messages in transit from u to v, in order; what v received past its permanent position stands before them
 abbrev pub way : Lists → Lists → ℕ → ℕ → List ℕ
 way channel held u v = messages (held u v) ++ messages (channel u v)
 

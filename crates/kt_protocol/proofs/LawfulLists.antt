@@ -1,4 +1,4 @@
--- How steps change the messages under way, and what the law keeps of them.
+-- How steps change the messages in transit, and what the law keeps of them.
 use Rattle.std.proofs.Common.{◌≡◌, ℕ, ◌+◌, ◌<◌, Bool, true, false, List, [], ◌∷◌, ◌++◌, refl, arith, sym, ap, subst, inl, ◌∙◌, append_assoc}
 use Rattle.std.specs.Prelude.{◌==◌, ◌&&◌, if◌then◌else◌}
 use Rattle.std.proofs.lemmas.Bool.Decides.{nat_tests}
@@ -9,7 +9,7 @@ use Rattle.kt_protocol.proofs.Invariant.{Invariant, is_message}
 use Rattle.kt_protocol.proofs.Lawful.{Law, Lawful, line, way}
 use Rattle.kt_protocol.proofs.Lines.{Over, Rising, Thin, apps_left, apps_sending, apps_taken, thin_all, times_append, times_apps}
 use Rattle.kt_protocol.specs.Parcels.{messages, App, Parcel, Lists, with_rest, with_parcel}
-use Rattle.kt_protocol.specs.UnderWay.{times}
+use Rattle.kt_protocol.specs.InTransit.{times}
 use Rattle.kt_protocol.proofs.Weights.{weigh}
 use Rattle.kt_protocol.specs.States.{State}
 use Rattle.kt_protocol.specs.Summary.{Summary}
@@ -19,7 +19,7 @@ use Rattle.kt_protocol.proofs.Choices.{both, same}
 pub by_row : (quiet : Bool) (t : State) (log : List Event) (row : Event) → t.log ≡ log ++ row ∷ [] → Lawful quiet t.log (after (past log) row) t.so_far t.channel t.held t.kept t.up t.instances t.initiator → Law quiet t
 by_row quiet t log row e l = subst (λ (s : Past). Lawful quiet t.log s t.so_far t.channel t.held t.kept t.up t.instances t.initiator) (sym (past_push log row) ∙ ap (λ (x : List Event). past x) (sym e)) l
 
--- the same messages under way
+-- the same messages in transit
 pub law_ways : (quiet : Bool) (log : List Event) (s : Past) (h : Summary) (channel held kept : Lists) (up : ℕ → Bool) (instances : ℕ) (initiator : ℕ → ℕ) (chan2 held2 : Lists) → ((u v : ℕ) → way chan2 held2 u v ≡ way channel held u v) → Lawful quiet log s h channel held kept up instances initiator → Lawful quiet log s h chan2 held2 kept up instances initiator
 law_ways quiet log s h channel held kept up instances initiator chan2 held2 same l = record {
   legal = l.legal;
@@ -75,7 +75,7 @@ way_pushed s p q P u v old new = subst (λ (l : List ℕ). P (messages (s.held u
     at_test false = old
     at_test true = subst P (append_assoc (messages (s.held u v)) (messages (s.channel u v)) ((s.so_far.rows + 1) ∷ [])) new
 
--- m of q is the first that is under way to p, and is taken out
+-- m of q is the first that is in transit to p, and is taken out
 pub record Front (s : State) (channel held : Lists) (p q m : ℕ) : Type 0 where
   pub here : way s.channel s.held q p ≡ m ∷ way channel held q p
   pub other : (u v : ℕ) → (u == q && v == p) ≡ false → way channel held u v ≡ way s.channel s.held u v

@@ -17,7 +17,7 @@ use Rattle.kt_protocol.proofs.Invariant.{Invariant}
 use Rattle.kt_protocol.proofs.Lawful.{Law, before_it, follows_quiet, is_undoing, later_from, line, none_in, not_rolling, tie, unbroken, way}
 use Rattle.kt_protocol.proofs.Lines.{Over, Rising, Thin, over_has, over_join, over_thin, rising_push, rising_right, rising_thin, thin_all, thin_append}
 use Rattle.kt_protocol.specs.Parcels.{messages, Lists}
-use Rattle.kt_protocol.specs.UnderWay.{times}
+use Rattle.kt_protocol.specs.InTransit.{times}
 use Rattle.kt_protocol.proofs.Updates.{at_one_here, at_one_other, is_other, is_same}
 use Rattle.kt_protocol.proofs.Receiving.{Taking, message_facts}
 use Rattle.kt_protocol.proofs.SummaryTies.{at_one_same}

@@ -6,7 +6,7 @@ use Rattle.std.proofs.lemmas.Bool.Decides.{nat_tests}
 use Rattle.kt_protocol.proofs.Weights.{any_app, one_app, weigh, weigh_cons, weigh_nil}
 use Rattle.kt_protocol.specs.Parcels.{App, Ask, Decide, Parcel, Reply, Lists, with_checkpoint_asks, emptied, with_rest, with_parcel, put_back, with_rollback_asks, messages_where, with_decisions, kept_where}
 pub use Rattle.kt_protocol.specs.Parcels.{messages}
-pub use Rattle.kt_protocol.specs.UnderWay.{times}
+pub use Rattle.kt_protocol.specs.InTransit.{times}
 use Rattle.kt_protocol.proofs.Choices.{at_if, both, same}
 
 -- each is greater than n

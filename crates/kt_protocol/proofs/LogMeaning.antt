@@ -26,7 +26,7 @@ use Rattle.kt_protocol.proofs.Invariant.{Invariant, one}
 use Rattle.kt_protocol.proofs.Lines.{times_apps}
 use Rattle.kt_protocol.proofs.Updates.{at_one_here, at_one_other, is_same}
 use Rattle.kt_protocol.proofs.SummaryTies.{ranked, tied}
-use Rattle.kt_protocol.specs.UnderWay.{IsUnderWay, times}
+use Rattle.kt_protocol.specs.InTransit.{IsInTransit, times}
 use Rattle.kt_protocol.specs.Parcels.{messages}
 use Rattle.kt_protocol.proofs.RowFacts.{EachRow, HasNoOrphan, IsAsked, HoldsBefore, rollback_cut_of, checkpoint_cut_of}
 use Rattle.kt_protocol.specs.States.{State}
@@ -385,9 +385,9 @@ justified_in h s p k cause t a =
         let low : s.permanent u ≤ out = (let y = t.permanent u in omega (arith, y, l)) in
         has_from_place (deed.Sent a.msg v) (drop (s.permanent u) (s.live u)) (out - s.permanent u) (get_from_drop (s.permanent u) (s.live u) out (deed.Sent a.msg v) there low)
 
--- messages under way
-pub under_way : (s : State) → Invariant s → AgreesWith s.so_far (past s.log) → IsUnderWay (past s.log) s.channel s.held
-under_way s g t m p q =
+-- messages in transit
+pub in_transit : (s : State) → Invariant s → AgreesWith s.so_far (past s.log) → IsInTransit (past s.log) s.channel s.held
+in_transit s g t m p q =
     let a = times_apps m (s.channel p q) in
     let b = times_apps m (s.held p q) in
     let c = g.messages.flying m p q in

@@ -7,8 +7,8 @@ use Rattle.kt_protocol.proofs.RisingLists.{falls, falls_from, one_le, weigh_here
 use Rattle.kt_protocol.proofs.Invariant.{Invariant, is_message}
 use Rattle.kt_protocol.proofs.Ordered.{Ordered}
 use Rattle.kt_protocol.proofs.Weights.{weigh}
-use Rattle.kt_protocol.proofs.WholeSteps.{under_way_facts}
-use Rattle.kt_protocol.specs.UnderWay.{Rises, received_of, under_way}
+use Rattle.kt_protocol.proofs.WholeSteps.{in_transit_facts}
+use Rattle.kt_protocol.specs.InTransit.{Rises, received_of, in_transit}
 use Rattle.kt_protocol.specs.Parcels.{messages, App, Ask, Decide, Parcel, Reply}
 use Rattle.kt_protocol.specs.States.{State}
 use Rattle.kt_protocol.proofs.Choices.{same}
@@ -52,22 +52,22 @@ received_then q b (deed.Received x a ∷ xs) c o l f r = go (received_then q b x
     go i j false e = i later (λ i m u. l (suc i) m u) (λ i m u. f (suc i) m u) r
 
 module _ (s : State) (g : Invariant s) (t : Ordered s) (q p : ℕ) where
-  -- what is under way rises from what is below
-  then_rises : (b : ℕ) → ((n : ℕ) → 0 < weigh (is_message n) (s.channel q p) + weigh (is_message n) (s.held q p) → b < n) → Rises b (under_way s q p)
+  -- what is in transit rises from what is below
+  then_rises : (b : ℕ) → ((n : ℕ) → 0 < weigh (is_message n) (s.channel q p) + weigh (is_message n) (s.held q p) → b < n) → Rises b (in_transit s q p)
   then_rises b f = apps_then b (s.held q p) (messages (s.channel q p))
       (falls_from 0 b (s.held q p) (t.held_rises q p) (λ n w. f n (omega (arith, w))))
       (λ m w. apps_rise m (s.channel q p) (falls_from 0 m (s.channel q p) (t.channel_rises q p) (λ n v. t.held_first q p m n w v)))
       (apps_rise b (s.channel q p) (falls_from 0 b (s.channel q p) (t.channel_rises q p) (λ n w. f n (omega (arith, w)))))
 
   positive : (n : ℕ) → 0 < weigh (is_message n) (s.channel q p) + weigh (is_message n) (s.held q p) → 0 < n
-  positive n w = (g.messages.sent_low n (under_way_facts s g q p n w).0.0).0
+  positive n w = (g.messages.sent_low n (in_transit_facts s g q p n w).0.0).0
 
-  pub live_rises : Rises 0 (received_of q (s.so_far.live p) ++ under_way s q p)
-  live_rises = received_then q 0 (s.so_far.live p) (under_way s q p)
+  pub live_rises : Rises 0 (received_of q (s.so_far.live p) ++ in_transit s q p)
+  live_rises = received_then q 0 (s.so_far.live p) (in_transit s q p)
       (λ i j m n a b l. (let u = g.histories.received_is p i m q a in let v = g.histories.received_is p j n q b in t.received_order m n u.0 v.0 (u.3 ∙ sym v.3) (u.1 ∙ sym v.1) (rw (u.2, v.2) l)))
       (λ i m a. (let u = g.histories.received_is p i m q a in (g.messages.sent_low m (g.messages.received_low m u.0).0).0))
-      (λ i m a. (let u = g.histories.received_is p i m q a in then_rises m (λ n w. (let v = under_way_facts s g q p n w in t.received_first m n u.0 v.0 (u.3 ∙ sym v.1) (u.1 ∙ sym v.2)))))
+      (λ i m a. (let u = g.histories.received_is p i m q a in then_rises m (λ n w. (let v = in_transit_facts s g q p n w in t.received_first m n u.0 v.0 (u.3 ∙ sym v.1) (u.1 ∙ sym v.2)))))
       (then_rises 0 positive)
 
-  pub arrived_since_rises : Rises 0 (messages (s.arrived_since q p) ++ under_way s q p)
-  arrived_since_rises = apps_then 0 (s.arrived_since q p) (under_way s q p) (t.arrived_since_rises q p) (λ m w. then_rises m (λ n v. t.arrived_since_first q p m n w v)) (then_rises 0 positive)
+  pub arrived_since_rises : Rises 0 (messages (s.arrived_since q p) ++ in_transit s q p)
+  arrived_since_rises = apps_then 0 (s.arrived_since q p) (in_transit s q p) (t.arrived_since_rises q p) (λ m w. then_rises m (λ n v. t.arrived_since_first q p m n w v)) (then_rises 0 positive)

@@ -19,7 +19,7 @@ use Rattle.kt_protocol.proofs.Receiving.{Taking, message_facts, flying_received,
 use Rattle.kt_protocol.proofs.JoiningCheckpoints.{same_weight}
 use Rattle.kt_protocol.proofs.Joining.{Joining, Label, RollbackLabel}
 use Rattle.kt_protocol.proofs.JoiningRollbacks.{same_weight_rollback}
-use Rattle.kt_protocol.proofs.Deciding.{below, all_await_nobody}
+use Rattle.kt_protocol.proofs.Deciding.{below, all_await_none}
 use Rattle.kt_protocol.proofs.RollingBack.{alive, alive_sent, was_sent, flying_after}
 use Rattle.kt_spacetime.specs.declared.event.Event.{Event}
 use Rattle.kt_protocol.proofs.RowFacts.{HoldsBefore}
@@ -203,7 +203,7 @@ messages_answering s p k j0 a0 quiet g = record {
 }
 
 pub messages_aborting : (s : State) (p k : ℕ) → Invariant s → s.so_far.joined k p ≡ true → p ≡ s.initiator k → s.so_far.is_decided k ≡ false → s.so_far.has_unwilling k ≡ true → ((u v : ℕ) → s.awaits k u v ≡ false) → Messages (record s { log = s.log ++ Decided p k false ∷ []; so_far = summary_after s.so_far (Decided p k false) })
-messages_aborting s p k g j0 i d w all_await_nobody = record {
+messages_aborting s p k g j0 i d w all_await_none = record {
   sent_low = λ n h. grind (arith, g.messages.sent_low n h);
   received_low = g.messages.received_low;
   sends_rise = g.messages.sends_rise;
@@ -215,7 +215,7 @@ messages_aborting s p k g j0 i d w all_await_nobody = record {
 }
 
 pub messages_committing_checkpoint : (s : State) (p k : ℕ) → Invariant s → s.so_far.is_rollback k ≡ false → s.so_far.joined k p ≡ true → p ≡ s.initiator k → s.so_far.is_decided k ≡ false → s.so_far.has_unwilling k ≡ false → ((u v : ℕ) → s.awaits k u v ≡ false) → Messages (after_deciding_as true false s p k)
-messages_committing_checkpoint s p k g r j0 i d w all_await_nobody = record {
+messages_committing_checkpoint s p k g r j0 i d w all_await_none = record {
   sent_low = λ n h. grind (arith, g.messages.sent_low n h);
   received_low = g.messages.received_low;
   sends_rise = g.messages.sends_rise;
@@ -227,15 +227,15 @@ messages_committing_checkpoint s p k g r j0 i d w all_await_nobody = record {
 }
 
 pub messages_committing_rollback : (s : State) (p k : ℕ) → Invariant s → s.so_far.is_rollback k ≡ true → s.so_far.joined k p ≡ true → p ≡ s.initiator k → s.so_far.is_decided k ≡ false → s.so_far.has_unwilling k ≡ false → ((u v : ℕ) → s.awaits k u v ≡ false) → Messages (after_deciding_as true true s p k)
-messages_committing_rollback s p k g r j0 i d w all_await_nobody = record {
-  sent_low = λ m h. let a = was_sent s k g d r w all_await_nobody m h in let b = g.messages.sent_low m a.0 in let a1 = a.1 in (b.0, omega (arith, b.1), grind (arith, nat_tests, a1, b.2), b.3, b.4);
-  received_low = λ m h. let a = alive s k g d r w all_await_nobody m h in (alive_sent s k g d r w all_await_nobody m h, a.3);
-  sends_rise = λ m n a b c e. g.messages.sends_rise m n (was_sent s k g d r w all_await_nobody m a).0 (was_sent s k g d r w all_await_nobody n b).0 c e;
-  flying = flying_after s k g d r w all_await_nobody;
+messages_committing_rollback s p k g r j0 i d w all_await_none = record {
+  sent_low = λ m h. let a = was_sent s k g d r w all_await_none m h in let b = g.messages.sent_low m a.0 in let a1 = a.1 in (b.0, omega (arith, b.1), grind (arith, nat_tests, a1, b.2), b.3, b.4);
+  received_low = λ m h. let a = alive s k g d r w all_await_none m h in (alive_sent s k g d r w all_await_none m h, a.3);
+  sends_rise = λ m n a b c e. g.messages.sends_rise m n (was_sent s k g d r w all_await_none m a).0 (was_sent s k g d r w all_await_none n b).0 c e;
+  flying = flying_after s k g d r w all_await_none;
   messages_first = g.messages.messages_first;
   kept_is = λ m u v. grind (arith, nat_tests, weigh_emptied m (s.so_far.joined k) s.kept v u, g.messages.kept_is m u v);
   dropped_low = λ m a. let x = g.messages.dropped_low m a in let x1 = x.1 in (omega (arith, x.0), grind (arith, nat_tests, x1));
-  received_sent = λ m h. (alive s k g d r w all_await_nobody m h).2;
+  received_sent = λ m h. (alive s k g d r w all_await_none m h).2;
 }
 
 pub messages_closing_checkpoint : (s : State) (p k : ℕ) (c : Bool) → s.so_far.is_rollback k ≡ false → 0 < k → s.so_far.open_in p ≡ k → s.so_far.is_decided k ≡ true → s.so_far.is_committed k ≡ c → Invariant s → Messages (after_closing_checkpoint s p k c)

@@ -10,7 +10,7 @@ use Rattle.kt_protocol.proofs.Updates.{is_other, is_same}
 use Rattle.kt_protocol.proofs.Answering.{reply_facts}
 use Rattle.kt_protocol.proofs.Waiting.{is_told}
 use Rattle.kt_protocol.proofs.Weights.{weigh, weigh_cons, weigh_nil}
-use Rattle.kt_protocol.proofs.WholeSteps.{AfterStep, under_way_facts}
+use Rattle.kt_protocol.proofs.WholeSteps.{AfterStep, in_transit_facts}
 use Rattle.kt_protocol.specs.AtRest.{IsAtRest}
 use Rattle.kt_protocol.specs.Parcels.{App, Ask, Decide, Parcel, Reply, has_parcel}
 use Rattle.kt_protocol.specs.States.{State, Take, can_take, is_ready}
@@ -85,7 +85,7 @@ module _ (s : State) (g : Invariant s) (h : AfterStep s) where
   asked_below k u v a = let x = h.always.counted.asked_low k u v a in (x.1, x.2)
 
   air_below : (u v m : ℕ) → 0 < weigh (is_message m) (s.channel u v) + weigh (is_message m) (s.held u v) → Below u v
-  air_below u v m w = let x = under_way_facts s g u v m w in let y = g.messages.sent_low m x.0.0 in (rw x.1 at y.3, rw x.2 at y.4)
+  air_below u v m w = let x = in_transit_facts s g u v m w in let y = g.messages.sent_low m x.0.0 in (rw x.1 at y.3, rw x.2 at y.4)
 
   chan_below : (u v : ℕ) (l : List Parcel) → s.channel u v ≡ l → has_parcel l ≡ true → Below u v
   chan_below u v [] e a = absurd (cc (a))

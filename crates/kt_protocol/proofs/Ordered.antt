@@ -23,11 +23,11 @@ use Rattle.kt_protocol.specs.Deciding.{after_closing, after_deciding_as, after_d
 use Rattle.kt_protocol.specs.Joining.{after_began, after_joining_rollback, after_joining_checkpoint}
 use Rattle.kt_protocol.specs.Summary.{is_undone, is_unreceived}
 
--- n is under way
+-- n is in transit
 abbrev pub IsFlying : State → ℕ → Type 0
 IsFlying s n = (s.so_far.is_sent n ≡ true) × (s.so_far.is_received n ≡ false) × (s.so_far.dropped n ≡ false)
 
--- messages of a sender to a receiver are after_receiving, held and under way in order
+-- messages of a sender to a receiver are after_receiving, held and in transit in order
 pub record Ordered (s : State) : Type 0 where
   pub received_order : (m n : ℕ) → s.so_far.is_received m ≡ true → s.so_far.is_received n ≡ true → s.so_far.from m ≡ s.so_far.from n → s.so_far.to m ≡ s.so_far.to n → s.so_far.received_at m < s.so_far.received_at n → m < n
   pub received_first : (m n : ℕ) → s.so_far.is_received m ≡ true → IsFlying s n → s.so_far.from m ≡ s.so_far.from n → s.so_far.to m ≡ s.so_far.to n → m < n

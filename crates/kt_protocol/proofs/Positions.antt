@@ -18,7 +18,7 @@ use Rattle.kt_protocol.proofs.RowFacts.{checkpoint_cut_of}
 use Rattle.kt_protocol.proofs.Beginning.{old}
 use Rattle.kt_protocol.proofs.Receiving.{Taking}
 use Rattle.kt_protocol.proofs.Joining.{Joining, Label, RollbackLabel}
-use Rattle.kt_protocol.proofs.Deciding.{undecided_before, no_member_of_other, below, all_await_nobody}
+use Rattle.kt_protocol.proofs.Deciding.{undecided_before, no_member_of_other, below, all_await_none}
 use Rattle.kt_protocol.proofs.RollingBack.{was_sent, member_base}
 use Rattle.kt_protocol.proofs.NewMembers.{instance_joins}
 use Rattle.kt_spacetime.specs.declared.event.Event.{Event}
@@ -254,7 +254,7 @@ positions_answering s p k j0 a0 quiet g = record {
 }
 
 pub positions_aborting : (s : State) (p k : ℕ) → Invariant s → s.so_far.joined k p ≡ true → p ≡ s.initiator k → s.so_far.is_decided k ≡ false → s.so_far.has_unwilling k ≡ true → ((u v : ℕ) → s.awaits k u v ≡ false) → Positions (record s { log = s.log ++ Decided p k false ∷ []; so_far = summary_after s.so_far (Decided p k false) })
-positions_aborting s p k g j0 i d w all_await_nobody =
+positions_aborting s p k g j0 i d w all_await_none =
     let in0 = g.positions.joined_instance k p j0 in
     record {
       new_low = λ j u a b. g.positions.new_low j u a (undecided_before s k j b).0;
@@ -272,7 +272,7 @@ positions_aborting s p k g j0 i d w all_await_nobody =
     }
 
 pub positions_committing_checkpoint : (s : State) (p k : ℕ) → Invariant s → s.so_far.is_rollback k ≡ false → s.so_far.joined k p ≡ true → p ≡ s.initiator k → s.so_far.is_decided k ≡ false → s.so_far.has_unwilling k ≡ false → ((u v : ℕ) → s.awaits k u v ≡ false) → Positions (after_deciding_as true false s p k)
-positions_committing_checkpoint s p k g r j0 i d w all_await_nobody =
+positions_committing_checkpoint s p k g r j0 i d w all_await_none =
     let in0 = g.positions.joined_instance k p j0 in
     record {
       new_low = λ j u a b. g.positions.new_low j u a (undecided_before s k j b).0;
@@ -290,7 +290,7 @@ positions_committing_checkpoint s p k g r j0 i d w all_await_nobody =
     }
 
 pub positions_committing_rollback : (s : State) (p k : ℕ) → Invariant s → s.so_far.is_rollback k ≡ true → s.so_far.joined k p ≡ true → p ≡ s.initiator k → s.so_far.is_decided k ≡ false → s.so_far.has_unwilling k ≡ false → ((u v : ℕ) → s.awaits k u v ≡ false) → Positions (after_deciding_as true true s p k)
-positions_committing_rollback s p k g r j0 i d w all_await_nobody =
+positions_committing_rollback s p k g r j0 i d w all_await_none =
     let in0 = g.positions.joined_instance k p j0 in
     record {
       new_low = λ j u a b c. let x = undecided_before s k j b in let y = no_member_of_other s k j u g d x.0 x.1 a in rw y (g.positions.new_low j u a x.0 c);
@@ -301,10 +301,10 @@ positions_committing_rollback s p k g r j0 i d w all_await_nobody =
       open_joined = g.positions.open_joined;
       open_saved = g.positions.open_saved;
       open_permanent = λ j u a b c. grind (arith, nat_tests, g.positions.open_permanent j u a b c, r);
-      open_sends = λ j m a b c h. g.positions.open_sends j m a b c (was_sent s k g d r w all_await_nobody m h).0;
+      open_sends = λ j m a b c h. g.positions.open_sends j m a b c (was_sent s k g d r w all_await_none m h).0;
       closed_permanent = g.positions.closed_permanent;
       rollback_permanent = g.positions.rollback_permanent;
-      saved_low = λ u. let a = g.positions.saved_low u in let b = member_base s k g d r w all_await_nobody u in (a.0, grind (arith, nat_tests, a.1, b));
+      saved_low = λ u. let a = g.positions.saved_low u in let b = member_base s k g d r w all_await_none u in (a.0, grind (arith, nat_tests, a.1, b));
     }
 
 pub positions_closing_checkpoint : (s : State) (p k : ℕ) (c : Bool) → s.so_far.is_rollback k ≡ false → 0 < k → s.so_far.open_in p ≡ k → s.so_far.is_decided k ≡ true → s.so_far.is_committed k ≡ c → Invariant s → Positions (after_closing_checkpoint s p k c)

@@ -22,7 +22,7 @@ pub record Taking (s : State) (channel held : Lists) (p q m : ℕ) : Type 0 wher
 pub message_facts : (s : State) (channel held : Lists) (p q m : ℕ) → Taking s channel held p q m → Invariant s → (s.so_far.is_sent m ≡ true) × (s.so_far.is_received m ≡ false) × (s.so_far.dropped m ≡ false) × (s.so_far.from m ≡ q) × (s.so_far.to m ≡ p)
 message_facts s channel held p q m t g = let a = t.messages m q p in let b = g.messages.flying m q p in grind (arith, nat_tests, a, b, is_same m, is_same q, is_same p)
 
--- a message that is taken is under way no longer
+-- a message that is taken is in transit no longer
 pub flying_received : (m n q p u v from to x y : ℕ) (S G D : Bool) → x + (if u == q && v == p then one (m == n) else 0) ≡ y → y ≡ one (S && not G && not D && from == u && to == v) → (n ≡ m → (S ≡ true) × (G ≡ false) × (D ≡ false) × (from ≡ q) × (to ≡ p)) → x ≡ one (S && not (if n == m then true else G) && not D && from == u && to == v)
 flying_received m n q p u v from to x y S G D e f g = elim (cases_eq n m) [
   | inl h ↦ (let z = g h in let a = z.0 in let b = z.1 in let c = z.2 in let i = z.3 in let j = z.4 in grind (arith, nat_tests, e, f, h, a, b, c, i, j))

@@ -25,7 +25,7 @@ ask_label_facts s q p k l rest e g =
     let a : weigh (is_ask_with k l) (s.channel q p) ≡ one (k == k && l == l) + weigh (is_ask_with k l) rest = subst (λ (x : List Parcel). weigh (is_ask_with k l) x ≡ one (k == k && l == l) + weigh (is_ask_with k l) rest) (sym e) (weigh_cons (is_ask_with k l) (Ask k l) rest) in
     g.asks.ask_label k l q p (grind (arith, nat_tests, a, is_same k, is_same l))
 
--- no message is under way where an ask is in front
+-- no message is in transit where an ask is in front
 pub no_message : (s : State) (q p k l : ℕ) (rest : List Parcel) → s.channel q p ≡ Ask k l ∷ rest → Invariant s → (n : ℕ) → weigh (is_message n) (s.channel q p) ≡ 0
 no_message s q p k l rest e g n =
     let a = front_ask k l rest (subst (λ (x : List Parcel). behind x ≡ 0) e (g.messages.messages_first q p)) in

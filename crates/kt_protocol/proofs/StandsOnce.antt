@@ -8,7 +8,7 @@ use Rattle.kt_cuts.specs.Past.{Past}
 use Rattle.kt_cuts.specs.Legal.{has_deed, is_deed}
 use Rattle.kt_protocol.specs.Parcels.{messages}
 use Rattle.kt_protocol.specs.States.{State}
-use Rattle.kt_protocol.specs.UnderWay.{times, IsUnderWay, received_of, under_way, Rises, EachStandsOnce}
+use Rattle.kt_protocol.specs.InTransit.{times, IsInTransit, received_of, in_transit, Rises, EachStandsOnce}
 use Rattle.kt_protocol.proofs.Lines.{times_append}
 
 none_below : (low m : ℕ) (l : List ℕ) → m ≤ low → Rises low l → times m l ≡ 0
@@ -46,17 +46,17 @@ received_once m p (deed.Received n q ∷ xs) h = go (received_once m p xs) (q ==
     go ih false true e f = ih (rest (rw (swapped n m true f, swapped q p false e) refl))
     go ih false false e f = ih (rest (rw (swapped n m false f) refl))
 
-pub stands_once : (h : Past) (s : State) → ((p : ℕ) → s.so_far.live p ≡ h.live p) → IsUnderWay h s.channel s.held →
-    ((q p : ℕ) → Rises 0 (received_of q (s.so_far.live p) ++ under_way s q p)) → EachStandsOnce h s
-stands_once h s live under rises m p q sent kept = exact _ (once_at_most 0 m (received_of p (h.live q) ++ under_way s p q) (subst (λ (l : List Deed). Rises 0 (received_of p l ++ under_way s p q)) (live q) (rises p q))) (there (has_deed (deed.Received m p) (h.live q)) refl)
+pub stands_once : (h : Past) (s : State) → ((p : ℕ) → s.so_far.live p ≡ h.live p) → IsInTransit h s.channel s.held →
+    ((q p : ℕ) → Rises 0 (received_of q (s.so_far.live p) ++ in_transit s q p)) → EachStandsOnce h s
+stands_once h s live under rises m p q sent kept = exact _ (once_at_most 0 m (received_of p (h.live q) ++ in_transit s p q) (subst (λ (l : List Deed). Rises 0 (received_of p l ++ in_transit s p q)) (live q) (rises p q))) (there (has_deed (deed.Received m p) (h.live q)) refl)
   where
     exact : (x : ℕ) → x ≤ 1 → 0 < x → x ≡ 1
     exact x a b = omega (arith, a, b)
 
-    both : times m (received_of p (h.live q) ++ under_way s p q) ≡ times m (received_of p (h.live q)) + (times m (messages (s.held p q)) + times m (messages (s.channel p q)))
-    both = let a = times_append m (received_of p (h.live q)) (under_way s p q) in let b = times_append m (messages (s.held p q)) (messages (s.channel p q)) in omega (arith, a, b)
+    both : times m (received_of p (h.live q) ++ in_transit s p q) ≡ times m (received_of p (h.live q)) + (times m (messages (s.held p q)) + times m (messages (s.channel p q)))
+    both = let a = times_append m (received_of p (h.live q)) (in_transit s p q) in let b = times_append m (messages (s.held p q)) (messages (s.channel p q)) in omega (arith, a, b)
 
-    there : (b : Bool) → has_deed (deed.Received m p) (h.live q) ≡ b → 0 < times m (received_of p (h.live q) ++ under_way s p q)
+    there : (b : Bool) → has_deed (deed.Received m p) (h.live q) ≡ b → 0 < times m (received_of p (h.live q) ++ in_transit s p q)
     there true e = let a = received_once m p (h.live q) e in omega (arith, a, both)
     there false e =
         let a : times m (messages (s.channel p q)) + times m (messages (s.held p q)) ≡ 1 = under m p q ∙ rw (sent, e, kept) refl in

@@ -4,7 +4,7 @@ use Rattle.std.proofs.lemmas.Bool.{cases_eq}
 use Rattle.std.proofs.lemmas.Bool.Decides.{nat_tests}
 use Rattle.std.proofs.lemmas.Bool.{cases_lt}
 use Rattle.kt_protocol.proofs.Replying.{ask_facts, ask_label_facts, no_message}
-use Rattle.kt_protocol.proofs.Deciding.{all_await_nobody, willing_has_none}
+use Rattle.kt_protocol.proofs.Deciding.{all_await_none, willing_has_none}
 use Rattle.kt_protocol.proofs.Invariant.{Invariant, is_message}
 use Rattle.kt_protocol.proofs.Joining.{Joining, Label, RollbackLabel}
 use Rattle.kt_protocol.proofs.Updates.{at_one_here, is_same}
@@ -26,17 +26,17 @@ none_is (suc n) f h v l = elim (cases_eq v n) [
   | inr d ↦ none_is n f (grind (arith, nat_tests)) v (omega arith)
 ]
 
-pub awaits_nobody : (s : State) (p k : ℕ) → Invariant s → none_of s.processes (s.awaits k p) ≡ true → (v : ℕ) → s.awaits k p v ≡ false
-awaits_nobody s p k g b v = at_test (s.awaits k p v) refl
+pub awaits_none : (s : State) (p k : ℕ) → Invariant s → none_of s.processes (s.awaits k p) ≡ true → (v : ℕ) → s.awaits k p v ≡ false
+awaits_none s p k g b v = at_test (s.awaits k p v) refl
   where
     at_test : (x : Bool) → s.awaits k p v ≡ x → s.awaits k p v ≡ false
     at_test false e = e
     at_test true e = none_is s.processes (s.awaits k p) b v (g.asks.awaits_joined k p v e).2
 
 pub invariant_deciding_as : (s : State) (p k : ℕ) (c roll : Bool) → Invariant s → s.so_far.is_rollback k ≡ roll → s.so_far.joined k p ≡ true → p ≡ s.initiator k → s.so_far.is_decided k ≡ false → s.so_far.has_unwilling k ≡ not c → ((u v : ℕ) → s.awaits k u v ≡ false) → Invariant (after_deciding_as c roll s p k)
-invariant_deciding_as s p k false roll g r j i d w all_await_nobody = invariant_aborting s p k g j i d w all_await_nobody
-invariant_deciding_as s p k true false g r j i d w all_await_nobody = invariant_committing_checkpoint s p k g r j i d w all_await_nobody
-invariant_deciding_as s p k true true g r j i d w all_await_nobody = invariant_committing_rollback s p k g r j i d w all_await_nobody
+invariant_deciding_as s p k false roll g r j i d w all_await_none = invariant_aborting s p k g j i d w all_await_none
+invariant_deciding_as s p k true false g r j i d w all_await_none = invariant_committing_checkpoint s p k g r j i d w all_await_none
+invariant_deciding_as s p k true true g r j i d w all_await_none = invariant_committing_rollback s p k g r j i d w all_await_none
 
 pub invariant_closing : (s : State) (p k : ℕ) (c : Bool) → 0 < k → s.so_far.open_in p ≡ k → s.so_far.is_decided k ≡ true → s.so_far.is_committed k ≡ c → Invariant s → Invariant (after_closing s p k c)
 invariant_closing s p k c pos o d i g = at_if Invariant (s.so_far.is_rollback k) _ _ (λ r. invariant_closing_rollback s p k c r pos o d i g) (λ r. invariant_closing_checkpoint s p k c r pos o d i g)
@@ -55,7 +55,7 @@ now_decided s p k true true = (at_one_here k true s.so_far.is_decided, at_one_he
 pub invariant_deciding : (s : State) (p k : ℕ) → Invariant s → s.so_far.joined k p ≡ true → s.so_far.is_decided k ≡ false → p ≡ s.initiator k → ((v : ℕ) → s.awaits k p v ≡ false) → Invariant (after_deciding s p k)
 invariant_deciding s p k g j d i quiet =
     let q : (v : ℕ) → s.awaits k (s.initiator k) v ≡ false = λ v. rw (← i) (quiet v) in
-    invariant_deciding_as s p k (s.all_willing k p) (s.so_far.is_rollback k) g refl j i d (exact (s.all_willing k p) refl q) (all_await_nobody s k g q)
+    invariant_deciding_as s p k (s.all_willing k p) (s.so_far.is_rollback k) g refl j i d (exact (s.all_willing k p) refl q) (all_await_none s k g q)
   where
     exact : (c : Bool) → s.all_willing k p ≡ c → ((v : ℕ) → s.awaits k (s.initiator k) v ≡ false) → s.so_far.has_unwilling k ≡ not c
     exact true e q = willing_has_none s k g q d (rw (← i) e)

@@ -19,7 +19,7 @@ use Rattle.kt_protocol.proofs.Beginning.{old}
 use Rattle.kt_protocol.proofs.Sending.{first_all_push}
 use Rattle.kt_protocol.proofs.Receiving.{Taking, message_facts}
 use Rattle.kt_protocol.proofs.Joining.{Joining, Label, RollbackLabel}
-use Rattle.kt_protocol.proofs.Deciding.{below, all_await_nobody}
+use Rattle.kt_protocol.proofs.Deciding.{below, all_await_none}
 use Rattle.kt_protocol.proofs.RollingBack.{was_sent, was_got, still_sent, still_got, member_base, saver}
 use Rattle.kt_spacetime.specs.declared.event.Event.{Event}
 use Rattle.kt_protocol.proofs.RowFacts.{HoldsBefore}
@@ -243,7 +243,7 @@ tables_answering s p k j0 a0 quiet g = record {
 }
 
 pub tables_aborting : (s : State) (p k : ℕ) → Invariant s → s.so_far.joined k p ≡ true → p ≡ s.initiator k → s.so_far.is_decided k ≡ false → s.so_far.has_unwilling k ≡ true → ((u v : ℕ) → s.awaits k u v ≡ false) → Tables (record s { log = s.log ++ Decided p k false ∷ []; so_far = summary_after s.so_far (Decided p k false) })
-tables_aborting s p k g j0 i d w all_await_nobody = record {
+tables_aborting s p k g j0 i d w all_await_none = record {
   first_sent_all = g.tables.first_sent_all;
   first_sent_is = g.tables.first_sent_is;
   last_received_all = g.tables.last_received_all;
@@ -258,7 +258,7 @@ tables_aborting s p k g j0 i d w all_await_nobody = record {
 }
 
 pub tables_committing_checkpoint : (s : State) (p k : ℕ) → Invariant s → s.so_far.is_rollback k ≡ false → s.so_far.joined k p ≡ true → p ≡ s.initiator k → s.so_far.is_decided k ≡ false → s.so_far.has_unwilling k ≡ false → ((u v : ℕ) → s.awaits k u v ≡ false) → Tables (after_deciding_as true false s p k)
-tables_committing_checkpoint s p k g r j0 i d w all_await_nobody =
+tables_committing_checkpoint s p k g r j0 i d w all_await_none =
     let in0 = g.positions.joined_instance k p j0 in
     record {
       first_sent_all = g.tables.first_sent_all;
@@ -275,17 +275,17 @@ tables_committing_checkpoint s p k g r j0 i d w all_await_nobody =
     }
 
 pub tables_committing_rollback : (s : State) (p k : ℕ) → Invariant s → s.so_far.is_rollback k ≡ true → s.so_far.joined k p ≡ true → p ≡ s.initiator k → s.so_far.is_decided k ≡ false → s.so_far.has_unwilling k ≡ false → ((u v : ℕ) → s.awaits k u v ≡ false) → Tables (after_deciding_as true true s p k)
-tables_committing_rollback s p k g r j0 i d w all_await_nobody = record {
-  first_sent_all = λ m a b. let x = was_sent s k g d r w all_await_nobody m a in let x1 = x.1 in let y = g.tables.first_sent_all m x.0 b in let z = member_base s k g d r w all_await_nobody (s.so_far.from m) in grind (arith, nat_tests, x1, y, z, b);
+tables_committing_rollback s p k g r j0 i d w all_await_none = record {
+  first_sent_all = λ m a b. let x = was_sent s k g d r w all_await_none m a in let x1 = x.1 in let y = g.tables.first_sent_all m x.0 b in let z = member_base s k g d r w all_await_none (s.so_far.from m) in grind (arith, nat_tests, x1, y, z, b);
   first_sent_is = λ u v a. first_is_after u v a;
-  last_received_all = λ m a b. let x = was_got s k g d r w all_await_nobody m a in let x1 = x.1 in let y = g.tables.last_received_all m x.0 b in let z = member_base s k g d r w all_await_nobody (s.so_far.to m) in grind (arith, nat_tests, x1, y, z, b);
+  last_received_all = λ m a b. let x = was_got s k g d r w all_await_none m a in let x1 = x.1 in let y = g.tables.last_received_all m x.0 b in let z = member_base s k g d r w all_await_none (s.so_far.to m) in grind (arith, nat_tests, x1, y, z, b);
   last_received_is = λ u v a. last_is_after u v a;
-  aside_first_all = λ j m a b c h. g.tables.aside_first_all j m a b c (was_sent s k g d r w all_await_nobody m h).0;
-  aside_first_is = λ j u v a b c h. let x = g.tables.aside_first_is j u v a b c h in let y = saver s k g d r w all_await_nobody j u b c in (still_sent s k g d r w all_await_nobody (s.first_sent_aside u v) x.0 (rw x.1 y), x.1, x.2, x.3);
-  aside_last_all = λ j m a b c h. g.tables.aside_last_all j m a b c (was_got s k g d r w all_await_nobody m h).0;
-  aside_last_is = λ j u v a b c h. let x = g.tables.aside_last_is j u v a b c h in let y = saver s k g d r w all_await_nobody j u b c in (still_got s k g d r w all_await_nobody (s.last_received_aside u v) x.0 (rw x.2 y), x.1, x.2);
-  separates = λ m a. g.tables.separates m (was_sent s k g d r w all_await_nobody m a).0;
-  latest_all = λ m a. g.tables.latest_all m (was_sent s k g d r w all_await_nobody m a).0;
+  aside_first_all = λ j m a b c h. g.tables.aside_first_all j m a b c (was_sent s k g d r w all_await_none m h).0;
+  aside_first_is = λ j u v a b c h. let x = g.tables.aside_first_is j u v a b c h in let y = saver s k g d r w all_await_none j u b c in (still_sent s k g d r w all_await_none (s.first_sent_aside u v) x.0 (rw x.1 y), x.1, x.2, x.3);
+  aside_last_all = λ j m a b c h. g.tables.aside_last_all j m a b c (was_got s k g d r w all_await_none m h).0;
+  aside_last_is = λ j u v a b c h. let x = g.tables.aside_last_is j u v a b c h in let y = saver s k g d r w all_await_none j u b c in (still_got s k g d r w all_await_none (s.last_received_aside u v) x.0 (rw x.2 y), x.1, x.2);
+  separates = λ m a. g.tables.separates m (was_sent s k g d r w all_await_none m a).0;
+  latest_all = λ m a. g.tables.latest_all m (was_sent s k g d r w all_await_none m a).0;
   latest_low = λ u v. grind (arith, g.tables.latest_low u v);
 }
   where
@@ -294,14 +294,14 @@ tables_committing_rollback s p k g r j0 i d w all_await_nobody = record {
       where
         at_test : (b : Bool) → s.so_far.joined k u ≡ b → 0 < (if b then 0 else s.first_sent u v) → ((s.so_far.is_sent (if b then 0 else s.first_sent u v) && not (is_undone s.so_far k (if b then 0 else s.first_sent u v))) ≡ true) × (s.so_far.from (if b then 0 else s.first_sent u v) ≡ u) × (s.so_far.to (if b then 0 else s.first_sent u v) ≡ v) × (s.saved_at u ≤ s.so_far.sent_at (if b then 0 else s.first_sent u v))
         at_test true e a = absurd (omega (arith, a))
-        at_test false e a = let x = g.tables.first_sent_is u v a in (still_sent s k g d r w all_await_nobody (s.first_sent u v) x.0 (rw x.1 e), x.1, x.2, x.3)
+        at_test false e a = let x = g.tables.first_sent_is u v a in (still_sent s k g d r w all_await_none (s.first_sent u v) x.0 (rw x.1 e), x.1, x.2, x.3)
 
     last_is_after : (u v : ℕ) → 0 < (if s.so_far.joined k u then 0 else s.last_received u v) → ((s.so_far.is_received (if s.so_far.joined k u then 0 else s.last_received u v) && not (is_unreceived s.so_far k (if s.so_far.joined k u then 0 else s.last_received u v))) ≡ true) × (s.so_far.from (if s.so_far.joined k u then 0 else s.last_received u v) ≡ v) × (s.so_far.to (if s.so_far.joined k u then 0 else s.last_received u v) ≡ u)
     last_is_after u v = at_test (s.so_far.joined k u) refl
       where
         at_test : (b : Bool) → s.so_far.joined k u ≡ b → 0 < (if b then 0 else s.last_received u v) → ((s.so_far.is_received (if b then 0 else s.last_received u v) && not (is_unreceived s.so_far k (if b then 0 else s.last_received u v))) ≡ true) × (s.so_far.from (if b then 0 else s.last_received u v) ≡ v) × (s.so_far.to (if b then 0 else s.last_received u v) ≡ u)
         at_test true e a = absurd (omega (arith, a))
-        at_test false e a = let x = g.tables.last_received_is u v a in (still_got s k g d r w all_await_nobody (s.last_received u v) x.0 (rw x.2 e), x.1, x.2)
+        at_test false e a = let x = g.tables.last_received_is u v a in (still_got s k g d r w all_await_none (s.last_received u v) x.0 (rw x.2 e), x.1, x.2)
 
 pub tables_closing_checkpoint : (s : State) (p k : ℕ) (c : Bool) → s.so_far.is_rollback k ≡ false → 0 < k → s.so_far.open_in p ≡ k → s.so_far.is_decided k ≡ true → s.so_far.is_committed k ≡ c → Invariant s → Tables (after_closing_checkpoint s p k c)
 tables_closing_checkpoint s p k true r pos o d i g = record {

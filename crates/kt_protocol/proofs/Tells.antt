@@ -1,4 +1,4 @@
--- Decisions under way, and what is held: kept by each transition.
+-- Decisions in transit, and what is held: kept by each transition.
 use Rattle.std.specs.Prelude.{ℤ}
 use Rattle.kt_base.specs.declared.words.Verb.{Verb}
 use Rattle.std.proofs.Common.{◌≡◌, ◌≢◌, ℕ, ◌+◌, ◌≤◌, ◌<◌, Bool, true, false, not, List, [], ◌∷◌, ◌++◌, refl, arith, sym, inl, inr, ◌∙◌}
@@ -25,7 +25,7 @@ use Rattle.kt_protocol.specs.Joining.{after_began, after_joining_rollback, after
 use Rattle.kt_protocol.specs.Summary.{is_undone}
 
 pub record Tells (s : State) : Type 0 where
-  -- a decision is under way to who was asked
+  -- a decision is in transit to who was asked
   pub told_is : (k u v : ℕ) → 0 < weigh (is_told k) (s.channel u v) → (s.asked k u v ≡ true) × (s.so_far.is_decided k ≡ true)
   -- messages alone are held
   pub held_apps : (u v : ℕ) → weigh any_other (s.held u v) ≡ 0

@@ -23,7 +23,7 @@ use Rattle.kt_protocol.proofs.Willing.{willing_opening, willing_sending, willing
 use Rattle.kt_protocol.proofs.Consistent.{consistent_opening, consistent_sending, consistent_receiving, consistent_dropping, consistent_holding, consistent_row, consistent_began, consistent_joining_checkpoint, consistent_joining_rollback, consistent_noting, consistent_replying, consistent_unwilling, consistent_reply, consistent_answering, consistent_aborting, consistent_committing_checkpoint, consistent_committing_rollback, consistent_closing_checkpoint, consistent_closing_rollback, consistent_decision}
 use Rattle.kt_protocol.proofs.Receiving.{Taking}
 use Rattle.kt_protocol.proofs.Joining.{Joining, Label, RollbackLabel}
-use Rattle.kt_protocol.proofs.Deciding.{below, all_await_nobody}
+use Rattle.kt_protocol.proofs.Deciding.{below, all_await_none}
 use Rattle.std.proofs.Common.{refl}
 use Rattle.kt_cuts.specs.Past.{at_one}
 use Rattle.kt_spacetime.specs.declared.event.Event.{Event}
@@ -198,36 +198,36 @@ invariant_answering s p k j0 a0 quiet g = record {
 }
 
 pub invariant_aborting : (s : State) (p k : ℕ) → Invariant s → s.so_far.joined k p ≡ true → p ≡ s.initiator k → s.so_far.is_decided k ≡ false → s.so_far.has_unwilling k ≡ true → ((u v : ℕ) → s.awaits k u v ≡ false) → Invariant (record s { log = s.log ++ Decided p k false ∷ []; so_far = summary_after s.so_far (Decided p k false) })
-invariant_aborting s p k g j0 i d w all_await_nobody = record {
-  histories = histories_aborting s p k g j0 i d w all_await_nobody;
-  messages = messages_aborting s p k g j0 i d w all_await_nobody;
-  positions = positions_aborting s p k g j0 i d w all_await_nobody;
-  tables = tables_aborting s p k g j0 i d w all_await_nobody;
-  asks = asks_aborting s p k g j0 i d w all_await_nobody;
-  willing = willing_aborting s p k g j0 i d w all_await_nobody;
-  consistent = consistent_aborting s p k g j0 i d w all_await_nobody;
+invariant_aborting s p k g j0 i d w all_await_none = record {
+  histories = histories_aborting s p k g j0 i d w all_await_none;
+  messages = messages_aborting s p k g j0 i d w all_await_none;
+  positions = positions_aborting s p k g j0 i d w all_await_none;
+  tables = tables_aborting s p k g j0 i d w all_await_none;
+  asks = asks_aborting s p k g j0 i d w all_await_none;
+  willing = willing_aborting s p k g j0 i d w all_await_none;
+  consistent = consistent_aborting s p k g j0 i d w all_await_none;
 }
 
 pub invariant_committing_checkpoint : (s : State) (p k : ℕ) → Invariant s → s.so_far.is_rollback k ≡ false → s.so_far.joined k p ≡ true → p ≡ s.initiator k → s.so_far.is_decided k ≡ false → s.so_far.has_unwilling k ≡ false → ((u v : ℕ) → s.awaits k u v ≡ false) → Invariant (after_deciding_as true false s p k)
-invariant_committing_checkpoint s p k g r j0 i d w all_await_nobody = record {
-  histories = histories_committing_checkpoint s p k g r j0 i d w all_await_nobody;
-  messages = messages_committing_checkpoint s p k g r j0 i d w all_await_nobody;
-  positions = positions_committing_checkpoint s p k g r j0 i d w all_await_nobody;
-  tables = tables_committing_checkpoint s p k g r j0 i d w all_await_nobody;
-  asks = asks_committing_checkpoint s p k g r j0 i d w all_await_nobody;
-  willing = willing_committing_checkpoint s p k g r j0 i d w all_await_nobody;
-  consistent = consistent_committing_checkpoint s p k g r j0 i d w all_await_nobody;
+invariant_committing_checkpoint s p k g r j0 i d w all_await_none = record {
+  histories = histories_committing_checkpoint s p k g r j0 i d w all_await_none;
+  messages = messages_committing_checkpoint s p k g r j0 i d w all_await_none;
+  positions = positions_committing_checkpoint s p k g r j0 i d w all_await_none;
+  tables = tables_committing_checkpoint s p k g r j0 i d w all_await_none;
+  asks = asks_committing_checkpoint s p k g r j0 i d w all_await_none;
+  willing = willing_committing_checkpoint s p k g r j0 i d w all_await_none;
+  consistent = consistent_committing_checkpoint s p k g r j0 i d w all_await_none;
 }
 
 pub invariant_committing_rollback : (s : State) (p k : ℕ) → Invariant s → s.so_far.is_rollback k ≡ true → s.so_far.joined k p ≡ true → p ≡ s.initiator k → s.so_far.is_decided k ≡ false → s.so_far.has_unwilling k ≡ false → ((u v : ℕ) → s.awaits k u v ≡ false) → Invariant (after_deciding_as true true s p k)
-invariant_committing_rollback s p k g r j0 i d w all_await_nobody = record {
-  histories = histories_committing_rollback s p k g r j0 i d w all_await_nobody;
-  messages = messages_committing_rollback s p k g r j0 i d w all_await_nobody;
-  positions = positions_committing_rollback s p k g r j0 i d w all_await_nobody;
-  tables = tables_committing_rollback s p k g r j0 i d w all_await_nobody;
-  asks = asks_committing_rollback s p k g r j0 i d w all_await_nobody;
-  willing = willing_committing_rollback s p k g r j0 i d w all_await_nobody;
-  consistent = consistent_committing_rollback s p k g r j0 i d w all_await_nobody;
+invariant_committing_rollback s p k g r j0 i d w all_await_none = record {
+  histories = histories_committing_rollback s p k g r j0 i d w all_await_none;
+  messages = messages_committing_rollback s p k g r j0 i d w all_await_none;
+  positions = positions_committing_rollback s p k g r j0 i d w all_await_none;
+  tables = tables_committing_rollback s p k g r j0 i d w all_await_none;
+  asks = asks_committing_rollback s p k g r j0 i d w all_await_none;
+  willing = willing_committing_rollback s p k g r j0 i d w all_await_none;
+  consistent = consistent_committing_rollback s p k g r j0 i d w all_await_none;
 }
 
 pub invariant_closing_checkpoint : (s : State) (p k : ℕ) (c : Bool) → s.so_far.is_rollback k ≡ false → 0 < k → s.so_far.open_in p ≡ k → s.so_far.is_decided k ≡ true → s.so_far.is_committed k ≡ c → Invariant s → Invariant (after_closing_checkpoint s p k c)

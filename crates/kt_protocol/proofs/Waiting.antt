@@ -31,7 +31,7 @@ is_told k _ = 0
 pub record Waiting (s : State) (j u : ℕ) : Type 0 where
   -- who is to answer or to decide awaits somebody
   pub waits : s.so_far.joined j u ≡ true → s.so_far.is_decided j ≡ false → (u == s.initiator j || not (s.has_answered j u)) ≡ true → (v : ℕ) × (s.awaits j u v ≡ true)
-  -- who is open in a decided instance will be told: the decision is under way, or its asker is open
+  -- who is open in a decided instance will be told: the decision is in transit, or its asker is open
   pub told : 0 < j → s.so_far.open_in u ≡ j → s.so_far.is_decided j ≡ true → (u ≢ s.initiator j) × (0 < weigh (is_told j) (s.channel (s.parent j u) u) + one (s.so_far.open_in (s.parent j u) == j))
 
 pub waiting_opening : (n j u : ℕ) → Waiting (opening n) j u

@@ -21,7 +21,7 @@ use Rattle.kt_protocol.proofs.Updates.{at_one_here}
 use Rattle.kt_protocol.proofs.Replying.{ask_facts}
 use Rattle.kt_protocol.proofs.Answering.{reply_facts}
 use Rattle.kt_protocol.proofs.Beginning.{decide_facts}
-use Rattle.kt_protocol.proofs.StepFacts.{awaits_nobody, invariant_closing, same_open, now_decided, invariant_deciding, noted_here, safe_open, safe_closed, safe_rollback, joining, rolling_in, noted_invariant, new_undecided, new_joining, from_channel, from_held}
+use Rattle.kt_protocol.proofs.StepFacts.{awaits_none, invariant_closing, same_open, now_decided, invariant_deciding, noted_here, safe_open, safe_closed, safe_rollback, joining, rolling_in, noted_invariant, new_undecided, new_joining, from_channel, from_held}
 use Rattle.kt_protocol.proofs.Transitions.{invariant_opening, invariant_sending, invariant_receiving, invariant_dropping, invariant_holding, invariant_failing, invariant_refusal, invariant_began, invariant_joining_checkpoint, invariant_joining_rollback, invariant_replying, invariant_unwilling, invariant_reply, invariant_answering, invariant_decision}
 use Rattle.kt_protocol.proofs.Updates.{at_pair_here}
 
@@ -92,7 +92,7 @@ module _ (x : Step) (B A : State → Type 0) (M D : State → ℕ → ℕ → Ty
 
   walk_settling : (s : State) (p k : ℕ) → s.so_far.joined k p ≡ true → s.so_far.is_decided k ≡ false → (p ≢ s.initiator k → s.has_answered k p ≡ false) → Invariant s → M s k p → Holds A (after_settling s p k)
   walk_settling s p k j d a g w = at_if (Holds A) (none_of s.processes (s.awaits k p)) _ _
-      (λ b. let q = awaits_nobody s p k g b in at_if (Holds A) (p == s.initiator k) _ _
+      (λ b. let q = awaits_none s p k g b in at_if (Holds A) (p == s.initiator k) _ _
       (λ e. decide (same p (s.initiator k) e) q)
       (λ e. answer (differ p (s.initiator k) e) q))
       (λ b. record { invariant = g; claim = m.waits s k p j d b g w })

@@ -22,7 +22,7 @@ use Rattle.kt_protocol.proofs.Answering.{unwilling_member_taken, somewhere_taken
 use Rattle.kt_protocol.proofs.JoiningCheckpoints.{same_weight}
 use Rattle.kt_protocol.proofs.Joining.{Joining, Label, RollbackLabel}
 use Rattle.kt_protocol.proofs.JoiningRollbacks.{same_weight_rollback}
-use Rattle.kt_protocol.proofs.Deciding.{undecided_before, below, all_await_nobody}
+use Rattle.kt_protocol.proofs.Deciding.{undecided_before, below, all_await_none}
 use Rattle.kt_spacetime.specs.declared.event.Event.{Event}
 use Rattle.kt_protocol.proofs.RowFacts.{HoldsBefore}
 use Rattle.kt_protocol.proofs.Invariant.{with_row}
@@ -133,21 +133,21 @@ willing_answering s p k j0 a0 quiet g = record {
 }
 
 pub willing_aborting : (s : State) (p k : ℕ) → Invariant s → s.so_far.joined k p ≡ true → p ≡ s.initiator k → s.so_far.is_decided k ≡ false → s.so_far.has_unwilling k ≡ true → ((u v : ℕ) → s.awaits k u v ≡ false) → Willing (record s { log = s.log ++ Decided p k false ∷ []; so_far = summary_after s.so_far (Decided p k false) })
-willing_aborting s p k g j0 i d w all_await_nobody = record {
+willing_aborting s p k g j0 i d w all_await_none = record {
   unwilling_reply = g.willing.unwilling_reply;
   unwilling_member = g.willing.unwilling_member;
   somewhere = λ j a b. g.willing.somewhere j a (undecided_before s k j b).0;
 }
 
 pub willing_committing_checkpoint : (s : State) (p k : ℕ) → Invariant s → s.so_far.is_rollback k ≡ false → s.so_far.joined k p ≡ true → p ≡ s.initiator k → s.so_far.is_decided k ≡ false → s.so_far.has_unwilling k ≡ false → ((u v : ℕ) → s.awaits k u v ≡ false) → Willing (after_deciding_as true false s p k)
-willing_committing_checkpoint s p k g r j0 i d w all_await_nobody = record {
+willing_committing_checkpoint s p k g r j0 i d w all_await_none = record {
   unwilling_reply = g.willing.unwilling_reply;
   unwilling_member = g.willing.unwilling_member;
   somewhere = λ j a b. g.willing.somewhere j a (undecided_before s k j b).0;
 }
 
 pub willing_committing_rollback : (s : State) (p k : ℕ) → Invariant s → s.so_far.is_rollback k ≡ true → s.so_far.joined k p ≡ true → p ≡ s.initiator k → s.so_far.is_decided k ≡ false → s.so_far.has_unwilling k ≡ false → ((u v : ℕ) → s.awaits k u v ≡ false) → Willing (after_deciding_as true true s p k)
-willing_committing_rollback s p k g r j0 i d w all_await_nobody = record {
+willing_committing_rollback s p k g r j0 i d w all_await_none = record {
   unwilling_reply = g.willing.unwilling_reply;
   unwilling_member = g.willing.unwilling_member;
   somewhere = λ j a b. g.willing.somewhere j a (undecided_before s k j b).0;

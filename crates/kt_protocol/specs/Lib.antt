@@ -9,7 +9,7 @@ pub mod Deciding
 pub mod Steps
 pub mod AtRest
 pub mod Refusals
-pub mod UnderWay
+pub mod InTransit
 pub mod SummaryMeaning
 pub mod Logs
 pub mod WorkedRuns

@@ -18,7 +18,7 @@ pub record State : Type 0 where
   -- the log, and what is known of it
   pub log : List Event
   pub so_far : Summary
-  -- what is under way from a process to another one
+  -- what is in transit from a process to another one
   pub channel : Lists
   -- how many instances have begun
   pub instances : ℕ

@@ -14,7 +14,7 @@ ghost use Rattle.kt_protocol.specs.States.{Step, Take, opening, can_take};
 ghost use Rattle.kt_protocol.specs.Steps.{run, after_step};
 ghost use Rattle.kt_protocol.specs.AtRest.{IsAtRest};
 ghost use Rattle.kt_protocol.specs.Refusals.{IsUnwillingRow, IsRefusedRow};
-ghost use Rattle.kt_protocol.specs.UnderWay.{IsUnderWay, IsKept, EachStandsOnce, Rises, received_of, under_way, IsQuiet};
+ghost use Rattle.kt_protocol.specs.InTransit.{IsInTransit, IsKept, EachStandsOnce, Rises, received_of, in_transit, IsQuiet};
 ghost use Rattle.kt_protocol.specs.SummaryMeaning.{AgreesWith, OrdersMembers, PlacesMessages};
 ghost use Rattle.kt_protocol.specs.Logs.{HasLinkedDecisions, HasLeastDecisions, AbortsWhereUnwilling, AbortsChangeNothing, JustifiesUnwilling};
 ghost use Rattle.kt_protocol.specs.WorkedRuns.{checkpoint_of_two_steps, checkpoint_of_two, checkpoint_before_the_message_comes_steps, checkpoint_before_the_message_comes, checkpoint_round_a_ring_steps, checkpoint_round_a_ring, second_checkpoint_of_one_steps, second_checkpoint_of_one, second_checkpoint_of_two_steps, second_checkpoint_of_two, two_checkpoints_at_once_steps, two_checkpoints_at_once, process_that_is_down_refuses_steps, process_that_is_down_refuses, two_aborts_steps, two_aborts, busy_process_refuses_steps, busy_process_refuses, two_instances_abort_each_other_steps, two_instances_abort_each_other, rollback_after_a_failure_steps, rollback_after_a_failure, failure_inside_a_checkpoint_steps, failure_inside_a_checkpoint, rollback_of_the_receiver_alone_steps, rollback_of_the_receiver_alone, messages_received_again_steps, messages_received_again, rollback_meets_a_message_in_transit_steps, rollback_meets_a_message_in_transit, rollback_through_three_steps, rollback_through_three, undone_message_is_not_received_again_steps, undone_message_is_not_received_again, dropped_message_steps, dropped_message, command_refused_as_busy_steps, command_refused_as_busy, commands_refused_as_down_steps, commands_refused_as_down, object_that_is_not_saved_steps, object_that_is_not_saved, send_waits_in_a_checkpoint_steps, send_waits_in_a_checkpoint, held_message_that_is_undone_steps, held_message_that_is_undone, kept_before_held_steps, kept_before_held, label_after_an_abort_steps, label_after_an_abort};
@@ -57,9 +57,9 @@ pub fn numbers_of_runs()
     ensures initiators { (n : ℕ) (steps : List Step) (k : ℕ) → 0 < k → k ≤ (run (opening n) steps).instances →
         initiator_of (past (run (opening n) steps).log) k ≡ Some ((run (opening n) steps).initiator k) }
 
-    // Each live message that was neither received nor dropped is under way once.
-    ensures under_way { (n : ℕ) (steps : List Step) →
-        IsUnderWay (past (run (opening n) steps).log) (run (opening n) steps).channel (run (opening n) steps).held }
+    // Each live message that was neither received nor dropped is in transit once.
+    ensures in_transit { (n : ℕ) (steps : List Step) →
+        IsInTransit (past (run (opening n) steps).log) (run (opening n) steps).channel (run (opening n) steps).held }
 
     // What is kept for a process is what it received past its permanent position.
     ensures kept { (n : ℕ) (steps : List Step) → IsKept (past (run (opening n) steps).log) (run (opening n) steps).kept }
@@ -95,14 +95,14 @@ pub fn refusals()
 
 /// Messages of `q` to `p` are received in the order of their numbers: those in `p`'s live history, then those under
 /// way; those that `p` received since it last rolled back; and those that it received or dropped since, then those
-/// under way. From the decision of its rollback until it closes, `p` has received none since; and from when it notes `q`
+/// in transit. From the decision of its rollback until it closes, `p` has received none since; and from when it notes `q`
 /// until it closes, no message of `q` is in front of it.
 pub fn in_order()
     ensures live { (n : ℕ) (steps : List Step) (q : ℕ) (p : ℕ) →
-        Rises 0 (received_of q ((run (opening n) steps).so_far.live p) ++ under_way (run (opening n) steps) q p) }
+        Rises 0 (received_of q ((run (opening n) steps).so_far.live p) ++ in_transit (run (opening n) steps) q p) }
     ensures received { (n : ℕ) (steps : List Step) (q : ℕ) (p : ℕ) → Rises 0 (messages ((run (opening n) steps).received_since q p)) }
     ensures arrived { (n : ℕ) (steps : List Step) (q : ℕ) (p : ℕ) →
-        Rises 0 (messages ((run (opening n) steps).arrived_since q p) ++ under_way (run (opening n) steps) q p) }
+        Rises 0 (messages ((run (opening n) steps).arrived_since q p) ++ in_transit (run (opening n) steps) q p) }
     ensures fresh { (n : ℕ) (steps : List Step) (k : ℕ) (q : ℕ) (p : ℕ) → 0 < k →
         (run (opening n) steps).so_far.open_in p ≡ k → (run (opening n) steps).so_far.is_rollback k ≡ true →
         (run (opening n) steps).so_far.is_decided k ≡ true → (run (opening n) steps).so_far.is_committed k ≡ true →

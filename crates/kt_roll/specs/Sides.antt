@@ -2,15 +2,15 @@
 use Rattle.std.specs.Prelude.{◌≡◌, ◌⊎◌, ◌<◌, ℕ, Bool, true, false, Option, Some, None}
 use Rattle.std.proofs.Common.{inl, inr}
 use Rattle.std.specs.Borrow.{MutBor}
-use Rattle.kt_parts.specs.Shares.{Share}
+use Rattle.kt_parts.specs.Parts.{Part}
 use Rattle.kt_roll.specs.Notes.{Noted, note_of, with_note}
 
 -- what it has in any instance, and the labels noted
 pub record RollSide : Type 0 where
-  pub part : Share
+  pub part : Part
   pub notes : Noted
 
-abbrev pub part_of : Option RollSide → Option Share
+abbrev pub part_of : Option RollSide → Option Part
 part_of None = None
 part_of (Some side) = Some side.part
 

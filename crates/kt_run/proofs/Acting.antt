@@ -31,7 +31,7 @@ use Rattle.kt_values.specs.Values.{Rules, Due, due, first_due, acts_along}
 use Rattle.kt_core.specs.Shown.{Mirrors}
 use Rattle.kt_core.specs.Worlds.{World}
 use Rattle.kt_run.specs.Objects.{Belongings, belongings_of, first_of, rules_by, HoldDue}
-use Rattle.kt_run.specs.Runs.{scene, Tells, StepsTo}
+use Rattle.kt_run.specs.Runs.{told_and_held, Tells, StepsTo}
 use Rattle.kt_run.proofs.Holding.{IsDone, AreAlong, hold_next, done_by}
 
 -- the acts of a step in a run
@@ -78,7 +78,7 @@ module _ {X : Type 0} (f : X → Belongings) (xs : List X) (i : ℕ) (x y : X) (
     offers : GivesOffer (rules_by cast) old.agenda.plan v step give
     offers n = subst (λ (p : ℕ). option_map (rules_by cast p).offered (due (rules_by cast p) (done v.now.log) p).object ≡ Some give.body) whose
         (given_offer (first_of (slice_index_or cast i [])) (due (rules_by cast i) (done v.now.log) i).object (f x).present give.body
-        (object_seen (rules_by cast i) old.agenda.plan first v i limits r.reached ∙ subst (λ (p : ℕ). (v.now.people p).up ≡ true) (sym whose) (up_seen old.agenda.plan v step n))
+        (object_seen (rules_by cast i) old.agenda.plan first v i limits r.reached ∙ subst (λ (p : ℕ). (v.now.states p).up ≡ true) (sym whose) (up_seen old.agenda.plan v step n))
         (h.each i (f x) (slice_get-map f xs i ∙ ap (option_map f) at)).holds.object
         (asked (needs_body l (looks first v r ∙ n))))
 
@@ -108,7 +108,7 @@ pub held_to : {X : Type 0} {D : X → Type 0} (helds : List (Held X D)) (content
     → (l ≡ look.NeedsBody → IfSome x.present (λ b. give.body ≡ offered (content_of b).kind (content_of b).value))
     → ((h : Holding) → Holds h (option_map content_of x.present) x.depot → Holds (does_all h acts) (option_map content_of y.present) y.depot)
     → y.spares.items ≡ drop (spares_of_all (is_some x.present) acts) x.spares.items
-    → Tells old before step give new after acts → StepsTo old (scene before helds content_of) step new (scene after (set helds i y) content_of)
+    → Tells old before step give new after acts → StepsTo old (told_and_held before helds content_of) step new (told_and_held after (set helds i y) content_of)
 held_to helds content_of i x y at old new before after step place give acts l looks asked does spares tells =
     steps_to (belongings_of content_of) helds i x y at old new before after step place give acts l looks
     (λ e. of_content content_of x.present (λ c. give.body ≡ offered c.kind c.value) (asked e))

@@ -72,10 +72,10 @@ sends_offered closed up job.Rollback e = absurd (cc (e))
 sends_offered closed up job.Fail e = absurd (cc (e))
 
 -- its row
-row_of_send : (u : Progress) (p : ℕ) (give : Give) (c : Command) (q : ℕ) (rows : List Event) → c.job ≡ job.Send q None → (u.now.people p).up ≡ true → AreRowsOfDo u.now p give (Some c) rows → rows ≡ Sent p q give.body ∷ []
+row_of_send : (u : Progress) (p : ℕ) (give : Give) (c : Command) (q : ℕ) (rows : List Event) → c.job ≡ job.Send q None → (u.now.states p).up ≡ true → AreRowsOfDo u.now p give (Some c) rows → rows ≡ Sent p q give.body ∷ []
 row_of_send u p give c q rows j up f =
-    let are : AreRowsOfCommand (u.now.begun + 1) p (job.Send q None) give.body (refusal_cause (u.now.people p) give.able (job.Send q None)) rows
-    = subst (λ (x : Job). AreRowsOfCommand (u.now.begun + 1) p x give.body (refusal_cause (u.now.people p) give.able x) rows) j f in
+    let are : AreRowsOfCommand (u.now.begun + 1) p (job.Send q None) give.body (refusal_cause (u.now.states p) give.able (job.Send q None)) rows
+    = subst (λ (x : Job). AreRowsOfCommand (u.now.begun + 1) p x give.body (refusal_cause (u.now.states p) give.able x) rows) j f in
     subst (λ (b : Bool). AreRowsOfCommand (u.now.begun + 1) p (job.Send q None) give.body (if b then None else Some Down) rows) up are
 
 first_move : (plan : Planned) (u w : Progress) (x : Move) (xs : List Move) → after_moves plan u (x ∷ xs) ≡ Some w → (enabled plan u x.step ≡ true) × (after_moves plan (progress_after plan u x.step x.give) xs ≡ Some w)
@@ -96,7 +96,7 @@ module _ {V : Type 0} (rules : ℕ → Rules V) (plan : Planned) (first : ℕ) (
       let c = in_phase_seen plan first u p i s b in
       let looked : look_of_step plan u (Do p) ≡ NeedsBody = sym (ap (λ (x : Bool). if x then look_of_step plan u (Do p) else Idle) b) ∙ e in
       let asks : look_of_command u p (Some c.0) ≡ NeedsBody = subst (λ (x : Option Command). look_of_command u p x ≡ NeedsBody) c.1 looked in
-      let own = sends_offered ((u.now.people p).inst == 0) (u.now.people p).up c.0.job asks in
+      let own = sends_offered ((u.now.states p).inst == 0) (u.now.states p).up c.0.job asks in
       let fit = subst (λ (x : Option Command). AreRowsOfDo u.now p give x (rows_added plan u (Do p) give)) c.1 (fits plan first u (Do p) give i s b).fit in
       let added = row_of_send u p give c.0 own.0 (rows_added plan u (Do p) give) own.1 own.2 fit in
       let log : w.now.log ≡ u.now.log ++ Sent p own.0 give.body ∷ more = l

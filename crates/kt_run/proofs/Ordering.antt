@@ -23,7 +23,7 @@ use Rattle.kt_run.specs.Objects.{rules_by}
 use Rattle.kt_run.specs.Refused.{IsGivenNext, IsDefaultNext, IsGivenRefused, IsStopped}
 use Rattle.kt_run.specs.declared.orders.Order.{Order}
 use Rattle.kt_run.specs.Orders.{Generator, step_in_order, generator_next, generator_after, generator_of, AreInOrder, GoesInOrder, RestsInOrder, IsInOrder, IsOneRefused, IsOneStopped}
-use Rattle.kt_run.specs.Runs.{Scene, StepsTo, BeginsRun, Goes}
+use Rattle.kt_run.specs.Runs.{ToldAndHeld, StepsTo, BeginsRun, Goes}
 use Rattle.kt_run.proofs.Running.{begins_by}
 
 -- one move more is in order, and the generator is that after it
@@ -44,7 +44,7 @@ ordered_more plan (x ∷ xs) m u v g now e o is next =
     go false f h = absurd (cc (f))
 
 -- where the given steps lead
-pub in_order_start : (plan : Planned) (cast : List (List Content)) (given : List Step) (g : Option Generator) (w : World) (at : Scene) → BeginsRun plan cast given w at → GoesInOrder plan cast given given g g w at
+pub in_order_start : (plan : Planned) (cast : List (List Content)) (given : List Step) (g : Option Generator) (w : World) (at : ToldAndHeld) → BeginsRun plan cast given w at → GoesInOrder plan cast given given g g w at
 in_order_start plan cast given g w at b = record {
   run = b;
   first = b.moves;
@@ -59,7 +59,7 @@ in_order_start plan cast given g w at b = record {
 }
 
 -- one step more
-pub in_order_more : (plan : Planned) (cast : List (List Content)) (given steps : List Step) (g now next : Option Generator) (x : Step) (old new : World) (before after : Scene) → old.agenda.plan ≡ plan
+pub in_order_more : (plan : Planned) (cast : List (List Content)) (given steps : List Step) (g now next : Option Generator) (x : Step) (old new : World) (before after : ToldAndHeld) → old.agenda.plan ≡ plan
     → (o : GoesInOrder plan cast given steps g now old before) → StepsTo old before x new after → Some x ≡ step_in_order old.agenda.plan o.run.now now → next ≡ generator_next old.agenda.plan o.run.now now
     → GoesInOrder plan cast given (steps ++ x ∷ []) g next new after
 in_order_more plan cast given steps g now next x old new before after e o s comes turn =
@@ -83,7 +83,7 @@ in_order_more plan cast given steps g now next x old new before after e o s come
     }
 
 -- where no step is enabled all is at rest
-pub in_order_rest : (plan : Planned) (cast : List (List Content)) (given steps : List Step) (g now : Option Generator) (w : World) (at : Scene) → w.agenda.plan ≡ plan → GoesInOrder plan cast given steps g now w at
+pub in_order_rest : (plan : Planned) (cast : List (List Content)) (given steps : List Step) (g now : Option Generator) (w : World) (at : ToldAndHeld) → w.agenda.plan ≡ plan → GoesInOrder plan cast given steps g now w at
     → ((x : Step) → can_make w x ≡ false) → RestsInOrder plan cast given steps g w at
 in_order_rest plan cast given steps g now w at e o none = record {
   now = now;
@@ -93,7 +93,7 @@ in_order_rest plan cast given steps g now w at e o none = record {
 }
 
 -- a step is refused
-pub one_refused : (plan : Planned) (cast : List (List Content)) (steps : List Step) (done : ℕ) (w : World) (at : Scene) (x : Step) (fault : StepFault) → BeginsRun plan cast steps w at → done ≡ length steps → step_refusal w x ≡ Some fault → IsOneRefused plan cast done fault
+pub one_refused : (plan : Planned) (cast : List (List Content)) (steps : List Step) (done : ℕ) (w : World) (at : ToldAndHeld) (x : Step) (fault : StepFault) → BeginsRun plan cast steps w at → done ≡ length steps → step_refusal w x ≡ Some fault → IsOneRefused plan cast done fault
 one_refused plan cast steps done w at x fault b count refused = record { steps = steps; world = w; at = at; run = b; count = count; step = x; refused = refused }
 
 -- so is one of those given
@@ -109,11 +109,11 @@ given_one_refused plan cast steps done fault r = record {
 }
 
 -- a step of this process is not refused
-pub one_stopped : (plan : Planned) (cast : List (List Content)) (steps : List Step) (w : World) (at : Scene) (x : Step) (p : ℕ) → BeginsRun plan cast steps w at → process_of_step x ≡ p → step_refusal w x ≡ None → IsOneStopped plan cast p
+pub one_stopped : (plan : Planned) (cast : List (List Content)) (steps : List Step) (w : World) (at : ToldAndHeld) (x : Step) (p : ℕ) → BeginsRun plan cast steps w at → process_of_step x ≡ p → step_refusal w x ≡ None → IsOneStopped plan cast p
 one_stopped plan cast steps w at x p b own made = record { steps = steps; world = w; at = at; run = b; step = x; own = own; made = made }
 
 -- a run that goes on by default steps is one by all its steps
-goes_begins : (plan : Planned) (cast : List (List Content)) (given : List Step) (w : World) (at : Scene) (h : Goes plan cast given w at) → BeginsRun plan cast (map (λ (m : Move). m.step) (h.given ++ h.more)) w at
+goes_begins : (plan : Planned) (cast : List (List Content)) (given : List Step) (w : World) (at : ToldAndHeld) (h : Goes plan cast given w at) → BeginsRun plan cast (map (λ (m : Move). m.step) (h.given ++ h.more)) w at
 goes_begins plan cast given w at h = record {
   moves = h.given ++ h.more;
   now = h.now;
@@ -136,7 +136,7 @@ given_one_stopped plan cast given p s = go s.next
     go (inl n) = one_stopped plan cast (take s.done given) s.world n.at s.step p n.run s.own s.made
     go (inr n) = one_stopped plan cast (map (λ (m : Move). m.step) (n.run.given ++ n.run.more)) s.world n.at s.step p (goes_begins plan cast given s.world n.at n.run) s.own s.made
 
-module _ (plan : Planned) (cast : List (List Content)) (given steps : List Step) (order : Order) (w : World) (at : Scene) (rows : List Event) (limits : IsPlan plan) (r : RestsInOrder plan cast given steps (generator_of order) w at) (log : rows ≡ w.system.rows.rows) where
+module _ (plan : Planned) (cast : List (List Content)) (given steps : List Step) (order : Order) (w : World) (at : ToldAndHeld) (rows : List Event) (limits : IsPlan plan) (r : RestsInOrder plan cast given steps (generator_of order) w at) (log : rows ≡ w.system.rows.rows) where
   rows_are : rows ≡ r.goes.run.now.now.log
   rows_are = log ∙ r.goes.run.shown.now.log
 

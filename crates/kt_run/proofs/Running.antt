@@ -34,7 +34,7 @@ use Rattle.kt_core.specs.Shown.{Mirrors}
 use Rattle.kt_core.proofs.Enabled.{enabled_is, enabled_if}
 use Rattle.kt_run.specs.Objects.{Belongings, first_of, rules_of, rules_by, HoldDue}
 use Rattle.kt_run.specs.Refused.{IsGivenNext, IsDefaultNext, IsGivenRefused, IsDefaultRefused, IsStopped}
-use Rattle.kt_run.specs.Runs.{Scene, Tells, StepsTo, Starts, BeginsRun, Goes, Rests, IsPlayed, IsToldPlay}
+use Rattle.kt_run.specs.Runs.{ToldAndHeld, Tells, StepsTo, Starts, BeginsRun, Goes, Rests, IsPlayed, IsToldPlay}
 use Rattle.kt_run.specs.Telling.{IsToldAs, AreToldInRun, AreToldTheirRows, TellsItsRows, AreEmpty, IsNoted}
 use Rattle.kt_run.proofs.Numbering.{told_their_none, told_their_more}
 use Rattle.kt_run.proofs.Telling.{told_as, tells_its_rows, tells_nothing, tells_more}
@@ -110,14 +110,14 @@ Led plan v x new told give = (enabled plan v x ≡ true) × Mirrors new.agenda n
     × IsToldAs told (told_at plan v (record { step = x; give = give }))
     × TellsItsRows told v.now.log (progress_after plan v x give).now.log
 
-led : (plan : Planned) (old new : World) (before after : Scene) (x : Step) (v : Progress) → old.agenda.plan ≡ plan → (s : StepsTo old before x new after) → Mirrors old.agenda old.system 0 v → Led plan v x new s.0 s.1
+led : (plan : Planned) (old new : World) (before after : ToldAndHeld) (x : Step) (v : Progress) → old.agenda.plan ≡ plan → (s : StepsTo old before x new after) → Mirrors old.agenda old.system 0 v → Led plan v x new s.0 s.1
 led plan old new before after x v e s r = let t = s.5 0 v r in subst (λ (z : Planned). Led z v x new s.0 s.1) e (t.0, t.1, t.2, t.3)
 
 -- what each process holds, and what is given
-abbrev Keeps : Planned → List (List Content) → Progress → Step → Give → Scene → Type 0
+abbrev Keeps : Planned → List (List Content) → Progress → Step → Give → ToldAndHeld → Type 0
 Keeps plan cast v x give after = GivesOffer (rules_by cast) plan v x give × HoldDue cast (progress_after plan v x give).now.log after.has
 
-keeps : (plan : Planned) (cast : List (List Content)) (old new : World) (before after : Scene) (x : Step) (v : Progress) → old.agenda.plan ≡ plan → (s : StepsTo old before x new after) → Mirrors old.agenda old.system 0 v
+keeps : (plan : Planned) (cast : List (List Content)) (old new : World) (before after : ToldAndHeld) (x : Step) (v : Progress) → old.agenda.plan ≡ plan → (s : StepsTo old before x new after) → Mirrors old.agenda old.system 0 v
     → HoldDue cast v.now.log before.has → Keeps plan cast v x s.1 after
 keeps plan cast old new before after x v e s r due = subst (λ (z : Planned). Keeps z cast v x s.1 after) e ((s.5 0 v r).4 cast due)
 
@@ -133,7 +133,7 @@ gives_more rules plan (x ∷ xs) m u v e o g = (o.0, go (enabled plan u x.step) 
     go true e f = f e
     go false e f = absurd (cc (e))
 
-pub begins_start : (plan : Planned) (cast : List (List Content)) (w : World) (at : Scene) → Starts plan w → AreEmpty at.told → HoldDue cast [] at.has → BeginsRun plan cast [] w at
+pub begins_start : (plan : Planned) (cast : List (List Content)) (w : World) (at : ToldAndHeld) → Starts plan w → AreEmpty at.told → HoldDue cast [] at.has → BeginsRun plan cast [] w at
 begins_start plan cast w at s n due = record {
   moves = [];
   now = progress_at_start plan 0;
@@ -148,7 +148,7 @@ begins_start plan cast w at s n due = record {
   due = subst (λ (log : List Event). HoldDue cast log at.has) (sym (ap (λ (v : _). v.log) (opening_is plan 0).now)) due;
 }
 
-pub begins_more : (plan : Planned) (cast : List (List Content)) (steps : List Step) (x : Step) (old new : World) (before after : Scene) → old.agenda.plan ≡ plan → BeginsRun plan cast steps old before → StepsTo old before x new after
+pub begins_more : (plan : Planned) (cast : List (List Content)) (steps : List Step) (x : Step) (old new : World) (before after : ToldAndHeld) → old.agenda.plan ≡ plan → BeginsRun plan cast steps old before → StepsTo old before x new after
     → BeginsRun plan cast (steps ++ x ∷ []) new after
 begins_more plan cast steps x old new before after e b s =
     let l = led plan old new before after x b.now e s b.shown in
@@ -169,13 +169,13 @@ begins_more plan cast steps x old new before after e b s =
     }
 
 -- its moves are those before and this one
-pub begins_by : (plan : Planned) (cast : List (List Content)) (steps : List Step) (x : Step) (old new : World) (before after : Scene) → old.agenda.plan ≡ plan → (b : BeginsRun plan cast steps old before) → (s : StepsTo old before x new after)
+pub begins_by : (plan : Planned) (cast : List (List Content)) (steps : List Step) (x : Step) (old new : World) (before after : ToldAndHeld) → old.agenda.plan ≡ plan → (b : BeginsRun plan cast steps old before) → (s : StepsTo old before x new after)
     → (r : BeginsRun plan cast (steps ++ x ∷ []) new after) × (r.moves ≡ b.moves ++ record { step = x; give = s.1 } ∷ []) × (r.now ≡ progress_after plan b.now x s.1) × (enabled plan b.now x ≡ true)
 unfolding begins_more
 begins_by plan cast steps x old new before after e b s = (begins_more plan cast steps x old new before after e b s, refl, refl, (led plan old new before after x b.now e s b.shown).0)
 
 -- so few that they are counted
-pub begins_few : (plan : Planned) (cast : List (List Content)) (steps : List Step) (w : World) (at : Scene) → w.agenda.plan ≡ plan → BeginsRun plan cast steps w at → length steps < 67108864
+pub begins_few : (plan : Planned) (cast : List (List Content)) (steps : List Step) (w : World) (at : ToldAndHeld) → w.agenda.plan ≡ plan → BeginsRun plan cast steps w at → length steps < 67108864
 begins_few plan cast steps w at e b =
     let few = b.few in
     let limit = b.limit in
@@ -188,10 +188,10 @@ begins_few plan cast steps w at e b =
     omega (arith, below, made)
 
 -- a run goes on from where the given steps lead, by so many steps
-abbrev pub GoesSo : Planned → List (List Content) → List Step → ℕ → World → Scene → Type 0
+abbrev pub GoesSo : Planned → List (List Content) → List Step → ℕ → World → ToldAndHeld → Type 0
 GoesSo plan cast steps n w at = (g : Goes plan cast steps w at) × (n ≡ length g.more)
 
-pub goes_start : (plan : Planned) (cast : List (List Content)) (steps : List Step) (w : World) (at : Scene) → BeginsRun plan cast steps w at → GoesSo plan cast steps 0 w at
+pub goes_start : (plan : Planned) (cast : List (List Content)) (steps : List Step) (w : World) (at : ToldAndHeld) → BeginsRun plan cast steps w at → GoesSo plan cast steps 0 w at
 goes_start plan cast steps w at b = (
   record {
     given = b.moves;
@@ -210,7 +210,7 @@ goes_start plan cast steps w at b = (
   omega arith,
 )
 
-pub goes_more : (plan : Planned) (cast : List (List Content)) (steps : List Step) (n : ℕ) (x : Step) (old new : World) (before after : Scene) → old.agenda.plan ≡ plan → (h : GoesSo plan cast steps n old before) → StepsTo old before x new after
+pub goes_more : (plan : Planned) (cast : List (List Content)) (steps : List Step) (n : ℕ) (x : Step) (old new : World) (before after : ToldAndHeld) → old.agenda.plan ≡ plan → (h : GoesSo plan cast steps n old before) → StepsTo old before x new after
     → Some x ≡ default_step old.agenda.plan h.0.now → GoesSo plan cast steps (n + 1) new after
 goes_more plan cast steps n x old new before after e h s d =
     let g = h.0 in
@@ -244,7 +244,7 @@ begins_count : (moves : List Move) (steps : List Step) → map (λ (m : Move). m
 begins_count moves steps e = sym (length-map moves (λ (m : Move). m.step)) ∙ ap (λ (l : List Step). length l) e
 
 -- so few that they are counted
-pub goes_few : (plan : Planned) (cast : List (List Content)) (steps : List Step) (n : ℕ) (w : World) (at : Scene) → w.agenda.plan ≡ plan → GoesSo plan cast steps n w at
+pub goes_few : (plan : Planned) (cast : List (List Content)) (steps : List Step) (n : ℕ) (w : World) (at : ToldAndHeld) → w.agenda.plan ≡ plan → GoesSo plan cast steps n w at
     → length steps + n < 67108864
 goes_few plan cast steps n w at e h =
     let g = h.0 in
@@ -260,16 +260,16 @@ goes_few plan cast steps n w at e h =
     omega (arith, below, so, given)
 
 -- no run has so many steps
-pub too_many : (plan : Planned) (cast : List (List Content)) (steps : List Step) (n : ℕ) (w : World) (at : Scene) → w.agenda.plan ≡ plan → GoesSo plan cast steps n w at → 4294967295 ≤ n → ⊥
+pub too_many : (plan : Planned) (cast : List (List Content)) (steps : List Step) (n : ℕ) (w : World) (at : ToldAndHeld) → w.agenda.plan ≡ plan → GoesSo plan cast steps n w at → 4294967295 ≤ n → ⊥
 too_many plan cast steps n w at e h many = let below = goes_few plan cast steps n w at e h in omega (arith, below, many)
 
-pub rests_now : (plan : Planned) (cast : List (List Content)) (steps : List Step) (w : World) (at : Scene) → w.agenda.plan ≡ plan → (g : Goes plan cast steps w at) → None ≡ default_step w.agenda.plan g.now → Rests plan cast steps w at
+pub rests_now : (plan : Planned) (cast : List (List Content)) (steps : List Step) (w : World) (at : ToldAndHeld) → w.agenda.plan ≡ plan → (g : Goes plan cast steps w at) → None ≡ default_step w.agenda.plan g.now → Rests plan cast steps w at
 rests_now plan cast steps w at e g d = record {
   run = g;
   rest = goes_rest plan 0 g.given g.more g.now (subst (λ (z : Planned). IsPlan z) e g.shown.limits) g.goes_on (subst (λ (z : Planned). default_step z g.now ≡ None) e (sym d));
 }
 
-module _ (plan : Planned) (cast : List (List Content)) (steps : List Step) (w : World) (at : Scene) (rows : List Event) (limits : IsPlan plan) (r : Rests plan cast steps w at) (log : rows ≡ w.system.rows.rows) where
+module _ (plan : Planned) (cast : List (List Content)) (steps : List Step) (w : World) (at : ToldAndHeld) (rows : List Event) (limits : IsPlan plan) (r : Rests plan cast steps w at) (log : rows ≡ w.system.rows.rows) where
   rows_are : rows ≡ r.run.now.now.log
   rows_are = log ∙ r.run.shown.now.log
 
@@ -323,7 +323,7 @@ module _ (plan : Planned) (cast : List (List Content)) (steps : List Step) (w : 
       none_saved _ b.depot.tentative (ap (option_map (content c.kind)) (no_tentative (rules_of c) plan 0 r.run.now p limits reached r.rest)) h.holds.tentative
 
 -- the next step of those given
-pub given_next : (plan : Planned) (cast : List (List Content)) (steps : List Step) (i : ℕ) (w : World) (at : Scene) (x : Step) → BeginsRun plan cast (take i steps) w at → i < length steps → x ≡ get_or steps i x → IsGivenNext plan cast steps i w x
+pub given_next : (plan : Planned) (cast : List (List Content)) (steps : List Step) (i : ℕ) (w : World) (at : ToldAndHeld) (x : Step) → BeginsRun plan cast (take i steps) w at → i < length steps → x ≡ get_or steps i x → IsGivenNext plan cast steps i w x
 given_next plan cast steps i w at x b l e = record { at = at; run = b; next = slice_get_read steps (length steps) i x refl l e }
 
 -- it is refused
@@ -335,7 +335,7 @@ pub given_stopped : (plan : Planned) (cast : List (List Content)) (steps : List 
 given_stopped plan cast steps i w x p n own made = record { done = i; world = w; step = x; next = inl n; own = own; made = made }
 
 -- the next default step
-pub default_next : (plan : Planned) (cast : List (List Content)) (steps : List Step) (n done : ℕ) (w : World) (at : Scene) (x : Step) → w.agenda.plan ≡ plan → (h : GoesSo plan cast steps n w at)
+pub default_next : (plan : Planned) (cast : List (List Content)) (steps : List Step) (n done : ℕ) (w : World) (at : ToldAndHeld) (x : Step) → w.agenda.plan ≡ plan → (h : GoesSo plan cast steps n w at)
     → length steps + n ≡ done → Some x ≡ default_step w.agenda.plan h.0.now → IsDefaultNext plan cast steps done w x
 default_next plan cast steps n done w at x e h count next = record {
   at = at;

@@ -15,7 +15,7 @@ use Rattle.kt_core.specs.Worlds.{World, step_refusal}
 use Rattle.kt_core.specs.declared.faults.StepFault.{StepFault}
 use Rattle.kt_run.specs.declared.orders.Order.{Order}
 use Rattle.kt_run.specs.declared.orders.Order.TheVariants.{Default, Drawn}
-use Rattle.kt_run.specs.Runs.{Scene, BeginsRun, IsRun}
+use Rattle.kt_run.specs.Runs.{ToldAndHeld, BeginsRun, IsRun}
 
 -- the state of a generator, four words of 64 bits
 abbrev pub Generator : Type 0
@@ -67,7 +67,7 @@ generator_of (Drawn seed) = Some (seeded seed)
 
 -- a run by just these steps leads to a world; they are those given and then those that come next, by a generator that was
 -- one and now is the other
-pub record GoesInOrder (plan : Planned) (cast : List (List Content)) (given steps : List Step) (was now : Option Generator) (world : World) (at : Scene) : Type 0 where
+pub record GoesInOrder (plan : Planned) (cast : List (List Content)) (given steps : List Step) (was now : Option Generator) (world : World) (at : ToldAndHeld) : Type 0 where
   pub run : BeginsRun plan cast steps world at
   pub first : List Move
   pub more : List Move
@@ -80,7 +80,7 @@ pub record GoesInOrder (plan : Planned) (cast : List (List Content)) (given step
   pub generator : now ≡ generator_after plan begun was more
 
 -- and has come to rest there
-pub record RestsInOrder (plan : Planned) (cast : List (List Content)) (given steps : List Step) (was : Option Generator) (world : World) (at : Scene) : Type 0 where
+pub record RestsInOrder (plan : Planned) (cast : List (List Content)) (given steps : List Step) (was : Option Generator) (world : World) (at : ToldAndHeld) : Type 0 where
   pub now : Option Generator
   pub goes : GoesInOrder plan cast given steps was now world at
   pub rest : is_at_rest plan goes.run.now ≡ true
@@ -106,7 +106,7 @@ pub record IsInOrder (plan : Planned) (cast : List (List Content)) (given : List
 pub record IsOneRefused (plan : Planned) (cast : List (List Content)) (done : ℕ) (fault : StepFault) : Type 0 where
   pub steps : List Step
   pub world : World
-  pub at : Scene
+  pub at : ToldAndHeld
   pub run : BeginsRun plan cast steps world at
   pub count : done ≡ length steps
   pub step : Step
@@ -116,7 +116,7 @@ pub record IsOneRefused (plan : Planned) (cast : List (List Content)) (done : �
 pub record IsOneStopped (plan : Planned) (cast : List (List Content)) (p : ℕ) : Type 0 where
   pub steps : List Step
   pub world : World
-  pub at : Scene
+  pub at : ToldAndHeld
   pub run : BeginsRun plan cast steps world at
   pub step : Step
   pub own : process_of_step step ≡ p

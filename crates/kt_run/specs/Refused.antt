@@ -7,17 +7,17 @@ use Rattle.kt_plans.specs.Steps.{process_of_step}
 use Rattle.kt_plans.specs.Defaults.{default_step}
 use Rattle.kt_core.specs.Worlds.{World, step_refusal}
 use Rattle.kt_core.specs.declared.faults.StepFault.{StepFault}
-use Rattle.kt_run.specs.Runs.{Scene, BeginsRun, Goes}
+use Rattle.kt_run.specs.Runs.{ToldAndHeld, BeginsRun, Goes}
 
 -- a run by the first so many of these steps leads to this world, and this is the next one of them
 pub record IsGivenNext (plan : Planned) (cast : List (List Content)) (steps : List Step) (done : ℕ) (world : World) (step : Step) : Type 0 where
-  pub at : Scene
+  pub at : ToldAndHeld
   pub run : BeginsRun plan cast (take done steps) world at
   pub next : slice_get steps done ≡ Some step
 
 -- a run by so many steps, all of these and then default ones, leads to this world, and this is the next default step
 pub record IsDefaultNext (plan : Planned) (cast : List (List Content)) (steps : List Step) (done : ℕ) (world : World) (step : Step) : Type 0 where
-  pub at : Scene
+  pub at : ToldAndHeld
   pub run : Goes plan cast steps world at
   pub count : length run.given + length run.more ≡ done
   pub next : default_step plan run.now ≡ Some step

@@ -21,13 +21,13 @@ use Rattle.kt_run.specs.Objects.{Belongings, has_of, rules_by, HoldDue}
 use Rattle.kt_run.specs.Telling.{IsToldAs, AreToldInRun, AreToldTheirRows, TellsItsRows, IsNoted}
 
 -- what the processes were told, and what they have
-pub record Scene : Type 0 where
+pub record ToldAndHeld : Type 0 where
   pub told : List (List Told)
   pub has : List Belongings
 
 -- the same, of what code keeps
-abbrev pub scene : {X : Type 0} {D : X → Type 0} → List (List Told) → List (Held X D) → (DynBox X Global D → Content) → Scene
-scene told helds content_of = record { told = told; has = has_of helds content_of }
+abbrev pub told_and_held : {X : Type 0} {D : X → Type 0} → List (List Told) → List (Held X D) → (DynBox X Global D → Content) → ToldAndHeld
+told_and_held told helds content_of = record { told = told; has = has_of helds content_of }
 
 -- with what its object gives, a step leads each run that leads to the old world on to the new one: there it is enabled;
 -- what it tells, as these runs tell it and with the numbers of its rows, is noted of its process, and asks these acts
@@ -42,7 +42,7 @@ Tells old before step give new after acts = (told : Told) × IsNoted told before
 
 -- with something that its object gives, a step does so; and where each process holds what is due to it, what is given is
 -- what the object offers, if the step asks for that, and then again each process holds what is due to it
-abbrev pub StepsTo : World → Scene → Step → World → Scene → Type 0
+abbrev pub StepsTo : World → ToldAndHeld → Step → World → ToldAndHeld → Type 0
 StepsTo old before step new after = (told : Told) × (give : Give) × IsNoted told before.told after.told × (new.limit ≡ old.limit)
     × (length new.system.rows.rows ≤ new.limit)
     × ((first : ℕ) (v : Progress) → Mirrors old.agenda old.system first v →
@@ -62,7 +62,7 @@ pub record Starts (plan : Planned) (world : World) : Type 0 where
 
 -- a run by these steps alone leads to a world, and tells this, with the numbers of its rows; each process, given these
 -- objects, holds what is due to it, and what was given at each step that asks for it is what its object offers
-pub record BeginsRun (plan : Planned) (cast : List (List Content)) (steps : List Step) (world : World) (at : Scene) : Type 0 where
+pub record BeginsRun (plan : Planned) (cast : List (List Content)) (steps : List Step) (world : World) (at : ToldAndHeld) : Type 0 where
   pub moves : List Move
   pub now : Progress
   pub made : map (λ (m : Move). m.step) moves ≡ steps
@@ -76,7 +76,7 @@ pub record BeginsRun (plan : Planned) (cast : List (List Content)) (steps : List
   pub due : HoldDue cast now.now.log at.has
 
 -- so does a run that begins with these steps, and goes on by default steps
-pub record Goes (plan : Planned) (cast : List (List Content)) (steps : List Step) (world : World) (at : Scene) : Type 0 where
+pub record Goes (plan : Planned) (cast : List (List Content)) (steps : List Step) (world : World) (at : ToldAndHeld) : Type 0 where
   pub given : List Move
   pub more : List Move
   pub now : Progress
@@ -91,7 +91,7 @@ pub record Goes (plan : Planned) (cast : List (List Content)) (steps : List Step
   pub due : HoldDue cast now.now.log at.has
 
 -- and has come to rest there
-pub record Rests (plan : Planned) (cast : List (List Content)) (steps : List Step) (world : World) (at : Scene) : Type 0 where
+pub record Rests (plan : Planned) (cast : List (List Content)) (steps : List Step) (world : World) (at : ToldAndHeld) : Type 0 where
   pub run : Goes plan cast steps world at
   pub rest : is_at_rest plan run.now ≡ true
 

@@ -7,8 +7,8 @@ mod journals;
 mod laws;
 mod orders;
 mod recorded;
+mod run_state;
 mod runs;
-mod stage;
 
 pub use faults::RunFault;
 pub use laws::one_run;

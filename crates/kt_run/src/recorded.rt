@@ -12,7 +12,7 @@ ghost use Rattle.kt_run.specs.Rejections.{MayReject};
 
 use crate::faults::RunFault;
 use crate::orders::Order;
-use crate::stage::Stage;
+use crate::run_state::RunState;
 use kt_held::Cast;
 use kt_object::Recoverable;
 use kt_plan::{Plan, Step};
@@ -63,11 +63,11 @@ pub fn recorded_run_of(
     ensures promised { IfOk result (λ kept. IsPromised kept.log.rows) }
     ensures follows { IfOk result (λ kept. FollowsPlan plan.now kept.log.rows) }
 {
-    let mut stage = Stage::begin(alloc, plan, cast)?;
+    let mut run_state = RunState::begin(alloc, plan, cast)?;
     let mut generator = order.generator();
-    let made = stage.make_in_order(steps, &mut generator)?;
+    let made = run_state.make_in_order(steps, &mut generator)?;
     Ok(RecordedRun {
-        log: stage.world.into_log(),
+        log: run_state.world.into_log(),
         steps: made,
     })
 }

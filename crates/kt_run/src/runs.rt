@@ -16,7 +16,7 @@ ghost use Rattle.kt_run.specs.Telling.{AreToldTheirRows};
 
 use crate::faults::RunFault;
 use crate::journals::Journals;
-use crate::stage::Stage;
+use crate::run_state::RunState;
 use kt_held::{Cast, Held};
 use kt_object::Recoverable;
 use kt_plan::{Plan, Step, Told};
@@ -83,13 +83,13 @@ pub fn run(alloc: Global, plan: &Plan, steps: &[Step], cast: Cast) -> Result<Out
     // The log follows the plan, told by its rows alone.
     ensures follows { IfOk result (λ outcome. FollowsPlan plan.now outcome.log.rows) }
 {
-    let mut stage = Stage::begin(alloc, plan, cast)?;
-    stage.keep_journals()?;
-    stage.make_all(steps)?;
+    let mut run_state = RunState::begin(alloc, plan, cast)?;
+    run_state.keep_journals()?;
+    run_state.make_all(steps)?;
     Ok(Outcome {
-        log: stage.world.into_log(),
-        told: stage.journals.into_lists(),
-        objects: stage.objects,
+        log: run_state.world.into_log(),
+        told: run_state.journals.into_lists(),
+        objects: run_state.objects,
     })
 }
 
@@ -125,7 +125,7 @@ pub fn log_of(alloc: Global, plan: &Plan, steps: &[Step], cast: Cast) -> Result<
     // It follows the plan, told by its rows alone.
     ensures follows { IfOk result (λ log. FollowsPlan plan.now log.rows) }
 {
-    let mut stage = Stage::begin(alloc, plan, cast)?;
-    stage.make_all(steps)?;
-    Ok(stage.world.into_log())
+    let mut run_state = RunState::begin(alloc, plan, cast)?;
+    run_state.make_all(steps)?;
+    Ok(run_state.world.into_log())
 }

@@ -41,9 +41,9 @@ nothing_noted : (part : SeenPart) (q label : ℕ) → part.is_rollback ≡ false
 nothing_noted part q label e = rw e refl
 
 -- a member notes the label of an ask where its part is one in a rollback
-member_ask_is : (v : Seen) (roll : Bool) (p q label : ℕ) → (v.people p).part.is_rollback ≡ roll → seen_member_ask v roll p q label ≡ seen_noting v p q label
+member_ask_is : (v : Seen) (roll : Bool) (p q label : ℕ) → (v.states p).part.is_rollback ≡ roll → seen_member_ask v roll p q label ≡ seen_noting v p q label
 member_ask_is v true p q label e = refl
-member_ask_is v false p q label e = ap (λ (part : SeenPart). record v { people = at_one p (record (v.people p) { part = part }) v.people }) (sym (nothing_noted (v.people p).part q label e))
+member_ask_is v false p q label e = ap (λ (part : SeenPart). record v { states = at_one p (record (v.states p) { part = part }) v.states }) (sym (nothing_noted (v.states p).part q label e))
 
 on : (b : Bool) → not b ≡ false → b ≡ true
 on true z = refl

@@ -20,14 +20,14 @@ use Rattle.kt_closing.specs.KeptInOrder.{is_in_checkpoint}
 use Rattle.kt_closing.specs.LateClosing.{is_newer, is_within_label, late_closing_checkpoint, late_closing_rollback, late_closing}
 use Rattle.kt_closing.specs.OnceClosed.{has_to_restore}
 use Rattle.kt_seen.specs.Labelling.{Labelling, labelling_after, calls_of_closing, labelled_log}
-use Rattle.kt_seen.specs.Seen.{SeenPart, no_part, Seen, seen_parcels, label_noted, marks_of, part_of, person_of, view}
+use Rattle.kt_seen.specs.Seen.{SeenPart, no_part, Seen, seen_parcels, label_noted, marks_of, part_of, process_seen, view}
 use Rattle.kt_seen.specs.ListChanges as changes
 use Rattle.kt_seen.specs.CallTests.{decision}
 use Rattle.kt_seen.specs.SeenClosing.{seen_closing_checkpoint, seen_closing_rollback, seen_closing}
 use Rattle.kt_seen.proofs.LabelNumbers.{Of, of_one, row_more, same_lt, same_le}
 use Rattle.kt_seen.proofs.Parcels.{NamesMessages, AreMessagesOf, parcels_append, parcels_length, parcels_nil, own_nil, own_append, own_where, parcels_with_decisions, low_where, where_all}
 use Rattle.kt_seen.proofs.Tables.{Table, table_commit, table_abort, table_rollback, heard, heard_same, heard_rollback}
-use Rattle.kt_seen.proofs.SameSeen.{same_seen, people_at, person_more, same_part, table_as, read, known_row, length_push}
+use Rattle.kt_seen.proofs.SameSeen.{same_seen, states_at, state_more, same_part, table_as, read, known_row, length_push}
 use Rattle.kt_seen.proofs.Named.{Heard, Tells, Sees}
 use Rattle.kt_seen.proofs.Channels.{row_all, names_with_decisions}
 use Rattle.kt_seen.proofs.SmallSteps.{part_in}
@@ -76,7 +76,7 @@ module _ (first : ℕ) (c : State) (t : Labelling) (known : read c.so_far t ≡ 
   at_row_other u x y n = ap (λ (b : Bool). if b then x else y) (is_other u p n)
 
   -- the channels: who was asked is told
-  told : (w : Bool) → (λ u v. seen_parcels t.label t.body c.so_far.is_rollback (with_decisions c.channel c.asked p k w u v)) ≡ changes.with_decisions (view t c).channel p k w (person_of t c p).part.asked
+  told : (w : Bool) → (λ u v. seen_parcels t.label t.body c.so_far.is_rollback (with_decisions c.channel c.asked p k w u v)) ≡ changes.with_decisions (view t c).channel p k w (process_seen t c p).part.asked
   told w = parcels_with_decisions t.label t.body c.so_far.is_rollback c.channel c.asked p k w ∙ ap (λ (r : SeenPart). changes.with_decisions (view t c).channel p k w r.asked) (sym (part_in t c p k pos o))
 
   told_names : (w : Bool) → (u v : ℕ) → NamesMessages t.label c.so_far.from c.so_far.is_rollback c.instances u v (with_decisions c.channel c.asked p k w u v)
@@ -118,26 +118,26 @@ module _ (first : ℕ) (c : State) (t : Labelling) (known : read c.so_far t ≡ 
     part_other1 u n = same_part refl refl (λ v. refl) refl refl (λ v. refl)
         (λ v. ap (λ (b : Bool). if c.so_far.is_rollback (c.so_far.open_in u) then 0 else length (messages_where (λ m. not (is_newer c u m)) (if b then messages_where (is_newer c u) (c.kept v u) else c.kept v u))) (is_other u p n))
 
-    procs1 : (λ u. person_of (labelling_after c.so_far t (Closed p k)) (late_closing_checkpoint c p k true) u) ≡ at_one p (record (person_of t c p) { calls = t.calls p ++ on_commit ∷ []; inst = 0; part = no_part }) (λ u. person_of t c u)
-    procs1 = people_at p (record (person_of t c p) { calls = t.calls p ++ on_commit ∷ []; inst = 0; part = no_part }) (λ u. person_of (labelling_after c.so_far t (Closed p k)) (late_closing_checkpoint c p k true) u) (λ u. person_of t c u)
-        (person_more (ap (λ (f : ℕ → List Call). f p) calls1 ∙ at_one_here p _ t.calls) refl open_here (ap (λ (x : ℕ). if x == 0 then no_part else part_of (labelling_after c.so_far t (Closed p k)) (late_closing_checkpoint c p k true) p x) open_here) refl)
-        (λ u n. person_more (at_one_other p u _ t.calls n) refl (open_other u n) (ap (λ (x : ℕ). if x == 0 then no_part else part_of (labelling_after c.so_far t (Closed p k)) (late_closing_checkpoint c p k true) u x) (open_other u n) ∙ ap (λ (y : SeenPart). if c.so_far.open_in u == 0 then no_part else y) (part_other1 u n)) refl)
+    procs1 : (λ u. process_seen (labelling_after c.so_far t (Closed p k)) (late_closing_checkpoint c p k true) u) ≡ at_one p (record (process_seen t c p) { calls = t.calls p ++ on_commit ∷ []; inst = 0; part = no_part }) (λ u. process_seen t c u)
+    procs1 = states_at p (record (process_seen t c p) { calls = t.calls p ++ on_commit ∷ []; inst = 0; part = no_part }) (λ u. process_seen (labelling_after c.so_far t (Closed p k)) (late_closing_checkpoint c p k true) u) (λ u. process_seen t c u)
+        (state_more (ap (λ (f : ℕ → List Call). f p) calls1 ∙ at_one_here p _ t.calls) refl open_here (ap (λ (x : ℕ). if x == 0 then no_part else part_of (labelling_after c.so_far t (Closed p k)) (late_closing_checkpoint c p k true) p x) open_here) refl)
+        (λ u n. state_more (at_one_other p u _ t.calls n) refl (open_other u n) (ap (λ (x : ℕ). if x == 0 then no_part else part_of (labelling_after c.so_far t (Closed p k)) (late_closing_checkpoint c p k true) u x) (open_other u n) ∙ ap (λ (y : SeenPart). if c.so_far.open_in u == 0 then no_part else y) (part_other1 u n)) refl)
 
     -- what goes is a front part
-    front_goes : (q : ℕ) → seen_parcels t.label t.body c.so_far.is_rollback (messages_where (is_newer c p) (c.kept q p)) ≡ drop ((person_of t c p).part.marks q) (seen_parcels t.label t.body c.so_far.is_rollback (c.kept q p))
+    front_goes : (q : ℕ) → seen_parcels t.label t.body c.so_far.is_rollback (messages_where (is_newer c p) (c.kept q p)) ≡ drop ((process_seen t c p).part.marks q) (seen_parcels t.label t.body c.so_far.is_rollback (c.kept q p))
     front_goes q = sym (ap (λ (n : ℕ). drop n (seen_parcels t.label t.body c.so_far.is_rollback (c.kept q p))) marks_are
         ∙ (ap (λ (l : List Parcel). drop (length (seen_parcels t.label t.body c.so_far.is_rollback (messages_where (λ m. not (is_newer c p m)) (c.kept q p)))) (seen_parcels t.label t.body c.so_far.is_rollback l)) (sym (lists.parted p q (in_save r)))
         ∙ (ap (λ (l : List SeenParcel). drop (length (seen_parcels t.label t.body c.so_far.is_rollback (messages_where (λ m. not (is_newer c p m)) (c.kept q p)))) l) (parcels_append t.label t.body c.so_far.is_rollback (messages_where (λ m. not (is_newer c p m)) (c.kept q p)) (messages_where (is_newer c p) (c.kept q p)))
         ∙ drop-append_seam (seen_parcels t.label t.body c.so_far.is_rollback (messages_where (λ m. not (is_newer c p m)) (c.kept q p))) (seen_parcels t.label t.body c.so_far.is_rollback (messages_where (is_newer c p) (c.kept q p))))))
       where
-        marks_are : (person_of t c p).part.marks q ≡ length (seen_parcels t.label t.body c.so_far.is_rollback (messages_where (λ m. not (is_newer c p m)) (c.kept q p)))
+        marks_are : (process_seen t c p).part.marks q ≡ length (seen_parcels t.label t.body c.so_far.is_rollback (messages_where (λ m. not (is_newer c p m)) (c.kept q p)))
         marks_are = ap (λ (x : SeenPart). x.marks q) (part_in t c p k pos o) ∙ (ap (λ (b : Bool). if b then 0 else marks_of c p q) r ∙ sym (parcels_length t.label t.body c.so_far.is_rollback (messages_where (λ m. not (is_newer c p m)) (c.kept q p))))
 
-    kept1 : (q u : ℕ) → seen_parcels t.label t.body c.so_far.is_rollback (if u == p then messages_where (is_newer c u) (c.kept q u) else c.kept q u) ≡ (if u == p then drop ((person_of t c p).part.marks q) (seen_parcels t.label t.body c.so_far.is_rollback (c.kept q u)) else seen_parcels t.label t.body c.so_far.is_rollback (c.kept q u))
+    kept1 : (q u : ℕ) → seen_parcels t.label t.body c.so_far.is_rollback (if u == p then messages_where (is_newer c u) (c.kept q u) else c.kept q u) ≡ (if u == p then drop ((process_seen t c p).part.marks q) (seen_parcels t.label t.body c.so_far.is_rollback (c.kept q u)) else seen_parcels t.label t.body c.so_far.is_rollback (c.kept q u))
     kept1 q u = go (u == p) refl
       where
-        go : (b : Bool) → (u == p) ≡ b → seen_parcels t.label t.body c.so_far.is_rollback (if b then messages_where (is_newer c u) (c.kept q u) else c.kept q u) ≡ (if b then drop ((person_of t c p).part.marks q) (seen_parcels t.label t.body c.so_far.is_rollback (c.kept q u)) else seen_parcels t.label t.body c.so_far.is_rollback (c.kept q u))
-        go true e = subst (λ (x : ℕ). seen_parcels t.label t.body c.so_far.is_rollback (messages_where (is_newer c x) (c.kept q x)) ≡ drop ((person_of t c p).part.marks q) (seen_parcels t.label t.body c.so_far.is_rollback (c.kept q x))) (sym (same u p e)) (front_goes q)
+        go : (b : Bool) → (u == p) ≡ b → seen_parcels t.label t.body c.so_far.is_rollback (if b then messages_where (is_newer c u) (c.kept q u) else c.kept q u) ≡ (if b then drop ((process_seen t c p).part.marks q) (seen_parcels t.label t.body c.so_far.is_rollback (c.kept q u)) else seen_parcels t.label t.body c.so_far.is_rollback (c.kept q u))
+        go true e = subst (λ (x : ℕ). seen_parcels t.label t.body c.so_far.is_rollback (messages_where (is_newer c x) (c.kept q x)) ≡ drop ((process_seen t c p).part.marks q) (seen_parcels t.label t.body c.so_far.is_rollback (c.kept q x))) (sym (same u p e)) (front_goes q)
         go false e = refl
 
     tables1 : (u : ℕ) → Table (at_one p (t.calls p ++ on_commit ∷ []) t.calls u) (parts (at_one p (t.calls p ++ on_commit ∷ []) t.calls u)) (not (at_one p 0 c.so_far.open_in u == 0) && not (c.so_far.is_rollback (at_one p 0 c.so_far.open_in u))) (λ v. t.label (c.first_sent u v)) (λ v. t.label (c.last_received u v)) (λ v. t.label (c.first_sent_aside u v)) (λ v. t.label (c.last_received_aside u v)) (λ v. t.label (c.latest_sent u v)) (λ v. t.label (if u == p then c.latest_sent u v else c.last_sent u v))
@@ -201,10 +201,10 @@ module _ (first : ℕ) (c : State) (t : Labelling) (known : read c.so_far t ≡ 
     part_other2 u n = same_part refl refl (λ v. refl) refl refl (λ v. refl)
         (λ v. ap (λ (x : ℕ). if c.so_far.is_rollback (c.so_far.open_in u) then 0 else length (messages_where (λ m. not (nat_le x (c.so_far.received_at m))) (c.kept v u))) (at_one_other p u (c.own_permanent p) c.saved_at n))
 
-    procs2 : (λ u. person_of (labelling_after c.so_far t (Closed p k)) (after_closing_checkpoint c p k false) u) ≡ at_one p (record (person_of t c p) { calls = t.calls p ++ on_abort ∷ []; inst = 0; part = no_part }) (λ u. person_of t c u)
-    procs2 = people_at p (record (person_of t c p) { calls = t.calls p ++ on_abort ∷ []; inst = 0; part = no_part }) (λ u. person_of (labelling_after c.so_far t (Closed p k)) (after_closing_checkpoint c p k false) u) (λ u. person_of t c u)
-        (person_more (ap (λ (f : ℕ → List Call). f p) calls2 ∙ at_one_here p _ t.calls) refl open_here (ap (λ (x : ℕ). if x == 0 then no_part else part_of (labelling_after c.so_far t (Closed p k)) (after_closing_checkpoint c p k false) p x) open_here) refl)
-        (λ u n. person_more (at_one_other p u _ t.calls n) refl (open_other u n) (ap (λ (x : ℕ). if x == 0 then no_part else part_of (labelling_after c.so_far t (Closed p k)) (after_closing_checkpoint c p k false) u x) (open_other u n) ∙ ap (λ (y : SeenPart). if c.so_far.open_in u == 0 then no_part else y) (part_other2 u n)) refl)
+    procs2 : (λ u. process_seen (labelling_after c.so_far t (Closed p k)) (after_closing_checkpoint c p k false) u) ≡ at_one p (record (process_seen t c p) { calls = t.calls p ++ on_abort ∷ []; inst = 0; part = no_part }) (λ u. process_seen t c u)
+    procs2 = states_at p (record (process_seen t c p) { calls = t.calls p ++ on_abort ∷ []; inst = 0; part = no_part }) (λ u. process_seen (labelling_after c.so_far t (Closed p k)) (after_closing_checkpoint c p k false) u) (λ u. process_seen t c u)
+        (state_more (ap (λ (f : ℕ → List Call). f p) calls2 ∙ at_one_here p _ t.calls) refl open_here (ap (λ (x : ℕ). if x == 0 then no_part else part_of (labelling_after c.so_far t (Closed p k)) (after_closing_checkpoint c p k false) p x) open_here) refl)
+        (λ u n. state_more (at_one_other p u _ t.calls n) refl (open_other u n) (ap (λ (x : ℕ). if x == 0 then no_part else part_of (labelling_after c.so_far t (Closed p k)) (after_closing_checkpoint c p k false) u x) (open_other u n) ∙ ap (λ (y : SeenPart). if c.so_far.open_in u == 0 then no_part else y) (part_other2 u n)) refl)
 
     abbrev first2 : ℕ → ℕ → ℕ
     first2 u v = if u == p then c.first_sent_aside p v else c.first_sent u v
@@ -285,10 +285,10 @@ module _ (first : ℕ) (c : State) (t : Labelling) (known : read c.so_far t ≡ 
       | inr n ↦ at_one_other p u _ t.calls n
     ]
 
-    procs3 : (λ u. person_of (labelling_after c.so_far t (Closed p k)) (after_closing_rollback c p k false) u) ≡ at_one p (record (person_of t c p) { inst = 0; part = no_part }) (λ u. person_of t c u)
-    procs3 = people_at p (record (person_of t c p) { inst = 0; part = no_part }) (λ u. person_of (labelling_after c.so_far t (Closed p k)) (after_closing_rollback c p k false) u) (λ u. person_of t c u)
-        (person_more (calls3 p) refl open_here (ap (λ (x : ℕ). if x == 0 then no_part else part_of (labelling_after c.so_far t (Closed p k)) (after_closing_rollback c p k false) p x) open_here) (at_one_here p (c.up p || false) c.up ∙ or_false (c.up p)))
-        (λ u n. person_more (calls3 u) refl (open_other u n) (ap (λ (x : ℕ). if x == 0 then no_part else part_of (labelling_after c.so_far t (Closed p k)) (after_closing_rollback c p k false) u x) (open_other u n)) (at_one_other p u (c.up p || false) c.up n))
+    procs3 : (λ u. process_seen (labelling_after c.so_far t (Closed p k)) (after_closing_rollback c p k false) u) ≡ at_one p (record (process_seen t c p) { inst = 0; part = no_part }) (λ u. process_seen t c u)
+    procs3 = states_at p (record (process_seen t c p) { inst = 0; part = no_part }) (λ u. process_seen (labelling_after c.so_far t (Closed p k)) (after_closing_rollback c p k false) u) (λ u. process_seen t c u)
+        (state_more (calls3 p) refl open_here (ap (λ (x : ℕ). if x == 0 then no_part else part_of (labelling_after c.so_far t (Closed p k)) (after_closing_rollback c p k false) p x) open_here) (at_one_here p (c.up p || false) c.up ∙ or_false (c.up p)))
+        (λ u n. state_more (calls3 u) refl (open_other u n) (ap (λ (x : ℕ). if x == 0 then no_part else part_of (labelling_after c.so_far t (Closed p k)) (after_closing_rollback c p k false) u x) (open_other u n)) (at_one_other p u (c.up p || false) c.up n))
 
     save_same3 : (u : ℕ) → (not (at_one p 0 c.so_far.open_in u == 0) && not (c.so_far.is_rollback (at_one p 0 c.so_far.open_in u))) ≡ is_in_checkpoint c.so_far u
     save_same3 u = elim (cases_eq u p) [
@@ -344,10 +344,10 @@ module _ (first : ℕ) (c : State) (t : Labelling) (known : read c.so_far t ≡ 
     part_other4 u n = same_part refl refl (λ v. refl) refl refl (λ v. refl)
         (λ v. ap (λ (b : Bool). if c.so_far.is_rollback (c.so_far.open_in u) then 0 else length (messages_where (λ m. not (is_newer c u m)) (if b then [] else c.kept v u))) (is_other u p n))
 
-    procs4 : (λ u. person_of (labelling_after c.so_far t (Closed p k)) (late_closing_rollback c p k true) u) ≡ at_one p (record (person_of t c p) { calls = t.calls p ++ on_rollback ∷ []; inst = 0; part = no_part; up = true }) (λ u. person_of t c u)
-    procs4 = people_at p (record (person_of t c p) { calls = t.calls p ++ on_rollback ∷ []; inst = 0; part = no_part; up = true }) (λ u. person_of (labelling_after c.so_far t (Closed p k)) (late_closing_rollback c p k true) u) (λ u. person_of t c u)
-        (person_more (ap (λ (f : ℕ → List Call). f p) calls4 ∙ at_one_here p _ t.calls) refl open_here (ap (λ (x : ℕ). if x == 0 then no_part else part_of (labelling_after c.so_far t (Closed p k)) (late_closing_rollback c p k true) p x) open_here) (at_one_here p (c.up p || true) c.up ∙ or_true (c.up p)))
-        (λ u n. person_more (at_one_other p u _ t.calls n) refl (open_other u n) (ap (λ (x : ℕ). if x == 0 then no_part else part_of (labelling_after c.so_far t (Closed p k)) (late_closing_rollback c p k true) u x) (open_other u n) ∙ ap (λ (y : SeenPart). if c.so_far.open_in u == 0 then no_part else y) (part_other4 u n)) (at_one_other p u (c.up p || true) c.up n))
+    procs4 : (λ u. process_seen (labelling_after c.so_far t (Closed p k)) (late_closing_rollback c p k true) u) ≡ at_one p (record (process_seen t c p) { calls = t.calls p ++ on_rollback ∷ []; inst = 0; part = no_part; up = true }) (λ u. process_seen t c u)
+    procs4 = states_at p (record (process_seen t c p) { calls = t.calls p ++ on_rollback ∷ []; inst = 0; part = no_part; up = true }) (λ u. process_seen (labelling_after c.so_far t (Closed p k)) (late_closing_rollback c p k true) u) (λ u. process_seen t c u)
+        (state_more (ap (λ (f : ℕ → List Call). f p) calls4 ∙ at_one_here p _ t.calls) refl open_here (ap (λ (x : ℕ). if x == 0 then no_part else part_of (labelling_after c.so_far t (Closed p k)) (late_closing_rollback c p k true) p x) open_here) (at_one_here p (c.up p || true) c.up ∙ or_true (c.up p)))
+        (λ u n. state_more (at_one_other p u _ t.calls n) refl (open_other u n) (ap (λ (x : ℕ). if x == 0 then no_part else part_of (labelling_after c.so_far t (Closed p k)) (late_closing_rollback c p k true) u x) (open_other u n) ∙ ap (λ (y : SeenPart). if c.so_far.open_in u == 0 then no_part else y) (part_other4 u n)) (at_one_other p u (c.up p || true) c.up n))
 
     -- what is within a label by numbers is so by labels
     kept_low : (q : ℕ) (b : Bool) → c.noted k p q ≡ b → (l : List Parcel) → AreMessagesOf t.label c.so_far.from q l → seen_parcels t.label t.body c.so_far.is_rollback (messages_where (λ m. not (b && nat_lt (c.noted_label k p q) m)) l) ≡ changes.low (label_noted t.label b (c.noted_label k p q)) (seen_parcels t.label t.body c.so_far.is_rollback l)
@@ -358,20 +358,20 @@ module _ (first : ℕ) (c : State) (t : Labelling) (known : read c.so_far t ≡ 
         turned : (x m : ℕ) → not (nat_lt x m) ≡ nat_le m x
         turned x m = grind (arith, nat_tests)
 
-    noted_is : (q : ℕ) → (person_of t c p).part.noted q ≡ label_noted t.label (c.noted k p q) (c.noted_label k p q)
+    noted_is : (q : ℕ) → (process_seen t c p).part.noted q ≡ label_noted t.label (c.noted k p q) (c.noted_label k p q)
     noted_is q = ap (λ (x : SeenPart). x.noted q) (part_in t c p k pos o) ∙ ap (λ (b : Bool). label_noted t.label (b && c.noted k p q) (c.noted_label k p q)) r
 
-    one_low : (q : ℕ) (l : List Parcel) → AreMessagesOf t.label c.so_far.from q l → seen_parcels t.label t.body c.so_far.is_rollback (messages_where (is_within_label c k p q) l) ≡ changes.low ((person_of t c p).part.noted q) (seen_parcels t.label t.body c.so_far.is_rollback l)
+    one_low : (q : ℕ) (l : List Parcel) → AreMessagesOf t.label c.so_far.from q l → seen_parcels t.label t.body c.so_far.is_rollback (messages_where (is_within_label c k p q) l) ≡ changes.low ((process_seen t c p).part.noted q) (seen_parcels t.label t.body c.so_far.is_rollback l)
     one_low q l a = kept_low q (c.noted k p q) refl l a ∙ ap (λ (x : Option ℕ). changes.low x (seen_parcels t.label t.body c.so_far.is_rollback l)) (sym (noted_is q))
 
-    both_low : (q : ℕ) → seen_parcels t.label t.body c.so_far.is_rollback (messages_where (is_within_label c k p q) (c.kept q p) ++ messages_where (is_within_label c k p q) (c.held q p)) ≡ changes.low ((person_of t c p).part.noted q) (seen_parcels t.label t.body c.so_far.is_rollback (c.kept q p)) ++ changes.low ((person_of t c p).part.noted q) (seen_parcels t.label t.body c.so_far.is_rollback (c.held q p))
+    both_low : (q : ℕ) → seen_parcels t.label t.body c.so_far.is_rollback (messages_where (is_within_label c k p q) (c.kept q p) ++ messages_where (is_within_label c k p q) (c.held q p)) ≡ changes.low ((process_seen t c p).part.noted q) (seen_parcels t.label t.body c.so_far.is_rollback (c.kept q p)) ++ changes.low ((process_seen t c p).part.noted q) (seen_parcels t.label t.body c.so_far.is_rollback (c.held q p))
     both_low q = parcels_append t.label t.body c.so_far.is_rollback (messages_where (is_within_label c k p q) (c.kept q p)) (messages_where (is_within_label c k p q) (c.held q p)) ∙ ap₂ (λ (x y : List SeenParcel). x ++ y) (one_low q (c.kept q p) (d.flows.kept_own q p)) (one_low q (c.held q p) (d.flows.held_own q p))
 
-    held4 : (q u : ℕ) → seen_parcels t.label t.body c.so_far.is_rollback (if u == p then messages_where (is_within_label c k u q) (c.kept q u) ++ messages_where (is_within_label c k u q) (c.held q u) else c.held q u) ≡ (if u == p then changes.low ((person_of t c p).part.noted q) (seen_parcels t.label t.body c.so_far.is_rollback (c.kept q u)) ++ changes.low ((person_of t c p).part.noted q) (seen_parcels t.label t.body c.so_far.is_rollback (c.held q u)) else seen_parcels t.label t.body c.so_far.is_rollback (c.held q u))
+    held4 : (q u : ℕ) → seen_parcels t.label t.body c.so_far.is_rollback (if u == p then messages_where (is_within_label c k u q) (c.kept q u) ++ messages_where (is_within_label c k u q) (c.held q u) else c.held q u) ≡ (if u == p then changes.low ((process_seen t c p).part.noted q) (seen_parcels t.label t.body c.so_far.is_rollback (c.kept q u)) ++ changes.low ((process_seen t c p).part.noted q) (seen_parcels t.label t.body c.so_far.is_rollback (c.held q u)) else seen_parcels t.label t.body c.so_far.is_rollback (c.held q u))
     held4 q u = go (u == p) refl
       where
-        go : (b : Bool) → (u == p) ≡ b → seen_parcels t.label t.body c.so_far.is_rollback (if b then messages_where (is_within_label c k u q) (c.kept q u) ++ messages_where (is_within_label c k u q) (c.held q u) else c.held q u) ≡ (if b then changes.low ((person_of t c p).part.noted q) (seen_parcels t.label t.body c.so_far.is_rollback (c.kept q u)) ++ changes.low ((person_of t c p).part.noted q) (seen_parcels t.label t.body c.so_far.is_rollback (c.held q u)) else seen_parcels t.label t.body c.so_far.is_rollback (c.held q u))
-        go true e = subst (λ (x : ℕ). seen_parcels t.label t.body c.so_far.is_rollback (messages_where (is_within_label c k x q) (c.kept q x) ++ messages_where (is_within_label c k x q) (c.held q x)) ≡ changes.low ((person_of t c p).part.noted q) (seen_parcels t.label t.body c.so_far.is_rollback (c.kept q x)) ++ changes.low ((person_of t c p).part.noted q) (seen_parcels t.label t.body c.so_far.is_rollback (c.held q x))) (sym (same u p e)) (both_low q)
+        go : (b : Bool) → (u == p) ≡ b → seen_parcels t.label t.body c.so_far.is_rollback (if b then messages_where (is_within_label c k u q) (c.kept q u) ++ messages_where (is_within_label c k u q) (c.held q u) else c.held q u) ≡ (if b then changes.low ((process_seen t c p).part.noted q) (seen_parcels t.label t.body c.so_far.is_rollback (c.kept q u)) ++ changes.low ((process_seen t c p).part.noted q) (seen_parcels t.label t.body c.so_far.is_rollback (c.held q u)) else seen_parcels t.label t.body c.so_far.is_rollback (c.held q u))
+        go true e = subst (λ (x : ℕ). seen_parcels t.label t.body c.so_far.is_rollback (messages_where (is_within_label c k x q) (c.kept q x) ++ messages_where (is_within_label c k x q) (c.held q x)) ≡ changes.low ((process_seen t c p).part.noted q) (seen_parcels t.label t.body c.so_far.is_rollback (c.kept q x)) ++ changes.low ((process_seen t c p).part.noted q) (seen_parcels t.label t.body c.so_far.is_rollback (c.held q x))) (sym (same u p e)) (both_low q)
         go false e = refl
 
     kept4 : (q u : ℕ) → seen_parcels t.label t.body c.so_far.is_rollback (if u == p then [] else c.kept q u) ≡ (if u == p then [] else seen_parcels t.label t.body c.so_far.is_rollback (c.kept q u))
@@ -439,7 +439,7 @@ module _ (first : ℕ) (c : State) (t : Labelling) (known : read c.so_far t ≡ 
   at_both false true h f g = absurd (cc (h))
 
   pub sees_closing : (w : Bool) → c.so_far.is_committed k ≡ w → KeptLists c → Sees first (late_closing c p k w) (seen_closing (view t c) p k w)
-  sees_closing w i lists = at_both (c.so_far.is_rollback k) ((person_of t c p).part.is_rollback) (sym (ap (λ (x : SeenPart). x.is_rollback) (part_in t c p k pos o))) (λ r. back w i r) (λ r. forth w i r)
+  sees_closing w i lists = at_both (c.so_far.is_rollback k) ((process_seen t c p).part.is_rollback) (sym (ap (λ (x : SeenPart). x.is_rollback) (part_in t c p k pos o))) (λ r. back w i r) (λ r. forth w i r)
     where
       back : (w : Bool) → c.so_far.is_committed k ≡ w → c.so_far.is_rollback k ≡ true → Sees first (late_closing_rollback c p k w) (seen_closing_rollback (view t c) p k w)
       back true i r = sees_commit_of_rollback r i

@@ -40,32 +40,32 @@ restores_grown v p k true = (_ ∷ [], refl)
 restores_grown v p k false = (_ ∷ [], refl)
 
 closes_grown : (v : Seen) (p k : ℕ) (w : Bool) → Grown v.log (seen_closing v p k w)
-closes_grown v p k w = at_if v.log (v.people p).part.is_rollback (seen_closing_rollback v p k w) (seen_closing_checkpoint v p k w) (restores_grown v p k w) (_ ∷ [], refl)
+closes_grown v p k w = at_if v.log (v.states p).part.is_rollback (seen_closing_rollback v p k w) (seen_closing_checkpoint v p k w) (restores_grown v p k w) (_ ∷ [], refl)
 
 ends_grown : (v : Seen) (p k : ℕ) (o : Option ℕ) → Grown v.log (seen_ending v p k o)
 ends_grown v p k (Some to) = none v
-ends_grown v p k None = more v.log (seen_deciding v p k (v.people p).part.willing) (seen_closing (seen_deciding v p k (v.people p).part.willing) p k (v.people p).part.willing) (_ ∷ [], refl) (closes_grown (seen_deciding v p k (v.people p).part.willing) p k (v.people p).part.willing)
+ends_grown v p k None = more v.log (seen_deciding v p k (v.states p).part.willing) (seen_closing (seen_deciding v p k (v.states p).part.willing) p k (v.states p).part.willing) (_ ∷ [], refl) (closes_grown (seen_deciding v p k (v.states p).part.willing) p k (v.states p).part.willing)
 
 settles_grown : (v : Seen) (p k : ℕ) → Grown v.log (seen_settling v p k)
-settles_grown v p k = at_if v.log ((v.people p).part.awaited == 0) (seen_ending v p k (v.people p).part.parent) v (ends_grown v p k (v.people p).part.parent) (none v)
+settles_grown v p k = at_if v.log ((v.states p).part.awaited == 0) (seen_ending v p k (v.states p).part.parent) v (ends_grown v p k (v.states p).part.parent) (none v)
 
 asked_grown : (v : Seen) (p q : ℕ) (able : Bool) (k : ℕ) (roll : Bool) (l : ℕ) (rest : List Parcel) → Grown v.log (seen_ask v p q able k roll l rest)
-asked_grown v p q able k roll l rest = at_if v.log ((v.people p).inst == k) _ _ (none v)
-    (at_if v.log (not ((v.people p).inst == 0)) _ _ (_ ∷ [], refl)
-    (at_if v.log roll _ _ (at_if v.log (tests.must_roll (v.people p).calls q l) _ _ (more v.log (seen_joining_rollback v (changes.with_rest v.channel q p rest) p k (Some q) (at_one q (Some l) no_note)) (seen_settling (seen_joining_rollback v (changes.with_rest v.channel q p rest) p k (Some q) (at_one q (Some l) no_note)) p k) (_ ∷ [], refl) (settles_grown (seen_joining_rollback v (changes.with_rest v.channel q p rest) p k (Some q) (at_one q (Some l) no_note)) p k)) (none v))
-    (at_if v.log (not (tests.must_take (v.people p).calls q l)) _ _ (none v)
-    (at_if v.log (not (able && (v.people p).up)) _ _ (_ ∷ [], refl) (more v.log (seen_joining_checkpoint v (changes.with_rest v.channel q p rest) p k (Some q)) (seen_settling (seen_joining_checkpoint v (changes.with_rest v.channel q p rest) p k (Some q)) p k) (_ ∷ [], refl) (settles_grown (seen_joining_checkpoint v (changes.with_rest v.channel q p rest) p k (Some q)) p k))))))
+asked_grown v p q able k roll l rest = at_if v.log ((v.states p).inst == k) _ _ (none v)
+    (at_if v.log (not ((v.states p).inst == 0)) _ _ (_ ∷ [], refl)
+    (at_if v.log roll _ _ (at_if v.log (tests.must_roll (v.states p).calls q l) _ _ (more v.log (seen_joining_rollback v (changes.with_rest v.channel q p rest) p k (Some q) (at_one q (Some l) no_note)) (seen_settling (seen_joining_rollback v (changes.with_rest v.channel q p rest) p k (Some q) (at_one q (Some l) no_note)) p k) (_ ∷ [], refl) (settles_grown (seen_joining_rollback v (changes.with_rest v.channel q p rest) p k (Some q) (at_one q (Some l) no_note)) p k)) (none v))
+    (at_if v.log (not (tests.must_take (v.states p).calls q l)) _ _ (none v)
+    (at_if v.log (not (able && (v.states p).up)) _ _ (_ ∷ [], refl) (more v.log (seen_joining_checkpoint v (changes.with_rest v.channel q p rest) p k (Some q)) (seen_settling (seen_joining_checkpoint v (changes.with_rest v.channel q p rest) p k (Some q)) p k) (_ ∷ [], refl) (settles_grown (seen_joining_checkpoint v (changes.with_rest v.channel q p rest) p k (Some q)) p k))))))
 
 fronts_grown : (v : Seen) (p q : ℕ) (able : Bool) (l : List Parcel) → Grown v.log (seen_front v p q able l)
 fronts_grown v p q able [] = none v
-fronts_grown v p q able (App l m b ∷ rest) = at_if v.log (is_seen_ready v p) _ _ (none v) (at_if v.log (v.people p).up _ _ (_ ∷ [], refl) (_ ∷ [], refl))
+fronts_grown v p q able (App l m b ∷ rest) = at_if v.log (is_seen_ready v p) _ _ (none v) (at_if v.log (v.states p).up _ _ (_ ∷ [], refl) (_ ∷ [], refl))
 fronts_grown v p q able (Ask k kind l ∷ rest) = asked_grown v p q able k (is_rollback_kind (Some kind)) l rest
-fronts_grown v p q able (Reply k w ∷ rest) = at_if v.log ((v.people p).part.awaited == 0) _ _ (none v) (settles_grown (seen_reply v p q w rest) p k)
-fronts_grown v p q able (Decide k c ∷ rest) = at_if v.log ((v.people p).inst == k) _ _ (closes_grown (seen_without_front v p q rest) p k c) (none v)
+fronts_grown v p q able (Reply k w ∷ rest) = at_if v.log ((v.states p).part.awaited == 0) _ _ (none v) (settles_grown (seen_reply v p q w rest) p k)
+fronts_grown v p q able (Decide k c ∷ rest) = at_if v.log ((v.states p).inst == k) _ _ (closes_grown (seen_without_front v p q rest) p k c) (none v)
 
 takes_grown : (v : Seen) (p q : ℕ) (able : Bool) (l : List Parcel) → Grown v.log (seen_take v p q able l)
 takes_grown v p q able [] = fronts_grown v p q able (v.channel q p)
-takes_grown v p q able (App l m b ∷ rest) = at_if v.log (v.people p).up _ _ (_ ∷ [], refl) (_ ∷ [], refl)
+takes_grown v p q able (App l m b ∷ rest) = at_if v.log (v.states p).up _ _ (_ ∷ [], refl) (_ ∷ [], refl)
 takes_grown v p q able (Ask k kind l ∷ rest) = none v
 takes_grown v p q able (Reply k w ∷ rest) = none v
 takes_grown v p q able (Decide k c ∷ rest) = none v
@@ -76,12 +76,12 @@ begins_grown v p true = more v.log (seen_began v p true) (seen_settling (seen_jo
 
 starts_grown : (v : Seen) (p : ℕ) (roll able : Bool) → Grown v.log (seen_begin_command v p roll able)
 starts_grown v p true able = begins_grown v p true
-starts_grown v p false able = at_if v.log (able && (v.people p).up) _ _ (begins_grown v p false) (_ ∷ [], refl)
+starts_grown v p false able = at_if v.log (able && (v.states p).up) _ _ (begins_grown v p false) (_ ∷ [], refl)
 
 pub step_grown : (v : Seen) (x : Step) → Grown v.log (transition v x)
-step_grown v (Send p q b) = at_if v.log ((nat_lt p v.processes && nat_lt q v.processes) && ((v.people p).inst == 0 && not (q == p))) _ _ (at_if v.log (v.people p).up _ _ (_ ∷ [], refl) (_ ∷ [], refl)) (none v)
-step_grown v (Begin p roll able) = at_if v.log ((v.people p).inst == 0) _ _ (starts_grown v p roll able) (_ ∷ [], refl)
-step_grown v (Fail p) = at_if v.log (v.people p).up _ _ (_ ∷ [], refl) (_ ∷ [], refl)
+step_grown v (Send p q b) = at_if v.log ((nat_lt p v.processes && nat_lt q v.processes) && ((v.states p).inst == 0 && not (q == p))) _ _ (at_if v.log (v.states p).up _ _ (_ ∷ [], refl) (_ ∷ [], refl)) (none v)
+step_grown v (Begin p roll able) = at_if v.log ((v.states p).inst == 0) _ _ (starts_grown v p roll able) (_ ∷ [], refl)
+step_grown v (Fail p) = at_if v.log (v.states p).up _ _ (_ ∷ [], refl) (_ ∷ [], refl)
 step_grown v (Take p q able) = at_if v.log (is_seen_ready v p) _ _ (fronts_grown v p q able (v.channel q p)) (takes_grown v p q able (v.held q p))
 
 pub log_grows : (n : ℕ) (steps : List Step) (x : Step) → (rows : List Event) × ((late_run (opening n) (steps ++ x ∷ [])).log ≡ (late_run (opening n) steps).log ++ rows)

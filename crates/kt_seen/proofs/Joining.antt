@@ -22,14 +22,14 @@ use Rattle.kt_closing.specs.KeptInOrder.{is_in_checkpoint}
 use Rattle.kt_closing.specs.LateClosing.{is_newer}
 use Rattle.kt_closing.specs.OnceClosed.{has_to_restore, kept_once_closed, once_closed}
 use Rattle.kt_seen.specs.Labelling.{Labelling, labelling_after, labelled_log}
-use Rattle.kt_seen.specs.Seen.{SeenPart, no_part, SeenLists, seen_parcels, label_noted, marks_of, part_of, person_of, view}
+use Rattle.kt_seen.specs.Seen.{SeenPart, no_part, SeenLists, seen_parcels, label_noted, marks_of, part_of, process_seen, view}
 use Rattle.kt_seen.specs.ListChanges as changes
 use Rattle.kt_seen.specs.CallTests as tests
 use Rattle.kt_seen.specs.SeenJoining.{new_part, seen_joining_rollback, no_note, seen_joining_checkpoint}
 use Rattle.kt_seen.proofs.LabelNumbers.{Of, row_more, some_label}
 use Rattle.kt_seen.proofs.Parcels.{NamesMessages, parcels_length, where_all, parcels_with_checkpoint_asks, parcels_with_rollback_asks}
 use Rattle.kt_seen.proofs.Tables.{Table, table_tentative, heard, heard_same}
-use Rattle.kt_seen.proofs.SameSeen.{same_seen, people_at, person_more, same_part, table_as, read, known_row, length_push, count_same}
+use Rattle.kt_seen.proofs.SameSeen.{same_seen, states_at, state_more, same_part, table_as, read, known_row, length_push, count_same}
 use Rattle.kt_seen.proofs.Named.{Noting, Heard, Tells, Sees}
 use Rattle.kt_seen.proofs.Channels.{row_all, names_with_checkpoint_asks, names_with_rollback_asks}
 use Rattle.kt_seen.proofs.SmallSteps.{part_in, pair_col}
@@ -145,10 +145,10 @@ module _ (first : ℕ) (c : State) (t : Labelling) (known : read c.so_far t ≡ 
           (λ y. ap₂ (λ (b : Bool) (x : ℕ). label_noted t.label (c.so_far.is_rollback (c.so_far.open_in u) && b) x) (N_other (c.so_far.open_in u) u y n) (L_other (c.so_far.open_in u) u y n))
           (λ v. refl)
 
-      rollback_people : (λ u. person_of t (after_joining_rollback (record c { noted = N; noted_label = L }) channel p k is_first par lnk) u) ≡ at_one p (record (person_of t c p) { inst = k; part = new_part c.processes true parent (tests.is_asked_in_rollback (t.calls p)) noted' (λ q. 0) }) (λ u. person_of t c u)
-      rollback_people = people_at p (record (person_of t c p) { inst = k; part = new_part c.processes true parent (tests.is_asked_in_rollback (t.calls p)) noted' (λ q. 0) }) (λ u. person_of t (after_joining_rollback (record c { noted = N; noted_label = L }) channel p k is_first par lnk) u) (λ u. person_of t c u)
-          (person_more refl refl open_here (part_in t (after_joining_rollback (record c { noted = N; noted_label = L }) channel p k is_first par lnk) p k pos open_here ∙ rollback_part) refl)
-          (λ u n. person_more refl refl (open_other u n) (ap (λ (x : ℕ). if x == 0 then no_part else part_of t (after_joining_rollback (record c { noted = N; noted_label = L }) channel p k is_first par lnk) u x) (open_other u n) ∙ ap (λ (y : SeenPart). if c.so_far.open_in u == 0 then no_part else y) (roll_other u n)) refl)
+      rollback_states : (λ u. process_seen t (after_joining_rollback (record c { noted = N; noted_label = L }) channel p k is_first par lnk) u) ≡ at_one p (record (process_seen t c p) { inst = k; part = new_part c.processes true parent (tests.is_asked_in_rollback (t.calls p)) noted' (λ q. 0) }) (λ u. process_seen t c u)
+      rollback_states = states_at p (record (process_seen t c p) { inst = k; part = new_part c.processes true parent (tests.is_asked_in_rollback (t.calls p)) noted' (λ q. 0) }) (λ u. process_seen t (after_joining_rollback (record c { noted = N; noted_label = L }) channel p k is_first par lnk) u) (λ u. process_seen t c u)
+          (state_more refl refl open_here (part_in t (after_joining_rollback (record c { noted = N; noted_label = L }) channel p k is_first par lnk) p k pos open_here ∙ rollback_part) refl)
+          (λ u n. state_more refl refl (open_other u n) (ap (λ (x : ℕ). if x == 0 then no_part else part_of t (after_joining_rollback (record c { noted = N; noted_label = L }) channel p k is_first par lnk) u x) (open_other u n) ∙ ap (λ (y : SeenPart). if c.so_far.open_in u == 0 then no_part else y) (roll_other u n)) refl)
 
       roll_save : (u : ℕ) → (not (at_one p k c.so_far.open_in u == 0) && not (c.so_far.is_rollback (at_one p k c.so_far.open_in u))) ≡ is_in_checkpoint c.so_far u
       roll_save u = elim (cases_eq u p) [
@@ -170,7 +170,7 @@ module _ (first : ℕ) (c : State) (t : Labelling) (known : read c.so_far t ≡ 
       sees_joining_rollback = record {
         labels = t;
         known = known_row first c.log c.so_far t (Ready p k) known;
-        same = same_seen c.processes c.instances (c.log ++ Ready p k ∷ []) rollback_people
+        same = same_seen c.processes c.instances (c.log ++ Ready p k ∷ []) rollback_states
             (parcels_with_rollback_asks t.label t.body c.so_far.is_rollback channel c.first_sent c.last_sent p k (tests.is_asked_in_rollback (t.calls p)) (tests.rollback_label (t.calls p)) (λ v. rollback_asked_is p v) (λ v. rollback_label_is p v)
             ∙ ap₂ (λ (w : SeenLists) (b : Bool). changes.with_asks_where w p k (kind_for b) (tests.is_asked_in_rollback (t.calls p)) (tests.rollback_label (t.calls p))) same_channel r)
             refl refl;
@@ -208,10 +208,10 @@ module _ (first : ℕ) (c : State) (t : Labelling) (known : read c.so_far t ≡ 
           (λ y. refl)
           (λ v. ap (λ (x : ℕ). if c.so_far.is_rollback (c.so_far.open_in u) then 0 else length (messages_where (λ m. not (nat_le x (c.so_far.received_at m))) (c.kept v u))) (at_one_other p u (c.so_far.size p) c.saved_at n))
 
-      checkpoint_people : (λ u. person_of (labelling_after c.so_far t (Took p k)) (after_joining_checkpoint c channel p k is_first par lnk) u) ≡ at_one p (record (person_of t c p) { calls = t.calls p ++ on_tentative ∷ []; inst = k; part = new_part c.processes false parent (tests.is_asked_in_checkpoint (t.calls p)) no_note (λ v. length (seen_parcels t.label t.body c.so_far.is_rollback (c.kept v p))) }) (λ u. person_of t c u)
-      checkpoint_people = people_at p (record (person_of t c p) { calls = t.calls p ++ on_tentative ∷ []; inst = k; part = new_part c.processes false parent (tests.is_asked_in_checkpoint (t.calls p)) no_note (λ v. length (seen_parcels t.label t.body c.so_far.is_rollback (c.kept v p))) }) (λ u. person_of (labelling_after c.so_far t (Took p k)) (after_joining_checkpoint c channel p k is_first par lnk) u) (λ u. person_of t c u)
-          (person_more (at_one_here p _ t.calls) refl open_here (part_in (labelling_after c.so_far t (Took p k)) (after_joining_checkpoint c channel p k is_first par lnk) p k pos open_here ∙ checkpoint_part) refl)
-          (λ u n. person_more (at_one_other p u _ t.calls n) refl (open_other u n) (ap (λ (x : ℕ). if x == 0 then no_part else part_of (labelling_after c.so_far t (Took p k)) (after_joining_checkpoint c channel p k is_first par lnk) u x) (open_other u n) ∙ ap (λ (y : SeenPart). if c.so_far.open_in u == 0 then no_part else y) (save_other u n)) refl)
+      checkpoint_states : (λ u. process_seen (labelling_after c.so_far t (Took p k)) (after_joining_checkpoint c channel p k is_first par lnk) u) ≡ at_one p (record (process_seen t c p) { calls = t.calls p ++ on_tentative ∷ []; inst = k; part = new_part c.processes false parent (tests.is_asked_in_checkpoint (t.calls p)) no_note (λ v. length (seen_parcels t.label t.body c.so_far.is_rollback (c.kept v p))) }) (λ u. process_seen t c u)
+      checkpoint_states = states_at p (record (process_seen t c p) { calls = t.calls p ++ on_tentative ∷ []; inst = k; part = new_part c.processes false parent (tests.is_asked_in_checkpoint (t.calls p)) no_note (λ v. length (seen_parcels t.label t.body c.so_far.is_rollback (c.kept v p))) }) (λ u. process_seen (labelling_after c.so_far t (Took p k)) (after_joining_checkpoint c channel p k is_first par lnk) u) (λ u. process_seen t c u)
+          (state_more (at_one_here p _ t.calls) refl open_here (part_in (labelling_after c.so_far t (Took p k)) (after_joining_checkpoint c channel p k is_first par lnk) p k pos open_here ∙ checkpoint_part) refl)
+          (λ u n. state_more (at_one_other p u _ t.calls n) refl (open_other u n) (ap (λ (x : ℕ). if x == 0 then no_part else part_of (labelling_after c.so_far t (Took p k)) (after_joining_checkpoint c channel p k is_first par lnk) u x) (open_other u n) ∙ ap (λ (y : SeenPart). if c.so_far.open_in u == 0 then no_part else y) (save_other u n)) refl)
 
       abbrev calls' : ℕ → List Call
       calls' = at_one p (t.calls p ++ on_tentative ∷ []) t.calls
@@ -258,7 +258,7 @@ module _ (first : ℕ) (c : State) (t : Labelling) (known : read c.so_far t ≡ 
       sees_joining_checkpoint = record {
         labels = labelling_after c.so_far t (Took p k);
         known = known_row first c.log c.so_far t (Took p k) known;
-        same = same_seen c.processes c.instances (c.log ++ Took p k ∷ []) checkpoint_people
+        same = same_seen c.processes c.instances (c.log ++ Took p k ∷ []) checkpoint_states
             (parcels_with_checkpoint_asks t.label t.body c.so_far.is_rollback channel c.last_received p k (tests.is_asked_in_checkpoint (t.calls p)) (tests.checkpoint_label (t.calls p)) (λ v. checkpoint_asked_is p v) (λ v. checkpoint_label_is p v)
             ∙ ap₂ (λ (w : SeenLists) (b : Bool). changes.with_asks_where w p k (kind_for b) (tests.is_asked_in_checkpoint (t.calls p)) (tests.checkpoint_label (t.calls p))) same_channel r)
             refl refl;

@@ -14,12 +14,12 @@ use Rattle.kt_protocol.proofs.Choices.{same}
 use Rattle.kt_closing.specs.KeptInOrder.{is_in_checkpoint}
 use Rattle.kt_closing.specs.OnceClosed.{has_to_restore}
 use Rattle.kt_seen.specs.Labelling.{Labelling, labelled_log}
-use Rattle.kt_seen.specs.Seen.{SeenPart, no_part, SeenLists, seen_parcels, label_noted, marks_of, part_of, person_of, view}
+use Rattle.kt_seen.specs.Seen.{SeenPart, no_part, SeenLists, seen_parcels, label_noted, marks_of, part_of, process_seen, view}
 use Rattle.kt_seen.specs.SeenJoining.{seen_began, seen_noting, part_after_ask}
 use Rattle.kt_seen.proofs.LabelNumbers.{Of, row_more}
 use Rattle.kt_seen.proofs.Parcels.{parcels_later, names_later, own_parcels}
 use Rattle.kt_seen.proofs.Tables.{Table}
-use Rattle.kt_seen.proofs.SameSeen.{same_seen, people_at, same_person, same_part, read, known_row, length_push}
+use Rattle.kt_seen.proofs.SameSeen.{same_seen, states_at, same_process_state, same_part, read, known_row, length_push}
 use Rattle.kt_seen.proofs.Named.{Tells, Sees}
 use Rattle.kt_seen.proofs.SmallSteps.{part_in}
 
@@ -55,15 +55,15 @@ module _ (first : ℕ) (c : State) (t : Labelling) (known : read c.so_far t ≡ 
     pub channel_began : ◌≡◌ {A = SeenLists} (λ u v. seen_parcels t.label t.body (at_one (c.instances + 1) roll c.so_far.is_rollback) (c.channel u v)) (λ u v. seen_parcels t.label t.body c.so_far.is_rollback (c.channel u v))
     channel_began = λ i u v. parcels_later t.label t.label c.so_far.from c.so_far.from t.body t.body c.so_far.is_rollback roll' c.instances c.instances old refl kinds (omega arith) u v (c.channel u v) (d.flows.channel_names u v) i
 
-    person_same : (u : ℕ) → person_of t (after_began c p roll) u ≡ person_of t c u
-    person_same u = same_person (c.so_far.open_in u) (c.up u) refl refl (ap (λ (r : SeenPart). if c.so_far.open_in u == 0 then no_part else r) (part_same u (c.so_far.open_in u) (d.open_low u)))
+    state_same : (u : ℕ) → process_seen t (after_began c p roll) u ≡ process_seen t c u
+    state_same u = same_process_state (c.so_far.open_in u) (c.up u) refl refl (ap (λ (r : SeenPart). if c.so_far.open_in u == 0 then no_part else r) (part_same u (c.so_far.open_in u) (d.open_low u)))
 
     pub sees_began : Sees first (after_began c p roll) (seen_began (view t c) p roll)
     sees_began = record {
       labels = t;
       known = known_began first c t p (c.instances + 1) roll known;
       same = same_seen c.processes (c.instances + 1) (c.log ++ Began p (c.instances + 1) (kind_for roll) ∷ [])
-          (λ i u. person_same u i)
+          (λ i u. state_same u i)
           (λ i u v. parcels_later t.label t.label c.so_far.from c.so_far.from t.body t.body c.so_far.is_rollback roll' c.instances c.instances old refl kinds (omega arith) u v (c.channel u v) (d.flows.channel_names u v) i)
           (λ i u v. own_parcels t.label t.label c.so_far.from c.so_far.from t.body t.body c.so_far.is_rollback roll' c.instances c.instances old refl kinds (omega arith) u (c.held u v) (d.flows.held_own u v) i)
           (λ i u v. own_parcels t.label t.label c.so_far.from c.so_far.from t.body t.body c.so_far.is_rollback roll' c.instances c.instances old refl kinds (omega arith) u (c.kept u v) (d.flows.kept_own u v) i);
@@ -97,9 +97,9 @@ module _ (first : ℕ) (c : State) (t : Labelling) (known : read c.so_far t ≡ 
     labels = t;
     known = known;
     same = same_seen c.processes c.instances c.log
-        (people_at p (record (person_of t c p) { part = part_after_ask (person_of t c p).part q (t.label l) }) (λ u. person_of t (after_noting c p q k l) u) (λ u. person_of t c u)
-        (same_person (c.so_far.open_in p) (c.up p) refl refl (part_in t (after_noting c p q k l) p k pos o ∙ (here ∙ ap (λ (r : SeenPart). part_after_ask r q (t.label l)) (sym (part_in t c p k pos o)))))
-        (λ u n. same_person (c.so_far.open_in u) (c.up u) refl refl (ap (λ (r : SeenPart). if c.so_far.open_in u == 0 then no_part else r) (there u n))))
+        (states_at p (record (process_seen t c p) { part = part_after_ask (process_seen t c p).part q (t.label l) }) (λ u. process_seen t (after_noting c p q k l) u) (λ u. process_seen t c u)
+        (same_process_state (c.so_far.open_in p) (c.up p) refl refl (part_in t (after_noting c p q k l) p k pos o ∙ (here ∙ ap (λ (r : SeenPart). part_after_ask r q (t.label l)) (sym (part_in t c p k pos o)))))
+        (λ u n. same_process_state (c.so_far.open_in u) (c.up u) refl refl (ap (λ (r : SeenPart). if c.so_far.open_in u == 0 then no_part else r) (there u n))))
         refl refl refl;
     tells = record {
       numbers = d.numbers;

@@ -11,10 +11,10 @@ use Rattle.kt_spacetime.specs.declared.event.Event.{Event}
 use Rattle.kt_spacetime.specs.declared.event.Event.TheVariants.{Closed}
 use Rattle.kt_cuts.specs.Past.{at_one}
 use Rattle.kt_protocol.proofs.Updates.{at_one_here, at_one_other}
-use Rattle.kt_seen.specs.Seen.{SeenPerson, SeenLists, Seen}
+use Rattle.kt_seen.specs.Seen.{SeenProcess, SeenLists, Seen}
 use Rattle.kt_seen.specs.ListChanges as changes
 use Rattle.kt_seen.specs.SeenClosing.{seen_closing_rollback, seen_closing, seen_closing_checkpoint, seen_deciding, seen_ending, seen_settling}
-use Rattle.kt_seen.specs.InOnePiece.{with_person, person_after_checkpoint, person_after_rollback, held_after_rollback, kept_after_rollback, log_closed, ended, settled}
+use Rattle.kt_seen.specs.InOnePiece.{with_process, process_after_checkpoint, process_after_rollback, held_after_rollback, kept_after_rollback, log_closed, ended, settled}
 
 -- a process set twice
 pub set_twice : {X : Type 0} (p : ℕ) (x y : X) (f : ℕ → X) → at_one p x (at_one p y f) ≡ at_one p x f
@@ -34,48 +34,48 @@ set_same {X} p f = fun_ext (λ u. go u (cases_eq u p))
     ]
 
 -- with the process at hand
-abbrev closes_with : Seen → ℕ → ℕ → SeenPerson → Bool → Seen
-closes_with v p k z c = if z.part.is_rollback then with_person v p (person_after_rollback z c) (changes.with_decisions v.channel p k c z.part.asked) (held_after_rollback c p z.part.noted v.kept v.held) (kept_after_rollback c p v.kept) (v.log ++ Closed p k ∷ [])
-    else with_person v p (person_after_checkpoint z c) (changes.with_decisions v.channel p k c z.part.asked) v.held (changes.trims c p z.part.marks v.kept) (v.log ++ Closed p k ∷ [])
+abbrev closes_with : Seen → ℕ → ℕ → SeenProcess → Bool → Seen
+closes_with v p k z c = if z.part.is_rollback then with_process v p (process_after_rollback z c) (changes.with_decisions v.channel p k c z.part.asked) (held_after_rollback c p z.part.noted v.kept v.held) (kept_after_rollback c p v.kept) (v.log ++ Closed p k ∷ [])
+    else with_process v p (process_after_checkpoint z c) (changes.with_decisions v.channel p k c z.part.asked) v.held (changes.trims c p z.part.marks v.kept) (v.log ++ Closed p k ∷ [])
 
-restores_as : (v : Seen) (p k : ℕ) (c : Bool) → seen_closing_rollback v p k c ≡ with_person v p (person_after_rollback (v.people p) c) (changes.with_decisions v.channel p k c (v.people p).part.asked) (held_after_rollback c p (v.people p).part.noted v.kept v.held) (kept_after_rollback c p v.kept) (v.log ++ Closed p k ∷ [])
+restores_as : (v : Seen) (p k : ℕ) (c : Bool) → seen_closing_rollback v p k c ≡ with_process v p (process_after_rollback (v.states p) c) (changes.with_decisions v.channel p k c (v.states p).part.asked) (held_after_rollback c p (v.states p).part.noted v.kept v.held) (kept_after_rollback c p v.kept) (v.log ++ Closed p k ∷ [])
 restores_as v p k true = refl
 restores_as v p k false = refl
 
-pub closes_as : (v : Seen) (p k : ℕ) (c : Bool) → seen_closing v p k c ≡ closes_with v p k (v.people p) c
-closes_as v p k c = ap (λ (x : Seen). if (v.people p).part.is_rollback then x else seen_closing_checkpoint v p k c) (restores_as v p k c)
+pub closes_as : (v : Seen) (p k : ℕ) (c : Bool) → seen_closing v p k c ≡ closes_with v p k (v.states p) c
+closes_as v p k c = ap (λ (x : Seen). if (v.states p).part.is_rollback then x else seen_closing_checkpoint v p k c) (restores_as v p k c)
 
-abbrev ends_with : Seen → ℕ → ℕ → SeenPerson → Option ℕ → Seen
+abbrev ends_with : Seen → ℕ → ℕ → SeenProcess → Option ℕ → Seen
 ends_with v p k z (Some to) = record v { channel = changes.with_parcel v.channel p to (Reply k z.part.willing) }
 ends_with v p k z None = closes_with (seen_deciding v p k z.part.willing) p k z z.part.willing
 
-ends_as : (v : Seen) (p k : ℕ) (o : Option ℕ) → seen_ending v p k o ≡ ends_with v p k (v.people p) o
+ends_as : (v : Seen) (p k : ℕ) (o : Option ℕ) → seen_ending v p k o ≡ ends_with v p k (v.states p) o
 ends_as v p k (Some to) = refl
-ends_as v p k None = closes_as (seen_deciding v p k (v.people p).part.willing) p k (v.people p).part.willing
+ends_as v p k None = closes_as (seen_deciding v p k (v.states p).part.willing) p k (v.states p).part.willing
 
-abbrev settles_with : Seen → ℕ → ℕ → SeenPerson → Seen
+abbrev settles_with : Seen → ℕ → ℕ → SeenProcess → Seen
 settles_with v p k z = if z.part.awaited == 0 then ends_with v p k z z.part.parent else v
 
-settles_as : (v : Seen) (p k : ℕ) → seen_settling v p k ≡ settles_with v p k (v.people p)
-settles_as v p k = ap (λ (x : Seen). if (v.people p).part.awaited == 0 then x else v) (ends_as v p k (v.people p).part.parent)
+settles_as : (v : Seen) (p k : ℕ) → seen_settling v p k ≡ settles_with v p k (v.states p)
+settles_as v p k = ap (λ (x : Seen). if (v.states p).part.awaited == 0 then x else v) (ends_as v p k (v.states p).part.parent)
 
 -- p has become y
-module _ (v : Seen) (p k : ℕ) (y : SeenPerson) where
-  closed_twice : (roll c : Bool) (log : List Event) → (if roll then with_person (record v { people = at_one p y v.people; log = log }) p (person_after_rollback y c) (changes.with_decisions v.channel p k c y.part.asked) (held_after_rollback c p y.part.noted v.kept v.held) (kept_after_rollback c p v.kept) (log ++ Closed p k ∷ [])
-      else with_person (record v { people = at_one p y v.people; log = log }) p (person_after_checkpoint y c) (changes.with_decisions v.channel p k c y.part.asked) v.held (changes.trims c p y.part.marks v.kept) (log ++ Closed p k ∷ []))
-      ≡ (if roll then with_person v p (person_after_rollback y c) (changes.with_decisions v.channel p k c y.part.asked) (held_after_rollback c p y.part.noted v.kept v.held) (kept_after_rollback c p v.kept) (log ++ Closed p k ∷ [])
-      else with_person v p (person_after_checkpoint y c) (changes.with_decisions v.channel p k c y.part.asked) v.held (changes.trims c p y.part.marks v.kept) (log ++ Closed p k ∷ []))
-  closed_twice true c log = ap (λ (f : ℕ → SeenPerson). record v { people = f; channel = changes.with_decisions v.channel p k c y.part.asked; held = held_after_rollback c p y.part.noted v.kept v.held; kept = kept_after_rollback c p v.kept; log = log ++ Closed p k ∷ [] }) (set_twice p (person_after_rollback y c) y v.people)
-  closed_twice false c log = ap (λ (f : ℕ → SeenPerson). record v { people = f; channel = changes.with_decisions v.channel p k c y.part.asked; kept = changes.trims c p y.part.marks v.kept; log = log ++ Closed p k ∷ [] }) (set_twice p (person_after_checkpoint y c) y v.people)
+module _ (v : Seen) (p k : ℕ) (y : SeenProcess) where
+  closed_twice : (roll c : Bool) (log : List Event) → (if roll then with_process (record v { states = at_one p y v.states; log = log }) p (process_after_rollback y c) (changes.with_decisions v.channel p k c y.part.asked) (held_after_rollback c p y.part.noted v.kept v.held) (kept_after_rollback c p v.kept) (log ++ Closed p k ∷ [])
+      else with_process (record v { states = at_one p y v.states; log = log }) p (process_after_checkpoint y c) (changes.with_decisions v.channel p k c y.part.asked) v.held (changes.trims c p y.part.marks v.kept) (log ++ Closed p k ∷ []))
+      ≡ (if roll then with_process v p (process_after_rollback y c) (changes.with_decisions v.channel p k c y.part.asked) (held_after_rollback c p y.part.noted v.kept v.held) (kept_after_rollback c p v.kept) (log ++ Closed p k ∷ [])
+      else with_process v p (process_after_checkpoint y c) (changes.with_decisions v.channel p k c y.part.asked) v.held (changes.trims c p y.part.marks v.kept) (log ++ Closed p k ∷ []))
+  closed_twice true c log = ap (λ (f : ℕ → SeenProcess). record v { states = f; channel = changes.with_decisions v.channel p k c y.part.asked; held = held_after_rollback c p y.part.noted v.kept v.held; kept = kept_after_rollback c p v.kept; log = log ++ Closed p k ∷ [] }) (set_twice p (process_after_rollback y c) y v.states)
+  closed_twice false c log = ap (λ (f : ℕ → SeenProcess). record v { states = f; channel = changes.with_decisions v.channel p k c y.part.asked; kept = changes.trims c p y.part.marks v.kept; log = log ++ Closed p k ∷ [] }) (set_twice p (process_after_checkpoint y c) y v.states)
 
-  ended_as : (roll : Bool) (o : Option ℕ) → y.part.is_rollback ≡ roll → ends_with (record v { people = at_one p y v.people }) p k y o ≡ ended v p k y roll o
+  ended_as : (roll : Bool) (o : Option ℕ) → y.part.is_rollback ≡ roll → ends_with (record v { states = at_one p y v.states }) p k y o ≡ ended v p k y roll o
   ended_as roll (Some to) e = refl
-  ended_as true None e = closed_twice y.part.is_rollback y.part.willing _ ∙ ap (λ (b : Bool). if b then with_person v p (person_after_rollback y y.part.willing) (changes.with_decisions v.channel p k y.part.willing y.part.asked) (held_after_rollback y.part.willing p y.part.noted v.kept v.held) (kept_after_rollback y.part.willing p v.kept) (log_closed v.log p k y.part.willing) else with_person v p (person_after_checkpoint y y.part.willing) (changes.with_decisions v.channel p k y.part.willing y.part.asked) v.held (changes.trims y.part.willing p y.part.marks v.kept) (log_closed v.log p k y.part.willing)) e
-  ended_as false None e = closed_twice y.part.is_rollback y.part.willing _ ∙ ap (λ (b : Bool). if b then with_person v p (person_after_rollback y y.part.willing) (changes.with_decisions v.channel p k y.part.willing y.part.asked) (held_after_rollback y.part.willing p y.part.noted v.kept v.held) (kept_after_rollback y.part.willing p v.kept) (log_closed v.log p k y.part.willing) else with_person v p (person_after_checkpoint y y.part.willing) (changes.with_decisions v.channel p k y.part.willing y.part.asked) v.held (changes.trims y.part.willing p y.part.marks v.kept) (log_closed v.log p k y.part.willing)) e
+  ended_as true None e = closed_twice y.part.is_rollback y.part.willing _ ∙ ap (λ (b : Bool). if b then with_process v p (process_after_rollback y y.part.willing) (changes.with_decisions v.channel p k y.part.willing y.part.asked) (held_after_rollback y.part.willing p y.part.noted v.kept v.held) (kept_after_rollback y.part.willing p v.kept) (log_closed v.log p k y.part.willing) else with_process v p (process_after_checkpoint y y.part.willing) (changes.with_decisions v.channel p k y.part.willing y.part.asked) v.held (changes.trims y.part.willing p y.part.marks v.kept) (log_closed v.log p k y.part.willing)) e
+  ended_as false None e = closed_twice y.part.is_rollback y.part.willing _ ∙ ap (λ (b : Bool). if b then with_process v p (process_after_rollback y y.part.willing) (changes.with_decisions v.channel p k y.part.willing y.part.asked) (held_after_rollback y.part.willing p y.part.noted v.kept v.held) (kept_after_rollback y.part.willing p v.kept) (log_closed v.log p k y.part.willing) else with_process v p (process_after_checkpoint y y.part.willing) (changes.with_decisions v.channel p k y.part.willing y.part.asked) v.held (changes.trims y.part.willing p y.part.marks v.kept) (log_closed v.log p k y.part.willing)) e
 
-  pub settles_in_one : seen_settling (record v { people = at_one p y v.people }) p k ≡ settled v p k y
-  settles_in_one = settles_as (record v { people = at_one p y v.people }) p k ∙ (ap (settles_with (record v { people = at_one p y v.people }) p k) (at_one_here p y v.people)
-      ∙ ap (λ (x : Seen). if y.part.awaited == 0 then x else record v { people = at_one p y v.people }) (ended_as y.part.is_rollback y.part.parent refl))
+  pub settles_in_one : seen_settling (record v { states = at_one p y v.states }) p k ≡ settled v p k y
+  settles_in_one = settles_as (record v { states = at_one p y v.states }) p k ∙ (ap (settles_with (record v { states = at_one p y v.states }) p k) (at_one_here p y v.states)
+      ∙ ap (λ (x : Seen). if y.part.awaited == 0 then x else record v { states = at_one p y v.states }) (ended_as y.part.is_rollback y.part.parent refl))
 
 -- the lists as kt_fifo's clauses have them
 pub with_parcel_is : (channel : SeenLists) (p q : ℕ) (x : Parcel) → changes.with_parcel channel p q x ≡ at_pair p q (channel p q ++ x ∷ []) channel

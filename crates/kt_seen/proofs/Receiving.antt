@@ -22,12 +22,12 @@ use Rattle.kt_closing.specs.KeptInOrder.{is_in_checkpoint}
 use Rattle.kt_closing.specs.LateClosing.{is_newer}
 use Rattle.kt_closing.specs.OnceClosed.{has_to_restore, once_closed}
 use Rattle.kt_seen.specs.Labelling.{Labelling, labelling_after, labelled_log}
-use Rattle.kt_seen.specs.Seen.{no_part, SeenLists, seen_parcels, marks_of, part_of, person_of, view}
+use Rattle.kt_seen.specs.Seen.{no_part, SeenLists, seen_parcels, marks_of, part_of, process_seen, view}
 use Rattle.kt_seen.specs.SeenMessages.{seen_dropping, seen_receiving}
 use Rattle.kt_seen.proofs.LabelNumbers.{Of, of_one, same_lt, row_more}
 use Rattle.kt_seen.proofs.Parcels.{NamesMessages, AreMessagesOf, own_message, parcels_with_parcel}
 use Rattle.kt_seen.proofs.Tables.{Table, table_received, heard, heard_received, heard_other}
-use Rattle.kt_seen.proofs.SameSeen.{same_seen, people_at, same_person, same_part, table_as, read, known_row, length_push}
+use Rattle.kt_seen.proofs.SameSeen.{same_seen, states_at, same_process_state, same_part, table_as, read, known_row, length_push}
 use Rattle.kt_seen.proofs.Named.{Heard, Tells, Sees}
 use Rattle.kt_seen.proofs.Channels.{pair_row, pair_side, pair_all, own_with_parcel}
 
@@ -103,9 +103,9 @@ module _ (first : ℕ) (c : State) (t : Labelling) (known : read c.so_far t ≡ 
 
     same_received : view (labelling_after c.so_far t (Received p q m)) (after_receiving c channel hc p q m) ≡ seen_receiving (view t c) channel' held' p q (t.label m) m (t.body m)
     same_received = same_seen c.processes c.instances (c.log ++ Received p q m ∷ [])
-        (people_at p (record (person_of t c p) { calls = t.calls p ++ call_received q (t.label m) ∷ [] }) (λ u. person_of (labelling_after c.so_far t (Received p q m)) (after_receiving c channel hc p q m) u) (λ u. person_of t c u)
-        (same_person (c.so_far.open_in p) (c.up p) (at_one_here p _ t.calls) refl (part_same p))
-        (λ u e. same_person (c.so_far.open_in u) (c.up u) (at_one_other p u _ t.calls e) refl (part_same u)))
+        (states_at p (record (process_seen t c p) { calls = t.calls p ++ call_received q (t.label m) ∷ [] }) (λ u. process_seen (labelling_after c.so_far t (Received p q m)) (after_receiving c channel hc p q m) u) (λ u. process_seen t c u)
+        (same_process_state (c.so_far.open_in p) (c.up p) (at_one_here p _ t.calls) refl (part_same p))
+        (λ u e. same_process_state (c.so_far.open_in u) (c.up u) (at_one_other p u _ t.calls e) refl (part_same u)))
         k.same_channel k.same_held (parcels_with_parcel t.label t.body c.so_far.is_rollback c.kept q p (App m))
 
     -- what was received since the last rollback stands before it

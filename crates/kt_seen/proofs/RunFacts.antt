@@ -162,14 +162,14 @@ module _ (n first : ℕ) (steps : List Step) where
 
 -- parts
 module _ (n first : ℕ) (steps : List Step) where
-  pub part_asks : (p q : ℕ) → ((seen first (late_run (opening n) steps)).people p).part.asked q ≡ true → q < (late_run (opening n) steps).processes
+  pub part_asks : (p q : ℕ) → ((seen first (late_run (opening n) steps)).states p).part.asked q ≡ true → q < (late_run (opening n) steps).processes
   part_asks p q = go ((late_run (opening n) steps).so_far.open_in p == 0)
     where
       go : (b : Bool) → (if b then no_part else part_of (labelling first (late_run (opening n) steps).log) (late_run (opening n) steps) p ((late_run (opening n) steps).so_far.open_in p)).asked q ≡ true → q < (late_run (opening n) steps).processes
       go true e = absurd (cc (e))
       go false e = (tells_runs n first steps).asked_near ((late_run (opening n) steps).so_far.open_in p) p q e
 
-  pub part_answers : (p to : ℕ) → ((seen first (late_run (opening n) steps)).people p).part.parent ≡ Some to → to < (late_run (opening n) steps).processes
+  pub part_answers : (p to : ℕ) → ((seen first (late_run (opening n) steps)).states p).part.parent ≡ Some to → to < (late_run (opening n) steps).processes
   part_answers p to = go ((late_run (opening n) steps).so_far.open_in p == 0) refl
     where
       some : (k : ℕ) → (k == 0) ≡ false → 0 < k
@@ -179,9 +179,9 @@ module _ (n first : ℕ) (steps : List Step) where
       go true o e = absurd (cc (e))
       go false o e = (tells_runs n first steps).parent_near ((late_run (opening n) steps).so_far.open_in p) p to ((known_run n steps).invariant.positions.open_joined ((late_run (opening n) steps).so_far.open_in p) p (some ((late_run (opening n) steps).so_far.open_in p) o) refl) e
 
-  pub part_none : (p : ℕ) → ((seen first (late_run (opening n) steps)).people p).inst ≡ 0 → ((seen first (late_run (opening n) steps)).people p).part ≡ no_part
+  pub part_none : (p : ℕ) → ((seen first (late_run (opening n) steps)).states p).inst ≡ 0 → ((seen first (late_run (opening n) steps)).states p).part ≡ no_part
   part_none p o = rw o refl
 
   -- one step more
-  pub speaks_next : (x : Step) (p : ℕ) → Speaks ((transition (seen first (late_run (opening n) steps)) x).people p).calls
-  speaks_next x p = subst (λ (v : Seen). Speaks (v.people p).calls) (seen_next n first steps x) (speaks n first (steps ++ x ∷ []) p)
+  pub speaks_next : (x : Step) (p : ℕ) → Speaks ((transition (seen first (late_run (opening n) steps)) x).states p).calls
+  speaks_next x p = subst (λ (v : Seen). Speaks (v.states p).calls) (seen_next n first steps x) (speaks n first (steps ++ x ∷ []) p)

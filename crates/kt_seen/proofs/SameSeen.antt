@@ -13,24 +13,24 @@ use Rattle.kt_protocol.proofs.Updates.{is_same, is_other, at_one_here, at_one_ot
 use Rattle.kt_protocol.specs.Deciding.{none_of}
 use Rattle.kt_protocol.specs.Summary.{Summary, summary_after}
 use Rattle.kt_seen.specs.Labelling.{Labelling, labelling_after, LabelledLog, labelled_after, labelled_start, labelled_log}
-use Rattle.kt_seen.specs.Seen.{SeenPart, SeenPerson, SeenLists, Seen}
+use Rattle.kt_seen.specs.Seen.{SeenPart, SeenProcess, SeenLists, Seen}
 use Rattle.kt_seen.proofs.Tables.{Table}
 
-abbrev pub seen_with : ℕ → ℕ → List Event → (ℕ → SeenPerson) → SeenLists → SeenLists → SeenLists → Seen
-seen_with n k log f a b d = record { processes = n; people = f; channel = a; held = b; kept = d; log = log; begun = k }
+abbrev pub seen_with : ℕ → ℕ → List Event → (ℕ → SeenProcess) → SeenLists → SeenLists → SeenLists → Seen
+seen_with n k log f a b d = record { processes = n; states = f; channel = a; held = b; kept = d; log = log; begun = k }
 
-abbrev pub person_with : List Call → ℕ → ℕ → SeenPart → Bool → SeenPerson
-person_with x l n r b = record { calls = x; used = l; inst = n; part = r; up = b }
+abbrev pub state_with : List Call → ℕ → ℕ → SeenPart → Bool → SeenProcess
+state_with x l n r b = record { calls = x; used = l; inst = n; part = r; up = b }
 
 abbrev pub part_with : Bool → Option ℕ → (ℕ → Bool) → ℕ → Bool → (ℕ → Option ℕ) → (ℕ → ℕ) → SeenPart
 part_with r o a n w y m = record { is_rollback = r; parent = o; asked = a; awaited = n; willing = w; noted = y; marks = m }
 
-pub same_seen : (n k : ℕ) (log : List Event) {f f' : ℕ → SeenPerson} {a a' b b' d d' : SeenLists} → f ≡ f' → a ≡ a' → b ≡ b' → d ≡ d' →
+pub same_seen : (n k : ℕ) (log : List Event) {f f' : ℕ → SeenProcess} {a a' b b' d d' : SeenLists} → f ≡ f' → a ≡ a' → b ≡ b' → d ≡ d' →
     seen_with n k log f a b d ≡ seen_with n k log f' a' b' d'
-same_seen n k log e1 e2 e3 e4 = λ i. record { processes = n; people = e1 i; channel = e2 i; held = e3 i; kept = e4 i; log = log; begun = k }
+same_seen n k log e1 e2 e3 e4 = λ i. record { processes = n; states = e1 i; channel = e2 i; held = e3 i; kept = e4 i; log = log; begun = k }
 
-pub people_at : (p : ℕ) (y : SeenPerson) (f g : ℕ → SeenPerson) → f p ≡ y → ((u : ℕ) → u ≢ p → f u ≡ g u) → f ≡ at_one p y g
-people_at p y f g h o = λ i u. go u (cases_eq u p) i
+pub states_at : (p : ℕ) (y : SeenProcess) (f g : ℕ → SeenProcess) → f p ≡ y → ((u : ℕ) → u ≢ p → f u ≡ g u) → f ≡ at_one p y g
+states_at p y f g h o = λ i u. go u (cases_eq u p) i
   where
     go : (u : ℕ) → (u ≡ p) ⊎ (u ≢ p) → f u ≡ at_one p y g u
     go u c = elim c [
@@ -38,13 +38,13 @@ people_at p y f g h o = λ i u. go u (cases_eq u p) i
       | inr d ↦ o u d ∙ sym (at_one_other p u y g d)
     ]
 
-pub same_person : (n : ℕ) (b : Bool) {x x' : List Call} {l l' : ℕ} {r r' : SeenPart} → x ≡ x' → l ≡ l' → r ≡ r' →
-    person_with x l n r b ≡ person_with x' l' n r' b
-same_person n b e1 e2 e3 = λ i. record { calls = e1 i; used = e2 i; inst = n; part = e3 i; up = b }
+pub same_process_state : (n : ℕ) (b : Bool) {x x' : List Call} {l l' : ℕ} {r r' : SeenPart} → x ≡ x' → l ≡ l' → r ≡ r' →
+    state_with x l n r b ≡ state_with x' l' n r' b
+same_process_state n b e1 e2 e3 = λ i. record { calls = e1 i; used = e2 i; inst = n; part = e3 i; up = b }
 
-pub person_more : {x x' : List Call} {l l' n n' : ℕ} {r r' : SeenPart} {b b' : Bool} → x ≡ x' → l ≡ l' → n ≡ n' → r ≡ r' → b ≡ b' →
-    person_with x l n r b ≡ person_with x' l' n' r' b'
-person_more e1 e2 e3 e4 e5 = λ i. record { calls = e1 i; used = e2 i; inst = e3 i; part = e4 i; up = e5 i }
+pub state_more : {x x' : List Call} {l l' n n' : ℕ} {r r' : SeenPart} {b b' : Bool} → x ≡ x' → l ≡ l' → n ≡ n' → r ≡ r' → b ≡ b' →
+    state_with x l n r b ≡ state_with x' l' n' r' b'
+state_more e1 e2 e3 e4 e5 = λ i. record { calls = e1 i; used = e2 i; inst = e3 i; part = e4 i; up = e5 i }
 
 pub same_part : {r r' w w' : Bool} {o o' : Option ℕ} {a a' : ℕ → Bool} {n n' : ℕ} {y y' : ℕ → Option ℕ} {m m' : ℕ → ℕ} → r ≡ r' → o ≡ o' → ((q : ℕ) → a q ≡ a' q) → n ≡ n' → w ≡ w' → ((q : ℕ) → y q ≡ y' q) → ((q : ℕ) → m q ≡ m' q) →
     part_with r o a n w y m ≡ part_with r' o' a' n' w' y' m'

@@ -16,13 +16,13 @@ use Rattle.kt_protocol.specs.States.{State}
 use Rattle.kt_closing.specs.KeptInOrder.{is_in_checkpoint}
 use Rattle.kt_closing.specs.OnceClosed.{has_to_restore}
 use Rattle.kt_seen.specs.Labelling.{Labelling, labelling_after, labelled_log}
-use Rattle.kt_seen.specs.Seen.{SeenPart, no_part, SeenLists, label_noted, part_of, person_of, view}
+use Rattle.kt_seen.specs.Seen.{SeenPart, no_part, SeenLists, label_noted, part_of, process_seen, view}
 use Rattle.kt_seen.specs.ListChanges as changes
 use Rattle.kt_seen.specs.SeenMessages.{seen_sending}
 use Rattle.kt_seen.proofs.LabelNumbers.{Numbers, Of, label_old, from_old, body_old, label_none, label_same, of_old, of_new, numbers_sent, none_label, of_low}
 use Rattle.kt_seen.proofs.Parcels.{parcels_with_parcel, parcels_later, names_later, own_parcels, own_later, names_message}
 use Rattle.kt_seen.proofs.Tables.{Table, table_sent, heard, heard_same}
-use Rattle.kt_seen.proofs.SameSeen.{same_seen, people_at, same_person, same_part, table_as, read, known_row, length_push}
+use Rattle.kt_seen.proofs.SameSeen.{same_seen, states_at, same_process_state, same_part, table_as, read, known_row, length_push}
 use Rattle.kt_seen.proofs.Named.{Named, Flows, Heard, Tells, Sees}
 use Rattle.kt_seen.proofs.Channels.{pair_row, pair_side, pair_all, names_with_parcel}
 
@@ -62,17 +62,17 @@ module _ (first : ℕ) (c : State) (t : Labelling) (known : read c.so_far t ≡ 
       (λ e. let w = both (c.so_far.is_rollback k) (c.noted k u v) e in same_label v (c.noted_label k u v) (d.noting.noted_of k u v w.1 w.0)))
       (λ v. refl)
 
-  person_parts : (u : ℕ) → (if c.so_far.open_in u == 0 then no_part else part_of (labelling_after c.so_far t (Sent p q body)) (after_sending c p q body) u (c.so_far.open_in u)) ≡ (if c.so_far.open_in u == 0 then no_part else part_of t c u (c.so_far.open_in u))
-  person_parts u = ap (λ (r : SeenPart). if c.so_far.open_in u == 0 then no_part else r) (part_same u (c.so_far.open_in u))
+  process_parts : (u : ℕ) → (if c.so_far.open_in u == 0 then no_part else part_of (labelling_after c.so_far t (Sent p q body)) (after_sending c p q body) u (c.so_far.open_in u)) ≡ (if c.so_far.open_in u == 0 then no_part else part_of t c u (c.so_far.open_in u))
+  process_parts u = ap (λ (r : SeenPart). if c.so_far.open_in u == 0 then no_part else r) (part_same u (c.so_far.open_in u))
 
-  same_people : (λ u. person_of (labelling_after c.so_far t (Sent p q body)) (after_sending c p q body) u) ≡ at_one p (record (person_of t c p) { calls = t.calls p ++ call_sent q (t.used p + 1) ∷ []; used = t.used p + 1 }) (λ u. person_of t c u)
-  same_people = people_at p (record (person_of t c p) { calls = t.calls p ++ call_sent q (t.used p + 1) ∷ []; used = t.used p + 1 }) (λ u. person_of (labelling_after c.so_far t (Sent p q body)) (after_sending c p q body) u) (λ u. person_of t c u)
-      (same_person (c.so_far.open_in p) (c.up p) (at_one_here p _ t.calls) (at_one_here p _ t.used) (person_parts p))
-      (λ u e. same_person (c.so_far.open_in u) (c.up u) (at_one_other p u _ t.calls e) (at_one_other p u _ t.used e) (person_parts u))
+  same_all_states : (λ u. process_seen (labelling_after c.so_far t (Sent p q body)) (after_sending c p q body) u) ≡ at_one p (record (process_seen t c p) { calls = t.calls p ++ call_sent q (t.used p + 1) ∷ []; used = t.used p + 1 }) (λ u. process_seen t c u)
+  same_all_states = states_at p (record (process_seen t c p) { calls = t.calls p ++ call_sent q (t.used p + 1) ∷ []; used = t.used p + 1 }) (λ u. process_seen (labelling_after c.so_far t (Sent p q body)) (after_sending c p q body) u) (λ u. process_seen t c u)
+      (same_process_state (c.so_far.open_in p) (c.up p) (at_one_here p _ t.calls) (at_one_here p _ t.used) (process_parts p))
+      (λ u e. same_process_state (c.so_far.open_in u) (c.up u) (at_one_other p u _ t.calls e) (at_one_other p u _ t.used e) (process_parts u))
 
   pub same_sent : view (labelling_after c.so_far t (Sent p q body)) (after_sending c p q body) ≡ seen_sending (view t c) p q body
   unfolding changes.with_parcel
-  same_sent = same_seen c.processes c.instances (c.log ++ Sent p q body ∷ []) same_people
+  same_sent = same_seen c.processes c.instances (c.log ++ Sent p q body ∷ []) same_all_states
       (parcels_with_parcel _ _ c.so_far.is_rollback c.channel p q (App (c.so_far.rows + 1)) ∙ ap₂ (λ (w : SeenLists) (x : SeenParcel). changes.with_parcel w p q x)
       (λ i u v. parcels_later t.label _ c.so_far.from _ t.body _ c.so_far.is_rollback c.so_far.is_rollback c.instances c.instances old none (λ k e. refl) (omega arith) u v (c.channel u v) (d.flows.channel_names u v) i)
       (fresh _ _ (at_one_here (c.so_far.rows + 1) (t.used p + 1) t.label) (at_one_here (c.so_far.rows + 1) body t.body)))

@@ -12,7 +12,7 @@ use Rattle.kt_closing.specs.LateClosing.{late_deciding_as, late_deciding, late_c
 use Rattle.kt_closing.specs.LateSteps.{late_settling}
 use Rattle.kt_closing.specs.OnceClosed.{once_closed}
 use Rattle.kt_seen.specs.Labelling.{Labelling, labelled_log}
-use Rattle.kt_seen.specs.Seen.{SeenPart, Seen, person_of, view}
+use Rattle.kt_seen.specs.Seen.{SeenPart, Seen, process_seen, view}
 use Rattle.kt_seen.specs.SeenClosing.{seen_closing, seen_deciding, seen_ending, seen_settling}
 use Rattle.kt_seen.proofs.SameSeen.{read, count_none}
 use Rattle.kt_seen.proofs.Named.{Tells, Sees}
@@ -63,7 +63,7 @@ module _ (first : ℕ) (c : State) (t : Labelling) (known : read c.so_far t ≡ 
   ends_as false = sees_answering first c t known d p k pos o
 
   pub sees_settling : Sees first (late_settling c p k) (seen_settling (view t c) p k)
-  sees_settling = at_both first (none_of c.processes (c.awaits k p)) ((person_of t c p).part.awaited == 0)
+  sees_settling = at_both first (none_of c.processes (c.awaits k p)) ((process_seen t c p).part.awaited == 0)
       (sym (ap (λ (r : SeenPart). r.awaited == 0) (part_in t c p k pos o) ∙ count_none c.processes (c.awaits k p)))
       (λ _. sees_as first (if p == c.initiator k then late_closing (late_deciding c p k) p k (c.all_willing k p) else after_answering c p k) _ _ (ends_as (p == c.initiator k)) (ap (λ (x : Option ℕ). seen_ending (view t c) p k x) (sym (ap (λ (r : SeenPart). r.parent) (part_in t c p k pos o)))))
       (λ _. sees_same first c t known d)

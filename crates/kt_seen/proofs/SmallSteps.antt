@@ -15,18 +15,18 @@ use Rattle.kt_protocol.specs.Parcels.{Parcel, App, Reply, Lists, with_parcel, wi
 use Rattle.kt_protocol.specs.Replies.{after_replying, after_unwilling, after_reply, after_answering}
 use Rattle.kt_protocol.specs.States.{State}
 use Rattle.kt_seen.specs.Labelling.{Labelling, labelled_log}
-use Rattle.kt_seen.specs.Seen.{SeenPart, no_part, SeenLists, seen_parcels, part_of, person_of, view}
+use Rattle.kt_seen.specs.Seen.{SeenPart, no_part, SeenLists, seen_parcels, part_of, process_seen, view}
 use Rattle.kt_seen.specs.ListChanges as changes
 use Rattle.kt_seen.specs.SeenMessages.{seen_without_front, seen_refusal, seen_failing, seen_holding}
 use Rattle.kt_seen.specs.SeenReplies.{seen_replying, seen_unwilling, seen_answering, seen_reply, part_after_reply}
 use Rattle.kt_seen.proofs.LabelNumbers.{row_more}
 use Rattle.kt_seen.proofs.Parcels.{NamesMessages, front_message, rest_names, names_reply, own_message, parcels_with_parcel, parcels_with_rest}
-use Rattle.kt_seen.proofs.SameSeen.{same_seen, people_at, same_person, person_more, same_part, read, known_row, length_push, count_same, count_less}
+use Rattle.kt_seen.proofs.SameSeen.{same_seen, states_at, same_process_state, state_more, same_part, read, known_row, length_push, count_same, count_less}
 use Rattle.kt_seen.proofs.Named.{Tells, Sees}
 use Rattle.kt_seen.proofs.Channels.{names_with_parcel, names_with_rest, own_with_parcel}
 
 -- the part of a process that is in an instance
-pub part_in : (t : Labelling) (c : State) (p k : ℕ) → 0 < k → c.so_far.open_in p ≡ k → (person_of t c p).part ≡ part_of t c p k
+pub part_in : (t : Labelling) (c : State) (p k : ℕ) → 0 < k → c.so_far.open_in p ≡ k → (process_seen t c p).part ≡ part_of t c p k
 part_in t c p k pos o = rw (o, some k pos) refl
   where
     some : (k : ℕ) → 0 < k → (k == 0) ≡ false
@@ -147,9 +147,9 @@ module _ (first : ℕ) (c : State) (t : Labelling) (known : read c.so_far t ≡ 
     labels = t;
     known = known_row first c.log c.so_far t (Failed p) known;
     same = same_seen c.processes c.instances (c.log ++ Failed p ∷ [])
-        (people_at p (record (person_of t c p) { up = false }) (λ u. person_of t (after_failing c p) u) (λ u. person_of t c u)
-        (person_more refl refl refl refl (at_one_here p false c.up))
-        (λ u e. person_more refl refl refl refl (at_one_other p u false c.up e)))
+        (states_at p (record (process_seen t c p) { up = false }) (λ u. process_seen t (after_failing c p) u) (λ u. process_seen t c u)
+        (state_more refl refl refl refl (at_one_here p false c.up))
+        (λ u e. state_more refl refl refl refl (at_one_other p u false c.up e)))
         refl refl refl;
     tells = record {
       numbers = row_more t.label t.used c.so_far.from c.so_far.rows d.numbers;
@@ -216,9 +216,9 @@ module _ (first : ℕ) (c : State) (t : Labelling) (known : read c.so_far t ≡ 
     labels = t;
     known = known;
     same = same_seen c.processes c.instances c.log
-        (people_at p (record (person_of t c p) { part = part_after_reply (person_of t c p).part w }) (λ u. person_of t (after_reply c p q k w rest) u) (λ u. person_of t c u)
-        (same_person (c.so_far.open_in p) (c.up p) refl refl here)
-        (λ u n. same_person (c.so_far.open_in u) (c.up u) refl refl (ap (λ (r : SeenPart). if c.so_far.open_in u == 0 then no_part else r) (there u n))))
+        (states_at p (record (process_seen t c p) { part = part_after_reply (process_seen t c p).part w }) (λ u. process_seen t (after_reply c p q k w rest) u) (λ u. process_seen t c u)
+        (same_process_state (c.so_far.open_in p) (c.up p) refl refl here)
+        (λ u n. same_process_state (c.so_far.open_in u) (c.up u) refl refl (ap (λ (r : SeenPart). if c.so_far.open_in u == 0 then no_part else r) (there u n))))
         (parcels_with_rest t.label t.body c.so_far.is_rollback c.channel q p rest) refl refl;
     tells = record {
       numbers = d.numbers;
@@ -243,7 +243,7 @@ module _ (first : ℕ) (c : State) (t : Labelling) (known : read c.so_far t ≡ 
       now : part_of t (after_reply c p q k w rest) p k ≡ part_after_reply (part_of t c p k) w
       now = same_part refl refl (λ v. refl) fewer (at_pair_here k p (c.all_willing k p && w) c.all_willing) (λ v. refl) (λ v. refl)
 
-      here : (person_of t (after_reply c p q k w rest) p).part ≡ part_after_reply (person_of t c p).part w
+      here : (process_seen t (after_reply c p q k w rest) p).part ≡ part_after_reply (process_seen t c p).part w
       here = part_in t (after_reply c p q k w rest) p k pos o ∙ (now ∙ ap (λ (r : SeenPart). part_after_reply r w) (sym (part_in t c p k pos o)))
 
       flat : (a b : Bool) (x : Bool) → (if a && false && b then false else x) ≡ x

@@ -24,7 +24,7 @@ use Rattle.kt_protocol.specs.Parcels.{Parcel, App, Ask, Reply, Decide, Lists, wi
 use Rattle.kt_protocol.specs.Replies.{after_reply, unable_cause}
 use Rattle.kt_protocol.specs.States.{State, Step, Send, Begin, Fail, Take, is_ready}
 use Rattle.kt_protocol.specs.Steps.{verb_for}
-use Rattle.kt_protocol.specs.UnderWay.{times}
+use Rattle.kt_protocol.specs.InTransit.{times}
 use Rattle.kt_protocol.proofs.Choices.{same}
 use Rattle.kt_closing.proofs.Joining.{once_closed_began, once_closed_joining_checkpoint, once_closed_joining_rollback}
 use Rattle.kt_closing.proofs.KeptLists.{KeptLists}

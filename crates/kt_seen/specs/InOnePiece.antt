@@ -8,21 +8,21 @@ use Rattle.kt_spacetime.specs.declared.event.Event.{Event}
 use Rattle.kt_spacetime.specs.declared.event.Event.TheVariants.{Decided, Closed}
 use Rattle.kt_cuts.specs.Past.{at_one}
 use Rattle.kt_tables.specs.Calls.{on_rollback}
-use Rattle.kt_seen.specs.Seen.{no_part, SeenPerson, SeenLists, Seen}
+use Rattle.kt_seen.specs.Seen.{no_part, SeenProcess, SeenLists, Seen}
 use Rattle.kt_seen.specs.ListChanges.{with_parcel, with_decisions, trims, low}
 use Rattle.kt_seen.specs.CallTests.{decision}
 
 -- process p becomes y, and these are the lists and the log
-abbrev pub with_person : Seen → ℕ → SeenPerson → SeenLists → SeenLists → SeenLists → List Event → Seen
-with_person v p y channel held kept log = record v { people = at_one p y v.people; channel = channel; held = held; kept = kept; log = log }
+abbrev pub with_process : Seen → ℕ → SeenProcess → SeenLists → SeenLists → SeenLists → List Event → Seen
+with_process v p y channel held kept log = record v { states = at_one p y v.states; channel = channel; held = held; kept = kept; log = log }
 
 -- what a process becomes when it closes a checkpoint, and a rollback
-abbrev pub person_after_checkpoint : SeenPerson → Bool → SeenPerson
-person_after_checkpoint y c = record y { calls = y.calls ++ decision c ∷ []; inst = 0; part = no_part }
+abbrev pub process_after_checkpoint : SeenProcess → Bool → SeenProcess
+process_after_checkpoint y c = record y { calls = y.calls ++ decision c ∷ []; inst = 0; part = no_part }
 
-abbrev pub person_after_rollback : SeenPerson → Bool → SeenPerson
-person_after_rollback y true = record y { calls = y.calls ++ on_rollback ∷ []; inst = 0; part = no_part; up = true }
-person_after_rollback y false = record y { inst = 0; part = no_part }
+abbrev pub process_after_rollback : SeenProcess → Bool → SeenProcess
+process_after_rollback y true = record y { calls = y.calls ++ on_rollback ∷ []; inst = 0; part = no_part; up = true }
+process_after_rollback y false = record y { inst = 0; part = no_part }
 
 -- the lists held and kept for a process when it closes a rollback
 abbrev pub held_after_rollback : Bool → ℕ → (ℕ → Option ℕ) → SeenLists → SeenLists → SeenLists
@@ -38,19 +38,19 @@ abbrev pub log_closed : List Event → ℕ → ℕ → Bool → List Event
 log_closed log p k c = (log ++ Decided p k c ∷ []) ++ Closed p k ∷ []
 
 -- p, which is y and awaits nobody, answers its parent, or decides and closes
-abbrev pub ended : Seen → ℕ → ℕ → SeenPerson → Bool → Option ℕ → Seen
-ended v p k y roll (Some to) = with_person v p y (with_parcel v.channel p to (Reply k y.part.willing)) v.held v.kept v.log
+abbrev pub ended : Seen → ℕ → ℕ → SeenProcess → Bool → Option ℕ → Seen
+ended v p k y roll (Some to) = with_process v p y (with_parcel v.channel p to (Reply k y.part.willing)) v.held v.kept v.log
 ended v p k y true None =
-    with_person v p (person_after_rollback y y.part.willing) (with_decisions v.channel p k y.part.willing y.part.asked)
+    with_process v p (process_after_rollback y y.part.willing) (with_decisions v.channel p k y.part.willing y.part.asked)
     (held_after_rollback y.part.willing p y.part.noted v.kept v.held) (kept_after_rollback y.part.willing p v.kept)
     (log_closed v.log p k y.part.willing)
 ended v p k y false None =
-    with_person v p (person_after_checkpoint y y.part.willing) (with_decisions v.channel p k y.part.willing y.part.asked)
+    with_process v p (process_after_checkpoint y y.part.willing) (with_decisions v.channel p k y.part.willing y.part.asked)
     v.held (trims y.part.willing p y.part.marks v.kept) (log_closed v.log p k y.part.willing)
 
 -- p becomes y, and goes on so where it awaits nobody
-abbrev pub settled : Seen → ℕ → ℕ → SeenPerson → Seen
-settled v p k y = if y.part.awaited == 0 then ended v p k y y.part.is_rollback y.part.parent else record v { people = at_one p y v.people }
+abbrev pub settled : Seen → ℕ → ℕ → SeenProcess → Seen
+settled v p k y = if y.part.awaited == 0 then ended v p k y y.part.is_rollback y.part.parent else record v { states = at_one p y v.states }
 
 -- the asks of instance k that go to v, of pairs of process and label
 abbrev pub asks_to : ℕ → Kind → ℕ → List (ℕ × ℕ) → List Parcel

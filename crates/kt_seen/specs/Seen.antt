@@ -31,7 +31,7 @@ pub record SeenPart : Type 0 where
 abbrev pub no_part : SeenPart
 no_part = record { is_rollback = false; parent = None; asked = λ q. false; awaited = 0; willing = true; noted = λ q. None; marks = λ q. 0 }
 
-pub record SeenPerson : Type 0 where
+pub record SeenProcess : Type 0 where
   -- the calls that were made on its tables
   pub calls : List Call
   -- the last label that it used
@@ -49,7 +49,7 @@ SeenLists = ℕ → ℕ → List SeenParcel
 pub record Seen : Type 0 where
   -- how many processes there are, and these
   pub processes : ℕ
-  pub people : ℕ → SeenPerson
+  pub states : ℕ → SeenProcess
   -- by sender and receiver: what is in a channel, what is held for a receiver in a rollback, and what it received past its
   -- permanent checkpoint
   pub channel : SeenLists
@@ -93,8 +93,8 @@ part_of t s p k = record {
 }
 
 -- what code keeps of process p
-abbrev pub person_of : Labelling → State → ℕ → SeenPerson
-person_of t s p = record {
+abbrev pub process_seen : Labelling → State → ℕ → SeenProcess
+process_seen t s p = record {
   calls = t.calls p;
   used = t.used p;
   inst = s.so_far.open_in p;
@@ -106,7 +106,7 @@ person_of t s p = record {
 abbrev pub view : Labelling → State → Seen
 view t s = record {
   processes = s.processes;
-  people = λ p. person_of t s p;
+  states = λ p. process_seen t s p;
   channel = λ p q. seen_parcels t.label t.body s.so_far.is_rollback (s.channel p q);
   held = λ p q. seen_parcels t.label t.body s.so_far.is_rollback (s.held p q);
   kept = λ p q. seen_parcels t.label t.body s.so_far.is_rollback (s.kept p q);

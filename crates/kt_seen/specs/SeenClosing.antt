@@ -11,9 +11,9 @@ use Rattle.kt_seen.specs.SeenReplies.{seen_answering}
 -- p closes checkpoint k and tells the decision to all that it asked: a commit forgets what was received before it
 abbrev pub seen_closing_checkpoint : Seen → ℕ → ℕ → Bool → Seen
 seen_closing_checkpoint v p k c = record v {
-  people = at_one p (record (v.people p) { calls = (v.people p).calls ++ decision c ∷ []; inst = 0; part = no_part }) v.people;
-  channel = with_decisions v.channel p k c (v.people p).part.asked;
-  kept = trims c p (v.people p).part.marks v.kept;
+  states = at_one p (record (v.states p) { calls = (v.states p).calls ++ decision c ∷ []; inst = 0; part = no_part }) v.states;
+  channel = with_decisions v.channel p k c (v.states p).part.asked;
+  kept = trims c p (v.states p).part.marks v.kept;
   log = v.log ++ Closed p k ∷ [];
 }
 
@@ -21,20 +21,20 @@ seen_closing_checkpoint v p k c = record v {
 -- before held
 abbrev pub seen_closing_rollback : Seen → ℕ → ℕ → Bool → Seen
 seen_closing_rollback v p k true = record v {
-  people = at_one p (record (v.people p) { calls = (v.people p).calls ++ on_rollback ∷ []; inst = 0; part = no_part; up = true }) v.people;
-  channel = with_decisions v.channel p k true (v.people p).part.asked;
+  states = at_one p (record (v.states p) { calls = (v.states p).calls ++ on_rollback ∷ []; inst = 0; part = no_part; up = true }) v.states;
+  channel = with_decisions v.channel p k true (v.states p).part.asked;
   kept = λ q u. if u == p then [] else v.kept q u;
-  held = λ q u. if u == p then low ((v.people p).part.noted q) (v.kept q u) ++ low ((v.people p).part.noted q) (v.held q u) else v.held q u;
+  held = λ q u. if u == p then low ((v.states p).part.noted q) (v.kept q u) ++ low ((v.states p).part.noted q) (v.held q u) else v.held q u;
   log = v.log ++ Closed p k ∷ [];
 }
 seen_closing_rollback v p k false = record v {
-  people = at_one p (record (v.people p) { inst = 0; part = no_part }) v.people;
-  channel = with_decisions v.channel p k false (v.people p).part.asked;
+  states = at_one p (record (v.states p) { inst = 0; part = no_part }) v.states;
+  channel = with_decisions v.channel p k false (v.states p).part.asked;
   log = v.log ++ Closed p k ∷ [];
 }
 
 abbrev pub seen_closing : Seen → ℕ → ℕ → Bool → Seen
-seen_closing v p k c = if (v.people p).part.is_rollback then seen_closing_rollback v p k c else seen_closing_checkpoint v p k c
+seen_closing v p k c = if (v.states p).part.is_rollback then seen_closing_rollback v p k c else seen_closing_checkpoint v p k c
 
 -- p decides k: the row is written
 abbrev pub seen_deciding : Seen → ℕ → ℕ → Bool → Seen
@@ -43,8 +43,8 @@ seen_deciding v p k c = record v { log = v.log ++ Decided p k c ∷ [] }
 -- p answers its parent; an initiator decides, a commit where all replies were willing, and closes
 abbrev pub seen_ending : Seen → ℕ → ℕ → Option ℕ → Seen
 seen_ending v p k (Some to) = seen_answering v p k to
-seen_ending v p k None = seen_closing (seen_deciding v p k (v.people p).part.willing) p k (v.people p).part.willing
+seen_ending v p k None = seen_closing (seen_deciding v p k (v.states p).part.willing) p k (v.states p).part.willing
 
 -- so it does once it awaits nobody
 abbrev pub seen_settling : Seen → ℕ → ℕ → Seen
-seen_settling v p k = if (v.people p).part.awaited == 0 then seen_ending v p k (v.people p).part.parent else v
+seen_settling v p k = if (v.states p).part.awaited == 0 then seen_ending v p k (v.states p).part.parent else v

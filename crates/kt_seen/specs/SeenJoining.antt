@@ -26,16 +26,16 @@ seen_began v p roll = record v { log = v.log ++ Began p (v.begun + 1) (kind_for 
 -- p joins checkpoint k: it takes a tentative checkpoint, marks what is kept, and asks
 abbrev pub seen_joining_checkpoint : Seen → SeenLists → ℕ → ℕ → Option ℕ → Seen
 seen_joining_checkpoint v channel p k parent = record v {
-  people = at_one p (record (v.people p) { calls = (v.people p).calls ++ on_tentative ∷ []; inst = k; part = new_part v.processes false parent (is_asked_in_checkpoint (v.people p).calls) no_note (λ q. length (v.kept q p)) }) v.people;
-  channel = with_asks_where channel p k Checkpoint (is_asked_in_checkpoint (v.people p).calls) (checkpoint_label (v.people p).calls);
+  states = at_one p (record (v.states p) { calls = (v.states p).calls ++ on_tentative ∷ []; inst = k; part = new_part v.processes false parent (is_asked_in_checkpoint (v.states p).calls) no_note (λ q. length (v.kept q p)) }) v.states;
+  channel = with_asks_where channel p k Checkpoint (is_asked_in_checkpoint (v.states p).calls) (checkpoint_label (v.states p).calls);
   log = v.log ++ Took p k ∷ [];
 }
 
 -- p joins rollback k with these labels noted, and asks
 abbrev pub seen_joining_rollback : Seen → SeenLists → ℕ → ℕ → Option ℕ → (ℕ → Option ℕ) → Seen
 seen_joining_rollback v channel p k parent noted = record v {
-  people = at_one p (record (v.people p) { inst = k; part = new_part v.processes true parent (is_asked_in_rollback (v.people p).calls) noted (λ q. 0) }) v.people;
-  channel = with_asks_where channel p k Rollback (is_asked_in_rollback (v.people p).calls) (rollback_label (v.people p).calls);
+  states = at_one p (record (v.states p) { inst = k; part = new_part v.processes true parent (is_asked_in_rollback (v.states p).calls) noted (λ q. 0) }) v.states;
+  channel = with_asks_where channel p k Rollback (is_asked_in_rollback (v.states p).calls) (rollback_label (v.states p).calls);
   log = v.log ++ Ready p k ∷ [];
 }
 
@@ -46,8 +46,8 @@ part_after_ask part q label = record part { noted = λ y. if part.is_rollback &&
 -- p hears an ask of q to join the instance that it is in, a rollback or not
 abbrev pub seen_member_ask : Seen → Bool → ℕ → ℕ → ℕ → Seen
 seen_member_ask v roll p q label =
-    record v { people = at_one p (record (v.people p) { part = if roll then part_after_ask (v.people p).part q label else (v.people p).part }) v.people }
+    record v { states = at_one p (record (v.states p) { part = if roll then part_after_ask (v.states p).part q label else (v.states p).part }) v.states }
 
 -- so where its part says which kind that is
 abbrev pub seen_noting : Seen → ℕ → ℕ → ℕ → Seen
-seen_noting v p q label = record v { people = at_one p (record (v.people p) { part = part_after_ask (v.people p).part q label }) v.people }
+seen_noting v p q label = record v { states = at_one p (record (v.states p) { part = part_after_ask (v.states p).part q label }) v.states }

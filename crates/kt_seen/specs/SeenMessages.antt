@@ -13,15 +13,15 @@ use Rattle.kt_seen.specs.ListChanges.{with_parcel, with_rest}
 -- p sends a message to q: it has p's next label, and its number is that of its row
 abbrev pub seen_sending : Seen → ℕ → ℕ → ℤ → Seen
 seen_sending v p q body = record v {
-  people = at_one p (record (v.people p) { calls = (v.people p).calls ++ sent q ((v.people p).used + 1) ∷ []; used = (v.people p).used + 1 }) v.people;
-  channel = with_parcel v.channel p q (App ((v.people p).used + 1) (length v.log + 1) body);
+  states = at_one p (record (v.states p) { calls = (v.states p).calls ++ sent q ((v.states p).used + 1) ∷ []; used = (v.states p).used + 1 }) v.states;
+  channel = with_parcel v.channel p q (App ((v.states p).used + 1) (length v.log + 1) body);
   log = v.log ++ Sent p q body ∷ [];
 }
 
 -- p receives q's message m, which leaves these channels and held lists
 abbrev pub seen_receiving : Seen → SeenLists → SeenLists → ℕ → ℕ → ℕ → ℕ → ℤ → Seen
 seen_receiving v channel held p q label m body = record v {
-  people = at_one p (record (v.people p) { calls = (v.people p).calls ++ received q label ∷ [] }) v.people;
+  states = at_one p (record (v.states p) { calls = (v.states p).calls ++ received q label ∷ [] }) v.states;
   channel = channel;
   held = held;
   kept = with_parcel v.kept q p (App label m body);
@@ -34,7 +34,7 @@ seen_dropping v channel held p q m = record v { channel = channel; held = held; 
 
 -- a message is received by who is up, and dropped by who is down
 abbrev pub seen_arrival : Seen → SeenLists → SeenLists → ℕ → ℕ → ℕ → ℕ → ℤ → Seen
-seen_arrival v channel held p q label m body = if (v.people p).up then seen_receiving v channel held p q label m body else seen_dropping v channel held p q m
+seen_arrival v channel held p q label m body = if (v.states p).up then seen_receiving v channel held p q label m body else seen_dropping v channel held p q m
 
 -- p, which is in a rollback, holds what was in front in the channel from q
 abbrev pub seen_holding : Seen → ℕ → ℕ → Parcel → List Parcel → Seen
@@ -45,7 +45,7 @@ abbrev pub seen_without_front : Seen → ℕ → ℕ → List Parcel → Seen
 seen_without_front v p q rest = record v { channel = with_rest v.channel q p rest }
 
 abbrev pub seen_failing : Seen → ℕ → Seen
-seen_failing v p = record v { people = at_one p (record (v.people p) { up = false }) v.people; log = v.log ++ Failed p ∷ [] }
+seen_failing v p = record v { states = at_one p (record (v.states p) { up = false }) v.states; log = v.log ++ Failed p ∷ [] }
 
 -- p refuses a command
 abbrev pub seen_refusal : Seen → ℕ → Verb → Cause → Seen

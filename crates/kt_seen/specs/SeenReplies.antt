@@ -23,8 +23,8 @@ part_after_reply part w = record part { awaited = part.awaited - 1; willing = pa
 -- p takes q's reply
 abbrev pub seen_reply : Seen → ℕ → ℕ → Bool → List Parcel → Seen
 seen_reply v p q w rest =
-    record v { people = at_one p (record (v.people p) { part = part_after_reply (v.people p).part w }) v.people; channel = with_rest v.channel q p rest }
+    record v { states = at_one p (record (v.states p) { part = part_after_reply (v.states p).part w }) v.states; channel = with_rest v.channel q p rest }
 
 -- p answers its parent, willing where all replies to it were
 abbrev pub seen_answering : Seen → ℕ → ℕ → ℕ → Seen
-seen_answering v p k to = record v { channel = with_parcel v.channel p to (Reply k (v.people p).part.willing) }
+seen_answering v p k to = record v { channel = with_parcel v.channel p to (Reply k (v.states p).part.willing) }

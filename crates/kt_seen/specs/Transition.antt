@@ -19,29 +19,29 @@ use Rattle.kt_seen.specs.SeenClosing.{seen_closing, seen_settling}
 -- p, in no instance, takes q's ask to join rollback k
 abbrev pub seen_rollback_ask : Seen → ℕ → ℕ → ℕ → ℕ → List Parcel → Seen
 seen_rollback_ask v p q k label rest =
-    if must_roll (v.people p).calls q label then
+    if must_roll (v.states p).calls q label then
     seen_settling (seen_joining_rollback v (with_rest v.channel q p rest) p k (Some q) (at_one q (Some label) no_note)) p k
     else seen_replying v p q k true rest
 
 -- p, in no instance, takes q's ask to join checkpoint k
 abbrev pub seen_checkpoint_ask : Seen → ℕ → ℕ → Bool → ℕ → ℕ → List Parcel → Seen
 seen_checkpoint_ask v p q able k label rest =
-    if not (must_take (v.people p).calls q label) then seen_replying v p q k true rest
-    else if not (able && (v.people p).up) then seen_unwilling v p q k (unable_cause (v.people p).up) rest
+    if not (must_take (v.states p).calls q label) then seen_replying v p q k true rest
+    else if not (able && (v.states p).up) then seen_unwilling v p q k (unable_cause (v.states p).up) rest
     else seen_settling (seen_joining_checkpoint v (with_rest v.channel q p rest) p k (Some q)) p k
 
 -- p takes q's ask to join k, a rollback or not: a member is willing and notes the label, who is in another instance is
 -- unwilling
 abbrev pub seen_ask : Seen → ℕ → ℕ → Bool → ℕ → Bool → ℕ → List Parcel → Seen
 seen_ask v p q able k roll label rest =
-    if (v.people p).inst == k then seen_replying (seen_member_ask v roll p q label) p q k true rest
-    else if not ((v.people p).inst == 0) then seen_unwilling v p q k (Busy (v.people p).inst) rest
+    if (v.states p).inst == k then seen_replying (seen_member_ask v roll p q label) p q k true rest
+    else if not ((v.states p).inst == 0) then seen_unwilling v p q k (Busy (v.states p).inst) rest
     else if roll then seen_rollback_ask v p q k label rest
     else seen_checkpoint_ask v p q able k label rest
 
 -- p is in a rollback
 abbrev pub is_seen_ready : Seen → ℕ → Bool
-is_seen_ready v p = not ((v.people p).inst == 0) && (v.people p).part.is_rollback
+is_seen_ready v p = not ((v.states p).inst == 0) && (v.states p).part.is_rollback
 
 -- p takes what is in front in the channel from q
 abbrev pub seen_front : Seen → ℕ → ℕ → Bool → List Parcel → Seen
@@ -49,8 +49,8 @@ seen_front v p q able [] = v
 seen_front v p q able (App label m body ∷ rest) =
     if is_seen_ready v p then seen_holding v p q (App label m body) rest else seen_arrival v (with_rest v.channel q p rest) v.held p q label m body
 seen_front v p q able (Ask k kind label ∷ rest) = seen_ask v p q able k (is_rollback_kind (Some kind)) label rest
-seen_front v p q able (Reply k w ∷ rest) = if (v.people p).part.awaited == 0 then seen_without_front v p q rest else seen_settling (seen_reply v p q w rest) p k
-seen_front v p q able (Decide k c ∷ rest) = if (v.people p).inst == k then seen_closing (seen_without_front v p q rest) p k c else seen_without_front v p q rest
+seen_front v p q able (Reply k w ∷ rest) = if (v.states p).part.awaited == 0 then seen_without_front v p q rest else seen_settling (seen_reply v p q w rest) p k
+seen_front v p q able (Decide k c ∷ rest) = if (v.states p).inst == k then seen_closing (seen_without_front v p q rest) p k c else seen_without_front v p q rest
 
 -- p, in no rollback, takes its next parcel of q: the first message that it holds comes before the channel
 abbrev pub seen_take : Seen → ℕ → ℕ → Bool → List Parcel → Seen
@@ -68,17 +68,17 @@ seen_beginning v p true = seen_settling (seen_joining_rollback (seen_began v p t
 -- a command to begin, of a process in no instance
 abbrev pub seen_begin_command : Seen → ℕ → Bool → Bool → Seen
 seen_begin_command v p true able = seen_beginning v p true
-seen_begin_command v p false able = if able && (v.people p).up then seen_beginning v p false else seen_refusal v p verb.Checkpoint (unable_cause (v.people p).up)
+seen_begin_command v p false able = if able && (v.states p).up then seen_beginning v p false else seen_refusal v p verb.Checkpoint (unable_cause (v.states p).up)
 
 -- one step: a send waits while its process is in an instance, and any other command is refused there; who is in a rollback
 -- takes from the channel
 abbrev pub transition : Seen → Step → Seen
 transition v (Send p q body) =
-    if (nat_lt p v.processes && nat_lt q v.processes) && ((v.people p).inst == 0 && not (q == p)) then
-    (if (v.people p).up then seen_sending v p q body else seen_refusal v p verb.Send Down)
+    if (nat_lt p v.processes && nat_lt q v.processes) && ((v.states p).inst == 0 && not (q == p)) then
+    (if (v.states p).up then seen_sending v p q body else seen_refusal v p verb.Send Down)
     else v
-transition v (Begin p roll able) = if (v.people p).inst == 0 then seen_begin_command v p roll able else seen_refusal v p (verb_for roll) (Busy (v.people p).inst)
-transition v (Fail p) = if (v.people p).up then seen_failing v p else seen_refusal v p verb.Fail Down
+transition v (Begin p roll able) = if (v.states p).inst == 0 then seen_begin_command v p roll able else seen_refusal v p (verb_for roll) (Busy (v.states p).inst)
+transition v (Fail p) = if (v.states p).up then seen_failing v p else seen_refusal v p verb.Fail Down
 transition v (Take p q able) = if is_seen_ready v p then seen_front v p q able (v.channel q p) else seen_take v p q able (v.held q p)
 
 -- some steps, one after another
@@ -90,7 +90,7 @@ run_seen v (x ∷ xs) = run_seen (transition v x) xs
 abbrev pub opening_seen : ℕ → ℕ → Seen
 opening_seen n first = record {
   processes = n;
-  people = λ p. record { calls = []; used = first; inst = 0; part = no_part; up = true };
+  states = λ p. record { calls = []; used = first; inst = 0; part = no_part; up = true };
   channel = λ p q. [];
   held = λ p q. [];
   kept = λ p q. [];

@@ -17,7 +17,7 @@ ghost use Rattle.kt_protocol.specs.WorkedRuns.{object_that_is_not_saved_steps, o
 ghost use Rattle.kt_closing.specs.WorkedRuns.{receives_before_closing};
 ghost use Rattle.kt_closing.specs.LateSteps.{late_run, late_step};
 ghost use Rattle.kt_seen.specs.Labelling.{labelling};
-ghost use Rattle.kt_seen.specs.Seen.{SeenLists, SeenPerson, Seen, no_part, seen};
+ghost use Rattle.kt_seen.specs.Seen.{SeenLists, SeenProcess, Seen, no_part, seen};
 ghost use Rattle.kt_seen.specs.ListChanges.{with_asks_where, with_parcel, with_rest};
 ghost use Rattle.kt_seen.specs.CallTests.{is_asked_in_checkpoint, is_asked_in_rollback, must_take, must_roll};
 ghost use Rattle.kt_seen.specs.SeenClosing.{seen_settling};
@@ -43,14 +43,14 @@ pub fn seen_runs()
 pub fn calls_of_runs()
     // Tables answer for the list of calls of each process, also after one more step.
     ensures speaks { (n first : ℕ) (steps : List Step) (p : ℕ) →
-        Speaks (((seen first (late_run (opening n) steps)).people p).calls) }
+        Speaks (((seen first (late_run (opening n) steps)).states p).calls) }
     ensures speaks_next { (n first : ℕ) (steps : List Step) (x : Step) (p : ℕ) →
-        Speaks (((transition (seen first (late_run (opening n) steps)) x).people p).calls) }
+        Speaks (((transition (seen first (late_run (opening n) steps)) x).states p).calls) }
 
     // What the state knows of a process's messages, as labels, is what tables keep of that list.
     ensures table_labels { (n first : ℕ) (steps : List Step) (p : ℕ) →
         HasTableLabels (labelling first (late_run (opening n) steps).log).label
-        (((seen first (late_run (opening n) steps)).people p).calls) (late_run (opening n) steps) p }
+        (((seen first (late_run (opening n) steps)).states p).calls) (late_run (opening n) steps) p }
 
     // Labels of messages of one sender are in the order of their numbers.
     ensures order { (n first : ℕ) (steps : List Step) (m k p q s : ℕ) (b d : ℤ) →
@@ -93,22 +93,22 @@ pub fn parts_of_runs()
 
     // Whom a process in no instance would ask is one of them.
     ensures would_ask_in_checkpoint { (n first : ℕ) (steps : List Step) (p q : ℕ) →
-        ((seen first (late_run (opening n) steps)).people p).inst ≡ 0 →
-        is_asked_in_checkpoint (((seen first (late_run (opening n) steps)).people p).calls) q ≡ true → q < n }
+        ((seen first (late_run (opening n) steps)).states p).inst ≡ 0 →
+        is_asked_in_checkpoint (((seen first (late_run (opening n) steps)).states p).calls) q ≡ true → q < n }
     ensures would_ask_in_rollback { (n first : ℕ) (steps : List Step) (p q : ℕ) →
-        ((seen first (late_run (opening n) steps)).people p).inst ≡ 0 →
-        is_asked_in_rollback (((seen first (late_run (opening n) steps)).people p).calls) q ≡ true → q < n }
+        ((seen first (late_run (opening n) steps)).states p).inst ≡ 0 →
+        is_asked_in_rollback (((seen first (late_run (opening n) steps)).states p).calls) q ≡ true → q < n }
 
     // A process in no instance has no part.
     ensures no_part { (n first : ℕ) (steps : List Step) (p : ℕ) →
-        ((seen first (late_run (opening n) steps)).people p).inst ≡ 0 →
-        ((seen first (late_run (opening n) steps)).people p).part ≡ no_part }
+        ((seen first (late_run (opening n) steps)).states p).inst ≡ 0 →
+        ((seen first (late_run (opening n) steps)).states p).part ≡ no_part }
 
     // Those that a process asked, and the one that it answers, are processes.
     ensures asked { (n first : ℕ) (steps : List Step) (p q : ℕ) →
-        ((seen first (late_run (opening n) steps)).people p).part.asked q ≡ true → q < n }
+        ((seen first (late_run (opening n) steps)).states p).part.asked q ≡ true → q < n }
     ensures parent { (n first : ℕ) (steps : List Step) (p to : ℕ) →
-        ((seen first (late_run (opening n) steps)).people p).part.parent ≡ Some to → to < n }
+        ((seen first (late_run (opening n) steps)).states p).part.parent ≡ Some to → to < n }
 {}
 
 /// For every log: the labels and the bodies of its messages, and the last label that each process used.
@@ -155,17 +155,17 @@ pub fn steps_in_one_piece()
         with_parcel channel p q x ≡ at_pair p q (channel p q ++ x ∷ []) channel }
     ensures with_rest { (channel : SeenLists) (q p : ℕ) (x : Parcel) (rest : List Parcel) →
         channel q p ≡ x ∷ rest → with_rest channel q p rest ≡ at_pair q p (drop 1 (channel q p)) channel }
-    ensures settled { (v : Seen) (p k : ℕ) (y : SeenPerson) →
-        seen_settling (record v { people = at_one p y v.people }) p k ≡ settled v p k y }
+    ensures settled { (v : Seen) (p k : ℕ) (y : SeenProcess) →
+        seen_settling (record v { states = at_one p y v.states }) p k ≡ settled v p k y }
 {}
 
 /// Runs that were worked out by hand leave what they have to, where each process's labels begin at 101.
 pub fn worked_runs()
     // Two senders' first messages have the same label. The one that was received before the tentative checkpoint is marked.
     ensures keeps_older { (run_seen (opening_seen 3 100) receives_before_closing).kept 1 0 ≡ App 101 1 (pos 5) ∷ [] }
-    ensures calls { ((run_seen (opening_seen 3 100) receives_before_closing).people 0).calls
+    ensures calls { ((run_seen (opening_seen 3 100) receives_before_closing).states 0).calls
         ≡ received 1 101 ∷ sent 1 101 ∷ on_tentative ∷ received 2 101 ∷ [] }
-    ensures marks { ((run_seen (opening_seen 3 100) receives_before_closing).people 0).part.marks 1 ≡ 1 }
+    ensures marks { ((run_seen (opening_seen 3 100) receives_before_closing).states 0).part.marks 1 ≡ 1 }
 
     // Once 0 closes, what is marked is gone, and what was received since stays.
     ensures forgets_marked { (run_seen (opening_seen 3 100) (receives_before_closing ++ Take 0 1 true ∷ [])).kept 1 0 ≡ [] }
@@ -175,8 +175,8 @@ pub fn worked_runs()
     ensures asks { (run_seen (opening_seen 3 100) asks_to_roll_back).channel 0 1 ≡ App 102 12 (pos 9) ∷ Ask 2 Rollback 101 ∷ [] }
 
     // Who joins by it notes this label, and awaits one reply.
-    ensures notes { ((run_seen (opening_seen 3 100) notes_label).people 1).part.noted 0 ≡ Some 101 }
-    ensures awaits { ((run_seen (opening_seen 3 100) notes_label).people 1).part.awaited ≡ 1 }
+    ensures notes { ((run_seen (opening_seen 3 100) notes_label).states 1).part.noted 0 ≡ Some 101 }
+    ensures awaits { ((run_seen (opening_seen 3 100) notes_label).states 1).part.awaited ≡ 1 }
 
     // Once it closes, it holds what was kept, but for what is above the noted label.
     ensures puts_back { (run_seen (opening_seen 3 100) puts_back).held 2 1 ≡ App 101 10 (pos 6) ∷ [] }

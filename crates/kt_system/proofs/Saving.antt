@@ -6,28 +6,28 @@ use Rattle.kt_base.specs.declared.words.Kind.TheVariants as kind
 use Rattle.kt_fifo.specs.Channels.{channel}
 use Rattle.kt_fifo.specs.declared.parcels.Parcel.{Parcel}
 use Rattle.kt_fifo.specs.declared.parcels.Parcel.TheVariants.{App, Ask, Reply, Decide}
-use Rattle.kt_process.specs.Persons.{Person, is_ready, inst_of}
-use Rattle.kt_system.specs.Systems.{Whole, person}
+use Rattle.kt_process.specs.ProcessStates.{ProcessState, is_ready, inst_of}
+use Rattle.kt_system.specs.Systems.{Whole, state_of}
 use Rattle.kt_system.specs.Reads.{next_parcel, saves_by, would_save}
 
 -- in a rollback a process takes what is sent
-pub next_ready : (w : Whole) (at from : ℕ) → is_ready (person w at).side ≡ true → next_parcel w at from ≡ slice_get (channel w.wires from at) 0
+pub next_ready : (w : Whole) (at from : ℕ) → is_ready (state_of w at).side ≡ true → next_parcel w at from ≡ slice_get (channel w.channels from at) 0
 unfolding next_parcel
-next_ready w at from e = ap (λ (b : Bool). option_or (if b then None else slice_get (channel w.held from at) 0) (slice_get (channel w.wires from at) 0)) e
+next_ready w at from e = ap (λ (b : Bool). option_or (if b then None else slice_get (channel w.held from at) 0) (slice_get (channel w.channels from at) 0)) e
 
 -- else what is held for it
-pub next_held : (w : Whole) (at from : ℕ) (y : Parcel) → is_ready (person w at).side ≡ false → slice_get (channel w.held from at) 0 ≡ Some y → next_parcel w at from ≡ Some y
+pub next_held : (w : Whole) (at from : ℕ) (y : Parcel) → is_ready (state_of w at).side ≡ false → slice_get (channel w.held from at) 0 ≡ Some y → next_parcel w at from ≡ Some y
 unfolding next_parcel
 next_held w at from y e h =
-    ap (λ (b : Bool). option_or (if b then None else slice_get (channel w.held from at) 0) (slice_get (channel w.wires from at) 0)) e
-    ∙ ap (λ (o : Option Parcel). option_or o (slice_get (channel w.wires from at) 0)) h
+    ap (λ (b : Bool). option_or (if b then None else slice_get (channel w.held from at) 0) (slice_get (channel w.channels from at) 0)) e
+    ∙ ap (λ (o : Option Parcel). option_or o (slice_get (channel w.channels from at) 0)) h
 
 -- and then what is sent
-pub next_sent : (w : Whole) (at from : ℕ) → is_ready (person w at).side ≡ false → slice_get (channel w.held from at) 0 ≡ None → next_parcel w at from ≡ slice_get (channel w.wires from at) 0
+pub next_sent : (w : Whole) (at from : ℕ) → is_ready (state_of w at).side ≡ false → slice_get (channel w.held from at) 0 ≡ None → next_parcel w at from ≡ slice_get (channel w.channels from at) 0
 unfolding next_parcel
 next_sent w at from e h =
-    ap (λ (b : Bool). option_or (if b then None else slice_get (channel w.held from at) 0) (slice_get (channel w.wires from at) 0)) e
-    ∙ ap (λ (o : Option Parcel). option_or o (slice_get (channel w.wires from at) 0)) h
+    ap (λ (b : Bool). option_or (if b then None else slice_get (channel w.held from at) 0) (slice_get (channel w.channels from at) 0)) e
+    ∙ ap (λ (o : Option Parcel). option_or o (slice_get (channel w.channels from at) 0)) h
 
 no_test : (n u m : Bool) → (u && n) ≡ false → (n && (u && (true && m))) ≡ false
 no_test true true m e = absurd (cc (e))
@@ -35,7 +35,7 @@ no_test true false m e = refl
 no_test false u m e = refl
 
 -- where its object is down, or it is in an instance, none does
-saves_not : (x : Person) (from : ℕ) (y : Parcel) → (x.up && is_none (inst_of x.side)) ≡ false → saves_by x from y ≡ false
+saves_not : (x : ProcessState) (from : ℕ) (y : Parcel) → (x.up && is_none (inst_of x.side)) ≡ false → saves_by x from y ≡ false
 saves_not x from (App l m body) e = refl
 saves_not x from (Ask k kind.Checkpoint l) e = no_test (is_none (inst_of x.side)) x.up _ e
 saves_not x from (Ask k kind.Rollback l) e = refl
@@ -47,5 +47,5 @@ none_saves f None h = refl
 none_saves f (Some y) h = h y
 
 -- so the next one doesn't
-pub no_save : (w : Whole) (at from : ℕ) → ((person w at).up && is_none (inst_of (person w at).side)) ≡ false → would_save w at from ≡ false
-no_save w at from e = none_saves (saves_by (person w at) from) (next_parcel w at from) (λ y. saves_not (person w at) from y e)
+pub no_save : (w : Whole) (at from : ℕ) → ((state_of w at).up && is_none (inst_of (state_of w at).side)) ≡ false → would_save w at from ≡ false
+no_save w at from e = none_saves (saves_by (state_of w at) from) (next_parcel w at from) (λ y. saves_not (state_of w at) from y e)

@@ -9,28 +9,28 @@ use Rattle.kt_fifo.specs.Channels.{channel, at_pair}
 use Rattle.kt_fifo.specs.declared.parcels.Parcel.{Parcel}
 use Rattle.kt_spacetime.specs.Logs.{Log}
 use Rattle.kt_spacetime.specs.declared.event.Event.{Event}
-use Rattle.kt_seen.specs.Seen.{SeenPerson, SeenLists, Seen}
+use Rattle.kt_seen.specs.Seen.{SeenProcess, SeenLists, Seen}
 use Rattle.kt_seen.specs.ListChanges.{with_parcel, with_rest}
-use Rattle.kt_process.specs.Persons.{Person}
+use Rattle.kt_process.specs.ProcessStates.{ProcessState}
 use Rattle.kt_process.specs.Shown.{IsSeenAs}
-use Rattle.kt_system.specs.Systems.{Whole, person, nobody, IsSound, IsSameSystem}
+use Rattle.kt_system.specs.Systems.{Whole, state_of, no_process, IsSound, IsSameSystem}
 use Rattle.kt_system.specs.Shown.{ShowsState, IsTurned, turned_to, with_row}
-use Rattle.kt_system.proofs.Turns.{person_at, tables_at}
+use Rattle.kt_system.proofs.Turns.{state_at, tables_at}
 
 -- the same processes show the same
-people_same : (a b : Whole) → b.people ≡ a.people → (p : ℕ) → person b p ≡ person a p
-unfolding person
-people_same a b e p = ap (λ (people : List Person). get_or people p nobody) e
+states_same : (a b : Whole) → b.states ≡ a.states → (p : ℕ) → state_of b p ≡ state_of a p
+unfolding state_of
+states_same a b e p = ap (λ (states : List ProcessState). get_or states p no_process) e
 
 -- all is as it was but the lists, the log and the number of instances
-pub shows_parts : (a b seen : Whole) (v : Seen) (channels held kept : SeenLists) (log : List Event) (begun : ℕ) → a ≡ seen → b.size ≡ a.size → b.people ≡ a.people → channel b.wires ≡ channels → channel b.held ≡ held →
+pub shows_parts : (a b seen : Whole) (v : Seen) (channels held kept : SeenLists) (log : List Event) (begun : ℕ) → a ≡ seen → b.size ≡ a.size → b.states ≡ a.states → channel b.channels ≡ channels → channel b.held ≡ held →
     channel b.kept ≡ kept → b.rows.rows ≡ log → b.begun ≡ begun → ShowsState seen v → ShowsState b (record v { channel = channels; held = held; kept = kept; log = log; begun = begun })
-shows_parts a b seen v channels held kept log begun e s people c f k l g h =
+shows_parts a b seen v channels held kept log begun e s states c f k l g h =
     let i = subst (λ (w : Whole). ShowsState w v) (sym e) h in
     record {
       processes = s ∙ i.processes;
-      people = λ p b1. subst (λ (x : Person). IsSeenAs x (v.people p)) (sym (people_same a b people p)) (i.people p (omega (arith, b1, s)));
-      wires = c;
+      states = λ p b1. subst (λ (x : ProcessState). IsSeenAs x (v.states p)) (sym (states_same a b states p)) (i.states p (omega (arith, b1, s)));
+      channels = c;
       held = f;
       kept = k;
       log = l;
@@ -41,8 +41,8 @@ shows_parts a b seen v channels held kept log begun e s people c f k l g h =
 pub shows_same : (a b : Whole) (v : Seen) → IsSameSystem b a → ShowsState a v → ShowsState b v
 shows_same a b v s h = record {
   processes = s.size ∙ h.processes;
-  people = λ p b1. subst (λ (x : Person). IsSeenAs x (v.people p)) (sym (people_same a b s.people p)) (h.people p (let z = s.size in omega (arith, b1, z)));
-  wires = s.wires ∙ h.wires;
+  states = λ p b1. subst (λ (x : ProcessState). IsSeenAs x (v.states p)) (sym (states_same a b s.states p)) (h.states p (let z = s.size in omega (arith, b1, z)));
+  channels = s.channels ∙ h.channels;
   held = s.held ∙ h.held;
   kept = s.kept ∙ h.kept;
   log = s.rows ∙ h.log;
@@ -56,15 +56,15 @@ at_other : {X : Type 0} (p u : ℕ) (x : X) (f : ℕ → X) → u ≢ p → at_o
 at_other p u x f n = grind (arith, nat_tests)
 
 -- one process has changed
-pub shows_turned : (a b : Whole) (v : Seen) (p : ℕ) (y : SeenPerson) → IsTurned a b p → IsSeenAs (person b p) y → ShowsState a v → ShowsState b (turned_to v p y)
+pub shows_turned : (a b : Whole) (v : Seen) (p : ℕ) (y : SeenProcess) → IsTurned a b p → IsSeenAs (state_of b p) y → ShowsState a v → ShowsState b (turned_to v p y)
 shows_turned a b v p y t turn h = record {
   processes = t.size ∙ h.processes;
-  people = λ u l. elim (cases_eq u p) [
-    | inl e ↦ subst (λ (z : ℕ). IsSeenAs (person b z) (at_one p y v.people z)) (sym e) (subst (λ (z : SeenPerson). IsSeenAs (person b p) z) (sym (at_same p y v.people)) turn)
-    | inr n ↦ subst (λ (x : Person). IsSeenAs x (at_one p y v.people u)) (sym (t.others u n))
-        (subst (λ (z : SeenPerson). IsSeenAs (person a u) z) (sym (at_other p u y v.people n)) (h.people u (let z = t.size in omega (arith, l, z))))
+  states = λ u l. elim (cases_eq u p) [
+    | inl e ↦ subst (λ (z : ℕ). IsSeenAs (state_of b z) (at_one p y v.states z)) (sym e) (subst (λ (z : SeenProcess). IsSeenAs (state_of b p) z) (sym (at_same p y v.states)) turn)
+    | inr n ↦ subst (λ (x : ProcessState). IsSeenAs x (at_one p y v.states u)) (sym (t.others u n))
+        (subst (λ (z : SeenProcess). IsSeenAs (state_of a u) z) (sym (at_other p u y v.states n)) (h.states u (let z = t.size in omega (arith, l, z))))
   ];
-  wires = ap channel t.wires ∙ h.wires;
+  channels = ap channel t.channels ∙ h.channels;
   held = ap channel t.held ∙ h.held;
   kept = ap channel t.kept ∙ h.kept;
   log = ap (λ (r : Log). r.rows) t.rows ∙ h.log;
@@ -72,12 +72,12 @@ shows_turned a b v p y t turn h = record {
 }
 
 -- who stands elsewhere is who stood there
-pub is_turned : (a b seen : Whole) (p i : ℕ) (y : Person) → a ≡ seen → i ≡ p → b.people ≡ set a.people i y → b.size ≡ a.size → b.wires ≡ a.wires → b.held ≡ a.held → b.kept ≡ a.kept → b.rows ≡ a.rows → b.begun ≡ a.begun → b.put ≡ a.put → IsTurned seen b p
-unfolding person
-is_turned a b seen p i y e j people s w h k r g t = subst (λ (z : Whole). IsTurned z b p) e (record {
+pub is_turned : (a b seen : Whole) (p i : ℕ) (y : ProcessState) → a ≡ seen → i ≡ p → b.states ≡ set a.states i y → b.size ≡ a.size → b.channels ≡ a.channels → b.held ≡ a.held → b.kept ≡ a.kept → b.rows ≡ a.rows → b.begun ≡ a.begun → b.put ≡ a.put → IsTurned seen b p
+unfolding state_of
+is_turned a b seen p i y e j states s w h k r g t = subst (λ (z : Whole). IsTurned z b p) e (record {
   size = s;
-  others = λ q n. ap (λ (l : List Person). get_or l q nobody) people ∙ (ap (λ (z : ℕ). get_or (set a.people z y) q nobody) j ∙ get_or-set_other a.people p q y nobody n);
-  wires = w;
+  others = λ q n. ap (λ (l : List ProcessState). get_or l q no_process) states ∙ (ap (λ (z : ℕ). get_or (set a.states z y) q no_process) j ∙ get_or-set_other a.states p q y no_process n);
+  channels = w;
   held = h;
   kept = k;
   rows = r;
@@ -94,34 +94,34 @@ unfolding with_rest
 popped_is f q p rest = fun_ext (λ u. fun_ext (λ v. grind (arith, nat_tests)))
 
 -- only the channels change
-pub shows_wires : (a b seen : Whole) (v : Seen) (F : SeenLists → SeenLists) → a ≡ seen → b.size ≡ a.size → b.people ≡ a.people → channel b.held ≡ channel a.held → channel b.kept ≡ channel a.kept → b.rows.rows ≡ a.rows.rows → b.begun ≡ a.begun →
-    channel b.wires ≡ F (channel a.wires) → ShowsState seen v → ShowsState b (record v { channel = F v.channel })
-shows_wires a b seen v F e s people held kept rows begun w h =
+pub shows_channels : (a b seen : Whole) (v : Seen) (F : SeenLists → SeenLists) → a ≡ seen → b.size ≡ a.size → b.states ≡ a.states → channel b.held ≡ channel a.held → channel b.kept ≡ channel a.kept → b.rows.rows ≡ a.rows.rows → b.begun ≡ a.begun →
+    channel b.channels ≡ F (channel a.channels) → ShowsState seen v → ShowsState b (record v { channel = F v.channel })
+shows_channels a b seen v F e s states held kept rows begun w h =
     let i = subst (λ (z : Whole). ShowsState z v) (sym e) h in
-    shows_parts a b seen v (F v.channel) v.held v.kept v.log v.begun e s people (w ∙ ap F i.wires) (held ∙ i.held) (kept ∙ i.kept) (rows ∙ i.log) (begun ∙ i.begun) h
+    shows_parts a b seen v (F v.channel) v.held v.kept v.log v.begun e s states (w ∙ ap F i.channels) (held ∙ i.held) (kept ∙ i.kept) (rows ∙ i.log) (begun ∙ i.begun) h
 
 -- only the log changes, by one row
-pub shows_log : (a b seen : Whole) (v : Seen) (row : Event) → a ≡ seen → b.size ≡ a.size → b.people ≡ a.people → b.wires ≡ a.wires → b.held ≡ a.held → b.kept ≡ a.kept → b.begun ≡ a.begun →
+pub shows_log : (a b seen : Whole) (v : Seen) (row : Event) → a ≡ seen → b.size ≡ a.size → b.states ≡ a.states → b.channels ≡ a.channels → b.held ≡ a.held → b.kept ≡ a.kept → b.begun ≡ a.begun →
     b.rows.rows ≡ a.rows.rows ++ row ∷ [] → ShowsState seen v → ShowsState b (with_row v row)
-shows_log a b seen v row e s people wires held kept begun rows h =
+shows_log a b seen v row e s states channels held kept begun rows h =
     let i = subst (λ (z : Whole). ShowsState z v) (sym e) h in
-    shows_parts a b seen v v.channel v.held v.kept (v.log ++ row ∷ []) v.begun e s people (ap channel wires ∙ i.wires) (ap channel held ∙ i.held) (ap channel kept ∙ i.kept) (rows ∙ ap (λ (l : List Event). l ++ row ∷ []) i.log) (begun ∙ i.begun) h
+    shows_parts a b seen v v.channel v.held v.kept (v.log ++ row ∷ []) v.begun e s states (ap channel channels ∙ i.channels) (ap channel held ∙ i.held) (ap channel kept ∙ i.kept) (rows ∙ ap (λ (l : List Event). l ++ row ∷ []) i.log) (begun ∙ i.begun) h
 
 -- who stands at a place, in the machine
-pub stood : (a seen : Whole) (p i : ℕ) (x : Person) (v : Seen) → a ≡ seen → IsSound a → p < seen.size → i ≡ p → x ≡ get_or a.people i x → ShowsState seen v → IsSeenAs x (v.people p)
-stood a seen p i x v e sound b j was h = subst (λ (z : Person). IsSeenAs z (v.people p)) (sym (person_at a seen p i x e sound b j was)) (h.people p b)
+pub stood : (a seen : Whole) (p i : ℕ) (x : ProcessState) (v : Seen) → a ≡ seen → IsSound a → p < seen.size → i ≡ p → x ≡ get_or a.states i x → ShowsState seen v → IsSeenAs x (v.states p)
+stood a seen p i x v e sound b j was h = subst (λ (z : ProcessState). IsSeenAs z (v.states p)) (sym (state_at a seen p i x e sound b j was)) (h.states p b)
 
-pub placed : (a b seen : Whole) (p i : ℕ) (y : Person) → a ≡ seen → IsSound a → p < seen.size → i ≡ p → b.people ≡ set a.people i y → person b p ≡ y
-unfolding person
-placed a b seen p i y e sound l j people =
-    ap (λ (z : List Person). get_or z p nobody) people
-    ∙ (ap (λ (z : ℕ). get_or (set a.people z y) p nobody) j ∙ get_or-set_same a.people p y nobody (let m = ap (λ (w : Whole). w.size) e in let z = sound.people in omega arith))
+pub placed : (a b seen : Whole) (p i : ℕ) (y : ProcessState) → a ≡ seen → IsSound a → p < seen.size → i ≡ p → b.states ≡ set a.states i y → state_of b p ≡ y
+unfolding state_of
+placed a b seen p i y e sound l j states =
+    ap (λ (z : List ProcessState). get_or z p no_process) states
+    ∙ (ap (λ (z : ℕ). get_or (set a.states z y) p no_process) j ∙ get_or-set_same a.states p y no_process (let m = ap (λ (w : Whole). w.size) e in let z = sound.states in omega arith))
 
 -- what is so of a process before and after its turn, in the system
-pub in_system : (P : Person → Person → Type 0) (a b seen : Whole) (p i : ℕ) (x y : Person) → a ≡ seen → IsSound a → p < seen.size → i ≡ p → x ≡ get_or a.people i x → b.people ≡ set a.people i y → P x y → P (person seen p) (person b p)
-in_system P a b seen p i x y e sound l j was people h =
-    subst (λ (z : Person). P z (person b p)) (person_at a seen p i x e sound l j was) (subst (λ (z : Person). P x z) (sym (placed a b seen p i y e sound l j people)) h)
+pub in_system : (P : ProcessState → ProcessState → Type 0) (a b seen : Whole) (p i : ℕ) (x y : ProcessState) → a ≡ seen → IsSound a → p < seen.size → i ≡ p → x ≡ get_or a.states i x → b.states ≡ set a.states i y → P x y → P (state_of seen p) (state_of b p)
+in_system P a b seen p i x y e sound l j was states h =
+    subst (λ (z : ProcessState). P z (state_of b p)) (state_at a seen p i x e sound l j was) (subst (λ (z : ProcessState). P x z) (sym (placed a b seen p i y e sound l j states)) h)
 
 -- as many processes as its tables have
-pub sized : (a seen : Whole) (p i : ℕ) (x : Person) (v : Seen) → a ≡ seen → IsSound a → p < seen.size → i ≡ p → x ≡ get_or a.people i x → ShowsState seen v → x.tables.processes ≡ v.processes
-sized a seen p i x v e sound b j was h = ap (λ (z : Person). z.tables.processes) (person_at a seen p i x e sound b j was) ∙ (tables_at a seen p e sound b ∙ h.processes)
+pub sized : (a seen : Whole) (p i : ℕ) (x : ProcessState) (v : Seen) → a ≡ seen → IsSound a → p < seen.size → i ≡ p → x ≡ get_or a.states i x → ShowsState seen v → x.tables.processes ≡ v.processes
+sized a seen p i x v e sound b j was h = ap (λ (z : ProcessState). z.tables.processes) (state_at a seen p i x e sound b j was) ∙ (tables_at a seen p e sound b ∙ h.processes)

@@ -4,11 +4,11 @@ use Rattle.std.specs.Option.{option_or}
 use Rattle.std.proofs.Common.{◌≡◌, ◌<◌, ◌≤◌, ℕ, Bool, true, false, List, [], ◌∷◌, refl, arith, sym, ap, subst, inl, inr, ◌∙◌}
 use Rattle.std.proofs.lemmas.Bool.{cases_lt, cases_eq, ltb-true, or_cases, or_left, or_right, and_from, and_parts, false_from_ne_true}
 use Rattle.kt_base.specs.Sets.{has}
-use Rattle.kt_fifo.specs.Channels.{Wires, channel}
+use Rattle.kt_fifo.specs.Channels.{ChannelLists, channel}
 use Rattle.kt_fifo.specs.Queues.{Queue, no_queue, has_parcel}
 use Rattle.kt_fifo.specs.declared.parcels.Parcel.{Parcel}
-use Rattle.kt_process.specs.Persons.{is_ready}
-use Rattle.kt_system.specs.Systems.{Whole, person}
+use Rattle.kt_process.specs.ProcessStates.{is_ready}
+use Rattle.kt_system.specs.Systems.{Whole, state_of}
 use Rattle.kt_system.specs.Reads.{next_parcel, can_take, IsNextTake, HasNoTake}
 use Rattle.kt_system.specs.Takes.{is_sent, is_held, WithSome, IsFirst, lesser}
 
@@ -18,7 +18,7 @@ both_tests true false x e = absurd (cc)
 both_tests false b x e = absurd (cc)
 
 -- a list that has a parcel is between processes that there are
-pub pair_within : (w : Wires) (from to : ℕ) → has_parcel (channel w from to) ≡ true → (from < w.processes) × (to < w.processes)
+pub pair_within : (w : ChannelLists) (from to : ℕ) → has_parcel (channel w from to) ≡ true → (from < w.processes) × (to < w.processes)
 pair_within w from to e =
     let t = both_tests (nat_lt from w.processes) (nat_lt to w.processes) _ e in
     (ltb-true from w.processes t.0, ltb-true to w.processes t.1)
@@ -28,11 +28,11 @@ none_there [] f = refl
 none_there (x ∷ xs) f = f refl
 
 -- nothing is in a list to a process that there is not
-pub past_end : (w : Wires) (from to : ℕ) → w.processes ≤ to → channel w from to ≡ []
+pub past_end : (w : ChannelLists) (from to : ℕ) → w.processes ≤ to → channel w from to ≡ []
 past_end w from to h = none_there (channel w from to) (λ e. absurd (let t = pair_within w from to e in omega arith))
 
 -- no list has a parcel, if none does between processes that there are
-pub empty_everywhere : (w : Wires) → ((p q : ℕ) → p < w.processes → q < w.processes → channel w p q ≡ []) → (p q : ℕ) → channel w p q ≡ []
+pub empty_everywhere : (w : ChannelLists) → ((p q : ℕ) → p < w.processes → q < w.processes → channel w p q ≡ []) → (p q : ℕ) → channel w p q ≡ []
 empty_everywhere w h p q = none_there (channel w p q) (λ e. let t = pair_within w p q e in h p q t.0 t.1)
 
 taken_if : (r : Bool) (held sent : List Parcel) → is_some (option_or (if r then None else slice_get held 0) (slice_get sent 0)) ≡ (has_parcel sent || (not r && has_parcel held))
@@ -46,7 +46,7 @@ taken_if false (y ∷ ys) (x ∷ xs) = refl
 -- what can be taken is in the channel, or held
 pub can_take_either : (w : Whole) (at from : ℕ) → can_take w at from ≡ (is_sent w at from || is_held w at from)
 unfolding next_parcel
-can_take_either w at from = taken_if (is_ready (person w at).side) (channel w.held from at) (channel w.wires from at)
+can_take_either w at from = taken_if (is_ready (state_of w at).side) (channel w.held from at) (channel w.channels from at)
 
 -- of those whose parcels are in channels, and of those whose parcels are held
 pub joined_is : (w : Whole) (at q sent held all : ℕ) → has all q ≡ (has sent q || has held q) → has sent q ≡ is_sent w at q → has held q ≡ is_held w at q → has all q ≡ can_take w at q
@@ -97,24 +97,24 @@ pub first_of_set : (test : ℕ → Bool) (set : ℕ) (r : Option ℕ) → ((q : 
 first_of_set test set None same m l n = λ q e. cc (same q, n q)
 first_of_set test set (Some p) same m l n = (sym (same p) ∙ m, λ q k e. cc (same q, l q k))
 
-receiver_first : (w : Whole) (set : ℕ) (r : Option ℕ) → ((to : ℕ) → has set to ≡ true → (from : ℕ) × (has_parcel (channel w.wires from to) ≡ true)) → ((from to : ℕ) → has set to ≡ false → channel w.wires from to ≡ []) →
+receiver_first : (w : Whole) (set : ℕ) (r : Option ℕ) → ((to : ℕ) → has set to ≡ true → (from : ℕ) × (has_parcel (channel w.channels from to) ≡ true)) → ((from to : ℕ) → has set to ≡ false → channel w.channels from to ≡ []) →
     IfSome r (λ p. has set p ≡ true) → IfSome r (λ p. (q : ℕ) → q < p → has set q ≡ false) → IfNone r ((q : ℕ) → has set q ≡ false) → IsFirst (WithSome (is_sent w)) r
 receiver_first w set None some none m l n = λ q s. cc (s.1, ap has_parcel (none s.0 q (n q)))
 receiver_first w set (Some p) some none m l n = (some p m, λ q k s. cc (s.1, ap has_parcel (none s.0 q (l q k))))
 
 -- the first of those to whom a parcel is in a channel
-pub first_receiver : (w seen : Whole) (set : ℕ) (r : Option ℕ) → w ≡ seen → ((to : ℕ) → has set to ≡ true → (from : ℕ) × (has_parcel (channel w.wires from to) ≡ true)) → ((from to : ℕ) → has set to ≡ false → channel w.wires from to ≡ []) →
+pub first_receiver : (w seen : Whole) (set : ℕ) (r : Option ℕ) → w ≡ seen → ((to : ℕ) → has set to ≡ true → (from : ℕ) × (has_parcel (channel w.channels from to) ≡ true)) → ((from to : ℕ) → has set to ≡ false → channel w.channels from to ≡ []) →
     IfSome r (λ p. has set p ≡ true) → IfSome r (λ p. (q : ℕ) → q < p → has set q ≡ false) → IfNone r ((q : ℕ) → has set q ≡ false) → IsFirst (WithSome (is_sent seen)) r
 first_receiver w seen set r v some none m l n = subst (λ (s : Whole). IsFirst (WithSome (is_sent s)) r) v (receiver_first w set r some none m l n)
 
-pub held_for : (w : Whole) (at from : ℕ) → is_ready (person w at).side ≡ false → has_parcel (channel w.held from at) ≡ true → is_held w at from ≡ true
+pub held_for : (w : Whole) (at from : ℕ) → is_ready (state_of w at).side ≡ false → has_parcel (channel w.held from at) ≡ true → is_held w at from ≡ true
 held_for w at from r e = and_from _ _ (ap not r) e
 
 pub not_held : (w : Whole) (at : ℕ) → ((from : ℕ) → channel w.held from at ≡ []) → ¬ WithSome (is_held w) at
-not_held w at e s = let t = and_parts (not (is_ready (person w at).side)) (has_parcel (channel w.held s.0 at)) s.1 in cc (t.1, ap has_parcel (e s.0))
+not_held w at e s = let t = and_parts (not (is_ready (state_of w at).side)) (has_parcel (channel w.held s.0 at)) s.1 in cc (t.1, ap has_parcel (e s.0))
 
-pub not_held_if_ready : (w : Whole) (at : ℕ) → is_ready (person w at).side ≡ true → ¬ WithSome (is_held w) at
-not_held_if_ready w at r s = let t = and_parts (not (is_ready (person w at).side)) (has_parcel (channel w.held s.0 at)) s.1 in cc (t.0, ap not r)
+pub not_held_if_ready : (w : Whole) (at : ℕ) → is_ready (state_of w at).side ≡ true → ¬ WithSome (is_held w) at
+not_held_if_ready w at r s = let t = and_parts (not (is_ready (state_of w at).side)) (has_parcel (channel w.held s.0 at)) s.1 in cc (t.0, ap not r)
 
 -- the least process that can take a parcel, with the least from which it can
 pub next_take_is : (w : Whole) (at from : ℕ) → at < w.size → from < w.size → IsFirst (WithSome (can_take w)) (Some at) → IsFirst (λ q. can_take w at q ≡ true) (Some from) → IsNextTake w at from

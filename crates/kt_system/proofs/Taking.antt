@@ -7,7 +7,7 @@ use Rattle.kt_fifo.specs.declared.parcels.Parcel.{Parcel}
 use Rattle.kt_fifo.specs.declared.parcels.Parcel.TheVariants.{App, Ask, Reply, Decide}
 use Rattle.kt_protocol.specs.States.{Take}
 use Rattle.kt_tables.specs.Calls.{Call, received, Speaks}
-use Rattle.kt_seen.specs.Seen.{SeenPerson, SeenLists, Seen}
+use Rattle.kt_seen.specs.Seen.{SeenProcess, SeenLists, Seen}
 use Rattle.kt_seen.specs.SeenMessages.{seen_arrival, seen_receiving, seen_dropping, seen_holding}
 use Rattle.kt_seen.specs.Transition.{transition, seen_front, seen_take, is_seen_ready}
 use Rattle.kt_system.proofs.Messages.{at_same, arrives_up}
@@ -22,17 +22,17 @@ no_front [] e = refl
 no_front (y ∷ xs) e = absurd (cc)
 
 -- the calls of who receives
-pub speaks_arrival : (v : Seen) (channels held : SeenLists) (p q l m : ℕ) (body : ℤ) → Speaks (((seen_arrival v channels held p q l m body).people p).calls) → (v.people p).up ≡ true → Speaks ((v.people p).calls ++ received q l ∷ [])
+pub speaks_arrival : (v : Seen) (channels held : SeenLists) (p q l m : ℕ) (body : ℤ) → Speaks (((seen_arrival v channels held p q l m body).states p).calls) → (v.states p).up ≡ true → Speaks ((v.states p).calls ++ received q l ∷ [])
 speaks_arrival v channels held p q l m body h u =
-    let y = record (v.people p) { calls = (v.people p).calls ++ received q l ∷ [] } in
-    subst (λ (z : List Call). Speaks z) (ap (λ (z : SeenPerson). z.calls) (at_same p y v.people))
-    (subst (λ (z : Seen). Speaks ((z.people p).calls)) (sym (arrives_up v channels held p q l m body u)) h)
+    let y = record (v.states p) { calls = (v.states p).calls ++ received q l ∷ [] } in
+    subst (λ (z : List Call). Speaks z) (ap (λ (z : SeenProcess). z.calls) (at_same p y v.states))
+    (subst (λ (z : Seen). Speaks ((z.states p).calls)) (sym (arrives_up v channels held p q l m body u)) h)
 
-pub speaks_front : (v : Seen) (p q : ℕ) (able : Bool) (l m : ℕ) (body : ℤ) (rest : List Parcel) → Speaks (((seen_front v p q able (App l m body ∷ rest)).people p).calls) → is_seen_ready v p ≡ false → (v.people p).up ≡ true →
-    Speaks ((v.people p).calls ++ received q l ∷ [])
+pub speaks_front : (v : Seen) (p q : ℕ) (able : Bool) (l m : ℕ) (body : ℤ) (rest : List Parcel) → Speaks (((seen_front v p q able (App l m body ∷ rest)).states p).calls) → is_seen_ready v p ≡ false → (v.states p).up ≡ true →
+    Speaks ((v.states p).calls ++ received q l ∷ [])
 speaks_front v p q able l m body rest h free u =
     speaks_arrival v (Rattle.kt_seen.specs.ListChanges.with_rest v.channel q p rest) v.held p q l m body
-    (subst (λ (b : Bool). Speaks (((if b then seen_holding v p q (App l m body) rest else seen_arrival v (Rattle.kt_seen.specs.ListChanges.with_rest v.channel q p rest) v.held p q l m body).people p).calls)) free h) u
+    (subst (λ (b : Bool). Speaks (((if b then seen_holding v p q (App l m body) rest else seen_arrival v (Rattle.kt_seen.specs.ListChanges.with_rest v.channel q p rest) v.held p q l m body).states p).calls)) free h) u
 
 -- who is ready takes from the channel; who is not, takes what is held first
 pub takes_ready : (v : Seen) (p q : ℕ) (able : Bool) → is_seen_ready v p ≡ true → seen_front v p q able (v.channel q p) ≡ transition v (Take p q able)

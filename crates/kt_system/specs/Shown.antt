@@ -9,7 +9,7 @@ use Rattle.kt_tables.specs.Peers.{IsCohort}
 use Rattle.kt_process.specs.Shown.{goes_on}
 use Rattle.kt_spacetime.specs.declared.event.Event.{Event}
 use Rattle.kt_fifo.specs.Channels.{channel}
-use Rattle.kt_seen.specs.Seen.{SeenPart, SeenPerson, SeenLists, Seen}
+use Rattle.kt_seen.specs.Seen.{SeenPart, SeenProcess, SeenLists, Seen}
 use Rattle.kt_seen.specs.ListChanges.{trims, with_asks_where, with_rest, with_parcel}
 use Rattle.kt_seen.specs.InOnePiece.{held_after_rollback, kept_after_rollback}
 use Rattle.kt_seen.specs.SeenClosing.{seen_settling, seen_deciding, seen_closing}
@@ -21,27 +21,27 @@ use Rattle.kt_fifo.specs.declared.parcels.Parcel.TheVariants as parcel
 use Rattle.kt_parts.specs.declared.actions.Action.{Action}
 use Rattle.kt_parts.specs.declared.actions.Action.TheVariants.{Nothing, Refuse, Join, Reply, Settle}
 use Rattle.kt_cuts.specs.Past.{at_one}
-use Rattle.kt_process.specs.Persons.{inst_of}
+use Rattle.kt_process.specs.ProcessStates.{inst_of}
 use Rattle.kt_process.specs.Shown.{IsSeenAs}
-use Rattle.kt_system.specs.Systems.{Whole, person}
+use Rattle.kt_system.specs.Systems.{Whole, state_of}
 
 -- its processes, its lists of parcels and its log are those of a state of the machine
 pub record ShowsState (w : Whole) (v : Seen) : Type 0 where
   pub processes : w.size ≡ v.processes
-  pub people : (p : ℕ) → p < w.size → IsSeenAs (person w p) (v.people p)
-  pub wires : channel w.wires ≡ v.channel
+  pub states : (p : ℕ) → p < w.size → IsSeenAs (state_of w p) (v.states p)
+  pub channels : channel w.channels ≡ v.channel
   pub held : channel w.held ≡ v.held
   pub kept : channel w.kept ≡ v.kept
   pub log : w.rows.rows ≡ v.log
   pub begun : w.begun ≡ v.begun
 
 -- a state of the machine in which one process is another one
-abbrev pub turned_to : Seen → ℕ → SeenPerson → Seen
-turned_to v p y = record v { people = at_one p y v.people }
+abbrev pub turned_to : Seen → ℕ → SeenProcess → Seen
+turned_to v p y = record v { states = at_one p y v.states }
 
 -- process p is in an instance
 abbrev pub IsInside : Whole → ℕ → Type 0
-IsInside w p = inst_of (person w p).side ≡ None → ⊥
+IsInside w p = inst_of (state_of w p).side ≡ None → ⊥
 
 -- with one row more
 abbrev pub with_row : Seen → Event → Seen
@@ -50,8 +50,8 @@ with_row v row = record v { log = v.log ++ row ∷ [] }
 -- process p alone may have changed
 pub record IsTurned (old new : Whole) (p : ℕ) : Type 0 where
   pub size : new.size ≡ old.size
-  pub others : (q : ℕ) → (q ≡ p → ⊥) → person new q ≡ person old q
-  pub wires : new.wires ≡ old.wires
+  pub others : (q : ℕ) → (q ≡ p → ⊥) → state_of new q ≡ state_of old q
+  pub channels : new.channels ≡ old.channels
   pub held : new.held ≡ old.held
   pub kept : new.kept ≡ old.kept
   pub rows : new.rows ≡ old.rows
@@ -66,7 +66,7 @@ abbrev pub kept_closed : Bool → ℕ → SeenPart → SeenLists → SeenLists
 kept_closed commit p part kept = if part.is_rollback then kept_after_rollback commit p kept else trims commit p part.marks kept
 
 abbrev pub lists_closed : Seen → ℕ → Bool → Seen
-lists_closed v p commit = record v { held = held_closed commit p (v.people p).part v.kept v.held; kept = kept_closed commit p (v.people p).part v.kept }
+lists_closed v p commit = record v { held = held_closed commit p (v.states p).part v.kept v.held; kept = kept_closed commit p (v.states p).part v.kept }
 
 -- the row of a process that joins an instance of a kind
 abbrev pub joined_row : Kind → ℕ → ℕ → Event
@@ -94,11 +94,11 @@ gone_on v p k (Join asks goes) = v
 
 -- what becomes of a process that takes a reply
 abbrev pub after_reply_taken : Seen → ℕ → ℕ → ℕ → Bool → List Parcel → Seen
-after_reply_taken v p q k w rest = if (v.people p).part.awaited == 0 then seen_without_front v p q rest else seen_settling (seen_reply v p q w rest) p k
+after_reply_taken v p q k w rest = if (v.states p).part.awaited == 0 then seen_without_front v p q rest else seen_settling (seen_reply v p q w rest) p k
 
 -- what becomes of a process that takes a decision
 abbrev pub after_decision_taken : Seen → ℕ → ℕ → ℕ → Bool → List Parcel → Seen
-after_decision_taken v p q k c rest = if (v.people p).inst == k then seen_closing (seen_without_front v p q rest) p k c else seen_without_front v p q rest
+after_decision_taken v p q k c rest = if (v.states p).inst == k then seen_closing (seen_without_front v p q rest) p k c else seen_without_front v p q rest
 
 -- the row of a process that is unwilling, where there is a cause
 abbrev pub with_cause : Seen → ℕ → ℕ → Option Cause → Seen
@@ -107,7 +107,7 @@ with_cause v p k (Some cause) = with_row v (Unwilling p k cause)
 
 -- an action that joins asks a cohort, and the process has joined and goes on so
 abbrev pub JoinsAs : Whole → Seen → ℕ → (ℕ → Bool) → (ℕ → ℕ) → Action → Type 0
-JoinsAs w v p test label (Join asks goes) = IsCohort asks test label × (goes ≡ goes_on (v.people p).part) × ((v.people p).part.willing ≡ true) × IsInside w p
+JoinsAs w v p test label (Join asks goes) = IsCohort asks test label × (goes ≡ goes_on (v.states p).part) × ((v.states p).part.willing ≡ true) × IsInside w p
 JoinsAs w v p test label Nothing = Unit {0}
 JoinsAs w v p test label (Refuse cause) = Unit {0}
 JoinsAs w v p test label (Reply to willing cause) = Unit {0}

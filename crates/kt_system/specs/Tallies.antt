@@ -37,7 +37,7 @@ count_in_lists n test lists = total_below n (λ p. total_below n (λ q. count_by
 
 -- how many parcels in the channels of a system do
 abbrev pub count_in_channels : (Parcel → Bool) → Whole → ℕ
-count_in_channels test w = count_in_lists w.size test (channel w.wires)
+count_in_channels test w = count_in_lists w.size test (channel w.channels)
 
 -- a count rises by so many, as far as 32 bits go
 abbrev pub RisesBy : ℕ → ℕ → ℕ → Type 0
@@ -58,7 +58,7 @@ pub record TalliesPut (taken : List Parcel) (old new : Whole) : Type 0 where
 
 -- the parcel in front of a channel
 abbrev pub front : Whole → ℕ → ℕ → List Parcel
-front w at from = take 1 (channel w.wires from at)
+front w at from = take 1 (channel w.channels from at)
 
 -- what a process takes off the channel from another one: a message that it holds is on none
 abbrev pub taken_off : Whole → ℕ → ℕ → List Parcel
@@ -71,7 +71,7 @@ counted_of k count j = if k == j then count else 0
 -- so many asks, replies and decisions of instance k are counted
 pub record AreCounted (k more_asks more_replies more_decisions : ℕ) (old new : Whole) : Type 0 where
   pub size : new.size ≡ old.size
-  pub wires : new.wires ≡ old.wires
+  pub channels : new.channels ≡ old.channels
   pub instances : length new.put ≡ length old.put
   pub asks : (j : ℕ) → 0 < j → j ≤ length old.put → RisesBy (counted_of k more_asks j) (tally_of old j).asks (tally_of new j).asks
   pub replies : (j : ℕ) → 0 < j → j ≤ length old.put → RisesBy (counted_of k more_replies j) (tally_of old j).replies (tally_of new j).replies

@@ -3,7 +3,7 @@
 ghost use Rattle.std.specs.Prelude.{◌≡◌, ◌<◌, ◌≤◌, ℕ, [], All, IfOk, length};
 ghost use Rattle.kt_fifo.specs.Channels.{channel};
 ghost use Rattle.kt_process.specs.Turns.{IsFresh};
-ghost use Rattle.kt_system.specs.Systems.{person};
+ghost use Rattle.kt_system.specs.Systems.{state_of};
 ghost use Rattle.kt_system.specs.Reads.{tally_of, no_tally};
 ghost use Rattle.kt_system.specs.Shown.{ShowsState};
 ghost use Rattle.kt_seen.specs.Transition.{opening_seen};
@@ -19,7 +19,7 @@ mod commands;
 mod instances;
 mod leaves;
 mod messages;
-mod people;
+mod processes;
 mod reads;
 mod replies;
 mod takes;
@@ -51,9 +51,9 @@ impl Model for System {
 
     ghost Value = { Whole };
 
-    ghost view = { λ s. record { size = s.size; people = s.processes.items; wires = s.channels; held = s.held; kept = s.kept; rows = s.log; begun = s.begun; put = s.tallies.items } };
+    ghost view = { λ s. record { size = s.size; states = s.processes.items; channels = s.channels; held = s.held; kept = s.kept; rows = s.log; begun = s.begun; put = s.tallies.items } };
 
-    ghost invariant = { λ s. IsSound (record { size = s.size; people = s.processes.items; wires = s.channels; held = s.held; kept = s.kept; rows = s.log; begun = s.begun; put = s.tallies.items }) };
+    ghost invariant = { λ s. IsSound (record { size = s.size; states = s.processes.items; channels = s.channels; held = s.held; kept = s.kept; rows = s.log; begun = s.begun; put = s.tallies.items }) };
 }
 
 impl System {
@@ -68,8 +68,8 @@ impl System {
         requires { processes ≤ 64 }
         ensures size { IfOk result (λ s. s.size ≡ processes) }
         ensures rows { IfOk result (λ s. s.rows.rows ≡ []) }
-        ensures people { IfOk result (λ s. (p : ℕ) → p < processes → IsFresh processes used (person s p)) }
-        ensures wires { IfOk result (λ s. (p q : ℕ) → channel s.wires p q ≡ []) }
+        ensures states { IfOk result (λ s. (p : ℕ) → p < processes → IsFresh processes used (state_of s p)) }
+        ensures channels { IfOk result (λ s. (p q : ℕ) → channel s.channels p q ≡ []) }
         ensures held { IfOk result (λ s. (p q : ℕ) → channel s.held p q ≡ []) }
         ensures kept { IfOk result (λ s. (p q : ℕ) → channel s.kept p q ≡ []) }
         ensures begun { IfOk result (λ s. s.begun ≡ 0) }

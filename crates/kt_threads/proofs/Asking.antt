@@ -10,7 +10,7 @@ use Rattle.kt_plan.specs.declared.steps.Look.{Look}
 use Rattle.kt_plan.specs.declared.steps.Look.TheVariants as look
 use Rattle.kt_run.specs.Objects.{Belongings}
 use Rattle.kt_threads.specs.Errands.{are_no_acts, body_for, errand_of, errands_at, is_no_errand}
-use Rattle.kt_threads.specs.Seats.{IsServed, AreServed}
+use Rattle.kt_threads.specs.Workers.{IsServed, AreServed}
 use Rattle.kt_threads.specs.declared.errands.Errand.{Errand}
 use Rattle.kt_threads.specs.declared.state.Made.{Made}
 

@@ -10,7 +10,7 @@ use Rattle.kt_spacetime.specs.declared.event.Event.{Event}
 use Rattle.kt_threads.specs.Histories as histories
 use Rattle.kt_threads.specs.Histories.{AreTheirs}
 use Rattle.kt_threads.specs.Moves.{move_of}
-use Rattle.kt_threads.specs.Seats.{AreServed, AllServed}
+use Rattle.kt_threads.specs.Workers.{AreServed, AllServed}
 use Rattle.kt_threads.specs.declared.errands.Errand.{Errand}
 use Rattle.kt_threads.specs.declared.state.Made.{Made}
 use Rattle.kt_threads.proofs.Moving.{run_of, served_of, nothing_tentative}

@@ -7,6 +7,6 @@ pub mod Noting
 pub mod Serving
 pub mod Moving
 pub mod Keeping
-pub mod Seating
+pub mod Working
 pub mod Rejecting
 pub mod Telling

@@ -30,7 +30,7 @@ use Rattle.kt_threads.specs.Errands.{errands_of}
 use Rattle.kt_threads.specs.Histories as histories
 use Rattle.kt_threads.specs.Histories.{IsMade, Leads, IsHistory, made_by, told_to, AreTold}
 use Rattle.kt_threads.specs.Moves.{move_of}
-use Rattle.kt_threads.specs.Seats.{AreServed}
+use Rattle.kt_threads.specs.Workers.{AreServed}
 use Rattle.kt_threads.specs.Telling.{AreToldAsInRun}
 use Rattle.kt_threads.proofs.Serving.{GivesOf, KeepsDue, gives_all, served_more}
 use Rattle.kt_threads.proofs.Telling.{rows_more, told_more}

@@ -17,7 +17,7 @@ use Rattle.kt_threads.specs.Histories.{IsMade, Leads, IsHistory}
 use Rattle.kt_threads.specs.declared.state.Made.{Made}
 
 pub same_system : (s : Whole) → IsSameSystem s s
-same_system s = record { size = refl; people = refl; wires = refl; held = refl; kept = refl; rows = refl; begun = refl; put = refl }
+same_system s = record { size = refl; states = refl; channels = refl; held = refl; kept = refl; rows = refl; begun = refl; put = refl }
 
 pub same_world : (w : World) → IsSameWorld w w
 same_world w = record { agenda = refl; system = same_system w.system; limit = refl }
@@ -25,8 +25,8 @@ same_world w = record { agenda = refl; system = same_system w.system; limit = re
 pub systems_along : (r s t : Whole) → IsSameSystem r s → IsSameSystem s t → IsSameSystem r t
 systems_along r s t a b = record {
   size = a.size ∙ b.size;
-  people = a.people ∙ b.people;
-  wires = a.wires ∙ b.wires;
+  states = a.states ∙ b.states;
+  channels = a.channels ∙ b.channels;
   held = a.held ∙ b.held;
   kept = a.kept ∙ b.kept;
   rows = a.rows ∙ b.rows;

@@ -33,7 +33,7 @@ use Rattle.kt_values.specs.Values.{Rules, due}
 use Rattle.kt_threads.specs.Errands.{errands_of}
 use Rattle.kt_threads.specs.Histories.{IsMade, made_by}
 use Rattle.kt_threads.specs.Moves.{move_of}
-use Rattle.kt_threads.specs.Seats.{AreServed}
+use Rattle.kt_threads.specs.Workers.{AreServed}
 use Rattle.kt_threads.specs.declared.state.Made.{Made}
 use Rattle.kt_threads.proofs.Asking.{IsMadeServed, first_served}
 use Rattle.kt_threads.proofs.Telling.{equal_of}

@@ -9,8 +9,8 @@ use Rattle.kt_held.specs.declared.faults.CastFault.{CastFault}
 use Rattle.kt_held.specs.declared.faults.CastFault.TheVariants as cast
 use Rattle.kt_plan.specs.Limits.{Planned}
 use Rattle.kt_run.specs.Faults.{IsCast, HasOtherKind}
-use Rattle.kt_threads.specs.declared.crew.CrewFault.{CrewFault}
-use Rattle.kt_threads.specs.declared.crew.CrewFault.TheVariants as crew
+use Rattle.kt_threads.specs.declared.spawning.SpawnFault.{SpawnFault}
+use Rattle.kt_threads.specs.declared.spawning.SpawnFault.TheVariants as spawning
 use Rattle.kt_threads.specs.declared.faults.LiveFault.{LiveFault}
 use Rattle.kt_threads.specs.declared.faults.LiveFault.TheVariants.{CastSize, CastKind, Object, Journal, Step, Spawn, Differ, Memory}
 
@@ -79,6 +79,6 @@ AnswersFirst ended first answer = (IsOfThreads ended first × (answer ≡ first)
     ⊎ ((¬ IsOfThreads ended first) × (answer ≡ Differ))
 
 -- the fault that a fault of the threads themselves is
-abbrev pub live_of_crew : CrewFault → LiveFault
-live_of_crew crew.Memory = Memory
-live_of_crew crew.Spawn = Spawn
+abbrev pub live_of_spawning : SpawnFault → LiveFault
+live_of_spawning spawning.Memory = Memory
+live_of_spawning spawning.Spawn = Spawn

@@ -4,6 +4,6 @@ pub mod FaultTexts
 pub mod Histories
 pub mod Moves
 pub mod Noted
-pub mod Seats
+pub mod Workers
 pub mod Telling
 pub mod Turns

@@ -2,9 +2,9 @@
 
 ghost use Rattle.std.specs.Prelude.{◌≡◌, false};
 ghost use Rattle.kt_threads.specs.declared.faults.LiveFault.TheVariants as live;
-ghost use Rattle.kt_threads.specs.Faults.{is_live_of_cast, live_of_act, live_of_cast, live_of_crew, live_of_step, live_stopped_at};
+ghost use Rattle.kt_threads.specs.Faults.{is_live_of_cast, live_of_act, live_of_cast, live_of_spawning, live_of_step, live_stopped_at};
 
-use crate::crew::CrewFault;
+use crate::spawning::SpawnFault;
 use kt_base::{Memory, ProcNo};
 use kt_core::StepFault;
 use kt_held::{ActFault, CastFault};
@@ -89,13 +89,13 @@ impl From<AllocError> for LiveFault {
     }
 }
 
-impl From<CrewFault> for LiveFault {
-    ghost from_gives = { λ fault f. (f ≡ live_of_crew fault) × (is_live_of_cast f ≡ false) };
+impl From<SpawnFault> for LiveFault {
+    ghost from_gives = { λ fault f. (f ≡ live_of_spawning fault) × (is_live_of_cast f ≡ false) };
 
-    fn from(fault: CrewFault) -> LiveFault {
+    fn from(fault: SpawnFault) -> LiveFault {
         match fault {
-            CrewFault::Memory => LiveFault::Memory,
-            CrewFault::Spawn => LiveFault::Spawn,
+            SpawnFault::Memory => LiveFault::Memory,
+            SpawnFault::Spawn => LiveFault::Spawn,
         }
     }
 }

@@ -2,7 +2,6 @@
 #![tactic(auto)]
 
 mod board;
-mod crew;
 mod errands;
 mod faults;
 mod lists;
@@ -10,8 +9,9 @@ mod minutes;
 mod outcome;
 mod plans;
 mod recorded;
-mod seat;
+mod spawning;
 mod state;
+mod worker;
 
 pub use faults::LiveFault;
 pub use outcome::{live, live_log_of};

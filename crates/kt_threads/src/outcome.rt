@@ -15,15 +15,15 @@ ghost use Rattle.kt_run.specs.Telling.{AreToldTheirRows};
 ghost use Rattle.kt_threads.specs.Faults.{AnswersFirst, AnswersLive, is_live_of_cast, live_stopped_at};
 ghost use Rattle.kt_threads.specs.Histories.{AreTheirs, IsWholeHistory, IsLived};
 ghost use Rattle.kt_threads.specs.Noted.{AreListed, AreNoted, AreToldBy};
-ghost use Rattle.kt_threads.specs.Seats.{AllServed, KeepsServing};
+ghost use Rattle.kt_threads.specs.Workers.{AllServed, KeepsServing};
 
 use crate::board::Board;
-use crate::crew::{CrewFault, run_all};
 use crate::errands::{Errand, are_all_same};
 use crate::faults::LiveFault;
 use crate::minutes::{Keep, Minutes};
-use crate::seat::{Seat, work};
+use crate::spawning::{SpawnFault, run_all};
 use crate::state::{Made, State};
+use crate::worker::{Worker, work};
 use kt_base::ProcNo;
 use kt_held::{Cast, Held, begin_all};
 use kt_object::Recoverable;
@@ -55,26 +55,26 @@ pub(crate) fn first_objects(alloc: Global, plan: &Plan, cast: Cast) -> Result<Ve
     }
 }
 
-/// A seat for each process.
-fn seats_of(alloc: Global, objects: Vec<Held>) -> Result<Vec<Seat>, LiveFault>
-    ensures held { IfOk result (λ seats. map (λ seat. seat.held) seats.items ≡ objects.items) }
-    ensures fresh { IfOk result (λ seats. All (λ seat. seat.errands.items ≡ []) seats.items) }
-    ensures going { IfOk result (λ seats. All (λ seat. seat.fault ≡ None) seats.items) }
+/// A worker for each process.
+fn workers_of(alloc: Global, objects: Vec<Held>) -> Result<Vec<Worker>, LiveFault>
+    ensures held { IfOk result (λ workers. map (λ worker. worker.held) workers.items ≡ objects.items) }
+    ensures fresh { IfOk result (λ workers. All (λ worker. worker.errands.items ≡ []) workers.items) }
+    ensures going { IfOk result (λ workers. All (λ worker. worker.fault ≡ None) workers.items) }
     ensures fault { IfErr result (λ fault. is_live_of_cast fault ≡ false) }
     ensures unnamed { IfErr result (λ fault. live_stopped_at fault ≡ None) }
 {
-    let mut seats = Vec::with_capacity(alloc, objects.len())?;
+    let mut workers = Vec::with_capacity(alloc, objects.len())?;
     let mut number = 0u8;
     for held in objects {
         let Some(me) = ProcNo::new(number) else {
             return Err(LiveFault::Differ);
         };
-        if seats.push(Seat::new(alloc, me, held)).is_err() {
+        if workers.push(Worker::new(alloc, me, held)).is_err() {
             return Err(LiveFault::Memory);
         }
         number = number.saturating_add(1);
     }
-    Ok(seats)
+    Ok(workers)
 }
 
 /// Each process's thread makes its steps.
@@ -82,21 +82,21 @@ fn work_all<R: Threads + Wait + Sync>(
     rt: &R,
     alloc: Global,
     board: &Board,
-    seats: Vec<Seat>,
-) -> Result<Vec<Seat>, CrewFault>
+    workers: Vec<Worker>,
+) -> Result<Vec<Worker>, SpawnFault>
     ensures { IfOk result (λ worked. AllZip (λ before after. KeepsServing before after
         (λ b. content (kind_of (b.vtable, b.value)) (value_of (b.vtable, b.value)))
-        (λ b saved. may_reject (b.vtable, b.value) saved)) seats.items worked.items) }
+        (λ b saved. may_reject (b.vtable, b.value) saved)) workers.items worked.items) }
 {
     run_all(
         rt,
         alloc,
-        seats,
-        &|seat: Seat| -> Seat
-            ensures { KeepsServing seat result
+        workers,
+        &|worker: Worker| -> Worker
+            ensures { KeepsServing worker result
                 (λ b. content (kind_of (b.vtable, b.value)) (value_of (b.vtable, b.value)))
                 (λ b saved. may_reject (b.vtable, b.value) saved) }
-        { work(rt, alloc, board, seat) },
+        { work(rt, alloc, board, worker) },
         &|| board.stop(rt, LiveFault::Spawn),
     )
 }
@@ -105,7 +105,7 @@ fn work_all<R: Threads + Wait + Sync>(
 fn finish(
     minutes: Minutes,
     plan: &Plan,
-    seats: &[Seat],
+    workers: &[Worker],
 ) -> Result<
     (
         SpaceTime,
@@ -125,9 +125,9 @@ fn finish(
     ensures follows { IfOk result (λ parts. FollowsPlan plan.entry.now parts.0.rows) }
     ensures fault { IfErr result (λ fault. is_live_of_cast fault ≡ false) }
     ensures named { IfErr result (λ fault. (p : ℕ) → live_stopped_at fault ≡ Some p →
-        slice_index_or (map (λ seat. seat.fault) seats.entry.now) p None ≡ Some fault) }
+        slice_index_or (map (λ worker. worker.fault) workers.entry.now) p None ≡ Some fault) }
 {
-    ended(minutes.state(), plan, seats)?;
+    ended(minutes.state(), plan, workers)?;
     let (state, asked, told, listed) = minutes.into_parts();
     let (log, steps) = state.into_parts();
     Ok((log, steps, asked, told, listed))
@@ -135,41 +135,41 @@ fn finish(
 
 /// The fault that is answered where this one was the first. Of the faults that name a process only one by which its thread
 /// ended is answered; and what is wrong with the objects comes from no thread.
-fn fault_of(first: LiveFault, seats: &[Seat]) -> LiveFault
-    ensures fault { AnswersFirst (map (λ seat. seat.fault) seats.now) first result }
+fn fault_of(first: LiveFault, workers: &[Worker]) -> LiveFault
+    ensures fault { AnswersFirst (map (λ worker. worker.fault) workers.now) first result }
     ensures ours { is_live_of_cast result ≡ false }
 {
     if first.is_of_cast() {
         return LiveFault::Differ;
     }
     match first.process() {
-        Some(p) if !has_ended(seats, p, &first) => LiveFault::Differ,
+        Some(p) if !has_ended(workers, p, &first) => LiveFault::Differ,
         _ => first,
     }
 }
 
 /// Whether the thread of a process ended by this fault.
-fn has_ended(seats: &[Seat], p: ProcNo, fault: &LiveFault) -> bool
-    ensures { IsTrue result ↔ (slice_index_or (map (λ seat. seat.fault) seats.now) p None ≡ Some fault.now) }
+fn has_ended(workers: &[Worker], p: ProcNo, fault: &LiveFault) -> bool
+    ensures { IsTrue result ↔ (slice_index_or (map (λ worker. worker.fault) workers.now) p None ≡ Some fault.now) }
 {
-    match seats.get(p.index()) {
-        Some(seat) => seat.ended_by(fault),
+    match workers.get(p.index()) {
+        Some(worker) => worker.ended_by(fault),
         None => false,
     }
 }
 
 /// That a run of the plan ended at rest, or the fault that ended it.
-fn ended(state: &State, plan: &Plan, seats: &[Seat]) -> Result<(), LiveFault>
+fn ended(state: &State, plan: &Plan, workers: &[Worker]) -> Result<(), LiveFault>
     ensures plan { OnOk result (state.now.world.agenda.plan ≡ plan.now) }
     ensures rest { OnOk result (IsWorldAtRest state.now.world) }
     ensures follows { OnOk result (FollowsPlan plan.now state.now.world.system.rows.rows) }
     ensures going { OnOk result (state.now.fault ≡ None) }
     ensures fault { IfErr result (λ fault. is_live_of_cast fault ≡ false) }
     ensures named { IfErr result (λ fault. (p : ℕ) → live_stopped_at fault ≡ Some p →
-        slice_index_or (map (λ seat. seat.fault) seats.now) p None ≡ Some fault) }
+        slice_index_or (map (λ worker. worker.fault) workers.now) p None ≡ Some fault) }
 {
     if let Some(fault) = state.fault() {
-        return Err(fault_of(fault, seats));
+        return Err(fault_of(fault, workers));
     }
     if !state.is_of(plan) || !state.at_rest() {
         return Err(LiveFault::Differ);
@@ -178,23 +178,23 @@ fn ended(state: &State, plan: &Plan, seats: &[Seat]) -> Result<(), LiveFault>
 }
 
 /// What each process's steps asked of its object, and what it holds, if all of that was done.
-fn leave(alloc: Global, seats: Vec<Seat>) -> Result<(Vec<Vec<Errand>>, Vec<Held>), LiveFault>
-    ensures whole { OnOk result (All (λ seat. seat.fault ≡ None) seats.items) }
+fn leave(alloc: Global, workers: Vec<Worker>) -> Result<(Vec<Vec<Errand>>, Vec<Held>), LiveFault>
+    ensures whole { OnOk result (All (λ worker. worker.fault ≡ None) workers.items) }
     ensures errands { IfOk result (λ parts.
-        map (λ list. list.items) parts.0.items ≡ map (λ seat. seat.errands.items) seats.items) }
-    ensures held { IfOk result (λ parts. parts.1.items ≡ map (λ seat. seat.held) seats.items) }
+        map (λ list. list.items) parts.0.items ≡ map (λ worker. worker.errands.items) workers.items) }
+    ensures held { IfOk result (λ parts. parts.1.items ≡ map (λ worker. worker.held) workers.items) }
     ensures fault { IfErr result (λ fault. is_live_of_cast fault ≡ false) }
     ensures unnamed { IfErr result (λ fault. live_stopped_at fault ≡ None) }
 {
-    let mut lists = Vec::with_capacity(alloc, seats.len())?;
-    let mut objects = Vec::with_capacity(alloc, seats.len())?;
-    for seat in seats {
-        let Seat {
+    let mut lists = Vec::with_capacity(alloc, workers.len())?;
+    let mut objects = Vec::with_capacity(alloc, workers.len())?;
+    for worker in workers {
+        let Worker {
             me: _,
             held,
             errands,
             fault,
-        } = seat;
+        } = worker;
         if fault.is_some() {
             return Err(LiveFault::Differ);
         }
@@ -247,13 +247,13 @@ pub(crate) fn work_out<R: Threads + Wait + Sync>(
         MayReject (λ b saved. may_reject (b.vtable, b.value) saved) (first_of (slice_index_or cast p [])).kind
         (slice_index_or (objects_held objects.items) p [])) }
 {
-    let seats = seats_of(alloc, objects)?;
+    let workers = workers_of(alloc, objects)?;
     let state = State::new(alloc, plan.copy(alloc)?)?;
     let minutes = Minutes::new(alloc, state, plan.size(), keep)?;
     let board = Board::new(alloc, minutes, plan.size())?;
-    let seats = work_all(rt, alloc, &board, seats)?;
-    let (log, steps, asked, told, listed) = finish(board.into_minutes(), plan, &seats)?;
-    let (lists, objects) = leave(alloc, seats)?;
+    let workers = work_all(rt, alloc, &board, workers)?;
+    let (log, steps, asked, told, listed) = finish(board.into_minutes(), plan, &workers)?;
+    let (lists, objects) = leave(alloc, workers)?;
     if !are_all_same(plan.size(), &asked, &lists) {
         return Err(LiveFault::Differ);
     }

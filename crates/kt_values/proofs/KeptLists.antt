@@ -25,7 +25,7 @@ use Rattle.kt_closing.specs.OnceClosed.{once_closed}
 use Rattle.kt_values.specs.Done.{Done, done, done_after}
 use Rattle.kt_values.specs.Values.{Act, taken_in}
 use Rattle.kt_values.specs.Acts.{stepper}
-use Rattle.kt_protocol.specs.UnderWay.{received_of}
+use Rattle.kt_protocol.specs.InTransit.{received_of}
 use Rattle.kt_values.proofs.DoneAlong.{done_more, done_past}
 use Rattle.kt_values.proofs.OwnAndLive.{cut_in, moved_in}
 use Rattle.kt_values.proofs.LegalFacts.{sound}

@@ -6,10 +6,10 @@ use Rattle.kt_cuts.specs.declared.deeds.Deed.{Deed}
 use Rattle.kt_cuts.specs.declared.deeds.Deed.TheVariants as deed
 use Rattle.kt_cuts.specs.Past.{at_one}
 use Rattle.kt_protocol.specs.Parcels.{messages, Parcel, App, Lists, with_parcel, with_rest}
-use Rattle.kt_protocol.specs.UnderWay.{times}
+use Rattle.kt_protocol.specs.InTransit.{times}
 use Rattle.kt_protocol.proofs.Updates.{is_same}
 use Rattle.kt_protocol.proofs.Lines.{times_append, apps_append}
-use Rattle.kt_protocol.specs.UnderWay.{received_of}
+use Rattle.kt_protocol.specs.InTransit.{received_of}
 use Rattle.kt_values.specs.States.{line_of}
 use Rattle.kt_values.proofs.ReceivedMessages.{got_append}
 

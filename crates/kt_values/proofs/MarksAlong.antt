@@ -13,7 +13,7 @@ use Rattle.kt_cuts.specs.Legal.{IsLegal, broken_rule}
 use Rattle.kt_cuts.proofs.LegalLogs.{legal_log_induction}
 use Rattle.kt_cuts.proofs.RowRules.{may_take, may_get_ready, MayTake}
 use Rattle.kt_values.specs.Done.{Done, done, done_after, done_start}
-use Rattle.kt_protocol.specs.UnderWay.{received_of}
+use Rattle.kt_protocol.specs.InTransit.{received_of}
 use Rattle.kt_values.specs.Marks.{Marked, mark_after, marked_after, marks}
 use Rattle.kt_values.proofs.DoneAlong.{done_past, done_more}
 use Rattle.kt_values.proofs.LegalFacts.{Sound, sound}

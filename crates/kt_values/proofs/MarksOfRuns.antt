@@ -15,7 +15,7 @@ use Rattle.kt_closing.specs.KeptInOrder.{is_in_checkpoint}
 use Rattle.kt_closing.specs.OnceClosed.{has_to_restore}
 use Rattle.kt_values.specs.Done.{done}
 use Rattle.kt_values.specs.Values.{taken_in, taken_at}
-use Rattle.kt_protocol.specs.UnderWay.{received_of}
+use Rattle.kt_protocol.specs.InTransit.{received_of}
 use Rattle.kt_values.specs.Marks.{marks}
 use Rattle.kt_values.proofs.LegalFacts.{sound}
 use Rattle.kt_values.proofs.RunActs.{invariant_late, legal_late}

@@ -12,7 +12,7 @@ use Rattle.kt_cuts.specs.Legal.{IsLegal, broken_rule, is_deed, has_deed}
 use Rattle.kt_cuts.proofs.LegalLogs.{legal_last, rows_length}
 use Rattle.kt_cuts.proofs.Lists.{get_take, deed_place, has_from_place}
 use Rattle.kt_protocol.specs.Parcels.{messages, Parcel, App, Ask, Reply, Decide, Lists, with_parcel, with_rest}
-use Rattle.kt_protocol.specs.UnderWay.{times}
+use Rattle.kt_protocol.specs.InTransit.{times}
 use Rattle.kt_protocol.specs.Summary.{Summary, summary_after}
 use Rattle.kt_protocol.specs.States.{State, Step}
 use Rattle.kt_protocol.specs.Joining.{kind_for, after_began, after_joining_checkpoint, after_joining_rollback}
@@ -25,7 +25,7 @@ use Rattle.kt_closing.specs.LateClosing.{late_deciding_as, late_deciding, late_c
 use Rattle.kt_closing.specs.OnceClosed.{has_to_restore}
 use Rattle.kt_values.specs.Done.{Done, done, done_after}
 use Rattle.kt_values.specs.Values.{Act}
-use Rattle.kt_protocol.specs.UnderWay.{received_of}
+use Rattle.kt_protocol.specs.InTransit.{received_of}
 use Rattle.kt_values.specs.States.{line_of}
 use Rattle.kt_values.proofs.DoneAlong.{done_more, done_past}
 use Rattle.kt_values.proofs.LegalFacts.{sound}

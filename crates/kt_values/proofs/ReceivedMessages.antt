@@ -6,9 +6,9 @@ use Rattle.kt_cuts.specs.declared.deeds.Deed.{Deed}
 use Rattle.kt_cuts.specs.declared.deeds.Deed.TheVariants as deed
 use Rattle.kt_cuts.specs.Legal.{has_deed, is_deed}
 use Rattle.kt_cuts.proofs.Lists.{has_from_place}
-use Rattle.kt_protocol.specs.UnderWay.{times}
+use Rattle.kt_protocol.specs.InTransit.{times}
 use Rattle.kt_values.proofs.KnownDeeds.{IsKnown}
-use Rattle.kt_protocol.specs.UnderWay.{received_of}
+use Rattle.kt_protocol.specs.InTransit.{received_of}
 
 pub got_append : (p : ℕ) (a b : List Deed) → received_of p (a ++ b) ≡ received_of p a ++ received_of p b
 got_append p [] b = refl

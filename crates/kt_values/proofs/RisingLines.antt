@@ -11,7 +11,7 @@ use Rattle.kt_cuts.specs.Past.{past, is_rollback, is_committed}
 use Rattle.kt_cuts.specs.Legal.{IsLegal, broken_rule}
 use Rattle.kt_cuts.proofs.LegalLogs.{legal_last}
 use Rattle.kt_protocol.specs.Parcels.{messages, Parcel, App, Reply, Lists, with_parcel, with_rest, messages_where}
-use Rattle.kt_protocol.specs.UnderWay.{times}
+use Rattle.kt_protocol.specs.InTransit.{times}
 use Rattle.kt_protocol.specs.Summary.{Summary, summary}
 use Rattle.kt_protocol.specs.States.{State, Step, opening}
 use Rattle.kt_protocol.specs.Joining.{kind_for, after_began, after_joining_checkpoint, after_joining_rollback}
@@ -24,7 +24,7 @@ use Rattle.kt_closing.specs.OnceClosed.{once_closed}
 use Rattle.kt_values.specs.Done.{Done, done, done_after}
 use Rattle.kt_values.specs.Values.{Act}
 use Rattle.kt_values.specs.Acts.{stepper}
-use Rattle.kt_protocol.specs.UnderWay.{received_of}
+use Rattle.kt_protocol.specs.InTransit.{received_of}
 use Rattle.kt_values.specs.States.{line_of, IsAbove, IsRising}
 use Rattle.kt_values.proofs.DoneAlong.{done_more}
 use Rattle.kt_values.proofs.OwnAndLive.{cut_in}

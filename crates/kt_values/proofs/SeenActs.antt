@@ -21,7 +21,7 @@ use Rattle.kt_protocol.proofs.Updates.{is_same, is_other, at_one_here}
 use Rattle.kt_closing.specs.LateSteps.{late_run}
 use Rattle.kt_closing.specs.OnceClosed.{once_closed}
 use Rattle.kt_seen.specs.Labelling.{Labelling, LabelledLog, labelled_after, labelled_start, labelled_log, labelling}
-use Rattle.kt_seen.specs.Seen.{SeenPart, no_part, SeenPerson, Seen, seen_parcels, part_of, person_of, view, seen}
+use Rattle.kt_seen.specs.Seen.{SeenPart, no_part, SeenProcess, Seen, seen_parcels, part_of, process_seen, view, seen}
 use Rattle.kt_seen.specs.CallTests as tests
 use Rattle.kt_seen.specs.SeenReplies.{part_after_reply}
 use Rattle.kt_seen.specs.Transition.{is_seen_ready}
@@ -72,7 +72,7 @@ same_kind true = refl
 same_kind false = refl
 
 -- a member's part says what it tells once it awaits nobody
-settling : (c : State) (t : Labelling) (p k : ℕ) → 0 < k → c.so_far.open_in p ≡ k → acts_settling c p k ≡ seen_acts_settling (person_of t c p).part
+settling : (c : State) (t : Labelling) (p k : ℕ) → 0 < k → c.so_far.open_in p ≡ k → acts_settling c p k ≡ seen_acts_settling (process_seen t c p).part
 settling c t p k pos o = at_both (none_of c.processes (c.awaits k p)) (count_peers c.processes (c.awaits k p) == 0) (sym (count_none c.processes (c.awaits k p))) (λ _. ending (p == c.initiator k)) (λ _. refl)
     ∙ ap seen_acts_settling (sym (part_in t c p k pos o))
   where
@@ -147,9 +147,9 @@ module _ (first : ℕ) (c : State) (t : Labelling) (known : read c.so_far t ≡ 
       let b = (g.asks.awaits_joined k p q f.0).2 in
       let s = sees_reply first c t known d p q k w rest pos o f.0 b e in
       settling (after_reply c p q k w rest) s.labels p k pos o
-      ∙ (ap (λ (v : Seen). seen_acts_settling (v.people p).part) s.same
-      ∙ (ap (λ (y : SeenPerson). seen_acts_settling y.part) (at_one_here p (record (person_of t c p) { part = part_after_reply (person_of t c p).part w }) (view t c).people)
-      ∙ ap (λ (z : Bool). if z then [] else seen_acts_settling (part_after_reply (person_of t c p).part w))
+      ∙ (ap (λ (v : Seen). seen_acts_settling (v.states p).part) s.same
+      ∙ (ap (λ (y : SeenProcess). seen_acts_settling y.part) (at_one_here p (record (process_seen t c p) { part = part_after_reply (process_seen t c p).part w }) (view t c).states)
+      ∙ ap (λ (z : Bool). if z then [] else seen_acts_settling (part_after_reply (process_seen t c p).part w))
       (sym (ap (λ (r : SeenPart). r.awaited == 0) (part_in t c p k pos o) ∙ some_awaited c.processes q (c.awaits k p) b f.0))))
 
   -- a decision

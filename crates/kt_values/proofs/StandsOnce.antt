@@ -6,13 +6,13 @@ use Rattle.kt_cuts.specs.declared.deeds.Deed.TheVariants as deed
 use Rattle.kt_cuts.specs.Past.{Past, past}
 use Rattle.kt_cuts.specs.Legal.{IsLegal, has_deed}
 use Rattle.kt_protocol.specs.Parcels.{messages, Parcel}
-use Rattle.kt_protocol.specs.UnderWay.{times, IsUnderWay}
+use Rattle.kt_protocol.specs.InTransit.{times, IsInTransit}
 use Rattle.kt_protocol.specs.States.{State, Step, opening}
 use Rattle.kt_protocol.specs.Steps.{run}
 use Rattle.kt_protocol.proofs.Walk.{invariant_after_run}
 use Rattle.kt_protocol.proofs.Lawful.{tie}
 use Rattle.kt_protocol.proofs.LawfulSteps.{lawful_after_run}
-use Rattle.kt_protocol.proofs.LogMeaning.{under_way}
+use Rattle.kt_protocol.proofs.LogMeaning.{in_transit}
 use Rattle.kt_closing.specs.LateClosing.{is_within_label}
 use Rattle.kt_closing.specs.LateSteps.{late_step, late_run}
 use Rattle.kt_closing.specs.OnceClosed.{once_closed, has_to_restore, held_once_closed}
@@ -20,7 +20,7 @@ use Rattle.kt_closing.specs.OwnHistories.{own_histories, live_once_closed}
 use Rattle.kt_closing.proofs.OwnSteps.{own_after_run}
 use Rattle.kt_values.specs.Done.{done}
 use Rattle.kt_values.specs.Acts.{stepper}
-use Rattle.kt_protocol.specs.UnderWay.{received_of}
+use Rattle.kt_protocol.specs.InTransit.{received_of}
 use Rattle.kt_values.specs.States.{line_of, StandsOnce}
 use Rattle.kt_values.proofs.DoneAlong.{done_past}
 use Rattle.kt_values.proofs.StepWalk.{walk}
@@ -32,8 +32,8 @@ use Rattle.kt_values.proofs.ListedMessages.{carried_of}
 use Rattle.kt_values.proofs.OnceInLines.{Once, Later, Here, Gone, onces}
 
 module _ (n : ℕ) (steps : List Step) where
-  flying : IsUnderWay (past (late_run (opening n) steps).log) (late_run (opening n) steps).channel (once_closed (late_run (opening n) steps)).held
-  flying = subst (λ (s : State). IsUnderWay (past s.log) s.channel s.held) (sym (same_state n steps)) (under_way (run (opening n) steps) (invariant_after_run n steps) (tie _ (run (opening n) steps) (invariant_after_run n steps) (lawful_after_run n steps)))
+  flying : IsInTransit (past (late_run (opening n) steps).log) (late_run (opening n) steps).channel (once_closed (late_run (opening n) steps)).held
+  flying = subst (λ (s : State). IsInTransit (past s.log) s.channel s.held) (sym (same_state n steps)) (in_transit (run (opening n) steps) (invariant_after_run n steps) (tie _ (run (opening n) steps) (invariant_after_run n steps) (lawful_after_run n steps)))
 
   pub own_live : (q : ℕ) → has_to_restore (late_run (opening n) steps).so_far q ≡ false → (late_run (opening n) steps).so_far.live q ≡ (done (late_run (opening n) steps).log).own q
   own_live q r = subst (λ (s : State). s.so_far.live q ≡ live_once_closed s.so_far (own_histories s.log).own q) (sym (same_state n steps)) ((own_after_run n steps).live q) ∙ (rw r refl ∙ own_late n steps q)

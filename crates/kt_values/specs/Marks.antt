@@ -4,7 +4,7 @@ use Rattle.kt_spacetime.specs.declared.event.Event.{Event}
 use Rattle.kt_spacetime.specs.declared.event.Event.TheVariants.{Took}
 use Rattle.kt_cuts.specs.Past.{at_one}
 use Rattle.kt_values.specs.Done.{Done, done_after, done_start}
-use Rattle.kt_protocol.specs.UnderWay.{received_of}
+use Rattle.kt_protocol.specs.InTransit.{received_of}
 
 -- what is known after some rows, and of a process and a sender that count
 pub record Marked : Type 0 where

@@ -7,7 +7,7 @@ use Rattle.kt_cuts.specs.declared.deeds.Deed.TheVariants as deed
 use Rattle.kt_cuts.specs.Past.{past, is_rollback, is_committed}
 use Rattle.kt_cuts.specs.Legal.{has_deed}
 use Rattle.kt_protocol.specs.Parcels.{messages, Lists}
-use Rattle.kt_protocol.specs.UnderWay.{times, received_of}
+use Rattle.kt_protocol.specs.InTransit.{times, received_of}
 use Rattle.kt_protocol.specs.States.{State}
 use Rattle.kt_closing.specs.OwnHistories.{own_histories}
 use Rattle.kt_closing.specs.KeptInOrder.{is_in_checkpoint}

@@ -2,11 +2,11 @@
 
 ghost use Rattle.std.specs.Prelude.{◌≡◌, ◌<◌, ◌≤◌, ◌+◌, ◌^◌, ◌-◌, ℕ, None, IfOk, OnOk, OnErr, true, [], length};
 ghost use Rattle.kt_plan.specs.Limits.{IsJobOf};
-ghost use Rattle.kt_process.specs.Persons.{inst_of};
+ghost use Rattle.kt_process.specs.ProcessStates.{inst_of};
 ghost use Rattle.kt_tables.specs.Calls.{Speaks};
 ghost use Rattle.kt_seen.specs.Seen.{Seen};
 ghost use Rattle.kt_seen.specs.Transition.{transition};
-ghost use Rattle.kt_system.specs.Systems.{person, IsSameSystem, LogGrows};
+ghost use Rattle.kt_system.specs.Systems.{state_of, IsSameSystem, LogGrows};
 ghost use Rattle.kt_system.specs.Shown.{ShowsState};
 ghost use Rattle.kt_system.specs.ShownActs.{acts_shown};
 ghost use Rattle.kt_system.specs.Tallies.{TalliesPut};
@@ -60,14 +60,14 @@ fn do_job(
     requires p { p < system.old.size }
     requires job { IsJobOf system.old.size p job.now }
     requires few { length system.old.rows.rows + 4 ≤ 2 ^ 24 }
-    requires left { is_send job.now ≡ true → (person system.old p).up ≡ true → (person system.old p).used < 2 ^ 48 - 1 }
-    requires free { is_send job.now ≡ true → inst_of (person system.old p).side ≡ None }
+    requires left { is_send job.now ≡ true → (state_of system.old p).up ≡ true → (state_of system.old p).used < 2 ^ 48 - 1 }
+    requires free { is_send job.now ≡ true → inst_of (state_of system.old p).side ≡ None }
     ensures size { system.new.size ≡ system.old.size }
     ensures grows { LogGrows 4 system.old system.new }
     ensures err { OnErr result (IsSameSystem system.new system.old) }
     ensures tallies { OnOk result (TalliesPut [] system.old system.new) }
     ensures shows { (v : Seen) → ShowsState system.old v → system.old.begun < 4096 →
-        Speaks (((transition v (protocol_step p job.now give)).people p).calls) →
+        Speaks (((transition v (protocol_step p job.now give)).states p).calls) →
         OnOk result (ShowsState system.new (transition v (protocol_step p job.now give))) }
     ensures acts { (v : Seen) → ShowsState system.old v → system.old.begun < 4096 →
         IfOk result (λ acts. acts_shown acts ≡ seen_acts v (protocol_step p job.now give)) }

@@ -3,7 +3,7 @@
 ghost use Rattle.std.specs.Prelude.{◌≡◌, ◌<◌, ◌+◌, ◌↔◌, ℕ, true, false, Some, None, IsTrue, is_some, IfSome, IfNone, OnOk, IfOk, IfErr};
 ghost use Rattle.kt_core.specs.Worlds.{process_may_do, can_make, can_do, needs, needs_of_step, needs_of_command, step_refusal, is_full, sends_unlabelled, is_send, IsWorldAtRest, IsNextDo, IsFirstBelow, IsDefaultStep, IsNextStepOf};
 ghost use Rattle.kt_plans.specs.Steps.{process_of_step, enabled, is_at_rest};
-ghost use Rattle.kt_system.specs.Systems.{person};
+ghost use Rattle.kt_system.specs.Systems.{state_of};
 ghost use Rattle.std.specs.Option.{option_map};
 ghost use Rattle.kt_plans.specs.Follows.{FollowsPlan};
 ghost use Rattle.kt_plans.specs.Progress.{Progress};
@@ -48,7 +48,7 @@ impl World {
     /// Whether a process may do a command that is its next one.
     fn may_do(&self, p: ProcNo, command: &Command) -> bool
         requires { p < self.now.system.size }
-        ensures { result ≡ process_may_do (person self.now.system p) (Some command.now) }
+        ensures { result ≡ process_may_do (state_of self.now.system p) (Some command.now) }
     {
         !is_send(&command.job) || self.system.in_inst(p).is_none()
     }
@@ -208,7 +208,7 @@ impl World {
     /// What a command of a process needs of its object.
     fn look_at_command(&self, p: ProcNo, command: &Command) -> Look
         requires { p < self.now.system.size }
-        ensures { result ≡ needs_of_command (person self.now.system p) (Some command.now) }
+        ensures { result ≡ needs_of_command (state_of self.now.system p) (Some command.now) }
     {
         match command.job {
             Job::Send { body: None, .. } => {
@@ -232,7 +232,7 @@ impl World {
     /// Whether a command of a process would send a message for which the process has no label left.
     fn has_no_label(&self, p: ProcNo, command: &Command) -> bool
         requires { p < self.now.system.size }
-        ensures { result ≡ sends_unlabelled (person self.now.system p) (Some command.now) }
+        ensures { result ≡ sends_unlabelled (state_of self.now.system p) (Some command.now) }
     {
         is_send(&command.job) && self.system.is_up(p) && self.system.is_spent(p)
     }
@@ -247,7 +247,7 @@ impl World {
         ensures stuck { ((step : Step) → can_make self.now step ≡ false) → IsTrue result }
 
         // Then the log is that of a whole run of the plan, told by its rows alone: each command has its row, each instance
-        // is decided, no process is in one, and no message is under way.
+        // is decided, no process is in one, and no message is in transit.
         ensures follows { IsTrue result → FollowsPlan self.now.agenda.plan self.now.system.rows.rows }
     {
         kt_plans::logs_follow_plans();

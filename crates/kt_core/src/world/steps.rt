@@ -1,8 +1,8 @@
 //! Steps.
 
 ghost use Rattle.std.specs.Prelude.{◌≡◌, ◌⊎◌, ◌<◌, ◌≤◌, ◌+◌, ◌^◌, ℕ, Some, None, Err, IfSome, IfOk, IfErr, OnOk, OnErr, drop, length, slice_get};
-ghost use Rattle.kt_process.specs.Persons.{part_of_side, IsNumbered};
-ghost use Rattle.kt_system.specs.Systems.{person};
+ghost use Rattle.kt_process.specs.ProcessStates.{part_of_side, IsNumbered};
+ghost use Rattle.kt_system.specs.Systems.{state_of};
 ghost use Rattle.kt_plans.specs.Progress.{Progress};
 ghost use Rattle.kt_plans.specs.Rows.{AreRowsOfStep};
 ghost use Rattle.kt_core.specs.Making.{KeepsPlan, MakesStep};
@@ -135,12 +135,12 @@ impl World {
     }
 }
 
-/// The next phase opens, where the open one is done and nothing is under way.
+/// The next phase opens, where the open one is done and nothing is in transit.
 pub(super) fn settle(agenda: &mut Agenda, system: &System)
     ensures plan { agenda.new.plan ≡ agenda.old.plan }
     ensures next { agenda.new.next ≡ agenda.old.next }
     ensures settled { SettlesIn system.now agenda.old agenda.new }
-    ensures numbered { (p : ℕ) → p < system.now.size → IsNumbered (part_of_side (person system.now p).side) }
+    ensures numbered { (p : ℕ) → p < system.now.size → IsNumbered (part_of_side (state_of system.now p).side) }
 {
     let _processes = system.processes();
     if system.is_quiet() {

@@ -3,7 +3,7 @@
 ghost use Rattle.std.specs.Prelude.{◌≡◌, ◌<◌, ◌≤◌, ◌+◌, ◌^◌, ℕ, true, IfOk, IfSome, IfNone, length};
 ghost use Rattle.kt_base.specs.Sets.{has};
 ghost use Rattle.kt_process.specs.Turns.{peers_of};
-ghost use Rattle.kt_system.specs.Systems.{person, room_to, CanCarryOut, KeepsParcels, IsSameSystem, LogGrows};
+ghost use Rattle.kt_system.specs.Systems.{state_of, room_to, CanCarryOut, KeepsParcels, IsSameSystem, LogGrows};
 ghost use Rattle.std.specs.Prelude.{[], Bool, false, Some, drop, OnOk};
 ghost use Rattle.kt_fifo.specs.Channels.{channel};
 ghost use Rattle.kt_lists.specs.Kept.{kept_of};
@@ -12,7 +12,7 @@ ghost use Rattle.kt_process.specs.Shown.{mark_of};
 ghost use Rattle.kt_seen.specs.Seen.{Seen};
 ghost use Rattle.kt_seen.specs.Transition.{transition, seen_ask};
 ghost use Rattle.kt_cuts.specs.Past.{is_rollback_kind};
-ghost use Rattle.kt_process.specs.Persons.{is_ready};
+ghost use Rattle.kt_process.specs.ProcessStates.{is_ready};
 ghost use Rattle.kt_values.specs.SeenActs.{seen_acts, seen_acts_asked};
 ghost use Rattle.kt_system.specs.Shown.{ShowsState, JoinsAs, with_instance, begun_as, answered_as, with_cause, begin_verb};
 ghost use Rattle.kt_system.specs.ShownActs.{acts_shown, acts_carried_out};
@@ -126,7 +126,7 @@ impl System {
         requires room { CanCarryOut self.old p action }
         ensures keeps { KeepsInPart 4 [] self.old self.new }
         ensures shows { (v : Seen) (test : ℕ → Bool) (label : ℕ → ℕ) → ShowsState self.old v → JoinsAs self.old v p test label action → ShowsState self.new (begun_as v p inst kind test label action) }
-        ensures acts { acts_shown result ≡ acts_carried_out kind (is_ready (person self.old p).side) action }
+        ensures acts { acts_shown result ≡ acts_carried_out kind (is_ready (state_of self.old p).side) action }
     {
         match action {
             Action::Refuse(cause) => {
@@ -146,7 +146,7 @@ impl System {
         requires at { at < self.now.size }
         requires from { from < self.now.size }
         ensures from { has result from ≡ true }
-        ensures asks { joins ≡ true → (q : ℕ) → peers_of (person self.now at).tables kind q ≡ true → has result q ≡ true }
+        ensures asks { joins ≡ true → (q : ℕ) → peers_of (state_of self.now at).tables kind q ≡ true → has result q ≡ true }
         ensures within { (q : ℕ) → has result q ≡ true → q < self.now.size }
     {
         if joins {
@@ -218,7 +218,7 @@ impl System {
         requires room { CanCarryOut self.old at action }
         ensures keeps { KeepsInPart 4 [] self.old self.new }
         ensures shows { (v : Seen) (test : ℕ → Bool) (label : ℕ → ℕ) → ShowsState self.old v → JoinsAs self.old v at test label action → ShowsState self.new (answered_as v at from inst kind test label action) }
-        ensures acts { acts_shown result ≡ acts_carried_out kind (is_ready (person self.old at).side) action }
+        ensures acts { acts_shown result ≡ acts_carried_out kind (is_ready (state_of self.old at).side) action }
     {
         match action {
             Action::Reply {

@@ -2,8 +2,8 @@
 
 ghost use Rattle.std.specs.Prelude.{◌≡◌, ◌<◌, ◌≤◌, ◌+◌, ◌^◌, ℕ, true, slice_index_or, length};
 ghost use Rattle.kt_base.specs.Sets.{has};
-ghost use Rattle.kt_process.specs.Persons.{is_ready};
-ghost use Rattle.kt_system.specs.Systems.{person, room_to, HasBack, CanJoin, CanClose, KeepsRoom, UsesRoom};
+ghost use Rattle.kt_process.specs.ProcessStates.{is_ready};
+ghost use Rattle.kt_system.specs.Systems.{state_of, room_to, HasBack, CanJoin, CanClose, KeepsRoom, UsesRoom};
 ghost use Rattle.std.specs.Prelude.{Bool, [], ◌++◌};
 ghost use Rattle.kt_fifo.specs.declared.parcels.Parcel.TheVariants as parcel;
 ghost use Rattle.kt_tables.specs.Peers.{IsCohort};
@@ -30,7 +30,7 @@ impl System {
     /// checkpoint's go that were received before it, and a rollback's are held again; by an abort all stays.
     fn settle_kept(&mut self, p: ProcNo, commit: bool)
         requires p { p < self.old.size }
-        requires back { is_ready (person self.old p).side ≡ true → HasBack self.old p }
+        requires back { is_ready (state_of self.old p).side ≡ true → HasBack self.old p }
         ensures rows { self.new.rows ≡ self.old.rows }
         ensures keeps { KeepsRoom self.old self.new }
         ensures tallies { TalliesPut [] self.old self.new }
@@ -73,7 +73,7 @@ impl System {
         requires room { CanClose self.old p }
         ensures keeps { KeepsInPart 1 [] self.old self.new }
         ensures shows { (v : Seen) → ShowsState self.old v → IsInside self.old p → ShowsState self.new (seen_closing v p inst commit) }
-        ensures acts { act_shown result ≡ closing (is_ready (person self.old p).side) commit }
+        ensures acts { act_shown result ≡ closing (is_ready (state_of self.old p).side) commit }
     {
         let was_ready = self.is_ready(p);
         self.settle_kept(p, commit);
@@ -98,9 +98,9 @@ impl System {
         requires few { length self.old.rows.rows + 3 ≤ 2 ^ 24 }
         requires room { CanJoin self.old p asks.now goes }
         ensures keeps { KeepsInPart 3 [] self.old self.new }
-        ensures shows { (v : Seen) (test : ℕ → Bool) (label : ℕ → ℕ) → ShowsState self.old v → IsCohort asks.now test label → goes ≡ goes_on (v.people p).part → (v.people p).part.willing ≡ true → IsInside self.old p →
+        ensures shows { (v : Seen) (test : ℕ → Bool) (label : ℕ → ℕ) → ShowsState self.old v → IsCohort asks.now test label → goes ≡ goes_on (v.states p).part → (v.states p).part.willing ≡ true → IsInside self.old p →
             ShowsState self.new (asking_and_settling v p inst kind test label) }
-        ensures acts { acts_shown result ≡ acts_joining kind ++ acts_going_on (is_ready (person self.old p).side) goes }
+        ensures acts { acts_shown result ≡ acts_joining kind ++ acts_going_on (is_ready (state_of self.old p).side) goes }
     {
         self.ask(p, inst, kind, asks);
         self.write(joining_row(p, inst, kind));
@@ -141,7 +141,7 @@ impl System {
         requires room { CanClose self.old p }
         ensures keeps { KeepsInPart 2 [] self.old self.new }
         ensures shows { (v : Seen) → ShowsState self.old v → IsInside self.old p → ShowsState self.new (seen_closing (seen_deciding v p inst commit) p inst commit) }
-        ensures acts { act_shown result ≡ closing (is_ready (person self.old p).side) commit }
+        ensures acts { act_shown result ≡ closing (is_ready (state_of self.old p).side) commit }
     {
         self.write(Event::Decided { p, inst, commit });
         self.close(p, inst, commit)

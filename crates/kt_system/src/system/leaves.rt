@@ -2,8 +2,8 @@
 
 ghost use Rattle.std.specs.Prelude.{◌≡◌, ◌<◌, ◌≤◌, ◌+◌, ◌^◌, ◌++◌, ◌∷◌, [], ℕ, true, OnOk, length};
 ghost use Rattle.kt_base.specs.Sets.{has};
-ghost use Rattle.kt_process.specs.Persons.{is_ready};
-ghost use Rattle.kt_system.specs.Systems.{person, room_to, HasBack, HasRoomFor, KeepsParcels, KeepsPeople, KeepsRoom, GivesRoom, IsSameSystem};
+ghost use Rattle.kt_process.specs.ProcessStates.{is_ready};
+ghost use Rattle.kt_system.specs.Systems.{state_of, room_to, HasBack, HasRoomFor, KeepsParcels, KeepsStates, KeepsRoom, GivesRoom, IsSameSystem};
 ghost use Rattle.std.specs.Prelude.{drop};
 ghost use Rattle.kt_fifo.specs.Channels.{channel};
 ghost use Rattle.kt_seen.specs.Seen.{Seen};
@@ -38,8 +38,8 @@ impl System {
         requires to { to < self.old.size }
         requires room { 1 ≤ room_to self.old p to }
         ensures rows { self.new.rows ≡ self.old.rows }
-        ensures keeps { KeepsPeople self.old self.new }
-        ensures wires { channel self.new.wires ≡ with_parcel (channel self.old.wires) p to parcel }
+        ensures keeps { KeepsStates self.old self.new }
+        ensures channels { channel self.new.channels ≡ with_parcel (channel self.old.channels) p to parcel }
         ensures tallies { self.new.put ≡ self.old.put }
         ensures shows { (v : Seen) → ShowsState self.old v → ShowsState self.new (record v { channel = with_parcel v.channel p to parcel }) }
     {
@@ -130,7 +130,7 @@ impl System {
         requires { p < self.old.size }
         ensures same { IsSameSystem self.new self.old }
         ensures rows { self.new.rows ≡ self.old.rows }
-        ensures back { OnOk result (is_ready (person self.old p).side ≡ true → HasBack self.new p) }
+        ensures back { OnOk result (is_ready (state_of self.old p).side ≡ true → HasBack self.new p) }
         ensures keeps { KeepsRoom self.old self.new }
     {
         if self.is_ready(p) {

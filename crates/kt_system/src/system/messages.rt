@@ -1,7 +1,7 @@
 //! Application messages, and failures.
 
 ghost use Rattle.std.specs.Prelude.{◌≡◌, ◌<◌, ◌≤◌, ◌+◌, ◌-◌, ◌^◌, true, length};
-ghost use Rattle.kt_system.specs.Systems.{person};
+ghost use Rattle.kt_system.specs.Systems.{state_of};
 ghost use Rattle.std.specs.Prelude.{[], ◌∷◌, ◌++◌, false, drop, OnOk, IfOk, if◌then◌else◌};
 ghost use Rattle.kt_fifo.specs.declared.parcels.Parcel.TheVariants as parcel;
 ghost use Rattle.kt_tables.specs.Calls.{received, Speaks};
@@ -51,9 +51,9 @@ impl System {
     /// labels are not spent, was tested before.
     pub fn send(&mut self, p: ProcNo, to: ProcNo, body: i64) -> Result<[Act; 2], Memory>
         requires can { CanStep self.old p to }
-        requires left { (person self.old p).up ≡ true → (person self.old p).used < 2 ^ 48 - 1 }
+        requires left { (state_of self.old p).up ≡ true → (state_of self.old p).used < 2 ^ 48 - 1 }
         ensures keeps { KeepsInStep result [] self.old self.new }
-        ensures shows { (v : Seen) → ShowsState self.old v → (v.people p).inst ≡ 0 → (to ≡ p → ⊥) → Speaks (((transition v (SendStep p to body)).people p).calls) → OnOk result (ShowsState self.new (transition v (SendStep p to body))) }
+        ensures shows { (v : Seen) → ShowsState self.old v → (v.states p).inst ≡ 0 → (to ≡ p → ⊥) → Speaks (((transition v (SendStep p to body)).states p).calls) → OnOk result (ShowsState self.new (transition v (SendStep p to body))) }
         ensures acts { (v : Seen) → IfOk result (λ acts. acts_shown acts ≡ seen_acts v (SendStep p to body)) }
     {
         self.make_room_to(p, to)?;
@@ -105,7 +105,7 @@ impl System {
     ) -> Result<[Act; 2], Memory>
         requires can { CanStep self.old at from }
         ensures keeps { KeepsInStep result (front self.old at from) self.old self.new }
-        ensures shows { (v : Seen) → ShowsState self.old v → (is_seen_ready v at ≡ false → (v.people at).up ≡ true → Speaks ((v.people at).calls ++ received from message.label ∷ [])) →
+        ensures shows { (v : Seen) → ShowsState self.old v → (is_seen_ready v at ≡ false → (v.states at).up ≡ true → Speaks ((v.states at).calls ++ received from message.label ∷ [])) →
             OnOk result (ShowsState self.new (if is_seen_ready v at then seen_holding v at from (parcel.App message.label message.msg message.body) (drop 1 (v.channel from at))
             else seen_arrival v (with_rest v.channel from at (drop 1 (v.channel from at))) v.held at from message.label message.msg message.body)) }
         ensures acts { (v : Seen) → ShowsState self.old v → IfOk result (λ acts. acts_shown acts ≡ (if is_seen_ready v at then [] else seen_acts_arriving v at from message.body)) }
@@ -146,7 +146,7 @@ impl System {
     ) -> Result<[Act; 2], Memory>
         requires can { CanStep self.old at from }
         ensures keeps { KeepsInStep result (if is_held then [] else front self.old at from) self.old self.new }
-        ensures shows { (v : Seen) → ShowsState self.old v → ((v.people at).up ≡ true → Speaks ((v.people at).calls ++ received from message.label ∷ [])) →
+        ensures shows { (v : Seen) → ShowsState self.old v → ((v.states at).up ≡ true → Speaks ((v.states at).calls ++ received from message.label ∷ [])) →
             OnOk result (ShowsState self.new (seen_arrival v (channel_without is_held v at from) (held_without is_held v at from) at from message.label message.msg message.body)) }
         ensures acts { (v : Seen) → ShowsState self.old v → IfOk result (λ acts. acts_shown acts ≡ seen_acts_arriving v at from message.body) }
     {

@@ -5,9 +5,9 @@ ghost use Rattle.std.specs.List.{list_all};
 ghost use Rattle.std.specs.Option.{option_copied};
 ghost use Rattle.kt_base.specs.declared.words.Kind.TheVariants as kind;
 ghost use Rattle.kt_fifo.specs.Channels.{channel};
-ghost use Rattle.kt_process.specs.Persons.{Person, part_of_side, is_ready, inst_of, IsNumbered};
+ghost use Rattle.kt_process.specs.ProcessStates.{ProcessState, part_of_side, is_ready, inst_of, IsNumbered};
 ghost use Rattle.kt_process.specs.Turns.{joins_by};
-ghost use Rattle.kt_system.specs.Systems.{person};
+ghost use Rattle.kt_system.specs.Systems.{state_of};
 ghost use Rattle.kt_system.specs.Reads.{tally_of, held_parcel, next_parcel, can_take, saves_by, would_save, IsQuiet};
 
 use super::{System, Tally};
@@ -21,7 +21,7 @@ impl System {
     pub fn processes(&self) -> usize
         ensures processes { result ≡ self.now.size }
         ensures few { result ≤ 64 }
-        ensures numbered { (p : ℕ) → p < self.now.size → IsNumbered (part_of_side (person self.now p).side) }
+        ensures numbered { (p : ℕ) → p < self.now.size → IsNumbered (part_of_side (state_of self.now p).side) }
     {
         self.channels.processes()
     }
@@ -43,8 +43,8 @@ impl System {
     /// The instance that a process is in.
     pub fn in_inst(&self, p: ProcNo) -> Option<InstNo>
         requires { p < self.now.size }
-        ensures inst { result ≡ inst_of (person self.now p).side }
-        ensures numbered { IsNumbered (part_of_side (person self.now p).side) }
+        ensures inst { result ≡ inst_of (state_of self.now p).side }
+        ensures numbered { IsNumbered (part_of_side (state_of self.now p).side) }
     {
         self.process(p).in_inst()
     }
@@ -52,7 +52,7 @@ impl System {
     /// Whether a process's object is up.
     pub fn is_up(&self, p: ProcNo) -> bool
         requires { p < self.now.size }
-        ensures { result ≡ (person self.now p).up }
+        ensures { result ≡ (state_of self.now p).up }
     {
         self.process(p).is_up()
     }
@@ -60,8 +60,8 @@ impl System {
     /// Whether a process is in a rollback.
     pub fn is_ready(&self, p: ProcNo) -> bool
         requires { p < self.now.size }
-        ensures ready { result ≡ is_ready (person self.now p).side }
-        ensures numbered { IsNumbered (part_of_side (person self.now p).side) }
+        ensures ready { result ≡ is_ready (state_of self.now p).side }
+        ensures numbered { IsNumbered (part_of_side (state_of self.now p).side) }
     {
         self.process(p).is_ready()
     }
@@ -69,14 +69,14 @@ impl System {
     /// Whether the greatest label of a process was given, so that it can't send any more.
     pub fn is_spent(&self, p: ProcNo) -> bool
         requires { p < self.now.size }
-        ensures { IsTrue result ↔ (2 ^ 48 - 1 ≤ (person self.now p).used) }
+        ensures { IsTrue result ↔ (2 ^ 48 - 1 ≤ (state_of self.now p).used) }
     {
         self.process(p).is_spent()
     }
 
     /// How many parcels are in the channel from one process to another; 0 where one of them is not there.
     pub fn in_flight(&self, from: ProcNo, to: ProcNo) -> usize
-        ensures { result ≡ length (channel self.now.wires from to) }
+        ensures { result ≡ length (channel self.now.channels from to) }
     {
         let processes = self.channels.processes();
         if from.index() < processes && to.index() < processes {
@@ -105,7 +105,7 @@ impl System {
         requires at { at < self.now.size }
         requires from { from < self.now.size }
         ensures parcel { result ≡ held_parcel self.now at from }
-        ensures numbered { IsNumbered (part_of_side (person self.now at).side) }
+        ensures numbered { IsNumbered (part_of_side (state_of self.now at).side) }
     {
         if self.is_ready(at) {
             return None;
@@ -152,7 +152,7 @@ impl System {
     /// instance.
     fn may_save(&self, p: ProcNo) -> bool
         requires { p < self.now.size }
-        ensures { result ≡ ((person self.now p).up && is_none (inst_of (person self.now p).side)) }
+        ensures { result ≡ ((state_of self.now p).up && is_none (inst_of (state_of self.now p).side)) }
     {
         self.is_up(p) && self.in_inst(p).is_none()
     }
@@ -177,7 +177,7 @@ impl System {
 
     /// Whether no process is in an instance.
     fn all_outside(&self) -> bool
-        ensures { result ≡ list_all (λ (x : Person). is_none (inst_of x.side)) self.now.people }
+        ensures { result ≡ list_all (λ (x : ProcessState). is_none (inst_of x.side)) self.now.states }
     {
         self.processes
             .iter()
@@ -212,8 +212,8 @@ fn saves_by(process: &Process, from: ProcNo, parcel: &Parcel) -> bool
 
 /// The label of an ask to take part in a checkpoint, if a parcel is one.
 fn label_of_ask_to_save(parcel: &Parcel) -> Option<Label>
-    ensures some { IfSome result (λ label. (x : Person) → (from : ℕ) → saves_by x from parcel.now ≡ joins_by x kind.Checkpoint true from label) }
-    ensures none { IfNone result ((x : Person) → (from : ℕ) → saves_by x from parcel.now ≡ false) }
+    ensures some { IfSome result (λ label. (x : ProcessState) → (from : ℕ) → saves_by x from parcel.now ≡ joins_by x kind.Checkpoint true from label) }
+    ensures none { IfNone result ((x : ProcessState) → (from : ℕ) → saves_by x from parcel.now ≡ false) }
 {
     match parcel {
         Parcel::Ask { kind, label, .. } => match kind {

@@ -1,14 +1,14 @@
 //! Replies and decisions, and a parcel of any kind.
 
 ghost use Rattle.std.specs.Prelude.{◌≡◌, ◌<◌, ◌≤◌, ◌+◌, ◌^◌, ℕ, true, length};
-ghost use Rattle.kt_system.specs.Systems.{person, CanGoOn};
+ghost use Rattle.kt_system.specs.Systems.{state_of, CanGoOn};
 ghost use Rattle.std.specs.Prelude.{Bool, [], drop, OnOk, IfOk, ◌==◌, ◌∷◌};
 ghost use Rattle.kt_tables.specs.Calls.{Speaks};
 ghost use Rattle.kt_protocol.specs.States.{Take as TakeStep};
 ghost use Rattle.kt_seen.specs.Transition.{transition, seen_front, seen_take};
 ghost use Rattle.kt_parts.specs.declared.actions.Action.TheVariants as what;
 ghost use Rattle.kt_seen.specs.Seen.{Seen};
-ghost use Rattle.kt_process.specs.Persons.{is_ready};
+ghost use Rattle.kt_process.specs.ProcessStates.{is_ready};
 ghost use Rattle.kt_values.specs.SeenActs.{seen_acts, seen_acts_replied, seen_acts_decided, seen_acts_taking, seen_acts_taking_held};
 ghost use Rattle.kt_system.specs.Shown.{ShowsState, IsInside, gone_on, after_reply_taken, after_decision_taken};
 ghost use Rattle.kt_system.specs.ShownActs.{acts_shown, acts_gone_on};
@@ -53,7 +53,7 @@ impl System {
         requires room { CanGoOn self.old p action.now }
         ensures keeps { KeepsInPart 2 [] self.old self.new }
         ensures shows { (v : Seen) → ShowsState self.old v → ((commit : Bool) (tell : ℕ) → action.now ≡ what.Settle commit tell → IsInside self.old p) → ShowsState self.new (gone_on v p inst action.now) }
-        ensures acts { acts_shown result ≡ acts_gone_on (is_ready (person self.old p).side) action.now }
+        ensures acts { acts_shown result ≡ acts_gone_on (is_ready (state_of self.old p).side) action.now }
     {
         match action {
             Action::Reply {
@@ -76,7 +76,7 @@ impl System {
     fn is_in(&self, p: ProcNo, inst: InstNo) -> bool
         requires { p < self.now.size }
         ensures inside { result ≡ true → IsInside self.now p }
-        ensures shows { (v : Seen) → ShowsState self.now v → result ≡ ((v.people p).inst == inst) }
+        ensures shows { (v : Seen) → ShowsState self.now v → result ≡ ((v.states p).inst == inst) }
     {
         match self.in_inst(p) {
             Some(current) => current.get() == inst.get(),
@@ -118,7 +118,7 @@ impl System {
     ) -> Result<[Act; 2], Memory>
         requires can { CanStep self.old at from }
         ensures keeps { KeepsInStep result (front self.old at from) self.old self.new }
-        ensures shows { (v : Seen) → ShowsState self.old v → Speaks (((seen_front v at from able (v.channel from at)).people at).calls) → OnOk result (ShowsState self.new (seen_front v at from able (v.channel from at))) }
+        ensures shows { (v : Seen) → ShowsState self.old v → Speaks (((seen_front v at from able (v.channel from at)).states at).calls) → OnOk result (ShowsState self.new (seen_front v at from able (v.channel from at))) }
         ensures acts { (v : Seen) → ShowsState self.old v → IfOk result (λ acts. acts_shown acts ≡ seen_acts_taking v at from able (v.channel from at)) }
     {
         let Some(parcel) = self.channels.front(from, at).copied() else {
@@ -141,7 +141,7 @@ impl System {
         requires can { CanStep self.old at from }
         ensures keeps { KeepsInStep result [] self.old self.new }
         ensures shows { (v : Seen) (able : Bool) → ShowsState self.old v → v.held from at ≡ parcel ∷ drop 1 (v.held from at) →
-            Speaks (((seen_take v at from able (v.held from at)).people at).calls) → OnOk result (ShowsState self.new (seen_take v at from able (v.held from at))) }
+            Speaks (((seen_take v at from able (v.held from at)).states at).calls) → OnOk result (ShowsState self.new (seen_take v at from able (v.held from at))) }
         ensures acts { (v : Seen) (able : Bool) → ShowsState self.old v → v.held from at ≡ parcel ∷ drop 1 (v.held from at) →
             IfOk result (λ acts. acts_shown acts ≡ seen_acts_taking_held v at from able (v.held from at)) }
     {
@@ -165,7 +165,7 @@ impl System {
     ) -> Result<[Act; 2], Memory>
         requires can { CanStep self.old at from }
         ensures keeps { KeepsInStep result (taken_off self.old at from) self.old self.new }
-        ensures shows { (v : Seen) → ShowsState self.old v → Speaks (((transition v (TakeStep at from able)).people at).calls) → OnOk result (ShowsState self.new (transition v (TakeStep at from able))) }
+        ensures shows { (v : Seen) → ShowsState self.old v → Speaks (((transition v (TakeStep at from able)).states at).calls) → OnOk result (ShowsState self.new (transition v (TakeStep at from able))) }
         ensures acts { (v : Seen) → ShowsState self.old v → IfOk result (λ acts. acts_shown acts ≡ seen_acts v (TakeStep at from able)) }
     {
         match self.held_parcel(at, from) {

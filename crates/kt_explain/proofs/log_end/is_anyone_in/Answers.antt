@@ -2,7 +2,7 @@ use Rattle.std.proofs.Common.{◌<◌, ◌∙◌, ℕ, sym, ap, arith, inl, inr}
 use Rattle.std.proofs.lemmas.Bool.{cases_eq}
 use Rattle.kt_cuts.specs.Past.{past}
 use Rattle.kt_cuts.specs.Legal.{is_in}
-use Rattle.kt_explain.proofs.FilledSets.{someone_in, nobody_in}
+use Rattle.kt_explain.proofs.FilledSets.{someone_in, none_is_in}
 use Rattle.kt_explain.proofs.log_end.is_anyone_in.Goals as goal
 
 pub loop-number-preserved : goal.loop-number-preserved
@@ -17,4 +17,4 @@ returns-then-is_in c = λ rows h.
     sym (someone_in (past rows) c.args.inst c.nth.result low (sym (c.is_in.ensures rows h) ∙ c.if-is_in.true))
 
 pub returns : goal.returns
-returns c = λ rows h. sym (nobody_in (past rows) c.args.inst (λ p low. c.loop-number.invariant rows p h (omega (arith, low, c.loop-number-test.false))))
+returns c = λ rows h. sym (none_is_in (past rows) c.args.inst (λ p low. c.loop-number.invariant rows p h (omega (arith, low, c.loop-number-test.false))))

@@ -3,7 +3,7 @@ use Rattle.kt_values.specs.States.{IsRising}
 use Rattle.kt_plans.specs.Lines.{message_line, EachIsOnceOnItsLine, RetainsReceived}
 use Rattle.kt_plans.proofs.ReachedRuns.{seen_of}
 use Rattle.kt_plans.proofs.LinesOfRuns.{once_seen, rising_seen, keeps_seen}
-use Rattle.kt_plans.proofs.PeopleKeep.{channel_seen}
+use Rattle.kt_plans.proofs.StatesKeep.{channel_seen}
 use Rattle.kt_plans.proofs.HeldMessages.{held_to_holder, kept_by_receiver}
 use Rattle.kt_plans.proofs.ArrivedMessages.{own_live, received_once, received_all}
 use Rattle.kt_plans.proofs.WholeLogs.{rested}

@@ -4,14 +4,14 @@ use Rattle.kt_seen.proofs.LogFacts.{used_is}
 use Rattle.kt_closing.specs.LateSteps.{late_run}
 use Rattle.kt_protocol.specs.States.{opening}
 use Rattle.kt_plans.proofs.ReachedRuns.{seen_of}
-use Rattle.kt_plans.proofs.PeopleKeep.{processes_seen, speaks_seen, speaks_next_seen, no_part_seen, would_ask_in_checkpoint_seen, would_ask_in_rollback_seen, asked_seen, parent_seen}
+use Rattle.kt_plans.proofs.StatesKeep.{processes_seen, speaks_seen, speaks_next_seen, no_part_seen, would_ask_in_checkpoint_seen, would_ask_in_rollback_seen, asked_seen, parent_seen}
 use Rattle.kt_plans.proofs.laws.processes_of_runs.Goals as goal
 
 pub returns-clause-processes : goal.returns-clause-processes
 returns-clause-processes c = processes_seen
 
 pub returns-clause-used : goal.returns-clause-used
-returns-clause-used c = λ plan first w p i r. seen_of plan first w (λ v. (v.people p).used ≡ first + sends_of p v.log) i r (λ s. used_is first (late_run (opening (length plan.names)) s).log p)
+returns-clause-used c = λ plan first w p i r. seen_of plan first w (λ v. (v.states p).used ≡ first + sends_of p v.log) i r (λ s. used_is first (late_run (opening (length plan.names)) s).log p)
 
 pub returns-clause-speaks : goal.returns-clause-speaks
 returns-clause-speaks c = λ plan first w p i r. speaks_seen plan first w i r p

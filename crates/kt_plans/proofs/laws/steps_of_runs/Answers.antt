@@ -3,6 +3,7 @@ use Rattle.kt_plans.proofs.OthersStep.{waits}
 use Rattle.kt_plans.proofs.RunSteps.{stays_on, stays_seen}
 use Rattle.kt_plans.proofs.DefaultSteps.{nothing_default, default_nothing, default_on, default_first, gives_same, unwilling_seen}
 use Rattle.kt_plans.proofs.IdleLooks.{idle_exactly}
+use Rattle.kt_plans.proofs.TakesOfOthers.{of_another}
 use Rattle.kt_plans.proofs.laws.steps_of_runs.Goals as goal
 use Rattle.kt_plans.proofs.DefaultOrder.{some_is}
 
@@ -35,6 +36,9 @@ returns-clause-waits_looks c = λ plan first w v x moves i r e others leads. (wa
 
 pub returns-clause-only : goal.returns-clause-only
 returns-clause-only c = only_first
+
+pub returns-clause-of_another : goal.returns-clause-of_another
+returns-clause-of_another c = of_another
 
 pub returns-clause-idle : goal.returns-clause-idle
 returns-clause-idle c = idle_exactly

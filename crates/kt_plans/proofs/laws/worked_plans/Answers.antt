@@ -18,9 +18,9 @@ pub returns-clause-rows : goal.returns-clause-rows
 unfolding with_parcel with_rest with_asks_where with_decisions must_take must_roll is_asked_in_checkpoint checkpoint_label is_asked_in_rollback rollback_label count_peers count_where total_below
 returns-clause-rows c = refl
 
-pub returns-clause-under_way : goal.returns-clause-under_way
+pub returns-clause-in_transit : goal.returns-clause-in_transit
 unfolding with_parcel with_rest with_asks_where with_decisions must_take must_roll is_asked_in_checkpoint checkpoint_label is_asked_in_rollback rollback_label count_peers count_where total_below
-returns-clause-under_way c = refl
+returns-clause-in_transit c = refl
 
 pub returns-clause-arrived : goal.returns-clause-arrived
 unfolding with_parcel with_rest with_asks_where with_decisions must_take must_roll is_asked_in_checkpoint checkpoint_label is_asked_in_rollback rollback_label count_peers count_where total_below

@@ -7,7 +7,7 @@ use Rattle.kt_protocol.proofs.KeptMessages.{kept_past_permanent}
 use Rattle.kt_protocol.proofs.StandsOnce.{stands_once}
 use Rattle.kt_protocol.proofs.MessageOrder.{live_rises}
 use Rattle.kt_protocol.proofs.WholeSteps.{all_after_run}
-use Rattle.kt_protocol.proofs.LogMeaning.{placed_in, under_way}
+use Rattle.kt_protocol.proofs.LogMeaning.{placed_in, in_transit}
 use Rattle.kt_protocol.proofs.Walk.{invariant_after_run}
 use Rattle.kt_protocol.proofs.SummaryTies.{ranked}
 use Rattle.kt_protocol.specs.States.{opening}
@@ -27,12 +27,12 @@ returns-clause-ordered c = λ n steps. subst (λ (h : Summary). OrdersMembers h 
 pub returns-clause-placed : goal.returns-clause-placed
 returns-clause-placed c = λ n steps. placed_in (run (opening n) steps) (invariant_after_run n steps) (tie _ (run (opening n) steps) (invariant_after_run n steps) (lawful_after_run n steps))
 
-pub returns-clause-under_way : goal.returns-clause-under_way
-returns-clause-under_way c = λ n steps. under_way (run (opening n) steps) (invariant_after_run n steps) (tie _ (run (opening n) steps) (invariant_after_run n steps) (lawful_after_run n steps))
+pub returns-clause-in_transit : goal.returns-clause-in_transit
+returns-clause-in_transit c = λ n steps. in_transit (run (opening n) steps) (invariant_after_run n steps) (tie _ (run (opening n) steps) (invariant_after_run n steps) (lawful_after_run n steps))
 
 pub returns-clause-stands_once : goal.returns-clause-stands_once
 returns-clause-stands_once c = λ n steps. let s = run (opening n) steps in let t = tie _ s (invariant_after_run n steps) (lawful_after_run n steps) in
-    stands_once (past s.log) s t.live (under_way s (invariant_after_run n steps) t) (λ q p. live_rises s (invariant_after_run n steps) (all_after_run n steps).always.ordered q p)
+    stands_once (past s.log) s t.live (in_transit s (invariant_after_run n steps) t) (λ q p. live_rises s (invariant_after_run n steps) (all_after_run n steps).always.ordered q p)
 
 pub returns-clause-up : goal.returns-clause-up
 returns-clause-up c = λ n steps p. (lawful_after_run n steps).is_up p

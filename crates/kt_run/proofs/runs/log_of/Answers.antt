@@ -7,7 +7,7 @@ use Rattle.kt_run.specs.Faults.{stopped_at}
 use Rattle.kt_plan.specs.Limits.{Planned, IsPlan}
 use Rattle.kt_run.specs.Rejections.{objects_held, HaveSpares}
 use Rattle.kt_run.proofs.Rejecting.{have_spares, of_plan, rejected_of}
-use Rattle.kt_run.specs.Runs.{scene, Rests}
+use Rattle.kt_run.specs.Runs.{told_and_held, Rests}
 use Rattle.kt_run.proofs.Running.{run_of, follows_of}
 use Rattle.kt_run.proofs.runs.log_of.Goals as goal
 
@@ -16,14 +16,14 @@ returns-clause-run g c =
     let end = c.make_all.new.self in
     run_of c.args.plan.now
     (map (λ row. map (λ b. content ((goal.Recoverable-dyn g (b.vtable, b.value)).kind_of b.value) ((goal.Recoverable-dyn g (b.vtable, b.value)).value_of b.value)) row.items) c.args.cast.items)
-    c.args.steps.now end.world (scene end.journals end.objects.items (λ b. content ((goal.Recoverable-dyn g (b.vtable, b.value)).kind_of b.value) ((goal.Recoverable-dyn g (b.vtable, b.value)).value_of b.value))) c.into_log.result.rows
-    (subst IsPlan c.in_ok-stage.ensures.plan c.in_ok-stage.ensures.starts.shown.limits)
+    c.args.steps.now end.world (told_and_held end.journals end.objects.items (λ b. content ((goal.Recoverable-dyn g (b.vtable, b.value)).kind_of b.value) ((goal.Recoverable-dyn g (b.vtable, b.value)).value_of b.value))) c.into_log.result.rows
+    (subst IsPlan c.in_ok-run_state.ensures.plan c.in_ok-run_state.ensures.starts.shown.limits)
     (subst (λ (p : Planned). Rests p
     (map (λ row. map (λ b. content ((goal.Recoverable-dyn g (b.vtable, b.value)).kind_of b.value) ((goal.Recoverable-dyn g (b.vtable, b.value)).value_of b.value)) row.items) c.args.cast.items)
-    c.args.steps.now end.world (scene end.journals end.objects.items (λ b. content ((goal.Recoverable-dyn g (b.vtable, b.value)).kind_of b.value) ((goal.Recoverable-dyn g (b.vtable, b.value)).value_of b.value)))) c.in_ok-stage.ensures.plan
+    c.args.steps.now end.world (told_and_held end.journals end.objects.items (λ b. content ((goal.Recoverable-dyn g (b.vtable, b.value)).kind_of b.value) ((goal.Recoverable-dyn g (b.vtable, b.value)).value_of b.value)))) c.in_ok-run_state.ensures.plan
     (c.in_ok-make_all.ensures.rests
     (map (λ row. map (λ b. content ((goal.Recoverable-dyn g (b.vtable, b.value)).kind_of b.value) ((goal.Recoverable-dyn g (b.vtable, b.value)).value_of b.value)) row.items) c.args.cast.items)
-    c.in_ok-stage.ensures.due))
+    c.in_ok-run_state.ensures.due))
     (ap (λ l. l.rows) c.into_log.ensures.log)
 
 pub returns-clause-follows : goal.returns-clause-follows
@@ -31,50 +31,50 @@ returns-clause-follows g c =
     let end = c.make_all.new.self in
     follows_of c.args.plan.now
     (map (λ row. map (λ b. content ((goal.Recoverable-dyn g (b.vtable, b.value)).kind_of b.value) ((goal.Recoverable-dyn g (b.vtable, b.value)).value_of b.value)) row.items) c.args.cast.items)
-    c.args.steps.now end.world (scene end.journals end.objects.items (λ b. content ((goal.Recoverable-dyn g (b.vtable, b.value)).kind_of b.value) ((goal.Recoverable-dyn g (b.vtable, b.value)).value_of b.value))) c.into_log.result.rows
-    (subst IsPlan c.in_ok-stage.ensures.plan c.in_ok-stage.ensures.starts.shown.limits)
+    c.args.steps.now end.world (told_and_held end.journals end.objects.items (λ b. content ((goal.Recoverable-dyn g (b.vtable, b.value)).kind_of b.value) ((goal.Recoverable-dyn g (b.vtable, b.value)).value_of b.value))) c.into_log.result.rows
+    (subst IsPlan c.in_ok-run_state.ensures.plan c.in_ok-run_state.ensures.starts.shown.limits)
     (subst (λ (p : Planned). Rests p
     (map (λ row. map (λ b. content ((goal.Recoverable-dyn g (b.vtable, b.value)).kind_of b.value) ((goal.Recoverable-dyn g (b.vtable, b.value)).value_of b.value)) row.items) c.args.cast.items)
-    c.args.steps.now end.world (scene end.journals end.objects.items (λ b. content ((goal.Recoverable-dyn g (b.vtable, b.value)).kind_of b.value) ((goal.Recoverable-dyn g (b.vtable, b.value)).value_of b.value)))) c.in_ok-stage.ensures.plan
+    c.args.steps.now end.world (told_and_held end.journals end.objects.items (λ b. content ((goal.Recoverable-dyn g (b.vtable, b.value)).kind_of b.value) ((goal.Recoverable-dyn g (b.vtable, b.value)).value_of b.value)))) c.in_ok-run_state.ensures.plan
     (c.in_ok-make_all.ensures.rests
     (map (λ row. map (λ b. content ((goal.Recoverable-dyn g (b.vtable, b.value)).kind_of b.value) ((goal.Recoverable-dyn g (b.vtable, b.value)).value_of b.value)) row.items) c.args.cast.items)
-    c.in_ok-stage.ensures.due))
+    c.in_ok-run_state.ensures.due))
     (ap (λ l. l.rows) c.into_log.ensures.log)
 
 if_err : {T E : Type 0} (r : Result T E) (P : E → Type 0) (e : E) → r ≡ Err e → P e → IfErr r P
 if_err r P e is p = rw is p
 
-pub returns-in_err-stage-clause-refused : goal.returns-in_err-stage-clause-refused
-returns-in_err-stage-clause-refused g c = if_err c.from_residual.result _ c.in_err-stage.field-0.0 (search rules) (λ done why e. absurd (c.in_err-stage.ensures.early done why e))
+pub returns-in_err-run_state-clause-refused : goal.returns-in_err-run_state-clause-refused
+returns-in_err-run_state-clause-refused g c = if_err c.from_residual.result _ c.in_err-run_state.field-0.0 (search rules) (λ done why e. absurd (c.in_err-run_state.ensures.early done why e))
 
 pub returns-in_err-make_all-clause-refused : goal.returns-in_err-make_all-clause-refused
 returns-in_err-make_all-clause-refused g c = if_err c.from_residual-in_err-make_all.result _ c.in_err-make_all.field-0.0 (search rules)
     (λ done why e. subst (λ (p : Planned). IsStepRefused p
     (map (λ row. map (λ b. content ((goal.Recoverable-dyn g (b.vtable, b.value)).kind_of b.value) ((goal.Recoverable-dyn g (b.vtable, b.value)).value_of b.value)) row.items) c.args.cast.items)
-    c.args.steps.now done why) c.in_ok-stage.ensures.plan
+    c.args.steps.now done why) c.in_ok-run_state.ensures.plan
     (c.in_err-make_all.ensures.refused
     (map (λ row. map (λ b. content ((goal.Recoverable-dyn g (b.vtable, b.value)).kind_of b.value) ((goal.Recoverable-dyn g (b.vtable, b.value)).value_of b.value)) row.items) c.args.cast.items)
-    c.in_ok-stage.ensures.due done why e))
+    c.in_ok-run_state.ensures.due done why e))
 
-pub returns-in_err-stage-clause-untold : goal.returns-in_err-stage-clause-untold
-returns-in_err-stage-clause-untold g c = if_err c.from_residual.result _ c.in_err-stage.field-0.0 (search rules) c.in_err-stage.ensures.untold
+pub returns-in_err-run_state-clause-untold : goal.returns-in_err-run_state-clause-untold
+returns-in_err-run_state-clause-untold g c = if_err c.from_residual.result _ c.in_err-run_state.field-0.0 (search rules) c.in_err-run_state.ensures.untold
 
 pub returns-in_err-make_all-clause-untold : goal.returns-in_err-make_all-clause-untold
-returns-in_err-make_all-clause-untold g c = if_err c.from_residual-in_err-make_all.result _ c.in_err-make_all.field-0.0 (search rules) (c.in_err-make_all.ensures.untold c.in_ok-stage.ensures.none)
+returns-in_err-make_all-clause-untold g c = if_err c.from_residual-in_err-make_all.result _ c.in_err-make_all.field-0.0 (search rules) (c.in_err-make_all.ensures.untold c.in_ok-run_state.ensures.none)
 
-pub returns-in_err-stage-clause-object : goal.returns-in_err-stage-clause-object
-returns-in_err-stage-clause-object g c = if_err c.from_residual.result _ c.in_err-stage.field-0.0 (search rules) (λ p e. inl (c.in_err-stage.ensures.object p e))
+pub returns-in_err-run_state-clause-object : goal.returns-in_err-run_state-clause-object
+returns-in_err-run_state-clause-object g c = if_err c.from_residual.result _ c.in_err-run_state.field-0.0 (search rules) (λ p e. inl (c.in_err-run_state.ensures.object p e))
 
 pub returns-in_err-make_all-clause-object : goal.returns-in_err-make_all-clause-object
 returns-in_err-make_all-clause-object g c = if_err c.from_residual-in_err-make_all.result _ c.in_err-make_all.field-0.0 (search rules)
     (λ p e. inr (
       subst (λ (z : Planned). IsStopped z
           (map (λ row. map (λ b. content ((goal.Recoverable-dyn g (b.vtable, b.value)).kind_of b.value) ((goal.Recoverable-dyn g (b.vtable, b.value)).value_of b.value)) row.items) c.args.cast.items)
-          c.args.steps.now p) c.in_ok-stage.ensures.plan
+          c.args.steps.now p) c.in_ok-run_state.ensures.plan
           (c.in_err-make_all.ensures.named
           (map (λ row. map (λ b. content ((goal.Recoverable-dyn g (b.vtable, b.value)).kind_of b.value) ((goal.Recoverable-dyn g (b.vtable, b.value)).value_of b.value)) row.items) c.args.cast.items)
-          c.in_ok-stage.ensures.due p (ap stopped_at e)),
-      of_plan (λ row. row.items) (λ b. (goal.Recoverable-dyn g (b.vtable, b.value)).kind_of b.value) (λ b. content ((goal.Recoverable-dyn g (b.vtable, b.value)).kind_of b.value) ((goal.Recoverable-dyn g (b.vtable, b.value)).value_of b.value)) (λ b. refl) (λ b saved. (goal.Recoverable-dyn g (b.vtable, b.value)).may_reject b.value saved) c.args.plan.now c.args.cast.items p c.in_ok-stage.ensures.cast
-          (rejected_of (λ b saved. (goal.Recoverable-dyn g (b.vtable, b.value)).may_reject b.value saved) (first_of (slice_index_or (map (λ row. map (λ b. content ((goal.Recoverable-dyn g (b.vtable, b.value)).kind_of b.value) ((goal.Recoverable-dyn g (b.vtable, b.value)).value_of b.value)) row.items) c.args.cast.items) p [])).kind p (map (λ row. row.items) c.args.cast.items) (objects_held c.in_ok-stage.stage.objects.items) c.in_ok-stage.ensures.rejects
-          (c.in_err-make_all.ensures.object (map (λ row. map (λ b. content ((goal.Recoverable-dyn g (b.vtable, b.value)).kind_of b.value) ((goal.Recoverable-dyn g (b.vtable, b.value)).value_of b.value)) row.items) c.args.cast.items) c.in_ok-stage.ensures.due (subst (λ (z : Planned). HaveSpares z (map (λ row. map (λ b. content ((goal.Recoverable-dyn g (b.vtable, b.value)).kind_of b.value) ((goal.Recoverable-dyn g (b.vtable, b.value)).value_of b.value)) row.items) c.args.cast.items)) (sym c.in_ok-stage.ensures.plan) (have_spares (λ row. row.items) (λ b. (goal.Recoverable-dyn g (b.vtable, b.value)).kind_of b.value) (λ b. content ((goal.Recoverable-dyn g (b.vtable, b.value)).kind_of b.value) ((goal.Recoverable-dyn g (b.vtable, b.value)).value_of b.value)) (λ b. refl) c.args.plan.now c.args.cast.items c.in_ok-stage.ensures.cast)) p e)),
+          c.in_ok-run_state.ensures.due p (ap stopped_at e)),
+      of_plan (λ row. row.items) (λ b. (goal.Recoverable-dyn g (b.vtable, b.value)).kind_of b.value) (λ b. content ((goal.Recoverable-dyn g (b.vtable, b.value)).kind_of b.value) ((goal.Recoverable-dyn g (b.vtable, b.value)).value_of b.value)) (λ b. refl) (λ b saved. (goal.Recoverable-dyn g (b.vtable, b.value)).may_reject b.value saved) c.args.plan.now c.args.cast.items p c.in_ok-run_state.ensures.cast
+          (rejected_of (λ b saved. (goal.Recoverable-dyn g (b.vtable, b.value)).may_reject b.value saved) (first_of (slice_index_or (map (λ row. map (λ b. content ((goal.Recoverable-dyn g (b.vtable, b.value)).kind_of b.value) ((goal.Recoverable-dyn g (b.vtable, b.value)).value_of b.value)) row.items) c.args.cast.items) p [])).kind p (map (λ row. row.items) c.args.cast.items) (objects_held c.in_ok-run_state.run_state.objects.items) c.in_ok-run_state.ensures.rejects
+          (c.in_err-make_all.ensures.object (map (λ row. map (λ b. content ((goal.Recoverable-dyn g (b.vtable, b.value)).kind_of b.value) ((goal.Recoverable-dyn g (b.vtable, b.value)).value_of b.value)) row.items) c.args.cast.items) c.in_ok-run_state.ensures.due (subst (λ (z : Planned). HaveSpares z (map (λ row. map (λ b. content ((goal.Recoverable-dyn g (b.vtable, b.value)).kind_of b.value) ((goal.Recoverable-dyn g (b.vtable, b.value)).value_of b.value)) row.items) c.args.cast.items)) (sym c.in_ok-run_state.ensures.plan) (have_spares (λ row. row.items) (λ b. (goal.Recoverable-dyn g (b.vtable, b.value)).kind_of b.value) (λ b. content ((goal.Recoverable-dyn g (b.vtable, b.value)).kind_of b.value) ((goal.Recoverable-dyn g (b.vtable, b.value)).value_of b.value)) (λ b. refl) c.args.plan.now c.args.cast.items c.in_ok-run_state.ensures.cast)) p e)),
     ))

@@ -11,7 +11,7 @@ use Rattle.kt_plan.specs.declared.steps.Told.{Told}
 use Rattle.kt_run.specs.Objects.{belongings_of, first_of, has_of, HoldDue, AreLeft}
 use Rattle.kt_run.specs.Rejections.{objects_held, HaveSpares, MayReject}
 use Rattle.kt_run.proofs.Rejecting.{have_spares, of_plan, rejected_of}
-use Rattle.kt_run.specs.Runs.{scene, Rests, IsToldPlay}
+use Rattle.kt_run.specs.Runs.{told_and_held, Rests, IsToldPlay}
 use Rattle.kt_run.specs.Telling.{AreToldTheirRows}
 use Rattle.kt_run.proofs.Running.{told_run_of, their_rows, due_of, settled_of, follows_of}
 use Rattle.std.specs.List.{AllZip}
@@ -20,123 +20,123 @@ use Rattle.kt_run.proofs.runs.run.Goals as goal
 use Rattle.kt_run.proofs.runs.run.Goals.{After-into_lists}
 
 kept : (g : _) (c : After-into_lists g) → c.keep_journals.new.self.world.agenda.plan ≡ c.args.plan.now
-kept g c = ap (λ (w : World). w.agenda.plan) c.in_ok-keep_journals.ensures.world ∙ c.in_ok-stage.ensures.plan
+kept g c = ap (λ (w : World). w.agenda.plan) c.in_ok-keep_journals.ensures.world ∙ c.in_ok-run_state.ensures.plan
 
 limits : (g : _) (c : After-into_lists g) → IsPlan c.args.plan.now
-limits g c = subst IsPlan c.in_ok-stage.ensures.plan c.in_ok-stage.ensures.starts.shown.limits
+limits g c = subst IsPlan c.in_ok-run_state.ensures.plan c.in_ok-run_state.ensures.starts.shown.limits
 
 rests : (g : _) (c : After-into_lists g) → Rests c.args.plan.now
     (map (λ row. map (λ b. content ((goal.Recoverable-dyn g (b.vtable, b.value)).kind_of b.value) ((goal.Recoverable-dyn g (b.vtable, b.value)).value_of b.value)) row.items) c.args.cast.items)
-    c.args.steps.now c.make_all.new.self.world (scene c.make_all.new.self.journals c.make_all.new.self.objects.items (λ b. content ((goal.Recoverable-dyn g (b.vtable, b.value)).kind_of b.value) ((goal.Recoverable-dyn g (b.vtable, b.value)).value_of b.value)))
+    c.args.steps.now c.make_all.new.self.world (told_and_held c.make_all.new.self.journals c.make_all.new.self.objects.items (λ b. content ((goal.Recoverable-dyn g (b.vtable, b.value)).kind_of b.value) ((goal.Recoverable-dyn g (b.vtable, b.value)).value_of b.value)))
 rests g c = subst (λ (p : Planned). Rests p
     (map (λ row. map (λ b. content ((goal.Recoverable-dyn g (b.vtable, b.value)).kind_of b.value) ((goal.Recoverable-dyn g (b.vtable, b.value)).value_of b.value)) row.items) c.args.cast.items)
-    c.args.steps.now c.make_all.new.self.world (scene c.make_all.new.self.journals c.make_all.new.self.objects.items (λ b. content ((goal.Recoverable-dyn g (b.vtable, b.value)).kind_of b.value) ((goal.Recoverable-dyn g (b.vtable, b.value)).value_of b.value)))) (kept g c)
+    c.args.steps.now c.make_all.new.self.world (told_and_held c.make_all.new.self.journals c.make_all.new.self.objects.items (λ b. content ((goal.Recoverable-dyn g (b.vtable, b.value)).kind_of b.value) ((goal.Recoverable-dyn g (b.vtable, b.value)).value_of b.value)))) (kept g c)
     (c.in_ok-make_all.ensures.rests
     (map (λ row. map (λ b. content ((goal.Recoverable-dyn g (b.vtable, b.value)).kind_of b.value) ((goal.Recoverable-dyn g (b.vtable, b.value)).value_of b.value)) row.items) c.args.cast.items)
     (subst (λ helds. HoldDue
     (map (λ row. map (λ b. content ((goal.Recoverable-dyn g (b.vtable, b.value)).kind_of b.value) ((goal.Recoverable-dyn g (b.vtable, b.value)).value_of b.value)) row.items) c.args.cast.items)
-    [] (has_of helds.items (λ b. content ((goal.Recoverable-dyn g (b.vtable, b.value)).kind_of b.value) ((goal.Recoverable-dyn g (b.vtable, b.value)).value_of b.value)))) (sym c.in_ok-keep_journals.ensures.objects) c.in_ok-stage.ensures.due))
+    [] (has_of helds.items (λ b. content ((goal.Recoverable-dyn g (b.vtable, b.value)).kind_of b.value) ((goal.Recoverable-dyn g (b.vtable, b.value)).value_of b.value)))) (sym c.in_ok-keep_journals.ensures.objects) c.in_ok-run_state.ensures.due))
 
 pub make_all-requires-clause-due : goal.make_all-requires-clause-due
 make_all-requires-clause-due g c = (
   (map (λ row. map (λ b. content ((goal.Recoverable-dyn g (b.vtable, b.value)).kind_of b.value) ((goal.Recoverable-dyn g (b.vtable, b.value)).value_of b.value)) row.items) c.args.cast.items),
   subst (λ helds. HoldDue
       (map (λ row. map (λ b. content ((goal.Recoverable-dyn g (b.vtable, b.value)).kind_of b.value) ((goal.Recoverable-dyn g (b.vtable, b.value)).value_of b.value)) row.items) c.args.cast.items)
-      [] (has_of helds.items (λ b. content ((goal.Recoverable-dyn g (b.vtable, b.value)).kind_of b.value) ((goal.Recoverable-dyn g (b.vtable, b.value)).value_of b.value)))) (sym c.in_ok-keep_journals.ensures.objects) c.in_ok-stage.ensures.due,
+      [] (has_of helds.items (λ b. content ((goal.Recoverable-dyn g (b.vtable, b.value)).kind_of b.value) ((goal.Recoverable-dyn g (b.vtable, b.value)).value_of b.value)))) (sym c.in_ok-keep_journals.ensures.objects) c.in_ok-run_state.ensures.due,
 )
 
 pub returns-clause-run : goal.returns-clause-run
 returns-clause-run g c =
     let end = c.make_all.new.self in
     let count : length end.journals ≡ length c.args.plan.now.names =
-    c.in_ok-make_all.ensures.count ∙ (c.in_ok-keep_journals.ensures.count ∙ ap (λ (p : Planned). length p.names) c.in_ok-stage.ensures.plan) in
+    c.in_ok-make_all.ensures.count ∙ (c.in_ok-keep_journals.ensures.count ∙ ap (λ (p : Planned). length p.names) c.in_ok-run_state.ensures.plan) in
     subst (λ (told : List (List Told)). IsToldPlay c.args.plan.now
     (map (λ row. map (λ b. content ((goal.Recoverable-dyn g (b.vtable, b.value)).kind_of b.value) ((goal.Recoverable-dyn g (b.vtable, b.value)).value_of b.value)) row.items) c.args.cast.items)
     c.args.steps.now c.into_log.result.rows told) (sym c.into_lists.ensures)
     (told_run_of c.args.plan.now
     (map (λ row. map (λ b. content ((goal.Recoverable-dyn g (b.vtable, b.value)).kind_of b.value) ((goal.Recoverable-dyn g (b.vtable, b.value)).value_of b.value)) row.items) c.args.cast.items)
-    c.args.steps.now end.world (scene end.journals end.objects.items (λ b. content ((goal.Recoverable-dyn g (b.vtable, b.value)).kind_of b.value) ((goal.Recoverable-dyn g (b.vtable, b.value)).value_of b.value))) c.into_log.result.rows (limits g c) (rests g c) (ap (λ l. l.rows) c.into_log.ensures.log) count)
+    c.args.steps.now end.world (told_and_held end.journals end.objects.items (λ b. content ((goal.Recoverable-dyn g (b.vtable, b.value)).kind_of b.value) ((goal.Recoverable-dyn g (b.vtable, b.value)).value_of b.value))) c.into_log.result.rows (limits g c) (rests g c) (ap (λ l. l.rows) c.into_log.ensures.log) count)
 
 pub returns-clause-told : goal.returns-clause-told
 returns-clause-told g c =
     subst (λ (told : List (List Told)). AreToldTheirRows c.into_log.result.rows told) (sym c.into_lists.ensures)
     (their_rows c.args.plan.now
     (map (λ row. map (λ b. content ((goal.Recoverable-dyn g (b.vtable, b.value)).kind_of b.value) ((goal.Recoverable-dyn g (b.vtable, b.value)).value_of b.value)) row.items) c.args.cast.items)
-    c.args.steps.now c.make_all.new.self.world (scene c.make_all.new.self.journals c.make_all.new.self.objects.items (λ b. content ((goal.Recoverable-dyn g (b.vtable, b.value)).kind_of b.value) ((goal.Recoverable-dyn g (b.vtable, b.value)).value_of b.value))) c.into_log.result.rows (limits g c) (rests g c) (ap (λ l. l.rows) c.into_log.ensures.log))
+    c.args.steps.now c.make_all.new.self.world (told_and_held c.make_all.new.self.journals c.make_all.new.self.objects.items (λ b. content ((goal.Recoverable-dyn g (b.vtable, b.value)).kind_of b.value) ((goal.Recoverable-dyn g (b.vtable, b.value)).value_of b.value))) c.into_log.result.rows (limits g c) (rests g c) (ap (λ l. l.rows) c.into_log.ensures.log))
 
 pub returns-clause-due : goal.returns-clause-due
 returns-clause-due g c =
     due_of c.args.plan.now
     (map (λ row. map (λ b. content ((goal.Recoverable-dyn g (b.vtable, b.value)).kind_of b.value) ((goal.Recoverable-dyn g (b.vtable, b.value)).value_of b.value)) row.items) c.args.cast.items)
-    c.args.steps.now c.make_all.new.self.world (scene c.make_all.new.self.journals c.make_all.new.self.objects.items (λ b. content ((goal.Recoverable-dyn g (b.vtable, b.value)).kind_of b.value) ((goal.Recoverable-dyn g (b.vtable, b.value)).value_of b.value))) c.into_log.result.rows (limits g c) (rests g c) (ap (λ l. l.rows) c.into_log.ensures.log)
+    c.args.steps.now c.make_all.new.self.world (told_and_held c.make_all.new.self.journals c.make_all.new.self.objects.items (λ b. content ((goal.Recoverable-dyn g (b.vtable, b.value)).kind_of b.value) ((goal.Recoverable-dyn g (b.vtable, b.value)).value_of b.value))) c.into_log.result.rows (limits g c) (rests g c) (ap (λ l. l.rows) c.into_log.ensures.log)
 
 pub returns-clause-follows : goal.returns-clause-follows
 returns-clause-follows g c =
     follows_of c.args.plan.now
     (map (λ row. map (λ b. content ((goal.Recoverable-dyn g (b.vtable, b.value)).kind_of b.value) ((goal.Recoverable-dyn g (b.vtable, b.value)).value_of b.value)) row.items) c.args.cast.items)
-    c.args.steps.now c.make_all.new.self.world (scene c.make_all.new.self.journals c.make_all.new.self.objects.items (λ b. content ((goal.Recoverable-dyn g (b.vtable, b.value)).kind_of b.value) ((goal.Recoverable-dyn g (b.vtable, b.value)).value_of b.value))) c.into_log.result.rows (limits g c) (rests g c) (ap (λ l. l.rows) c.into_log.ensures.log)
+    c.args.steps.now c.make_all.new.self.world (told_and_held c.make_all.new.self.journals c.make_all.new.self.objects.items (λ b. content ((goal.Recoverable-dyn g (b.vtable, b.value)).kind_of b.value) ((goal.Recoverable-dyn g (b.vtable, b.value)).value_of b.value))) c.into_log.result.rows (limits g c) (rests g c) (ap (λ l. l.rows) c.into_log.ensures.log)
 
 pub returns-clause-settled : goal.returns-clause-settled
 returns-clause-settled g c = λ p other l.
     let helds = c.make_all.new.self.objects.items in
     settled_of c.args.plan.now
     (map (λ row. map (λ b. content ((goal.Recoverable-dyn g (b.vtable, b.value)).kind_of b.value) ((goal.Recoverable-dyn g (b.vtable, b.value)).value_of b.value)) row.items) c.args.cast.items)
-    c.args.steps.now c.make_all.new.self.world (scene c.make_all.new.self.journals c.make_all.new.self.objects.items (λ b. content ((goal.Recoverable-dyn g (b.vtable, b.value)).kind_of b.value) ((goal.Recoverable-dyn g (b.vtable, b.value)).value_of b.value))) c.into_log.result.rows (limits g c) (rests g c) (ap (λ l. l.rows) c.into_log.ensures.log)
+    c.args.steps.now c.make_all.new.self.world (told_and_held c.make_all.new.self.journals c.make_all.new.self.objects.items (λ b. content ((goal.Recoverable-dyn g (b.vtable, b.value)).kind_of b.value) ((goal.Recoverable-dyn g (b.vtable, b.value)).value_of b.value))) c.into_log.result.rows (limits g c) (rests g c) (ap (λ l. l.rows) c.into_log.ensures.log)
     p (belongings_of (λ b. content ((goal.Recoverable-dyn g (b.vtable, b.value)).kind_of b.value) ((goal.Recoverable-dyn g (b.vtable, b.value)).value_of b.value)) (slice_index_or helds p other))
     (slice_get-map (belongings_of (λ b. content ((goal.Recoverable-dyn g (b.vtable, b.value)).kind_of b.value) ((goal.Recoverable-dyn g (b.vtable, b.value)).value_of b.value))) helds p ∙ ap (option_map (belongings_of (λ b. content ((goal.Recoverable-dyn g (b.vtable, b.value)).kind_of b.value) ((goal.Recoverable-dyn g (b.vtable, b.value)).value_of b.value)))) (slice_get-get_or helds p other l))
 
 if_err : {T E : Type 0} (r : Result T E) (P : E → Type 0) (e : E) → r ≡ Err e → P e → IfErr r P
 if_err r P e is p = rw is p
 
-pub returns-in_err-stage-clause-refused : goal.returns-in_err-stage-clause-refused
-returns-in_err-stage-clause-refused g c = if_err c.from_residual.result _ c.in_err-stage.field-0.0 (search rules) (λ done why e. absurd (c.in_err-stage.ensures.early done why e))
+pub returns-in_err-run_state-clause-refused : goal.returns-in_err-run_state-clause-refused
+returns-in_err-run_state-clause-refused g c = if_err c.from_residual.result _ c.in_err-run_state.field-0.0 (search rules) (λ done why e. absurd (c.in_err-run_state.ensures.early done why e))
 
 pub returns-in_err-make_all-clause-refused : goal.returns-in_err-make_all-clause-refused
 returns-in_err-make_all-clause-refused g c = if_err c.from_residual-in_err-make_all.result _ c.in_err-make_all.field-0.0 (search rules)
     (λ done why e. subst (λ (p : Planned). IsStepRefused p
     (map (λ row. map (λ b. content ((goal.Recoverable-dyn g (b.vtable, b.value)).kind_of b.value) ((goal.Recoverable-dyn g (b.vtable, b.value)).value_of b.value)) row.items) c.args.cast.items)
-    c.args.steps.now done why) (ap (λ (w : World). w.agenda.plan) c.in_ok-keep_journals.ensures.world ∙ c.in_ok-stage.ensures.plan)
+    c.args.steps.now done why) (ap (λ (w : World). w.agenda.plan) c.in_ok-keep_journals.ensures.world ∙ c.in_ok-run_state.ensures.plan)
     (c.in_err-make_all.ensures.refused
     (map (λ row. map (λ b. content ((goal.Recoverable-dyn g (b.vtable, b.value)).kind_of b.value) ((goal.Recoverable-dyn g (b.vtable, b.value)).value_of b.value)) row.items) c.args.cast.items)
     (subst (λ helds. HoldDue
     (map (λ row. map (λ b. content ((goal.Recoverable-dyn g (b.vtable, b.value)).kind_of b.value) ((goal.Recoverable-dyn g (b.vtable, b.value)).value_of b.value)) row.items) c.args.cast.items)
-    [] (has_of helds.items (λ b. content ((goal.Recoverable-dyn g (b.vtable, b.value)).kind_of b.value) ((goal.Recoverable-dyn g (b.vtable, b.value)).value_of b.value)))) (sym c.in_ok-keep_journals.ensures.objects) c.in_ok-stage.ensures.due) done why e))
+    [] (has_of helds.items (λ b. content ((goal.Recoverable-dyn g (b.vtable, b.value)).kind_of b.value) ((goal.Recoverable-dyn g (b.vtable, b.value)).value_of b.value)))) (sym c.in_ok-keep_journals.ensures.objects) c.in_ok-run_state.ensures.due) done why e))
 
-pub returns-in_err-stage-clause-named : goal.returns-in_err-stage-clause-named
-returns-in_err-stage-clause-named g c = if_err c.from_residual.result _ c.in_err-stage.field-0.0 (search rules) (λ p e. absurd (c.in_err-stage.ensures.untold p e))
+pub returns-in_err-run_state-clause-named : goal.returns-in_err-run_state-clause-named
+returns-in_err-run_state-clause-named g c = if_err c.from_residual.result _ c.in_err-run_state.field-0.0 (search rules) (λ p e. absurd (c.in_err-run_state.ensures.untold p e))
 
 pub returns-in_err-make_all-clause-named : goal.returns-in_err-make_all-clause-named
 returns-in_err-make_all-clause-named g c = if_err c.from_residual-in_err-make_all.result _ c.in_err-make_all.field-0.0 (search rules)
     (λ p e. subst (λ (z : Planned). IsStopped z
     (map (λ row. map (λ b. content ((goal.Recoverable-dyn g (b.vtable, b.value)).kind_of b.value) ((goal.Recoverable-dyn g (b.vtable, b.value)).value_of b.value)) row.items) c.args.cast.items)
-    c.args.steps.now p) (ap (λ (w : World). w.agenda.plan) c.in_ok-keep_journals.ensures.world ∙ c.in_ok-stage.ensures.plan)
+    c.args.steps.now p) (ap (λ (w : World). w.agenda.plan) c.in_ok-keep_journals.ensures.world ∙ c.in_ok-run_state.ensures.plan)
     (c.in_err-make_all.ensures.named
     (map (λ row. map (λ b. content ((goal.Recoverable-dyn g (b.vtable, b.value)).kind_of b.value) ((goal.Recoverable-dyn g (b.vtable, b.value)).value_of b.value)) row.items) c.args.cast.items)
     (subst (λ helds. HoldDue
     (map (λ row. map (λ b. content ((goal.Recoverable-dyn g (b.vtable, b.value)).kind_of b.value) ((goal.Recoverable-dyn g (b.vtable, b.value)).value_of b.value)) row.items) c.args.cast.items)
-    [] (has_of helds.items (λ b. content ((goal.Recoverable-dyn g (b.vtable, b.value)).kind_of b.value) ((goal.Recoverable-dyn g (b.vtable, b.value)).value_of b.value)))) (sym c.in_ok-keep_journals.ensures.objects) c.in_ok-stage.ensures.due) p (ap stopped_at e)))
+    [] (has_of helds.items (λ b. content ((goal.Recoverable-dyn g (b.vtable, b.value)).kind_of b.value) ((goal.Recoverable-dyn g (b.vtable, b.value)).value_of b.value)))) (sym c.in_ok-keep_journals.ensures.objects) c.in_ok-run_state.ensures.due) p (ap stopped_at e)))
 
 pub returns-clause-spares : goal.returns-clause-spares
 returns-clause-spares g c =
-    let given = subst (λ helds. AllZip (λ row h. AreLeft row.items h.spares.items) c.args.cast.items helds.items) (sym c.in_ok-keep_journals.ensures.objects) c.in_ok-stage.ensures.spares in
+    let given = subst (λ helds. AllZip (λ row h. AreLeft row.items h.spares.items) c.args.cast.items helds.items) (sym c.in_ok-keep_journals.ensures.objects) c.in_ok-run_state.ensures.spares in
     left_then (λ h. h.spares.items) (λ row. row.items) c.args.cast.items c.keep_journals.new.self.objects.items c.make_all.new.self.objects.items given c.in_ok-make_all.ensures.spares
 
-pub returns-in_err-stage-clause-object : goal.returns-in_err-stage-clause-object
-returns-in_err-stage-clause-object g c = if_err c.from_residual.result _ c.in_err-stage.field-0.0 (search rules) (λ p e. inl (c.in_err-stage.ensures.object p e))
+pub returns-in_err-run_state-clause-object : goal.returns-in_err-run_state-clause-object
+returns-in_err-run_state-clause-object g c = if_err c.from_residual.result _ c.in_err-run_state.field-0.0 (search rules) (λ p e. inl (c.in_err-run_state.ensures.object p e))
 
 pub returns-in_err-make_all-clause-object : goal.returns-in_err-make_all-clause-object
 returns-in_err-make_all-clause-object g c = if_err c.from_residual-in_err-make_all.result _ c.in_err-make_all.field-0.0 (search rules)
     (λ p e. inr (
       subst (λ (z : Planned). IsStopped z
           (map (λ row. map (λ b. content ((goal.Recoverable-dyn g (b.vtable, b.value)).kind_of b.value) ((goal.Recoverable-dyn g (b.vtable, b.value)).value_of b.value)) row.items) c.args.cast.items)
-          c.args.steps.now p) (ap (λ (w : World). w.agenda.plan) c.in_ok-keep_journals.ensures.world ∙ c.in_ok-stage.ensures.plan)
+          c.args.steps.now p) (ap (λ (w : World). w.agenda.plan) c.in_ok-keep_journals.ensures.world ∙ c.in_ok-run_state.ensures.plan)
           (c.in_err-make_all.ensures.named
           (map (λ row. map (λ b. content ((goal.Recoverable-dyn g (b.vtable, b.value)).kind_of b.value) ((goal.Recoverable-dyn g (b.vtable, b.value)).value_of b.value)) row.items) c.args.cast.items)
           (subst (λ helds. HoldDue
           (map (λ row. map (λ b. content ((goal.Recoverable-dyn g (b.vtable, b.value)).kind_of b.value) ((goal.Recoverable-dyn g (b.vtable, b.value)).value_of b.value)) row.items) c.args.cast.items)
-          [] (has_of helds.items (λ b. content ((goal.Recoverable-dyn g (b.vtable, b.value)).kind_of b.value) ((goal.Recoverable-dyn g (b.vtable, b.value)).value_of b.value)))) (sym c.in_ok-keep_journals.ensures.objects) c.in_ok-stage.ensures.due) p (ap stopped_at e)),
-      of_plan (λ row. row.items) (λ b. (goal.Recoverable-dyn g (b.vtable, b.value)).kind_of b.value) (λ b. content ((goal.Recoverable-dyn g (b.vtable, b.value)).kind_of b.value) ((goal.Recoverable-dyn g (b.vtable, b.value)).value_of b.value)) (λ b. refl) (λ b saved. (goal.Recoverable-dyn g (b.vtable, b.value)).may_reject b.value saved) c.args.plan.now c.args.cast.items p c.in_ok-stage.ensures.cast
-          (rejected_of (λ b saved. (goal.Recoverable-dyn g (b.vtable, b.value)).may_reject b.value saved) (first_of (slice_index_or (map (λ row. map (λ b. content ((goal.Recoverable-dyn g (b.vtable, b.value)).kind_of b.value) ((goal.Recoverable-dyn g (b.vtable, b.value)).value_of b.value)) row.items) c.args.cast.items) p [])).kind p (map (λ row. row.items) c.args.cast.items) (objects_held c.in_ok-stage.stage.objects.items) c.in_ok-stage.ensures.rejects
+          [] (has_of helds.items (λ b. content ((goal.Recoverable-dyn g (b.vtable, b.value)).kind_of b.value) ((goal.Recoverable-dyn g (b.vtable, b.value)).value_of b.value)))) (sym c.in_ok-keep_journals.ensures.objects) c.in_ok-run_state.ensures.due) p (ap stopped_at e)),
+      of_plan (λ row. row.items) (λ b. (goal.Recoverable-dyn g (b.vtable, b.value)).kind_of b.value) (λ b. content ((goal.Recoverable-dyn g (b.vtable, b.value)).kind_of b.value) ((goal.Recoverable-dyn g (b.vtable, b.value)).value_of b.value)) (λ b. refl) (λ b saved. (goal.Recoverable-dyn g (b.vtable, b.value)).may_reject b.value saved) c.args.plan.now c.args.cast.items p c.in_ok-run_state.ensures.cast
+          (rejected_of (λ b saved. (goal.Recoverable-dyn g (b.vtable, b.value)).may_reject b.value saved) (first_of (slice_index_or (map (λ row. map (λ b. content ((goal.Recoverable-dyn g (b.vtable, b.value)).kind_of b.value) ((goal.Recoverable-dyn g (b.vtable, b.value)).value_of b.value)) row.items) c.args.cast.items) p [])).kind p (map (λ row. row.items) c.args.cast.items) (objects_held c.in_ok-run_state.run_state.objects.items) c.in_ok-run_state.ensures.rejects
           (subst (λ helds. MayReject (λ b saved. (goal.Recoverable-dyn g (b.vtable, b.value)).may_reject b.value saved) (first_of (slice_index_or (map (λ row. map (λ b. content ((goal.Recoverable-dyn g (b.vtable, b.value)).kind_of b.value) ((goal.Recoverable-dyn g (b.vtable, b.value)).value_of b.value)) row.items) c.args.cast.items) p [])).kind (slice_index_or (objects_held helds.items) p [])) c.in_ok-keep_journals.ensures.objects
-          (c.in_err-make_all.ensures.object (map (λ row. map (λ b. content ((goal.Recoverable-dyn g (b.vtable, b.value)).kind_of b.value) ((goal.Recoverable-dyn g (b.vtable, b.value)).value_of b.value)) row.items) c.args.cast.items) (subst (λ helds. HoldDue (map (λ row. map (λ b. content ((goal.Recoverable-dyn g (b.vtable, b.value)).kind_of b.value) ((goal.Recoverable-dyn g (b.vtable, b.value)).value_of b.value)) row.items) c.args.cast.items) [] (has_of helds.items (λ b. content ((goal.Recoverable-dyn g (b.vtable, b.value)).kind_of b.value) ((goal.Recoverable-dyn g (b.vtable, b.value)).value_of b.value)))) (sym c.in_ok-keep_journals.ensures.objects) c.in_ok-stage.ensures.due) (subst (λ (z : Planned). HaveSpares z (map (λ row. map (λ b. content ((goal.Recoverable-dyn g (b.vtable, b.value)).kind_of b.value) ((goal.Recoverable-dyn g (b.vtable, b.value)).value_of b.value)) row.items) c.args.cast.items)) (sym (ap (λ (w : World). w.agenda.plan) c.in_ok-keep_journals.ensures.world ∙ c.in_ok-stage.ensures.plan)) (have_spares (λ row. row.items) (λ b. (goal.Recoverable-dyn g (b.vtable, b.value)).kind_of b.value) (λ b. content ((goal.Recoverable-dyn g (b.vtable, b.value)).kind_of b.value) ((goal.Recoverable-dyn g (b.vtable, b.value)).value_of b.value)) (λ b. refl) c.args.plan.now c.args.cast.items c.in_ok-stage.ensures.cast)) p e))),
+          (c.in_err-make_all.ensures.object (map (λ row. map (λ b. content ((goal.Recoverable-dyn g (b.vtable, b.value)).kind_of b.value) ((goal.Recoverable-dyn g (b.vtable, b.value)).value_of b.value)) row.items) c.args.cast.items) (subst (λ helds. HoldDue (map (λ row. map (λ b. content ((goal.Recoverable-dyn g (b.vtable, b.value)).kind_of b.value) ((goal.Recoverable-dyn g (b.vtable, b.value)).value_of b.value)) row.items) c.args.cast.items) [] (has_of helds.items (λ b. content ((goal.Recoverable-dyn g (b.vtable, b.value)).kind_of b.value) ((goal.Recoverable-dyn g (b.vtable, b.value)).value_of b.value)))) (sym c.in_ok-keep_journals.ensures.objects) c.in_ok-run_state.ensures.due) (subst (λ (z : Planned). HaveSpares z (map (λ row. map (λ b. content ((goal.Recoverable-dyn g (b.vtable, b.value)).kind_of b.value) ((goal.Recoverable-dyn g (b.vtable, b.value)).value_of b.value)) row.items) c.args.cast.items)) (sym (ap (λ (w : World). w.agenda.plan) c.in_ok-keep_journals.ensures.world ∙ c.in_ok-run_state.ensures.plan)) (have_spares (λ row. row.items) (λ b. (goal.Recoverable-dyn g (b.vtable, b.value)).kind_of b.value) (λ b. content ((goal.Recoverable-dyn g (b.vtable, b.value)).kind_of b.value) ((goal.Recoverable-dyn g (b.vtable, b.value)).value_of b.value)) (λ b. refl) c.args.plan.now c.args.cast.items c.in_ok-run_state.ensures.cast)) p e))),
     ))

@@ -4,7 +4,7 @@ use Rattle.kt_held.specs.Holdings.{content}
 use Rattle.kt_threads.proofs.Keeping.{due_then, run_then, settled_then}
 use Rattle.kt_threads.proofs.Moving.{told_as_in_run, told_their_rows}
 use Rattle.kt_threads.proofs.Noting.{tells_of}
-use Rattle.kt_threads.proofs.Seating.{all_of_has}
+use Rattle.kt_threads.proofs.Working.{all_of_has}
 use Rattle.kt_threads.proofs.outcome.live_with.Goals as goal
 
 pub returns-clause-lived : goal.returns-clause-lived

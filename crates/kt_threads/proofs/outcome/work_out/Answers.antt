@@ -5,7 +5,7 @@ use Rattle.kt_held.specs.Holdings.{content}
 use Rattle.kt_threads.proofs.Noting.{theirs_of}
 use Rattle.kt_threads.specs.Faults.{live_stopped_at}
 use Rattle.kt_threads.proofs.Rejecting.{not_object, rejected_in_thread}
-use Rattle.kt_threads.proofs.Seating.{all_served_of, all_left_of}
+use Rattle.kt_threads.proofs.Working.{all_served_of, all_left_of}
 use Rattle.kt_threads.proofs.outcome.work_out.Goals as goal
 
 pub returns-clause-theirs : goal.returns-clause-theirs
@@ -24,16 +24,16 @@ returns-clause-listed g c = c.in_ok-log.ensures.noted.lists
 pub returns-clause-served : goal.returns-clause-served
 returns-clause-served g c =
     all_served_of (λ b. content ((goal.Recoverable-dyn g (b.vtable, b.value)).kind_of b.value) ((goal.Recoverable-dyn g (b.vtable, b.value)).value_of b.value)) (λ b saved. (goal.Recoverable-dyn g (b.vtable, b.value)).may_reject b.value saved)
-    c.args.objects.items c.in_ok-lists.objects.items (map (λ list. list.items) c.in_ok-lists.lists.items) c.in_ok-seats.seats.items c.in_ok-seats-2.seats.items
-    c.in_ok-seats.ensures.held c.in_ok-lists.ensures.held c.in_ok-lists.ensures.errands c.in_ok-seats.ensures.fresh
-    c.in_ok-seats-2.ensures c.in_ok-lists.ensures.whole
+    c.args.objects.items c.in_ok-lists.objects.items (map (λ list. list.items) c.in_ok-lists.lists.items) c.in_ok-workers.workers.items c.in_ok-workers-2.workers.items
+    c.in_ok-workers.ensures.held c.in_ok-lists.ensures.held c.in_ok-lists.ensures.errands c.in_ok-workers.ensures.fresh
+    c.in_ok-workers-2.ensures c.in_ok-lists.ensures.whole
 
 pub returns-clause-spares : goal.returns-clause-spares
 returns-clause-spares g c =
     all_left_of (λ b. content ((goal.Recoverable-dyn g (b.vtable, b.value)).kind_of b.value) ((goal.Recoverable-dyn g (b.vtable, b.value)).value_of b.value)) (λ b saved. (goal.Recoverable-dyn g (b.vtable, b.value)).may_reject b.value saved)
-    c.args.objects.items c.in_ok-lists.objects.items c.in_ok-seats.seats.items c.in_ok-seats-2.seats.items
-    c.in_ok-seats.ensures.held c.in_ok-lists.ensures.held
-    c.in_ok-seats-2.ensures c.in_ok-lists.ensures.whole
+    c.args.objects.items c.in_ok-lists.objects.items c.in_ok-workers.workers.items c.in_ok-workers-2.workers.items
+    c.in_ok-workers.ensures.held c.in_ok-lists.ensures.held
+    c.in_ok-workers-2.ensures c.in_ok-lists.ensures.whole
 
 if_err : {T E : Type 0} (r : Result T E) (P : E → Type 0) (e : E) → r ≡ Err e → P e → IfErr r P
 if_err r P e is p = rw is p
@@ -41,7 +41,7 @@ if_err r P e is p = rw is p
 pub returns-in_err-log-clause-object : goal.returns-in_err-log-clause-object
 returns-in_err-log-clause-object g c = λ cast due. if_err c.from_residual-in_err-log.result _ c.in_err-log.field-0.0 (search rules)
     (λ p e. rejected_in_thread (λ b. content ((goal.Recoverable-dyn g (b.vtable, b.value)).kind_of b.value) ((goal.Recoverable-dyn g (b.vtable, b.value)).value_of b.value)) (λ b saved. (goal.Recoverable-dyn g (b.vtable, b.value)).may_reject b.value saved)
-    cast c.args.objects.items c.in_ok-seats.seats.items c.in_ok-seats-2.seats.items c.in_ok-seats.ensures.held due c.in_ok-seats.ensures.going c.in_ok-seats-2.ensures
+    cast c.args.objects.items c.in_ok-workers.workers.items c.in_ok-workers-2.workers.items c.in_ok-workers.ensures.held due c.in_ok-workers.ensures.going c.in_ok-workers-2.ensures
     p (rw (sym c.deref.ensures.value) (c.in_err-log.ensures.named p (ap live_stopped_at e) ∙ ap Some e)))
 
 pub returns-in_err-lists-clause-object : goal.returns-in_err-lists-clause-object

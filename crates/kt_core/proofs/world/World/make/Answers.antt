@@ -2,7 +2,7 @@ use Rattle.std.proofs.Common.{ap, length}
 use Rattle.kt_plan.specs.Limits.{Planned, IsPlan}
 use Rattle.std.proofs.Common.{◌∙◌, ℕ, List, arith, sym, subst, refl, slice_index_or}
 use Rattle.kt_process.specs.Turns.{IsFresh}
-use Rattle.kt_system.specs.Systems.{person}
+use Rattle.kt_system.specs.Systems.{state_of}
 use Rattle.kt_seen.specs.Transition.{opening_seen}
 use Rattle.kt_system.specs.Shown.{ShowsState}
 use Rattle.kt_plans.specs.Progress.{progress_at_start}
@@ -22,8 +22,8 @@ returns-clause-opening c =
       plans = opened.plan ∙ made.plan;
       next = λ p low. subst (λ (next : List ℕ). IsNextOf c.args.plan.commands p 0 (slice_index_or next p 0)) (sym opened.next) (made.next p low);
       phase = λ least l. opened.opens least (least_stays c.in_ok-agenda.agenda c.open_next.new.self least opened.plan opened.next l) (let zero = made.phase in omega arith);
-      people = λ p low. subst (λ (size : ℕ). IsFresh size c.args.used (person c.in_ok-system.system p)) (sym system.size) (system.people p (let size = system.size in omega arith));
-      wires = system.wires;
+      states = λ p low. subst (λ (size : ℕ). IsFresh size c.args.used (state_of c.in_ok-system.system p)) (sym system.size) (system.states p (let size = system.size in omega arith));
+      channels = system.channels;
       held = system.held;
       kept = system.kept;
       rows = system.rows;

@@ -4,63 +4,63 @@ use Rattle.kt_tables.specs.Calls.{Call, on_tentative}
 use Rattle.kt_tables.specs.Standing.{StandsFor}
 use Rattle.kt_tables.specs.States.{State}
 use Rattle.kt_base.specs.declared.words.Kind.TheVariants as kind
-use Rattle.kt_parts.specs.Shares.{Share}
+use Rattle.kt_parts.specs.Parts.{Part}
 use Rattle.kt_parts.specs.Joins.{Joins}
-use Rattle.kt_process.specs.Persons.{Person, inst_of}
+use Rattle.kt_process.specs.ProcessStates.{ProcessState, inst_of}
 use Rattle.kt_process.specs.Sides.{SaveSide}
 use Rattle.kt_process.specs.declared.side.Side.TheVariants as side
 use Rattle.kt_process.specs.Shown.{IsSeenAs, BeginsAs, mark_of}
-use Rattle.kt_seen.specs.Seen.{SeenPerson}
+use Rattle.kt_seen.specs.Seen.{SeenProcess}
 use Rattle.kt_ckpt.specs.Actions.{IsStart, AsksCohort}
 use Rattle.kt_process.proofs.Beginning.{begins_save, refuses_save}
 use Rattle.kt_process.proofs.process.Process.begin_checkpoint.Goals as goal
 use Rattle.kt_process.proofs.process.Process.begin_checkpoint.Goals.{in-Some+in-Some+in-Checkpoint-1, in-Some+in-Some+in-Rollback-1, in-Some+in-None-1, in_default}
 
-abbrev As : goal.Joined-part → SeenPerson → Person → Type 0
+abbrev As : goal.Joined-part → SeenProcess → ProcessState → Type 0
 As c y z = BeginsAs kind.Checkpoint c.args.able c.args.self.now.tables.processes c.args.inst (mark_of c.args.marks.items) y z c.in_ok-part.action
 
-abbrev before : goal.Joined-part → Person
+abbrev before : goal.Joined-part → ProcessState
 before c = record { tables = c.self.inside.tables; side = c.self.inside.side; up = c.self.inside.up; used = c.self.inside.labels }
 
-joins : (c : goal.Joined-part) (y : SeenPerson) (part : Share) (new : SaveSide) → IsSeenAs c.args.self.now y → c.in_ok-part.part ≡ Some part → new ≡ record { part = part; marks = c.args.marks.items } →
+joins : (c : goal.Joined-part) (y : SeenProcess) (part : Part) (new : SaveSide) → IsSeenAs c.args.self.now y → c.in_ok-part.part ≡ Some part → new ≡ record { part = part; marks = c.args.marks.items } →
     As c y (record { tables = c.start.new.tables; side = Some (side.Checkpoint new); up = c.self.inside.up; used = c.self.inside.labels })
 joins c y part new h is made =
     let x = before c in
-    let k = subst (λ (z : Person). IsSeenAs z y) (sym c.self.view_is) h in
+    let k = subst (λ (z : ProcessState). IsSeenAs z y) (sym c.self.view_is) h in
     let s = c.standing-standing.result in
     let action = c.in_ok-part.action in
-    let rule = subst (λ (o : Option Share). IsStart s o action) is c.in_ok-part.ensures.rule in
-    let join = subst (λ (o : Option Share). IfSome o (λ (m : Share). Joins x.tables.processes c.args.inst None m action)) is c.in_ok-part.ensures.joins in
-    let cohort = subst (λ (o : Option Share). OnSome o ((calls : List Call) → StandsFor x.tables calls → AsksCohort calls action)) is c.in_ok-part.ensures.cohort in
-    let stands = subst (λ (o : Option Share). OnSome o ((calls : List Call) → StandsFor x.tables calls → StandsFor c.start.new.tables (calls ++ on_tentative ∷ []))) is c.in_ok-part.ensures.stands in
-    subst (λ (z : Person). BeginsAs kind.Checkpoint c.args.able z.tables.processes c.args.inst (mark_of c.args.marks.items) y
+    let rule = subst (λ (o : Option Part). IsStart s o action) is c.in_ok-part.ensures.rule in
+    let join = subst (λ (o : Option Part). IfSome o (λ (m : Part). Joins x.tables.processes c.args.inst None m action)) is c.in_ok-part.ensures.joins in
+    let cohort = subst (λ (o : Option Part). OnSome o ((calls : List Call) → StandsFor x.tables calls → AsksCohort calls action)) is c.in_ok-part.ensures.cohort in
+    let stands = subst (λ (o : Option Part). OnSome o ((calls : List Call) → StandsFor x.tables calls → StandsFor c.start.new.tables (calls ++ on_tentative ∷ []))) is c.in_ok-part.ensures.stands in
+    subst (λ (z : ProcessState). BeginsAs kind.Checkpoint c.args.able z.tables.processes c.args.inst (mark_of c.args.marks.items) y
     (record { tables = c.start.new.tables; side = Some (side.Checkpoint new); up = c.self.inside.up; used = c.self.inside.labels }) action) c.self.view_is
     (subst (λ (m : SaveSide). BeginsAs kind.Checkpoint c.args.able x.tables.processes c.args.inst (mark_of c.args.marks.items) y
     (record { tables = c.start.new.tables; side = Some (side.Checkpoint m); up = c.self.inside.up; used = c.self.inside.labels }) action) (sym made)
     (begins_save x y c.start.new.tables s c.args.able part c.args.marks.items x.tables.processes c.args.inst action c.standing-standing.ensures.able k c.self.invariant.numbered c.self.invariant.few
-    (subst (λ (z : Person). s.in_inst ≡ inst_of z.side) (sym c.self.view_is) c.standing-standing.ensures.inst)
-    (subst (λ (z : Person). s.up ≡ z.up) (sym c.self.view_is) c.standing-standing.ensures.up) rule join cohort stands))
+    (subst (λ (z : ProcessState). s.in_inst ≡ inst_of z.side) (sym c.self.view_is) c.standing-standing.ensures.inst)
+    (subst (λ (z : ProcessState). s.up ≡ z.up) (sym c.self.view_is) c.standing-standing.ensures.up) rule join cohort stands))
 
-stays : (c : goal.Joined-part) (y : SeenPerson) → IsSeenAs c.args.self.now y → c.in_ok-part.part ≡ None →
+stays : (c : goal.Joined-part) (y : SeenProcess) → IsSeenAs c.args.self.now y → c.in_ok-part.part ≡ None →
     As c y (record { tables = c.start.new.tables; side = c.self.inside.side; up = c.self.inside.up; used = c.self.inside.labels })
 stays c y h is =
     let x = before c in
-    let k = subst (λ (z : Person). IsSeenAs z y) (sym c.self.view_is) h in
+    let k = subst (λ (z : ProcessState). IsSeenAs z y) (sym c.self.view_is) h in
     let s = c.standing-standing.result in
     let action = c.in_ok-part.action in
-    let rule = subst (λ (o : Option Share). IsStart s o action) is c.in_ok-part.ensures.rule in
-    let same = subst (λ (o : Option Share). IfNone o (c.start.new.tables ≡ x.tables)) is c.in_ok-part.ensures.refused in
-    subst (λ (z : Person). BeginsAs kind.Checkpoint c.args.able z.tables.processes c.args.inst (mark_of c.args.marks.items) y
+    let rule = subst (λ (o : Option Part). IsStart s o action) is c.in_ok-part.ensures.rule in
+    let same = subst (λ (o : Option Part). IfNone o (c.start.new.tables ≡ x.tables)) is c.in_ok-part.ensures.refused in
+    subst (λ (z : ProcessState). BeginsAs kind.Checkpoint c.args.able z.tables.processes c.args.inst (mark_of c.args.marks.items) y
     (record { tables = c.start.new.tables; side = c.self.inside.side; up = c.self.inside.up; used = c.self.inside.labels }) action) c.self.view_is
     (subst (λ (t : State). BeginsAs kind.Checkpoint c.args.able x.tables.processes c.args.inst (mark_of c.args.marks.items) y (record x { tables = t }) action) (sym same)
     (refuses_save x y s c.args.able (mark_of c.args.marks.items) x.tables.processes c.args.inst action c.standing-standing.ensures.able k c.self.invariant.numbered
-    (subst (λ (z : Person). s.in_inst ≡ inst_of z.side) (sym c.self.view_is) c.standing-standing.ensures.inst)
-    (subst (λ (z : Person). s.up ≡ z.up) (sym c.self.view_is) c.standing-standing.ensures.up) rule))
+    (subst (λ (z : ProcessState). s.in_inst ≡ inst_of z.side) (sym c.self.view_is) c.standing-standing.ensures.inst)
+    (subst (λ (z : ProcessState). s.up ≡ z.up) (sym c.self.view_is) c.standing-standing.ensures.up) rule))
 
 pub returns-clause-shows : goal.returns-clause-shows
 returns-clause-shows c = λ y h. elim c.match-part.branch [
-  | in-Some+in-Some+in-Checkpoint-1 w ↦ subst (λ (z : Person). As c y z) (sym w.self-is) (joins c y _ _ h w.in-Some.is w.new.ensures)
-  | in-Some+in-Some+in-Rollback-1 w ↦ subst (λ (z : Person). As c y z) (sym w.self-is) (joins c y _ _ h w.in-Some.is w.new.ensures)
-  | in-Some+in-None-1 w ↦ subst (λ (z : Person). As c y z) (sym w.self-is) (joins c y _ _ h w.in-Some.is w.new.ensures)
-  | in_default w ↦ subst (λ (z : Person). As c y z) (sym w.self-is) (stays c y h w.in_default.is)
+  | in-Some+in-Some+in-Checkpoint-1 w ↦ subst (λ (z : ProcessState). As c y z) (sym w.self-is) (joins c y _ _ h w.in-Some.is w.new.ensures)
+  | in-Some+in-Some+in-Rollback-1 w ↦ subst (λ (z : ProcessState). As c y z) (sym w.self-is) (joins c y _ _ h w.in-Some.is w.new.ensures)
+  | in-Some+in-None-1 w ↦ subst (λ (z : ProcessState). As c y z) (sym w.self-is) (joins c y _ _ h w.in-Some.is w.new.ensures)
+  | in_default w ↦ subst (λ (z : ProcessState). As c y z) (sym w.self-is) (stays c y h w.in_default.is)
 ]

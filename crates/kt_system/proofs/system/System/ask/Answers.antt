@@ -6,7 +6,7 @@ use Rattle.kt_seen.specs.Seen.{SeenLists}
 use Rattle.kt_seen.specs.ListChanges.{with_asks_where}
 use Rattle.kt_seen.specs.InOnePiece.{with_asks}
 use Rattle.kt_seen.proofs.Cohorts.{with_cohort}
-use Rattle.kt_system.proofs.Showing.{shows_wires}
+use Rattle.kt_system.proofs.Showing.{shows_channels}
 use Rattle.kt_fifo.specs.Channels.{channel}
 use Rattle.std.specs.Prelude.{slice_index_or}
 use Rattle.std.proofs.Common.{◌≤◌, ◌<◌, ℕ, List, refl, arith, sym, subst, length}
@@ -28,7 +28,7 @@ pub returns-clause-shows : goal.returns-clause-shows
 returns-clause-shows c = λ v test label h cohort.
     let lists = channel c.self.inside.channels in
     let put = c.put_asks.ensures.lists ∙ (ap (λ (l : List (ℕ × ℕ)). with_asks lists c.args.p c.args.inst c.args.kind l) c.list-asks.ensures.asks ∙ with_cohort lists c.args.p c.args.inst c.args.kind c.args.asks.now test label cohort) in
-    c.count.ensures.shows _ (shows_wires _ _ _ v (λ (f : SeenLists). with_asks_where f c.args.p c.args.inst c.args.kind test label) c.self.view_is refl refl refl refl refl refl put h)
+    c.count.ensures.shows _ (shows_channels _ _ _ v (λ (f : SeenLists). with_asks_where f c.args.p c.args.inst c.args.kind test label) c.self.view_is refl refl refl refl refl refl put h)
 
 pub returns-clause-tallies : goal.returns-clause-tallies
 returns-clause-tallies c =

@@ -1,7 +1,7 @@
 use Rattle.std.proofs.Common.{[], rules}
 use Rattle.kt_system.proofs.Tallying.{tallies_then}
 use Rattle.std.proofs.Common.{ap, sym, ◌∙◌}
-use Rattle.kt_process.specs.Persons.{Person, inst_of}
+use Rattle.kt_process.specs.ProcessStates.{ProcessState, inst_of}
 use Rattle.kt_system.specs.Shown.{ShowsState, JoinsAs, with_instance, begun_as}
 use Rattle.std.proofs.Common.{subst}
 use Rattle.kt_system.proofs.Frames.{can_join_kept}
@@ -18,7 +18,7 @@ pub returns-in-Join-clause-shows : goal.returns-in-Join-clause-shows
 returns-in-Join-clause-shows c = λ v test label h joins.
     let j = subst (λ (a : Action). JoinsAs c.args.self.now v c.args.p test label a) c.in-Join.is joins in
     subst (λ (a : Action). ShowsState c.join.new.self (begun_as v c.args.p c.args.inst c.args.kind test label a)) (sym c.in-Join.is)
-    (c.join.ensures.shows (with_instance v c.args.p c.args.inst c.args.kind) test label (c.open.ensures.shows v h) j.0 j.1 j.2 (λ e. j.3 (sym (ap (λ (x : Person). inst_of x.side) (c.open.ensures.keeps.person c.args.p)) ∙ e)))
+    (c.join.ensures.shows (with_instance v c.args.p c.args.inst c.args.kind) test label (c.open.ensures.shows v h) j.0 j.1 j.2 (λ e. j.3 (sym (ap (λ (x : ProcessState). inst_of x.side) (c.open.ensures.keeps.state_of c.args.p)) ∙ e)))
 
 pub returns-in-Join-clause-keeps : goal.returns-in-Join-clause-keeps
 returns-in-Join-clause-keeps c = record {

@@ -4,7 +4,7 @@ use Rattle.std.proofs.Common.{ap, subst, sym, ◌∙◌}
 use Rattle.std.proofs.Math.Path.{fun_ext}
 use Rattle.kt_base.specs.Sets.{has}
 use Rattle.kt_seen.specs.Seen.{Seen}
-use Rattle.kt_process.specs.Persons.{Person, inst_of}
+use Rattle.kt_process.specs.ProcessStates.{ProcessState, inst_of}
 use Rattle.kt_process.specs.Shown.{closed_as}
 use Rattle.kt_system.specs.Shown.{ShowsState, lists_closed}
 use Rattle.kt_system.proofs.Showing.{shows_turned}
@@ -20,9 +20,9 @@ pub returns-clause-shows : goal.returns-clause-shows
 returns-clause-shows c = λ v h there.
     let p = c.args.p in
     let one = c.settle_kept.ensures.shows v h there in
-    let mid = one.people p (let k = c.settle_kept.ensures.keeps.size in let b = c.requires.p in omega arith) in
-    let left = c.leave-set.ensures.shows (lists_closed v p c.args.commit) one (λ e. there (sym (ap (λ (x : Person). inst_of x.side) (c.settle_kept.ensures.keeps.person p)) ∙ e)) in
-    let two = shows_turned _ _ (lists_closed v p c.args.commit) p (closed_as c.args.commit (v.people p)) c.leave-set.ensures.turned left one in
+    let mid = one.states p (let k = c.settle_kept.ensures.keeps.size in let b = c.requires.p in omega arith) in
+    let left = c.leave-set.ensures.shows (lists_closed v p c.args.commit) one (λ e. there (sym (ap (λ (x : ProcessState). inst_of x.side) (c.settle_kept.ensures.keeps.state_of p)) ∙ e)) in
+    let two = shows_turned _ _ (lists_closed v p c.args.commit) p (closed_as c.args.commit (v.states p)) c.leave-set.ensures.turned left one in
     let four = c.write.ensures.shows _ (c.tell.ensures.shows _ two) in
     let set = fun_ext (λ q. c.leave-set.ensures.tell q ∙ asked_is _ _ mid q) in
     subst (λ (z : Seen). ShowsState c.write.new.self z) (closes_as v p c.args.inst c.args.commit (has c.leave-set.result) set) four

@@ -1,5 +1,5 @@
 use Rattle.kt_seen.specs.Seen.{SeenLists}
-use Rattle.kt_system.proofs.Showing.{shows_wires}
+use Rattle.kt_system.proofs.Showing.{shows_channels}
 use Rattle.std.proofs.Common.{refl}
 use Rattle.kt_system.proofs.Frames.{keeps_parcels}
 use Rattle.kt_system.proofs.system.System.count.Goals as goal
@@ -8,4 +8,4 @@ pub returns-clause-keeps : goal.returns-clause-keeps
 returns-clause-keeps c = keeps_parcels _ _ _ c.self.view_is refl refl refl refl refl
 
 pub returns-clause-shows : goal.returns-clause-shows
-returns-clause-shows c = λ v h. shows_wires _ _ _ v (λ (f : SeenLists). f) c.self.view_is refl refl refl refl refl refl refl h
+returns-clause-shows c = λ v h. shows_channels _ _ _ v (λ (f : SeenLists). f) c.self.view_is refl refl refl refl refl refl refl h

@@ -11,8 +11,8 @@ pub returns-clause-shows : goal.returns-clause-shows
 returns-clause-shows c = λ v h.
     let p = c.args.p in
     let one = shows_same _ _ v c.make_room_for_rows.ensures.same h in
-    let seen = one.people p (let k = c.make_room_for_rows.ensures.same.size in let b = c.requires.p in omega arith) in
-    let up : (v.people p).up ≡ true = sym seen.up ∙ (sym c.is_up.ensures ∙ c.if-not-is_up.false) in
+    let seen = one.states p (let k = c.make_room_for_rows.ensures.same.size in let b = c.requires.p in omega arith) in
+    let up : (v.states p).up ≡ true = sym seen.up ∙ (sym c.is_up.ensures ∙ c.if-not-is_up.false) in
     let two = shows_turned _ _ v p _ c.put_down.ensures.turned (c.put_down.ensures.shows v one) one in
     subst (λ (z : Seen). ShowsState c.write.new.self z) (fails_up v p up) (c.write.ensures.shows _ two)
 

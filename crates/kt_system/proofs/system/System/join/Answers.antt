@@ -1,6 +1,6 @@
 use Rattle.std.proofs.Common.{[], rules}
 use Rattle.kt_system.proofs.Tallying.{tallies_then}
-use Rattle.kt_process.specs.Persons.{Person, inst_of}
+use Rattle.kt_process.specs.ProcessStates.{ProcessState, inst_of}
 use Rattle.std.proofs.Common.{Bool, ap, subst, sym, ◌∙◌}
 use Rattle.kt_fifo.specs.declared.parcels.Parcel.TheVariants as parcel
 use Rattle.kt_spacetime.specs.declared.event.Event.{Event}
@@ -44,7 +44,7 @@ returns-in-Commit-clause-shows c = λ v test label h cohort goes willing there.
     let state = with_row joined (joined_row c.args.kind c.args.p c.args.inst) in
     let two = subst (λ (row : Event). ShowsState c.write.new.self (with_row joined row)) c.joining_row.ensures one in
     subst (λ (z : Seen). ShowsState c.decide-second.new.self z) (settles_commit state c.args.p c.args.inst (sym c.in-Commit.is ∙ goes) willing) (c.decide-second.ensures.shows state two
-    (λ e. there (sym (ap (λ (x : Person). inst_of x.side) (c.write.ensures.keeps.person c.args.p ∙ c.ask.ensures.uses.person c.args.p)) ∙ e)))
+    (λ e. there (sym (ap (λ (x : ProcessState). inst_of x.side) (c.write.ensures.keeps.state_of c.args.p ∙ c.ask.ensures.uses.state_of c.args.p)) ∙ e)))
 
 pub returns-in-Wait-clause-keeps : goal.returns-in-Wait-clause-keeps
 returns-in-Wait-clause-keeps c = record {

@@ -14,7 +14,7 @@ returns-then-is_held-clause-shows c = λ v h.
     let i = subst (λ (w : Whole). ShowsState w v) (sym c.self.view_is) h in
     let e = sym c.if-is_held.true in
     let held = c.pop.ensures.lists ∙ (popped_is _ from at _ ∙ (ap (λ (f : SeenLists). with_rest f from at (drop 1 (f from at))) i.held ∙ ap (λ (b : Bool). held_without b v at from) e)) in
-    shows_parts _ _ _ v (channel_without c.args.is_held v at from) (held_without c.args.is_held v at from) v.kept v.log v.begun c.self.view_is refl refl (i.wires ∙ ap (λ (b : Bool). channel_without b v at from) e) held i.kept i.log i.begun h
+    shows_parts _ _ _ v (channel_without c.args.is_held v at from) (held_without c.args.is_held v at from) v.kept v.log v.begun c.self.view_is refl refl (i.channels ∙ ap (λ (b : Bool). channel_without b v at from) e) held i.kept i.log i.begun h
 
 pub returns-else-is_held-clause-shows : goal.returns-else-is_held-clause-shows
 returns-else-is_held-clause-shows c = λ v h.
@@ -22,8 +22,8 @@ returns-else-is_held-clause-shows c = λ v h.
     let from = c.args.from in
     let i = subst (λ (w : Whole). ShowsState w v) (sym c.self.view_is) h in
     let e = sym c.if-is_held.false in
-    let wires = c.pop-else-is_held.ensures.lists ∙ (popped_is _ from at _ ∙ (ap (λ (f : SeenLists). with_rest f from at (drop 1 (f from at))) i.wires ∙ ap (λ (b : Bool). channel_without b v at from) e)) in
-    shows_parts _ _ _ v (channel_without c.args.is_held v at from) (held_without c.args.is_held v at from) v.kept v.log v.begun c.self.view_is refl refl wires (i.held ∙ ap (λ (b : Bool). held_without b v at from) e) i.kept i.log i.begun h
+    let channels = c.pop-else-is_held.ensures.lists ∙ (popped_is _ from at _ ∙ (ap (λ (f : SeenLists). with_rest f from at (drop 1 (f from at))) i.channels ∙ ap (λ (b : Bool). channel_without b v at from) e)) in
+    shows_parts _ _ _ v (channel_without c.args.is_held v at from) (held_without c.args.is_held v at from) v.kept v.log v.begun c.self.view_is refl refl channels (i.held ∙ ap (λ (b : Bool). held_without b v at from) e) i.kept i.log i.begun h
 
 pub returns-else-is_held-clause-tallies : goal.returns-else-is_held-clause-tallies
 returns-else-is_held-clause-tallies c = rw c.if-is_held.false (tallies_popped _ _ _ c.args.at c.args.from c.self.view_is c.requires.from c.requires.at refl c.pop-else-is_held.ensures.lists refl)

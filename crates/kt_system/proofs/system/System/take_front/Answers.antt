@@ -21,7 +21,7 @@ returns-in-Ask-clause-shows c = λ v h speaks.
     let at = c.args.at in
     let from = c.args.from in
     let i = subst (λ (w : Whole). ShowsState w v) (sym c.self.view_is) h in
-    let got : slice_get (v.channel from at) 0 ≡ Some c.in-Some.parcel = ap (λ (f : SeenLists). slice_get (f from at) 0) (sym i.wires) ∙ (sym c.front.ensures ∙ (sym c.copied.ensures ∙ c.in-Some.is)) in
+    let got : slice_get (v.channel from at) 0 ≡ Some c.in-Some.parcel = ap (λ (f : SeenLists). slice_get (f from at) 0) (sym i.channels) ∙ (sym c.front.ensures ∙ (sym c.copied.ensures ∙ c.in-Some.is)) in
     let list = front_is (v.channel from at) c.in-Some.parcel got ∙ ap (λ (x : Parcel). x ∷ drop 1 (v.channel from at)) c.in-Ask.is in
     subst (λ (l : List Parcel). OnOk c.take_ask.result (ShowsState c.take_ask.new.self (seen_front v at from c.args.able l))) (sym list) (c.take_ask.ensures.shows v h)
 
@@ -30,7 +30,7 @@ returns-in-Reply-clause-shows c = λ v h speaks.
     let at = c.args.at in
     let from = c.args.from in
     let i = subst (λ (w : Whole). ShowsState w v) (sym c.self.view_is) h in
-    let got : slice_get (v.channel from at) 0 ≡ Some c.in-Some.parcel = ap (λ (f : SeenLists). slice_get (f from at) 0) (sym i.wires) ∙ (sym c.front.ensures ∙ (sym c.copied.ensures ∙ c.in-Some.is)) in
+    let got : slice_get (v.channel from at) 0 ≡ Some c.in-Some.parcel = ap (λ (f : SeenLists). slice_get (f from at) 0) (sym i.channels) ∙ (sym c.front.ensures ∙ (sym c.copied.ensures ∙ c.in-Some.is)) in
     let list = front_is (v.channel from at) c.in-Some.parcel got ∙ ap (λ (x : Parcel). x ∷ drop 1 (v.channel from at)) c.in-Reply.is in
     subst (λ (l : List Parcel). OnOk c.take_reply.result (ShowsState c.take_reply.new.self (seen_front v at from c.args.able l))) (sym list) (c.take_reply.ensures.shows v h)
 
@@ -39,7 +39,7 @@ returns-in-Decide-clause-shows c = λ v h speaks.
     let at = c.args.at in
     let from = c.args.from in
     let i = subst (λ (w : Whole). ShowsState w v) (sym c.self.view_is) h in
-    let got : slice_get (v.channel from at) 0 ≡ Some c.in-Some.parcel = ap (λ (f : SeenLists). slice_get (f from at) 0) (sym i.wires) ∙ (sym c.front.ensures ∙ (sym c.copied.ensures ∙ c.in-Some.is)) in
+    let got : slice_get (v.channel from at) 0 ≡ Some c.in-Some.parcel = ap (λ (f : SeenLists). slice_get (f from at) 0) (sym i.channels) ∙ (sym c.front.ensures ∙ (sym c.copied.ensures ∙ c.in-Some.is)) in
     let list = front_is (v.channel from at) c.in-Some.parcel got ∙ ap (λ (x : Parcel). x ∷ drop 1 (v.channel from at)) c.in-Decide.is in
     subst (λ (l : List Parcel). OnOk c.take_decision.result (ShowsState c.take_decision.new.self (seen_front v at from c.args.able l))) (sym list) (c.take_decision.ensures.shows v h)
 
@@ -48,7 +48,7 @@ returns-in-App-clause-acts c = λ v h.
     let at = c.args.at in
     let from = c.args.from in
     let i = subst (λ (w : Whole). ShowsState w v) (sym c.self.view_is) h in
-    let got : slice_get (v.channel from at) 0 ≡ Some c.in-Some.parcel = ap (λ (f : SeenLists). slice_get (f from at) 0) (sym i.wires) ∙ (sym c.front.ensures ∙ (sym c.copied.ensures ∙ c.in-Some.is)) in
+    let got : slice_get (v.channel from at) 0 ≡ Some c.in-Some.parcel = ap (λ (f : SeenLists). slice_get (f from at) 0) (sym i.channels) ∙ (sym c.front.ensures ∙ (sym c.copied.ensures ∙ c.in-Some.is)) in
     let list = front_is (v.channel from at) c.in-Some.parcel got ∙ ap (λ (x : Parcel). x ∷ drop 1 (v.channel from at)) c.in-App.is in
     let fits = to_z-of_z w64 c.in-App.body (search rules) in
     let told = subst (λ (z : ℤ). IfOk c.take_message.result (λ acts. acts_shown acts ≡ (if is_seen_ready v at then [] else seen_acts_arriving v at from z))) fits (c.take_message.ensures.acts v h) in

@@ -1,0 +1,428 @@
+//! A world with the objects of its processes.
+
+ghost use Rattle.std.specs.Prelude.{◌≡◌, ◌≢◌, ◌<◌, ◌+◌, ◌-◌, ◌^◌, ℕ, List, [], Some, None, true, false, map, length, slice_index_or, OnOk, IfOk, IfErr};
+ghost use Rattle.std.specs.List.{AllZip};
+ghost use Rattle.kt_core.specs.Ready.{IsReady};
+ghost use Rattle.kt_core.specs.Worlds.{can_make, needs, step_refusal};
+ghost use Rattle.kt_core.specs.declared.faults.StepFault.{StepFault};
+ghost use Rattle.kt_held.specs.Holdings.{Content, content};
+ghost use Rattle.kt_plan.specs.declared.steps.Step.{Step};
+ghost use Rattle.kt_plans.specs.Steps.{process_of_step};
+ghost use Rattle.kt_run.specs.Faults.{IsCast, Answers, is_of_cast, stopped_at};
+ghost use Rattle.kt_run.specs.Objects.{has_of, first_of, HoldDue, AreLeft};
+ghost use Rattle.kt_core.specs.Shown.{Mirrors};
+ghost use Rattle.kt_held.specs.Refusals.{IsLeastRefused};
+ghost use Rattle.kt_plans.specs.Progress.{Progress};
+ghost use Rattle.kt_run.specs.Rejections.{MayReject, objects_held, RejectNoMore, HaveSpares};
+ghost use Rattle.kt_run.specs.Refused.{IsGivenRefused, IsDefaultRefused, IsStepRefused, IsStopped};
+ghost use Rattle.kt_run.specs.Runs.{told_and_held, Tells, StepsTo, Starts, BeginsRun, Rests};
+ghost use Rattle.kt_run.specs.Telling.{AreEmpty};
+
+use crate::faults::RunFault;
+use crate::journals::{Journals, process_of};
+use kt_base::ProcNo;
+use kt_core::{Ready, StepFault, World};
+use kt_held::{Cast, Held, begin_all};
+use kt_object::Recoverable;
+use kt_plan::{Act, Give, Plan, Step, Told};
+use std::alloc::Global;
+
+mod in_order;
+
+/// A world, what its processes hold, and what they were told.
+#[derive(Drop)]
+pub(crate) struct RunState {
+    alloc: Global,
+    pub(crate) world: World,
+    pub(crate) objects: Vec<Held>,
+    pub(crate) journals: Journals,
+    done: usize,
+}
+
+/// How many default steps a run has at most.
+const MAX_STEPS: u32 = 4_294_967_295;
+
+impl RunState {
+    /// Nothing is done: each process's object is saved.
+    pub(crate) fn begin(alloc: Global, plan: &Plan, cast: Cast) -> Result<RunState, RunFault>
+        ensures cast { OnOk result (IsCast plan.now (map (λ row. map (λ b. kind_of b) row.items) cast.items)) }
+        ensures fault { IfErr result (Answers plan.now (map (λ row. map (λ b. kind_of b) row.items) cast.items)) }
+        ensures early { IfErr result (λ fault. (done : ℕ) (why : StepFault) → fault ≢ RunFault.Step done why) }
+        ensures object { IfErr result (λ fault. (p : ℕ) → fault ≡ RunFault.Object p →
+            IsLeastRefused (λ b. may_save b) (λ b. may_refuse b) (map (λ row. row.items) cast.items) p) }
+        ensures rejects { IfOk result (λ run_state. RejectNoMore (λ b saved. may_reject b saved)
+            (map (λ row. row.items) cast.items) (objects_held run_state.objects.items)) }
+        ensures untold { IfErr result (λ fault. (p : ℕ) → fault ≢ RunFault.Journal p) }
+        ensures starts { IfOk result (λ run_state. Starts plan.now run_state.world) }
+        ensures plan { IfOk result (λ run_state. run_state.world.agenda.plan ≡ plan.now) }
+        ensures journals { IfOk result (λ run_state. AreEmpty run_state.journals) }
+        ensures none { IfOk result (λ run_state. length run_state.journals ≡ 0) }
+        ensures done { IfOk result (λ run_state. run_state.done ≡ 0) }
+        ensures per_process { IfOk result (λ run_state. length run_state.objects.items ≡ run_state.world.system.size) }
+        ensures spares { IfOk result (λ run_state.
+            AllZip (λ row h. AreLeft row.items h.spares.items) cast.items run_state.objects.items) }
+        ensures due { IfOk result (λ run_state. HoldDue (map (λ row. map (λ b. content (kind_of b) (value_of b)) row.items) cast.items) []
+            (has_of run_state.objects.items (λ b. content (kind_of b) (value_of b)))) }
+    {
+        let objects = first_objects(alloc, plan, cast)?;
+        let world = first_world(alloc, plan)?;
+        Ok(RunState {
+            alloc,
+            world,
+            objects,
+            journals: Journals::none(alloc),
+            done: 0,
+        })
+    }
+
+    /// From now on, what the processes are told is kept.
+    pub(crate) fn keep_journals(&mut self) -> Result<(), RunFault>
+        ensures fault { IfErr result (λ fault. fault ≡ RunFault.Memory) }
+        ensures world { self.new.world ≡ self.old.world }
+        ensures objects { self.new.objects ≡ self.old.objects }
+        ensures done { self.new.done ≡ self.old.done }
+        ensures journals { OnOk result (AreEmpty self.new.journals) }
+        ensures count { OnOk result (length self.new.journals ≡ length self.old.world.agenda.plan.names) }
+    {
+        let processes = self.world.plan().size();
+        self.journals = Journals::of(self.alloc, processes)?;
+        Ok(())
+    }
+
+    /// The steps given, then default steps until there is none.
+    pub(crate) fn make_all(&mut self, steps: &[Step]) -> Result<(), RunFault>
+        requires starts { Starts self.old.world.agenda.plan self.old.world }
+        requires journals { AreEmpty self.old.journals }
+        requires due { (cast : List (List Content)) × HoldDue cast [] (has_of self.old.objects.items
+            (λ b. content (kind_of (b.vtable, b.value)) (value_of (b.vtable, b.value)))) }
+        requires none { self.old.done ≡ 0 }
+        requires per_process { length self.old.objects.items ≡ self.old.world.system.size }
+        ensures fault { IfErr result (λ fault. is_of_cast fault ≡ false) }
+        ensures untold { length self.old.journals ≡ 0 →
+            IfErr result (λ fault. (p : ℕ) → fault ≢ RunFault.Journal p) }
+        ensures refused { (cast : List (List Content)) → HoldDue cast [] (has_of self.old.objects.items
+            (λ b. content (kind_of (b.vtable, b.value)) (value_of (b.vtable, b.value)))) →
+            IfErr result (λ fault. (done : ℕ) (why : StepFault) → fault ≡ RunFault.Step done why →
+            IsStepRefused self.old.world.agenda.plan cast steps.now done why) }
+        ensures named { (cast : List (List Content)) → HoldDue cast [] (has_of self.old.objects.items
+            (λ b. content (kind_of (b.vtable, b.value)) (value_of (b.vtable, b.value)))) →
+            IfErr result (λ fault. (p : ℕ) → stopped_at fault ≡ Some p →
+            IsStopped self.old.world.agenda.plan cast steps.now p) }
+        ensures object { (cast : List (List Content)) → HoldDue cast [] (has_of self.old.objects.items
+            (λ b. content (kind_of (b.vtable, b.value)) (value_of (b.vtable, b.value)))) →
+            HaveSpares self.old.world.agenda.plan cast →
+            IfErr result (λ fault. (p : ℕ) → fault ≡ RunFault.Object p →
+            MayReject (λ b saved. may_reject (b.vtable, b.value) saved) (first_of (slice_index_or cast p [])).kind
+            (slice_index_or (objects_held self.old.objects.items) p [])) }
+        ensures count { OnOk result (length self.new.journals ≡ length self.old.journals) }
+        ensures spares { OnOk result (AllZip (λ g h. AreLeft g.spares.items h.spares.items)
+            self.old.objects.items self.new.objects.items) }
+        ensures rests { (cast : List (List Content)) → HoldDue cast []
+            (has_of self.old.objects.items
+            (λ b. content (kind_of (b.vtable, b.value)) (value_of (b.vtable, b.value)))) →
+            OnOk result (Rests self.old.world.agenda.plan cast steps.now self.new.world
+            (told_and_held self.new.journals self.new.objects.items
+            (λ b. content (kind_of (b.vtable, b.value)) (value_of (b.vtable, b.value))))) }
+    {
+        self.make_given(steps)?;
+        self.go_on()
+    }
+
+    /// The steps given.
+    fn make_given(&mut self, steps: &[Step]) -> Result<(), RunFault>
+        requires starts { Starts self.old.world.agenda.plan self.old.world }
+        requires journals { AreEmpty self.old.journals }
+        requires none { self.old.done ≡ 0 }
+        requires per_process { length self.old.objects.items ≡ self.old.world.system.size }
+        ensures fault { IfErr result (λ fault. is_of_cast fault ≡ false) }
+        ensures untold { length self.old.journals ≡ 0 →
+            IfErr result (λ fault. (p : ℕ) → fault ≢ RunFault.Journal p) }
+        ensures plan { self.new.world.agenda.plan ≡ self.old.world.agenda.plan }
+        ensures done { OnOk result (self.new.done ≡ length steps.now) }
+        ensures per_process { OnOk result (length self.new.objects.items ≡ self.new.world.system.size) }
+        ensures refused { (cast : List (List Content)) → HoldDue cast [] (has_of self.old.objects.items
+            (λ b. content (kind_of (b.vtable, b.value)) (value_of (b.vtable, b.value)))) →
+            IfErr result (λ fault. (done : ℕ) (why : StepFault) → fault ≡ RunFault.Step done why →
+            IsGivenRefused self.old.world.agenda.plan cast steps.now done why) }
+        ensures named { (cast : List (List Content)) → HoldDue cast [] (has_of self.old.objects.items
+            (λ b. content (kind_of (b.vtable, b.value)) (value_of (b.vtable, b.value)))) →
+            IfErr result (λ fault. (p : ℕ) → stopped_at fault ≡ Some p →
+            IsStopped self.old.world.agenda.plan cast steps.now p) }
+        ensures object { (cast : List (List Content)) → HoldDue cast [] (has_of self.old.objects.items
+            (λ b. content (kind_of (b.vtable, b.value)) (value_of (b.vtable, b.value)))) →
+            HaveSpares self.old.world.agenda.plan cast →
+            IfErr result (λ fault. (p : ℕ) → fault ≡ RunFault.Object p →
+            MayReject (λ b saved. may_reject (b.vtable, b.value) saved) (first_of (slice_index_or cast p [])).kind
+            (slice_index_or (objects_held self.old.objects.items) p [])) }
+        ensures rejects { OnOk result (RejectNoMore (λ b saved. may_reject (b.vtable, b.value) saved)
+            (objects_held self.old.objects.items) (objects_held self.new.objects.items)) }
+        ensures count { OnOk result (length self.new.journals ≡ length self.old.journals) }
+        ensures spares { OnOk result (AllZip (λ g h. AreLeft g.spares.items h.spares.items)
+            self.old.objects.items self.new.objects.items) }
+        ensures begun { (cast : List (List Content)) → HoldDue cast []
+            (has_of self.old.objects.items
+            (λ b. content (kind_of (b.vtable, b.value)) (value_of (b.vtable, b.value)))) →
+            OnOk result (BeginsRun self.old.world.agenda.plan cast steps.now self.new.world
+            (told_and_held self.new.journals self.new.objects.items
+            (λ b. content (kind_of (b.vtable, b.value)) (value_of (b.vtable, b.value))))) }
+    {
+        for step in steps {
+            if !self.world.enabled(step) {
+                return Err(RunFault::Step(self.done, StepFault::NotEnabled));
+            }
+            self.make(*step)?;
+        }
+        Ok(())
+    }
+
+    /// Default steps until there is none. No run of a plan has so many steps that the loop ends before.
+    fn go_on(&mut self) -> Result<(), RunFault>
+        requires begun { (cast : List (List Content)) × (steps : List Step)
+            × BeginsRun self.old.world.agenda.plan cast steps self.old.world
+            (told_and_held self.old.journals self.old.objects.items
+            (λ b. content (kind_of (b.vtable, b.value)) (value_of (b.vtable, b.value))))
+            × (self.old.done ≡ length steps) }
+        requires per_process { length self.old.objects.items ≡ self.old.world.system.size }
+        ensures fault { IfErr result (λ fault. is_of_cast fault ≡ false) }
+        ensures untold { length self.old.journals ≡ 0 →
+            IfErr result (λ fault. (p : ℕ) → fault ≢ RunFault.Journal p) }
+        ensures refused { (cast : List (List Content)) (steps : List Step) →
+            BeginsRun self.old.world.agenda.plan cast steps self.old.world
+            (told_and_held self.old.journals self.old.objects.items
+            (λ b. content (kind_of (b.vtable, b.value)) (value_of (b.vtable, b.value)))) →
+            self.old.done ≡ length steps →
+            IfErr result (λ fault. (done : ℕ) (why : StepFault) → fault ≡ RunFault.Step done why →
+            IsDefaultRefused self.old.world.agenda.plan cast steps done why) }
+        ensures named { (cast : List (List Content)) (steps : List Step) →
+            BeginsRun self.old.world.agenda.plan cast steps self.old.world
+            (told_and_held self.old.journals self.old.objects.items
+            (λ b. content (kind_of (b.vtable, b.value)) (value_of (b.vtable, b.value)))) →
+            self.old.done ≡ length steps →
+            IfErr result (λ fault. (p : ℕ) → stopped_at fault ≡ Some p →
+            IsStopped self.old.world.agenda.plan cast steps p) }
+        ensures object { (cast : List (List Content)) (steps : List Step) →
+            BeginsRun self.old.world.agenda.plan cast steps self.old.world
+            (told_and_held self.old.journals self.old.objects.items
+            (λ b. content (kind_of (b.vtable, b.value)) (value_of (b.vtable, b.value)))) →
+            HaveSpares self.old.world.agenda.plan cast →
+            IfErr result (λ fault. (p : ℕ) → fault ≡ RunFault.Object p →
+            MayReject (λ b saved. may_reject (b.vtable, b.value) saved) (first_of (slice_index_or cast p [])).kind
+            (slice_index_or (objects_held self.old.objects.items) p [])) }
+        ensures count { OnOk result (length self.new.journals ≡ length self.old.journals) }
+        ensures spares { OnOk result (AllZip (λ g h. AreLeft g.spares.items h.spares.items)
+            self.old.objects.items self.new.objects.items) }
+        ensures rests { (cast : List (List Content)) (steps : List Step) → BeginsRun self.old.world.agenda.plan cast steps self.old.world
+            (told_and_held self.old.journals self.old.objects.items
+            (λ b. content (kind_of (b.vtable, b.value)) (value_of (b.vtable, b.value)))) →
+            OnOk result (Rests self.old.world.agenda.plan cast steps self.new.world
+            (told_and_held self.new.journals self.new.objects.items
+            (λ b. content (kind_of (b.vtable, b.value)) (value_of (b.vtable, b.value))))) }
+    {
+        for _number in 0..MAX_STEPS {
+            let Some(step) = self.world.default_step() else {
+                return Ok(());
+            };
+            self.make(step)?;
+        }
+        unreachable!()
+    }
+
+    /// Makes a step that is enabled: asks the process's object for what it needs, notes what is told, and does it.
+    #[inline(always)]
+    fn make(&mut self, step: Step) -> Result<(), RunFault>
+        requires enabled { can_make self.old.world step ≡ true }
+        requires few { self.old.done < 2 ^ 64 - 1 }
+        requires per_process { length self.old.objects.items ≡ self.old.world.system.size }
+        ensures fault { IfErr result (λ fault. is_of_cast fault ≡ false) }
+        ensures untold { length self.old.journals ≡ 0 →
+            IfErr result (λ fault. (p : ℕ) → fault ≢ RunFault.Journal p) }
+        ensures plan { self.new.world.agenda.plan ≡ self.old.world.agenda.plan }
+        ensures done { OnOk result (self.new.done ≡ self.old.done + 1) }
+        ensures per_process { OnOk result (length self.new.objects.items ≡ self.new.world.system.size) }
+        ensures refused { IfErr result (λ fault. (done : ℕ) (why : StepFault) → fault ≡ RunFault.Step done why →
+            (done ≡ self.old.done) × (step_refusal self.old.world step ≡ Some why)) }
+        ensures named { IfErr result (λ fault. (p : ℕ) → stopped_at fault ≡ Some p → process_of_step step ≡ p) }
+        ensures made { IfErr result (λ fault. (p : ℕ) → stopped_at fault ≡ Some p →
+            step_refusal self.old.world step ≡ None) }
+        ensures object { (cast : List (List Content)) (first : ℕ) (v : Progress) →
+            Mirrors self.old.world.agenda self.old.world.system first v →
+            HaveSpares self.old.world.agenda.plan cast → HoldDue cast v.now.log (has_of self.old.objects.items
+            (λ b. content (kind_of (b.vtable, b.value)) (value_of (b.vtable, b.value)))) →
+            IfErr result (λ fault. (p : ℕ) → fault ≡ RunFault.Object p →
+            MayReject (λ b saved. may_reject (b.vtable, b.value) saved) (first_of (slice_index_or cast p [])).kind
+            (slice_index_or (objects_held self.old.objects.items) p [])) }
+        ensures rejects { OnOk result (RejectNoMore (λ b saved. may_reject (b.vtable, b.value) saved)
+            (objects_held self.old.objects.items) (objects_held self.new.objects.items)) }
+        ensures spares { OnOk result (AllZip (λ g h. AreLeft g.spares.items h.spares.items)
+            self.old.objects.items self.new.objects.items) }
+        ensures leads { OnOk result (StepsTo self.old.world
+            (told_and_held self.old.journals self.old.objects.items
+            (λ b. content (kind_of (b.vtable, b.value)) (value_of (b.vtable, b.value)))) step
+            self.new.world
+            (told_and_held self.new.journals self.new.objects.items
+            (λ b. content (kind_of (b.vtable, b.value)) (value_of (b.vtable, b.value))))) }
+    {
+        let p = process_of(&step);
+        let Some(held) = self.objects.get_mut(p.index()) else {
+            return Err(RunFault::Step(self.done, StepFault::NotEnabled));
+        };
+        let ready = ready(&self.world, &step, self.done)?;
+        let answer = held.ask(self.alloc, ready.look);
+        let mut acts = [Act::Nothing, Act::Nothing];
+        step_once(
+            &mut self.world,
+            &mut self.journals,
+            &ready,
+            answer.give,
+            &mut acts,
+        )?;
+        self.done += 1;
+        match held.obey(acts, answer.saved) {
+            Ok(()) => Ok(()),
+            Err(fault) => Err(RunFault::of_act(p, fault)),
+        }
+    }
+}
+
+/// An enabled step after so many, with what was looked up for it, where it can be made.
+#[inline(always)]
+fn ready(world: &World, step: &Step, done: usize) -> Result<Ready, RunFault>
+    requires { can_make world.now step.now ≡ true }
+    ensures fault { IfErr result (λ fault. is_of_cast fault ≡ false) }
+    ensures step { IfOk result (λ ready. ready.step ≡ step.now) }
+    ensures look { IfOk result (λ ready. ready.look ≡ needs world.now step.now) }
+    ensures ready { IfOk result (IsReady world.now) }
+    ensures allowed { OnOk result (step_refusal world.now step.now ≡ None) }
+    ensures refused { IfErr result (λ fault. (n : ℕ) (why : StepFault) → fault ≡ RunFault.Step n why →
+        (n ≡ done) × (step_refusal world.now step.now ≡ Some why)) }
+    ensures named { IfErr result (λ fault. (p : ℕ) → stopped_at fault ≡ Some p → process_of_step step.now ≡ p) }
+    ensures made { IfErr result (λ fault. (p : ℕ) → stopped_at fault ≡ Some p →
+        step_refusal world.now step.now ≡ None) }
+    ensures objects { IfErr result (λ fault. (p : ℕ) → fault ≢ RunFault.Object p) }
+    ensures untold { IfErr result (λ fault. (p : ℕ) → fault ≢ RunFault.Journal p) }
+{
+    match world.ready_found(step) {
+        Ok(ready) => Ok(ready),
+        Err(fault) => Err(RunFault::of_step(done, fault)),
+    }
+}
+
+/// Makes a step that can be made, notes what is told, if journals are kept, and tells what is to be done to the object.
+#[inline(always)]
+fn step_once(
+    world: &mut World,
+    journals: &mut Journals,
+    ready: &Ready,
+    give: Give,
+    acts: &mut [Act; 2],
+) -> Result<(), RunFault>
+    requires { IsReady world.old ready.now }
+    ensures fault { IfErr result (λ fault. is_of_cast fault ≡ false) }
+    ensures plan { world.new.agenda.plan ≡ world.old.agenda.plan }
+    ensures size { world.new.system.size ≡ world.old.system.size }
+    ensures early { IfErr result (λ fault. (n : ℕ) (why : StepFault) → fault ≢ RunFault.Step n why) }
+    ensures named { IfErr result (λ fault. (p : ℕ) → stopped_at fault ≡ Some p → process_of_step ready.now.step ≡ p) }
+    ensures objects { IfErr result (λ fault. (p : ℕ) → fault ≢ RunFault.Object p) }
+    ensures untold { length journals.old ≡ 0 → IfErr result (λ fault. (p : ℕ) → fault ≢ RunFault.Journal p) }
+    ensures leads { OnOk result (Tells world.old journals.old ready.now.step give world.new journals.new acts.new) }
+{
+    if journals.are_kept() {
+        tell_once(world, journals, ready, give, acts)
+    } else {
+        act_once(world, ready, give, acts)
+    }
+}
+
+/// Makes a step that can be made, of which nothing is noted, and tells what is to be done to the object.
+#[inline(always)]
+fn act_once(
+    world: &mut World,
+    ready: &Ready,
+    give: Give,
+    acts: &mut [Act; 2],
+) -> Result<(), RunFault>
+    requires { IsReady world.old ready.now }
+    ensures fault { IfErr result (λ fault. is_of_cast fault ≡ false) }
+    ensures plan { world.new.agenda.plan ≡ world.old.agenda.plan }
+    ensures size { world.new.system.size ≡ world.old.system.size }
+    ensures early { IfErr result (λ fault. (n : ℕ) (why : StepFault) → fault ≢ RunFault.Step n why) }
+    ensures named { IfErr result (λ fault. (p : ℕ) → stopped_at fault ≡ Some p → process_of_step ready.now.step ≡ p) }
+    ensures objects { IfErr result (λ fault. (p : ℕ) → fault ≢ RunFault.Object p) }
+    ensures untold { IfErr result (λ fault. (p : ℕ) → fault ≢ RunFault.Journal p) }
+    ensures leads { OnOk result (Tells world.old [] ready.now.step give world.new [] acts.new) }
+{
+    match world.make_step(ready, give, acts) {
+        Ok(()) => Ok(()),
+        Err(_) => Err(RunFault::Memory),
+    }
+}
+
+/// Makes a step that can be made, notes what is told, and tells what is to be done to the object.
+fn tell_once(
+    world: &mut World,
+    journals: &mut Journals,
+    ready: &Ready,
+    give: Give,
+    acts: &mut [Act; 2],
+) -> Result<(), RunFault>
+    requires { IsReady world.old ready.now }
+    ensures fault { IfErr result (λ fault. is_of_cast fault ≡ false) }
+    ensures plan { world.new.agenda.plan ≡ world.old.agenda.plan }
+    ensures size { world.new.system.size ≡ world.old.system.size }
+    ensures early { IfErr result (λ fault. (n : ℕ) (why : StepFault) → fault ≢ RunFault.Step n why) }
+    ensures named { IfErr result (λ fault. (p : ℕ) → stopped_at fault ≡ Some p → process_of_step ready.now.step ≡ p) }
+    ensures objects { IfErr result (λ fault. (p : ℕ) → fault ≢ RunFault.Object p) }
+    ensures leads { OnOk result (Tells world.old journals.old ready.now.step give world.new journals.new acts.new) }
+{
+    let step = ready.step;
+    let p = process_of(&step);
+    let told = match world.step(step, give) {
+        Ok(told) => told,
+        Err(_) => return Err(RunFault::Memory),
+    };
+    *acts = acts_of(&told);
+    match journals.note(told) {
+        Ok(()) => Ok(()),
+        Err(_) => Err(RunFault::Journal(p)),
+    }
+}
+
+/// What is to be done to the object.
+fn acts_of(told: &Told) -> [Act; 2]
+    ensures { result ≡ told.now.acts }
+{
+    [told.acts[0], told.acts[1]]
+}
+
+/// What the processes of a plan hold at first.
+fn first_objects(alloc: Global, plan: &Plan, cast: Cast) -> Result<Vec<Held>, RunFault>
+    ensures cast { OnOk result (IsCast plan.now (map (λ row. map (λ b. kind_of b) row.items) cast.items)) }
+    ensures fault { IfErr result (Answers plan.now (map (λ row. map (λ b. kind_of b) row.items) cast.items)) }
+    ensures early { IfErr result (λ fault. (done : ℕ) (why : StepFault) → fault ≢ RunFault.Step done why) }
+    ensures object { IfErr result (λ fault. (p : ℕ) → fault ≡ RunFault.Object p →
+        IsLeastRefused (λ b. may_save b) (λ b. may_refuse b) (map (λ row. row.items) cast.items) p) }
+    ensures rejects { IfOk result (λ objects. RejectNoMore (λ b saved. may_reject b saved)
+        (map (λ row. row.items) cast.items) (objects_held objects.items)) }
+    ensures untold { IfErr result (λ fault. (p : ℕ) → fault ≢ RunFault.Journal p) }
+    ensures count { IfOk result (λ objects. length objects.items ≡ length plan.now.names) }
+    ensures spares { IfOk result (λ objects.
+        AllZip (λ row h. AreLeft row.items h.spares.items) cast.items objects.items) }
+    ensures due { IfOk result (λ objects. HoldDue (map (λ row. map (λ b. content (kind_of b) (value_of b)) row.items) cast.items) []
+        (has_of objects.items (λ b. content (kind_of b) (value_of b)))) }
+{
+    let _size = plan.size();
+    match begin_all(alloc, plan, cast) {
+        Ok(objects) => Ok(objects),
+        Err(fault) => Err(RunFault::from(fault)),
+    }
+}
+
+/// The world in which nothing of a plan is done.
+fn first_world(alloc: Global, plan: &Plan) -> Result<World, RunFault>
+    ensures fault { IfErr result (λ fault. fault ≡ RunFault.Memory) }
+    ensures starts { IfOk result (λ world. Starts plan.now world) }
+    ensures plan { IfOk result (λ world. world.agenda.plan ≡ plan.now) }
+{
+    let world = World::new(alloc, plan.copy(alloc)?)?;
+    Ok(world)
+}
