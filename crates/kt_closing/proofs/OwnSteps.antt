@@ -2,7 +2,7 @@
 use Rattle.std.proofs.Common.{◌≡◌, ℕ, ◌+◌, ◌<◌, Bool, true, false, List, refl}
 use Rattle.kt_base.specs.declared.words.Cause.TheVariants.{Busy}
 use Rattle.kt_spacetime.specs.declared.event.Event.TheVariants.{Dropped, Unwilling, Failed, Refused}
-use Rattle.kt_protocol.specs.States.{State, Step, opening}
+use Rattle.kt_protocol.specs.States.{State, ProtocolStep, opening}
 use Rattle.kt_protocol.specs.Joining.{after_began}
 use Rattle.kt_protocol.specs.Replies.{unable_cause}
 use Rattle.kt_protocol.specs.Deciding.{after_closing, after_closing_checkpoint}
@@ -25,7 +25,7 @@ closes s p k c pos o d b = at_if OwnIn (s.so_far.is_rollback k) _ _ (λ _. recor
     saved true = record { own = own_closing s b.own p k pos o d }
     saved false = record { own = own_closing s b.own p k pos o d }
 
-own_moves : (x : Step) → Moves x OwnIn OwnIn (λ s k p. OwnIn s) (λ s k p. OwnIn s)
+own_moves : (x : ProtocolStep) → Moves x OwnIn OwnIn (λ s k p. OwnIn s) (λ s k p. OwnIn s)
 own_moves x = record {
   stays = λ s g b. b;
   sends = λ s p q body n o u g b. record { own = own_sending s b.own p q body o };
@@ -51,8 +51,8 @@ own_moves x = record {
   closes = λ s k p c pos o d i g w. closes s p k c pos o d w;
 }
 
-own_step : (s : State) (x : Step) → Invariant s → OwnIn s → OwnIn (after_step s x)
+own_step : (s : State) (x : ProtocolStep) → Invariant s → OwnIn s → OwnIn (after_step s x)
 own_step s x g b = (walk_step x OwnIn OwnIn (λ s k p. OwnIn s) (λ s k p. OwnIn s) (own_moves x) s g b).claim
 
-pub own_after_run : (n : ℕ) (steps : List Step) → OwnAgrees (run (opening n) steps).log (run (opening n) steps).so_far
+pub own_after_run : (n : ℕ) (steps : List ProtocolStep) → OwnAgrees (run (opening n) steps).log (run (opening n) steps).so_far
 own_after_run n steps = (kept OwnIn own_step (opening n) steps (invariant_opening n) (record { own = record { known = refl; live = λ u. refl } })).own

@@ -21,7 +21,7 @@ use Rattle.kt_protocol.specs.Joining.{after_began, after_joining_checkpoint, aft
 use Rattle.kt_protocol.specs.Messages.{after_arrival}
 use Rattle.kt_protocol.specs.Parcels.{Parcel, App, Ask, Reply, Decide, Lists, with_rest}
 use Rattle.kt_protocol.specs.Replies.{after_noting, after_replying, after_reply}
-use Rattle.kt_protocol.specs.States.{State, Step, Send, Begin, Fail, Take, is_ready, opening}
+use Rattle.kt_protocol.specs.States.{State, ProtocolStep, Send, Begin, Fail, Take, is_ready, opening}
 use Rattle.kt_protocol.specs.Steps.{after_settling, after_ask, after_front, after_take, after_beginning, after_begin_command, after_step, run}
 use Rattle.kt_closing.specs.LateClosing.{is_within_label, is_newer, late_deciding_as, late_deciding, late_closing}
 use Rattle.kt_closing.specs.LateSteps.{late_settling, late_ask, late_front, late_take, late_beginning, late_begin_command, late_step, late_run}
@@ -56,7 +56,7 @@ at_two false true e f g = absurd (cc (e))
 abbrev pub AllQuiet : State → Type 0
 AllQuiet s = (k q p : ℕ) → 0 < k → s.so_far.open_in p ≡ k → s.noted k p q ≡ true → IsQuiet (s.channel q p)
 
-pub all_quiet : (n : ℕ) (steps : List Step) → AllQuiet (run (opening n) steps)
+pub all_quiet : (n : ℕ) (steps : List ProtocolStep) → AllQuiet (run (opening n) steps)
 all_quiet n steps = λ k q p a b d m rest e. quiet (run (opening n) steps) k p q m rest (all_after_run n steps).noted a d b e
 
 pub invariant_of : (c i : State) → once_closed c ≡ i → Invariant i → Invariant (once_closed c)
@@ -237,7 +237,7 @@ agrees_begin_command c p true able o g d = agrees_beginning c p true o g d
 agrees_begin_command c p false able o g d = at_both (able && c.up p) (λ _. agrees_beginning c p false o g d) (λ _. record { same = refl; kept = record { received = d.received; parted = d.parted; kept_messages = d.kept_messages; held_messages = d.held_messages } })
 
 -- each late step is that step of the protocol's machine
-pub agrees_step : (c : State) (x : Step) → Invariant (once_closed c) → AllQuiet (once_closed c) → KeptLists c → Agrees (late_step c x) (after_step (once_closed c) x)
+pub agrees_step : (c : State) (x : ProtocolStep) → Invariant (once_closed c) → AllQuiet (once_closed c) → KeptLists c → Agrees (late_step c x) (after_step (once_closed c) x)
 agrees_step c (Send p q body) g z d = at_both ((nat_lt p c.processes && nat_lt q c.processes) && (c.so_far.open_in p == 0 && not (q == p)))
     (λ b. let o = send_ok p q c.processes (c.so_far.open_in p) b in at_both (c.up p)
     (λ _. record { same = once_closed_sending c p q body o; kept = kept_sending c p q body g d })
@@ -250,20 +250,20 @@ agrees_step c (Begin p roll able) g z d = at_both (c.so_far.open_in p == 0) (λ 
 agrees_step c (Fail p) g z d = at_both (c.up p) (λ _. record { same = refl; kept = record { received = d.received; parted = d.parted; kept_messages = d.kept_messages; held_messages = d.held_messages } }) (λ _. record { same = refl; kept = record { received = d.received; parted = d.parted; kept_messages = d.kept_messages; held_messages = d.held_messages } })
 agrees_step c (Take p q able) g z d = agrees_take c p q able g z d
 
-agrees_run : (c i : State) (steps : List Step) → Agrees c i → Invariant i → ((xs : List Step) → AllQuiet (run i xs)) → Agrees (late_run c steps) (run i steps)
+agrees_run : (c i : State) (steps : List ProtocolStep) → Agrees c i → Invariant i → ((xs : List ProtocolStep) → AllQuiet (run i xs)) → Agrees (late_run c steps) (run i steps)
 agrees_run c i [] x g z = x
 agrees_run c i (s ∷ steps) x g z =
     let y = agrees_step c s (invariant_of c i x.same g) (subst AllQuiet (sym x.same) (z [])) x.kept in
     agrees_run (late_step c s) (after_step i s) steps (record { same = y.same ∙ ap (λ (t : State). after_step t s) x.same; kept = y.kept }) (invariant_step i s g) (λ xs. z (s ∷ xs))
 
 -- each late run is that run of the protocol's machine
-pub agrees_after_run : (n : ℕ) (steps : List Step) → Agrees (late_run (opening n) steps) (run (opening n) steps)
+pub agrees_after_run : (n : ℕ) (steps : List ProtocolStep) → Agrees (late_run (opening n) steps) (run (opening n) steps)
 agrees_after_run n steps = agrees_run (opening n) (opening n) steps (record { same = refl; kept = record { received = λ p q m s w. absurd (cc (s)); parted = λ p q s. absurd (cc (s)); kept_messages = λ q p. refl; held_messages = λ q p. refl } }) (invariant_opening n) (all_quiet n)
 
-pub once_closed_run : (n : ℕ) (steps : List Step) → once_closed (late_run (opening n) steps) ≡ run (opening n) steps
+pub once_closed_run : (n : ℕ) (steps : List ProtocolStep) → once_closed (late_run (opening n) steps) ≡ run (opening n) steps
 once_closed_run n steps = (agrees_after_run n steps).same
 
-pub same_log : (n : ℕ) (steps : List Step) → (late_run (opening n) steps).log ≡ (run (opening n) steps).log
+pub same_log : (n : ℕ) (steps : List ProtocolStep) → (late_run (opening n) steps).log ≡ (run (opening n) steps).log
 same_log n steps = ap (λ (s : State). s.log) (once_closed_run n steps)
 
 -- where nobody is in an instance, nothing is still to be done

@@ -4,7 +4,7 @@ use Rattle.std.specs.Prelude.{ℕ, ◌+◌, ◌==◌, ◌&&◌, not, nat_lt, if�
 use Rattle.kt_base.specs.declared.words.Cause.TheVariants.{Busy, Down}
 use Rattle.kt_base.specs.declared.words.Verb.TheVariants as verb
 use Rattle.kt_protocol.specs.Parcels.{Parcel, App, Ask, Reply, Decide, with_rest}
-use Rattle.kt_protocol.specs.States.{Step, Send, Begin, Fail, Take, State, is_ready}
+use Rattle.kt_protocol.specs.States.{ProtocolStep, Send, Begin, Fail, Take, State, is_ready}
 use Rattle.kt_protocol.specs.Messages.{after_failing, after_refusal, after_holding, after_arrival}
 use Rattle.kt_protocol.specs.Joining.{after_began, after_joining_checkpoint, after_joining_rollback, must_take, must_roll}
 use Rattle.kt_protocol.specs.Replies.{after_noting, after_replying, after_unwilling, after_reply, after_answering, unable_cause}
@@ -66,7 +66,7 @@ late_begin_command s p true able = late_beginning s p true
 late_begin_command s p false able = if able && s.up p then late_beginning s p false else after_refusal s p verb.Checkpoint (unable_cause (s.up p))
 
 -- one step: who is in a rollback takes from the channel, and does not look at what it holds
-abbrev pub late_step : State → Step → State
+abbrev pub late_step : State → ProtocolStep → State
 late_step s (Send p q body) =
     if (nat_lt p s.processes && nat_lt q s.processes) && (s.so_far.open_in p == 0 && not (q == p)) then after_send_command s p q body else s
 late_step s (Begin p roll able) = if s.so_far.open_in p == 0 then late_begin_command s p roll able else after_refusal s p (verb_for roll) (Busy (s.so_far.open_in p))
@@ -74,6 +74,6 @@ late_step s (Fail p) = if s.up p then after_failing s p else after_refusal s p v
 late_step s (Take p q able) = if is_ready s p then late_front s p q able (s.channel q p) else late_take s p q able (s.held q p)
 
 -- some steps, one after another
-abbrev pub late_run : State → List Step → State
+abbrev pub late_run : State → List ProtocolStep → State
 late_run s [] = s
 late_run s (x ∷ xs) = late_run (late_step s x) xs

@@ -2,7 +2,7 @@
 use Rattle.std.specs.Prelude.{Option, Some, None}
 use Rattle.std.proofs.Common.{length, ◌≡◌, ℕ, List, sym, subst}
 use Rattle.kt_spacetime.specs.declared.event.Event.{Event}
-use Rattle.kt_protocol.specs.States.{Step, opening}
+use Rattle.kt_protocol.specs.States.{ProtocolStep, opening}
 use Rattle.kt_closing.specs.LateSteps.{late_run}
 use Rattle.kt_process.specs.ProcessStates.{ProcessState, inst_of}
 use Rattle.kt_process.specs.Shown.{IsSeenAs, inst_shown}
@@ -14,7 +14,7 @@ use Rattle.kt_plans.proofs.ReachedRuns.{seen_of}
 use Rattle.kt_core.specs.Agendas.{Agenda}
 use Rattle.kt_core.specs.Shown.{IsReached}
 
-pub reached_log : (a : Agenda) (s : Whole) (P : List Event → Type 0) → ((n : ℕ) (steps : List Step) → P (late_run (opening n) steps).log) → IsReached a s → P s.rows.rows
+pub reached_log : (a : Agenda) (s : Whole) (P : List Event → Type 0) → ((n : ℕ) (steps : List ProtocolStep) → P (late_run (opening n) steps).log) → IsReached a s → P s.rows.rows
 reached_log a s P law r = subst (λ (l : List Event). P l) (sym r.2.now.log)
     (seen_of a.plan r.0 r.1 (λ (v : Seen). P v.log) r.2.limits r.2.reached (λ steps. law (length a.plan.names) steps))
 

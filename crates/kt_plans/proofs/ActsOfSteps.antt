@@ -49,7 +49,7 @@ use Rattle.kt_plans.proofs.PhaseOrder.{never_both}
 
 -- the protocol's step behind it
 pub record BehindStep (plan : Planned) (g : MachineProgress) (x : Step) (give : Give) : Type 0 where
-  pub step : machine.Step
+  pub step : machine.ProtocolStep
   pub state : (after_machine_step plan g x give).state ≡ late_step g.state step
   pub by : protocol_stepper step ≡ process_of_step x
   pub keeps : keeps_only_first give.able (acts g.state step) ≡ true
@@ -71,7 +71,7 @@ behind_step plan g (Take p q) give k e = record { step = machine.Take p q give.a
 -- what is known of the step and its rows
 pub record Telling (plan : Planned) (first : ℕ) (g : MachineProgress) (x : Step) (give : Give) : Type 0 where
   pub on : machine_enabled plan g x ≡ true
-  pub step : machine.Step
+  pub step : machine.ProtocolStep
   pub state : (after_machine_step plan g x give).state ≡ late_step g.state step
   pub by : protocol_stepper step ≡ process_of_step x
   pub keeps : keeps_only_first give.able (acts g.state step) ≡ true

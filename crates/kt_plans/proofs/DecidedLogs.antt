@@ -18,7 +18,7 @@ use Rattle.kt_certify.specs.declared.fault.CertFault.{CertFault}
 use Rattle.kt_certify.specs.declared.fault.CertFault.TheVariants.{BadLog, NoChain, Memory}
 use Rattle.kt_certify.proofs.ChainLinks.{not_linked}
 use Rattle.kt_protocol.specs.Logs.{HasLinkedDecisions, HasUnwilling}
-use Rattle.kt_protocol.specs.States.{Step, opening}
+use Rattle.kt_protocol.specs.States.{ProtocolStep, opening}
 use Rattle.kt_protocol.specs.Steps.{run}
 use Rattle.kt_protocol.proofs.LawfulSteps.{lawful_after_run}
 use Rattle.kt_protocol.proofs.LogMeaning.{all_consistent, all_linked, aborts}
@@ -95,7 +95,7 @@ only_memory log (NoChain k p) h is = absurd (not_without_chain log k p h.linked 
 only_memory log Memory h is = refl
 
 -- the log of every run is one
-pub decided_well : (n : ℕ) (steps : List Step) → IsDecidedWell (run (opening n) steps).log
+pub decided_well : (n : ℕ) (steps : List ProtocolStep) → IsDecidedWell (run (opening n) steps).log
 decided_well n steps = record {
   legal = (lawful_after_run n steps).legal;
   consistent = all_consistent (run (opening n) steps).log (lawful_after_run n steps).legal (invariant_after_run n steps).consistent.rows_hold;

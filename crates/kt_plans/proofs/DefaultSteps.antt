@@ -41,7 +41,7 @@ use Rattle.kt_plans.proofs.SameLooks.{look_same}
 use Rattle.kt_plans.proofs.ReachedRuns.{carry}
 use Rattle.kt_plans.proofs.RunSteps.{nothing_on}
 
-known : (n : ℕ) (steps : List machine.Step) → (late_run (opening n) steps).so_far ≡ summary (late_run (opening n) steps).log
+known : (n : ℕ) (steps : List machine.ProtocolStep) → (late_run (opening n) steps).so_far ≡ summary (late_run (opening n) steps).log
 known n steps = subst (λ (s : State). s.so_far ≡ summary s.log) (sym (agrees_after_run n steps).same) (invariant_after_run n steps).histories.of_log
 
 -- the state's summary is that of its log

@@ -31,13 +31,13 @@ use Rattle.kt_plans.proofs.ReachedRuns.{carry}
 use Rattle.kt_plans.proofs.ActsOfSteps.{log_grows}
 use Rattle.kt_plans.proofs.PhaseOrder.{never_both}
 
-run_more : (v : Seen) (xs : List machine.Step) (x : machine.Step) → run_seen v (xs ++ x ∷ []) ≡ transition (run_seen v xs) x
+run_more : (v : Seen) (xs : List machine.ProtocolStep) (x : machine.ProtocolStep) → run_seen v (xs ++ x ∷ []) ≡ transition (run_seen v xs) x
 run_more v [] x = refl
 run_more v (y ∷ ys) x = run_more (transition v y) ys x
 
 -- behind an enabled step is one of the protocol
 pub record OneStep (plan : Planned) (w : Progress) (x : Step) (give : Give) : Type 0 where
-  pub step : machine.Step
+  pub step : machine.ProtocolStep
   pub alone : protocol_steps plan w x give ≡ step ∷ []
   pub now : (progress_after plan w x give).now ≡ transition w.now step
 
@@ -52,14 +52,14 @@ one_step plan w (Take p q) give e = record { step = machine.Take p q give.able; 
 pub steps_at_start : (plan : Planned) (first : ℕ) → IsAfterSteps plan first [] (progress_at_start plan first)
 steps_at_start plan first = (opening_is plan first).now
 
-pub steps_next : (plan : Planned) (first : ℕ) (w : Progress) (steps : List machine.Step) (x : Step) (give : Give) → IsAfterSteps plan first steps w → enabled plan w x ≡ true → IsAfterSteps plan first (steps ++ protocol_steps plan w x give) (progress_after plan w x give)
+pub steps_next : (plan : Planned) (first : ℕ) (w : Progress) (steps : List machine.ProtocolStep) (x : Step) (give : Give) → IsAfterSteps plan first steps w → enabled plan w x ≡ true → IsAfterSteps plan first (steps ++ protocol_steps plan w x give) (progress_after plan w x give)
 steps_next plan first w steps x give m e = let d = one_step plan w x give e in
-    d.now ∙ (ap (λ (v : Seen). transition v d.step) m ∙ (sym (run_more (opening_seen (length plan.names) first) steps d.step) ∙ ap (λ (l : List machine.Step). run_seen (opening_seen (length plan.names) first) (steps ++ l)) (sym d.alone)))
+    d.now ∙ (ap (λ (v : Seen). transition v d.step) m ∙ (sym (run_more (opening_seen (length plan.names) first) steps d.step) ∙ ap (λ (l : List machine.ProtocolStep). run_seen (opening_seen (length plan.names) first) (steps ++ l)) (sym d.alone)))
 
-pub steps_seen : (plan : Planned) (first : ℕ) (w : Progress) (steps : List machine.Step) → IsAfterSteps plan first steps w → w.now ≡ seen first (late_run (opening (length plan.names)) steps)
+pub steps_seen : (plan : Planned) (first : ℕ) (w : Progress) (steps : List machine.ProtocolStep) → IsAfterSteps plan first steps w → w.now ≡ seen first (late_run (opening (length plan.names)) steps)
 steps_seen plan first w steps m = m ∙ sym (seen_after_run (length plan.names) first steps)
 
-pub steps_acts : (plan : Planned) (first : ℕ) (w : Progress) (steps : List machine.Step) (x : Step) (give : Give) (y : machine.Step) (p : ℕ) → IsPlan plan → RunReaches plan first w → IsAfterSteps plan first steps w → enabled plan w x ≡ true → protocol_steps plan w x give ≡ y ∷ [] →
+pub steps_acts : (plan : Planned) (first : ℕ) (w : Progress) (steps : List machine.ProtocolStep) (x : Step) (give : Give) (y : machine.ProtocolStep) (p : ℕ) → IsPlan plan → RunReaches plan first w → IsAfterSteps plan first steps w → enabled plan w x ≡ true → protocol_steps plan w x give ≡ y ∷ [] →
     acts_of_step plan w x give p ≡ acts_by p (late_run (opening (length plan.names)) steps) y
 steps_acts plan first w steps x give y p i r m e a =
     ap (λ (l : List Event). acts_along p (done l) (rows_added plan w x give)) log_is
@@ -72,18 +72,18 @@ steps_acts plan first w steps x give y p i r m e a =
     more = run_state_more (opening (length plan.names)) steps y
 
     log_then : (progress_after plan w x give).now.log ≡ (late_step (late_run (opening (length plan.names)) steps) y).log
-    log_then = ap (λ (v : Seen). v.log) (steps_seen plan first (progress_after plan w x give) (steps ++ y ∷ []) (subst (λ (l : List machine.Step). IsAfterSteps plan first (steps ++ l) (progress_after plan w x give)) a (steps_next plan first w steps x give m e))) ∙ ap (λ (s : State). s.log) more
+    log_then = ap (λ (v : Seen). v.log) (steps_seen plan first (progress_after plan w x give) (steps ++ y ∷ []) (subst (λ (l : List machine.ProtocolStep). IsAfterSteps plan first (steps ++ l) (progress_after plan w x give)) a (steps_next plan first w steps x give m e))) ∙ ap (λ (s : State). s.log) more
 
 -- steps of the protocol lead to what is seen wherever a run leads
-steps_behind : (plan : Planned) (first : ℕ) (w : Progress) → IsPlan plan → RunReaches plan first w → (steps : List machine.Step) × IsAfterSteps plan first steps w
-steps_behind plan first w i r = carry plan first w (λ v. (steps : List machine.Step) × IsAfterSteps plan first steps v) i r
+steps_behind : (plan : Planned) (first : ℕ) (w : Progress) → IsPlan plan → RunReaches plan first w → (steps : List machine.ProtocolStep) × IsAfterSteps plan first steps w
+steps_behind plan first w i r = carry plan first w (λ v. (steps : List machine.ProtocolStep) × IsAfterSteps plan first steps v) i r
     (λ g s. let k = run_facts plan g s in (k.steps, ap (seen first) k.state_is ∙ seen_after_run (length plan.names) first k.steps))
 
-own_acts : (s : State) (y : machine.Step) → acts_by (stepper y) s y ≡ acts s y
+own_acts : (s : State) (y : machine.ProtocolStep) → acts_by (stepper y) s y ≡ acts s y
 own_acts s y = let e = is_same (stepper y) in rw e refl
 
 -- the acts of a step, by what is seen
-pub seen_acts_are : (plan : Planned) (first : ℕ) (w : Progress) (x : Step) (give : Give) (y : machine.Step) → IsPlan plan → RunReaches plan first w → enabled plan w x ≡ true → protocol_steps plan w x give ≡ y ∷ [] → acts_of_step plan w x give (stepper y) ≡ seen_acts w.now y
+pub seen_acts_are : (plan : Planned) (first : ℕ) (w : Progress) (x : Step) (give : Give) (y : machine.ProtocolStep) → IsPlan plan → RunReaches plan first w → enabled plan w x ≡ true → protocol_steps plan w x give ≡ y ∷ [] → acts_of_step plan w x give (stepper y) ≡ seen_acts w.now y
 seen_acts_are plan first w x give y i r e a =
     let b = steps_behind plan first w i r in
     steps_acts plan first w b.0 x give y (stepper y) i r b.1 e a

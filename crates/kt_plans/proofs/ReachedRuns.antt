@@ -43,11 +43,11 @@ pub carry : (plan : Planned) (first : ℕ) (w : Progress) (P : Progress → Type
 carry plan first w P i r f = let s = shown_by plan first w r.moves i r.leads in subst P (sym s.is) (f s.progress (record { count = length r.moves; behind = s.behind }))
 
 -- its log is that of a run of the protocol
-pub log_of : (plan : Planned) (first : ℕ) (w : Progress) (P : List Event → Type 0) → IsPlan plan → RunReaches plan first w → ((steps : List machine.Step) → P (run (opening (length plan.names)) steps).log) → P w.now.log
+pub log_of : (plan : Planned) (first : ℕ) (w : Progress) (P : List Event → Type 0) → IsPlan plan → RunReaches plan first w → ((steps : List machine.ProtocolStep) → P (run (opening (length plan.names)) steps).log) → P w.now.log
 log_of plan first w P i r f = carry plan first w (λ v. P v.now.log) i r
     (λ g s. let k = run_facts plan g s in subst P (sym (ap (λ (s : State). s.log) k.state_is ∙ same_log (length plan.names) k.steps)) (f k.steps))
 
 -- what is seen is what is seen of a run in which a commit takes effect late
-pub seen_of : (plan : Planned) (first : ℕ) (w : Progress) (P : Seen → Type 0) → IsPlan plan → RunReaches plan first w → ((steps : List machine.Step) → P (seen first (late_run (opening (length plan.names)) steps))) → P w.now
+pub seen_of : (plan : Planned) (first : ℕ) (w : Progress) (P : Seen → Type 0) → IsPlan plan → RunReaches plan first w → ((steps : List machine.ProtocolStep) → P (seen first (late_run (opening (length plan.names)) steps))) → P w.now
 seen_of plan first w P i r f = carry plan first w (λ v. P v.now) i r
     (λ g s. let k = run_facts plan g s in subst (λ (x : State). P (seen first x)) (sym k.state_is) (f k.steps))

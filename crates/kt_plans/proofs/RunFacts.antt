@@ -27,13 +27,13 @@ abbrev pub bare_take : MachineProgress → ℕ → ℕ → Give → MachineProgr
 bare_take g p q give = record g { state = late_step g.state (machine.Take p q give.able) }
 
 pub record RunFacts (plan : Planned) (g : MachineProgress) : Type 0 where
-  pub steps : List machine.Step
+  pub steps : List machine.ProtocolStep
   pub state_is : g.state ≡ late_run (opening (length plan.names)) steps
   pub ahead : IsAhead plan g
   pub shut : machine_opens_next plan g ≡ false
 
 -- one more step
-pub run_more : (s : State) (xs : List machine.Step) (x : machine.Step) → late_run s (xs ++ x ∷ []) ≡ late_step (late_run s xs) x
+pub run_more : (s : State) (xs : List machine.ProtocolStep) (x : machine.ProtocolStep) → late_run s (xs ++ x ∷ []) ≡ late_step (late_run s xs) x
 run_more s [] x = refl
 run_more s (y ∷ ys) x = run_more (late_step s y) ys x
 
@@ -61,7 +61,7 @@ ahead_command plan g p give c e a u = go (u == p) refl
     go true i = let y : u ≡ p = grind (arith, nat_tests, i) in rw y (subst (λ (l : List Command). Ordered (length plan.names) p g.phase l) (sym (left_next plan g p c x.0 x.1)) rest)
     go false i = a u
 
-facts_by : (plan : Planned) (g g' g'' : MachineProgress) (x : machine.Step) → RunFacts plan g → g'.state ≡ late_step g.state x → Opened plan g' g'' → RunFacts plan g''
+facts_by : (plan : Planned) (g g' g'' : MachineProgress) (x : machine.ProtocolStep) → RunFacts plan g → g'.state ≡ late_step g.state x → Opened plan g' g'' → RunFacts plan g''
 facts_by plan g g' g'' x k e s = record {
   steps = k.steps ++ x ∷ [];
   state_is = s.state ∙ (e ∙ (ap (λ (t : State). late_step t x) k.state_is ∙ sym (run_more (opening (length plan.names)) k.steps x)));

@@ -52,7 +52,7 @@ module _ (first : ℕ) (c : State) (t : Labelling) (known : read c.so_far t ≡ 
   front_same p q (Reply k w ∷ rest) e = refl
   front_same p q (Decide k w ∷ rest) e = refl
 
-front_run : (n first : ℕ) (steps : List machine.Step) (p q : ℕ) → look_of_front (seen first (late_run (opening n) steps)) p q ((seen first (late_run (opening n) steps)).channel q p) ≡ machine_look_of_front (late_run (opening n) steps) p q ((late_run (opening n) steps).channel q p)
+front_run : (n first : ℕ) (steps : List machine.ProtocolStep) (p q : ℕ) → look_of_front (seen first (late_run (opening n) steps)) p q ((seen first (late_run (opening n) steps)).channel q p) ≡ machine_look_of_front (late_run (opening n) steps) p q ((late_run (opening n) steps).channel q p)
 front_run n first steps p q =
     let x = sees_runs n first steps in
     subst (λ (t : Labelling). look_of_front (view_of t (late_run (opening n) steps)) p q ((view_of t (late_run (opening n) steps)).channel q p) ≡ machine_look_of_front (late_run (opening n) steps) p q ((late_run (opening n) steps).channel q p))

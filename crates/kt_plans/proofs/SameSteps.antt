@@ -91,11 +91,11 @@ pub rest_same : (plan : Planned) (first : ℕ) (g : MachineProgress) → is_at_r
 rest_same plan first g = ap (λ (b : Bool). none_of (length plan.names) (λ p. is_some (slice_get (machine_commands_left plan g p) 0)) && b) (quiet_same (length plan.names) first g.state)
 
 -- one step
-step_same : (plan : Planned) (first : ℕ) (g : MachineProgress) (x : machine.Step) → RunFacts plan g → seen first (late_step g.state x) ≡ seen_transition.transition (seen first g.state) x
+step_same : (plan : Planned) (first : ℕ) (g : MachineProgress) (x : machine.ProtocolStep) → RunFacts plan g → seen first (late_step g.state x) ≡ seen_transition.transition (seen first g.state) x
 step_same plan first g x k = subst (λ (s : State). seen first (late_step s x) ≡ seen_transition.transition (seen first s) x) (sym k.state_is) (seen_step (length plan.names) first k.steps x)
 
 -- before phases open
-bare_same : (plan : Planned) (first : ℕ) (g : MachineProgress) (y : machine.Step) (d : ℕ → ℕ) → RunFacts plan g →
+bare_same : (plan : Planned) (first : ℕ) (g : MachineProgress) (y : machine.ProtocolStep) (d : ℕ → ℕ) → RunFacts plan g →
     world_of first (record g { state = late_step g.state y; done = d }) ≡ record (world_of first g) { now = seen_transition.transition (seen first g.state) y; done = d }
 bare_same plan first g y d k = ap (λ (v : Seen). record (world_of first g) { now = v; done = d }) (step_same plan first g y k)
 

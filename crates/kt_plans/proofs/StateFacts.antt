@@ -24,7 +24,7 @@ pub record StateFacts (n : ℕ) (s : State) : Type 0 where
   pub quiet : AllQuiet (once_closed s)
   pub lists : KeptLists s
 
-state_facts_by : (n : ℕ) (steps : List machine.Step) → StateFacts n (late_run (opening n) steps)
+state_facts_by : (n : ℕ) (steps : List machine.ProtocolStep) → StateFacts n (late_run (opening n) steps)
 state_facts_by n steps = let i = agrees_after_run n steps in record {
   processes = ap (λ (s : State). s.processes) i.same ∙ same_processes n steps;
   invariant = subst Invariant (sym i.same) (invariant_after_run n steps);

@@ -21,7 +21,7 @@ module _ (plan : Planned) (first : ℕ) (w : Progress) (i : IsPlan plan) (r : Ru
   pub speaks_seen : (p : ℕ) → Speaks (w.now.states p).calls
   speaks_seen p = seen_of plan first w (λ v. Speaks (v.states p).calls) i r (λ s. speaks (length plan.names) first s p)
 
-  pub speaks_next_seen : (x : machine.Step) (p : ℕ) → Speaks ((transition w.now x).states p).calls
+  pub speaks_next_seen : (x : machine.ProtocolStep) (p : ℕ) → Speaks ((transition w.now x).states p).calls
   speaks_next_seen x p = seen_of plan first w (λ v. Speaks ((transition v x).states p).calls) i r (λ s. speaks_next (length plan.names) first s x p)
 
   pub channel_seen : (p q : ℕ) → AreSentTo first w.now.log p q (w.now.channel p q)

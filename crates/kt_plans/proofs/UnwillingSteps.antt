@@ -34,7 +34,7 @@ by_late_state s p q k able Down m = record { member = m.member; undecided = m.un
 by_late_state s p q k able NoSave m = record { member = m.member; undecided = m.undecided; cause = (let f = m.cause.0 in record { checkpoint = f.checkpoint; closed = f.closed; has_to = f.has_to }, m.cause.1, m.cause.2) }
 
 -- an unwilling row of one step
-record IsOfStep (s : State) (y : machine.Step) (t p k : ℕ) (c : Cause) : Type 0 where
+record IsOfStep (s : State) (y : machine.ProtocolStep) (t p k : ℕ) (c : Cause) : Type 0 where
   from : ℕ
   able : Bool
   is : y ≡ machine.Take p from able
@@ -47,7 +47,7 @@ past (y ∷ l) zero x a h = omega (arith, h)
 past (y ∷ l) (suc t) x a h = past l t x a (omega (arith, h))
 
 -- a late step
-step_refuses : (n : ℕ) (s : State) (y : machine.Step) (t p k : ℕ) (c : Cause) → StateFacts n s → slice_get (late_step s y).log t ≡ Some (Unwilling p k c) → length s.log ≤ t → IsOfStep (once_closed s) y t p k c
+step_refuses : (n : ℕ) (s : State) (y : machine.ProtocolStep) (t p k : ℕ) (c : Cause) → StateFacts n s → slice_get (late_step s y).log t ≡ Some (Unwilling p k c) → length s.log ≤ t → IsOfStep (once_closed s) y t p k c
 step_refuses n s y t p k c r e l = elim (adds_step (once_closed s) y r.invariant r.after_step.always.tables t (Unwilling p k c) refl (ap (λ (u : State). slice_get u.log t) (sym (agrees_step s y r.invariant r.quiet r.lists).same) ∙ e)) [
   | inl a ↦ absurd (past s.log t (Unwilling p k c) a l)
   | inr a ↦ record { from = a.1.0; able = a.1.1; is = a.1.2; row = a.0; justified = a.1.3 }

@@ -63,17 +63,17 @@ pub record IsSameButPhase (w w' : Progress) : Type 0 where
   pub done : w'.done ≡ w.done
 
 -- the protocol's step for p's command, if there is one
-abbrev pub steps_of_command : ℕ → Give → Option Command → List machine.Step
+abbrev pub steps_of_command : ℕ → Give → Option Command → List machine.ProtocolStep
 steps_of_command p give None = []
 steps_of_command p give (Some c) = protocol_step p c.job give ∷ []
 
 -- the protocol's step for a step of the plan: one, where it is enabled
-abbrev pub protocol_steps : Planned → Progress → Step → Give → List machine.Step
+abbrev pub protocol_steps : Planned → Progress → Step → Give → List machine.ProtocolStep
 protocol_steps plan w (Do p) give = steps_of_command p give (next_command plan w p)
 protocol_steps plan w (Take p q) give = machine.Take p q give.able ∷ []
 
 -- what is seen is where these steps of the protocol lead
-abbrev pub IsAfterSteps : Planned → ℕ → List machine.Step → Progress → Type 0
+abbrev pub IsAfterSteps : Planned → ℕ → List machine.ProtocolStep → Progress → Type 0
 IsAfterSteps plan first steps w = w.now ≡ run_seen (opening_seen (length plan.names) first) steps
 
 -- none of these moves is p's

@@ -21,7 +21,7 @@ may_do_job closed (job.Send q body) = closed
 may_do_job closed _ = true
 
 -- the protocol's step for p's job: a send has the body of the command or, if it has none, the one that is offered
-abbrev pub protocol_step : ℕ → Job → Give → machine.Step
+abbrev pub protocol_step : ℕ → Job → Give → machine.ProtocolStep
 protocol_step p (job.Send q body) give = machine.Send p q (unwrap_or body give.body)
 protocol_step p job.Checkpoint give = machine.Begin p false give.able
 protocol_step p job.Rollback give = machine.Begin p true give.able

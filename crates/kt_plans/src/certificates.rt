@@ -17,7 +17,7 @@ ghost use Rattle.kt_certify.specs.declared.fault.CertFault.{CertFault};
 ghost use Rattle.kt_certify.specs.declared.fault.CertFault.TheVariants.{Memory};
 ghost use Rattle.kt_certify.specs.Certificates.{certificates};
 ghost use Rattle.kt_certify.specs.Faults.{HasNoChain, IsFaultOf};
-ghost use Rattle.kt_protocol.specs.States.{Step, opening};
+ghost use Rattle.kt_protocol.specs.States.{ProtocolStep, opening};
 ghost use Rattle.kt_protocol.specs.Steps.{run};
 ghost use Rattle.kt_protocol.specs.WorkedRuns.{checkpoint_of_two_steps, checkpoint_round_a_ring_steps, second_checkpoint_of_two_steps, two_checkpoints_at_once_steps, rollback_through_three_steps, messages_received_again_steps, busy_process_refuses_steps};
 ghost use Rattle.kt_plan.specs.Limits.{Planned, IsPlan};
@@ -65,18 +65,18 @@ pub fn certificates_of_well_decided_logs()
 pub fn certificates_of_protocol_runs()
     // The log is one of those: legal, so never a broken rule; each member but the initiator of a committed instance has
     // a message that links it with an earlier one, so never a member without a chain; so no fault but want of memory.
-    ensures well { (n : ℕ) (steps : List Step) → IsDecidedWell (run (opening n) steps).log }
-    ensures unbroken { (n : ℕ) (steps : List Step) → first_broken (run (opening n) steps).log ≡ None }
-    ensures chained { (n : ℕ) (steps : List Step) (k p : ℕ) → HasNoChain (run (opening n) steps).log k p → ⊥ }
-    ensures certified { (n : ℕ) (steps : List Step) (f : CertFault) →
+    ensures well { (n : ℕ) (steps : List ProtocolStep) → IsDecidedWell (run (opening n) steps).log }
+    ensures unbroken { (n : ℕ) (steps : List ProtocolStep) → first_broken (run (opening n) steps).log ≡ None }
+    ensures chained { (n : ℕ) (steps : List ProtocolStep) (k p : ℕ) → HasNoChain (run (opening n) steps).log k p → ⊥ }
+    ensures certified { (n : ℕ) (steps : List ProtocolStep) (f : CertFault) →
         IsFaultOf (run (opening n) steps).log f → f ≡ Memory }
 
     // The checker's answer is yes, and can't be another one.
-    ensures passed { (n : ℕ) (steps : List Step) →
+    ensures passed { (n : ℕ) (steps : List ProtocolStep) →
         IsPassed (run (opening n) steps).log (certificates (run (opening n) steps).log) }
-    ensures answer { (n : ℕ) (steps : List Step) →
+    ensures answer { (n : ℕ) (steps : List ProtocolStep) →
         IsAnswer (run (opening n) steps).log (certificates (run (opening n) steps).log) Yes }
-    ensures yes { (n : ℕ) (steps : List Step) (v : Verdict) →
+    ensures yes { (n : ℕ) (steps : List ProtocolStep) (v : Verdict) →
         IsAnswer (run (opening n) steps).log (certificates (run (opening n) steps).log) v → v ≡ Yes }
 {
     certificates_of_well_decided_logs();

@@ -193,20 +193,20 @@ pub fn progress_after_steps()
 /// The steps of the protocol behind those of a plan: they lead to what is seen, and a step has the acts of its own.
 pub fn protocol_of_runs()
     ensures start { (plan : Planned) (first : ℕ) → IsAfterSteps plan first [] (progress_at_start plan first) }
-    ensures next { (plan : Planned) (first : ℕ) (w : Progress) (steps : List machine.Step) (x : Step) (give : Give) →
+    ensures next { (plan : Planned) (first : ℕ) (w : Progress) (steps : List machine.ProtocolStep) (x : Step) (give : Give) →
         IsAfterSteps plan first steps w → enabled plan w x ≡ true →
         IsAfterSteps plan first (steps ++ protocol_steps plan w x give) (progress_after plan w x give) }
     ensures one { (plan : Planned) (w : Progress) (x : Step) (give : Give) → enabled plan w x ≡ true →
-        (step : machine.Step) × (protocol_steps plan w x give ≡ step ∷ []) }
-    ensures seen { (plan : Planned) (first : ℕ) (w : Progress) (steps : List machine.Step) →
+        (step : machine.ProtocolStep) × (protocol_steps plan w x give ≡ step ∷ []) }
+    ensures seen { (plan : Planned) (first : ℕ) (w : Progress) (steps : List machine.ProtocolStep) →
         IsAfterSteps plan first steps w → w.now ≡ seen first (late_run (opening (length plan.names)) steps) }
-    ensures acts { (plan : Planned) (first : ℕ) (w : Progress) (steps : List machine.Step) (x : Step) (give : Give)
-        (y : machine.Step) (p : ℕ) → IsPlan plan → RunReaches plan first w → IsAfterSteps plan first steps w →
+    ensures acts { (plan : Planned) (first : ℕ) (w : Progress) (steps : List machine.ProtocolStep) (x : Step) (give : Give)
+        (y : machine.ProtocolStep) (p : ℕ) → IsPlan plan → RunReaches plan first w → IsAfterSteps plan first steps w →
         enabled plan w x ≡ true → protocol_steps plan w x give ≡ y ∷ [] →
         acts_of_step plan w x give p ≡ acts_by p (late_run (opening (length plan.names)) steps) y }
 
     // By what code has: the acts of the process that steps.
-    ensures seen_acts { (plan : Planned) (first : ℕ) (w : Progress) (x : Step) (give : Give) (y : machine.Step) →
+    ensures seen_acts { (plan : Planned) (first : ℕ) (w : Progress) (x : Step) (give : Give) (y : machine.ProtocolStep) →
         IsPlan plan → RunReaches plan first w → enabled plan w x ≡ true →
         protocol_steps plan w x give ≡ y ∷ [] →
         acts_of_step plan w x give (values_acts.stepper y) ≡ seen_acts w.now y }
@@ -284,7 +284,7 @@ pub fn processes_of_runs()
     // The calls of each process are a list that tables answer for, before a step and after it.
     ensures speaks { (plan : Planned) (first : ℕ) (w : Progress) (p : ℕ) → IsPlan plan → RunReaches plan first w →
         Speaks (w.now.states p).calls }
-    ensures speaks_next { (plan : Planned) (first : ℕ) (w : Progress) (x : machine.Step) (p : ℕ) → IsPlan plan →
+    ensures speaks_next { (plan : Planned) (first : ℕ) (w : Progress) (x : machine.ProtocolStep) (p : ℕ) → IsPlan plan →
         RunReaches plan first w → Speaks ((transition w.now x).states p).calls }
 
     // A process in no instance has no part, and whom it would ask is a process; so is whom a part asked or answers.

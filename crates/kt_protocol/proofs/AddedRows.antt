@@ -8,7 +8,7 @@ use Rattle.kt_base.specs.declared.words.Verb.{Verb}
 use Rattle.kt_spacetime.specs.declared.event.Event.{Event}
 use Rattle.kt_spacetime.specs.declared.event.Event.TheVariants.{Sent, Received, Dropped, Began, Took, Ready, Unwilling, Decided, Closed, Failed, Refused}
 use Rattle.kt_protocol.specs.Parcels.{Lists, with_rest}
-use Rattle.kt_protocol.specs.States.{State, Step, Take, opening}
+use Rattle.kt_protocol.specs.States.{State, ProtocolStep, Take, opening}
 use Rattle.kt_protocol.specs.Messages.{after_sending, after_arrival, after_failing, after_refusal, after_holding}
 use Rattle.kt_protocol.specs.Joining.{after_began, after_joining_checkpoint, after_joining_rollback}
 use Rattle.kt_protocol.specs.Replies.{after_noting, after_replying, unable_cause, after_unwilling, after_reply}
@@ -31,7 +31,7 @@ is_told (Refused p v cause) = true
 is_told _ = false
 
 -- a step may add it
-abbrev pub MayAdd : State → Step → Event → Type 0
+abbrev pub MayAdd : State → ProtocolStep → Event → Type 0
 MayAdd s x (Unwilling p k cause) = (q : ℕ) × (able : Bool) × (x ≡ Take p q able) × MayBeUnwilling s p q k able cause
 MayAdd s x (Refused p v cause) = MayRefuse s p v cause x
 MayAdd s x _ = Unit {0}
@@ -41,7 +41,7 @@ abbrev Quiet : State → State → Type 0
 Quiet s t = (i : ℕ) (row : Event) → is_told row ≡ true → slice_get t.log i ≡ Some row → slice_get s.log i ≡ Some row
 
 -- or it is the next one, which step x may add
-abbrev pub Adds : Step → State → State → Type 0
+abbrev pub Adds : ProtocolStep → State → State → Type 0
 Adds x s t = (i : ℕ) (row : Event) → is_told row ≡ true → slice_get t.log i ≡ Some row → (slice_get s.log i ≡ Some row) ⊎ ((i ≡ length s.log) × MayAdd s x row)
 
 quiet_row : (log : List Event) (row : Event) → is_told row ≡ false → (i : ℕ) (x : Event) → is_told x ≡ true → slice_get (log ++ row ∷ []) i ≡ Some x → slice_get log i ≡ Some x
@@ -66,7 +66,7 @@ quiet_closing s p k c = go c (s.so_far.is_rollback k)
 quiet_arrival : (s : State) (channel held : Lists) (p q m : ℕ) → Quiet s (after_arrival s channel held p q m)
 quiet_arrival s channel held p q m = at_if (Quiet s) (s.up p) _ _ (λ _. quiet_row s.log (Received p q m) refl) (λ _. quiet_row s.log (Dropped p q m) refl)
 
-adds_row : (s t : State) (x : Step) (row : Event) → t.log ≡ s.log ++ row ∷ [] → MayAdd s x row → Adds x s t
+adds_row : (s t : State) (x : ProtocolStep) (row : Event) → t.log ≡ s.log ++ row ∷ [] → MayAdd s x row → Adds x s t
 adds_row s t x row e may i y o h = elim (get-push s.log row i y (rw e at h)) [ inl a ↦ inl a | inr b ↦ inr (b.0, subst (λ (z : Event). MayAdd s x z) b.1 may) ]
 
 -- the state before the step
@@ -77,7 +77,7 @@ record Start (s t : State) : Type 0 where
 from_start : (s t u : State) → Start s t → Quiet t u → Quiet s u
 from_start s t u b q = subst (λ (v : State). Quiet v u) (sym b.same) q
 
-module _ (x : Step) (s0 : State) where
+module _ (x : ProtocolStep) (s0 : State) where
   silent : (s t : State) → Start s0 s → Quiet s t → Adds x s0 t
   silent s t b q i row o h = inl (from_start s0 s t b q i row o h)
 
@@ -112,38 +112,38 @@ module _ (x : Step) (s0 : State) where
     closes = λ s k p c pos o d i g w j row o2 h. inl (quiet_after s0 s (after_closing s p k c) w (quiet_closing s p k c) j row o2 h);
   }
 
-pub adds_step : (s : State) (x : Step) → Invariant s → TablesSince s → Adds x s (after_step s x)
+pub adds_step : (s : State) (x : ProtocolStep) → Invariant s → TablesSince s → Adds x s (after_step s x)
 adds_step s x g a = (walk_step x (Start s) (Adds x s) (λ t k p. Quiet s t) (λ t k p. Quiet s t) (adds_moves x s) s g (record { same = refl; since = a })).claim
 
 -- row t of a run is added by one of its steps
-record IsAdded (s : State) (steps : List Step) (t : ℕ) (row : Event) : Type 0 where
-  before : List Step
-  after : List Step
-  step : Step
+record IsAdded (s : State) (steps : List ProtocolStep) (t : ℕ) (row : Event) : Type 0 where
+  before : List ProtocolStep
+  after : List ProtocolStep
+  step : ProtocolStep
   steps_are : steps ≡ before ++ step ∷ after
   place : t ≡ length (run s before).log
   may : MayAdd (run s before) step row
 
-is_added : (s : State) (steps : List Step) → Invariant s → AfterStep s → (t : ℕ) (row : Event) → is_told row ≡ true → slice_get (run s steps).log t ≡ Some row → (slice_get s.log t ≡ Some row) ⊎ IsAdded s steps t row
+is_added : (s : State) (steps : List ProtocolStep) → Invariant s → AfterStep s → (t : ℕ) (row : Event) → is_told row ≡ true → slice_get (run s steps).log t ≡ Some row → (slice_get s.log t ≡ Some row) ⊎ IsAdded s steps t row
 is_added s [] g m t row o h = inl h
 is_added s (x ∷ xs) g m t row o h = elim (is_added (after_step s x) xs (invariant_step s x g) (step_keeps s x g m) t row o h) [
   | inl a ↦ elim (adds_step s x g m.always.tables t row o a) [
     | inl b ↦ inl b
     | inr b ↦ inr (record { before = []; after = xs; step = x; steps_are = refl; place = b.0; may = b.1 })
   ]
-  | inr r ↦ inr (record { before = x ∷ r.before; after = r.after; step = r.step; steps_are = ap (λ (l : List Step). x ∷ l) r.steps_are; place = r.place; may = r.may })
+  | inr r ↦ inr (record { before = x ∷ r.before; after = r.after; step = r.step; steps_are = ap (λ (l : List ProtocolStep). x ∷ l) r.steps_are; place = r.place; may = r.may })
 ]
 
 none_before : {X : Type 0} (n t : ℕ) (row : Event) → (slice_get (opening n).log t ≡ Some row) ⊎ X → X
 none_before n t row (inl a) = absurd (cc (a))
 none_before n t row (inr x) = x
 
-pub unwilling_added : (n : ℕ) (steps : List Step) (t p k : ℕ) (c : Cause) → slice_get (run (opening n) steps).log t ≡ Some (Unwilling p k c) → IsUnwillingRow (opening n) steps t p k c
+pub unwilling_added : (n : ℕ) (steps : List ProtocolStep) (t p k : ℕ) (c : Cause) → slice_get (run (opening n) steps).log t ≡ Some (Unwilling p k c) → IsUnwillingRow (opening n) steps t p k c
 unwilling_added n steps t p k c h =
     let r = none_before n t (Unwilling p k c) (is_added (opening n) steps (invariant_opening n) (opening_has n) t (Unwilling p k c) refl h) in
-    record { before = r.before; after = r.after; from = r.may.0; able = r.may.1; steps_are = r.steps_are ∙ ap (λ (x : Step). r.before ++ x ∷ r.after) r.may.2; row = r.place; justified = r.may.3 }
+    record { before = r.before; after = r.after; from = r.may.0; able = r.may.1; steps_are = r.steps_are ∙ ap (λ (x : ProtocolStep). r.before ++ x ∷ r.after) r.may.2; row = r.place; justified = r.may.3 }
 
-pub refused_added : (n : ℕ) (steps : List Step) (t p : ℕ) (v : Verb) (c : Cause) → slice_get (run (opening n) steps).log t ≡ Some (Refused p v c) → IsRefusedRow (opening n) steps t p v c
+pub refused_added : (n : ℕ) (steps : List ProtocolStep) (t p : ℕ) (v : Verb) (c : Cause) → slice_get (run (opening n) steps).log t ≡ Some (Refused p v c) → IsRefusedRow (opening n) steps t p v c
 refused_added n steps t p v c h =
     let r = none_before n t (Refused p v c) (is_added (opening n) steps (invariant_opening n) (opening_has n) t (Refused p v c) refl h) in
     record { before = r.before; after = r.after; step = r.step; steps_are = r.steps_are; row = r.place; justified = r.may }

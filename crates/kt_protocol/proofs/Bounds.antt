@@ -9,7 +9,7 @@ use Rattle.kt_protocol.proofs.Sums.{total_le, total_pairs}
 use Rattle.kt_protocol.proofs.Counting.{Counted}
 use Rattle.kt_protocol.proofs.Weights.{weigh}
 use Rattle.kt_protocol.specs.Parcels.{Lists, with_rest}
-use Rattle.kt_protocol.specs.States.{State, Step}
+use Rattle.kt_protocol.specs.States.{State, ProtocolStep}
 use Rattle.kt_protocol.specs.Messages.{after_arrival}
 use Rattle.kt_protocol.specs.Steps.{run}
 use Rattle.kt_protocol.specs.Deciding.{after_closing, after_deciding_as, after_closing_checkpoint}
@@ -33,7 +33,7 @@ same_closing s p k c = at_if (λ (t : State). t.processes ≡ s.processes) (s.so
 same_arrival : (s : State) (channel held : Lists) (p q m : ℕ) → (after_arrival s channel held p q m).processes ≡ s.processes
 same_arrival s channel held p q m = at_if (λ (t : State). t.processes ≡ s.processes) (s.up p) _ _ (λ _. refl) (λ _. refl)
 
-same_moves : (n : ℕ) (x : Step) → Moves x (λ s. s.processes ≡ n) (λ s. s.processes ≡ n) (λ s k p. s.processes ≡ n) (λ s k p. s.processes ≡ n)
+same_moves : (n : ℕ) (x : ProtocolStep) → Moves x (λ s. s.processes ≡ n) (λ s. s.processes ≡ n) (λ s k p. s.processes ≡ n) (λ s k p. s.processes ≡ n)
 same_moves n x = record {
   stays = λ s g b. b;
   sends = λ s p q body d o u g b. b;
@@ -59,7 +59,7 @@ same_moves n x = record {
   closes = λ s k p c pos o d i g w. same_closing s p k c ∙ w;
 }
 
-pub same_processes : (n : ℕ) (steps : List Step) → (run (opening n) steps).processes ≡ n
+pub same_processes : (n : ℕ) (steps : List ProtocolStep) → (run (opening n) steps).processes ≡ n
 same_processes n steps = kept (λ s. s.processes ≡ n) (λ s x g b. (walk_step x (λ s. s.processes ≡ n) (λ s. s.processes ≡ n) (λ s k p. s.processes ≡ n) (λ s k p. s.processes ≡ n) (same_moves n x) s g b).claim) (opening n) steps (invariant_opening n) refl
 
 pub asks_bounded : (s : State) → Counted s → (k : ℕ) → s.asks k ≤ s.processes * (s.processes - 1)

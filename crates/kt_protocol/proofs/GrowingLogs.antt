@@ -6,7 +6,7 @@ use Rattle.kt_base.specs.declared.words.Kind.TheVariants.{Checkpoint, Rollback}
 use Rattle.kt_spacetime.specs.declared.event.Event.{Event}
 use Rattle.kt_spacetime.specs.declared.event.Event.TheVariants.{Sent, Received, Dropped, Began, Took, Ready, Unwilling, Decided, Closed, Failed, Refused}
 use Rattle.kt_protocol.specs.Parcels.{Lists, with_rest}
-use Rattle.kt_protocol.specs.States.{State, Step, opening}
+use Rattle.kt_protocol.specs.States.{State, ProtocolStep, opening}
 use Rattle.kt_protocol.specs.Messages.{after_sending, after_receiving, after_dropping, after_arrival, after_failing, after_refusal}
 use Rattle.kt_protocol.specs.Joining.{after_began, after_joining_checkpoint, after_joining_rollback}
 use Rattle.kt_protocol.specs.Replies.{after_noting, unable_cause, after_unwilling}
@@ -37,7 +37,7 @@ grows_closing s t p k c b = at_if (Grows s) (t.so_far.is_rollback k) _ _ (λ _. 
 grows_arrival : (s t : State) (channel held : Lists) (p q m : ℕ) → Grows s t → Grows s (after_arrival t channel held p q m)
 grows_arrival s t channel held p q m b = at_if (Grows s) (t.up p) _ _ (λ _. one_row s t (after_receiving t channel held p q m) (Received p q m) b refl) (λ _. one_row s t (after_dropping t channel held p q m) (Dropped p q m) b refl)
 
-grows_moves : (s0 : State) (x : Step) → Moves x (Grows s0) (Grows s0) (λ s k p. Grows s0 s) (λ s k p. Grows s0 s)
+grows_moves : (s0 : State) (x : ProtocolStep) → Moves x (Grows s0) (Grows s0) (λ s k p. Grows s0 s) (λ s k p. Grows s0 s)
 grows_moves s0 x = record {
   stays = λ s g b. b;
   sends = λ s p q body n o u g b. one_row s0 s (after_sending s p q body) (Sent p q body) b refl;
@@ -63,12 +63,12 @@ grows_moves s0 x = record {
   closes = λ s k p c pos o d i g w. grows_closing s0 s p k c w;
 }
 
-run_append : (s : State) (xs ys : List Step) → run s (xs ++ ys) ≡ run (run s xs) ys
+run_append : (s : State) (xs ys : List ProtocolStep) → run s (xs ++ ys) ≡ run (run s xs) ys
 run_append s [] ys = refl
 run_append s (x ∷ xs) ys = run_append (after_step s x) xs ys
 
 -- the log of the first steps of a run is a front part of the log of all
-pub front_of_log : (n : ℕ) (before after : List Step) → Grows (run (opening n) before) (run (opening n) (before ++ after))
+pub front_of_log : (n : ℕ) (before after : List ProtocolStep) → Grows (run (opening n) before) (run (opening n) (before ++ after))
 front_of_log n before after =
     let s = run (opening n) before in
     let grown = kept (Grows s) (λ t x g b. (walk_step x (Grows s) (Grows s) (λ t k p. Grows s t) (λ t k p. Grows s t) (grows_moves s x) t g b).claim) s after (invariant_after_run n before) ([], sym (append-nil s.log)) in

@@ -7,7 +7,7 @@ use Rattle.kt_base.specs.declared.words.Cause.{Cause}
 use Rattle.kt_base.specs.declared.words.Cause.TheVariants.{Busy, Down, NoSave}
 use Rattle.kt_spacetime.specs.declared.event.Event.{Event}
 use Rattle.kt_cuts.specs.Past.{past}
-use Rattle.kt_protocol.specs.States.{State, Step, Take, opening}
+use Rattle.kt_protocol.specs.States.{State, ProtocolStep, Take, opening}
 use Rattle.kt_protocol.specs.Steps.{run}
 use Rattle.kt_protocol.specs.Refusals.{IsFree, MayBeUnwilling}
 use Rattle.kt_protocol.specs.Logs.{IsJustified, JustifiesUnwilling}
@@ -53,12 +53,12 @@ asked_by s p q k able (Busy j) g r = at_kind (s.so_far.is_rollback k) refl
 asked_by s p q k able Down g r = free_asked s p q k Down g r.member r.cause.0
 asked_by s p q k able NoSave g r = free_asked s p q k NoSave g r.member r.cause.0
 
-pub justified : (n : ℕ) (steps : List Step) → JustifiesUnwilling (run (opening n) steps).log
+pub justified : (n : ℕ) (steps : List ProtocolStep) → JustifiesUnwilling (run (opening n) steps).log
 justified n steps t p k cause e =
     let r = unwilling_added n steps t p k cause e in
     let s = run (opening n) r.before in
     let grown = front_of_log n r.before (Take p r.from r.able ∷ r.after) in
-    let rows : (run (opening n) steps).log ≡ s.log ++ grown.0 = ap (λ (l : List Step). (run (opening n) l).log) r.steps_are ∙ grown.1 in
+    let rows : (run (opening n) steps).log ≡ s.log ++ grown.0 = ap (λ (l : List ProtocolStep). (run (opening n) l).log) r.steps_are ∙ grown.1 in
     let front : take t (run (opening n) steps).log ≡ s.log = ap (take t) rows ∙ take_at s.log grown.0 t (sym r.row) in
     subst (λ (l : List Event). IsJustified (past l) p k cause) (sym front)
     (justified_in s.so_far (past s.log) p k cause (tie _ s (invariant_after_run n r.before) (lawful_after_run n r.before)) (asked_by s p r.from k r.able cause (invariant_after_run n r.before) r.justified))

@@ -26,7 +26,7 @@ use Rattle.kt_protocol.proofs.Transitions.{invariant_opening}
 use Rattle.kt_protocol.proofs.Choices.{at_if}
 use Rattle.kt_protocol.proofs.LawfulLists.{Front, front_of_channel, front_of_held, law_channels, law_holding}
 use Rattle.kt_protocol.proofs.Weights.{any_app}
-use Rattle.kt_protocol.specs.States.{State, Step, is_ready, opening}
+use Rattle.kt_protocol.specs.States.{State, ProtocolStep, is_ready, opening}
 use Rattle.kt_protocol.specs.Replies.{after_answering, after_noting, after_unwilling, after_replying, unable_cause}
 use Rattle.kt_protocol.specs.Messages.{after_arrival, after_refusal}
 use Rattle.kt_protocol.specs.Steps.{run, verb_for}
@@ -141,7 +141,7 @@ positive : (n j : ℕ) → 0 < j → n ≡ j → n ≢ 0
 positive n j a b c = omega (arith, a, b, c)
 
 -- a command that is refused
-law_refuses : (s : State) (p : ℕ) (v : Verb) (c : Cause) (x : Step) → MayRefuse s p v c x → Invariant s → Law true s → Law true (after_refusal s p v c)
+law_refuses : (s : State) (p : ℕ) (v : Verb) (c : Cause) (x : ProtocolStep) → MayRefuse s p v c x → Invariant s → Law true s → Law true (after_refusal s p v c)
 law_refuses s p verb.Send c x may g l = subst (λ (z : Cause). Law true (after_refusal s p verb.Send z)) (sym may.3)
     (law_refusal s p verb.Send Down refl (let v : (past s.log).up p ≡ false = sym (l.is_up p) ∙ may.5 in let o = none_in true s g l p may.4 in rw (o, v) refl) g l)
 law_refuses s p verb.Fail c x may g l = subst (λ (z : Cause). Law true (after_refusal s p verb.Fail z)) (sym may.1)
@@ -153,7 +153,7 @@ law_refuses s p verb.Checkpoint Down x may g l =
 law_refuses s p verb.Checkpoint NoSave x may g l =
     law_refusal s p verb.Checkpoint NoSave (unable_names (past s.log) true) (unable_refuses (past s.log) p true (sym (l.is_up p) ∙ may.2.1) (none_in true s g l p may.2.0)) g l
 
-law_moves : (x : Step) → Moves x (Law true) (Law true) (λ s k p. Law true s) (λ s k p. Law true s)
+law_moves : (x : ProtocolStep) → Moves x (Law true) (Law true) (λ s k p. Law true s) (λ s k p. Law true s)
 law_moves x = record {
   stays = λ s g l. l;
   sends = λ s p q body n o u g l. law_sending s p q body n o u g l;
@@ -193,5 +193,5 @@ law_opening n = record {
   drops_low = λ p q i n e. absurd (cc);
 }
 
-pub lawful_after_run : (n : ℕ) (steps : List Step) → Law true (run (opening n) steps)
+pub lawful_after_run : (n : ℕ) (steps : List ProtocolStep) → Law true (run (opening n) steps)
 lawful_after_run n steps = kept (Law true) (λ s x g l. (walk_step x (Law true) (Law true) (λ s k p. Law true s) (λ s k p. Law true s) (law_moves x) s g l).claim) (opening n) steps (invariant_opening n) (law_opening n)

@@ -8,7 +8,7 @@ use Rattle.kt_base.specs.declared.words.Cause.TheVariants.{Busy, Down}
 use Rattle.kt_base.specs.declared.words.Verb.{Verb}
 use Rattle.kt_base.specs.declared.words.Verb.TheVariants as verb
 use Rattle.kt_protocol.specs.Parcels.{Parcel, App, Ask, Reply, Decide, with_rest}
-use Rattle.kt_protocol.specs.States.{State, Step, Send, Begin, Fail, Take, is_ready, opening}
+use Rattle.kt_protocol.specs.States.{State, ProtocolStep, Send, Begin, Fail, Take, is_ready, opening}
 use Rattle.kt_protocol.specs.Messages.{after_sending, after_arrival, after_holding, after_failing, after_refusal}
 use Rattle.kt_protocol.specs.Joining.{after_began, must_take, must_roll, after_joining_checkpoint, after_joining_rollback}
 use Rattle.kt_protocol.specs.Replies.{after_noting, after_replying, unable_cause, after_unwilling, after_reply, after_answering}
@@ -26,7 +26,7 @@ use Rattle.kt_protocol.proofs.Transitions.{invariant_opening, invariant_sending,
 use Rattle.kt_protocol.proofs.Updates.{at_pair_here}
 
 -- what each part of step x makes of the claims
-pub record Moves (x : Step) (B A : State → Type 0) (M D : State → ℕ → ℕ → Type 0) : Type 0 where
+pub record Moves (x : ProtocolStep) (B A : State → Type 0) (M D : State → ℕ → ℕ → Type 0) : Type 0 where
   pub stays : (s : State) → Invariant s → B s → A s
   pub sends : (s : State) (p q : ℕ) (body : ℤ) → q ≢ p → s.so_far.open_in p ≡ 0 → s.up p ≡ true → Invariant s → B s → A (after_sending s p q body)
   pub refuses : (s : State) (p : ℕ) (v : Verb) (cause : Cause) → MayRefuse s p v cause x → Invariant s → B s → A (after_refusal s p v cause)
@@ -86,7 +86,7 @@ prevented s p able o h = at_up (s.up p) refl h
     at_up true e h = (o, e, unable able h)
     at_up false e h = (o, e)
 
-module _ (x : Step) (B A : State → Type 0) (M D : State → ℕ → ℕ → Type 0) (m : Moves x B A M D) where
+module _ (x : ProtocolStep) (B A : State → Type 0) (M D : State → ℕ → ℕ → Type 0) (m : Moves x B A M D) where
   walk_closing : (s : State) (p k : ℕ) (c : Bool) → 0 < k → s.so_far.open_in p ≡ k → s.so_far.is_decided k ≡ true → s.so_far.is_committed k ≡ c → Invariant s → D s k p → Holds A (after_closing s p k c)
   walk_closing s p k c pos o d i g w = record { invariant = invariant_closing s p k c pos o d i g; claim = m.closes s k p c pos o d i g w }
 
@@ -197,7 +197,7 @@ module _ (x : Step) (B A : State → Type 0) (M D : State → ℕ → ℕ → Ty
       (λ u. walk_refusal s p verb.Checkpoint (unable_cause (s.up p)) (able, is, prevented s p able (same (s.so_far.open_in p) 0 o) u) g b))
       (λ o. walk_refusal s p verb.Checkpoint (Busy (s.so_far.open_in p)) (able, is, (above (s.so_far.open_in p) o, refl)) g b)
 
-  walk : (s : State) (y : Step) → x ≡ y → Invariant s → B s → Holds A (after_step s y)
+  walk : (s : State) (y : ProtocolStep) → x ≡ y → Invariant s → B s → Holds A (after_step s y)
   walk s (Send p q body) is g b = at_if (Holds A) ((nat_lt p s.processes && nat_lt q s.processes) && (s.so_far.open_in p == 0 && not (q == p))) _ _
       (λ t. let y = send_ok p q s.processes (s.so_far.open_in p) t in at_if (Holds A) (s.up p) _ _
       (λ u. record { invariant = invariant_sending s p q body y.0 y.1 y.2 g; claim = m.sends s p q body (apart q p (both_right (s.so_far.open_in p == 0) (not (q == p)) (both_right (nat_lt p s.processes && nat_lt q s.processes) (s.so_far.open_in p == 0 && not (q == p)) t))) y.2 u g b })
@@ -219,7 +219,7 @@ module _ (x : Step) (B A : State → Type 0) (M D : State → ℕ → ℕ → Ty
   walk_step s g b = walk s x refl g b
 
 -- nothing is claimed
-no_claim : (x : Step) → Moves x (λ s. Unit {0}) (λ s. Unit {0}) (λ s k p. Unit {0}) (λ s k p. Unit {0})
+no_claim : (x : ProtocolStep) → Moves x (λ s. Unit {0}) (λ s. Unit {0}) (λ s k p. Unit {0}) (λ s k p. Unit {0})
 no_claim x = record {
   stays = λ s g b. tt;
   sends = λ s p q body n o u g b. tt;
@@ -245,17 +245,17 @@ no_claim x = record {
   closes = λ s k p c pos o d i g w. tt;
 }
 
-pub invariant_step : (s : State) (x : Step) → Invariant s → Invariant (after_step s x)
+pub invariant_step : (s : State) (x : ProtocolStep) → Invariant s → Invariant (after_step s x)
 invariant_step s x g = (walk_step x (λ s. Unit {0}) (λ s. Unit {0}) (λ s k p. Unit {0}) (λ s k p. Unit {0}) (no_claim x) s g tt).invariant
 
 -- a claim that each step keeps holds after every run
-pub kept : (I : State → Type 0) → ((s : State) (x : Step) → Invariant s → I s → I (after_step s x)) → (s : State) (steps : List Step) → Invariant s → I s → I (run s steps)
+pub kept : (I : State → Type 0) → ((s : State) (x : ProtocolStep) → Invariant s → I s → I (after_step s x)) → (s : State) (steps : List ProtocolStep) → Invariant s → I s → I (run s steps)
 kept I step s [] g i = i
 kept I step s (x ∷ xs) g i = kept I step (after_step s x) xs (invariant_step s x g) (step s x g i)
 
-pub invariant_run : (s : State) (steps : List Step) → Invariant s → Invariant (run s steps)
+pub invariant_run : (s : State) (steps : List ProtocolStep) → Invariant s → Invariant (run s steps)
 invariant_run s [] g = g
 invariant_run s (x ∷ xs) g = invariant_run (after_step s x) xs (invariant_step s x g)
 
-pub invariant_after_run : (n : ℕ) (steps : List Step) → Invariant (run (opening n) steps)
+pub invariant_after_run : (n : ℕ) (steps : List ProtocolStep) → Invariant (run (opening n) steps)
 invariant_after_run n steps = invariant_run (opening n) steps (invariant_opening n)

@@ -28,7 +28,7 @@ use Rattle.kt_protocol.proofs.Counting.{Counted, counted_answering, counted_clos
 use Rattle.kt_protocol.proofs.Tells.{Tells, tells_answering, tells_closing, tells_deciding, tells_refusal, tells_decision, tells_failing, tells_holding, tells_joining_checkpoint, tells_dropping, tells_noting, tells_began, tells_opening, tells_receiving, tells_unwilling, tells_replying, tells_reply, tells_joining_rollback, tells_sending}
 use Rattle.kt_protocol.proofs.Weights.{behind, front_ask, weigh}
 use Rattle.kt_protocol.specs.Parcels.{App, Ask, Decide, Parcel, Lists, with_rest}
-use Rattle.kt_protocol.specs.States.{State, Step, is_ready, opening}
+use Rattle.kt_protocol.specs.States.{State, ProtocolStep, is_ready, opening}
 use Rattle.kt_protocol.specs.Replies.{after_answering, after_noting, after_unwilling, after_replying, unable_cause}
 use Rattle.kt_protocol.specs.Messages.{after_arrival, after_refusal, after_sending}
 use Rattle.kt_protocol.specs.Steps.{after_step, run}
@@ -294,7 +294,7 @@ decided s k p j d i q g w =
     let x = deciding_keeps s p k (s.all_willing k p) (s.so_far.is_rollback k) refl g d i (g.positions.joined_instance k p j).0 (all_await_none s k g (λ v. rw (← i) (q v))) w in
     record { always = x.always; noted = weaken (after_deciding s p k) (λ u. u == p) x.noted; waiting = x.waiting }
 
-after_moves : (x : Step) → Moves x AfterStep AfterStep (Unsettled none_out) (λ s k p. Unsettled (λ u. u == p) s k p)
+after_moves : (x : ProtocolStep) → Moves x AfterStep AfterStep (Unsettled none_out) (λ s k p. Unsettled (λ u. u == p) s k p)
 after_moves x = record {
   stays = λ s g h. h;
   sends = λ s p q body n o u g h. sending_keeps s p q body o (λ e. n (sym e)) g h;
@@ -320,8 +320,8 @@ after_moves x = record {
   closes = λ s k p c pos o d i g w. closing_keeps s p k c g pos o d w;
 }
 
-pub step_keeps : (s : State) (x : Step) → Invariant s → AfterStep s → AfterStep (after_step s x)
+pub step_keeps : (s : State) (x : ProtocolStep) → Invariant s → AfterStep s → AfterStep (after_step s x)
 step_keeps s x g h = (walk_step x AfterStep AfterStep (Unsettled none_out) (λ t k p. Unsettled (λ u. u == p) t k p) (after_moves x) s g h).claim
 
-pub all_after_run : (n : ℕ) (steps : List Step) → AfterStep (run (opening n) steps)
+pub all_after_run : (n : ℕ) (steps : List ProtocolStep) → AfterStep (run (opening n) steps)
 all_after_run n steps = kept AfterStep step_keeps (opening n) steps (invariant_opening n) (opening_has n)

@@ -6,7 +6,7 @@ use Rattle.kt_base.specs.declared.words.Verb.{Verb}
 use Rattle.kt_base.specs.declared.words.Verb.TheVariants as verb
 use Rattle.kt_cuts.specs.declared.deeds.Deed.TheVariants as deed
 use Rattle.kt_protocol.specs.Summary.{Summary}
-use Rattle.kt_protocol.specs.States.{State, Step, Send, Begin, Fail, Take}
+use Rattle.kt_protocol.specs.States.{State, ProtocolStep, Send, Begin, Fail, Take}
 use Rattle.kt_protocol.specs.Steps.{run}
 
 -- q received a message of p past its permanent position and within its new one
@@ -61,9 +61,9 @@ pub record MayBeUnwilling (s : State) (p q k : ℕ) (able : Bool) (why : Cause) 
   pub cause : HasCause s p q k able why
 
 -- row t is added by a step in which p takes a parcel of q, before which p may be unwilling
-pub record IsUnwillingRow (s : State) (steps : List Step) (t p k : ℕ) (cause : Cause) : Type 0 where
-  pub before : List Step
-  pub after : List Step
+pub record IsUnwillingRow (s : State) (steps : List ProtocolStep) (t p k : ℕ) (cause : Cause) : Type 0 where
+  pub before : List ProtocolStep
+  pub after : List ProtocolStep
   pub from : ℕ
   pub able : Bool
   pub steps_are : steps ≡ before ++ Take p from able ∷ after
@@ -78,17 +78,17 @@ IsPrevented s p able NoSave = (s.so_far.open_in p ≡ 0) × (s.up p ≡ true) ×
 
 -- the causes for which a command is refused: a send and a failure of who is down; a rollback of who is in an instance; a
 -- checkpoint for each cause
-abbrev pub MayRefuse : State → ℕ → Verb → Cause → Step → Type 0
+abbrev pub MayRefuse : State → ℕ → Verb → Cause → ProtocolStep → Type 0
 MayRefuse s p verb.Send cause x = (q : ℕ) × (body : ℤ) × (x ≡ Send p q body) × (cause ≡ Down) × (s.so_far.open_in p ≡ 0) × (s.up p ≡ false)
 MayRefuse s p verb.Fail cause x = (x ≡ Fail p) × (cause ≡ Down) × (s.up p ≡ false)
 MayRefuse s p verb.Rollback cause x = (able : Bool) × (j : ℕ) × (x ≡ Begin p true able) × (cause ≡ Busy j) × IsPrevented s p able (Busy j)
 MayRefuse s p verb.Checkpoint cause x = (able : Bool) × (x ≡ Begin p false able) × IsPrevented s p able cause
 
 -- row t is added by p's command, before which it may be refused
-pub record IsRefusedRow (s : State) (steps : List Step) (t p : ℕ) (verb : Verb) (cause : Cause) : Type 0 where
-  pub before : List Step
-  pub after : List Step
-  pub step : Step
+pub record IsRefusedRow (s : State) (steps : List ProtocolStep) (t p : ℕ) (verb : Verb) (cause : Cause) : Type 0 where
+  pub before : List ProtocolStep
+  pub after : List ProtocolStep
+  pub step : ProtocolStep
   pub steps_are : steps ≡ before ++ step ∷ after
   pub row : t ≡ length (run s before).log
   pub justified : MayRefuse (run s before) p verb cause step

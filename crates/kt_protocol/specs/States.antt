@@ -6,11 +6,11 @@ use Rattle.kt_protocol.specs.Summary.{Summary, summary_start}
 
 -- p's command to send to q; p's command to begin an instance, a rollback or not; a failure of p; p takes its next parcel
 -- of q. A Boolean at the end says whether p's object can be saved.
-pub data Step : Type 0 where
-  Send : ℕ → ℕ → ℤ → Step
-  Begin : ℕ → Bool → Bool → Step
-  Fail : ℕ → Step
-  Take : ℕ → ℕ → Bool → Step
+pub data ProtocolStep : Type 0 where
+  Send : ℕ → ℕ → ℤ → ProtocolStep
+  Begin : ℕ → Bool → Bool → ProtocolStep
+  Fail : ℕ → ProtocolStep
+  Take : ℕ → ℕ → Bool → ProtocolStep
 
 pub record State : Type 0 where
   -- how many processes there are

@@ -4,7 +4,7 @@ use Rattle.kt_base.specs.declared.words.Cause.TheVariants.{Busy, Down}
 use Rattle.kt_base.specs.declared.words.Verb.{Verb}
 use Rattle.kt_base.specs.declared.words.Verb.TheVariants as verb
 use Rattle.kt_protocol.specs.Parcels.{Parcel, App, Ask, Reply, Decide, with_rest}
-use Rattle.kt_protocol.specs.States.{Step, Send, Begin, Fail, Take, State, is_ready}
+use Rattle.kt_protocol.specs.States.{ProtocolStep, Send, Begin, Fail, Take, State, is_ready}
 use Rattle.kt_protocol.specs.Messages.{after_sending, after_arrival, after_holding, after_failing, after_refusal}
 use Rattle.kt_protocol.specs.Joining.{after_began, must_take, must_roll, after_joining_checkpoint, after_joining_rollback}
 use Rattle.kt_protocol.specs.Replies.{after_noting, after_replying, unable_cause, after_unwilling, after_reply, after_answering}
@@ -74,7 +74,7 @@ verb_for true = verb.Rollback
 verb_for false = verb.Checkpoint
 
 -- one step: a send waits while its process is in an instance, and any other command is refused there
-abbrev pub after_step : State → Step → State
+abbrev pub after_step : State → ProtocolStep → State
 after_step s (Send p q body) =
     if (nat_lt p s.processes && nat_lt q s.processes) && (s.so_far.open_in p == 0 && not (q == p)) then after_send_command s p q body else s
 after_step s (Begin p roll able) = if s.so_far.open_in p == 0 then after_begin_command s p roll able else after_refusal s p (verb_for roll) (Busy (s.so_far.open_in p))
@@ -82,6 +82,6 @@ after_step s (Fail p) = if s.up p then after_failing s p else after_refusal s p 
 after_step s (Take p q able) = after_take s p q able (s.held q p)
 
 -- some steps, one after another
-abbrev pub run : State → List Step → State
+abbrev pub run : State → List ProtocolStep → State
 run s [] = s
 run s (x ∷ xs) = run (after_step s x) xs

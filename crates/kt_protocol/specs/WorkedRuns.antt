@@ -5,10 +5,10 @@ use Rattle.kt_base.specs.declared.words.Kind.TheVariants.{Checkpoint, Rollback}
 use Rattle.kt_base.specs.declared.words.Verb.TheVariants as verb
 use Rattle.kt_spacetime.specs.declared.event.Event.{Event}
 use Rattle.kt_spacetime.specs.declared.event.Event.TheVariants.{Sent, Received, Dropped, Began, Took, Ready, Unwilling, Decided, Closed, Failed, Refused}
-use Rattle.kt_protocol.specs.States.{Step, Send, Begin, Fail, Take}
+use Rattle.kt_protocol.specs.States.{ProtocolStep, Send, Begin, Fail, Take}
 
 -- a sends to b, b begins a checkpoint: both take part
-abbrev pub checkpoint_of_two_steps : List Step
+abbrev pub checkpoint_of_two_steps : List ProtocolStep
 checkpoint_of_two_steps =
     Send 0 1 (pos 5) ∷ Take 1 0 true ∷ Begin 1 false true ∷ Take 0 1 true ∷ Take 1 0 true ∷ Take 0 1 true ∷ []
 
@@ -24,7 +24,7 @@ checkpoint_of_two =
     Closed 0 1 ∷ []
 
 -- b begins a checkpoint before the message comes: b alone
-abbrev pub checkpoint_before_the_message_comes_steps : List Step
+abbrev pub checkpoint_before_the_message_comes_steps : List ProtocolStep
 checkpoint_before_the_message_comes_steps =
     Send 0 1 (pos 5) ∷ Begin 1 false true ∷ Take 1 0 true ∷ []
 
@@ -38,7 +38,7 @@ checkpoint_before_the_message_comes =
     Received 1 0 1 ∷ []
 
 -- three send in a ring, one begins a checkpoint: all take part
-abbrev pub checkpoint_round_a_ring_steps : List Step
+abbrev pub checkpoint_round_a_ring_steps : List ProtocolStep
 checkpoint_round_a_ring_steps =
     Send 0 1 (pos 1) ∷ Take 1 0 true ∷ Send 1 2 (pos 2) ∷ Take 2 1 true ∷ Send 2 0 (pos 3) ∷ Take 0 2 true ∷ Begin 0 false true ∷ Take 2 0 true ∷ Take 1 2 true ∷ Take 0 1 true ∷ Take 1 0 true ∷ Take 2 1 true ∷ Take 0 2 true ∷ Take 2 0 true ∷ Take 1 2 true ∷ Take 0 1 true ∷ []
 
@@ -60,7 +60,7 @@ checkpoint_round_a_ring =
     Closed 1 1 ∷ []
 
 -- a second checkpoint, and nothing was sent since the first: its initiator alone
-abbrev pub second_checkpoint_of_one_steps : List Step
+abbrev pub second_checkpoint_of_one_steps : List ProtocolStep
 second_checkpoint_of_one_steps =
     Send 1 2 (pos 1) ∷ Take 2 1 true ∷ Send 0 1 (pos 2) ∷ Take 1 0 true ∷ Begin 2 false true ∷ Take 1 2 true ∷ Take 0 1 true ∷ Take 1 0 true ∷ Take 2 1 true ∷ Take 1 2 true ∷ Take 0 1 true ∷ Begin 2 false true ∷ []
 
@@ -84,7 +84,7 @@ second_checkpoint_of_one =
     Closed 2 2 ∷ []
 
 -- a second checkpoint, and a message was sent since the first: both take part
-abbrev pub second_checkpoint_of_two_steps : List Step
+abbrev pub second_checkpoint_of_two_steps : List ProtocolStep
 second_checkpoint_of_two_steps =
     Send 0 1 (pos 1) ∷ Take 1 0 true ∷ Begin 0 false true ∷ Send 0 1 (pos 2) ∷ Take 1 0 true ∷ Begin 1 false true ∷ Take 0 1 true ∷ Take 1 0 true ∷ Take 0 1 true ∷ []
 
@@ -106,7 +106,7 @@ second_checkpoint_of_two =
     Closed 0 2 ∷ []
 
 -- two begin checkpoints at once, each alone
-abbrev pub two_checkpoints_at_once_steps : List Step
+abbrev pub two_checkpoints_at_once_steps : List ProtocolStep
 two_checkpoints_at_once_steps =
     Send 0 1 (pos 4) ∷ Take 1 0 true ∷ Begin 1 false true ∷ Begin 0 false true ∷ Take 0 1 true ∷ Take 1 0 true ∷ Take 0 1 true ∷ []
 
@@ -124,7 +124,7 @@ two_checkpoints_at_once =
     Closed 1 1 ∷ []
 
 -- a checkpoint asks a process that is down: it is aborted
-abbrev pub process_that_is_down_refuses_steps : List Step
+abbrev pub process_that_is_down_refuses_steps : List ProtocolStep
 process_that_is_down_refuses_steps =
     Send 0 1 (pos 5) ∷ Take 1 0 true ∷ Fail 0 ∷ Begin 1 false true ∷ Take 0 1 true ∷ Take 1 0 true ∷ Take 0 1 true ∷ []
 
@@ -140,7 +140,7 @@ process_that_is_down_refuses =
     Closed 1 1 ∷ []
 
 -- two checkpoints are aborted one after the other, since a process is down: each asks the same
-abbrev pub two_aborts_steps : List Step
+abbrev pub two_aborts_steps : List ProtocolStep
 two_aborts_steps =
     Send 2 0 (pos 1) ∷ Take 0 2 true ∷ Send 0 1 (pos 2) ∷ Take 1 0 true ∷ Fail 2 ∷ Begin 1 false true ∷ Take 0 1 true ∷ Take 2 0 true ∷ Take 0 2 true ∷ Take 1 0 true ∷ Take 0 1 true ∷ Take 2 0 true ∷ Begin 1 false true ∷ Take 0 1 true ∷ Take 2 0 true ∷ Take 0 2 true ∷ Take 1 0 true ∷ Take 0 1 true ∷ Take 2 0 true ∷ []
 
@@ -167,7 +167,7 @@ two_aborts =
     Closed 0 2 ∷ []
 
 -- a checkpoint asks a process that is in another one: the one is aborted, the other one committed
-abbrev pub busy_process_refuses_steps : List Step
+abbrev pub busy_process_refuses_steps : List ProtocolStep
 busy_process_refuses_steps =
     Send 2 0 (pos 1) ∷ Take 0 2 true ∷ Send 0 1 (pos 2) ∷ Take 1 0 true ∷ Begin 0 false true ∷ Begin 1 false true ∷ Take 0 1 true ∷ Take 1 0 true ∷ Take 0 1 true ∷ Take 2 0 true ∷ Take 0 2 true ∷ Take 2 0 true ∷ []
 
@@ -190,7 +190,7 @@ busy_process_refuses =
     Closed 2 1 ∷ []
 
 -- a checkpoint and a rollback ask each other: both are aborted
-abbrev pub two_instances_abort_each_other_steps : List Step
+abbrev pub two_instances_abort_each_other_steps : List ProtocolStep
 two_instances_abort_each_other_steps =
     Send 2 1 (pos 1) ∷ Take 1 2 true ∷ Send 0 1 (pos 2) ∷ Take 1 0 true ∷ Begin 1 false true ∷ Begin 0 true true ∷ Send 2 0 (pos 3) ∷ Take 0 2 true ∷ Take 0 1 true ∷ Take 1 0 true ∷ Take 0 1 true ∷ Take 0 2 true ∷ Take 1 0 true ∷ Take 1 0 true ∷ Take 2 1 true ∷ Take 1 2 true ∷ Take 0 1 true ∷ Take 2 1 true ∷ []
 
@@ -216,7 +216,7 @@ two_instances_abort_each_other =
     Closed 2 1 ∷ []
 
 -- a sends to b, fails and rolls back: both take part, and a is up again
-abbrev pub rollback_after_a_failure_steps : List Step
+abbrev pub rollback_after_a_failure_steps : List ProtocolStep
 rollback_after_a_failure_steps =
     Send 0 1 (pos 7) ∷ Take 1 0 true ∷ Fail 0 ∷ Begin 0 true true ∷ Take 1 0 true ∷ Take 0 1 true ∷ Take 1 0 true ∷ []
 
@@ -233,7 +233,7 @@ rollback_after_a_failure =
     Closed 1 1 ∷ []
 
 -- a process fails while it is in a checkpoint, and rolls back to it
-abbrev pub failure_inside_a_checkpoint_steps : List Step
+abbrev pub failure_inside_a_checkpoint_steps : List ProtocolStep
 failure_inside_a_checkpoint_steps =
     Send 0 1 (pos 5) ∷ Take 1 0 true ∷ Begin 1 false true ∷ Fail 1 ∷ Take 0 1 true ∷ Take 1 0 true ∷ Take 0 1 true ∷ Begin 1 true true ∷ []
 
@@ -254,7 +254,7 @@ failure_inside_a_checkpoint =
     Closed 1 2 ∷ []
 
 -- b rolls back: it alone, and receives the message again
-abbrev pub rollback_of_the_receiver_alone_steps : List Step
+abbrev pub rollback_of_the_receiver_alone_steps : List ProtocolStep
 rollback_of_the_receiver_alone_steps =
     Send 0 1 (pos 7) ∷ Take 1 0 true ∷ Begin 1 true true ∷ Take 1 0 true ∷ []
 
@@ -269,7 +269,7 @@ rollback_of_the_receiver_alone =
     Received 1 0 1 ∷ []
 
 -- a process fails, rolls back and receives two messages again; then it takes a checkpoint
-abbrev pub messages_received_again_steps : List Step
+abbrev pub messages_received_again_steps : List ProtocolStep
 messages_received_again_steps =
     Send 0 1 (pos 1) ∷ Take 1 0 true ∷ Send 0 1 (pos 2) ∷ Take 1 0 true ∷ Fail 1 ∷ Begin 1 true true ∷ Take 1 0 true ∷ Take 1 0 true ∷ Begin 1 false true ∷ Take 0 1 true ∷ Take 1 0 true ∷ Take 0 1 true ∷ []
 
@@ -294,7 +294,7 @@ messages_received_again =
     Closed 0 2 ∷ []
 
 -- b receives while a rolls back: both roll back
-abbrev pub rollback_meets_a_message_in_transit_steps : List Step
+abbrev pub rollback_meets_a_message_in_transit_steps : List ProtocolStep
 rollback_meets_a_message_in_transit_steps =
     Send 0 1 (pos 5) ∷ Begin 0 true true ∷ Take 1 0 true ∷ Take 1 0 true ∷ Take 0 1 true ∷ Take 1 0 true ∷ []
 
@@ -310,7 +310,7 @@ rollback_meets_a_message_in_transit =
     Closed 1 1 ∷ []
 
 -- a member holds a message that the rollback undoes: it is not received
-abbrev pub rollback_through_three_steps : List Step
+abbrev pub rollback_through_three_steps : List ProtocolStep
 rollback_through_three_steps =
     Send 2 0 (pos 1) ∷ Take 0 2 true ∷ Send 2 1 (pos 2) ∷ Take 1 2 true ∷ Send 0 1 (pos 3) ∷ Begin 2 true true ∷ Take 1 2 true ∷ Take 0 2 true ∷ Take 1 0 true ∷ Take 1 0 true ∷ Take 0 1 true ∷ Take 2 0 true ∷ Take 2 1 true ∷ Take 0 2 true ∷ Take 1 0 true ∷ Take 1 2 true ∷ []
 
@@ -331,7 +331,7 @@ rollback_through_three =
     Closed 1 1 ∷ []
 
 -- of two messages received, the rollback undoes one: the other one alone is received again
-abbrev pub undone_message_is_not_received_again_steps : List Step
+abbrev pub undone_message_is_not_received_again_steps : List ProtocolStep
 undone_message_is_not_received_again_steps =
     Send 2 1 (pos 1) ∷ Take 1 2 true ∷ Send 0 1 (pos 2) ∷ Take 1 0 true ∷ Begin 0 true true ∷ Take 1 0 true ∷ Take 0 1 true ∷ Take 1 0 true ∷ Take 1 2 true ∷ []
 
@@ -350,7 +350,7 @@ undone_message_is_not_received_again =
     Received 1 2 1 ∷ []
 
 -- a message comes while its receiver is down
-abbrev pub dropped_message_steps : List Step
+abbrev pub dropped_message_steps : List ProtocolStep
 dropped_message_steps =
     Send 0 1 (pos 5) ∷ Fail 1 ∷ Take 1 0 true ∷ Begin 0 true true ∷ Take 1 0 true ∷ Take 0 1 true ∷ Take 1 0 true ∷ Begin 1 true true ∷ []
 
@@ -369,7 +369,7 @@ dropped_message =
     Closed 1 2 ∷ []
 
 -- a command to begin is refused in an instance
-abbrev pub command_refused_as_busy_steps : List Step
+abbrev pub command_refused_as_busy_steps : List ProtocolStep
 command_refused_as_busy_steps =
     Send 1 0 (pos 1) ∷ Take 0 1 true ∷ Begin 0 false true ∷ Begin 0 false true ∷ Take 1 0 true ∷ Take 0 1 true ∷ Take 1 0 true ∷ []
 
@@ -386,7 +386,7 @@ command_refused_as_busy =
     Closed 1 1 ∷ []
 
 -- commands are refused by a process that is down
-abbrev pub commands_refused_as_down_steps : List Step
+abbrev pub commands_refused_as_down_steps : List ProtocolStep
 commands_refused_as_down_steps =
     Fail 0 ∷ Send 0 1 (pos 1) ∷ Fail 0 ∷ Begin 0 false true ∷ []
 
@@ -398,7 +398,7 @@ commands_refused_as_down =
     Refused 0 verb.Checkpoint Down ∷ []
 
 -- a checkpoint asks a process whose object can't be saved: it is aborted, and a second one is committed
-abbrev pub object_that_is_not_saved_steps : List Step
+abbrev pub object_that_is_not_saved_steps : List ProtocolStep
 object_that_is_not_saved_steps =
     Send 0 1 (pos 5) ∷ Take 1 0 true ∷ Begin 1 false true ∷ Take 0 1 false ∷ Take 1 0 true ∷ Take 0 1 true ∷ Begin 1 false true ∷ Take 0 1 true ∷ Take 1 0 true ∷ Take 0 1 true ∷ []
 
@@ -419,7 +419,7 @@ object_that_is_not_saved =
     Closed 0 2 ∷ []
 
 -- a command to send waits while its process is in a checkpoint
-abbrev pub send_waits_in_a_checkpoint_steps : List Step
+abbrev pub send_waits_in_a_checkpoint_steps : List ProtocolStep
 send_waits_in_a_checkpoint_steps =
     Send 0 1 (pos 5) ∷ Take 1 0 true ∷ Begin 1 false true ∷ Send 1 0 (pos 6) ∷ Take 0 1 true ∷ Take 1 0 true ∷ Take 0 1 true ∷ Send 1 0 (pos 6) ∷ Take 0 1 true ∷ []
 
@@ -437,7 +437,7 @@ send_waits_in_a_checkpoint =
     Received 0 1 9 ∷ []
 
 -- a member holds a message whose sender joins later: the commit undoes it, and it is not received
-abbrev pub held_message_that_is_undone_steps : List Step
+abbrev pub held_message_that_is_undone_steps : List ProtocolStep
 held_message_that_is_undone_steps =
     Send 2 1 (pos 1) ∷ Take 1 2 true ∷ Send 1 0 (pos 2) ∷ Take 0 1 true ∷ Send 0 1 (pos 3) ∷ Begin 2 true true ∷ Take 1 2 true ∷ Take 1 0 true ∷ Take 0 1 true ∷ Take 1 0 true ∷ Take 0 1 true ∷ Take 1 0 true ∷ Take 2 1 true ∷ Take 1 2 true ∷ Take 0 1 true ∷ Take 1 0 true ∷ Take 1 0 true ∷ []
 
@@ -458,7 +458,7 @@ held_message_that_is_undone =
     Closed 0 1 ∷ []
 
 -- a process receives a message, rolls back and holds a later one: they come again in their order
-abbrev pub kept_before_held_steps : List Step
+abbrev pub kept_before_held_steps : List ProtocolStep
 kept_before_held_steps =
     Send 0 1 (pos 1) ∷ Take 1 0 true ∷ Send 1 2 (pos 2) ∷ Begin 1 true true ∷ Send 0 1 (pos 3) ∷ Take 1 0 true ∷ Take 2 1 true ∷ Take 2 1 true ∷ Take 1 2 true ∷ Take 2 1 true ∷ Take 1 0 true ∷ Take 1 0 true ∷ []
 
@@ -479,7 +479,7 @@ kept_before_held =
     Received 1 0 6 ∷ []
 
 -- a message received in a checkpoint that is aborted counts for the next one: its sender takes part
-abbrev pub label_after_an_abort_steps : List Step
+abbrev pub label_after_an_abort_steps : List ProtocolStep
 label_after_an_abort_steps =
     Send 2 1 (pos 1) ∷ Take 1 2 true ∷ Send 0 1 (pos 2) ∷ Take 1 0 true ∷ Begin 0 false true ∷ Begin 1 false true ∷ Send 0 1 (pos 3) ∷ Take 1 0 true ∷ Take 0 1 true ∷ Take 1 0 true ∷ Take 2 1 false ∷ Take 1 2 true ∷ Take 0 1 true ∷ Take 2 1 true ∷ Begin 1 false true ∷ Take 0 1 true ∷ Take 1 0 true ∷ Take 2 1 true ∷ Take 1 2 true ∷ Take 0 1 true ∷ Take 2 1 true ∷ []
 

@@ -10,7 +10,7 @@ ghost use Rattle.kt_cuts.specs.Cuts.{IsConsistent, permanent_cut, present_cut};
 ghost use Rattle.kt_cuts.specs.Throughout.{HasConsistentDecisions};
 ghost use Rattle.kt_protocol.specs.Parcels.{messages};
 ghost use Rattle.kt_protocol.specs.Summary.{summary, is_undone};
-ghost use Rattle.kt_protocol.specs.States.{Step, Take, opening, can_take};
+ghost use Rattle.kt_protocol.specs.States.{ProtocolStep, Take, opening, can_take};
 ghost use Rattle.kt_protocol.specs.Steps.{run, after_step};
 ghost use Rattle.kt_protocol.specs.AtRest.{IsAtRest};
 ghost use Rattle.kt_protocol.specs.Refusals.{IsUnwillingRow, IsRefusedRow};
@@ -22,74 +22,74 @@ ghost use Rattle.kt_protocol.specs.WorkedRuns.{checkpoint_of_two_steps, checkpoi
 /// For every list of steps: what the log of the run is.
 pub fn logs_of_runs()
     // Each row keeps every rule.
-    ensures legal { (n : ℕ) (steps : List Step) → IsLegal (run (opening n) steps).log }
+    ensures legal { (n : ℕ) (steps : List ProtocolStep) → IsLegal (run (opening n) steps).log }
 
     // At every row the permanent cut and the present cut have no orphan.
-    ensures consistent_decisions { (n : ℕ) (steps : List Step) → HasConsistentDecisions (run (opening n) steps).log }
-    ensures permanent_cuts { (n : ℕ) (steps : List Step) (t : ℕ) →
+    ensures consistent_decisions { (n : ℕ) (steps : List ProtocolStep) → HasConsistentDecisions (run (opening n) steps).log }
+    ensures permanent_cuts { (n : ℕ) (steps : List ProtocolStep) (t : ℕ) →
         IsConsistent (past (take t (run (opening n) steps).log)) (permanent_cut (past (take t (run (opening n) steps).log))) }
-    ensures present_cuts { (n : ℕ) (steps : List Step) (t : ℕ) →
+    ensures present_cuts { (n : ℕ) (steps : List ProtocolStep) (t : ℕ) →
         IsConsistent (past (take t (run (opening n) steps).log)) (present_cut (past (take t (run (opening n) steps).log))) }
 
     // The members of each decided instance have linking messages with earlier ones, and those of each committed one are
     // the least set.
-    ensures linked_decisions { (n : ℕ) (steps : List Step) → HasLinkedDecisions (run (opening n) steps).log }
-    ensures least_decisions { (n : ℕ) (steps : List Step) → HasLeastDecisions (run (opening n) steps).log }
+    ensures linked_decisions { (n : ℕ) (steps : List ProtocolStep) → HasLinkedDecisions (run (opening n) steps).log }
+    ensures least_decisions { (n : ℕ) (steps : List ProtocolStep) → HasLeastDecisions (run (opening n) steps).log }
 
     // A decided instance is aborted exactly where a process was unwilling to join, and that was asked by a message.
-    ensures aborts { (n : ℕ) (steps : List Step) → AbortsWhereUnwilling (run (opening n) steps).log }
-    ensures justified { (n : ℕ) (steps : List Step) → JustifiesUnwilling (run (opening n) steps).log }
+    ensures aborts { (n : ℕ) (steps : List ProtocolStep) → AbortsWhereUnwilling (run (opening n) steps).log }
+    ensures justified { (n : ℕ) (steps : List ProtocolStep) → JustifiesUnwilling (run (opening n) steps).log }
 
     // The decision of an aborted instance changes no live history and no permanent position.
-    ensures unchanged { (n : ℕ) (steps : List Step) → AbortsChangeNothing (run (opening n) steps).log }
+    ensures unchanged { (n : ℕ) (steps : List ProtocolStep) → AbortsChangeNothing (run (opening n) steps).log }
 {}
 
 /// For every list of steps: the numbers that the state carries are those of what the log means.
 pub fn numbers_of_runs()
-    ensures known { (n : ℕ) (steps : List Step) → (run (opening n) steps).so_far ≡ summary (run (opening n) steps).log }
-    ensures agrees { (n : ℕ) (steps : List Step) → AgreesWith (run (opening n) steps).so_far (past (run (opening n) steps).log) }
-    ensures ordered { (n : ℕ) (steps : List Step) → OrdersMembers (run (opening n) steps).so_far (run (opening n) steps).log }
-    ensures placed { (n : ℕ) (steps : List Step) → PlacesMessages (run (opening n) steps).so_far (past (run (opening n) steps).log) }
+    ensures known { (n : ℕ) (steps : List ProtocolStep) → (run (opening n) steps).so_far ≡ summary (run (opening n) steps).log }
+    ensures agrees { (n : ℕ) (steps : List ProtocolStep) → AgreesWith (run (opening n) steps).so_far (past (run (opening n) steps).log) }
+    ensures ordered { (n : ℕ) (steps : List ProtocolStep) → OrdersMembers (run (opening n) steps).so_far (run (opening n) steps).log }
+    ensures placed { (n : ℕ) (steps : List ProtocolStep) → PlacesMessages (run (opening n) steps).so_far (past (run (opening n) steps).log) }
 
     // Who is up, and the instances begun, are those of the log.
-    ensures up { (n : ℕ) (steps : List Step) (p : ℕ) → (run (opening n) steps).up p ≡ (past (run (opening n) steps).log).up p }
-    ensures instances { (n : ℕ) (steps : List Step) → (run (opening n) steps).instances ≡ length (past (run (opening n) steps).log).begun }
-    ensures initiators { (n : ℕ) (steps : List Step) (k : ℕ) → 0 < k → k ≤ (run (opening n) steps).instances →
+    ensures up { (n : ℕ) (steps : List ProtocolStep) (p : ℕ) → (run (opening n) steps).up p ≡ (past (run (opening n) steps).log).up p }
+    ensures instances { (n : ℕ) (steps : List ProtocolStep) → (run (opening n) steps).instances ≡ length (past (run (opening n) steps).log).begun }
+    ensures initiators { (n : ℕ) (steps : List ProtocolStep) (k : ℕ) → 0 < k → k ≤ (run (opening n) steps).instances →
         initiator_of (past (run (opening n) steps).log) k ≡ Some ((run (opening n) steps).initiator k) }
 
     // Each live message that was neither received nor dropped is in transit once.
-    ensures in_transit { (n : ℕ) (steps : List Step) →
+    ensures in_transit { (n : ℕ) (steps : List ProtocolStep) →
         IsInTransit (past (run (opening n) steps).log) (run (opening n) steps).channel (run (opening n) steps).held }
 
     // What is kept for a process is what it received past its permanent position.
-    ensures kept { (n : ℕ) (steps : List Step) → IsKept (past (run (opening n) steps).log) (run (opening n) steps).kept }
+    ensures kept { (n : ℕ) (steps : List ProtocolStep) → IsKept (past (run (opening n) steps).log) (run (opening n) steps).kept }
 
     // Each live message that was not dropped stands once: in its receiver's live history, held, or in its channel.
-    ensures stands_once { (n : ℕ) (steps : List Step) → EachStandsOnce (past (run (opening n) steps).log) (run (opening n) steps) }
+    ensures stands_once { (n : ℕ) (steps : List ProtocolStep) → EachStandsOnce (past (run (opening n) steps).log) (run (opening n) steps) }
 {}
 
 /// After every list of steps: where nobody has anything to take, every begun instance is decided, nobody is in an
 /// instance, and no channel and no held list has a parcel. A `Take` of nothing leaves the state.
 pub fn never_stuck()
-    ensures at_rest { (n : ℕ) (steps : List Step) →
+    ensures at_rest { (n : ℕ) (steps : List ProtocolStep) →
         ((p : ℕ) → (q : ℕ) → p < n → q < n → can_take (run (opening n) steps) p q ≡ false) → IsAtRest (run (opening n) steps) }
-    ensures idle { (n : ℕ) (steps : List Step) (p : ℕ) (q : ℕ) (able : Bool) →
+    ensures idle { (n : ℕ) (steps : List ProtocolStep) (p : ℕ) (q : ℕ) (able : Bool) →
         can_take (run (opening n) steps) p q ≡ false → after_step (run (opening n) steps) (Take p q able) ≡ run (opening n) steps }
 {}
 
 /// After every list of steps: the asks, replies and decisions of an instance that were put into channels are few.
 pub fn counted()
-    ensures asks { (n : ℕ) (steps : List Step) (k : ℕ) → (run (opening n) steps).asks k ≤ n * (n - 1) }
-    ensures replies { (n : ℕ) (steps : List Step) (k : ℕ) → (run (opening n) steps).replies k ≤ (run (opening n) steps).asks k }
-    ensures decisions { (n : ℕ) (steps : List Step) (k : ℕ) → (run (opening n) steps).decisions k ≤ (run (opening n) steps).asks k }
+    ensures asks { (n : ℕ) (steps : List ProtocolStep) (k : ℕ) → (run (opening n) steps).asks k ≤ n * (n - 1) }
+    ensures replies { (n : ℕ) (steps : List ProtocolStep) (k : ℕ) → (run (opening n) steps).replies k ≤ (run (opening n) steps).asks k }
+    ensures decisions { (n : ℕ) (steps : List ProtocolStep) (k : ℕ) → (run (opening n) steps).decisions k ≤ (run (opening n) steps).asks k }
 {}
 
 /// Each `unwilling` row is made by a step that takes an ask of a member, and each `refused` row by a command of its
 /// process; before that step the row's cause holds.
 pub fn refusals()
-    ensures unwilling { (n : ℕ) (steps : List Step) (t : ℕ) (p : ℕ) (k : ℕ) (cause : Cause) →
+    ensures unwilling { (n : ℕ) (steps : List ProtocolStep) (t : ℕ) (p : ℕ) (k : ℕ) (cause : Cause) →
         slice_get (run (opening n) steps).log t ≡ Some (Unwilling p k cause) → IsUnwillingRow (opening n) steps t p k cause }
-    ensures refused { (n : ℕ) (steps : List Step) (t : ℕ) (p : ℕ) (verb : Verb) (cause : Cause) →
+    ensures refused { (n : ℕ) (steps : List ProtocolStep) (t : ℕ) (p : ℕ) (verb : Verb) (cause : Cause) →
         slice_get (run (opening n) steps).log t ≡ Some (Refused p verb cause) → IsRefusedRow (opening n) steps t p verb cause }
 {}
 
@@ -98,16 +98,16 @@ pub fn refusals()
 /// in transit. From the decision of its rollback until it closes, `p` has received none since; and from when it notes `q`
 /// until it closes, no message of `q` is in front of it.
 pub fn in_order()
-    ensures live { (n : ℕ) (steps : List Step) (q : ℕ) (p : ℕ) →
+    ensures live { (n : ℕ) (steps : List ProtocolStep) (q : ℕ) (p : ℕ) →
         Rises 0 (received_of q ((run (opening n) steps).so_far.live p) ++ in_transit (run (opening n) steps) q p) }
-    ensures received { (n : ℕ) (steps : List Step) (q : ℕ) (p : ℕ) → Rises 0 (messages ((run (opening n) steps).received_since q p)) }
-    ensures arrived { (n : ℕ) (steps : List Step) (q : ℕ) (p : ℕ) →
+    ensures received { (n : ℕ) (steps : List ProtocolStep) (q : ℕ) (p : ℕ) → Rises 0 (messages ((run (opening n) steps).received_since q p)) }
+    ensures arrived { (n : ℕ) (steps : List ProtocolStep) (q : ℕ) (p : ℕ) →
         Rises 0 (messages ((run (opening n) steps).arrived_since q p) ++ in_transit (run (opening n) steps) q p) }
-    ensures fresh { (n : ℕ) (steps : List Step) (k : ℕ) (q : ℕ) (p : ℕ) → 0 < k →
+    ensures fresh { (n : ℕ) (steps : List ProtocolStep) (k : ℕ) (q : ℕ) (p : ℕ) → 0 < k →
         (run (opening n) steps).so_far.open_in p ≡ k → (run (opening n) steps).so_far.is_rollback k ≡ true →
         (run (opening n) steps).so_far.is_decided k ≡ true → (run (opening n) steps).so_far.is_committed k ≡ true →
         (run (opening n) steps).received_since q p ≡ [] }
-    ensures quiet { (n : ℕ) (steps : List Step) (k : ℕ) (q : ℕ) (p : ℕ) → 0 < k →
+    ensures quiet { (n : ℕ) (steps : List ProtocolStep) (k : ℕ) (q : ℕ) (p : ℕ) → 0 < k →
         (run (opening n) steps).so_far.open_in p ≡ k → (run (opening n) steps).noted k p q ≡ true →
         IsQuiet ((run (opening n) steps).channel q p) }
 {}
@@ -115,7 +115,7 @@ pub fn in_order()
 /// Until a rollback is decided, the label that `p` noted of `q`'s ask tells which of `q`'s live messages to `p` its commit
 /// undoes: those above the label.
 pub fn noted_labels()
-    ensures undone { (n : ℕ) (steps : List Step) (k : ℕ) (p : ℕ) (q : ℕ) (m : ℕ) →
+    ensures undone { (n : ℕ) (steps : List ProtocolStep) (k : ℕ) (p : ℕ) (q : ℕ) (m : ℕ) →
         (run (opening n) steps).noted k p q ≡ true → (run (opening n) steps).so_far.is_decided k ≡ false →
         (run (opening n) steps).so_far.is_rollback k ≡ true → (run (opening n) steps).so_far.is_sent m ≡ true →
         (run (opening n) steps).so_far.from m ≡ q → (run (opening n) steps).so_far.to m ≡ p →

@@ -4,7 +4,7 @@ use Rattle.std.specs.Prelude.{◌==◌, ◌&&◌, nat_lt, if◌then◌else◌}
 use Rattle.kt_fifo.specs.declared.parcels.Parcel.{Parcel}
 use Rattle.kt_fifo.specs.declared.parcels.Parcel.TheVariants.{App, Ask, Reply, Decide}
 use Rattle.kt_cuts.specs.Past.{is_rollback_kind}
-use Rattle.kt_protocol.specs.States.{Step, Send, Begin, Fail, Take, opening}
+use Rattle.kt_protocol.specs.States.{ProtocolStep, Send, Begin, Fail, Take, opening}
 use Rattle.kt_closing.specs.LateSteps.{late_run}
 use Rattle.kt_seen.specs.Seen.{Seen}
 use Rattle.kt_seen.specs.ListChanges as changes
@@ -63,15 +63,15 @@ starts_processes : (v : Seen) (p : ℕ) (roll able : Bool) → (seen_begin_comma
 starts_processes v p true able = begins_processes v p true
 starts_processes v p false able = at_if v.processes (able && (v.states p).up) _ _ (begins_processes v p false) refl
 
-pub step_processes : (v : Seen) (x : Step) → (transition v x).processes ≡ v.processes
+pub step_processes : (v : Seen) (x : ProtocolStep) → (transition v x).processes ≡ v.processes
 step_processes v (Send p q b) = at_if v.processes ((nat_lt p v.processes && nat_lt q v.processes) && ((v.states p).inst == 0 && not (q == p))) _ _ (at_if v.processes (v.states p).up _ _ refl refl) refl
 step_processes v (Begin p roll able) = at_if v.processes ((v.states p).inst == 0) _ _ (starts_processes v p roll able) refl
 step_processes v (Fail p) = at_if v.processes (v.states p).up _ _ refl refl
 step_processes v (Take p q able) = at_if v.processes (is_seen_ready v p) _ _ (fronts_processes v p q able (v.channel q p)) (takes_processes v p q able (v.held q p))
 
-run_processes : (v : Seen) (steps : List Step) → (run_seen v steps).processes ≡ v.processes
+run_processes : (v : Seen) (steps : List ProtocolStep) → (run_seen v steps).processes ≡ v.processes
 run_processes v [] = refl
 run_processes v (x ∷ xs) = run_processes (transition v x) xs ∙ step_processes v x
 
-pub processes_are : (n : ℕ) (steps : List Step) → (late_run (opening n) steps).processes ≡ n
+pub processes_are : (n : ℕ) (steps : List ProtocolStep) → (late_run (opening n) steps).processes ≡ n
 processes_are n steps = ap (λ (v : Seen). v.processes) (seen_after_run n 0 steps) ∙ run_processes (opening_seen n 0) steps

@@ -8,7 +8,7 @@ use Rattle.kt_spacetime.specs.declared.event.Event.{Event}
 use Rattle.kt_spacetime.specs.declared.event.Event.TheVariants.{Sent}
 use Rattle.kt_cuts.specs.Messages.{row_at}
 use Rattle.kt_cuts.specs.Past.{at_one, is_rollback_kind}
-use Rattle.kt_protocol.specs.States.{Step, Send, Begin, Fail, Take, opening}
+use Rattle.kt_protocol.specs.States.{ProtocolStep, Send, Begin, Fail, Take, opening}
 use Rattle.kt_closing.specs.LateSteps.{late_run}
 use Rattle.kt_seen.specs.Labelling.{labelling}
 use Rattle.kt_seen.specs.Seen.{Seen, seen}
@@ -78,15 +78,15 @@ starts_grown : (v : Seen) (p : ℕ) (roll able : Bool) → Grown v.log (seen_beg
 starts_grown v p true able = begins_grown v p true
 starts_grown v p false able = at_if v.log (able && (v.states p).up) _ _ (begins_grown v p false) (_ ∷ [], refl)
 
-pub step_grown : (v : Seen) (x : Step) → Grown v.log (transition v x)
+pub step_grown : (v : Seen) (x : ProtocolStep) → Grown v.log (transition v x)
 step_grown v (Send p q b) = at_if v.log ((nat_lt p v.processes && nat_lt q v.processes) && ((v.states p).inst == 0 && not (q == p))) _ _ (at_if v.log (v.states p).up _ _ (_ ∷ [], refl) (_ ∷ [], refl)) (none v)
 step_grown v (Begin p roll able) = at_if v.log ((v.states p).inst == 0) _ _ (starts_grown v p roll able) (_ ∷ [], refl)
 step_grown v (Fail p) = at_if v.log (v.states p).up _ _ (_ ∷ [], refl) (_ ∷ [], refl)
 step_grown v (Take p q able) = at_if v.log (is_seen_ready v p) _ _ (fronts_grown v p q able (v.channel q p)) (takes_grown v p q able (v.held q p))
 
-pub log_grows : (n : ℕ) (steps : List Step) (x : Step) → (rows : List Event) × ((late_run (opening n) (steps ++ x ∷ [])).log ≡ (late_run (opening n) steps).log ++ rows)
+pub log_grows : (n : ℕ) (steps : List ProtocolStep) (x : ProtocolStep) → (rows : List Event) × ((late_run (opening n) (steps ++ x ∷ [])).log ≡ (late_run (opening n) steps).log ++ rows)
 log_grows n steps x = let g = step_grown (seen 0 (late_run (opening n) steps)) x in (g.0, ap (λ (v : Seen). v.log) (seen_next n 0 steps x) ∙ g.1)
 
-pub label_kept : (n first : ℕ) (steps : List Step) (x : Step) (m p q : ℕ) (b : ℤ) → row_at (late_run (opening n) steps).log m ≡ Some (Sent p q b) →
+pub label_kept : (n first : ℕ) (steps : List ProtocolStep) (x : ProtocolStep) (m p q : ℕ) (b : ℤ) → row_at (late_run (opening n) steps).log m ≡ Some (Sent p q b) →
     (labelling first (late_run (opening n) (steps ++ x ∷ [])).log).label m ≡ (labelling first (late_run (opening n) steps).log).label m
 label_kept n first steps x m p q b e = let g = log_grows n steps x in ap (λ (l : List Event). (labelling first l).label m) g.1 ∙ labels_stay first (late_run (opening n) steps).log g.0 m p q b e

@@ -9,7 +9,7 @@ use Rattle.kt_tables.specs.Calls.{Speaks}
 use Rattle.kt_protocol.proofs.Invariant.{one}
 use Rattle.kt_protocol.proofs.Weights.{weigh, weigh_cons, one_app}
 use Rattle.kt_protocol.specs.Parcels.{Parcel, App, Ask, Reply, Decide}
-use Rattle.kt_protocol.specs.States.{State, Step, opening, is_ready}
+use Rattle.kt_protocol.specs.States.{State, ProtocolStep, opening, is_ready}
 use Rattle.kt_protocol.specs.Summary.{Summary}
 use Rattle.kt_closing.proofs.Messages.{no_restore}
 use Rattle.kt_closing.proofs.SameStates.{closed_no_restore}
@@ -31,7 +31,7 @@ use Rattle.kt_seen.proofs.LogFacts.{labels_of_rows}
 use Rattle.kt_seen.proofs.Runs.{known_run, tells_runs, sees_runs, seen_next}
 
 -- labels of messages of one sender stand as their numbers do
-pub label_order : (n first : ℕ) (steps : List Step) (m k p q s : ℕ) (b d : ℤ) → row_at (late_run (opening n) steps).log m ≡ Some (Sent p q b) → row_at (late_run (opening n) steps).log k ≡ Some (Sent p s d) →
+pub label_order : (n first : ℕ) (steps : List ProtocolStep) (m k p q s : ℕ) (b d : ℤ) → row_at (late_run (opening n) steps).log m ≡ Some (Sent p q b) → row_at (late_run (opening n) steps).log k ≡ Some (Sent p s d) →
     nat_lt ((labelling first (late_run (opening n) steps).log).label m) ((labelling first (late_run (opening n) steps).log).label k) ≡ nat_lt m k
 label_order n first steps m k p q s b d e f =
     let x = labels_of_rows first (late_run (opening n) steps).log m p q b e in
@@ -41,7 +41,7 @@ label_order n first steps m k p q s b d e f =
     same_lt (labelling first (late_run (opening n) steps).log).label (labelling first (late_run (opening n) steps).log).used (late_run (opening n) steps).so_far.from (late_run (opening n) steps).so_far.rows t.numbers p m k
     (of_one (labelling first (late_run (opening n) steps).log).label (late_run (opening n) steps).so_far.from p m x.0 (subst (λ (z : Summary). z.from m ≡ p) h x.3)) (of_one (labelling first (late_run (opening n) steps).log).label (late_run (opening n) steps).so_far.from p k y.0 (subst (λ (z : Summary). z.from k ≡ p) h y.3))
 
-pub table_labels : (n first : ℕ) (steps : List Step) (p : ℕ) → HasTableLabels (labelling first (late_run (opening n) steps).log).label ((labelling first (late_run (opening n) steps).log).calls p) (late_run (opening n) steps) p
+pub table_labels : (n first : ℕ) (steps : List ProtocolStep) (p : ℕ) → HasTableLabels (labelling first (late_run (opening n) steps).log).label ((labelling first (late_run (opening n) steps).log).calls p) (late_run (opening n) steps) p
 table_labels n first steps p = let t = (tells_runs n first steps).tables p in record {
   is_open = t.is_open;
   first_sent = λ q. sym (t.first_is q);
@@ -52,7 +52,7 @@ table_labels n first steps p = let t = (tells_runs n first steps).tables p in re
   last_sent = λ q. sym (t.last_sent_is q);
 }
 
-pub speaks : (n first : ℕ) (steps : List Step) (p : ℕ) → Speaks ((labelling first (late_run (opening n) steps).log).calls p)
+pub speaks : (n first : ℕ) (steps : List ProtocolStep) (p : ℕ) → Speaks ((labelling first (late_run (opening n) steps).log).calls p)
 speaks n first steps p = (tells_runs n first steps).speaks p
 
 -- what stands in the lists
@@ -99,7 +99,7 @@ module _ (first : ℕ) (log : List Event) where
   own_sent h e p (Reply k w ∷ l) a = elim a [ ]
   own_sent h e p (Decide k w ∷ l) a = elim a [ ]
 
-module _ (n first : ℕ) (steps : List Step) where
+module _ (n first : ℕ) (steps : List ProtocolStep) where
   abbrev c : State
   c = late_run (opening n) steps
 
@@ -161,7 +161,7 @@ module _ (n first : ℕ) (steps : List Step) where
       subst (λ (z : ℕ). z < c.processes) x.2 y
 
 -- parts
-module _ (n first : ℕ) (steps : List Step) where
+module _ (n first : ℕ) (steps : List ProtocolStep) where
   pub part_asks : (p q : ℕ) → ((seen first (late_run (opening n) steps)).states p).part.asked q ≡ true → q < (late_run (opening n) steps).processes
   part_asks p q = go ((late_run (opening n) steps).so_far.open_in p == 0)
     where
@@ -183,5 +183,5 @@ module _ (n first : ℕ) (steps : List Step) where
   part_none p o = rw o refl
 
   -- one step more
-  pub speaks_next : (x : Step) (p : ℕ) → Speaks ((transition (seen first (late_run (opening n) steps)) x).states p).calls
+  pub speaks_next : (x : ProtocolStep) (p : ℕ) → Speaks ((transition (seen first (late_run (opening n) steps)) x).states p).calls
   speaks_next x p = subst (λ (v : Seen). Speaks (v.states p).calls) (seen_next n first steps x) (speaks n first (steps ++ x ∷ []) p)

@@ -22,7 +22,7 @@ use Rattle.kt_protocol.specs.Joining.{after_began, after_joining_checkpoint, aft
 use Rattle.kt_protocol.specs.Messages.{after_arrival}
 use Rattle.kt_protocol.specs.Parcels.{Parcel, App, Ask, Reply, Decide, Lists, with_rest, messages}
 use Rattle.kt_protocol.specs.Replies.{after_reply, unable_cause}
-use Rattle.kt_protocol.specs.States.{State, Step, Send, Begin, Fail, Take, is_ready}
+use Rattle.kt_protocol.specs.States.{State, ProtocolStep, Send, Begin, Fail, Take, is_ready}
 use Rattle.kt_protocol.specs.Steps.{verb_for}
 use Rattle.kt_protocol.specs.InTransit.{times}
 use Rattle.kt_protocol.proofs.Choices.{same}
@@ -195,7 +195,7 @@ module _ (first : ℕ) (c : State) (t : Labelling) (known : read c.so_far t ≡ 
     sees_held p q able (Reply k w ∷ rest) h e y = sees_same first c t known d
     sees_held p q able (Decide k w ∷ rest) h e y = sees_same first c t known d
 
-    pub sees_step : (x : Step) → Sees first (late_step c x) (transition (view t c) x)
+    pub sees_step : (x : ProtocolStep) → Sees first (late_step c x) (transition (view t c) x)
     sees_step (Send p q body) = at_both first ((nat_lt p c.processes && nat_lt q c.processes) && (c.so_far.open_in p == 0 && not (q == p))) ((nat_lt p c.processes && nat_lt q c.processes) && (c.so_far.open_in p == 0 && not (q == p))) refl
         (λ b. at_both first (c.up p) (c.up p) refl
         (λ _. sees_sending first c t known d p q body (send_ok p q c.processes (c.so_far.open_in p) b))

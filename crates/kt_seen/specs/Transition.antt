@@ -6,7 +6,7 @@ use Rattle.kt_fifo.specs.declared.parcels.Parcel.{Parcel}
 use Rattle.kt_fifo.specs.declared.parcels.Parcel.TheVariants.{App, Ask, Reply, Decide}
 use Rattle.kt_cuts.specs.Past.{at_one, is_rollback_kind}
 use Rattle.kt_protocol.specs.Replies.{unable_cause}
-use Rattle.kt_protocol.specs.States.{Step, Send, Begin, Fail, Take}
+use Rattle.kt_protocol.specs.States.{ProtocolStep, Send, Begin, Fail, Take}
 use Rattle.kt_protocol.specs.Steps.{verb_for}
 use Rattle.kt_seen.specs.Seen.{no_part, Seen}
 use Rattle.kt_seen.specs.ListChanges.{with_rest}
@@ -72,7 +72,7 @@ seen_begin_command v p false able = if able && (v.states p).up then seen_beginni
 
 -- one step: a send waits while its process is in an instance, and any other command is refused there; who is in a rollback
 -- takes from the channel
-abbrev pub transition : Seen → Step → Seen
+abbrev pub transition : Seen → ProtocolStep → Seen
 transition v (Send p q body) =
     if (nat_lt p v.processes && nat_lt q v.processes) && ((v.states p).inst == 0 && not (q == p)) then
     (if (v.states p).up then seen_sending v p q body else seen_refusal v p verb.Send Down)
@@ -82,7 +82,7 @@ transition v (Fail p) = if (v.states p).up then seen_failing v p else seen_refus
 transition v (Take p q able) = if is_seen_ready v p then seen_front v p q able (v.channel q p) else seen_take v p q able (v.held q p)
 
 -- some steps, one after another
-abbrev pub run_seen : Seen → List Step → Seen
+abbrev pub run_seen : Seen → List ProtocolStep → Seen
 run_seen v [] = v
 run_seen v (x ∷ xs) = run_seen (transition v x) xs
 

@@ -12,7 +12,7 @@ ghost use Rattle.kt_cuts.specs.Messages.{row_at};
 ghost use Rattle.kt_cuts.specs.Past.{at_one};
 ghost use Rattle.kt_tables.specs.Calls.{Call, sent, received, on_tentative, parts, sents, receiveds, Speaks};
 ghost use Rattle.kt_tables.specs.Peers.{IsCohort, count_peers};
-ghost use Rattle.kt_protocol.specs.States.{Step, Take, opening};
+ghost use Rattle.kt_protocol.specs.States.{ProtocolStep, Take, opening};
 ghost use Rattle.kt_protocol.specs.WorkedRuns.{object_that_is_not_saved_steps, object_that_is_not_saved, held_message_that_is_undone_steps, held_message_that_is_undone};
 ghost use Rattle.kt_closing.specs.WorkedRuns.{receives_before_closing};
 ghost use Rattle.kt_closing.specs.LateSteps.{late_run, late_step};
@@ -30,39 +30,39 @@ ghost use Rattle.kt_seen.specs.TableLabels.{HasTableLabels};
 /// For every list of steps, and every label that the counters begin after: what is seen of the state after the steps is
 /// what the transitions of what is seen give.
 pub fn seen_runs()
-    ensures whole { (n first : ℕ) (steps : List Step) → seen first (late_run (opening n) steps) ≡ run_seen (opening_seen n first) steps }
+    ensures whole { (n first : ℕ) (steps : List ProtocolStep) → seen first (late_run (opening n) steps) ≡ run_seen (opening_seen n first) steps }
 
     // So it is for one step more.
-    ensures next { (n first : ℕ) (steps : List Step) (x : Step) →
+    ensures next { (n first : ℕ) (steps : List ProtocolStep) (x : ProtocolStep) →
         seen first (late_run (opening n) (steps ++ x ∷ [])) ≡ transition (seen first (late_run (opening n) steps)) x }
-    ensures step { (n first : ℕ) (steps : List Step) (x : Step) →
+    ensures step { (n first : ℕ) (steps : List ProtocolStep) (x : ProtocolStep) →
         seen first (late_step (late_run (opening n) steps) x) ≡ transition (seen first (late_run (opening n) steps)) x }
 {}
 
 /// After every list of steps: the calls on the tables of each process, and the labels of messages.
 pub fn calls_of_runs()
     // Tables answer for the list of calls of each process, also after one more step.
-    ensures speaks { (n first : ℕ) (steps : List Step) (p : ℕ) →
+    ensures speaks { (n first : ℕ) (steps : List ProtocolStep) (p : ℕ) →
         Speaks (((seen first (late_run (opening n) steps)).states p).calls) }
-    ensures speaks_next { (n first : ℕ) (steps : List Step) (x : Step) (p : ℕ) →
+    ensures speaks_next { (n first : ℕ) (steps : List ProtocolStep) (x : ProtocolStep) (p : ℕ) →
         Speaks (((transition (seen first (late_run (opening n) steps)) x).states p).calls) }
 
     // What the state knows of a process's messages, as labels, is what tables keep of that list.
-    ensures table_labels { (n first : ℕ) (steps : List Step) (p : ℕ) →
+    ensures table_labels { (n first : ℕ) (steps : List ProtocolStep) (p : ℕ) →
         HasTableLabels (labelling first (late_run (opening n) steps).log).label
         (((seen first (late_run (opening n) steps)).states p).calls) (late_run (opening n) steps) p }
 
     // Labels of messages of one sender are in the order of their numbers.
-    ensures order { (n first : ℕ) (steps : List Step) (m k p q s : ℕ) (b d : ℤ) →
+    ensures order { (n first : ℕ) (steps : List ProtocolStep) (m k p q s : ℕ) (b d : ℤ) →
         row_at (late_run (opening n) steps).log m ≡ Some (Sent p q b) →
         row_at (late_run (opening n) steps).log k ≡ Some (Sent p s d) →
         nat_lt ((labelling first (late_run (opening n) steps).log).label m)
         ((labelling first (late_run (opening n) steps).log).label k) ≡ nat_lt m k }
 
     // The log only grows, and so a message's label stays.
-    ensures grows { (n : ℕ) (steps : List Step) (x : Step) →
+    ensures grows { (n : ℕ) (steps : List ProtocolStep) (x : ProtocolStep) →
         (rows : List Event) × ((late_run (opening n) (steps ++ x ∷ [])).log ≡ (late_run (opening n) steps).log ++ rows) }
-    ensures same_label { (n first : ℕ) (steps : List Step) (x : Step) (m p q : ℕ) (b : ℤ) →
+    ensures same_label { (n first : ℕ) (steps : List ProtocolStep) (x : ProtocolStep) (m p q : ℕ) (b : ℤ) →
         row_at (late_run (opening n) steps).log m ≡ Some (Sent p q b) →
         (labelling first (late_run (opening n) (steps ++ x ∷ [])).log).label m
         ≡ (labelling first (late_run (opening n) steps).log).label m }
@@ -71,43 +71,43 @@ pub fn calls_of_runs()
 /// After every list of steps: a message in a channel, held or kept has the label and the body of its row.
 pub fn messages_of_runs()
     // In a channel it is on its way to its receiver.
-    ensures in_channels { (n first : ℕ) (steps : List Step) (p q : ℕ) →
+    ensures in_channels { (n first : ℕ) (steps : List ProtocolStep) (p q : ℕ) →
         AreSentTo first (late_run (opening n) steps).log p q ((seen first (late_run (opening n) steps)).channel p q) }
 
     // What is held is messages alone; where the holder is in no rollback, it is their receiver.
-    ensures held { (n first : ℕ) (steps : List Step) (p q : ℕ) →
+    ensures held { (n first : ℕ) (steps : List ProtocolStep) (p q : ℕ) →
         AreMessagesBy first (late_run (opening n) steps).log p ((seen first (late_run (opening n) steps)).held p q) }
-    ensures held_by_receiver { (n first : ℕ) (steps : List Step) (p q : ℕ) →
+    ensures held_by_receiver { (n first : ℕ) (steps : List ProtocolStep) (p q : ℕ) →
         is_seen_ready (seen first (late_run (opening n) steps)) p ≡ false →
         AreSentTo first (late_run (opening n) steps).log q p ((seen first (late_run (opening n) steps)).held q p) }
 
     // What is kept is messages alone.
-    ensures kept { (n first : ℕ) (steps : List Step) (p q : ℕ) →
+    ensures kept { (n first : ℕ) (steps : List ProtocolStep) (p q : ℕ) →
         AreMessagesBy first (late_run (opening n) steps).log p ((seen first (late_run (opening n) steps)).kept p q) }
 {}
 
 /// After every list of steps: whom parts of processes name.
 pub fn parts_of_runs()
     // There are always as many processes.
-    ensures processes { (n : ℕ) (steps : List Step) → (late_run (opening n) steps).processes ≡ n }
+    ensures processes { (n : ℕ) (steps : List ProtocolStep) → (late_run (opening n) steps).processes ≡ n }
 
     // Whom a process in no instance would ask is one of them.
-    ensures would_ask_in_checkpoint { (n first : ℕ) (steps : List Step) (p q : ℕ) →
+    ensures would_ask_in_checkpoint { (n first : ℕ) (steps : List ProtocolStep) (p q : ℕ) →
         ((seen first (late_run (opening n) steps)).states p).inst ≡ 0 →
         is_asked_in_checkpoint (((seen first (late_run (opening n) steps)).states p).calls) q ≡ true → q < n }
-    ensures would_ask_in_rollback { (n first : ℕ) (steps : List Step) (p q : ℕ) →
+    ensures would_ask_in_rollback { (n first : ℕ) (steps : List ProtocolStep) (p q : ℕ) →
         ((seen first (late_run (opening n) steps)).states p).inst ≡ 0 →
         is_asked_in_rollback (((seen first (late_run (opening n) steps)).states p).calls) q ≡ true → q < n }
 
     // A process in no instance has no part.
-    ensures no_part { (n first : ℕ) (steps : List Step) (p : ℕ) →
+    ensures no_part { (n first : ℕ) (steps : List ProtocolStep) (p : ℕ) →
         ((seen first (late_run (opening n) steps)).states p).inst ≡ 0 →
         ((seen first (late_run (opening n) steps)).states p).part ≡ no_part }
 
     // Those that a process asked, and the one that it answers, are processes.
-    ensures asked { (n first : ℕ) (steps : List Step) (p q : ℕ) →
+    ensures asked { (n first : ℕ) (steps : List ProtocolStep) (p q : ℕ) →
         ((seen first (late_run (opening n) steps)).states p).part.asked q ≡ true → q < n }
-    ensures parent { (n first : ℕ) (steps : List Step) (p to : ℕ) →
+    ensures parent { (n first : ℕ) (steps : List ProtocolStep) (p to : ℕ) →
         ((seen first (late_run (opening n) steps)).states p).part.parent ≡ Some to → to < n }
 {}
 

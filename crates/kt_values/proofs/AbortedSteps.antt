@@ -6,7 +6,7 @@ use Rattle.kt_spacetime.specs.declared.event.Event.TheVariants.{Closed}
 use Rattle.kt_cuts.specs.Past.{Past, past, after, is_rollback, is_committed}
 use Rattle.kt_cuts.specs.Legal.{IsLegal}
 use Rattle.kt_cuts.proofs.LegalLogs.{legal_last, past_push}
-use Rattle.kt_protocol.specs.States.{State, Step}
+use Rattle.kt_protocol.specs.States.{State, ProtocolStep}
 use Rattle.kt_protocol.proofs.Invariant.{Invariant}
 use Rattle.kt_closing.specs.LateSteps.{late_step}
 use Rattle.kt_closing.specs.OnceClosed.{once_closed}
@@ -24,7 +24,7 @@ get_past [] ys i x e l = (i, e)
 get_past (y ∷ xs) ys zero x e l = absurd (omega (arith, l))
 get_past (y ∷ xs) ys (suc i) x e l = get_past xs ys i x e (omega (arith, l))
 
-module _ (c : State) (x : Step) (g : Invariant (once_closed c)) (l : IsLegal (late_step c x).log) where
+module _ (c : State) (x : ProtocolStep) (g : Invariant (once_closed c)) (l : IsLegal (late_step c x).log) where
   pub abort_acts : (i p k : ℕ) → slice_get (late_step c x).log i ≡ Some (Closed p k) → length c.log ≤ i → is_committed (past (late_step c x).log) k ≡ false → acts c x ≡ closing (is_rollback (past (late_step c x).log) k) false
   abort_acts i p k e b v =
       let n = ends_step c x g in

@@ -2,7 +2,7 @@
 use Rattle.std.proofs.Common.{◌≡◌, ℕ, ℤ, ◌+◌, ◌≤◌, Bool, true, false, not, List, [], ◌∷◌, length, refl, arith}
 use Rattle.std.specs.Prelude.{◌==◌, ◌&&◌, if◌then◌else◌}
 use Rattle.kt_protocol.specs.Parcels.{Parcel, App, Ask, Reply, Decide, with_rest}
-use Rattle.kt_protocol.specs.States.{Step, Send, Begin, Fail, Take, State, is_ready}
+use Rattle.kt_protocol.specs.States.{ProtocolStep, Send, Begin, Fail, Take, State, is_ready}
 use Rattle.kt_protocol.specs.Joining.{after_began, after_joining_checkpoint, after_joining_rollback, must_take, must_roll}
 use Rattle.kt_protocol.specs.Replies.{after_noting, after_reply}
 use Rattle.kt_protocol.specs.Deciding.{none_of}
@@ -64,14 +64,14 @@ module _ (P : List Act → Type 0) (f : Few P) where
   starting s p true able = beginning s p true
   starting s p false able = at_if P (able && s.up p) _ _ (beginning s p false) f.none
 
-  pub few : (s : State) (x : Step) → ((p : ℕ) → x ≡ Fail p → P (Drop ∷ [])) → P (acts s x)
+  pub few : (s : State) (x : ProtocolStep) → ((p : ℕ) → x ≡ Fail p → P (Drop ∷ [])) → P (acts s x)
   few s (Send p q body) d = f.none
   few s (Begin p roll able) d = at_if P (s.so_far.open_in p == 0) _ _ (starting s p roll able) f.none
   few s (Fail p) d = at_if P (s.up p) _ _ (d p refl) f.none
   few s (Take p q able) d = at_if P (is_ready s p) _ _ (taking s p q able (s.channel q p)) (taking_held s p q able (s.held q p))
 
 -- no more than two
-pub two : (s : State) (x : Step) → length (acts s x) ≤ 2
+pub two : (s : State) (x : ProtocolStep) → length (acts s x) ≤ 2
 two s x = few (λ a. length a ≤ 2) (record { none = omega arith; apply = λ q b. omega arith; keep = omega arith; close = closed; keep_close = kept }) s x (λ p e. omega arith)
   where
     closed : (roll commit : Bool) → length (closing roll commit) ≤ 2
@@ -110,7 +110,7 @@ none_by true a n e = omega (arith, e)
 none_by false a n e = omega arith
 
 -- a process drops its object no more often than it is asked to fail
-pub few_drops : (p : ℕ) (s : State) (x : Step) (xs : List Step) (n : ℕ) → n ≤ failures p xs → drops (acts_by p s x) + n ≤ failures p (x ∷ xs)
+pub few_drops : (p : ℕ) (s : State) (x : ProtocolStep) (xs : List ProtocolStep) (n : ℕ) → n ≤ failures p xs → drops (acts_by p s x) + n ≤ failures p (x ∷ xs)
 few_drops p s (Fail q) xs n l = let d = by_drops (p == q) (acts s (Fail q)) 1 (at_if (λ a. drops a ≤ 1) (s.up q) _ _ (omega arith) (omega arith)) in omega (arith, d, l)
 few_drops p s (Send q to body) xs n l = let d = none_by (p == q) (acts s (Send q to body)) 0 refl in omega (arith, d, l)
 few_drops p s (Begin q roll able) xs n l = let d = none_by (p == q) (acts s (Begin q roll able)) 0 (few (λ a. drops a ≡ 0) no_drops s (Begin q roll able) (λ v e. absurd (cc (e)))) in omega (arith, d, l)

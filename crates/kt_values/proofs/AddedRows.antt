@@ -9,7 +9,7 @@ use Rattle.kt_cuts.specs.Legal.{IsLegal, has_begun}
 use Rattle.kt_cuts.proofs.LegalLogs.{kept, legal_front, legal_last}
 use Rattle.kt_cuts.proofs.Lists.{get_push}
 use Rattle.kt_protocol.specs.Summary.{Summary, summary, summary_after, summary_began}
-use Rattle.kt_protocol.specs.States.{State, Step}
+use Rattle.kt_protocol.specs.States.{State, ProtocolStep}
 use Rattle.kt_protocol.specs.Joining.{kind_for, after_began, after_joining_checkpoint, after_joining_rollback}
 use Rattle.kt_protocol.specs.Messages.{after_sending, after_receiving, after_dropping, after_holding, after_failing, after_refusal}
 use Rattle.kt_protocol.specs.Replies.{after_noting, after_answering}
@@ -93,7 +93,7 @@ module _ (p : ℕ) (c : State) where
   began_known s true = refl
   began_known s false = refl
 
-  pub adds : (x : Step) → Moves x p (Adds p c) (Adds p c)
+  pub adds : (x : ProtocolStep) → Moves x p (Adds p c) (Adds p c)
   adds x = record {
     ends = λ s a i. i;
     sends = λ s q body a z o u i. still s (after_sending s p q body) (Sent p q body) a refl refl refl refl i;
@@ -118,7 +118,7 @@ module _ (p : ℕ) (c : State) where
   }
 
 -- what a step adds
-pub adds_step : (c : State) (x : Step) → Invariant (once_closed c) → Adds (stepper x) c (late_step c x) (acts c x)
+pub adds_step : (c : State) (x : ProtocolStep) → Invariant (once_closed c) → Adds (stepper x) c (late_step c x) (acts c x)
 adds_step c x g = walk x (Adds (stepper x) c) (Adds (stepper x) c) (adds (stepper x) c x) c g (record { rows = []; log = sym (append-nil c.log); known = g.histories.of_log; by = λ i y e. absurd (cc (e)); acts = λ l u. flat (u == stepper x) })
   where
     flat : (b : Bool) → ◌≡◌ {A = List Act} [] (if b then [] else [])

@@ -8,7 +8,7 @@ use Rattle.kt_spacetime.specs.declared.event.Event.{Event}
 use Rattle.kt_spacetime.specs.declared.event.Event.TheVariants.{Sent, Received, Dropped, Began, Took, Ready, Unwilling, Decided, Closed, Failed, Refused}
 use Rattle.kt_base.specs.declared.words.Kind.TheVariants.{Checkpoint, Rollback}
 use Rattle.kt_protocol.specs.Parcels.{Parcel, App, Ask, Reply, Decide, with_rest}
-use Rattle.kt_protocol.specs.States.{State, Step, Send, Begin, Fail, Take, is_ready}
+use Rattle.kt_protocol.specs.States.{State, ProtocolStep, Send, Begin, Fail, Take, is_ready}
 use Rattle.kt_protocol.specs.Joining.{after_began, after_joining_checkpoint, after_joining_rollback, must_take, must_roll}
 use Rattle.kt_protocol.specs.Replies.{after_noting, after_unwilling, after_reply, unable_cause}
 use Rattle.kt_protocol.specs.Deciding.{after_decision, none_of}
@@ -85,14 +85,14 @@ begins : (s : State) (p : ℕ) (roll : Bool) → Within (length s.log + 4) (late
 begins s p false = more (length s.log + 1 + 1 + 2) (length s.log + 4) (late_beginning s p false) (omega arith) (settles (after_joining_checkpoint (after_began s p false) s.channel p (s.instances + 1) true p 0) p (s.instances + 1) (length s.log + 1 + 1) (one_row (after_began s p false).log (Took p (s.instances + 1)) (length s.log + 1) (one_row s.log (Began p (s.instances + 1) Checkpoint) (length s.log) (omega arith))))
 begins s p true = more (length s.log + 1 + 1 + 2) (length s.log + 4) (late_beginning s p true) (omega arith) (settles (after_joining_rollback (after_began s p true) s.channel p (s.instances + 1) true p 0) p (s.instances + 1) (length s.log + 1 + 1) (one_row (after_began s p true).log (Ready p (s.instances + 1)) (length s.log + 1) (one_row s.log (Began p (s.instances + 1) Rollback) (length s.log) (omega arith))))
 
-pub four : (s : State) (x : Step) → length (late_step s x).log ≤ length s.log + 4
+pub four : (s : State) (x : ProtocolStep) → length (late_step s x).log ≤ length s.log + 4
 four s x = (step x).most
   where
     starts : (p : ℕ) (roll able : Bool) → Within (length s.log + 4) (late_begin_command s p roll able)
     starts p true able = begins s p true
     starts p false able = at_if (length s.log + 4) (able && s.up p) _ _ (begins s p false) (one_more s (after_refusal s p verb.Checkpoint (unable_cause (s.up p))) (Refused p verb.Checkpoint (unable_cause (s.up p))) refl)
 
-    step : (x : Step) → Within (length s.log + 4) (late_step s x)
+    step : (x : ProtocolStep) → Within (length s.log + 4) (late_step s x)
     step (Send p q body) = at_if (length s.log + 4) ((nat_lt p s.processes && nat_lt q s.processes) && (s.so_far.open_in p == 0 && not (q == p))) _ _
         (at_if (length s.log + 4) (s.up p) _ _ (one_more s (after_sending s p q body) (Sent p q body) refl) (one_more s (after_refusal s p verb.Send Down) (Refused p verb.Send Down) refl))
         (no_more s s refl)

@@ -14,7 +14,7 @@ use Rattle.kt_cuts.proofs.RowRules.{may_close}
 use Rattle.kt_cuts.proofs.Lists.{get_take, get_drop}
 use Rattle.kt_protocol.specs.Parcels.{messages, Parcel, App, Ask, Reply, Decide, Lists, with_parcel, with_rest, messages_where}
 use Rattle.kt_protocol.specs.Summary.{Summary, summary}
-use Rattle.kt_protocol.specs.States.{State, Step, opening}
+use Rattle.kt_protocol.specs.States.{State, ProtocolStep, opening}
 use Rattle.kt_protocol.specs.Joining.{kind_for, after_began, after_joining_checkpoint, after_joining_rollback}
 use Rattle.kt_protocol.specs.Messages.{after_sending, after_receiving, after_dropping, after_failing, after_refusal}
 use Rattle.kt_protocol.proofs.Invariant.{Invariant}
@@ -224,7 +224,7 @@ kept_received s p q m l i = record { each = kept_pushed (done s.log) (sound s.lo
     go u v true true false e = absurd (cc (e))
     go u v true false true e = absurd (cc (e))
 
-pub keeps_moves : (z : Step) (p : ℕ) → Moves z p (Here p) Gone
+pub keeps_moves : (z : ProtocolStep) (p : ℕ) → Moves z p (Here p) Gone
 keeps_moves z p = let c = places z p in record {
   ends = λ s a i. gone i;
   sends = λ s q body a t o u i. row p s (after_sending s p q body) (Sent p q body) a a refl (c.sends s q body a t o u i.places) (λ l e g. kept_sent s p q body l g) i;
@@ -256,11 +256,11 @@ keeps_moves z p = let c = places z p in record {
     decided_own s k true u v = refl
     decided_own s k false u v = refl
 
-kept_run : (c : State) (steps : List Step) → ((xs : List Step) → Invariant (once_closed (late_run c xs))) → Gone c [] → Gone (late_run c steps) []
+kept_run : (c : State) (steps : List ProtocolStep) → ((xs : List ProtocolStep) → Invariant (once_closed (late_run c xs))) → Gone c [] → Gone (late_run c steps) []
 kept_run c [] g i = i
 kept_run c (x ∷ xs) g i =
     let y = walk x (Here (stepper x)) Gone (keeps_moves x (stepper x)) c (g []) (record { places = i.places; placed = λ j m t e. ((g []).histories.received_is (stepper x) j m t e).2; kept = i.kept }) in
     kept_run (late_step c x) xs (λ ys. g (x ∷ ys)) (record { places = record { known = y.places.known; fits = y.places.fits }; kept = y.kept })
 
-pub kept_of : (n : ℕ) (steps : List Step) → ((xs : List Step) → Invariant (once_closed (late_run (opening n) xs))) → Gone (late_run (opening n) steps) []
+pub kept_of : (n : ℕ) (steps : List ProtocolStep) → ((xs : List ProtocolStep) → Invariant (once_closed (late_run (opening n) xs))) → Gone (late_run (opening n) steps) []
 kept_of n steps g = kept_run (opening n) steps g (record { places = record { known = refl; fits = λ l. record { own = λ u. refl; saved_at = λ u m t. absurd (cc (t)) } }; kept = λ l. record { each = λ p q. refl } })

@@ -5,7 +5,7 @@ use Rattle.kt_spacetime.specs.declared.event.Event.{Event}
 use Rattle.kt_spacetime.specs.declared.event.Event.TheVariants.{Sent, Received, Dropped, Began, Took, Ready, Unwilling, Decided, Closed, Failed, Refused}
 use Rattle.kt_cuts.proofs.Lists.{get_push}
 use Rattle.kt_protocol.specs.Summary.{Summary, summary, summary_after}
-use Rattle.kt_protocol.specs.States.{State, Step}
+use Rattle.kt_protocol.specs.States.{State, ProtocolStep}
 use Rattle.kt_protocol.specs.Joining.{kind_for, after_began, after_joining_checkpoint, after_joining_rollback}
 use Rattle.kt_protocol.specs.Messages.{after_sending, after_receiving, after_dropping, after_holding, after_failing, after_refusal}
 use Rattle.kt_protocol.specs.Replies.{after_noting, after_answering}
@@ -70,7 +70,7 @@ module _ (p : ℕ) (c : State) where
   shut : {s : State} {a : List Act} → Open c s a → Ends c s a
   shut i = record { rows = i.rows; log = i.log; each = λ j q l g. absurd (let x = i.none j (Closed q l) g in cc (x)) }
 
-  ends : (x : Step) → Moves x p (Open c) (Ends c)
+  ends : (x : ProtocolStep) → Moves x p (Open c) (Ends c)
   ends x = record {
     ends = λ s a i. shut i;
     sends = λ s q body a z o u i. shut (row s (after_sending s p q body) (Sent p q body) a a refl refl refl i);
@@ -94,5 +94,5 @@ module _ (p : ℕ) (c : State) where
     closes = λ s k w a o d v h i. let f = closed_log p s s k w in close s (late_closing s p k w) k w a f.0 v h i;
   }
 
-pub ends_step : (c : State) (x : Step) → Invariant (once_closed c) → Ends c (late_step c x) (acts c x)
+pub ends_step : (c : State) (x : ProtocolStep) → Invariant (once_closed c) → Ends c (late_step c x) (acts c x)
 ends_step c x g = walk x (Open c) (Ends c) (ends (stepper x) c x) c g (record { rows = []; log = sym (append-nil c.log); known = g.histories.of_log; none = λ i y e. absurd (cc (e)) })

@@ -10,7 +10,7 @@ use Rattle.kt_protocol.specs.InTransit.{times}
 use Rattle.kt_protocol.proofs.Updates.{is_same}
 use Rattle.kt_protocol.proofs.Lines.{times_append, apps_append}
 use Rattle.kt_protocol.specs.InTransit.{received_of}
-use Rattle.kt_values.specs.States.{line_of}
+use Rattle.kt_values.specs.States.{messages_between}
 use Rattle.kt_values.proofs.ReceivedMessages.{got_append}
 
 same : (a b : ℕ) → (a == b) ≡ true → a ≡ b
@@ -24,7 +24,7 @@ other_way : (u q : ℕ) → (u == q) ≡ false → (q == u) ≡ false
 other_way u q e = grind (arith, nat_tests)
 
 -- a message received from the channel, where nothing is held
-pub line_received : (own : ℕ → List Deed) (channel held : Lists) (p q m : ℕ) (rest : List Parcel) → channel q p ≡ App m ∷ rest → held q p ≡ [] → (u v : ℕ) → line_of (at_one p (own p ++ deed.Received m q ∷ []) own) (with_rest channel q p rest) held u v ≡ line_of own channel held u v
+pub line_received : (own : ℕ → List Deed) (channel held : Lists) (p q m : ℕ) (rest : List Parcel) → channel q p ≡ App m ∷ rest → held q p ≡ [] → (u v : ℕ) → messages_between (at_one p (own p ++ deed.Received m q ∷ []) own) (with_rest channel q p rest) held u v ≡ messages_between own channel held u v
 unfolding with_rest
 line_received own channel held p q m rest e n u v = go (v == p) refl (u == q) refl
   where
@@ -42,7 +42,7 @@ line_received own channel held p q m rest e n u v = go (v == p) refl (u == q) re
         ap₂ (λ (k l : List ℕ). k ++ (l ++ messages rest)) g h ∙ (append_assoc (received_of u (own v)) (m ∷ []) (messages rest) ∙ ap₂ (λ (k l : List ℕ). received_of u (own v) ++ (k ++ l)) (sym h) (sym c))
 
 -- and from what is held
-pub line_received_held : (own : ℕ → List Deed) (channel held : Lists) (p q m : ℕ) (rest : List Parcel) → held q p ≡ App m ∷ rest → (u v : ℕ) → line_of (at_one p (own p ++ deed.Received m q ∷ []) own) channel (with_rest held q p rest) u v ≡ line_of own channel held u v
+pub line_received_held : (own : ℕ → List Deed) (channel held : Lists) (p q m : ℕ) (rest : List Parcel) → held q p ≡ App m ∷ rest → (u v : ℕ) → messages_between (at_one p (own p ++ deed.Received m q ∷ []) own) channel (with_rest held q p rest) u v ≡ messages_between own channel held u v
 unfolding with_rest
 line_received_held own channel held p q m rest e u v = go (v == p) refl (u == q) refl
   where
@@ -59,7 +59,7 @@ line_received_held own channel held p q m rest e u v = go (v == p) refl (u == q)
         ap (λ (k : List ℕ). k ++ (messages rest ++ messages (channel u v))) g ∙ (append_assoc (received_of u (own v)) (m ∷ []) (messages rest ++ messages (channel u v)) ∙ ap (λ (k : List ℕ). received_of u (own v) ++ (k ++ messages (channel u v))) (sym h))
 
 -- a message held
-pub line_held : (own : ℕ → List Deed) (channel held : Lists) (p q m : ℕ) (rest : List Parcel) → channel q p ≡ App m ∷ rest → (u v : ℕ) → line_of own (with_rest channel q p rest) (with_parcel held q p (App m)) u v ≡ line_of own channel held u v
+pub line_held : (own : ℕ → List Deed) (channel held : Lists) (p q m : ℕ) (rest : List Parcel) → channel q p ≡ App m ∷ rest → (u v : ℕ) → messages_between own (with_rest channel q p rest) (with_parcel held q p (App m)) u v ≡ messages_between own channel held u v
 unfolding with_rest with_parcel
 line_held own channel held p q m rest e u v = go (u == q && v == p) refl
   where
@@ -74,7 +74,7 @@ line_held own channel held p q m rest e u v = go (u == q && v == p) refl
         ap (λ (l : List ℕ). received_of u (own v) ++ l) (ap (λ (l : List ℕ). l ++ messages rest) (apps_append (held u v) (App m ∷ [])) ∙ (append_assoc (messages (held u v)) (m ∷ []) (messages rest) ∙ ap (λ (l : List ℕ). messages (held u v) ++ l) (sym c)))
 
 -- a list of three parts
-pub times_line : (m : ℕ) (own : ℕ → List Deed) (channel held : Lists) (u v : ℕ) → times m (line_of own channel held u v) ≡ times m (received_of u (own v)) + (times m (messages (held u v)) + times m (messages (channel u v)))
+pub times_line : (m : ℕ) (own : ℕ → List Deed) (channel held : Lists) (u v : ℕ) → times m (messages_between own channel held u v) ≡ times m (received_of u (own v)) + (times m (messages (held u v)) + times m (messages (channel u v)))
 times_line m own channel held u v = times_append m (received_of u (own v)) (messages (held u v) ++ messages (channel u v)) ∙ ap (λ (n : ℕ). times m (received_of u (own v)) + n) (times_append m (messages (held u v)) (messages (channel u v)))
 
 -- a front of another message goes

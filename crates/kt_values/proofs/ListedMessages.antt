@@ -7,7 +7,7 @@ use Rattle.kt_spacetime.specs.declared.event.Event.TheVariants.{Sent, Received, 
 use Rattle.kt_cuts.proofs.Lists.{get_kept, get_last}
 use Rattle.kt_protocol.specs.Summary.{Summary, summary, summary_start, summary_after, summary_committed}
 use Rattle.kt_protocol.specs.Parcels.{Parcel, App, Ask, Reply, Decide, Lists, with_parcel, with_rest, messages_where, with_checkpoint_asks, with_rollback_asks, with_decisions}
-use Rattle.kt_protocol.specs.States.{State, Step, opening}
+use Rattle.kt_protocol.specs.States.{State, ProtocolStep, opening}
 use Rattle.kt_protocol.specs.Joining.{kind_for, after_began, after_joining_checkpoint, after_joining_rollback}
 use Rattle.kt_protocol.specs.Messages.{after_sending, after_receiving, after_dropping, after_failing, after_refusal}
 use Rattle.kt_protocol.proofs.Invariant.{Invariant, summary_push}
@@ -285,7 +285,7 @@ decided_lists s p k true true = (refl, refl, refl)
 moved : (log : List Event) (front back : Lists) (q p m : ℕ) (rest : List Parcel) → front q p ≡ App m ∷ rest → AllLists log front → AllLists log back → AllLists log (with_rest front q p rest) × AllLists log (with_parcel back q p (App m))
 moved log front back q p m rest e a b = let f = all_front log q p m rest (front q p) e (a q p) in (pop log front q p rest a f.1, push log back q p (App m) b (all_one log q p m f.0))
 
-pub carried : (x : Step) (p : ℕ) → Moves x p Carried Carried
+pub carried : (x : ProtocolStep) (p : ℕ) → Moves x p Carried Carried
 carried z p = record {
   ends = λ s a i. i;
   sends = λ s q body a t o u i. row s (after_sending s p q body) (Sent p q body) a a refl refl (λ g. record { channel = push (s.log ++ Sent p q body ∷ []) s.channel p q (App (s.so_far.rows + 1)) g.channel (all_one (s.log ++ Sent p q body ∷ []) p q (s.so_far.rows + 1) (sent_row s p q body i.known)); held = g.held; kept = g.kept }) i;
@@ -309,13 +309,13 @@ carried z p = record {
   closes = λ s k w a o d v h i. let f = closed_log p s s k w in row s (late_closing s p k w) (Closed p k) a _ f.0 f.1 (λ g. closed s (s.log ++ Closed p k ∷ []) p k w g) i;
 }
 
-carried_run : (c : State) (steps : List Step) → ((xs : List Step) → Invariant (once_closed (late_run c xs))) → Carried c [] → Carried (late_run c steps) []
+carried_run : (c : State) (steps : List ProtocolStep) → ((xs : List ProtocolStep) → Invariant (once_closed (late_run c xs))) → Carried c [] → Carried (late_run c steps) []
 carried_run c [] g i = i
 carried_run c (x ∷ xs) g i =
     let y = walk x Carried Carried (carried x (stepper x)) c (g []) i in
     carried_run (late_step c x) xs (λ ys. g (x ∷ ys)) (record { known = y.known; channel = y.channel; held = y.held; kept = y.kept })
 
-pub carried_of : (n : ℕ) (steps : List Step) → ((xs : List Step) → Invariant (once_closed (late_run (opening n) xs))) → Carried (late_run (opening n) steps) []
+pub carried_of : (n : ℕ) (steps : List ProtocolStep) → ((xs : List ProtocolStep) → Invariant (once_closed (late_run (opening n) xs))) → Carried (late_run (opening n) steps) []
 carried_of n steps g = carried_run (opening n) steps g (record { known = refl; channel = λ u v. all_none [] u v; held = λ u v. all_none [] u v; kept = λ u v. all_none [] u v })
 
 pub in_list : (log : List Event) (u v m i : ℕ) (channel : Lists) → AllLists log channel → slice_get (channel u v) i ≡ Some (App m) → IsSent log m u v

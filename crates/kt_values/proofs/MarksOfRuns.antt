@@ -8,7 +8,7 @@ use Rattle.kt_cuts.specs.declared.deeds.Deed.TheVariants as deed
 use Rattle.kt_cuts.proofs.Lists.{get_drop}
 use Rattle.kt_protocol.specs.Parcels.{messages, messages_where}
 use Rattle.kt_protocol.specs.Summary.{Summary}
-use Rattle.kt_protocol.specs.States.{Step, opening}
+use Rattle.kt_protocol.specs.States.{ProtocolStep, opening}
 use Rattle.kt_closing.specs.LateClosing.{is_newer}
 use Rattle.kt_closing.specs.LateSteps.{late_run}
 use Rattle.kt_closing.specs.KeptInOrder.{is_in_checkpoint}
@@ -36,7 +36,7 @@ not_restoring h p e = go (h.open_in p == 0) (h.is_rollback (h.open_in p)) (h.is_
     go false false true e = refl
     go false false false e = refl
 
-module _ (n : ℕ) (steps : List Step) (p : ℕ) (e : is_in_checkpoint (late_run (opening n) steps).so_far p ≡ true) where
+module _ (n : ℕ) (steps : List ProtocolStep) (p : ℕ) (e : is_in_checkpoint (late_run (opening n) steps).so_far p ≡ true) where
   taken : taken_at (done (late_run (opening n) steps).log).past p ≡ Some ((late_run (opening n) steps).saved_at p)
   taken = same (taken_at (done (late_run (opening n) steps).log).past p) (sym (taken_late n steps (λ m. m) p) ∙ rw e refl)
     where

@@ -8,7 +8,7 @@ use Rattle.kt_base.specs.declared.words.Cause.TheVariants.{Down}
 use Rattle.kt_spacetime.specs.declared.event.Event.{Event}
 use Rattle.kt_spacetime.specs.declared.event.Event.TheVariants.{Sent, Received, Dropped, Began, Took, Ready, Unwilling, Decided, Closed, Failed, Refused}
 use Rattle.kt_cuts.proofs.Lists.{get_push}
-use Rattle.kt_protocol.specs.States.{State, Step, Send, Begin, Fail, Take, opening}
+use Rattle.kt_protocol.specs.States.{State, ProtocolStep, Send, Begin, Fail, Take, opening}
 use Rattle.kt_protocol.specs.Joining.{kind_for, after_began, after_joining_checkpoint, after_joining_rollback}
 use Rattle.kt_protocol.specs.Messages.{after_receiving, after_dropping, after_holding, after_failing, after_refusal}
 use Rattle.kt_protocol.specs.Replies.{after_noting, after_answering}
@@ -28,7 +28,7 @@ abbrev pub is_sending : Event → Bool
 is_sending (Sent p q body) = true
 is_sending _ = false
 
-abbrev pub is_send : Step → Bool
+abbrev pub is_send : ProtocolStep → Bool
 is_send (Send p q body) = true
 is_send (Begin p roll able) = false
 is_send (Fail p) = false
@@ -51,10 +51,10 @@ module _ (p : ℕ) (c : State) where
   none : (s s' : State) (a : List Act) → s'.log ≡ s.log → Quiet c s a → Quiet c s' a
   none s s' a e i = record { rows = i.rows; log = e ∙ i.log; none = i.none }
 
-  no_send : (x : Step) (q : ℕ) (body : ℤ) {A : Type 0} → is_send x ≡ false → x ≡ Send p q body → A
+  no_send : (x : ProtocolStep) (q : ℕ) (body : ℤ) {A : Type 0} → is_send x ≡ false → x ≡ Send p q body → A
   no_send x q body n e = absurd (let t = ap is_send e in cc (t, n))
 
-  quiet : (x : Step) → is_send x ≡ false → Moves x p (Quiet c) (Quiet c)
+  quiet : (x : ProtocolStep) → is_send x ≡ false → Moves x p (Quiet c) (Quiet c)
   quiet x n = record {
     ends = λ s a i. i;
     sends = λ s q body a z o u i. no_send x q body n z;
@@ -78,7 +78,7 @@ module _ (p : ℕ) (c : State) where
     closes = λ s k w a o d v h i. let f = closed_log p s s k w in row s (late_closing s p k w) (Closed p k) a _ f.0 refl i;
   }
 
-quiet_step : (c : State) (x : Step) → is_send x ≡ false → Invariant (once_closed c) → Quiet c (late_step c x) (acts c x)
+quiet_step : (c : State) (x : ProtocolStep) → is_send x ≡ false → Invariant (once_closed c) → Quiet c (late_step c x) (acts c x)
 quiet_step c x n g = walk x (Quiet c) (Quiet c) (quiet (stepper x) c x n) c g (record { rows = []; log = sym (append-nil c.log); none = λ i y e. absurd (cc (e)) })
 
 -- rows of a longer log
@@ -125,7 +125,7 @@ module _ {V : Type 0} (r : Rules V) (marked : ℕ → Bool) where
           ap₂ (λ (l : List Event) (u : ℕ). offer r l u) t (sym same_p) ∙ (f (subst (λ (k : ℕ). marked k ≡ true) n m) ∙ ap Some same_b)
       go (suc j) p' q' b e m = absurd (cc (e))
 
-  has_quiet : (c : State) (x : Step) → is_send x ≡ false → Invariant (once_closed c) → Has c.log → Has (late_step c x).log
+  has_quiet : (c : State) (x : ProtocolStep) → is_send x ≡ false → Invariant (once_closed c) → Has c.log → Has (late_step c x).log
   has_quiet c x n g h =
       let w = quiet_step c x n g in
       subst Has (sym w.log) (has_more c.log w.rows h (λ j p q body e m. absurd (let t = w.none j (Sent p q body) e in cc (t))))
@@ -139,12 +139,12 @@ module _ {V : Type 0} (r : Rules V) (marked : ℕ → Bool) where
       at_log true x y f g = f refl
       at_log false x y f g = g refl
 
-  has_run : (c : State) (steps : List Step) → ((xs : List Step) → Invariant (once_closed (late_run c xs))) → SendsOffers r marked c steps → Has c.log → Has (late_run c steps).log
+  has_run : (c : State) (steps : List ProtocolStep) → ((xs : List ProtocolStep) → Invariant (once_closed (late_run c xs))) → SendsOffers r marked c steps → Has c.log → Has (late_run c steps).log
   has_run c [] g o h = h
   has_run c (Send p q body ∷ xs) g o h = has_run (late_step c (Send p q body)) xs (λ ys. g (Send p q body ∷ ys)) o.1 (has_send c p q body o.0 h)
   has_run c (Begin p roll able ∷ xs) g o h = has_run (late_step c (Begin p roll able)) xs (λ ys. g (Begin p roll able ∷ ys)) o (has_quiet c (Begin p roll able) refl (g []) h)
   has_run c (Fail p ∷ xs) g o h = has_run (late_step c (Fail p)) xs (λ ys. g (Fail p ∷ ys)) o (has_quiet c (Fail p) refl (g []) h)
   has_run c (Take p q able ∷ xs) g o h = has_run (late_step c (Take p q able)) xs (λ ys. g (Take p q able ∷ ys)) o (has_quiet c (Take p q able) refl (g []) h)
 
-  pub has_offers : (n : ℕ) (steps : List Step) → ((xs : List Step) → Invariant (once_closed (late_run (opening n) xs))) → SendsOffers r marked (opening n) steps → HasOffers r marked (late_run (opening n) steps).log
+  pub has_offers : (n : ℕ) (steps : List ProtocolStep) → ((xs : List ProtocolStep) → Invariant (once_closed (late_run (opening n) xs))) → SendsOffers r marked (opening n) steps → HasOffers r marked (late_run (opening n) steps).log
   has_offers n steps g o = (has_run (opening n) steps g o (record { each = λ i p q body e m. absurd (cc (e)) })).each

@@ -14,7 +14,7 @@ use Rattle.kt_cuts.proofs.Lists.{get_take, deed_place, has_from_place}
 use Rattle.kt_protocol.specs.Parcels.{messages, Parcel, App, Ask, Reply, Decide, Lists, with_parcel, with_rest}
 use Rattle.kt_protocol.specs.InTransit.{times}
 use Rattle.kt_protocol.specs.Summary.{Summary, summary_after}
-use Rattle.kt_protocol.specs.States.{State, Step}
+use Rattle.kt_protocol.specs.States.{State, ProtocolStep}
 use Rattle.kt_protocol.specs.Joining.{kind_for, after_began, after_joining_checkpoint, after_joining_rollback}
 use Rattle.kt_protocol.specs.Messages.{after_sending, after_receiving, after_dropping, after_holding, after_failing, after_refusal}
 use Rattle.kt_protocol.specs.Replies.{after_noting, after_answering}
@@ -26,7 +26,7 @@ use Rattle.kt_closing.specs.OnceClosed.{has_to_restore}
 use Rattle.kt_values.specs.Done.{Done, done, done_after}
 use Rattle.kt_values.specs.Values.{Act}
 use Rattle.kt_protocol.specs.InTransit.{received_of}
-use Rattle.kt_values.specs.States.{line_of}
+use Rattle.kt_values.specs.States.{messages_between}
 use Rattle.kt_values.proofs.DoneAlong.{done_more, done_past}
 use Rattle.kt_values.proofs.LegalFacts.{sound}
 use Rattle.kt_values.proofs.AddedRows.{decided_log, closed_log}
@@ -36,11 +36,11 @@ use Rattle.kt_values.proofs.Lines.{line_received, line_received_held, line_held,
 use Rattle.kt_values.proofs.ListedMessages.{AllRows, Carried, carried, twins_rows}
 
 pub record Once (d : Done) (x y : Lists) : Type 0 where
-  pub each : (m p q : ℕ) → has_deed (deed.Sent m q) (d.past.live p) ≡ true → d.past.dropped m ≡ false → times m (line_of d.own x y p q) ≡ 1
+  pub each : (m p q : ℕ) → has_deed (deed.Sent m q) (d.past.live p) ≡ true → d.past.dropped m ≡ false → times m (messages_between d.own x y p q) ≡ 1
 
 -- of who has a committed rollback to close
 pub record Later (h : Summary) (d : Done) (x y : Lists) : Type 0 where
-  pub each : (m p q : ℕ) → has_to_restore h q ≡ true → has_deed (deed.Sent m q) (d.past.live p) ≡ true → d.past.dropped m ≡ false → times m (line_of d.own x y p q) ≡ 1
+  pub each : (m p q : ℕ) → has_to_restore h q ≡ true → has_deed (deed.Sent m q) (d.past.live p) ≡ true → d.past.dropped m ≡ false → times m (messages_between d.own x y p q) ≡ 1
 
 pub record Here (s : State) (a : List Act) : Type 0 where
   pub carried : Carried s a
@@ -76,7 +76,7 @@ has_take : (d : Deed) (n : ℕ) (l : List Deed) → has_deed d (take n l) ≡ tr
 has_take d n l e = let p = deed_place d (take n l) e in has_from_place d l p.0 (get_take n l p.0 d p.1).0
 
 -- lists that differ at most in parcels that are no messages
-pub line_same : (own : ℕ → List Deed) (x y x' y' : Lists) → ((u v : ℕ) → messages (x' u v) ≡ messages (x u v)) → ((u v : ℕ) → messages (y' u v) ≡ messages (y u v)) → (u v : ℕ) → line_of own x' y' u v ≡ line_of own x y u v
+pub line_same : (own : ℕ → List Deed) (x y x' y' : Lists) → ((u v : ℕ) → messages (x' u v) ≡ messages (x u v)) → ((u v : ℕ) → messages (y' u v) ≡ messages (y u v)) → (u v : ℕ) → messages_between own x' y' u v ≡ messages_between own x y u v
 line_same own x y x' y' e f u v = ap₂ (λ (a b : List ℕ). received_of u (own v) ++ (a ++ b)) (f u v) (e u v)
 
 -- a message with a greater number than rows stands in no list
@@ -106,7 +106,7 @@ none s s' a a' e w f i = record { carried = w; once = λ l. subst (λ (t : List 
 -- where nothing but parcels that are no messages comes and goes
 same_lists : (d d' : Done) (x y x' y' : Lists) → d'.own ≡ d.own → ((p : ℕ) → d'.past.live p ≡ d.past.live p) → ((m : ℕ) → d'.past.dropped m ≡ d.past.dropped m) → ((u v : ℕ) → messages (x' u v) ≡ messages (x u v)) → ((u v : ℕ) → messages (y' u v) ≡ messages (y u v)) → Once d x y → Once d' x' y'
 same_lists d d' x y x' y' o l r e f i = record {
-  each = λ m p q h n. ap (λ (own : ℕ → List Deed). times m (line_of own x' y' p q)) o ∙ (ap (times m) (line_same d.own x y x' y' e f p q) ∙ i.each m p q (ap (has_deed (deed.Sent m q)) (sym (l p)) ∙ h) (sym (r m) ∙ n));
+  each = λ m p q h n. ap (λ (own : ℕ → List Deed). times m (messages_between own x' y' p q)) o ∙ (ap (times m) (line_same d.own x y x' y' e f p q) ∙ i.each m p q (ap (has_deed (deed.Sent m q)) (sym (l p)) ∙ h) (sym (r m) ∙ n));
 }
 
 -- a send
@@ -118,7 +118,7 @@ module _ (s : State) (p q : ℕ) (body : ℤ) (l : IsLegal s.log) (w : Carried s
   length_is = ap (λ (h : Summary). h.rows) w.known ∙ twins_rows s.log
 
   -- the new message stands nowhere
-  fresh : (u v : ℕ) → times (s.so_far.rows + 1) (line_of (done s.log).own s.channel s.held u v) ≡ 0
+  fresh : (u v : ℕ) → times (s.so_far.rows + 1) (messages_between (done s.log).own s.channel s.held u v) ≡ 0
   fresh u v =
       let a = got_known (done s.log).past.rows u (s.so_far.rows + 1) ((done s.log).own v) ((sound s.log l).bounds.known v) (let r = rows_are in omega (arith, r)) in
       let b = times_rows s.log u v (s.so_far.rows + 1) (s.held u v) (w.held u v) (let r = length_is in omega (arith, r)) in
@@ -134,7 +134,7 @@ module _ (s : State) (p q : ℕ) (body : ℤ) (l : IsLegal s.log) (w : Carried s
       go true e = let x : v ≡ p = grind (arith, nat_tests) in got_append u ((done s.log).own p) (deed.Sent ((done s.log).past.rows + 1) q ∷ []) ∙ (append-nil (received_of u ((done s.log).own p)) ∙ ap (λ (z : ℕ). received_of u ((done s.log).own z)) (sym x))
 
   -- the line grows where the message goes
-  times_sent : (m u v : ℕ) → times m (line_of (at_one p ((done s.log).own p ++ deed.Sent ((done s.log).past.rows + 1) q ∷ []) (done s.log).own) (with_parcel s.channel p q (App (s.so_far.rows + 1))) s.held u v) ≡ times m (line_of (done s.log).own s.channel s.held u v) + (if u == p && v == q then (if s.so_far.rows + 1 == m then 1 else 0) else 0)
+  times_sent : (m u v : ℕ) → times m (messages_between (at_one p ((done s.log).own p ++ deed.Sent ((done s.log).past.rows + 1) q ∷ []) (done s.log).own) (with_parcel s.channel p q (App (s.so_far.rows + 1))) s.held u v) ≡ times m (messages_between (done s.log).own s.channel s.held u v) + (if u == p && v == q then (if s.so_far.rows + 1 == m then 1 else 0) else 0)
   times_sent m u v =
       let a = times_line m (at_one p ((done s.log).own p ++ deed.Sent ((done s.log).past.rows + 1) q ∷ []) (done s.log).own) (with_parcel s.channel p q (App (s.so_far.rows + 1))) s.held u v in
       let b = times_line m (done s.log).own s.channel s.held u v in
@@ -149,13 +149,13 @@ module _ (s : State) (p q : ℕ) (body : ℤ) (l : IsLegal s.log) (w : Carried s
   once_sent : Once (done s.log) s.channel s.held → Once (done_after (done s.log) (Sent p q body)) (with_parcel s.channel p q (App (s.so_far.rows + 1))) s.held
   once_sent i = record { each = λ m u v h n. times_sent m u v ∙ go m u v (u == p) refl h n }
     where
-      now : (m v : ℕ) (b : Bool) → (has_deed (deed.Sent m v) ((done s.log).past.live p) || b) ≡ true → b ≡ ((m == (done s.log).past.rows + 1) && (v == q)) → (done s.log).past.dropped m ≡ false → times m (line_of (done s.log).own s.channel s.held p v) + (if v == q then (if s.so_far.rows + 1 == m then 1 else 0) else 0) ≡ 1
+      now : (m v : ℕ) (b : Bool) → (has_deed (deed.Sent m v) ((done s.log).past.live p) || b) ≡ true → b ≡ ((m == (done s.log).past.rows + 1) && (v == q)) → (done s.log).past.dropped m ≡ false → times m (messages_between (done s.log).own s.channel s.held p v) + (if v == q then (if s.so_far.rows + 1 == m then 1 else 0) else 0) ≡ 1
       now m v true h e n =
           let r = rows_are in
           let x : m ≡ s.so_far.rows + 1 = grind (arith, nat_tests, e, r) in
           let y : (v == q) ≡ true = grind (arith, nat_tests, e) in
           let z : (s.so_far.rows + 1 == m) ≡ true = grind (arith, nat_tests, x) in
-          let f : times m (line_of (done s.log).own s.channel s.held p v) ≡ 0 = ap (λ (k : ℕ). times k (line_of (done s.log).own s.channel s.held p v)) x ∙ fresh p v in
+          let f : times m (messages_between (done s.log).own s.channel s.held p v) ≡ 0 = ap (λ (k : ℕ). times k (messages_between (done s.log).own s.channel s.held p v)) x ∙ fresh p v in
           rw (y, z) (omega (arith, f))
       now m v false h e n =
           let f = i.each m p v (old (has_deed (deed.Sent m v) ((done s.log).past.live p)) h) n in
@@ -168,20 +168,20 @@ module _ (s : State) (p q : ℕ) (body : ℤ) (l : IsLegal s.log) (w : Carried s
           apart : (b : Bool) → (v == q) ≡ b → s.so_far.rows ≡ (done s.log).past.rows → b ≡ true → (s.so_far.rows + 1 == m) ≡ false
           apart b y r x = grind (arith, nat_tests, e, y, r, x)
 
-          zero_more : (b c : Bool) → (b ≡ true → c ≡ false) → times m (line_of (done s.log).own s.channel s.held p v) ≡ 1 → times m (line_of (done s.log).own s.channel s.held p v) + (if b then (if c then 1 else 0) else 0) ≡ 1
+          zero_more : (b c : Bool) → (b ≡ true → c ≡ false) → times m (messages_between (done s.log).own s.channel s.held p v) ≡ 1 → times m (messages_between (done s.log).own s.channel s.held p v) + (if b then (if c then 1 else 0) else 0) ≡ 1
           zero_more false c g f = omega (arith, f)
           zero_more true false g f = omega (arith, f)
           zero_more true true g f = absurd (cc (g refl))
 
-      go : (m u v : ℕ) (b : Bool) → (u == p) ≡ b → has_deed (deed.Sent m v) (if b then (done s.log).past.live p ++ deed.Sent ((done s.log).past.rows + 1) q ∷ [] else (done s.log).past.live u) ≡ true → (done s.log).past.dropped m ≡ false → times m (line_of (done s.log).own s.channel s.held u v) + (if b && v == q then (if s.so_far.rows + 1 == m then 1 else 0) else 0) ≡ 1
+      go : (m u v : ℕ) (b : Bool) → (u == p) ≡ b → has_deed (deed.Sent m v) (if b then (done s.log).past.live p ++ deed.Sent ((done s.log).past.rows + 1) q ∷ [] else (done s.log).past.live u) ≡ true → (done s.log).past.dropped m ≡ false → times m (messages_between (done s.log).own s.channel s.held u v) + (if b && v == q then (if s.so_far.rows + 1 == m then 1 else 0) else 0) ≡ 1
       go m u v false e h n = let f = i.each m u v h n in omega (arith, f)
       go m u v true e h n =
           let x : u ≡ p = grind (arith, nat_tests) in
-          subst (λ (z : ℕ). times m (line_of (done s.log).own s.channel s.held z v) + (if v == q then (if s.so_far.rows + 1 == m then 1 else 0) else 0) ≡ 1) (sym x)
+          subst (λ (z : ℕ). times m (messages_between (done s.log).own s.channel s.held z v) + (if v == q then (if s.so_far.rows + 1 == m then 1 else 0) else 0) ≡ 1) (sym x)
           (now m v ((m == (done s.log).past.rows + 1) && (v == q)) (sym (has_push (deed.Sent m v) (deed.Sent ((done s.log).past.rows + 1) q) ((done s.log).past.live p)) ∙ h) refl n)
 
 -- a receipt: the line is the same, and so are the sends of live histories
-once_received : (d : Done) (x y x' y' : Lists) (p q n : ℕ) → ((u v : ℕ) → line_of (at_one p (d.own p ++ deed.Received n q ∷ []) d.own) x' y' u v ≡ line_of d.own x y u v) → Once d x y → Once (done_after d (Received p q n)) x' y'
+once_received : (d : Done) (x y x' y' : Lists) (p q n : ℕ) → ((u v : ℕ) → messages_between (at_one p (d.own p ++ deed.Received n q ∷ []) d.own) x' y' u v ≡ messages_between d.own x y u v) → Once d x y → Once (done_after d (Received p q n)) x' y'
 once_received d x y x' y' p q n e i = record { each = λ m u v h f. ap (times m) (e u v) ∙ i.each m u v (go u (u == p) refl m v h) f }
   where
     go : (u : ℕ) (b : Bool) → (u == p) ≡ b → (m v : ℕ) → has_deed (deed.Sent m v) (if b then d.past.live p ++ deed.Received n q ∷ [] else d.past.live u) ≡ true → has_deed (deed.Sent m v) (d.past.live u) ≡ true
@@ -195,10 +195,10 @@ once_received d x y x' y' p q n e i = record { each = λ m u v h f. ap (times m)
         flat false = refl
 
 -- a loss: another message is where it was
-once_lost : (d : Done) (x y x' y' : Lists) (p q n : ℕ) → ((m u v : ℕ) → (n == m) ≡ false → times m (line_of d.own x' y' u v) ≡ times m (line_of d.own x y u v)) → Once d x y → Once (done_after d (Dropped p q n)) x' y'
+once_lost : (d : Done) (x y x' y' : Lists) (p q n : ℕ) → ((m u v : ℕ) → (n == m) ≡ false → times m (messages_between d.own x' y' u v) ≡ times m (messages_between d.own x y u v)) → Once d x y → Once (done_after d (Dropped p q n)) x' y'
 once_lost d x y x' y' p q n e i = record { each = λ m u v h f. go m u v h (m == n) refl f }
   where
-    go : (m u v : ℕ) → has_deed (deed.Sent m v) (d.past.live u) ≡ true → (b : Bool) → (m == n) ≡ b → (if b then true else d.past.dropped m) ≡ false → times m (line_of d.own x' y' u v) ≡ 1
+    go : (m u v : ℕ) → has_deed (deed.Sent m v) (d.past.live u) ≡ true → (b : Bool) → (m == n) ≡ b → (if b then true else d.past.dropped m) ≡ false → times m (messages_between d.own x' y' u v) ≡ 1
     go m u v h true z f = absurd (cc (f))
     go m u v h false z f = e m u v (grind (arith, nat_tests, z)) ∙ i.each m u v h f
 
@@ -245,7 +245,7 @@ module _ (s : State) (p k : ℕ) where
   once_closed : (w : Bool) (h : Summary) → h ≡ summary_after s.so_far (Closed p k) → Once (done s.log) s.channel s.held → Later h (done_after (done s.log) (Closed p k)) (late_closing s p k w).channel (late_closing s p k w).held
   once_closed w h e i = record { each = λ m u v r a n. go m u v (v == p) refl r a n }
     where
-      go : (m u v : ℕ) (b : Bool) → (v == p) ≡ b → has_to_restore h v ≡ true → has_deed (deed.Sent m v) ((done s.log).past.live u) ≡ true → (done s.log).past.dropped m ≡ false → times m (line_of (done_after (done s.log) (Closed p k)).own (late_closing s p k w).channel (late_closing s p k w).held u v) ≡ 1
+      go : (m u v : ℕ) (b : Bool) → (v == p) ≡ b → has_to_restore h v ≡ true → has_deed (deed.Sent m v) ((done s.log).past.live u) ≡ true → (done s.log).past.dropped m ≡ false → times m (messages_between (done_after (done s.log) (Closed p k)).own (late_closing s p k w).channel (late_closing s p k w).held u v) ≡ 1
       go m u v true z r a n =
           let o : h.open_in v ≡ 0 = ap (λ (x : Summary). x.open_in v) e ∙ rw z refl in
           let t : has_to_restore h v ≡ false = rw o refl in
@@ -254,7 +254,7 @@ module _ (s : State) (p k : ℕ) where
           let g : (done_after (done s.log) (Closed p k)).own v ≡ (done s.log).own v = rw z refl in
           ap (times m) (ap₂ (λ (x y : List ℕ). x ++ y) (ap (received_of u) g) (ap₂ (λ (x y : List ℕ). x ++ y) (ap messages (closed_held w u v z)) (closed_chan w u v))) ∙ i.each m u v a n
 
-lost_line : (d : Done) (x y x' y' : Lists) (n : ℕ) → ((m u v : ℕ) → (n == m) ≡ false → times m (messages (x' u v)) ≡ times m (messages (x u v))) → ((m u v : ℕ) → (n == m) ≡ false → times m (messages (y' u v)) ≡ times m (messages (y u v))) → (m u v : ℕ) → (n == m) ≡ false → times m (line_of d.own x' y' u v) ≡ times m (line_of d.own x y u v)
+lost_line : (d : Done) (x y x' y' : Lists) (n : ℕ) → ((m u v : ℕ) → (n == m) ≡ false → times m (messages (x' u v)) ≡ times m (messages (x u v))) → ((m u v : ℕ) → (n == m) ≡ false → times m (messages (y' u v)) ≡ times m (messages (y u v))) → (m u v : ℕ) → (n == m) ≡ false → times m (messages_between d.own x' y' u v) ≡ times m (messages_between d.own x y u v)
 lost_line d x y x' y' n e f m u v z =
     let a = times_line m d.own x' y' u v in
     let b = times_line m d.own x y u v in
@@ -267,7 +267,7 @@ decided_lists s p k false roll = (refl, refl)
 decided_lists s p k true false = (refl, refl)
 decided_lists s p k true true = (refl, refl)
 
-pub onces : (x : Step) (p : ℕ) → Moves x p Here Gone
+pub onces : (x : ProtocolStep) (p : ℕ) → Moves x p Here Gone
 onces z p = let c = carried z p in record {
   ends = λ s a i. gone i;
   sends = λ s q body a t o u i. gone (row s (after_sending s p q body) (Sent p q body) a a refl (c.sends s q body a t o u i.carried) (λ l e g. once_sent s p q body l (record { known = i.carried.known; channel = i.carried.channel; held = i.carried.held; kept = i.carried.kept }) g) i);

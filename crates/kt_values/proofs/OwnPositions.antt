@@ -9,7 +9,7 @@ use Rattle.kt_cuts.specs.Legal.{IsLegal, broken_rule}
 use Rattle.kt_cuts.proofs.LegalLogs.{legal_last}
 use Rattle.kt_cuts.proofs.RowRules.{may_get_ready, may_close}
 use Rattle.kt_protocol.specs.Summary.{Summary, summary, summary_after}
-use Rattle.kt_protocol.specs.States.{State, Step, opening}
+use Rattle.kt_protocol.specs.States.{State, ProtocolStep, opening}
 use Rattle.kt_protocol.specs.Joining.{kind_for, after_began, after_joining_checkpoint, after_joining_rollback}
 use Rattle.kt_protocol.specs.Messages.{after_sending, after_receiving, after_dropping, after_holding, after_failing, after_refusal}
 use Rattle.kt_protocol.specs.Replies.{after_noting, after_answering}
@@ -168,7 +168,7 @@ decides s p k false roll f = plain s.log (Decided p k false) s.own_permanent s.s
 decides s p k true false f = plain s.log (Decided p k true) s.own_permanent s.saved_at refl (λ u. refl) f
 decides s p k true true f = plain s.log (Decided p k true) s.own_permanent s.saved_at refl (λ u. refl) f
 
-pub places : (x : Step) (p : ℕ) → Moves x p Places Places
+pub places : (x : ProtocolStep) (p : ℕ) → Moves x p Places Places
 places z p = record {
   ends = λ s a i. i;
   sends = λ s q body a t o u i. row s (after_sending s p q body) (Sent p q body) a a refl refl (λ l e f. plain s.log (Sent p q body) s.own_permanent s.saved_at refl (λ u. refl) f) i;
@@ -192,11 +192,11 @@ places z p = record {
   closes = λ s k w a o d v h i. let f = closed_log p s s k w in row s (late_closing s p k w) (Closed p k) a _ f.0 f.1 (λ l e g. closes s p k w i.known v l e g) i;
 }
 
-places_run : (n : ℕ) (c : State) (steps : List Step) → ((xs : List Step) → Invariant (once_closed (late_run c xs))) → Places c [] → Places (late_run c steps) []
+places_run : (n : ℕ) (c : State) (steps : List ProtocolStep) → ((xs : List ProtocolStep) → Invariant (once_closed (late_run c xs))) → Places c [] → Places (late_run c steps) []
 places_run n c [] g i = i
 places_run n c (x ∷ xs) g i =
     let y = walk x Places Places (places x (stepper x)) c (g []) i in
     places_run n (late_step c x) xs (λ ys. g (x ∷ ys)) (record { known = y.known; fits = y.fits })
 
-pub places_of : (n : ℕ) (steps : List Step) → ((xs : List Step) → Invariant (once_closed (late_run (opening n) xs))) → Places (late_run (opening n) steps) []
+pub places_of : (n : ℕ) (steps : List ProtocolStep) → ((xs : List ProtocolStep) → Invariant (once_closed (late_run (opening n) xs))) → Places (late_run (opening n) steps) []
 places_of n steps g = places_run n (opening n) steps g (record { known = refl; fits = λ l. record { own = λ u. refl; saved_at = λ u m t. absurd (cc (t)) } })

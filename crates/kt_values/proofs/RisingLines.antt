@@ -13,7 +13,7 @@ use Rattle.kt_cuts.proofs.LegalLogs.{legal_last}
 use Rattle.kt_protocol.specs.Parcels.{messages, Parcel, App, Reply, Lists, with_parcel, with_rest, messages_where}
 use Rattle.kt_protocol.specs.InTransit.{times}
 use Rattle.kt_protocol.specs.Summary.{Summary, summary}
-use Rattle.kt_protocol.specs.States.{State, Step, opening}
+use Rattle.kt_protocol.specs.States.{State, ProtocolStep, opening}
 use Rattle.kt_protocol.specs.Joining.{kind_for, after_began, after_joining_checkpoint, after_joining_rollback}
 use Rattle.kt_protocol.specs.Messages.{after_sending, after_receiving, after_dropping, after_failing, after_refusal}
 use Rattle.kt_protocol.proofs.Invariant.{Invariant}
@@ -25,7 +25,7 @@ use Rattle.kt_values.specs.Done.{Done, done, done_after}
 use Rattle.kt_values.specs.Values.{Act}
 use Rattle.kt_values.specs.Acts.{stepper}
 use Rattle.kt_protocol.specs.InTransit.{received_of}
-use Rattle.kt_values.specs.States.{line_of, IsAbove, IsRising}
+use Rattle.kt_values.specs.States.{messages_between, IsAbove, IsRising}
 use Rattle.kt_values.proofs.DoneAlong.{done_more}
 use Rattle.kt_values.proofs.OwnAndLive.{cut_in}
 use Rattle.kt_values.proofs.LegalFacts.{sound}
@@ -39,7 +39,7 @@ use Rattle.kt_values.proofs.OnceInLines.{no_app, line_same, times_rows, got_same
 use Rattle.kt_values.proofs.KeptLists as kept
 
 pub record Rises (d : Done) (x y : Lists) : Type 0 where
-  pub each : (p q : ℕ) → Rising (line_of d.own x y p q)
+  pub each : (p q : ℕ) → Rising (messages_between d.own x y p q)
 
 pub record Here (p : ℕ) (s : State) (a : List Act) : Type 0 where
   pub keeps : kept.Here p s a
@@ -51,11 +51,11 @@ pub record Gone (s : State) (a : List Act) : Type 0 where
   pub carried : Carried s a
   pub rises : IsLegal s.log → Rises (done s.log) s.channel s.held
 
-same_rises : (d d' : Done) (x y x' y' : Lists) → ((u v : ℕ) → line_of d'.own x' y' u v ≡ line_of d.own x y u v) → Rises d x y → Rises d' x' y'
+same_rises : (d d' : Done) (x y x' y' : Lists) → ((u v : ℕ) → messages_between d'.own x' y' u v ≡ messages_between d.own x y u v) → Rises d x y → Rises d' x' y'
 same_rises d d' x y x' y' e i = record { each = λ u v. subst Rising (sym (e u v)) (i.each u v) }
 
-thin_rises : (d d' : Done) (x y x' y' : Lists) → ((u v : ℕ) → Thin (line_of d'.own x' y' u v) (line_of d.own x y u v)) → Rises d x y → Rises d' x' y'
-thin_rises d d' x y x' y' e i = record { each = λ u v. rising_thin (line_of d'.own x' y' u v) (line_of d.own x y u v) (e u v) (i.each u v) }
+thin_rises : (d d' : Done) (x y x' y' : Lists) → ((u v : ℕ) → Thin (messages_between d'.own x' y' u v) (messages_between d.own x y u v)) → Rises d x y → Rises d' x' y'
+thin_rises d d' x y x' y' e i = record { each = λ u v. rising_thin (messages_between d'.own x' y' u v) (messages_between d.own x y u v) (e u v) (i.each u v) }
 
 -- a front goes
 thin_popped : (channel : Lists) (q p m : ℕ) (rest : List Parcel) → channel q p ≡ App m ∷ rest → (u v : ℕ) → Thin (messages (with_rest channel q p rest u v)) (messages (channel u v))
@@ -73,7 +73,7 @@ thin_popped channel q p m rest e u v = go (u == q && v == p) refl
 rises_sent : (s : State) (p q : ℕ) (body : ℤ) → IsLegal s.log → Carried s [] → Rises (done s.log) s.channel s.held → Rises (done_after (done s.log) (Sent p q body)) (with_parcel s.channel p q (App (s.so_far.rows + 1))) s.held
 rises_sent s p q body l w i = record { each = λ u v. subst Rising (sym (grown u v (u == p && v == q) refl)) (more u v (u == p && v == q)) }
   where
-    low : (u v m : ℕ) → 0 < times m (line_of (done s.log).own s.channel s.held u v) → m < s.so_far.rows + 1
+    low : (u v m : ℕ) → 0 < times m (messages_between (done s.log).own s.channel s.held u v) → m < s.so_far.rows + 1
     low u v m h = elim (cases_lt m (s.so_far.rows + 1)) [
       | inl x ↦ x
       | inr x ↦
@@ -86,14 +86,14 @@ rises_sent s p q body l w i = record { each = λ u v. subst Rising (sym (grown u
           absurd (omega (arith, h, a, b, c, t))
     ]
 
-    more : (u v : ℕ) (b : Bool) → Rising (if b then line_of (done s.log).own s.channel s.held u v ++ (s.so_far.rows + 1) ∷ [] else line_of (done s.log).own s.channel s.held u v)
-    more u v true = rising_push (line_of (done s.log).own s.channel s.held u v) (s.so_far.rows + 1) (i.each u v) (low u v)
+    more : (u v : ℕ) (b : Bool) → Rising (if b then messages_between (done s.log).own s.channel s.held u v ++ (s.so_far.rows + 1) ∷ [] else messages_between (done s.log).own s.channel s.held u v)
+    more u v true = rising_push (messages_between (done s.log).own s.channel s.held u v) (s.so_far.rows + 1) (i.each u v) (low u v)
     more u v false = i.each u v
 
-    grown : (u v : ℕ) (b : Bool) → (u == p && v == q) ≡ b → line_of (done_after (done s.log) (Sent p q body)).own (with_parcel s.channel p q (App (s.so_far.rows + 1))) s.held u v ≡ (if b then line_of (done s.log).own s.channel s.held u v ++ (s.so_far.rows + 1) ∷ [] else line_of (done s.log).own s.channel s.held u v)
+    grown : (u v : ℕ) (b : Bool) → (u == p && v == q) ≡ b → messages_between (done_after (done s.log) (Sent p q body)).own (with_parcel s.channel p q (App (s.so_far.rows + 1))) s.held u v ≡ (if b then messages_between (done s.log).own s.channel s.held u v ++ (s.so_far.rows + 1) ∷ [] else messages_between (done s.log).own s.channel s.held u v)
     grown u v b e = ap₂ (λ (x y : List ℕ). x ++ (messages (s.held u v) ++ y)) (got_same s p q body l w u v) (apps_sending s.channel p q (s.so_far.rows + 1) u v ∙ ap (λ (t : Bool). if t then messages (s.channel u v) ++ (s.so_far.rows + 1) ∷ [] else messages (s.channel u v)) e) ∙ go b
       where
-        go : (b : Bool) → received_of u ((done s.log).own v) ++ (messages (s.held u v) ++ (if b then messages (s.channel u v) ++ (s.so_far.rows + 1) ∷ [] else messages (s.channel u v))) ≡ (if b then line_of (done s.log).own s.channel s.held u v ++ (s.so_far.rows + 1) ∷ [] else line_of (done s.log).own s.channel s.held u v)
+        go : (b : Bool) → received_of u ((done s.log).own v) ++ (messages (s.held u v) ++ (if b then messages (s.channel u v) ++ (s.so_far.rows + 1) ∷ [] else messages (s.channel u v))) ≡ (if b then messages_between (done s.log).own s.channel s.held u v ++ (s.so_far.rows + 1) ∷ [] else messages_between (done s.log).own s.channel s.held u v)
         go false = refl
         go true = sym (append_assoc (received_of u ((done s.log).own v)) (messages (s.held u v) ++ messages (s.channel u v)) ((s.so_far.rows + 1) ∷ []) ∙ ap (λ (x : List ℕ). received_of u ((done s.log).own v) ++ x) (append_assoc (messages (s.held u v)) (messages (s.channel u v)) ((s.so_far.rows + 1) ∷ [])))
 
@@ -103,25 +103,25 @@ module _ (s : State) (p k : ℕ) (n : s.so_far ≡ summary s.log) (l : IsLegal s
   kinds = let x = closed_kind s.log p k l e in (x.0 ∙ ap (λ (h : Summary). h.is_rollback k) (sym n), x.1 ∙ ap (λ (h : Summary). h.is_committed k) (sym n))
 
   -- at others
-  there : (w : Bool) (u v : ℕ) → (v == p) ≡ false → Thin (line_of (done_after (done s.log) (Closed p k)).own (late_closing s p k w).channel (late_closing s p k w).held u v) (line_of (done s.log).own s.channel s.held u v)
+  there : (w : Bool) (u v : ℕ) → (v == p) ≡ false → Thin (messages_between (done_after (done s.log) (Closed p k)).own (late_closing s p k w).channel (late_closing s p k w).held u v) (messages_between (done s.log).own s.channel s.held u v)
   there w u v z =
       let g : (done_after (done s.log) (Closed p k)).own v ≡ (done s.log).own v = rw z refl in
-      subst (Thin (line_of (done_after (done s.log) (Closed p k)).own (late_closing s p k w).channel (late_closing s p k w).held u v)) (ap₂ (λ (x y : List ℕ). x ++ y) (ap (received_of u) g) (ap₂ (λ (x y : List ℕ). x ++ y) (ap messages (closed_held s p k w u v z)) (closed_chan s p k w u v))) (thin_all _)
+      subst (Thin (messages_between (done_after (done s.log) (Closed p k)).own (late_closing s p k w).channel (late_closing s p k w).held u v)) (ap₂ (λ (x y : List ℕ). x ++ y) (ap (received_of u) g) (ap₂ (λ (x y : List ℕ). x ++ y) (ap messages (closed_held s p k w u v z)) (closed_chan s p k w u v))) (thin_all _)
 
   -- at p, where its history and its held lists stay
-  plain : (w : Bool) (u : ℕ) → cut_in (done s.log).past k ((done s.log).permanent p) ((done s.log).own p) ≡ (done s.log).own p → (late_closing s p k w).held u p ≡ s.held u p → Thin (received_of u (cut_in (done s.log).past k ((done s.log).permanent p) ((done s.log).own p)) ++ (messages ((late_closing s p k w).held u p) ++ messages ((late_closing s p k w).channel u p))) (line_of (done s.log).own s.channel s.held u p)
+  plain : (w : Bool) (u : ℕ) → cut_in (done s.log).past k ((done s.log).permanent p) ((done s.log).own p) ≡ (done s.log).own p → (late_closing s p k w).held u p ≡ s.held u p → Thin (received_of u (cut_in (done s.log).past k ((done s.log).permanent p) ((done s.log).own p)) ++ (messages ((late_closing s p k w).held u p) ++ messages ((late_closing s p k w).channel u p))) (messages_between (done s.log).own s.channel s.held u p)
   plain w u c h = subst (Thin _) (ap₂ (λ (x y : List ℕ). x ++ y) (ap (received_of u) c) (ap₂ (λ (x y : List ℕ). x ++ y) (ap messages h) (closed_chan s p k w u p))) (thin_all _)
 
   -- where it is cut back
-  cut : (w : Bool) (u : ℕ) → cut_in (done s.log).past k ((done s.log).permanent p) ((done s.log).own p) ≡ take ((done s.log).permanent p) ((done s.log).own p) → (late_closing s p k w).held u p ≡ messages_where (is_within_label s k p u) (s.kept u p) ++ messages_where (is_within_label s k p u) (s.held u p) → Thin (received_of u (cut_in (done s.log).past k ((done s.log).permanent p) ((done s.log).own p)) ++ (messages ((late_closing s p k w).held u p) ++ messages ((late_closing s p k w).channel u p))) (line_of (done s.log).own s.channel s.held u p)
+  cut : (w : Bool) (u : ℕ) → cut_in (done s.log).past k ((done s.log).permanent p) ((done s.log).own p) ≡ take ((done s.log).permanent p) ((done s.log).own p) → (late_closing s p k w).held u p ≡ messages_where (is_within_label s k p u) (s.kept u p) ++ messages_where (is_within_label s k p u) (s.held u p) → Thin (received_of u (cut_in (done s.log).past k ((done s.log).permanent p) ((done s.log).own p)) ++ (messages ((late_closing s p k w).held u p) ++ messages ((late_closing s p k w).channel u p))) (messages_between (done s.log).own s.channel s.held u p)
   cut w u c h =
       let t = is_within_label s k p u in
       let new : received_of u (cut_in (done s.log).past k ((done s.log).permanent p) ((done s.log).own p)) ++ (messages ((late_closing s p k w).held u p) ++ messages ((late_closing s p k w).channel u p)) ≡ received_of u (take ((done s.log).permanent p) ((done s.log).own p)) ++ (messages (messages_where t (s.kept u p)) ++ (messages (messages_where t (s.held u p)) ++ messages (s.channel u p))) =
       ap₂ (λ (x y : List ℕ). x ++ y) (ap (received_of u) c) (ap₂ (λ (x y : List ℕ). x ++ y) (ap messages h ∙ apps_append (messages_where t (s.kept u p)) (messages_where t (s.held u p))) (closed_chan s p k w u p) ∙ append_assoc (messages (messages_where t (s.kept u p))) (messages (messages_where t (s.held u p))) (messages (s.channel u p))) in
-      let old : line_of (done s.log).own s.channel s.held u p ≡ received_of u (take ((done s.log).permanent p) ((done s.log).own p)) ++ (messages (s.kept u p) ++ (messages (s.held u p) ++ messages (s.channel u p))) =
+      let old : messages_between (done s.log).own s.channel s.held u p ≡ received_of u (take ((done s.log).permanent p) ((done s.log).own p)) ++ (messages (s.kept u p) ++ (messages (s.held u p) ++ messages (s.channel u p))) =
       ap (λ (x : List ℕ). x ++ (messages (s.held u p) ++ messages (s.channel u p))) (ap (received_of u) (sym (take-append-drop ((done s.log).permanent p) ((done s.log).own p))) ∙ (got_append u (take ((done s.log).permanent p) ((done s.log).own p)) (drop ((done s.log).permanent p) ((done s.log).own p)) ∙ ap (λ (x : List ℕ). received_of u (take ((done s.log).permanent p) ((done s.log).own p)) ++ x) (sym (keeps.each p u))))
       ∙ append_assoc (received_of u (take ((done s.log).permanent p) ((done s.log).own p))) (messages (s.kept u p)) (messages (s.held u p) ++ messages (s.channel u p)) in
-      subst (λ (x : List ℕ). Thin x (line_of (done s.log).own s.channel s.held u p)) (sym new) (subst (Thin _) (sym old)
+      subst (λ (x : List ℕ). Thin x (messages_between (done s.log).own s.channel s.held u p)) (sym new) (subst (Thin _) (sym old)
       (thin_append _ _ _ _ (thin_all (received_of u (take ((done s.log).permanent p) ((done s.log).own p)))) (thin_append _ _ _ _ (thin_messages_where t (s.kept u p)) (thin_append _ _ _ _ (thin_messages_where t (s.held u p)) (thin_all (messages (s.channel u p)))))))
 
   -- the held lists of who closes
@@ -139,10 +139,10 @@ module _ (s : State) (p k : ℕ) (n : s.so_far ≡ summary s.log) (l : IsLegal s
       go true = refl
       go false = refl
 
-  here : (w : Bool) (u : ℕ) → s.so_far.is_committed k ≡ w → Thin (received_of u (cut_in (done s.log).past k ((done s.log).permanent p) ((done s.log).own p)) ++ (messages ((late_closing s p k w).held u p) ++ messages ((late_closing s p k w).channel u p))) (line_of (done s.log).own s.channel s.held u p)
+  here : (w : Bool) (u : ℕ) → s.so_far.is_committed k ≡ w → Thin (received_of u (cut_in (done s.log).past k ((done s.log).permanent p) ((done s.log).own p)) ++ (messages ((late_closing s p k w).held u p) ++ messages ((late_closing s p k w).channel u p))) (messages_between (done s.log).own s.channel s.held u p)
   here w u v = go (s.so_far.is_rollback k) w refl v
     where
-      go : (r w : Bool) → s.so_far.is_rollback k ≡ r → s.so_far.is_committed k ≡ w → Thin (received_of u (cut_in (done s.log).past k ((done s.log).permanent p) ((done s.log).own p)) ++ (messages ((late_closing s p k w).held u p) ++ messages ((late_closing s p k w).channel u p))) (line_of (done s.log).own s.channel s.held u p)
+      go : (r w : Bool) → s.so_far.is_rollback k ≡ r → s.so_far.is_committed k ≡ w → Thin (received_of u (cut_in (done s.log).past k ((done s.log).permanent p) ((done s.log).own p)) ++ (messages ((late_closing s p k w).held u p) ++ messages ((late_closing s p k w).channel u p))) (messages_between (done s.log).own s.channel s.held u p)
       go true true r v = cut true u (rw (kinds.0 ∙ r, kinds.1 ∙ v) refl) (held_then true u r)
       go true false r v = plain false u (rw (kinds.0 ∙ r, kinds.1 ∙ v) refl) (held_then false u r)
       go false w r v = plain w u (rw (kinds.0 ∙ r) refl) (held_stays w u r)
@@ -150,13 +150,13 @@ module _ (s : State) (p k : ℕ) (n : s.so_far ≡ summary s.log) (l : IsLegal s
   rises_closed : (w : Bool) → s.so_far.is_committed k ≡ w → Rises (done_after (done s.log) (Closed p k)) (late_closing s p k w).channel (late_closing s p k w).held
   rises_closed w v = thin_rises (done s.log) (done_after (done s.log) (Closed p k)) s.channel s.held (late_closing s p k w).channel (late_closing s p k w).held (λ u x. go u x (x == p) refl) i
     where
-      go : (u x : ℕ) (b : Bool) → (x == p) ≡ b → Thin (line_of (done_after (done s.log) (Closed p k)).own (late_closing s p k w).channel (late_closing s p k w).held u x) (line_of (done s.log).own s.channel s.held u x)
+      go : (u x : ℕ) (b : Bool) → (x == p) ≡ b → Thin (messages_between (done_after (done s.log) (Closed p k)).own (late_closing s p k w).channel (late_closing s p k w).held u x) (messages_between (done s.log).own s.channel s.held u x)
       go u x false z = there w u x z
       go u x true z =
           let y : x ≡ p = grind (arith, nat_tests) in
           let t : (done_after (done s.log) (Closed p k)).own x ≡ cut_in (done s.log).past k ((done s.log).permanent p) ((done s.log).own p) = rw z refl in
-          subst (λ (d : List Deed). Thin (received_of u d ++ (messages ((late_closing s p k w).held u x) ++ messages ((late_closing s p k w).channel u x))) (line_of (done s.log).own s.channel s.held u x)) (sym t)
-          (subst (λ (a : ℕ). Thin (received_of u (cut_in (done s.log).past k ((done s.log).permanent p) ((done s.log).own p)) ++ (messages ((late_closing s p k w).held u a) ++ messages ((late_closing s p k w).channel u a))) (line_of (done s.log).own s.channel s.held u a)) (sym y) (here w u v))
+          subst (λ (d : List Deed). Thin (received_of u d ++ (messages ((late_closing s p k w).held u x) ++ messages ((late_closing s p k w).channel u x))) (messages_between (done s.log).own s.channel s.held u x)) (sym t)
+          (subst (λ (a : ℕ). Thin (received_of u (cut_in (done s.log).past k ((done s.log).permanent p) ((done s.log).own p)) ++ (messages ((late_closing s p k w).held u a) ++ messages ((late_closing s p k w).channel u a))) (messages_between (done s.log).own s.channel s.held u a)) (sym y) (here w u v))
 
 gone : {p : ℕ} {s : State} {a : List Act} → Here p s a → Gone s a
 gone i = record { keeps = record { places = i.keeps.places; kept = i.keeps.kept }; carried = i.carried; rises = i.rises }
@@ -174,7 +174,7 @@ decided_lists s p k true true = (refl, refl)
 by_lists : (d : Done) (x y x' y' : Lists) → ((u v : ℕ) → messages (x' u v) ≡ messages (x u v)) → ((u v : ℕ) → messages (y' u v) ≡ messages (y u v)) → Rises d x y → Rises d x' y'
 by_lists d x y x' y' e f i = same_rises d d x y x' y' (line_same d.own x y x' y' e f) i
 
-moves : (z : Step) (p : ℕ) → Moves z p (Here p) Gone
+moves : (z : ProtocolStep) (p : ℕ) → Moves z p (Here p) Gone
 moves z p = let c = carried z p in let t = kept.keeps_moves z p in record {
   ends = λ s a i. gone i;
   sends = λ s q body a b o u i. record { keeps = t.sends s q body a b o u i.keeps; carried = c.sends s q body a b o u i.carried; rises = risen s (after_sending s p q body) (Sent p q body) refl (λ l e g. rises_sent s p q body l (record { known = i.carried.known; channel = i.carried.channel; held = i.carried.held; kept = i.carried.kept }) g) i.rises };
@@ -194,11 +194,11 @@ moves z p = let c = carried z p in let t = kept.keeps_moves z p in record {
   refuses = λ s q k cause a i. record { keeps = t.refuses s q k cause a i.keeps; carried = c.refuses s q k cause a i.carried; rises = risen s (refuses_now s p q k cause) (Unwilling p k cause) refl (λ l e g. record { each = (by_lists (done s.log) s.channel s.held (with_parcel s.channel p q (Reply k false)) s.held (apps_with_parcel s.channel p q (Reply k false) refl) (λ u v. refl) g).each }) i.rises };
   counts = λ s q k w a i. record { keeps = t.counts s q k w a i.keeps; carried = c.counts s q k w a i.carried; rises = i.rises };
   answers = λ s k a i. record { keeps = t.answers s k a i.keeps; carried = c.answers s k a i.carried; rises = λ l. by_lists (done s.log) s.channel s.held (with_parcel s.channel p (s.parent k p) (Reply k (s.all_willing k p))) s.held (apps_with_parcel s.channel p (s.parent k p) (Reply k (s.all_willing k p)) refl) (λ u v. refl) (i.rises l) };
-  decides = λ s k a o e b i. let f = decided_log p s s k (s.all_willing k p) (s.so_far.is_rollback k) refl in let g = decided_lists s p k (s.all_willing k p) (s.so_far.is_rollback k) in record { keeps = t.decides s k a o e b i.keeps; carried = c.decides s k a o e b i.carried; rises = risen s (late_deciding s p k) (Decided p k (s.all_willing k p)) f.0 (λ l j h. same_rises (done s.log) (done_after (done s.log) (Decided p k (s.all_willing k p))) s.channel s.held (late_deciding s p k).channel (late_deciding s p k).held (λ u v. ap₂ (λ (x y : Lists). line_of (done s.log).own x y u v) g.0 g.1) h) i.rises };
+  decides = λ s k a o e b i. let f = decided_log p s s k (s.all_willing k p) (s.so_far.is_rollback k) refl in let g = decided_lists s p k (s.all_willing k p) (s.so_far.is_rollback k) in record { keeps = t.decides s k a o e b i.keeps; carried = c.decides s k a o e b i.carried; rises = risen s (late_deciding s p k) (Decided p k (s.all_willing k p)) f.0 (λ l j h. same_rises (done s.log) (done_after (done s.log) (Decided p k (s.all_willing k p))) s.channel s.held (late_deciding s p k).channel (late_deciding s p k).held (λ u v. ap₂ (λ (x y : Lists). messages_between (done s.log).own x y u v) g.0 g.1) h) i.rises };
   closes = λ s k w a o d v h i. let f = closed_log p s s k w in record { keeps = t.closes s k w a o d v h i.keeps; carried = c.closes s k w a o d v h i.carried; rises = risen s (late_closing s p k w) (Closed p k) f.0 (λ l e g. rises_closed s p k i.carried.known l e (i.keeps.kept l) g w v) i.rises };
 }
 
-run_rises : (c : State) (steps : List Step) → ((xs : List Step) → Invariant (once_closed (late_run c xs))) → Gone c [] → Gone (late_run c steps) []
+run_rises : (c : State) (steps : List ProtocolStep) → ((xs : List ProtocolStep) → Invariant (once_closed (late_run c xs))) → Gone c [] → Gone (late_run c steps) []
 run_rises c [] g i = i
 run_rises c (x ∷ xs) g i =
     let y = walk x (Here (stepper x)) Gone (moves x (stepper x)) c (g []) (record { keeps = record { places = i.keeps.places; placed = λ j m t e. ((g []).histories.received_is (stepper x) j m t e).2; kept = i.keeps.kept }; carried = i.carried; rises = i.rises }) in
@@ -212,11 +212,11 @@ rising_same : (l : List ℕ) → Rising l → IsRising l
 rising_same [] r = tt
 rising_same (x ∷ l) r = (above_same x l r.0, rising_same l r.1)
 
-pub gone_of : (n : ℕ) (steps : List Step) → ((xs : List Step) → Invariant (once_closed (late_run (opening n) xs))) → Gone (late_run (opening n) steps) []
+pub gone_of : (n : ℕ) (steps : List ProtocolStep) → ((xs : List ProtocolStep) → Invariant (once_closed (late_run (opening n) xs))) → Gone (late_run (opening n) steps) []
 gone_of n steps g = run_rises (opening n) steps g (record { keeps = kept.kept_of n [] (λ xs. g xs); carried = carried_of n [] (λ xs. g xs); rises = λ l. record { each = λ p q. tt } })
 
-pub rises_of : (n : ℕ) (steps : List Step) → ((xs : List Step) → Invariant (once_closed (late_run (opening n) xs))) → IsLegal (late_run (opening n) steps).log → (p q : ℕ) → IsRising (line_of (done (late_run (opening n) steps).log).own (late_run (opening n) steps).channel (late_run (opening n) steps).held p q)
+pub rises_of : (n : ℕ) (steps : List ProtocolStep) → ((xs : List ProtocolStep) → Invariant (once_closed (late_run (opening n) xs))) → IsLegal (late_run (opening n) steps).log → (p q : ℕ) → IsRising (messages_between (done (late_run (opening n) steps).log).own (late_run (opening n) steps).channel (late_run (opening n) steps).held p q)
 rises_of n steps g l p q = rising_same _ (((gone_of n steps g).rises l).each p q)
 
-pub kept_is : (n : ℕ) (steps : List Step) → ((xs : List Step) → Invariant (once_closed (late_run (opening n) xs))) → IsLegal (late_run (opening n) steps).log → (p q : ℕ) → messages ((late_run (opening n) steps).kept q p) ≡ received_of q (drop ((done (late_run (opening n) steps).log).permanent p) ((done (late_run (opening n) steps).log).own p))
+pub kept_is : (n : ℕ) (steps : List ProtocolStep) → ((xs : List ProtocolStep) → Invariant (once_closed (late_run (opening n) xs))) → IsLegal (late_run (opening n) steps).log → (p q : ℕ) → messages ((late_run (opening n) steps).kept q p) ≡ received_of q (drop ((done (late_run (opening n) steps).log).permanent p) ((done (late_run (opening n) steps).log).own p))
 kept_is n steps g l p q = ((gone_of n steps g).keeps.kept l).each p q

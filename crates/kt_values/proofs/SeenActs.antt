@@ -10,7 +10,7 @@ use Rattle.kt_protocol.specs.Deciding.{none_of}
 use Rattle.kt_protocol.specs.Joining.{after_joining_checkpoint, after_joining_rollback, must_take, must_roll, kind_for}
 use Rattle.kt_protocol.specs.Parcels.{Parcel, App, Ask, Reply, Decide, with_rest}
 use Rattle.kt_protocol.specs.Replies.{after_noting, after_reply}
-use Rattle.kt_protocol.specs.States.{State, Step, Send, Begin, Fail, Take, is_ready, opening}
+use Rattle.kt_protocol.specs.States.{State, ProtocolStep, Send, Begin, Fail, Take, is_ready, opening}
 use Rattle.kt_protocol.specs.Summary.{summary_committed}
 use Rattle.kt_protocol.proofs.Answering.{reply_facts}
 use Rattle.kt_protocol.proofs.Beginning.{decide_facts}
@@ -189,14 +189,14 @@ module _ (first : ℕ) (c : State) (t : Labelling) (known : read c.so_far t ≡ 
   starting p true able = beginning p true
   starting p false able = at_both (able && c.up p) (able && c.up p) refl (λ _. beginning p false) (λ _. refl)
 
-  pub same_acts : (x : Step) → acts c x ≡ seen_acts (view t c) x
+  pub same_acts : (x : ProtocolStep) → acts c x ≡ seen_acts (view t c) x
   same_acts (Send p q x) = refl
   same_acts (Begin p roll able) = at_both (c.so_far.open_in p == 0) (c.so_far.open_in p == 0) refl (λ _. starting p roll able) (λ _. refl)
   same_acts (Fail p) = refl
   same_acts (Take p q able) = at_both (is_ready c p) (is_seen_ready (view t c) p) (ready_is p) (λ _. taking p q able (c.channel q p) refl) (λ _. taking_held p q able (c.held q p))
 
 -- of each state of a run
-pub acts_seen : (n first : ℕ) (steps : List Step) (x : Step) → acts (late_run (opening n) steps) x ≡ seen_acts (seen first (late_run (opening n) steps)) x
+pub acts_seen : (n first : ℕ) (steps : List ProtocolStep) (x : ProtocolStep) → acts (late_run (opening n) steps) x ≡ seen_acts (seen first (late_run (opening n) steps)) x
 acts_seen n first steps x = let s = sees_runs n first steps in
     same_acts first (late_run (opening n) steps) (labelling first (late_run (opening n) steps).log)
     (subst (λ (t : Labelling). read (late_run (opening n) steps).so_far t ≡ labelled_log first (late_run (opening n) steps).log) (labelling_is first (late_run (opening n) steps) _ s) s.known)

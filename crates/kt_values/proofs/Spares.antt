@@ -2,7 +2,7 @@
 use Rattle.std.proofs.Common.{◌≡◌, ℕ, ◌+◌, ◌≤◌, Bool, true, false, Option, Some, None, List, [], ◌∷◌, ◌++◌, refl, arith, sym, ap, subst, ◌∙◌}
 use Rattle.std.specs.Prelude.{is_some, is_none, option_map, ◌&&◌, if◌then◌else◌}
 use Rattle.kt_cuts.specs.Legal.{IsLegal}
-use Rattle.kt_protocol.specs.States.{State, Step, opening}
+use Rattle.kt_protocol.specs.States.{State, ProtocolStep, opening}
 use Rattle.kt_closing.specs.LateSteps.{late_step, late_run}
 use Rattle.kt_values.specs.Done.{done}
 use Rattle.kt_values.specs.Values.{Rules, Due, Act, Apply, Keep, Promote, Discard, Restore, Drop, due, first_due, does, does_all, can_all, drops, spares}
@@ -12,13 +12,13 @@ use Rattle.kt_values.proofs.CanBeDone.{can_more, along_can}
 use Rattle.kt_values.proofs.ActCases.{few_drops}
 use Rattle.kt_values.proofs.RunActs.{run_more, invariant_late, legal_next, step_of_run}
 
-pub step_can : {V : Type 0} (r : Rules V) (n : ℕ) (steps : List Step) (x : Step) (u : ℕ) → can_all r (due r (done (late_run (opening n) steps).log) u) (acts_by u (late_run (opening n) steps) x) ≡ true
+pub step_can : {V : Type 0} (r : Rules V) (n : ℕ) (steps : List ProtocolStep) (x : ProtocolStep) (u : ℕ) → can_all r (due r (done (late_run (opening n) steps).log) u) (acts_by u (late_run (opening n) steps) x) ≡ true
 step_can r n steps x u =
     let c = late_run (opening n) steps in
     let a = adds_step c x (invariant_late n steps) in
     ap (can_all r (due r (done c.log) u)) (sym (a.acts (legal_next n steps x) u)) ∙ along_can r c.log a.rows u (subst IsLegal a.log (legal_next n steps x))
 
-run_can_from : {V : Type 0} (r : Rules V) (n u : ℕ) (before xs : List Step) → can_all r (due r (done (late_run (opening n) before).log) u) (acts_through u (late_run (opening n) before) xs) ≡ true
+run_can_from : {V : Type 0} (r : Rules V) (n u : ℕ) (before xs : List ProtocolStep) → can_all r (due r (done (late_run (opening n) before).log) u) (acts_through u (late_run (opening n) before) xs) ≡ true
 run_can_from r n u before [] = refl
 run_can_from {V} r n u before (x ∷ xs) =
     let c = late_run (opening n) before in
@@ -27,7 +27,7 @@ run_can_from {V} r n u before (x ∷ xs) =
     (ap (λ (d : Due V). can_all r d (acts_through u (late_step c x) xs)) (step_of_run r n before x u)
     ∙ subst (λ (s : State). can_all r (due r (done s.log) u) (acts_through u s xs) ≡ true) e (run_can_from r n u (before ++ x ∷ []) xs))
 
-pub run_can : {V : Type 0} (r : Rules V) (n : ℕ) (steps : List Step) (u : ℕ) → can_all r (first_due r) (acts_through u (opening n) steps) ≡ true
+pub run_can : {V : Type 0} (r : Rules V) (n : ℕ) (steps : List ProtocolStep) (u : ℕ) → can_all r (first_due r) (acts_through u (opening n) steps) ≡ true
 run_can r n steps u = run_can_from r n u [] steps
 
 both : (a b : Bool) → (a && b) ≡ true → (a ≡ true) × (b ≡ true)
@@ -65,11 +65,11 @@ drops_more (Discard ∷ a) b = drops_more a b
 drops_more (Restore ∷ a) b = drops_more a b
 drops_more (Drop ∷ a) b = let i = drops_more a b in omega (arith, i)
 
-drops_through : (p : ℕ) (s : State) (xs : List Step) → drops (acts_through p s xs) ≤ failures p xs
+drops_through : (p : ℕ) (s : State) (xs : List ProtocolStep) → drops (acts_through p s xs) ≤ failures p xs
 drops_through p s [] = omega arith
 drops_through p s (x ∷ xs) = let i = drops_through p (late_step s x) xs in let m = drops_more (acts_by p s x) (acts_through p (late_step s x) xs) in let f = few_drops p s x xs (drops (acts_through p (late_step s x) xs)) i in omega (arith, m, f)
 
-pub spares_enough : {V : Type 0} (r : Rules V) (n : ℕ) (steps : List Step) (p : ℕ) → spares r (first_due r) (acts_through p (opening n) steps) ≤ failures p steps
+pub spares_enough : {V : Type 0} (r : Rules V) (n : ℕ) (steps : List ProtocolStep) (p : ℕ) → spares r (first_due r) (acts_through p (opening n) steps) ≤ failures p steps
 spares_enough r n steps p =
     let b = balance r (first_due r) (acts_through p (opening n) steps) (run_can r n steps p) in
     let d = drops_through p (opening n) steps in

@@ -7,7 +7,7 @@ use Rattle.kt_cuts.specs.Past.{Past, past}
 use Rattle.kt_cuts.specs.Legal.{IsLegal, has_deed}
 use Rattle.kt_protocol.specs.Parcels.{messages, Parcel}
 use Rattle.kt_protocol.specs.InTransit.{times, IsInTransit}
-use Rattle.kt_protocol.specs.States.{State, Step, opening}
+use Rattle.kt_protocol.specs.States.{State, ProtocolStep, opening}
 use Rattle.kt_protocol.specs.Steps.{run}
 use Rattle.kt_protocol.proofs.Walk.{invariant_after_run}
 use Rattle.kt_protocol.proofs.Lawful.{tie}
@@ -21,7 +21,7 @@ use Rattle.kt_closing.proofs.OwnSteps.{own_after_run}
 use Rattle.kt_values.specs.Done.{done}
 use Rattle.kt_values.specs.Acts.{stepper}
 use Rattle.kt_protocol.specs.InTransit.{received_of}
-use Rattle.kt_values.specs.States.{line_of, StandsOnce}
+use Rattle.kt_values.specs.States.{messages_between, StandsOnce}
 use Rattle.kt_values.proofs.DoneAlong.{done_past}
 use Rattle.kt_values.proofs.StepWalk.{walk}
 use Rattle.kt_values.proofs.RunActs.{run_more, same_state, invariant_late, legal_late}
@@ -31,7 +31,7 @@ use Rattle.kt_values.proofs.Lines.{times_line}
 use Rattle.kt_values.proofs.ListedMessages.{carried_of}
 use Rattle.kt_values.proofs.OnceInLines.{Once, Later, Here, Gone, onces}
 
-module _ (n : ℕ) (steps : List Step) where
+module _ (n : ℕ) (steps : List ProtocolStep) where
   flying : IsInTransit (past (late_run (opening n) steps).log) (late_run (opening n) steps).channel (once_closed (late_run (opening n) steps)).held
   flying = subst (λ (s : State). IsInTransit (past s.log) s.channel s.held) (sym (same_state n steps)) (in_transit (run (opening n) steps) (invariant_after_run n steps) (tie _ (run (opening n) steps) (invariant_after_run n steps) (lawful_after_run n steps)))
 
@@ -41,7 +41,7 @@ module _ (n : ℕ) (steps : List Step) where
   held_same : (p q : ℕ) → has_to_restore (late_run (opening n) steps).so_far q ≡ false → (once_closed (late_run (opening n) steps)).held p q ≡ (late_run (opening n) steps).held p q
   held_same p q r = ap (λ (b : Bool). held_once_closed b (is_within_label (late_run (opening n) steps) ((late_run (opening n) steps).so_far.open_in q) q p) ((late_run (opening n) steps).kept p q) ((late_run (opening n) steps).held p q)) r
 
-  direct : (m p q : ℕ) → has_to_restore (late_run (opening n) steps).so_far q ≡ false → has_deed (deed.Sent m q) ((past (late_run (opening n) steps).log).live p) ≡ true → (past (late_run (opening n) steps).log).dropped m ≡ false → times m (line_of (done (late_run (opening n) steps).log).own (late_run (opening n) steps).channel (late_run (opening n) steps).held p q) ≡ 1
+  direct : (m p q : ℕ) → has_to_restore (late_run (opening n) steps).so_far q ≡ false → has_deed (deed.Sent m q) ((past (late_run (opening n) steps).log).live p) ≡ true → (past (late_run (opening n) steps).log).dropped m ≡ false → times m (messages_between (done (late_run (opening n) steps).log).own (late_run (opening n) steps).channel (late_run (opening n) steps).held p q) ≡ 1
   direct m p q r l d =
       let g = invariant_late n steps in
       let a = got_once p m ((late_run (opening n) steps).so_far.live q) (λ i j e f. sym (g.histories.received_is q i m p e).2 ∙ (g.histories.received_is q j m p f).2) in
@@ -61,14 +61,14 @@ module _ (n : ℕ) (steps : List Step) where
   all_once : Later (late_run (opening n) steps).so_far (done (late_run (opening n) steps).log) (late_run (opening n) steps).channel (late_run (opening n) steps).held → Once (done (late_run (opening n) steps).log) (late_run (opening n) steps).channel (late_run (opening n) steps).held
   all_once l = record { each = λ m p q h f. go m p q (has_to_restore (late_run (opening n) steps).so_far q) refl h f }
     where
-      go : (m p q : ℕ) (b : Bool) → has_to_restore (late_run (opening n) steps).so_far q ≡ b → has_deed (deed.Sent m q) ((done (late_run (opening n) steps).log).past.live p) ≡ true → (done (late_run (opening n) steps).log).past.dropped m ≡ false → times m (line_of (done (late_run (opening n) steps).log).own (late_run (opening n) steps).channel (late_run (opening n) steps).held p q) ≡ 1
+      go : (m p q : ℕ) (b : Bool) → has_to_restore (late_run (opening n) steps).so_far q ≡ b → has_deed (deed.Sent m q) ((done (late_run (opening n) steps).log).past.live p) ≡ true → (done (late_run (opening n) steps).log).past.dropped m ≡ false → times m (messages_between (done (late_run (opening n) steps).log).own (late_run (opening n) steps).channel (late_run (opening n) steps).held p q) ≡ 1
       go m p q true r h f = l.each m p q r h f
       go m p q false r h f = direct m p q r (ap (λ (s : Past). has_deed (deed.Sent m q) (s.live p)) (sym (done_past (late_run (opening n) steps).log)) ∙ h) (ap (λ (s : Past). s.dropped m) (sym (done_past (late_run (opening n) steps).log)) ∙ f)
 
 record LaterAt (s : State) : Type 0 where
   later : Later s.so_far (done s.log) s.channel s.held
 
-later_from : (n : ℕ) (before xs : List Step) → LaterAt (late_run (opening n) before) → LaterAt (late_run (late_run (opening n) before) xs)
+later_from : (n : ℕ) (before xs : List ProtocolStep) → LaterAt (late_run (opening n) before) → LaterAt (late_run (late_run (opening n) before) xs)
 later_from n before [] i = i
 later_from n before (x ∷ xs) i =
     let c = late_run (opening n) before in
@@ -78,7 +78,7 @@ later_from n before (x ∷ xs) i =
     let t : LaterAt (late_step c x) = record { later = y.once (subst (λ (s : State). IsLegal s.log) e (legal_late n (before ++ x ∷ []))) } in
     subst (λ (s : State). LaterAt (late_run s xs)) e (later_from n (before ++ x ∷ []) xs (subst LaterAt (sym e) t))
 
-pub stands_once : (n : ℕ) (steps : List Step) → StandsOnce (late_run (opening n) steps).log (late_run (opening n) steps).channel (late_run (opening n) steps).held
+pub stands_once : (n : ℕ) (steps : List ProtocolStep) → StandsOnce (late_run (opening n) steps).log (late_run (opening n) steps).channel (late_run (opening n) steps).held
 stands_once n steps m p q h f =
     let l = later_from n [] steps (record { later = record { each = λ m p q r h f. absurd (cc (h)) } }) in
     (all_once n steps l.later).each m p q (ap (λ (s : Past). has_deed (deed.Sent m q) (s.live p)) (done_past (late_run (opening n) steps).log) ∙ h) (ap (λ (s : Past). s.dropped m) (done_past (late_run (opening n) steps).log) ∙ f)

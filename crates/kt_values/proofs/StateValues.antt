@@ -10,7 +10,7 @@ use Rattle.kt_cuts.proofs.LegalLogs.{past_push}
 use Rattle.kt_cuts.specs.Legal.{IsLegal}
 use Rattle.kt_protocol.specs.Summary.{Summary}
 use Rattle.kt_protocol.specs.SummaryMeaning.{AgreesWith}
-use Rattle.kt_protocol.specs.States.{State, Step, opening}
+use Rattle.kt_protocol.specs.States.{State, ProtocolStep, opening}
 use Rattle.kt_protocol.proofs.Invariant.{Invariant}
 use Rattle.kt_protocol.proofs.LawfulSteps.{lawful_after_run}
 use Rattle.kt_closing.specs.LateSteps.{late_run}
@@ -27,7 +27,7 @@ use Rattle.kt_values.proofs.OwnPositions.{places_of}
 use Rattle.kt_values.proofs.RunActs.{same_state, invariant_late, legal_late}
 use Rattle.kt_values.proofs.RowActs.{due_same}
 
-module _ (n : ℕ) (steps : List Step) where
+module _ (n : ℕ) (steps : List ProtocolStep) where
   pub positions_late : (p : ℕ) → (late_run (opening n) steps).own_permanent p ≡ (done (late_run (opening n) steps).log).permanent p
   positions_late p = ((places_of n steps (invariant_late n)).fits (legal_late n steps)).own p
 

@@ -11,7 +11,7 @@ use Rattle.kt_spacetime.specs.declared.event.Event.TheVariants.{Unwilling}
 use Rattle.kt_cuts.specs.Past.{at_one, at_pair}
 use Rattle.kt_protocol.specs.Summary.{summary_after}
 use Rattle.kt_protocol.specs.Parcels.{Parcel, App, Ask, Reply, Decide, with_parcel, with_rest}
-use Rattle.kt_protocol.specs.States.{State, Step, Send, Begin, Fail, Take, is_ready}
+use Rattle.kt_protocol.specs.States.{State, ProtocolStep, Send, Begin, Fail, Take, is_ready}
 use Rattle.kt_protocol.specs.Messages.{after_sending, after_receiving, after_dropping, after_holding, after_failing, after_refusal}
 use Rattle.kt_protocol.specs.Joining.{after_began, after_joining_checkpoint, after_joining_rollback, must_take, must_roll}
 use Rattle.kt_protocol.specs.Replies.{after_noting, after_replying, after_unwilling, after_answering, unable_cause}
@@ -58,7 +58,7 @@ is_message (Reply k w) = false
 is_message (Decide k c) = false
 
 -- what each part of step x, which is p's, keeps; a part after which no other comes leads to E
-pub record Moves (x : Step) (p : ℕ) (I E : State → List Act → Type 0) : Type 0 where
+pub record Moves (x : ProtocolStep) (p : ℕ) (I E : State → List Act → Type 0) : Type 0 where
   pub ends : (s : State) (a : List Act) → I s a → E s a
   pub sends : (s : State) (q : ℕ) (body : ℤ) (a : List Act) → x ≡ Send p q body → s.so_far.open_in p ≡ 0 → s.up p ≡ true → I s a → E (after_sending s p q body) a
   pub declines : (s : State) (v : Verb) (cause : Cause) (a : List Act) → I s a → E (after_refusal s p v cause) a
@@ -110,7 +110,7 @@ both_right : (a b : Bool) → (a && b) ≡ true → b ≡ true
 both_right true b e = e
 both_right false b e = absurd (cc (e))
 
-module _ (x : Step) (p : ℕ) (I E : State → List Act → Type 0) (m : Moves x p I E) where
+module _ (x : ProtocolStep) (p : ℕ) (I E : State → List Act → Type 0) (m : Moves x p I E) where
   last : (s : State) (a : List Act) → I s a → E s (a ++ [])
   last s a i = subst (E s) (sym (append-nil a)) (m.ends s a i)
 
@@ -187,7 +187,7 @@ send_ok : (p q n o : ℕ) → ((nat_lt p n && nat_lt q n) && (o == 0 && not (q =
 send_ok p q n o e = grind (arith, nat_tests, e)
 
 -- every step
-pub walk : (x : Step) (I E : State → List Act → Type 0) → Moves x (stepper x) I E → (s : State) → Invariant (once_closed s) → I s [] → E (late_step s x) (acts s x)
+pub walk : (x : ProtocolStep) (I E : State → List Act → Type 0) → Moves x (stepper x) I E → (s : State) → Invariant (once_closed s) → I s [] → E (late_step s x) (acts s x)
 walk (Send p q body) I E m s g i = at_one_side E ((nat_lt p s.processes && nat_lt q s.processes) && (s.so_far.open_in p == 0 && not (q == p))) _ _ _
     (λ b. at_one_side E (s.up p) _ _ _
     (λ u. it E (after_sending s p q body) [] (m.sends s q body [] refl (send_ok p q s.processes (s.so_far.open_in p) b) u i))

@@ -1,7 +1,7 @@
 -- Acts done on real things lead to what is due.
 use Rattle.std.proofs.Common.{◌≡◌, ℕ, ℤ, true, Option, Some, None, List, [], ◌∷◌, refl, sym, ap, subst, ◌∙◌}
 use Rattle.std.specs.Prelude.{option_map, unwrap_or}
-use Rattle.kt_protocol.specs.States.{Step, opening}
+use Rattle.kt_protocol.specs.States.{ProtocolStep, opening}
 use Rattle.kt_closing.specs.LateSteps.{late_run}
 use Rattle.kt_values.specs.Done.{done}
 use Rattle.kt_values.specs.Values.{Rules, Due, Act, Apply, Keep, Promote, Discard, Restore, Drop, due, first_due, does, does_all}
@@ -61,5 +61,5 @@ module _ {V B : Type 0} (r : Rules V) (s : Saving V B) (i : IsSaving r s) where
   pub things_after : (acts : List Act) (y : Things V B) → LeadsAlong r s acts (first_things r s) y → y ≡ things_for s (does_all r (first_due r) acts)
   things_after acts y l = along acts (first_due r) y (record { object = some_valid r.opening i.opening; permanent = i.opening; tentative = none_valid }) l
 
-  pub things_of_run : (n : ℕ) (steps : List Step) (p : ℕ) (y : Things V B) → LeadsAlong r s (acts_through p (opening n) steps) (first_things r s) y → y ≡ things_for s (due r (done (late_run (opening n) steps).log) p)
+  pub things_of_run : (n : ℕ) (steps : List ProtocolStep) (p : ℕ) (y : Things V B) → LeadsAlong r s (acts_through p (opening n) steps) (first_things r s) y → y ≡ things_for s (due r (done (late_run (opening n) steps).log) p)
   things_of_run n steps p y l = things_after (acts_through p (opening n) steps) y l ∙ ap (things_for s) (whole_run r n steps p)

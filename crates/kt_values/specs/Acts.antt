@@ -1,7 +1,7 @@
 -- The acts of the process that steps, by the state before the step, where a commit takes effect late.
 use Rattle.std.specs.Prelude.{ℕ, ◌+◌, ◌==◌, ◌&&◌, not, if◌then◌else◌, Bool, true, false, List, [], ◌∷◌, ◌++◌}
 use Rattle.kt_protocol.specs.Parcels.{Parcel, App, Ask, Reply, Decide, with_rest}
-use Rattle.kt_protocol.specs.States.{Step, Send, Begin, Fail, Take, State, is_ready}
+use Rattle.kt_protocol.specs.States.{ProtocolStep, Send, Begin, Fail, Take, State, is_ready}
 use Rattle.kt_protocol.specs.Joining.{after_began, after_joining_checkpoint, after_joining_rollback, must_take, must_roll}
 use Rattle.kt_protocol.specs.Replies.{after_noting, after_reply}
 use Rattle.kt_protocol.specs.Deciding.{none_of}
@@ -55,30 +55,30 @@ acts_starting s p true able = acts_beginning s p true
 acts_starting s p false able = if able && s.up p then acts_beginning s p false else []
 
 -- the acts of the process that steps, in order
-abbrev pub acts : State → Step → List Act
+abbrev pub acts : State → ProtocolStep → List Act
 acts s (Send p q body) = []
 acts s (Begin p roll able) = if s.so_far.open_in p == 0 then acts_starting s p roll able else []
 acts s (Fail p) = if s.up p then Drop ∷ [] else []
 acts s (Take p q able) = if is_ready s p then acts_taking s p q able (s.channel q p) else acts_taking_held s p q able (s.held q p)
 
 -- the process that steps
-abbrev pub stepper : Step → ℕ
+abbrev pub stepper : ProtocolStep → ℕ
 stepper (Send p q body) = p
 stepper (Begin p roll able) = p
 stepper (Fail p) = p
 stepper (Take p q able) = p
 
 -- the acts of a process at a step: none where another one steps
-abbrev pub acts_by : ℕ → State → Step → List Act
+abbrev pub acts_by : ℕ → State → ProtocolStep → List Act
 acts_by p s x = if p == stepper x then acts s x else []
 
 -- the acts of a process at some steps, in order
-abbrev pub acts_through : ℕ → State → List Step → List Act
+abbrev pub acts_through : ℕ → State → List ProtocolStep → List Act
 acts_through p s [] = []
 acts_through p s (x ∷ xs) = acts_by p s x ++ acts_through p (late_step s x) xs
 
 -- how often a process is asked to fail
-abbrev pub failures : ℕ → List Step → ℕ
+abbrev pub failures : ℕ → List ProtocolStep → ℕ
 failures p [] = 0
 failures p (Fail q ∷ xs) = (if p == q then 1 else 0) + failures p xs
 failures p (Send q to body ∷ xs) = failures p xs

@@ -2,7 +2,7 @@
 use Rattle.std.specs.Prelude.{◌≡◌, ℕ, ℤ, Bool, true, Option, Some, option_map, List, [], ◌∷◌, length, take, slice_get}
 use Rattle.kt_spacetime.specs.declared.event.Event.{Event}
 use Rattle.kt_spacetime.specs.declared.event.Event.TheVariants.{Sent}
-use Rattle.kt_protocol.specs.States.{Step, Send, Begin, Fail, Take, State}
+use Rattle.kt_protocol.specs.States.{ProtocolStep, Send, Begin, Fail, Take, State}
 use Rattle.kt_closing.specs.LateSteps.{late_step}
 use Rattle.kt_values.specs.Done.{done}
 use Rattle.kt_values.specs.Values.{Rules, object_value}
@@ -12,7 +12,7 @@ abbrev pub offer : {V : Type 0} → Rules V → List Event → ℕ → Option �
 offer r log p = option_map r.offered (object_value r (done log) p)
 
 -- each send of these steps that is to be at a marked place of the log has the body that its sender's object offers there
-abbrev pub SendsOffers : {V : Type 0} → Rules V → (ℕ → Bool) → State → List Step → Type 0
+abbrev pub SendsOffers : {V : Type 0} → Rules V → (ℕ → Bool) → State → List ProtocolStep → Type 0
 SendsOffers r marked s [] = Unit {0}
 SendsOffers r marked s (Send p q body ∷ xs) = (marked (length s.log) ≡ true → s.up p ≡ true → offer r s.log p ≡ Some body) × SendsOffers r marked (late_step s (Send p q body)) xs
 SendsOffers r marked s (Begin p roll able ∷ xs) = SendsOffers r marked (late_step s (Begin p roll able)) xs

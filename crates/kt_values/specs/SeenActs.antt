@@ -4,7 +4,7 @@ use Rattle.kt_fifo.specs.declared.parcels.Parcel.{Parcel}
 use Rattle.kt_fifo.specs.declared.parcels.Parcel.TheVariants.{App, Ask, Reply, Decide}
 use Rattle.kt_cuts.specs.Past.{is_rollback_kind}
 use Rattle.kt_tables.specs.Peers.{count_peers}
-use Rattle.kt_protocol.specs.States.{Step, Send, Begin, Fail, Take}
+use Rattle.kt_protocol.specs.States.{ProtocolStep, Send, Begin, Fail, Take}
 use Rattle.kt_seen.specs.Seen.{SeenPart, Seen}
 use Rattle.kt_seen.specs.CallTests.{must_take, is_asked_in_checkpoint, is_asked_in_rollback}
 use Rattle.kt_seen.specs.SeenReplies.{part_after_reply}
@@ -69,7 +69,7 @@ seen_acts_starting v p true able = seen_acts_beginning v p true
 seen_acts_starting v p false able = if able && (v.states p).up then seen_acts_beginning v p false else []
 
 -- the acts of the process that steps, in order
-abbrev pub seen_acts : Seen → Step → List Act
+abbrev pub seen_acts : Seen → ProtocolStep → List Act
 seen_acts v (Send p q body) = []
 seen_acts v (Begin p roll able) = if (v.states p).inst == 0 then seen_acts_starting v p roll able else []
 seen_acts v (Fail p) = if (v.states p).up then Drop ∷ [] else []

@@ -39,12 +39,12 @@ permanent_in d p None = d.permanent p
 permanent_in d p (Some k) = if is_committed d.past k then unwrap_or (d.past.new k p) (d.permanent p) else d.permanent p
 
 -- the messages of p to q that q has received itself, that it holds, and that are in the channel
-abbrev pub line_of : (ℕ → List Deed) → Lists → Lists → ℕ → ℕ → List ℕ
-line_of own channel held p q = received_of p (own q) ++ (messages (held p q) ++ messages (channel p q))
+abbrev pub messages_between : (ℕ → List Deed) → Lists → Lists → ℕ → ℕ → List ℕ
+messages_between own channel held p q = received_of p (own q) ++ (messages (held p q) ++ messages (channel p q))
 
 -- each live message that isn't dropped stands there once
 abbrev pub StandsOnce : List Event → Lists → Lists → Type 0
-StandsOnce log channel held = (m p q : ℕ) → has_deed (deed.Sent m q) ((past log).live p) ≡ true → (past log).dropped m ≡ false → times m (line_of (done log).own channel held p q) ≡ 1
+StandsOnce log channel held = (m p q : ℕ) → has_deed (deed.Sent m q) ((past log).live p) ≡ true → (past log).dropped m ≡ false → times m (messages_between (done log).own channel held p q) ≡ 1
 
 -- what is kept of a sender is what its receiver has received of it past its own permanent position, in order
 abbrev pub KeepsReceived : List Event → Lists → Type 0

@@ -1,6 +1,6 @@
 -- Runs that were worked out by hand.
 use Rattle.std.specs.Prelude.{ℤ, pos, true, false, List, [], ◌∷◌, ◌++◌, length}
-use Rattle.kt_protocol.specs.States.{Step, Send, Begin, Fail, Take}
+use Rattle.kt_protocol.specs.States.{ProtocolStep, Send, Begin, Fail, Take}
 use Rattle.kt_values.specs.Values.{Rules}
 
 -- an object that keeps all bodies, and offers how many it has
@@ -8,7 +8,7 @@ abbrev pub all_bodies : Rules (List ℤ)
 all_bodies = record { opening = []; after = λ v from body. v ++ body ∷ []; offered = λ v. pos (length v) }
 
 -- 1 begins a checkpoint and 0 joins it; 1 has closed it, and 0 has not and received a message of 2 since
-abbrev pub receives_before_closing : List Step
+abbrev pub receives_before_closing : List ProtocolStep
 receives_before_closing =
     Send 1 0 (pos 5) ∷
     Take 0 1 true ∷
@@ -24,7 +24,7 @@ receives_before_closing =
     []
 
 -- 1 received messages of 0 and 2 and fails; 0 begins a rollback and 1 joins it
-abbrev pub fails_and_is_restored : List Step
+abbrev pub fails_and_is_restored : List ProtocolStep
 fails_and_is_restored =
     Send 0 1 (pos 5) ∷
     Take 1 0 true ∷
@@ -38,7 +38,7 @@ fails_and_is_restored =
     []
 
 -- 1 begins a checkpoint, and the object of 0 cannot be saved
-abbrev pub is_not_saved : List Step
+abbrev pub is_not_saved : List ProtocolStep
 is_not_saved =
     Send 0 1 (pos 7) ∷
     Take 1 0 true ∷
@@ -48,7 +48,7 @@ is_not_saved =
     []
 
 -- each sends what its object offers: how many bodies it has
-abbrev pub sends_offers : List Step
+abbrev pub sends_offers : List ProtocolStep
 sends_offers =
     Send 0 1 (pos 0) ∷
     Take 1 0 true ∷

@@ -7,7 +7,7 @@ ghost use Rattle.kt_spacetime.specs.declared.event.Event.TheVariants.{Sent, Deci
 ghost use Rattle.kt_cuts.specs.Past.{past, is_rollback, is_committed};
 ghost use Rattle.kt_cuts.specs.Legal.{IsLegal};
 ghost use Rattle.kt_protocol.specs.Parcels.{messages, App, messages_where};
-ghost use Rattle.kt_protocol.specs.States.{Step, opening, Begin, Take};
+ghost use Rattle.kt_protocol.specs.States.{ProtocolStep, opening, Begin, Take};
 ghost use Rattle.kt_closing.specs.LateClosing.{is_newer};
 ghost use Rattle.kt_closing.specs.LateSteps.{late_step, late_run};
 ghost use Rattle.kt_closing.specs.KeptInOrder.{is_in_checkpoint};
@@ -17,7 +17,7 @@ ghost use Rattle.kt_values.specs.Done.{done};
 ghost use Rattle.kt_values.specs.Values.{Rules, due, first_due, does_all, can_all, spares, acts_along, closing, Apply, Keep, Promote, Discard, Restore, Drop};
 ghost use Rattle.kt_values.specs.Acts.{acts, acts_by, acts_through, stepper, failures};
 ghost use Rattle.kt_values.specs.SeenActs.{seen_acts};
-ghost use Rattle.kt_values.specs.States.{due_in, IsSent, live_in, permanent_in, line_of, StandsOnce, KeepsReceived, IsRising};
+ghost use Rattle.kt_values.specs.States.{due_in, IsSent, live_in, permanent_in, messages_between, StandsOnce, KeepsReceived, IsRising};
 ghost use Rattle.kt_values.specs.Marks.{marks};
 ghost use Rattle.kt_values.specs.Offers.{SendsOffers, HasOffers};
 ghost use Rattle.kt_values.specs.Things.{Things, Saving, IsSaving, first_things, LeadsAlong, things_for};
@@ -32,42 +32,42 @@ pub fn values_of_runs<V>()
 
     // The acts of a step, done in order, lead from what is due to its process before to what is due to it after; to the
     // others the same is due as before.
-    ensures steps { (r : Rules V) (n : ℕ) (steps : List Step) (x : Step) (p : ℕ) →
+    ensures steps { (r : Rules V) (n : ℕ) (steps : List ProtocolStep) (x : ProtocolStep) (p : ℕ) →
         does_all r (due r (done (late_run (opening n) steps).log) p) (acts_by p (late_run (opening n) steps) x)
         ≡ due r (done (late_step (late_run (opening n) steps) x).log) p }
 
     // So doing the acts of a whole run leads to what is due at its end.
-    ensures runs { (r : Rules V) (n : ℕ) (steps : List Step) (p : ℕ) →
+    ensures runs { (r : Rules V) (n : ℕ) (steps : List ProtocolStep) (p : ℕ) →
         does_all r (first_due r) (acts_through p (opening n) steps) ≡ due r (done (late_run (opening n) steps).log) p }
 
     // What is due by the log is due by the fields of the state.
-    ensures states { (r : Rules V) (n : ℕ) (steps : List Step) (p : ℕ) →
+    ensures states { (r : Rules V) (n : ℕ) (steps : List ProtocolStep) (p : ℕ) →
         due_in r (late_run (opening n) steps) p ≡ due r (done (late_run (opening n) steps).log) p }
 
     // An object is due to a process exactly where it is up, and a tentative state exactly while it is in a checkpoint.
-    ensures objects { (r : Rules V) (n : ℕ) (steps : List Step) (p : ℕ) →
+    ensures objects { (r : Rules V) (n : ℕ) (steps : List ProtocolStep) (p : ℕ) →
         is_some (due r (done (late_run (opening n) steps).log) p).object ≡ (late_run (opening n) steps).up p }
-    ensures tentatives { (r : Rules V) (n : ℕ) (steps : List Step) (p : ℕ) →
+    ensures tentatives { (r : Rules V) (n : ℕ) (steps : List ProtocolStep) (p : ℕ) →
         is_some (due r (done (late_run (opening n) steps).log) p).tentative ≡ is_in_checkpoint (late_run (opening n) steps).so_far p }
 
     // Each act of a run can be done when its turn comes, and restoring takes no more spares than the process is asked to fail.
-    ensures can { (r : Rules V) (n : ℕ) (steps : List Step) (p : ℕ) → can_all r (first_due r) (acts_through p (opening n) steps) ≡ true }
-    ensures can_step { (r : Rules V) (n : ℕ) (steps : List Step) (x : Step) (p : ℕ) →
+    ensures can { (r : Rules V) (n : ℕ) (steps : List ProtocolStep) (p : ℕ) → can_all r (first_due r) (acts_through p (opening n) steps) ≡ true }
+    ensures can_step { (r : Rules V) (n : ℕ) (steps : List ProtocolStep) (x : ProtocolStep) (p : ℕ) →
         can_all r (due r (done (late_run (opening n) steps).log) p) (acts_by p (late_run (opening n) steps) x) ≡ true }
-    ensures spares { (r : Rules V) (n : ℕ) (steps : List Step) (p : ℕ) →
+    ensures spares { (r : Rules V) (n : ℕ) (steps : List ProtocolStep) (p : ℕ) →
         spares r (first_due r) (acts_through p (opening n) steps) ≤ failures p steps }
 
     // Where the steps send what objects offer at some places of the log, the sent rows there have it.
-    ensures offers { (r : Rules V) (marked : ℕ → Bool) (n : ℕ) (steps : List Step) → SendsOffers r marked (opening n) steps →
+    ensures offers { (r : Rules V) (marked : ℕ → Bool) (n : ℕ) (steps : List ProtocolStep) → SendsOffers r marked (opening n) steps →
         HasOffers r marked (late_run (opening n) steps).log }
 
     // A step that closes an aborted instance changes no object and no permanent state.
-    ensures aborts_objects { (r : Rules V) (n : ℕ) (steps : List Step) (x : Step) (i p k u : ℕ) →
+    ensures aborts_objects { (r : Rules V) (n : ℕ) (steps : List ProtocolStep) (x : ProtocolStep) (i p k u : ℕ) →
         slice_get (late_step (late_run (opening n) steps) x).log i ≡ Some (Closed p k) →
         length (late_run (opening n) steps).log ≤ i →
         is_committed (past (late_step (late_run (opening n) steps) x).log) k ≡ false →
         (due r (done (late_step (late_run (opening n) steps) x).log) u).object ≡ (due r (done (late_run (opening n) steps).log) u).object }
-    ensures aborts_saved { (r : Rules V) (n : ℕ) (steps : List Step) (x : Step) (i p k u : ℕ) →
+    ensures aborts_saved { (r : Rules V) (n : ℕ) (steps : List ProtocolStep) (x : ProtocolStep) (i p k u : ℕ) →
         slice_get (late_step (late_run (opening n) steps) x).log i ≡ Some (Closed p k) →
         length (late_run (opening n) steps).log ≤ i →
         is_committed (past (late_step (late_run (opening n) steps) x).log) k ≡ false →
@@ -77,7 +77,7 @@ pub fn values_of_runs<V>()
 /// After every list of steps: the acts of a step by what code keeps of the state, whichever label counters begin after, are
 /// its acts.
 pub fn acts_as_seen()
-    ensures { (n first : ℕ) (steps : List Step) (x : Step) →
+    ensures { (n first : ℕ) (steps : List ProtocolStep) (x : ProtocolStep) →
         acts (late_run (opening n) steps) x ≡ seen_acts (seen first (late_run (opening n) steps)) x }
 {}
 
@@ -97,40 +97,40 @@ pub fn acts_of_runs()
     ensures aborted_permanents { (log : List Event) (p k q : ℕ) → (past (log ++ Decided p k false ∷ [])).permanent q ≡ (past log).permanent q }
 
     // Own histories are those that kt_closing tells, and the state has the own permanent positions.
-    ensures own { (n : ℕ) (steps : List Step) (p : ℕ) → (own_histories (late_run (opening n) steps).log).own p ≡ (done (late_run (opening n) steps).log).own p }
-    ensures positions { (n : ℕ) (steps : List Step) (p : ℕ) → (late_run (opening n) steps).own_permanent p ≡ (done (late_run (opening n) steps).log).permanent p }
+    ensures own { (n : ℕ) (steps : List ProtocolStep) (p : ℕ) → (own_histories (late_run (opening n) steps).log).own p ≡ (done (late_run (opening n) steps).log).own p }
+    ensures positions { (n : ℕ) (steps : List ProtocolStep) (p : ℕ) → (late_run (opening n) steps).own_permanent p ≡ (done (late_run (opening n) steps).log).permanent p }
 
     // The rows that a step adds, four at most, are its process's, and their acts are the step's, two at most.
-    ensures one_process { (n : ℕ) (steps : List Step) (x : Step) (i : ℕ) (row : Event) → length (late_run (opening n) steps).log ≤ i →
+    ensures one_process { (n : ℕ) (steps : List ProtocolStep) (x : ProtocolStep) (i : ℕ) (row : Event) → length (late_run (opening n) steps).log ≤ i →
         slice_get (late_step (late_run (opening n) steps) x).log i ≡ Some row → process_of row ≡ stepper x }
-    ensures told { (n : ℕ) (steps : List Step) (x : Step) (rows : List Event) (p : ℕ) →
+    ensures told { (n : ℕ) (steps : List ProtocolStep) (x : ProtocolStep) (rows : List Event) (p : ℕ) →
         (late_step (late_run (opening n) steps) x).log ≡ (late_run (opening n) steps).log ++ rows →
         acts_along p (done (late_run (opening n) steps).log) rows ≡ acts_by p (late_run (opening n) steps) x }
-    ensures four { (n : ℕ) (steps : List Step) (x : Step) →
+    ensures four { (n : ℕ) (steps : List ProtocolStep) (x : ProtocolStep) →
         length (late_step (late_run (opening n) steps) x).log ≤ length (late_run (opening n) steps).log + 4 }
-    ensures two { (n : ℕ) (steps : List Step) (x : Step) → length (acts (late_run (opening n) steps) x) ≤ 2 }
+    ensures two { (n : ℕ) (steps : List ProtocolStep) (x : ProtocolStep) → length (acts (late_run (opening n) steps) x) ≤ 2 }
 
     // Each message in a channel, a held list or a kept list is a sent row of that sender to that receiver, with its body.
-    ensures sent { (n : ℕ) (steps : List Step) (q p i m : ℕ) → slice_get ((late_run (opening n) steps).channel q p) i ≡ Some (App m) → IsSent (late_run (opening n) steps).log m q p }
-    ensures held { (n : ℕ) (steps : List Step) (q p i m : ℕ) → slice_get ((late_run (opening n) steps).held q p) i ≡ Some (App m) → IsSent (late_run (opening n) steps).log m q p }
-    ensures kept { (n : ℕ) (steps : List Step) (q p i m : ℕ) → slice_get ((late_run (opening n) steps).kept q p) i ≡ Some (App m) → IsSent (late_run (opening n) steps).log m q p }
+    ensures sent { (n : ℕ) (steps : List ProtocolStep) (q p i m : ℕ) → slice_get ((late_run (opening n) steps).channel q p) i ≡ Some (App m) → IsSent (late_run (opening n) steps).log m q p }
+    ensures held { (n : ℕ) (steps : List ProtocolStep) (q p i m : ℕ) → slice_get ((late_run (opening n) steps).held q p) i ≡ Some (App m) → IsSent (late_run (opening n) steps).log m q p }
+    ensures kept { (n : ℕ) (steps : List ProtocolStep) (q p i m : ℕ) → slice_get ((late_run (opening n) steps).kept q p) i ≡ Some (App m) → IsSent (late_run (opening n) steps).log m q p }
 
     // Each live message that isn't dropped stands once: in what its receiver has received itself, in what it holds, or in
     // the channel.
-    ensures stands_once { (n : ℕ) (steps : List Step) → StandsOnce (late_run (opening n) steps).log (late_run (opening n) steps).channel (late_run (opening n) steps).held }
+    ensures stands_once { (n : ℕ) (steps : List ProtocolStep) → StandsOnce (late_run (opening n) steps).log (late_run (opening n) steps).channel (late_run (opening n) steps).held }
 
     // These lists rise, in that order. What is kept is what was received past the own permanent position.
-    ensures rising { (n : ℕ) (steps : List Step) (p q : ℕ) →
-        IsRising (line_of (done (late_run (opening n) steps).log).own (late_run (opening n) steps).channel (late_run (opening n) steps).held p q) }
-    ensures kept_lists { (n : ℕ) (steps : List Step) → KeepsReceived (late_run (opening n) steps).log (late_run (opening n) steps).kept }
+    ensures rising { (n : ℕ) (steps : List ProtocolStep) (p q : ℕ) →
+        IsRising (messages_between (done (late_run (opening n) steps).log).own (late_run (opening n) steps).channel (late_run (opening n) steps).held p q) }
+    ensures kept_lists { (n : ℕ) (steps : List ProtocolStep) → KeepsReceived (late_run (opening n) steps).log (late_run (opening n) steps).kept }
 
     // While a process is in a checkpoint, what a commit would leave of a kept list is what stands past the mark.
-    ensures marks { (n : ℕ) (steps : List Step) (p q : ℕ) → is_in_checkpoint (late_run (opening n) steps).so_far p ≡ true →
+    ensures marks { (n : ℕ) (steps : List ProtocolStep) (p q : ℕ) → is_in_checkpoint (late_run (opening n) steps).so_far p ≡ true →
         messages (messages_where (is_newer (late_run (opening n) steps) p) ((late_run (opening n) steps).kept q p)) ≡ drop ((marks (late_run (opening n) steps).log).mark p q) (messages ((late_run (opening n) steps).kept q p)) }
 
     // A step that closes an aborted instance has no other act than discarding the tentative state in a checkpoint, and none
     // in a rollback.
-    ensures aborts { (n : ℕ) (steps : List Step) (x : Step) (i p k : ℕ) →
+    ensures aborts { (n : ℕ) (steps : List ProtocolStep) (x : ProtocolStep) (i p k : ℕ) →
         slice_get (late_step (late_run (opening n) steps) x).log i ≡ Some (Closed p k) →
         length (late_run (opening n) steps).log ≤ i →
         is_committed (past (late_step (late_run (opening n) steps) x).log) k ≡ false →
@@ -140,7 +140,7 @@ pub fn acts_of_runs()
 /// Objects and saved states to which each act of a run has been done in order are those that are due, however values are
 /// saved.
 pub fn things_of_runs<V, B>()
-    ensures things { (r : Rules V) (s : Saving V B) (n : ℕ) (steps : List Step) (p : ℕ) (y : Things V B) → IsSaving r s →
+    ensures things { (r : Rules V) (s : Saving V B) (n : ℕ) (steps : List ProtocolStep) (p : ℕ) (y : Things V B) → IsSaving r s →
         LeadsAlong r s (acts_through p (opening n) steps) (first_things r s) y →
         y ≡ things_for s (due r (done (late_run (opening n) steps).log) p) }
 {}

@@ -9,14 +9,14 @@ use Rattle.kt_protocol.proofs.LawfulSteps.{lawful_after_run}
 use Rattle.kt_protocol.proofs.LogMeaning.{aborts, aborts_change_nothing, all_consistent, all_least, all_linked, permanent_consistent, present_consistent}
 use Rattle.kt_protocol.proofs.Walk.{invariant_after_run}
 use Rattle.kt_protocol.specs.Logs.{HasLinkedDecisions, HasLeastDecisions, AbortsWhereUnwilling, AbortsChangeNothing, JustifiesUnwilling}
-use Rattle.kt_protocol.specs.States.{Step, opening}
+use Rattle.kt_protocol.specs.States.{ProtocolStep, opening}
 use Rattle.kt_protocol.specs.Steps.{run}
 use Rattle.kt_closing.specs.LateSteps.{late_run}
 use Rattle.kt_closing.proofs.WholeSteps.{same_log}
 use Rattle.kt_closing.proofs.laws.logs_of_late_runs.Goals as goal
 
 -- what holds of the protocol machine's log holds of the late one's
-carry : (P : List Event → Type 0) (n : ℕ) (steps : List Step) → P (run (opening n) steps).log → P (late_run (opening n) steps).log
+carry : (P : List Event → Type 0) (n : ℕ) (steps : List ProtocolStep) → P (run (opening n) steps).log → P (late_run (opening n) steps).log
 carry P n steps x = subst P (sym (same_log n steps)) x
 
 pub returns-clause-legal : goal.returns-clause-legal
