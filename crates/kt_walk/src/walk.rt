@@ -284,6 +284,27 @@ impl Walk {
         self.control.instance(inst)?.position(p)
     }
 
+    /// Whether a process is up.
+    pub fn is_up(&self, p: ProcNo) -> bool
+        ensures { (rows : List Event) → WalkOf self.now rows → result ≡ (past rows).up p }
+    {
+        self.control.process_state(p).up
+    }
+
+    /// The open instance that a process is in; None where it is in none.
+    pub fn open_in(&self, p: ProcNo) -> Option<InstNo>
+        ensures { (rows : List Event) → WalkOf self.now rows → result ≡ (past rows).open_in p }
+    {
+        self.control.process_state(p).open_in
+    }
+
+    /// Whether an instance was committed; None where it is not decided.
+    pub fn decision(&self, inst: InstNo) -> Option<bool>
+        ensures { (rows : List Event) → WalkOf self.now rows → result ≡ (past rows).decision inst }
+    {
+        self.control.instance(inst)?.decision
+    }
+
     /// A message and its places, counted from 1; None where it is not kept. It looks through all pairs of processes.
     pub fn trace(&self, msg: MsgNo) -> Option<Trace>
         ensures { (rows : List Event) → WalkOf self.now rows → result ≡ kept_trace rows msg }
