@@ -1,7 +1,7 @@
 -- The list of the steps that can be made.
-use Rattle.std.specs.Prelude.{◌&&◌, filter, cond, Contains, nat_lt, ◌↔◌}
+use Rattle.std.specs.Prelude.{◌&&◌, ◌||◌, filter, cond, Contains, nat_lt, ◌↔◌, Option, Some, None, is_some}
 use Rattle.std.proofs.Common.{◌≡◌, ◌≢◌, ◌<◌, ◌≤◌, ◌+◌, ℕ, zero, suc, Bool, true, false, List, [], ◌∷◌, ◌++◌, length, refl, sym, ap, subst, arith, add-one, append_assoc, append-nil, ◌∙◌, inl, inr}
-use Rattle.std.proofs.lemmas.Bool.{cases_lt, and_parts, and_from}
+use Rattle.std.proofs.lemmas.Bool.{cases_lt, cases_eq, and_parts, and_from, or_left, or_right, false_from_ne_true}
 use Rattle.std.proofs.lemmas.Bool.Decides.{nat_tests}
 use Rattle.std.proofs.lemmas.List.Elements.{filter-append, filter_agree, filter_passes, All-contains, Contains-append_left, Contains-append_right, Contains-push}
 use Rattle.kt_base.specs.Sets.{has}
@@ -12,7 +12,9 @@ use Rattle.kt_plans.specs.Steps.{enabled}
 use Rattle.kt_system.specs.Reads.{can_take}
 use Rattle.kt_core.specs.Choices.{takes_of, steps_of, steps_of_first, all_steps, choices, enabled_steps}
 use Rattle.kt_core.specs.Shown.{Mirrors}
-use Rattle.kt_core.specs.Worlds.{World, can_do, can_make}
+use Rattle.kt_system.specs.Systems.{state_of}
+use Rattle.kt_core.specs.Agendas.{open_command}
+use Rattle.kt_core.specs.Worlds.{World, process_may_do, can_do, can_make}
 use Rattle.kt_core.proofs.Enabled.{below, enabled_is}
 
 left_out : (f : Step → Bool) (x : Step) → f x ≡ false → filter f (x ∷ []) ≡ []
@@ -38,6 +40,20 @@ takes_next f p b q l none is =
     filter-append f (takes_of p q) (Take p q ∷ [])
     ∙ (ap (λ (l : List Step). l ++ filter f (Take p q ∷ [])) (takes_skipped f p b q l none)
     ∙ ap (λ (l : List Step). filter f (takes_of p b) ++ l) (kept f (Take p q) is))
+
+-- the least member is taken out of a set, so that those up to it are gone, and the others are members as before
+module _ (set less q : ℕ) (least : (r : ℕ) → r < q → has set r ≡ false) (member : has set q ≡ true) (removed : has less q ≡ false) (others : (r : ℕ) → r ≢ q → has less r ≡ has set r) where
+  pub was_member : (r : ℕ) → has less r ≡ true → has set r ≡ true
+  was_member r m = elim (cases_eq r q) [
+    | inl e ↦ subst (λ (n : ℕ). has set n ≡ true) (sym e) member
+    | inr n ↦ sym (others r n) ∙ m
+  ]
+
+  pub gone_up_to : (r : ℕ) → r < suc q → has less r ≡ false
+  gone_up_to r m = elim (cases_lt r q) [
+    | inl k ↦ others r (let n : r ≢ q = omega (arith, k) in n) ∙ least r k
+    | inr k ↦ let same : q ≡ r = omega (arith, m, k) in subst (λ (n : ℕ). has less n ≡ false) same removed
+  ]
 
 -- the takes of p from the first b are listed, and these are the senders from b on
 pub record Taken (w : World) (p : ℕ) (old now : List Step) (senders b : ℕ) : Type 0 where
@@ -97,25 +113,10 @@ module _ (w : World) (p : ℕ) (low : p < w.system.size) (old now : List Step) (
               ∙ ap (λ (l : List Step). old ++ l) (sym (takes_next (can_make w) p b q from
               (λ r m k. no_take w p r (sym (t.later r m) ∙ least r k)) (takes w p q low there (sym (t.later q from) ∙ member))))));
           later = λ r m. others r (let n : r ≢ q = omega (arith, m) in n) ∙ t.later r (omega (arith, m, from));
-          earlier = λ r m. gone r m;
-          there = λ r m. t.there r (kept_member r m);
+          earlier = gone_up_to senders less q least member removed others;
+          there = λ r m. t.there r (was_member senders less q least member removed others r m);
         },
       )
-    where
-      kept_member : (r : ℕ) → has less r ≡ true → has senders r ≡ true
-      kept_member r m = elim (cases_lt r q) [
-        | inl k ↦ sym (others r (let n : r ≢ q = omega (arith, k) in n)) ∙ m
-        | inr k ↦ elim (cases_lt q r) [
-          | inl j ↦ sym (others r (let n : r ≢ q = omega (arith, j) in n)) ∙ m
-          | inr j ↦ let same : q ≡ r = omega (arith, k, j) in absurd (let f = subst (λ (n : ℕ). has less n ≡ false) same removed in cc (f, m))
-        ]
-      ]
-
-      gone : (r : ℕ) → r < suc q → has less r ≡ false
-      gone r m = elim (cases_lt r q) [
-        | inl k ↦ others r (let n : r ≢ q = omega (arith, k) in n) ∙ least r k
-        | inr k ↦ let same : q ≡ r = omega (arith, m, k) in subst (λ (n : ℕ). has less n ≡ false) same removed
-      ]
 
   -- no sender is left
   pub taken_all : ((q : ℕ) → has senders q ≡ false) → now ≡ old ++ filter (can_make w) (takes_of p w.system.size)
@@ -135,12 +136,82 @@ steps_left_out f n p old e =
     ap (λ (l : List Step). old ++ l)
     (sym (filter-append f (takes_of p n) (Do p ∷ []) ∙ (ap (λ (l : List Step). filter f (takes_of p n) ++ l) (left_out f (Do p) e) ∙ append-nil (filter f (takes_of p n)))))
 
--- one process more
-pub first_more : (f : Step → Bool) (n p i : ℕ) (old new : List Step) → old ≡ filter f (steps_of_first n i) → p ≡ i → new ≡ old ++ filter f (steps_of n p) → new ≡ filter f (steps_of_first n (i + 1))
-first_more f n p i old new was is more =
-    more ∙ (ap (λ (m : ℕ). old ++ filter f (steps_of n m)) is
-    ∙ (ap (λ (l : List Step). l ++ filter f (steps_of n i)) was
-    ∙ (sym (filter-append f (steps_of_first n i) (steps_of n i)) ∙ ap (λ (m : ℕ). filter f (steps_of_first n m)) (sym (add-one i)))))
+-- processes with no step that passes add nothing
+pub first_skipped : (f : Step → Bool) (n b c : ℕ) → b ≤ c → ((p : ℕ) → b ≤ p → p < c → filter f (steps_of n p) ≡ []) → filter f (steps_of_first n c) ≡ filter f (steps_of_first n b)
+first_skipped f n b zero l none = let e : zero ≡ b = omega (arith, l) in ap (λ (m : ℕ). filter f (steps_of_first n m)) e
+first_skipped f n b (suc c) l none = elim (cases_lt c b) [
+  | inl m ↦ let e : suc c ≡ b = omega (arith, l, m) in ap (λ (m : ℕ). filter f (steps_of_first n m)) e
+  | inr h ↦
+      filter-append f (steps_of_first n c) (steps_of n c)
+      ∙ (ap (λ (l : List Step). filter f (steps_of_first n c) ++ l) (none c h (omega arith))
+      ∙ (append-nil (filter f (steps_of_first n c)) ∙ first_skipped f n b c h (λ p a k. none p a (omega (arith, k)))))
+]
+
+-- a process that can take nothing and do nothing has no step
+pub no_step : (w : World) (p : ℕ) → p < w.system.size → ((q : ℕ) → can_take w.system p q ≡ false) → open_command w.agenda p ≡ None → filter (can_make w) (steps_of w.system.size p) ≡ []
+no_step w p l idle closed =
+    let f = can_make w in
+    let n = w.system.size in
+    let stays : can_do w p ≡ false = ap (process_may_do (state_of w.system p)) closed in
+    filter-append f (takes_of p n) (Do p ∷ [])
+    ∙ (ap (λ (l : List Step). l ++ filter f (Do p ∷ [])) (takes_skipped f p 0 n (omega arith) (λ q _ _. no_take w p q (idle q)))
+    ∙ left_out f (Do p) (does w p false l stays))
+
+-- the steps of the first b processes are listed, and no process but these and those left has one
+pub record Listed (w : World) (now : List Step) (left b : ℕ) : Type 0 where
+  pub within : b ≤ w.system.size
+  pub are : now ≡ filter (can_make w) (steps_of_first w.system.size b)
+  pub later : (p : ℕ) → b ≤ p → p < w.system.size → has left p ≡ false → filter (can_make w) (steps_of w.system.size p) ≡ []
+  pub earlier : (p : ℕ) → p < b → has left p ≡ false
+  pub there : (p : ℕ) → has left p ≡ true → p < w.system.size
+
+is_none_if : {X : Type 0} (o : Option X) → is_some o ≡ false → o ≡ None
+is_none_if None e = refl
+is_none_if (Some x) e = absurd (cc (e))
+
+-- none is listed, and all are left that have parcels or commands of the open phase
+pub listed_none : (w : World) (now : List Step) (waiting left : ℕ) → now ≡ [] → w.system.size ≡ length w.agenda.plan.names → ((p q : ℕ) → has waiting p ≡ false → can_take w.system p q ≡ false) → ((p : ℕ) → has waiting p ≡ true → p < w.system.size) →
+    ((p : ℕ) → p < length w.agenda.plan.names → has left p ≡ (has waiting p || is_some (open_command w.agenda p))) → ((p : ℕ) → length w.agenda.plan.names ≤ p → has left p ≡ has waiting p) → Listed w now left 0
+listed_none w now waiting left empty size idle low all past = record {
+  within = omega arith;
+  are = empty;
+  later = λ p _ l gone.
+      let is = all p (omega (arith, l, size)) in
+      no_step w p l (λ q. idle p q (false_from_ne_true _ (λ t. cc (gone, is, or_left (has waiting p) (is_some (open_command w.agenda p)) t))))
+      (is_none_if _ (false_from_ne_true _ (λ t. cc (gone, is, or_right (has waiting p) (is_some (open_command w.agenda p)) t))));
+  earlier = λ p l. absurd (omega (arith, l));
+  there = λ p member. elim (cases_lt p w.system.size) [
+    | inl l ↦ l
+    | inr h ↦ low p (sym (past p (omega (arith, h, size))) ∙ member)
+  ];
+}
+
+module _ (w : World) (now : List Step) (left b : ℕ) (t : Listed w now left b) where
+  -- the steps of the next process are listed
+  pub listed_more : (new : List Step) (less p : ℕ) → has left p ≡ true → ((r : ℕ) → r < p → has left r ≡ false) → has less p ≡ false → ((r : ℕ) → r ≢ p → has less r ≡ has left r) → new ≡ now ++ filter (can_make w) (steps_of w.system.size p)
+      → (b ≤ p) × Listed w new less (suc p)
+  listed_more new less p member least removed others e =
+      let f = can_make w in
+      let n = w.system.size in
+      let there = t.there p member in
+      let from : b ≤ p = elim (cases_lt p b) [ inl l ↦ absurd (let g = t.earlier p l in cc (g, member)) | inr h ↦ h ] in (
+        from,
+        record {
+          within = omega (arith, there);
+          are = e ∙ (ap (λ (l : List Step). l ++ filter f (steps_of n p)) (t.are ∙ sym (first_skipped f n b p from (λ r a k. t.later r a (omega (arith, k, there)) (least r k))))
+              ∙ sym (filter-append f (steps_of_first n p) (steps_of n p)));
+          later = λ r a k gone. t.later r (omega (arith, a, from)) k (sym (others r (let d : r ≢ p = omega (arith, a) in d)) ∙ gone);
+          earlier = gone_up_to left less p least member removed others;
+          there = λ r m. t.there r (was_member left less p least member removed others r m);
+        },
+      )
+
+  -- no process is left
+  pub listed_all : ((p : ℕ) → has left p ≡ false) → now ≡ choices w
+  listed_all none = t.are ∙ sym (first_skipped (can_make w) w.system.size b w.system.size t.within (λ p a k. t.later p a k (none p)))
+
+  pub listed_to_end : w.system.size ≤ b → now ≡ choices w
+  listed_to_end end = let within = t.within in let e : b ≡ w.system.size = omega (arith, end, within) in t.are ∙ ap (λ (m : ℕ). filter (can_make w) (steps_of_first w.system.size m)) e
 
 alone : (f : Step → Bool) (x : Step) → f x ≡ true → Contains (filter f (x ∷ [])) x
 alone f x e = subst (λ (l : List Step). Contains l x) (sym (kept f x e)) (Contains-push [] x)

@@ -38,7 +38,7 @@ and_both false b c false e f x y g = refl
 pub below : (p n : ℕ) → nat_lt p n ≡ true → p < n
 below p n e = grind (arith, nat_tests, e)
 
-phase_test : (c a v : ℕ) → a ≡ v → v ≤ c → (c == v) ≡ nat_le c a
+pub phase_test : (c a v : ℕ) → a ≡ v → v ≤ c → (c == v) ≡ nat_le c a
 phase_test c a v e h = go (nat_le c a) refl
   where
     go : (b : Bool) → nat_le c a ≡ b → (c == v) ≡ b

@@ -4,9 +4,11 @@ pub mod Leading
 pub mod RowsAdded
 pub mod Quiet
 pub mod Enabled
+pub mod Hindrances
 pub mod Places
 pub mod Nexts
 pub mod Firsts
+pub mod Opens
 pub mod Phases
 pub mod Reaching
 pub mod Tallied

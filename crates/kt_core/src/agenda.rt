@@ -1,10 +1,11 @@
 //! Which commands of a plan are done: each process does its own in order, and those of a later phase once that is open.
 
-ghost use Rattle.std.specs.Prelude.{◌≡◌, ◌≢◌, ◌<◌, ◌≤◌, ◌+◌, ◌-◌, ◌↔◌, ℕ, Some, None, IsTrue, IfOk, IfSome, IfNone, length};
+ghost use Rattle.std.specs.Prelude.{◌≡◌, ◌≢◌, ◌<◌, ◌≤◌, ◌+◌, ◌-◌, ◌||◌, ◌↔◌, ℕ, true, false, Some, None, IsTrue, IfOk, IfSome, IfNone, is_some, length};
+ghost use Rattle.kt_base.specs.Sets.{has};
 ghost use Rattle.kt_plan.specs.Limits.{IsPlan, IsCommandOf};
 ghost use Rattle.kt_core.specs.Agendas.{agenda_place, agenda_command, if_open, open_command, IsNextOf, IsDone, IsLeastPhase, ArePlaces, AreOwn, AreDoneBefore, IsFirstLeft};
 
-use kt_base::{Memory, ProcNo};
+use kt_base::{Memory, ProcNo, ProcSet};
 use kt_plan::{Command, Plan};
 use std::alloc::Global;
 use std::marker::Model;
@@ -103,6 +104,48 @@ impl Agenda {
                 }
             }
             None => None,
+        }
+    }
+
+    /// A set of processes, and those whose next commands are of the open phase.
+    pub(crate) fn with_open(&self, set: ProcSet) -> ProcSet
+        ensures members { (p : ℕ) → p < length self.now.plan.names →
+            has result p ≡ (has set p || is_some (open_command self.now p)) }
+        ensures others { (p : ℕ) → length self.now.plan.names ≤ p → has result p ≡ has set p }
+    {
+        let _count = self.processes();
+        if !self.has_open() {
+            return set;
+        }
+        let mut all = set;
+        for number in 0..self.processes() as u8 {
+            let p = ProcNo::nth(number);
+            all = self.with_if_open(all, p);
+        }
+        all
+    }
+
+    /// A set of processes, and this one, if its next command is of the open phase.
+    #[tactic(auto, using(crate::proofs::Opens::joins, crate::proofs::Opens::stays))]
+    fn with_if_open(&self, set: ProcSet, p: ProcNo) -> ProcSet
+        ensures here { has result p ≡ (has set p || is_some (open_command self.now p)) }
+        ensures others { (q : ℕ) → q ≢ p → has result q ≡ has set q }
+    {
+        if self.open_command(p).is_some() {
+            set.with(p)
+        } else {
+            set
+        }
+    }
+
+    /// Whether a command of the open phase is not done.
+    fn has_open(&self) -> bool
+        ensures some { result ≡ true → (p : ℕ) × ((p < 64) × (is_some (open_command self.now p) ≡ true)) }
+        ensures none { result ≡ false → (p : ℕ) → p < 64 → open_command self.now p ≡ None }
+    {
+        match self.least_phase() {
+            Some(phase) => phase <= self.phase,
+            None => false,
         }
     }
 

@@ -21,6 +21,7 @@ use std::marker::Model;
 
 mod choices;
 mod commands;
+mod hindrances;
 mod looks;
 mod steps;
 

@@ -25,6 +25,7 @@ pub mod NeededBodies
 pub mod OnlyDefault
 pub mod HeldMessages
 pub mod IdleLooks
+pub mod HindrancesOfSteps
 pub mod StillRows
 pub mod ArrivedMessages
 pub mod TakenValues

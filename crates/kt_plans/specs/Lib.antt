@@ -3,6 +3,7 @@ pub mod WorkedPlans
 pub mod Tallies
 pub mod Progress
 pub mod Steps
+pub mod Hindrances
 pub mod Looks
 pub mod Defaults
 pub mod Runs

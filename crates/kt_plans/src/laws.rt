@@ -38,7 +38,9 @@ ghost use Rattle.kt_plans.specs.Runs.{Move, after_moves, RunReaches, protocol_st
 ghost use Rattle.kt_plan.specs.declared.steps.Step.{Step};
 ghost use Rattle.kt_plan.specs.declared.steps.Step.TheVariants.{Do, Take};
 ghost use Rattle.kt_plan.specs.declared.steps.Give.{Give};
-ghost use Rattle.kt_plans.specs.Steps.{process_of_step, protocol_step, enabled, progress_after, is_at_rest};
+ghost use Rattle.kt_plans.specs.Steps.{process_of_step, protocol_step, enabled, can_take_from, progress_after, is_at_rest};
+ghost use Rattle.kt_plans.specs.Hindrances.{hindrance};
+ghost use Rattle.kt_plans.specs.declared.hindrances.Hindrance.TheVariants.{NoCommand, PhaseNotOpen, SendInInstance, NoParcel};
 ghost use Rattle.kt_plan.specs.declared.steps.Look.TheVariants.{Idle, NeedsBody, NeedsSave};
 ghost use Rattle.kt_plans.specs.Looks.{uses_able, uses_body, look};
 ghost use Rattle.kt_plans.specs.Work.{most_steps_of_run, count_begins, work_left};
@@ -430,6 +432,27 @@ pub fn steps_of_runs()
         IsUnwillingStep w x give t p k cause }
 {}
 
+/// What stands in the way of a step.
+pub fn hindrances_of_steps()
+    // Nothing does exactly where it is enabled, in every progress, reached or not.
+    ensures none { (plan : Planned) (w : Progress) (x : Step) →
+        (hindrance plan w x ≡ None) ↔ (enabled plan w x ≡ true) }
+
+    // In a run, that no command is left exactly where there is no next one; that a phase is not open only where it is a
+    // later one.
+    ensures no_command { (plan : Planned) (first : ℕ) (w : Progress) (p : ℕ) → IsPlan plan → RunReaches plan first w →
+        (hindrance plan w (Do p) ≡ Some NoCommand) ↔ (next_command plan w p ≡ None) }
+    ensures later { (plan : Planned) (first : ℕ) (w : Progress) (p : ℕ) → IsPlan plan → RunReaches plan first w →
+        hindrance plan w (Do p) ≡ Some PhaseNotOpen →
+        (c : Command) × (next_command plan w p ≡ Some c) × (w.phase < c.phase) }
+
+    // A send waits only in an instance; and of a process nothing is taken only where nothing can be.
+    ensures waits { (plan : Planned) (w : Progress) (p : ℕ) → hindrance plan w (Do p) ≡ Some SendInInstance →
+        (w.now.states p).inst ≢ 0 }
+    ensures no_parcel { (plan : Planned) (w : Progress) (p q : ℕ) → p < length plan.names → q < length plan.names →
+        hindrance plan w (Take p q) ≡ Some NoParcel → can_take_from w.now p q ≡ false }
+{}
+
 /// For every run of every plan and every kind of object: what is due to a process.
 pub fn values_of_runs<V>()
     // A step's acts, done in order, lead from what is due before it to what is due after it; they can be done, and to
@@ -614,6 +637,26 @@ pub fn worked_follows()
     ensures legal_open { IsLegal one_arrives × IsLegal undecided }
     ensures on_its_way { FollowsPlan two_messages one_arrives → ⊥ }
     ensures undecided { FollowsPlan one_checkpoint undecided → ⊥ }
+{}
+
+/// What stands in the way of steps of a plan that was worked out by hand.
+pub fn worked_hindrances()
+    // At first nothing stands in the way of the message that 0 sends; the checkpoint of 1 is of a later phase, 1 has
+    // nothing to take, and there is no process 2.
+    ensures first { at_end checkpoint_two_phases_later []
+        (λ w. hindrance checkpoint_two_phases_later w (Do 0)) ≡ Some None }
+    ensures later { at_end checkpoint_two_phases_later []
+        (λ w. hindrance checkpoint_two_phases_later w (Do 1)) ≡ Some (Some PhaseNotOpen) }
+    ensures nothing_sent { at_end checkpoint_two_phases_later []
+        (λ w. hindrance checkpoint_two_phases_later w (Take 1 0)) ≡ Some (Some NoParcel) }
+    ensures not_there { at_end checkpoint_two_phases_later []
+        (λ w. hindrance checkpoint_two_phases_later w (Do 2)) ≡ Some (Some NoCommand) }
+
+    // While 1 is in its checkpoint its message waits; at the end 0 has no command left.
+    ensures waits { at_end checkpoint_two_phases_later (moves_of (Do 0 ∷ Take 1 0 ∷ Do 1 ∷ []))
+        (λ w. hindrance checkpoint_two_phases_later w (Do 1)) ≡ Some (Some SendInInstance) }
+    ensures all_done { at_end checkpoint_two_phases_later (moves_of checkpoint_two_phases_later_steps)
+        (λ w. hindrance checkpoint_two_phases_later w (Do 0)) ≡ Some (Some NoCommand) }
 {}
 
 /// Plans that were worked out by hand come as far as they have to.

@@ -7,15 +7,18 @@
 #![tactic(auto)]
 
 mod certificates;
+mod hindrances;
 mod laws;
 
 pub use certificates::{
     certificates_of_promised_logs, certificates_of_protocol_runs, certificates_of_runs,
     certificates_of_well_decided_logs, worked_certificates,
 };
+pub use hindrances::Hindrance;
 pub use laws::{
-    acts_of_runs, logs_follow_plans, logs_of_runs, messages_of_runs, never_stuck, objects_of_runs,
-    phases_of_runs, places_of_commands, processes_of_runs, progress_after_steps, progress_of_runs,
-    protocol_of_runs, rows_of_runs, runs_end, runs_that_go_on, steps_of_runs, tallies_of_runs,
-    told_of_runs, values_of_runs, worked_follows, worked_plans, worked_progress,
+    acts_of_runs, hindrances_of_steps, logs_follow_plans, logs_of_runs, messages_of_runs,
+    never_stuck, objects_of_runs, phases_of_runs, places_of_commands, processes_of_runs,
+    progress_after_steps, progress_of_runs, protocol_of_runs, rows_of_runs, runs_end,
+    runs_that_go_on, steps_of_runs, tallies_of_runs, told_of_runs, values_of_runs, worked_follows,
+    worked_hindrances, worked_plans, worked_progress,
 };

@@ -9,7 +9,7 @@ use Rattle.kt_core.specs.Choices.{choices}
 use Rattle.kt_core.specs.Shown.{Mirrors}
 use Rattle.kt_core.specs.Worlds.{World, can_make}
 use Rattle.kt_core.proofs.Choices.{all_listed, listed_in_run}
-use Rattle.kt_run.specs.Orders.{Generator, draw, generator_next, step_in_order}
+use Rattle.kt_run.specs.Orders.{Generator, draw_below, generator_next, step_in_order}
 
 -- nothing stands in an empty list
 pub none_at : (l : List Step) (n : ℕ) → length l ≡ 0 → None ≡ slice_get l n
@@ -44,14 +44,14 @@ none_listed w None l e none = λ x. go x (can_make w x) refl
 
 -- what is drawn is what a run has that leads here
 pub step_drawn : {E : Type 0} (w : World) (first : ℕ) (v : Progress) → Mirrors w.agenda w.system first v → (g : Generator) (before : Option Generator) → before ≡ Some g → (r : Result (Option Step) E)
-    → IfOk r (λ found. found ≡ slice_get (choices w) (draw (length (choices w)) g).0) → IfOk r (λ found. found ≡ step_in_order w.agenda.plan v before)
+    → IfOk r (λ found. found ≡ slice_get (choices w) (draw_below (length (choices w)) g).0) → IfOk r (λ found. found ≡ step_in_order w.agenda.plan v before)
 step_drawn w first v m g before is (Ok found) h =
-    h ∙ (ap (λ (l : List Step). slice_get l (draw (length l) g).0) (listed_in_run w first v m) ∙ ap (λ (b : Option Generator). step_in_order w.agenda.plan v b) (sym is))
+    h ∙ (ap (λ (l : List Step). slice_get l (draw_below (length l) g).0) (listed_in_run w first v m) ∙ ap (λ (b : Option Generator). step_in_order w.agenda.plan v b) (sym is))
 step_drawn w first v m g before is (Err e) h = tt
 
 pub generator_drawn : {E : Type 0} (w : World) (first : ℕ) (v : Progress) → Mirrors w.agenda w.system first v → (g after : Generator) (before now : Option Generator) → before ≡ Some g → now ≡ Some after → (r : Result (Option Step) E)
-    → IfOk r (λ found. IfSome found (λ _. after ≡ (draw (length (choices w)) g).1)) → IfOk r (λ found. IfSome found (λ _. now ≡ generator_next w.agenda.plan v before))
+    → IfOk r (λ found. IfSome found (λ _. after ≡ (draw_below (length (choices w)) g).1)) → IfOk r (λ found. IfSome found (λ _. now ≡ generator_next w.agenda.plan v before))
 generator_drawn w first v m g after before now is turn (Ok None) h = tt
 generator_drawn w first v m g after before now is turn (Ok (Some x)) h =
-    turn ∙ (ap (λ (a : Generator). Some a) (h ∙ ap (λ (l : List Step). (draw (length l) g).1) (listed_in_run w first v m)) ∙ ap (λ (b : Option Generator). generator_next w.agenda.plan v b) (sym is))
+    turn ∙ (ap (λ (a : Generator). Some a) (h ∙ ap (λ (l : List Step). (draw_below (length l) g).1) (listed_in_run w first v m)) ∙ ap (λ (b : Option Generator). generator_next w.agenda.plan v b) (sym is))
 generator_drawn w first v m g after before now is turn (Err e) h = tt

@@ -1,5 +1,6 @@
 pub mod Acting
 pub mod Casting
+pub mod Hindering
 pub mod Holding
 pub mod Noting
 pub mod Numbering

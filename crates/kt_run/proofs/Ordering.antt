@@ -22,7 +22,7 @@ use Rattle.kt_core.proofs.Enabled.{enabled_is}
 use Rattle.kt_run.specs.Objects.{rules_by}
 use Rattle.kt_run.specs.Refused.{IsGivenNext, IsDefaultNext, IsGivenRefused, IsStopped}
 use Rattle.kt_run.specs.declared.orders.Order.{Order}
-use Rattle.kt_run.specs.Orders.{Generator, step_in_order, generator_next, generator_after, generator_of, AreInOrder, GoesInOrder, RestsInOrder, IsInOrder, IsOneRefused, IsOneStopped}
+use Rattle.kt_run.specs.Orders.{Generator, step_in_order, generator_next, generator_after, generator_of, AreInOrder, GoesInOrder, RestsInOrder, IsOrderedRun, IsOneRefused, IsOneStopped}
 use Rattle.kt_run.specs.Runs.{ToldAndHeld, StepsTo, BeginsRun, Goes}
 use Rattle.kt_run.proofs.Running.{begins_by}
 
@@ -140,7 +140,7 @@ module _ (plan : Planned) (cast : List (List Content)) (given steps : List Step)
   rows_are : rows ≡ r.goes.run.now.now.log
   rows_are = log ∙ r.goes.run.shown.now.log
 
-  pub run_in_order : IsInOrder plan cast given order steps rows
+  pub run_in_order : IsOrderedRun plan cast given order steps rows
   run_in_order = record {
     by = record {
       moves = r.goes.run.moves;

@@ -1,6 +1,7 @@
 pub mod Faults
 pub mod Objects
 pub mod Refused
+pub mod Hindered
 pub mod Runs
 pub mod Telling
 pub mod Rejections

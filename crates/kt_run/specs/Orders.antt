@@ -36,18 +36,18 @@ drawn (suc tries) n g =
     if nat_lt (plus_plus g).0 (even_part n) then ((plus_plus g).0 % n, (plus_plus g).1) else drawn tries n (plus_plus g).1
 
 -- which of n things is drawn, by at most 64 words
-abbrev pub draw : ℕ → Generator → ℕ × Generator
-draw n g = drawn 64 n g
+abbrev pub draw_below : ℕ → Generator → ℕ × Generator
+draw_below n g = drawn 64 n g
 
 -- the step that comes next: the default one, or that which the generator draws of all that are enabled
 abbrev pub step_in_order : Planned → Progress → Option Generator → Option Step
 step_in_order plan w None = default_step plan w
-step_in_order plan w (Some g) = slice_get (enabled_steps plan w) (draw (length (enabled_steps plan w)) g).0
+step_in_order plan w (Some g) = slice_get (enabled_steps plan w) (draw_below (length (enabled_steps plan w)) g).0
 
 -- the generator after it
 abbrev pub generator_next : Planned → Progress → Option Generator → Option Generator
 generator_next plan w None = None
-generator_next plan w (Some g) = Some (draw (length (enabled_steps plan w)) g).1
+generator_next plan w (Some g) = Some (draw_below (length (enabled_steps plan w)) g).1
 
 -- each of these moves is the step that comes next where it is made
 abbrev pub AreInOrder : Planned → Progress → Option Generator → List Move → Type 0
@@ -92,7 +92,7 @@ pub record IsRunBy (plan : Planned) (cast : List (List Content)) (steps : List S
   pub run : IsRun plan cast moves rows
 
 -- so they are, and the steps are those given and then those that come next in an order
-pub record IsInOrder (plan : Planned) (cast : List (List Content)) (given : List Step) (order : Order) (steps : List Step) (rows : List Event) : Type 0 where
+pub record IsOrderedRun (plan : Planned) (cast : List (List Content)) (given : List Step) (order : Order) (steps : List Step) (rows : List Event) : Type 0 where
   pub by : IsRunBy plan cast steps rows
   pub first : List Move
   pub more : List Move

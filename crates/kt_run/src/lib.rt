@@ -3,6 +3,7 @@
 #![tactic(auto)]
 
 mod faults;
+mod hindered;
 mod journals;
 mod laws;
 mod orders;
@@ -11,6 +12,7 @@ mod run_state;
 mod runs;
 
 pub use faults::RunFault;
+pub use hindered::{HinderedStep, hindered_step};
 pub use laws::one_run;
 pub use orders::Order;
 pub use recorded::{RecordedRun, recorded_run_of};

@@ -5,7 +5,7 @@ ghost use Rattle.kt_core.specs.Choices.{choices};
 ghost use Rattle.kt_core.specs.Shown.{Mirrors};
 ghost use Rattle.kt_core.specs.Worlds.{can_make};
 ghost use Rattle.kt_plans.specs.Progress.{Progress};
-ghost use Rattle.kt_run.specs.Orders.{draw, generator_next, generator_of, step_in_order};
+ghost use Rattle.kt_run.specs.Orders.{draw_below, generator_next, generator_of, step_in_order};
 
 use kt_base::Memory;
 use kt_core::World;
@@ -66,9 +66,9 @@ fn drawn_step(
     ensures enabled { IfOk result (λ found. IfSome found (λ step. can_make world.now step ≡ true)) }
     ensures none { IfOk result (λ found. IfNone found ((step : Step) → can_make world.now step ≡ false)) }
     ensures step { IfOk result (λ found.
-        found ≡ slice_get (choices world.now) (draw (length (choices world.now)) generator.old).0) }
+        found ≡ slice_get (choices world.now) (draw_below (length (choices world.now)) generator.old).0) }
     ensures generator { IfOk result (λ found.
-        IfSome found (λ _. generator.new ≡ (draw (length (choices world.now)) generator.old).1)) }
+        IfSome found (λ _. generator.new ≡ (draw_below (length (choices world.now)) generator.old).1)) }
 {
     world.list_enabled(list)?;
     Ok(drawn_of(generator, list.as_slice()))
@@ -76,9 +76,9 @@ fn drawn_step(
 
 // One of some steps, if there are any.
 fn drawn_of(generator: &mut Xoshiro256PlusPlus, list: &[Step]) -> Option<Step>
-    ensures step { result ≡ slice_get list.now (draw (length list.now) generator.old).0 }
+    ensures step { result ≡ slice_get list.now (draw_below (length list.now) generator.old).0 }
     ensures none { IfNone result (list.now ≡ []) }
-    ensures generator { IfSome result (λ _. generator.new ≡ (draw (length list.now) generator.old).1) }
+    ensures generator { IfSome result (λ _. generator.new ≡ (draw_below (length list.now) generator.old).1) }
 {
     let count = list.len() as u64;
     if count == 0 {
@@ -99,7 +99,7 @@ fn step_at(list: &[Step], place: usize) -> Option<Step>
 // That none of 64 words is comes about once in 2^3,000 times.
 fn number_below(generator: &mut Xoshiro256PlusPlus, count: u64) -> u64
     requires { 0 < count }
-    ensures drawn { (result, generator.new) ≡ draw count generator.old }
+    ensures drawn { (result, generator.new) ≡ draw_below count generator.old }
     ensures below { result < count }
 {
     let even = u64::MAX - u64::MAX % count;

@@ -7,7 +7,7 @@ ghost use Rattle.kt_held.specs.Refusals.{IsLeastRefused};
 ghost use Rattle.kt_plans.specs.Follows.{FollowsPlan};
 ghost use Rattle.kt_plans.specs.Headline.{IsPromised};
 ghost use Rattle.kt_run.specs.Faults.{IsCast, Answers};
-ghost use Rattle.kt_run.specs.Orders.{IsInOrder, IsOneRefused, IsOneStopped};
+ghost use Rattle.kt_run.specs.Orders.{IsOrderedRun, IsOneRefused, IsOneStopped};
 ghost use Rattle.kt_run.specs.Rejections.{MayReject};
 
 use crate::faults::RunFault;
@@ -57,7 +57,7 @@ pub fn recorded_run_of(
 
     // The log is that of a run of the plan by just the steps that are listed, which has come to rest; they begin with the
     // steps given and go on by those that come next in the order. What is sent for an object is what it offers.
-    ensures run { IfOk result (λ kept. IsInOrder plan.now
+    ensures run { IfOk result (λ kept. IsOrderedRun plan.now
         (map (λ row. map (λ b. content (kind_of b) (value_of b)) row.items) cast.items) steps.now order kept.steps.items
         kept.log.rows) }
     ensures promised { IfOk result (λ kept. IsPromised kept.log.rows) }

@@ -27,6 +27,7 @@ use kt_object::Recoverable;
 use kt_plan::{Act, Give, Plan, Step, Told};
 use std::alloc::Global;
 
+mod hindered;
 mod in_order;
 
 /// A world, what its processes hold, and what they were told.

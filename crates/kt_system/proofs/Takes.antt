@@ -136,3 +136,25 @@ next_take_is w at from a b x y = record {
 
 pub no_take_is : (w : Whole) → IsFirst (WithSome (can_take w)) None → HasNoTake w
 no_take_is w x = record { none = λ at from _ _. false_from_ne_true _ (λ e. x at (from, e)) }
+
+-- where no parcel is in the channel or held, none can be taken
+pub nothing_to_take : (w : Whole) (at from : ℕ) → channel w.channels from at ≡ [] → channel w.held from at ≡ [] → can_take w at from ≡ false
+nothing_to_take w at from e f = false_from_ne_true _ (λ t. elim (either w at from t) [
+  | inl s ↦ cc (s, ap has_parcel e)
+  | inr h ↦ let k = and_parts (not (is_ready (state_of w at).side)) (has_parcel (channel w.held from at)) h in cc (k.1, ap has_parcel f)
+])
+
+-- of those to whom parcels are in channels, and of those for whom some are held
+module _ (channels kept : ChannelLists) (at sent held all : ℕ) (e : has all at ≡ (has sent at || has held at)) where
+  pub some_waits : (has sent at ≡ true → (from : ℕ) × (has_parcel (channel channels from at) ≡ true)) → (has held at ≡ true → (from : ℕ) × (has_parcel (channel kept from at) ≡ true)) → has all at ≡ true
+      → (from : ℕ) × ((has_parcel (channel channels from at) || has_parcel (channel kept from at)) ≡ true)
+  some_waits f g member = elim (or_cases (has sent at) (has held at) (sym e ∙ member)) [
+    | inl s ↦ let t = f s in (t.0, or_left _ _ t.1)
+    | inr h ↦ let t = g h in (t.0, or_right _ _ t.1)
+  ]
+
+  pub none_waits : (from : ℕ) → (has sent at ≡ false → channel channels from at ≡ []) → (has held at ≡ false → channel kept from at ≡ []) → has all at ≡ false → (channel channels from at ≡ []) × (channel kept from at ≡ [])
+  none_waits from f g gone = (
+    f (false_from_ne_true _ (λ t. let k = or_left (has sent at) (has held at) t in cc (k, e, gone))),
+    g (false_from_ne_true _ (λ t. let k = or_right (has sent at) (has held at) t in cc (k, e, gone))),
+  )

@@ -14,7 +14,8 @@ impl World {
     /// Lists the enabled steps, each once, in place of what the list has: by process, what it can take, by the senders'
     /// numbers, and then its next command.
     ///
-    /// No pair of processes without a parcel is looked at. After a fault the list has some of them.
+    /// No process is looked at for which there is no parcel and whose next command is of a later phase, and no pair of
+    /// processes without a parcel. After a fault the list has some of them.
     pub fn list_enabled(&self, list: &mut Vec<Step>) -> Result<(), Memory>
         ensures choices { OnOk result (list.new.items ≡ choices self.now) }
         ensures in_runs { (first : ℕ) (v : Progress) → Mirrors self.now.agenda self.now.system first v →
@@ -24,9 +25,13 @@ impl World {
         ensures all { OnOk result ((step : Step) → (can_make self.now step ≡ true) ↔ Contains list.new.items step) }
     {
         list.clear();
-        for number in 0..self.system.processes() as u8 {
-            let p = ProcNo::nth(number);
+        let mut left = self.agenda.with_open(self.system.receivers());
+        for _number in 0..self.system.processes() {
+            let Some(p) = left.first() else {
+                return Ok(());
+            };
             self.add_steps(p, list)?;
+            left = left.without(p);
         }
         Ok(())
     }

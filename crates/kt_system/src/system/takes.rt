@@ -1,7 +1,9 @@
 //! Who takes a parcel next.
 
-ghost use Rattle.std.specs.Prelude.{◌≡◌, ◌<◌, ◌||◌, ℕ, true, IfSome, IfNone};
+ghost use Rattle.std.specs.Prelude.{◌≡◌, ◌<◌, ◌||◌, ℕ, true, false, [], IfSome, IfNone};
 ghost use Rattle.kt_base.specs.Sets.{has};
+ghost use Rattle.kt_fifo.specs.Channels.{channel};
+ghost use Rattle.kt_fifo.specs.Queues.{has_parcel};
 ghost use Rattle.kt_system.specs.Reads.{can_take, IsNextTake, HasNoTake};
 ghost use Rattle.kt_system.specs.Takes.{is_sent, is_held, WithSome, IsFirst, lesser};
 
@@ -80,6 +82,18 @@ impl System {
         ensures within { (from : ℕ) → has result from ≡ true → from < self.now.size }
     {
         joined(self.senders(at), self.held_senders(at))
+    }
+
+    /// The processes to which parcels are in channels or held: no other one can take a parcel.
+    pub fn receivers(&self) -> ProcSet
+        ensures some { (at : ℕ) → has result at ≡ true → (from : ℕ) ×
+            ((has_parcel (channel self.now.channels from at) || has_parcel (channel self.now.held from at)) ≡ true) }
+        ensures none { (at from : ℕ) → has result at ≡ false →
+            (channel self.now.channels from at ≡ []) × (channel self.now.held from at ≡ []) }
+        ensures others { (at from : ℕ) → has result at ≡ false → can_take self.now at from ≡ false }
+        ensures within { (at : ℕ) → has result at ≡ true → at < self.now.size }
+    {
+        joined(self.channels.receivers(), self.held.receivers())
     }
 
     /// The least process that can take a parcel, and the least from which it can.
