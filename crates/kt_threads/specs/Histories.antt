@@ -43,7 +43,7 @@ pub record IsHistory (plan : Planned) (steps : List Made) (world : World) : Type
   pub leads : Leads begin steps world
 
 -- a world, the steps that led to it, and the first fault
-pub record History : Type 0 where
+pub record WorldHistory : Type 0 where
   pub world : World
   pub steps : List Made
   pub fault : Option LiveFault

@@ -6,7 +6,7 @@ use Rattle.kt_core.specs.Worlds.{World, can_make, step_refusal, IsWorldAtRest, I
 use Rattle.kt_plans.specs.Steps.{process_of_step}
 use Rattle.kt_plan.specs.declared.steps.Step.{Step}
 use Rattle.kt_threads.specs.Faults.{live_of_step}
-use Rattle.kt_threads.specs.Histories.{History, first_fault}
+use Rattle.kt_threads.specs.Histories.{WorldHistory, first_fault}
 use Rattle.kt_threads.specs.declared.faults.LiveFault.{LiveFault}
 
 -- the step that a process makes next, which can be made; none where no step of it can be made
@@ -21,11 +21,11 @@ pub record HasStep (w : World) (p : ℕ) : Type 0 where
   pub able : can_make w step ≡ true
 
 -- there was a fault, or the world is at rest
-abbrev pub IsOver : History → Type 0
+abbrev pub IsOver : WorldHistory → Type 0
 IsOver state = IsSome state.fault ⊎ IsWorldAtRest state.world
 
 -- a step was refused, or lacked memory, and that is kept where no fault was before
-pub record EndsBy (state : History) (step : Step) (fault : Option LiveFault) : Type 0 where
+pub record EndsBy (state : WorldHistory) (step : Step) (fault : Option LiveFault) : Type 0 where
   pub why : StepFault
   pub refused : (why ≡ refused.Memory) ⊎ (step_refusal state.world step ≡ Some why)
   pub kept : fault ≡ first_fault state.fault (live_of_step why)

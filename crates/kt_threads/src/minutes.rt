@@ -40,10 +40,10 @@ pub(crate) struct Minutes {
 
 impl Model for Minutes {
     ghost use Rattle.std.specs.Prelude.{◌≡◌, None};
-    ghost use Rattle.kt_threads.specs.Histories.{History};
+    ghost use Rattle.kt_threads.specs.Histories.{WorldHistory};
     ghost use Rattle.kt_threads.specs.Noted.{AreNoted};
 
-    ghost Value = { History };
+    ghost Value = { WorldHistory };
 
     ghost view = { λ m. m.state };
 

@@ -36,9 +36,9 @@ pub struct State {
 
 impl Model for State {
     ghost use Rattle.std.specs.Prelude.{map};
-    ghost use Rattle.kt_threads.specs.Histories.{History, IsHistory};
+    ghost use Rattle.kt_threads.specs.Histories.{WorldHistory, IsHistory};
 
-    ghost Value = { History };
+    ghost Value = { WorldHistory };
 
     ghost view = { λ s. record { world = s.world; steps = map (λ step. step.value) s.steps.items; fault = s.fault } };
 

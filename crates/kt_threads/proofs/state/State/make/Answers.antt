@@ -1,6 +1,6 @@
 use Rattle.std.proofs.Common.{Ok, refl, subst, map, rules}
 use Rattle.kt_core.specs.Worlds.{step_refusal}
-use Rattle.kt_threads.specs.Histories.{History, IsMade}
+use Rattle.kt_threads.specs.Histories.{WorldHistory, IsMade}
 use Rattle.kt_threads.specs.declared.state.Made.{Made}
 use Rattle.kt_threads.proofs.Replay.{history_same, history_more, not_refused, makes}
 use Rattle.kt_threads.proofs.state.State.make.Goals as goal
@@ -30,7 +30,7 @@ returns-clause-made c =
     let new = c.step.new.self in
     let told = c.in_ok-told.ensures in
     rw c.made_of-made.ensures
-    (subst (λ (h : History). IsMade h.world made new) c.self.view_is
+    (subst (λ (h : WorldHistory). IsMade h.world made new) c.self.view_is
     (makes old new c.args.step c.look-look.result c.args.give c.in_ok-told.told told.step
     (not_refused (step_refusal old c.args.step) (Ok c.in_ok-told.told) c.in_ok-told.told refl told.refused)
     told.keeps told.made (search rules) told.told c.look-look.ensures.in_runs))
