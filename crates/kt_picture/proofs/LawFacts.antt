@@ -10,10 +10,10 @@ use Rattle.kt_cuts.specs.Legal.{has_deed, is_deed}
 use Rattle.kt_cuts.specs.Messages.{row_at}
 use Rattle.kt_cuts.specs.Standing.{parties_of_row}
 use Rattle.kt_cuts.specs.Traces.{trace_of, trace_between, place_of}
-use Rattle.kt_picture.specs.Seen.{Seen, seen_after, shown_rows}
+use Rattle.kt_picture.specs.KnownAtRow.{KnownAtRow, seen_after, shown_rows}
 
 -- as many are shown as there are rows
-pub shown_count : (upto : List Event) (s : Seen) (window : List Event) → length (shown_rows upto s window) ≡ length window
+pub shown_count : (upto : List Event) (s : KnownAtRow) (window : List Event) → length (shown_rows upto s window) ≡ length window
 shown_count upto s [] = refl
 shown_count upto s (row ∷ rest) = ap (λ (n : ℕ). suc n) (shown_count upto (seen_after s row) rest)
 

@@ -4,3 +4,8 @@ pub mod LinkFacts
 pub mod EscapeFacts
 pub mod WindowFacts
 pub mod LawFacts
+pub mod ShownFacts
+pub mod DecisionFacts
+pub mod CutFacts
+pub mod ColumnFacts
+pub mod ArrowFacts

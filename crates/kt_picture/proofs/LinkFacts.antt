@@ -1,39 +1,12 @@
 -- Instances noted at messages of chains, one after another.
-use Rattle.std.proofs.Common.{◌≡◌, ◌∙◌, ◌<◌, ◌≤◌, ◌+◌, ℕ, zero, suc, Bool, true, false, Option, Some, None, List, [], ◌∷◌, ◌++◌, length, get_or, set, cond, eqb, refl, sym, ap, arith, inl, inr, take, is_none}
-use Rattle.std.specs.Prelude.{◌||◌, find, nat_lt}
-use Rattle.std.specs.List.{list_any, slice_get}
+use Rattle.std.proofs.Common.{◌≡◌, ◌∙◌, ◌+◌, ℕ, zero, suc, Bool, true, false, Option, Some, None, List, [], ◌∷◌, cond, refl, ap, take}
+use Rattle.std.specs.Prelude.{find}
+use Rattle.std.specs.List.{slice_get}
 use Rattle.std.specs.Option.{option_map, option_or}
-use Rattle.std.proofs.lemmas.Bool.{cases_eq}
-use Rattle.std.proofs.lemmas.List.{length-set, get_or-set_same, get_or-set_other, get_or_past, take-append-drop}
 use Rattle.std.proofs.lemmas.List.Folds.{find-append}
 use Rattle.kt_cuts.proofs.Items.{take_item}
 use Rattle.kt_chain.specs.declared.certificate.Certificate.{Certificate}
-use Rattle.kt_picture.specs.Evidence.{has_chained, chained_by, link_of}
-use Rattle.kt_picture.specs.Links.{link_at, NotesMore}
-
-none_more : (o : Option ℕ) → option_or o None ≡ o
-none_more None = refl
-none_more (Some k) = refl
-
-both : (o : Option ℕ) (a b : Bool) (k : ℕ) → option_or (option_or o (cond a (Some k) None)) (cond b (Some k) None) ≡ option_or o (cond (a || b) (Some k) None)
-both (Some x) a b k = refl
-both None true b k = refl
-both None false b k = refl
-
--- nothing is noted
-pub notes_none : (noted : List (Option ℕ)) (inst : ℕ) → NotesMore noted noted inst (λ msg. false)
-notes_none noted inst = record { few = refl; noted = λ n l. sym (none_more (get_or noted n None)) }
-
--- what one test tells is noted, and then what another one tells
-pub notes_both : (old mid new : List (Option ℕ)) (inst : ℕ) (f g h : ℕ → Bool) → NotesMore old mid inst f → NotesMore mid new inst g → ((msg : ℕ) → h msg ≡ (f msg || g msg)) → NotesMore old new inst h
-notes_both old mid new inst f g h first next same = record {
-  few = next.few ∙ first.few;
-  noted = λ n l.
-      next.noted n (omega (arith, l, first.few))
-      ∙ ap (λ (o : Option ℕ). option_or o (cond (g (suc n)) (Some inst) None)) (first.noted n l)
-      ∙ both (get_or old n None) (f (suc n)) (g (suc n)) inst
-      ∙ ap (λ (b : Bool). option_or (get_or old n None) (cond b (Some inst) None)) (sym (same (suc n)));
-}
+use Rattle.kt_picture.specs.Evidence.{has_chained, chained_by}
 
 map_or : (f : Certificate → ℕ) (o p : Option Certificate) → option_map f (option_or o p) ≡ option_or (option_map f o) (option_map f p)
 map_or f None p = refl

@@ -17,7 +17,7 @@ use Rattle.kt_picture.specs.declared.shown.CutMark.{CutMark}
 use Rattle.kt_picture.specs.declared.shown.End.{End}
 use Rattle.kt_picture.specs.Fates.{is_message_undone, is_receive_undone, is_sent_in_transit, joined_decision}
 use Rattle.kt_picture.specs.KnownOf.{KnownOf}
-use Rattle.kt_picture.specs.Seen.{Seen, seen_before, seen_after, shown_at, shown_rows, taken_after, places_after, cut_in, cut_rows}
+use Rattle.kt_picture.specs.KnownAtRow.{KnownAtRow, seen_before, seen_after, shown_at, shown_rows, taken_after, places_after, cut_in, cut_rows}
 use Rattle.kt_picture.specs.Window.{seen_at, seen_last, shown_of, cuts_of, end_of}
 
 -- the rest begins with the next item
@@ -47,12 +47,12 @@ shows_next rows before i row old new at h more =
     ∙ h
 
 -- how many rows of the window were seen
-pub seen_column : (s : Seen) (window : List Event) → (fold seen_after s window).column ≡ s.column + length window
+pub seen_column : (s : KnownAtRow) (window : List Event) → (fold seen_after s window).column ≡ s.column + length window
 seen_column s [] = omega arith
 seen_column s (row ∷ window) = omega (arith, seen_column (seen_after s row) window)
 
 -- what is kept stands for what is known after one more row
-pub known_next : (k t : Known) (s : Seen) (rows : List Event) (row : Event) → KnownOf k s rows → HistoriesOf t.histories (rows ++ row ∷ []) → t.rows ≡ k.rows + 1 → t.column ≡ k.column + 1
+pub known_next : (k t : Known) (s : KnownAtRow) (rows : List Event) (row : Event) → KnownOf k s rows → HistoriesOf t.histories (rows ++ row ∷ []) → t.rows ≡ k.rows + 1 → t.column ≡ k.column + 1
     → t.latest ≡ slice_set k.latest (process_of row) (k.column + 1) → t.taken ≡ taken_after k.column k.taken row → t.places ≡ places_after (past rows) k.taken k.places row
     → KnownOf t (seen_after s row) (rows ++ row ∷ [])
 known_next k t s rows row h histories count column latest taken places = record {
@@ -78,7 +78,7 @@ cuts_next rows before i row old new at h more =
     ∙ h
 
 -- what a row shows, as it was found
-pub shown_is : (k : Known) (s : Seen) (rows upto : List Event) (row : Event) (rest : List Event) (p : ℕ) (v : Shown) → KnownOf k s rows → p ≡ process_of row
+pub shown_is : (k : Known) (s : KnownAtRow) (rows upto : List Event) (row : Event) (rest : List Event) (p : ℕ) (v : Shown) → KnownOf k s rows → p ≡ process_of row
     → v.row ≡ k.rows + 1 → v.column ≡ k.column + 1 → v.event ≡ row → v.since ≡ slice_index k.latest p → v.up ≡ (past rows).up p → v.open_in ≡ (past rows).open_in p
     → v.is_undone ≡ is_message_undone upto (k.rows + 1) row → v.is_taken_back ≡ is_receive_undone upto row rest → v.is_in_transit ≡ is_sent_in_transit upto (k.rows + 1) row
     → v.decision ≡ joined_decision upto row → v ≡ shown_at upto s row rest
@@ -98,7 +98,7 @@ shown_is k s rows upto row rest p v h process number column event since up open_
     }
 
 -- how a lane goes on, as it was found
-pub end_is : (k : Known) (s : Seen) (rows : List Event) (p : ℕ) (v : End) → KnownOf k s rows → v.process ≡ p → v.since ≡ slice_index k.latest p → v.up ≡ (past rows).up p → v.open_in ≡ (past rows).open_in p
+pub end_is : (k : Known) (s : KnownAtRow) (rows : List Event) (p : ℕ) (v : End) → KnownOf k s rows → v.process ≡ p → v.since ≡ slice_index k.latest p → v.up ≡ (past rows).up p → v.open_in ≡ (past rows).open_in p
     → v ≡ end_of s p
 end_is k s rows p v h process since up open_in =
     λ j. record {
@@ -118,7 +118,7 @@ pub known_step : (k : Known) (rows : List Event) (before i : ℕ) (row : Event) 
 known_step k rows before i row at h =
     let log : (take before rows ++ take i (drop before rows)) ++ row ∷ [] ≡ take before rows ++ take (i + 1) (drop before rows) =
     append_assoc (take before rows) (take i (drop before rows)) (row ∷ []) ∙ ap (λ (l : List Event). take before rows ++ l) (sym (take_item (drop before rows) i (i + 1) row refl at)) in
-    subst (λ (s : Seen). KnownOf k s (take before rows ++ take (i + 1) (drop before rows))) (sym (seen_next rows before i row at))
+    subst (λ (s : KnownAtRow). KnownOf k s (take before rows ++ take (i + 1) (drop before rows))) (sym (seen_next rows before i row at))
     (subst (λ (l : List Event). KnownOf k (seen_after (seen_at rows before i) row) l) log h)
 
 -- what is known at the window's end
@@ -139,13 +139,13 @@ legal_step rows before i row legal at =
     legal_front ((take before rows ++ take i w) ++ row ∷ []) rest (subst IsLegal (sym whole) legal)
 
 -- how many rows there are so far
-pub rows_so_far : (k : Known) (s : Seen) (rows : List Event) (before i : ℕ) → before ≤ length rows → i < length (drop before rows) → KnownOf k s (take before rows ++ take i (drop before rows)) → k.rows < length rows
+pub rows_so_far : (k : Known) (s : KnownAtRow) (rows : List Event) (before i : ℕ) → before ≤ length rows → i < length (drop before rows) → KnownOf k s (take before rows ++ take i (drop before rows)) → k.rows < length rows
 rows_so_far k s rows before i b l h =
     let w = drop before rows in
     omega (arith, h.rows, length-append (take before rows) (take i w), length-take-le before rows b, length-take-le i w (omega (arith, l)), length-drop before rows, b, l)
 
 -- as many messages are kept as there are rows so far
-pub messages_so_far : (k : Known) (s : Seen) (log : List Event) → KnownOf k s log → length k.histories.replay.messages.items ≡ k.rows
+pub messages_so_far : (k : Known) (s : KnownAtRow) (log : List Event) → KnownOf k s log → length k.histories.replay.messages.items ≡ k.rows
 messages_so_far k s log h = h.histories.shows.rows ∙ (rows_length log ∙ sym h.rows)
 
 -- the column of the row before the next one
@@ -154,12 +154,12 @@ column_so_far k rows log before i l h =
     omega (arith, h.column, seen_column (seen_before (take before rows)) (take i (drop before rows)), length-take-le i (drop before rows) (omega (arith, l)))
 
 -- all rows are shown
-pub shown_last : (rows : List Event) (before i : ℕ) (s : Seen) (old : List Shown) → length (drop before rows) ≤ i → old ++ shown_rows rows s (drop i (drop before rows)) ≡ shown_of rows before → old ≡ shown_of rows before
+pub shown_last : (rows : List Event) (before i : ℕ) (s : KnownAtRow) (old : List Shown) → length (drop before rows) ≤ i → old ++ shown_rows rows s (drop i (drop before rows)) ≡ shown_of rows before → old ≡ shown_of rows before
 shown_last rows before i s old all h =
     sym (append-nil old) ∙ ap (λ (l : List Event). old ++ shown_rows rows s l) (sym (drop_all i (drop before rows) all)) ∙ h
 
 -- all cuts are added
-pub cuts_last : (rows : List Event) (before i : ℕ) (s : Seen) (old : List CutMark) → length (drop before rows) ≤ i → old ++ cut_rows s (drop i (drop before rows)) ≡ cuts_of rows before → old ≡ cuts_of rows before
+pub cuts_last : (rows : List Event) (before i : ℕ) (s : KnownAtRow) (old : List CutMark) → length (drop before rows) ≤ i → old ++ cut_rows s (drop i (drop before rows)) ≡ cuts_of rows before → old ≡ cuts_of rows before
 cuts_last rows before i s old all h =
     sym (append-nil old) ∙ ap (λ (l : List Event). old ++ cut_rows s l) (sym (drop_all i (drop before rows) all)) ∙ h
 

@@ -4,10 +4,10 @@ use Rattle.kt_spacetime.specs.declared.event.Event.{Event}
 use Rattle.kt_cuts.specs.Past.{past}
 use Rattle.kt_histories.specs.HistoriesOf.{HistoriesOf}
 use Rattle.kt_picture.specs.declared.known.Known.{Known}
-use Rattle.kt_picture.specs.Seen.{Seen}
+use Rattle.kt_picture.specs.KnownAtRow.{KnownAtRow}
 
 -- it stands for what is known after these rows
-pub record KnownOf (k : Known) (s : Seen) (log : List Event) : Type 0 where
+pub record KnownOf (k : Known) (s : KnownAtRow) (log : List Event) : Type 0 where
   pub histories : HistoriesOf k.histories log
   pub past : s.past ≡ past log
   pub rows : k.rows ≡ length log

@@ -1,4 +1,5 @@
 pub use Rattle.kt_spacetime.specs.Events
+pub mod Arrows
 pub mod Breach
 pub mod Escaping
 pub mod Evidence
@@ -8,7 +9,8 @@ pub mod Lanes
 pub mod Links
 pub mod Notes
 pub mod Picture
-pub mod Seen
+pub mod Places
+pub mod KnownAtRow
 pub mod Shapes
 pub mod Style
 pub mod Svg

@@ -4,15 +4,15 @@ use Rattle.kt_spacetime.specs.declared.event.Event.{Event}
 use Rattle.kt_picture.specs.declared.shown.Shown.{Shown}
 use Rattle.kt_picture.specs.declared.shown.End.{End}
 use Rattle.kt_picture.specs.declared.shown.CutMark.{CutMark}
-use Rattle.kt_picture.specs.Seen.{Seen, seen_before, seen_after, shown_rows, cut_rows}
+use Rattle.kt_picture.specs.KnownAtRow.{KnownAtRow, seen_before, seen_after, shown_rows, cut_rows}
 use Rattle.kt_picture.specs.Lanes.{lanes_in}
 
 -- what is known after so many rows of the window
-abbrev pub seen_at : List Event → ℕ → ℕ → Seen
+abbrev pub seen_at : List Event → ℕ → ℕ → KnownAtRow
 seen_at rows before count = fold seen_after (seen_before (take before rows)) (take count (drop before rows))
 
 -- what is known at the window's end
-abbrev pub seen_last : List Event → ℕ → Seen
+abbrev pub seen_last : List Event → ℕ → KnownAtRow
 seen_last rows before = fold seen_after (seen_before (take before rows)) (drop before rows)
 
 -- what each row of the window shows
@@ -24,7 +24,7 @@ abbrev pub cuts_of : List Event → ℕ → List CutMark
 cuts_of rows before = cut_rows (seen_before (take before rows)) (drop before rows)
 
 -- how a process's lane goes on to the right end
-abbrev pub end_of : Seen → ℕ → End
+abbrev pub end_of : KnownAtRow → ℕ → End
 end_of s p = record { process = p; since = slice_index s.latest p; up = s.past.up p; open_in = s.past.open_in p }
 
 -- how each lane goes on to the right end

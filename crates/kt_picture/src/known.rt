@@ -6,7 +6,7 @@ ghost use Rattle.kt_spacetime.specs.declared.event.Event.{Event};
 ghost use Rattle.kt_cuts.specs.Past.{past};
 ghost use Rattle.kt_cuts.specs.Legal.{IsLegal};
 ghost use Rattle.kt_histories.specs.HistoriesOf.{HistoriesOf};
-ghost use Rattle.kt_picture.specs.Seen.{Seen, seen_before, seen_after, shown_at, taken_after, places_after, place_after};
+ghost use Rattle.kt_picture.specs.KnownAtRow.{KnownAtRow, seen_before, seen_after, shown_at, taken_after, places_after, place_after};
 ghost use Rattle.kt_picture.specs.Window.{end_of};
 ghost use Rattle.kt_picture.specs.KnownOf.{KnownOf};
 
@@ -54,7 +54,7 @@ impl Known {
     pub(crate) fn shown(&self, end: &Histories, row: &Event, rest: &[Event]) -> Shown
         requires few { self.now.rows < 2 ^ 24 }
         requires column { self.now.column < 2 ^ 24 }
-        ensures { (s : Seen) (rows upto : List Event) → KnownOf self.now s rows → HistoriesOf end.now upto
+        ensures { (s : KnownAtRow) (rows upto : List Event) → KnownOf self.now s rows → HistoriesOf end.now upto
             → result ≡ shown_at upto s row.now rest.now }
     {
         let p = row.process();
@@ -82,7 +82,7 @@ impl Known {
 
     /// How a process's lane goes on to the right end.
     pub(crate) fn end(&self, p: ProcNo) -> End
-        ensures { (s : Seen) (rows : List Event) → KnownOf self.now s rows → result ≡ end_of s p }
+        ensures { (s : KnownAtRow) (rows : List Event) → KnownOf self.now s rows → result ≡ end_of s p }
     {
         let since = self.latest_of(p);
         let up = self.histories.is_up(p);
@@ -108,7 +108,7 @@ impl Known {
         requires few { self.old.rows < 2 ^ 24 }
         requires column { self.old.column < 2 ^ 24 }
         requires messages { vec_len self.old.histories.replay.messages < 2 ^ 24 }
-        ensures { OnOk result ((s : Seen) (rows : List Event) → KnownOf self.old s rows
+        ensures { OnOk result ((s : KnownAtRow) (rows : List Event) → KnownOf self.old s rows
             → IsLegal (rows ++ row.now ∷ []) → KnownOf self.new (seen_after s row.now) (rows ++ row.now ∷ [])) }
     {
         let places = places_after(&self.histories, row, &self.taken, &self.places);

@@ -23,4 +23,7 @@ pub use breach::{Breach, caption};
 pub use drawing::{draw, picture};
 pub use escaping::escaped_has_no_mark;
 pub use evidence::Evidence;
-pub use laws::{each_row_is_shown, undone_is_not_live, unreceived_is_not_live};
+pub use laws::{
+    arrows_tell_messages, cuts_are_permanent, each_row_is_shown, joinings_tell_decisions,
+    undone_is_not_live, unreceived_is_not_live,
+};

@@ -4,7 +4,7 @@ ghost use Rattle.std.specs.Prelude.{◌≡◌, ◌≤◌, ◌<◌, ◌^◌, ◌+
 ghost use Rattle.kt_cuts.specs.Legal.{IsLegal};
 ghost use Rattle.kt_histories.specs.HistoriesOf.{HistoriesOf};
 ghost use Rattle.kt_picture.specs.declared.shown.CutMark.{CutMark};
-ghost use Rattle.kt_picture.specs.Seen.{Seen, seen_before, cut_in};
+ghost use Rattle.kt_picture.specs.KnownAtRow.{KnownAtRow, seen_before, cut_in};
 ghost use Rattle.kt_picture.specs.KnownOf.{KnownOf};
 ghost use Rattle.kt_picture.specs.Lanes.{lanes_in};
 ghost use Rattle.kt_picture.specs.Window.{shown_of, ends_of, cuts_of, end_of, seen_last};
@@ -98,7 +98,7 @@ fn last_histories(alloc: Global, log: &SpaceTime) -> Result<Histories, Memory>
 
 // How each lane goes on to the right end.
 fn lane_ends(alloc: Global, known: &Known, lanes: &Lanes) -> Result<Vec<End>, Memory>
-    ensures { IfOk result (λ v. (s : Seen) (rows : List Event) → KnownOf known.now s rows
+    ensures { IfOk result (λ v. (s : KnownAtRow) (rows : List Event) → KnownOf known.now s rows
         → v.items ≡ map (end_of s) lanes.now) }
 {
     let mut ends = Vec::new(alloc);

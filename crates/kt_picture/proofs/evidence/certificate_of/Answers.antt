@@ -1,4 +1,4 @@
-use Rattle.std.proofs.Common.{rules, ◌≡◌, ◌==◌, Bool, true, false, Some, List, length, refl, sym}
+use Rattle.std.proofs.Common.{rules, ◌≡◌, ◌==◌, true, false, length, refl, sym}
 use Rattle.std.proofs.lemmas.Option.{slice_get_read}
 use Rattle.kt_chain.specs.declared.certificate.Certificate.{Certificate}
 use Rattle.kt_picture.proofs.LinkFacts.{first_found, none_next}

@@ -2,7 +2,7 @@ use Rattle.std.proofs.Common.{◌≡◌, ◌≤◌, ◌<◌, ℕ, List, length, 
 use Rattle.kt_spacetime.specs.declared.event.Event.{Event}
 use Rattle.kt_cuts.specs.Past.{past}
 use Rattle.kt_histories.specs.HistoriesOf.{HistoriesOf}
-use Rattle.kt_picture.specs.Seen.{place_after}
+use Rattle.kt_picture.specs.KnownAtRow.{place_after}
 use Rattle.kt_picture.proofs.known.promoted.Given as goal
 
 abbrev pub invariant-loop-number : goal.invariant-loop-number

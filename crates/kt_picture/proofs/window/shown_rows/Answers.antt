@@ -6,7 +6,7 @@ use Rattle.kt_spacetime.specs.declared.event.Event.{Event}
 use Rattle.kt_cuts.proofs.Replayed.{row_read}
 use Rattle.kt_picture.specs.declared.shown.Shown.{Shown}
 use Rattle.kt_picture.specs.declared.shown.CutMark.{CutMark}
-use Rattle.kt_picture.specs.Seen.{cut_in, cut_rows, seen_before, shown_at, shown_rows}
+use Rattle.kt_picture.specs.KnownAtRow.{cut_in, cut_rows, seen_before, shown_at, shown_rows}
 use Rattle.kt_picture.specs.Window.{seen_at}
 use Rattle.kt_picture.proofs.WindowFacts.{known_first, known_last, shown_last, cuts_last, rows_so_far, messages_so_far, column_so_far, legal_step, known_step, shows_next, cuts_next, tail_rows}
 use Rattle.kt_picture.proofs.window.shown_rows.Goals as goal

@@ -1,5 +1,5 @@
 use Rattle.std.proofs.Common.{◌≡◌, ◌++◌, take, drop}
-use Rattle.kt_picture.specs.Seen.{shown_rows, cut_rows}
+use Rattle.kt_picture.specs.KnownAtRow.{shown_rows, cut_rows}
 use Rattle.kt_picture.specs.KnownOf.{KnownOf}
 use Rattle.kt_picture.specs.Window.{seen_at, shown_of, cuts_of}
 use Rattle.kt_picture.proofs.window.shown_rows.Given as goal

@@ -1,9 +1,9 @@
-use Rattle.std.proofs.Common.{◌≡◌, ◌∙◌, ◌<◌, ◌+◌, ℕ, suc, Option, Some, None, List, length, take, get_or, cond, sym, ap, subst, refl, arith}
+use Rattle.std.proofs.Common.{◌≡◌, ◌∙◌, ℕ, suc, Option, Some, None, List, length, get_or, cond, sym, ap, refl, arith}
 use Rattle.std.specs.List.{slice_get}
 use Rattle.std.specs.Option.{option_or}
 use Rattle.std.proofs.lemmas.Option.{slice_get_read}
 use Rattle.kt_cuts.proofs.Items.{written}
-use Rattle.kt_picture.specs.Evidence.{chained_by, has_chained}
+use Rattle.kt_picture.specs.Evidence.{has_chained}
 use Rattle.kt_picture.proofs.LinkFacts.{chained_more}
 use Rattle.kt_picture.proofs.links.Links.of.Goals as goal
 

@@ -1,0 +1,78 @@
+-- What each row of the window shows.
+use Rattle.std.specs.Prelude.{ℕ, ◌+◌, if◌then◌else◌, is_some, List, [], ◌∷◌, ◌++◌, map, replicate, slice_index, slice_set}
+use Rattle.std.specs.List.{range_with_len}
+use Rattle.kt_spacetime.specs.declared.event.Event.{Event}
+use Rattle.kt_spacetime.specs.declared.event.Event.TheVariants.{Took, Decided}
+use Rattle.kt_spacetime.specs.Events.{process_of}
+use Rattle.kt_cuts.specs.Past.{Past, past, after}
+use Rattle.kt_picture.specs.declared.shown.Shown.{Shown}
+use Rattle.kt_picture.specs.declared.shown.CutMark.{CutMark}
+use Rattle.kt_picture.specs.Fates.{is_message_undone, is_receive_undone, is_sent_in_transit, joined_decision}
+
+-- what is known at a row of the window: of all rows before it, how many of them the window has, and by process the
+-- columns of its last row there, of its last `took` row, and of its permanent position; 0 is the left end
+pub record KnownAtRow : Type 0 where
+  pub past : Past
+  pub column : ℕ
+  pub latest : List ℕ
+  pub taken : List ℕ
+  pub places : List ℕ
+
+-- what is known at the left end, after the rows before the window
+abbrev pub seen_before : List Event → KnownAtRow
+seen_before before = record { past = past before; column = 0; latest = replicate 64 0; taken = replicate 64 0; places = replicate 64 0 }
+
+-- the column of each process's last `took` row after one more row, which follows this column
+abbrev pub taken_after : ℕ → List ℕ → Event → List ℕ
+taken_after column taken (Took p inst) = slice_set taken p (column + 1)
+taken_after column taken _ = taken
+
+-- the column of a process's permanent position after the commit of an instance: that of its `took` row, where it has one
+abbrev pub place_after : Past → ℕ → List ℕ → List ℕ → ℕ → ℕ
+place_after s inst taken places p = if is_some (s.new inst p) then slice_index taken p else slice_index places p
+
+-- the column of each process's permanent position after one more row
+abbrev pub places_after : Past → List ℕ → List ℕ → Event → List ℕ
+places_after s taken places (Decided p inst commit) =
+    if commit then map (place_after s inst taken places) (range_with_len 0 64) else places
+places_after s taken places _ = places
+
+-- the same after one more row
+abbrev pub seen_after : KnownAtRow → Event → KnownAtRow
+seen_after s row = record {
+  past = after s.past row;
+  column = s.column + 1;
+  latest = slice_set s.latest (process_of row) (s.column + 1);
+  taken = taken_after s.column s.taken row;
+  places = places_after s.past s.taken s.places row;
+}
+
+-- what a row shows, where these rows go to the window's end, and the window goes on with the rest
+abbrev pub shown_at : List Event → KnownAtRow → Event → List Event → Shown
+shown_at upto s row rest = record {
+  row = s.past.rows + 1;
+  column = s.column + 1;
+  event = row;
+  since = slice_index s.latest (process_of row);
+  up = s.past.up (process_of row);
+  open_in = s.past.open_in (process_of row);
+  is_undone = is_message_undone upto (s.past.rows + 1) row;
+  is_taken_back = is_receive_undone upto row rest;
+  is_in_transit = is_sent_in_transit upto (s.past.rows + 1) row;
+  decision = joined_decision upto row;
+}
+
+-- what the rows of a window show, one each
+abbrev pub shown_rows : List Event → KnownAtRow → List Event → List Shown
+shown_rows upto s [] = []
+shown_rows upto s (row ∷ rest) = shown_at upto s row rest ∷ shown_rows upto (seen_after s row) rest
+
+-- the permanent cut after a row that commits an instance, where permanent positions are in these columns after it
+abbrev pub cut_in : List ℕ → Event → List CutMark
+cut_in places (Decided p inst commit) = if commit then record { inst = inst; columns = places } ∷ [] else []
+cut_in places _ = []
+
+-- the permanent cuts after the committed decisions of a window
+abbrev pub cut_rows : KnownAtRow → List Event → List CutMark
+cut_rows s [] = []
+cut_rows s (row ∷ rest) = cut_in (seen_after s row).places row ++ cut_rows (seen_after s row) rest
