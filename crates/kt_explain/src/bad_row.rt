@@ -45,8 +45,8 @@ impl fmt::Display for BadRow {
     }
 }
 
-// A rule by number and name, and what it asks.
-fn rule_name(rule: Rule) -> &'static str
+/// A rule by number and name, and what it asks.
+pub fn rule_name(rule: Rule) -> &'static str
     ensures { result.now ≡ rule_words rule }
 {
     match rule {

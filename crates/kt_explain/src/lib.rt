@@ -21,7 +21,7 @@ mod standing;
 mod unknown;
 
 pub use bad_chain::{BadChain, Break, Demand, Flaw};
-pub use bad_row::BadRow;
+pub use bad_row::{BadRow, rule_name};
 pub use breach::{Breach, InstanceBreach, MessageBreach, ProcessBreach};
 pub use difference::Difference;
 pub use explaining::explain;

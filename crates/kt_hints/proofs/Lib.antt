@@ -1,2 +1,4 @@
 pub mod Gathering
 pub mod Printable
+pub mod RecordFacts
+pub mod RowFacts

@@ -1,1 +1,4 @@
 pub mod Shown
+pub mod Records
+pub mod Limits
+pub mod Rows

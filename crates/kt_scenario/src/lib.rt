@@ -13,4 +13,4 @@ pub use fault::{ScenarioFault, StepsFault};
 pub use laws::{scenarios_mean_one_plan, steps_are_read_back, texts_mean_one_list};
 pub use scenario::parse;
 pub use steps::parse_steps;
-pub use writing::write_steps;
+pub use writing::{push_step_words, write_steps};

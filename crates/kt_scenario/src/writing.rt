@@ -38,13 +38,13 @@ pub fn write_steps<W: Write>(
 fn push_step(text: &mut Vec<u8>, names: &Names, step: &Step) -> Result<(), Memory>
     ensures { OnOk result (text.new.items ≡ text.old.items ++ step_line names.now step.now) }
 {
-    push_words(text, names, step)?;
+    push_step_words(text, names, step)?;
     text.extend_from_slice(b"\n")?;
     Ok(())
 }
 
-// The words of a step.
-fn push_words(text: &mut Vec<u8>, names: &Names, step: &Step) -> Result<(), Memory>
+/// Gathers the words of a step of processes with these names: `do A` or `take AT FROM`.
+pub fn push_step_words(text: &mut Vec<u8>, names: &Names, step: &Step) -> Result<(), Memory>
     ensures { OnOk result (text.new.items ≡ text.old.items ++ step_words names.now step.now) }
 {
     match *step {

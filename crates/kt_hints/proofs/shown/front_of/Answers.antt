@@ -1,4 +1,4 @@
-use Rattle.std.proofs.Common.{arith, sym, ◌≡◌, ◌≤◌, length, take}
+use Rattle.std.proofs.Common.{arith, sym}
 use Rattle.std.proofs.lemmas.List.{take_all, length-take-le}
 use Rattle.kt_hints.proofs.shown.front_of.Goals as goal
 

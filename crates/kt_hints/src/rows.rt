@@ -1,0 +1,91 @@
+//! Rows of logs.
+
+ghost use Rattle.std.specs.Prelude.{◌≡◌, ◌≢◌, [], codes, IfOk, IfSome, MatchBool, slice_index_or};
+ghost use Rattle.csv.specs.Reading.{default_config, strip_bom, records};
+ghost use Rattle.csv.specs.Records.{fields_of};
+ghost use Rattle.kt_text.specs.Records.{ReadsOn, left_in};
+ghost use Rattle.kt_hints.specs.Rows.{IsRowAfter, IsRowAt, NamesFormat, headers, last_message};
+
+use crate::limits::{Limit, limit_of};
+use crate::records::{advance, field_at, joined_fields};
+use csv::{ByteRecord, Reader};
+use kt_text::ReadFault;
+use kt_text::records::{next_record, read_records};
+use std::alloc::Global;
+use std::io::Read;
+
+/// A row of a log, as it is told.
+#[derive(Debug, Drop)]
+pub struct Row {
+    /// Its fields, joined by commas.
+    pub text: Vec<u8>,
+    /// What a number of it goes beyond.
+    pub beyond: Option<Limit>,
+}
+
+/// The row after so many others of a log's text, in format 1 or 2; None where it has not so many.
+pub fn row_at<R: Read + Drop>(
+    alloc: Global,
+    reader: R,
+    before: u32,
+) -> Result<Option<Row>, ReadFault>
+    ensures { IfOk result (λ found. IfSome found (λ row. IfSome (R.remaining reader)
+        (λ bytes. IsRowAt (records default_config (strip_bom bytes)) before row))) }
+{
+    let Ok(mut records) = read_records(alloc, reader) else {
+        return Err(ReadFault::Memory);
+    };
+    let mut current = ByteRecord::new(alloc);
+    let Some(last_message) = find_row(&mut records, &mut current, before)? else {
+        return Ok(None);
+    };
+    match joined_fields(alloc, &current) {
+        Ok(text) => Ok(Some(Row {
+            text,
+            beyond: limit_of(&current, last_message),
+        })),
+        Err(_) => Err(ReadFault::Memory),
+    }
+}
+
+// The row after so many others into `current`, and the greatest number that a message has in its format.
+fn find_row<R: Read>(
+    records: &mut Reader<R>,
+    current: &mut ByteRecord,
+    before: u32,
+) -> Result<Option<u32>, ReadFault>
+    requires { ReadsOn records.old }
+    ensures { IfOk result (λ found. IfSome found (λ last.
+        IsRowAfter (left_in R.remaining records.old) before last (fields_of current.new))) }
+{
+    if !next_record(records, current)? {
+        return Ok(None);
+    }
+    let named = names_format(current);
+    if advance(records, current, u64::from(before) + headers(named))? {
+        Ok(Some(last_message(named)))
+    } else {
+        Ok(None)
+    }
+}
+
+// How many first records of a text are no rows: one that names the format.
+fn headers(named: bool) -> u64
+    ensures { result ≡ headers named }
+{
+    if named { 1 } else { 0 }
+}
+
+// The greatest number that a message has, where the format is named, and where it is not.
+fn last_message(named: bool) -> u32
+    ensures { result ≡ last_message named }
+{
+    if named { 16_777_216 } else { 1_048_576 }
+}
+
+// Whether a first record names the format, and is no row.
+fn names_format(current: &ByteRecord) -> bool
+    ensures { MatchBool result (NamesFormat (fields_of current.now)) (¬ NamesFormat (fields_of current.now)) }
+{
+    field_at(current, 0) == b"kt".as_slice()
+}
