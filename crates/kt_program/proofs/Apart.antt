@@ -1,4 +1,4 @@
--- Names that may be given together, as far as a list of outputs was looked through.
+-- NamesAsked that may be given together, as far as a list of outputs was looked through.
 use Rattle.std.proofs.Common.{◌<◌, ◌+◌, ℕ, List, length, sym, subst, arith, All, slice_index_or, take}
 use Rattle.std.specs.Prelude.{Some, None, IsTrue}
 use Rattle.std.proofs.lemmas.List.{get_or_default, get_or-take, length-take}

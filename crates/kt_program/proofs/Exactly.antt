@@ -12,7 +12,7 @@ use Rattle.kt_checker.specs.declared.verdict.Verdict.TheVariants.{Yes, No}
 use Rattle.kt_checker.specs.Order.{IsAnswer}
 use Rattle.kt_checker.specs.Passing.{IsPassed}
 use Rattle.kt_checker.proofs.Answering.{passed_of, yes_of}
-use Rattle.kt_program.specs.Stored.{Told, IsJudged, IsExact, is_yes, records_told}
+use Rattle.kt_program.specs.Stored.{BytesTold, IsVerdictOf, IsExact, is_yes, records_told}
 
 -- the records of a text
 abbrev Records : Type 0
@@ -43,6 +43,6 @@ exact_rows (Some text) certs_left rows certificates v says listed answer = λ ot
     (exact_certificates certs_left rows certificates v listed answer)
 
 -- the answer to what the bytes say is yes exactly where that passes
-pub judged_exactly : (log cert : Told) (v : Verdict) → IsJudged log cert v → IsExact log cert (is_yes v)
+pub judged_exactly : (log cert : BytesTold) (v : Verdict) → IsVerdictOf log cert v → IsExact log cert (is_yes v)
 judged_exactly log cert v judged =
     exact_rows (records_told log) (records_told cert) judged.answer.rows judged.certificates v judged.answer.says judged.certificates_said judged.answer.answer

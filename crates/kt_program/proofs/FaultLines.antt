@@ -7,7 +7,7 @@ use Rattle.std.proofs.lemmas.Fmt.{contents_after_writes}
 use Rattle.kt_text.specs.Writing.{WritesFront}
 use Rattle.kt_text.proofs.PieceFacts.{front_all, front_none}
 use Rattle.kt_program.specs.Faults.{fault_line}
-use Rattle.kt_program.specs.Stored.{Told}
+use Rattle.kt_program.specs.Stored.{BytesTold}
 
 -- what is made of words that are told
 pub line_made : {W : Type 0} (took : W → List ℕ → W → Type 0) (contents : W → List ℕ) → ((w : W) (bytes : List ℕ) (v : W) → took w bytes v → contents v ≡ contents w ++ bytes) → (w v : W) (words : Option (List ℕ)) → contents w ≡ []
@@ -28,12 +28,12 @@ pub line_stopped : {T E : Type 0} (r : Result T E) (P : List ℕ → Type 0) (wo
 line_stopped (Ok u) P words bytes e p = tt
 line_stopped (Err fault) P words bytes e p = of_bytes P words bytes e p
 
-pub line_unwritten : (a : Told) (words : Option (List ℕ)) → IfSome words (λ text. WritesFront a a (fault_line text))
+pub line_unwritten : (a : BytesTold) (words : Option (List ℕ)) → IfSome words (λ text. WritesFront a a (fault_line text))
 line_unwritten a None = tt
 line_unwritten a (Some text) = front_none a (fault_line text)
 
 -- all of the line, or a front part of it
-pub line_or_front : {T E : Type 0} (r : Result T E) (words : Option (List ℕ)) (a b : Told) → OnOk r (IfSome words (λ text. Appends a b (fault_line text))) → OnErr r (IfSome words (λ text. WritesFront a b (fault_line text)))
+pub line_or_front : {T E : Type 0} (r : Result T E) (words : Option (List ℕ)) (a b : BytesTold) → OnOk r (IfSome words (λ text. Appends a b (fault_line text))) → OnErr r (IfSome words (λ text. WritesFront a b (fault_line text)))
     → IfSome words (λ text. WritesFront a b (fault_line text))
 line_or_front (Ok u) None a b whole front = tt
 line_or_front (Ok u) (Some text) a b whole front = front_all a b (fault_line text) whole

@@ -11,7 +11,7 @@ use Rattle.kt_program.specs.Inputs.{IsPlanOfFile}
 use Rattle.kt_program.specs.Played.{AreNew, OverNew, outputs}
 use Rattle.kt_program.specs.Recorded.{IsOfRecording, IsRecorded, KeptOutputs, StopsRecording, kept_outputs}
 use Rattle.kt_program.specs.KeptLives.{IsKeptLive, StopsRecordingLive}
-use Rattle.kt_program.specs.Stored.{Told}
+use Rattle.kt_program.specs.Stored.{BytesTold}
 use Rattle.kt_program.specs.declared.fault.AppFault.{AppFault}
 use Rattle.kt_program.specs.declared.fault.AppFault.TheVariants as app
 use Rattle.kt_program.specs.declared.fault.ProgramFault.TheVariants as program
@@ -52,7 +52,7 @@ pub lived_over_new : (plan : Planned) (cast : List (List Content)) → AreNew pl
 lived_over_new plan cast new steps rows run = (cast, new, run)
 
 -- standard output has the report of such a run
-module _ (plan : Planned) (l c r s l' c' r' s' : Told) where
+module _ (plan : Planned) (l c r s l' c' r' s' : BytesTold) where
   -- over new objects
   abbrev New : List Step → List Event → Type 0
   New made = OverNew plan (λ cast. IsKeptLive plan cast made)
@@ -71,7 +71,7 @@ module _ (plan : Planned) (l c r s l' c' r' s' : Told) where
     report = w.1.writes.report;
   }
 
-  pub lived_of_file : {F : Type 0} (told : F → Told) → IsPlanOfFile told plan
+  pub lived_of_file : {F : Type 0} (told : F → BytesTold) → IsPlanOfFile told plan
       → IsRecorded New plan (kept_outputs (outputs l c r) s) (kept_outputs (outputs l' c' r') s') → AppendsRecordedLive told r r'
   lived_of_file told planned w = record { plan = plan; planned = planned; steps = w.0; rows = w.1.rows; lived = w.1.run; report = w.1.writes.report }
 
@@ -90,7 +90,7 @@ report_lived Are plan old new (app.Log fault) s w m = absurd s
 report_lived Are plan old new (app.Cert fault) s w m = absurd s
 
 -- at a fault of such a run standard output has nothing new, unless the writer failed or there was no memory
-pub left_of_lived : (Are : List Step → List Event → Type 0) (plan : Planned) (l c r s l' c' r' s' : Told) (fault : AppFault)
+pub left_of_lived : (Are : List Step → List Event → Type 0) (plan : Planned) (l c r s l' c' r' s' : BytesTold) (fault : AppFault)
     → StopsRecordingLive Are plan (kept_outputs (outputs l c r) s) (kept_outputs (outputs l' c' r') s') fault → LeavesPlayed (Err (program.App fault)) r r'
 left_of_lived Are plan l c r s l' c' r' s' fault stops = (
   (λ e. cc (e)),

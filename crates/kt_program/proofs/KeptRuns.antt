@@ -1,5 +1,5 @@
 -- A run played again by its steps is the same.
-use Rattle.std.proofs.Common.{◌≡◌, ◌<◌, ◌≤◌, ℕ, All, Bool, true, false, List, [], ◌∷◌, ◌++◌, length, map, take, append-nil, arith, refl, sym, ap, subst, ◌∙◌, Some, None}
+use Rattle.std.proofs.Common.{◌≡◌, ◌<◌, ◌≤◌, ℕ, All, Bool, true, false, List, [], ◌∷◌, ◌++◌, length, map, take, append-nil, append_assoc, arith, refl, sym, ap, subst, ◌∙◌, Some, None}
 use Rattle.std.specs.Prelude.{Option, slice_get, unwrap_or, if◌then◌else◌}
 use Rattle.std.proofs.lemmas.List.{get_or_append_left, length-append, take-append-le}
 use Rattle.std.proofs.lemmas.Option.{slice_get-get_or, slice_get_within}
@@ -14,14 +14,12 @@ use Rattle.kt_plans.specs.Headline.{IsCertified}
 use Rattle.kt_plans.specs.Offers.{SendsWhatIsOffered}
 use Rattle.kt_plans.specs.Progress.{Progress, progress_at_start}
 use Rattle.kt_plans.specs.Runs.{Move, AreDefaultMoves, RunReaches, after_moves}
+use Rattle.kt_plans.specs.StepActs.{rows_added}
 use Rattle.kt_plans.specs.Steps.{enabled, is_at_rest, progress_after}
 use Rattle.kt_plans.specs.Told.{rows_along}
-use Rattle.kt_plans.proofs.DefaultSteps.{nothing_default, rest_default}
-use Rattle.kt_plans.proofs.RunSteps.{start_reached_seen}
-use Rattle.kt_plans.proofs.WholeLogs.{log_from}
 use Rattle.kt_run.specs.Objects.{rules_by}
 use Rattle.kt_run.specs.OneRun.{SavesAll}
-use Rattle.kt_run.specs.Orders.{IsInOrder, IsRunBy}
+use Rattle.kt_run.specs.Orders.{IsOrderedRun, IsRunBy}
 use Rattle.kt_run.specs.Runs.{IsPlayed, IsRun}
 use Rattle.kt_run.specs.declared.orders.Order.{Order}
 use Rattle.kt_run.proofs.OneRun.{same_end}
@@ -30,6 +28,7 @@ use Rattle.kt_scenario.specs.Written.{IsStepOf, steps_text}
 use Rattle.kt_program.specs.Recorded.{AreReadBack, IsKeptRun, IsPlayedAgain}
 use Rattle.kt_program.specs.KeptLives.{IsKeptLive}
 use Rattle.kt_program.proofs.OfOthers.{steps_of_run}
+use Rattle.kt_program.proofs.RunLaws.{RunLaws}
 
 at_if : {X : Type 0} (P : X → Type 0) (b : Bool) (x y : X) → (b ≡ true → P x) → (b ≡ false → P y) → P (if b then x else y)
 at_if P true x y f g = f refl
@@ -40,6 +39,16 @@ leads_on : (plan : Planned) (xs ys : List Move) (u v : Progress) → after_moves
 leads_on plan [] ys u v e = ap (λ (o : Option Progress). after_moves plan (unwrap_or o u) ys) e
 leads_on plan (x ∷ xs) ys u v e = at_if (λ (o : Option Progress). o ≡ Some v → (if enabled plan u x.step then after_moves plan (progress_after plan u x.step x.give) (xs ++ ys) else None) ≡ after_moves plan v ys) (enabled plan u x.step) (after_moves plan (progress_after plan u x.step x.give) xs) None
     (λ b z. rw b (leads_on plan xs ys (progress_after plan u x.step x.give) v z))
+    (λ b z. absurd (cc (z))) e
+
+-- and add their rows to those of the earlier ones
+rows_on : (plan : Planned) (xs ys : List Move) (u v : Progress) → after_moves plan u xs ≡ Some v → rows_along plan u (xs ++ ys) ≡ rows_along plan u xs ++ rows_along plan v ys
+rows_on plan [] ys u v e = ap (λ (o : Option Progress). rows_along plan (unwrap_or o u) ys) e
+rows_on plan (x ∷ xs) ys u v e =
+    let next : Progress = progress_after plan u x.step x.give in
+    let rows : List Event = rows_added plan u x.step x.give in
+    at_if (λ (o : Option Progress). o ≡ Some v → rows ++ rows_along plan next (xs ++ ys) ≡ (rows ++ rows_along plan next xs) ++ rows_along plan v ys) (enabled plan u x.step) (after_moves plan next xs) None
+    (λ b z. ap (λ (l : List Event). rows ++ l) (rows_on plan xs ys next v z) ∙ sym (append_assoc rows (rows_along plan next xs) (rows_along plan v ys)))
     (λ b z. absurd (cc (z))) e
 
 saves_first : (plan : Planned) (xs ys : List Move) (u : Progress) → SavesAll plan u (xs ++ ys) → SavesAll plan u xs
@@ -58,13 +67,13 @@ offered_first cast plan xs ys all n p q body c there answers own =
     let answered : command_answered plan (take n (xs ++ ys)) e ≡ Some c = subst (λ (l : List Event). command_answered plan l e ≡ Some c) (sym front) answers in
     rw (front) at (all n p q body c (same ∙ there) answered own)
 
-module _ (plan : Planned) (cast : List (List Content)) (limits : IsPlan plan) where
+module _ (laws : RunLaws) (plan : Planned) (cast : List (List Content)) (limits : IsPlan plan) where
   -- no default step is made where all is at rest
   none_more : (w : Progress) (ms : List Move) → RunReaches plan 0 w → is_at_rest plan w ≡ true → AreDefaultMoves plan w ms → ms ≡ []
   none_more w [] r rest d = refl
   none_more w (m ∷ ms) r rest d =
       let on : enabled plan w m.step ≡ true = d.0.on in
-      let off : enabled plan w m.step ≡ false = nothing_default plan 0 w limits r (rest_default plan 0 w limits r rest) m.step in
+      let off : enabled plan w m.step ≡ false = (laws.none plan 0 w limits r).0 ((laws.exactly plan 0 w limits r).0 rest) m.step in
       absurd (cc (on, off))
 
   module _ (steps : List Step) (rows : List Event) (moves : List Move) (made : map (λ (m : Move). m.step) moves ≡ steps) (run : IsRun plan cast moves rows) where
@@ -87,10 +96,13 @@ module _ (plan : Planned) (cast : List (List Content)) (limits : IsPlan plan) wh
     same_play others other s t =
         let reached : RunReaches plan 0 other.begun = record { moves = other.given; leads = other.leads } in
         let on : after_moves plan other.begun other.more ≡ Some other.run.end = sym (leads_on plan other.given other.more start other.begun other.leads) ∙ other.run.leads in
-        let log = log_from plan 0 limits other.more other.begun other.run.end reached on in
+        let log : other.run.end.now.log ≡ other.begun.now.log ++ rows_along plan other.begun other.more =
+        laws.log plan 0 (other.given ++ other.more) other.run.end limits other.run.leads
+        ∙ (rows_on plan other.given other.more start other.begun other.leads
+        ∙ ap (λ (l : List Event). l ++ rows_along plan other.begun other.more) (sym (laws.log plan 0 other.given other.begun limits other.leads))) in
         let offers = offered_first cast plan other.begun.now.log (rows_along plan other.begun other.more)
         (subst (λ (l : List Event). SendsWhatIsOffered (rules_by cast) plan l) (other.run.log ∙ log) other.run.offers) in
-        let here : other.begun ≡ run.end = same_end (rules_by cast) plan 0 limits other.given moves start other.begun run.end (start_reached_seen plan 0) (other.begins ∙ sym made)
+        let here : other.begun ≡ run.end = same_end (rules_by cast) plan 0 limits other.given moves start other.begun run.end (record { moves = []; leads = refl }) (other.begins ∙ sym made)
         (other.leads, offers, saves_first plan other.given other.more start t)
         (run.leads, subst (λ (l : List Event). SendsWhatIsOffered (rules_by cast) plan l) run.log run.offers, saves_first plan moves [] start s) in
         let none = none_more other.begun other.more reached (subst (λ (w : Progress). is_at_rest plan w ≡ true) (sym here) run.rest) other.default in
@@ -105,9 +117,9 @@ module _ (plan : Planned) (cast : List (List Content)) (limits : IsPlan plan) wh
   Reads = (names : List (List ℕ)) (list : List Step) → AreNames names → All (IsStepOf (length names)) list → length list ≤ most_steps → AreSteps names (steps_text names list) list
 
   read_back : Reads → (steps : List Step) (rows : List Event) → IsRunBy plan cast steps rows → AreReadBack plan steps
-  read_back reads steps rows by few = reads plan.names steps limits.names (steps_of_run plan limits cast steps rows by) few
+  read_back reads steps rows by few = reads plan.names steps limits.names (steps_of_run laws plan limits cast steps rows by) few
 
-  pub kept_run : (given : List Step) (order : Order) (steps : List Step) (rows : List Event) → Reads → IsInOrder plan cast given order steps rows → IsCertified rows → IsKeptRun plan cast given order steps rows
+  pub kept_run : (given : List Step) (order : Order) (steps : List Step) (rows : List Event) → Reads → IsOrderedRun plan cast given order steps rows → IsCertified rows → IsKeptRun plan cast given order steps rows
   kept_run given order steps rows reads o certified = record { run = o; certified = certified; again = played_again steps rows o.by; read = read_back reads steps rows o.by }
 
   pub kept_live : (steps : List Step) (rows : List Event) → Reads → IsRunBy plan cast steps rows → IsCertified rows → IsKeptLive plan cast steps rows

@@ -11,7 +11,9 @@ pub mod Reading
 pub mod Refused
 pub mod FaultLines
 pub mod HintFacts
+pub mod PlaceFacts
 pub mod Mapped
+pub mod RunLaws
 pub mod OfOthers
 pub mod KeptRuns
 pub mod OrderedRuns

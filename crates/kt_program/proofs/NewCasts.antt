@@ -42,7 +42,7 @@ module _ {R O : Type 0} (cast : List R) (items : R → List O) (Made : ℕ → O
           let within = subst (λ (objects : List O). r.rejected.0 < length objects) (get_or_past (map items cast) p [] (omega (arith, m, count))) r.rejected.2 in
           absurd (omega (arith, within))
 
--- what never is so is no fault, neither at first nor later
-pub never_both : {A B C : Type 0} → ¬ A → ¬ B → ¬ (A ⊎ (C × B))
-never_both a b (inl x) = a x
-never_both a b (inr x) = b x.1
+-- what is so neither at first nor later is no fault
+pub neither : {A B : Type 0} → ¬ A → ¬ B → ¬ (A ⊎ B)
+neither a b (inl x) = a x
+neither a b (inr x) = b x

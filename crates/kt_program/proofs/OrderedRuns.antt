@@ -18,7 +18,7 @@ use Rattle.kt_program.specs.Inputs.{AreGiven, IsPlanOfFile}
 use Rattle.kt_program.specs.Names.{Name}
 use Rattle.kt_program.specs.Played.{AreNew, IsOfWriting, OverNew, WritesRun, outputs}
 use Rattle.kt_program.specs.Recorded.{IsKeptRun, IsOfRecording, IsRecorded, KeptOutputs, OfSome, StopsRecording, WritesLog, WritesSteps, kept_outputs, order_of}
-use Rattle.kt_program.specs.Stored.{Told}
+use Rattle.kt_program.specs.Stored.{BytesTold}
 use Rattle.kt_program.specs.declared.fault.AppFault.{AppFault}
 use Rattle.kt_program.specs.declared.fault.AppFault.TheVariants as app
 use Rattle.kt_program.specs.declared.fault.ProgramFault.TheVariants as program
@@ -58,7 +58,7 @@ pub log_over_new : (plan : Planned) (given steps : List Step) (order : Order) (r
 log_over_new plan given steps order rows o = (o.0, o.1, (o.2.run.by.moves, o.2.run.by.run))
 
 -- standard output has the report of such a run
-module _ (plan : Planned) (given : List Step) (order : Order) (l c r s l' c' r' s' : Told) where
+module _ (plan : Planned) (given : List Step) (order : Order) (l c r s l' c' r' s' : BytesTold) where
   -- over new objects
   abbrev New : List Step → List Event → Type 0
   New made = OverNew plan (λ cast. IsKeptRun plan cast given order made)
@@ -73,7 +73,7 @@ module _ (plan : Planned) (given : List Step) (order : Order) (l c r s l' c' r' 
     report = w.1.writes.report;
   }
 
-  pub ordered_of_kept : {F : Type 0} (told : F → Told) (name : Name) (seed : Option ℕ) → order ≡ order_of seed → IsPlanOfFile told plan → AreGiven told name plan.names given
+  pub ordered_of_kept : {F : Type 0} (told : F → BytesTold) (name : Name) (seed : Option ℕ) → order ≡ order_of seed → IsPlanOfFile told plan → AreGiven told name plan.names given
       → IsRecorded New plan (kept_outputs (outputs l c r) s) (kept_outputs (outputs l' c' r') s') → AppendsOrderedPlay told name seed r r'
   ordered_of_kept told name seed e planned begins w = record {
     plan = plan;
@@ -101,7 +101,7 @@ report_kept Are plan old new (app.Log fault) s w m = absurd s
 report_kept Are plan old new (app.Cert fault) s w m = absurd s
 
 -- at a fault of such a run standard output has nothing new, unless the writer failed or there was no memory
-pub left_of_kept : (Are : List Step → List Event → Type 0) (plan : Planned) (l c r s l' c' r' s' : Told) (fault : AppFault)
+pub left_of_kept : (Are : List Step → List Event → Type 0) (plan : Planned) (l c r s l' c' r' s' : BytesTold) (fault : AppFault)
     → StopsRecording Are plan (kept_outputs (outputs l c r) s) (kept_outputs (outputs l' c' r') s') fault → LeavesPlayed (Err (program.App fault)) r r'
 left_of_kept Are plan l c r s l' c' r' s' fault stops = (
   (λ e. cc (e)),
@@ -114,10 +114,10 @@ if_ok_both (Ok value) P Q R f p q = f value p q
 if_ok_both (Err fault) P Q R f p q = tt
 
 -- as many steps as can be read are written
-pub writes_steps : (plan : Planned) (steps : List Step) (old new : Told) → Appends old new (steps_text plan.names steps) → length steps ≤ most_steps → WritesSteps plan steps old new
+pub writes_steps : (plan : Planned) (steps : List Step) (old new : BytesTold) → Appends old new (steps_text plan.names steps) → length steps ≤ most_steps → WritesSteps plan steps old new
 writes_steps plan steps old new text few = record { text = text; few = go new }
   where
-    go : (o : Told) → IfSome o (λ _. length steps ≤ most_steps)
+    go : (o : BytesTold) → IfSome o (λ _. length steps ≤ most_steps)
     go None = tt
     go (Some bytes) = few
 

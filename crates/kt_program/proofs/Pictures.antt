@@ -18,10 +18,10 @@ use Rattle.kt_program.specs.declared.fault.ProgramFault.TheVariants as program
 use Rattle.kt_program.specs.Drawn.{Draws, DrawsCertified, IsCertifiedPictureOf, IsOfDrawing, IsOfNames, IsPictureOfFile, IsPictureWith, IsSomePicture, IsUndrawn, IsUndrawnRun, LeavesPicture, TextGoesTo, of_draw}
 use Rattle.kt_program.specs.Explained.{Say}
 use Rattle.kt_program.specs.Names.{Name}
-use Rattle.kt_program.specs.Stored.{IsRefusal, Told}
+use Rattle.kt_program.specs.Stored.{IsRefusal, BytesTold}
 
 -- a fault of the bytes is one of the program
-of_fault : (span : Span) (bytes : Told) (fault : DrawFault) → IsNoPictureOf span bytes fault → IsUndrawn span bytes (of_draw fault)
+of_fault : (span : Span) (bytes : BytesTold) (fault : DrawFault) → IsNoPictureOf span bytes fault → IsUndrawn span bytes (of_draw fault)
 of_fault span bytes (draw.Log Memory) h = tt
 of_fault span bytes (draw.Log Read) h = ((λ e. cc), h)
 of_fault span bytes (draw.Log TooLong) h = ((λ e. cc), h)
@@ -31,11 +31,11 @@ of_fault span bytes (draw.Log (Word n)) h = ((λ e. cc), h)
 of_fault span bytes (draw.Log (Number n)) h = ((λ e. cc), h)
 of_fault span bytes (draw.Picture why) h = h
 
-pub undrawn : (span : Span) (bytes : Told) (fault : DrawFault) (answer : AppFault) → answer ≡ of_draw fault → IsNoPictureOf span bytes fault → IsUndrawn span bytes answer
+pub undrawn : (span : Span) (bytes : BytesTold) (fault : DrawFault) (answer : AppFault) → answer ≡ of_draw fault → IsNoPictureOf span bytes fault → IsUndrawn span bytes answer
 undrawn span bytes fault answer e h = subst (IsUndrawn span bytes) (sym e) (of_fault span bytes fault h)
 
 -- a picture is written
-pub drawn : (names : List (List ℕ)) (span : Span) (bytes old new : Told) (text : List ℕ) (result : Result Unit AppFault) → IsPictureOf names span bytes text
+pub drawn : (names : List (List ℕ)) (span : Span) (bytes old new : BytesTold) (text : List ℕ) (result : Result Unit AppFault) → IsPictureOf names span bytes text
     → OnOk result (Appends old new text) → OnOk result (Draws names span bytes old new)
 drawn names span bytes old new text (Ok u) picture written = (text, picture, written)
 drawn names span bytes old new text (Err fault) picture written = tt
@@ -50,7 +50,7 @@ of_names name program.SameFile h = absurd h
 of_names name (program.Steps fault) h = absurd h
 
 -- a stored run is not read
-pub unread_run : (span : Span) (log cert : Told) (fault : AppFault) → fault ≢ app.Write → IsRefusal log cert fault → IsUndrawnRun span log cert fault
+pub unread_run : (span : Span) (log cert : BytesTold) (fault : AppFault) → fault ≢ app.Write → IsRefusal log cert fault → IsUndrawnRun span log cert fault
 unread_run span log cert (app.Log fault) write h = h
 unread_run span log cert (app.Cert fault) write h = h
 unread_run span log cert app.Memory write h = tt
@@ -63,26 +63,26 @@ unread_run span log cert app.RecordTooLong write h = h
 unread_run span log cert (app.Picture why) write h = absurd h
 
 -- it is not drawn
-of_run_fault : (span : Span) (log cert : Told) (read : List Event) (fault : DrawFault) → SaysRows log read → IsUndrawnLog span read fault → IsUndrawnRun span log cert (of_draw fault)
+of_run_fault : (span : Span) (log cert : BytesTold) (read : List Event) (fault : DrawFault) → SaysRows log read → IsUndrawnLog span read fault → IsUndrawnRun span log cert (of_draw fault)
 of_run_fault span log cert read (draw.Picture why) says h = (read, says, h)
 of_run_fault span log cert read (draw.Log fault) says h = subst (λ (f : LogFault). IsUndrawnRun span log cert (of_draw (draw.Log f))) (sym h) tt
 
-pub undrawn_run : (span : Span) (log cert : Told) (read : List Event) (certificates : List Certificate) (fault : DrawFault) (answer : AppFault) → answer ≡ of_draw fault → Say log cert read certificates → IsUndrawnLog span read fault
+pub undrawn_run : (span : Span) (log cert : BytesTold) (read : List Event) (certificates : List Certificate) (fault : DrawFault) (answer : AppFault) → answer ≡ of_draw fault → Say log cert read certificates → IsUndrawnLog span read fault
     → IsUndrawnRun span log cert answer
 undrawn_run span log cert read certificates fault answer e said h = subst (IsUndrawnRun span log cert) (sym e) (of_run_fault span log cert read fault said.rows_said h)
 
 -- a picture with certificates is written
-pub drawn_certified : (names : List (List ℕ)) (span : Span) (log cert old new : Told) (text : List ℕ) (result : Result Unit AppFault) → IsCertifiedPictureOf names span log cert text
+pub drawn_certified : (names : List (List ℕ)) (span : Span) (log cert old new : BytesTold) (text : List ℕ) (result : Result Unit AppFault) → IsCertifiedPictureOf names span log cert text
     → OnOk result (Appends old new text) → OnOk result (DrawsCertified names span log cert old new)
 drawn_certified names span log cert old new text (Ok u) picture written = (text, picture, written)
 drawn_certified names span log cert old new text (Err fault) picture written = tt
 
 -- a picture of a stored log is one of some log
-some_picture : {F : Type 0} (told : F → Told) (cert : Name) (names : List (List ℕ)) (span : Span) (log : Told) (text : List ℕ) → IsPictureWith told cert names span log text → IsSomePicture text
+some_picture : {F : Type 0} (told : F → BytesTold) (cert : Name) (names : List (List ℕ)) (span : Span) (log : BytesTold) (text : List ℕ) → IsPictureWith told cert names span log text → IsSomePicture text
 some_picture told None names span log text h = record { names = names; span = span; read = h.0; picture = inl h.2 }
 some_picture told (Some file) names span log text h = record { names = names; span = span; read = h.1.0; picture = inr (h.1.1, h.1.3) }
 
-module _ {F : Type 0} (told : F → Told) (scenario cert : Name) (span : Span) (svg : Name) (text : List ℕ) (old new : Told) (picture : IsPictureOfFile told scenario cert span text) where
+module _ {F : Type 0} (told : F → BytesTold) (scenario cert : Name) (span : Span) (svg : Name) (text : List ℕ) (old new : BytesTold) (picture : IsPictureOfFile told scenario cert span text) where
   -- what is left on standard output
   pub leaves : TextGoesTo svg text old new → LeavesPicture old new
   leaves goes = by_name svg goes

@@ -11,16 +11,16 @@ use Rattle.kt_scenario.specs.declared.fault.ScenarioFault.TheVariants as scenari
 use Rattle.kt_scenario.specs.declared.fault.StepsFault.{StepsFault}
 use Rattle.kt_scenario.specs.declared.fault.StepsFault.TheVariants as steps
 use Rattle.kt_program.specs.Inputs.{AreStepsOf, IsRead, IsScenarioOf, IsScenarioRefusal, IsStepsRefusal, of_scenario, of_steps}
-use Rattle.kt_program.specs.Stored.{Told}
+use Rattle.kt_program.specs.Stored.{BytesTold}
 
 -- a text that was read to its end
-pub read_whole : (most : ℕ) (old new : Told) (text : List ℕ) → Consumes old new text → IsAtEnd new → IsRead most old text
+pub read_whole : (most : ℕ) (old new : BytesTold) (text : List ℕ) → Consumes old new text → IsAtEnd new → IsRead most old text
 read_whole most None new text c e = tt
 read_whole most (Some all) None text c e = absurd c
 read_whole most (Some all) (Some left) text c e = inl (sym (c ∙ ap (λ (l : List ℕ). text ++ l) e ∙ append-nil text))
 
 -- a text that was read until it was too long
-pub read_long : (most : ℕ) (old new : Told) (text : List ℕ) → Consumes old new text → most < length text → IsRead most old text
+pub read_long : (most : ℕ) (old new : BytesTold) (text : List ℕ) → Consumes old new text → most < length text → IsRead most old text
 read_long most None new text c l = tt
 read_long most (Some all) None text c l = absurd c
 read_long most (Some all) (Some left) text c l = inr (l, left, c)
@@ -29,7 +29,7 @@ longer : (most : ℕ) (text rest whole : List ℕ) → whole ≡ text ++ rest �
 longer most text rest whole e l = let h = ap length e ∙ length-append text rest in omega (arith, h, l)
 
 -- the plan of what was read is that of the whole text
-pub plan_of_whole : (told : Told) (text : List ℕ) (plan : Planned) → IsRead most_bytes told text → IsScenario text plan → IsScenarioOf told plan
+pub plan_of_whole : (told : BytesTold) (text : List ℕ) (plan : Planned) → IsRead most_bytes told text → IsScenario text plan → IsScenarioOf told plan
 plan_of_whole None text plan read is = tt
 plan_of_whole (Some whole) text plan (inl e) is = subst (λ (t : List ℕ). IsScenario t plan) e is
 plan_of_whole (Some whole) text plan (inr (l, rest, e)) is = let few = is.few in absurd (omega (arith, few, l))
@@ -39,13 +39,13 @@ fault_in_whole text rest whole fault l e (inl first) = inl (first.0, longer most
 fault_in_whole text rest whole fault l e (inr first) = let few = first.3 in absurd (omega (arith, few, l))
 
 -- and so is its first fault
-pub fault_of_whole : (told : Told) (text : List ℕ) (fault : ScenarioFault) → IsRead most_bytes told text → IsFirstFault text fault → IfSome told (λ t. IsFirstFault t fault)
+pub fault_of_whole : (told : BytesTold) (text : List ℕ) (fault : ScenarioFault) → IsRead most_bytes told text → IsFirstFault text fault → IfSome told (λ t. IsFirstFault t fault)
 fault_of_whole None text fault read is = tt
 fault_of_whole (Some whole) text fault (inl e) is = subst (λ (t : List ℕ). IsFirstFault t fault) e is
 fault_of_whole (Some whole) text fault (inr (l, rest, e)) is = fault_in_whole text rest whole fault l e is
 
 -- the same of steps
-pub steps_of_whole : (told : Told) (names : List (List ℕ)) (text : List ℕ) (list : List Step) → IsRead most_step_bytes told text → AreSteps names text list → AreStepsOf told names list
+pub steps_of_whole : (told : BytesTold) (names : List (List ℕ)) (text : List ℕ) (list : List Step) → IsRead most_step_bytes told text → AreSteps names text list → AreStepsOf told names list
 steps_of_whole None names text list read is = tt
 steps_of_whole (Some whole) names text list (inl e) is = subst (λ (t : List ℕ). AreSteps names t list) e is
 steps_of_whole (Some whole) names text list (inr (l, rest, e)) is = let few = is.few in absurd (omega (arith, few, l))
@@ -55,14 +55,14 @@ step_fault_in_whole : (names : List (List ℕ)) (text rest whole : List ℕ) (fa
 step_fault_in_whole names text rest whole fault l e (inl first) = inl (first.0, longer most_step_bytes text rest whole e l)
 step_fault_in_whole names text rest whole fault l e (inr first) = let few = first.3 in absurd (omega (arith, few, l))
 
-pub step_fault_of_whole : (told : Told) (names : List (List ℕ)) (text : List ℕ) (fault : StepsFault) → IsRead most_step_bytes told text → IsFirstStepFault names text fault
+pub step_fault_of_whole : (told : BytesTold) (names : List (List ℕ)) (text : List ℕ) (fault : StepsFault) → IsRead most_step_bytes told text → IsFirstStepFault names text fault
     → IfSome told (λ t. IsFirstStepFault names t fault)
 step_fault_of_whole None names text fault read is = tt
 step_fault_of_whole (Some whole) names text fault (inl e) is = subst (λ (t : List ℕ). IsFirstStepFault names t fault) e is
 step_fault_of_whole (Some whole) names text fault (inr (l, rest, e)) is = step_fault_in_whole names text rest whole fault l e is
 
 -- why a scenario is refused, as the program answers it
-pub scenario_refused : (told : Told) (text : List ℕ) (fault : ScenarioFault) → IsRead most_bytes told text → (fault ≢ scenario.Memory → IsFirstFault text fault)
+pub scenario_refused : (told : BytesTold) (text : List ℕ) (fault : ScenarioFault) → IsRead most_bytes told text → (fault ≢ scenario.Memory → IsFirstFault text fault)
     → IsScenarioRefusal told (of_scenario fault)
 scenario_refused told text scenario.TooLong read is = (λ e. cc e, fault_of_whole told text scenario.TooLong read (is (λ e. cc e)))
 scenario_refused told text (scenario.Command n) read is = (λ e. cc e, fault_of_whole told text (scenario.Command n) read (is (λ e. cc e)))
@@ -78,7 +78,7 @@ scenario_refused told text (scenario.TooManyCommands n) read is = (λ e. cc e, f
 scenario_refused told text scenario.Memory read is = refl
 
 -- why steps are refused, as the program answers it
-pub steps_refused : (told : Told) (names : List (List ℕ)) (text : List ℕ) (fault : StepsFault) → IsRead most_step_bytes told text
+pub steps_refused : (told : BytesTold) (names : List (List ℕ)) (text : List ℕ) (fault : StepsFault) → IsRead most_step_bytes told text
     → (fault ≢ steps.Memory → IsFirstStepFault names text fault) → IsStepsRefusal told names (of_steps fault)
 steps_refused told names text steps.TooLong read is = (λ e. cc e, step_fault_of_whole told names text steps.TooLong read (is (λ e. cc e)))
 steps_refused told names text (steps.Command n) read is = (λ e. cc e, step_fault_of_whole told names text (steps.Command n) read (is (λ e. cc e)))

@@ -12,7 +12,7 @@ use Rattle.kt_program.specs.declared.ask.AskFault.TheVariants.{SameName}
 use Rattle.kt_program.specs.declared.line.Asked.{Asked}
 use Rattle.kt_program.specs.Asking.{IsUnasked}
 use Rattle.kt_program.specs.Names.{IsApart}
-use Rattle.kt_program.specs.Program.{IsDefined, IsErrorFor, Names, program}
+use Rattle.kt_program.specs.Program.{IsDefined, IsErrorFor, NamesAsked, program}
 
 -- the program's command line is one of which clap says what it makes of words
 pub simple : is_simple program ≡ true
@@ -23,16 +23,16 @@ simple_and_free = refl
 
 -- what it makes of words that it takes
 pub names_of : (command : Command) (words texts : List Text) (m : _) (asked : Asked) → IsDefined program command → texts ≡ words → HasMatchesOf (app_of command) texts m
-    → Names (subcommand_rows_of m) asked → Names (subcommand_of program words) asked
+    → NamesAsked (subcommand_rows_of m) asked → NamesAsked (subcommand_of program words) asked
 names_of command words texts m asked defined same has named =
     let here = subst (λ (app : App). HasMatchesOf app texts m) defined.shape has in
-    subst (λ (list : List Text). Names (subcommand_of program list) asked) same (subst (λ rows. Names rows asked) (here simple).1 named)
+    subst (λ (list : List Text). NamesAsked (subcommand_of program list) asked) same (subst (λ rows. NamesAsked rows asked) (here simple).1 named)
 
 pub nothing_of : (command : Command) (words texts : List Text) (m : _) → IsDefined program command → texts ≡ words → HasMatchesOf (app_of command) texts m
-    → ((asked : Asked) → ¬ Names (subcommand_rows_of m) asked) → (asked : Asked) → ¬ Names (subcommand_of program words) asked
+    → ((asked : Asked) → ¬ NamesAsked (subcommand_rows_of m) asked) → (asked : Asked) → ¬ NamesAsked (subcommand_of program words) asked
 nothing_of command words texts m defined same has none asked named =
     let here = subst (λ (app : App). HasMatchesOf app texts m) defined.shape has in
-    none asked (subst (λ rows. Names rows asked) (sym (here simple).1) (subst (λ (list : List Text). Names (subcommand_of program list) asked) (sym same) named))
+    none asked (subst (λ rows. NamesAsked rows asked) (sym (here simple).1) (subst (λ (list : List Text). NamesAsked (subcommand_of program list) asked) (sym same) named))
 
 -- the error that it gives for others
 pub error_of : {T : Type 0} (command : Command) (words texts : List Text) (result : Result T Error) (e : Error) → IsDefined program command → texts ≡ words → result ≡ Err e
@@ -41,7 +41,7 @@ error_of {T} command words texts result e defined same is fails =
     let here = subst (λ (app : App). is_simple_and_free app ≡ true → FailsBy (fault_of app texts) result) defined.shape fails in
     inl (subst (λ (list : List Text). FailsBy {T = T} (fault_of program list) (Err e)) same (subst (λ r. FailsBy {T = T} (fault_of program texts) r) is (here simple_and_free)))
 
-pub unasked : (words : List Text) (asked : Asked) (result : Result Asked AskFault) → Names (subcommand_of program words) asked → IfErr result (λ fault. fault ≡ SameName)
+pub unasked : (words : List Text) (asked : Asked) (result : Result Asked AskFault) → NamesAsked (subcommand_of program words) asked → IfErr result (λ fault. fault ≡ SameName)
     → IfErr result (λ fault. ¬ IsApart asked) → IfErr result (IsUnasked words)
 unasked words asked (Ok given) named is twice = tt
 unasked words asked (Err fault) named is twice = subst (IsUnasked words) (sym is) (asked, named, twice)

@@ -13,10 +13,10 @@ use Rattle.kt_program.specs.declared.fault.ProgramFault.{ProgramFault}
 use Rattle.kt_program.specs.declared.fault.ProgramFault.TheVariants as program
 use Rattle.kt_program.specs.Certified.{AreOfFile, CertifiesTo, GoTo, IsUncertified, LeavesCertificates, LeavesCertified, of_stream, text_of_list}
 use Rattle.kt_program.specs.Names.{Name}
-use Rattle.kt_program.specs.Stored.{Told}
+use Rattle.kt_program.specs.Stored.{BytesTold}
 
 -- a fault of the stream is one of the program
-of_fault : (bytes : Told) (fault : StreamFault) → IsFaultOfBytes bytes fault → IsUncertified bytes (of_stream fault)
+of_fault : (bytes : BytesTold) (fault : StreamFault) → IsFaultOfBytes bytes fault → IsUncertified bytes (of_stream fault)
 of_fault bytes (Log Memory) h = tt
 of_fault bytes (Log Read) h = ((λ e. cc), h)
 of_fault bytes (Log TooLong) h = ((λ e. cc), h)
@@ -26,10 +26,10 @@ of_fault bytes (Log (Word n)) h = ((λ e. cc), h)
 of_fault bytes (Log (Number n)) h = ((λ e. cc), h)
 of_fault bytes (Unfit why) h = h
 
-pub uncertified : (bytes : Told) (fault : StreamFault) (answer : AppFault) → answer ≡ of_stream fault → IsFaultOfBytes bytes fault → IsUncertified bytes answer
+pub uncertified : (bytes : BytesTold) (fault : StreamFault) (answer : AppFault) → answer ≡ of_stream fault → IsFaultOfBytes bytes fault → IsUncertified bytes answer
 uncertified bytes fault answer e h = subst (IsUncertified bytes) (sym e) (of_fault bytes fault h)
 
-module _ {F : Type 0} (told : F → Told) (name : Name) (list : List Certificate) (old new : Told) (file : AreOfFile told list) where
+module _ {F : Type 0} (told : F → BytesTold) (name : Name) (list : List Certificate) (old new : BytesTold) (file : AreOfFile told list) where
   -- what is left on standard output
   leaves : GoTo name list old new → LeavesCertificates old new
   leaves goes = by_name name goes

@@ -13,11 +13,11 @@ use Rattle.kt_program.specs.declared.fault.ProgramFault.TheVariants as program
 use Rattle.kt_program.specs.declared.line.Asked.{Asked}
 use Rattle.kt_program.specs.declared.line.Asked.TheVariants.{Certify, Check, Explain, Live, LiveRecorded, Play, PlayInOrder, Draw}
 use Rattle.kt_program.specs.Names.{IsApart, IsWriting, IsNamed}
-use Rattle.kt_program.specs.Program.{IsErrorFor, Names, program as definition}
+use Rattle.kt_program.specs.Program.{IsErrorFor, NamesAsked, program as definition}
 
 -- words that name something to do, and an output by the name of an input or of another output
 abbrev pub NameTwice : List Text → Type 0
-NameTwice words = (asked : Asked) × Names (subcommand_of definition words) asked × ¬ IsApart asked
+NameTwice words = (asked : Asked) × NamesAsked (subcommand_of definition words) asked × ¬ IsApart asked
 
 -- why nothing is asked for: an error that clap's definition gives for the words, such a name, or no memory
 abbrev pub IsUnasked : List Text → AskFault → Type 0
@@ -117,7 +117,7 @@ IsOfScenario (Draw asked) = IsNamed asked.names
 
 -- words that name something to do of such a sort, and no output by the name of an input or of another output
 abbrev pub Ask : List Text → (Asked → Type 0) → Type 0
-Ask words P = (asked : Asked) × Names (subcommand_of definition words) asked × IsApart asked × P asked
+Ask words P = (asked : Asked) × NamesAsked (subcommand_of definition words) asked × IsApart asked × P asked
 
 -- what is done for words: a scenario run, a run judged, a log certified or drawn where they name that; help shown where they
 -- ask for it; they are refused where they are a mistake or name a file twice, as one file under two names where a file is to

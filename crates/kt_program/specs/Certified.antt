@@ -17,22 +17,22 @@ use Rattle.kt_program.specs.declared.fault.AppFault.TheVariants as app
 use Rattle.kt_program.specs.declared.fault.ProgramFault.{ProgramFault}
 use Rattle.kt_program.specs.declared.fault.ProgramFault.TheVariants as program
 use Rattle.kt_program.specs.Names.{Name}
-use Rattle.kt_program.specs.Stored.{Told, records_told}
+use Rattle.kt_program.specs.Stored.{BytesTold, records_told}
 
 -- the text of these certificates
 abbrev pub text_of_list : List Certificate → List ℕ
 text_of_list list = text_of (records_of list)
 
 -- the certificates of the rows that the bytes say are written
-abbrev pub WritesCertificates : Told → Told → Told → Type 0
+abbrev pub WritesCertificates : BytesTold → BytesTold → BytesTold → Type 0
 WritesCertificates bytes old new = (list : List Certificate) × AreCertified bytes list × Appends old new (text_of_list list)
 
 -- writing them stops: a front part of their text is written
-abbrev pub StopsInCertificates : Told → Told → Told → Type 0
+abbrev pub StopsInCertificates : BytesTold → BytesTold → BytesTold → Type 0
 StopsInCertificates bytes old new = (list : List Certificate) × AreCertified bytes list × WritesFront old new (text_of_list list)
 
 -- why a stored log has no certificates: its first fault, or why its rows are not fit; nothing is said of want of memory
-abbrev pub IsUncertified : Told → AppFault → Type 0
+abbrev pub IsUncertified : BytesTold → AppFault → Type 0
 IsUncertified bytes (app.Log fault) = (fault ≢ log.Memory) × IfSome (records_told bytes) (λ text. rows.IsFirstFault text fault)
 IsUncertified bytes (app.Unfit why) = (read : List Event) × AreRowsOf bytes read × IsUnfit read why
 IsUncertified bytes app.Memory = Unit {0}
@@ -45,7 +45,7 @@ IsUncertified bytes (app.Uncertified fault) = ⊥
 IsUncertified bytes (app.Picture why) = ⊥
 
 -- it has none and nothing is written, or writing them stops
-abbrev pub IsNotWritten : Told → Told → Told → AppFault → Type 0
+abbrev pub IsNotWritten : BytesTold → BytesTold → BytesTold → AppFault → Type 0
 IsNotWritten bytes old new fault = (IsUncertified bytes fault × (new ≡ old)) ⊎ (((fault ≡ app.Write) ⊎ (fault ≡ app.Memory)) × StopsInCertificates bytes old new)
 
 -- a fault of a stored log, as the program answers it
@@ -55,24 +55,24 @@ of_stream (stream.Log fault) = app.Log fault
 of_stream (stream.Unfit why) = app.Unfit why
 
 -- these certificates go to standard output where no file is named for them
-abbrev pub GoTo : Name → List Certificate → Told → Told → Type 0
+abbrev pub GoTo : Name → List Certificate → BytesTold → BytesTold → Type 0
 GoTo None list old new = Appends old new (text_of_list list)
 GoTo (Some name) list old new = new ≡ old
 
 -- these are the certificates of the rows that a file says
-abbrev pub AreOfFile : {F : Type 0} → (F → Told) → List Certificate → Type 0
+abbrev pub AreOfFile : {F : Type 0} → (F → BytesTold) → List Certificate → Type 0
 AreOfFile {F} told list = (file : F) × AreCertified (told file) list
 
 -- such certificates go where they are asked for
-abbrev pub CertifiesTo : {F : Type 0} → (F → Told) → Name → Told → Told → Type 0
+abbrev pub CertifiesTo : {F : Type 0} → (F → BytesTold) → Name → BytesTold → BytesTold → Type 0
 CertifiesTo told name old new = (list : List Certificate) × AreOfFile told list × GoTo name list old new
 
 -- standard output has the certificates of rows that are fit, or nothing new where they go into a file
-abbrev pub LeavesCertificates : Told → Told → Type 0
+abbrev pub LeavesCertificates : BytesTold → BytesTold → Type 0
 LeavesCertificates old new = (new ≡ old) ⊎ ((read : List Event) × IsFit read × Appends old new (text_of_list (certificates read)))
 
 -- the same; at a fault nothing new, unless the writer failed or there was no memory for more of the certificates
-abbrev pub LeavesCertified : Result Unit ProgramFault → Told → Told → Type 0
+abbrev pub LeavesCertified : Result Unit ProgramFault → BytesTold → BytesTold → Type 0
 LeavesCertified (Ok u) old new = LeavesCertificates old new
 LeavesCertified (Err fault) old new = fault ≢ program.App app.Write → fault ≢ program.App app.Memory → new ≡ old
 

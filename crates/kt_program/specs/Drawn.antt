@@ -20,14 +20,14 @@ use Rattle.kt_program.specs.declared.line.Drawing.{Drawing}
 use Rattle.kt_program.specs.Explained.{Say}
 use Rattle.kt_program.specs.Inputs.{IsPlanOfFile}
 use Rattle.kt_program.specs.Names.{Name, IsNamed}
-use Rattle.kt_program.specs.Stored.{IsRefusal, Told, records_told}
+use Rattle.kt_program.specs.Stored.{IsRefusal, BytesTold, records_told}
 
 -- it is written
-abbrev pub Draws : List (List ℕ) → Span → Told → Told → Told → Type 0
+abbrev pub Draws : List (List ℕ) → Span → BytesTold → BytesTold → BytesTold → Type 0
 Draws names span bytes old new = (text : List ℕ) × IsPictureOf names span bytes text × Appends old new text
 
 -- why a stored log is not drawn: its first fault, or why it has no such picture; nothing is said of want of memory
-abbrev pub IsUndrawn : Span → Told → AppFault → Type 0
+abbrev pub IsUndrawn : Span → BytesTold → AppFault → Type 0
 IsUndrawn span bytes (app.Log fault) = (fault ≢ log.Memory) × IfSome (records_told bytes) (λ text. texts.IsFirstFault text fault)
 IsUndrawn span bytes (app.Picture why) = (read : List Event) × SaysRows bytes read × IsNoPicture span read why
 IsUndrawn span bytes app.Memory = Unit {0}
@@ -46,17 +46,17 @@ of_draw (draw.Log fault) = app.Log fault
 of_draw (draw.Picture why) = app.Picture why
 
 -- a text is the picture of the rows that are asked for, of the log that bytes say, with the certificates that others say
-abbrev pub IsCertifiedPictureOf : List (List ℕ) → Span → Told → Told → List ℕ → Type 0
+abbrev pub IsCertifiedPictureOf : List (List ℕ) → Span → BytesTold → BytesTold → List ℕ → Type 0
 IsCertifiedPictureOf names span log cert text =
     (read : List Event) × (certificates : List Certificate) × Say log cert read certificates × IsCertifiedPicture names span read certificates text
 
 -- it is written
-abbrev pub DrawsCertified : List (List ℕ) → Span → Told → Told → Told → Told → Type 0
+abbrev pub DrawsCertified : List (List ℕ) → Span → BytesTold → BytesTold → BytesTold → BytesTold → Type 0
 DrawsCertified names span log cert old new = (text : List ℕ) × IsCertifiedPictureOf names span log cert text × Appends old new text
 
 -- why a stored log is not drawn with its certificates: its first fault, or that of the certificates of a log that was read, or
 -- why the log has no such picture; nothing is said of want of memory
-abbrev pub IsUndrawnRun : Span → Told → Told → AppFault → Type 0
+abbrev pub IsUndrawnRun : Span → BytesTold → BytesTold → AppFault → Type 0
 IsUndrawnRun span log cert (app.Log fault) = IsRefusal log cert (app.Log fault)
 IsUndrawnRun span log cert (app.Cert fault) = IsRefusal log cert (app.Cert fault)
 IsUndrawnRun span log cert (app.Picture why) = (read : List Event) × SaysRows log read × IsNoPicture span read why
@@ -69,30 +69,30 @@ IsUndrawnRun span log cert (app.Unfit why) = ⊥
 IsUndrawnRun span log cert app.RecordTooLong = ⊥
 
 -- the names of processes: those of the scenario that a file says, where one is named, and else none
-abbrev pub AreNamesOf : {F : Type 0} → (F → Told) → Name → List (List ℕ) → Type 0
+abbrev pub AreNamesOf : {F : Type 0} → (F → BytesTold) → Name → List (List ℕ) → Type 0
 AreNamesOf told None names = names ≡ []
 AreNamesOf told (Some name) names = (plan : Planned) × IsPlanOfFile told plan × (names ≡ plan.names)
 
 -- a text goes to standard output where no file is named for it
-abbrev pub TextGoesTo : Name → List ℕ → Told → Told → Type 0
+abbrev pub TextGoesTo : Name → List ℕ → BytesTold → BytesTold → Type 0
 TextGoesTo None text old new = Appends old new text
 TextGoesTo (Some name) text old new = new ≡ old
 
 -- a text is a picture of the log that bytes say, with the certificates that a file says, where one is named
-abbrev pub IsPictureWith : {F : Type 0} → (F → Told) → Name → List (List ℕ) → Span → Told → List ℕ → Type 0
+abbrev pub IsPictureWith : {F : Type 0} → (F → BytesTold) → Name → List (List ℕ) → Span → BytesTold → List ℕ → Type 0
 IsPictureWith told None names span log text = IsPictureOf names span log text
 IsPictureWith {F = F} told (Some cert) names span log text = (file : F) × IsCertifiedPictureOf names span log (told file) text
 
 -- a text is a picture of the log that a file says, with the names of the scenario and the certificates of the file that are
 -- named
-pub record IsPictureOfFile {F : Type 0} (told : F → Told) (scenario cert : Name) (span : Span) (text : List ℕ) : Type 0 where
+pub record IsPictureOfFile {F : Type 0} (told : F → BytesTold) (scenario cert : Name) (span : Span) (text : List ℕ) : Type 0 where
   pub names : List (List ℕ)
   pub named : AreNamesOf told scenario names
   pub file : F
   pub picture : IsPictureWith told cert names span (told file) text
 
 -- such a picture goes where it is asked for
-abbrev pub DrawsTo : {F : Type 0} → (F → Told) → Drawing → Told → Told → Type 0
+abbrev pub DrawsTo : {F : Type 0} → (F → BytesTold) → Drawing → BytesTold → BytesTold → Type 0
 DrawsTo told asked old new = (text : List ℕ) × IsPictureOfFile told asked.names asked.cert asked.span text × TextGoesTo asked.svg text old new
 
 -- a text is a picture of some log, perhaps with certificates
@@ -103,11 +103,11 @@ pub record IsSomePicture (text : List ℕ) : Type 0 where
   pub picture : IsPicture names span read text ⊎ ((certificates : List Certificate) × IsCertifiedPicture names span read certificates text)
 
 -- standard output has the picture of a log, or nothing new where it goes into a file
-abbrev pub LeavesPicture : Told → Told → Type 0
+abbrev pub LeavesPicture : BytesTold → BytesTold → Type 0
 LeavesPicture old new = (new ≡ old) ⊎ ((text : List ℕ) × IsSomePicture text × Appends old new text)
 
 -- the same; at a fault nothing new, unless the writer failed
-abbrev pub LeavesDrawn : Result Done ProgramFault → Told → Told → Type 0
+abbrev pub LeavesDrawn : Result Done ProgramFault → BytesTold → BytesTold → Type 0
 LeavesDrawn (Ok what) old new = LeavesPicture old new
 LeavesDrawn (Err fault) old new = fault ≢ program.App app.Write → new ≡ old
 

@@ -30,19 +30,19 @@ use Rattle.kt_program.specs.Played.{OverNew}
 use Rattle.kt_program.specs.Recorded.{IsKeptRun, order_of}
 use Rattle.kt_program.specs.KeptLives.{IsKeptLive}
 use Rattle.kt_program.specs.Status.{status_of}
-use Rattle.kt_program.specs.Stored.{Told, is_yes, verdict_line}
+use Rattle.kt_program.specs.Stored.{BytesTold, is_yes, verdict_line}
 
 -- the line of an answer, which is a yes exactly where this is true
-abbrev pub AppendsAnswer : Bool → Told → Told → Type 0
+abbrev pub AppendsAnswer : Bool → BytesTold → BytesTold → Type 0
 AppendsAnswer passed old new = (verdict : Verdict) × (passed ≡ is_yes verdict) × Appends old new (verdict_line verdict)
 
 -- the answer's line; at a fault nothing, unless it is one of the writer
-abbrev pub LeavesAnswer : Result Bool AppFault → Told → Told → Type 0
+abbrev pub LeavesAnswer : Result Bool AppFault → BytesTold → BytesTold → Type 0
 LeavesAnswer (Ok passed) old new = AppendsAnswer passed old new
 LeavesAnswer (Err fault) old new = fault ≢ app.Write → new ≡ old
 
 -- the report of a run of a plan over new objects, of which all is so that is promised of a run
-pub record AppendsReport (old new : Told) : Type 0 where
+pub record AppendsReport (old new : BytesTold) : Type 0 where
   pub plan : Planned
   pub rows : List Event
   pub run : OverNew plan (IsLogOfRun plan) rows
@@ -51,7 +51,7 @@ pub record AppendsReport (old new : Told) : Type 0 where
   pub report : Appends old new (report_of plan rows (certificates rows))
 
 -- the report of a run over new objects, of a plan that a file says, which begins with the steps that are given
-pub record AppendsPlay {F : Type 0} (told : F → Told) (name : Name) (old new : Told) : Type 0 where
+pub record AppendsPlay {F : Type 0} (told : F → BytesTold) (name : Name) (old new : BytesTold) : Type 0 where
   pub plan : Planned
   pub planned : IsPlanOfFile told plan
   pub steps : List Step
@@ -62,7 +62,7 @@ pub record AppendsPlay {F : Type 0} (told : F → Told) (name : Name) (old new :
 
 -- the report of a run over new objects, of a plan that a file says, which begins with the steps that are given and goes on
 -- as a seed draws them, or by default
-pub record AppendsOrderedPlay {F : Type 0} (told : F → Told) (name : Name) (seed : Option ℕ) (old new : Told) : Type 0 where
+pub record AppendsOrderedPlay {F : Type 0} (told : F → BytesTold) (name : Name) (seed : Option ℕ) (old new : BytesTold) : Type 0 where
   pub plan : Planned
   pub planned : IsPlanOfFile told plan
   pub given : List Step
@@ -73,7 +73,7 @@ pub record AppendsOrderedPlay {F : Type 0} (told : F → Told) (name : Name) (se
   pub report : Appends old new (report_of plan rows (certificates rows))
 
 -- the report of a run in threads over new objects, of a plan that a file says, of which the steps are kept
-pub record AppendsRecordedLive {F : Type 0} (told : F → Told) (old new : Told) : Type 0 where
+pub record AppendsRecordedLive {F : Type 0} (told : F → BytesTold) (old new : BytesTold) : Type 0 where
   pub plan : Planned
   pub planned : IsPlanOfFile told plan
   pub steps : List Step
@@ -82,7 +82,7 @@ pub record AppendsRecordedLive {F : Type 0} (told : F → Told) (old new : Told)
   pub report : Appends old new (report_of plan rows (certificates rows))
 
 -- the run's report; at a fault nothing, unless a writer failed or there was no memory for more of the report
-abbrev pub LeavesPlayed : Result Unit ProgramFault → Told → Told → Type 0
+abbrev pub LeavesPlayed : Result Unit ProgramFault → BytesTold → BytesTold → Type 0
 LeavesPlayed (Ok u) old new = AppendsReport old new
 LeavesPlayed (Err fault) old new = (fault ≢ program.Line) × (fault ≢ program.App app.Write → fault ≢ program.App app.Memory → new ≡ old)
 
@@ -109,7 +109,7 @@ IsNotOfSteps program.Read = Unit {0}
 IsNotOfSteps (program.App fault) = Unit {0}
 
 -- the same of all that the program does; nothing is said of the text of help
-abbrev pub LeavesDone : Done → Told → Told → Type 0
+abbrev pub LeavesDone : Done → BytesTold → BytesTold → Type 0
 LeavesDone (Judged passed) old new = AppendsAnswer passed old new
 LeavesDone (Explained passed) old new = AppendsExplained passed old new
 LeavesDone Played old new = AppendsReport old new
@@ -119,7 +119,7 @@ LeavesDone Shown old new = Unit {0}
 
 -- what is written for what is asked: the report of the scenario played with the steps of the file that is named, by a seed
 -- where one is given, or of a run by threads
-abbrev pub Plays : {F : Type 0} → (F → Told) → Told → Told → Asked → Type 0
+abbrev pub Plays : {F : Type 0} → (F → BytesTold) → BytesTold → BytesTold → Asked → Type 0
 Plays told old new (Play scenario steps log cert) = AppendsPlay told steps old new
 Plays told old new (PlayInOrder play) = AppendsOrderedPlay told play.steps play.seed old new
 Plays told old new (Live scenario log cert) = AppendsReport old new
@@ -130,7 +130,7 @@ Plays told old new (Certify log cert) = ⊥
 Plays told old new (Draw asked) = ⊥
 
 -- where a scenario was run, that is written which these words ask for
-abbrev pub PlayedFor : {F : Type 0} → List Text → (F → Told) → Told → Told → Done → Type 0
+abbrev pub PlayedFor : {F : Type 0} → List Text → (F → BytesTold) → BytesTold → BytesTold → Done → Type 0
 PlayedFor words told old new Played = Ask words (Plays told old new)
 PlayedFor words told old new (Judged passed) = Unit {0}
 PlayedFor words told old new (Explained passed) = Unit {0}
@@ -139,7 +139,7 @@ PlayedFor words told old new Drawn = Unit {0}
 PlayedFor words told old new Shown = Unit {0}
 
 -- what is written of a log that is to be certified: its certificates go where that is asked
-abbrev pub Certifies : {F : Type 0} → (F → Told) → Told → Told → Asked → Type 0
+abbrev pub Certifies : {F : Type 0} → (F → BytesTold) → BytesTold → BytesTold → Asked → Type 0
 Certifies told old new (Certify log cert) = CertifiesTo told cert old new
 Certifies told old new (Play scenario steps log cert) = ⊥
 Certifies told old new (PlayInOrder play) = ⊥
@@ -150,7 +150,7 @@ Certifies told old new (Explain log cert) = ⊥
 Certifies told old new (Draw asked) = ⊥
 
 -- where a log was certified, that is written which these words ask for
-abbrev pub CertifiedFor : {F : Type 0} → List Text → (F → Told) → Told → Told → Done → Type 0
+abbrev pub CertifiedFor : {F : Type 0} → List Text → (F → BytesTold) → BytesTold → BytesTold → Done → Type 0
 CertifiedFor words told old new Certified = Ask words (Certifies told old new)
 CertifiedFor words told old new Played = Unit {0}
 CertifiedFor words told old new (Judged passed) = Unit {0}
@@ -159,7 +159,7 @@ CertifiedFor words told old new Drawn = Unit {0}
 CertifiedFor words told old new Shown = Unit {0}
 
 -- what is written of a log that is to be drawn: its picture goes where that is asked
-abbrev pub DrawsFor : {F : Type 0} → (F → Told) → Told → Told → Asked → Type 0
+abbrev pub DrawsFor : {F : Type 0} → (F → BytesTold) → BytesTold → BytesTold → Asked → Type 0
 DrawsFor told old new (Draw asked) = DrawsTo told asked old new
 DrawsFor told old new (Play scenario steps log cert) = ⊥
 DrawsFor told old new (PlayInOrder play) = ⊥
@@ -170,7 +170,7 @@ DrawsFor told old new (Explain log cert) = ⊥
 DrawsFor told old new (Certify log cert) = ⊥
 
 -- where a log was drawn, that is written which these words ask for
-abbrev pub DrawnFor : {F : Type 0} → List Text → (F → Told) → Told → Told → Done → Type 0
+abbrev pub DrawnFor : {F : Type 0} → List Text → (F → BytesTold) → BytesTold → BytesTold → Done → Type 0
 DrawnFor words told old new Drawn = Ask words (DrawsFor told old new)
 DrawnFor words told old new Certified = Unit {0}
 DrawnFor words told old new Played = Unit {0}
@@ -187,13 +187,13 @@ abbrev pub IsInText : List Text → ProgramFault → Type 0
 IsInText words fault = (fault ≡ program.App app.Memory) × Ask words IsOfText
 
 -- what these words leave
-abbrev pub LeavesOutput : List Text → Result Done ProgramFault → Told → Told → Type 0
+abbrev pub LeavesOutput : List Text → Result Done ProgramFault → BytesTold → BytesTold → Type 0
 LeavesOutput words (Ok what) old new = LeavesDone what old new
 LeavesOutput words (Err fault) old new = fault ≢ program.App app.Write → (new ≡ old) ⊎ IsInText words fault
 
 -- how the program ends for these words: with the status of what it did; standard output has what that left, and standard
 -- error the line of a fault, or a front part of it, and hints below it where they are told; and nothing new without a fault
-pub record EndsOn {F : Type 0} (told : F → Told) (terminal : Bool) (words : List Text) (status : ℕ) (out_old out_new err_old err_new : Told) : Type 0 where
+pub record EndsOn {F : Type 0} (told : F → BytesTold) (terminal : Bool) (words : List Text) (status : ℕ) (out_old out_new err_old err_new : BytesTold) : Type 0 where
   pub outcome : Result Done ProgramFault
   pub status_is : status ≡ status_of outcome
   pub output : LeavesOutput words outcome out_old out_new
@@ -201,6 +201,6 @@ pub record EndsOn {F : Type 0} (told : F → Told) (terminal : Bool) (words : Li
   pub line : IfErr outcome (λ fault. IsHinted told terminal words fault err_old err_new)
 
 -- how it ends for the words that it was called with
-abbrev pub Ends : {F : Type 0} → (F → Told) → Bool → ℕ → Told → Told → Told → Told → Type 0
+abbrev pub Ends : {F : Type 0} → (F → BytesTold) → Bool → ℕ → BytesTold → BytesTold → BytesTold → BytesTold → Type 0
 Ends told terminal status out_old out_new err_old err_new =
     (words : List Text) × EndsOn told terminal words status out_old out_new err_old err_new

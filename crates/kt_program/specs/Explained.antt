@@ -12,7 +12,7 @@ use Rattle.kt_explain.specs.Told.{IsExplanation}
 use Rattle.kt_explain.specs.Words.{explanation_words}
 use Rattle.kt_program.specs.declared.fault.AppFault.{AppFault}
 use Rattle.kt_program.specs.declared.fault.AppFault.TheVariants as app
-use Rattle.kt_program.specs.Stored.{Told, SayCertificates, is_yes}
+use Rattle.kt_program.specs.Stored.{BytesTold, SayCertificates, is_yes}
 
 -- the checker's answer to rows and certificates, and what is told of it
 pub record IsExplained (rows : List Event) (certificates : List Certificate) (verdict : Verdict) (e : Explanation) : Type 0 where
@@ -20,12 +20,12 @@ pub record IsExplained (rows : List Event) (certificates : List Certificate) (ve
   pub told : IsExplanation rows certificates verdict e
 
 -- bytes say these rows and certificates
-pub record Say (log cert : Told) (rows : List Event) (certificates : List Certificate) : Type 0 where
+pub record Say (log cert : BytesTold) (rows : List Event) (certificates : List Certificate) : Type 0 where
   pub rows_said : SaysRows log rows
   pub certificates_said : SayCertificates cert certificates
 
 -- the checker's answer to the rows and the certificates that the bytes say, and what is told of it
-pub record IsExplainedOf (log cert : Told) (verdict : Verdict) (e : Explanation) : Type 0 where
+pub record IsExplainedOf (log cert : BytesTold) (verdict : Verdict) (e : Explanation) : Type 0 where
   pub rows : List Event
   pub certificates : List Certificate
   pub said : Say log cert rows certificates
@@ -36,11 +36,11 @@ abbrev pub explained_text : Verdict → Explanation → List ℕ
 explained_text verdict e = verdict_words verdict ++ 10 ∷ explanation_words e
 
 -- an answer and what is told of it, which is a yes exactly where this is true
-abbrev pub AppendsExplained : Bool → Told → Told → Type 0
+abbrev pub AppendsExplained : Bool → BytesTold → BytesTold → Type 0
 AppendsExplained passed old new =
     (verdict : Verdict) × (e : Explanation) × (passed ≡ is_yes verdict) × Appends old new (explained_text verdict e)
 
 -- the answer and what is told of it; at a fault nothing, unless it is one of the writer
-abbrev pub LeavesExplained : Result Bool AppFault → Told → Told → Type 0
+abbrev pub LeavesExplained : Result Bool AppFault → BytesTold → BytesTold → Type 0
 LeavesExplained (Ok passed) old new = AppendsExplained passed old new
 LeavesExplained (Err fault) old new = fault ≢ app.Write → new ≡ old

@@ -9,7 +9,7 @@ use Rattle.kt_scenario.specs.FaultTexts.{scenario_fault_text, steps_fault_text}
 use Rattle.kt_run.specs.FaultTexts.{run_fault_text}
 use Rattle.kt_threads.specs.FaultTexts.{live_fault_text}
 use Rattle.kt_program.specs.Faults.{fault_line}
-use Rattle.kt_program.specs.Stored.{Told}
+use Rattle.kt_program.specs.Stored.{BytesTold}
 use Rattle.kt_program.specs.declared.fault.AppFault.{AppFault}
 use Rattle.kt_program.specs.declared.fault.AppFault.TheVariants as app
 use Rattle.kt_program.specs.declared.fault.ProgramFault.{ProgramFault}
@@ -38,5 +38,5 @@ program_fault_text program.Read = Some (codes "read fault")
 program_fault_text (program.App fault) = app_fault_text fault
 
 -- the line of a fault is written, or a front part of it, where its words are told
-abbrev pub WritesLineOf : ProgramFault → Told → Told → Type 0
+abbrev pub WritesLineOf : ProgramFault → BytesTold → BytesTold → Type 0
 WritesLineOf fault old new = IfSome (program_fault_text fault) (λ text. WritesFront old new (fault_line text))

@@ -1,27 +1,28 @@
 -- What is told below the line of a fault.
 use Rattle.std.specs.Borrow.{Bor}
-use Rattle.std.specs.Prelude.{◌≡◌, ◌⊎◌, Any, ◌-◌, ◌==◌, ℕ, Bool, List, [], ◌∷◌, ◌++◌, Option, Some, None, IsTrue, codes, slice_get, slice_index_or}
-use Rattle.std.specs.List.{flat_map, slice_split}
+use Rattle.std.specs.Prelude.{◌≡◌, ◌⊎◌, Any, ℕ, Bool, true, is_none, if◌then◌else◌, List, [], ◌∷◌, ◌++◌, Option, Some, None, IsTrue, codes, slice_index_or}
+use Rattle.std.specs.List.{flat_map}
 use Rattle.clap.specs.Words.{Text, subcommand_of}
 use Rattle.kt_core.specs.declared.faults.StepFault.TheVariants as step
 use Rattle.kt_chain.specs.declared.fault.CertTextFault.{CertTextFault}
 use Rattle.kt_chain.specs.declared.fault.CertTextFault.TheVariants as cert
 use Rattle.kt_log_text.specs.declared.fault.LogFault.{LogFault}
 use Rattle.kt_log_text.specs.declared.fault.LogFault.TheVariants as log
+use Rattle.kt_certify.specs.declared.fault.Unfit.{Unfit}
+use Rattle.kt_certify.specs.declared.fault.Unfit.TheVariants as unfit
+use Rattle.kt_explain.specs.Words.{rule_words}
+use Rattle.kt_hints.specs.Limits.{limit_words}
 use Rattle.kt_hints.specs.Shown.{hint_line}
+use Rattle.kt_hints.specs.declared.limits.Limit.TheVariants as limit
 use Rattle.kt_run.specs.declared.faults.RunFault.{RunFault}
 use Rattle.kt_run.specs.declared.faults.RunFault.TheVariants as run
-use Rattle.kt_scenario.specs.declared.fault.ScenarioFault.{ScenarioFault}
-use Rattle.kt_scenario.specs.declared.fault.ScenarioFault.TheVariants as scenario
-use Rattle.kt_scenario.specs.declared.fault.StepsFault.{StepsFault}
-use Rattle.kt_scenario.specs.declared.fault.StepsFault.TheVariants as steps
 use Rattle.kt_text.specs.Writing.{WritesFront}
 use Rattle.kt_program.specs.Asking.{IsUnasked}
 use Rattle.kt_program.specs.FaultTexts.{WritesLineOf}
-use Rattle.kt_program.specs.Inputs.{IsTextOfFile}
 use Rattle.kt_program.specs.Names.{Name}
-use Rattle.kt_program.specs.Program.{Names, program as definition}
-use Rattle.kt_program.specs.Stored.{Told}
+use Rattle.kt_program.specs.Places.{IsPlaceShown}
+use Rattle.kt_program.specs.Program.{NamesAsked, program as definition}
+use Rattle.kt_program.specs.Stored.{BytesTold}
 use Rattle.kt_program.specs.declared.ask.AskFault.{AskFault}
 use Rattle.kt_program.specs.declared.fault.AppFault.{AppFault}
 use Rattle.kt_program.specs.declared.fault.AppFault.TheVariants as app
@@ -50,15 +51,15 @@ scenario_of (Certify log cert) = None
 scenario_of (Draw asked) = asked.names
 
 -- the steps that come first, where they are named
-abbrev pub steps_of : Asked → Name
-steps_of (Play scenario steps log cert) = steps
-steps_of (PlayInOrder play) = play.steps
-steps_of (Live scenario log cert) = None
-steps_of (LiveRecorded live) = None
-steps_of (Check log cert) = None
-steps_of (Explain log cert) = None
-steps_of (Certify log cert) = None
-steps_of (Draw asked) = None
+abbrev pub steps_file_of : Asked → Name
+steps_file_of (Play scenario steps log cert) = steps
+steps_file_of (PlayInOrder play) = play.steps
+steps_file_of (Live scenario log cert) = None
+steps_file_of (LiveRecorded live) = None
+steps_file_of (Check log cert) = None
+steps_file_of (Explain log cert) = None
+steps_file_of (Certify log cert) = None
+steps_file_of (Draw asked) = None
 
 -- the log that is read, where one is named
 abbrev pub log_of : Asked → Name
@@ -84,7 +85,7 @@ certificates_of (Draw asked) = asked.cert
 
 -- the file of a step that was refused
 abbrev pub step_file_of : Asked → RunFault → Name
-step_file_of asked (run.Step done step.NotEnabled) = steps_of asked
+step_file_of asked (run.Step done step.NotEnabled) = steps_file_of asked
 step_file_of asked fault = None
 
 -- the file of a text that was read and refused
@@ -115,7 +116,7 @@ abbrev pub file_of : Asked → ProgramFault → Name
 file_of asked program.Line = None
 file_of asked program.SameFile = None
 file_of asked (program.Scenario fault) = scenario_of asked
-file_of asked (program.Steps fault) = steps_of asked
+file_of asked (program.Steps fault) = steps_file_of asked
 file_of asked program.Read = None
 file_of asked (program.App fault) = app_file_of asked fault
 
@@ -124,72 +125,100 @@ abbrev pub file_line : Name → List ℕ
 file_line None = []
 file_line (Some name) = hint_line (codes "file: ") name.now
 
--- the number of the line of a scenario that a fault names
-abbrev pub scenario_line : ScenarioFault → Option ℕ
-scenario_line scenario.TooLong = None
-scenario_line (scenario.Command line) = Some line
-scenario_line (scenario.Words line) = Some line
-scenario_line (scenario.Name line) = Some line
-scenario_line (scenario.Twice line) = Some line
-scenario_line (scenario.KindWord line) = Some line
-scenario_line (scenario.TooManyObjects line) = Some line
-scenario_line (scenario.Unknown line) = Some line
-scenario_line (scenario.Itself line) = Some line
-scenario_line (scenario.Number line) = Some line
-scenario_line (scenario.TooManyCommands line) = Some line
-scenario_line scenario.Memory = None
+-- why a log is refused, or has no certificates, in words of the program
+abbrev pub log_reason : LogFault → Option (List ℕ)
+log_reason log.TooLong = Some (limit_words limit.Row)
+log_reason fault = None
 
--- the number of the line of a text of steps that a fault names
-abbrev pub steps_line : StepsFault → Option ℕ
-steps_line steps.TooLong = None
-steps_line (steps.Command line) = Some line
-steps_line (steps.Words line) = Some line
-steps_line (steps.Unknown line) = Some line
-steps_line (steps.Itself line) = Some line
-steps_line (steps.TooMany line) = Some line
-steps_line steps.Memory = None
+abbrev pub unfit_reason : Unfit → List ℕ
+unfit_reason (unfit.BadLog row rule) = rule_words rule
+unfit_reason (unfit.NoChain inst row process) = codes "no message links the process with an earlier member of the instance"
 
--- the number of the line that a fault names
-abbrev pub line_of : ProgramFault → Option ℕ
-line_of (program.Scenario fault) = scenario_line fault
-line_of (program.Steps fault) = steps_line fault
-line_of program.Line = None
-line_of program.SameFile = None
-line_of program.Read = None
-line_of (program.App fault) = None
+abbrev pub fault_reason : ProgramFault → Option (List ℕ)
+fault_reason (program.App (app.Log fault)) = log_reason fault
+fault_reason (program.App (app.Unfit why)) = Some (unfit_reason why)
+fault_reason fault = None
 
--- the line of a text by its number
-abbrev pub IsLineAt : List ℕ → Option ℕ → List ℕ → Type 0
-IsLineAt text None line = ⊥
-IsLineAt text (Some number) line = slice_get (slice_split (λ b. b == 10) text) (number - 1) ≡ Some line
+-- its line
+abbrev pub reason_line : Option (List ℕ) → List ℕ
+reason_line None = []
+reason_line (Some words) = hint_line words []
 
--- a line of this number is shown of what some file tells
-pub record IsLineShown {F : Type 0} (told : F → Told) (number : Option ℕ) (text : List ℕ) : Type 0 where
-  pub whole : List ℕ
-  pub read : IsTextOfFile told whole
-  pub line : List ℕ
-  pub stands : IsLineAt whole number line
-  pub is : text ≡ hint_line (codes "line: ") line
+-- where the log of a run is written, where that is asked
+abbrev pub new_log_of : Asked → Name
+new_log_of (Play scenario steps log cert) = log
+new_log_of (PlayInOrder play) = play.log
+new_log_of (Live scenario log cert) = log
+new_log_of (LiveRecorded live) = live.log
+new_log_of (Check log cert) = None
+new_log_of (Explain log cert) = None
+new_log_of (Certify log cert) = None
+new_log_of (Draw asked) = None
 
--- such a line, or none where the file can't be read again
-abbrev pub IsLineOrNone : {F : Type 0} → (F → Told) → Option ℕ → List ℕ → Type 0
-IsLineOrNone told number text = (text ≡ []) ⊎ IsLineShown told number text
+-- where certificates are written, where that is asked
+abbrev pub new_certificates_of : Asked → Name
+new_certificates_of (Play scenario steps log cert) = cert
+new_certificates_of (PlayInOrder play) = play.cert
+new_certificates_of (Live scenario log cert) = cert
+new_certificates_of (LiveRecorded live) = live.cert
+new_certificates_of (Check log cert) = None
+new_certificates_of (Explain log cert) = None
+new_certificates_of (Certify log cert) = cert
+new_certificates_of (Draw asked) = None
+
+-- where the steps of a run are written, where that is asked
+abbrev pub new_steps_of : Asked → Name
+new_steps_of (Play scenario steps log cert) = None
+new_steps_of (PlayInOrder play) = play.kept
+new_steps_of (Live scenario log cert) = None
+new_steps_of (LiveRecorded live) = Some live.kept
+new_steps_of (Check log cert) = None
+new_steps_of (Explain log cert) = None
+new_steps_of (Certify log cert) = None
+new_steps_of (Draw asked) = None
+
+-- where a picture is written, where that is asked
+abbrev pub new_picture_of : Asked → Name
+new_picture_of (Play scenario steps log cert) = None
+new_picture_of (PlayInOrder play) = None
+new_picture_of (Live scenario log cert) = None
+new_picture_of (LiveRecorded live) = None
+new_picture_of (Check log cert) = None
+new_picture_of (Explain log cert) = None
+new_picture_of (Certify log cert) = None
+new_picture_of (Draw asked) = asked.svg
+
+-- whether something is written to standard output
+abbrev pub is_printed : Asked → Bool
+is_printed (Play scenario steps log cert) = true
+is_printed (PlayInOrder play) = true
+is_printed (Live scenario log cert) = true
+is_printed (LiveRecorded live) = true
+is_printed (Check log cert) = true
+is_printed (Explain log cert) = true
+is_printed (Certify log cert) = is_none cert
+is_printed (Draw asked) = is_none asked.svg
 
 -- the names of the files that a read fault may be about
 abbrev pub unread_of : Asked → ProgramFault → List Name
-unread_of asked program.Read = scenario_of asked ∷ steps_of asked ∷ []
+unread_of asked program.Read = scenario_of asked ∷ steps_file_of asked ∷ []
 unread_of asked (program.App (app.Log log.Read)) = log_of asked ∷ []
 unread_of asked (program.App (app.Cert cert.Read)) = certificates_of asked ∷ []
 unread_of asked fault = []
 
--- what is tried of a file, as a line tells it
-abbrev pub IsVerb : Text → Type 0
-IsVerb verb = (verb ≡ codes "open: ") ⊎ (verb ≡ codes "read: ")
+-- the names of the files that a write fault may be about
+abbrev pub unmade_of : Asked → ProgramFault → List Name
+unmade_of asked (program.App app.Write) = new_log_of asked ∷ new_certificates_of asked ∷ new_steps_of asked ∷ new_picture_of asked ∷ []
+unmade_of asked fault = []
 
--- a file of a read fault, and what was tried of it
-pub record IsTried (asked : Asked) (fault : ProgramFault) (name : Bor Text) (verb : Text) : Type 0 where
-  pub named : Any (λ other. other ≡ Some name) (unread_of asked fault)
-  pub tried : IsVerb verb
+-- what is tried of a file that is read, as a line tells it
+abbrev pub IsReadVerb : Text → Type 0
+IsReadVerb verb = (verb ≡ codes "open: ") ⊎ (verb ≡ codes "read: ")
+
+-- a file of a read or of a write fault, and what was tried of it
+abbrev pub IsTried : Asked → ProgramFault → Bor Text → Text → Type 0
+IsTried asked fault name verb =
+    (Any (λ other. other ≡ Some name) (unread_of asked fault) × IsReadVerb verb) ⊎ (Any (λ other. other ≡ Some name) (unmade_of asked fault) × (verb ≡ codes "make: "))
 
 -- its line
 pub record IsTriedLine (asked : Asked) (fault : ProgramFault) (text : List ℕ) : Type 0 where
@@ -198,17 +227,38 @@ pub record IsTriedLine (asked : Asked) (fault : ProgramFault) (text : List ℕ) 
   pub tried : IsTried asked fault name verb
   pub is : text ≡ hint_line verb name.now
 
--- such a line, or none where nothing fails again
-abbrev pub IsTriedOrNone : Asked → ProgramFault → List ℕ → Type 0
-IsTriedOrNone asked fault text = (text ≡ []) ⊎ IsTriedLine asked fault text
+-- a file that may not have been written
+abbrev pub written_line : Name → List ℕ
+written_line None = []
+written_line (Some name) = hint_line (codes "write: ") name.now
 
--- words that were taken: the file whose text the fault is about and the line of it, or the file that could not be read
-pub record IsHintOfFile {F : Type 0} (told : F → Told) (asked : Asked) (fault : ProgramFault) (text : List ℕ) : Type 0 where
-  pub line_part : List ℕ
-  pub line : IsLineOrNone told (line_of fault) line_part
+-- the same of standard output
+abbrev pub printed_line : Bool → List ℕ
+printed_line printed = if printed then hint_line (codes "write: standard output") [] else []
+
+-- all that is written, in order
+abbrev pub output_lines : Asked → List ℕ
+output_lines asked =
+    written_line (new_log_of asked)
+    ++ (written_line (new_certificates_of asked) ++ (written_line (new_steps_of asked) ++ (written_line (new_picture_of asked) ++ printed_line (is_printed asked))))
+
+-- the same, where some of it could not be written
+abbrev pub written_lines : Asked → ProgramFault → List ℕ
+written_lines asked (program.App app.Write) = output_lines asked
+written_lines asked fault = []
+
+-- a file of which something failed again; else all that is written, where that could not be written
+abbrev pub IsTriedShown : Asked → ProgramFault → List ℕ → Type 0
+IsTriedShown asked fault text = (text ≡ written_lines asked fault) ⊎ IsTriedLine asked fault text
+
+-- words that were taken: the file whose text the fault is about and the place that it names, why that is refused, and what
+-- could not be read or written
+pub record IsHintOfFile {F : Type 0} (told : F → BytesTold) (asked : Asked) (fault : ProgramFault) (text : List ℕ) : Type 0 where
+  pub place_part : List ℕ
+  pub place : IsPlaceShown told fault place_part
   pub tried_part : List ℕ
-  pub tried : IsTriedOrNone asked fault tried_part
-  pub is : text ≡ file_line (file_of asked fault) ++ (line_part ++ tried_part)
+  pub tried : IsTriedShown asked fault tried_part
+  pub is : text ≡ file_line (file_of asked fault) ++ (place_part ++ (reason_line (fault_reason fault) ++ tried_part))
 
 -- where to read of the words
 abbrev pub see_help : List ℕ
@@ -224,19 +274,19 @@ pub record IsHintOfWords (text : List ℕ) : Type 0 where
   pub is : text ≡ said_lines said ++ see_help
 
 -- what is told of a fault of these words
-abbrev pub AreHints : {F : Type 0} → (F → Told) → List Text → ProgramFault → List ℕ → Type 0
+abbrev pub AreHints : {F : Type 0} → (F → BytesTold) → List Text → ProgramFault → List ℕ → Type 0
 AreHints told words fault text =
-    ((asked : Asked) × Names (subcommand_of definition words) asked × IsHintOfFile told asked fault text)
+    ((asked : Asked) × NamesAsked (subcommand_of definition words) asked × IsHintOfFile told asked fault text)
     ⊎ ((why : AskFault) × IsUnasked words why × IsHintOfWords text)
 
 -- hints, or a front part of them, where they are told and memory was found for them
-pub record WritesHints {F : Type 0} (told : F → Told) (words : List Text) (fault : ProgramFault) (old new : Told) : Type 0 where
+pub record WritesHints {F : Type 0} (told : F → BytesTold) (words : List Text) (fault : ProgramFault) (old new : BytesTold) : Type 0 where
   pub text : List ℕ
   pub are : AreHints told words fault text
   pub front : WritesFront old new text
 
 -- the line of a fault, or a front part of it, and below it hints, where they are told
-pub record IsHinted {F : Type 0} (told : F → Told) (terminal : Bool) (words : List Text) (fault : ProgramFault) (old new : Told) : Type 0 where
-  pub middle : Told
+pub record IsHinted {F : Type 0} (told : F → BytesTold) (terminal : Bool) (words : List Text) (fault : ProgramFault) (old new : BytesTold) : Type 0 where
+  pub middle : BytesTold
   pub line : WritesLineOf fault old middle
   pub below : (new ≡ middle) ⊎ (AreHintsTold terminal words × WritesHints told words fault middle new)

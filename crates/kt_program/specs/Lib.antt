@@ -15,4 +15,5 @@ pub mod KeptLives
 pub mod Status
 pub mod Stored
 pub mod FaultTexts
+pub mod Places
 pub mod Hints

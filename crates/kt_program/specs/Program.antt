@@ -145,9 +145,9 @@ NamesIn name rows (Certify log cert) = (name ≡ codes "certify") × (first_of (
 NamesIn name rows (Draw asked) = (name ≡ codes "draw") × NamesDraw rows asked
 
 -- what is asked for names the subcommand and its texts
-abbrev pub Names : Option (Text × List Row) → Asked → Type 0
-Names None asked = ⊥
-Names (Some p) asked = NamesIn p.0 p.1 asked
+abbrev pub NamesAsked : Option (Text × List Row) → Asked → Type 0
+NamesAsked None asked = ⊥
+NamesAsked (Some p) asked = NamesIn p.0 p.1 asked
 
 -- the kinds of error that clap gives for words: none where it takes them
 abbrev pub faults_of : List Text → Kinds
@@ -155,7 +155,7 @@ faults_of words = fault_of program words
 
 -- words that clap takes, but that name nothing to do
 abbrev pub NamesNothing : List Text → Type 0
-NamesNothing words = (asked : Asked) → ¬ Names (subcommand_of program words) asked
+NamesNothing words = (asked : Asked) → ¬ NamesAsked (subcommand_of program words) asked
 
 -- an error of clap is one that its definition gives for the words, or there was no memory; else a subcommand is missing
 abbrev pub IsErrorFor : List Text → Error → Type 0

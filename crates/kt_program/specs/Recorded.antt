@@ -9,7 +9,7 @@ use Rattle.kt_plan.specs.Limits.{Planned}
 use Rattle.kt_plans.specs.Headline.{IsCertified}
 use Rattle.kt_plans.specs.Progress.{progress_at_start}
 use Rattle.kt_run.specs.OneRun.{SavesAll}
-use Rattle.kt_run.specs.Orders.{IsInOrder}
+use Rattle.kt_run.specs.Orders.{IsOrderedRun}
 use Rattle.kt_run.specs.Runs.{IsPlayed}
 use Rattle.kt_run.specs.declared.faults.RunFault.TheVariants as run
 use Rattle.kt_run.specs.declared.orders.Order.{Order}
@@ -17,7 +17,7 @@ use Rattle.kt_run.specs.declared.orders.Order.TheVariants.{Default, Drawn}
 use Rattle.kt_scenario.specs.Steps.{AreSteps, most_steps}
 use Rattle.kt_scenario.specs.Written.{steps_text}
 use Rattle.kt_program.specs.Played.{Outputs, IsOfWriting, IsWritten, StopsInLog, StopsInCertificates, StopsInReport, certificate_text, log_text}
-use Rattle.kt_program.specs.Stored.{Told}
+use Rattle.kt_program.specs.Stored.{BytesTold}
 use Rattle.kt_program.specs.declared.fault.AppFault.{AppFault}
 use Rattle.kt_program.specs.declared.fault.AppFault.TheVariants as app
 
@@ -40,7 +40,7 @@ AreReadBack plan steps = length steps ≤ most_steps → AreSteps plan.names (st
 -- these are the rows of a run by just these steps, those given and then those that come next in an order; played again by
 -- these steps, which are read back as they are written, it is the same; and to its certificates the checker says yes
 pub record IsKeptRun (plan : Planned) (cast : List (List Content)) (given : List Step) (order : Order) (steps : List Step) (rows : List Event) : Type 0 where
-  pub run : IsInOrder plan cast given order steps rows
+  pub run : IsOrderedRun plan cast given order steps rows
   pub again : IsPlayedAgain plan cast steps rows
   pub read : AreReadBack plan steps
   pub certified : IsCertified rows
@@ -48,14 +48,14 @@ pub record IsKeptRun (plan : Planned) (cast : List (List Content)) (given : List
 -- what the four writers of such a run hold, as far as they tell it
 pub record KeptOutputs : Type 0 where
   pub run : Outputs
-  pub steps : Told
+  pub steps : BytesTold
 
 -- the same, of what four writers tell
-abbrev pub kept_outputs : Outputs → Told → KeptOutputs
+abbrev pub kept_outputs : Outputs → BytesTold → KeptOutputs
 kept_outputs run steps = record { run = run; steps = steps }
 
 -- the text of such steps is written, if it is asked for, and has no more of them than can be read
-pub record WritesSteps (plan : Planned) (steps : List Step) (old new : Told) : Type 0 where
+pub record WritesSteps (plan : Planned) (steps : List Step) (old new : BytesTold) : Type 0 where
   pub text : Appends old new (steps_text plan.names steps)
   pub few : IfSome new (λ _. length steps ≤ most_steps)
 

@@ -18,15 +18,15 @@ use Rattle.kt_program.specs.declared.fault.AppFault.{AppFault}
 use Rattle.kt_program.specs.declared.fault.AppFault.TheVariants as app
 
 -- the bytes that a reader tells, where it does
-abbrev pub Told : Type 0
-Told = Option (List ℕ)
+abbrev pub BytesTold : Type 0
+BytesTold = Option (List ℕ)
 
 -- the records of such bytes
-abbrev pub records_told : Told → Option (List (List (List ℕ)))
+abbrev pub records_told : BytesTold → Option (List (List (List ℕ)))
 records_told bytes = (rows_unread bytes).left
 
 -- the bytes of a list of certificates say these
-abbrev pub SayCertificates : Told → List Certificate → Type 0
+abbrev pub SayCertificates : BytesTold → List Certificate → Type 0
 SayCertificates bytes certificates = IfSome (records_told bytes) (λ text. certs.IsCertText text certificates)
 
 -- whether an answer is a yes
@@ -35,13 +35,13 @@ is_yes Yes = true
 is_yes (No inst row why) = false
 
 -- the checker's answer to the rows and the certificates that the bytes say; a yes means that they are sound
-pub record IsJudged (log cert : Told) (verdict : Verdict) : Type 0 where
+pub record IsVerdictOf (log cert : BytesTold) (verdict : Verdict) : Type 0 where
   pub certificates : List Certificate
   pub certificates_said : SayCertificates cert certificates
   pub answer : IsAnswerOf log certificates verdict
 
 -- it is true exactly where all passes of the rows and the certificates that the bytes say, where both are told
-abbrev pub IsExact : Told → Told → Bool → Type 0
+abbrev pub IsExact : BytesTold → BytesTold → Bool → Type 0
 IsExact log cert passed =
     IfSome (records_told log) (λ text. (read : List Event) → rows.IsLogText text read
     → IfSome (records_told cert) (λ also. (certificates : List Certificate) → certs.IsCertText also certificates → (passed ≡ true) ↔ IsPassed read certificates))
@@ -52,10 +52,10 @@ verdict_line verdict = verdict_words verdict ++ 10 ∷ []
 
 -- what is wrong where the program does not answer: the first fault of the log, or that of the certificates of a log
 -- that was read; what could be written was read; nothing is said of want of memory
-abbrev pub IsRefusal : Told → Told → AppFault → Type 0
+abbrev pub IsRefusal : BytesTold → BytesTold → AppFault → Type 0
 IsRefusal of_rows of_certs (app.Log fault) = (fault ≢ log.Memory) × IfSome (records_told of_rows) (λ text. rows.IsFirstFault text fault)
 IsRefusal of_rows of_certs (app.Cert fault) = (fault ≢ cert.Memory) × IfSome (records_told of_certs) (λ text. certs.IsFirstFault text fault) × (read : List Event) × SaysRows of_rows read
-IsRefusal of_rows of_certs app.Write = (verdict : Verdict) × IsJudged of_rows of_certs verdict
+IsRefusal of_rows of_certs app.Write = (verdict : Verdict) × IsVerdictOf of_rows of_certs verdict
 IsRefusal of_rows of_certs app.Memory = Unit {0}
 IsRefusal of_rows of_certs (app.Run fault) = ⊥
 IsRefusal of_rows of_certs (app.Live fault) = ⊥

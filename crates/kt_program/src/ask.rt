@@ -3,7 +3,7 @@
 ghost use Rattle.std.specs.Prelude.{◌≡◌, ◌≢◌, ◌<◌, ◌^◌, ◌↔◌, ℕ, codes, IfOk, IfErr, IfSome, IfNone, IsTrue, Some, option_map, Option};
 ghost use Rattle.std.specs.Fmt.{decimal};
 ghost use Rattle.clap.specs.Words.{first_of, kind_of, new_app, subcommand_of, subcommand_rows_of, rows_of, found_of};
-ghost use Rattle.kt_program.specs.Program.{program, certify, check, live, numeric, play, play_order, optional, switch, switched, wanted, with_version, IsRule, IsDefined, IsSet, Names, NamesIn, NamesNoOrder, draw, IsGivenNumber};
+ghost use Rattle.kt_program.specs.Program.{program, certify, check, live, numeric, play, play_order, optional, switch, switched, wanted, with_version, IsRule, IsDefined, IsSet, NamesAsked, NamesIn, NamesNoOrder, draw, IsGivenNumber};
 ghost use Rattle.clap.specs.declared.error.kind.ErrorKind.TheVariants.{MissingSubcommand};
 ghost use Rattle.kt_program.specs.declared.line.Asked.{Asked};
 ghost use Rattle.kt_program.specs.Asking.{IsUnasked};
@@ -565,8 +565,8 @@ fn asked_of<'a>(name: &str, matches: &ArgMatches<'a>) -> Option<Asked<'a>>
 
 // What the matches of the program ask for.
 fn asked_in<'a>(matches: &ArgMatches<'a>) -> Option<Asked<'a>>
-    ensures named { IfSome result (Names (subcommand_rows_of matches.now)) }
-    ensures nothing { IfNone result ((asked : Asked) → ¬ Names (subcommand_rows_of matches.now) asked) }
+    ensures named { IfSome result (NamesAsked (subcommand_rows_of matches.now)) }
+    ensures nothing { IfNone result ((asked : Asked) → ¬ NamesAsked (subcommand_rows_of matches.now) asked) }
 {
     let (name, inner) = matches.subcommand()?;
     asked_of(name, inner)
@@ -600,7 +600,7 @@ fn apart<'a>(asked: Asked<'a>) -> Result<Asked<'a>, AskFault>
 #[tactic(auto)]
 pub fn asked<'a>(alloc: Global, words: &'a Words) -> Result<Asked<'a>, AskFault>
     // What it names is what clap's definition of the command line gives for the words.
-    ensures named { IfOk result (Names (subcommand_of program words.entry.now)) }
+    ensures named { IfOk result (NamesAsked (subcommand_of program words.entry.now)) }
     // None of its outputs has the name of an input or of another output, but for devices.
     ensures apart { IfOk result IsApart }
     // It refuses words as that definition does, those that name nothing, and those that name such outputs.

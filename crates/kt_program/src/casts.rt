@@ -19,6 +19,7 @@ ghost use Rattle.kt_run.specs.declared.faults.RunFault.{RunFault};
 ghost use Rattle.kt_run.specs.declared.faults.RunFault.TheVariants as run_fault;
 ghost use Rattle.kt_threads.specs.Faults as threads;
 ghost use Rattle.kt_threads.specs.declared.faults.LiveFault.{LiveFault};
+ghost use Rattle.kt_threads.specs.declared.faults.LiveFault.TheVariants as live_fault;
 ghost use Rattle.kt_program.specs.Played.{AreNew, IsWritten, OverNew, StopsAtFault, outputs};
 
 use crate::fault::AppFault;
@@ -201,12 +202,16 @@ pub fn live_objects<T: Threads + Wait + Sync, L: Write, C: Write, R: Write>(
         (outputs (L.contents log_writer.new) (C.contents cert_writer.new) (R.contents report_writer.new))) }
     // New objects are as many as the plan asks for, of its kinds.
     ensures fault { IfErr result (λ e. (fault : LiveFault) → e ≡ AppFault.Live fault → threads.is_live_of_cast fault ≡ false) }
+    // They can always be saved and brought back.
+    ensures objects { IfErr result (λ e. (p : ℕ) → e ≢ AppFault.Live (live_fault.Object p)) }
 {
     let _processes = plan.size();
     let mut book = SlotBook::new(alloc);
     let make = |kind: u8| -> Result<Object, Memory>
         ensures kind { IfOk result (λ object. IsKindOfObject kind → kind_of object ≡ kind) }
         ensures value { IfOk result (λ object. IsKindOfObject kind → value_of object ≡ opening_value kind) }
+        ensures reliable { IfOk result (λ object. IsReliable (kind_of object) (may_refuse object)
+            (λ saved. may_reject object saved)) }
     {
         let guard = book.open()?;
         match kind {
@@ -241,6 +246,10 @@ fn live_cast<T: Threads + Wait + Sync, L: Write, C: Write, R: Write>(
     requires kinds { (p : ℕ) → p < length plan.now.kinds →
         HasKind plan.now.kinds (map (λ row. map (λ b. kind_of b) row.items) cast.items) p }
     requires opening { All (λ row. All (λ b. value_of b ≡ opening_value (kind_of b)) row.items) cast.items }
+    requires saved { (p : ℕ) →
+        ¬ IsLeastRefused (λ b. may_save b) (λ b. may_refuse b) (map (λ row. row.items) cast.items) p }
+    requires taken { (p : ℕ) → ¬ MayReject (λ b saved. may_reject b saved) (slice_index plan.now.kinds p)
+        (slice_index_or (map (λ row. row.items) cast.items) p []) }
     ensures lived { OnOk result (IsWritten (OverNew plan.now (IsLogOfRun plan.now)) plan.now
         (outputs (L.contents log_writer.old) (C.contents cert_writer.old) (R.contents report_writer.old))
         (outputs (L.contents log_writer.new) (C.contents cert_writer.new) (R.contents report_writer.new))) }
@@ -252,6 +261,8 @@ fn live_cast<T: Threads + Wait + Sync, L: Write, C: Write, R: Write>(
         (outputs (L.contents log_writer.new) (C.contents cert_writer.new) (R.contents report_writer.new))) }
     // New objects are as many as the plan asks for, of its kinds.
     ensures fault { IfErr result (λ e. (fault : LiveFault) → e ≡ AppFault.Live fault → threads.is_live_of_cast fault ≡ false) }
+    // They can always be saved and brought back.
+    ensures objects { IfErr result (λ e. (p : ℕ) → e ≢ AppFault.Live (live_fault.Object p)) }
 {
     live_plan(
         rt,

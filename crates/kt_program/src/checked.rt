@@ -9,7 +9,7 @@ ghost use Rattle.kt_chain.specs.Texts as certs;
 ghost use Rattle.kt_checker.specs.declared.verdict.Verdict.{Verdict};
 ghost use Rattle.kt_checker.specs.Streamed.{IsAnswerOf};
 ghost use Rattle.kt_program.specs.declared.fault.AppFault.TheVariants as app;
-ghost use Rattle.kt_program.specs.Stored.{IsExact, IsJudged, IsRefusal, SayCertificates, is_yes, verdict_line, of_cert, of_log, records_told};
+ghost use Rattle.kt_program.specs.Stored.{IsExact, IsVerdictOf, IsRefusal, SayCertificates, is_yes, verdict_line, of_cert, of_log, records_told};
 
 use crate::fault::AppFault;
 use kt_chain::{CertTextFault, Certificate, read_certs};
@@ -30,7 +30,7 @@ pub fn check_bytes<L: Read + Drop, C: Read + Drop, W: Write>(
 ) -> Result<bool, AppFault>
     // The line is that of the checker's answer to the rows and the certificates that the bytes say.
     ensures answer { IfOk result (λ passed. (verdict : Verdict) × (passed ≡ is_yes verdict)
-        × IsJudged (L.remaining log_reader) (C.remaining cert_reader) verdict
+        × IsVerdictOf (L.remaining log_reader) (C.remaining cert_reader) verdict
         × Appends (W.contents writer.old) (W.contents writer.new) (verdict_line verdict)) }
     // So, where both readers tell their bytes, it is true exactly where all that they say passes.
     ensures yes { IfOk result (IsExact (L.remaining log_reader) (C.remaining cert_reader)) }
@@ -49,7 +49,7 @@ fn judge_texts<L: Read + Drop, C: Read + Drop>(
     log_reader: L,
     cert_reader: C,
 ) -> Result<Verdict, AppFault>
-    ensures answer { IfOk result (IsJudged (L.remaining log_reader) (C.remaining cert_reader)) }
+    ensures answer { IfOk result (IsVerdictOf (L.remaining log_reader) (C.remaining cert_reader)) }
     ensures fault { IfErr result (λ e. (e ≢ app.Write)
         × IsRefusal (L.remaining log_reader) (C.remaining cert_reader) e) }
 {

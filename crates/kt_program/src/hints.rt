@@ -1,21 +1,22 @@
 //! What is told below the line of a fault to the person who made the mistake.
 
-ghost use Rattle.std.specs.Prelude.{◌≡◌, ◌⊎◌, ◌↔◌, IsTrue, ◌++◌, List, ℕ, OnOk, IfOk, IfErr, IfSome};
-ghost use Rattle.kt_program.specs.Hints.{AreHints, AreHintsTold, IsHintOfFile, IsHintOfWords, IsHinted, IsLineAt, IsLineOrNone, IsTriedOrNone, WritesHints, file_line, file_of, line_of, said_lines};
-ghost use Rattle.kt_program.specs.Inputs.{IsTextOfFile};
+ghost use Rattle.std.specs.Prelude.{◌≡◌, ◌⊎◌, ◌↔◌, IsTrue, ◌++◌, List, ℕ, OnOk, IfOk, IfErr};
+ghost use Rattle.kt_program.specs.Hints.{AreHints, AreHintsTold, IsHintOfFile, IsHintOfWords, IsHinted, IsTriedShown, WritesHints, file_line, file_of, said_lines};
 ghost use Rattle.kt_program.specs.Status.{status_of};
 
 use crate::ask::{AskFault, asked};
 use crate::ending::{Done, report_fault};
 use crate::fault::ProgramFault;
-use crate::inputs::text_of_file;
 use crate::line::Asked;
-use crate::subject::{file_of, line_of};
+use crate::places::push_place;
+use crate::reason::push_reason;
+use crate::subject::file_of;
+use crate::targets::push_written;
 use crate::tried::tried_of;
 use crate::words::Words;
 use clap::Error;
 use kt_base::Memory;
-use kt_hints::{line_at, push_hint};
+use kt_hints::push_hint;
 use kt_text::pieces::write_whole;
 use std::alloc::Global;
 use std::io::Write;
@@ -122,7 +123,8 @@ fn file_hints<F: Files>(
 {
     let mut lines = Vec::new(alloc);
     push_file(&mut lines, asked, fault)?;
-    push_line(files, alloc, &mut lines, asked, fault)?;
+    push_place(files, alloc, &mut lines, asked, fault)?;
+    push_reason(&mut lines, fault)?;
     push_tried(files, &mut lines, asked, fault)?;
     Ok(lines)
 }
@@ -137,53 +139,8 @@ fn push_file(lines: &mut Vec<u8>, asked: &Asked<'_>, fault: &ProgramFault) -> Re
     }
 }
 
-// Gathers the line that a fault names, where its file can be read again.
-#[tactic(auto, using(crate::proofs::HintFacts::no_line, crate::proofs::HintFacts::one_line))]
-fn push_line<F: Files>(
-    files: &F,
-    alloc: Global,
-    lines: &mut Vec<u8>,
-    asked: &Asked<'_>,
-    fault: &ProgramFault,
-) -> Result<(), Memory>
-    ensures { OnOk result ((text : List ℕ) × (lines.new.items ≡ lines.old.items ++ text)
-        × IsLineOrNone F.File.remaining (line_of fault.now) text) }
-{
-    let Some(text) = text_of_fault(files, alloc, asked, fault) else {
-        return Ok(());
-    };
-    let Some(line) = numbered_line(text.as_slice(), line_of(fault)) else {
-        return Ok(());
-    };
-    push_hint(lines, "line: ", line)?;
-    Ok(())
-}
-
-// The text of which a fault names a line, where that can be read again.
-fn text_of_fault<F: Files>(
-    files: &F,
-    alloc: Global,
-    asked: &Asked<'_>,
-    fault: &ProgramFault,
-) -> Option<Vec<u8>>
-    ensures { IfSome result (λ text. IsTextOfFile F.File.remaining text.items) }
-{
-    line_of(fault)?;
-    let name = file_of(asked, fault)?;
-    text_of_file(files, alloc, name)
-}
-
-// The line of a text by its number, where there is one.
-#[tactic(auto, using(crate::proofs::HintFacts::line_found))]
-fn numbered_line(text: &[u8], number: Option<usize>) -> Option<&[u8]>
-    ensures { IfSome result (λ line. IsLineAt text.now number line.now) }
-{
-    let number = number?;
-    line_at(text, number.saturating_sub(1))
-}
-
-// Gathers which file could not be read, and what was tried of it.
-#[tactic(auto, using(crate::proofs::HintFacts::none_tried, crate::proofs::HintFacts::one_tried))]
+// Gathers which file could not be read or made, and what was tried of it; else all that is written, where that could not be.
+#[tactic(auto, using(crate::proofs::HintFacts::all_written, crate::proofs::HintFacts::one_tried))]
 fn push_tried<F: Files>(
     files: &F,
     lines: &mut Vec<u8>,
@@ -191,9 +148,10 @@ fn push_tried<F: Files>(
     fault: &ProgramFault,
 ) -> Result<(), Memory>
     ensures { OnOk result ((text : List ℕ) × (lines.new.items ≡ lines.old.items ++ text)
-        × IsTriedOrNone asked.now fault.now text) }
+        × IsTriedShown asked.now fault.now text) }
 {
     let Some(tried) = tried_of(files, asked, fault) else {
+        push_written(lines, asked, fault)?;
         return Ok(());
     };
     push_hint(lines, tried.verb, tried.name.as_bytes())?;

@@ -59,13 +59,19 @@ pub fn read_steps<R: Read + Drop>(
 pub(crate) fn text_of_file<F: Files>(files: &F, alloc: Global, name: &str) -> Option<Vec<u8>>
     ensures { IfSome result (λ text. IsTextOfFile F.File.remaining text.items) }
 {
+    let file = regular_file(files, name)?;
+    whole_text(alloc, file)
+}
+
+/// A regular file, opened to be read.
+pub(crate) fn regular_file<F: Files>(files: &F, name: &str) -> Option<F::File> {
     if !is_regular(files, name) {
         return None;
     }
-    let Ok(file) = fs::open(files, name) else {
-        return None;
-    };
-    whole_text(alloc, file)
+    match fs::open(files, name) {
+        Ok(file) => Some(file),
+        Err(_) => None,
+    }
 }
 
 // The text that a reader tells, where it has no more bytes than a text of steps.

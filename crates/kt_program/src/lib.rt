@@ -17,14 +17,17 @@ pub mod inputs;
 pub mod line;
 pub mod names;
 pub mod outputs;
+mod places;
 pub mod played;
 mod playing;
 pub mod program;
+mod reason;
 pub mod recorded;
 pub mod recorded_live;
 mod recording;
 pub mod streams;
 mod subject;
+mod targets;
 mod tried;
 pub mod words;
 

@@ -121,10 +121,10 @@ pub fn carry_out<F: Files + Threads + Wait + Sync, O: Write>(
             Ok(passed) => Ok(Done::Explained(passed)),
             Err(fault) => Err(ProgramFault::App(fault)),
         },
-        Ok(Asked::Certify { log, cert }) => match certify_files(files, alloc, log, cert, out) {
-            Ok(()) => Ok(Done::Certified),
-            Err(fault) => Err(fault),
-        },
+        Ok(Asked::Certify { log, cert }) => {
+            certify_files(files, alloc, log, cert, out)?;
+            Ok(Done::Certified)
+        }
         Ok(Asked::Draw(picture)) => draw_files(files, alloc, &picture, out),
         Err(AskFault::Line(error)) => show_text(out, &error),
         Err(AskFault::SameName) => Err(ProgramFault::Line),

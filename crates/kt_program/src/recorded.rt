@@ -1,15 +1,18 @@
 //! Runs in an order, with the steps that were made: what is written of them.
 
-ghost use Rattle.std.specs.Prelude.{◌≡◌, ◌<◌, ◌⊎◌, ℕ, List, false, IfOk, IfErr, OnOk, All, length, map};
+ghost use Rattle.std.specs.Prelude.{◌≡◌, ◌≢◌, ◌<◌, ◌⊎◌, [], ℕ, List, false, IfOk, IfErr, OnOk, All, length, map, slice_index, slice_index_or};
 ghost use Rattle.kt_core.specs.declared.faults.StepFault.{StepFault};
 ghost use Rattle.kt_held.specs.Casts.{HasSizes, HasKind};
 ghost use Rattle.kt_held.specs.Holdings.{Content, content};
+ghost use Rattle.kt_held.specs.Refusals.{IsLeastRefused};
+ghost use Rattle.kt_object.specs.Reliable.{IsReliable};
 ghost use Rattle.kt_object.specs.Value.{opening_value};
 ghost use Rattle.kt_plan.specs.Limits.{IsKindOfObject};
 ghost use Rattle.kt_plans.specs.Follows.{FollowsPlan};
 ghost use Rattle.kt_plans.specs.Headline.{IsCertified, IsPromised};
 ghost use Rattle.kt_run.specs.Faults.{Answers, is_of_cast};
-ghost use Rattle.kt_run.specs.Orders.{IsOneRefused};
+ghost use Rattle.kt_run.specs.Orders.{IsOneRefused, IsOneStopped};
+ghost use Rattle.kt_run.specs.Rejections.{MayReject};
 ghost use Rattle.kt_run.specs.declared.faults.RunFault.{RunFault};
 ghost use Rattle.kt_run.specs.declared.faults.RunFault.TheVariants as run_fault;
 ghost use Rattle.kt_scenario.specs.Steps.{most_steps};
@@ -85,6 +88,15 @@ pub fn play_recorded<L: Write, C: Write, S: Write, R: Write>(
         Answers plan.now (map (λ row. map (λ b. kind_of b) row.items) cast.items) fault) }
     ensures refused { IfErr result (λ e. (done : ℕ) (why : StepFault) → e ≡ AppFault.Run (run_fault.Step done why) →
         IsOneRefused plan.now (map (λ row. map (λ b. content (kind_of b) (value_of b)) row.items) cast.items) done why) }
+    // Where an object fails, it is either at first, that of the least process whose save may be refused; or in a step of its
+    // own that was not refused, where one of the objects that the process was given may reject a saved state of their kind.
+    ensures object { IfErr result (λ e. (p : ℕ) → e ≡ AppFault.Run (run_fault.Object p) →
+        IsLeastRefused (λ b. may_save b) (λ b. may_refuse b) (map (λ row. row.items) cast.items) p
+        ⊎ (IsOneStopped plan.now (map (λ row. map (λ b. content (kind_of b) (value_of b)) row.items) cast.items) p
+        × MayReject (λ b saved. may_reject b saved) (slice_index plan.now.kinds p)
+        (slice_index_or (map (λ row. row.items) cast.items) p []))) }
+    // No list is kept of what a process is told, so none lacks memory.
+    ensures untold { IfErr result (λ e. (p : ℕ) → e ≢ AppFault.Run (run_fault.Journal p)) }
 {
     let run = recorded_cast(alloc, plan, steps, order, cast)?;
     write_recorded(
@@ -116,9 +128,19 @@ fn recorded_cast(
     ensures fault { IfErr result (Answers plan.now (map (λ row. map (λ b. kind_of b) row.items) cast.items)) }
     ensures refused { IfErr result (λ fault. (done : ℕ) (why : StepFault) → fault ≡ RunFault.Step done why →
         IsOneRefused plan.now (map (λ row. map (λ b. content (kind_of b) (value_of b)) row.items) cast.items) done why) }
+    ensures object { IfErr result (λ fault. (p : ℕ) → fault ≡ RunFault.Object p →
+        IsLeastRefused (λ b. may_save b) (λ b. may_refuse b) (map (λ row. row.items) cast.items) p
+        ⊎ (IsOneStopped plan.now (map (λ row. map (λ b. content (kind_of b) (value_of b)) row.items) cast.items) p
+        × MayReject (λ b saved. may_reject b saved) (slice_index plan.now.kinds p)
+        (slice_index_or (map (λ row. row.items) cast.items) p []))) }
+    ensures untold { IfErr result (λ fault. (p : ℕ) → fault ≢ RunFault.Journal p) }
 {
     let _processes = plan.size();
     kt_plans::certificates_of_promised_logs();
+    kt_plans::progress_of_runs();
+    kt_plans::steps_of_runs();
+    kt_plans::never_stuck();
+    kt_plans::told_of_runs();
     kt_scenario::steps_are_read_back();
     recorded_run_of(alloc, plan, steps, order, cast)
 }
@@ -210,12 +232,17 @@ pub fn record_objects<L: Write, C: Write, S: Write, R: Write>(
     ensures fault { IfErr result (λ e. (fault : RunFault) → e ≡ AppFault.Run fault → is_of_cast fault ≡ false) }
     ensures refused { IfErr result (λ e. (done : ℕ) (why : StepFault) → e ≡ AppFault.Run (run_fault.Step done why) →
         (cast : List (List Content)) × AreNew plan.now cast × IsOneRefused plan.now cast done why) }
+    // They can always be saved and brought back, and no list is kept of what a process is told.
+    ensures objects { IfErr result (λ e. (p : ℕ) → e ≢ AppFault.Run (run_fault.Object p)) }
+    ensures untold { IfErr result (λ e. (p : ℕ) → e ≢ AppFault.Run (run_fault.Journal p)) }
 {
     let _processes = plan.size();
     let mut book = SlotBook::new(alloc);
     let make = |kind: u8| -> Result<Object, Memory>
         ensures kind { IfOk result (λ object. IsKindOfObject kind → kind_of object ≡ kind) }
         ensures value { IfOk result (λ object. IsKindOfObject kind → value_of object ≡ opening_value kind) }
+        ensures reliable { IfOk result (λ object. IsReliable (kind_of object) (may_refuse object)
+            (λ saved. may_reject object saved)) }
     {
         let guard = book.open()?;
         match kind {
@@ -254,6 +281,10 @@ fn play_new<L: Write, C: Write, S: Write, R: Write>(
     requires kinds { (p : ℕ) → p < length plan.now.kinds →
         HasKind plan.now.kinds (map (λ row. map (λ b. kind_of b) row.items) cast.items) p }
     requires opening { All (λ row. All (λ b. value_of b ≡ opening_value (kind_of b)) row.items) cast.items }
+    requires saved { (p : ℕ) →
+        ¬ IsLeastRefused (λ b. may_save b) (λ b. may_refuse b) (map (λ row. row.items) cast.items) p }
+    requires taken { (p : ℕ) → ¬ MayReject (λ b saved. may_reject b saved) (slice_index plan.now.kinds p)
+        (slice_index_or (map (λ row. row.items) cast.items) p []) }
     ensures played { OnOk result (IsRecorded
         (λ made. OverNew plan.now (λ cast. IsKeptRun plan.now cast steps.now order made)) plan.now
         (kept_outputs (outputs (L.contents log_writer.old) (C.contents cert_writer.old) (R.contents report_writer.old))
@@ -269,6 +300,9 @@ fn play_new<L: Write, C: Write, S: Write, R: Write>(
     ensures fault { IfErr result (λ e. (fault : RunFault) → e ≡ AppFault.Run fault → is_of_cast fault ≡ false) }
     ensures refused { IfErr result (λ e. (done : ℕ) (why : StepFault) → e ≡ AppFault.Run (run_fault.Step done why) →
         (cast : List (List Content)) × AreNew plan.now cast × IsOneRefused plan.now cast done why) }
+    // They can always be saved and brought back, and no list is kept of what a process is told.
+    ensures objects { IfErr result (λ e. (p : ℕ) → e ≢ AppFault.Run (run_fault.Object p)) }
+    ensures untold { IfErr result (λ e. (p : ℕ) → e ≢ AppFault.Run (run_fault.Journal p)) }
 {
     play_recorded(
         alloc,

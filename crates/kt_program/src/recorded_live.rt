@@ -1,9 +1,10 @@
 //! Runs in threads, with the steps that were made: what is written of them.
 
-ghost use Rattle.std.specs.Prelude.{◌≡◌, ◌<◌, ◌⊎◌, [], ℕ, List, false, IfOk, IfErr, OnOk, All, length, map, slice_index, slice_index_or};
+ghost use Rattle.std.specs.Prelude.{◌≡◌, ◌≢◌, ◌<◌, ◌⊎◌, [], ℕ, false, IfOk, IfErr, OnOk, All, length, map, slice_index, slice_index_or};
 ghost use Rattle.kt_held.specs.Casts.{HasSizes, HasKind};
 ghost use Rattle.kt_held.specs.Holdings.{content};
 ghost use Rattle.kt_held.specs.Refusals.{IsLeastRefused};
+ghost use Rattle.kt_object.specs.Reliable.{IsReliable};
 ghost use Rattle.kt_object.specs.Value.{opening_value};
 ghost use Rattle.kt_plan.specs.Limits.{IsKindOfObject};
 ghost use Rattle.kt_plans.specs.Follows.{FollowsPlan};
@@ -109,6 +110,10 @@ fn recorded_live_cast<T: Threads + Wait + Sync>(
         (slice_index_or (map (λ row. row.items) cast.items) p [])) }
 {
     let _processes = plan.size();
+    kt_plans::progress_of_runs();
+    kt_plans::steps_of_runs();
+    kt_plans::never_stuck();
+    kt_plans::told_of_runs();
     kt_scenario::steps_are_read_back();
     live_recorded_run_of(rt, alloc, plan, cast)
 }
@@ -137,12 +142,16 @@ pub fn record_live_objects<T: Threads + Wait + Sync, L: Write, C: Write, S: Writ
         (contents_of S.contents steps_writer.new))) }
     // New objects are as many as the plan asks for, of its kinds.
     ensures fault { IfErr result (λ e. (fault : LiveFault) → e ≡ AppFault.Live fault → is_live_of_cast fault ≡ false) }
+    // They can always be saved and brought back.
+    ensures objects { IfErr result (λ e. (p : ℕ) → e ≢ AppFault.Live (live_fault.Object p)) }
 {
     let _processes = plan.size();
     let mut book = SlotBook::new(alloc);
     let make = |kind: u8| -> Result<Object, Memory>
         ensures kind { IfOk result (λ object. IsKindOfObject kind → kind_of object ≡ kind) }
         ensures value { IfOk result (λ object. IsKindOfObject kind → value_of object ≡ opening_value kind) }
+        ensures reliable { IfOk result (λ object. IsReliable (kind_of object) (may_refuse object)
+            (λ saved. may_reject object saved)) }
     {
         let guard = book.open()?;
         match kind {
@@ -179,6 +188,10 @@ fn live_new<T: Threads + Wait + Sync, L: Write, C: Write, S: Write, R: Write>(
     requires kinds { (p : ℕ) → p < length plan.now.kinds →
         HasKind plan.now.kinds (map (λ row. map (λ b. kind_of b) row.items) cast.items) p }
     requires opening { All (λ row. All (λ b. value_of b ≡ opening_value (kind_of b)) row.items) cast.items }
+    requires saved { (p : ℕ) →
+        ¬ IsLeastRefused (λ b. may_save b) (λ b. may_refuse b) (map (λ row. row.items) cast.items) p }
+    requires taken { (p : ℕ) → ¬ MayReject (λ b saved. may_reject b saved) (slice_index plan.now.kinds p)
+        (slice_index_or (map (λ row. row.items) cast.items) p []) }
     ensures lived { OnOk result (IsRecorded
         (λ made. OverNew plan.now (λ cast. IsKeptLive plan.now cast made)) plan.now
         (kept_outputs (outputs (L.contents log_writer.old) (C.contents cert_writer.old) (R.contents report_writer.old))
@@ -192,6 +205,8 @@ fn live_new<T: Threads + Wait + Sync, L: Write, C: Write, S: Write, R: Write>(
         (kept_outputs (outputs (L.contents log_writer.new) (C.contents cert_writer.new) (R.contents report_writer.new))
         (contents_of S.contents steps_writer.new))) }
     ensures fault { IfErr result (λ e. (fault : LiveFault) → e ≡ AppFault.Live fault → is_live_of_cast fault ≡ false) }
+    // They can always be saved and brought back.
+    ensures objects { IfErr result (λ e. (p : ℕ) → e ≢ AppFault.Live (live_fault.Object p)) }
 {
     live_recorded(
         rt,

@@ -1,6 +1,6 @@
 use Rattle.std.proofs.Common.{rules, inr}
 use Rattle.clap.specs.Words.{subcommand_of}
-use Rattle.kt_program.specs.Program.{IsErrorFor, Names, program}
+use Rattle.kt_program.specs.Program.{IsErrorFor, NamesAsked, program}
 use Rattle.kt_program.proofs.Refused.{error_of, names_of, nothing_of, unasked}
 use Rattle.kt_program.proofs.ask.asked.Goals as goal
 
@@ -12,13 +12,13 @@ returns-in_err-matches-clause-refused c =
 
 pub returns-in-Some-clause-named : goal.returns-in-Some-clause-named
 returns-in-Some-clause-named c =
-    let named : Names (subcommand_of program c.args.words.now) c.in-Some.asked =
+    let named : NamesAsked (subcommand_of program c.args.words.now) c.in-Some.asked =
     names_of c.in_ok-program_command.field-0 c.args.words.now _ c.in_ok-matches.matches c.in-Some.asked c.in_ok-program_command.ensures c.list.ensures c.in_ok-matches.ensures.matches c.in-Some.ensures.named in
     search rules
 
 pub returns-in-Some-clause-refused : goal.returns-in-Some-clause-refused
 returns-in-Some-clause-refused c =
-    let named : Names (subcommand_of program c.args.words.now) c.in-Some.asked =
+    let named : NamesAsked (subcommand_of program c.args.words.now) c.in-Some.asked =
     names_of c.in_ok-program_command.field-0 c.args.words.now _ c.in_ok-matches.matches c.in-Some.asked c.in_ok-program_command.ensures c.list.ensures c.in_ok-matches.ensures.matches c.in-Some.ensures.named in
     unasked c.args.words.now c.in-Some.asked c.apart.result named c.apart.ensures.fault c.apart.ensures.refused
 

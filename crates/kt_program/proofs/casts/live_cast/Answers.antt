@@ -3,6 +3,7 @@ use Rattle.kt_held.specs.Holdings.{content}
 use Rattle.kt_run.specs.Runs.{IsLogOfRun}
 use Rattle.kt_program.specs.Played.{AreNew}
 use Rattle.kt_program.proofs.Casting.{are_new}
+use Rattle.kt_program.proofs.NewCasts.{neither}
 use Rattle.kt_program.proofs.NewObjects.{written_so, stops_so, on_ok_so, if_err_so, over_new, right_for_live}
 use Rattle.kt_program.proofs.casts.live_cast.Goals as goal
 use Rattle.kt_program.proofs.casts.live_cast.Goals.{After-live_plan}
@@ -24,3 +25,8 @@ pub returns-clause-fault : goal.returns-clause-fault
 returns-clause-fault g c = if_err_so _ _ c.live_plan.result
     (λ e answers fault is. right_for_live c.args.plan.now _ c.requires.sizes c.requires.kinds fault (answers fault is))
     c.live_plan.ensures.fault
+
+pub returns-clause-objects : goal.returns-clause-objects
+returns-clause-objects g c = if_err_so _ _ c.live_plan.result
+    (λ e object p is. neither (c.requires.saved p) (c.requires.taken p) (object p is))
+    c.live_plan.ensures.object

@@ -3,7 +3,7 @@ use Rattle.kt_held.specs.Holdings.{content}
 use Rattle.kt_run.specs.Runs.{IsPlayed}
 use Rattle.kt_program.specs.Played.{AreNew}
 use Rattle.kt_program.proofs.Casting.{are_new}
-use Rattle.kt_program.proofs.NewCasts.{never_both}
+use Rattle.kt_program.proofs.NewCasts.{neither}
 use Rattle.kt_program.proofs.NewObjects.{written_so, stops_so, on_ok_so, if_err_so, over_new, right_for_run}
 use Rattle.kt_program.proofs.casts.play_cast.Goals as goal
 use Rattle.kt_program.proofs.casts.play_cast.Goals.{After-play_plan}
@@ -33,5 +33,5 @@ returns-clause-refused g c = if_err_so _ _ c.play_plan.result
 
 pub returns-clause-objects : goal.returns-clause-objects
 returns-clause-objects g c = if_err_so _ _ c.play_plan.result
-    (λ e object p is. never_both (c.requires.saved p) (c.requires.taken p) (object p is))
+    (λ e object p is. neither (c.requires.saved p) (λ stopped. c.requires.taken p stopped.1) (object p is))
     c.play_plan.ensures.object

@@ -2,6 +2,7 @@ use Rattle.std.proofs.Common.{map}
 use Rattle.kt_held.specs.Holdings.{content}
 use Rattle.kt_program.specs.Played.{AreNew}
 use Rattle.kt_program.proofs.Casting.{are_new}
+use Rattle.kt_program.proofs.NewCasts.{neither}
 use Rattle.kt_program.proofs.NewObjects.{on_ok_so, if_err_so, right_for_run}
 use Rattle.kt_program.proofs.OrderedRuns.{kept_over_new, recorded_so, recording_so}
 use Rattle.kt_program.proofs.recorded.play_new.Goals as goal
@@ -29,3 +30,8 @@ pub returns-clause-refused : goal.returns-clause-refused
 returns-clause-refused g c = if_err_so _ _ c.play_recorded.result
     (λ e refused done why is. (_, new g c, refused done why is))
     c.play_recorded.ensures.refused
+
+pub returns-clause-objects : goal.returns-clause-objects
+returns-clause-objects g c = if_err_so _ _ c.play_recorded.result
+    (λ e object p is. neither (c.requires.saved p) (λ stopped. c.requires.taken p stopped.1) (object p is))
+    c.play_recorded.ensures.object

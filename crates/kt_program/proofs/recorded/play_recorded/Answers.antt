@@ -2,7 +2,7 @@ use Rattle.std.proofs.Common.{map}
 use Rattle.std.proofs.lemmas.Result.{err_from_is_err_and}
 use Rattle.kt_held.specs.Holdings.{content}
 use Rattle.kt_program.specs.Recorded.{IsKeptRun}
-use Rattle.kt_program.proofs.NewObjects.{step_of_run}
+use Rattle.kt_program.proofs.NewObjects.{object_of_run, step_of_run, untold_of_run}
 use Rattle.kt_program.proofs.OrderedRuns.{stopped_by}
 use Rattle.kt_program.proofs.recorded.play_recorded.Goals as goal
 
@@ -15,3 +15,13 @@ pub returns-in_err-run-clause-refused : goal.returns-in_err-run-clause-refused
 returns-in_err-run-clause-refused g c =
     let p = err_from_is_err_and c.from_residual.result c.from_residual.ensures.1 in
     rw (p.1, p.2) (λ done why e. c.in_err-run.ensures.refused done why (step_of_run c.in_err-run.field-0.0 done why e))
+
+pub returns-in_err-run-clause-object : goal.returns-in_err-run-clause-object
+returns-in_err-run-clause-object g c =
+    let p = err_from_is_err_and c.from_residual.result c.from_residual.ensures.1 in
+    rw (p.1, p.2) (λ q e. c.in_err-run.ensures.object q (object_of_run c.in_err-run.field-0.0 q e))
+
+pub returns-in_err-run-clause-untold : goal.returns-in_err-run-clause-untold
+returns-in_err-run-clause-untold g c =
+    let p = err_from_is_err_and c.from_residual.result c.from_residual.ensures.1 in
+    rw (p.1, p.2) (λ q e. c.in_err-run.ensures.untold q (untold_of_run c.in_err-run.field-0.0 q e))

@@ -2,6 +2,7 @@ use Rattle.std.proofs.Common.{map}
 use Rattle.kt_held.specs.Holdings.{content}
 use Rattle.kt_program.specs.Played.{AreNew}
 use Rattle.kt_program.proofs.Casting.{are_new}
+use Rattle.kt_program.proofs.NewCasts.{neither}
 use Rattle.kt_program.proofs.NewObjects.{on_ok_so, if_err_so, right_for_live}
 use Rattle.kt_program.proofs.OrderedRuns.{recorded_so}
 use Rattle.kt_program.proofs.KeptLives.{lived_over_new, live_so}
@@ -25,3 +26,8 @@ pub returns-clause-fault : goal.returns-clause-fault
 returns-clause-fault g c = if_err_so _ _ c.live_recorded.result
     (λ e answers fault is. right_for_live c.args.plan.now _ c.requires.sizes c.requires.kinds fault (answers fault is))
     c.live_recorded.ensures.fault
+
+pub returns-clause-objects : goal.returns-clause-objects
+returns-clause-objects g c = if_err_so _ _ c.live_recorded.result
+    (λ e object p is. neither (c.requires.saved p) (c.requires.taken p) (object p is))
+    c.live_recorded.ensures.object
