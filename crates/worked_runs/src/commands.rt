@@ -65,8 +65,8 @@ pub(crate) fn are_same<R: Host>(rt: &R, one: &str, other: &str) -> Result<bool> 
     has_bytes(rt, one, bytes.as_slice())
 }
 
-// Whether what was written to a file is what is stored under this name with this ending.
-fn is_stored<R: Host>(rt: &R, written: &str, name: &str, ending: &str) -> Result<bool> {
+/// Whether what was written to a file is what is stored under this name with this ending.
+pub(crate) fn is_stored<R: Host>(rt: &R, written: &str, name: &str, ending: &str) -> Result<bool> {
     let bytes = stored(rt, name, ending)?;
     has_bytes(rt, written, bytes.as_slice())
 }

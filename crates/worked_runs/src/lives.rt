@@ -1,16 +1,11 @@
 //! Runs scenarios in threads, and judges what comes out.
 
-use crate::commands::{
-    CERT, CERT_AGAIN, Host, LOG, LOG_AGAIN, are_same, carry_out_words, show_command, show_written,
-    words_of,
-};
+use crate::again::{STEPS, again_words, is_played_again, is_yes};
+use crate::commands::{CERT, Host, LOG, carry_out_words, show_command, show_written, words_of};
 use anyhow::Result;
 use kt_program::Words;
 use std::alloc::Global;
 use std::fs;
-
-// Where the steps of a run are written.
-const STEPS: &str = "run.steps";
 
 // How often a scenario is run whose threads meet in many ways.
 const TIMES: u32 = 100;
@@ -22,14 +17,6 @@ const MANY: u32 = 4_096;
 fn live_words(alloc: Global, name: &str) -> Result<Words> {
     let line = format!(in alloc; "koo_toueg live {name}.scenario --log {LOG} --cert {CERT}")?;
     Ok(words_of(alloc, line.as_str())?)
-}
-
-// Whether the checker says yes to what was written.
-fn is_yes<R: Host>(rt: &R) -> Result<bool> {
-    let words = words_of(rt.alloc(), "koo_toueg check run.log.csv run.cert.csv")?;
-    let mut answer = Vec::new(rt.alloc());
-    let status = carry_out_words(rt, &words, &mut answer);
-    Ok(status == 0 && answer.as_slice() == b"yes\n".as_slice())
 }
 
 // Whether no object failed to be saved.
@@ -62,25 +49,6 @@ fn recorded_words(alloc: Global, name: &str) -> Result<Words> {
         "koo_toueg live {name}.scenario --record {STEPS} --log {LOG} --cert {CERT}"
     )?;
     Ok(words_of(alloc, line.as_str())?)
-}
-
-// The words that play it by these steps.
-fn again_words(alloc: Global, name: &str) -> Result<Words> {
-    let line = format!(in alloc;
-        "koo_toueg play {name}.scenario --steps {STEPS} --log {LOG_AGAIN} --cert {CERT_AGAIN}"
-    )?;
-    Ok(words_of(alloc, line.as_str())?)
-}
-
-// Runs a scenario in threads and plays it again by the steps that were made: whether log, certificates and report are the
-// same.
-fn is_played_again<R: Host>(rt: &R, live: &Words, again: &Words) -> Result<bool> {
-    let mut lived = Vec::new(rt.alloc());
-    let mut played = Vec::new(rt.alloc());
-    let lives = carry_out_words(rt, live, &mut lived) == 0;
-    let plays = carry_out_words(rt, again, &mut played) == 0;
-    let same = are_same(rt, LOG, LOG_AGAIN)? && are_same(rt, CERT, CERT_AGAIN)?;
-    Ok(lives && plays && same && lived.as_slice() == played.as_slice())
 }
 
 // Does so that often: how many runs are the same when played again.

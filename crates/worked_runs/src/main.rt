@@ -1,16 +1,19 @@
 //! Shows what is read from each stored run: its first broken rule, or what its histories are after each row, as both
-//! readers tell it, the checker's answer in both formats, whether what is written is what was read, and its answer to
-//! certificates that are made after each row, and whether those made of its text are the stored ones. Then plays each scenario that a stored run is of, and runs each in
-//! threads.
+//! readers tell it, the checker's answer in both formats, whether what is written is what was read, its answer to
+//! certificates that are made after each row, and whether those made of its text are the stored ones. Then plays each
+//! scenario that a stored run is of, some in many drawn orders, and runs each in threads.
 #![tactic(auto)]
 
+mod again;
 mod certified;
 mod commands;
 mod facts;
 mod lives;
+mod long;
 mod made;
 mod plays;
 mod readers;
+mod seeds;
 mod texts;
 
 use anyhow::Result;
@@ -21,8 +24,10 @@ use kt_histories::legal;
 use kt_log_text::read_csv;
 use kt_spacetime::SpaceTime;
 use lives::{show_large_live, show_lives};
+use long::show_long;
 use made::{show_made, show_many};
 use plays::show_plays;
+use seeds::show_seeds;
 use std::fs;
 use texts::{HEADER, show_texts};
 
@@ -67,7 +72,9 @@ fn show_all_stored(rt: &HostRuntime, list: &str) -> Result<()> {
 fn main(rt: HostRuntime) -> Result<()> {
     show_all_stored(&rt, "runs.txt")?;
     show_plays(&rt, "plays.txt")?;
+    show_seeds(&rt, "seeds.txt")?;
     show_lives(&rt, "lives.txt")?;
     show_large_live(&rt)?;
+    show_long(&rt)?;
     show_many(&rt)
 }
