@@ -3,7 +3,7 @@ use Rattle.std.proofs.Common.{◌≡◌, ◌<◌, ◌^◌, ◌++◌, ◌∷◌, 
 use Rattle.kt_spacetime.specs.declared.event.Event.{Event}
 use Rattle.kt_cuts.specs.Legal.{IsLegal}
 use Rattle.kt_log_text.specs.Reading.{RowsRead, GivesRow, MeetsEnd, rows_unread}
-use Rattle.kt_log_text.specs.Progress.{Gathers}
+use Rattle.kt_log_text.specs.Progress.{GathersRows}
 use Rattle.kt_log_text.proofs.GatherFacts.{gathers_more, gathers_none, gathered_all, most_rows_le}
 use Rattle.kt_walk.specs.WalkOf.{WalkOf}
 use Rattle.kt_walk.specs.WalkParts.{WalkParts}
@@ -12,13 +12,13 @@ use Rattle.calling_runs.specs.Walked.{IsWalkedText}
 -- the rows that were read so far are those that the walk was fed
 pub record HasFed (text : Option (List ℕ)) (reader : RowsRead) (walk : WalkParts) : Type 0 where
   pub fed : List Event
-  pub gathers : Gathers text reader fed
+  pub gathers : GathersRows text reader fed
   pub stands : WalkOf walk fed
 
 pub fed_none : (text : Option (List ℕ)) (reader : RowsRead) (walk : WalkParts) → reader ≡ rows_unread text → WalkOf walk [] → HasFed text reader walk
 fed_none text reader walk e h = record {
   fed = [];
-  gathers = subst (λ (r : RowsRead). Gathers text r []) (sym e) (gathers_none text);
+  gathers = subst (λ (r : RowsRead). GathersRows text r []) (sym e) (gathers_none text);
   stands = h;
 }
 

@@ -5,7 +5,7 @@ use Rattle.std.specs.Prelude.{eqb}
 use Rattle.std.proofs.lemmas.Bool.Decides.{nat_tests}
 use Rattle.std.proofs.lemmas.Map.Steps.{length-le_from_distinct_below}
 use Rattle.std.proofs.lemmas.Option.{slice_get_within, get_or_from_slice_get}
-use Rattle.kt_spacetime.specs.Events.{IsInRange}
+use Rattle.kt_spacetime.specs.Events.{IsRowInRange}
 use Rattle.kt_spacetime.specs.declared.event.Event.{Event}
 use Rattle.kt_spacetime.specs.declared.event.Event.TheVariants.{Sent, Received, Dropped, Began, Took, Ready, Unwilling, Decided, Closed, Failed, Refused}
 use Rattle.kt_cuts.specs.Legal.{IsLegal}
@@ -58,7 +58,7 @@ member_row (row ∷ rows) k i p e = from (joins k row) refl i e (λ j f. member_
     from (Some q) f zero e rest = (0, row, refl, f ∙ e)
     from (Some q) f (suc i) e rest = later (rest i e)
 
-joins_low : (k : ℕ) (row : Event) (p : ℕ) → IsInRange row → joins k row ≡ Some p → p < 64
+joins_low : (k : ℕ) (row : Event) (p : ℕ) → IsRowInRange row → joins k row ≡ Some p → p < 64
 joins_low k (Took q j) p r e = at_test (j == k) e
   where
     at_test : (b : Bool) → (if b then Some q else None) ≡ Some p → p < 64
@@ -79,10 +79,10 @@ joins_low k (Closed q j) p r e = absurd (cc)
 joins_low k (Failed q) p r e = absurd (cc)
 joins_low k (Refused q verb cause) p r e = absurd (cc)
 
-pub member_low : (log : List Event) (k i p : ℕ) → All IsInRange log → slice_get (members log k) i ≡ Some p → p < 64
+pub member_low : (log : List Event) (k i p : ℕ) → All IsRowInRange log → slice_get (members log k) i ≡ Some p → p < 64
 member_low log k i p all e =
     let row = member_row log k i p e in
-    joins_low k row.1 p (subst IsInRange (get_or_from_slice_get log row.0 row.1 row.1 row.2) (all row.0 row.1 (slice_get_within log row.0 row.1 row.2))) row.3
+    joins_low k row.1 p (subst IsRowInRange (get_or_from_slice_get log row.0 row.1 row.1 row.2) (all row.0 row.1 (slice_get_within log row.0 row.1 row.2))) row.3
 
-pub few_members : (log : List Event) (k : ℕ) → IsLegal log → All IsInRange log → length (members log k) ≤ 64
+pub few_members : (log : List Event) (k : ℕ) → IsLegal log → All IsRowInRange log → length (members log k) ≤ 64
 few_members log k l all = few (members log k) 64 (λ i j x e f. (joins_once log l).once k i j x e f) (λ i x e. member_low log k i x all e)

@@ -11,7 +11,7 @@ use Rattle.kt_cuts.specs.declared.deeds.Deed.TheVariants as deed
 use Rattle.kt_cuts.specs.Past.{past}
 use Rattle.kt_cuts.proofs.SortedFacts.{some_same}
 use Rattle.kt_walk.specs.declared.queue.Arrival.{Arrival}
-use Rattle.kt_walk.specs.Arrivals.{IsRising}
+use Rattle.kt_walk.specs.Arrivals.{AreRisingArrivals}
 use Rattle.kt_walk.specs.Pairs.{PairState}
 use Rattle.kt_walk.specs.Searching.{IsFoundPast}
 use Rattle.kt_walk.specs.WalkOf.{WalkOf}
@@ -65,7 +65,7 @@ first_none (x ∷ arrivals) from e j b f = at_test (nat_le from x.sent) refl e j
     at_test false t e (suc j) f rest = rest e j f
 
 -- what comes past a position comes at the first of these or after it
-after_first : (arrivals : List Arrival) (from : ℕ) (a : Arrival) → IsRising arrivals → FirstPast arrivals from a → (j : ℕ) (b : Arrival) → slice_get arrivals j ≡ Some b → from ≤ b.sent → (a.msg ≤ b.msg) × (a.received ≤ b.received)
+after_first : (arrivals : List Arrival) (from : ℕ) (a : Arrival) → AreRisingArrivals arrivals → FirstPast arrivals from a → (j : ℕ) (b : Arrival) → slice_get arrivals j ≡ Some b → from ≤ b.sent → (a.msg ≤ b.msg) × (a.received ≤ b.received)
 after_first arrivals from a rising h j b e late = elim (cases_order j h.place) [
   | inl same ↦
       let is : b ≡ a = some_same (sym e ∙ (ap (slice_get arrivals) same ∙ h.there)) in
@@ -79,7 +79,7 @@ after_first arrivals from a rising h j b e late = elim (cases_order j h.place) [
 ]
 
 -- what was received before a place
-found_within : (arrivals : List Arrival) (from n : ℕ) → IsRising arrivals → IsFoundPast arrivals from n (message_within n (first_past arrivals from))
+found_within : (arrivals : List Arrival) (from n : ℕ) → AreRisingArrivals arrivals → IsFoundPast arrivals from n (message_within n (first_past arrivals from))
 found_within arrivals from n rising = at_first (first_past arrivals from) refl
   where
     at_place : (a : Arrival) → FirstPast arrivals from a → (b : Bool) → nat_lt a.received n ≡ b → IsFoundPast arrivals from n (if b then Some a.msg else None)
@@ -100,12 +100,12 @@ found_within arrivals from n rising = at_first (first_past arrivals from) refl
     at_first None e = record { there = tt; least = λ j b f late within. absurd (omega (arith, late, first_none arrivals from e j b f)) }
     at_first (Some a) e = at_place a (first_is arrivals from a e) (nat_lt a.received n) refl
 
-found_within_new : (arrivals : List Arrival) (from : ℕ) (new : Option ℕ) → IsRising arrivals → IsFoundPast arrivals from (unwrap_or new 0) (message_within_new new (first_past arrivals from))
+found_within_new : (arrivals : List Arrival) (from : ℕ) (new : Option ℕ) → AreRisingArrivals arrivals → IsFoundPast arrivals from (unwrap_or new 0) (message_within_new new (first_past arrivals from))
 found_within_new arrivals from (Some n) rising = found_within arrivals from n rising
 found_within_new arrivals from None rising = record { there = tt; least = λ j b f late within. absurd (omega (arith, within)) }
 
 -- where all were received before it
-found_any : (arrivals : List Arrival) (from n : ℕ) → IsRising arrivals → ((k : ℕ) (a : Arrival) → slice_get arrivals k ≡ Some a → a.received < n) → IsFoundPast arrivals from n (message_of (first_past arrivals from))
+found_any : (arrivals : List Arrival) (from n : ℕ) → AreRisingArrivals arrivals → ((k : ℕ) (a : Arrival) → slice_get arrivals k ≡ Some a → a.received < n) → IsFoundPast arrivals from n (message_of (first_past arrivals from))
 found_any arrivals from n rising low = at_first (first_past arrivals from) refl
   where
     at_place : (a : Arrival) → FirstPast arrivals from a → IsFoundPast arrivals from n (Some a.msg)
@@ -132,7 +132,7 @@ received_low w rows p q v h low down e k a at =
     subst (λ (r : ℕ). a.received < length ((past rows).live r)) receiver
     (slice_get_within ((past rows).live v.received_from.receiver) a.received (deed.Received a.msg v.received_from.sender) ((shown_at w.pair_states (past rows) (p * 64 + q) v h.messages e).arrived k a at))
 
-rising_at : (w : WalkParts) (rows : List Event) (i : ℕ) (v : PairState) → WalkOf w rows → slice_get w.pair_states i ≡ Some v → IsRising v.received_from.arrivals
+rising_at : (w : WalkParts) (rows : List Event) (i : ℕ) (v : PairState) → WalkOf w rows → slice_get w.pair_states i ≡ Some v → AreRisingArrivals v.received_from.arrivals
 rising_at w rows i v h e = (shown_at w.pair_states (past rows) i v h.messages e).rising
 
 -- so that is the first arrival past the sender's permanent position

@@ -9,7 +9,7 @@ use Rattle.kt_walk.specs.WalkOf.{WalkOf}
 use Rattle.kt_checker.proofs.Answering.{no_broken}
 use Rattle.kt_certify.specs.Faults.{HasNoChain, IsFirstWithout, IsUnfit}
 use Rattle.kt_certify.specs.Instances.{AreInstancesOf}
-use Rattle.kt_certify.specs.PassOf.{KeepsFit, Keeps, PassOf, IsBroken, AreEntered, tells_rule}
+use Rattle.kt_certify.specs.PassOf.{KeepsFit, PassKeeps, PassOf, IsBroken, AreEntered, tells_rule}
 use Rattle.kt_certify.specs.declared.fault.Unfit.{Unfit}
 use Rattle.kt_certify.specs.declared.fault.Unfit.TheVariants.{BadLog, NoChain}
 use Rattle.kt_certify.specs.declared.pass.Pass.{Pass}
@@ -18,13 +18,13 @@ use Rattle.kt_certify.proofs.Whole.{broken_more}
 
 -- rows that are fit so far
 pub fit_so_far : (pass : Pass) (rows : List Event) → PassOf pass rows → pass.unfit ≡ None → KeepsFit pass rows
-fit_so_far pass rows h e = subst (Keeps pass rows) e h.keeps
+fit_so_far pass rows h e = subst (PassKeeps pass rows) e h.keeps
 
 -- rows that break no rule so far
 pub legal_so_far : (pass : Pass) (rows : List Event) → PassOf pass rows → tells_rule pass.unfit ≡ false → WalkOf pass.walk rows
 legal_so_far pass rows h = at pass.unfit h.keeps
   where
-    at : (o : Option Unfit) → Keeps pass rows o → tells_rule o ≡ false → WalkOf pass.walk rows
+    at : (o : Option Unfit) → PassKeeps pass rows o → tells_rule o ≡ false → WalkOf pass.walk rows
     at None k e = k.walk
     at (Some (NoChain j r p)) k e = k
     at (Some (BadLog n rule)) k e = absurd (cc)
@@ -47,7 +47,7 @@ broken_still pass rows row h = at pass.unfit refl
     at (Some (NoChain j r p)) is e = absurd (cc)
     at (Some (BadLog n rule)) is e = record {
       few = omega (arith, h.few, length-append rows (row ∷ []));
-      keeps = subst (Keeps pass (rows ++ row ∷ [])) (sym is) tt;
+      keeps = subst (PassKeeps pass (rows ++ row ∷ [])) (sym is) tt;
       unfit = λ why there. subst (IsUnfit (rows ++ row ∷ [])) (some_same (sym is ∙ there)) (broken_more start rows (row ∷ []) (n, rule) (h.unfit (BadLog n rule) is));
     }
 
@@ -55,11 +55,11 @@ broken_still pass rows row h = at pass.unfit refl
 pub legal_more : (pass : Pass) (rows : List Event) (unlinked : Option Unfit) → pass.unfit ≡ unlinked → WalkOf pass.walk rows → IsLegal rows → AreEntered pass rows unlinked → PassOf pass rows
 legal_more pass rows unlinked e walk legal entered = record {
   few = omega (arith, walk.control.number);
-  keeps = subst (Keeps pass rows) (sym e) (kept unlinked entered);
+  keeps = subst (PassKeeps pass rows) (sym e) (kept unlinked entered);
   unfit = λ why there. why_of unlinked entered why (sym e ∙ there);
 }
   where
-    kept : (o : Option Unfit) → AreEntered pass rows o → Keeps pass rows o
+    kept : (o : Option Unfit) → AreEntered pass rows o → PassKeeps pass rows o
     kept None h = record { walk = walk; instances = h.0; chained = h.1 }
     kept (Some (NoChain j r p)) h = walk
     kept (Some (BadLog n rule)) h = absurd h
@@ -74,6 +74,6 @@ pub broken_now : (pass : Pass) (rows : List Event) (why : Unfit) → pass.unfit 
 broken_now pass rows (NoChain j r p) e few broken = absurd broken
 broken_now pass rows (BadLog n rule) e few broken = record {
   few = few;
-  keeps = subst (Keeps pass rows) (sym e) tt;
+  keeps = subst (PassKeeps pass rows) (sym e) tt;
   unfit = λ why there. subst (IsUnfit rows) (some_same (sym e ∙ there)) broken;
 }

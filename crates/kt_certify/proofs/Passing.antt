@@ -7,12 +7,12 @@ use Rattle.kt_cuts.specs.Legal.{IsLegal}
 use Rattle.kt_chain.specs.declared.certificate.Certificate.{Certificate}
 use Rattle.kt_checker.specs.declared.verdict.Verdict.{Verdict}
 use Rattle.kt_checker.specs.Passing.{Passes, IsPassed, IsAsInLog, IsSecond, AreComplete}
-use Rattle.kt_checker.specs.Order.{IsAnswer}
+use Rattle.kt_checker.specs.Order.{IsCheckerAnswer}
 use Rattle.kt_checker.specs.declared.verdict.Verdict.TheVariants.{Yes}
 use Rattle.kt_checker.proofs.Answering.{passed_of, yes_of}
 use Rattle.kt_checker.proofs.Sound.{aborts, decisions_consistent}
 use Rattle.kt_certify.specs.Certificates.{certificates}
-use Rattle.kt_certify.specs.Faults.{IsFit}
+use Rattle.kt_certify.specs.Faults.{IsFitLog}
 use Rattle.kt_certify.proofs.Certified.{rising}
 use Rattle.kt_certify.proofs.Certified as certified
 use Rattle.kt_certify.specs.Just.{IsJust}
@@ -29,7 +29,7 @@ complete log l n p k commit e =
     (c.0, c.1, c.2, c.3)
 
 -- each passes
-passes_at : (log : List Event) (n : ℕ) (c : Certificate) → IsFit log → IsJust log → IsMadeAt log c n → IsAsInLog log c n → Passes log c
+passes_at : (log : List Event) (n : ℕ) (c : Certificate) → IsFitLog log → IsJust log → IsMadeAt log c n → IsAsInLog log c n → Passes log c
 passes_at log n c fit just is said = record {
   row = n;
   instance = said;
@@ -42,7 +42,7 @@ passes_at log n c fit just is said = record {
 }
 
 -- the certificates of a log that is fit pass where its decisions are just
-pub passed_of_fit : (log : List Event) → IsFit log → IsJust log → IsPassed log (certificates log)
+pub passed_of_fit : (log : List Event) → IsFitLog log → IsJust log → IsPassed log (certificates log)
 passed_of_fit log fit just = record {
   legal = fit.legal;
   pass = λ i c low e.
@@ -58,8 +58,8 @@ just_of_passed log h = record {
   causes = aborts log (certificates log) h;
 }
 
-pub yes_of_fit : (log : List Event) (v : Verdict) → IsFit log → IsAnswer log (certificates log) v → IsJust log → v ≡ Yes
+pub yes_of_fit : (log : List Event) (v : Verdict) → IsFitLog log → IsCheckerAnswer log (certificates log) v → IsJust log → v ≡ Yes
 yes_of_fit log v fit answer just = yes_of log (certificates log) v answer (passed_of_fit log fit just)
 
-pub just_of_yes : (log : List Event) (v : Verdict) → IsAnswer log (certificates log) v → v ≡ Yes → IsJust log
+pub just_of_yes : (log : List Event) (v : Verdict) → IsCheckerAnswer log (certificates log) v → v ≡ Yes → IsJust log
 just_of_yes log v answer e = just_of_passed log (passed_of log (certificates log) v answer e)

@@ -19,7 +19,7 @@ use Rattle.kt_cuts.proofs.SortedFacts.{some_same}
 use Rattle.kt_cuts.proofs.Traced.{next_unbroken}
 use Rattle.kt_walk.proofs.ItemPlaces.{get_mapped, mapped_get}
 use Rattle.kt_chain.specs.declared.certificate.Certificate.{Certificate}
-use Rattle.kt_chain.specs.Spelling.{IsInRange, IsMemberInRange, certificate_records, member_record, records_of}
+use Rattle.kt_chain.specs.Spelling.{IsCertificateWithin, IsMemberInRange, certificate_records, member_record, records_of}
 use Rattle.kt_chain.specs.Texts.{IsCertText}
 use Rattle.kt_certify.specs.Linking.{chained}
 use Rattle.kt_certify.specs.Certificates.{certificate_of, certificates}
@@ -33,14 +33,14 @@ use Rattle.kt_certify.proofs.Short.{short}
 use Rattle.kt_certify.proofs.Unlinked.{initiator_known}
 
 -- a row of a log in range
-row_in_range : (log : List Event) (n : ℕ) (row : Event) → All events.IsInRange log → slice_get log n ≡ Some row → events.IsInRange row
-row_in_range log n row all e = subst events.IsInRange (get_or_from_slice_get log n row row e) (all n row (slice_get_within log n row e))
+row_in_range : (log : List Event) (n : ℕ) (row : Event) → All events.IsRowInRange log → slice_get log n ≡ Some row → events.IsRowInRange row
+row_in_range log n row all e = subst events.IsRowInRange (get_or_from_slice_get log n row row e) (all n row (slice_get_within log n row e))
 
 -- the members of an instance, each with its chain
-module _ (log : List Event) (k n : ℕ) (kind : Kind) (initiator : ℕ) (legal : IsLegal log) (all : All events.IsInRange log) (size : length log ≤ 2 ^ 24) where
+module _ (log : List Event) (k n : ℕ) (kind : Kind) (initiator : ℕ) (legal : IsLegal log) (all : All events.IsRowInRange log) (size : length log ≤ 2 ^ 24) where
   members_many : length (chained (past (take n log)) k kind initiator (members (take n log) k)) ≤ 64
   members_many =
-      let count = few_members (take n log) k (legal_take n log legal) (All-take events.IsInRange n log all) in
+      let count = few_members (take n log) k (legal_take n log legal) (All-take events.IsRowInRange n log all) in
       let same = ap length (processes_are (past (take n log)) k kind initiator (members (take n log) k)) in
       omega (arith, count, same, length-map (chained (past (take n log)) k kind initiator (members (take n log) k)) process)
 
@@ -50,7 +50,7 @@ module _ (log : List Event) (k n : ℕ) (kind : Kind) (initiator : ℕ) (legal :
       let listed : slice_get (members (take n log) k) j ≡ Some m.0 =
       sym (ap (λ (l : List ℕ). slice_get l j) (processes_are (past (take n log)) k kind initiator (members (take n log) k))) ∙ mapped_get process done j m at in
       record {
-        process = member_low (take n log) k j m.0 (All-take events.IsInRange n log all) listed;
+        process = member_low (take n log) k j m.0 (All-take events.IsRowInRange n log all) listed;
         messages = λ x y within.
             let h = ((numbered (take n log) k kind initiator (members (take n log) k)).each j m.0 m.1 at).each x (slice_index_or m.1 x y) (slice_get-get_or m.1 x y within) in
             (h.0, omega (arith, h.1, rows_length (take n log), length-take n log, size));
@@ -66,25 +66,25 @@ module _ (log : List Event) (k n : ℕ) (kind : Kind) (initiator : ℕ) (legal :
   members_few false = omega arith
 
 -- a certificate
-of_instance : (log : List Event) (k : ℕ) (c : Certificate) → IsLegal log → All events.IsInRange log → length log ≤ 2 ^ 24 → certificate_of log k ≡ Some c → IsInRange c
+of_instance : (log : List Event) (k : ℕ) (c : Certificate) → IsLegal log → All events.IsRowInRange log → length log ≤ 2 ^ 24 → certificate_of log k ≡ Some c → IsCertificateWithin c
 of_instance log k c l all size e =
     let is = certificate_is log k c e in
     let row = row_in_range log is.row (Decided is.decider k is.commit) all is.decided in
     let may = may_decide (past (take is.row log)) is.decider k is.commit (next_unbroken log is.row (Decided is.decider k is.commit) l is.decided) in
     let first : is.decider ≡ is.beginning.initiator = some_same (sym may.is_initiator ∙ initiator_known (past (take is.row log)) k is.beginning is.began) in
-    subst IsInRange is.made (record {
+    subst IsCertificateWithin is.made (record {
       inst = row.1;
       initiator = omega (arith, row.0, first);
       members = members_in_range log k is.row is.beginning.kind is.beginning.initiator l all size is.commit;
     })
 
-many_of_instance : (log : List Event) (k : ℕ) (c : Certificate) → IsLegal log → All events.IsInRange log → length log ≤ 2 ^ 24 → certificate_of log k ≡ Some c → length c.members ≤ 64
+many_of_instance : (log : List Event) (k : ℕ) (c : Certificate) → IsLegal log → All events.IsRowInRange log → length log ≤ 2 ^ 24 → certificate_of log k ≡ Some c → length c.members ≤ 64
 many_of_instance log k c l all size e =
     let is = certificate_is log k c e in
     subst (λ (x : Certificate). length x.members ≤ 64) is.made (members_few log k is.row is.beginning.kind is.beginning.initiator l all size is.commit)
 
 -- all certificates
-pub all_in_range : (log : List Event) → IsLegal log → All events.IsInRange log → length log ≤ 2 ^ 24 → All IsInRange (certificates log)
+pub all_in_range : (log : List Event) → IsLegal log → All events.IsRowInRange log → length log ≤ 2 ^ 24 → All IsCertificateWithin (certificates log)
 all_in_range log l all size i d low =
     let at = slice_get-get_or (certificates log) i d low in
     let number = item_is (certificate_of log) (length (past log).begun) i (slice_index_or (certificates log) i d) at in
@@ -102,14 +102,14 @@ once log i j x e f =
       ]
     ]
 
-few_certificates : (log : List Event) → All IsInRange (certificates log) → length (certificates log) ≤ 4097
+few_certificates : (log : List Event) → All IsCertificateWithin (certificates log) → length (certificates log) ≤ 4097
 few_certificates log all =
     let count = few (map (λ (c : Certificate). c.inst) (certificates log)) 4097 (once log) (λ i x e. low i x (get_mapped (λ (c : Certificate). c.inst) (certificates log) i x e)) in
     omega (arith, count, length-map (certificates log) (λ (c : Certificate). c.inst))
   where
     low : (i x : ℕ) → (c : Certificate) × (slice_get (certificates log) i ≡ Some c) × (x ≡ c.inst) → x < 4097
     low i x h =
-        let c : IsInRange h.0 = subst IsInRange (get_or_from_slice_get (certificates log) i h.0 h.0 h.1) (all i h.0 (slice_get_within (certificates log) i h.0 h.1)) in
+        let c : IsCertificateWithin h.0 = subst IsCertificateWithin (get_or_from_slice_get (certificates log) i h.0 h.0 h.1) (all i h.0 (slice_get_within (certificates log) i h.0 h.1)) in
         omega (arith, h.2, c.inst.1)
 
 -- how many records they have
@@ -121,7 +121,7 @@ counted (c ∷ cs) each =
     let own = length-map c.members (member_record c.inst) in
     omega (arith, here, rest, own, length-append (certificate_records c) (records_of cs))
 
-pub text_says : (log : List Event) → IsLegal log → All events.IsInRange log → length log ≤ 2 ^ 24 → IsCertText (records_of (certificates log)) (certificates log)
+pub text_says : (log : List Event) → IsLegal log → All events.IsRowInRange log → length log ≤ 2 ^ 24 → IsCertText (records_of (certificates log)) (certificates log)
 text_says log l all size =
     let range = all_in_range log l all size in
     record {

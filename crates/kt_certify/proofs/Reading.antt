@@ -3,16 +3,16 @@ use Rattle.std.proofs.Common.{◌≡◌, ◌≤◌, ◌<◌, ◌^◌, ◌∷◌,
 use Rattle.std.specs.List.{filter_map}
 use Rattle.std.proofs.lemmas.List.Elements.{All-push}
 use Rattle.kt_spacetime.specs.declared.event.Event.{Event}
-use Rattle.kt_spacetime.specs.Events.{IsInRange}
+use Rattle.kt_spacetime.specs.Events.{IsRowInRange}
 use Rattle.kt_log_text.specs.Reading.{RowsRead, GivesRow, MeetsEnd, rows_unread}
 use Rattle.kt_log_text.specs.Texts.{IsLogText}
-use Rattle.kt_log_text.specs.Progress.{Gathers}
+use Rattle.kt_log_text.specs.Progress.{GathersRows}
 use Rattle.kt_log_text.proofs.GatherFacts.{gathers_more, gathers_none, gathered_all, most_rows_le}
 use Rattle.kt_log_text.proofs.TextFacts.{one_log}
 use Rattle.kt_chain.specs.declared.certificate.Certificate.{Certificate}
 use Rattle.kt_chain.specs.Spelling.{HasShortChains, records_of}
 use Rattle.kt_chain.specs.Texts.{IsCertText}
-use Rattle.kt_certify.specs.Faults.{IsFit, IsUnfit}
+use Rattle.kt_certify.specs.Faults.{IsFitLog, IsUnfit}
 use Rattle.kt_certify.specs.PassOf.{PassOf}
 use Rattle.kt_certify.specs.Streamed.{AreRowsOf, AreCertified}
 use Rattle.kt_certify.specs.declared.fault.Unfit.{Unfit}
@@ -23,19 +23,19 @@ use Rattle.kt_certify.proofs.Whole.{all_certified, writable, says}
 -- what is known while rows are read: these were, and the pass has seen them
 pub record HasRead (source : Option (List ℕ)) (reader : RowsRead) (pass : Pass) : Type 0 where
   pub seen : List Event
-  pub gathers : Gathers source reader seen
+  pub gathers : GathersRows source reader seen
   pub pass_of : PassOf pass seen
-  pub in_range : All IsInRange seen
+  pub in_range : All IsRowInRange seen
 
 pub read_none : (source : Option (List ℕ)) (reader : RowsRead) (pass : Pass) → reader ≡ rows_unread source → PassOf pass [] → HasRead source reader pass
 read_none source reader pass e h = record {
   seen = [];
-  gathers = subst (λ (r : RowsRead). Gathers source r []) (sym e) (gathers_none source);
+  gathers = subst (λ (r : RowsRead). GathersRows source r []) (sym e) (gathers_none source);
   pass_of = h;
   in_range = none;
 }
   where
-    none : All IsInRange []
+    none : All IsRowInRange []
     none = λ k d low. absurd (omega (arith, low))
 
 -- there is room for one more row
@@ -48,11 +48,11 @@ read_more {source} old new was now row h s fed = record {
   seen = h.seen ++ row ∷ [];
   gathers = gathers_more source old new h.seen row h.gathers s;
   pass_of = fed h.seen h.pass_of;
-  in_range = All-push IsInRange h.seen row h.in_range s.in_range;
+  in_range = All-push IsRowInRange h.seen row h.in_range s.in_range;
 }
 
 -- the rows that were read to the end are those of the bytes
-pub rows_of : {source : Option (List ℕ)} (old new : RowsRead) (rows : List Event) → Gathers source old rows → MeetsEnd old new → AreRowsOf source rows
+pub rows_of : {source : Option (List ℕ)} (old new : RowsRead) (rows : List Event) → GathersRows source old rows → MeetsEnd old new → AreRowsOf source rows
 rows_of {source} old new rows g s = record { says = said; only = from (rows_unread source).left said }
   where
     said : IfSome (rows_unread source).left (λ text. IsLogText text rows)

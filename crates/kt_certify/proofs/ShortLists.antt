@@ -4,7 +4,7 @@ use Rattle.std.specs.Prelude.{take, slice_index_or}
 use Rattle.std.specs.List.{slice_get, All}
 use Rattle.std.proofs.lemmas.List.{length-map}
 use Rattle.std.proofs.lemmas.Option.{slice_get_within, slice_get-get_or}
-use Rattle.kt_spacetime.specs.Events.{IsInRange}
+use Rattle.kt_spacetime.specs.Events.{IsRowInRange}
 use Rattle.kt_spacetime.specs.declared.event.Event.{Event}
 use Rattle.kt_cuts.specs.Past.{past}
 use Rattle.kt_cuts.specs.Legal.{IsLegal}
@@ -28,7 +28,7 @@ chain_short log i j p c chain e at =
     (short_in log c is.0 is.1 c.commit refl).each j p chain at
 
 -- and there are at most 64 members
-few_listed : (log : List Event) (c : Certificate) (n : ℕ) → IsLegal log → All IsInRange log → IsMadeAt log c n → (b : Bool) → c.commit ≡ b → (j : ℕ) (m : ℕ × List ℕ) → slice_get c.members j ≡ Some m → j < 64
+few_listed : (log : List Event) (c : Certificate) (n : ℕ) → IsLegal log → All IsRowInRange log → IsMadeAt log c n → (b : Bool) → c.commit ≡ b → (j : ℕ) (m : ℕ × List ℕ) → slice_get c.members j ≡ Some m → j < 64
 few_listed log c n l all is true e j m at =
     let low = slice_get_within c.members j m at in
     let count : length (map process c.members) ≡ length c.members = length-map c.members process in
@@ -39,13 +39,13 @@ few_listed log c n l all is false e j m at = absurd (nothing (members_by log c n
     nothing : c.members ≡ [] → ⊥
     nothing none = absurd (cc (sym (ap (λ (ms : List (ℕ × List ℕ)). slice_get ms j) none) ∙ at))
 
-pub chain_few : (log : List Event) (i j p : ℕ) (c : Certificate) (chain : List ℕ) → IsLegal log → All IsInRange log → slice_get (certificates log) i ≡ Some c → slice_get c.members j ≡ Some (p, chain) → length chain ≤ 63
+pub chain_few : (log : List Event) (i j p : ℕ) (c : Certificate) (chain : List ℕ) → IsLegal log → All IsRowInRange log → slice_get (certificates log) i ≡ Some c → slice_get c.members j ≡ Some (p, chain) → length chain ≤ 63
 chain_few log i j p c chain l all e at =
     let is = made_somewhere log i c e in
     omega (arith, chain_short log i j p c chain e at, few_listed log c is.0 l all is.1 c.commit refl j (p, chain) at)
 
 -- so the list can be written
-pub short_chains : (log : List Event) → IsLegal log → All IsInRange log → All HasShortChains (certificates log)
+pub short_chains : (log : List Event) → IsLegal log → All IsRowInRange log → All HasShortChains (certificates log)
 short_chains log l all i d low = λ j m within.
     let c = slice_index_or (certificates log) i d in
     let at : slice_get (certificates log) i ≡ Some c = slice_get-get_or (certificates log) i d low in

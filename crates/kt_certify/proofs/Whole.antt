@@ -10,7 +10,7 @@ use Rattle.kt_chain.specs.Spelling.{HasShortChains, records_of}
 use Rattle.kt_chain.specs.Texts.{IsCertText}
 use Rattle.kt_certify.proofs.Ranges.{text_says}
 use Rattle.kt_certify.proofs.ShortLists.{short_chains}
-use Rattle.kt_spacetime.specs.Events.{IsInRange}
+use Rattle.kt_spacetime.specs.Events.{IsRowInRange}
 use Rattle.kt_certify.specs.Certificates.{certificates}
 use Rattle.kt_certify.proofs.PassSteps.{listed_of}
 use Rattle.kt_certify.specs.declared.pass.Pass.{Pass}
@@ -42,8 +42,8 @@ pub all_certified : (pass : Pass) (log : List Event) (list : List Certificate) �
 all_certified pass log list h found = found ∙ listed_of log pass.instances.items h.instances
 
 -- and that it can be written
-pub writable : (pass : Pass) (log : List Event) (list : List Certificate) → KeepsFit pass log → list ≡ filter_map (λ v. v.certificate) pass.instances.items → All IsInRange log → All HasShortChains list
+pub writable : (pass : Pass) (log : List Event) (list : List Certificate) → KeepsFit pass log → list ≡ filter_map (λ v. v.certificate) pass.instances.items → All IsRowInRange log → All HasShortChains list
 writable pass log list h found low = subst (All HasShortChains) (sym (all_certified pass log list h found)) (short_chains log h.walk.control.legal low)
 
-pub says : (pass : Pass) (log : List Event) (list : List Certificate) → KeepsFit pass log → list ≡ filter_map (λ v. v.certificate) pass.instances.items → All IsInRange log → length log ≤ 2 ^ 24 → IsCertText (records_of list) list
+pub says : (pass : Pass) (log : List Event) (list : List Certificate) → KeepsFit pass log → list ≡ filter_map (λ v. v.certificate) pass.instances.items → All IsRowInRange log → length log ≤ 2 ^ 24 → IsCertText (records_of list) list
 says pass log list h found low few = subst (λ (l : List Certificate). IsCertText (records_of l) l) (sym (all_certified pass log list h found)) (text_says log h.walk.control.legal low few)

@@ -35,7 +35,7 @@ IsFaultOf log (NoChain k p) = HasNoChain log k p
 IsFaultOf log Memory = ⊤
 
 -- a log is fit to be certified: it is legal, and no member of a committed instance lacks a chain
-pub record IsFit (log : List Event) : Type 0 where
+pub record IsFitLog (log : List Event) : Type 0 where
   pub legal : IsLegal log
   pub chained : (k p : ℕ) → HasNoChain log k p → ⊥
 

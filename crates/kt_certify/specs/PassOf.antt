@@ -17,15 +17,15 @@ pub record KeepsFit (pass : Pass) (rows : List Event) : Type 0 where
 
 -- what it keeps of them: all that is known of rows that are fit; that they are legal, where a member lacks a chain;
 -- nothing of rows that break a rule
-abbrev pub Keeps : Pass → List Event → Option Unfit → Type 0
-Keeps pass rows None = KeepsFit pass rows
-Keeps pass rows (Some (reason.NoChain k row p)) = WalkOf pass.walk rows
-Keeps pass rows (Some (reason.BadLog n rule)) = Unit {0}
+abbrev pub PassKeeps : Pass → List Event → Option Unfit → Type 0
+PassKeeps pass rows None = KeepsFit pass rows
+PassKeeps pass rows (Some (reason.NoChain k row p)) = WalkOf pass.walk rows
+PassKeeps pass rows (Some (reason.BadLog n rule)) = Unit {0}
 
 -- a pass has seen these rows, and knows whether they are fit
 pub record PassOf (pass : Pass) (rows : List Event) : Type 0 where
   pub few : pass.walk.rows ≤ length rows
-  pub keeps : Keeps pass rows pass.unfit
+  pub keeps : PassKeeps pass rows pass.unfit
   pub unfit : (why : Unfit) → pass.unfit ≡ Some why → IsUnfit rows why
 
 -- whether a row broke a rule

@@ -2,11 +2,11 @@
 use Rattle.std.specs.Prelude.{◌≡◌, ℕ, Option, List, IfSome}
 use Rattle.kt_spacetime.specs.declared.event.Event.{Event}
 use Rattle.kt_log_text.specs.Reading.{rows_unread}
-use Rattle.kt_log_text.specs.Texts.{IsLogText, IsFirstFault}
+use Rattle.kt_log_text.specs.Texts.{IsLogText, IsFirstLogFault}
 use Rattle.kt_chain.specs.declared.certificate.Certificate.{Certificate}
 use Rattle.kt_checker.specs.Streamed.{SaysRows}
 use Rattle.kt_certify.specs.Certificates.{certificates}
-use Rattle.kt_certify.specs.Faults.{IsFit, IsUnfit}
+use Rattle.kt_certify.specs.Faults.{IsFitLog, IsUnfit}
 use Rattle.kt_certify.specs.declared.fault.StreamFault.{StreamFault}
 use Rattle.kt_certify.specs.declared.fault.StreamFault.TheVariants.{Log, Unfit}
 
@@ -19,10 +19,10 @@ pub record AreRowsOf (bytes : Option (List ℕ)) (rows : List Event) : Type 0 wh
 pub record AreCertified (bytes : Option (List ℕ)) (list : List Certificate) : Type 0 where
   pub rows : List Event
   pub said : AreRowsOf bytes rows
-  pub fit : IsFit rows
+  pub fit : IsFitLog rows
   pub certificates : list ≡ certificates rows
 
 -- a fault of the bytes: the first of their text, or why the rows that they say are not fit
 abbrev pub IsFaultOfBytes : Option (List ℕ) → StreamFault → Type 0
-IsFaultOfBytes bytes (Log fault) = IfSome (rows_unread bytes).left (λ text. IsFirstFault text fault)
+IsFaultOfBytes bytes (Log fault) = IfSome (rows_unread bytes).left (λ text. IsFirstLogFault text fault)
 IsFaultOfBytes bytes (Unfit why) = (rows : List Event) × AreRowsOf bytes rows × IsUnfit rows why

@@ -6,7 +6,7 @@ ghost use Rattle.kt_base.specs.declared.words.Kind.{Kind};
 ghost use Rattle.kt_base.specs.declared.words.Kind.TheVariants.{Checkpoint, Rollback};
 ghost use Rattle.kt_spacetime.specs.declared.event.Event.{Event};
 ghost use Rattle.kt_spacetime.specs.declared.event.Event.TheVariants.{Decided};
-ghost use Rattle.kt_spacetime.specs.Events.{IsInRange};
+ghost use Rattle.kt_spacetime.specs.Events.{IsRowInRange};
 ghost use Rattle.kt_cuts.specs.Past.{Beginning, past, beginning_of};
 ghost use Rattle.kt_cuts.specs.Legal.{IsLegal, has_begun};
 ghost use Rattle.kt_cuts.specs.Chains.{members, IsCheckpointChain, IsRollbackChain};
@@ -17,16 +17,16 @@ ghost use Rattle.kt_walk.specs.Searching.{IsFoundPast};
 ghost use Rattle.kt_walk.specs.WalkOf.{WalkOf};
 ghost use Rattle.kt_walk.specs.WalkParts.{WalkParts};
 ghost use Rattle.kt_chain.specs.declared.certificate.Certificate.{Certificate};
-ghost use Rattle.kt_chain.specs.Spelling.{HasShortChains, IsInRange as IsCertificateInRange, records_of};
+ghost use Rattle.kt_chain.specs.Spelling.{HasShortChains, IsCertificateWithin as IsCertificateInRange, records_of};
 ghost use Rattle.kt_chain.specs.Texts.{IsCertText};
 ghost use Rattle.kt_checker.specs.declared.verdict.Verdict.{Verdict};
 ghost use Rattle.kt_checker.specs.declared.verdict.Verdict.TheVariants.{Yes};
 ghost use Rattle.kt_checker.specs.Passing.{IsAsInLog, HasLists, IsPassed, AreComplete};
-ghost use Rattle.kt_checker.specs.Order.{IsAnswer};
+ghost use Rattle.kt_checker.specs.Order.{IsCheckerAnswer};
 ghost use Rattle.kt_certify.specs.Linking.{least_link, led_on, chain_through, chain_of, with_member, chained};
 ghost use Rattle.kt_certify.specs.Certificates.{certificates};
 ghost use Rattle.kt_certify.specs.Decisions.{IsOfDecision};
-ghost use Rattle.kt_certify.specs.Faults.{HasNoChain, IsFit};
+ghost use Rattle.kt_certify.specs.Faults.{HasNoChain, IsFitLog};
 ghost use Rattle.kt_certify.specs.Instances.{InstanceParts, AreInstancesOf, changed, instances_after};
 ghost use Rattle.kt_certify.specs.Making.{IsMadeOf};
 ghost use Rattle.kt_certify.specs.Just.{IsJust};
@@ -83,9 +83,9 @@ pub fn certificates_of_legal_logs()
     ensures short { (log : List Event) (i j p : ℕ) (c : Certificate) (chain : List ℕ) →
         slice_get (certificates log) i ≡ Some c → slice_get c.members j ≡ Some (p, chain) → length chain ≤ j }
     ensures few { (log : List Event) (i j p : ℕ) (c : Certificate) (chain : List ℕ) → IsLegal log →
-        All IsInRange log → slice_get (certificates log) i ≡ Some c → slice_get c.members j ≡ Some (p, chain) →
+        All IsRowInRange log → slice_get (certificates log) i ≡ Some c → slice_get c.members j ≡ Some (p, chain) →
         length chain ≤ 63 }
-    ensures writable { (log : List Event) → IsLegal log → All IsInRange log → All HasShortChains (certificates log) }
+    ensures writable { (log : List Event) → IsLegal log → All IsRowInRange log → All HasShortChains (certificates log) }
 
     // A chain names messages of the log.
     ensures named { (log : List Event) (i j p x m : ℕ) (c : Certificate) (chain : List ℕ) → IsLegal log →
@@ -93,9 +93,9 @@ pub fn certificates_of_legal_logs()
         slice_get chain x ≡ Some m → (from : ℕ) × (to : ℕ) × IsMessage log m from to }
 
     // The certificates of a log that can be stored can be written, and what is written says them.
-    ensures in_range { (log : List Event) → IsLegal log → All IsInRange log → length log ≤ 2 ^ 24 →
+    ensures in_range { (log : List Event) → IsLegal log → All IsRowInRange log → length log ≤ 2 ^ 24 →
         All IsCertificateInRange (certificates log) }
-    ensures text { (log : List Event) → IsLegal log → All IsInRange log → length log ≤ 2 ^ 24 →
+    ensures text { (log : List Event) → IsLegal log → All IsRowInRange log → length log ≤ 2 ^ 24 →
         IsCertText (records_of (certificates log)) (certificates log) }
 
     // Where the search finds no chain for a member, no message links it with an earlier one.
@@ -109,8 +109,8 @@ pub fn certificates_of_legal_logs()
 /// A log that has certificates: the checker says yes to it with them exactly where no committed decision leaves an orphan
 /// and each aborted instance, and no committed one, has an unwilling row.
 pub fn certificates_of_fit_logs()
-    ensures passed { (log : List Event) → IsFit log → IsPassed log (certificates log) ↔ IsJust log }
-    ensures yes { (log : List Event) (v : Verdict) → IsFit log → IsAnswer log (certificates log) v
+    ensures passed { (log : List Event) → IsFitLog log → IsPassed log (certificates log) ↔ IsJust log }
+    ensures yes { (log : List Event) (v : Verdict) → IsFitLog log → IsCheckerAnswer log (certificates log) v
         → (v ≡ Yes) ↔ IsJust log }
 {}
 

@@ -13,7 +13,7 @@ use Rattle.kt_base.specs.Numbers.{IsMsgNo}
 use Rattle.kt_chain.specs.declared.records.RecordFault.{RecordFault}
 use Rattle.kt_chain.specs.declared.records.RecordFault.TheVariants as fault
 use Rattle.kt_chain.specs.Spelling.{chain_word, most_messages}
-use Rattle.kt_chain.specs.Texts.{IsMisfit}
+use Rattle.kt_chain.specs.Texts.{IsCertificateMisfit}
 use Rattle.kt_chain.specs.Texts as slot
 use Rattle.kt_chain.specs.Reading.{OrMemory, IsIfFew}
 
@@ -62,7 +62,7 @@ no_number parts i part within at none messages all e =
 
 -- a chain that is none of numbers does not fit
 pub misfit_chain : (text : List ℕ) (parts : List (List ℕ)) (f : RecordFault) → text ≢ codes "-" → parts ≡ parts_in text
-    → OrMemory f ((f ≡ fault.Number) × ((messages : List ℕ) → All IsMsgNo messages → map decimal messages ≢ parts)) → OrMemory f (IsMisfit slot.chain text f)
+    → OrMemory f ((f ≡ fault.Number) × ((messages : List ℕ) → All IsMsgNo messages → map decimal messages ≢ parts)) → OrMemory f (IsCertificateMisfit slot.chain text f)
 misfit_chain text parts f other cut (inl e) = inl e
 misfit_chain text parts f other cut (inr h) = inr (h.0, λ fit. no_chain text other (λ messages all e. h.1 messages all (e ∙ sym cut)) fit.0 fit.1 fit.2)
 

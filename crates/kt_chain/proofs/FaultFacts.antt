@@ -8,13 +8,13 @@ use Rattle.kt_chain.specs.declared.fault.CertTextFault.{CertTextFault}
 use Rattle.kt_chain.specs.declared.records.RecordFault.{RecordFault}
 use Rattle.kt_chain.specs.declared.records.RecordFault.TheVariants as fault
 use Rattle.kt_chain.specs.Spelling.{records_of}
-use Rattle.kt_chain.specs.Texts.{Slot, IsFirstMisfit, IsFieldFault, IsFaultAfter, IsAfter, IsFirstFault, IsOfText, record_count, max_records, fault_at}
+use Rattle.kt_chain.specs.Texts.{Slot, IsFirstCertificateMisfit, IsCertificateFieldFault, IsCertificateFaultAfter, IsAfterCertificates, IsFirstCertificateFault, IsOfCertificates, record_count, max_records, fault_at}
 use Rattle.kt_chain.specs.Texts as slot
 use Rattle.kt_chain.proofs.SpellingFacts.{field_5, two_words, one_list}
 use Rattle.kt_chain.proofs.TextFacts.{none_wrong, InFields, record_kinds, none_wrong_in, right_next, IsRight, HasTooMany, HasWrong, kinds}
 
 -- of four texts one is the first that does not fit
-one_misfit : (w x y z : Slot) (a b c d : List ℕ) (f g : RecordFault) → IsFirstMisfit w x y z a b c d f → IsFirstMisfit w x y z a b c d g → f ≡ g
+one_misfit : (w x y z : Slot) (a b c d : List ℕ) (f g : RecordFault) → IsFirstCertificateMisfit w x y z a b c d f → IsFirstCertificateMisfit w x y z a b c d g → f ≡ g
 one_misfit w x y z a b c d f g (inl p) (inl q) = p.0 ∙ sym q.0
 one_misfit w x y z a b c d f g (inl p) (inr (inl q)) = absurd (p.1 q.0)
 one_misfit w x y z a b c d f g (inl p) (inr (inr (inl q))) = absurd (p.1 q.0)
@@ -33,7 +33,7 @@ one_misfit w x y z a b c d f g (inr (inr (inr p))) (inr (inr (inl q))) = absurd 
 one_misfit w x y z a b c d f g (inr (inr (inr p))) (inr (inr (inr q))) = p.3.0 ∙ sym q.3.0
 
 -- five fields have one fault
-one_in_fields : (before : List Certificate) (w x y z u : List ℕ) (f g : RecordFault) → IsFieldFault before w x y z u f → IsFieldFault before w x y z u g → f ≡ g
+one_in_fields : (before : List Certificate) (w x y z u : List ℕ) (f g : RecordFault) → IsCertificateFieldFault before w x y z u f → IsCertificateFieldFault before w x y z u g → f ≡ g
 one_in_fields before w x y z u f g (inl p) (inl q) = p.0 ∙ sym q.0
 one_in_fields before w x y z u f g (inl p) (inr (inl q)) = absurd (p.1 q.0)
 one_in_fields before w x y z u f g (inl p) (inr (inr q)) = absurd (p.2 q.0)
@@ -50,9 +50,9 @@ one_in_fields before w x y z u f g (inr (inr (v, inr p))) (inr (inr (t, inl q)))
 one_in_fields before w x y z u f g (inr (inr (v, inr p))) (inr (inr (t, inr q))) = p.0 ∙ sym q.0
 
 -- the fault of five fields, said of the record
-in_record : (before : List Certificate) (fields : List (List ℕ)) (f : RecordFault) → InFields before fields f → IsFieldFault before (field_1 fields) (field_2 fields) (field_3 fields) (field_4 fields) (field_5 fields) f
+in_record : (before : List Certificate) (fields : List (List ℕ)) (f : RecordFault) → InFields before fields f → IsCertificateFieldFault before (field_1 fields) (field_2 fields) (field_3 fields) (field_4 fields) (field_5 fields) f
 in_record before fields f (w, x, y, z, u, at, h) =
-    subst (λ (r : List (List ℕ)). IsFieldFault before (field_1 r) (field_2 r) (field_3 r) (field_4 r) (field_5 r) f) (sym at) h
+    subst (λ (r : List (List ℕ)). IsCertificateFieldFault before (field_1 r) (field_2 r) (field_3 r) (field_4 r) (field_5 r) f) (sym at) h
 
 -- a record has one fault
 one_in_record : (before : List Certificate) (fields : List (List ℕ)) (f g : RecordFault) → ((f ≡ fault.Fields) × (length fields ≢ 5)) ⊎ InFields before fields f
@@ -95,7 +95,7 @@ goes_alike (x ∷ xs) (y ∷ ys) l r e n =
     (ap (λ (h : List (List ℕ)). h ∷ xs) split.0 ∙ ap (λ (t : Records). y ∷ t) rest.0, rest.1)
 
 -- where a list goes on, nothing is wrong
-none_before : (before others : List Certificate) (left rest text : Records) (f : CertTextFault) → IsAfter before left text → IsAfter others rest text → record_count before < record_count others
+none_before : (before others : List Certificate) (left rest text : Records) (f : CertTextFault) → IsAfterCertificates before left text → IsAfterCertificates others rest text → record_count before < record_count others
     → HasTooMany before left f ⊎ HasWrong before left f → ⊥
 none_before before others left rest text f p q less (inl many) = omega (arith, many.1, less, q.few)
 none_before before others left rest text f p q less (inr (n, d, is_f, kept, (number, few, fields, more, at, wrong))) =
@@ -104,7 +104,7 @@ none_before before others left rest text f p q less (inr (n, d, is_f, kept, (num
     let right = right_next before others on.0 on.1 p.in_range q.in_range (sym on.2) in
     none_wrong_in before fields d kept p.in_range (subst (λ (r : List (List ℕ)). IsRight before r) (sym head) right) wrong
 
-pub one_fault : (text : Records) (f g : CertTextFault) → IsOfText f → IsOfText g → IsFirstFault text f → IsFirstFault text g → f ≡ g
+pub one_fault : (text : Records) (f g : CertTextFault) → IsOfCertificates f → IsOfCertificates g → IsFirstCertificateFault text f → IsFirstCertificateFault text g → f ≡ g
 one_fault text f g o u p q =
     let wrong = kinds p.before p.left f o p.wrong in
     let other = kinds q.before q.left g u q.wrong in

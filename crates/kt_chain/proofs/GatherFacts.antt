@@ -3,25 +3,25 @@ use Rattle.std.proofs.Common.{◌≡◌, ◌∙◌, ◌<◌, ◌≤◌, ◌+◌,
 use Rattle.std.specs.Prelude.{All}
 use Rattle.std.proofs.lemmas.List.Elements.{All-weaker}
 use Rattle.csv.specs.Reading.{default_config, strip_bom, records}
-use Rattle.kt_text.specs.Records.{Takes as TakesRecord}
+use Rattle.kt_text.specs.Records.{FieldsTaken as TakesRecord}
 use Rattle.kt_chain.specs.declared.certificate.Certificate.{Certificate}
 use Rattle.kt_chain.specs.declared.fault.CertTextFault.{CertTextFault}
 use Rattle.kt_chain.specs.declared.fault.CertTextFault.TheVariants.{TooLong}
 use Rattle.kt_chain.specs.declared.records.RecordFault.{RecordFault}
 use Rattle.kt_chain.specs.declared.records.RecordFault.TheVariants as fault
-use Rattle.kt_chain.specs.Spelling.{Member, IsInRange, IsMemberInRange, HasShortChains, most_messages, records_of}
-use Rattle.kt_chain.specs.Texts.{IsRecordFault, IsFaultAfter, IsFirstFault, record_count, max_records, fault_at}
-use Rattle.kt_chain.specs.Reading.{Begins, Takes}
+use Rattle.kt_chain.specs.Spelling.{Member, IsCertificateWithin, IsMemberInRange, HasShortChains, most_messages, records_of}
+use Rattle.kt_chain.specs.Texts.{IsRecordFault, IsCertificateFaultAfter, IsFirstCertificateFault, record_count, max_records, fault_at}
+use Rattle.kt_chain.specs.Reading.{BeginsWithCertificates, CertificateTaken}
 
 abbrev Records : Type 0
 Records = List (List (List ℕ))
 
 -- one record more
-pub count_more : (old new : List Certificate) (fields : List (List ℕ)) → Takes old new fields → record_count new ≡ record_count old + 1
+pub count_more : (old new : List Certificate) (fields : List (List ℕ)) → CertificateTaken old new fields → record_count new ≡ record_count old + 1
 count_more old new fields taken = ap length taken.spelled ∙ length-append (records_of old) (fields ∷ [])
 
-pub begins_more : (source : Option (List ℕ)) (left rest : Option Records) (old new : List Certificate) (fields : List (List ℕ)) → Begins source left old → TakesRecord left rest fields → Takes old new fields
-    → record_count old < max_records → Begins source rest new
+pub begins_more : (source : Option (List ℕ)) (left rest : Option Records) (old new : List Certificate) (fields : List (List ℕ)) → BeginsWithCertificates source left old → TakesRecord left rest fields → CertificateTaken old new fields
+    → record_count old < max_records → BeginsWithCertificates source rest new
 begins_more None left rest old new fields b t taken few = tt
 begins_more (Some bytes) None rest old new fields b t taken few = absurd b
 begins_more (Some bytes) (Some left) None old new fields b t taken few = absurd t
@@ -32,15 +32,15 @@ begins_more (Some bytes) (Some left) (Some rest) old new fields b t taken few = 
 }
 
 -- what is wrong after them is what is first wrong
-first_fault : (source : Option (List ℕ)) (left : Option Records) (certificates : List Certificate) (fault : CertTextFault) → Begins source left certificates → IfSome left (λ left. IsFaultAfter certificates left fault)
-    → IfSome source (λ bytes. IsFirstFault (records default_config (strip_bom bytes)) fault)
+first_fault : (source : Option (List ℕ)) (left : Option Records) (certificates : List Certificate) (fault : CertTextFault) → BeginsWithCertificates source left certificates → IfSome left (λ left. IsCertificateFaultAfter certificates left fault)
+    → IfSome source (λ bytes. IsFirstCertificateFault (records default_config (strip_bom bytes)) fault)
 first_fault None left certificates fault b h = tt
 first_fault (Some bytes) None certificates fault b h = absurd b
 first_fault (Some bytes) (Some left) certificates fault b h = record { before = certificates; left = left; after = b; wrong = h }
 
 -- a record is wrong
 wrong_record : (left rest : Option Records) (certificates : List Certificate) (fields : List (List ℕ)) (n : ℕ) (f : RecordFault) → TakesRecord left rest fields → n ≡ record_count certificates + 1
-    → record_count certificates < max_records → IsRecordFault certificates fields f → IfSome left (λ left. IsFaultAfter certificates left (fault_at f n))
+    → record_count certificates < max_records → IsRecordFault certificates fields f → IfSome left (λ left. IsCertificateFaultAfter certificates left (fault_at f n))
 wrong_record None rest certificates fields n f t e few h = tt
 wrong_record (Some left) None certificates fields n f t e few h = absurd t
 wrong_record (Some left) (Some rest) certificates fields n fault.Memory t e few h = tt
@@ -49,22 +49,22 @@ wrong_record (Some left) (Some rest) certificates fields n fault.Word t e few h 
 wrong_record (Some left) (Some rest) certificates fields n fault.Number t e few h = (e, few, fields, rest, t, h)
 wrong_record (Some left) (Some rest) certificates fields n fault.Place t e few h = (e, few, fields, rest, t, h)
 
-pub record_fault : (source : Option (List ℕ)) (left rest : Option Records) (certificates : List Certificate) (fields : List (List ℕ)) (n : ℕ) (f : RecordFault) → Begins source left certificates
+pub record_fault : (source : Option (List ℕ)) (left rest : Option Records) (certificates : List Certificate) (fields : List (List ℕ)) (n : ℕ) (f : RecordFault) → BeginsWithCertificates source left certificates
     → TakesRecord left rest fields → n ≡ record_count certificates + 1 → record_count certificates < max_records → IsRecordFault certificates fields f
-    → IfSome source (λ bytes. IsFirstFault (records default_config (strip_bom bytes)) (fault_at f n))
+    → IfSome source (λ bytes. IsFirstCertificateFault (records default_config (strip_bom bytes)) (fault_at f n))
 record_fault source left rest certificates fields n f b t e few h = first_fault source left certificates (fault_at f n) b (wrong_record left rest certificates fields n f t e few h)
 
 -- a record comes after as many as there may be
 one_too_many : (left rest : Option Records) (certificates : List Certificate) (fields : List (List ℕ)) → TakesRecord left rest fields → record_count certificates ≡ max_records
-    → IfSome left (λ left. IsFaultAfter certificates left TooLong)
+    → IfSome left (λ left. IsCertificateFaultAfter certificates left TooLong)
 one_too_many None rest certificates fields t full = tt
 one_too_many (Some left) None certificates fields t full = absurd t
 one_too_many (Some left) (Some rest) certificates fields t full = (full, fields, rest, t)
 
-pub too_long : (source : Option (List ℕ)) (left rest : Option Records) (certificates : List Certificate) (fields : List (List ℕ)) → Begins source left certificates → TakesRecord left rest fields
-    → record_count certificates ≡ max_records → IfSome source (λ bytes. IsFirstFault (records default_config (strip_bom bytes)) TooLong)
+pub too_long : (source : Option (List ℕ)) (left rest : Option Records) (certificates : List Certificate) (fields : List (List ℕ)) → BeginsWithCertificates source left certificates → TakesRecord left rest fields
+    → record_count certificates ≡ max_records → IfSome source (λ bytes. IsFirstCertificateFault (records default_config (strip_bom bytes)) TooLong)
 too_long source left rest certificates fields b t full = first_fault source left certificates TooLong b (one_too_many left rest certificates fields t full)
 
 -- certificates in range have short chains
-pub short : (certificates : List Certificate) → All IsInRange certificates → All HasShortChains certificates
-short certificates all = All-weaker IsInRange HasShortChains (λ c is. All-weaker IsMemberInRange (λ (member : Member). length member.1 ≤ most_messages) (λ member in_range. in_range.few) c.members is.members) certificates all
+pub short : (certificates : List Certificate) → All IsCertificateWithin certificates → All HasShortChains certificates
+short certificates all = All-weaker IsCertificateWithin HasShortChains (λ c is. All-weaker IsMemberInRange (λ (member : Member). length member.1 ≤ most_messages) (λ member in_range. in_range.few) c.members is.members) certificates all

@@ -11,7 +11,7 @@ use Rattle.kt_base.specs.declared.words.Kind.TheVariants.{Checkpoint, Rollback}
 use Rattle.kt_text.specs.Words.{kind_word, decision_word}
 use Rattle.kt_text.proofs.FieldFacts.{Records, first_and_rest, field_1, field_2, field_3, field_4}
 use Rattle.kt_chain.specs.declared.certificate.Certificate.{Certificate}
-use Rattle.kt_chain.specs.Spelling.{Member, chain_word, instance_record, member_record, certificate_records, records_of, IsMemberInRange, IsInRange}
+use Rattle.kt_chain.specs.Spelling.{Member, chain_word, instance_record, member_record, certificate_records, records_of, IsMemberInRange, IsCertificateWithin}
 use Rattle.kt_chain.proofs.ChainFacts.{parts_in, parts_back, digits}
 
 -- the fifth field of a record
@@ -85,7 +85,7 @@ pub no_instance : (c : Certificate) (inst : ℕ) (member : Member) → instance_
 no_instance c inst member e = two_words (ap field_1 e)
 
 -- records of one instance are of one number
-pub one_inst : (c d : Certificate) → IsInRange c → IsInRange d → instance_record c ≡ instance_record d → c.inst ≡ d.inst
+pub one_inst : (c d : Certificate) → IsCertificateWithin c → IsCertificateWithin d → instance_record c ≡ instance_record d → c.inst ≡ d.inst
 one_inst c d r s e = decimal_injective c.inst d.inst (omega (arith, r.inst.1)) (omega (arith, s.inst.1)) (ap field_2 e)
 
 -- a member's record is of one member
@@ -123,20 +123,20 @@ same_parts c d inst kind initiator commit members =
     ∙ ap (λ (x : ℕ). made_of d.inst d.kind x c.commit c.members) initiator ∙ ap (λ (x : Bool). made_of d.inst d.kind d.initiator x c.members) commit
     ∙ ap (λ (x : List Member). made_of d.inst d.kind d.initiator d.commit x) members
 
-pub one_list : (certificates others : List Certificate) → All IsInRange certificates → All IsInRange others → records_of certificates ≡ records_of others → certificates ≡ others
+pub one_list : (certificates others : List Certificate) → All IsCertificateWithin certificates → All IsCertificateWithin others → records_of certificates ≡ records_of others → certificates ≡ others
 one_list [] [] r s e = refl
 one_list [] (d ∷ ds) r s e = cc e
 one_list (c ∷ cs) [] r s e = cc e
 one_list (c ∷ cs) (d ∷ ds) r s e =
-    let p = All-head IsInRange c cs r in
-    let q = All-head IsInRange d ds s in
+    let p = All-head IsCertificateWithin c cs r in
+    let q = All-head IsCertificateWithin d ds s in
     let split = first_and_rest (instance_record c) (instance_record d) (map (member_record c.inst) c.members ++ records_of cs) (map (member_record d.inst) d.members ++ records_of ds) e in
     let inst = one_inst c d p q split.0 in
     let at_inst = subst (λ (k : ℕ). map (member_record c.inst) c.members ++ records_of cs ≡ map (member_record k) d.members ++ records_of ds) (sym inst) split.1 in
     let members = one_members c.inst c.members d.members cs ds p.members q.members at_inst in
     let initiator : c.initiator ≡ d.initiator = decimal_injective c.initiator d.initiator (omega (arith, p.initiator)) (omega (arith, q.initiator)) (ap field_4 split.0) in
     let same = same_parts c d inst (one_kind c.kind d.kind (ap field_3 split.0)) initiator (one_decision c.commit d.commit (ap field_5 split.0)) members.0 in
-    let rest = one_list cs ds (All-tail IsInRange c cs r) (All-tail IsInRange d ds s) members.1 in
+    let rest = one_list cs ds (All-tail IsCertificateWithin c cs r) (All-tail IsCertificateWithin d ds s) members.1 in
     ap (λ (x : Certificate). x ∷ cs) same ∙ ap (λ (x : List Certificate). d ∷ x) rest
 
 -- every record has five fields

@@ -9,14 +9,14 @@ use Rattle.kt_chain.specs.declared.fault.CertTextFault.{CertTextFault}
 use Rattle.kt_chain.specs.declared.fault.CertTextFault.TheVariants.{Read, TooLong, Fields, Word, Number, Place, Memory}
 use Rattle.kt_chain.specs.declared.records.RecordFault.{RecordFault}
 use Rattle.kt_chain.specs.declared.records.RecordFault.TheVariants as fault
-use Rattle.kt_chain.specs.Spelling.{Member, instance_record, member_record, records_of, IsMemberInRange, IsInRange}
-use Rattle.kt_chain.specs.Texts.{Slot, Fits, IsFirstMisfit, IsFieldFault, IsRecordFault, IsWrongAt, IsFaultAfter, IsCertText, IsFirstFault, IsOfText, record_count, max_records, fault_at}
+use Rattle.kt_chain.specs.Spelling.{Member, instance_record, member_record, records_of, IsMemberInRange, IsCertificateWithin}
+use Rattle.kt_chain.specs.Texts.{Slot, FitsCertificateSlot, IsFirstCertificateMisfit, IsCertificateFieldFault, IsRecordFault, IsWrongAt, IsCertificateFaultAfter, IsCertText, IsFirstCertificateFault, IsOfCertificates, record_count, max_records, fault_at}
 use Rattle.kt_chain.specs.Texts as slot
 use Rattle.kt_chain.proofs.SpellingFacts.{field_5, two_words, no_instance, one_inst, no_member, one_chain, one_list}
 
 -- a record is that of one more certificate
 abbrev pub SaysInstance : List (List ℕ) → Type 0
-SaysInstance fields = (c : Certificate) × IsInRange c × (fields ≡ instance_record c)
+SaysInstance fields = (c : Certificate) × IsCertificateWithin c × (fields ≡ instance_record c)
 
 -- a record is that of one more member of the last certificate
 abbrev pub SaysMember : List Certificate → List (List ℕ) → Type 0
@@ -46,29 +46,29 @@ right_member b (m ∷ ms) (n ∷ ns) bs cs fields rest s again e =
     (first_and_rest (member_record b.inst m) (member_record b.inst n) (map (member_record b.inst) ms ++ (records_of bs ++ (fields ∷ rest))) (map (member_record b.inst) ns ++ records_of cs) e).1
 
 -- where the records of a list begin with those of another, the next one is right
-pub right_next : (before certificates : List Certificate) (fields : List (List ℕ)) (rest : Records) → All IsInRange before → All IsInRange certificates
+pub right_next : (before certificates : List Certificate) (fields : List (List ℕ)) (rest : Records) → All IsCertificateWithin before → All IsCertificateWithin certificates
     → records_of before ++ (fields ∷ rest) ≡ records_of certificates → IsRight before fields
 right_next [] [] fields rest r s e = cc e
-right_next [] (c ∷ cs) fields rest r s e = inl (c, All-head IsInRange c cs s, (first_and_rest fields (instance_record c) rest (map (member_record c.inst) c.members ++ records_of cs) e).0)
+right_next [] (c ∷ cs) fields rest r s e = inl (c, All-head IsCertificateWithin c cs s, (first_and_rest fields (instance_record c) rest (map (member_record c.inst) c.members ++ records_of cs) e).0)
 right_next (b ∷ bs) [] fields rest r s e = cc e
 right_next (b ∷ bs) (c ∷ cs) fields rest r s e =
-    let p = All-head IsInRange b bs r in
-    let q = All-head IsInRange c cs s in
+    let p = All-head IsCertificateWithin b bs r in
+    let q = All-head IsCertificateWithin c cs s in
     let split = first_and_rest (instance_record b) (instance_record c) ((map (member_record b.inst) b.members ++ records_of bs) ++ (fields ∷ rest)) (map (member_record c.inst) c.members ++ records_of cs) e in
     let inst = one_inst b c p q split.0 in
     let at_inst = subst (λ (k : ℕ). (map (member_record b.inst) b.members ++ records_of bs) ++ (fields ∷ rest) ≡ map (member_record k) c.members ++ records_of cs) (sym inst) split.1 in
-    right_member b b.members c.members bs cs fields rest q.members (right_next bs cs fields rest (All-tail IsInRange b bs r) (All-tail IsInRange c cs s))
+    right_member b b.members c.members bs cs fields rest q.members (right_next bs cs fields rest (All-tail IsCertificateWithin b bs r) (All-tail IsCertificateWithin c cs s))
     (sym (append_assoc (map (member_record b.inst) b.members) (records_of bs) (fields ∷ rest)) ∙ at_inst)
 
 -- four texts that fit have no first one that does not
-pub none_wrong : (w x y z : Slot) (a b c d : List ℕ) (f : RecordFault) → Fits w a → Fits x b → Fits y c → Fits z d → IsFirstMisfit w x y z a b c d f → ⊥
+pub none_wrong : (w x y z : Slot) (a b c d : List ℕ) (f : RecordFault) → FitsCertificateSlot w a → FitsCertificateSlot x b → FitsCertificateSlot y c → FitsCertificateSlot z d → IsFirstCertificateMisfit w x y z a b c d f → ⊥
 none_wrong w x y z a b c d f p q r s (inl h) = h.1 p
 none_wrong w x y z a b c d f p q r s (inr (inl h)) = h.1.1 q
 none_wrong w x y z a b c d f p q r s (inr (inr (inl h))) = h.2.1 r
 none_wrong w x y z a b c d f p q r s (inr (inr (inr h))) = h.3.1 s
 
 -- the record of an instance is not wrong
-right_instance : (before : List Certificate) (c : Certificate) (w x y z u : List ℕ) (f : RecordFault) → IsInRange c → w ∷ x ∷ y ∷ z ∷ u ∷ [] ≡ instance_record c → IsFieldFault before w x y z u f → ⊥
+right_instance : (before : List Certificate) (c : Certificate) (w x y z u : List ℕ) (f : RecordFault) → IsCertificateWithin c → w ∷ x ∷ y ∷ z ∷ u ∷ [] ≡ instance_record c → IsCertificateFieldFault before w x y z u f → ⊥
 right_instance before c w x y z u f is e (inl h) = h.1 (ap field_1 e)
 right_instance before c w x y z u f is e (inr (inl h)) =
     none_wrong slot.instance slot.kind slot.process slot.decision x y z u f (c.inst, is.inst, ap field_2 e) (c.kind, ap field_3 e) (c.initiator, is.initiator, ap field_4 e) (c.commit, ap field_5 e) h.1
@@ -86,8 +86,8 @@ one_last (x ∷ others) [] last end e = let none : others ++ last ∷ [] ≡ [] 
 one_last (x ∷ others) (y ∷ rest) last end e = let after : others ++ last ∷ [] ≡ rest ++ end ∷ [] = cc e in one_last others rest last end after
 
 -- a member's record after its instance is not wrong
-right_in_place : (before others : List Certificate) (last : Certificate) (member : Member) (w x y z u : List ℕ) (f : RecordFault) → before ≡ others ++ last ∷ [] → IsInRange last → IsMemberInRange member
-    → w ∷ x ∷ y ∷ z ∷ u ∷ [] ≡ member_record last.inst member → IsFieldFault before w x y z u f → ⊥
+right_in_place : (before others : List Certificate) (last : Certificate) (member : Member) (w x y z u : List ℕ) (f : RecordFault) → before ≡ others ++ last ∷ [] → IsCertificateWithin last → IsMemberInRange member
+    → w ∷ x ∷ y ∷ z ∷ u ∷ [] ≡ member_record last.inst member → IsCertificateFieldFault before w x y z u f → ⊥
 right_in_place before others last member w x y z u f at range is e (inl h) = h.2 (ap field_1 e)
 right_in_place before others last member w x y z u f at range is e (inr (inl h)) = two_words (sym h.0 ∙ ap field_1 e)
 right_in_place before others last member w x y z u f at range is e (inr (inr (word, inl h))) =
@@ -101,13 +101,13 @@ right_in_place before others last member w x y z u f at range is e (inr (inr (wo
     let same = one_last others other.0 last other.1 (sym at ∙ other.2) in
     other.3 (ap field_2 e ∙ ap (λ (c : Certificate). decimal c.inst) same)
 
-last_in_range : (before others : List Certificate) (last : Certificate) → before ≡ others ++ last ∷ [] → All IsInRange before → IsInRange last
-last_in_range before [] last e all = All-head IsInRange last [] (subst (All IsInRange) e all)
-last_in_range before (x ∷ others) last e all = last_in_range (others ++ last ∷ []) others last refl (All-tail IsInRange x (others ++ last ∷ []) (subst (All IsInRange) e all))
+last_in_range : (before others : List Certificate) (last : Certificate) → before ≡ others ++ last ∷ [] → All IsCertificateWithin before → IsCertificateWithin last
+last_in_range before [] last e all = All-head IsCertificateWithin last [] (subst (All IsCertificateWithin) e all)
+last_in_range before (x ∷ others) last e all = last_in_range (others ++ last ∷ []) others last refl (All-tail IsCertificateWithin x (others ++ last ∷ []) (subst (All IsCertificateWithin) e all))
 
 -- what a record fault is: of the number of fields, or in the fields
 abbrev pub InFields : List Certificate → List (List ℕ) → RecordFault → Type 0
-InFields before fields f = (w x y z u : List ℕ) × (fields ≡ w ∷ x ∷ y ∷ z ∷ u ∷ []) × IsFieldFault before w x y z u f
+InFields before fields f = (w x y z u : List ℕ) × (fields ≡ w ∷ x ∷ y ∷ z ∷ u ∷ []) × IsCertificateFieldFault before w x y z u f
 
 pub record_kinds : (before : List Certificate) (fields : List (List ℕ)) (f : RecordFault) → f ≢ fault.Memory → IsRecordFault before fields f → ((f ≡ fault.Fields) × (length fields ≢ 5)) ⊎ InFields before fields f
 record_kinds before fields fault.Fields o h = inl (refl, h)
@@ -117,7 +117,7 @@ record_kinds before fields fault.Place o h = inr h
 record_kinds before fields fault.Memory o h = absurd (o refl)
 
 -- a right record is not wrong
-pub none_wrong_in : (before : List Certificate) (fields : List (List ℕ)) (f : RecordFault) → f ≢ fault.Memory → All IsInRange before → IsRight before fields → IsRecordFault before fields f → ⊥
+pub none_wrong_in : (before : List Certificate) (fields : List (List ℕ)) (f : RecordFault) → f ≢ fault.Memory → All IsCertificateWithin before → IsRight before fields → IsRecordFault before fields f → ⊥
 none_wrong_in before fields f o all right wrong = go right (record_kinds before fields f o wrong)
   where
     go : IsRight before fields → ((f ≡ fault.Fields) × (length fields ≢ 5)) ⊎ InFields before fields f → ⊥
@@ -134,7 +134,7 @@ HasTooMany before left fault = (fault ≡ TooLong) × (record_count before ≡ m
 abbrev pub HasWrong : List Certificate → Records → CertTextFault → Type 0
 HasWrong before left found = (n : ℕ) × (f : RecordFault) × (found ≡ fault_at f n) × (f ≢ fault.Memory) × IsWrongAt before left n f
 
-pub kinds : (before : List Certificate) (left : Records) (fault : CertTextFault) → IsOfText fault → IsFaultAfter before left fault → HasTooMany before left fault ⊎ HasWrong before left fault
+pub kinds : (before : List Certificate) (left : Records) (fault : CertTextFault) → IsOfCertificates fault → IsCertificateFaultAfter before left fault → HasTooMany before left fault ⊎ HasWrong before left fault
 kinds before left Read o h = absurd (o.0 refl)
 kinds before left Memory o h = absurd (o.1 refl)
 kinds before left TooLong o h = inl (refl, h.0, h.1, h.2, h.3)
@@ -147,7 +147,7 @@ pub one_text : (text : Records) (certificates others : List Certificate) → IsC
 one_text text certificates others p q = one_list certificates others p.in_range q.in_range (sym p.spelled ∙ q.spelled)
 
 -- a text with a first fault is the text of no list
-pub no_list : (text : Records) (certificates : List Certificate) (fault : CertTextFault) → IsOfText fault → IsFirstFault text fault → IsCertText text certificates → ⊥
+pub no_list : (text : Records) (certificates : List Certificate) (fault : CertTextFault) → IsOfCertificates fault → IsFirstCertificateFault text fault → IsCertText text certificates → ⊥
 no_list text certificates fault o first whole = elim (kinds first.before first.left fault o first.wrong) [
   | inl (e, count, fields, rest, at) ↦
       let all : records_of certificates ≡ records_of first.before ++ (fields ∷ rest) = sym whole.spelled ∙ first.after.spelled ∙ ap (λ (x : Records). records_of first.before ++ x) at in

@@ -6,8 +6,8 @@ use Rattle.kt_text.specs.Records.{left_in, ReadsOn}
 use Rattle.kt_chain.specs.declared.certificate.Certificate.{Certificate}
 use Rattle.kt_chain.specs.declared.records.RecordFault.{RecordFault}
 use Rattle.kt_chain.specs.declared.records.RecordFault.TheVariants as fault
-use Rattle.kt_chain.specs.Spelling.{IsInRange, records_of, most_messages}
-use Rattle.kt_chain.specs.Texts.{IsAfter, record_count, max_records}
+use Rattle.kt_chain.specs.Spelling.{IsCertificateWithin, records_of, most_messages}
+use Rattle.kt_chain.specs.Texts.{IsAfterCertificates, record_count, max_records}
 
 -- want of memory, or this
 abbrev pub OrMemory : RecordFault → Type 0 → Type 0
@@ -19,20 +19,20 @@ IsIfFew messages None = most_messages < length messages
 IsIfFew messages (Some chain) = chain ≡ messages
 
 -- a record was taken: the certificates say it beside what they said
-pub record Takes (old new : List Certificate) (fields : List (List ℕ)) : Type 0 where
+pub record CertificateTaken (old new : List Certificate) (fields : List (List ℕ)) : Type 0 where
   pub spelled : records_of new ≡ records_of old ++ fields ∷ []
-  pub in_range : All IsInRange old → All IsInRange new
+  pub in_range : All IsCertificateWithin old → All IsCertificateWithin new
 
 -- the bytes, where they are known, begin with the records of these certificates, and what is left is known too
-abbrev pub Begins : Option (List ℕ) → Option (List (List (List ℕ))) → List Certificate → Type 0
-Begins None left certificates = Unit {0}
-Begins (Some bytes) None certificates = ⊥
-Begins (Some bytes) (Some left) certificates = IsAfter certificates left (records default_config (strip_bom bytes))
+abbrev pub BeginsWithCertificates : Option (List ℕ) → Option (List (List (List ℕ))) → List Certificate → Type 0
+BeginsWithCertificates None left certificates = Unit {0}
+BeginsWithCertificates (Some bytes) None certificates = ⊥
+BeginsWithCertificates (Some bytes) (Some left) certificates = IsAfterCertificates certificates left (records default_config (strip_bom bytes))
 
 -- what is known while certificates are gathered
-pub record Gathers {R : Type 0} (remaining : R → Option (List ℕ)) (source : R) (reader : Reader R) (count : ℕ) (certificates : List Certificate) : Type 0 where
+pub record GathersCertificates {R : Type 0} (remaining : R → Option (List ℕ)) (source : R) (reader : Reader R) (count : ℕ) (certificates : List Certificate) : Type 0 where
   pub reading : ReadsOn reader
-  pub begins : Begins (remaining source) (left_in remaining reader) certificates
-  pub in_range : All IsInRange certificates
+  pub begins : BeginsWithCertificates (remaining source) (left_in remaining reader) certificates
+  pub in_range : All IsCertificateWithin certificates
   pub counted : count ≡ record_count certificates
   pub few : count ≤ max_records

@@ -42,7 +42,7 @@ pub record IsMemberInRange (member : Member) : Type 0 where
   pub few : length member.1 ≤ most_messages
 
 -- every number of a certificate is in its range
-pub record IsInRange (c : Certificate) : Type 0 where
+pub record IsCertificateWithin (c : Certificate) : Type 0 where
   pub inst : IsInstNo c.inst
   pub initiator : IsProcNo c.initiator
   pub members : All IsMemberInRange c.members

@@ -9,7 +9,7 @@ use Rattle.kt_chain.specs.declared.fault.CertTextFault.{CertTextFault}
 use Rattle.kt_chain.specs.declared.fault.CertTextFault.TheVariants.{Read, TooLong, Fields, Word, Number, Place, Memory}
 use Rattle.kt_chain.specs.declared.records.RecordFault.{RecordFault}
 use Rattle.kt_chain.specs.declared.records.RecordFault.TheVariants as fault
-use Rattle.kt_chain.specs.Spelling.{IsInRange, records_of, chain_word, most_messages}
+use Rattle.kt_chain.specs.Spelling.{IsCertificateWithin, records_of, chain_word, most_messages}
 
 -- how many records a text has at most
 abbrev pub max_records : ℕ
@@ -22,7 +22,7 @@ record_count certificates = length (records_of certificates)
 -- the records say these certificates
 pub record IsCertText (text : List (List (List ℕ))) (certificates : List Certificate) : Type 0 where
   pub spelled : text ≡ records_of certificates
-  pub in_range : All IsInRange certificates
+  pub in_range : All IsCertificateWithin certificates
   pub few : record_count certificates ≤ max_records
 
 -- what may stand in a field after a record's word
@@ -35,43 +35,43 @@ pub data Slot : Type 0 where
   chain : Slot
 
 -- a text spells what may stand in a field
-abbrev pub Fits : Slot → List ℕ → Type 0
-Fits instance text = (k : ℕ) × IsInstNo k × (text ≡ decimal k)
-Fits kind text = (k : Kind) × (text ≡ kind_word k)
-Fits process text = (p : ℕ) × IsProcNo p × (text ≡ decimal p)
-Fits decision text = (commit : Bool) × (text ≡ decision_word commit)
-Fits count text = (n : ℕ) × (n ≤ most_messages) × (text ≡ decimal n)
-Fits chain text = (messages : List ℕ) × All IsMsgNo messages × (text ≡ chain_word messages)
+abbrev pub FitsCertificateSlot : Slot → List ℕ → Type 0
+FitsCertificateSlot instance text = (k : ℕ) × IsInstNo k × (text ≡ decimal k)
+FitsCertificateSlot kind text = (k : Kind) × (text ≡ kind_word k)
+FitsCertificateSlot process text = (p : ℕ) × IsProcNo p × (text ≡ decimal p)
+FitsCertificateSlot decision text = (commit : Bool) × (text ≡ decision_word commit)
+FitsCertificateSlot count text = (n : ℕ) × (n ≤ most_messages) × (text ≡ decimal n)
+FitsCertificateSlot chain text = (messages : List ℕ) × All IsMsgNo messages × (text ≡ chain_word messages)
 
 -- which fault it is that a field does not fit
-abbrev pub misfit : Slot → RecordFault
-misfit instance = fault.Number
-misfit kind = fault.Word
-misfit process = fault.Number
-misfit decision = fault.Word
-misfit count = fault.Number
-misfit chain = fault.Number
+abbrev pub certificate_misfit : Slot → RecordFault
+certificate_misfit instance = fault.Number
+certificate_misfit kind = fault.Word
+certificate_misfit process = fault.Number
+certificate_misfit decision = fault.Word
+certificate_misfit count = fault.Number
+certificate_misfit chain = fault.Number
 
 -- a text does not fit, and this is the fault
-abbrev pub IsMisfit : Slot → List ℕ → RecordFault → Type 0
-IsMisfit slot text f = (f ≡ misfit slot) × (Fits slot text → ⊥)
+abbrev pub IsCertificateMisfit : Slot → List ℕ → RecordFault → Type 0
+IsCertificateMisfit slot text f = (f ≡ certificate_misfit slot) × (FitsCertificateSlot slot text → ⊥)
 
 -- of four texts the first that does not fit gives the fault
-abbrev pub IsFirstMisfit : Slot → Slot → Slot → Slot → List ℕ → List ℕ → List ℕ → List ℕ → RecordFault → Type 0
-IsFirstMisfit w x y z a b c d f =
-    IsMisfit w a f ⊎ ((Fits w a × IsMisfit x b f) ⊎ ((Fits w a × Fits x b × IsMisfit y c f) ⊎ (Fits w a × Fits x b × Fits y c × IsMisfit z d f)))
+abbrev pub IsFirstCertificateMisfit : Slot → Slot → Slot → Slot → List ℕ → List ℕ → List ℕ → List ℕ → RecordFault → Type 0
+IsFirstCertificateMisfit w x y z a b c d f =
+    IsCertificateMisfit w a f ⊎ ((FitsCertificateSlot w a × IsCertificateMisfit x b f) ⊎ ((FitsCertificateSlot w a × FitsCertificateSlot x b × IsCertificateMisfit y c f) ⊎ (FitsCertificateSlot w a × FitsCertificateSlot x b × FitsCertificateSlot y c × IsCertificateMisfit z d f)))
 
 -- a field after the word of a record of an instance does not fit
 abbrev pub IsInstanceMisfit : List ℕ → List ℕ → List ℕ → List ℕ → RecordFault → Type 0
-IsInstanceMisfit a b c d f = IsFirstMisfit instance kind process decision a b c d f
+IsInstanceMisfit a b c d f = IsFirstCertificateMisfit instance kind process decision a b c d f
 
 -- a field after the word of a member's record does not fit
 abbrev pub IsMemberMisfit : List ℕ → List ℕ → List ℕ → List ℕ → RecordFault → Type 0
-IsMemberMisfit a b c d f = IsFirstMisfit instance process count chain a b c d f
+IsMemberMisfit a b c d f = IsFirstCertificateMisfit instance process count chain a b c d f
 
 -- the fields after the word of a member's record all fit
 abbrev pub AreMemberFields : List ℕ → List ℕ → List ℕ → List ℕ → Type 0
-AreMemberFields a b c d = Fits instance a × Fits process b × Fits count c × Fits chain d
+AreMemberFields a b c d = FitsCertificateSlot instance a × FitsCertificateSlot process b × FitsCertificateSlot count c × FitsCertificateSlot chain d
 
 -- the count that a member's record says is not that of its messages
 abbrev pub IsOtherCount : List ℕ → List ℕ → Type 0
@@ -91,8 +91,8 @@ abbrev pub IsMemberFault : List Certificate → List ℕ → List ℕ → List �
 IsMemberFault before a b c d f = IsMemberMisfit a b c d f ⊎ ((f ≡ fault.Place) × AreMemberFields a b c d × IsOutOfPlace before a c d)
 
 -- what is first wrong in five fields after these certificates: the word, or what is after it
-abbrev pub IsFieldFault : List Certificate → List ℕ → List ℕ → List ℕ → List ℕ → List ℕ → RecordFault → Type 0
-IsFieldFault before word a b c d f =
+abbrev pub IsCertificateFieldFault : List Certificate → List ℕ → List ℕ → List ℕ → List ℕ → List ℕ → RecordFault → Type 0
+IsCertificateFieldFault before word a b c d f =
     ((f ≡ fault.Word) × (word ≢ codes "cert") × (word ≢ codes "member"))
     ⊎ (((word ≡ codes "cert") × IsInstanceMisfit a b c d f)
     ⊎ ((word ≡ codes "member") × IsMemberFault before a b c d f))
@@ -102,7 +102,7 @@ IsFieldFault before word a b c d f =
 abbrev pub IsRecordFault : List Certificate → List (List ℕ) → RecordFault → Type 0
 IsRecordFault before fields fault.Memory = Unit {0}
 IsRecordFault before fields fault.Fields = length fields ≢ 5
-IsRecordFault before fields f = (word a b c d : List ℕ) × (fields ≡ word ∷ a ∷ b ∷ c ∷ d ∷ []) × IsFieldFault before word a b c d f
+IsRecordFault before fields f = (word a b c d : List ℕ) × (fields ≡ word ∷ a ∷ b ∷ c ∷ d ∷ []) × IsCertificateFieldFault before word a b c d f
 
 -- the fault of a text whose record of this number is wrong
 abbrev pub fault_at : RecordFault → ℕ → CertTextFault
@@ -120,28 +120,28 @@ IsWrongAt before left n f =
 
 -- after these certificates, what is first wrong in the records that are left; nothing is said of when a reader or
 -- memory fails
-abbrev pub IsFaultAfter : List Certificate → List (List (List ℕ)) → CertTextFault → Type 0
-IsFaultAfter before left Read = Unit {0}
-IsFaultAfter before left Memory = Unit {0}
-IsFaultAfter before left TooLong = (record_count before ≡ max_records) × (fields : List (List ℕ)) × (rest : List (List (List ℕ))) × (left ≡ fields ∷ rest)
-IsFaultAfter before left (Fields n) = IsWrongAt before left n fault.Fields
-IsFaultAfter before left (Word n) = IsWrongAt before left n fault.Word
-IsFaultAfter before left (Number n) = IsWrongAt before left n fault.Number
-IsFaultAfter before left (Place n) = IsWrongAt before left n fault.Place
+abbrev pub IsCertificateFaultAfter : List Certificate → List (List (List ℕ)) → CertTextFault → Type 0
+IsCertificateFaultAfter before left Read = Unit {0}
+IsCertificateFaultAfter before left Memory = Unit {0}
+IsCertificateFaultAfter before left TooLong = (record_count before ≡ max_records) × (fields : List (List ℕ)) × (rest : List (List (List ℕ))) × (left ≡ fields ∷ rest)
+IsCertificateFaultAfter before left (Fields n) = IsWrongAt before left n fault.Fields
+IsCertificateFaultAfter before left (Word n) = IsWrongAt before left n fault.Word
+IsCertificateFaultAfter before left (Number n) = IsWrongAt before left n fault.Number
+IsCertificateFaultAfter before left (Place n) = IsWrongAt before left n fault.Place
 
 -- a text begins with the records of these certificates, and this is left
-pub record IsAfter (before : List Certificate) (left text : List (List (List ℕ))) : Type 0 where
+pub record IsAfterCertificates (before : List Certificate) (left text : List (List (List ℕ))) : Type 0 where
   pub spelled : text ≡ records_of before ++ left
-  pub in_range : All IsInRange before
+  pub in_range : All IsCertificateWithin before
   pub few : record_count before ≤ max_records
 
 -- the first fault of a text: certificates that are said, and then what is wrong
-pub record IsFirstFault (text : List (List (List ℕ))) (fault : CertTextFault) : Type 0 where
+pub record IsFirstCertificateFault (text : List (List (List ℕ))) (fault : CertTextFault) : Type 0 where
   pub before : List Certificate
   pub left : List (List (List ℕ))
-  pub after : IsAfter before left text
-  pub wrong : IsFaultAfter before left fault
+  pub after : IsAfterCertificates before left text
+  pub wrong : IsCertificateFaultAfter before left fault
 
 -- a fault of the text itself: neither of its reader nor of memory
-abbrev pub IsOfText : CertTextFault → Type 0
-IsOfText fault = (fault ≢ Read) × (fault ≢ Memory)
+abbrev pub IsOfCertificates : CertTextFault → Type 0
+IsOfCertificates fault = (fault ≢ Read) × (fault ≢ Memory)

@@ -2,8 +2,8 @@
 
 ghost use Rattle.std.specs.Prelude.{All, IfOk, IfErr, IfSome};
 ghost use Rattle.csv.specs.Reading.{default_config, strip_bom, records};
-ghost use Rattle.kt_chain.specs.Spelling.{IsInRange, HasShortChains};
-ghost use Rattle.kt_chain.specs.Texts.{IsCertText, IsFirstFault};
+ghost use Rattle.kt_chain.specs.Spelling.{IsCertificateWithin, HasShortChains};
+ghost use Rattle.kt_chain.specs.Texts.{IsCertText, IsFirstCertificateFault};
 
 use crate::certificate::Certificate;
 use crate::fault::CertTextFault;
@@ -25,9 +25,9 @@ pub fn read_certs<R: Read + Drop>(
     reader: R,
 ) -> Result<Vec<Certificate>, CertTextFault>
     ensures found { IfOk result (λ certificates. IfSome (R.remaining reader) (λ bytes. IsCertText (records default_config (strip_bom bytes)) certificates.items)) }
-    ensures in_range { IfOk result (λ certificates. All IsInRange certificates.items) }
+    ensures in_range { IfOk result (λ certificates. All IsCertificateWithin certificates.items) }
     ensures short { IfOk result (λ certificates. All HasShortChains certificates.items) }
-    ensures fault { IfErr result (λ e. IfSome (R.remaining reader) (λ bytes. IsFirstFault (records default_config (strip_bom bytes)) e)) }
+    ensures fault { IfErr result (λ e. IfSome (R.remaining reader) (λ bytes. IsFirstCertificateFault (records default_config (strip_bom bytes)) e)) }
 {
     let mut records = read_records(alloc, reader)?;
     let mut current = ByteRecord::new(alloc);

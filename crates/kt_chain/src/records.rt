@@ -6,11 +6,11 @@ ghost use Rattle.std.specs.Fmt.{decimal};
 ghost use Rattle.csv.specs.Records.{fields_of};
 ghost use Rattle.kt_base.specs.Numbers.{IsProcNo, IsMsgNo, IsInstNo};
 ghost use Rattle.kt_text.specs.Words.{kind_word, decision_word};
-ghost use Rattle.kt_chain.specs.Spelling.{IsInRange, IsMemberInRange, instance_record, member_record, chain_word, most_messages};
-ghost use Rattle.kt_chain.specs.Texts.{IsMisfit, IsInstanceMisfit, IsMemberFault, IsOtherInstance, IsFieldFault, IsRecordFault, fault_at};
+ghost use Rattle.kt_chain.specs.Spelling.{IsCertificateWithin, IsMemberInRange, instance_record, member_record, chain_word, most_messages};
+ghost use Rattle.kt_chain.specs.Texts.{IsCertificateMisfit, IsInstanceMisfit, IsMemberFault, IsOtherInstance, IsCertificateFieldFault, IsRecordFault, fault_at};
 ghost use Rattle.kt_chain.specs.Texts as slot;
 ghost use Rattle.kt_chain.specs.declared.records.RecordFault.TheVariants as fault;
-ghost use Rattle.kt_chain.specs.Reading.{IsIfFew, OrMemory, Takes};
+ghost use Rattle.kt_chain.specs.Reading.{IsIfFew, OrMemory, CertificateTaken};
 
 use crate::certificate::{Certificate, Chain, Members};
 use crate::fault::CertTextFault;
@@ -81,28 +81,28 @@ fn five_fields(current: &ByteRecord) -> Option<(&[u8], &[u8], &[u8], &[u8], &[u8
 
 fn instance(text: &[u8]) -> Result<InstNo, RecordFault>
     ensures found { IfOk result (λ k. IsInstNo k × (text.now ≡ decimal k)) }
-    ensures fault { IfErr result (IsMisfit slot.instance text.now) }
+    ensures fault { IfErr result (IsCertificateMisfit slot.instance text.now) }
 {
     instance_of(text).ok_or(RecordFault::Number)
 }
 
 fn process(text: &[u8]) -> Result<ProcNo, RecordFault>
     ensures found { IfOk result (λ p. IsProcNo p × (text.now ≡ decimal p)) }
-    ensures fault { IfErr result (IsMisfit slot.process text.now) }
+    ensures fault { IfErr result (IsCertificateMisfit slot.process text.now) }
 {
     process_of(text).ok_or(RecordFault::Number)
 }
 
 fn kind(text: &[u8]) -> Result<Kind, RecordFault>
     ensures found { IfOk result (λ k. text.now ≡ kind_word k) }
-    ensures fault { IfErr result (IsMisfit slot.kind text.now) }
+    ensures fault { IfErr result (IsCertificateMisfit slot.kind text.now) }
 {
     kind_of(text).ok_or(RecordFault::Word)
 }
 
 fn decision(text: &[u8]) -> Result<bool, RecordFault>
     ensures found { IfOk result (λ commit. text.now ≡ decision_word commit) }
-    ensures fault { IfErr result (IsMisfit slot.decision text.now) }
+    ensures fault { IfErr result (IsCertificateMisfit slot.decision text.now) }
 {
     decision_of(text).ok_or(RecordFault::Word)
 }
@@ -110,7 +110,7 @@ fn decision(text: &[u8]) -> Result<bool, RecordFault>
 // How many messages a member's record says that its chain has.
 fn count(text: &[u8]) -> Result<u32, RecordFault>
     ensures found { IfOk result (λ n. (n ≤ most_messages) × (text.now ≡ decimal n)) }
-    ensures fault { IfErr result (IsMisfit slot.count text.now) }
+    ensures fault { IfErr result (IsCertificateMisfit slot.count text.now) }
 {
     let Some(number) = number_of(text) else {
         return Err(RecordFault::Number);
@@ -151,7 +151,7 @@ fn messages_of(alloc: Global, text: &[u8], count: u32) -> Result<Option<Chain>, 
 fn chain(alloc: Global, text: &[u8], count: u32) -> Result<Option<Chain>, RecordFault>
     ensures found { IfOk result (λ read. (messages : List ℕ) × All IsMsgNo messages
         × (text.now ≡ chain_word messages) × IsIfFew messages read) }
-    ensures fault { IfErr result (λ f. OrMemory f (IsMisfit slot.chain text.now f)) }
+    ensures fault { IfErr result (λ f. OrMemory f (IsCertificateMisfit slot.chain text.now f)) }
 {
     if text == b"-".as_slice() {
         return Ok(Some(Chain::new(alloc)));
@@ -168,7 +168,7 @@ fn certificate(
     fourth: &[u8],
 ) -> Result<Certificate, RecordFault>
     ensures spelled { IfOk result (λ c. instance_record c ≡ codes "cert" ∷ first.now ∷ second.now ∷ third.now ∷ fourth.now ∷ []) }
-    ensures in_range { IfOk result IsInRange }
+    ensures in_range { IfOk result IsCertificateWithin }
     ensures members { IfOk result (λ c. c.members ≡ []) }
     ensures fault { IfErr result (IsInstanceMisfit first.now second.now third.now fourth.now) }
 {
@@ -193,7 +193,7 @@ fn place(
     chain: Chain,
 ) -> Result<(), RecordFault>
     ensures placed { OnOk result (IsMemberInRange (process, chain)
-        → Takes certificates.old.items certificates.new.items (member_record inst (process, chain))) }
+        → CertificateTaken certificates.old.items certificates.new.items (member_record inst (process, chain))) }
     ensures fault { IfErr result (λ f. OrMemory f ((f ≡ RecordFault.Place)
         × ((certificates.old.items ≡ []) ⊎ IsOtherInstance certificates.old.items (decimal inst)))) }
 {
@@ -208,7 +208,7 @@ fn place(
     Ok(())
 }
 
-// Takes the fields after the word of a record of an instance: a certificate with no member yet.
+// CertificateTaken the fields after the word of a record of an instance: a certificate with no member yet.
 fn take_instance(
     alloc: Global,
     certificates: &mut Vec<Certificate>,
@@ -217,7 +217,7 @@ fn take_instance(
     third: &[u8],
     fourth: &[u8],
 ) -> Result<(), RecordFault>
-    ensures taken { OnOk result (Takes certificates.old.items certificates.new.items (codes "cert" ∷ first.now ∷ second.now ∷ third.now ∷ fourth.now ∷ [])) }
+    ensures taken { OnOk result (CertificateTaken certificates.old.items certificates.new.items (codes "cert" ∷ first.now ∷ second.now ∷ third.now ∷ fourth.now ∷ [])) }
     ensures fault { IfErr result (λ f. OrMemory f (IsInstanceMisfit first.now second.now third.now fourth.now f)) }
 {
     let certificate = certificate(alloc, first, second, third, fourth)?;
@@ -225,7 +225,7 @@ fn take_instance(
     Ok(())
 }
 
-// Takes the fields after the word of a member's record: one more member of the last certificate.
+// CertificateTaken the fields after the word of a member's record: one more member of the last certificate.
 fn take_member(
     alloc: Global,
     certificates: &mut Vec<Certificate>,
@@ -234,7 +234,7 @@ fn take_member(
     third: &[u8],
     fourth: &[u8],
 ) -> Result<(), RecordFault>
-    ensures taken { OnOk result (Takes certificates.old.items certificates.new.items (codes "member" ∷ first.now ∷ second.now ∷ third.now ∷ fourth.now ∷ [])) }
+    ensures taken { OnOk result (CertificateTaken certificates.old.items certificates.new.items (codes "member" ∷ first.now ∷ second.now ∷ third.now ∷ fourth.now ∷ [])) }
     ensures fault { IfErr result (λ f. OrMemory f (IsMemberFault certificates.old.items first.now second.now third.now fourth.now f)) }
 {
     let inst = instance(first)?;
@@ -249,7 +249,7 @@ fn take_member(
     place(certificates, inst, process, chain)
 }
 
-// Takes the word of a record and the fields after it.
+// CertificateTaken the word of a record and the fields after it.
 fn take_fields(
     alloc: Global,
     certificates: &mut Vec<Certificate>,
@@ -259,8 +259,8 @@ fn take_fields(
     third: &[u8],
     fourth: &[u8],
 ) -> Result<(), RecordFault>
-    ensures taken { OnOk result (Takes certificates.old.items certificates.new.items (word.now ∷ first.now ∷ second.now ∷ third.now ∷ fourth.now ∷ [])) }
-    ensures fault { IfErr result (λ f. OrMemory f (IsFieldFault certificates.old.items word.now first.now second.now third.now fourth.now f)) }
+    ensures taken { OnOk result (CertificateTaken certificates.old.items certificates.new.items (word.now ∷ first.now ∷ second.now ∷ third.now ∷ fourth.now ∷ [])) }
+    ensures fault { IfErr result (λ f. OrMemory f (IsCertificateFieldFault certificates.old.items word.now first.now second.now third.now fourth.now f)) }
 {
     if word == b"cert".as_slice() {
         return take_instance(alloc, certificates, first, second, third, fourth);
@@ -271,13 +271,13 @@ fn take_fields(
     Err(RecordFault::Word)
 }
 
-/// Takes a record: a certificate, or a member of the last one.
+/// CertificateTaken a record: a certificate, or a member of the last one.
 pub(crate) fn take_record(
     alloc: Global,
     certificates: &mut Vec<Certificate>,
     current: &ByteRecord,
 ) -> Result<(), RecordFault>
-    ensures taken { OnOk result (Takes certificates.old.items certificates.new.items (fields_of current.now)) }
+    ensures taken { OnOk result (CertificateTaken certificates.old.items certificates.new.items (fields_of current.now)) }
     ensures fault { IfErr result (IsRecordFault certificates.old.items (fields_of current.now)) }
 {
     let Some((word, first, second, third, fourth)) = five_fields(current) else {

@@ -25,7 +25,7 @@ use Rattle.kt_checker.specs.declared.verdict.Why.TheVariants as why
 use Rattle.kt_checker.specs.Unwilling.{has_unwilling}
 use Rattle.kt_checker.specs.Gathered.{Gathered, IsDecision, decision_gathered}
 use Rattle.kt_checker.specs.Passing.{Passes, IsPassed, IsAsInLog, IsSecond, PassBefore, IsShownBefore}
-use Rattle.kt_checker.specs.Order.{IsWrong, IsRefuted, IsMissing, IsAnswer}
+use Rattle.kt_checker.specs.Order.{IsFirstWhy, IsRefuted, IsMissing, IsCheckerAnswer}
 use Rattle.kt_checker.specs.Missing.{IsUnseen, AnswersMissing}
 use Rattle.kt_checker.proofs.Chaining.{consistent_of}
 use Rattle.kt_checker.proofs.Deciding.{decided_once, members_before, unwilling_before}
@@ -67,7 +67,7 @@ refuted_of {certs} list rows i c v d verdict reason l h there decided kind initi
       is ∙ ap (λ (x : ℕ). No (Some c.inst) (Some x) reason) found.2,
       stated,
       first,
-      subst (λ (b : Bool). IsWrong (past (take n rows)) (members rows c.inst) b c reason) unwilling (subst (λ (ms : List ℕ). IsWrong (past (take n rows)) ms (has_unwilling (take n rows) c.inst) c reason) joined before),
+      subst (λ (b : Bool). IsFirstWhy (past (take n rows)) (members rows c.inst) b c reason) unwilling (subst (λ (ms : List ℕ). IsFirstWhy (past (take n rows)) ms (has_unwilling (take n rows) c.inst) c reason) joined before),
     )
 
 pub refused_not : (a b : Bool) → beq a b ≡ false → b ≡ not a
@@ -96,7 +96,7 @@ pass_all rows certificates n long before i c low e = before i c (omega (arith, l
 
 -- the answer where every certificate passed
 pub answer_of : (list : List Instance) (rows : List Event) (certificates : List Certificate) (seen : List Bool) (v : Verdict) → IsLegal rows → Gathered certificates list rows → PassBefore rows certificates (length certificates)
-    → IsMarkedBy seen certificates (length certificates) → HasMarked seen certificates (length certificates) → AnswersMissing list seen v → IsAnswer rows certificates v
+    → IsMarkedBy seen certificates (length certificates) → HasMarked seen certificates (length certificates) → AnswersMissing list seen v → IsCheckerAnswer rows certificates v
 answer_of list rows certificates seen v l h pass marked marks answers = elim answers [
   | inl none ↦ inl (
     none.0,
@@ -125,7 +125,7 @@ answer_of list rows certificates seen v l h pass marked marks answers = elim ans
         )
 
 -- a yes is answered where all has passed, and only there
-pub passed_of : (rows : List Event) (certificates : List Certificate) (v : Verdict) → IsAnswer rows certificates v → v ≡ Yes → IsPassed rows certificates
+pub passed_of : (rows : List Event) (certificates : List Certificate) (v : Verdict) → IsCheckerAnswer rows certificates v → v ≡ Yes → IsPassed rows certificates
 passed_of rows certificates v answer is = elim answer [
   | inl passed ↦ passed.1
   | inr fault ↦ elim fault [
@@ -159,7 +159,7 @@ not_both a false e f =
     cc
 
 -- what passes is not wrong
-not_wrong : (s : Past) (joined : List ℕ) (refused : Bool) (c : Certificate) (reason : Why) → IsWrong s joined refused c reason → refused ≡ not c.commit → (c.commit ≡ true → IsShownBefore s c joined) → ⊥
+not_wrong : (s : Past) (joined : List ℕ) (refused : Bool) (c : Certificate) (reason : Why) → IsFirstWhy s joined refused c reason → refused ≡ not c.commit → (c.commit ≡ true → IsShownBefore s c joined) → ⊥
 not_wrong s joined refused c (why.BadLog rule) wrong cause shown = wrong
 not_wrong s joined refused c why.Unknown wrong cause shown = wrong
 not_wrong s joined refused c why.Missing wrong cause shown = wrong
@@ -169,13 +169,13 @@ not_wrong s joined refused c why.Chain wrong cause shown = wrong.3 (shown wrong.
 not_wrong s joined refused c why.Orphan wrong cause shown = wrong.4 (shown wrong.1).consistent
 
 -- a certificate that passes is not wrong at its decided row
-pub wrong_passes : (rows : List Event) (c : Certificate) (n : ℕ) (reason : Why) → IsLegal rows → Passes rows c → IsAsInLog rows c n → IsWrong (past (take n rows)) (members rows c.inst) (has_unwilling rows c.inst) c reason → ⊥
+pub wrong_passes : (rows : List Event) (c : Certificate) (n : ℕ) (reason : Why) → IsLegal rows → Passes rows c → IsAsInLog rows c n → IsFirstWhy (past (take n rows)) (members rows c.inst) (has_unwilling rows c.inst) c reason → ⊥
 wrong_passes rows c n reason l passes stated wrong =
     let row = decided_once rows passes.row n passes.instance.process stated.process c.inst c.commit c.commit l passes.instance.decided stated.decided in
     not_wrong (past (take n rows)) (members rows c.inst) (has_unwilling rows c.inst) c reason wrong passes.cause
     (λ commit. subst (λ (m : ℕ). IsShownBefore (past (take m rows)) c (members rows c.inst)) row (passes.shown commit))
 
-pub yes_of : (rows : List Event) (certificates : List Certificate) (v : Verdict) → IsAnswer rows certificates v → IsPassed rows certificates → v ≡ Yes
+pub yes_of : (rows : List Event) (certificates : List Certificate) (v : Verdict) → IsCheckerAnswer rows certificates v → IsPassed rows certificates → v ≡ Yes
 yes_of rows certificates v answer h = elim answer [
   | inl passed ↦ passed.0
   | inr fault ↦ elim fault [

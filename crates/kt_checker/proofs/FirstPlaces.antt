@@ -10,10 +10,10 @@ use Rattle.kt_cuts.proofs.Items.{get_set_same, get_set_other}
 use Rattle.kt_cuts.proofs.SortedFacts.{some_same}
 use Rattle.kt_chain.specs.declared.certificate.Certificate.{Certificate}
 use Rattle.kt_checker.specs.Passing.{IsSecond}
-use Rattle.kt_checker.specs.Judged.{IsFirst, AreFirsts, IsFirstCertificate}
+use Rattle.kt_checker.specs.Judged.{IsFirstOfInstance, AreFirsts, IsFirstCertificate}
 
 -- one more certificate, which is not the first of this instance
-first_next : (certificates : List Certificate) (n k : ℕ) (place : Option ℕ) (c : Certificate) → IsFirst certificates n k place → slice_get certificates n ≡ Some c → (place ≡ None → c.inst ≡ k → ⊥) → IsFirst certificates (n + 1) k place
+first_next : (certificates : List Certificate) (n k : ℕ) (place : Option ℕ) (c : Certificate) → IsFirstOfInstance certificates n k place → slice_get certificates n ≡ Some c → (place ≡ None → c.inst ≡ k → ⊥) → IsFirstOfInstance certificates (n + 1) k place
 first_next certificates n k None c h at other = λ i v low e inst. elim (cases_eq i n) [
   | inl same ↦
       let item : c ≡ v = some_same (sym at ∙ (ap (slice_get certificates) (sym same) ∙ e)) in
@@ -41,7 +41,7 @@ entered places certificates n i c h at inst within none = record {
         let new : Some n ≡ place = some_same (sym (get_set_same places i (Some n) within) ∙ (ap (slice_get (set places i (Some n))) (sym same) ∙ e)) in
         let was : slice_get places i ≡ Some None = slice_get-get_or places i None within ∙ ap (λ (o : Option ℕ). Some o) (none_of (get_or places i None) none) in
         let number : c.inst ≡ k + 1 = omega (arith, inst, same) in
-        subst (IsFirst certificates (n + 1) (k + 1)) new (c, at, number, omega arith, λ second. h.each i None was second.0 second.1 second.2 second.3 (second.4 ∙ inst))
+        subst (IsFirstOfInstance certificates (n + 1) (k + 1)) new (c, at, number, omega arith, λ second. h.each i None was second.0 second.1 second.2 second.3 (second.4 ∙ inst))
     | inr other ↦ first_next certificates n (k + 1) place c (h.each k place (sym (get_set_other places i k (Some n) other) ∙ e)) at (λ gone same. other (omega (arith, inst, same)))
   ];
   all = length-set places i (Some n) ∙ h.all;
@@ -59,7 +59,7 @@ passed_over places certificates n i c h at inst within there = record {
 }
 
 -- a certificate that is the first of its instance stands at the place that is found
-pub the_first : (certificates : List Certificate) (n k place i : ℕ) (c : Certificate) → IsFirst certificates n k (Some place) → slice_get certificates i ≡ Some c → c.inst ≡ k → (IsSecond certificates i c → ⊥) → slice_get certificates place ≡ Some c
+pub the_first : (certificates : List Certificate) (n k place i : ℕ) (c : Certificate) → IsFirstOfInstance certificates n k (Some place) → slice_get certificates i ≡ Some c → c.inst ≡ k → (IsSecond certificates i c → ⊥) → slice_get certificates place ≡ Some c
 the_first certificates n k place i c h at inst first = elim (cases_order i place) [
   | inl same ↦ ap (slice_get certificates) (sym same) ∙ at
   | inr other ↦ elim other [
@@ -74,7 +74,7 @@ none_yet places certificates none all = record {
   each = λ k place e.
       let within = slice_get_within places k place e in
       let is : place ≡ get_or places k place = sym (get_or_from_slice_get places k place place e) in
-      subst (IsFirst certificates 0 (k + 1)) (sym (is ∙ All-get_or (λ o. o ≡ None) places k place within none)) (λ i c low at inst. absurd (omega (arith, low)));
+      subst (IsFirstOfInstance certificates 0 (k + 1)) (sym (is ∙ All-get_or (λ o. o ≡ None) places k place within none)) (λ i c low at inst. absurd (omega (arith, low)));
   all = all;
 }
 
@@ -84,5 +84,5 @@ none_cloned is_clone never None h = refl
 none_cloned is_clone never (Some n) h = absurd (never n h)
 
 -- the certificate at the place of an instance's first one is this
-pub first_of : (certificates : List Certificate) (k place : ℕ) (o : Option Certificate) → o ≡ slice_get certificates place → IsFirst certificates (length certificates) k (Some place) → IsFirstCertificate certificates k o
+pub first_of : (certificates : List Certificate) (k place : ℕ) (o : Option Certificate) → o ≡ slice_get certificates place → IsFirstOfInstance certificates (length certificates) k (Some place) → IsFirstCertificate certificates k o
 first_of certificates k place o is first = subst (IsFirstCertificate certificates k) (sym (is ∙ first.1)) (place, first.1, first.2, first.4)

@@ -25,7 +25,7 @@ use Rattle.kt_checker.specs.declared.verdict.Why.{Why}
 use Rattle.kt_checker.specs.Unwilling.{has_unwilling}
 use Rattle.kt_checker.specs.Gathered.{Gathered, IsFinding, IsFoundFirst, beginning_gathered, members_gathered, refused_gathered}
 use Rattle.kt_checker.specs.Passing.{IsSecond, ListsReadyOf, decided_cut}
-use Rattle.kt_checker.specs.Judged.{IsFirst}
+use Rattle.kt_checker.specs.Judged.{IsFirstOfInstance}
 use Rattle.kt_checker.specs.Order.{IsBadLog}
 use Rattle.kt_checker.proofs.Gathering.{begun_gathered}
 use Rattle.kt_checker.proofs.FirstPlaces.{the_first}
@@ -33,7 +33,7 @@ use Rattle.kt_checker.proofs.Sound.{beginning_listed, checkpoint_kind, ready_in_
 
 -- what was found of the certificate at the place of an instance's first one
 pub found_of : {certs : List Certificate} (list : List Instance) (rows : List Event) (k : ℕ) (v : Instance) (commit : Bool) (fault : Option Why) (c : Certificate) (n place : ℕ) → Gathered certs list rows → at_number list k ≡ Some v
-    → IsFirst certs n k (Some place) → slice_get certs place ≡ Some c → IsFinding (past rows) v.members.items v.refused commit c fault → IsFoundFirst certs rows k commit fault
+    → IsFirstOfInstance certs n k (Some place) → slice_get certs place ≡ Some c → IsFinding (past rows) v.members.items v.refused commit c fault → IsFoundFirst certs rows k commit fault
 found_of {certs} list rows k v commit fault c n place h there first at finding i w e inst second =
     let same : c ≡ w = some_same (sym at ∙ the_first certs n k place i w first e inst second) in
     let listed : v.members.items ≡ members rows k = ap members_gathered (sym there) ∙ h.members_listed k in

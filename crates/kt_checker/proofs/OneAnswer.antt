@@ -20,7 +20,7 @@ use Rattle.kt_checker.specs.declared.verdict.Why.{Why}
 use Rattle.kt_checker.specs.declared.verdict.Why.TheVariants as why
 use Rattle.kt_checker.specs.Unwilling.{has_unwilling}
 use Rattle.kt_checker.specs.Passing.{PassBefore, IsPassed}
-use Rattle.kt_checker.specs.Order.{IsWrong, IsBadLog, IsUnknown, IsRefuted, IsRefused, IsMissing, IsAnswer}
+use Rattle.kt_checker.specs.Order.{IsFirstWhy, IsBadLog, IsUnknown, IsRefuted, IsRefused, IsMissing, IsCheckerAnswer}
 use Rattle.kt_checker.proofs.Deciding.{decided_once}
 use Rattle.kt_checker.proofs.Answering.{passed_of, yes_of, no_broken, not_both, wrong_passes}
 
@@ -33,7 +33,7 @@ one_bad_log : (log : List Event) (v w : Verdict) → IsBadLog log v → IsBadLog
 one_bad_log log v w a b = a.2 ∙ (ap bad_log (sym a.3 ∙ b.3) ∙ sym b.2)
 
 -- one thing is first wrong with a certificate
-one_why : (s : Past) (joined : List ℕ) (refused : Bool) (c : Certificate) (a b : Why) → IsWrong s joined refused c a → IsWrong s joined refused c b → a ≡ b
+one_why : (s : Past) (joined : List ℕ) (refused : Bool) (c : Certificate) (a b : Why) → IsFirstWhy s joined refused c a → IsFirstWhy s joined refused c b → a ≡ b
 one_why s joined refused c (why.BadLog rule) b x y = absurd x
 one_why s joined refused c why.Unknown b x y = absurd x
 one_why s joined refused c why.Missing b x y = absurd x
@@ -61,7 +61,7 @@ one_refuted : (log : List Event) (certificates : List Certificate) (i : ℕ) (c 
 one_refuted log certificates i c v w l a b =
     let row : a.0 ≡ b.0 = decided_once log a.0 b.0 a.3.process b.3.process c.inst c.commit c.commit l a.3.decided b.3.decided in
     let reason : a.1 ≡ b.1 = one_why (past (take b.0 log)) (members log c.inst) (has_unwilling log c.inst) c a.1 b.1
-    (subst (λ (n : ℕ). IsWrong (past (take n log)) (members log c.inst) (has_unwilling log c.inst) c a.1) row a.5) b.5 in
+    (subst (λ (n : ℕ). IsFirstWhy (past (take n log)) (members log c.inst) (has_unwilling log c.inst) c a.1) row a.5) b.5 in
     a.2 ∙ ((λ k. No (Some c.inst) (Some (row k + 1)) (reason k)) ∙ sym b.2)
 
 -- two answers to one certificate
@@ -131,7 +131,7 @@ one_fault log certificates v w l a b = elim a [
 ]
 
 -- two answers to one log and list
-pub one_answer : (log : List Event) (certificates : List Certificate) (v w : Verdict) → IsAnswer log certificates v → IsAnswer log certificates w → v ≡ w
+pub one_answer : (log : List Event) (certificates : List Certificate) (v w : Verdict) → IsCheckerAnswer log certificates v → IsCheckerAnswer log certificates w → v ≡ w
 one_answer log certificates v w a b = elim a [
   | inl passed ↦ passed.0 ∙ sym (yes_of log certificates w b passed.1)
   | inr fault ↦ elim b [
@@ -150,7 +150,7 @@ one_answer log certificates v w a b = elim a [
 ]
 
 -- of the rows that a text says, and of no others, an answer is yes exactly where all passes
-pub passed_exactly : (left : Option (List (List (List ℕ)))) (certificates : List Certificate) (v : Verdict) (rows : List Event) → IfSome left (λ text. IsLogText text rows) → IsAnswer rows certificates v
+pub passed_exactly : (left : Option (List (List (List ℕ)))) (certificates : List Certificate) (v : Verdict) (rows : List Event) → IfSome left (λ text. IsLogText text rows) → IsCheckerAnswer rows certificates v
     → IfSome left (λ text. (others : List Event) → IsLogText text others → (v ≡ Yes) ↔ IsPassed others certificates)
 passed_exactly None certificates v rows says answer = tt
 passed_exactly (Some text) certificates v rows says answer = λ others also.

@@ -2,13 +2,13 @@
 use Rattle.std.proofs.Common.{◌≡◌, ◌++◌, ◌∷◌, [], ℕ, List, Option, Some, None, IfSome, refl, sym, subst, arith, inl, inr}
 use Rattle.kt_spacetime.specs.declared.event.Event.{Event}
 use Rattle.kt_log_text.specs.Reading.{RowsRead, GivesRow, MeetsEnd, rows_unread}
-use Rattle.kt_log_text.specs.Progress.{Gathers}
+use Rattle.kt_log_text.specs.Progress.{GathersRows}
 use Rattle.kt_log_text.proofs.GatherFacts.{gathers_more, gathers_none, gathered_all, most_rows_le}
 use Rattle.kt_chain.specs.declared.certificate.Certificate.{Certificate}
 use Rattle.kt_checker.specs.declared.judge.Judge.{Judge}
 use Rattle.kt_checker.specs.declared.verdict.Verdict.{Verdict}
 use Rattle.kt_checker.specs.declared.verdict.Verdict.TheVariants.{Yes}
-use Rattle.kt_checker.specs.Order.{IsAnswer, IsBadLog}
+use Rattle.kt_checker.specs.Order.{IsCheckerAnswer, IsBadLog}
 use Rattle.kt_checker.specs.Soundness.{IsSound}
 use Rattle.kt_checker.specs.Streamed.{IsAnswerOf}
 use Rattle.kt_checker.specs.Judged.{JudgeOf, IsFew}
@@ -20,14 +20,14 @@ use Rattle.std.proofs.lemmas.Option.{slice_get_within}
 -- what is known while rows are read: these were, and the judge has seen them, or one of them breaks a rule
 pub record HasSeen (source : Option (List ℕ)) (reader : RowsRead) (judge : Judge) (certificates : List Certificate) (broken : Option Verdict) : Type 0 where
   pub seen : List Event
-  pub gathers : Gathers source reader seen
+  pub gathers : GathersRows source reader seen
   pub judged : broken ≡ None → JudgeOf judge certificates seen
   pub bad : IfSome broken (IsBadLog seen)
 
 pub seen_none : (source : Option (List ℕ)) (reader : RowsRead) (judge : Judge) (certificates : List Certificate) → reader ≡ rows_unread source → JudgeOf judge certificates [] → HasSeen source reader judge certificates None
 seen_none source reader judge certificates e h = record {
   seen = [];
-  gathers = subst (λ (r : RowsRead). Gathers source r []) (sym e) (gathers_none source);
+  gathers = subst (λ (r : RowsRead). GathersRows source r []) (sym e) (gathers_none source);
   judged = λ none. h;
   bad = tt;
 }
@@ -67,7 +67,7 @@ seen_on {source} old new judge certificates broken row h s some = record {
     bad_still (Some v) bad = bad_more h.seen (row ∷ []) v bad
 
 -- a yes is sound
-pub sound_of : (rows : List Event) (certificates : List Certificate) (v : Verdict) → IsAnswer rows certificates v → v ≡ Yes → IsSound rows certificates
+pub sound_of : (rows : List Event) (certificates : List Certificate) (v : Verdict) → IsCheckerAnswer rows certificates v → v ≡ Yes → IsSound rows certificates
 sound_of rows certificates v answer e =
     let passed = passed_of rows certificates v answer e in
     record {
@@ -81,7 +81,7 @@ sound_of rows certificates v answer e =
       present = present_consistent rows certificates passed;
     }
 
-answer_at : {source : Option (List ℕ)} (old new : RowsRead) (certificates : List Certificate) (v : Verdict) (rows : List Event) → Gathers source old rows → MeetsEnd old new → IsAnswer rows certificates v → IsAnswerOf source certificates v
+answer_at : {source : Option (List ℕ)} (old new : RowsRead) (certificates : List Certificate) (v : Verdict) (rows : List Event) → GathersRows source old rows → MeetsEnd old new → IsCheckerAnswer rows certificates v → IsAnswerOf source certificates v
 answer_at {source} old new certificates v rows g s answer = record {
   rows = rows;
   says = gathered_all source old new rows g s;
@@ -95,5 +95,5 @@ bad_answer old new judge certificates v h s = answer_at old new certificates v h
 
 -- the answer to a legal log
 pub legal_answer : {source : Option (List ℕ)} (old new : RowsRead) (judge : Judge) (certificates : List Certificate) (v : Verdict) → HasSeen source old judge certificates None → MeetsEnd old new
-    → ((rows : List Event) → JudgeOf judge certificates rows → IsAnswer rows certificates v) → IsAnswerOf source certificates v
+    → ((rows : List Event) → JudgeOf judge certificates rows → IsCheckerAnswer rows certificates v) → IsAnswerOf source certificates v
 legal_answer old new judge certificates v h s answer = answer_at old new certificates v h.seen h.gathers s (answer h.seen (h.judged refl))

@@ -11,7 +11,7 @@ use Rattle.kt_chain.specs.declared.certificate.Certificate.{Certificate}
 use Rattle.kt_checker.specs.declared.verdict.Why.{Why}
 use Rattle.kt_checker.specs.Unwilling.{has_unwilling}
 use Rattle.kt_checker.specs.Passing.{IsSecond, IsShownBefore, ListsReadyOf}
-use Rattle.kt_checker.specs.Order.{IsWrong}
+use Rattle.kt_checker.specs.Order.{IsFirstWhy}
 
 abbrev pub beginning_gathered : Instance → Beginning
 beginning_gathered v = record { initiator = v.initiator; kind = v.kind }
@@ -32,7 +32,7 @@ decision_gathered (Some v) = v.decision
 pub record IsFinding (s : Past) (joined : List ℕ) (refused : Bool) (commit : Bool) (c : Certificate) (fault : Option Why) : Type 0 where
   pub cause : fault ≡ None → refused ≡ not commit
   pub shown : fault ≡ None → commit ≡ true → ListsReadyOf s c joined → IsShownBefore s c joined
-  pub wrong : (why : Why) → fault ≡ Some why → commit ≡ c.commit → ListsReadyOf s c joined → IsWrong s joined refused c why
+  pub wrong : (why : Why) → fault ≡ Some why → commit ≡ c.commit → ListsReadyOf s c joined → IsFirstWhy s joined refused c why
 
 -- after these rows the next one decides an instance: this was found of its first certificate
 abbrev pub IsFoundFirst : List Certificate → List Event → ℕ → Bool → Option Why → Type 0

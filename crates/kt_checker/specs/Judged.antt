@@ -9,9 +9,9 @@ use Rattle.kt_checker.specs.Gathered.{Gathered}
 use Rattle.kt_checker.specs.Passing.{IsSecond}
 
 -- the place of the first certificate of an instance among the first of a list, or that there is none
-abbrev pub IsFirst : List Certificate → ℕ → ℕ → Option ℕ → Type 0
-IsFirst certificates n k None = (i : ℕ) (c : Certificate) → i < n → slice_get certificates i ≡ Some c → c.inst ≡ k → ⊥
-IsFirst certificates n k (Some i) = (c : Certificate) × (slice_get certificates i ≡ Some c) × (c.inst ≡ k) × (i < n) × (IsSecond certificates i c → ⊥)
+abbrev pub IsFirstOfInstance : List Certificate → ℕ → ℕ → Option ℕ → Type 0
+IsFirstOfInstance certificates n k None = (i : ℕ) (c : Certificate) → i < n → slice_get certificates i ≡ Some c → c.inst ≡ k → ⊥
+IsFirstOfInstance certificates n k (Some i) = (c : Certificate) × (slice_get certificates i ≡ Some c) × (c.inst ≡ k) × (i < n) × (IsSecond certificates i c → ⊥)
 
 -- the first certificate of an instance in a list, or that there is none
 abbrev pub IsFirstCertificate : List Certificate → ℕ → Option Certificate → Type 0
@@ -20,7 +20,7 @@ IsFirstCertificate certificates k (Some c) = (i : ℕ) × (slice_get certificate
 
 -- by instance, from 1 on, the place of its first certificate among the first of a list
 pub record AreFirsts (places : List (Option ℕ)) (certificates : List Certificate) (n : ℕ) : Type 0 where
-  pub each : (k : ℕ) (place : Option ℕ) → slice_get places k ≡ Some place → IsFirst certificates n (k + 1) place
+  pub each : (k : ℕ) (place : Option ℕ) → slice_get places k ≡ Some place → IsFirstOfInstance certificates n (k + 1) place
   pub all : length places ≡ 4096
 
 -- a judge has seen few enough rows to see one more

@@ -17,14 +17,14 @@ use Rattle.kt_checker.specs.Passing.{IsAsInLog, IsSecond, PassBefore, HasLists, 
 
 -- what is first wrong with a certificate of a decided instance: what is known just before the decision, who joined,
 -- whether a process was unwilling
-abbrev pub IsWrong : Past → List ℕ → Bool → Certificate → Why → Type 0
-IsWrong s joined refused c (BadLog rule) = ⊥
-IsWrong s joined refused c Unknown = ⊥
-IsWrong s joined refused c Missing = ⊥
-IsWrong s joined refused c Cause = refused ≡ c.commit
-IsWrong s joined refused c Members = (refused ≡ not c.commit) × (c.commit ≡ true) × (map (λ m. m.0) c.members ≡ joined → ⊥)
-IsWrong s joined refused c Chain = (refused ≡ not c.commit) × (c.commit ≡ true) × (map (λ m. m.0) c.members ≡ joined) × (HasLists s c → ⊥)
-IsWrong s joined refused c Orphan = (refused ≡ not c.commit) × (c.commit ≡ true) × (map (λ m. m.0) c.members ≡ joined) × HasLists s c × (IsConsistent s (decided_cut s c.inst c.kind) → ⊥)
+abbrev pub IsFirstWhy : Past → List ℕ → Bool → Certificate → Why → Type 0
+IsFirstWhy s joined refused c (BadLog rule) = ⊥
+IsFirstWhy s joined refused c Unknown = ⊥
+IsFirstWhy s joined refused c Missing = ⊥
+IsFirstWhy s joined refused c Cause = refused ≡ c.commit
+IsFirstWhy s joined refused c Members = (refused ≡ not c.commit) × (c.commit ≡ true) × (map (λ m. m.0) c.members ≡ joined → ⊥)
+IsFirstWhy s joined refused c Chain = (refused ≡ not c.commit) × (c.commit ≡ true) × (map (λ m. m.0) c.members ≡ joined) × (HasLists s c → ⊥)
+IsFirstWhy s joined refused c Orphan = (refused ≡ not c.commit) × (c.commit ≡ true) × (map (λ m. m.0) c.members ≡ joined) × HasLists s c × (IsConsistent s (decided_cut s c.inst c.kind) → ⊥)
 
 -- the answer to a log that is not legal: its first broken row, and the least rule that this breaks
 abbrev pub IsBadLog : List Event → Verdict → Type 0
@@ -38,7 +38,7 @@ IsUnknown log certificates i c v = (v ≡ No (Some c.inst) None Unknown) × ((n 
 abbrev pub IsRefuted : List Event → List Certificate → ℕ → Certificate → Verdict → Type 0
 IsRefuted log certificates i c v =
     (n : ℕ) × (why : Why) × (v ≡ No (Some c.inst) (Some (n + 1)) why) × IsAsInLog log c n × (IsSecond certificates i c → ⊥)
-    × IsWrong (past (take n log)) (members log c.inst) (has_unwilling log c.inst) c why
+    × IsFirstWhy (past (take n log)) (members log c.inst) (has_unwilling log c.inst) c why
 
 -- the answer to the first certificate of a list that does not pass
 abbrev pub IsRefused : List Event → List Certificate → Verdict → Type 0
@@ -55,7 +55,7 @@ IsMissing log certificates v =
     × ((m q j : ℕ) (also : Bool) → j < k → slice_get log m ≡ Some (Decided q j also) → HasCertificate certificates j)
 
 -- the checker's answer to a log and a list of certificates: yes where all passes, else the first fault
-abbrev pub IsAnswer : List Event → List Certificate → Verdict → Type 0
-IsAnswer log certificates v =
+abbrev pub IsCheckerAnswer : List Event → List Certificate → Verdict → Type 0
+IsCheckerAnswer log certificates v =
     ((v ≡ Yes) × IsPassed log certificates)
     ⊎ (IsBadLog log v ⊎ (IsLegal log × (IsRefused log certificates v ⊎ IsMissing log certificates v)))

@@ -6,7 +6,7 @@ use Rattle.kt_log_text.specs.Texts.{IsLogText}
 use Rattle.kt_chain.specs.declared.certificate.Certificate.{Certificate}
 use Rattle.kt_checker.specs.declared.verdict.Verdict.{Verdict}
 use Rattle.kt_checker.specs.declared.verdict.Verdict.TheVariants.{Yes}
-use Rattle.kt_checker.specs.Order.{IsAnswer}
+use Rattle.kt_checker.specs.Order.{IsCheckerAnswer}
 use Rattle.kt_checker.specs.Soundness.{IsSound}
 
 -- the bytes that a reader tells, where it does, say these rows
@@ -17,5 +17,5 @@ SaysRows bytes rows = IfSome (rows_unread bytes).left (λ text. IsLogText text r
 pub record IsAnswerOf (bytes : Option (List ℕ)) (certificates : List Certificate) (verdict : Verdict) : Type 0 where
   pub rows : List Event
   pub says : SaysRows bytes rows
-  pub answer : IsAnswer rows certificates verdict
+  pub answer : IsCheckerAnswer rows certificates verdict
   pub sound : verdict ≡ Yes → IsSound rows certificates

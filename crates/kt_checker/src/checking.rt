@@ -15,7 +15,7 @@ ghost use Rattle.kt_checker.specs.declared.verdict.Why.{Why};
 ghost use Rattle.kt_checker.specs.Gathered.{Gathered};
 ghost use Rattle.kt_checker.specs.Judged.{IsFew, JudgeOf};
 ghost use Rattle.kt_checker.specs.Passing.{Passes, IsPassed, IsSecond, AreComplete};
-ghost use Rattle.kt_checker.specs.Order.{IsAnswer, IsBadLog, IsUnknown, IsRefuted};
+ghost use Rattle.kt_checker.specs.Order.{IsCheckerAnswer, IsBadLog, IsUnknown, IsRefuted};
 ghost use Rattle.kt_checker.specs.Missing.{AnswersMissing};
 
 use crate::decisions::{Decision, Instance, Instances};
@@ -38,7 +38,7 @@ pub fn check(
     certificates: &[Certificate],
 ) -> Result<Verdict, Memory>
     // The answer is the first fault in that order, and yes exactly where there is none.
-    ensures answer { IfOk result (λ verdict. IsAnswer log.now.rows certificates.now verdict) }
+    ensures answer { IfOk result (λ verdict. IsCheckerAnswer log.now.rows certificates.now verdict) }
     ensures yes { IfOk result (λ verdict. (verdict ≡ Yes) ↔ IsPassed log.now.rows certificates.now) }
 
     // A yes knows that the log is legal, that each certificate passes, and that each decided instance has one.
@@ -75,7 +75,7 @@ fn judge_rows(
     log: &SpaceTime,
     certificates: &[Certificate],
 ) -> Result<Verdict, Memory>
-    ensures { IfOk result (λ verdict. IsAnswer log.now.rows certificates.now verdict) }
+    ensures { IfOk result (λ verdict. IsCheckerAnswer log.now.rows certificates.now verdict) }
 {
     let mut judge = Judge::new(alloc, certificates)?;
     for row in log.rows() {
@@ -114,7 +114,7 @@ pub(crate) fn verdict(
     certificates: &[Certificate],
 ) -> Result<Verdict, Memory>
     ensures { IfOk result (λ verdict. (rows : List Event) → IsLegal rows
-        → Gathered certificates.now instances.now.list.items rows → IsAnswer rows certificates.now verdict) }
+        → Gathered certificates.now instances.now.list.items rows → IsCheckerAnswer rows certificates.now verdict) }
 {
     let mut seen = vec![in alloc; false; instances.len()]?;
     for certificate in certificates {

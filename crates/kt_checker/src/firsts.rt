@@ -2,7 +2,7 @@
 
 ghost use Rattle.std.specs.Prelude.{◌≡◌, ◌+◌, Some, List, IfOk, length, slice_get};
 ghost use Rattle.kt_chain.specs.declared.certificate.Certificate.{Certificate};
-ghost use Rattle.kt_checker.specs.Judged.{AreFirsts, IsFirst};
+ghost use Rattle.kt_checker.specs.Judged.{AreFirsts, IsFirstOfInstance};
 
 use kt_base::{InstNo, Memory};
 use kt_chain::Certificate;
@@ -34,7 +34,7 @@ impl Firsts {
     pub(crate) fn get(&self, inst: InstNo) -> Option<usize>
         ensures { (certificates : List Certificate)
             → AreFirsts self.now.places.items certificates (length certificates)
-            → IsFirst certificates (length certificates) inst result }
+            → IsFirstOfInstance certificates (length certificates) inst result }
     {
         *self.places.get(inst.get() as usize - 1)?
     }

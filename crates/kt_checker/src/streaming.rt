@@ -3,7 +3,7 @@
 ghost use Rattle.std.specs.Prelude.{◌≡◌, ◌↔◌, [], ℕ, List, Option, IfOk, IfErr, IfSome};
 ghost use Rattle.kt_spacetime.specs.declared.event.Event.{Event};
 ghost use Rattle.kt_log_text.specs.Reading.{rows_unread};
-ghost use Rattle.kt_log_text.specs.Texts.{IsLogText, IsFirstFault};
+ghost use Rattle.kt_log_text.specs.Texts.{IsLogText, IsFirstLogFault};
 ghost use Rattle.kt_checker.specs.declared.verdict.Verdict.TheVariants.{Yes};
 ghost use Rattle.kt_checker.specs.Judged.{JudgeOf};
 ghost use Rattle.kt_checker.specs.Passing.{IsPassed};
@@ -26,7 +26,7 @@ pub fn check_stream<R: Read + Drop>(
     certificates: &[Certificate],
 ) -> Result<Verdict, LogFault>
     ensures answer { IfOk result (IsAnswerOf (R.remaining log_reader) certificates.now) }
-    ensures fault { IfErr result (λ e. IfSome (rows_unread (R.remaining log_reader)).left (λ text. IsFirstFault text e)) }
+    ensures fault { IfErr result (λ e. IfSome (rows_unread (R.remaining log_reader)).left (λ text. IsFirstLogFault text e)) }
     // So, where the reader tells its bytes, a yes is answered exactly where all of the rows that they say passes.
     ensures yes { IfOk result (λ verdict. IfSome (rows_unread (R.remaining log_reader)).left (λ text. (rows : List Event) → IsLogText text rows → (verdict ≡ Yes) ↔ IsPassed rows certificates.now)) }
 {
@@ -40,7 +40,7 @@ fn judge_stream<R: Read + Drop>(
     certificates: &[Certificate],
 ) -> Result<Verdict, LogFault>
     ensures answer { IfOk result (IsAnswerOf (R.remaining log_reader) certificates.now) }
-    ensures fault { IfErr result (λ e. IfSome (rows_unread (R.remaining log_reader)).left (λ text. IsFirstFault text e)) }
+    ensures fault { IfErr result (λ e. IfSome (rows_unread (R.remaining log_reader)).left (λ text. IsFirstLogFault text e)) }
 {
     let mut judge = Judge::new(alloc, certificates)?;
     let mut rows = RowReader::new(alloc, log_reader)?;
@@ -57,7 +57,7 @@ fn judge_unread<R: Read + Drop>(
     requires unread { (source : Option (List ℕ)) × (rows.old ≡ rows_unread source) }
     requires none_seen { JudgeOf judge.old certificates.now [] }
     ensures answer { (source : Option (List ℕ)) → rows.old ≡ rows_unread source → IfOk result (IsAnswerOf source certificates.now) }
-    ensures fault { (source : Option (List ℕ)) → rows.old ≡ rows_unread source → IfErr result (λ e. IfSome (rows_unread source).left (λ text. IsFirstFault text e)) }
+    ensures fault { (source : Option (List ℕ)) → rows.old ≡ rows_unread source → IfErr result (λ e. IfSome (rows_unread source).left (λ text. IsFirstLogFault text e)) }
 {
     let mut broken = None;
     while let Some(row) = rows.next()? {

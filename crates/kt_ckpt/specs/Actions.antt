@@ -7,21 +7,21 @@ use Rattle.kt_parts.specs.Parts.{Part}
 use Rattle.kt_parts.specs.Answers.{replies, joins}
 use Rattle.kt_parts.specs.declared.actions.Action.{Action}
 use Rattle.kt_parts.specs.declared.actions.Action.TheVariants.{Refuse, Join, Reply}
-use Rattle.kt_ckpt.specs.Rules.{is_asked, asked_label, must_join, refusal, answer}
+use Rattle.kt_ckpt.specs.Rules.{is_asked, asked_label, must_join, checkpoint_refusal, checkpoint_answer}
 
 -- it asks exactly its cohort
-abbrev pub AsksCohort : List Call → Action → Type 0
-AsksCohort calls (Join asks goes) = IsCohort asks (is_asked calls) (asked_label calls)
-AsksCohort calls action = ⊥
+abbrev pub AsksCheckpointCohort : List Call → Action → Type 0
+AsksCheckpointCohort calls (Join asks goes) = IsCohort asks (is_asked calls) (asked_label calls)
+AsksCheckpointCohort calls action = ⊥
 
 -- it joins where nothing forbids that
-abbrev pub IsStart : Standing → Option Part → Action → Type 0
-IsStart s None (Refuse cause) = refusal s.in_inst s.up s.able ≡ Some cause
-IsStart s (Some side) (Join asks goes) = refusal s.in_inst s.up s.able ≡ None
-IsStart s side action = ⊥
+abbrev pub IsCheckpointStart : Standing → Option Part → Action → Type 0
+IsCheckpointStart s None (Refuse cause) = checkpoint_refusal s.in_inst s.up s.able ≡ Some cause
+IsCheckpointStart s (Some side) (Join asks goes) = checkpoint_refusal s.in_inst s.up s.able ≡ None
+IsCheckpointStart s side action = ⊥
 
 -- it replies to the asker, or joins, as the rule says
-abbrev pub IsAnswer : List Call → Standing → ℕ → ℕ → ℕ → Option Part → Action → Type 0
-IsAnswer calls s inst from label None (Reply to willing cause) = (to ≡ from) × (answer s.in_inst s.up s.able inst (must_join calls from label) ≡ replies willing cause)
-IsAnswer calls s inst from label (Some side) (Join asks goes) = answer s.in_inst s.up s.able inst (must_join calls from label) ≡ joins
-IsAnswer calls s inst from label side action = ⊥
+abbrev pub IsCheckpointAnswer : List Call → Standing → ℕ → ℕ → ℕ → Option Part → Action → Type 0
+IsCheckpointAnswer calls s inst from label None (Reply to willing cause) = (to ≡ from) × (checkpoint_answer s.in_inst s.up s.able inst (must_join calls from label) ≡ replies willing cause)
+IsCheckpointAnswer calls s inst from label (Some side) (Join asks goes) = checkpoint_answer s.in_inst s.up s.able inst (must_join calls from label) ≡ joins
+IsCheckpointAnswer calls s inst from label side action = ⊥

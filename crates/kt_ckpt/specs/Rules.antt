@@ -5,7 +5,7 @@ use Rattle.kt_base.specs.declared.words.Cause.{Cause}
 use Rattle.kt_base.specs.declared.words.Cause.TheVariants.{Busy, Down, NoSave}
 use Rattle.kt_tables.specs.Calls.{Call, on_commit, on_abort, parts, sents, receiveds}
 use Rattle.kt_tables.specs.Labels.{has_label, greatest}
-use Rattle.kt_parts.specs.Answers.{Answer, replies, joins}
+use Rattle.kt_parts.specs.Answers.{AskAnswer, replies, joins}
 
 -- whether an ask of q with this label makes the process take part: it sent q a message since its last checkpoint that q had received
 unfoldable pub must_join : List Call → ℕ → ℕ → Bool
@@ -19,21 +19,21 @@ unfoldable pub asked_label : List Call → ℕ → ℕ
 asked_label calls q = greatest (receiveds q (parts calls).since)
 
 -- why a process takes no checkpoint
-abbrev pub refusal : Option ℕ → Bool → Bool → Option Cause
-refusal (Some inst) up able = Some (Busy inst)
-refusal None false able = Some Down
-refusal None true false = Some NoSave
-refusal None true true = None
+abbrev pub checkpoint_refusal : Option ℕ → Bool → Bool → Option Cause
+checkpoint_refusal (Some inst) up able = Some (Busy inst)
+checkpoint_refusal None false able = Some Down
+checkpoint_refusal None true false = Some NoSave
+checkpoint_refusal None true true = None
 
 -- what comes of an ask
-abbrev pub answer : Option ℕ → Bool → Bool → ℕ → Bool → Answer
-answer (Some other) up able inst must = if other == inst then replies true None else replies false (Some (Busy other))
-answer None up able inst false = replies true None
-answer None false able inst true = replies false (Some Down)
-answer None true false inst true = replies false (Some NoSave)
-answer None true true inst true = joins
+abbrev pub checkpoint_answer : Option ℕ → Bool → Bool → ℕ → Bool → AskAnswer
+checkpoint_answer (Some other) up able inst must = if other == inst then replies true None else replies false (Some (Busy other))
+checkpoint_answer None up able inst false = replies true None
+checkpoint_answer None false able inst true = replies false (Some Down)
+checkpoint_answer None true false inst true = replies false (Some NoSave)
+checkpoint_answer None true true inst true = joins
 
 -- the call of a decision
-abbrev pub decision : Bool → Call
-decision true = on_commit
-decision false = on_abort
+abbrev pub checkpoint_call_of_decision : Bool → Call
+checkpoint_call_of_decision true = on_commit
+checkpoint_call_of_decision false = on_abort

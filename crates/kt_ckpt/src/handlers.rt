@@ -4,13 +4,13 @@ ghost use Rattle.std.specs.Prelude.{◌≡◌, ◌<◌, ◌++◌, ◌∷◌, [],
 ghost use Rattle.kt_base.specs.Sets.{has};
 ghost use Rattle.kt_tables.specs.Peers.{has_one};
 ghost use Rattle.kt_tables.specs.Calls.{Call, on_tentative};
-ghost use Rattle.kt_tables.specs.Standing.{StandsFor, must_take};
+ghost use Rattle.kt_tables.specs.Standing.{TablesStandFor, must_take};
 ghost use Rattle.kt_parts.specs.Rules.{after_reply, reply_action, settle_action};
 ghost use Rattle.kt_parts.specs.Joins.{Joins};
 ghost use Rattle.kt_parts.specs.Replies.{IsReplyTo};
 ghost use Rattle.kt_parts.specs.Counts.{counts_of, counts_at_reply, counts_if_joined, no_parcel, one_reply, decisions_to};
-ghost use Rattle.kt_ckpt.specs.Rules.{refusal, decision};
-ghost use Rattle.kt_ckpt.specs.Actions.{AsksCohort, IsStart, IsAnswer};
+ghost use Rattle.kt_ckpt.specs.Rules.{checkpoint_refusal, checkpoint_call_of_decision};
+ghost use Rattle.kt_ckpt.specs.Actions.{AsksCheckpointCohort, IsCheckpointStart, IsCheckpointAnswer};
 
 use kt_base::{Cause, InstNo, Label, Memory, ProcNo, Standing};
 use kt_parts::{Action, Asks, Part as Side};
@@ -18,7 +18,7 @@ use kt_tables::Tables;
 
 /// Why the process takes no checkpoint.
 fn refusal(standing: Standing) -> Option<Cause>
-    ensures { result ≡ refusal standing.in_inst standing.up standing.able }
+    ensures { result ≡ checkpoint_refusal standing.in_inst standing.up standing.able }
 {
     if let Some(inst) = standing.in_inst {
         return Some(Cause::Busy(inst));
@@ -38,9 +38,9 @@ fn join(tables: &mut Tables, inst: InstNo, parent: Option<ProcNo>) -> Result<(Si
     ensures err { OnErr result (tables.new ≡ tables.old) }
     ensures processes { tables.new.processes ≡ tables.old.processes }
     ensures tentative { OnOk result (tables.new.is_tentative ≡ true) }
-    ensures stands { OnOk result ((calls : List Call) → StandsFor tables.old calls → StandsFor tables.new (calls ++ on_tentative ∷ [])) }
+    ensures stands { OnOk result ((calls : List Call) → TablesStandFor tables.old calls → TablesStandFor tables.new (calls ++ on_tentative ∷ [])) }
     ensures joins { IfOk result (λ r. Joins tables.old.processes inst parent r.0 r.1) }
-    ensures cohort { IfOk result (λ r. (calls : List Call) → StandsFor tables.old calls → AsksCohort calls r.1) }
+    ensures cohort { IfOk result (λ r. (calls : List Call) → TablesStandFor tables.old calls → AsksCheckpointCohort calls r.1) }
     ensures asked { IfOk result (λ r. (q : ℕ) → has r.0.asked q ≡ true → has_one tables.old.last_rcvd q ≡ true) }
     ensures last_out { tables.new.last_out ≡ tables.old.last_out }
 {
@@ -58,7 +58,7 @@ pub fn start(
     requires { standing.in_inst ≡ None → tables.old.is_tentative ≡ false }
     ensures err { OnErr result (tables.new ≡ tables.old) }
     ensures processes { tables.new.processes ≡ tables.old.processes }
-    ensures rule { IfOk result (λ r. IsStart standing r.0 r.1) }
+    ensures rule { IfOk result (λ r. IsCheckpointStart standing r.0 r.1) }
     ensures counts { IfOk result (λ r. counts_of r.1 ≡ counts_if_joined no_parcel r.0) }
 
     // Who refuses leaves its tables as they were.
@@ -66,9 +66,9 @@ pub fn start(
 
     // Who joins asks its cohort, and makes one call on its tables.
     ensures joins { IfOk result (λ r. IfSome r.0 (λ side. Joins tables.old.processes inst None side r.1)) }
-    ensures cohort { IfOk result (λ r. OnSome r.0 ((calls : List Call) → StandsFor tables.old calls → AsksCohort calls r.1)) }
+    ensures cohort { IfOk result (λ r. OnSome r.0 ((calls : List Call) → TablesStandFor tables.old calls → AsksCheckpointCohort calls r.1)) }
     ensures tentative { IfOk result (λ r. OnSome r.0 (tables.new.is_tentative ≡ true)) }
-    ensures stands { IfOk result (λ r. OnSome r.0 ((calls : List Call) → StandsFor tables.old calls → StandsFor tables.new (calls ++ on_tentative ∷ []))) }
+    ensures stands { IfOk result (λ r. OnSome r.0 ((calls : List Call) → TablesStandFor tables.old calls → TablesStandFor tables.new (calls ++ on_tentative ∷ []))) }
 
     // By the labels kept: whom it asks, and that the last labels sent stay.
     ensures asked { IfOk result (λ r. IfSome r.0 (λ side. (q : ℕ) → has side.asked q ≡ true → has_one tables.old.last_rcvd q ≡ true)) }
@@ -93,7 +93,7 @@ pub fn on_ask(
     requires from { from < tables.old.processes }
     ensures err { OnErr result (tables.new ≡ tables.old) }
     ensures processes { tables.new.processes ≡ tables.old.processes }
-    ensures rule { IfOk result (λ r. (calls : List Call) → StandsFor tables.old calls → IsAnswer calls standing inst from label r.0 r.1) }
+    ensures rule { IfOk result (λ r. (calls : List Call) → TablesStandFor tables.old calls → IsCheckpointAnswer calls standing inst from label r.0 r.1) }
     ensures counts { IfOk result (λ r. counts_of r.1 ≡ counts_if_joined one_reply r.0) }
 
     // Who stays outside, or is in an instance already, leaves its tables as they were.
@@ -101,9 +101,9 @@ pub fn on_ask(
 
     // Who joins asks its cohort, and makes one call on its tables.
     ensures joins { IfOk result (λ r. IfSome r.0 (λ side. Joins tables.old.processes inst (Some from) side r.1)) }
-    ensures cohort { IfOk result (λ r. OnSome r.0 ((calls : List Call) → StandsFor tables.old calls → AsksCohort calls r.1)) }
+    ensures cohort { IfOk result (λ r. OnSome r.0 ((calls : List Call) → TablesStandFor tables.old calls → AsksCheckpointCohort calls r.1)) }
     ensures tentative { IfOk result (λ r. OnSome r.0 (tables.new.is_tentative ≡ true)) }
-    ensures stands { IfOk result (λ r. OnSome r.0 ((calls : List Call) → StandsFor tables.old calls → StandsFor tables.new (calls ++ on_tentative ∷ []))) }
+    ensures stands { IfOk result (λ r. OnSome r.0 ((calls : List Call) → TablesStandFor tables.old calls → TablesStandFor tables.new (calls ++ on_tentative ∷ []))) }
 
     // Who doesn't join replies to the asker.
     ensures replies { IfOk result (λ r. IfNone r.0 (IsReplyTo from r.1)) }
@@ -143,7 +143,7 @@ pub fn on_decide(tables: &mut Tables, side: Side, commit: bool) -> Action
     requires { tables.old.is_tentative ≡ true }
     ensures processes { tables.new.processes ≡ tables.old.processes }
     ensures tentative { tables.new.is_tentative ≡ false }
-    ensures stands { (calls : List Call) → StandsFor tables.old calls → StandsFor tables.new (calls ++ decision commit ∷ []) }
+    ensures stands { (calls : List Call) → TablesStandFor tables.old calls → TablesStandFor tables.new (calls ++ checkpoint_call_of_decision commit ∷ []) }
     ensures last_out { tables.new.last_out ≡ tables.old.last_out }
     ensures action { result ≡ settle_action side commit }
     ensures counts { counts_of result ≡ decisions_to side.asked }

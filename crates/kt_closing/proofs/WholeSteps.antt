@@ -14,7 +14,7 @@ use Rattle.kt_protocol.proofs.Transitions.{invariant_began, invariant_reply, inv
 use Rattle.kt_protocol.proofs.Updates.{at_one_here, at_pair_here}
 use Rattle.kt_protocol.proofs.NotedFirst.{quiet}
 use Rattle.kt_protocol.proofs.WholeSteps.{all_after_run}
-use Rattle.kt_protocol.specs.InTransit.{IsQuiet}
+use Rattle.kt_protocol.specs.InTransit.{HasNoMessage}
 use Rattle.kt_protocol.proofs.Walk.{invariant_step}
 use Rattle.kt_protocol.specs.Deciding.{after_deciding_as, after_deciding, after_closing, after_decision, none_of}
 use Rattle.kt_protocol.specs.Joining.{after_began, after_joining_checkpoint, after_joining_rollback, must_take, must_roll}
@@ -54,7 +54,7 @@ at_two false true e f g = absurd (cc (e))
 
 -- from who noted a sender until it closes, no message of that sender is in front of it
 abbrev pub AllQuiet : State → Type 0
-AllQuiet s = (k q p : ℕ) → 0 < k → s.so_far.open_in p ≡ k → s.noted k p q ≡ true → IsQuiet (s.channel q p)
+AllQuiet s = (k q p : ℕ) → 0 < k → s.so_far.open_in p ≡ k → s.noted k p q ≡ true → HasNoMessage (s.channel q p)
 
 pub all_quiet : (n : ℕ) (steps : List ProtocolStep) → AllQuiet (run (opening n) steps)
 all_quiet n steps = λ k q p a b d m rest e. quiet (run (opening n) steps) k p q m rest (all_after_run n steps).noted a d b e

@@ -9,7 +9,7 @@ ghost use Rattle.kt_protocol.specs.Parcels.{App};
 ghost use Rattle.kt_protocol.specs.Summary.{summary};
 ghost use Rattle.kt_protocol.specs.States.{ProtocolStep, Take, opening};
 ghost use Rattle.kt_protocol.specs.Steps.{run};
-ghost use Rattle.kt_protocol.specs.InTransit.{IsQuiet};
+ghost use Rattle.kt_protocol.specs.InTransit.{HasNoMessage};
 ghost use Rattle.kt_protocol.specs.Logs.{HasLinkedDecisions, HasLeastDecisions, AbortsWhereUnwilling, AbortsChangeNothing, JustifiesUnwilling};
 ghost use Rattle.kt_closing.specs.LateClosing.{is_newer};
 ghost use Rattle.kt_closing.specs.LateSteps.{late_run};
@@ -80,7 +80,7 @@ pub fn lists_of_late_runs()
     // From when a process notes a sender until it closes, no message of that sender is in front of it.
     ensures quiet { (n : ℕ) (steps : List ProtocolStep) (k : ℕ) (q : ℕ) (p : ℕ) → 0 < k →
         (late_run (opening n) steps).so_far.open_in p ≡ k → (late_run (opening n) steps).noted k p q ≡ true →
-        IsQuiet ((late_run (opening n) steps).channel q p) }
+        HasNoMessage ((late_run (opening n) steps).channel q p) }
 {}
 
 /// Runs that were worked out by hand leave what they have to, before a closed row and after it, beside the protocol's

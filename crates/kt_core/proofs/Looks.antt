@@ -39,7 +39,7 @@ use Rattle.kt_core.proofs.Quiet.{closed_is}
 use Rattle.kt_core.proofs.Enabled.{few, below, enabled_is}
 use Rattle.kt_core.proofs.Leading.{open_is_next}
 
-takes_is : (t : State) (calls : List Call) (q l : ℕ) → standing.StandsFor t calls → standing.must_take t q l ≡ must_take calls q l
+takes_is : (t : State) (calls : List Call) (q l : ℕ) → standing.TablesStandFor t calls → standing.must_take t q l ≡ must_take calls q l
 unfolding must_take
 takes_is t calls q l s = ap (λ (n : ℕ). nat_lt 0 n && nat_le n l) (s.keeps.first_sent q)
 

@@ -2,7 +2,7 @@
 use Rattle.std.proofs.Common.{◌≡◌, ◌≤◌, ℕ, sym, ◌∙◌, arith}
 use Rattle.kt_core.specs.Agendas.{Agenda, agenda_command, IsDone, IsLeastPhase}
 use Rattle.kt_system.specs.Systems.{Whole}
-use Rattle.kt_system.specs.Reads.{IsQuiet}
+use Rattle.kt_system.specs.Reads.{IsQuietSystem}
 use Rattle.kt_core.specs.Worlds.{SettlesIn}
 
 -- the next commands are told by the plan and the places
@@ -32,7 +32,7 @@ settles_from system old mid new e s = record {
 }
 
 -- the next phase is open, where all is quiet
-pub settles_quiet : (system : Whole) (old new : Agenda) → IsQuiet system → new.plan ≡ old.plan → new.next ≡ old.next
+pub settles_quiet : (system : Whole) (old new : Agenda) → IsQuietSystem system → new.plan ≡ old.plan → new.next ≡ old.next
     → (IsDone old → new.phase ≡ old.phase)
     → ((least : ℕ) → IsLeastPhase old least → least ≤ old.phase → new.phase ≡ old.phase)
     → ((least : ℕ) → IsLeastPhase old least → old.phase ≤ least → new.phase ≡ least) → SettlesIn system old new

@@ -14,7 +14,7 @@ use Rattle.kt_process.specs.declared.side.Side.TheVariants as side
 use Rattle.kt_seen.specs.Seen.{Seen, SeenProcess, SeenLists}
 use Rattle.kt_seen.specs.Transition.{opening_seen, is_seen_ready}
 use Rattle.kt_system.specs.Systems.{Whole, state_of}
-use Rattle.kt_system.specs.Reads.{IsQuiet, next_parcel, can_take}
+use Rattle.kt_system.specs.Reads.{IsQuietSystem, next_parcel, can_take}
 use Rattle.kt_system.specs.Shown.{ShowsState}
 use Rattle.kt_system.proofs.Replying.{ready_seen}
 use Rattle.kt_plans.proofs.PhaseOrder.{none_of_if}
@@ -75,13 +75,13 @@ pair_at : (f g : SeenLists) (p q : ℕ) → f ≡ g → f p q ≡ g p q
 pair_at f g p q e = ap (λ (h : SeenLists). h p q) e
 
 -- where nothing is in transit
-pub quiet_shown : (n : ℕ) (s : Whole) (v : Seen) → ShowsState s v → s.size ≡ n → AreNumbered s → IsQuiet s → is_quiet n v ≡ true
+pub quiet_shown : (n : ℕ) (s : Whole) (v : Seen) → ShowsState s v → s.size ≡ n → AreNumbered s → IsQuietSystem s → is_quiet n v ≡ true
 quiet_shown n s v h e num quiet = none_of_if n (is_busy n v) (λ p l. let low : p < s.size = omega (arith, l, e) in
     quiet_at (v.states p).inst (none_of n (has_any v p)) (sym (closed_is (state_of s p) (v.states p) (h.states p low) (num p low)) ∙ inside (inst_of (state_of s p).side) (quiet.outside p low))
     (none_of_if n (has_any v p) (λ q k. let there : q < s.size = omega (arith, k, e) in
     no_parcel (v.channel q p) (v.held q p) (sym (pair_at (channel s.channels) v.channel q p h.channels) ∙ quiet.channels q p there low) (sym (pair_at (channel s.held) v.held q p h.held) ∙ quiet.held q p there low))))
 
-pub quiet_from : (n : ℕ) (s : Whole) (v : Seen) → ShowsState s v → s.size ≡ n → AreNumbered s → is_quiet n v ≡ true → IsQuiet s
+pub quiet_from : (n : ℕ) (s : Whole) (v : Seen) → ShowsState s v → s.size ≡ n → AreNumbered s → is_quiet n v ≡ true → IsQuietSystem s
 quiet_from n s v h e num quiet = record {
   channels = λ p q l k. pair_at (channel s.channels) v.channel p q h.channels ∙ (empty_lists (v.channel p q) (v.held p q) (lists q p k l)).0;
   held = λ p q l k. pair_at (channel s.held) v.held p q h.held ∙ (empty_lists (v.channel p q) (v.held p q) (lists q p k l)).1;

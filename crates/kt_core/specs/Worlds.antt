@@ -14,7 +14,7 @@ use Rattle.kt_process.specs.ProcessStates.{ProcessState, inst_of}
 use Rattle.kt_process.specs.Turns.{IsFresh}
 use Rattle.kt_spacetime.specs.declared.event.Event.{Event}
 use Rattle.kt_system.specs.Systems.{Whole, state_of, IsSameSystem}
-use Rattle.kt_system.specs.Reads.{can_take, would_save, tally_of, no_tally, IsQuiet, IsNextTake, HasNoTake}
+use Rattle.kt_system.specs.Reads.{can_take, would_save, tally_of, no_tally, IsQuietSystem, IsNextTake, HasNoTake}
 use Rattle.kt_core.specs.Agendas.{Agenda, agenda_place, open_command, IsDone, IsLeastPhase, IsNextOf}
 use Rattle.kt_core.specs.Shown.{IsReached}
 use Rattle.kt_core.specs.declared.faults.StepFault.{StepFault}
@@ -99,7 +99,7 @@ step_refusal w step =
 -- all commands are done, no parcel is in transit, and no process is in an instance
 pub record IsWorldAtRest (w : World) : Type 0 where
   pub done : IsDone w.agenda
-  pub quiet : IsQuiet w.system
+  pub quiet : IsQuietSystem w.system
 
 -- of the processes that can do their next commands, this one's comes first
 pub record IsNextDo (w : World) (p : ℕ) : Type 0 where
@@ -156,10 +156,10 @@ pub record IsOpening (w : World) (plan : Planned) (used limit : ℕ) : Type 0 wh
 -- once all is quiet in a system, and what is done so far leaves nothing of the open phase, the next phase that has commands
 -- is open
 pub record SettlesIn (system : Whole) (old new : Agenda) : Type 0 where
-  pub busy : ¬ IsQuiet system → new.phase ≡ old.phase
+  pub busy : ¬ IsQuietSystem system → new.phase ≡ old.phase
   pub done : IsDone new → new.phase ≡ old.phase
   pub stays : (least : ℕ) → IsLeastPhase new least → least ≤ old.phase → new.phase ≡ old.phase
-  pub opens : (least : ℕ) → IsQuiet system → IsLeastPhase new least → old.phase ≤ least → new.phase ≡ least
+  pub opens : (least : ℕ) → IsQuietSystem system → IsLeastPhase new least → old.phase ≤ least → new.phase ≡ least
 
 -- what a step leaves of the open phase
 abbrev pub Settles : World → World → Type 0

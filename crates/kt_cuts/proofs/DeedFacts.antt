@@ -9,7 +9,7 @@ use Rattle.std.proofs.Math.ListN.{get_or-append}
 use Rattle.kt_cuts.specs.declared.deeds.Deed.{Deed}
 use Rattle.kt_cuts.specs.declared.deeds.Deed.TheVariants as deed
 use Rattle.kt_cuts.specs.Legal.{is_deed, has_deed, is_later}
-use Rattle.kt_cuts.specs.Lists.{sent_in, received_in, last_of, Rises}
+use Rattle.kt_cuts.specs.Lists.{sent_in, received_in, last_of, NumbersRise}
 use Rattle.kt_cuts.proofs.Items.{get_seam}
 use Rattle.kt_cuts.proofs.SortedFacts.{sent_more, received_more, some_same}
 
@@ -75,19 +75,19 @@ received_source q (deed.Sent m to ∷ l) k x e =
 received_source q (deed.Received m f ∷ l) k x e = received_here q m f l (f == q) refl k x e (λ k' h. received_source q l k' x h)
 
 -- rising lists
-pub rises_push : (xs : List ℕ) (m : ℕ) → Rises xs → ((k x : ℕ) → slice_get xs k ≡ Some x → x < m) → Rises (xs ++ m ∷ [])
+pub rises_push : (xs : List ℕ) (m : ℕ) → NumbersRise xs → ((k x : ℕ) → slice_get xs k ≡ Some x → x < m) → NumbersRise (xs ++ m ∷ [])
 rises_push xs m r below = all_pairs_push (λ x y. x < y) xs m r (λ k d l. below k (get_or xs k d) (slice_get-get_or xs k d l))
 
-pub rises_front : (xs ys : List ℕ) → Rises (xs ++ ys) → Rises xs
+pub rises_front : (xs ys : List ℕ) → NumbersRise (xs ++ ys) → NumbersRise xs
 rises_front xs ys r i j d low l =
     let a = get_or-append xs ys d i (omega (arith, low, l)) in
     let b = get_or-append xs ys d j l in
     rw (← a, ← b) (r i j d low (omega (arith, l, length-append xs ys)))
 
-pub sent_rises_take : (n : ℕ) (l : List Deed) → Rises (sent_in l) → Rises (sent_in (take n l))
+pub sent_rises_take : (n : ℕ) (l : List Deed) → NumbersRise (sent_in l) → NumbersRise (sent_in (take n l))
 sent_rises_take n l r = rises_front (sent_in (take n l)) (sent_in (drop n l)) (rw (← sent_more (take n l) (drop n l), take-append-drop n l) r)
 
-pub received_rises_take : (q n : ℕ) (l : List Deed) → Rises (received_in q l) → Rises (received_in q (take n l))
+pub received_rises_take : (q n : ℕ) (l : List Deed) → NumbersRise (received_in q l) → NumbersRise (received_in q (take n l))
 received_rises_take q n l r = rises_front (received_in q (take n l)) (received_in q (drop n l)) (rw (← received_more q (take n l) (drop n l), take-append-drop n l) r)
 
 -- what is later than all deeds is later than each receive

@@ -13,9 +13,9 @@ use Rattle.kt_cuts.specs.declared.deeds.Deed.{Deed}
 use Rattle.kt_cuts.specs.declared.instances.Instance.{Instance}
 use Rattle.kt_cuts.specs.Past.{Past, Beginning, after, at_one, at_pair, kind_of, beginning_of, is_checkpoint, is_rollback, is_committed, is_checkpoint_kind, is_rollback_kind}
 use Rattle.kt_cuts.specs.Legal.{has_begun}
-use Rattle.kt_cuts.specs.Lists.{Rises, received_in}
+use Rattle.kt_cuts.specs.Lists.{NumbersRise, received_in}
 use Rattle.kt_cuts.specs.Tables.{is_committed_decision}
-use Rattle.kt_cuts.specs.Changes.{IsJoined, IsDecided}
+use Rattle.kt_cuts.specs.Changes.{HasOneMore, IsDecided}
 use Rattle.kt_cuts.specs.Standing.{ShowsInstances, at_number, beginning_shown, decision_shown, new_shown, ready_shown, kind_shown, rolled_back_shown}
 use Rattle.kt_cuts.proofs.Items.{get_left, get_seam, get_set_same, item_there}
 use Rattle.kt_cuts.proofs.SortedFacts.{some_same}
@@ -152,14 +152,14 @@ new_other v w q a b c = λ i. if is_checkpoint_kind (Some (a i)) && b i then Som
 ready_other : (v w : Instance) (q : ℕ) → w.kind ≡ v.kind → has w.joined q ≡ has v.joined q → ready_shown (Some w) q ≡ ready_shown (Some v) q
 ready_other v w q a b = λ i. is_rollback_kind (Some (a i)) && b i
 
-joined_decision : (js is : List Instance) (s : Past) (k p position : ℕ) (v w : Instance) → ShowsInstances js s → IsJoined js is k p position v w → (j : ℕ) → decision_shown (at_number is j) ≡ s.decision j
+joined_decision : (js is : List Instance) (s : Past) (k p position : ℕ) (v w : Instance) → ShowsInstances js s → HasOneMore js is k p position v w → (j : ℕ) → decision_shown (at_number is j) ≡ s.decision j
 joined_decision js is s k p position v w h x j = elim (cases_eq j k) [
   | inl e ↦
       ap (λ (n : ℕ). decision_shown (at_number is n)) e ∙ (ap decision_shown x.now ∙ (x.decision ∙ (sym (ap decision_shown x.was) ∙ (h.decision k ∙ ap s.decision (sym e)))))
   | inr n ↦ ap decision_shown (x.others j n) ∙ h.decision j
 ]
 
-joined_positions : (js is : List Instance) (s : Past) (k p position : ℕ) (v w : Instance) → ShowsInstances js s → IsJoined js is k p position v w → (j : ℕ) (u : Instance) → at_number is j ≡ Some u → length u.positions ≡ 64
+joined_positions : (js is : List Instance) (s : Past) (k p position : ℕ) (v w : Instance) → ShowsInstances js s → HasOneMore js is k p position v w → (j : ℕ) (u : Instance) → at_number is j ≡ Some u → length u.positions ≡ 64
 joined_positions js is s k p position v w h x j u e = elim (cases_eq j k) [
   | inl same ↦
       let here : w ≡ u = some_same (sym x.now ∙ (ap (at_number is) (sym same) ∙ e)) in
@@ -170,17 +170,17 @@ joined_positions js is s k p position v w h x j u e = elim (cases_eq j k) [
 joined_place : (v : Instance) (p position : ℕ) → length v.positions ≡ 64 → p < 64 → get_or (set v.positions p position) p 0 ≡ position
 joined_place v p position l low = get_or_from_slice_get _ p position 0 (get_set_same v.positions p position (omega (arith, l, low)))
 
-joined_kind : (js : List Instance) (s : Past) (k : ℕ) (u : Instance) → ShowsInstances js s → is_checkpoint s k ≡ true → (is : List Instance) (p position : ℕ) (w : Instance) → IsJoined js is k p position u w → u.kind ≡ Checkpoint
+joined_kind : (js : List Instance) (s : Past) (k : ℕ) (u : Instance) → ShowsInstances js s → is_checkpoint s k ≡ true → (is : List Instance) (p position : ℕ) (w : Instance) → HasOneMore js is k p position u w → u.kind ≡ Checkpoint
 joined_kind js s k u h checkpoint is p position w x =
     let there = is_checkpoint_there (at_number js k) (ap is_checkpoint_kind (sym (kind_known js s k h)) ∙ checkpoint) in
     ap (λ (y : Instance). y.kind) (some_same (sym x.was ∙ there.1)) ∙ there.2
 
-rolling_kind : (js : List Instance) (s : Past) (k : ℕ) (u : Instance) → ShowsInstances js s → is_rollback s k ≡ true → (is : List Instance) (p position : ℕ) (w : Instance) → IsJoined js is k p position u w → u.kind ≡ Rollback
+rolling_kind : (js : List Instance) (s : Past) (k : ℕ) (u : Instance) → ShowsInstances js s → is_rollback s k ≡ true → (is : List Instance) (p position : ℕ) (w : Instance) → HasOneMore js is k p position u w → u.kind ≡ Rollback
 rolling_kind js s k u h rollback is p position w x =
     let there = is_rollback_there (at_number js k) (ap is_rollback_kind (sym (kind_known js s k h)) ∙ rollback) in
     ap (λ (y : Instance). y.kind) (some_same (sym x.was ∙ there.1)) ∙ there.2
 
-pub took_instances : (js is : List Instance) (s : Past) (p k position : ℕ) (u w : Instance) → ShowsInstances js s → is_checkpoint s k ≡ true → p < 64 → position ≡ length (s.live p) → IsJoined js is k p position u w
+pub took_instances : (js is : List Instance) (s : Past) (p k position : ℕ) (u w : Instance) → ShowsInstances js s → is_checkpoint s k ≡ true → p < 64 → position ≡ length (s.live p) → HasOneMore js is k p position u w
     → ShowsInstances is (after s (event.Took p k))
 took_instances js is s p k position u w h checkpoint low same x = record {
   begun = x.beginnings ∙ h.begun;
@@ -209,7 +209,7 @@ took_instances js is s p k position u w h checkpoint low same x = record {
   positions = joined_positions js is s k p position u w h x;
 }
 
-pub ready_instances : (js is : List Instance) (s : Past) (p k position : ℕ) (u w : Instance) → ShowsInstances js s → is_rollback s k ≡ true → p < 64 → IsJoined js is k p position u w
+pub ready_instances : (js is : List Instance) (s : Past) (p k position : ℕ) (u w : Instance) → ShowsInstances js s → is_rollback s k ≡ true → p < 64 → HasOneMore js is k p position u w
     → ShowsInstances is (after s (event.Ready p k))
 ready_instances js is s p k position u w h rollback low x = record {
   begun = x.beginnings ∙ h.begun;
@@ -261,14 +261,14 @@ decided_instances js is s p k commit v h x = record {
   ];
 }
 
-pub closed_rises : (was : Bool) (p : ℕ) (f : ℕ → List Deed) (q g : ℕ) → ((r x : ℕ) → Rises (received_in x (f r))) → Rises (received_in g (at_one p (if was then [] else f p) f q))
+pub closed_rises : (was : Bool) (p : ℕ) (f : ℕ → List Deed) (q g : ℕ) → ((r x : ℕ) → NumbersRise (received_in x (f r))) → NumbersRise (received_in g (at_one p (if was then [] else f p) f q))
 closed_rises was p f q g all = elim (cases_eq q p) [
   | inl e ↦
-      subst (λ (l : List Deed). Rises (received_in g l)) (sym (ap (at_one p (if was then [] else f p) f) e ∙ at_same p (if was then [] else f p) f)) (forgotten was)
-  | inr n ↦ subst (λ (l : List Deed). Rises (received_in g l)) (sym (at_other p q (if was then [] else f p) f n)) (all q g)
+      subst (λ (l : List Deed). NumbersRise (received_in g l)) (sym (ap (at_one p (if was then [] else f p) f) e ∙ at_same p (if was then [] else f p) f)) (forgotten was)
+  | inr n ↦ subst (λ (l : List Deed). NumbersRise (received_in g l)) (sym (at_other p q (if was then [] else f p) f n)) (all q g)
 ]
   where
-    forgotten : (y : Bool) → Rises (received_in g (if y then [] else f p))
+    forgotten : (y : Bool) → NumbersRise (received_in g (if y then [] else f p))
     forgotten true = λ i j d l m. absurd (omega (arith, m))
     forgotten false = all p g
 

@@ -8,7 +8,7 @@ use Rattle.std.proofs.lemmas.Option.{slice_get_within, slice_get-get_or, get_or_
 use Rattle.kt_cuts.specs.declared.deeds.Deed.{Deed}
 use Rattle.kt_cuts.specs.declared.deeds.Deed.TheVariants as deed
 use Rattle.kt_cuts.specs.Legal.{is_later}
-use Rattle.kt_cuts.specs.Lists.{received_in, last_of, Rises}
+use Rattle.kt_cuts.specs.Lists.{received_in, last_of, NumbersRise}
 use Rattle.kt_cuts.specs.Tests.{is_after}
 use Rattle.kt_cuts.proofs.SortedFacts.{some_same}
 use Rattle.kt_cuts.proofs.DeedFacts.{later_than, received_source}
@@ -44,7 +44,7 @@ received_place q (deed.Received n f ∷ l) (suc i) x e =
     later_received q n f l x k e true is = (suc k, rw is e)
     later_received q n f l x k e false is = (k, rw is e)
 
-last_greatest : (xs : List ℕ) (k x y : ℕ) → Rises xs → slice_get xs k ≡ Some x → last_of xs ≡ Some y → x ≤ y
+last_greatest : (xs : List ℕ) (k x y : ℕ) → NumbersRise xs → slice_get xs k ≡ Some x → last_of xs ≡ Some y → x ≤ y
 last_greatest xs k x y r e l =
     let low = slice_get_within xs k x e in
     let a = get_or_from_slice_get xs k x 0 e in
@@ -68,7 +68,7 @@ above_test : (y m : ℕ) → m ≤ y → false ≡ nat_lt y m
 above_test y m l = grind (arith, nat_tests, l)
 
 -- later than all deeds is after the last
-pub later_is_after : (q m : ℕ) (l : List Deed) → Rises (received_in q l) → list_all (is_later q m) l ≡ is_after m (last_of (received_in q l))
+pub later_is_after : (q m : ℕ) (l : List Deed) → NumbersRise (received_in q l) → list_all (is_later q m) l ≡ is_after m (last_of (received_in q l))
 later_is_after q m l r = go (list_all (is_later q m) l) refl (last_of (received_in q l)) refl
   where
     go : (b : Bool) → list_all (is_later q m) l ≡ b → (o : Option ℕ) → last_of (received_in q l) ≡ o → list_all (is_later q m) l ≡ is_after m (last_of (received_in q l))

@@ -5,7 +5,7 @@ use Rattle.std.proofs.lemmas.Option.{slice_get_read}
 use Rattle.std.proofs.lemmas.List.{length-set}
 use Rattle.kt_base.specs.Sets.{has}
 use Rattle.kt_cuts.specs.declared.instances.Instance.{Instance}
-use Rattle.kt_cuts.specs.Changes.{IsJoined, IsDecided}
+use Rattle.kt_cuts.specs.Changes.{HasOneMore, IsDecided}
 use Rattle.kt_cuts.specs.Standing.{at_number, beginning_shown}
 use Rattle.kt_cuts.proofs.Items.{set_mapped, get_set_same, get_set_other}
 use Rattle.kt_cuts.proofs.SortedFacts.{some_same}
@@ -31,7 +31,7 @@ same_item xs i k u v e l b r a = some_same (sym (slice_get_read xs (length xs) i
 
 pub is_joined : (js : List Instance) (i k p position : ℕ) (u v w : Instance) → i ≡ k - 1 → 1 ≤ k → i < length js → u ≡ get_or js i u → at_number js k ≡ Some v
     → w.initiator ≡ u.initiator → w.kind ≡ u.kind → w.decision ≡ u.decision → has w.joined p ≡ true → ((q : ℕ) → q ≢ p → has w.joined q ≡ has u.joined q) → w.positions ≡ set u.positions p position
-    → IsJoined js (set js i w) k p position v w
+    → HasOneMore js (set js i w) k p position v w
 is_joined js i k p position u v w e l b r a initiator of_kind decision joined others positions =
     let same : u ≡ v = same_item js i k u v e l b r a in
     record {

@@ -11,14 +11,14 @@ use Rattle.kt_cuts.specs.declared.deeds.Deed.TheVariants as deed
 use Rattle.kt_cuts.specs.Past.{Past}
 use Rattle.kt_cuts.specs.Legal.{has_deed}
 use Rattle.kt_cuts.specs.Cuts.{part, is_unsent, unsent_receives, IsOrphan}
-use Rattle.kt_cuts.specs.Lists.{sent_in, Rises}
+use Rattle.kt_cuts.specs.Lists.{sent_in, NumbersRise}
 use Rattle.kt_cuts.specs.Orphans.{IsOrphanBetween, IsAtMost, earlier}
 use Rattle.kt_cuts.proofs.Items.{get_take, in_take}
 use Rattle.kt_cuts.proofs.SortedFacts.{some_same}
 use Rattle.kt_cuts.proofs.Consistency.{filter_keeps}
 
 -- rising lists, one after the other
-pub rises_across : (xs ys : List ℕ) (k j a b : ℕ) → Rises (xs ++ ys) → slice_get xs k ≡ Some a → slice_get ys j ≡ Some b → a < b
+pub rises_across : (xs ys : List ℕ) (k j a b : ℕ) → NumbersRise (xs ++ ys) → slice_get xs k ≡ Some a → slice_get ys j ≡ Some b → a < b
 rises_across xs ys k j a b r e f =
     let low = slice_get_within xs k a e in
     let low_b = slice_get_within ys j b f in

@@ -5,7 +5,7 @@ use Rattle.kt_cuts.specs.declared.instances.Instance.{Instance}
 use Rattle.kt_cuts.specs.Standing.{at_number, beginning_shown}
 
 -- an instance's tables with one more member
-pub record IsJoined (js is : List Instance) (k p : ℕ) (position : ℕ) (v w : Instance) : Type 0 where
+pub record HasOneMore (js is : List Instance) (k p : ℕ) (position : ℕ) (v w : Instance) : Type 0 where
   pub was : at_number js k ≡ Some v
   pub now : at_number is k ≡ Some w
   pub others : (j : ℕ) → j ≢ k → at_number is j ≡ at_number js j

@@ -27,5 +27,5 @@ abbrev pub last_of : List ℕ → Option ℕ
 last_of xs = slice_get xs (length xs - 1)
 
 -- a list whose numbers rise
-abbrev pub Rises : List ℕ → Type 0
-Rises xs = AllPairs (λ x y. x < y) xs
+abbrev pub NumbersRise : List ℕ → Type 0
+NumbersRise xs = AllPairs (λ x y. x < y) xs

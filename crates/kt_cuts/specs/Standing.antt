@@ -8,7 +8,7 @@ use Rattle.kt_cuts.specs.declared.instances.Instance.{Instance}
 use Rattle.kt_cuts.specs.Past.{Past, Beginning, is_checkpoint_kind, is_rollback_kind}
 use Rattle.kt_cuts.specs.Legal.{broken_rule}
 use Rattle.kt_cuts.specs.Tables.{is_committed_decision}
-use Rattle.kt_cuts.specs.Lists.{Rises, sent_in, received_in}
+use Rattle.kt_cuts.specs.Lists.{NumbersRise, sent_in, received_in}
 
 -- the item of a number; numbers begin at 1
 abbrev pub at_number : {X : Type 0} → List X → ℕ → Option X
@@ -48,9 +48,9 @@ pub record ShowsInstances (instances : List Instance) (s : Past) : Type 0 where
 
 -- the messages of a history rise in their order
 pub record IsInOrder (s : Past) : Type 0 where
-  pub sent : (p : ℕ) → Rises (sent_in (s.live p))
-  pub received : (p q : ℕ) → Rises (received_in q (s.live p))
-  pub dropped : (p q : ℕ) → Rises (received_in q (s.dropped_since p))
+  pub sent : (p : ℕ) → NumbersRise (sent_in (s.live p))
+  pub received : (p q : ℕ) → NumbersRise (received_in q (s.live p))
+  pub dropped : (p q : ℕ) → NumbersRise (received_in q (s.dropped_since p))
 
 abbrev pub beginning_of_row : Option Event → Option (ℕ × ℕ)
 beginning_of_row (Some (Began p k kind)) = Some (p, k)

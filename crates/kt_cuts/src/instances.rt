@@ -21,7 +21,7 @@ pub struct Instance {
 }
 
 ghost use Rattle.kt_cuts.specs.declared.instances.Instance.{Instance};
-ghost use Rattle.kt_cuts.specs.Changes.{IsJoined, IsDecided};
+ghost use Rattle.kt_cuts.specs.Changes.{HasOneMore, IsDecided};
 ghost use Rattle.kt_cuts.specs.Standing.{at_number};
 
 impl Instance {
@@ -74,7 +74,7 @@ impl Instance {
 /// number, from 1.
 pub fn join(instances: &mut [Instance], inst: InstNo, p: ProcNo, position: usize)
     ensures { (v : Instance) → at_number instances.old inst ≡ Some v → (w : Instance)
-        × IsJoined instances.old instances.new inst p position v w }
+        × HasOneMore instances.old instances.new inst p position v w }
 {
     let index = inst.get() as usize - 1;
     if index < instances.len() {

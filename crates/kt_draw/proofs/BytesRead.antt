@@ -5,7 +5,7 @@ use Rattle.kt_spacetime.specs.declared.event.Event.{Event}
 use Rattle.kt_log_text.specs.declared.fault.LogFault.{LogFault}
 use Rattle.kt_log_text.specs.declared.fault.LogFault.TheVariants.{Read, TooLong, Version, Fields, Word, Number, Memory}
 use Rattle.kt_log_text.specs.Reading.{rows_unread}
-use Rattle.kt_log_text.specs.Texts.{IsFirstFault}
+use Rattle.kt_log_text.specs.Texts.{IsFirstLogFault}
 use Rattle.kt_checker.specs.Streamed.{SaysRows}
 use Rattle.kt_draw.specs.declared.fault.DrawFault.{DrawFault}
 use Rattle.kt_draw.specs.declared.fault.DrawFault.TheVariants as draw
@@ -18,7 +18,7 @@ mapped f None P h = tt
 mapped f (Some x) P h = h
 
 -- the first fault of the text
-of_text : (span : Span) (bytes : Option (List ℕ)) (fault : LogFault) → IfSome (rows_unread bytes).left (λ text. IsFirstFault text fault) → IsNoPictureOf span bytes (draw.Log fault)
+of_text : (span : Span) (bytes : Option (List ℕ)) (fault : LogFault) → IfSome (rows_unread bytes).left (λ text. IsFirstLogFault text fault) → IsNoPictureOf span bytes (draw.Log fault)
 of_text span bytes Memory h = tt
 of_text span bytes Read h = h
 of_text span bytes TooLong h = h
@@ -27,7 +27,7 @@ of_text span bytes (Fields n) h = h
 of_text span bytes (Word n) h = h
 of_text span bytes (Number n) h = h
 
-pub text_refused : (span : Span) (bytes : Option (List ℕ)) (fault : LogFault) (e : DrawFault) → e ≡ draw.Log fault → IfSome (rows_unread bytes).left (λ text. IsFirstFault text fault) → IsNoPictureOf span bytes e
+pub text_refused : (span : Span) (bytes : Option (List ℕ)) (fault : LogFault) (e : DrawFault) → e ≡ draw.Log fault → IfSome (rows_unread bytes).left (λ text. IsFirstLogFault text fault) → IsNoPictureOf span bytes e
 text_refused span bytes fault e is h = subst (IsNoPictureOf span bytes) (sym is) (of_text span bytes fault h)
 
 -- a fault of the rows

@@ -4,10 +4,10 @@ use Rattle.kt_spacetime.specs.declared.event.Event.{Event}
 use Rattle.kt_cuts.specs.Legal.{IsLegal, first_broken}
 use Rattle.kt_log_text.specs.declared.fault.LogFault.TheVariants as log
 use Rattle.kt_log_text.specs.Reading.{rows_unread}
-use Rattle.kt_log_text.specs.Texts.{IsFirstFault}
+use Rattle.kt_log_text.specs.Texts.{IsFirstLogFault}
 use Rattle.kt_chain.specs.declared.certificate.Certificate.{Certificate}
 use Rattle.kt_checker.specs.declared.verdict.Verdict.{Verdict}
-use Rattle.kt_checker.specs.Order.{IsAnswer}
+use Rattle.kt_checker.specs.Order.{IsCheckerAnswer}
 use Rattle.kt_checker.specs.Streamed.{SaysRows}
 use Rattle.kt_checker.specs.Words.{verdict_words}
 use Rattle.kt_explain.specs.declared.explanation.Explanation.{Explanation}
@@ -114,16 +114,16 @@ orphan_told (Orphan inst orphan) = Some orphan.msg
 orphan_told _ = None
 
 -- an orphan is the one that is told of the checker's answer to a log and certificates
-abbrev pub IsOrphanTold : List Event → List Certificate → Verdict → Option ℕ → Type 0
-IsOrphanTold log certificates verdict orphan = (told : Explanation) × IsExplanation log certificates verdict told × (orphan ≡ orphan_told told)
+abbrev pub IsOrphanDrawn : List Event → List Certificate → Verdict → Option ℕ → Type 0
+IsOrphanDrawn log certificates verdict orphan = (told : Explanation) × IsExplanation log certificates verdict told × (orphan ≡ orphan_told told)
 
 -- the same with certificates: their chains are drawn, the least orphan stands out where the checker's answer is that there
 -- is one, and below stands that answer
 pub record IsCertifiedPicture (names : List (List ℕ)) (span : Span) (log : List Event) (certificates : List Certificate) (text : List ℕ) : Type 0 where
   pub verdict : Verdict
-  pub answer : IsAnswer log certificates verdict
+  pub answer : IsCheckerAnswer log certificates verdict
   pub orphan : Option ℕ
-  pub told : IsOrphanTold log certificates verdict orphan
+  pub told : IsOrphanDrawn log certificates verdict orphan
   pub drawn : IsDrawn names span log certificates orphan (Some (verdict_words verdict)) text
 
 -- why a log has no such picture
@@ -146,7 +146,7 @@ IsPictureOf names span bytes text = (read : List Event) × SaysRows bytes read �
 -- said of want of memory
 abbrev pub IsNoPictureOf : Span → Option (List ℕ) → DrawFault → Type 0
 IsNoPictureOf span bytes (draw.Log log.Memory) = Unit {0}
-IsNoPictureOf span bytes (draw.Log fault) = IfSome (rows_unread bytes).left (λ text. IsFirstFault text fault)
+IsNoPictureOf span bytes (draw.Log fault) = IfSome (rows_unread bytes).left (λ text. IsFirstLogFault text fault)
 IsNoPictureOf span bytes (draw.Picture why) = (read : List Event) × SaysRows bytes read × IsNoPicture span read why
 
 -- the words of a fault of a picture

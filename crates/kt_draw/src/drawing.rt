@@ -5,15 +5,15 @@ ghost use Rattle.std.specs.Option.{option_copied};
 ghost use Rattle.kt_cuts.specs.declared.legality.LegalFault.TheVariants as legality;
 ghost use Rattle.kt_cuts.specs.declared.rules.Rule.{Rule as Rules};
 ghost use Rattle.kt_cuts.specs.Legal.{IsLegal, first_broken};
-ghost use Rattle.kt_checker.specs.Order.{IsAnswer};
+ghost use Rattle.kt_checker.specs.Order.{IsCheckerAnswer};
 ghost use Rattle.kt_checker.specs.Streamed.{SaysRows};
 ghost use Rattle.kt_checker.specs.Words.{verdict_words};
 ghost use Rattle.kt_log_text.specs.declared.fault.LogFault.{LogFault as LogFaults};
 ghost use Rattle.kt_log_text.specs.declared.fault.LogFault.TheVariants as log_fault;
 ghost use Rattle.kt_log_text.specs.Reading.{rows_unread};
-ghost use Rattle.kt_log_text.specs.Texts.{IsFirstFault};
+ghost use Rattle.kt_log_text.specs.Texts.{IsFirstLogFault};
 ghost use Rattle.kt_draw.specs.declared.fault.DrawFault.TheVariants as draw;
-ghost use Rattle.kt_draw.specs.Drawn.{IsCertifiedPicture, IsDrawn, IsNoPictureOf, IsOrphanTold, IsPicture, IsPictureOf, IsPictureTo, IsReadTo, IsUndrawnLog, breach_drawn, drawn_text, orphan_told, rows_drawn, rows_seen};
+ghost use Rattle.kt_draw.specs.Drawn.{IsCertifiedPicture, IsDrawn, IsNoPictureOf, IsOrphanDrawn, IsPicture, IsPictureOf, IsPictureTo, IsReadTo, IsUndrawnLog, breach_drawn, drawn_text, orphan_told, rows_drawn, rows_seen};
 
 use crate::fault::DrawFault;
 use crate::span::{Span, Window, window_of};
@@ -56,7 +56,7 @@ pub fn draw_stream<L: Read + Drop>(
 fn read_log<L: Read + Drop>(alloc: Global, reader: L) -> Result<SpaceTime, DrawFault>
     ensures read { IfOk result (λ log. SaysRows (L.remaining reader) log.rows) }
     ensures fault { IfErr result (λ e. (f : LogFaults) × (e ≡ draw.Log f)
-        × IfSome (rows_unread (L.remaining reader)).left (λ text. IsFirstFault text f)) }
+        × IfSome (rows_unread (L.remaining reader)).left (λ text. IsFirstLogFault text f)) }
 {
     match read_csv(alloc, reader) {
         Ok(log) => Ok(log),
@@ -96,8 +96,8 @@ fn orphan_in(
     certificates: &[Certificate],
     verdict: &Verdict,
 ) -> Result<Option<MsgNo>, Memory>
-    requires { IsAnswer log.now.rows certificates.now verdict.now }
-    ensures { IfOk result (IsOrphanTold log.now.rows certificates.now verdict.now) }
+    requires { IsCheckerAnswer log.now.rows certificates.now verdict.now }
+    ensures { IfOk result (IsOrphanDrawn log.now.rows certificates.now verdict.now) }
 {
     match explain(alloc, log, certificates, verdict) {
         Ok(told) => Ok(orphan_told(&told)),

@@ -11,7 +11,7 @@ use Rattle.kt_cuts.proofs.SortedFacts.{some_same}
 use Rattle.kt_chain.specs.declared.certificate.Certificate.{Certificate}
 use Rattle.kt_checker.specs.declared.verdict.Verdict.TheVariants.{No}
 use Rattle.kt_checker.specs.declared.verdict.Why.TheVariants as why
-use Rattle.kt_checker.specs.Order.{IsAnswer}
+use Rattle.kt_checker.specs.Order.{IsCheckerAnswer}
 use Rattle.kt_checker.specs.Passing.{HasLists, IsChain, IsListOf}
 use Rattle.kt_checker.proofs.Chaining.{chain_more}
 use Rattle.kt_checker.proofs.Sound.{within}
@@ -28,7 +28,7 @@ pub record ChainFault (rows : List Event) (certificates : List Certificate) (k r
   pub first : IsItsFirst certificates k certificate
   pub unlisted : (c : Certificate) → IsItsFirst certificates k c → HasLists (past (take place rows)) c → ⊥
 
-pub chain_fault : (rows : List Event) (certificates : List Certificate) (k r : ℕ) → IsAnswer rows certificates (No (Some k) (Some r) why.Chain) → ChainFault rows certificates k r
+pub chain_fault : (rows : List Event) (certificates : List Certificate) (k r : ℕ) → IsCheckerAnswer rows certificates (No (Some k) (Some r) why.Chain) → ChainFault rows certificates k r
 chain_fault rows certificates k r answer =
     let h = certificate_fault rows certificates k (Some r) why.Chain (λ e. cc) (λ e. cc) answer in
     record {
@@ -42,7 +42,7 @@ chain_fault rows certificates k r answer =
     }
 
 -- it comes with a row
-pub chain_row : (rows : List Event) (certificates : List Certificate) (k : ℕ) → IsAnswer rows certificates (No (Some k) None why.Chain) → ⊥
+pub chain_row : (rows : List Event) (certificates : List Certificate) (k : ℕ) → IsCheckerAnswer rows certificates (No (Some k) None why.Chain) → ⊥
 chain_row rows certificates k a =
     let h = certificate_fault rows certificates k None why.Chain (λ e. cc) (λ e. cc) a in
     none_some (h.place + 1) h.row_is

@@ -12,7 +12,7 @@ use Rattle.kt_cuts.specs.declared.deeds.Deed.TheVariants as deed
 use Rattle.kt_cuts.specs.declared.traces.Trace.{Trace}
 use Rattle.kt_cuts.specs.Past.{Past, past, after, is_rollback, is_committed}
 use Rattle.kt_cuts.specs.Legal.{IsLegal, broken_rule, has_deed, is_later}
-use Rattle.kt_cuts.specs.Lists.{last_of, received_in, Rises}
+use Rattle.kt_cuts.specs.Lists.{last_of, received_in, NumbersRise}
 use Rattle.kt_cuts.specs.Messages.{IsMessage}
 use Rattle.kt_cuts.specs.Tests.{is_after}
 use Rattle.kt_cuts.specs.Traces.{trace_of}
@@ -154,7 +154,7 @@ pub not_after_some : (m n : ℕ) → is_after m (Some n) ≡ false → m ≤ n
 not_after_some m n e = grind (arith, nat_tests, e)
 
 -- the last message from a sender, where they rise, is the latest
-pub latest_by_last : (from n : ℕ) (deeds : List Deed) → Rises (received_in from deeds) → last_of (received_in from deeds) ≡ Some n → IsLatestFrom from deeds n
+pub latest_by_last : (from n : ℕ) (deeds : List Deed) → NumbersRise (received_in from deeds) → last_of (received_in from deeds) ≡ Some n → IsLatestFrom from deeds n
 latest_by_last from n deeds rises last =
     let at = received_source from deeds (length (received_in from deeds) - 1) n last in
     record {

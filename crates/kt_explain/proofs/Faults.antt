@@ -19,7 +19,7 @@ use Rattle.kt_checker.specs.declared.verdict.Why.{Why}
 use Rattle.kt_checker.specs.declared.verdict.Why.TheVariants as why
 use Rattle.kt_checker.specs.Unwilling.{has_unwilling}
 use Rattle.kt_checker.specs.Passing.{IsAsInLog, IsSecond, decided_cut}
-use Rattle.kt_checker.specs.Order.{IsAnswer, IsBadLog, IsWrong}
+use Rattle.kt_checker.specs.Order.{IsCheckerAnswer, IsBadLog, IsFirstWhy}
 use Rattle.kt_explain.specs.Told.{IsItsFirst, IsNoOf, listed_in}
 use Rattle.std.proofs.lemmas.Bool.{cases_order}
 use Rattle.kt_checker.proofs.Sound.{within}
@@ -135,7 +135,7 @@ first_of_no rows row rule bad =
     rule_same e = cc
 
 -- a no without an instance is one to the log
-pub bad_without_instance : (rows : List Event) (certificates : List Certificate) (row : Option ℕ) (reason : Why) → IsAnswer rows certificates (No None row reason) → IsBadLog rows (No None row reason)
+pub bad_without_instance : (rows : List Event) (certificates : List Certificate) (row : Option ℕ) (reason : Why) → IsCheckerAnswer rows certificates (No None row reason) → IsBadLog rows (No None row reason)
 bad_without_instance rows certificates row reason a = elim a [
   | inl passed ↦ absurd (none_some reason (sym (ap reason_told passed.0)))
   | inr fault ↦ elim fault [
@@ -159,9 +159,9 @@ pub record CertificateFault (rows : List Event) (certificates : List Certificate
   pub first : IsItsFirst certificates k certificate
   pub of_instance : k ≡ certificate.inst
   pub in_log : IsAsInLog rows certificate place
-  pub wrong : IsWrong (past (take place rows)) (members rows certificate.inst) (has_unwilling rows certificate.inst) certificate reason
+  pub wrong : IsFirstWhy (past (take place rows)) (members rows certificate.inst) (has_unwilling rows certificate.inst) certificate reason
 
-pub certificate_fault : (rows : List Event) (certificates : List Certificate) (k : ℕ) (row : Option ℕ) (reason : Why) → (reason ≡ why.Unknown → ⊥) → (reason ≡ why.Missing → ⊥) → IsAnswer rows certificates (No (Some k) row reason) → CertificateFault rows certificates k row reason
+pub certificate_fault : (rows : List Event) (certificates : List Certificate) (k : ℕ) (row : Option ℕ) (reason : Why) → (reason ≡ why.Unknown → ⊥) → (reason ≡ why.Missing → ⊥) → IsCheckerAnswer rows certificates (No (Some k) row reason) → CertificateFault rows certificates k row reason
 certificate_fault rows certificates k row reason known certified a = elim a [
   | inl passed ↦ absurd (none_some reason (sym (ap reason_told passed.0)))
   | inr fault ↦ elim fault [
@@ -179,7 +179,7 @@ certificate_fault rows certificates k row reason known certified a = elim a [
               first = (refused.0, refused.2, sym inst, wrong.4);
               of_instance = inst;
               in_log = wrong.3;
-              wrong = subst (IsWrong (past (take wrong.0 rows)) (members rows refused.1.inst) (has_unwilling rows refused.1.inst) refused.1) (sym (some_same (ap reason_told wrong.2))) wrong.5;
+              wrong = subst (IsFirstWhy (past (take wrong.0 rows)) (members rows refused.1.inst) (has_unwilling rows refused.1.inst) refused.1) (sym (some_same (ap reason_told wrong.2))) wrong.5;
             }
       ]
       | inr missing ↦ absurd (certified (some_same (ap reason_told missing.5)))
@@ -188,11 +188,11 @@ certificate_fault rows certificates k row reason known certified a = elim a [
 ]
 
 -- no answer to an instance is that the log is not legal
-pub log_not_instance : (rows : List Event) (certificates : List Certificate) (k : ℕ) (row : Option ℕ) (rule : Rule) → IsAnswer rows certificates (No (Some k) row (why.BadLog rule)) → ⊥
+pub log_not_instance : (rows : List Event) (certificates : List Certificate) (k : ℕ) (row : Option ℕ) (rule : Rule) → IsCheckerAnswer rows certificates (No (Some k) row (why.BadLog rule)) → ⊥
 log_not_instance rows certificates k row rule a = (certificate_fault rows certificates k row (why.BadLog rule) (λ e. cc) (λ e. cc) a).wrong
 
 -- that a certificate is missing comes with a row
-pub missing_row : (rows : List Event) (certificates : List Certificate) (k : ℕ) → IsAnswer rows certificates (No (Some k) None why.Missing) → ⊥
+pub missing_row : (rows : List Event) (certificates : List Certificate) (k : ℕ) → IsCheckerAnswer rows certificates (No (Some k) None why.Missing) → ⊥
 missing_row rows certificates k a = elim a [
   | inl passed ↦ none_some why.Missing (sym (ap reason_told passed.0))
   | inr fault ↦ elim fault [
@@ -220,22 +220,22 @@ one_first certificates k a b g h = elim (cases_order g.0 h.0) [
 ]
 
 -- the list that is not an instance's members
-pub members_fault : (rows : List Event) (certificates : List Certificate) (k : ℕ) (row : Option ℕ) → IsAnswer rows certificates (No (Some k) row why.Members) → (c : Certificate) × IsItsFirst certificates k c × (listed_in c ≡ members rows k → ⊥)
+pub members_fault : (rows : List Event) (certificates : List Certificate) (k : ℕ) (row : Option ℕ) → IsCheckerAnswer rows certificates (No (Some k) row why.Members) → (c : Certificate) × IsItsFirst certificates k c × (listed_in c ≡ members rows k → ⊥)
 members_fault rows certificates k row a =
     let h = certificate_fault rows certificates k row why.Members (λ e. cc) (λ e. cc) a in
     (h.certificate, h.first, λ same. h.wrong.2 (same ∙ ap (members rows) h.of_instance))
 
-as_no : (rows : List Event) (certificates : List Certificate) (k : ℕ) (v : Verdict) (is : IsNoOf v k why.Members) → IsAnswer rows certificates v → IsAnswer rows certificates (No (Some k) is.0 why.Members)
-as_no rows certificates k v is a = subst (IsAnswer rows certificates) is.1 a
+as_no : (rows : List Event) (certificates : List Certificate) (k : ℕ) (v : Verdict) (is : IsNoOf v k why.Members) → IsCheckerAnswer rows certificates v → IsCheckerAnswer rows certificates (No (Some k) is.0 why.Members)
+as_no rows certificates k v is a = subst (IsCheckerAnswer rows certificates) is.1 a
 
 -- the first certificate of an instance does not list its members, where that is the reason
-pub unlike_first : (rows : List Event) (certificates : List Certificate) (k : ℕ) (v : Verdict) (c : Certificate) → IsNoOf v k why.Members → IsAnswer rows certificates v → IsItsFirst certificates k c → listed_in c ≡ members rows k → ⊥
+pub unlike_first : (rows : List Event) (certificates : List Certificate) (k : ℕ) (v : Verdict) (c : Certificate) → IsNoOf v k why.Members → IsCheckerAnswer rows certificates v → IsItsFirst certificates k c → listed_in c ≡ members rows k → ⊥
 unlike_first rows certificates k v c is a first same =
     let h = members_fault rows certificates k is.0 (as_no rows certificates k v is a) in
     h.2 (ap listed_in (one_first certificates k h.0 c h.1 first) ∙ same)
 
 -- the instance has a certificate then
-pub members_first : (rows : List Event) (certificates : List Certificate) (k : ℕ) (v : Verdict) → IsNoOf v k why.Members → IsAnswer rows certificates v → ((c : Certificate) → IsItsFirst certificates k c → ⊥) → ⊥
+pub members_first : (rows : List Event) (certificates : List Certificate) (k : ℕ) (v : Verdict) → IsNoOf v k why.Members → IsCheckerAnswer rows certificates v → ((c : Certificate) → IsItsFirst certificates k c → ⊥) → ⊥
 members_first rows certificates k v is a none =
     let h = members_fault rows certificates k is.0 (as_no rows certificates k v is a) in
     none h.0 h.1
@@ -248,7 +248,7 @@ pub record Before (rows : List Event) (c : Certificate) (k r : ℕ) : Type 0 whe
   pub upto : place ≤ length rows
   pub kind : kind_of (past (take place rows)) k ≡ Some c.kind
 
-pub before : (rows : List Event) (certificates : List Certificate) (k r : ℕ) (c : Certificate) → IsAnswer rows certificates (No (Some k) (Some r) why.Orphan) → IsItsFirst certificates k c → Before rows c k r
+pub before : (rows : List Event) (certificates : List Certificate) (k r : ℕ) (c : Certificate) → IsCheckerAnswer rows certificates (No (Some k) (Some r) why.Orphan) → IsItsFirst certificates k c → Before rows c k r
 before rows certificates k r c answer first =
     let h = certificate_fault rows certificates k (Some r) why.Orphan (λ e. cc) (λ e. cc) answer in
     let same : h.certificate ≡ c = one_first certificates k h.certificate c h.first first in
@@ -261,7 +261,7 @@ before rows certificates k r c answer first =
     }
 
 -- that there is an orphan comes with a row
-pub orphan_row : (rows : List Event) (certificates : List Certificate) (k : ℕ) → IsAnswer rows certificates (No (Some k) None why.Orphan) → ⊥
+pub orphan_row : (rows : List Event) (certificates : List Certificate) (k : ℕ) → IsCheckerAnswer rows certificates (No (Some k) None why.Orphan) → ⊥
 orphan_row rows certificates k a =
     let h = certificate_fault rows certificates k None why.Orphan (λ e. cc) (λ e. cc) a in
     none_some (h.place + 1) h.row_is
@@ -274,7 +274,7 @@ pub record OrphanFault (rows : List Event) (certificates : List Certificate) (k 
   pub first : IsItsFirst certificates k certificate
   pub orphaned : IsConsistent (past (take place rows)) (decided_cut (past (take place rows)) k certificate.kind) → ⊥
 
-pub orphan_fault : (rows : List Event) (certificates : List Certificate) (k r : ℕ) → IsAnswer rows certificates (No (Some k) (Some r) why.Orphan) → OrphanFault rows certificates k r
+pub orphan_fault : (rows : List Event) (certificates : List Certificate) (k r : ℕ) → IsCheckerAnswer rows certificates (No (Some k) (Some r) why.Orphan) → OrphanFault rows certificates k r
 orphan_fault rows certificates k r a =
     let h = certificate_fault rows certificates k (Some r) why.Orphan (λ e. cc) (λ e. cc) a in
     record {
@@ -286,7 +286,7 @@ orphan_fault rows certificates k r a =
     }
 
 -- the first certificate of an instance that is answered by an orphan has not a kind of which the cut is consistent
-pub not_consistent : (rows : List Event) (certificates : List Certificate) (k r n : ℕ) (kind : Kind) → IsAnswer rows certificates (No (Some k) (Some r) why.Orphan) → r ≡ n + 1 → (c : Certificate) × IsItsFirst certificates k c × (c.kind ≡ kind) → IsConsistent (past (take n rows)) (decided_cut (past (take n rows)) k kind) → ⊥
+pub not_consistent : (rows : List Event) (certificates : List Certificate) (k r n : ℕ) (kind : Kind) → IsCheckerAnswer rows certificates (No (Some k) (Some r) why.Orphan) → r ≡ n + 1 → (c : Certificate) × IsItsFirst certificates k c × (c.kind ≡ kind) → IsConsistent (past (take n rows)) (decided_cut (past (take n rows)) k kind) → ⊥
 not_consistent rows certificates k r n kind a number first consistent =
     let h = orphan_fault rows certificates k r a in
     let same : n ≡ h.place = omega (arith, number, h.row_is) in
@@ -295,7 +295,7 @@ not_consistent rows certificates k r n kind a number first consistent =
     (subst (λ (m : ℕ). IsConsistent (past (take m rows)) (decided_cut (past (take m rows)) k kind)) same consistent))
 
 -- the certificate that is unknown
-pub unknown_fault : (rows : List Event) (certificates : List Certificate) (k : ℕ) (row : Option ℕ) → IsAnswer rows certificates (No (Some k) row why.Unknown)
+pub unknown_fault : (rows : List Event) (certificates : List Certificate) (k : ℕ) (row : Option ℕ) → IsCheckerAnswer rows certificates (No (Some k) row why.Unknown)
     → IsLegal rows × (i : ℕ) × (c : Certificate) × (slice_get certificates i ≡ Some c) × (c.inst ≡ k) × ((n : ℕ) → IsAsInLog rows c n → (IsSecond certificates i c → ⊥) → ⊥)
 unknown_fault rows certificates k row a = elim a [
   | inl passed ↦ absurd (none_some why.Unknown (sym (ap reason_told passed.0)))
@@ -304,7 +304,7 @@ unknown_fault rows certificates k row a = elim a [
     | inr legal ↦ elim legal.1 [
       | inl refused ↦ elim refused.4 [
         | inl unknown ↦ (legal.0, refused.0, refused.1, refused.2, sym (some_same (ap instance_told unknown.0)), unknown.1)
-        | inr wrong ↦ absurd (subst (IsWrong (past (take wrong.0 rows)) (members rows refused.1.inst) (has_unwilling rows refused.1.inst) refused.1) (sym (some_same (ap reason_told wrong.2))) wrong.5)
+        | inr wrong ↦ absurd (subst (IsFirstWhy (past (take wrong.0 rows)) (members rows refused.1.inst) (has_unwilling rows refused.1.inst) refused.1) (sym (some_same (ap reason_told wrong.2))) wrong.5)
       ]
       | inr missing ↦
           let e : why.Unknown ≡ why.Missing = some_same (ap reason_told missing.5) in
@@ -318,8 +318,8 @@ abbrev pub AreAsInLog : List Event → List Certificate → ℕ → Type 0
 AreAsInLog rows certificates k =
     (i : ℕ) (c : Certificate) → slice_get certificates i ≡ Some c → c.inst ≡ k → ((n : ℕ) × IsAsInLog rows c n) × (IsSecond certificates i c → ⊥)
 
-pub none_unknown : (rows : List Event) (certificates : List Certificate) (k : ℕ) (v : Verdict) → IsNoOf v k why.Unknown → IsAnswer rows certificates v → (IsLegal rows → AreAsInLog rows certificates k) → ⊥
+pub none_unknown : (rows : List Event) (certificates : List Certificate) (k : ℕ) (v : Verdict) → IsNoOf v k why.Unknown → IsCheckerAnswer rows certificates v → (IsLegal rows → AreAsInLog rows certificates k) → ⊥
 none_unknown rows certificates k v is a known =
-    let h = unknown_fault rows certificates k is.0 (subst (IsAnswer rows certificates) is.1 a) in
+    let h = unknown_fault rows certificates k is.0 (subst (IsCheckerAnswer rows certificates) is.1 a) in
     let one = known h.0 h.1 h.2 h.3 h.4 in
     h.5 one.0.0 one.0.1 one.1

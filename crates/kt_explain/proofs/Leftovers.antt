@@ -12,7 +12,7 @@ use Rattle.kt_chain.specs.declared.certificate.Certificate.{Certificate}
 use Rattle.kt_checker.specs.declared.verdict.Verdict.{Verdict}
 use Rattle.kt_checker.specs.declared.verdict.Verdict.TheVariants.{Yes, No}
 use Rattle.kt_checker.specs.declared.verdict.Why.TheVariants as why
-use Rattle.kt_checker.specs.Order.{IsAnswer}
+use Rattle.kt_checker.specs.Order.{IsCheckerAnswer}
 use Rattle.std.proofs.lemmas.List.{nil_from_length}
 
 -- what four open instances are told as
@@ -39,7 +39,7 @@ nothing_left rows l h none = record {
 }
 
 -- a log that passes is legal
-pub yes_legal : (rows : List Event) (certificates : List Certificate) (verdict : Verdict) → IsAnswer rows certificates verdict → verdict ≡ Yes → IsLegal rows
+pub yes_legal : (rows : List Event) (certificates : List Certificate) (verdict : Verdict) → IsCheckerAnswer rows certificates verdict → verdict ≡ Yes → IsLegal rows
 yes_legal rows certificates verdict answer passes = elim answer [
   | inl passed ↦ passed.1.legal
   | inr fault ↦ elim fault [

@@ -6,7 +6,7 @@ ghost use Rattle.kt_checker.specs.declared.verdict.Verdict.{Verdict};
 ghost use Rattle.kt_checker.specs.declared.verdict.Verdict.TheVariants.{No};
 ghost use Rattle.kt_checker.specs.declared.verdict.Why.TheVariants as why;
 ghost use Rattle.kt_spacetime.specs.declared.event.Event.{Event};
-ghost use Rattle.kt_checker.specs.Order.{IsAnswer};
+ghost use Rattle.kt_checker.specs.Order.{IsCheckerAnswer};
 ghost use Rattle.kt_explain.specs.Told.{IsNoOf, IsExplanation};
 
 use crate::explanation::Explanation;
@@ -33,7 +33,7 @@ pub(crate) fn objection(rows: &[Event], inst: InstNo) -> Explanation
 /// The instance that lacks a certificate, which this row decides.
 pub(crate) fn uncertified(inst: InstNo, row: Option<RowNo>) -> Explanation
     ensures { (rows : List Event) (certificates : List Certificate)
-        → IsAnswer rows certificates (No (Some inst) row why.Missing)
+        → IsCheckerAnswer rows certificates (No (Some inst) row why.Missing)
         → IsExplanation rows certificates (No (Some inst) row why.Missing) result }
 {
     match row {

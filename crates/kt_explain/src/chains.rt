@@ -9,7 +9,7 @@ ghost use Rattle.kt_cuts.specs.Traces.{trace_of};
 ghost use Rattle.kt_chain.specs.declared.certificate.Certificate.{Certificate as Certificates};
 ghost use Rattle.kt_checker.specs.declared.verdict.Verdict.TheVariants.{No};
 ghost use Rattle.kt_checker.specs.declared.verdict.Why.TheVariants as why;
-ghost use Rattle.kt_checker.specs.Order.{IsAnswer};
+ghost use Rattle.kt_checker.specs.Order.{IsCheckerAnswer};
 ghost use Rattle.kt_checker.specs.Passing.{HasLists, IsChain, IsListOf};
 ghost use Rattle.kt_histories.specs.HistoriesOf.{HistoriesOf};
 ghost use Rattle.kt_explain.specs.BadChains.{IsBadChain, IsBreak, IsFlaw, IsUnmet};
@@ -33,7 +33,7 @@ pub(crate) fn no_chain(
     inst: InstNo,
     row: Option<RowNo>,
 ) -> Result<Explanation, Memory>
-    requires answer { IsAnswer log.now.rows certificates.now (No (Some inst) row why.Chain) }
+    requires answer { IsCheckerAnswer log.now.rows certificates.now (No (Some inst) row why.Chain) }
     ensures { IfOk result (IsExplanation log.now.rows certificates.now (No (Some inst) row why.Chain)) }
 {
     match row {
@@ -50,7 +50,7 @@ fn no_chain_at(
     inst: InstNo,
     row: RowNo,
 ) -> Result<Explanation, Memory>
-    requires answer { IsAnswer log.now.rows certificates.now (No (Some inst) (Some row) why.Chain) }
+    requires answer { IsCheckerAnswer log.now.rows certificates.now (No (Some inst) (Some row) why.Chain) }
     ensures { IfOk result (IsExplanation log.now.rows certificates.now (No (Some inst) (Some row) why.Chain)) }
 {
     let Some(certificate) = first_of(certificates, inst) else {

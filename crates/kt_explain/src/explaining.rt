@@ -2,7 +2,7 @@
 
 ghost use Rattle.std.specs.Prelude.{◌≡◌, Some, IfOk};
 ghost use Rattle.kt_checker.specs.declared.verdict.Verdict.TheVariants.{No};
-ghost use Rattle.kt_checker.specs.Order.{IsAnswer};
+ghost use Rattle.kt_checker.specs.Order.{IsCheckerAnswer};
 ghost use Rattle.kt_explain.specs.Told.{IsExplanation};
 
 use crate::bad_rows::bad_log;
@@ -26,7 +26,7 @@ pub fn explain(
     certificates: &[Certificate],
     verdict: &Verdict,
 ) -> Result<Explanation, Memory>
-    requires answer { IsAnswer log.now.rows certificates.now verdict.now }
+    requires answer { IsCheckerAnswer log.now.rows certificates.now verdict.now }
     ensures told { IfOk result (IsExplanation log.now.rows certificates.now verdict.now) }
 {
     match *verdict {
@@ -44,7 +44,7 @@ fn explain_no(
     row: Option<RowNo>,
     why: Why,
 ) -> Result<Explanation, Memory>
-    requires answer { IsAnswer log.now.rows certificates.now (No inst row why) }
+    requires answer { IsCheckerAnswer log.now.rows certificates.now (No inst row why) }
     ensures { IfOk result (IsExplanation log.now.rows certificates.now (No inst row why)) }
 {
     match inst {
@@ -62,7 +62,7 @@ fn of_instance(
     row: Option<RowNo>,
     why: Why,
 ) -> Result<Explanation, Memory>
-    requires answer { IsAnswer log.now.rows certificates.now (No (Some inst) row why) }
+    requires answer { IsCheckerAnswer log.now.rows certificates.now (No (Some inst) row why) }
     ensures { IfOk result (IsExplanation log.now.rows certificates.now (No (Some inst) row why)) }
 {
     match why {

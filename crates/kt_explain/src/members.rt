@@ -6,7 +6,7 @@ ghost use Rattle.kt_cuts.specs.Chains.{joins, members};
 ghost use Rattle.kt_chain.specs.declared.certificate.Certificate.{Certificate as Certificates};
 ghost use Rattle.kt_checker.specs.declared.verdict.Verdict.{Verdict};
 ghost use Rattle.kt_checker.specs.declared.verdict.Why.TheVariants as why;
-ghost use Rattle.kt_checker.specs.Order.{IsAnswer};
+ghost use Rattle.kt_checker.specs.Order.{IsCheckerAnswer};
 ghost use Rattle.kt_explain.specs.Told.{DifferAt, IsNoOf, IsItsFirst, IsExplanation, listed_in};
 
 use crate::explanation::Explanation;
@@ -24,7 +24,7 @@ pub(crate) fn other_member(
     inst: InstNo,
 ) -> Result<Explanation, Memory>
     ensures { IfOk result (λ e. (verdict : Verdict) → IsNoOf verdict inst why.Members
-        → IsAnswer rows.now certificates.now verdict → IsExplanation rows.now certificates.now verdict e) }
+        → IsCheckerAnswer rows.now certificates.now verdict → IsExplanation rows.now certificates.now verdict e) }
 {
     let joined = joined_in(alloc, rows, inst)?;
     match first_of(certificates, inst) {

@@ -9,7 +9,7 @@ ghost use Rattle.kt_cuts.specs.Chains.{members};
 ghost use Rattle.kt_chain.specs.declared.certificate.Certificate.{Certificate as Certificates};
 ghost use Rattle.kt_checker.specs.declared.verdict.Verdict.TheVariants.{No};
 ghost use Rattle.kt_checker.specs.declared.verdict.Why.TheVariants as why;
-ghost use Rattle.kt_checker.specs.Order.{IsAnswer};
+ghost use Rattle.kt_checker.specs.Order.{IsCheckerAnswer};
 ghost use Rattle.kt_checker.specs.Passing.{decided_cut};
 ghost use Rattle.kt_histories.specs.HistoriesOf.{HistoriesOf};
 ghost use Rattle.kt_explain.specs.Orphans.{IsOrphanTold, IsLeastOrphan, IsOutsider, wanted_in};
@@ -35,7 +35,7 @@ pub(crate) fn orphan(
     inst: InstNo,
     row: RowNo,
 ) -> Result<Explanation, Memory>
-    requires answer { IsAnswer log.now.rows certificates.now (No (Some inst) (Some row) why.Orphan) }
+    requires answer { IsCheckerAnswer log.now.rows certificates.now (No (Some inst) (Some row) why.Orphan) }
     ensures { IfOk result (IsExplanation log.now.rows certificates.now (No (Some inst) (Some row) why.Orphan)) }
 {
     let Some(kind) = kind_in_first(certificates, inst) else {

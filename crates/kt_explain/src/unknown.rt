@@ -8,7 +8,7 @@ ghost use Rattle.kt_checker.specs.declared.verdict.Verdict.{Verdict};
 ghost use Rattle.kt_checker.specs.declared.verdict.Why.TheVariants as why;
 ghost use Rattle.kt_spacetime.specs.declared.event.Event.TheVariants as event;
 ghost use Rattle.kt_cuts.specs.Legal.{IsLegal};
-ghost use Rattle.kt_checker.specs.Order.{IsAnswer};
+ghost use Rattle.kt_checker.specs.Order.{IsCheckerAnswer};
 ghost use Rattle.kt_checker.specs.Passing.{IsAsInLog, IsSecond};
 ghost use Rattle.kt_explain.specs.Told.{IsDifference, IsItsFirst, IsNoOf, IsExplanation, IsUnlike};
 
@@ -23,7 +23,7 @@ use kt_spacetime::Event;
 pub(crate) fn unlike(rows: &[Event], certificates: &[Certificate], inst: InstNo) -> Explanation
     requires few { length rows.now ≤ 2 ^ 24 }
     ensures { (verdict : Verdict) → IsNoOf verdict inst why.Unknown
-        → IsAnswer rows.now certificates.now verdict
+        → IsCheckerAnswer rows.now certificates.now verdict
         → IsExplanation rows.now certificates.now verdict result }
 {
     match first_unlike(rows, certificates, inst) {

@@ -7,7 +7,7 @@ use Rattle.kt_object.proofs.SavedOnce.{kind_once, value_once}
 use Rattle.kt_plan.specs.declared.steps.Act.{Act}
 use Rattle.kt_plan.specs.declared.steps.Act.TheVariants.{Nothing, Apply, Keep, Promote, Discard, Restore, Drop}
 use Rattle.kt_held.specs.Holdings.{Content, content, Holding, applied, does, does_all, AreSaved, Holds}
-use Rattle.kt_held.specs.Fits.{Leads, fits, fits_all, is_up_after, has_tentative_after, is_saved_after, spares_of, spares_of_all}
+use Rattle.kt_held.specs.Fits.{ActLeads, fits, fits_all, is_up_after, has_tentative_after, is_saved_after, spares_of, spares_of_all}
 
 -- these bytes are a saved state of this content
 abbrev IsSaved : Content → List ℕ → Type 0
@@ -41,7 +41,7 @@ same_tentative : (o : Option Content) (d e : SavedStates) → e ≡ d → AreSav
 same_tentative o d e same are = subst (λ (s : SavedStates). AreSaved o s.tentative) (sym same) are
 
 pub acted : (act : Act) (h : Holding) (v : Option Content) (d : SavedStates) (w : Option Content) (e : SavedStates)
-    → Leads act v d w e → Holds h v d → Holds (does h act) w e
+    → ActLeads act v d w e → Holds h v d → Holds (does h act) w e
 acted Nothing h v d w e l held = record {
   object = l.0 ∙ held.object;
   permanent = same_permanent h.permanent d e l.1 held.permanent;
@@ -80,13 +80,13 @@ acted Drop h v d w e l held = record {
 
 -- two acts, one after the other
 pub both_done : (acts : List Act) (a b : Act) (h : Holding) (v w z : Option Content) (d e f : SavedStates) → acts ≡ a ∷ b ∷ []
-    → Leads a v d w e → Leads b w e z f → Holds h v d → Holds (does_all h acts) z f
+    → ActLeads a v d w e → ActLeads b w e z f → Holds h v d → Holds (does_all h acts) z f
 both_done acts a b h v w z d e f is one two held =
     subst (λ (acts : List Act). Holds (does_all h acts) z f) (sym is) (acted b (does h a) w e z f two (acted a h v d w e one held))
 
 -- the first of two, and no more
 pub one_done : (acts : List Act) (a b : Act) (h : Holding) (v w z : Option Content) (d e f : SavedStates) → acts ≡ a ∷ b ∷ []
-    → Leads a v d w e → z ≡ w → f ≡ e → Holds h v d → Holds (does_all h (take 1 acts)) z f
+    → ActLeads a v d w e → z ≡ w → f ≡ e → Holds h v d → Holds (does_all h (take 1 acts)) z f
 one_done acts a b h v w z d e f is one same_object same_states held =
     subst (λ (acts : List Act). Holds (does_all h (take 1 acts)) z f) (sym is)
     (subst (λ (z : Option Content). Holds (does h a) z f) (sym same_object)
@@ -97,7 +97,7 @@ is_some-map f None = refl
 is_some-map f (Some x) = refl
 
 -- whether the object is there, and a tentative state, after an act
-pub leads_up : (a : Act) (v w : Option Content) (d e : SavedStates) → Leads a v d w e → is_some w ≡ is_up_after (is_some v) a
+pub leads_up : (a : Act) (v w : Option Content) (d e : SavedStates) → ActLeads a v d w e → is_some w ≡ is_up_after (is_some v) a
 leads_up Nothing v w d e l = ap is_some l.0
 leads_up (Apply from body) v w d e l = ap is_some l.0 ∙ is_some-map (applied from body) v
 leads_up Keep v w d e l = ap is_some l.0
@@ -106,7 +106,7 @@ leads_up Discard v w d e l = ap is_some l.0
 leads_up Restore v w d e l = ap is_some l.1.1
 leads_up Drop v w d e l = ap is_some l.0
 
-pub leads_tentative : (a : Act) (v w : Option Content) (d e : SavedStates) → Leads a v d w e
+pub leads_tentative : (a : Act) (v w : Option Content) (d e : SavedStates) → ActLeads a v d w e
     → is_some e.tentative ≡ has_tentative_after (is_some d.tentative) a
 leads_tentative Nothing v w d e l = ap (λ (s : SavedStates). is_some s.tentative) l.1
 leads_tentative (Apply from body) v w d e l = ap (λ (s : SavedStates). is_some s.tentative) l.1
@@ -149,7 +149,7 @@ module _ (acts : List Act) (a b : Act) (is : acts ≡ a ∷ b ∷ []) (nothing :
   alone : acts ≡ Nothing ∷ b ∷ []
   alone = is ∙ ap (λ (x : Act). x ∷ b ∷ []) nothing
 
-  pub second_done : (h : Holding) (v w : Option Content) (d e : SavedStates) → Leads b v d w e → Holds h v d → Holds (does_all h acts) w e
+  pub second_done : (h : Holding) (v w : Option Content) (d e : SavedStates) → ActLeads b v d w e → Holds h v d → Holds (does_all h acts) w e
   second_done h v w d e leads held = subst (λ (acts : List Act). Holds (does_all h acts) w e) (sym alone) (acted b h v d w e leads held)
 
   pub second_not : (h : Holding) (v w : Option Content) (d e : SavedStates) → w ≡ v → e ≡ d → Holds h v d → Holds (does_all h (take 1 acts)) w e

@@ -6,7 +6,7 @@ use Rattle.std.proofs.lemmas.Option.{slice_get-map}
 use Rattle.kt_object.specs.SavedStates.{SavedStates}
 use Rattle.kt_plan.specs.declared.steps.Act.{Act}
 use Rattle.kt_held.specs.Holdings.{Content, Holding, Holds, does_all}
-use Rattle.kt_held.specs.Refusals.{held_objects, IsRejected, IsFirst}
+use Rattle.kt_held.specs.Refusals.{held_objects, IsRejected, IsFirstObject}
 
 pub any_here : {A : Type 0} (P : A → Type 0) (x : A) (xs : List A) → P x → Any P (x ∷ xs)
 any_here P x xs h = (0, x, omega arith, refl, h)
@@ -92,13 +92,13 @@ module _ {R A : Type 0} (items : R → List A) (P : A → Type 0) (xs ys all : L
       (ap (λ (l : List R). slice_get l (length xs)) (sym split ∙ append_assoc xs (x ∷ []) ys) ∙ got_behind xs ys x (length xs) refl)
 
   -- the first object of a row, by what stands before it
-  pub first_in : 0 < length (items x) → ((b : A) → slice_get (items x) 0 ≡ Some b → P b) → IsFirst P (map items all) (length xs)
+  pub first_in : 0 < length (items x) → ((b : A) → slice_get (items x) 0 ≡ Some b → P b) → IsFirstObject P (map items all) (length xs)
   first_in some so = go (items x) refl
     where
-      go : (l : List A) → items x ≡ l → IsFirst P (map items all) (length xs)
+      go : (l : List A) → items x ≡ l → IsFirstObject P (map items all) (length xs)
       go [] e = absurd (let n = ap length e in omega (arith, n, some))
       go (b ∷ more) e = record { object = b; spares = more; given = got_in ∙ ap Some e; so = so b (ap (λ (l : List A). slice_get l 0) e) }
 
-  pub firsts_more : ((q : ℕ) → q < length xs → IsFirst P (map items all) q) → IsFirst P (map items all) (length xs)
-      → (q : ℕ) → q < length (xs ++ x ∷ []) → IsFirst P (map items all) q
-  firsts_more below here q l = below_more (λ (k : ℕ). IsFirst P (map items all) k) (length xs) below here q (let n = length-append xs (x ∷ []) in omega (arith, l, n))
+  pub firsts_more : ((q : ℕ) → q < length xs → IsFirstObject P (map items all) q) → IsFirstObject P (map items all) (length xs)
+      → (q : ℕ) → q < length (xs ++ x ∷ []) → IsFirstObject P (map items all) q
+  firsts_more below here q l = below_more (λ (k : ℕ). IsFirstObject P (map items all) k) (length xs) below here q (let n = length-append xs (x ∷ []) in omega (arith, l, n))

@@ -90,12 +90,12 @@ spares_of_all up [] = 0
 spares_of_all up (act ∷ acts) = spares_of up act + spares_of_all (is_up_after up act) acts
 
 -- an act leads from an object and saved states to others
-abbrev pub Leads : Act → Option Content → SavedStates → Option Content → SavedStates → Type 0
-Leads Nothing v d w e = (w ≡ v) × (e ≡ d)
-Leads (Apply from body) v d w e = (w ≡ option_map (applied from body) v) × (e ≡ d)
-Leads Keep v d w e = (w ≡ v) × (e.permanent ≡ d.permanent)
+abbrev pub ActLeads : Act → Option Content → SavedStates → Option Content → SavedStates → Type 0
+ActLeads Nothing v d w e = (w ≡ v) × (e ≡ d)
+ActLeads (Apply from body) v d w e = (w ≡ option_map (applied from body) v) × (e ≡ d)
+ActLeads Keep v d w e = (w ≡ v) × (e.permanent ≡ d.permanent)
     × ((c : Content) × (saved : List ℕ) × (v ≡ Some c) × (e.tentative ≡ Some saved) × IsSavedState c.kind c.value saved)
-Leads Promote v d w e = (w ≡ v) × (d.tentative ≡ Some e.permanent) × (e.tentative ≡ None)
-Leads Discard v d w e = (w ≡ v) × (e ≡ record d { tentative = None })
-Leads Restore v d w e = (e ≡ d) × ((c : Content) × (w ≡ Some c) × IsSavedState c.kind c.value d.permanent)
-Leads Drop v d w e = (w ≡ None) × (e ≡ d)
+ActLeads Promote v d w e = (w ≡ v) × (d.tentative ≡ Some e.permanent) × (e.tentative ≡ None)
+ActLeads Discard v d w e = (w ≡ v) × (e ≡ record d { tentative = None })
+ActLeads Restore v d w e = (e ≡ d) × ((c : Content) × (w ≡ Some c) × IsSavedState c.kind c.value d.permanent)
+ActLeads Drop v d w e = (w ≡ None) × (e ≡ d)

@@ -6,7 +6,7 @@ use Rattle.kt_held.specs.Holdings.{Holding, does_all}
 use Rattle.kt_plan.specs.declared.steps.Act.{Act}
 
 -- the first of the objects of a process is so
-pub record IsFirst {A : Type 0} (P : A → Type 0) (cast : List (List A)) (p : ℕ) : Type 0 where
+pub record IsFirstObject {A : Type 0} (P : A → Type 0) (cast : List (List A)) (p : ℕ) : Type 0 where
   pub object : A
   pub spares : List A
   pub given : slice_get cast p ≡ Some (object ∷ spares)
@@ -14,8 +14,8 @@ pub record IsFirst {A : Type 0} (P : A → Type 0) (cast : List (List A)) (p : �
 
 -- p is the least process whose first object may not be able to be saved: it may refuse, and those of all below may be saved
 pub record IsLeastRefused {A : Type 0} (may_save may_refuse : A → Type 0) (cast : List (List A)) (p : ℕ) : Type 0 where
-  pub refused : IsFirst may_refuse cast p
-  pub least : (q : ℕ) → q < p → IsFirst may_save cast q
+  pub refused : IsFirstObject may_refuse cast p
+  pub least : (q : ℕ) → q < p → IsFirstObject may_save cast q
 
 -- the objects that are held: the one that is there, and the spares
 abbrev pub held_objects : {A : Type 0} → Option A → List A → List A

@@ -6,7 +6,7 @@ ghost use Rattle.std.specs.Option.{option_map};
 ghost use Rattle.kt_object.specs.Bytes.{IsSavedState};
 ghost use Rattle.kt_object.specs.Value.{after, offered};
 ghost use Rattle.kt_held.specs.Holdings.{Content, content, Holding, first_holding, does, does_all, Holds};
-ghost use Rattle.kt_held.specs.Fits.{Outline, outline, Leads, fits, fits_all, spares_of, spares_of_all};
+ghost use Rattle.kt_held.specs.Fits.{Outline, outline, ActLeads, fits, fits_all, spares_of, spares_of_all};
 ghost use Rattle.kt_held.specs.Refusals.{held_objects, IsRejected};
 
 use crate::faults::ActFault;
@@ -147,7 +147,7 @@ impl Held {
     /// Brings the object back to the permanent state, or the first spare where there is no object. At a fault all is as it was.
     fn restore(&mut self) -> Result<(), RestoreFault>
         requires { is_some self.old.present ≡ false → 0 < length self.old.spares.items }
-        ensures leads { OnOk result (Leads Act.Restore (option_map (λ b. content (kind_of b) (value_of b)) self.old.present) self.old.depot
+        ensures leads { OnOk result (ActLeads Act.Restore (option_map (λ b. content (kind_of b) (value_of b)) self.old.present) self.old.depot
             (option_map (λ b. content (kind_of b) (value_of b)) self.new.present) self.new.depot) }
         ensures spares { OnOk result
             (self.new.spares.items ≡ drop (spares_of (is_some self.old.present) Act.Restore) self.old.spares.items) }
@@ -177,7 +177,7 @@ impl Held {
         requires fits { fits (outline (is_some self.old.present) (is_some self.old.depot.tentative)
             (is_some saved) (length self.old.spares.items)) act ≡ true }
         requires saved { IfSome saved (λ s. IfSome self.old.present (λ b. IsSavedState (kind_of b) (value_of b) s.items)) }
-        ensures leads { OnOk result (Leads act (option_map (λ b. content (kind_of b) (value_of b)) self.old.present) self.old.depot
+        ensures leads { OnOk result (ActLeads act (option_map (λ b. content (kind_of b) (value_of b)) self.old.present) self.old.depot
             (option_map (λ b. content (kind_of b) (value_of b)) self.new.present) self.new.depot) }
         ensures spares { OnOk result (self.new.spares.items ≡ drop (spares_of (is_some self.old.present) act) self.old.spares.items) }
         ensures err_act { OnErr result (act ≡ Act.Restore) }
@@ -225,7 +225,7 @@ impl Held {
     /// Does an act. An act that does not fit, or that fails, leaves all as it was.
     fn act(&mut self, act: Act, saved: Option<Vec<u8>>) -> Result<(), ActFault>
         requires saved { IfSome saved (λ s. IfSome self.old.present (λ b. IsSavedState (kind_of b) (value_of b) s.items)) }
-        ensures leads { OnOk result (Leads act (option_map (λ b. content (kind_of b) (value_of b)) self.old.present) self.old.depot
+        ensures leads { OnOk result (ActLeads act (option_map (λ b. content (kind_of b) (value_of b)) self.old.present) self.old.depot
             (option_map (λ b. content (kind_of b) (value_of b)) self.new.present) self.new.depot) }
         ensures spares { OnOk result (self.new.spares.items ≡ drop (spares_of (is_some self.old.present) act) self.old.spares.items) }
         ensures fits { OnOk result (fits (record {

@@ -3,9 +3,9 @@ use Rattle.std.proofs.Common.{◌≡◌, ◌∙◌, ◌+◌, ◌<◌, ℕ, zero,
 use Rattle.std.specs.Prelude.{slice_get}
 use Rattle.std.proofs.lemmas.List.{take_more, length-take-le}
 use Rattle.csv.specs.Records.{field_at}
-use Rattle.kt_text.specs.Records.{Takes}
+use Rattle.kt_text.specs.Records.{FieldsTaken}
 use Rattle.kt_text.specs.Writing.{joined}
-use Rattle.kt_hints.specs.Records.{IsAfter, led}
+use Rattle.kt_hints.specs.Records.{IsRecordAfter, led}
 
 -- so many records were read of those that were left, and this one is the last
 abbrev pub IsRead : Option (List (List (List ℕ))) → List (List ℕ) → ℕ → Option (List (List (List ℕ))) → List (List ℕ) → Type 0
@@ -22,7 +22,7 @@ at_end [] fields rest = refl
 at_end (first ∷ gone) fields rest = at_end gone fields rest
 
 pub one_read : (left : Option (List (List (List ℕ)))) (old : List (List ℕ)) (i : ℕ) (now next : Option (List (List (List ℕ)))) (current fields : List (List ℕ))
-    → IsRead left old i now current → Takes now next fields → IsRead left old (i + 1) next fields
+    → IsRead left old i now current → FieldsTaken now next fields → IsRead left old (i + 1) next fields
 one_read None old i now next current fields h takes = tt
 one_read (Some left) old i None next current fields h takes = absurd h
 one_read (Some left) old i (Some rest) None current fields h takes = absurd takes
@@ -38,7 +38,7 @@ one_read (Some left) old i (Some rest) (Some more) current fields (gone, is, cou
     )
 
 -- all that were to be read
-pub all_read : (left : Option (List (List (List ℕ)))) (old : List (List ℕ)) (i count : ℕ) (now : Option (List (List (List ℕ)))) (fields : List (List ℕ)) → i ≡ count → IsRead left old i now fields → IsAfter left old count fields
+pub all_read : (left : Option (List (List (List ℕ)))) (old : List (List ℕ)) (i count : ℕ) (now : Option (List (List (List ℕ)))) (fields : List (List ℕ)) → i ≡ count → IsRead left old i now fields → IsRecordAfter left old count fields
 all_read None old i count now fields same h = tt
 all_read (Some left) old i count None fields same h = absurd h
 all_read (Some left) old i count (Some rest) fields same (gone, is, counted, at) = subst (λ (n : ℕ). slice_get (old ∷ left) n ≡ Some fields) same at

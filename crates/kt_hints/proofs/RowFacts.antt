@@ -1,13 +1,13 @@
 -- The row of a log that was found.
 use Rattle.std.proofs.Common.{◌≡◌, ◌+◌, ℕ, Bool, List, [], ◌∷◌, Option, Some, None, sym, subst}
 use Rattle.std.specs.Prelude.{MatchBool, slice_get, slice_index_or}
-use Rattle.kt_text.specs.Records.{Takes}
-use Rattle.kt_hints.specs.Records.{IsAfter}
+use Rattle.kt_text.specs.Records.{FieldsTaken}
+use Rattle.kt_hints.specs.Records.{IsRecordAfter}
 use Rattle.kt_hints.specs.Rows.{IsRowAfter, NamesFormat, headers, last_message}
 
 -- the first record was read, and then those up to the row
-pub row_found : (left rest : Option (List (List (List ℕ)))) (first fields : List (List ℕ)) (before more last : ℕ) (named : Bool) → Takes left rest first
-    → MatchBool named (NamesFormat first) (¬ NamesFormat first) → more ≡ headers named → last ≡ last_message named → IsAfter rest first (before + more) fields → IsRowAfter left before last fields
+pub row_found : (left rest : Option (List (List (List ℕ)))) (first fields : List (List ℕ)) (before more last : ℕ) (named : Bool) → FieldsTaken left rest first
+    → MatchBool named (NamesFormat first) (¬ NamesFormat first) → more ≡ headers named → last ≡ last_message named → IsRecordAfter rest first (before + more) fields → IsRowAfter left before last fields
 row_found None rest first fields before more last named takes format headed is after = tt
 row_found (Some left) None first fields before more last named takes format headed is after = absurd takes
 row_found (Some left) (Some rest) first fields before more last named takes format headed is after = record {

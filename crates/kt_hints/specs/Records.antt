@@ -3,9 +3,9 @@ use Rattle.std.specs.Prelude.{◌≡◌, ℕ, zero, suc, List, ◌∷◌, Option
 use Rattle.kt_text.specs.Writing.{joined}
 
 -- a record, and then those that are left: after so many of them it is this one
-abbrev pub IsAfter : Option (List (List (List ℕ))) → List (List ℕ) → ℕ → List (List ℕ) → Type 0
-IsAfter None current count fields = Unit {0}
-IsAfter (Some left) current count fields = slice_get (current ∷ left) count ≡ Some fields
+abbrev pub IsRecordAfter : Option (List (List (List ℕ))) → List (List ℕ) → ℕ → List (List ℕ) → Type 0
+IsRecordAfter None current count fields = Unit {0}
+IsRecordAfter (Some left) current count fields = slice_get (current ∷ left) count ≡ Some fields
 
 -- a field after so many others, with a comma before it where it is not the first
 abbrev pub led : ℕ → List ℕ → List ℕ

@@ -5,7 +5,7 @@ ghost use Rattle.csv.specs.Reading.{default_config, strip_bom, records};
 ghost use Rattle.csv.specs.Records.{fields_of};
 ghost use Rattle.kt_text.specs.Records.{ReadsOn, left_in};
 ghost use Rattle.kt_text.specs.Writing.{joined};
-ghost use Rattle.kt_hints.specs.Records.{IsAfter, IsRecordAt, led};
+ghost use Rattle.kt_hints.specs.Records.{IsRecordAfter, IsRecordAt, led};
 
 use csv::{ByteRecord, Reader};
 use kt_base::Memory;
@@ -45,7 +45,7 @@ pub(crate) fn advance<R: Read>(
 ) -> Result<bool, ReadFault>
     requires { ReadsOn records.old }
     ensures { IfOk result (λ found. found ≡ true
-        → IsAfter (left_in R.remaining records.old) (fields_of current.old) count (fields_of current.new)) }
+        → IsRecordAfter (left_in R.remaining records.old) (fields_of current.old) count (fields_of current.new)) }
 {
     for _ in 0..count {
         if !next_record(records, current)? {

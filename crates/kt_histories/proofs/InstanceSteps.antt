@@ -17,9 +17,9 @@ use Rattle.kt_histories.specs.declared.tables.Message.{Message}
 use Rattle.kt_cuts.specs.declared.instances.Instance.{Instance}
 use Rattle.kt_cuts.specs.Past.{Past, after, at_one, is_checkpoint, is_rollback, is_committed}
 use Rattle.kt_cuts.specs.Legal.{has_deed}
-use Rattle.kt_cuts.specs.Lists.{Rises, last_of, sent_in, received_in}
+use Rattle.kt_cuts.specs.Lists.{NumbersRise, last_of, sent_in, received_in}
 use Rattle.kt_histories.specs.Tables.{promoted, rolled}
-use Rattle.kt_cuts.specs.Changes.{IsJoined, IsDecided}
+use Rattle.kt_cuts.specs.Changes.{HasOneMore, IsDecided}
 use Rattle.kt_cuts.specs.Standing.{ShowsInstances, IsAllowed, at_number, beginning_of_row, new_shown, ready_shown, rolled_back_shown}
 use Rattle.kt_histories.specs.Standing.{Shows, ShowsProcess, ShowsProcesses, message_at, receiving}
 use Rattle.kt_cuts.proofs.Items.{get_take, get_in_take, item_there}
@@ -33,15 +33,15 @@ use Rattle.kt_cuts.proofs.InstanceSteps.{began_instances, begun_there, closed_ri
 -- a row that leaves the histories and the messages as they are
 pub shows_same : (ps qs : List Process) (ms : List (Option Message)) (js is : List Instance) (d : List ℕ) (b c : Option (ℕ × ℕ)) (s t : Past)
     → Shows ps ms js d b s → ShowsProcesses qs t → ShowsInstances is t
-    → ((q : ℕ) → t.live q ≡ s.live q) → ((m : ℕ) → t.dropped m ≡ s.dropped m) → ((p q : ℕ) → Rises (received_in q (t.dropped_since p)))
+    → ((q : ℕ) → t.live q ≡ s.live q) → ((m : ℕ) → t.dropped m ≡ s.dropped m) → ((p q : ℕ) → NumbersRise (received_in q (t.dropped_since p)))
     → c ≡ beginning_of_row t.last → t.rows ≡ s.rows + 1 → Shows qs (ms ++ None ∷ []) is d c t
 shows_same ps qs ms js is d b c s t h processes instances live dropped since last rows = record {
   of_processes = processes;
   of_messages = messages_quiet ms s t h.of_messages (λ p i x e. ap (λ (l : List Deed). slice_get l i) (sym (live p)) ∙ e) dropped;
   of_instances = instances;
   in_order = record {
-    sent = λ p. subst (λ (l : List Deed). Rises (sent_in l)) (sym (live p)) (h.in_order.sent p);
-    received = λ p q. subst (λ (l : List Deed). Rises (received_in q l)) (sym (live p)) (h.in_order.received p q);
+    sent = λ p. subst (λ (l : List Deed). NumbersRise (sent_in l)) (sym (live p)) (h.in_order.sent p);
+    received = λ p q. subst (λ (l : List Deed). NumbersRise (received_in q l)) (sym (live p)) (h.in_order.received p q);
     dropped = since;
   };
   dead_known = λ p i m q e n. h.dead_known p i m q (ap (λ (l : List Deed). slice_get l i) (sym (live p)) ∙ e) (ap (has_deed (deed.Sent m p)) (sym (live q)) ∙ n);
@@ -94,7 +94,7 @@ pub decided_there : (ps : List Process) (ms : List (Option Message)) (js : List 
 decided_there ps ms js d b s p k commit h allowed = begun_there js s k h.of_instances (kept s (event.Decided p k commit) allowed.unbroken).numbers
 
 pub shows_took : (ps : List Process) (ms : List (Option Message)) (js is : List Instance) (d : List ℕ) (b : Option (ℕ × ℕ)) (s : Past) (p k : ℕ) (v : Process) (u w : Instance)
-    → Shows ps ms js d b s → IsAllowed s (event.Took p k) → p < 64 → slice_get ps p ≡ Some v → IsJoined js is k p (length v.history) u w
+    → Shows ps ms js d b s → IsAllowed s (event.Took p k) → p < 64 → slice_get ps p ≡ Some v → HasOneMore js is k p (length v.history) u w
     → Shows (set ps p (record v { open_in = Some k })) (ms ++ None ∷ []) is d None (after s (event.Took p k))
 shows_took ps ms js is d b s p k v u w h allowed low at x =
     let t : Past = after s (event.Took p k) in
@@ -108,7 +108,7 @@ shows_took ps ms js is d b s p k v u w h allowed low at x =
     (took_instances js is s p k (length v.history) u w h.of_instances checkpoint low (ap length old.live) x) (λ q. refl) (λ m. refl) h.in_order.dropped refl refl
 
 pub shows_ready : (ps : List Process) (ms : List (Option Message)) (js is : List Instance) (d : List ℕ) (b : Option (ℕ × ℕ)) (s : Past) (p k : ℕ) (v : Process) (u w : Instance)
-    → Shows ps ms js d b s → IsAllowed s (event.Ready p k) → p < 64 → slice_get ps p ≡ Some v → IsJoined js is k p (length v.history) u w
+    → Shows ps ms js d b s → IsAllowed s (event.Ready p k) → p < 64 → slice_get ps p ≡ Some v → HasOneMore js is k p (length v.history) u w
     → Shows (set ps p (record v { open_in = Some k })) (ms ++ None ∷ []) is d None (after s (event.Ready p k))
 shows_ready ps ms js is d b s p k v u w h allowed low at x =
     let t : Past = after s (event.Ready p k) in
@@ -270,8 +270,8 @@ shows_committed_rollback ps qs ms js is d c undone b s p k v h x of_kind all cha
       of_messages = messages_quiet ms s t h.of_messages (λ q i y e. front_get (s.ready k q) (s.permanent q) (s.live q) i y e) (λ m. refl);
       of_instances = decided_instances js is s p k true v h.of_instances x;
       in_order = record {
-        sent = λ q. if_front (λ l. Rises (sent_in l)) (s.ready k q) (s.permanent q) (s.live q) (h.in_order.sent q) (sent_rises_take (s.permanent q) (s.live q) (h.in_order.sent q));
-        received = λ q f. if_front (λ l. Rises (received_in f l)) (s.ready k q) (s.permanent q) (s.live q) (h.in_order.received q f) (received_rises_take f (s.permanent q) (s.live q) (h.in_order.received q f));
+        sent = λ q. if_front (λ l. NumbersRise (sent_in l)) (s.ready k q) (s.permanent q) (s.live q) (h.in_order.sent q) (sent_rises_take (s.permanent q) (s.live q) (h.in_order.sent q));
+        received = λ q f. if_front (λ l. NumbersRise (received_in f l)) (s.ready k q) (s.permanent q) (s.live q) (h.in_order.received q f) (received_rises_take f (s.permanent q) (s.live q) (h.in_order.received q f));
         dropped = h.in_order.dropped;
       };
       dead_known = λ q i m f e n. dead_after processes q i m f e n (has_deed (deed.Sent m q) (s.live f)) refl;
@@ -320,7 +320,7 @@ shows_closed ps ms js d b s p k v was h low at is =
       dropped = λ x l. g.dropped x l ∙ ap (λ (z : List Deed). Some (last_of (received_in x z))) (sym (since q ∙ at_other p q (if was then [] else s.dropped_since p) s.dropped_since n));
     }) h.of_processes.no_more)
     (same_instances js s t h.of_instances refl refl refl refl) (λ q. refl) (λ m. refl)
-    (λ q f. subst (λ (l : List Deed). Rises (received_in f l)) (sym (since q)) (closed_rises was p s.dropped_since q f h.in_order.dropped)) refl refl
+    (λ q f. subst (λ (l : List Deed). NumbersRise (received_in f l)) (sym (since q)) (closed_rises was p s.dropped_since q f h.in_order.dropped)) refl refl
 
 -- a decision, by what the call that makes it knows
 pub decides_abort : (ps : List Process) (ms : List (Option Message)) (js is : List Instance) (d : List ℕ) (b : Option (ℕ × ℕ)) (s : Past) (p k : ℕ) (commit : Bool)

@@ -9,14 +9,14 @@ use Rattle.kt_histories.specs.declared.process.Process.{Process}
 use Rattle.kt_histories.specs.declared.tables.Message.{Message}
 use Rattle.kt_cuts.specs.Past.{Past}
 use Rattle.kt_cuts.specs.Legal.{has_deed, is_later, is_latest, is_undelivered}
-use Rattle.kt_cuts.specs.Lists.{received_in, last_of, Rises}
+use Rattle.kt_cuts.specs.Lists.{received_in, last_of, NumbersRise}
 use Rattle.kt_cuts.specs.Tests.{is_after}
 use Rattle.kt_histories.specs.Standing.{ShowsProcess, ShowsMessages, message_at, sending, receiving}
 use Rattle.kt_cuts.proofs.SortedFacts.{some_same}
 use Rattle.kt_cuts.proofs.DeedFacts.{place_of_deed, has_at}
 use Rattle.kt_cuts.proofs.LatestFacts.{later_is_after}
 
-pub latest_known : (v : Process) (s : Past) (p q m : ℕ) (d : Option ℕ) → ShowsProcess v s p → Rises (received_in q (s.live p)) → Rises (received_in q (s.dropped_since p)) → q < 64 → slice_get v.last_dropped q ≡ Some d
+pub latest_known : (v : Process) (s : Past) (p q m : ℕ) (d : Option ℕ) → ShowsProcess v s p → NumbersRise (received_in q (s.live p)) → NumbersRise (received_in q (s.dropped_since p)) → q < 64 → slice_get v.last_dropped q ≡ Some d
     → is_latest s p q m ≡ (is_after m (last_of (received_in q v.history)) && is_after m d)
 latest_known v s p q m d g received dropped low e =
     let one : list_all (is_later q m) (s.live p) ≡ is_after m (last_of (received_in q v.history)) = later_is_after q m (s.live p) received ∙ ap (λ (l : List Deed). is_after m (last_of (received_in q l))) (sym g.live) in

@@ -4,7 +4,7 @@ use Rattle.std.specs.List.{find, slice_get}
 use Rattle.std.specs.List.Sorted.{IsPartitionPoint, IsPartitionedBy}
 use Rattle.std.proofs.lemmas.Bool.{cases_eq}
 use Rattle.std.proofs.lemmas.Bool.Decides.{nat_tests}
-use Rattle.kt_cuts.specs.Lists.{Rises}
+use Rattle.kt_cuts.specs.Lists.{NumbersRise}
 
 -- where the numbers below a message end, its first follower stands
 pub find_from_point : (xs : List ℕ) (m i : ℕ) → IsPartitionPoint (λ x. nat_lt x m ≡ true) (λ x. nat_lt x m ≡ false) xs i → slice_get xs i ≡ find (nat_le m) xs
@@ -19,7 +19,7 @@ find_from_point (x ∷ xs) m (suc i) p =
     grind (arith, nat_tests, first, rest)
 
 -- rising numbers are parted by a bound
-pub parted : (xs : List ℕ) (m : ℕ) → Rises xs → IsPartitionedBy (λ x. nat_lt x m) xs
+pub parted : (xs : List ℕ) (m : ℕ) → NumbersRise xs → IsPartitionedBy (λ x. nat_lt x m) xs
 parted xs m r i j d le lt below =
     elim (cases_eq i j) [
       | inl e ↦ rw e below

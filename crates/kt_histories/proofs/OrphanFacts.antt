@@ -16,7 +16,7 @@ use Rattle.kt_histories.specs.HistoriesOf.{HistoriesOf}
 use Rattle.kt_cuts.specs.Past.{Past, past}
 use Rattle.kt_cuts.specs.Legal.{is_deed, has_deed}
 use Rattle.kt_cuts.specs.Cuts.{part, IsOrphan}
-use Rattle.kt_cuts.specs.Lists.{sent_in, received_in, Rises}
+use Rattle.kt_cuts.specs.Lists.{sent_in, received_in, NumbersRise}
 use Rattle.kt_cuts.specs.Traces.{place_of}
 use Rattle.kt_cuts.specs.Orphans.{IsOrphanBetween, IsAtMost, is_within}
 use Rattle.kt_histories.specs.Standing.{ShowsMessages, ShowsPast, message_at, receiving}
@@ -26,13 +26,13 @@ use Rattle.kt_cuts.proofs.DeedFacts.{place_of_deed, has_at, received_source}
 use Rattle.kt_cuts.proofs.LatestFacts.{received_place}
 use Rattle.kt_cuts.proofs.OrphanFacts.{between_of, get_from_drop, orphan_of, received_of, rises_across, sent_place}
 
-pub rises_back : (xs ys : List ℕ) → Rises (xs ++ ys) → Rises ys
+pub rises_back : (xs ys : List ℕ) → NumbersRise (xs ++ ys) → NumbersRise ys
 rises_back xs ys r i j d low l =
     let one = get_or-append-add xs ys i d in
     let two = get_or-append-add xs ys j d in
     rw (← one, ← two) (r (length xs + i) (length xs + j) d (omega (arith, low)) (omega (arith, l, length-append xs ys)))
 
-pub first_least : (ys : List ℕ) (k u m : ℕ) → Rises ys → slice_get ys 0 ≡ Some u → slice_get ys k ≡ Some m → u ≤ m
+pub first_least : (ys : List ℕ) (k u m : ℕ) → NumbersRise ys → slice_get ys 0 ≡ Some u → slice_get ys k ≡ Some m → u ≤ m
 first_least ys zero u m r e f =
     let same : u ≡ m = some_same (sym e ∙ f) in
     omega (arith, same)
@@ -65,7 +65,7 @@ find_there u (y ∷ xs) r e = at_test (nat_le u y) refl e (find_there u xs r)
         let there = rest e in
         (suc there.0, there.1, there.2)
 
-pub find_least : (u : ℕ) (xs : List ℕ) (r k x : ℕ) → Rises xs → find (nat_le u) xs ≡ Some r → slice_get xs k ≡ Some x → u ≤ x → r ≤ x
+pub find_least : (u : ℕ) (xs : List ℕ) (r k x : ℕ) → NumbersRise xs → find (nat_le u) xs ≡ Some r → slice_get xs k ≡ Some x → u ≤ x → r ≤ x
 find_least u [] r k x rises e f l = absurd (cc)
 find_least u (y ∷ xs) r k x rises e f l = at_test (nat_le u y) refl e k f (λ g j h. find_least u xs r j x (rises_back (y ∷ []) xs rises) g h l)
   where
@@ -79,11 +79,11 @@ find_least u (y ∷ xs) r k x rises e f l = at_test (nat_le u y) refl e k f (λ 
         absurd (omega (arith, above, l, same))
     at_test false t e (suc k) f rest = rest e k f
 
-sends_split : (n : ℕ) (l : List Deed) → Rises (sent_in l) → Rises (sent_in (take n l) ++ sent_in (drop n l))
-sends_split n l r = subst Rises (ap sent_in (sym (take-append-drop n l)) ∙ sent_more (take n l) (drop n l)) r
+sends_split : (n : ℕ) (l : List Deed) → NumbersRise (sent_in l) → NumbersRise (sent_in (take n l) ++ sent_in (drop n l))
+sends_split n l r = subst NumbersRise (ap sent_in (sym (take-append-drop n l)) ∙ sent_more (take n l) (drop n l)) r
 
-receives_split : (q n : ℕ) (l : List Deed) → Rises (received_in q l) → Rises (received_in q (take n l) ++ received_in q (drop n l))
-receives_split q n l r = subst Rises (ap (received_in q) (sym (take-append-drop n l)) ∙ received_more q (take n l) (drop n l)) r
+receives_split : (q n : ℕ) (l : List Deed) → NumbersRise (received_in q l) → NumbersRise (received_in q (take n l) ++ received_in q (drop n l))
+receives_split q n l r = subst NumbersRise (ap (received_in q) (sym (take-append-drop n l)) ∙ received_more q (take n l) (drop n l)) r
 
 -- a live send that a part lacks stands past it
 past_part : (n : ℕ) (l : List Deed) (d : Deed) → has_deed d l ≡ true → has_deed d (take n l) ≡ false → (j : ℕ) × (slice_get (drop n l) j ≡ Some d)
@@ -106,13 +106,13 @@ nothing_past n l m to none live lacks =
     nothing_first [] k m e f = cc
     nothing_first (x ∷ xs) k m e f = cc
 
-pub not_before : (n : ℕ) (l : List Deed) (m to u : ℕ) → Rises (sent_in l) → slice_get (sent_in (drop n l)) 0 ≡ Some u → has_deed (deed.Sent m to) l ≡ true → has_deed (deed.Sent m to) (take n l) ≡ false → u ≤ m
+pub not_before : (n : ℕ) (l : List Deed) (m to u : ℕ) → NumbersRise (sent_in l) → slice_get (sent_in (drop n l)) 0 ≡ Some u → has_deed (deed.Sent m to) l ≡ true → has_deed (deed.Sent m to) (take n l) ≡ false → u ≤ m
 not_before n l m to u r e live lacks =
     let there = past_part n l (deed.Sent m to) live lacks in
     let sent = sent_place (drop n l) there.0 m to there.1 in
     first_least (sent_in (drop n l)) sent.0 u m (rises_back (sent_in (take n l)) (sent_in (drop n l)) (sends_split n l r)) e sent.1
 
-pub lacks_later : (n : ℕ) (l : List Deed) (m to u : ℕ) → Rises (sent_in l) → slice_get (sent_in (drop n l)) 0 ≡ Some u → u ≤ m → has_deed (deed.Sent m to) (take n l) ≡ false
+pub lacks_later : (n : ℕ) (l : List Deed) (m to u : ℕ) → NumbersRise (sent_in l) → slice_get (sent_in (drop n l)) 0 ≡ Some u → u ≤ m → has_deed (deed.Sent m to) (take n l) ≡ false
 lacks_later n l m to u r e low = at_test (has_deed (deed.Sent m to) (take n l)) refl
   where
     at_test : (b : Bool) → has_deed (deed.Sent m to) (take n l) ≡ b → has_deed (deed.Sent m to) (take n l) ≡ false
@@ -123,13 +123,13 @@ lacks_later n l m to u r e low = at_test (has_deed (deed.Sent m to) (take n l)) 
         absurd (omega (arith, low, rises_across (sent_in (take n l)) (sent_in (drop n l)) sent.0 0 m u (sends_split n l r) sent.1 e))
 
 -- receives from one sender rise with their places
-pub receives_rise : (q : ℕ) (l : List Deed) (i j a b : ℕ) → Rises (received_in q l) → i < j → slice_get l i ≡ Some (deed.Received a q) → slice_get l j ≡ Some (deed.Received b q) → a < b
+pub receives_rise : (q : ℕ) (l : List Deed) (i j a b : ℕ) → NumbersRise (received_in q l) → i < j → slice_get l i ≡ Some (deed.Received a q) → slice_get l j ≡ Some (deed.Received b q) → a < b
 receives_rise q l i j a b r low e f =
     let one = received_place q (take j l) i a (get_in_take j l i low ∙ e) in
     let two = received_place q (drop j l) (j - j) b (get_from_drop j l j (deed.Received b q) f (omega arith)) in
     rises_across (received_in q (take j l)) (received_in q (drop j l)) one.0 two.0 a b (receives_split q j l r) one.1 two.1
 
-pub none_received : (s : Past) (cut : ℕ → ℕ) (p q m u : ℕ) → IsOrphanBetween s cut p q m → has_deed (deed.Sent m p) (s.live q) ≡ true → Rises (sent_in (s.live q))
+pub none_received : (s : Past) (cut : ℕ → ℕ) (p q m u : ℕ) → IsOrphanBetween s cut p q m → has_deed (deed.Sent m p) (s.live q) ≡ true → NumbersRise (sent_in (s.live q))
     → slice_get (sent_in (drop (cut q) (s.live q))) 0 ≡ Some u → find (nat_le u) (received_in q (s.live p)) ≡ None → ⊥
 none_received s cut p q m u o live r e none =
     let at = received_of s cut p q m o in
@@ -143,7 +143,7 @@ found_place s p q u r found =
     let there = find_there u (received_in q (s.live p)) r found in
     received_source q (s.live p) there.0 r there.1
 
-pub found_orphan : (s : Past) (cut : ℕ → ℕ) (p q u r i : ℕ) → Rises (sent_in (s.live q)) → slice_get (sent_in (drop (cut q) (s.live q))) 0 ≡ Some u → find (nat_le u) (received_in q (s.live p)) ≡ Some r
+pub found_orphan : (s : Past) (cut : ℕ → ℕ) (p q u r i : ℕ) → NumbersRise (sent_in (s.live q)) → slice_get (sent_in (drop (cut q) (s.live q))) 0 ≡ Some u → find (nat_le u) (received_in q (s.live p)) ≡ Some r
     → slice_get (s.live p) i ≡ Some (deed.Received r q) → i < cut p → IsOrphanBetween s cut p q r
 found_orphan s cut p q u r i rises e found at within = record {
   place = i;
@@ -151,14 +151,14 @@ found_orphan s cut p q u r i rises e found at within = record {
   unsent = lacks_later (cut q) (s.live q) r p u rises e (find_there u (received_in q (s.live p)) r found).2;
 }
 
-pub found_least : (s : Past) (cut : ℕ → ℕ) (p q m u r : ℕ) → IsOrphanBetween s cut p q m → has_deed (deed.Sent m p) (s.live q) ≡ true → Rises (sent_in (s.live q)) → Rises (received_in q (s.live p))
+pub found_least : (s : Past) (cut : ℕ → ℕ) (p q m u r : ℕ) → IsOrphanBetween s cut p q m → has_deed (deed.Sent m p) (s.live q) ≡ true → NumbersRise (sent_in (s.live q)) → NumbersRise (received_in q (s.live p))
     → slice_get (sent_in (drop (cut q) (s.live q))) 0 ≡ Some u → find (nat_le u) (received_in q (s.live p)) ≡ Some r → r ≤ m
 found_least s cut p q m u r o live sends receives e found =
     let at = received_of s cut p q m o in
     let there = received_place q (s.live p) o.place m at.0 in
     find_least u (received_in q (s.live p)) r there.0 m receives found there.1 (not_before (cut q) (s.live q) m p u sends e live o.unsent)
 
-pub found_past : (s : Past) (cut : ℕ → ℕ) (p q m u r i : ℕ) → IsOrphanBetween s cut p q m → has_deed (deed.Sent m p) (s.live q) ≡ true → Rises (sent_in (s.live q)) → Rises (received_in q (s.live p))
+pub found_past : (s : Past) (cut : ℕ → ℕ) (p q m u r i : ℕ) → IsOrphanBetween s cut p q m → has_deed (deed.Sent m p) (s.live q) ≡ true → NumbersRise (sent_in (s.live q)) → NumbersRise (received_in q (s.live p))
     → slice_get (sent_in (drop (cut q) (s.live q))) 0 ≡ Some u → find (nat_le u) (received_in q (s.live p)) ≡ Some r → slice_get (s.live p) i ≡ Some (deed.Received r q) → cut p ≤ i → ⊥
 found_past s cut p q m u r i o live sends receives e found at past_it =
     let here = received_of s cut p q m o in

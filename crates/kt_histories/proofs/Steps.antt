@@ -12,7 +12,7 @@ use Rattle.kt_histories.specs.declared.tables.Message.{Message}
 use Rattle.kt_cuts.specs.declared.instances.Instance.{Instance}
 use Rattle.kt_cuts.specs.Past.{Past, after, at_one}
 use Rattle.kt_cuts.specs.Legal.{has_deed, is_later, is_undelivered}
-use Rattle.kt_cuts.specs.Lists.{Rises, last_of, sent_in, received_in}
+use Rattle.kt_cuts.specs.Lists.{NumbersRise, last_of, sent_in, received_in}
 use Rattle.kt_histories.specs.Tables.{with_received, with_dropped}
 use Rattle.kt_cuts.specs.Standing.{IsAllowed}
 use Rattle.kt_histories.specs.Standing.{Shows, ShowsMessages, message_at, sending, receiving, is_dropped}
@@ -111,10 +111,10 @@ shows_sent ps ms js d b s p to body v m h low at number =
         positions = h.of_instances.positions;
       };
       in_order = record {
-        sent = λ q. subst (λ (l : List Deed). Rises (sent_in l)) (sym (live q)) (each_history (λ l. Rises (sent_in l)) p q (s.live p ++ new ∷ []) s.live
-            (subst Rises (sym (sent_more (s.live p) (new ∷ []))) (rises_push (sent_in (s.live p)) m (h.in_order.sent p) (λ k x e. omega (arith, number, sent_before ms s p k x h.of_messages e)))) h.in_order.sent);
-        received = λ q f. subst (λ (l : List Deed). Rises (received_in f l)) (sym (live q)) (each_history (λ l. Rises (received_in f l)) p q (s.live p ++ new ∷ []) s.live
-            (subst Rises (sym (received_unsent (s.live p) m to f)) (h.in_order.received p f)) (λ r. h.in_order.received r f));
+        sent = λ q. subst (λ (l : List Deed). NumbersRise (sent_in l)) (sym (live q)) (each_history (λ l. NumbersRise (sent_in l)) p q (s.live p ++ new ∷ []) s.live
+            (subst NumbersRise (sym (sent_more (s.live p) (new ∷ []))) (rises_push (sent_in (s.live p)) m (h.in_order.sent p) (λ k x e. omega (arith, number, sent_before ms s p k x h.of_messages e)))) h.in_order.sent);
+        received = λ q f. subst (λ (l : List Deed). NumbersRise (received_in f l)) (sym (live q)) (each_history (λ l. NumbersRise (received_in f l)) p q (s.live p ++ new ∷ []) s.live
+            (subst NumbersRise (sym (received_unsent (s.live p) m to f)) (h.in_order.received p f)) (λ r. h.in_order.received r f));
         dropped = h.in_order.dropped;
       };
       dead_known = λ q i m' f e n. elim (more_or_same p q i (s.live p) s.live (deed.Received m' f) new refl (ap (λ (l : List Deed). slice_get l i) (sym (live q)) ∙ e)) [
@@ -153,9 +153,9 @@ number_of_receive m to n q e = cc
 peer_of_receive : (m to n q : ℕ) → deed.Received m to ≡ deed.Received n q → to ≡ q
 peer_of_receive m to n q e = cc
 
-each_history_sent : (p : ℕ) (f : ℕ → List Deed) (m g : ℕ) → ((r : ℕ) → Rises (sent_in (f r))) → (q : ℕ) → Rises (sent_in (at_one p (f p ++ deed.Received m g ∷ []) f q))
+each_history_sent : (p : ℕ) (f : ℕ → List Deed) (m g : ℕ) → ((r : ℕ) → NumbersRise (sent_in (f r))) → (q : ℕ) → NumbersRise (sent_in (at_one p (f p ++ deed.Received m g ∷ []) f q))
 each_history_sent p f m g all q =
-    each_history (λ l. Rises (sent_in l)) p q (f p ++ deed.Received m g ∷ []) f (subst Rises (sym (sent_more (f p) (deed.Received m g ∷ []) ∙ append-nil (sent_in (f p)))) (all p)) all
+    each_history (λ l. NumbersRise (sent_in l)) p q (f p ++ deed.Received m g ∷ []) f (subst NumbersRise (sym (sent_more (f p) (deed.Received m g ∷ []) ∙ append-nil (sent_in (f p)))) (all p)) all
 
 -- a receive
 pub shows_received : (ps : List Process) (ms os : List (Option Message)) (js : List Instance) (d : List ℕ) (b : Option (ℕ × ℕ)) (s : Past) (p f m : ℕ) (v : Process)
@@ -233,12 +233,12 @@ shows_received ps ms os js d b s p f m v h allowed low at marked others same =
         sent = each_history_sent p s.live m f h.in_order.sent;
         received = λ q g. elim (cases_eq g f) [
           | inl is ↦
-              each_history (λ l. Rises (received_in g l)) p q (s.live p ++ new ∷ []) s.live
-              (subst (λ (x : ℕ). Rises (received_in x (s.live p ++ new ∷ []))) (sym is) (subst Rises (sym (received_at (s.live p) m f)) (rises_push (received_in f (s.live p)) m (h.in_order.received p f) (λ k x e.
+              each_history (λ l. NumbersRise (received_in g l)) p q (s.live p ++ new ∷ []) s.live
+              (subst (λ (x : ℕ). NumbersRise (received_in x (s.live p ++ new ∷ []))) (sym is) (subst NumbersRise (sym (received_at (s.live p) m f)) (rises_push (received_in f (s.live p)) m (h.in_order.received p f) (λ k x e.
               let there = received_source f (s.live p) k x e in
               later_than f m (s.live p) order.0 there.0 x there.1)))) (λ r. h.in_order.received r g)
           | inr n ↦
-              each_history (λ l. Rises (received_in g l)) p q (s.live p ++ new ∷ []) s.live (subst Rises (sym (received_else (s.live p) m f g n)) (h.in_order.received p g)) (λ r. h.in_order.received r g)
+              each_history (λ l. NumbersRise (received_in g l)) p q (s.live p ++ new ∷ []) s.live (subst NumbersRise (sym (received_else (s.live p) m f g n)) (h.in_order.received p g)) (λ r. h.in_order.received r g)
         ];
         dropped = h.in_order.dropped;
       };
@@ -323,12 +323,12 @@ shows_dropped ps ms os js d b s p f m v h allowed low low_f at marked others sam
         received = h.in_order.received;
         dropped = λ q g. elim (cases_eq g f) [
           | inl is ↦
-              each_history (λ l. Rises (received_in g l)) p q (s.dropped_since p ++ new ∷ []) s.dropped_since
-              (subst (λ (x : ℕ). Rises (received_in x (s.dropped_since p ++ new ∷ []))) (sym is) (subst Rises (sym (received_at (s.dropped_since p) m f)) (rises_push (received_in f (s.dropped_since p)) m (h.in_order.dropped p f) (λ k x e.
+              each_history (λ l. NumbersRise (received_in g l)) p q (s.dropped_since p ++ new ∷ []) s.dropped_since
+              (subst (λ (x : ℕ). NumbersRise (received_in x (s.dropped_since p ++ new ∷ []))) (sym is) (subst NumbersRise (sym (received_at (s.dropped_since p) m f)) (rises_push (received_in f (s.dropped_since p)) m (h.in_order.dropped p f) (λ k x e.
               let there = received_source f (s.dropped_since p) k x e in
               later_than f m (s.dropped_since p) order.1 there.0 x there.1)))) (λ r. h.in_order.dropped r g)
           | inr n ↦
-              each_history (λ l. Rises (received_in g l)) p q (s.dropped_since p ++ new ∷ []) s.dropped_since (subst Rises (sym (received_else (s.dropped_since p) m f g n)) (h.in_order.dropped p g)) (λ r. h.in_order.dropped r g)
+              each_history (λ l. NumbersRise (received_in g l)) p q (s.dropped_since p ++ new ∷ []) s.dropped_since (subst NumbersRise (sym (received_else (s.dropped_since p) m f g n)) (h.in_order.dropped p g)) (λ r. h.in_order.dropped r g)
         ];
       };
       dead_known = h.dead_known;

@@ -66,6 +66,6 @@ abbrev pub parties_shown : Replay → List (Option (ℕ × ℕ))
 parties_shown r = map parties r.messages.items
 
 -- tables stand for the rows of a log
-pub record StandsFor (r : Replay) (rows : List Event) : Type 0 where
+pub record ReplayStandsFor (r : Replay) (rows : List Event) : Type 0 where
   pub shows : ShowsPast r (past rows)
   pub messages : parties_shown r ≡ map parties_of_row rows

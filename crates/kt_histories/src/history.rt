@@ -2,7 +2,7 @@
 
 ghost use Rattle.std.specs.Prelude.{◌≡◌, ◌≤◌, ◌<◌, ◌++◌, ◌∷◌, [], nat_le, find, length, drop, slice_get, option_to_list, OnOk, IfOk, IfNone, IsTrue, ◌↔◌, Some, None, ◌+◌};
 ghost use Rattle.kt_cuts.specs.declared.deeds.Deed.TheVariants as deed;
-ghost use Rattle.kt_cuts.specs.Lists.{last_of, Rises, sent_in, received_in};
+ghost use Rattle.kt_cuts.specs.Lists.{last_of, NumbersRise, sent_in, received_in};
 
 use crate::messages::Messages;
 use kt_base::{Memory, MsgNo, ProcNo};
@@ -136,7 +136,7 @@ impl History {
 
     /// The first message from this sender that is not before another one, where they rise.
     pub(crate) fn first_received_from(&self, from: ProcNo, msg: MsgNo) -> Option<MsgNo>
-        ensures { Rises (received_in from self.now) → result ≡ find (nat_le msg) (received_in from self.now) }
+        ensures { NumbersRise (received_in from self.now) → result ≡ find (nat_le msg) (received_in from self.now) }
     {
         self.received[from.get() as usize].first_from(msg)
     }

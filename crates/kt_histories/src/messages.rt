@@ -1,7 +1,7 @@
 //! Lists of messages.
 
 ghost use Rattle.std.specs.Prelude.{◌≡◌, ◌++◌, ◌∷◌, [], nat_le, nat_lt, find, slice_get, option_to_list, OnOk, OnErr, IfOk, IfNone, All, length};
-ghost use Rattle.kt_cuts.specs.Lists.{last_of, Rises};
+ghost use Rattle.kt_cuts.specs.Lists.{last_of, NumbersRise};
 
 use kt_base::{Memory, MsgNo};
 use std::alloc::Global;
@@ -83,7 +83,7 @@ impl Messages {
 
     /// The first message of a rising list that is not before this one.
     pub(crate) fn first_from(&self, msg: MsgNo) -> Option<MsgNo>
-        ensures { Rises self.now → result ≡ find (nat_le msg) self.now }
+        ensures { NumbersRise self.now → result ≡ find (nat_le msg) self.now }
     {
         let index = self.numbers.as_slice().partition_point(
             |number: &MsgNo| -> bool

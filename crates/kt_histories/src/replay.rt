@@ -32,11 +32,11 @@ pub(crate) struct Replay {
 impl Replay {
     ghost use Rattle.kt_cuts.specs.Past.{Past, start, after};
     ghost use Rattle.kt_cuts.specs.Standing.{IsAllowed, parties_of_row, at_number, rolled_back_shown};
-    ghost use Rattle.kt_histories.specs.Standing.{ShowsPast, StandsFor, parties_shown, message_at};
+    ghost use Rattle.kt_histories.specs.Standing.{ShowsPast, ReplayStandsFor, parties_shown, message_at};
 
     /// What is known before the first row.
     pub(crate) fn new(alloc: Global) -> Result<Replay, Memory>
-        ensures { IfOk result (λ r. StandsFor r []) }
+        ensures { IfOk result (λ r. ReplayStandsFor r []) }
     {
         let processes = initial_processes(alloc)?;
         Ok(Replay {

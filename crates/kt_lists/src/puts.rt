@@ -3,7 +3,7 @@
 ghost use Rattle.std.specs.Prelude.{◌≡◌, ◌<◌, ◌≤◌, ◌+◌, ℕ, slice_index_or, true, length};
 ghost use Rattle.kt_base.specs.Sets.{has};
 ghost use Rattle.kt_fifo.specs.Channels.{channel, spare_of};
-ghost use Rattle.kt_parts.specs.Asks.{IsRising};
+ghost use Rattle.kt_parts.specs.Asks.{AreRisingAsks};
 ghost use Rattle.kt_seen.specs.ListChanges.{with_decisions};
 ghost use Rattle.kt_seen.specs.InOnePiece.{with_asks};
 
@@ -36,7 +36,7 @@ pub fn put_asks(
 )
     requires from { p < channels.old.processes }
     requires to { (j : ℕ) → j < length asks.now → (slice_index_or asks.now j (0, 0)).0 < channels.old.processes }
-    requires rising { IsRising asks.now }
+    requires rising { AreRisingAsks asks.now }
     requires room { (j : ℕ) → j < length asks.now → 1 ≤ spare_of channels.old p (slice_index_or asks.now j (0, 0)).0 }
     ensures processes { channels.new.processes ≡ channels.old.processes }
     ensures lists { channel channels.new ≡ with_asks (channel channels.old) p inst kind asks.now }

@@ -12,14 +12,14 @@ use Rattle.kt_log_text.specs.declared.rows.RowWord.{RowWord}
 use Rattle.kt_log_text.specs.declared.rows.RowWord.TheVariants as row
 use Rattle.kt_log_text.specs.Slot.{Slot}
 use Rattle.kt_log_text.specs.Slot as slot
-use Rattle.kt_log_text.specs.Spelling.{spelling, max_rows, IsFirstMisfit, IsFaultAfter, IsFieldFault}
-use Rattle.kt_log_text.specs.Texts.{AreInFormat, IsRowFault, IsFirstFault, IsOfText}
+use Rattle.kt_log_text.specs.Spelling.{spelling, max_rows, IsFirstRowMisfit, IsRowFaultAfter, IsRowFieldFault}
+use Rattle.kt_log_text.specs.Texts.{AreInFormat, IsRowFault, IsFirstLogFault, IsOfLogText}
 use Rattle.kt_log_text.proofs.SpellingFacts.{one_word}
 use Rattle.kt_text.proofs.FieldFacts.{Records, first_and_rest, field_1, field_2, field_3, field_4}
 use Rattle.kt_log_text.proofs.TextFacts.{one_format, no_wrong_row, SaysOther, HasWrongRow, kinds, IsWhole, whole, other_has_none}
 
 -- of three texts one is the first that does not fit
-one_misfit : (format : Format) (x y z : Slot) (a b c : List ℕ) (f g : RowFault) → IsFirstMisfit format x y z a b c f → IsFirstMisfit format x y z a b c g → f ≡ g
+one_misfit : (format : Format) (x y z : Slot) (a b c : List ℕ) (f g : RowFault) → IsFirstRowMisfit format x y z a b c f → IsFirstRowMisfit format x y z a b c g → f ≡ g
 one_misfit format x y z a b c f g (inl p) (inl q) = p.0 ∙ sym q.0
 one_misfit format x y z a b c f g (inl p) (inr (inl q)) = absurd (p.1 q.0)
 one_misfit format x y z a b c f g (inl p) (inr (inr q)) = absurd (p.1 q.0)
@@ -30,7 +30,7 @@ one_misfit format x y z a b c f g (inr (inr p)) (inl q) = absurd (q.1 p.0)
 one_misfit format x y z a b c f g (inr (inr p)) (inr (inl q)) = absurd (q.1.1 p.1)
 one_misfit format x y z a b c f g (inr (inr p)) (inr (inr q)) = p.2.0 ∙ sym q.2.0
 
-one_after : (format : Format) (w : RowWord) (a b c : List ℕ) (f g : RowFault) → IsFaultAfter format w a b c f → IsFaultAfter format w a b c g → f ≡ g
+one_after : (format : Format) (w : RowWord) (a b c : List ℕ) (f g : RowFault) → IsRowFaultAfter format w a b c f → IsRowFaultAfter format w a b c g → f ≡ g
 one_after format row.Sent a b c f g p q = one_misfit format slot.process slot.process slot.body a b c f g p q
 one_after format row.Received a b c f g p q = one_misfit format slot.process slot.process slot.message a b c f g p q
 one_after format row.Dropped a b c f g p q = one_misfit format slot.process slot.process slot.message a b c f g p q
@@ -44,19 +44,19 @@ one_after format row.Failed a b c f g p q = one_misfit format slot.process slot.
 one_after format row.Refused a b c f g p q = one_misfit format slot.process slot.verb slot.cause a b c f g p q
 
 -- four fields have one fault
-one_in_fields : (format : Format) (w a b c : List ℕ) (f g : RowFault) → IsFieldFault format w a b c f → IsFieldFault format w a b c g → f ≡ g
+one_in_fields : (format : Format) (w a b c : List ℕ) (f g : RowFault) → IsRowFieldFault format w a b c f → IsRowFieldFault format w a b c g → f ≡ g
 one_in_fields format w a b c f g (inl p) (inl q) = p.0 ∙ sym q.0
 one_in_fields format w a b c f g (inl p) (inr (v, is, h)) = absurd (p.1 v is)
 one_in_fields format w a b c f g (inr (v, is, h)) (inl q) = absurd (q.1 v is)
 one_in_fields format w a b c f g (inr (v, is, h)) (inr (u, as_u, k)) =
-    one_after format v a b c f g h (subst (λ (x : RowWord). IsFaultAfter format x a b c g) (one_word u v (sym as_u ∙ is)) k)
+    one_after format v a b c f g h (subst (λ (x : RowWord). IsRowFaultAfter format x a b c g) (one_word u v (sym as_u ∙ is)) k)
 
-one_in_record : (format : Format) (w a b c v d e h : List ℕ) (f g : RowFault) → w ∷ a ∷ b ∷ c ∷ [] ≡ v ∷ d ∷ e ∷ h ∷ [] → IsFieldFault format w a b c f → IsFieldFault format v d e h g → f ≡ g
+one_in_record : (format : Format) (w a b c v d e h : List ℕ) (f g : RowFault) → w ∷ a ∷ b ∷ c ∷ [] ≡ v ∷ d ∷ e ∷ h ∷ [] → IsRowFieldFault format w a b c f → IsRowFieldFault format v d e h g → f ≡ g
 one_in_record format w a b c v d e h f g same p q =
-    let at_1 = subst (λ (x : List ℕ). IsFieldFault format x d e h g) (sym (ap field_1 same)) q in
-    let at_2 = subst (λ (x : List ℕ). IsFieldFault format w x e h g) (sym (ap field_2 same)) at_1 in
-    let at_3 = subst (λ (x : List ℕ). IsFieldFault format w a x h g) (sym (ap field_3 same)) at_2 in
-    one_in_fields format w a b c f g p (subst (λ (x : List ℕ). IsFieldFault format w a b x g) (sym (ap field_4 same)) at_3)
+    let at_1 = subst (λ (x : List ℕ). IsRowFieldFault format x d e h g) (sym (ap field_1 same)) q in
+    let at_2 = subst (λ (x : List ℕ). IsRowFieldFault format w x e h g) (sym (ap field_2 same)) at_1 in
+    let at_3 = subst (λ (x : List ℕ). IsRowFieldFault format w a x h g) (sym (ap field_3 same)) at_2 in
+    one_in_fields format w a b c f g p (subst (λ (x : List ℕ). IsRowFieldFault format w a b x g) (sym (ap field_4 same)) at_3)
 
 -- the first records of one list are one
 one_head : (x y : List (List ℕ)) (xs ys left : Records) → left ≡ x ∷ xs → left ≡ y ∷ ys → x ≡ y
@@ -115,7 +115,7 @@ one_wrong_row format before others left rest f g e m few n fewer p q =
       ]
     ]
 
-one_wrong : (text : Records) (f g : LogFault) (p : IsFirstFault text f) (q : IsFirstFault text g)
+one_wrong : (text : Records) (f g : LogFault) (p : IsFirstLogFault text f) (q : IsFirstLogFault text g)
     → HasWrongRow p.format (length p.rows) p.left f → HasWrongRow q.format (length q.rows) q.left g → f ≡ g
 one_wrong text f g p q (format, left, t, h) (other, rest, u, k) =
     let all = whole p.format format p.rows p.left left text p.after_rows t in
@@ -126,11 +126,11 @@ one_wrong text f g p q (format, left, t, h) (other, rest, u, k) =
     (subst (λ (x : Format). IsRowFault x (length q.rows) rest g) (sym same.0) k)
 
 -- where the first record says another version, no row is wrong
-not_both : (text : Records) (f g : LogFault) (p : IsFirstFault text f) (q : IsFirstFault text g) → SaysOther p.format p.left f → HasWrongRow q.format (length q.rows) q.left g → ⊥
+not_both : (text : Records) (f g : LogFault) (p : IsFirstLogFault text f) (q : IsFirstLogFault text g) → SaysOther p.format p.left f → HasWrongRow q.format (length q.rows) q.left g → ⊥
 not_both text f g p q other (format, rest, t, h) =
     other_has_none p.format p.rows p.left text f format (map spelling q.rows ++ rest) p.after_rows other (whole q.format format q.rows q.left rest text q.after_rows t).spelled
 
-pub one_fault : (text : Records) (f g : LogFault) → IsOfText f → IsOfText g → IsFirstFault text f → IsFirstFault text g → f ≡ g
+pub one_fault : (text : Records) (f g : LogFault) → IsOfLogText f → IsOfLogText g → IsFirstLogFault text f → IsFirstLogFault text g → f ≡ g
 one_fault text f g o u p q =
     both (kinds p.format (length p.rows) p.left f o p.wrong) (kinds q.format (length q.rows) q.left g u q.wrong)
   where

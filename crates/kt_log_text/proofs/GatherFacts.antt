@@ -9,11 +9,11 @@ use Rattle.kt_log_text.specs.declared.fault.LogFault.{LogFault}
 use Rattle.kt_log_text.specs.declared.fault.LogFault.TheVariants.{Memory}
 use Rattle.kt_log_text.specs.declared.rows.Format.{Format}
 use Rattle.kt_log_text.specs.declared.rows.Format.TheVariants.{One, Two}
-use Rattle.kt_spacetime.specs.Events.{IsInRange}
+use Rattle.kt_spacetime.specs.Events.{IsRowInRange}
 use Rattle.kt_log_text.specs.Spelling.{spelling, max_rows, IsInFormat}
-use Rattle.kt_log_text.specs.Texts.{IsTextOf, IsFaultFrom, IsEndedFrom, IsAfterRows, AreInFormat, IsLogText, IsFirstFault}
+use Rattle.kt_log_text.specs.Texts.{IsTextOf, IsFaultFrom, IsEndedFrom, IsAfterRows, AreInFormat, IsLogText, IsFirstLogFault}
 use Rattle.kt_log_text.specs.Reading.{RowsRead, TakesRow, GivesRow, MeetsEnd, MeetsFault, Steps, rows_unread}
-use Rattle.kt_log_text.specs.Progress.{Begins, Gathers}
+use Rattle.kt_log_text.specs.Progress.{BeginsWithRows, GathersRows}
 
 abbrev Known : Type 0
 Known = Option (List (List (List ℕ)))
@@ -29,19 +29,19 @@ most_rows_le Two = omega arith
 spelled_more : (rows : List Event) (row : Event) (rest : List (List (List ℕ))) → map spelling rows ++ (spelling row ∷ rest) ≡ map spelling (rows ++ row ∷ []) ++ rest
 spelled_more rows row rest = rw (map-append spelling rows (row ∷ []), append_assoc (map spelling rows) (spelling row ∷ []) rest) refl
 
-numbers_more : (format : Format) (rows : List Event) (row : Event) → AreInFormat format rows → IsInRange row → IsInFormat format row → AreInFormat format (rows ++ row ∷ [])
+numbers_more : (format : Format) (rows : List Event) (row : Event) → AreInFormat format rows → IsRowInRange row → IsInFormat format row → AreInFormat format (rows ++ row ∷ [])
 numbers_more format rows row numbers range inside = record {
-  in_range = All-push IsInRange rows row numbers.in_range range;
+  in_range = All-push IsRowInRange rows row numbers.in_range range;
   in_format = All-push (IsInFormat format) rows row numbers.in_format inside;
 }
 
-begins_more : (text left rest : Known) (known : Option Format) (format : Format) (rows : List Event) (row : Event) → Begins text left known rows → TakesRow known format left rest row
-    → IsInRange row → IsInFormat format row → length rows < max_rows format → Begins text rest (Some format) (rows ++ row ∷ [])
+begins_more : (text left rest : Known) (known : Option Format) (format : Format) (rows : List Event) (row : Event) → BeginsWithRows text left known rows → TakesRow known format left rest row
+    → IsRowInRange row → IsInFormat format row → length rows < max_rows format → BeginsWithRows text rest (Some format) (rows ++ row ∷ [])
 begins_more None left rest known format rows row b t range inside few = tt
 begins_more (Some text) None rest known format rows row b t range inside few = absurd b
 begins_more (Some text) (Some left) None known format rows row b t range inside few = absurd t
 begins_more (Some text) (Some left) (Some rest) None format rows row b t range inside few =
-    let first : IsAfterRows (Some format) (row ∷ []) rest text = (subst (λ (x : List (List (List ℕ))). IsTextOf format (spelling row ∷ rest) x) b.1 t, record { in_range = All-push IsInRange [] row (all_none IsInRange) range; in_format = All-push (IsInFormat format) [] row (all_none (IsInFormat format)) inside }, omega (arith, few)) in
+    let first : IsAfterRows (Some format) (row ∷ []) rest text = (subst (λ (x : List (List (List ℕ))). IsTextOf format (spelling row ∷ rest) x) b.1 t, record { in_range = All-push IsRowInRange [] row (all_none IsRowInRange) range; in_format = All-push (IsInFormat format) [] row (all_none (IsInFormat format)) inside }, omega (arith, few)) in
     subst (λ (before : List Event). IsAfterRows (Some format) (before ++ row ∷ []) rest text) (sym b.0) first
 begins_more (Some text) (Some left) (Some rest) (Some known) format rows row b t range inside few =
     let after : IsAfterRows (Some known) rows (spelling row ∷ rest) text = subst (λ (x : List (List (List ℕ))). IsAfterRows (Some known) rows x text) t.1 b in
@@ -51,9 +51,9 @@ begins_more (Some text) (Some left) (Some rest) (Some known) format rows row b t
       omega (arith, length-append rows (row ∷ []), few),
     )
 
-pub gathers_more : (source : Option (List ℕ)) (old new : RowsRead) (rows : List Event) (row : Event) → Gathers source old rows → GivesRow old new row → Gathers source new (rows ++ row ∷ [])
+pub gathers_more : (source : Option (List ℕ)) (old new : RowsRead) (rows : List Event) (row : Event) → GathersRows source old rows → GivesRow old new row → GathersRows source new (rows ++ row ∷ [])
 gathers_more source old new rows row g s = record {
-  begins = subst (λ (o : Option Format). Begins (rows_unread source).left new.left o (rows ++ row ∷ [])) (sym s.known)
+  begins = subst (λ (o : Option Format). BeginsWithRows (rows_unread source).left new.left o (rows ++ row ∷ [])) (sym s.known)
       (begins_more (rows_unread source).left old.left new.left old.format s.format rows row g.begins s.takes s.in_range s.in_format (omega (arith, g.count, s.few)));
   count = omega (arith, s.counted, g.count, length-append rows (row ∷ []));
   few = omega (arith, s.counted, s.few, most_rows_le s.format);
@@ -61,9 +61,9 @@ gathers_more source old new rows row g s = record {
 }
 
 no_rows : (format : Format) (text : List (List (List ℕ))) → IsTextOf format [] text → IsLogText text []
-no_rows format text t = record { format = format; spelled = t; numbers = record { in_range = all_none IsInRange; in_format = all_none (IsInFormat format) }; few = omega arith }
+no_rows format text t = record { format = format; spelled = t; numbers = record { in_range = all_none IsRowInRange; in_format = all_none (IsInFormat format) }; few = omega arith }
 
-all_said : (text left : Known) (known : Option Format) (rows : List Event) → Begins text left known rows → IfSome left (IsEndedFrom known) → IfSome text (λ t. IsLogText t rows)
+all_said : (text left : Known) (known : Option Format) (rows : List Event) → BeginsWithRows text left known rows → IfSome left (IsEndedFrom known) → IfSome text (λ t. IsLogText t rows)
 all_said None left known rows b e = tt
 all_said (Some text) None known rows b e = absurd b
 all_said (Some text) (Some left) None rows b e =
@@ -75,12 +75,12 @@ all_said (Some text) (Some left) (Some known) rows b e = record {
   few = b.2;
 }
 
-first_fault : (text left : Known) (known : Option Format) (rows : List Event) (fault : LogFault) → Begins text left known rows → IfSome left (λ l. IsFaultFrom known (length rows) l fault) → IfSome text (λ t. IsFirstFault t fault)
+first_fault : (text left : Known) (known : Option Format) (rows : List Event) (fault : LogFault) → BeginsWithRows text left known rows → IfSome left (λ l. IsFaultFrom known (length rows) l fault) → IfSome text (λ t. IsFirstLogFault t fault)
 first_fault None left known rows fault b f = tt
 first_fault (Some text) None known rows fault b f = absurd b
 first_fault (Some text) (Some left) known rows fault b f = record { format = known; rows = rows; left = left; after_rows = b; wrong = f }
 
-no_memory : (text left : Known) (known : Option Format) (rows : List Event) → Begins text left known rows → IfSome text (λ t. IsFirstFault t Memory)
+no_memory : (text left : Known) (known : Option Format) (rows : List Event) → BeginsWithRows text left known rows → IfSome text (λ t. IsFirstLogFault t Memory)
 no_memory None left known rows b = tt
 no_memory (Some text) None known rows b = absurd b
 no_memory (Some text) (Some left) known rows b = record { format = known; rows = rows; left = left; after_rows = b; wrong = tt }
@@ -91,25 +91,25 @@ of_bytes None P h = tt
 of_bytes (Some bytes) P h = h
 
 -- what was gathered to the end is what the records say
-pub gathered_all : (source : Option (List ℕ)) (old new : RowsRead) (rows : List Event) → Gathers source old rows → MeetsEnd old new → IfSome (rows_unread source).left (λ text. IsLogText text rows)
+pub gathered_all : (source : Option (List ℕ)) (old new : RowsRead) (rows : List Event) → GathersRows source old rows → MeetsEnd old new → IfSome (rows_unread source).left (λ text. IsLogText text rows)
 gathered_all source old new rows g e = all_said (rows_unread source).left old.left old.format rows g.begins (e.nothing_left g.going.1)
 
-pub gathered : (source : Option (List ℕ)) (old new : RowsRead) (rows : List Event) → Gathers source old rows → MeetsEnd old new → IfSome source (λ bytes. IsLogText (records default_config (strip_bom bytes)) rows)
+pub gathered : (source : Option (List ℕ)) (old new : RowsRead) (rows : List Event) → GathersRows source old rows → MeetsEnd old new → IfSome source (λ bytes. IsLogText (records default_config (strip_bom bytes)) rows)
 gathered source old new rows g e = of_bytes source (λ t. IsLogText t rows) (gathered_all source old new rows g e)
 
 -- a fault that is met while rows are gathered is the first of the records
-pub gathered_to_fault : (source : Option (List ℕ)) (old new : RowsRead) (rows : List Event) (fault : LogFault) → Gathers source old rows → MeetsFault old new fault → IfSome (rows_unread source).left (λ text. IsFirstFault text fault)
+pub gathered_to_fault : (source : Option (List ℕ)) (old new : RowsRead) (rows : List Event) (fault : LogFault) → GathersRows source old rows → MeetsFault old new fault → IfSome (rows_unread source).left (λ text. IsFirstLogFault text fault)
 gathered_to_fault source old new rows fault g f =
     first_fault (rows_unread source).left old.left old.format rows fault g.begins (subst (λ (n : ℕ). IfSome old.left (λ left. IsFaultFrom old.format n left fault)) g.count (f.first g.going.0))
 
-pub gathered_fault : (source : Option (List ℕ)) (old new : RowsRead) (rows : List Event) (fault : LogFault) → Gathers source old rows → MeetsFault old new fault → IfSome source (λ bytes. IsFirstFault (records default_config (strip_bom bytes)) fault)
-gathered_fault source old new rows fault g f = of_bytes source (λ t. IsFirstFault t fault) (gathered_to_fault source old new rows fault g f)
+pub gathered_fault : (source : Option (List ℕ)) (old new : RowsRead) (rows : List Event) (fault : LogFault) → GathersRows source old rows → MeetsFault old new fault → IfSome source (λ bytes. IsFirstLogFault (records default_config (strip_bom bytes)) fault)
+gathered_fault source old new rows fault g f = of_bytes source (λ t. IsFirstLogFault t fault) (gathered_to_fault source old new rows fault g f)
 
-pub gathered_memory : (source : Option (List ℕ)) (old : RowsRead) (rows : List Event) → Gathers source old rows → IfSome source (λ bytes. IsFirstFault (records default_config (strip_bom bytes)) Memory)
-gathered_memory source old rows g = of_bytes source (λ t. IsFirstFault t Memory) (no_memory (rows_unread source).left old.left old.format rows g.begins)
+pub gathered_memory : (source : Option (List ℕ)) (old : RowsRead) (rows : List Event) → GathersRows source old rows → IfSome source (λ bytes. IsFirstLogFault (records default_config (strip_bom bytes)) Memory)
+gathered_memory source old rows g = of_bytes source (λ t. IsFirstLogFault t Memory) (no_memory (rows_unread source).left old.left old.format rows g.begins)
 
 -- before the first row
-pub gathers_none : (source : Option (List ℕ)) → Gathers source (rows_unread source) []
+pub gathers_none : (source : Option (List ℕ)) → GathersRows source (rows_unread source) []
 gathers_none source = record {
   begins = unread source;
   count = refl;
@@ -117,7 +117,7 @@ gathers_none source = record {
   going = (refl, refl);
 }
   where
-    unread : (o : Option (List ℕ)) → Begins (rows_unread o).left (rows_unread o).left None []
+    unread : (o : Option (List ℕ)) → BeginsWithRows (rows_unread o).left (rows_unread o).left None []
     unread None = tt
     unread (Some bytes) = (refl, refl)
 

@@ -21,10 +21,10 @@ use Rattle.kt_log_text.specs.declared.rows.RowWord.{RowWord}
 use Rattle.kt_log_text.specs.declared.rows.RowWord.TheVariants as row
 use Rattle.kt_log_text.specs.Slot.{Slot}
 use Rattle.kt_log_text.specs.Slot as slot
-use Rattle.kt_spacetime.specs.Events.{IsInRange, IsCauseInRange}
+use Rattle.kt_spacetime.specs.Events.{IsRowInRange, IsCauseInRange}
 use Rattle.kt_text.specs.Words.{kind_word, decision_word}
 use Rattle.kt_text.proofs.FieldFacts.{field_1, field_2, field_3, field_4}
-use Rattle.kt_log_text.specs.Spelling.{spelling, row_word, verb_word, cause_word, IsInFormat, Fits, IsFirstMisfit, IsFaultAfter, IsFieldFault}
+use Rattle.kt_log_text.specs.Spelling.{spelling, row_word, verb_word, cause_word, IsInFormat, FitsRowSlot, IsFirstRowMisfit, IsRowFaultAfter, IsRowFieldFault}
 
 -- the word that a row begins with
 abbrev word_of : Event → RowWord
@@ -161,7 +161,7 @@ one_cause NoSave Down r s e = let t : 110 ≡ 100 = ap cause_tag e in absurd (om
 one_cause NoSave NoSave r s e = refl
 
 -- the fields of a row spell that row alone
-pub one_row : (a b : Event) → IsInRange a → IsInRange b → spelling a ≡ spelling b → a ≡ b
+pub one_row : (a b : Event) → IsRowInRange a → IsRowInRange b → spelling a ≡ spelling b → a ≡ b
 one_row (Sent p to body) (Sent q u other) r s e =
     cc (one_process p q r.0 s.0 (ap field_2 e), one_process to u r.1 s.1 (ap field_3 e), one_body body other r.2 s.2 (ap field_4 e))
 one_row (Received p from msg) (Received q f other) r s e =
@@ -183,14 +183,14 @@ one_row (Refused p verb cause) (Refused q v other) r s e =
 one_row a b r s e = let t : word_of a ≡ word_of b = same_word a b e in cc t
 
 -- three texts that fit have no first one that does not
-none_wrong : (format : Format) (x y z : Slot) (a b c : List ℕ) (f : RowFault) → Fits format x a → Fits format y b → Fits format z c → IsFirstMisfit format x y z a b c f → ⊥
+none_wrong : (format : Format) (x y z : Slot) (a b c : List ℕ) (f : RowFault) → FitsRowSlot format x a → FitsRowSlot format y b → FitsRowSlot format z c → IsFirstRowMisfit format x y z a b c f → ⊥
 none_wrong format x y z a b c f p q r (inl h) = h.1 p
 none_wrong format x y z a b c f p q r (inr (inl h)) = h.1.1 q
 none_wrong format x y z a b c f p q r (inr (inr h)) = h.2.1 r
 
 -- the fields after a row's word are not wrong
-right_after : (format : Format) (a : Event) (f : RowFault) → IsInRange a → IsInFormat format a
-    → IsFaultAfter format (word_of a) (field_2 (spelling a)) (field_3 (spelling a)) (field_4 (spelling a)) f → ⊥
+right_after : (format : Format) (a : Event) (f : RowFault) → IsRowInRange a → IsInFormat format a
+    → IsRowFaultAfter format (word_of a) (field_2 (spelling a)) (field_3 (spelling a)) (field_4 (spelling a)) f → ⊥
 right_after format (Sent p to body) f r n h = none_wrong format slot.process slot.process slot.body _ _ _ f (p, r.0, refl) (to, r.1, refl) (body, r.2, refl) h
 right_after format (Received p from msg) f r n h = none_wrong format slot.process slot.process slot.message _ _ _ f (p, r.0, refl) (from, r.1, refl) (msg, r.2.0, n, refl) h
 right_after format (Dropped p from msg) f r n h = none_wrong format slot.process slot.process slot.message _ _ _ f (p, r.0, refl) (from, r.1, refl) (msg, r.2.0, n, refl) h
@@ -204,15 +204,15 @@ right_after format (Failed p) f r n h = none_wrong format slot.process slot.noth
 right_after format (Refused p verb cause) f r n h = none_wrong format slot.process slot.verb slot.cause _ _ _ f (p, r.0, refl) (verb, refl) (cause, r.1, refl) h
 
 -- a record that spells a row has no wrong field
-pub none_wrong_in : (format : Format) (event : Event) (w a b c : List ℕ) (f : RowFault) → IsInRange event → IsInFormat format event
-    → spelling event ≡ w ∷ a ∷ b ∷ c ∷ [] → IsFieldFault format w a b c f → ⊥
+pub none_wrong_in : (format : Format) (event : Event) (w a b c : List ℕ) (f : RowFault) → IsRowInRange event → IsInFormat format event
+    → spelling event ≡ w ∷ a ∷ b ∷ c ∷ [] → IsRowFieldFault format w a b c f → ⊥
 none_wrong_in format event w a b c f r n e (inl h) = h.1 (word_of event) (sym (ap field_1 e) ∙ begins_with_word event)
 none_wrong_in format event w a b c f r n e (inr (v, is, h)) =
     let same : v ≡ word_of event = one_word v (word_of event) (sym is ∙ sym (ap field_1 e) ∙ begins_with_word event) in
-    let at_word = subst (λ (u : RowWord). IsFaultAfter format u a b c f) same h in
-    let at_first = subst (λ (x : List ℕ). IsFaultAfter format (word_of event) x b c f) (sym (ap field_2 e)) at_word in
-    let at_second = subst (λ (x : List ℕ). IsFaultAfter format (word_of event) (field_2 (spelling event)) x c f) (sym (ap field_3 e)) at_first in
-    right_after format event f r n (subst (λ (x : List ℕ). IsFaultAfter format (word_of event) (field_2 (spelling event)) (field_3 (spelling event)) x f) (sym (ap field_4 e)) at_second)
+    let at_word = subst (λ (u : RowWord). IsRowFaultAfter format u a b c f) same h in
+    let at_first = subst (λ (x : List ℕ). IsRowFaultAfter format (word_of event) x b c f) (sym (ap field_2 e)) at_word in
+    let at_second = subst (λ (x : List ℕ). IsRowFaultAfter format (word_of event) (field_2 (spelling event)) x c f) (sym (ap field_3 e)) at_first in
+    right_after format event f r n (subst (λ (x : List ℕ). IsRowFaultAfter format (word_of event) (field_2 (spelling event)) (field_3 (spelling event)) x f) (sym (ap field_4 e)) at_second)
 
 -- a row has four fields
 pub four_fields : (a : Event) → length (spelling a) ≡ 4

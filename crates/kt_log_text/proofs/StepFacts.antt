@@ -5,25 +5,25 @@ use Rattle.kt_log_text.specs.declared.fault.LogFault.TheVariants.{Read, TooLong,
 use Rattle.kt_log_text.specs.declared.rows.Format.{Format}
 use Rattle.kt_log_text.specs.declared.rows.Format.TheVariants.{One, Two}
 use Rattle.kt_log_text.specs.Texts.{header, IsUnmarked, BeginsUnmarked, IsTextFrom, IsOtherVersion, IsRowFault, IsFaultFrom, IsEndedFrom}
-use Rattle.kt_text.specs.Records.{Takes}
+use Rattle.kt_text.specs.Records.{FieldsTaken}
 use Rattle.kt_log_text.specs.Progress.{TakesFields, IsHeadFault}
 
 -- known records
 abbrev Known : Type 0
 Known = Option (List (List (List ℕ)))
 
-pub first_in_one : (old new : Known) (fields : List (List ℕ)) → Takes old new fields → IsUnmarked fields → TakesFields None One old new fields
+pub first_in_one : (old new : Known) (fields : List (List ℕ)) → FieldsTaken old new fields → IsUnmarked fields → TakesFields None One old new fields
 first_in_one None new fields t u = tt
 first_in_one (Some left) None fields t u = t
 first_in_one (Some left) (Some rest) fields t u = (t, subst BeginsUnmarked (sym t) u)
 
-pub first_in_two : (old middle new : Known) (head fields : List (List ℕ)) → Takes old middle head → head ≡ header → Takes middle new fields → TakesFields None Two old new fields
+pub first_in_two : (old middle new : Known) (head fields : List (List ℕ)) → FieldsTaken old middle head → head ≡ header → FieldsTaken middle new fields → TakesFields None Two old new fields
 first_in_two None middle new head fields t e u = tt
 first_in_two (Some left) None new head fields t e u = absurd t
 first_in_two (Some left) (Some rest) None head fields t e u = u
 first_in_two (Some left) (Some rest) (Some last) head fields t e u = rw (t, e, u) refl
 
-pub later : (format : Format) (old new : Known) (fields : List (List ℕ)) → Takes old new fields → TakesFields (Some format) format old new fields
+pub later : (format : Format) (old new : Known) (fields : List (List ℕ)) → FieldsTaken old new fields → TakesFields (Some format) format old new fields
 later format None new fields t = tt
 later format (Some left) None fields t = t
 later format (Some left) (Some rest) fields t = (refl, t)
@@ -32,7 +32,7 @@ pub ends_at_once : (old : Known) → IfSome old (λ left. left ≡ []) → IfSom
 ends_at_once None e = tt
 ends_at_once (Some left) e = (One, (e, subst BeginsUnmarked (sym e) tt))
 
-pub ends_after_header : (old middle : Known) (head : List (List ℕ)) → Takes old middle head → head ≡ header → IfSome middle (λ left. left ≡ []) → IfSome old (IsEndedFrom None)
+pub ends_after_header : (old middle : Known) (head : List (List ℕ)) → FieldsTaken old middle head → head ≡ header → IfSome middle (λ left. left ≡ []) → IfSome old (IsEndedFrom None)
 ends_after_header None middle head t e n = tt
 ends_after_header (Some left) None head t e n = absurd t
 ends_after_header (Some left) (Some rest) head t e n = (Two, rw (t, e, n) refl)
@@ -41,7 +41,7 @@ pub ends_later : (format : Format) (old : Known) → IfSome old (λ left. left �
 ends_later format None e = tt
 ends_later format (Some left) e = (format, (refl, e))
 
-pub other_version : (old new : Known) (fields : List (List ℕ)) (fault : LogFault) → Takes old new fields → (fault ≡ Version) × IsOtherVersion fields → IfSome old (λ left. IsHeadFault None left fault)
+pub other_version : (old new : Known) (fields : List (List ℕ)) (fault : LogFault) → FieldsTaken old new fields → (fault ≡ Version) × IsOtherVersion fields → IfSome old (λ left. IsHeadFault None left fault)
 other_version None new fields fault t o = tt
 other_version (Some left) None fields fault t o = absurd t
 other_version (Some left) (Some rest) fields fault t o = inr (inr (o.0, refl, (fields, rest, t, o.1)))

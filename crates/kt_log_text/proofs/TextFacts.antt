@@ -9,9 +9,9 @@ use Rattle.kt_log_text.specs.declared.fault.LogFault.TheVariants.{Read, TooLong,
 use Rattle.kt_log_text.specs.declared.rows.Format.{Format}
 use Rattle.kt_log_text.specs.declared.rows.Format.TheVariants.{One, Two}
 use Rattle.kt_log_text.specs.declared.rows.RowFault.TheVariants as row
-use Rattle.kt_spacetime.specs.Events.{IsInRange}
+use Rattle.kt_spacetime.specs.Events.{IsRowInRange}
 use Rattle.kt_log_text.specs.Spelling.{spelling, max_rows, IsInFormat}
-use Rattle.kt_log_text.specs.Texts.{header, IsUnmarked, BeginsUnmarked, IsTextOf, IsTextFrom, IsOtherVersion, AreInFormat, IsLogText, IsRowFault, IsFaultFrom, IsAfterRows, IsFirstFault, IsOfText}
+use Rattle.kt_log_text.specs.Texts.{header, IsUnmarked, BeginsUnmarked, IsTextOf, IsTextFrom, IsOtherVersion, AreInFormat, IsLogText, IsRowFault, IsFaultFrom, IsAfterRows, IsFirstLogFault, IsOfLogText}
 use Rattle.kt_text.proofs.FieldFacts.{Records, first_and_rest}
 use Rattle.kt_log_text.proofs.SpellingFacts.{one_row, none_wrong_in, four_fields}
 
@@ -23,15 +23,15 @@ one_format Two One xs ys text p q = absurd (subst BeginsUnmarked p q.1 refl)
 one_format Two Two xs ys text p q = (refl, (first_and_rest header header xs ys (sym p ∙ q)).1)
 
 -- spellings that are equal are those of equal rows
-one_list : (rows others : List Event) → All IsInRange rows → All IsInRange others → map spelling rows ≡ map spelling others → rows ≡ others
+one_list : (rows others : List Event) → All IsRowInRange rows → All IsRowInRange others → map spelling rows ≡ map spelling others → rows ≡ others
 one_list [] [] r s e = refl
 one_list [] (x ∷ xs) r s e = cc e
 one_list (x ∷ xs) [] r s e = cc e
 one_list (x ∷ xs) (y ∷ ys) r s e =
     let here : spelling x ≡ spelling y = cc e in
     let after : map spelling xs ≡ map spelling ys = cc e in
-    let same : x ≡ y = one_row x y (All-head IsInRange x xs r) (All-head IsInRange y ys s) here in
-    let rest : xs ≡ ys = one_list xs ys (All-tail IsInRange x xs r) (All-tail IsInRange y ys s) after in
+    let same : x ≡ y = one_row x y (All-head IsRowInRange x xs r) (All-head IsRowInRange y ys s) here in
+    let rest : xs ≡ ys = one_list xs ys (All-tail IsRowInRange x xs r) (All-tail IsRowInRange y ys s) after in
     cc (same, rest)
 
 pub one_log : (text : Records) (rows others : List Event) → IsLogText text rows → IsLogText text others → rows ≡ others
@@ -40,13 +40,13 @@ one_log text rows others p q =
 
 -- where a text begins with rows and a list of rows goes on after them, the record there spells a row of it
 row_after : (format : Format) (before rows : List Event) (fields : List (List ℕ)) (rest more : Records) → length before < length rows
-    → map spelling before ++ (fields ∷ rest) ≡ map spelling rows ++ more → AreInFormat format rows → (event : Event) × (spelling event ≡ fields) × IsInRange event × IsInFormat format event
+    → map spelling before ++ (fields ∷ rest) ≡ map spelling rows ++ more → AreInFormat format rows → (event : Event) × (spelling event ≡ fields) × IsRowInRange event × IsInFormat format event
 row_after format before [] fields rest more less e n = absurd (omega (arith, less))
 row_after format [] (x ∷ xs) fields rest more less e n =
-    (x, sym (first_and_rest fields (spelling x) rest (map spelling xs ++ more) e).0, All-head IsInRange x xs n.in_range, All-head (IsInFormat format) x xs n.in_format)
+    (x, sym (first_and_rest fields (spelling x) rest (map spelling xs ++ more) e).0, All-head IsRowInRange x xs n.in_range, All-head (IsInFormat format) x xs n.in_format)
 row_after format (b ∷ before) (x ∷ xs) fields rest more less e n =
     let after = (first_and_rest (spelling b) (spelling x) (map spelling before ++ (fields ∷ rest)) (map spelling xs ++ more) e).1 in
-    row_after format before xs fields rest more (omega (arith, less)) after (record { in_range = All-tail IsInRange x xs n.in_range; in_format = All-tail (IsInFormat format) x xs n.in_format })
+    row_after format before xs fields rest more (omega (arith, less)) after (record { in_range = All-tail IsRowInRange x xs n.in_range; in_format = All-tail (IsInFormat format) x xs n.in_format })
 
 -- a text that begins with rows has more rows, where a record is after them
 more_rows : (before rows : List Event) (fields : List (List ℕ)) (rest : Records) → map spelling before ++ (fields ∷ rest) ≡ map spelling rows → length before < length rows
@@ -93,7 +93,7 @@ abbrev pub HasWrongRow : Option Format → ℕ → Records → LogFault → Type
 HasWrongRow known count left fault = (format : Format) × (rest : Records) × IsTextFrom known format rest left × IsRowFault format count rest fault
 
 -- a fault of the text itself is of one of these kinds
-pub kinds : (known : Option Format) (count : ℕ) (left : Records) (fault : LogFault) → IsOfText fault → IsFaultFrom known count left fault → SaysOther known left fault ⊎ HasWrongRow known count left fault
+pub kinds : (known : Option Format) (count : ℕ) (left : Records) (fault : LogFault) → IsOfLogText fault → IsFaultFrom known count left fault → SaysOther known left fault ⊎ HasWrongRow known count left fault
 kinds known count left Read o h = absurd (o.0 refl)
 kinds known count left Memory o h = absurd (o.1 refl)
 kinds known count left Version o h = inl (refl, h.0, h.1, h.2, h.3, h.4)
@@ -112,7 +112,7 @@ pub whole : (known : Option Format) (format : Format) (before : List Event) (lef
 whole None format before left rest text a t =
     subst (λ (b : List Event). IsWhole format b rest text) (sym a.0) (record {
       spelled = subst (λ (x : Records). IsTextOf format rest x) a.1 t;
-      numbers = record { in_range = All-nil IsInRange; in_format = All-nil (IsInFormat format) };
+      numbers = record { in_range = All-nil IsRowInRange; in_format = All-nil (IsInFormat format) };
       few = omega arith;
     })
 whole (Some known) format before left rest text a t =
@@ -141,7 +141,7 @@ wrong_is_none known before rows left text fault a log (format, rest, t, h) =
     no_wrong_row log.format before rows rest [] fault (same.1 ∙ sym (append-nil (map spelling rows))) less log.numbers log.few
     (subst (λ (f : Format). IsRowFault f (length before) rest fault) same.0 h)
 
-pub no_log : (text : Records) (rows : List Event) (fault : LogFault) → IsOfText fault → IsFirstFault text fault → IsLogText text rows → ⊥
+pub no_log : (text : Records) (rows : List Event) (fault : LogFault) → IsOfLogText fault → IsFirstLogFault text fault → IsLogText text rows → ⊥
 no_log text rows fault o first log = elim (kinds first.format (length first.rows) first.left fault o first.wrong) [
   | inl other ↦ other_has_none first.format first.rows first.left text fault log.format (map spelling rows) first.after_rows other log.spelled
   | inr wrong ↦ wrong_is_none first.format first.rows rows first.left text fault first.after_rows log wrong

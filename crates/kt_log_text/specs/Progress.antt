@@ -11,7 +11,7 @@ use Rattle.kt_log_text.specs.declared.rows.Format.TheVariants.{One, Two}
 use Rattle.kt_log_text.specs.declared.reading.RowReader.TheInside.{Inside}
 use Rattle.kt_text.specs.Records.{left_in, ReadsOn}
 use Rattle.kt_log_text.specs.Reading.{RowsRead, TakesRow, rows_unread}
-use Rattle.kt_spacetime.specs.Events.{IsInRange}
+use Rattle.kt_spacetime.specs.Events.{IsRowInRange}
 use Rattle.kt_log_text.specs.Spelling.{max_rows, IsInFormat}
 use Rattle.kt_log_text.specs.Texts.{header, IsTextFrom, IsUnmarked, IsOtherVersion, IsAfterRows}
 
@@ -50,13 +50,13 @@ IsReading records Ended = Unit {0}
 IsReading records (Failed fault) = Unit {0}
 
 -- no more rows than the format allows; none before the format is known
-abbrev pub IsCount : Option Format → ℕ → Type 0
-IsCount None count = count ≡ 0
-IsCount (Some format) count = count ≤ max_rows format
+abbrev pub IsRowCount : Option Format → ℕ → Type 0
+IsRowCount None count = count ≡ 0
+IsRowCount (Some format) count = count ≤ max_rows format
 
 -- a reader of rows can go on; it has counted no more rows than its format allows, and no more than 2^24
 abbrev pub IsSetUp : {R : Type 0} → Inside R → Type 0
-IsSetUp r = IsReading r.records.value r.progress × IsCount r.format r.count × (r.count ≤ 2 ^ 24)
+IsSetUp r = IsReading r.records.value r.progress × IsRowCount r.format r.count × (r.count ≤ 2 ^ 24)
 
 -- known records of which the first row has these fields
 abbrev pub TakesFields : Option Format → Format → Option (List (List (List ℕ))) → Option (List (List (List ℕ))) → List (List ℕ) → Type 0
@@ -78,19 +78,19 @@ abbrev pub IsHeadFault : Option Format → List (List (List ℕ)) → LogFault �
 IsHeadFault known text fault = (fault ≡ Read) ⊎ ((fault ≡ Memory) ⊎ ((fault ≡ Version) × (known ≡ None) × BeginsOtherVersion text))
 
 -- the format that was known stays
-abbrev pub Keeps : Option Format → Format → Type 0
-Keeps None format = Unit {0}
-Keeps (Some known) format = known ≡ format
+abbrev pub FormatStays : Option Format → Format → Type 0
+FormatStays None format = Unit {0}
+FormatStays (Some known) format = known ≡ format
 
 -- what a reader has gathered of a text: rows that it begins with, and what comes after them
-abbrev pub Begins : Option (List (List (List ℕ))) → Option (List (List (List ℕ))) → Option Format → List Event → Type 0
-Begins None left format rows = Unit {0}
-Begins (Some text) None format rows = ⊥
-Begins (Some text) (Some left) format rows = IsAfterRows format rows left text
+abbrev pub BeginsWithRows : Option (List (List (List ℕ))) → Option (List (List (List ℕ))) → Option Format → List Event → Type 0
+BeginsWithRows None left format rows = Unit {0}
+BeginsWithRows (Some text) None format rows = ⊥
+BeginsWithRows (Some text) (Some left) format rows = IsAfterRows format rows left text
 
 -- what is known while rows are gathered
-pub record Gathers (source : Option (List ℕ)) (r : RowsRead) (rows : List Event) : Type 0 where
-  pub begins : Begins (rows_unread source).left r.left r.format rows
+pub record GathersRows (source : Option (List ℕ)) (r : RowsRead) (rows : List Event) : Type 0 where
+  pub begins : BeginsWithRows (rows_unread source).left r.left r.format rows
   pub count : r.count ≡ length rows
   pub few : r.count ≤ 2 ^ 24
   pub going : (r.fault ≡ None) × (r.ended ≡ false)
@@ -100,6 +100,6 @@ pub record ReadsRow (old new : Option Format) (count : ℕ) (before after : Opti
   pub format : Format
   pub known : new ≡ Some format
   pub takes : TakesRow old format before after row
-  pub in_range : IsInRange row
+  pub in_range : IsRowInRange row
   pub in_format : IsInFormat format row
   pub few : count < max_rows format

@@ -4,7 +4,7 @@ use Rattle.csv.specs.Reading.{default_config, strip_bom, records}
 use Rattle.kt_spacetime.specs.declared.event.Event.{Event}
 use Rattle.kt_log_text.specs.declared.fault.LogFault.{LogFault}
 use Rattle.kt_log_text.specs.declared.rows.Format.{Format}
-use Rattle.kt_spacetime.specs.Events.{IsInRange}
+use Rattle.kt_spacetime.specs.Events.{IsRowInRange}
 use Rattle.kt_log_text.specs.Spelling.{spelling, max_rows, IsInFormat}
 use Rattle.kt_log_text.specs.Texts.{IsTextFrom, IsEndedFrom, IsFaultFrom}
 
@@ -38,7 +38,7 @@ pub record GivesRow (old new : RowsRead) (row : Event) : Type 0 where
   pub format : Format
   pub known : new.format ≡ Some format
   pub takes : TakesRow old.format format old.left new.left row
-  pub in_range : IsInRange row
+  pub in_range : IsRowInRange row
   pub in_format : IsInFormat format row
   pub few : old.count < max_rows format
   pub counted : new.count ≡ old.count + 1

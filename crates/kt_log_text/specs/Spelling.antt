@@ -75,53 +75,53 @@ IsInFormat format (Dropped p from msg) = msg ≤ max_rows format
 IsInFormat format _ = Unit {0}
 
 -- a text spells what may stand in a field
-abbrev pub Fits : Format → Slot → List ℕ → Type 0
-Fits format slot.process text = (p : ℕ) × IsProcNo p × (text ≡ decimal p)
-Fits format slot.instance text = (k : ℕ) × IsInstNo k × (text ≡ decimal k)
-Fits format slot.message text = (m : ℕ) × (1 ≤ m) × (m ≤ max_rows format) × (text ≡ decimal m)
-Fits format slot.body text = (z : ℤ) × FitsSigned w64 z × (text ≡ signed_decimal z)
-Fits format slot.nothing text = text ≡ codes "-"
-Fits format slot.kind text = (k : Kind) × (text ≡ kind_word k)
-Fits format slot.decision text = (commit : Bool) × (text ≡ decision_word commit)
-Fits format slot.verb text = (v : Verb) × (text ≡ verb_word v)
-Fits format slot.cause text = (c : Cause) × IsCauseInRange c × (text ≡ cause_word c)
+abbrev pub FitsRowSlot : Format → Slot → List ℕ → Type 0
+FitsRowSlot format slot.process text = (p : ℕ) × IsProcNo p × (text ≡ decimal p)
+FitsRowSlot format slot.instance text = (k : ℕ) × IsInstNo k × (text ≡ decimal k)
+FitsRowSlot format slot.message text = (m : ℕ) × (1 ≤ m) × (m ≤ max_rows format) × (text ≡ decimal m)
+FitsRowSlot format slot.body text = (z : ℤ) × FitsSigned w64 z × (text ≡ signed_decimal z)
+FitsRowSlot format slot.nothing text = text ≡ codes "-"
+FitsRowSlot format slot.kind text = (k : Kind) × (text ≡ kind_word k)
+FitsRowSlot format slot.decision text = (commit : Bool) × (text ≡ decision_word commit)
+FitsRowSlot format slot.verb text = (v : Verb) × (text ≡ verb_word v)
+FitsRowSlot format slot.cause text = (c : Cause) × IsCauseInRange c × (text ≡ cause_word c)
 
 -- which fault a text is that does not fit
-abbrev pub misfit : Slot → List ℕ → RowFault
-misfit slot.process text = fault.Number
-misfit slot.instance text = fault.Number
-misfit slot.message text = fault.Number
-misfit slot.body text = fault.Number
-misfit slot.nothing text = fault.Word
-misfit slot.kind text = fault.Word
-misfit slot.decision text = fault.Word
-misfit slot.verb text = fault.Word
-misfit slot.cause text = if starts_with nat_eq text (codes "busy-") then fault.Number else fault.Word
+abbrev pub row_misfit : Slot → List ℕ → RowFault
+row_misfit slot.process text = fault.Number
+row_misfit slot.instance text = fault.Number
+row_misfit slot.message text = fault.Number
+row_misfit slot.body text = fault.Number
+row_misfit slot.nothing text = fault.Word
+row_misfit slot.kind text = fault.Word
+row_misfit slot.decision text = fault.Word
+row_misfit slot.verb text = fault.Word
+row_misfit slot.cause text = if starts_with nat_eq text (codes "busy-") then fault.Number else fault.Word
 
 -- a text does not fit, and this is the fault
-abbrev pub IsMisfit : Format → Slot → List ℕ → RowFault → Type 0
-IsMisfit format slot text f = (f ≡ misfit slot text) × (Fits format slot text → ⊥)
+abbrev pub IsRowMisfit : Format → Slot → List ℕ → RowFault → Type 0
+IsRowMisfit format slot text f = (f ≡ row_misfit slot text) × (FitsRowSlot format slot text → ⊥)
 
 -- of three texts the first that does not fit gives the fault
-abbrev pub IsFirstMisfit : Format → Slot → Slot → Slot → List ℕ → List ℕ → List ℕ → RowFault → Type 0
-IsFirstMisfit format x y z a b c f =
-    IsMisfit format x a f ⊎ ((Fits format x a × IsMisfit format y b f) ⊎ (Fits format x a × Fits format y b × IsMisfit format z c f))
+abbrev pub IsFirstRowMisfit : Format → Slot → Slot → Slot → List ℕ → List ℕ → List ℕ → RowFault → Type 0
+IsFirstRowMisfit format x y z a b c f =
+    IsRowMisfit format x a f ⊎ ((FitsRowSlot format x a × IsRowMisfit format y b f) ⊎ (FitsRowSlot format x a × FitsRowSlot format y b × IsRowMisfit format z c f))
 
 -- what may stand in the fields after a row's word, and the first that does not fit
-abbrev pub IsFaultAfter : Format → RowWord → List ℕ → List ℕ → List ℕ → RowFault → Type 0
-IsFaultAfter format row.Sent a b c f = IsFirstMisfit format slot.process slot.process slot.body a b c f
-IsFaultAfter format row.Received a b c f = IsFirstMisfit format slot.process slot.process slot.message a b c f
-IsFaultAfter format row.Dropped a b c f = IsFirstMisfit format slot.process slot.process slot.message a b c f
-IsFaultAfter format row.Began a b c f = IsFirstMisfit format slot.process slot.instance slot.kind a b c f
-IsFaultAfter format row.Took a b c f = IsFirstMisfit format slot.process slot.instance slot.nothing a b c f
-IsFaultAfter format row.Ready a b c f = IsFirstMisfit format slot.process slot.instance slot.nothing a b c f
-IsFaultAfter format row.Unwilling a b c f = IsFirstMisfit format slot.process slot.instance slot.cause a b c f
-IsFaultAfter format row.Decided a b c f = IsFirstMisfit format slot.process slot.instance slot.decision a b c f
-IsFaultAfter format row.Closed a b c f = IsFirstMisfit format slot.process slot.instance slot.nothing a b c f
-IsFaultAfter format row.Failed a b c f = IsFirstMisfit format slot.process slot.nothing slot.nothing a b c f
-IsFaultAfter format row.Refused a b c f = IsFirstMisfit format slot.process slot.verb slot.cause a b c f
+abbrev pub IsRowFaultAfter : Format → RowWord → List ℕ → List ℕ → List ℕ → RowFault → Type 0
+IsRowFaultAfter format row.Sent a b c f = IsFirstRowMisfit format slot.process slot.process slot.body a b c f
+IsRowFaultAfter format row.Received a b c f = IsFirstRowMisfit format slot.process slot.process slot.message a b c f
+IsRowFaultAfter format row.Dropped a b c f = IsFirstRowMisfit format slot.process slot.process slot.message a b c f
+IsRowFaultAfter format row.Began a b c f = IsFirstRowMisfit format slot.process slot.instance slot.kind a b c f
+IsRowFaultAfter format row.Took a b c f = IsFirstRowMisfit format slot.process slot.instance slot.nothing a b c f
+IsRowFaultAfter format row.Ready a b c f = IsFirstRowMisfit format slot.process slot.instance slot.nothing a b c f
+IsRowFaultAfter format row.Unwilling a b c f = IsFirstRowMisfit format slot.process slot.instance slot.cause a b c f
+IsRowFaultAfter format row.Decided a b c f = IsFirstRowMisfit format slot.process slot.instance slot.decision a b c f
+IsRowFaultAfter format row.Closed a b c f = IsFirstRowMisfit format slot.process slot.instance slot.nothing a b c f
+IsRowFaultAfter format row.Failed a b c f = IsFirstRowMisfit format slot.process slot.nothing slot.nothing a b c f
+IsRowFaultAfter format row.Refused a b c f = IsFirstRowMisfit format slot.process slot.verb slot.cause a b c f
 
 -- what is first wrong in four fields: the word, or a field after it
-abbrev pub IsFieldFault : Format → List ℕ → List ℕ → List ℕ → List ℕ → RowFault → Type 0
-IsFieldFault format word a b c f =
-    ((f ≡ fault.Word) × ((w : RowWord) → word ≢ row_word w)) ⊎ ((w : RowWord) × (word ≡ row_word w) × IsFaultAfter format w a b c f)
+abbrev pub IsRowFieldFault : Format → List ℕ → List ℕ → List ℕ → List ℕ → RowFault → Type 0
+IsRowFieldFault format word a b c f =
+    ((f ≡ fault.Word) × ((w : RowWord) → word ≢ row_word w)) ⊎ ((w : RowWord) × (word ≡ row_word w) × IsRowFaultAfter format w a b c f)

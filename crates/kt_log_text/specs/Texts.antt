@@ -7,8 +7,8 @@ use Rattle.kt_log_text.specs.declared.rows.Format.{Format}
 use Rattle.kt_log_text.specs.declared.rows.Format.TheVariants.{One, Two}
 use Rattle.kt_log_text.specs.declared.rows.RowFault.{RowFault}
 use Rattle.kt_log_text.specs.declared.rows.RowFault.TheVariants as row
-use Rattle.kt_spacetime.specs.Events.{IsInRange}
-use Rattle.kt_log_text.specs.Spelling.{spelling, max_rows, IsInFormat, IsFieldFault}
+use Rattle.kt_spacetime.specs.Events.{IsRowInRange}
+use Rattle.kt_log_text.specs.Spelling.{spelling, max_rows, IsInFormat, IsRowFieldFault}
 
 -- the record that a text of format 2 begins with
 abbrev pub header : List (List ℕ)
@@ -20,8 +20,8 @@ IsUnmarked [] = Unit {0}
 IsUnmarked (word ∷ fields) = word ≢ codes "kt"
 
 -- a record whose first field is `kt`
-abbrev pub IsMarked : List (List ℕ) → Type 0
-IsMarked fields = (rest : List (List ℕ)) × (fields ≡ codes "kt" ∷ rest)
+abbrev pub IsFormatRecord : List (List ℕ) → Type 0
+IsFormatRecord fields = (rest : List (List ℕ)) × (fields ≡ codes "kt" ∷ rest)
 
 -- a text that has no record, or whose first one is not marked
 abbrev pub BeginsUnmarked : List (List (List ℕ)) → Type 0
@@ -40,11 +40,11 @@ IsTextFrom (Some known) format rows text = (known ≡ format) × (text ≡ rows)
 
 -- a first record that is marked, and is not the header
 abbrev pub IsOtherVersion : List (List ℕ) → Type 0
-IsOtherVersion fields = IsMarked fields × (fields ≢ header)
+IsOtherVersion fields = IsFormatRecord fields × (fields ≢ header)
 
 -- every row's numbers are in range, by their types and by the format
 pub record AreInFormat (format : Format) (rows : List Event) : Type 0 where
-  pub in_range : All IsInRange rows
+  pub in_range : All IsRowInRange rows
   pub in_format : All (IsInFormat format) rows
 
 -- the records say these rows
@@ -68,9 +68,9 @@ IsRowFault format count left TooLong = (count ≡ max_rows format) × (fields : 
 IsRowFault format count left (Fields n) =
     (n ≡ count + 1) × (count < max_rows format) × (fields : List (List ℕ)) × (rest : List (List (List ℕ))) × (left ≡ fields ∷ rest) × (length fields ≢ 4)
 IsRowFault format count left (Word n) =
-    (n ≡ count + 1) × (count < max_rows format) × (w a b c : List ℕ) × (rest : List (List (List ℕ))) × (left ≡ (w ∷ a ∷ b ∷ c ∷ []) ∷ rest) × IsFieldFault format w a b c row.Word
+    (n ≡ count + 1) × (count < max_rows format) × (w a b c : List ℕ) × (rest : List (List (List ℕ))) × (left ≡ (w ∷ a ∷ b ∷ c ∷ []) ∷ rest) × IsRowFieldFault format w a b c row.Word
 IsRowFault format count left (Number n) =
-    (n ≡ count + 1) × (count < max_rows format) × (w a b c : List ℕ) × (rest : List (List (List ℕ))) × (left ≡ (w ∷ a ∷ b ∷ c ∷ []) ∷ rest) × IsFieldFault format w a b c row.Number
+    (n ≡ count + 1) × (count < max_rows format) × (w a b c : List ℕ) × (rest : List (List (List ℕ))) × (left ≡ (w ∷ a ∷ b ∷ c ∷ []) ∷ rest) × IsRowFieldFault format w a b c row.Number
 
 -- after this many rows, what is first wrong from here on; nothing is said of when a reader or memory fails
 abbrev pub IsFaultFrom : Option Format → ℕ → List (List (List ℕ)) → LogFault → Type 0
@@ -89,7 +89,7 @@ abbrev pub IsEndedFrom : Option Format → List (List (List ℕ)) → Type 0
 IsEndedFrom known text = (format : Format) × IsTextFrom known format [] text
 
 -- the first fault of a text: rows that are said, and then what is wrong
-pub record IsFirstFault (text : List (List (List ℕ))) (fault : LogFault) : Type 0 where
+pub record IsFirstLogFault (text : List (List (List ℕ))) (fault : LogFault) : Type 0 where
   pub format : Option Format
   pub rows : List Event
   pub left : List (List (List ℕ))
@@ -97,5 +97,5 @@ pub record IsFirstFault (text : List (List (List ℕ))) (fault : LogFault) : Typ
   pub wrong : IsFaultFrom format (length rows) left fault
 
 -- a fault of the text itself: neither of its reader nor of memory
-abbrev pub IsOfText : LogFault → Type 0
-IsOfText fault = (fault ≢ Read) × (fault ≢ Memory)
+abbrev pub IsOfLogText : LogFault → Type 0
+IsOfLogText fault = (fault ≢ Read) × (fault ≢ Memory)

@@ -3,12 +3,12 @@
 ghost use Rattle.std.specs.Prelude.{◌≡◌, ◌≢◌, ◌⊎◌, ◌<◌, ◌≤◌, ℕ, List, [], ◌∷◌, length, Some, None, Ok, Err, IfOk, IfErr, IfSome, IfNone, OnSome, MatchBool, true, false};
 ghost use Rattle.csv.specs.Reading.{default_config, strip_bom, records};
 ghost use Rattle.csv.specs.Records.{fields_of};
-ghost use Rattle.kt_spacetime.specs.Events.{IsInRange};
+ghost use Rattle.kt_spacetime.specs.Events.{IsRowInRange};
 ghost use Rattle.kt_log_text.specs.Spelling.{spelling, max_rows, IsInFormat};
-ghost use Rattle.kt_log_text.specs.Texts.{header, IsMarked, IsUnmarked, IsOtherVersion, IsRowFault, IsFaultFrom, IsEndedFrom, IsLogText, IsFirstFault};
+ghost use Rattle.kt_log_text.specs.Texts.{header, IsFormatRecord, IsUnmarked, IsOtherVersion, IsRowFault, IsFaultFrom, IsEndedFrom, IsLogText, IsFirstLogFault};
 ghost use Rattle.kt_log_text.specs.Reading.{Steps, rows_unread};
 ghost use Rattle.kt_text.specs.Records.{left_in, ReadsOn};
-ghost use Rattle.kt_log_text.specs.Progress.{TakesFields, IsFormatOf, IsHeadFault, IsCount, Keeps, ReadsRow};
+ghost use Rattle.kt_log_text.specs.Progress.{TakesFields, IsFormatOf, IsHeadFault, IsRowCount, FormatStays, ReadsRow};
 
 use crate::fault::LogFault;
 use crate::rows::{Format, event_of};
@@ -44,7 +44,7 @@ fn four_fields(current: &ByteRecord) -> Option<(&[u8], &[u8], &[u8], &[u8])>
 
 // Whether a record's first field is `kt`.
 fn is_marked(current: &ByteRecord) -> bool
-    ensures { MatchBool result (IsMarked (fields_of current.now)) (IsUnmarked (fields_of current.now)) }
+    ensures { MatchBool result (IsFormatRecord (fields_of current.now)) (IsUnmarked (fields_of current.now)) }
 {
     let Some(word) = current.get(0) else {
         return false;
@@ -89,7 +89,7 @@ fn format_of(current: &ByteRecord) -> Result<Format, LogFault>
 // The row that a record says, after `count` rows.
 fn row_in(current: &ByteRecord, format: Format, count: u32) -> Result<Event, LogFault>
     requires { count ≤ max_rows format }
-    ensures found { IfOk result (λ row. (spelling row ≡ fields_of current.now) × IsInRange row
+    ensures found { IfOk result (λ row. (spelling row ≡ fields_of current.now) × IsRowInRange row
         × IsInFormat format row × (count < max_rows format)) }
     ensures fault { IfErr result (λ e. (rest : List (List (List ℕ)))
         → IsRowFault format count (fields_of current.now ∷ rest) e) }
@@ -140,7 +140,7 @@ fn advance<R: Read>(
     format: Option<Format>,
 ) -> Result<Option<Format>, LogFault>
     requires { ReadsOn records.old }
-    ensures found { IfOk result (λ o. IfSome o (λ found. ReadsOn records.new × Keeps format found
+    ensures found { IfOk result (λ o. IfSome o (λ found. ReadsOn records.new × FormatStays format found
         × TakesFields format found (left_in R.remaining records.old) (left_in R.remaining records.new) (fields_of current.new))) }
     ensures ended { IfOk result (λ o. IfNone o (IfSome (left_in R.remaining records.old) (IsEndedFrom format))) }
     ensures fault { IfErr result (λ e. IfSome (left_in R.remaining records.old) (λ left. IsHeadFault format left e)) }
@@ -163,12 +163,12 @@ fn read_row<R: Read>(
     count: u32,
 ) -> Result<Option<Event>, LogFault>
     requires reading { ReadsOn records.old }
-    requires count { IsCount format.old count }
+    requires count { IsRowCount format.old count }
     ensures row { IfOk result (λ o. IfSome o (λ row. ReadsRow format.old format.new count (left_in R.remaining records.old) (left_in R.remaining records.new) row)) }
     ensures reading { IfOk result (λ o. OnSome o (ReadsOn records.new)) }
     ensures ended { IfOk result (λ o. IfNone o (IfSome (left_in R.remaining records.old) (IsEndedFrom format.old))) }
     ensures fault { IfErr result (λ e. IfSome (left_in R.remaining records.old) (λ left. IsFaultFrom format.old count left e)) }
-    ensures count { IsCount format.new count }
+    ensures count { IsRowCount format.new count }
 {
     let Some(found) = advance(records, current, *format)? else {
         return Ok(None);
@@ -257,7 +257,7 @@ impl<R: Read + Drop> RowReader<R> {
 /// Answers the first fault of the text: rows in order, and in one row its number of fields, then field by field.
 pub fn read_csv<R: Read + Drop>(alloc: Global, reader: R) -> Result<SpaceTime, LogFault>
     ensures found { IfOk result (λ log. IfSome (R.remaining reader) (λ bytes. IsLogText (records default_config (strip_bom bytes)) log.rows)) }
-    ensures fault { IfErr result (λ e. IfSome (R.remaining reader) (λ bytes. IsFirstFault (records default_config (strip_bom bytes)) e)) }
+    ensures fault { IfErr result (λ e. IfSome (R.remaining reader) (λ bytes. IsFirstLogFault (records default_config (strip_bom bytes)) e)) }
 {
     let mut rows = RowReader::new(alloc, reader)?;
     let mut log = SpaceTime::new(alloc);

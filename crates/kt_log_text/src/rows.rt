@@ -6,9 +6,9 @@ ghost use Rattle.std.specs.Fmt.{decimal, signed_decimal};
 ghost use Rattle.kt_base.specs.Numbers.{IsProcNo, IsInstNo, IsMsgNo};
 ghost use Rattle.kt_log_text.specs.declared.rows.Format.TheVariants.{One};
 ghost use Rattle.kt_log_text.specs.declared.rows.RowWord.{RowWord as row_words};
-ghost use Rattle.kt_spacetime.specs.Events.{IsInRange, IsCauseInRange};
+ghost use Rattle.kt_spacetime.specs.Events.{IsRowInRange, IsCauseInRange};
 ghost use Rattle.kt_text.specs.Words.{kind_word, decision_word};
-ghost use Rattle.kt_log_text.specs.Spelling.{spelling, row_word, verb_word, cause_word, max_rows, IsInFormat, IsMisfit, IsFirstMisfit, IsFaultAfter, IsFieldFault};
+ghost use Rattle.kt_log_text.specs.Spelling.{spelling, row_word, verb_word, cause_word, max_rows, IsInFormat, IsRowMisfit, IsFirstRowMisfit, IsRowFaultAfter, IsRowFieldFault};
 ghost use Rattle.kt_log_text.specs.Texts.{fault_at_row};
 ghost use Rattle.kt_log_text.specs.Slot as slot;
 
@@ -74,21 +74,21 @@ impl RowFault {
 
 fn process(text: &[u8]) -> Result<ProcNo, RowFault>
     ensures found { IfOk result (λ p. IsProcNo p × (text.now ≡ decimal p)) }
-    ensures fault { IfErr result (IsMisfit One slot.process text.now) }
+    ensures fault { IfErr result (IsRowMisfit One slot.process text.now) }
 {
     process_of(text).ok_or(RowFault::Number)
 }
 
 fn instance(text: &[u8]) -> Result<InstNo, RowFault>
     ensures found { IfOk result (λ k. IsInstNo k × (text.now ≡ decimal k)) }
-    ensures fault { IfErr result (IsMisfit One slot.instance text.now) }
+    ensures fault { IfErr result (IsRowMisfit One slot.instance text.now) }
 {
     instance_of(text).ok_or(RowFault::Number)
 }
 
 fn message(text: &[u8], format: Format) -> Result<MsgNo, RowFault>
     ensures found { IfOk result (λ m. IsMsgNo m × (m ≤ max_rows format) × (text.now ≡ decimal m)) }
-    ensures fault { IfErr result (IsMisfit format slot.message text.now) }
+    ensures fault { IfErr result (IsRowMisfit format slot.message text.now) }
 {
     let Some(msg) = message_of(text) else {
         return Err(RowFault::Number);
@@ -101,14 +101,14 @@ fn message(text: &[u8], format: Format) -> Result<MsgNo, RowFault>
 
 fn body(text: &[u8]) -> Result<i64, RowFault>
     ensures found { IfOk result (λ z. FitsSigned w64 z × (text.now ≡ signed_decimal z)) }
-    ensures fault { IfErr result (IsMisfit One slot.body text.now) }
+    ensures fault { IfErr result (IsRowMisfit One slot.body text.now) }
 {
     body_of(text).ok_or(RowFault::Number)
 }
 
 fn nothing(text: &[u8]) -> Result<(), RowFault>
     ensures found { IfOk result (λ _. text.now ≡ codes "-") }
-    ensures fault { IfErr result (IsMisfit One slot.nothing text.now) }
+    ensures fault { IfErr result (IsRowMisfit One slot.nothing text.now) }
 {
     if text == b"-".as_slice() {
         Ok(())
@@ -119,21 +119,21 @@ fn nothing(text: &[u8]) -> Result<(), RowFault>
 
 fn kind(text: &[u8]) -> Result<Kind, RowFault>
     ensures found { IfOk result (λ k. text.now ≡ kind_word k) }
-    ensures fault { IfErr result (IsMisfit One slot.kind text.now) }
+    ensures fault { IfErr result (IsRowMisfit One slot.kind text.now) }
 {
     kind_of(text).ok_or(RowFault::Word)
 }
 
 fn decision(text: &[u8]) -> Result<bool, RowFault>
     ensures found { IfOk result (λ commit. text.now ≡ decision_word commit) }
-    ensures fault { IfErr result (IsMisfit One slot.decision text.now) }
+    ensures fault { IfErr result (IsRowMisfit One slot.decision text.now) }
 {
     decision_of(text).ok_or(RowFault::Word)
 }
 
 fn verb(text: &[u8]) -> Result<Verb, RowFault>
     ensures found { IfOk result (λ v. text.now ≡ verb_word v) }
-    ensures fault { IfErr result (IsMisfit One slot.verb text.now) }
+    ensures fault { IfErr result (IsRowMisfit One slot.verb text.now) }
 {
     if text == b"send".as_slice() {
         return Ok(Verb::Send);
@@ -152,7 +152,7 @@ fn verb(text: &[u8]) -> Result<Verb, RowFault>
 
 fn cause(text: &[u8]) -> Result<Cause, RowFault>
     ensures found { IfOk result (λ c. IsCauseInRange c × (text.now ≡ cause_word c)) }
-    ensures fault { IfErr result (IsMisfit One slot.cause text.now) }
+    ensures fault { IfErr result (IsRowMisfit One slot.cause text.now) }
 {
     if text == b"down".as_slice() {
         return Ok(Cause::Down);
@@ -173,7 +173,7 @@ fn cause(text: &[u8]) -> Result<Cause, RowFault>
 fn parse_joined(first: &[u8], second: &[u8], third: &[u8]) -> Result<(ProcNo, InstNo), RowFault>
     ensures found { IfOk result (λ r. IsProcNo r.0 × IsInstNo r.1 × (first.now ≡ decimal r.0)
         × (second.now ≡ decimal r.1) × (third.now ≡ codes "-")) }
-    ensures fault { IfErr result (IsFirstMisfit One slot.process slot.instance slot.nothing first.now second.now third.now) }
+    ensures fault { IfErr result (IsFirstRowMisfit One slot.process slot.instance slot.nothing first.now second.now third.now) }
 {
     let p = process(first)?;
     let inst = instance(second)?;
@@ -190,7 +190,7 @@ fn parse_taken(
 ) -> Result<(ProcNo, ProcNo, MsgNo), RowFault>
     ensures found { IfOk result (λ r. IsProcNo r.0 × IsProcNo r.1 × IsMsgNo r.2 × (r.2 ≤ max_rows format)
         × (first.now ≡ decimal r.0) × (second.now ≡ decimal r.1) × (third.now ≡ decimal r.2)) }
-    ensures fault { IfErr result (IsFirstMisfit format slot.process slot.process slot.message first.now second.now third.now) }
+    ensures fault { IfErr result (IsFirstRowMisfit format slot.process slot.process slot.message first.now second.now third.now) }
 {
     let p = process(first)?;
     let from = process(second)?;
@@ -200,8 +200,8 @@ fn parse_taken(
 
 fn parse_sent(first: &[u8], second: &[u8], third: &[u8]) -> Result<Event, RowFault>
     ensures found { IfOk result (λ e. (spelling e ≡ codes "sent" ∷ first.now ∷ second.now ∷ third.now ∷ [])
-        × IsInRange e × IsInFormat One e) }
-    ensures fault { IfErr result (IsFirstMisfit One slot.process slot.process slot.body first.now second.now third.now) }
+        × IsRowInRange e × IsInFormat One e) }
+    ensures fault { IfErr result (IsFirstRowMisfit One slot.process slot.process slot.body first.now second.now third.now) }
 {
     let p = process(first)?;
     let to = process(second)?;
@@ -211,8 +211,8 @@ fn parse_sent(first: &[u8], second: &[u8], third: &[u8]) -> Result<Event, RowFau
 
 fn parse_began(first: &[u8], second: &[u8], third: &[u8]) -> Result<Event, RowFault>
     ensures found { IfOk result (λ e. (spelling e ≡ codes "began" ∷ first.now ∷ second.now ∷ third.now ∷ [])
-        × IsInRange e × IsInFormat One e) }
-    ensures fault { IfErr result (IsFirstMisfit One slot.process slot.instance slot.kind first.now second.now third.now) }
+        × IsRowInRange e × IsInFormat One e) }
+    ensures fault { IfErr result (IsFirstRowMisfit One slot.process slot.instance slot.kind first.now second.now third.now) }
 {
     let p = process(first)?;
     let inst = instance(second)?;
@@ -222,8 +222,8 @@ fn parse_began(first: &[u8], second: &[u8], third: &[u8]) -> Result<Event, RowFa
 
 fn parse_unwilling(first: &[u8], second: &[u8], third: &[u8]) -> Result<Event, RowFault>
     ensures found { IfOk result (λ e. (spelling e ≡ codes "unwilling" ∷ first.now ∷ second.now ∷ third.now ∷ [])
-        × IsInRange e × IsInFormat One e) }
-    ensures fault { IfErr result (IsFirstMisfit One slot.process slot.instance slot.cause first.now second.now third.now) }
+        × IsRowInRange e × IsInFormat One e) }
+    ensures fault { IfErr result (IsFirstRowMisfit One slot.process slot.instance slot.cause first.now second.now third.now) }
 {
     let p = process(first)?;
     let inst = instance(second)?;
@@ -233,8 +233,8 @@ fn parse_unwilling(first: &[u8], second: &[u8], third: &[u8]) -> Result<Event, R
 
 fn parse_decided(first: &[u8], second: &[u8], third: &[u8]) -> Result<Event, RowFault>
     ensures found { IfOk result (λ e. (spelling e ≡ codes "decided" ∷ first.now ∷ second.now ∷ third.now ∷ [])
-        × IsInRange e × IsInFormat One e) }
-    ensures fault { IfErr result (IsFirstMisfit One slot.process slot.instance slot.decision first.now second.now third.now) }
+        × IsRowInRange e × IsInFormat One e) }
+    ensures fault { IfErr result (IsFirstRowMisfit One slot.process slot.instance slot.decision first.now second.now third.now) }
 {
     let p = process(first)?;
     let inst = instance(second)?;
@@ -244,8 +244,8 @@ fn parse_decided(first: &[u8], second: &[u8], third: &[u8]) -> Result<Event, Row
 
 fn parse_failed(first: &[u8], second: &[u8], third: &[u8]) -> Result<Event, RowFault>
     ensures found { IfOk result (λ e. (spelling e ≡ codes "failed" ∷ first.now ∷ second.now ∷ third.now ∷ [])
-        × IsInRange e × IsInFormat One e) }
-    ensures fault { IfErr result (IsFirstMisfit One slot.process slot.nothing slot.nothing first.now second.now third.now) }
+        × IsRowInRange e × IsInFormat One e) }
+    ensures fault { IfErr result (IsFirstRowMisfit One slot.process slot.nothing slot.nothing first.now second.now third.now) }
 {
     let p = process(first)?;
     nothing(second)?;
@@ -255,8 +255,8 @@ fn parse_failed(first: &[u8], second: &[u8], third: &[u8]) -> Result<Event, RowF
 
 fn parse_refused(first: &[u8], second: &[u8], third: &[u8]) -> Result<Event, RowFault>
     ensures found { IfOk result (λ e. (spelling e ≡ codes "refused" ∷ first.now ∷ second.now ∷ third.now ∷ [])
-        × IsInRange e × IsInFormat One e) }
-    ensures fault { IfErr result (IsFirstMisfit One slot.process slot.verb slot.cause first.now second.now third.now) }
+        × IsRowInRange e × IsInFormat One e) }
+    ensures fault { IfErr result (IsFirstRowMisfit One slot.process slot.verb slot.cause first.now second.now third.now) }
 {
     let p = process(first)?;
     let verb = verb(second)?;
@@ -315,8 +315,8 @@ pub(crate) fn event_of(
     format: Format,
 ) -> Result<Event, RowFault>
     ensures found { IfOk result (λ e. (spelling e ≡ word.now ∷ first.now ∷ second.now ∷ third.now ∷ [])
-        × IsInRange e × IsInFormat format e) }
-    ensures fault { IfErr result (IsFieldFault format word.now first.now second.now third.now) }
+        × IsRowInRange e × IsInFormat format e) }
+    ensures fault { IfErr result (IsRowFieldFault format word.now first.now second.now third.now) }
 {
     let Some(word) = word_of(word) else {
         return Err(RowFault::Word);
@@ -333,8 +333,8 @@ fn event_after(
     format: Format,
 ) -> Result<Event, RowFault>
     ensures found { IfOk result (λ e. (spelling e ≡ row_word word ∷ first.now ∷ second.now ∷ third.now ∷ [])
-        × IsInRange e × IsInFormat format e) }
-    ensures fault { IfErr result (IsFaultAfter format word first.now second.now third.now) }
+        × IsRowInRange e × IsInFormat format e) }
+    ensures fault { IfErr result (IsRowFaultAfter format word first.now second.now third.now) }
 {
     match word {
         RowWord::Sent => parse_sent(first, second, third),

@@ -6,13 +6,13 @@ use Rattle.std.proofs.lemmas.Grind.{flat_map-append}
 use Rattle.std.proofs.lemmas.List.{take_more}
 use Rattle.std.proofs.Math.Seq.{take-add}
 use Rattle.kt_object.specs.Bytes.{number_bytes, saved_bytes}
-use Rattle.kt_object.specs.Value.{IsCount, last_eight}
+use Rattle.kt_object.specs.Value.{IsValueCount, last_eight}
 
 -- a value has at most eight numbers
-pub IsCount-few : (kind count : ℕ) → IsCount kind count → count ≤ 8
-IsCount-few zero count is = omega arith
-IsCount-few (suc zero) count is = omega arith
-IsCount-few (suc (suc kind)) count is = is
+pub IsValueCount-few : (kind count : ℕ) → IsValueCount kind count → count ≤ 8
+IsValueCount-few zero count is = omega arith
+IsValueCount-few (suc zero) count is = omega arith
+IsValueCount-few (suc (suc kind)) count is = is
 
 -- with fewer than eight numbers one more keeps all
 pub last_eight-few : (numbers : List ℤ) (number : ℤ) → length numbers < 8 → last_eight (numbers ++ number ∷ []) ≡ numbers ++ number ∷ []

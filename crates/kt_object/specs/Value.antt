@@ -7,15 +7,15 @@ abbrev pub IsKind : ℕ → Type 0
 IsKind kind = kind < 3
 
 -- how many numbers the value of a kind has
-abbrev pub IsCount : ℕ → ℕ → Type 0
-IsCount zero count = count ≡ 1
-IsCount (suc zero) count = count ≡ 1
-IsCount (suc (suc _)) count = count ≤ 8
+abbrev pub IsValueCount : ℕ → ℕ → Type 0
+IsValueCount zero count = count ≡ 1
+IsValueCount (suc zero) count = count ≡ 1
+IsValueCount (suc (suc _)) count = count ≤ 8
 
 -- a value that an object of this kind may have
 pub record IsValue (kind : ℕ) (value : List ℤ) : Type 0 where
   pub is_kind : IsKind kind
-  pub count : IsCount kind (length value)
+  pub count : IsValueCount kind (length value)
   pub numbers : All (λ number. FitsSigned w64 number) value
 
 -- the value of a new object

@@ -4,7 +4,7 @@ ghost use Rattle.std.specs.Prelude.{◌≡◌, ◌≤◌, ◌<◌, ◌+◌, ◌+
 ghost use Rattle.std.specs.Int.{w64};
 ghost use Rattle.std.specs.List.{flat_map};
 ghost use Rattle.kt_object.specs.Bytes.{number_bytes, saved_bytes, IsSavedState};
-ghost use Rattle.kt_object.specs.Value.{newest, last_eight, IsCount, IsKind};
+ghost use Rattle.kt_object.specs.Value.{newest, last_eight, IsValueCount, IsKind};
 
 use std::alloc::AllocError;
 use std::marker::Model;
@@ -109,7 +109,7 @@ fn numbers_at(bytes: &[u8], count: usize) -> Numbers
 /// Whether the value of a kind may have this many numbers.
 fn is_count(kind: u8, count: u8) -> bool
     requires { IsKind kind }
-    ensures { IsTrue result ↔ IsCount kind count }
+    ensures { IsTrue result ↔ IsValueCount kind count }
 {
     match kind {
         0 | 1 => count == 1,

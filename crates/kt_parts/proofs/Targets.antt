@@ -4,7 +4,7 @@ use Rattle.std.specs.Prelude.{◌==◌, ◌||◌, if◌then◌else◌, All, AllP
 use Rattle.std.proofs.lemmas.Bool.{cases_eq}
 use Rattle.std.proofs.lemmas.Bool.Decides.{nat_tests}
 use Rattle.kt_base.specs.Sets.{has, count_below, count_of}
-use Rattle.kt_parts.specs.Asks.{is_asked_in, IsRising}
+use Rattle.kt_parts.specs.Asks.{is_asked_in, AreRisingAsks}
 
 is_asked_in_push : (asks : List (ℕ × ℕ)) (x : ℕ × ℕ) (q : ℕ) → is_asked_in (asks ++ x ∷ []) q ≡ (is_asked_in asks q || (x.0 == q))
 is_asked_in_push [] x q = grind (arith, nat_tests)
@@ -65,13 +65,13 @@ not_asked (ask ∷ asks) q h =
     let r = not_asked asks q (λ k d b. h (suc k) d (omega arith)) in
     let a : q < ask.0 = h 0 ask (omega arith) in grind (arith, nat_tests)
 
-rest_above : (ask : ℕ × ℕ) (asks : List (ℕ × ℕ)) → IsRising (ask ∷ asks) → All (λ later. ask.0 < later.0) asks
+rest_above : (ask : ℕ × ℕ) (asks : List (ℕ × ℕ)) → AreRisingAsks (ask ∷ asks) → All (λ later. ask.0 < later.0) asks
 rest_above ask asks h = λ k d b. h 0 (suc k) d (omega arith) (omega arith)
 
-rest_rising : (ask : ℕ × ℕ) (asks : List (ℕ × ℕ)) → IsRising (ask ∷ asks) → IsRising asks
+rest_rising : (ask : ℕ × ℕ) (asks : List (ℕ × ℕ)) → AreRisingAsks (ask ∷ asks) → AreRisingAsks asks
 rest_rising ask asks h = λ i j d a b. h (suc i) (suc j) d (omega arith) (omega arith)
 
-count_asked : (n : ℕ) (asks : List (ℕ × ℕ)) → IsRising asks → ((q : ℕ) → is_asked_in asks q ≡ true → q < n) → count_to n (is_asked_in asks) ≡ length asks
+count_asked : (n : ℕ) (asks : List (ℕ × ℕ)) → AreRisingAsks asks → ((q : ℕ) → is_asked_in asks q ≡ true → q < n) → count_to n (is_asked_in asks) ≡ length asks
 count_asked n [] h b = count_none n
 count_asked n (ask ∷ asks) h b =
     let r = count_asked n asks (rest_rising ask asks h) (λ q e. b q (later ask q (is_asked_in asks q) e)) in
@@ -89,7 +89,7 @@ count_asked n (ask ∷ asks) h b =
     other ask q b o = grind (arith, nat_tests)
 
 -- a set of those that rising asks ask has as many members
-pub count_targets : (set : ℕ) (asks : List (ℕ × ℕ)) → IsRising asks → ((q : ℕ) → has set q ≡ is_asked_in asks q) → ((q : ℕ) → has set q ≡ true → q < 64) → count_of set ≡ length asks
+pub count_targets : (set : ℕ) (asks : List (ℕ × ℕ)) → AreRisingAsks asks → ((q : ℕ) → has set q ≡ is_asked_in asks q) → ((q : ℕ) → has set q ≡ true → q < 64) → count_of set ≡ length asks
 count_targets set asks rising same small = count_to_is set 64 (is_asked_in asks) same ∙ count_asked 64 asks rising (λ q e. small q (same q ∙ e))
 
 eq_of : (a b : ℕ) → (a == b) ≡ true → a ≡ b

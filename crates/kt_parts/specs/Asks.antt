@@ -3,8 +3,8 @@ use Rattle.std.specs.Prelude.{ℕ, ◌==◌, ◌<◌, Bool, List, AllPairs}
 use Rattle.std.specs.List.{list_any}
 
 -- asks stand by rising process, and so each process is asked once
-abbrev pub IsRising : List (ℕ × ℕ) → Type 0
-IsRising asks = AllPairs (λ first second. first.0 < second.0) asks
+abbrev pub AreRisingAsks : List (ℕ × ℕ) → Type 0
+AreRisingAsks asks = AllPairs (λ first second. first.0 < second.0) asks
 
 -- whether a process is among those that are asked
 abbrev pub is_asked_in : List (ℕ × ℕ) → ℕ → Bool

@@ -1,7 +1,7 @@
 -- The part of a process that has just joined an instance, and its asks.
 use Rattle.std.specs.Prelude.{◌≡◌, ℕ, ◌<◌, true, Option, List, length, All}
 use Rattle.kt_base.specs.Sets.{has, count_of}
-use Rattle.kt_parts.specs.Asks.{IsRising, is_asked_in}
+use Rattle.kt_parts.specs.Asks.{AreRisingAsks, is_asked_in}
 use Rattle.kt_parts.specs.Rules.{way_on}
 use Rattle.kt_parts.specs.Parts.{Part}
 use Rattle.kt_parts.specs.declared.actions.Action.{Action}
@@ -21,7 +21,7 @@ pub record IsJoin (n k : ℕ) (from : Option ℕ) (new : Part) (asks : List (ℕ
   pub part : IsNewPart k from asks new
   pub below : (q : ℕ) → has new.asked q ≡ true → q < n
   pub within : All (λ ask. ask.0 < n) asks
-  pub rising : IsRising asks
+  pub rising : AreRisingAsks asks
 
 abbrev pub Joins : ℕ → ℕ → Option ℕ → Part → Action → Type 0
 Joins n k from part (Join asks goes) = IsJoin n k from part asks × (goes ≡ way_on part)

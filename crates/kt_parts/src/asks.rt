@@ -2,7 +2,7 @@
 
 ghost use Rattle.std.specs.Prelude.{◌≡◌, ℕ, length};
 ghost use Rattle.kt_base.specs.Sets.{has, count_of};
-ghost use Rattle.kt_parts.specs.Asks.{is_asked_in, IsRising};
+ghost use Rattle.kt_parts.specs.Asks.{is_asked_in, AreRisingAsks};
 
 use kt_base::{Label, ProcNo, ProcSet, members_in_range};
 use std::marker::Model;
@@ -15,19 +15,19 @@ pub struct Asks {
 
 impl Model for Asks {
     ghost use Rattle.std.specs.Prelude.{List, ℕ};
-    ghost use Rattle.kt_parts.specs.Asks.{IsRising};
+    ghost use Rattle.kt_parts.specs.Asks.{AreRisingAsks};
 
     ghost Value = { List (ℕ × ℕ) };
 
     ghost view = { λ a. a.pairs.items };
 
-    ghost invariant = { λ a. IsRising a.pairs.items };
+    ghost invariant = { λ a. AreRisingAsks a.pairs.items };
 }
 
 impl Asks {
     /// The asks of these pairs of a process and a label, which stand by rising process.
     pub fn new(pairs: Vec<(ProcNo, Label)>) -> Asks
-        requires { IsRising pairs.items }
+        requires { AreRisingAsks pairs.items }
         ensures { result ≡ pairs.items }
     {
         Asks { pairs }
@@ -36,7 +36,7 @@ impl Asks {
     /// The pairs of a process and a label, in the order in which they go out.
     pub fn list(&self) -> &[(ProcNo, Label)]
         ensures asks { result.now ≡ self.now }
-        ensures rising { IsRising result.now }
+        ensures rising { AreRisingAsks result.now }
     {
         self.pairs.as_slice()
     }
@@ -45,7 +45,7 @@ impl Asks {
     pub(crate) fn targets(&self) -> ProcSet
         ensures members { (q : ℕ) → has result q ≡ is_asked_in self.now q }
         ensures count { count_of result ≡ length self.now }
-        ensures rising { IsRising self.now }
+        ensures rising { AreRisingAsks self.now }
     {
         members_in_range();
         targets_of(self.list())

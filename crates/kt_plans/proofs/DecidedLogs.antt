@@ -12,7 +12,7 @@ use Rattle.kt_cuts.specs.Chains.{members}
 use Rattle.kt_cuts.proofs.Lists.{any_at, any_from}
 use Rattle.kt_checker.specs.Unwilling.{is_unwilling, has_unwilling}
 use Rattle.kt_checker.proofs.Answering.{no_broken}
-use Rattle.kt_certify.specs.Faults.{HasNoChain, IsUnlinked, IsFaultOf, IsFit}
+use Rattle.kt_certify.specs.Faults.{HasNoChain, IsUnlinked, IsFaultOf, IsFitLog}
 use Rattle.kt_certify.specs.Just.{IsJust}
 use Rattle.kt_certify.specs.declared.fault.CertFault.{CertFault}
 use Rattle.kt_certify.specs.declared.fault.CertFault.TheVariants.{BadLog, NoChain, Memory}
@@ -83,7 +83,7 @@ unwilling_not log k true h = from (has_unwilling log k) refl
     from true e = absurd (clash (h.1 (unwilling_found log k e)))
 
 -- so it has certificates but for want of memory, and they pass
-pub fit_of : (log : List Event) → IsDecidedWell log → IsFit log
+pub fit_of : (log : List Event) → IsDecidedWell log → IsFitLog log
 fit_of log h = record { legal = h.legal; chained = λ k p. not_without_chain log k p h.linked }
 
 pub just_of : (log : List Event) → IsDecidedWell log → IsJust log

@@ -7,7 +7,7 @@ use Rattle.kt_closing.specs.LateSteps.{late_run}
 use Rattle.kt_seen.specs.Labelling.{labelling}
 use Rattle.kt_seen.specs.Seen.{seen_parcels, seen}
 use Rattle.kt_values.specs.Done.{done}
-use Rattle.kt_values.specs.States.{messages_between, IsRising}
+use Rattle.kt_values.specs.States.{messages_between, AreRisingNumbers}
 use Rattle.kt_values.proofs.RunActs.{invariant_late, legal_late}
 use Rattle.kt_values.proofs.StandsOnce.{stands_once}
 use Rattle.kt_values.proofs.RisingLines.{rises_of, kept_is}
@@ -27,8 +27,8 @@ line_is first s p q = let t = labelling first s.log in ap₂ (λ (x y : List ℕ
 pub once_seen : (n first : ℕ) (steps : List ProtocolStep) → EachIsOnceOnItsLine (seen first (late_run (opening n) steps))
 once_seen n first steps m p q h d = ap (times m) (line_is first (late_run (opening n) steps) p q) ∙ stands_once n steps m p q h d
 
-pub rising_seen : (n first : ℕ) (steps : List ProtocolStep) (p q : ℕ) → IsRising (message_line (seen first (late_run (opening n) steps)) p q)
-rising_seen n first steps p q = subst IsRising (sym (line_is first (late_run (opening n) steps) p q)) (rises_of n steps (invariant_late n) (legal_late n steps) p q)
+pub rising_seen : (n first : ℕ) (steps : List ProtocolStep) (p q : ℕ) → AreRisingNumbers (message_line (seen first (late_run (opening n) steps)) p q)
+rising_seen n first steps p q = subst AreRisingNumbers (sym (line_is first (late_run (opening n) steps) p q)) (rises_of n steps (invariant_late n) (legal_late n steps) p q)
 
 pub keeps_seen : (n first : ℕ) (steps : List ProtocolStep) → RetainsReceived (seen first (late_run (opening n) steps))
 keeps_seen n first steps p q = let s = late_run (opening n) steps in let t = labelling first s.log in messages_are t.label t.body s.so_far.is_rollback (s.kept q p) ∙ kept_is n steps (invariant_late n) (legal_late n steps) p q

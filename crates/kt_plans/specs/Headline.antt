@@ -5,7 +5,7 @@ use Rattle.kt_cuts.specs.Past.{past}
 use Rattle.kt_cuts.specs.Legal.{IsLegal}
 use Rattle.kt_cuts.specs.Cuts.{IsConsistent, permanent_cut, present_cut}
 use Rattle.kt_checker.specs.Passing.{IsPassed}
-use Rattle.kt_checker.specs.Order.{IsAnswer}
+use Rattle.kt_checker.specs.Order.{IsCheckerAnswer}
 use Rattle.kt_checker.specs.declared.verdict.Verdict.TheVariants.{Yes}
 use Rattle.kt_certify.specs.Certificates.{certificates}
 use Rattle.kt_certify.specs.Faults.{IsFaultOf}
@@ -31,4 +31,4 @@ pub record IsPromised (log : List Event) : Type 0 where
 pub record IsCertified (log : List Event) : Type 0 where
   pub certified : (f : CertFault) → IsFaultOf log f → f ≡ Memory
   pub passed : IsPassed log (certificates log)
-  pub answer : IsAnswer log (certificates log) Yes
+  pub answer : IsCheckerAnswer log (certificates log) Yes

@@ -12,7 +12,7 @@ ghost use Rattle.kt_checker.specs.declared.verdict.Verdict.TheVariants.{Yes};
 ghost use Rattle.kt_checker.specs.declared.verdict.Why.TheVariants as why;
 ghost use Rattle.kt_checker.specs.Unwilling.{has_unwilling};
 ghost use Rattle.kt_checker.specs.Passing.{IsAsInLog, HasLists, IsPassed, AreComplete};
-ghost use Rattle.kt_checker.specs.Order.{IsAnswer, IsBadLog, IsUnknown, IsWrong, IsMissing};
+ghost use Rattle.kt_checker.specs.Order.{IsCheckerAnswer, IsBadLog, IsUnknown, IsFirstWhy, IsMissing};
 ghost use Rattle.kt_certify.specs.declared.fault.CertFault.{CertFault};
 ghost use Rattle.kt_certify.specs.declared.fault.CertFault.TheVariants.{Memory};
 ghost use Rattle.kt_certify.specs.Certificates.{certificates};
@@ -36,21 +36,21 @@ pub fn certificates_of_well_decided_logs()
         slice_get (certificates log) i ≡ Some c → IsUnknown log (certificates log) i c v → ⊥ }
     ensures no_cause { (log : List Event) (i n : ℕ) (c : Certificate) → IsDecidedWell log →
         slice_get (certificates log) i ≡ Some c → IsAsInLog log c n →
-        IsWrong (past (take n log)) (members log c.inst) (has_unwilling log c.inst) c why.Cause → ⊥ }
+        IsFirstWhy (past (take n log)) (members log c.inst) (has_unwilling log c.inst) c why.Cause → ⊥ }
     ensures no_members { (log : List Event) (i n : ℕ) (c : Certificate) → IsDecidedWell log →
         slice_get (certificates log) i ≡ Some c → IsAsInLog log c n →
-        IsWrong (past (take n log)) (members log c.inst) (has_unwilling log c.inst) c why.Members → ⊥ }
+        IsFirstWhy (past (take n log)) (members log c.inst) (has_unwilling log c.inst) c why.Members → ⊥ }
     ensures no_chain { (log : List Event) (i n : ℕ) (c : Certificate) → IsDecidedWell log →
         slice_get (certificates log) i ≡ Some c → IsAsInLog log c n →
-        IsWrong (past (take n log)) (members log c.inst) (has_unwilling log c.inst) c why.Chain → ⊥ }
+        IsFirstWhy (past (take n log)) (members log c.inst) (has_unwilling log c.inst) c why.Chain → ⊥ }
     ensures no_orphan { (log : List Event) (i n : ℕ) (c : Certificate) → IsDecidedWell log →
         slice_get (certificates log) i ≡ Some c → IsAsInLog log c n →
-        IsWrong (past (take n log)) (members log c.inst) (has_unwilling log c.inst) c why.Orphan → ⊥ }
+        IsFirstWhy (past (take n log)) (members log c.inst) (has_unwilling log c.inst) c why.Orphan → ⊥ }
     ensures no_missing { (log : List Event) (v : Verdict) → IsDecidedWell log → IsMissing log (certificates log) v → ⊥ }
 
     // So the certificates pass, and no other answer than yes is right.
     ensures passed { (log : List Event) → IsDecidedWell log → IsPassed log (certificates log) }
-    ensures yes { (log : List Event) (v : Verdict) → IsDecidedWell log → IsAnswer log (certificates log) v → v ≡ Yes }
+    ensures yes { (log : List Event) (v : Verdict) → IsDecidedWell log → IsCheckerAnswer log (certificates log) v → v ≡ Yes }
 
     // No member lacks a chain, and that a log has no certificates can't be but for want of memory.
     ensures chained { (log : List Event) (k p : ℕ) → IsDecidedWell log → HasNoChain log k p → ⊥ }
@@ -75,9 +75,9 @@ pub fn certificates_of_protocol_runs()
     ensures passed { (n : ℕ) (steps : List ProtocolStep) →
         IsPassed (run (opening n) steps).log (certificates (run (opening n) steps).log) }
     ensures answer { (n : ℕ) (steps : List ProtocolStep) →
-        IsAnswer (run (opening n) steps).log (certificates (run (opening n) steps).log) Yes }
+        IsCheckerAnswer (run (opening n) steps).log (certificates (run (opening n) steps).log) Yes }
     ensures yes { (n : ℕ) (steps : List ProtocolStep) (v : Verdict) →
-        IsAnswer (run (opening n) steps).log (certificates (run (opening n) steps).log) v → v ≡ Yes }
+        IsCheckerAnswer (run (opening n) steps).log (certificates (run (opening n) steps).log) v → v ≡ Yes }
 {
     certificates_of_well_decided_logs();
 }
@@ -88,7 +88,7 @@ pub fn certificates_of_promised_logs()
     ensures certified { (log : List Event) → IsPromised log → IsCertified log }
 
     // It can't be another one.
-    ensures yes { (log : List Event) (v : Verdict) → IsPromised log → IsAnswer log (certificates log) v → v ≡ Yes }
+    ensures yes { (log : List Event) (v : Verdict) → IsPromised log → IsCheckerAnswer log (certificates log) v → v ≡ Yes }
 {
     certificates_of_well_decided_logs();
 }
@@ -117,9 +117,9 @@ pub fn certificates_of_runs()
     ensures passed { (plan : Planned) (first : ℕ) (w : Progress) → IsPlan plan → RunReaches plan first w →
         IsPassed w.now.log (certificates w.now.log) }
     ensures answer { (plan : Planned) (first : ℕ) (w : Progress) → IsPlan plan → RunReaches plan first w →
-        IsAnswer w.now.log (certificates w.now.log) Yes }
+        IsCheckerAnswer w.now.log (certificates w.now.log) Yes }
     ensures yes { (plan : Planned) (first : ℕ) (w : Progress) (v : Verdict) → IsPlan plan → RunReaches plan first w →
-        IsAnswer w.now.log (certificates w.now.log) v → v ≡ Yes }
+        IsCheckerAnswer w.now.log (certificates w.now.log) v → v ≡ Yes }
 {
     kt_certify::certificates_of_logs();
     kt_certify::certificates_of_legal_logs();

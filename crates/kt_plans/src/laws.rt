@@ -32,7 +32,7 @@ ghost use Rattle.kt_values.specs.Things.{Things, Saving, IsSaving, first_things,
 ghost use Rattle.kt_values.specs.Acts.{acts_by};
 ghost use Rattle.kt_values.specs.Acts as values_acts;
 ghost use Rattle.kt_values.specs.SeenActs.{seen_acts};
-ghost use Rattle.kt_values.specs.States.{IsRising};
+ghost use Rattle.kt_values.specs.States.{AreRisingNumbers};
 ghost use Rattle.kt_values.specs.WorkedRuns.{all_bodies};
 ghost use Rattle.kt_plans.specs.Runs.{Move, after_moves, RunReaches, protocol_steps, IsAfterSteps, IsSameButPhase, GoesOn, after_gives, after_defaults, AreOfOthers};
 ghost use Rattle.kt_plan.specs.declared.steps.Step.{Step};
@@ -246,7 +246,7 @@ pub fn messages_of_runs()
     ensures once { (plan : Planned) (first : ℕ) (w : Progress) → IsPlan plan → RunReaches plan first w →
         EachIsOnceOnItsLine w.now }
     ensures rising { (plan : Planned) (first : ℕ) (w : Progress) (p q : ℕ) → IsPlan plan → RunReaches plan first w →
-        IsRising (message_line w.now p q) }
+        AreRisingNumbers (message_line w.now p q) }
 
     // What is kept of a sender is what was received of it past the own permanent position.
     ensures kept_lists { (plan : Planned) (first : ℕ) (w : Progress) → IsPlan plan → RunReaches plan first w →

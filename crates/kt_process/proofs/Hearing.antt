@@ -12,12 +12,12 @@ use Rattle.kt_cuts.specs.Past.{at_one}
 use Rattle.kt_protocol.specs.Replies.{unable_cause}
 use Rattle.kt_tables.specs.Calls.{Call, Speaks, parts, sents, receiveds, on_tentative}
 use Rattle.kt_tables.specs.Labels.{least, greatest}
-use Rattle.kt_tables.specs.Standing.{StandsFor}
+use Rattle.kt_tables.specs.Standing.{TablesStandFor}
 use Rattle.kt_tables.specs.States.{State}
 use Rattle.kt_tables.proofs.CallParts.{sent_rises}
 use Rattle.kt_tables.proofs.LabelLists.{least_decides, greatest_decides}
 use Rattle.kt_tables.proofs.Tests.{up_to_test, above_test}
-use Rattle.kt_parts.specs.Answers.{Answer, replies, joins}
+use Rattle.kt_parts.specs.Answers.{AskAnswer, replies, joins}
 use Rattle.kt_parts.specs.Joins.{Joins}
 use Rattle.kt_parts.specs.Parts.{Part}
 use Rattle.kt_parts.specs.declared.actions.Action.{Action}
@@ -27,7 +27,7 @@ use Rattle.kt_ckpt.specs.Actions as ckpt_actions
 use Rattle.kt_roll.specs.Rules as roll
 use Rattle.kt_roll.specs.Actions as roll_actions
 use Rattle.kt_roll.specs.Notes.{note_of, with_note}
-use Rattle.kt_roll.specs.Sides.{RollSide, IsAfter}
+use Rattle.kt_roll.specs.Sides.{RollSide, IsSideAfter}
 use Rattle.kt_seen.specs.Seen.{SeenPart, SeenProcess}
 use Rattle.kt_seen.specs.SeenJoining.{no_note, part_after_ask}
 use Rattle.kt_seen.specs.CallTests.{must_take, must_roll}
@@ -72,10 +72,10 @@ zero_other k h = grind (arith, nat_tests)
 
 -- what comes of an ask to take a checkpoint
 pub save_answer : (x : Option Side) (able up : Bool) (q k l : ℕ) (y : SeenProcess) → IsNumbered (part_of_side x) → inst_shown x ≡ y.inst → up ≡ y.up → 1 ≤ k → Speaks y.calls →
-    ckpt.answer (inst_of x) up able k (ckpt.must_join y.calls q l) ≡ answer_as kind.Checkpoint able q k l y
+    ckpt.checkpoint_answer (inst_of x) up able k (ckpt.must_join y.calls q l) ≡ answer_as kind.Checkpoint able q k l y
 save_answer x able up q k l y num i u k1 speaks = rw (← i, ← u, takes_as y.calls q l speaks) (at_side x (must_take y.calls q l) num)
   where
-    free : (must up able : Bool) (k : ℕ) → 1 ≤ k → ckpt.answer None up able k must ≡
+    free : (must up able : Bool) (k : ℕ) → 1 ≤ k → ckpt.checkpoint_answer None up able k must ≡
         (if 0 == k then replies true None else if not (0 == 0) then replies false (Some (Busy 0)) else if not must then replies true None else if not (able && up) then replies false (Some (unable_cause up)) else joins)
     free false up able k h = rw (zero_other k h) refl
     free true true true k h = rw (zero_other k h) refl
@@ -83,10 +83,10 @@ save_answer x able up q k l y num i u k1 speaks = rw (← i, ← u, takes_as y.c
     free true false true k h = rw (zero_other k h) refl
     free true false false k h = rw (zero_other k h) refl
 
-    busy : (n : ℕ) (rest : Answer) → 1 ≤ n → (if n == k then replies true None else replies false (Some (Busy n))) ≡ (if n == k then replies true None else if not (n == 0) then replies false (Some (Busy n)) else rest)
+    busy : (n : ℕ) (rest : AskAnswer) → 1 ≤ n → (if n == k then replies true None else replies false (Some (Busy n))) ≡ (if n == k then replies true None else if not (n == 0) then replies false (Some (Busy n)) else rest)
     busy n rest h = rw (is_some n h) refl
 
-    at_side : (x : Option Side) (must : Bool) → IsNumbered (part_of_side x) → ckpt.answer (inst_of x) up able k must ≡
+    at_side : (x : Option Side) (must : Bool) → IsNumbered (part_of_side x) → ckpt.checkpoint_answer (inst_of x) up able k must ≡
         (if inst_shown x == k then replies true None else if not (inst_shown x == 0) then replies false (Some (Busy (inst_shown x)))
         else if not must then replies true None else if not (able && up) then replies false (Some (unable_cause up)) else joins)
     at_side None must h = free must up able k k1
@@ -94,29 +94,29 @@ save_answer x able up q k l y num i u k1 speaks = rw (← i, ← u, takes_as y.c
     at_side (Some (side.Rollback s)) must h = busy s.part.inst _ h
 
 pub roll_answer : (x : Option Side) (able : Bool) (q k l : ℕ) (y : SeenProcess) → IsNumbered (part_of_side x) → inst_shown x ≡ y.inst → 1 ≤ k →
-    roll.answer (inst_of x) k (roll.must_join y.calls q l) ≡ answer_as kind.Rollback able q k l y
+    roll.rollback_answer (inst_of x) k (roll.must_join y.calls q l) ≡ answer_as kind.Rollback able q k l y
 roll_answer x able q k l y num i k1 = rw (← i, rolls_as y.calls q l) (at_side x (must_roll y.calls q l) num)
   where
-    free : (must : Bool) → roll.answer None k must ≡ (if 0 == k then replies true None else if not (0 == 0) then replies false (Some (Busy 0)) else if must then joins else replies true None)
+    free : (must : Bool) → roll.rollback_answer None k must ≡ (if 0 == k then replies true None else if not (0 == 0) then replies false (Some (Busy 0)) else if must then joins else replies true None)
     free false = rw (zero_other k k1) refl
     free true = rw (zero_other k k1) refl
 
-    busy : (n : ℕ) (rest : Answer) → 1 ≤ n → (if n == k then replies true None else replies false (Some (Busy n))) ≡ (if n == k then replies true None else if not (n == 0) then replies false (Some (Busy n)) else rest)
+    busy : (n : ℕ) (rest : AskAnswer) → 1 ≤ n → (if n == k then replies true None else replies false (Some (Busy n))) ≡ (if n == k then replies true None else if not (n == 0) then replies false (Some (Busy n)) else rest)
     busy n rest h = rw (is_some n h) refl
 
-    at_side : (x : Option Side) (must : Bool) → IsNumbered (part_of_side x) → roll.answer (inst_of x) k must ≡
+    at_side : (x : Option Side) (must : Bool) → IsNumbered (part_of_side x) → roll.rollback_answer (inst_of x) k must ≡
         (if inst_shown x == k then replies true None else if not (inst_shown x == 0) then replies false (Some (Busy (inst_shown x))) else if must then joins else replies true None)
     at_side None must h = free must
     at_side (Some (side.Checkpoint s)) must h = busy s.part.inst _ h
     at_side (Some (side.Rollback s)) must h = busy s.part.inst _ h
 
 answer_is : (s : Standing) (x : Option Side) (able : Bool) (q k l : ℕ) (y : SeenProcess) → s.able ≡ able → IsNumbered (part_of_side x) → s.in_inst ≡ inst_of x → inst_shown x ≡ y.inst → s.up ≡ y.up → 1 ≤ k → Speaks y.calls →
-    ckpt.answer s.in_inst s.up s.able k (ckpt.must_join y.calls q l) ≡ answer_as kind.Checkpoint able q k l y
+    ckpt.checkpoint_answer s.in_inst s.up s.able k (ckpt.must_join y.calls q l) ≡ answer_as kind.Checkpoint able q k l y
 answer_is s x able q k l y a num i j u k1 speaks = rw (i, a) (save_answer x able s.up q k l y num j u k1 speaks)
 
 pub hears_save : (x : ProcessState) (y : SeenProcess) (t : State) (s : Standing) (able : Bool) (part : Part) (marks : List ℕ) (n q k l : ℕ) (action : Action) → s.able ≡ able → IsSeenAs x y → IsNumbered (part_of_side x.side) → n ≤ 64 → 1 ≤ k →
-    s.in_inst ≡ inst_of x.side → s.up ≡ x.up → ((calls : List Call) → StandsFor x.tables calls → ckpt_actions.IsAnswer calls s k q l (Some part) action) → Joins n k (Some q) part action →
-    ((calls : List Call) → StandsFor x.tables calls → ckpt_actions.AsksCohort calls action) → ((calls : List Call) → StandsFor x.tables calls → StandsFor t (calls ++ on_tentative ∷ [])) →
+    s.in_inst ≡ inst_of x.side → s.up ≡ x.up → ((calls : List Call) → TablesStandFor x.tables calls → ckpt_actions.IsCheckpointAnswer calls s k q l (Some part) action) → Joins n k (Some q) part action →
+    ((calls : List Call) → TablesStandFor x.tables calls → ckpt_actions.AsksCheckpointCohort calls action) → ((calls : List Call) → TablesStandFor x.tables calls → TablesStandFor t (calls ++ on_tentative ∷ [])) →
     HearsAs kind.Checkpoint able n q k l (mark_of marks) y (record { tables = t; side = Some (side.Checkpoint (record { part = part; marks = marks })); up = x.up; used = x.used }) action
 hears_save x y t s able part marks n q k l (Join asks goes) a h num few k1 i u rule join cohort stands = (
   sym (answer_is s x.side able q k l y a num i h.inst (u ∙ h.up) k1 h.stands.speaks) ∙ rule y.calls h.stands,
@@ -129,7 +129,7 @@ hears_save x y t s able part marks n q k l (Settle commit tell) a h num few k1 i
 
 -- it replies, and stays where it is
 pub replies_save : (x : ProcessState) (y : SeenProcess) (s : Standing) (able : Bool) (marks : ℕ → ℕ) (n q k l : ℕ) (action : Action) → s.able ≡ able → IsSeenAs x y → IsNumbered (part_of_side x.side) → 1 ≤ k →
-    s.in_inst ≡ inst_of x.side → s.up ≡ x.up → ((calls : List Call) → StandsFor x.tables calls → ckpt_actions.IsAnswer calls s k q l None action) → HearsAs kind.Checkpoint able n q k l marks y x action
+    s.in_inst ≡ inst_of x.side → s.up ≡ x.up → ((calls : List Call) → TablesStandFor x.tables calls → ckpt_actions.IsCheckpointAnswer calls s k q l None action) → HearsAs kind.Checkpoint able n q k l marks y x action
 replies_save x y s able marks n q k l (Reply to willing cause) a h num k1 i u rule =
     let r = rule y.calls h.stands in
     (r.0, sym (answer_is s x.side able q k l y a num i h.inst (u ∙ h.up) k1 h.stands.speaks) ∙ r.1, h)
@@ -139,11 +139,11 @@ replies_save x y s able marks n q k l (Join asks goes) a h num k1 i u rule = abs
 replies_save x y s able marks n q k l (Settle commit tell) a h num k1 i u rule = absurd (rule y.calls h.stands)
 
 pub hears_roll : (x : ProcessState) (y : SeenProcess) (s : Standing) (r : RollSide) (marks : ℕ → ℕ) (n q k l : ℕ) (action : Action) → IsSeenAs x y → IsNumbered (part_of_side x.side) → n ≤ 64 → 1 ≤ k →
-    s.in_inst ≡ inst_of x.side → ((calls : List Call) → StandsFor x.tables calls → roll_actions.IsAnswer calls s k q l (Some r) action) → Joins n k (Some q) r.part action →
-    ((calls : List Call) → StandsFor x.tables calls → roll_actions.AsksCohort calls action) → note_of r.notes ≡ with_note q l no_note →
+    s.in_inst ≡ inst_of x.side → ((calls : List Call) → TablesStandFor x.tables calls → roll_actions.IsRollbackAnswer calls s k q l (Some r) action) → Joins n k (Some q) r.part action →
+    ((calls : List Call) → TablesStandFor x.tables calls → roll_actions.AsksRollbackCohort calls action) → note_of r.notes ≡ with_note q l no_note →
     HearsAs kind.Rollback true n q k l marks y (record x { side = Some (side.Rollback r) }) action
 hears_roll x y s r marks n q k l (Join asks goes) h num few k1 i rule join cohort notes = (
-  sym (ap (λ (o : Option ℕ). roll.answer o k (roll.must_join y.calls q l)) i ∙ roll_answer x.side true q k l y num h.inst k1) ∙ rule y.calls h.stands,
+  sym (ap (λ (o : Option ℕ). roll.rollback_answer o k (roll.must_join y.calls q l)) i ∙ roll_answer x.side true q k l y num h.inst k1) ∙ rule y.calls h.stands,
   joined_roll_as x y r n k (Some q) marks (at_one q (Some l) no_note) asks goes h few join cohort notes,
 )
 hears_roll x y s r marks n q k l Nothing h num few k1 i rule join cohort notes = absurd join
@@ -153,11 +153,11 @@ hears_roll x y s r marks n q k l (Settle commit tell) h num few k1 i rule join c
 
 -- it replies; the process becomes one that has noted
 pub replies_roll : (x new : ProcessState) (y : SeenProcess) (s : Standing) (marks : ℕ → ℕ) (n q k l : ℕ) (action : Action) → IsSeenAs x y → IsNumbered (part_of_side x.side) → 1 ≤ k →
-    s.in_inst ≡ inst_of x.side → ((calls : List Call) → StandsFor x.tables calls → roll_actions.IsAnswer calls s k q l None action) → IsSeenAs new (noted_as kind.Rollback q k l y) →
+    s.in_inst ≡ inst_of x.side → ((calls : List Call) → TablesStandFor x.tables calls → roll_actions.IsRollbackAnswer calls s k q l None action) → IsSeenAs new (noted_as kind.Rollback q k l y) →
     HearsAs kind.Rollback true n q k l marks y new action
 replies_roll x new y s marks n q k l (Reply to willing cause) h num k1 i rule noted =
     let r = rule y.calls h.stands in
-    (r.0, sym (ap (λ (o : Option ℕ). roll.answer o k (roll.must_join y.calls q l)) i ∙ roll_answer x.side true q k l y num h.inst k1) ∙ r.1, noted)
+    (r.0, sym (ap (λ (o : Option ℕ). roll.rollback_answer o k (roll.must_join y.calls q l)) i ∙ roll_answer x.side true q k l y num h.inst k1) ∙ r.1, noted)
 replies_roll x new y s marks n q k l Nothing h num k1 i rule noted = absurd (rule y.calls h.stands)
 replies_roll x new y s marks n q k l (Refuse cause) h num k1 i rule noted = absurd (rule y.calls h.stands)
 replies_roll x new y s marks n q k l (Join asks goes) h num k1 i rule noted = absurd (rule y.calls h.stands)
@@ -183,15 +183,15 @@ notes_nothing x y q k l h free k1 = at_side x.side h.inst h.part free
     at_side (Some (side.Rollback s)) i p f = absurd (cc (f))
 
 -- a process that is in a rollback notes the label of an ask for that one
-pub notes_label : (x : ProcessState) (y : SeenProcess) (r new : RollSide) (q k l : ℕ) → x.side ≡ Some (side.Rollback r) → IsSeenAs x y → IsAfter (roll.is_in (inst_of x.side) k) q l r new →
+pub notes_label : (x : ProcessState) (y : SeenProcess) (r new : RollSide) (q k l : ℕ) → x.side ≡ Some (side.Rollback r) → IsSeenAs x y → IsSideAfter (roll.is_in (inst_of x.side) k) q l r new →
     IsSeenAs (record x { side = Some (side.Rollback new) }) (noted_as kind.Rollback q k l y)
 notes_label x y r new q k l is h after =
     let i : r.part.inst ≡ y.inst = subst (λ (s : Option Side). inst_shown s ≡ y.inst) is h.inst in
     let p : part_as true r.part (note_of r.notes) no_mark ≡ y.part = subst (λ (s : Option Side). part_shown s ≡ y.part) is h.part in
-    let a : IsAfter (r.part.inst == k) q l r new = subst (λ (s : Option Side). IsAfter (roll.is_in (inst_of s) k) q l r new) is after in
-    at_test (y.inst == k) (subst (λ (n : ℕ). IsAfter (n == k) q l r new) i a) i p
+    let a : IsSideAfter (r.part.inst == k) q l r new = subst (λ (s : Option Side). IsSideAfter (roll.is_in (inst_of s) k) q l r new) is after in
+    at_test (y.inst == k) (subst (λ (n : ℕ). IsSideAfter (n == k) q l r new) i a) i p
   where
-    at_test : (b : Bool) → IsAfter b q l r new → r.part.inst ≡ y.inst → part_as true r.part (note_of r.notes) no_mark ≡ y.part →
+    at_test : (b : Bool) → IsSideAfter b q l r new → r.part.inst ≡ y.inst → part_as true r.part (note_of r.notes) no_mark ≡ y.part →
         IsSeenAs (record x { side = Some (side.Rollback new) }) (if b then record y { part = part_after_ask y.part q l } else y)
     at_test false a i p = record { stands = h.stands; inst = ap (λ (s : RollSide). s.part.inst) a ∙ i; part = ap (λ (s : RollSide). part_as true s.part (note_of s.notes) no_mark) a ∙ p; up = h.up; used = h.used }
     at_test true a i p = record {

@@ -57,10 +57,10 @@ IsNear n None = Unit {0}
 IsNear n (Some part) = ((q : ℕ) → has part.asked q ≡ true → q < n) × IsPeer n part.parent
 
 -- there is a mark for each process; there is room for a note of each process
-abbrev pub IsMarked : ℕ → Option Side → Type 0
-IsMarked n None = Unit {0}
-IsMarked n (Some (Checkpoint side)) = length side.marks ≡ n
-IsMarked n (Some (Rollback side)) = side.notes.processes ≡ n
+abbrev pub HasMarks : ℕ → Option Side → Type 0
+HasMarks n None = Unit {0}
+HasMarks n (Some (Checkpoint side)) = length side.marks ≡ n
+HasMarks n (Some (Rollback side)) = side.notes.processes ≡ n
 
 -- instances have numbers from 1 on
 abbrev pub IsNumbered : Option Part → Type 0
@@ -68,10 +68,10 @@ IsNumbered None = Unit {0}
 IsNumbered (Some part) = 1 ≤ part.inst
 
 -- tables, part and labels belong together
-pub record Fits (x : ProcessState) : Type 0 where
+pub record ProcessFits (x : ProcessState) : Type 0 where
   pub few : x.tables.processes ≤ 64
   pub tentative : x.tables.is_tentative ≡ is_saving x.side
   pub near : IsNear x.tables.processes (part_of_side x.side)
-  pub marked : IsMarked x.tables.processes x.side
+  pub marked : HasMarks x.tables.processes x.side
   pub numbered : IsNumbered (part_of_side x.side)
   pub used : (q : ℕ) → label_of x.tables.last_out q ≤ x.used

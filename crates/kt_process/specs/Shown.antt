@@ -9,8 +9,8 @@ use Rattle.kt_cuts.specs.Past.{at_one}
 use Rattle.kt_protocol.specs.Replies.{unable_cause}
 use Rattle.kt_tables.specs.Calls.{Call, on_tentative}
 use Rattle.kt_tables.specs.Peers.{IsCohort}
-use Rattle.kt_tables.specs.Standing.{StandsFor}
-use Rattle.kt_parts.specs.Answers.{Answer, replies, joins}
+use Rattle.kt_tables.specs.Standing.{TablesStandFor}
+use Rattle.kt_parts.specs.Answers.{AskAnswer, replies, joins}
 use Rattle.kt_parts.specs.Rules.{way_alone}
 use Rattle.kt_parts.specs.Parts.{Part}
 use Rattle.kt_parts.specs.declared.actions.Action.{Action}
@@ -50,7 +50,7 @@ inst_shown (Some (side.Rollback s)) = s.part.inst
 
 -- a process is the one that the machine has
 pub record IsSeenAs (x : ProcessState) (y : SeenProcess) : Type 0 where
-  pub stands : StandsFor x.tables y.calls
+  pub stands : TablesStandFor x.tables y.calls
   pub inst : inst_shown x.side ≡ y.inst
   pub part : part_shown x.side ≡ y.part
   pub up : x.up ≡ y.up
@@ -77,7 +77,7 @@ abbrev pub goes_on : SeenPart → Then
 goes_on part = if part.awaited == 0 then way_alone part.parent else Wait
 
 -- it joins so, asks its cohort, and goes on
-pub record IsJoined (kind : Kind) (n k : ℕ) (parent : Option ℕ) (marks : ℕ → ℕ) (noted : ℕ → Option ℕ) (y : SeenProcess) (new : ProcessState) (asks : List (ℕ × ℕ)) (goes : Then) : Type 0 where
+pub record IsProcessJoined (kind : Kind) (n k : ℕ) (parent : Option ℕ) (marks : ℕ → ℕ) (noted : ℕ → Option ℕ) (y : SeenProcess) (new : ProcessState) (asks : List (ℕ × ℕ)) (goes : Then) : Type 0 where
   pub process : IsSeenAs new (joined_as kind n k parent marks noted y)
   pub cohort : IsCohort asks (asked_by kind y.calls) (label_by kind y.calls)
   pub way : goes ≡ goes_on (joined_as kind n k parent marks noted y).part
@@ -90,16 +90,16 @@ begin_cause Rollback able y = if not (y.inst == 0) then Some (Busy y.inst) else 
 -- a command to begin instance k among n processes: it refuses and stays as it is, or it joins
 abbrev pub BeginsAs : Kind → Bool → ℕ → ℕ → (ℕ → ℕ) → SeenProcess → ProcessState → Action → Type 0
 BeginsAs kind able n k marks y new (Refuse cause) = (begin_cause kind able y ≡ Some cause) × IsSeenAs new y
-BeginsAs kind able n k marks y new (Join asks goes) = (begin_cause kind able y ≡ None) × IsJoined kind n k None marks no_note y new asks goes
+BeginsAs kind able n k marks y new (Join asks goes) = (begin_cause kind able y ≡ None) × IsProcessJoined kind n k None marks no_note y new asks goes
 BeginsAs kind able n k marks y new action = ⊥
 
 -- what comes of an ask to a process in no instance
-abbrev pub answer_by : Kind → Bool → ℕ → ℕ → SeenProcess → Answer
+abbrev pub answer_by : Kind → Bool → ℕ → ℕ → SeenProcess → AskAnswer
 answer_by Checkpoint able q label y = if not (must_take y.calls q label) then replies true None else if not (able && y.up) then replies false (Some (unable_cause y.up)) else joins
 answer_by Rollback able q label y = if must_roll y.calls q label then joins else replies true None
 
 -- what comes of an ask of q for instance k
-abbrev pub answer_as : Kind → Bool → ℕ → ℕ → ℕ → SeenProcess → Answer
+abbrev pub answer_as : Kind → Bool → ℕ → ℕ → ℕ → SeenProcess → AskAnswer
 answer_as kind able q k label y =
     if y.inst == k then replies true None
     else if not (y.inst == 0) then replies false (Some (Busy y.inst))
@@ -113,7 +113,7 @@ noted_as Rollback q k label y = if y.inst == k then record y { part = part_after
 -- an ask of q for instance k among n processes: it replies, or it joins
 abbrev pub HearsAs : Kind → Bool → ℕ → ℕ → ℕ → ℕ → (ℕ → ℕ) → SeenProcess → ProcessState → Action → Type 0
 HearsAs kind able n q k label marks y new (Reply to willing cause) = (to ≡ q) × (answer_as kind able q k label y ≡ replies willing cause) × IsSeenAs new (noted_as kind q k label y)
-HearsAs kind able n q k label marks y new (Join asks goes) = (answer_as kind able q k label y ≡ joins) × IsJoined kind n k (Some q) marks (at_one q (Some label) no_note) y new asks goes
+HearsAs kind able n q k label marks y new (Join asks goes) = (answer_as kind able q k label y ≡ joins) × IsProcessJoined kind n k (Some q) marks (at_one q (Some label) no_note) y new asks goes
 HearsAs kind able n q k label marks y new action = ⊥
 
 -- a process after a reply; what it does not await changes nothing

@@ -9,7 +9,7 @@ use Rattle.kt_parts.specs.Parts.{Part}
 use Rattle.kt_parts.specs.declared.actions.Action.{Action}
 use Rattle.kt_parts.specs.declared.actions.Action.TheVariants.{Nothing, Refuse, Join, Reply, Settle}
 use Rattle.kt_tables.specs.Peers.{has_one}
-use Rattle.kt_tables.specs.Standing.{StandsFor, must_take, must_roll}
+use Rattle.kt_tables.specs.Standing.{TablesStandFor, must_take, must_roll}
 use Rattle.kt_tables.specs.States.{State}
 use Rattle.kt_roll.specs.Notes.{note_of}
 use Rattle.kt_process.specs.ProcessStates.{ProcessState, part_of_side, is_saving, is_ready, inst_of}
@@ -19,7 +19,7 @@ use Rattle.kt_process.specs.declared.side.Side.TheVariants.{Checkpoint, Rollback
 -- a process that has done nothing
 pub record IsFresh (n first : ℕ) (x : ProcessState) : Type 0 where
   pub processes : x.tables.processes ≡ n
-  pub stands : StandsFor x.tables []
+  pub stands : TablesStandFor x.tables []
   pub side : x.side ≡ None
   pub up : x.up ≡ true
   pub used : x.used ≡ first

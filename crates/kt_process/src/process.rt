@@ -5,10 +5,10 @@ ghost use Rattle.std.specs.Option.{option_map, option_copied};
 ghost use Rattle.kt_base.specs.Sets.{has};
 ghost use Rattle.kt_base.specs.declared.words.Kind.TheVariants as kind;
 ghost use Rattle.kt_tables.specs.Calls.{Call, sent, received, on_tentative, Speaks};
-ghost use Rattle.kt_tables.specs.Standing.{StandsFor, CanReceive};
+ghost use Rattle.kt_tables.specs.Standing.{TablesStandFor, CanReceive};
 ghost use Rattle.kt_parts.specs.Rules.{after_reply, settle_action};
 ghost use Rattle.kt_roll.specs.Notes.{note_of};
-ghost use Rattle.kt_process.specs.ProcessStates.{ProcessState, part_of_side, is_saving, is_ready, inst_of, asked_of, IsNear, IsNumbered, Fits};
+ghost use Rattle.kt_process.specs.ProcessStates.{ProcessState, part_of_side, is_saving, is_ready, inst_of, asked_of, IsNear, IsNumbered, ProcessFits};
 ghost use Rattle.kt_process.specs.Turns.{reply_of, HasPartners, IsTold, joins_by, peers_of, marks_of, noted_by, IsFresh, IsBegin, IsHeard};
 ghost use Rattle.kt_seen.specs.Seen.{SeenProcess};
 ghost use Rattle.kt_process.specs.Shown.{IsSeenAs, BeginsAs, HearsAs, counted_as, closed_as, mark_of, no_mark, inst_shown};
@@ -31,13 +31,13 @@ pub struct Process {
 }
 
 impl Model for Process {
-    ghost use Rattle.kt_process.specs.ProcessStates.{ProcessState, Fits};
+    ghost use Rattle.kt_process.specs.ProcessStates.{ProcessState, ProcessFits};
 
     ghost Value = { ProcessState };
 
     ghost view = { λ p. record { tables = p.tables; side = p.side; up = p.up; used = p.labels } };
 
-    ghost invariant = { λ p. Fits (record { tables = p.tables; side = p.side; up = p.up; used = p.labels }) };
+    ghost invariant = { λ p. ProcessFits (record { tables = p.tables; side = p.side; up = p.up; used = p.labels }) };
 }
 
 impl Process {
@@ -196,7 +196,7 @@ impl Process {
         ensures processes { self.new.tables.processes ≡ self.old.tables.processes }
         ensures side { self.new.side ≡ self.old.side }
         ensures up { self.new.up ≡ self.old.up }
-        ensures stands { (calls : List Call) → StandsFor self.old.tables calls → Speaks (calls ++ sent to result ∷ []) → StandsFor self.new.tables (calls ++ sent to result ∷ []) }
+        ensures stands { (calls : List Call) → TablesStandFor self.old.tables calls → Speaks (calls ++ sent to result ∷ []) → TablesStandFor self.new.tables (calls ++ sent to result ∷ []) }
         ensures shows { (y : SeenProcess) → IsSeenAs self.old y → Speaks (y.calls ++ sent to (y.used + 1) ∷ []) → IsSeenAs self.new (record y { calls = y.calls ++ sent to (y.used + 1) ∷ []; used = y.used + 1 }) }
     {
         let label = self.labels.next().unwrap();
@@ -211,7 +211,7 @@ impl Process {
         ensures processes { self.new.tables.processes ≡ self.old.tables.processes }
         ensures side { self.new.side ≡ self.old.side }
         ensures up { self.new.up ≡ self.old.up }
-        ensures stands { (calls : List Call) → StandsFor self.old.tables calls → Speaks (calls ++ received from label ∷ []) → StandsFor self.new.tables (calls ++ received from label ∷ []) }
+        ensures stands { (calls : List Call) → TablesStandFor self.old.tables calls → Speaks (calls ++ received from label ∷ []) → TablesStandFor self.new.tables (calls ++ received from label ∷ []) }
         ensures shows { (y : SeenProcess) → IsSeenAs self.old y → Speaks (y.calls ++ received from label ∷ []) → IsSeenAs self.new (record y { calls = y.calls ++ received from label ∷ [] }) }
         ensures unnoted { (CanReceive self.old.tables from label → ⊥) → self.new ≡ self.old }
     {

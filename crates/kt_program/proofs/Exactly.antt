@@ -9,7 +9,7 @@ use Rattle.kt_chain.specs.Texts.{IsCertText}
 use Rattle.kt_chain.proofs.TextFacts.{one_text}
 use Rattle.kt_checker.specs.declared.verdict.Verdict.{Verdict}
 use Rattle.kt_checker.specs.declared.verdict.Verdict.TheVariants.{Yes, No}
-use Rattle.kt_checker.specs.Order.{IsAnswer}
+use Rattle.kt_checker.specs.Order.{IsCheckerAnswer}
 use Rattle.kt_checker.specs.Passing.{IsPassed}
 use Rattle.kt_checker.proofs.Answering.{passed_of, yes_of}
 use Rattle.kt_program.specs.Stored.{BytesTold, IsVerdictOf, IsExact, is_yes, records_told}
@@ -25,17 +25,17 @@ yes_is (No inst row why) e = cc e
 is_yes_of : (v : Verdict) → v ≡ Yes → is_yes v ≡ true
 is_yes_of v e = subst (λ (w : Verdict). is_yes w ≡ true) (sym e) refl
 
-passes_or_not : (rows : List Event) (certificates : List Certificate) (v : Verdict) → IsAnswer rows certificates v → (is_yes v ≡ true) ↔ IsPassed rows certificates
+passes_or_not : (rows : List Event) (certificates : List Certificate) (v : Verdict) → IsCheckerAnswer rows certificates v → (is_yes v ≡ true) ↔ IsPassed rows certificates
 passes_or_not rows certificates v answer = (λ e. passed_of rows certificates v answer (yes_is v e), λ h. is_yes_of v (yes_of rows certificates v answer h))
 
-exact_certificates : (left : Option Records) (rows : List Event) (certificates : List Certificate) (v : Verdict) → IfSome left (λ text. IsCertText text certificates) → IsAnswer rows certificates v
+exact_certificates : (left : Option Records) (rows : List Event) (certificates : List Certificate) (v : Verdict) → IfSome left (λ text. IsCertText text certificates) → IsCheckerAnswer rows certificates v
     → IfSome left (λ text. (others : List Certificate) → IsCertText text others → (is_yes v ≡ true) ↔ IsPassed rows others)
 exact_certificates None rows certificates v says answer = tt
 exact_certificates (Some text) rows certificates v says answer = λ others also.
     subst (λ (same : List Certificate). (is_yes v ≡ true) ↔ IsPassed rows same) (one_text text certificates others says also) (passes_or_not rows certificates v answer)
 
 exact_rows : (left certs_left : Option Records) (rows : List Event) (certificates : List Certificate) (v : Verdict) → IfSome left (λ text. IsLogText text rows)
-    → IfSome certs_left (λ text. IsCertText text certificates) → IsAnswer rows certificates v
+    → IfSome certs_left (λ text. IsCertText text certificates) → IsCheckerAnswer rows certificates v
     → IfSome left (λ text. (others : List Event) → IsLogText text others → IfSome certs_left (λ also. (listed : List Certificate) → IsCertText also listed → (is_yes v ≡ true) ↔ IsPassed others listed))
 exact_rows None certs_left rows certificates v says listed answer = tt
 exact_rows (Some text) certs_left rows certificates v says listed answer = λ others also.

@@ -7,13 +7,13 @@ use Rattle.std.proofs.lemmas.List.Elements.{All-head, All-tail}
 use Rattle.kt_object.specs.Bytes.{IsSavedState}
 use Rattle.kt_plan.specs.declared.commands.Command.{Command}
 use Rattle.kt_plan.specs.Limits.{IsKindOfObject}
-use Rattle.kt_held.specs.Refusals.{IsFirst, IsLeastRefused}
+use Rattle.kt_held.specs.Refusals.{IsFirstObject, IsLeastRefused}
 use Rattle.kt_run.specs.Rejections.{MayReject}
 use Rattle.kt_program.specs.CastRows.{IsMadeCast}
 use Rattle.kt_program.proofs.Casting.{made_of_cast}
 
 -- where none of them is so, the first of a process is not so
-none_first : {R O : Type 0} (P : O → Type 0) (items : R → List O) (cast : List R) (p : ℕ) → All (λ row. All (λ o. ¬ P o) (items row)) cast → ¬ IsFirst P (map items cast) p
+none_first : {R O : Type 0} (P : O → Type 0) (items : R → List O) (cast : List R) (p : ℕ) → All (λ row. All (λ o. ¬ P o) (items row)) cast → ¬ IsFirstObject P (map items cast) p
 none_first P items [] p all first = let e = first.given in absurd (cc (e))
 none_first P items (row ∷ cast) zero all first =
     let given = first.given in

@@ -4,7 +4,7 @@ use Rattle.std.specs.Prelude.{IfSome, ◌≢◌}
 use Rattle.std.specs.Io.KnownBytes.{Consumes, IsAtEnd}
 use Rattle.kt_plan.specs.declared.steps.Step.{Step}
 use Rattle.kt_plan.specs.Limits.{Planned}
-use Rattle.kt_scenario.specs.Scenario.{IsScenario, IsFirstFault, most_bytes}
+use Rattle.kt_scenario.specs.Scenario.{IsScenario, IsFirstScenarioFault, most_bytes}
 use Rattle.kt_scenario.specs.Steps.{AreSteps, IsFirstStepFault, most_step_bytes}
 use Rattle.kt_scenario.specs.declared.fault.ScenarioFault.{ScenarioFault}
 use Rattle.kt_scenario.specs.declared.fault.ScenarioFault.TheVariants as scenario
@@ -34,14 +34,14 @@ plan_of_whole None text plan read is = tt
 plan_of_whole (Some whole) text plan (inl e) is = subst (λ (t : List ℕ). IsScenario t plan) e is
 plan_of_whole (Some whole) text plan (inr (l, rest, e)) is = let few = is.few in absurd (omega (arith, few, l))
 
-fault_in_whole : (text rest whole : List ℕ) (fault : ScenarioFault) → most_bytes < length text → whole ≡ text ++ rest → IsFirstFault text fault → IsFirstFault whole fault
+fault_in_whole : (text rest whole : List ℕ) (fault : ScenarioFault) → most_bytes < length text → whole ≡ text ++ rest → IsFirstScenarioFault text fault → IsFirstScenarioFault whole fault
 fault_in_whole text rest whole fault l e (inl first) = inl (first.0, longer most_bytes text rest whole e l)
 fault_in_whole text rest whole fault l e (inr first) = let few = first.3 in absurd (omega (arith, few, l))
 
 -- and so is its first fault
-pub fault_of_whole : (told : BytesTold) (text : List ℕ) (fault : ScenarioFault) → IsRead most_bytes told text → IsFirstFault text fault → IfSome told (λ t. IsFirstFault t fault)
+pub fault_of_whole : (told : BytesTold) (text : List ℕ) (fault : ScenarioFault) → IsRead most_bytes told text → IsFirstScenarioFault text fault → IfSome told (λ t. IsFirstScenarioFault t fault)
 fault_of_whole None text fault read is = tt
-fault_of_whole (Some whole) text fault (inl e) is = subst (λ (t : List ℕ). IsFirstFault t fault) e is
+fault_of_whole (Some whole) text fault (inl e) is = subst (λ (t : List ℕ). IsFirstScenarioFault t fault) e is
 fault_of_whole (Some whole) text fault (inr (l, rest, e)) is = fault_in_whole text rest whole fault l e is
 
 -- the same of steps
@@ -62,7 +62,7 @@ step_fault_of_whole (Some whole) names text fault (inl e) is = subst (λ (t : Li
 step_fault_of_whole (Some whole) names text fault (inr (l, rest, e)) is = step_fault_in_whole names text rest whole fault l e is
 
 -- why a scenario is refused, as the program answers it
-pub scenario_refused : (told : BytesTold) (text : List ℕ) (fault : ScenarioFault) → IsRead most_bytes told text → (fault ≢ scenario.Memory → IsFirstFault text fault)
+pub scenario_refused : (told : BytesTold) (text : List ℕ) (fault : ScenarioFault) → IsRead most_bytes told text → (fault ≢ scenario.Memory → IsFirstScenarioFault text fault)
     → IsScenarioRefusal told (of_scenario fault)
 scenario_refused told text scenario.TooLong read is = (λ e. cc e, fault_of_whole told text scenario.TooLong read (is (λ e. cc e)))
 scenario_refused told text (scenario.Command n) read is = (λ e. cc e, fault_of_whole told text (scenario.Command n) read (is (λ e. cc e)))

@@ -8,7 +8,7 @@ use Rattle.kt_log_text.specs.Texts as rows
 use Rattle.kt_chain.specs.declared.certificate.Certificate.{Certificate}
 use Rattle.kt_chain.specs.Spelling.{records_of}
 use Rattle.kt_certify.specs.Certificates.{certificates}
-use Rattle.kt_certify.specs.Faults.{IsFit, IsUnfit}
+use Rattle.kt_certify.specs.Faults.{IsFitLog, IsUnfit}
 use Rattle.kt_certify.specs.Streamed.{AreCertified, AreRowsOf}
 use Rattle.kt_certify.specs.declared.fault.StreamFault.{StreamFault}
 use Rattle.kt_certify.specs.declared.fault.StreamFault.TheVariants as stream
@@ -33,7 +33,7 @@ StopsInCertificates bytes old new = (list : List Certificate) × AreCertified by
 
 -- why a stored log has no certificates: its first fault, or why its rows are not fit; nothing is said of want of memory
 abbrev pub IsUncertified : BytesTold → AppFault → Type 0
-IsUncertified bytes (app.Log fault) = (fault ≢ log.Memory) × IfSome (records_told bytes) (λ text. rows.IsFirstFault text fault)
+IsUncertified bytes (app.Log fault) = (fault ≢ log.Memory) × IfSome (records_told bytes) (λ text. rows.IsFirstLogFault text fault)
 IsUncertified bytes (app.Unfit why) = (read : List Event) × AreRowsOf bytes read × IsUnfit read why
 IsUncertified bytes app.Memory = Unit {0}
 IsUncertified bytes app.Write = ⊥
@@ -69,7 +69,7 @@ CertifiesTo told name old new = (list : List Certificate) × AreOfFile told list
 
 -- standard output has the certificates of rows that are fit, or nothing new where they go into a file
 abbrev pub LeavesCertificates : BytesTold → BytesTold → Type 0
-LeavesCertificates old new = (new ≡ old) ⊎ ((read : List Event) × IsFit read × Appends old new (text_of_list (certificates read)))
+LeavesCertificates old new = (new ≡ old) ⊎ ((read : List Event) × IsFitLog read × Appends old new (text_of_list (certificates read)))
 
 -- the same; at a fault nothing new, unless the writer failed or there was no memory for more of the certificates
 abbrev pub LeavesCertified : Result Unit ProgramFault → BytesTold → BytesTold → Type 0

@@ -28,7 +28,7 @@ Draws names span bytes old new = (text : List ℕ) × IsPictureOf names span byt
 
 -- why a stored log is not drawn: its first fault, or why it has no such picture; nothing is said of want of memory
 abbrev pub IsUndrawn : Span → BytesTold → AppFault → Type 0
-IsUndrawn span bytes (app.Log fault) = (fault ≢ log.Memory) × IfSome (records_told bytes) (λ text. texts.IsFirstFault text fault)
+IsUndrawn span bytes (app.Log fault) = (fault ≢ log.Memory) × IfSome (records_told bytes) (λ text. texts.IsFirstLogFault text fault)
 IsUndrawn span bytes (app.Picture why) = (read : List Event) × SaysRows bytes read × IsNoPicture span read why
 IsUndrawn span bytes app.Memory = Unit {0}
 IsUndrawn span bytes app.Write = ⊥

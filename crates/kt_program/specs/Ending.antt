@@ -179,12 +179,12 @@ DrawnFor words told old new (Explained passed) = Unit {0}
 DrawnFor words told old new Shown = Unit {0}
 
 -- whether a text of any length is to be written to standard output: a report, or certificates
-abbrev pub IsOfText : Asked → Type 0
-IsOfText asked = IsOfRun asked ⊎ IsCertify asked
+abbrev pub IsTextAsked : Asked → Type 0
+IsTextAsked asked = IsOfRun asked ⊎ IsCertify asked
 
 -- a fault where part of such a text may be written: there was no memory for more of it
 abbrev pub IsInText : List Text → ProgramFault → Type 0
-IsInText words fault = (fault ≡ program.App app.Memory) × Ask words IsOfText
+IsInText words fault = (fault ≡ program.App app.Memory) × Ask words IsTextAsked
 
 -- what these words leave
 abbrev pub LeavesOutput : List Text → Result Done ProgramFault → BytesTold → BytesTold → Type 0

@@ -4,7 +4,7 @@ use Rattle.std.specs.Io.KnownBytes.{Appends}
 use Rattle.kt_spacetime.specs.declared.event.Event.{Event}
 use Rattle.kt_chain.specs.declared.certificate.Certificate.{Certificate}
 use Rattle.kt_checker.specs.declared.verdict.Verdict.{Verdict}
-use Rattle.kt_checker.specs.Order.{IsAnswer}
+use Rattle.kt_checker.specs.Order.{IsCheckerAnswer}
 use Rattle.kt_checker.specs.Streamed.{SaysRows}
 use Rattle.kt_checker.specs.Words.{verdict_words}
 use Rattle.kt_explain.specs.declared.explanation.Explanation.{Explanation}
@@ -16,7 +16,7 @@ use Rattle.kt_program.specs.Stored.{BytesTold, SayCertificates, is_yes}
 
 -- the checker's answer to rows and certificates, and what is told of it
 pub record IsExplained (rows : List Event) (certificates : List Certificate) (verdict : Verdict) (e : Explanation) : Type 0 where
-  pub answer : IsAnswer rows certificates verdict
+  pub answer : IsCheckerAnswer rows certificates verdict
   pub told : IsExplanation rows certificates verdict e
 
 -- bytes say these rows and certificates

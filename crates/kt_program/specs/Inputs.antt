@@ -4,7 +4,7 @@ use Rattle.kt_text.specs.declared.fault.ReadFault.{ReadFault}
 use Rattle.kt_text.specs.declared.fault.ReadFault.TheVariants as read
 use Rattle.kt_plan.specs.declared.steps.Step.{Step}
 use Rattle.kt_plan.specs.Limits.{Planned}
-use Rattle.kt_scenario.specs.Scenario.{IsScenario, IsFirstFault}
+use Rattle.kt_scenario.specs.Scenario.{IsScenario, IsFirstScenarioFault}
 use Rattle.kt_scenario.specs.Steps.{AreSteps, IsFirstStepFault}
 use Rattle.kt_scenario.specs.declared.fault.ScenarioFault.{ScenarioFault}
 use Rattle.kt_scenario.specs.declared.fault.ScenarioFault.TheVariants as scenario
@@ -53,7 +53,7 @@ AreGiven told (Some name) names list = AreStepsOfFile told names list
 
 -- why there is no plan: the first fault of the text; nothing is said of when a reader or memory fails
 abbrev pub IsScenarioRefusal : BytesTold → ProgramFault → Type 0
-IsScenarioRefusal told (program.Scenario fault) = (fault ≢ scenario.Memory) × IfSome told (λ text. IsFirstFault text fault)
+IsScenarioRefusal told (program.Scenario fault) = (fault ≢ scenario.Memory) × IfSome told (λ text. IsFirstScenarioFault text fault)
 IsScenarioRefusal told program.Read = Unit {0}
 IsScenarioRefusal told (program.App fault) = fault ≡ app.Memory
 IsScenarioRefusal told program.Line = ⊥

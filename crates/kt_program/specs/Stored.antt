@@ -53,8 +53,8 @@ verdict_line verdict = verdict_words verdict ++ 10 ∷ []
 -- what is wrong where the program does not answer: the first fault of the log, or that of the certificates of a log
 -- that was read; what could be written was read; nothing is said of want of memory
 abbrev pub IsRefusal : BytesTold → BytesTold → AppFault → Type 0
-IsRefusal of_rows of_certs (app.Log fault) = (fault ≢ log.Memory) × IfSome (records_told of_rows) (λ text. rows.IsFirstFault text fault)
-IsRefusal of_rows of_certs (app.Cert fault) = (fault ≢ cert.Memory) × IfSome (records_told of_certs) (λ text. certs.IsFirstFault text fault) × (read : List Event) × SaysRows of_rows read
+IsRefusal of_rows of_certs (app.Log fault) = (fault ≢ log.Memory) × IfSome (records_told of_rows) (λ text. rows.IsFirstLogFault text fault)
+IsRefusal of_rows of_certs (app.Cert fault) = (fault ≢ cert.Memory) × IfSome (records_told of_certs) (λ text. certs.IsFirstCertificateFault text fault) × (read : List Event) × SaysRows of_rows read
 IsRefusal of_rows of_certs app.Write = (verdict : Verdict) × IsVerdictOf of_rows of_certs verdict
 IsRefusal of_rows of_certs app.Memory = Unit {0}
 IsRefusal of_rows of_certs (app.Run fault) = ⊥

@@ -74,7 +74,7 @@ fn judge_log<L: Read + Drop>(
 ) -> Result<Verdict, AppFault>
     ensures answer { IfOk result (IsAnswerOf (L.remaining reader) certificates.now) }
     ensures fault { IfErr result (λ e. (f : LogFault) × (e ≡ of_log f)
-        × IfSome (records_told (L.remaining reader)) (λ text. rows.IsFirstFault text f)) }
+        × IfSome (records_told (L.remaining reader)) (λ text. rows.IsFirstLogFault text f)) }
 {
     match check_stream(alloc, reader, certificates) {
         Ok(verdict) => Ok(verdict),
@@ -89,7 +89,7 @@ pub(crate) fn read_certificates<C: Read + Drop>(
 ) -> Result<Vec<Certificate>, AppFault>
     ensures certificates { IfOk result (λ certificates. SayCertificates (C.remaining reader) certificates.items) }
     ensures fault { IfErr result (λ e. (f : CertTextFault) × (e ≡ of_cert f)
-        × IfSome (records_told (C.remaining reader)) (λ text. certs.IsFirstFault text f)) }
+        × IfSome (records_told (C.remaining reader)) (λ text. certs.IsFirstCertificateFault text f)) }
 {
     match read_certs(alloc, reader) {
         Ok(certificates) => Ok(certificates),

@@ -87,7 +87,7 @@ pub(crate) fn read_stored<L: Read + Drop, C: Read + Drop>(
 fn read_log<L: Read + Drop>(alloc: Global, reader: L) -> Result<SpaceTime, AppFault>
     ensures read { IfOk result (λ log. SaysRows (L.remaining reader) log.rows) }
     ensures fault { IfErr result (λ e. (f : LogFaults) × (e ≡ of_log f)
-        × IfSome (records_told (L.remaining reader)) (λ text. rows.IsFirstFault text f)) }
+        × IfSome (records_told (L.remaining reader)) (λ text. rows.IsFirstLogFault text f)) }
 {
     match read_csv(alloc, reader) {
         Ok(log) => Ok(log),

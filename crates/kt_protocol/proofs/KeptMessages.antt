@@ -9,14 +9,14 @@ use Rattle.kt_cuts.proofs.Lists.{get_drop, has_from_place, deed_place}
 use Rattle.kt_cuts.proofs.OrphanFacts.{get_from_drop}
 use Rattle.kt_protocol.specs.States.{State}
 use Rattle.kt_protocol.specs.SummaryMeaning.{AgreesWith}
-use Rattle.kt_protocol.specs.InTransit.{IsKept}
+use Rattle.kt_protocol.specs.InTransit.{IsKeptOfPast}
 use Rattle.kt_protocol.proofs.Choices.{both, same}
 use Rattle.kt_protocol.proofs.Invariant.{Invariant, one}
 use Rattle.kt_protocol.proofs.Lines.{times_apps}
 use Rattle.kt_protocol.proofs.LogMeaning.{placed_in}
 use Rattle.kt_protocol.proofs.Updates.{is_same}
 
-pub kept_past_permanent : (s : State) → Invariant s → AgreesWith s.so_far (past s.log) → IsKept (past s.log) s.kept
+pub kept_past_permanent : (s : State) → Invariant s → AgreesWith s.so_far (past s.log) → IsKeptOfPast (past s.log) s.kept
 kept_past_permanent s g t m q p = times_apps m (s.kept q p) ∙ g.messages.kept_is m p q ∙ by_deed (has_deed (deed.Received m q) (drop ((past s.log).permanent p) ((past s.log).live p))) refl
   where
     late : (n i : ℕ) → nat_le n (n + i) ≡ true

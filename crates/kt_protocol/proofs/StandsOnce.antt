@@ -8,15 +8,15 @@ use Rattle.kt_cuts.specs.Past.{Past}
 use Rattle.kt_cuts.specs.Legal.{has_deed, is_deed}
 use Rattle.kt_protocol.specs.Parcels.{messages}
 use Rattle.kt_protocol.specs.States.{State}
-use Rattle.kt_protocol.specs.InTransit.{times, IsInTransit, received_of, in_transit, Rises, EachStandsOnce}
+use Rattle.kt_protocol.specs.InTransit.{times, IsInTransit, received_of, in_transit, NumbersRiseAbove, EachStandsOnce}
 use Rattle.kt_protocol.proofs.Lines.{times_append}
 
-none_below : (low m : ℕ) (l : List ℕ) → m ≤ low → Rises low l → times m l ≡ 0
+none_below : (low m : ℕ) (l : List ℕ) → m ≤ low → NumbersRiseAbove low l → times m l ≡ 0
 none_below low m [] e r = refl
 none_below low m (x ∷ xs) e r = let a = r.0 in let b = none_below x m xs (omega (arith, e, a)) r.1 in grind (arith, nat_tests, a, b, e)
 
 -- a number stands in a rising list once at most
-once_at_most : (low m : ℕ) (l : List ℕ) → Rises low l → times m l ≤ 1
+once_at_most : (low m : ℕ) (l : List ℕ) → NumbersRiseAbove low l → times m l ≤ 1
 once_at_most low m [] r = omega arith
 once_at_most low m (x ∷ xs) r = go (x == m) refl (once_at_most x m xs r.1)
   where
@@ -47,8 +47,8 @@ received_once m p (deed.Received n q ∷ xs) h = go (received_once m p xs) (q ==
     go ih false false e f = ih (rest (rw (swapped n m false f) refl))
 
 pub stands_once : (h : Past) (s : State) → ((p : ℕ) → s.so_far.live p ≡ h.live p) → IsInTransit h s.channel s.held →
-    ((q p : ℕ) → Rises 0 (received_of q (s.so_far.live p) ++ in_transit s q p)) → EachStandsOnce h s
-stands_once h s live under rises m p q sent kept = exact _ (once_at_most 0 m (received_of p (h.live q) ++ in_transit s p q) (subst (λ (l : List Deed). Rises 0 (received_of p l ++ in_transit s p q)) (live q) (rises p q))) (there (has_deed (deed.Received m p) (h.live q)) refl)
+    ((q p : ℕ) → NumbersRiseAbove 0 (received_of q (s.so_far.live p) ++ in_transit s q p)) → EachStandsOnce h s
+stands_once h s live under rises m p q sent kept = exact _ (once_at_most 0 m (received_of p (h.live q) ++ in_transit s p q) (subst (λ (l : List Deed). NumbersRiseAbove 0 (received_of p l ++ in_transit s p q)) (live q) (rises p q))) (there (has_deed (deed.Received m p) (h.live q)) refl)
   where
     exact : (x : ℕ) → x ≤ 1 → 0 < x → x ≡ 1
     exact x a b = omega (arith, a, b)

@@ -18,8 +18,8 @@ IsInTransit s channel held = (m p q : ℕ) →
     times m (messages (channel p q)) + times m (messages (held p q)) ≡ (if has_deed (deed.Sent m q) (s.live p) && not (has_deed (deed.Received m p) (s.live q)) && not (s.dropped m) then 1 else 0)
 
 -- what is kept for p is what its live history received past its permanent position, once each
-abbrev pub IsKept : Past → Lists → Type 0
-IsKept s kept = (m q p : ℕ) →
+abbrev pub IsKeptOfPast : Past → Lists → Type 0
+IsKeptOfPast s kept = (m q p : ℕ) →
     times m (messages (kept q p)) ≡ (if has_deed (deed.Received m q) (drop (s.permanent p) (s.live p)) then 1 else 0)
 
 -- the messages of q that a history received, in order
@@ -38,10 +38,10 @@ EachStandsOnce h s = (m p q : ℕ) → has_deed (deed.Sent m q) (h.live p) ≡ t
     times m (received_of p (h.live q) ++ in_transit s p q) ≡ 1
 
 -- numbers above low that rise
-abbrev pub Rises : ℕ → List ℕ → Type 0
-Rises low [] = Unit {0}
-Rises low (x ∷ xs) = (low < x) × Rises x xs
+abbrev pub NumbersRiseAbove : ℕ → List ℕ → Type 0
+NumbersRiseAbove low [] = Unit {0}
+NumbersRiseAbove low (x ∷ xs) = (low < x) × NumbersRiseAbove x xs
 
 -- no message is in front
-abbrev pub IsQuiet : List Parcel → Type 0
-IsQuiet l = (m : ℕ) (rest : List Parcel) → l ≢ App m ∷ rest
+abbrev pub HasNoMessage : List Parcel → Type 0
+HasNoMessage l = (m : ℕ) (rest : List Parcel) → l ≢ App m ∷ rest

@@ -14,7 +14,7 @@ ghost use Rattle.kt_protocol.specs.States.{ProtocolStep, Take, opening, can_take
 ghost use Rattle.kt_protocol.specs.Steps.{run, after_step};
 ghost use Rattle.kt_protocol.specs.AtRest.{IsAtRest};
 ghost use Rattle.kt_protocol.specs.Refusals.{IsUnwillingRow, IsRefusedRow};
-ghost use Rattle.kt_protocol.specs.InTransit.{IsInTransit, IsKept, EachStandsOnce, Rises, received_of, in_transit, IsQuiet};
+ghost use Rattle.kt_protocol.specs.InTransit.{IsInTransit, IsKeptOfPast, EachStandsOnce, NumbersRiseAbove, received_of, in_transit, HasNoMessage};
 ghost use Rattle.kt_protocol.specs.SummaryMeaning.{AgreesWith, OrdersMembers, PlacesMessages};
 ghost use Rattle.kt_protocol.specs.Logs.{HasLinkedDecisions, HasLeastDecisions, AbortsWhereUnwilling, AbortsChangeNothing, JustifiesUnwilling};
 ghost use Rattle.kt_protocol.specs.WorkedRuns.{checkpoint_of_two_steps, checkpoint_of_two, checkpoint_before_the_message_comes_steps, checkpoint_before_the_message_comes, checkpoint_round_a_ring_steps, checkpoint_round_a_ring, second_checkpoint_of_one_steps, second_checkpoint_of_one, second_checkpoint_of_two_steps, second_checkpoint_of_two, two_checkpoints_at_once_steps, two_checkpoints_at_once, process_that_is_down_refuses_steps, process_that_is_down_refuses, two_aborts_steps, two_aborts, busy_process_refuses_steps, busy_process_refuses, two_instances_abort_each_other_steps, two_instances_abort_each_other, rollback_after_a_failure_steps, rollback_after_a_failure, failure_inside_a_checkpoint_steps, failure_inside_a_checkpoint, rollback_of_the_receiver_alone_steps, rollback_of_the_receiver_alone, messages_received_again_steps, messages_received_again, rollback_meets_a_message_in_transit_steps, rollback_meets_a_message_in_transit, rollback_through_three_steps, rollback_through_three, undone_message_is_not_received_again_steps, undone_message_is_not_received_again, dropped_message_steps, dropped_message, command_refused_as_busy_steps, command_refused_as_busy, commands_refused_as_down_steps, commands_refused_as_down, object_that_is_not_saved_steps, object_that_is_not_saved, send_waits_in_a_checkpoint_steps, send_waits_in_a_checkpoint, held_message_that_is_undone_steps, held_message_that_is_undone, kept_before_held_steps, kept_before_held, label_after_an_abort_steps, label_after_an_abort};
@@ -62,7 +62,7 @@ pub fn numbers_of_runs()
         IsInTransit (past (run (opening n) steps).log) (run (opening n) steps).channel (run (opening n) steps).held }
 
     // What is kept for a process is what it received past its permanent position.
-    ensures kept { (n : ℕ) (steps : List ProtocolStep) → IsKept (past (run (opening n) steps).log) (run (opening n) steps).kept }
+    ensures kept { (n : ℕ) (steps : List ProtocolStep) → IsKeptOfPast (past (run (opening n) steps).log) (run (opening n) steps).kept }
 
     // Each live message that was not dropped stands once: in its receiver's live history, held, or in its channel.
     ensures stands_once { (n : ℕ) (steps : List ProtocolStep) → EachStandsOnce (past (run (opening n) steps).log) (run (opening n) steps) }
@@ -99,17 +99,17 @@ pub fn refusals()
 /// until it closes, no message of `q` is in front of it.
 pub fn in_order()
     ensures live { (n : ℕ) (steps : List ProtocolStep) (q : ℕ) (p : ℕ) →
-        Rises 0 (received_of q ((run (opening n) steps).so_far.live p) ++ in_transit (run (opening n) steps) q p) }
-    ensures received { (n : ℕ) (steps : List ProtocolStep) (q : ℕ) (p : ℕ) → Rises 0 (messages ((run (opening n) steps).received_since q p)) }
+        NumbersRiseAbove 0 (received_of q ((run (opening n) steps).so_far.live p) ++ in_transit (run (opening n) steps) q p) }
+    ensures received { (n : ℕ) (steps : List ProtocolStep) (q : ℕ) (p : ℕ) → NumbersRiseAbove 0 (messages ((run (opening n) steps).received_since q p)) }
     ensures arrived { (n : ℕ) (steps : List ProtocolStep) (q : ℕ) (p : ℕ) →
-        Rises 0 (messages ((run (opening n) steps).arrived_since q p) ++ in_transit (run (opening n) steps) q p) }
+        NumbersRiseAbove 0 (messages ((run (opening n) steps).arrived_since q p) ++ in_transit (run (opening n) steps) q p) }
     ensures fresh { (n : ℕ) (steps : List ProtocolStep) (k : ℕ) (q : ℕ) (p : ℕ) → 0 < k →
         (run (opening n) steps).so_far.open_in p ≡ k → (run (opening n) steps).so_far.is_rollback k ≡ true →
         (run (opening n) steps).so_far.is_decided k ≡ true → (run (opening n) steps).so_far.is_committed k ≡ true →
         (run (opening n) steps).received_since q p ≡ [] }
     ensures quiet { (n : ℕ) (steps : List ProtocolStep) (k : ℕ) (q : ℕ) (p : ℕ) → 0 < k →
         (run (opening n) steps).so_far.open_in p ≡ k → (run (opening n) steps).noted k p q ≡ true →
-        IsQuiet ((run (opening n) steps).channel q p) }
+        HasNoMessage ((run (opening n) steps).channel q p) }
 {}
 
 /// Until a rollback is decided, the label that `p` noted of `q`'s ask tells which of `q`'s live messages to `p` its commit

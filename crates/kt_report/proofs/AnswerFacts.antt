@@ -10,7 +10,7 @@ use Rattle.kt_spacetime.specs.declared.event.Event.TheVariants.{Unwilling}
 use Rattle.kt_chain.specs.declared.certificate.Certificate.{Certificate}
 use Rattle.kt_log_text.specs.Spelling.{cause_word}
 use Rattle.kt_report.specs.Lines.{line, name_of, member_line, unwilling_line}
-use Rattle.kt_report.specs.Unwilling.{Answer, answer_line, unwilling_in, unwilling_of, answers_to}
+use Rattle.kt_report.specs.Unwilling.{UnwillingAnswer, answer_line, unwilling_in, unwilling_of, answers_to}
 
 -- a row has the line of its answer, where it is one to this instance
 line_at : (names : List (List ℕ)) (inst : ℕ) (row : Event) → flat_map (answer_line names) (unwilling_in inst row) ≡ unwilling_line names inst row
@@ -37,29 +37,29 @@ abbrev pub part_lines : List (List ℕ) → List Event → Certificate → List 
 part_lines names rows c = if c.commit then flat_map (member_line names rows) c.members else flat_map (unwilling_line names c.inst) rows
 
 -- one more empty list
-pub get_or-empty : (lists : List (List Answer)) (k : ℕ) → get_or (lists ++ [] ∷ []) k [] ≡ get_or lists k []
+pub get_or-empty : (lists : List (List UnwillingAnswer)) (k : ℕ) → get_or (lists ++ [] ∷ []) k [] ≡ get_or lists k []
 get_or-empty [] zero = refl
 get_or-empty [] (suc k) = refl
 get_or-empty (list ∷ lists) zero = refl
 get_or-empty (list ∷ lists) (suc k) = get_or-empty lists k
 
-pub answers_kept : {X : Type 0} (f : X → List Answer) (xs ys : List X) (new : X) (other : ℕ) → ys ≡ xs ++ new ∷ [] → f new ≡ [] → answers_to (map f ys) other ≡ answers_to (map f xs) other
+pub answers_kept : {X : Type 0} (f : X → List UnwillingAnswer) (xs ys : List X) (new : X) (other : ℕ) → ys ≡ xs ++ new ∷ [] → f new ≡ [] → answers_to (map f ys) other ≡ answers_to (map f xs) other
 answers_kept f xs ys new other more none =
-    ap (λ (l : List (List Answer)). answers_to l other) (ap (map f) more ∙ map-append f xs (new ∷ []) ∙ ap (λ (a : List Answer). map f xs ++ a ∷ []) none)
+    ap (λ (l : List (List UnwillingAnswer)). answers_to l other) (ap (map f) more ∙ map-append f xs (new ∷ []) ∙ ap (λ (a : List UnwillingAnswer). map f xs ++ a ∷ []) none)
     ∙ get_or-empty (map f xs) (other - 1)
 
 -- one more answer to an instance
-pub answers-more : {X : Type 0} (f : X → List Answer) (xs : List X) (k : ℕ) (old new : X) (inst other : ℕ) (a : Answer) → k < length xs → k + 1 ≡ inst → 1 ≤ other
+pub answers-more : {X : Type 0} (f : X → List UnwillingAnswer) (xs : List X) (k : ℕ) (old new : X) (inst other : ℕ) (a : UnwillingAnswer) → k < length xs → k + 1 ≡ inst → 1 ≤ other
     → old ≡ get_or xs k old → f new ≡ f old ++ a ∷ [] → answers_to (map f (set xs k new)) other ≡ answers_to (map f xs) other ++ (if inst == other then a ∷ [] else [])
 answers-more f xs k old new inst other a within place positive at more =
     let inside : k < length (map f xs) = simp length-map within in
-    let written : answers_to (map f (set xs k new)) other ≡ get_or (set (map f xs) k (f new)) (other - 1) [] = ap (λ (l : List (List Answer)). get_or l (other - 1) []) (map-set f xs k new) in
+    let written : answers_to (map f (set xs k new)) other ≡ get_or (set (map f xs) k (f new)) (other - 1) [] = ap (λ (l : List (List UnwillingAnswer)). get_or l (other - 1) []) (map-set f xs k new) in
     let was : f old ≡ get_or (map f xs) k [] = ap f at ∙ sym (get_or-map f xs k old [] within) in
     let P : Bool → Type 0 = λ b. (inst == other) ≡ b → answers_to (map f (set xs k new)) other ≡ answers_to (map f xs) other ++ (if b then a ∷ [] else []) in
     (elim (inst == other) as P [
       | true ↦ λ h. let here : other - 1 ≡ k = omega (arith, eqb-true inst other h) in
           written ∙ ap (λ (j : ℕ). get_or (set (map f xs) k (f new)) j []) here ∙ get_or-set_same (map f xs) k (f new) [] inside ∙ more
-          ∙ ap (λ (x : List Answer). x ++ a ∷ []) (was ∙ ap (λ (j : ℕ). get_or (map f xs) j []) (sym here))
+          ∙ ap (λ (x : List UnwillingAnswer). x ++ a ∷ []) (was ∙ ap (λ (j : ℕ). get_or (map f xs) j []) (sym here))
       | false ↦ λ h. let there : other - 1 ≢ k = λ q. eqb-false inst other h (omega (arith, q)) in
           written ∙ get_or-set_other (map f xs) k (other - 1) (f new) [] there ∙ sym (append-nil (get_or (map f xs) (other - 1) []))
     ]) refl

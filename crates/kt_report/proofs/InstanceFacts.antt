@@ -14,7 +14,7 @@ use Rattle.kt_cuts.proofs.InstanceSteps.{old_item, new_item, no_item}
 use Rattle.kt_cuts.proofs.Items.{get_set_same, get_set_other, set_mapped}
 use Rattle.kt_cuts.proofs.Shown.{at_same, at_other}
 use Rattle.kt_report.specs.declared.closings.Instance.{Instance}
-use Rattle.kt_report.specs.Shown.{ShowsInstances, is_committed_one}
+use Rattle.kt_report.specs.Shown.{ShowsReportInstances, is_committed_one}
 
 -- the item of a number
 number_at : (js : List Instance) (i k : ℕ) → i + 1 ≡ k → at_number js k ≡ slice_get js i
@@ -22,7 +22,7 @@ number_at js i zero e = absurd (omega (arith, e))
 number_at js i (suc k) e = let same : k ≡ i = omega (arith, e) in ap (slice_get js) same
 
 -- one more instance
-pub begins : (js : List Instance) (s : Past) (p k : ℕ) (v : Instance) → v.is_committed ≡ false → ShowsInstances js s → ShowsInstances (js ++ v ∷ []) (after s (event.Began p k v.kind))
+pub begins : (js : List Instance) (s : Past) (p k : ℕ) (v : Instance) → v.is_committed ≡ false → ShowsReportInstances js s → ShowsReportInstances (js ++ v ∷ []) (after s (event.Began p k v.kind))
 begins js s p k v undecided h = record {
   kinds = map-append (λ v. v.kind) js (v ∷ []) ∙ ap (λ (kinds : List Kind). kinds ++ v.kind ∷ []) h.kinds ∙ sym (map-append (λ b. b.kind) s.begun (record { initiator = p; kind = v.kind } ∷ []));
   commits = λ j. elim (cases_eq j (length js + 1)) [
@@ -33,7 +33,7 @@ begins js s p k v undecided h = record {
 }
 
 -- an instance that has begun is there
-pub is_there : (js : List Instance) (s : Past) (i k : ℕ) → i + 1 ≡ k → ShowsInstances js s → has_begun s k ≡ true → i < length js
+pub is_there : (js : List Instance) (s : Past) (i k : ℕ) → i + 1 ≡ k → ShowsReportInstances js s → has_begun s k ≡ true → i < length js
 is_there js s i k e h b =
     let parts = and_parts (nat_le 1 k) (nat_le k (length s.begun)) b in
     let low : k ≤ length s.begun = grind (arith, nat_tests, parts.1) in
@@ -41,8 +41,8 @@ is_there js s i k e h b =
     omega (arith, low, same, e)
 
 -- an instance is decided
-pub is_decided : (js : List Instance) (s : Past) (p i k : ℕ) (commit : Bool) (v : Instance) → i + 1 ≡ k → slice_get js i ≡ Some v → i < length js → ShowsInstances js s
-    → ShowsInstances (set js i (record v { is_committed = commit })) (after s (event.Decided p k commit))
+pub is_decided : (js : List Instance) (s : Past) (p i k : ℕ) (commit : Bool) (v : Instance) → i + 1 ≡ k → slice_get js i ≡ Some v → i < length js → ShowsReportInstances js s
+    → ShowsReportInstances (set js i (record v { is_committed = commit })) (after s (event.Decided p k commit))
 is_decided js s p i k commit v e at within h =
     let w : Instance = record v { is_committed = commit } in
     record {
@@ -61,13 +61,13 @@ is_decided js s p i k commit v e at within h =
     others ws (suc j) n f = ap (λ (l : List Instance). slice_get l j) f ∙ get_set_other js i j (record v { is_committed = commit }) (λ same. n (omega (arith, same, e)))
 
 -- the kind of an instance
-kind_known : (js : List Instance) (s : Past) (k : ℕ) → ShowsInstances js s → kind_of s k ≡ option_map (λ v. v.kind) (at_number js k)
+kind_known : (js : List Instance) (s : Past) (k : ℕ) → ShowsReportInstances js s → kind_of s k ≡ option_map (λ v. v.kind) (at_number js k)
 kind_known js s zero h = refl
 kind_known js s (suc k) h =
     sym (slice_get-map (λ b. b.kind) s.begun k) ∙ ap (λ (kinds : List Kind). slice_get kinds k) (sym h.kinds) ∙ slice_get-map (λ v. v.kind) js k
 
 -- what closing an instance asks
-pub closing_known : (js : List Instance) (s : Past) (i k : ℕ) (o : Option Instance) → i + 1 ≡ k → slice_get js i ≡ o → ShowsInstances js s
+pub closing_known : (js : List Instance) (s : Past) (i k : ℕ) (o : Option Instance) → i + 1 ≡ k → slice_get js i ≡ o → ShowsReportInstances js s
     → (is_rollback s k ≡ is_rollback_kind (option_map (λ v. v.kind) o)) × (is_committed s k ≡ is_committed_one o)
 closing_known js s i k o e at h =
     let there : at_number js k ≡ o = number_at js i k e ∙ at in

@@ -45,12 +45,12 @@ is_committed_one None = false
 is_committed_one (Some v) = v.is_committed
 
 -- the instances that have begun, by number
-pub record ShowsInstances (instances : List Instance) (s : Past) : Type 0 where
+pub record ShowsReportInstances (instances : List Instance) (s : Past) : Type 0 where
   pub kinds : map (λ v. v.kind) instances ≡ map (λ b. b.kind) s.begun
   pub commits : (k : ℕ) → is_committed_one (at_number instances k) ≡ is_committed s k
 
 -- a replay stands for the rows of a legal log, where processes have objects of these kinds
 pub record ReplayOf (replay : Replay) (kinds : List ℕ) (rows : List Event) : Type 0 where
   pub walk : WalkOf replay.walk rows
-  pub instances : ShowsInstances replay.instances.items (past rows)
+  pub instances : ShowsReportInstances replay.instances.items (past rows)
   pub offers : ShowsOffers replay.objects.items kinds rows

@@ -6,7 +6,7 @@ ghost use Rattle.kt_spacetime.specs.declared.event.Event.TheVariants as event;
 ghost use Rattle.kt_cuts.specs.Past.{Past, past, after, is_rollback, is_committed, is_rollback_kind};
 ghost use Rattle.kt_cuts.specs.Legal.{IsLegal, has_begun};
 ghost use Rattle.kt_values.specs.Values.{closing};
-ghost use Rattle.kt_report.specs.Shown.{ShowsInstances, act_of};
+ghost use Rattle.kt_report.specs.Shown.{ShowsReportInstances, act_of};
 
 use kt_base::{InstNo, Kind, Memory};
 use kt_plan::Act;
@@ -22,7 +22,7 @@ pub(crate) struct Instance {
 /// Notes what one more row says of the instances.
 pub(crate) fn note(instances: &mut Vec<Instance>, row: &Event) -> Result<(), Memory>
     ensures { OnOk result ((rows : List Event) → IsLegal (rows ++ row.now ∷ [])
-        → ShowsInstances instances.old.items (past rows) → ShowsInstances instances.new.items (past (rows ++ row.now ∷ []))) }
+        → ShowsReportInstances instances.old.items (past rows) → ShowsReportInstances instances.new.items (past (rows ++ row.now ∷ []))) }
 {
     match *row {
         Event::Began { kind, .. } => {
@@ -42,8 +42,8 @@ pub(crate) fn note(instances: &mut Vec<Instance>, row: &Event) -> Result<(), Mem
 
 // Notes how an instance was decided.
 fn decide(instances: &mut Vec<Instance>, inst: InstNo, commit: bool)
-    ensures { (s : Past) (p : ℕ) → has_begun s inst ≡ true → ShowsInstances instances.old.items s
-        → ShowsInstances instances.new.items (after s (event.Decided p inst commit)) }
+    ensures { (s : Past) (p : ℕ) → has_begun s inst ≡ true → ShowsReportInstances instances.old.items s
+        → ShowsReportInstances instances.new.items (after s (event.Decided p inst commit)) }
 {
     let index = inst.index();
     if index < instances.len() {
@@ -53,7 +53,7 @@ fn decide(instances: &mut Vec<Instance>, inst: InstNo, commit: bool)
 
 /// What who closes an instance does to its object and its saved states.
 pub(crate) fn closing(instances: &[Instance], inst: InstNo) -> Act
-    ensures { (s : Past) → ShowsInstances instances.now s
+    ensures { (s : Past) → ShowsReportInstances instances.now s
         → act_of result ≡ closing (is_rollback s inst) (is_committed s inst) }
 {
     match instances.get(inst.index()) {

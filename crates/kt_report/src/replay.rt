@@ -9,7 +9,7 @@ ghost use Rattle.kt_cuts.specs.Legal.{IsLegal};
 ghost use Rattle.kt_walk.specs.WalkOf.{WalkOf};
 ghost use Rattle.kt_values.specs.Done.{done};
 ghost use Rattle.kt_values.specs.Values.{acts_of};
-ghost use Rattle.kt_report.specs.Shown.{ReplayOf, ShowsInstances, ShowsOffers, act_of};
+ghost use Rattle.kt_report.specs.Shown.{ReplayOf, ShowsReportInstances, ShowsOffers, act_of};
 
 use crate::closings::{Instance, closing, note};
 use crate::offers::Offers;
@@ -104,7 +104,7 @@ fn is_fed(walk: &mut Walk, row: &Event) -> Result<bool, Memory>
 
 // What a row's process does to its object and its saved states, after the rows before.
 fn act_at(instances: &[Instance], before: &[Event], row: &Event) -> Act
-    ensures { IsLegal (before.now ++ row.now ∷ []) → ShowsInstances instances.now (past before.now)
+    ensures { IsLegal (before.now ++ row.now ∷ []) → ShowsReportInstances instances.now (past before.now)
         → act_of result ≡ acts_of (done before.now) row.now }
 {
     match *row {

@@ -18,9 +18,9 @@ pub(crate) struct Unwilling {
 
 impl Model for Unwilling {
     ghost use Rattle.std.specs.Prelude.{List, Vec, map};
-    ghost use Rattle.kt_report.specs.Unwilling.{Answer};
+    ghost use Rattle.kt_report.specs.Unwilling.{UnwillingAnswer};
 
-    ghost Value = { List (List Answer) };
+    ghost Value = { List (List UnwillingAnswer) };
 
     ghost view = { λ u. map (λ l. l.items) u.lists.items };
 }

@@ -7,19 +7,19 @@ use Rattle.kt_parts.specs.Answers.{replies, joins}
 use Rattle.kt_parts.specs.Joins.{Joins}
 use Rattle.kt_parts.specs.declared.actions.Action.{Action}
 use Rattle.kt_parts.specs.declared.actions.Action.TheVariants.{Nothing, Refuse, Join, Reply, Settle}
-use Rattle.kt_roll.specs.Rules.{answer, must_join}
-use Rattle.kt_roll.specs.Actions.{IsAnswer}
+use Rattle.kt_roll.specs.Rules.{rollback_answer, must_join}
+use Rattle.kt_roll.specs.Actions.{IsRollbackAnswer}
 use Rattle.kt_roll.specs.Sides.{RollSide}
 
-pub outside : (o : Option ℕ) (k : ℕ) (must b : Bool) → o ≡ None → b ≡ must → b ≡ false → answer o k must ≡ replies true None
+pub outside : (o : Option ℕ) (k : ℕ) (must b : Bool) → o ≡ None → b ≡ must → b ≡ false → rollback_answer o k must ≡ replies true None
 outside o k must b e f g = rw (e, ← f, g) refl
 
-pub joined : (o : Option ℕ) (k : ℕ) (must b : Bool) → o ≡ None → b ≡ must → b ≡ true → answer o k must ≡ joins
+pub joined : (o : Option ℕ) (k : ℕ) (must b : Bool) → o ≡ None → b ≡ must → b ≡ true → rollback_answer o k must ≡ joins
 joined o k must b e f g = rw (e, ← f, g) refl
 
 -- who joins does so by an action that joins
 pub join_answers : (calls : List Call) (s : Standing) (inst from label n : ℕ) (parent : Option ℕ) (side : RollSide) (action : Action) → Joins n inst parent side.part action →
-    answer s.in_inst inst (must_join calls from label) ≡ joins → IsAnswer calls s inst from label (Some side) action
+    rollback_answer s.in_inst inst (must_join calls from label) ≡ joins → IsRollbackAnswer calls s inst from label (Some side) action
 join_answers calls s inst from label n parent side (Join asks goes) j e = e
 join_answers calls s inst from label n parent side Nothing j e = absurd j
 join_answers calls s inst from label n parent side (Refuse cause) j e = absurd j

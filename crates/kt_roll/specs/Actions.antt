@@ -7,21 +7,21 @@ use Rattle.kt_parts.specs.Answers.{replies, joins}
 use Rattle.kt_parts.specs.declared.actions.Action.{Action}
 use Rattle.kt_parts.specs.declared.actions.Action.TheVariants.{Refuse, Join, Reply}
 use Rattle.kt_roll.specs.Sides.{RollSide}
-use Rattle.kt_roll.specs.Rules.{is_asked, asked_label, must_join, refusal, answer}
+use Rattle.kt_roll.specs.Rules.{is_asked, asked_label, must_join, rollback_refusal, rollback_answer}
 
 -- it asks exactly its cohort
-abbrev pub AsksCohort : List Call → Action → Type 0
-AsksCohort calls (Join asks goes) = IsCohort asks (is_asked calls) (asked_label calls)
-AsksCohort calls action = ⊥
+abbrev pub AsksRollbackCohort : List Call → Action → Type 0
+AsksRollbackCohort calls (Join asks goes) = IsCohort asks (is_asked calls) (asked_label calls)
+AsksRollbackCohort calls action = ⊥
 
 -- it joins where nothing forbids that
-abbrev pub IsStart : Standing → Option RollSide → Action → Type 0
-IsStart s None (Refuse cause) = refusal s.in_inst ≡ Some cause
-IsStart s (Some side) (Join asks goes) = refusal s.in_inst ≡ None
-IsStart s side action = ⊥
+abbrev pub IsRollbackStart : Standing → Option RollSide → Action → Type 0
+IsRollbackStart s None (Refuse cause) = rollback_refusal s.in_inst ≡ Some cause
+IsRollbackStart s (Some side) (Join asks goes) = rollback_refusal s.in_inst ≡ None
+IsRollbackStart s side action = ⊥
 
 -- it replies to the asker, or joins, as the rule says
-abbrev pub IsAnswer : List Call → Standing → ℕ → ℕ → ℕ → Option RollSide → Action → Type 0
-IsAnswer calls s inst from label None (Reply to willing cause) = (to ≡ from) × (answer s.in_inst inst (must_join calls from label) ≡ replies willing cause)
-IsAnswer calls s inst from label (Some side) (Join asks goes) = answer s.in_inst inst (must_join calls from label) ≡ joins
-IsAnswer calls s inst from label side action = ⊥
+abbrev pub IsRollbackAnswer : List Call → Standing → ℕ → ℕ → ℕ → Option RollSide → Action → Type 0
+IsRollbackAnswer calls s inst from label None (Reply to willing cause) = (to ≡ from) × (rollback_answer s.in_inst inst (must_join calls from label) ≡ replies willing cause)
+IsRollbackAnswer calls s inst from label (Some side) (Join asks goes) = rollback_answer s.in_inst inst (must_join calls from label) ≡ joins
+IsRollbackAnswer calls s inst from label side action = ⊥

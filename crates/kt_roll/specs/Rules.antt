@@ -5,7 +5,7 @@ use Rattle.kt_base.specs.declared.words.Cause.{Cause}
 use Rattle.kt_base.specs.declared.words.Cause.TheVariants.{Busy}
 use Rattle.kt_tables.specs.Calls.{Call, on_rollback, parts, sents, receiveds}
 use Rattle.kt_tables.specs.Labels.{has_label, greatest}
-use Rattle.kt_parts.specs.Answers.{Answer, replies, joins}
+use Rattle.kt_parts.specs.Answers.{AskAnswer, replies, joins}
 
 -- whether an ask of q with this label makes the process take part: it received a message of q since its last checkpoint that q undoes
 unfoldable pub must_join : List Call → ℕ → ℕ → Bool
@@ -19,9 +19,9 @@ unfoldable pub asked_label : List Call → ℕ → ℕ
 asked_label calls q = greatest (sents q (parts calls).before)
 
 -- why a process doesn't roll back: it may be down
-abbrev pub refusal : Option ℕ → Option Cause
-refusal (Some current) = Some (Busy current)
-refusal None = None
+abbrev pub rollback_refusal : Option ℕ → Option Cause
+rollback_refusal (Some current) = Some (Busy current)
+rollback_refusal None = None
 
 -- whether it is in this instance
 abbrev pub is_in : Option ℕ → ℕ → Bool
@@ -29,12 +29,12 @@ is_in (Some current) inst = current == inst
 is_in None inst = false
 
 -- what comes of an ask
-abbrev pub answer : Option ℕ → ℕ → Bool → Answer
-answer (Some other) inst must = if other == inst then replies true None else replies false (Some (Busy other))
-answer None inst false = replies true None
-answer None inst true = joins
+abbrev pub rollback_answer : Option ℕ → ℕ → Bool → AskAnswer
+rollback_answer (Some other) inst must = if other == inst then replies true None else replies false (Some (Busy other))
+rollback_answer None inst false = replies true None
+rollback_answer None inst true = joins
 
 -- the calls of a decision: an abort makes none
-abbrev pub decision : Bool → List Call
-decision true = on_rollback ∷ []
-decision false = []
+abbrev pub rollback_calls_of_decision : Bool → List Call
+rollback_calls_of_decision true = on_rollback ∷ []
+rollback_calls_of_decision false = []

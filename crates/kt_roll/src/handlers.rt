@@ -4,15 +4,15 @@ ghost use Rattle.std.specs.Prelude.{◌≡◌, ◌<◌, ◌++◌, List, Bool, No
 ghost use Rattle.kt_base.specs.Sets.{has};
 ghost use Rattle.kt_tables.specs.Peers.{has_one};
 ghost use Rattle.kt_tables.specs.Calls.{Call};
-ghost use Rattle.kt_tables.specs.Standing.{StandsFor, must_roll};
+ghost use Rattle.kt_tables.specs.Standing.{TablesStandFor, must_roll};
 ghost use Rattle.kt_parts.specs.Rules.{after_reply, reply_action, settle_action};
 ghost use Rattle.kt_parts.specs.Joins.{Joins};
 ghost use Rattle.kt_parts.specs.Replies.{IsReplyTo};
 ghost use Rattle.kt_parts.specs.Counts.{counts_of, counts_at_reply, counts_if_joined, no_parcel, one_reply, decisions_to};
 ghost use Rattle.kt_roll.specs.Notes.{note_of, no_note, with_note};
-ghost use Rattle.kt_roll.specs.Sides.{part_of, HasRoom, IsLeft};
-ghost use Rattle.kt_roll.specs.Rules.{decision, is_in};
-ghost use Rattle.kt_roll.specs.Actions.{AsksCohort, IsStart, IsAnswer};
+ghost use Rattle.kt_roll.specs.Sides.{part_of, HasNoteRoom, IsLeft};
+ghost use Rattle.kt_roll.specs.Rules.{rollback_calls_of_decision, is_in};
+ghost use Rattle.kt_roll.specs.Actions.{AsksRollbackCohort, IsRollbackStart, IsRollbackAnswer};
 
 use crate::notes::Notes;
 use crate::side::Side;
@@ -25,7 +25,7 @@ fn join(tables: &Tables, inst: InstNo, parent: Option<ProcNo>) -> Result<(Side, 
     ensures room { IfOk result (λ r. r.0.notes.processes ≡ tables.now.processes) }
     ensures noted { IfOk result (λ r. note_of r.0.notes ≡ no_note) }
     ensures joins { IfOk result (λ r. Joins tables.now.processes inst parent r.0.part r.1) }
-    ensures cohort { IfOk result (λ r. (calls : List Call) → StandsFor tables.now calls → AsksCohort calls r.1) }
+    ensures cohort { IfOk result (λ r. (calls : List Call) → TablesStandFor tables.now calls → AsksRollbackCohort calls r.1) }
     ensures asked { IfOk result (λ r. (q : ℕ) → has r.0.part.asked q ≡ true → has_one tables.now.first_sent q ≡ true) }
 {
     let pairs = tables.roll_cohort()?;
@@ -40,12 +40,12 @@ pub fn start(
     inst: InstNo,
     standing: Standing,
 ) -> Result<(Option<Side>, Action), Memory>
-    ensures rule { IfOk result (λ r. IsStart standing r.0 r.1) }
+    ensures rule { IfOk result (λ r. IsRollbackStart standing r.0 r.1) }
     ensures counts { IfOk result (λ r. counts_of r.1 ≡ counts_if_joined no_parcel (part_of r.0)) }
 
     // Who joins asks its cohort. It has noted nothing yet, and has room for a note of each process.
     ensures joins { IfOk result (λ r. IfSome r.0 (λ side. Joins tables.now.processes inst None side.part r.1)) }
-    ensures cohort { IfOk result (λ r. OnSome r.0 ((calls : List Call) → StandsFor tables.now calls → AsksCohort calls r.1)) }
+    ensures cohort { IfOk result (λ r. OnSome r.0 ((calls : List Call) → TablesStandFor tables.now calls → AsksRollbackCohort calls r.1)) }
     ensures noted { IfOk result (λ r. IfSome r.0 (λ side. note_of side.notes ≡ no_note)) }
     ensures room { IfOk result (λ r. IfSome r.0 (λ side. side.notes.processes ≡ tables.now.processes)) }
 
@@ -79,10 +79,10 @@ fn answer(
 ) -> Result<(Option<Side>, Action), Memory>
     requires { from < tables.now.processes }
     ensures err { OnErr result (standing.in_inst ≡ None) }
-    ensures rule { IfOk result (λ r. (calls : List Call) → StandsFor tables.now calls → IsAnswer calls standing inst from label r.0 r.1) }
+    ensures rule { IfOk result (λ r. (calls : List Call) → TablesStandFor tables.now calls → IsRollbackAnswer calls standing inst from label r.0 r.1) }
     ensures counts { IfOk result (λ r. counts_of r.1 ≡ counts_if_joined one_reply (part_of r.0)) }
     ensures joins { IfOk result (λ r. IfSome r.0 (λ side. Joins tables.now.processes inst (Some from) side.part r.1)) }
-    ensures cohort { IfOk result (λ r. OnSome r.0 ((calls : List Call) → StandsFor tables.now calls → AsksCohort calls r.1)) }
+    ensures cohort { IfOk result (λ r. OnSome r.0 ((calls : List Call) → TablesStandFor tables.now calls → AsksRollbackCohort calls r.1)) }
     ensures noted { IfOk result (λ r. IfSome r.0 (λ side. note_of side.notes ≡ with_note from label no_note)) }
     ensures room { IfOk result (λ r. IfSome r.0 (λ side. side.notes.processes ≡ tables.now.processes)) }
 
@@ -115,10 +115,10 @@ pub fn on_ask(
     label: Label,
 ) -> Result<(Option<Side>, Action), Memory>
     requires from { from < tables.now.processes }
-    requires room { HasRoom from side }
+    requires room { HasNoteRoom from side }
     // Memory is asked for by who is in no instance alone: a refused growth leaves the side as it was.
     ensures err { OnErr result (standing.in_inst ≡ None) }
-    ensures rule { IfOk result (λ r. (calls : List Call) → StandsFor tables.now calls → IsAnswer calls standing inst from label r.0 r.1) }
+    ensures rule { IfOk result (λ r. (calls : List Call) → TablesStandFor tables.now calls → IsRollbackAnswer calls standing inst from label r.0 r.1) }
     ensures counts { IfOk result (λ r. counts_of r.1 ≡ counts_if_joined one_reply (part_of r.0)) }
 
     // The side of the instance that it is in notes the label, any other stays as it was.
@@ -126,7 +126,7 @@ pub fn on_ask(
 
     // Who joins asks its cohort. It has noted the label of this ask alone, and has room for a note of each process.
     ensures joins { IfOk result (λ r. IfSome r.0 (λ side. Joins tables.now.processes inst (Some from) side.part r.1)) }
-    ensures cohort { IfOk result (λ r. OnSome r.0 ((calls : List Call) → StandsFor tables.now calls → AsksCohort calls r.1)) }
+    ensures cohort { IfOk result (λ r. OnSome r.0 ((calls : List Call) → TablesStandFor tables.now calls → AsksRollbackCohort calls r.1)) }
     ensures noted { IfOk result (λ r. IfSome r.0 (λ side. note_of side.notes ≡ with_note from label no_note)) }
     ensures room { IfOk result (λ r. IfSome r.0 (λ side. side.notes.processes ≡ tables.now.processes)) }
 
@@ -164,7 +164,7 @@ pub fn on_decide(tables: &mut Tables, side: Side, commit: bool) -> Action
     ensures processes { tables.new.processes ≡ tables.old.processes }
     ensures tentative { tables.new.is_tentative ≡ false }
     ensures aborted { commit ≡ false → tables.new ≡ tables.old }
-    ensures stands { (calls : List Call) → StandsFor tables.old calls → StandsFor tables.new (calls ++ decision commit) }
+    ensures stands { (calls : List Call) → TablesStandFor tables.old calls → TablesStandFor tables.new (calls ++ rollback_calls_of_decision commit) }
     ensures last_out { tables.new.last_out ≡ tables.old.last_out }
     ensures action { result ≡ settle_action side.part commit }
     ensures counts { counts_of result ≡ decisions_to side.part.asked }

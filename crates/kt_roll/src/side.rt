@@ -4,7 +4,7 @@ ghost use Rattle.std.specs.Prelude.{◌≡◌, ◌<◌};
 ghost use Rattle.kt_parts.specs.Rules.{after_reply, reply_action, settle_action};
 ghost use Rattle.kt_parts.specs.Counts.{counts_of, counts_at_reply};
 ghost use Rattle.kt_roll.specs.Notes.{note_of};
-ghost use Rattle.kt_roll.specs.Sides.{IsAfter};
+ghost use Rattle.kt_roll.specs.Sides.{IsSideAfter};
 
 use crate::notes::Notes;
 use kt_base::{Label, ProcNo};
@@ -60,7 +60,7 @@ impl Side {
     /// Notes the label of a process that asked this one, if it is to.
     pub(crate) fn note_if(&mut self, notes: bool, from: ProcNo, label: Label)
         requires { from < self.old.notes.processes }
-        ensures { IsAfter notes from label self.old self.new }
+        ensures { IsSideAfter notes from label self.old self.new }
     {
         if notes {
             self.notes.note(from, label);

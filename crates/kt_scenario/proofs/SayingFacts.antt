@@ -14,7 +14,7 @@ use Rattle.kt_scenario.specs.declared.draft.Word.TheVariants.{Object, Send, Chec
 use Rattle.kt_scenario.specs.declared.fault.LineFault.{LineFault}
 use Rattle.kt_scenario.specs.declared.fault.LineFault.TheVariants as fault
 use Rattle.kt_scenario.specs.Said.{Said, with_object, with_command, word_in}
-use Rattle.kt_scenario.specs.Scenario.{IsBodyWord, IsObject, IsSend, IsOrder, SaysAfter, Says, IsWrongObject, IsWrongSend, IsWrongOrder, IsWrongIn, IsWrongAfter, IsWrong, IsSame, AreTwo, word_count}
+use Rattle.kt_scenario.specs.Scenario.{IsBodyWord, IsObject, IsSend, IsOrder, SaysAfter, Says, IsWrongObject, IsWrongSend, IsWrongOrder, IsWrongIn, IsWrongAfter, IsWordsFault, IsSame, AreTwo, word_count}
 use Rattle.kt_scenario.proofs.LineLaws.{AreClear}
 
 -- one value
@@ -261,7 +261,7 @@ first (Some word) old words f g (inl a) (inr b) = absurd (a.1 (counted word old 
 first (Some word) old words f g (inr a) (inl b) = absurd (b.1 (counted word old words f a))
 first (Some word) old words f g (inr a) (inr b) = first_in word old words f g a b
 
-first_words : (old : Said) (words : List (List ℕ)) (f g : LineFault) → IsWrong old words f → IsWrong old words g → f ≡ g
+first_words : (old : Said) (words : List (List ℕ)) (f g : LineFault) → IsWordsFault old words f → IsWordsFault old words g → f ≡ g
 first_words old [] f g a b = absurd a
 first_words old (word ∷ words) f g a b = first (word_in word) old words f g a b
 
@@ -269,9 +269,9 @@ single_words : (old : Said) (words : List (List ℕ)) (new other : Said) → Say
 single_words old [] new other a b = absurd a
 single_words old (word ∷ words) new other a b = single (word_in word) old words new other a b
 
-apart_words : (old : Said) (words : List (List ℕ)) (new : Said) (f : LineFault) → Says old words new → IsWrong old words f → ⊥
+apart_words : (old : Said) (words : List (List ℕ)) (new : Said) (f : LineFault) → Says old words new → IsWordsFault old words f → ⊥
 apart_words old [] new f a b = a
 apart_words old (word ∷ words) new f a b = apart (word_in word) old words new f a b
 
-pub clear : AreClear Says IsWrong
+pub clear : AreClear Says IsWordsFault
 clear = record { single = single_words; apart = apart_words; first = first_words }

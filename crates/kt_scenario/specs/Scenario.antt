@@ -117,9 +117,9 @@ IsWrongAfter None said words f = f ≡ fault.Command
 IsWrongAfter (Some word) said words f = ((f ≡ fault.Words) × (length words ≢ word_count word)) ⊎ IsWrongIn word said words f
 
 -- what is first wrong in the words of a line
-abbrev pub IsWrong : Said → List (List ℕ) → LineFault → Type 0
-IsWrong said [] f = ⊥
-IsWrong said (word ∷ words) f = IsWrongAfter (word_in word) said words f
+abbrev pub IsWordsFault : Said → List (List ℕ) → LineFault → Type 0
+IsWordsFault said [] f = ⊥
+IsWordsFault said (word ∷ words) f = IsWrongAfter (word_in word) said words f
 
 -- how many bytes a scenario has at most
 abbrev pub most_bytes : ℕ
@@ -133,7 +133,7 @@ pub record IsScenario (text : List ℕ) (plan : Planned) : Type 0 where
   pub is : plan ≡ plan_of said
 
 -- the first fault of a text: it is too long, or a line is wrong
-abbrev pub IsFirstFault : List ℕ → ScenarioFault → Type 0
-IsFirstFault text fault =
+abbrev pub IsFirstScenarioFault : List ℕ → ScenarioFault → Type 0
+IsFirstScenarioFault text fault =
     ((fault ≡ TooLong) × (most_bytes < length text))
-    ⊎ ((number : ℕ) × (wrong : LineFault) × (fault ≡ fault_at wrong number) × (length text ≤ most_bytes) × IsFirstWrong Says IsWrong nothing_said (lines_of text) number wrong)
+    ⊎ ((number : ℕ) × (wrong : LineFault) × (fault ≡ fault_at wrong number) × (length text ≤ most_bytes) × IsFirstWrong Says IsWordsFault nothing_said (lines_of text) number wrong)

@@ -5,7 +5,7 @@ ghost use Rattle.kt_scenario.specs.declared.fault.LineFault.TheVariants as line;
 ghost use Rattle.kt_scenario.specs.Lines.{words_of, SaysLine, IsWrongLine};
 ghost use Rattle.kt_plan.specs.Limits.{most_commands};
 ghost use Rattle.kt_scenario.specs.Said.{word_in, kind_in, settled, with_command};
-ghost use Rattle.kt_scenario.specs.Scenario.{Says, SaysAfter, IsObject, IsSend, IsOrder, IsBodyWord, IsWrong, IsWrongAfter, IsWrongObject, IsWrongSend, IsWrongOrder};
+ghost use Rattle.kt_scenario.specs.Scenario.{Says, SaysAfter, IsObject, IsSend, IsOrder, IsBodyWord, IsWordsFault, IsWrongAfter, IsWrongObject, IsWrongSend, IsWrongOrder};
 ghost use Rattle.kt_scenario.specs.Draft.{said_of};
 
 use crate::fault::LineFault;
@@ -199,7 +199,7 @@ pub(crate) fn note_line(draft: &mut Draft, alloc: Global, line: &[u8]) -> Result
     requires { draft.old.phase < 2 ^ 32 - 1 }
     ensures ok { OnOk result (SaysLine Says (said_of draft.old) line.now (said_of draft.new)) }
     ensures phase { OnOk result (draft.new.phase ≤ draft.old.phase + 1) }
-    ensures fault { IfErr result (λ f. f ≢ LineFault.Memory → IsWrongLine IsWrong (said_of draft.old) line.now f) }
+    ensures fault { IfErr result (λ f. f ≢ LineFault.Memory → IsWrongLine IsWordsFault (said_of draft.old) line.now f) }
 {
     let Some((first, rest)) = next_word(line) else {
         return Ok(());

@@ -6,15 +6,15 @@ ghost use Rattle.kt_plan.specs.Limits.{Planned, IsPlan};
 ghost use Rattle.kt_plan.specs.Names.{AreNames};
 ghost use Rattle.kt_scenario.specs.declared.fault.ScenarioFault.{ScenarioFault as scenario_faults};
 ghost use Rattle.kt_scenario.specs.declared.fault.StepsFault.{StepsFault as steps_faults};
-ghost use Rattle.kt_scenario.specs.Scenario.{IsScenario, IsFirstFault};
+ghost use Rattle.kt_scenario.specs.Scenario.{IsScenario, IsFirstScenarioFault};
 ghost use Rattle.kt_scenario.specs.Steps.{AreSteps, IsFirstStepFault, most_steps};
 ghost use Rattle.kt_scenario.specs.Written.{IsStepOf, steps_text};
 
 /// A text says one plan at most, or it has one first fault; never both. Each plan that is said keeps to the limits.
 pub fn scenarios_mean_one_plan()
     ensures one_plan { (text : List ℕ) (plan other : Planned) → IsScenario text plan → IsScenario text other → plan ≡ other }
-    ensures no_plan { (text : List ℕ) (plan : Planned) (fault : scenario_faults) → IsFirstFault text fault → IsScenario text plan → ⊥ }
-    ensures one_fault { (text : List ℕ) (fault other : scenario_faults) → IsFirstFault text fault → IsFirstFault text other → fault ≡ other }
+    ensures no_plan { (text : List ℕ) (plan : Planned) (fault : scenario_faults) → IsFirstScenarioFault text fault → IsScenario text plan → ⊥ }
+    ensures one_fault { (text : List ℕ) (fault other : scenario_faults) → IsFirstScenarioFault text fault → IsFirstScenarioFault text other → fault ≡ other }
     ensures limits { (text : List ℕ) (plan : Planned) → IsScenario text plan → IsPlan plan }
 {}
 

@@ -4,7 +4,7 @@ ghost use Rattle.std.specs.Prelude.{◌≡◌, ◌≢◌, ◌≤◌, ◌^◌, le
 ghost use Rattle.kt_scenario.specs.Draft.{said_of};
 ghost use Rattle.kt_scenario.specs.Lines.{lines_of, Reads};
 ghost use Rattle.kt_scenario.specs.Said.{nothing_said};
-ghost use Rattle.kt_scenario.specs.Scenario.{IsScenario, IsFirstFault, Says, most_bytes};
+ghost use Rattle.kt_scenario.specs.Scenario.{IsScenario, IsFirstScenarioFault, Says, most_bytes};
 ghost use Rattle.kt_scenario.specs.declared.fault.ScenarioFault.TheVariants as fault;
 
 use crate::draft::{Draft, note_line};
@@ -24,7 +24,7 @@ const MOST_BYTES: usize = 1_048_576;
 /// Answers the first fault of the text: its length, at most 2^20 bytes, and then line by line.
 pub fn parse(alloc: Global, text: &[u8]) -> Result<Plan, ScenarioFault>
     ensures found { IfOk result (λ plan. IsScenario text.now plan) }
-    ensures fault { IfErr result (λ f. f ≢ ScenarioFault.Memory → IsFirstFault text.now f) }
+    ensures fault { IfErr result (λ f. f ≢ ScenarioFault.Memory → IsFirstScenarioFault text.now f) }
 {
     if text.len() > MOST_BYTES {
         return Err(ScenarioFault::TooLong);
@@ -41,7 +41,7 @@ pub fn parse(alloc: Global, text: &[u8]) -> Result<Plan, ScenarioFault>
 fn read_lines(alloc: Global, text: &[u8]) -> Result<Draft, ScenarioFault>
     requires { length text.now ≤ most_bytes }
     ensures found { IfOk result (λ draft. Reads Says nothing_said (lines_of text.now) (said_of draft)) }
-    ensures fault { IfErr result (λ f. f ≢ ScenarioFault.Memory → IsFirstFault text.now f) }
+    ensures fault { IfErr result (λ f. f ≢ ScenarioFault.Memory → IsFirstScenarioFault text.now f) }
 {
     let mut draft = Draft {
         names: Names::new(alloc),

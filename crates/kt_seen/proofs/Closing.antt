@@ -22,7 +22,7 @@ use Rattle.kt_closing.specs.OnceClosed.{has_to_restore}
 use Rattle.kt_seen.specs.Labelling.{Labelling, labelling_after, calls_of_closing, labelled_log}
 use Rattle.kt_seen.specs.Seen.{SeenPart, no_part, Seen, seen_parcels, label_noted, marks_of, part_of, process_seen, view}
 use Rattle.kt_seen.specs.ListChanges as changes
-use Rattle.kt_seen.specs.CallTests.{decision}
+use Rattle.kt_seen.specs.CallTests.{call_of_decision}
 use Rattle.kt_seen.specs.SeenClosing.{seen_closing_checkpoint, seen_closing_rollback, seen_closing}
 use Rattle.kt_seen.proofs.LabelNumbers.{Of, of_one, row_more, same_lt, same_le}
 use Rattle.kt_seen.proofs.Parcels.{NamesMessages, AreMessagesOf, parcels_append, parcels_length, parcels_nil, own_nil, own_append, own_where, parcels_with_decisions, low_where, where_all}
@@ -32,7 +32,7 @@ use Rattle.kt_seen.proofs.Named.{Heard, Tells, Sees}
 use Rattle.kt_seen.proofs.Channels.{row_all, names_with_decisions}
 use Rattle.kt_seen.proofs.SmallSteps.{part_in}
 
-speaks_decision : (calls : List Call) (commit : Bool) → Speaks calls → Speaks (calls ++ decision commit ∷ [])
+speaks_decision : (calls : List Call) (commit : Bool) → Speaks calls → Speaks (calls ++ call_of_decision commit ∷ [])
 speaks_decision calls true s = speaks_commit calls s
 speaks_decision calls false s = speaks_abort calls s
 

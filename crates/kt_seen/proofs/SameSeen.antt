@@ -7,7 +7,7 @@ use Rattle.std.proofs.lemmas.Grind.{fold-append}
 use Rattle.std.proofs.lemmas.List.{length-append}
 use Rattle.kt_spacetime.specs.declared.event.Event.{Event}
 use Rattle.kt_cuts.specs.Past.{at_one}
-use Rattle.kt_tables.specs.Calls.{Call, Parts}
+use Rattle.kt_tables.specs.Calls.{Call, PartsOfCalls}
 use Rattle.kt_tables.specs.Peers.{count_peers}
 use Rattle.kt_protocol.proofs.Updates.{is_same, is_other, at_one_here, at_one_other}
 use Rattle.kt_protocol.specs.Deciding.{none_of}
@@ -50,7 +50,7 @@ pub same_part : {r r' w w' : Bool} {o o' : Option ℕ} {a a' : ℕ → Bool} {n 
     part_with r o a n w y m ≡ part_with r' o' a' n' w' y' m'
 same_part e1 e2 e3 e4 e5 e6 e7 = λ i. record { is_rollback = e1 i; parent = e2 i; asked = λ q. e3 q i; awaited = e4 i; willing = e5 i; noted = λ q. e6 q i; marks = λ q. e7 q i }
 
-pub table_as : (calls : List Call) (p : Parts) (b : Bool) {f f' l l' x x' y y' z z' w w' : ℕ → ℕ} → ((q : ℕ) → f q ≡ f' q) → ((q : ℕ) → l q ≡ l' q) → ((q : ℕ) → x q ≡ x' q) → ((q : ℕ) → y q ≡ y' q) → ((q : ℕ) → z q ≡ z' q) → ((q : ℕ) → w q ≡ w' q) →
+pub table_as : (calls : List Call) (p : PartsOfCalls) (b : Bool) {f f' l l' x x' y y' z z' w w' : ℕ → ℕ} → ((q : ℕ) → f q ≡ f' q) → ((q : ℕ) → l q ≡ l' q) → ((q : ℕ) → x q ≡ x' q) → ((q : ℕ) → y q ≡ y' q) → ((q : ℕ) → z q ≡ z' q) → ((q : ℕ) → w q ≡ w' q) →
     Table calls p b f l x y z w → Table calls p b f' l' x' y' z' w'
 table_as calls p b e1 e2 e3 e4 e5 e6 t = record {
   is_open = t.is_open;

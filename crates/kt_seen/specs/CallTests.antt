@@ -27,6 +27,6 @@ unfoldable pub rollback_label : List Call → ℕ → ℕ
 rollback_label calls q = greatest (sents q (parts calls).before)
 
 -- the call when it closes a checkpoint
-abbrev pub decision : Bool → Call
-decision true = on_commit
-decision false = on_abort
+abbrev pub call_of_decision : Bool → Call
+call_of_decision true = on_commit
+call_of_decision false = on_abort

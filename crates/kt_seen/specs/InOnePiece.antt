@@ -10,7 +10,7 @@ use Rattle.kt_cuts.specs.Past.{at_one}
 use Rattle.kt_tables.specs.Calls.{on_rollback}
 use Rattle.kt_seen.specs.Seen.{no_part, SeenProcess, SeenLists, Seen}
 use Rattle.kt_seen.specs.ListChanges.{with_parcel, with_decisions, trims, low}
-use Rattle.kt_seen.specs.CallTests.{decision}
+use Rattle.kt_seen.specs.CallTests.{call_of_decision}
 
 -- process p becomes y, and these are the lists and the log
 abbrev pub with_process : Seen → ℕ → SeenProcess → SeenLists → SeenLists → SeenLists → List Event → Seen
@@ -18,7 +18,7 @@ with_process v p y channel held kept log = record v { states = at_one p y v.stat
 
 -- what a process becomes when it closes a checkpoint, and a rollback
 abbrev pub process_after_checkpoint : SeenProcess → Bool → SeenProcess
-process_after_checkpoint y c = record y { calls = y.calls ++ decision c ∷ []; inst = 0; part = no_part }
+process_after_checkpoint y c = record y { calls = y.calls ++ call_of_decision c ∷ []; inst = 0; part = no_part }
 
 abbrev pub process_after_rollback : SeenProcess → Bool → SeenProcess
 process_after_rollback y true = record y { calls = y.calls ++ on_rollback ∷ []; inst = 0; part = no_part; up = true }

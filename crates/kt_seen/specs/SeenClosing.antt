@@ -5,13 +5,13 @@ use Rattle.kt_cuts.specs.Past.{at_one}
 use Rattle.kt_tables.specs.Calls.{on_rollback}
 use Rattle.kt_seen.specs.Seen.{no_part, Seen}
 use Rattle.kt_seen.specs.ListChanges.{with_decisions, trims, low}
-use Rattle.kt_seen.specs.CallTests.{decision}
+use Rattle.kt_seen.specs.CallTests.{call_of_decision}
 use Rattle.kt_seen.specs.SeenReplies.{seen_answering}
 
 -- p closes checkpoint k and tells the decision to all that it asked: a commit forgets what was received before it
 abbrev pub seen_closing_checkpoint : Seen → ℕ → ℕ → Bool → Seen
 seen_closing_checkpoint v p k c = record v {
-  states = at_one p (record (v.states p) { calls = (v.states p).calls ++ decision c ∷ []; inst = 0; part = no_part }) v.states;
+  states = at_one p (record (v.states p) { calls = (v.states p).calls ++ call_of_decision c ∷ []; inst = 0; part = no_part }) v.states;
   channel = with_decisions v.channel p k c (v.states p).part.asked;
   kept = trims c p (v.states p).part.marks v.kept;
   log = v.log ++ Closed p k ∷ [];

@@ -28,15 +28,15 @@ IsCauseInRange Down = Unit {0}
 IsCauseInRange NoSave = Unit {0}
 
 -- every number of a row is in its range, a body within 64 bits
-abbrev pub IsInRange : Event → Type 0
-IsInRange (Sent p to body) = IsProcNo p × IsProcNo to × FitsSigned w64 body
-IsInRange (Received p from msg) = IsProcNo p × IsProcNo from × IsMsgNo msg
-IsInRange (Dropped p from msg) = IsProcNo p × IsProcNo from × IsMsgNo msg
-IsInRange (Began p inst kind) = IsProcNo p × IsInstNo inst
-IsInRange (Took p inst) = IsProcNo p × IsInstNo inst
-IsInRange (Ready p inst) = IsProcNo p × IsInstNo inst
-IsInRange (Unwilling p inst cause) = IsProcNo p × IsInstNo inst × IsCauseInRange cause
-IsInRange (Decided p inst commit) = IsProcNo p × IsInstNo inst
-IsInRange (Closed p inst) = IsProcNo p × IsInstNo inst
-IsInRange (Failed p) = IsProcNo p
-IsInRange (Refused p verb cause) = IsProcNo p × IsCauseInRange cause
+abbrev pub IsRowInRange : Event → Type 0
+IsRowInRange (Sent p to body) = IsProcNo p × IsProcNo to × FitsSigned w64 body
+IsRowInRange (Received p from msg) = IsProcNo p × IsProcNo from × IsMsgNo msg
+IsRowInRange (Dropped p from msg) = IsProcNo p × IsProcNo from × IsMsgNo msg
+IsRowInRange (Began p inst kind) = IsProcNo p × IsInstNo inst
+IsRowInRange (Took p inst) = IsProcNo p × IsInstNo inst
+IsRowInRange (Ready p inst) = IsProcNo p × IsInstNo inst
+IsRowInRange (Unwilling p inst cause) = IsProcNo p × IsInstNo inst × IsCauseInRange cause
+IsRowInRange (Decided p inst commit) = IsProcNo p × IsInstNo inst
+IsRowInRange (Closed p inst) = IsProcNo p × IsInstNo inst
+IsRowInRange (Failed p) = IsProcNo p
+IsRowInRange (Refused p verb cause) = IsProcNo p × IsCauseInRange cause

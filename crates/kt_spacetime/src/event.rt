@@ -3,7 +3,7 @@
 ghost use Rattle.std.specs.Prelude.{◌≡◌, FitsSigned};
 ghost use Rattle.std.specs.Int.{w64};
 ghost use Rattle.kt_base.specs.Numbers.{IsProcNo, IsInstNo};
-ghost use Rattle.kt_spacetime.specs.Events.{process_of, IsInRange, IsCauseInRange};
+ghost use Rattle.kt_spacetime.specs.Events.{process_of, IsRowInRange, IsCauseInRange};
 
 use kt_base::{Cause, InstNo, Kind, MsgNo, ProcNo, Verb};
 
@@ -97,7 +97,7 @@ impl Event {
 
     // Reads each number, so that the range which its type keeps is known.
     pub(crate) fn read_numbers(&self)
-        ensures { IsInRange self.now }
+        ensures { IsRowInRange self.now }
     {
         match *self {
             Event::Sent { p, to, body } => {

@@ -1,7 +1,7 @@
 //! The rows of a log in memory.
 
 ghost use Rattle.std.specs.Prelude.{◌≡◌, ◌<◌, ◌≤◌, ◌+◌, ◌^◌, [], ◌∷◌, ◌++◌, length, vec_len, vec_capacity, All, OnOk, OnErr};
-ghost use Rattle.kt_spacetime.specs.Events.{IsInRange};
+ghost use Rattle.kt_spacetime.specs.Events.{IsRowInRange};
 
 use crate::event::Event;
 use kt_base::Memory;
@@ -21,11 +21,11 @@ impl Model for SpaceTime {
     ghost Value = { Log };
 
     ghost use Rattle.std.specs.Prelude.{◌≤◌, ◌+◌, ◌^◌, All, length, vec_len, vec_capacity};
-    ghost use Rattle.kt_spacetime.specs.Logs.{IsKept};
+    ghost use Rattle.kt_spacetime.specs.Logs.{IsLogKept};
 
     ghost view = { λ l. record { rows = l.rows.items; spare = l.spare } };
 
-    ghost invariant = { λ l. IsKept l.rows l.spare };
+    ghost invariant = { λ l. IsLogKept l.rows l.spare };
 }
 
 impl SpaceTime {
@@ -43,7 +43,7 @@ impl SpaceTime {
     /// The rows in order.
     pub fn rows(&self) -> &[Event]
         ensures rows { result.now ≡ self.now.rows }
-        ensures in_range { All IsInRange result.now }
+        ensures in_range { All IsRowInRange result.now }
         ensures few { length result.now ≤ 2 ^ 24 }
     {
         self.rows.as_slice()

@@ -9,7 +9,7 @@ use Rattle.kt_base.specs.declared.words.Kind.{Kind}
 use Rattle.kt_fifo.specs.Channels.{at_pair}
 use Rattle.kt_fifo.specs.declared.parcels.Parcel.{Parcel}
 use Rattle.kt_fifo.specs.declared.parcels.Parcel.TheVariants.{Ask, Decide}
-use Rattle.kt_parts.specs.Asks.{IsRising}
+use Rattle.kt_parts.specs.Asks.{AreRisingAsks}
 use Rattle.kt_seen.specs.Seen.{SeenLists}
 use Rattle.kt_seen.specs.ListChanges.{with_parcel, with_decisions}
 use Rattle.kt_seen.specs.InOnePiece.{asks_to, with_asks}
@@ -166,7 +166,7 @@ count_asked n t b f p k kind asks l within e =
         ∙ (ap (λ (z : ℕ). bit b + z) (all xs (λ j m. h (suc j) (omega (arith, m)))) ∙ plus_one b (length xs))))
 
 -- asks to processes below n that stand by rising process are n at most
-pub asks_few : (n low : ℕ) (asks : List (ℕ × ℕ)) → IsRising asks → ((j : ℕ) → j < length asks → low ≤ (get_or asks j (0, 0)).0) → ((j : ℕ) → j < length asks → (get_or asks j (0, 0)).0 < n) → length asks ≤ n - low
+pub asks_few : (n low : ℕ) (asks : List (ℕ × ℕ)) → AreRisingAsks asks → ((j : ℕ) → j < length asks → low ≤ (get_or asks j (0, 0)).0) → ((j : ℕ) → j < length asks → (get_or asks j (0, 0)).0 < n) → length asks ≤ n - low
 asks_few n low [] rising above below = omega arith
 asks_few n low (x ∷ xs) rising above below =
     let r = asks_few n (x.0 + 1) xs (λ i j d a b. rising (suc i) (suc j) d (omega (arith, a)) (omega (arith, b))) (λ j m. let z = rising 0 (suc j) (0, 0) (omega arith) (omega (arith, m)) in omega (arith, z)) (λ j m. below (suc j) (omega (arith, m))) in

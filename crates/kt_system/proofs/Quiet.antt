@@ -6,8 +6,8 @@ use Rattle.std.proofs.lemmas.Bool.{and_from, true_from_ne_false}
 use Rattle.std.proofs.lemmas.List.Folds.{list_all_at}
 use Rattle.kt_process.specs.ProcessStates.{ProcessState, inst_of}
 use Rattle.kt_fifo.specs.Channels.{channel}
-use Rattle.kt_system.specs.Systems.{Whole, state_of, no_process, IsSound}
-use Rattle.kt_system.specs.Reads.{IsQuiet}
+use Rattle.kt_system.specs.Systems.{Whole, state_of, no_process, IsSoundSystem}
+use Rattle.kt_system.specs.Reads.{IsQuietSystem}
 use Rattle.kt_system.proofs.Takes.{empty_everywhere}
 
 abbrev pub is_outside : ProcessState → Bool
@@ -31,20 +31,20 @@ unfolding state_of
 outside_to w n h = all_from is_outside w.states no_process (λ i l. ap is_none (h i (omega arith)))
 
 -- what makes a system quiet, and what a quiet one has
-pub quiet_from : (a seen : Whole) → a ≡ seen → IsSound a → ((p q : ℕ) → channel a.channels p q ≡ []) → ((p q : ℕ) → channel a.held p q ≡ []) → list_all is_outside seen.states ≡ true → IsQuiet seen
-quiet_from a seen v s channels held = subst (λ (w : Whole). list_all is_outside w.states ≡ true → IsQuiet w) v (λ e. record {
+pub quiet_from : (a seen : Whole) → a ≡ seen → IsSoundSystem a → ((p q : ℕ) → channel a.channels p q ≡ []) → ((p q : ℕ) → channel a.held p q ≡ []) → list_all is_outside seen.states ≡ true → IsQuietSystem seen
+quiet_from a seen v s channels held = subst (λ (w : Whole). list_all is_outside w.states ≡ true → IsQuietSystem w) v (λ e. record {
   channels = λ p q _ _. channels p q;
   held = λ p q _ _. held p q;
   outside = outside_from a s.states e;
 })
 
-pub quiet_channels : (a seen : Whole) → a ≡ seen → IsSound a → IsQuiet seen → (p q : ℕ) → channel a.channels p q ≡ []
-quiet_channels a seen v s = subst (λ (w : Whole). IsQuiet w → (p q : ℕ) → channel a.channels p q ≡ []) v
+pub quiet_channels : (a seen : Whole) → a ≡ seen → IsSoundSystem a → IsQuietSystem seen → (p q : ℕ) → channel a.channels p q ≡ []
+quiet_channels a seen v s = subst (λ (w : Whole). IsQuietSystem w → (p q : ℕ) → channel a.channels p q ≡ []) v
     (λ h. empty_everywhere a.channels (λ p q b d. let n = s.channels in h.channels p q (omega arith) (omega arith)))
 
-pub quiet_held : (a seen : Whole) → a ≡ seen → IsSound a → IsQuiet seen → (p q : ℕ) → channel a.held p q ≡ []
-quiet_held a seen v s = subst (λ (w : Whole). IsQuiet w → (p q : ℕ) → channel a.held p q ≡ []) v
+pub quiet_held : (a seen : Whole) → a ≡ seen → IsSoundSystem a → IsQuietSystem seen → (p q : ℕ) → channel a.held p q ≡ []
+quiet_held a seen v s = subst (λ (w : Whole). IsQuietSystem w → (p q : ℕ) → channel a.held p q ≡ []) v
     (λ h. empty_everywhere a.held (λ p q b d. let n = s.held in h.held p q (omega arith) (omega arith)))
 
-pub quiet_outside : (a seen : Whole) → a ≡ seen → IsSound a → IsQuiet seen → list_all is_outside seen.states ≡ true
-quiet_outside a seen v s = subst (λ (w : Whole). IsQuiet w → list_all is_outside w.states ≡ true) v (λ h. outside_to a s.states h.outside)
+pub quiet_outside : (a seen : Whole) → a ≡ seen → IsSoundSystem a → IsQuietSystem seen → list_all is_outside seen.states ≡ true
+quiet_outside a seen v s = subst (λ (w : Whole). IsQuietSystem w → list_all is_outside w.states ≡ true) v (λ h. outside_to a s.states h.outside)

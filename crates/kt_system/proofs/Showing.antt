@@ -13,7 +13,7 @@ use Rattle.kt_seen.specs.Seen.{SeenProcess, SeenLists, Seen}
 use Rattle.kt_seen.specs.ListChanges.{with_parcel, with_rest}
 use Rattle.kt_process.specs.ProcessStates.{ProcessState}
 use Rattle.kt_process.specs.Shown.{IsSeenAs}
-use Rattle.kt_system.specs.Systems.{Whole, state_of, no_process, IsSound, IsSameSystem}
+use Rattle.kt_system.specs.Systems.{Whole, state_of, no_process, IsSoundSystem, IsSameSystem}
 use Rattle.kt_system.specs.Shown.{ShowsState, IsTurned, turned_to, with_row}
 use Rattle.kt_system.proofs.Turns.{state_at, tables_at}
 
@@ -108,20 +108,20 @@ shows_log a b seen v row e s states channels held kept begun rows h =
     shows_parts a b seen v v.channel v.held v.kept (v.log ++ row ∷ []) v.begun e s states (ap channel channels ∙ i.channels) (ap channel held ∙ i.held) (ap channel kept ∙ i.kept) (rows ∙ ap (λ (l : List Event). l ++ row ∷ []) i.log) (begun ∙ i.begun) h
 
 -- who stands at a place, in the machine
-pub stood : (a seen : Whole) (p i : ℕ) (x : ProcessState) (v : Seen) → a ≡ seen → IsSound a → p < seen.size → i ≡ p → x ≡ get_or a.states i x → ShowsState seen v → IsSeenAs x (v.states p)
+pub stood : (a seen : Whole) (p i : ℕ) (x : ProcessState) (v : Seen) → a ≡ seen → IsSoundSystem a → p < seen.size → i ≡ p → x ≡ get_or a.states i x → ShowsState seen v → IsSeenAs x (v.states p)
 stood a seen p i x v e sound b j was h = subst (λ (z : ProcessState). IsSeenAs z (v.states p)) (sym (state_at a seen p i x e sound b j was)) (h.states p b)
 
-pub placed : (a b seen : Whole) (p i : ℕ) (y : ProcessState) → a ≡ seen → IsSound a → p < seen.size → i ≡ p → b.states ≡ set a.states i y → state_of b p ≡ y
+pub placed : (a b seen : Whole) (p i : ℕ) (y : ProcessState) → a ≡ seen → IsSoundSystem a → p < seen.size → i ≡ p → b.states ≡ set a.states i y → state_of b p ≡ y
 unfolding state_of
 placed a b seen p i y e sound l j states =
     ap (λ (z : List ProcessState). get_or z p no_process) states
     ∙ (ap (λ (z : ℕ). get_or (set a.states z y) p no_process) j ∙ get_or-set_same a.states p y no_process (let m = ap (λ (w : Whole). w.size) e in let z = sound.states in omega arith))
 
 -- what is so of a process before and after its turn, in the system
-pub in_system : (P : ProcessState → ProcessState → Type 0) (a b seen : Whole) (p i : ℕ) (x y : ProcessState) → a ≡ seen → IsSound a → p < seen.size → i ≡ p → x ≡ get_or a.states i x → b.states ≡ set a.states i y → P x y → P (state_of seen p) (state_of b p)
+pub in_system : (P : ProcessState → ProcessState → Type 0) (a b seen : Whole) (p i : ℕ) (x y : ProcessState) → a ≡ seen → IsSoundSystem a → p < seen.size → i ≡ p → x ≡ get_or a.states i x → b.states ≡ set a.states i y → P x y → P (state_of seen p) (state_of b p)
 in_system P a b seen p i x y e sound l j was states h =
     subst (λ (z : ProcessState). P z (state_of b p)) (state_at a seen p i x e sound l j was) (subst (λ (z : ProcessState). P x z) (sym (placed a b seen p i y e sound l j states)) h)
 
 -- as many processes as its tables have
-pub sized : (a seen : Whole) (p i : ℕ) (x : ProcessState) (v : Seen) → a ≡ seen → IsSound a → p < seen.size → i ≡ p → x ≡ get_or a.states i x → ShowsState seen v → x.tables.processes ≡ v.processes
+pub sized : (a seen : Whole) (p i : ℕ) (x : ProcessState) (v : Seen) → a ≡ seen → IsSoundSystem a → p < seen.size → i ≡ p → x ≡ get_or a.states i x → ShowsState seen v → x.tables.processes ≡ v.processes
 sized a seen p i x v e sound b j was h = ap (λ (z : ProcessState). z.tables.processes) (state_at a seen p i x e sound b j was) ∙ (tables_at a seen p e sound b ∙ h.processes)

@@ -10,7 +10,7 @@ use Rattle.kt_fifo.specs.declared.parcels.Parcel.{Parcel}
 use Rattle.kt_process.specs.ProcessStates.{is_ready}
 use Rattle.kt_system.specs.Systems.{Whole, state_of}
 use Rattle.kt_system.specs.Reads.{next_parcel, can_take, IsNextTake, HasNoTake}
-use Rattle.kt_system.specs.Takes.{is_sent, is_held, WithSome, IsFirst, lesser}
+use Rattle.kt_system.specs.Takes.{is_sent, is_held, WithSome, IsFirstNumber, lesser}
 
 both_tests : (a b : Bool) (x : Queue) → has_parcel (if a && b then x else no_queue).parcels ≡ true → (a ≡ true) × (b ≡ true)
 both_tests true true x e = (refl, refl)
@@ -56,7 +56,7 @@ pub joined_within : (n q sent held all : ℕ) → (has sent q ≡ true → q < n
 joined_within n q sent held all f g e member = elim (or_cases (has sent q) (has held q) (sym e ∙ member)) [ inl s ↦ f s | inr h ↦ g h ]
 
 -- the lesser of the least with one property and the least with another is the least with either
-first_of_either : (P Q R : ℕ → Type 0) (a b : Option ℕ) → ((n : ℕ) → P n → R n) → ((n : ℕ) → Q n → R n) → ((n : ℕ) → R n → P n ⊎ Q n) → IsFirst P a → IsFirst Q b → IsFirst R (lesser a b)
+first_of_either : (P Q R : ℕ → Type 0) (a b : Option ℕ) → ((n : ℕ) → P n → R n) → ((n : ℕ) → Q n → R n) → ((n : ℕ) → R n → P n ⊎ Q n) → IsFirstNumber P a → IsFirstNumber Q b → IsFirstNumber R (lesser a b)
 first_of_either P Q R None None f g h x y = λ n r. elim (h n r) [ inl p ↦ x n p | inr q ↦ y n q ]
 first_of_either P Q R None (Some n) f g h x y = (g n y.0, λ k l r. elim (h k r) [ inl p ↦ x k p | inr q ↦ y.1 k l q ])
 first_of_either P Q R (Some m) None f g h x y = (f m x.0, λ k l r. elim (h k r) [ inl p ↦ x.1 k l p | inr q ↦ y k q ])
@@ -77,12 +77,12 @@ if_sent w at from e = can_take_either w at from ∙ or_left _ _ e
 if_held : (w : Whole) (at from : ℕ) → is_held w at from ≡ true → can_take w at from ≡ true
 if_held w at from e = can_take_either w at from ∙ or_right _ _ e
 
-pub first_taker : (w : Whole) (a b : Option ℕ) → IsFirst (WithSome (is_sent w)) a → IsFirst (WithSome (is_held w)) b → IsFirst (WithSome (can_take w)) (lesser a b)
+pub first_taker : (w : Whole) (a b : Option ℕ) → IsFirstNumber (WithSome (is_sent w)) a → IsFirstNumber (WithSome (is_held w)) b → IsFirstNumber (WithSome (can_take w)) (lesser a b)
 first_taker w a b x y = first_of_either (WithSome (is_sent w)) (WithSome (is_held w)) (WithSome (can_take w)) a b
     (λ n s. (s.0, if_sent w n s.0 s.1)) (λ n s. (s.0, if_held w n s.0 s.1))
     (λ n s. elim (either w n s.0 s.1) [ inl e ↦ inl (s.0, e) | inr e ↦ inr (s.0, e) ]) x y
 
-pub first_sender : (w : Whole) (at : ℕ) (a b : Option ℕ) → IsFirst (λ from. is_sent w at from ≡ true) a → IsFirst (λ from. is_held w at from ≡ true) b → IsFirst (λ from. can_take w at from ≡ true) (lesser a b)
+pub first_sender : (w : Whole) (at : ℕ) (a b : Option ℕ) → IsFirstNumber (λ from. is_sent w at from ≡ true) a → IsFirstNumber (λ from. is_held w at from ≡ true) b → IsFirstNumber (λ from. can_take w at from ≡ true) (lesser a b)
 first_sender w at a b x y = first_of_either (λ from. is_sent w at from ≡ true) (λ from. is_held w at from ≡ true) (λ from. can_take w at from ≡ true) a b
     (λ n s. if_sent w at n s) (λ n s. if_held w at n s) (λ n s. either w at n s) x y
 
@@ -93,19 +93,19 @@ lesser_within n (Some p) (Some q) x y = omega arith
 
 -- the first of a set whose members pass a test
 pub first_of_set : (test : ℕ → Bool) (set : ℕ) (r : Option ℕ) → ((q : ℕ) → has set q ≡ test q) → IfSome r (λ p. has set p ≡ true) → IfSome r (λ p. (q : ℕ) → q < p → has set q ≡ false) → IfNone r ((q : ℕ) → has set q ≡ false) →
-    IsFirst (λ q. test q ≡ true) r
+    IsFirstNumber (λ q. test q ≡ true) r
 first_of_set test set None same m l n = λ q e. cc (same q, n q)
 first_of_set test set (Some p) same m l n = (sym (same p) ∙ m, λ q k e. cc (same q, l q k))
 
 receiver_first : (w : Whole) (set : ℕ) (r : Option ℕ) → ((to : ℕ) → has set to ≡ true → (from : ℕ) × (has_parcel (channel w.channels from to) ≡ true)) → ((from to : ℕ) → has set to ≡ false → channel w.channels from to ≡ []) →
-    IfSome r (λ p. has set p ≡ true) → IfSome r (λ p. (q : ℕ) → q < p → has set q ≡ false) → IfNone r ((q : ℕ) → has set q ≡ false) → IsFirst (WithSome (is_sent w)) r
+    IfSome r (λ p. has set p ≡ true) → IfSome r (λ p. (q : ℕ) → q < p → has set q ≡ false) → IfNone r ((q : ℕ) → has set q ≡ false) → IsFirstNumber (WithSome (is_sent w)) r
 receiver_first w set None some none m l n = λ q s. cc (s.1, ap has_parcel (none s.0 q (n q)))
 receiver_first w set (Some p) some none m l n = (some p m, λ q k s. cc (s.1, ap has_parcel (none s.0 q (l q k))))
 
 -- the first of those to whom a parcel is in a channel
 pub first_receiver : (w seen : Whole) (set : ℕ) (r : Option ℕ) → w ≡ seen → ((to : ℕ) → has set to ≡ true → (from : ℕ) × (has_parcel (channel w.channels from to) ≡ true)) → ((from to : ℕ) → has set to ≡ false → channel w.channels from to ≡ []) →
-    IfSome r (λ p. has set p ≡ true) → IfSome r (λ p. (q : ℕ) → q < p → has set q ≡ false) → IfNone r ((q : ℕ) → has set q ≡ false) → IsFirst (WithSome (is_sent seen)) r
-first_receiver w seen set r v some none m l n = subst (λ (s : Whole). IsFirst (WithSome (is_sent s)) r) v (receiver_first w set r some none m l n)
+    IfSome r (λ p. has set p ≡ true) → IfSome r (λ p. (q : ℕ) → q < p → has set q ≡ false) → IfNone r ((q : ℕ) → has set q ≡ false) → IsFirstNumber (WithSome (is_sent seen)) r
+first_receiver w seen set r v some none m l n = subst (λ (s : Whole). IsFirstNumber (WithSome (is_sent s)) r) v (receiver_first w set r some none m l n)
 
 pub held_for : (w : Whole) (at from : ℕ) → is_ready (state_of w at).side ≡ false → has_parcel (channel w.held from at) ≡ true → is_held w at from ≡ true
 held_for w at from r e = and_from _ _ (ap not r) e
@@ -117,7 +117,7 @@ pub not_held_if_ready : (w : Whole) (at : ℕ) → is_ready (state_of w at).side
 not_held_if_ready w at r s = let t = and_parts (not (is_ready (state_of w at).side)) (has_parcel (channel w.held s.0 at)) s.1 in cc (t.0, ap not r)
 
 -- the least process that can take a parcel, with the least from which it can
-pub next_take_is : (w : Whole) (at from : ℕ) → at < w.size → from < w.size → IsFirst (WithSome (can_take w)) (Some at) → IsFirst (λ q. can_take w at q ≡ true) (Some from) → IsNextTake w at from
+pub next_take_is : (w : Whole) (at from : ℕ) → at < w.size → from < w.size → IsFirstNumber (WithSome (can_take w)) (Some at) → IsFirstNumber (λ q. can_take w at q ≡ true) (Some from) → IsNextTake w at from
 next_take_is w at from a b x y = record {
   taker = a;
   sender = b;
@@ -134,7 +134,7 @@ next_take_is w at from a b x y = record {
   ];
 }
 
-pub no_take_is : (w : Whole) → IsFirst (WithSome (can_take w)) None → HasNoTake w
+pub no_take_is : (w : Whole) → IsFirstNumber (WithSome (can_take w)) None → HasNoTake w
 no_take_is w x = record { none = λ at from _ _. false_from_ne_true _ (λ e. x at (from, e)) }
 
 -- where no parcel is in the channel or held, none can be taken

@@ -37,7 +37,7 @@ abbrev pub would_save : Whole → ℕ → ℕ → Bool
 would_save w at from = option_map_or (saves_by (state_of w at) from) (next_parcel w at from) false
 
 -- no parcel is in a channel or held, and no process in an instance
-pub record IsQuiet (w : Whole) : Type 0 where
+pub record IsQuietSystem (w : Whole) : Type 0 where
   pub channels : (p q : ℕ) → p < w.size → q < w.size → channel w.channels p q ≡ []
   pub held : (p q : ℕ) → p < w.size → q < w.size → channel w.held p q ≡ []
   pub outside : (p : ℕ) → p < w.size → inst_of (state_of w p).side ≡ None

@@ -5,11 +5,11 @@ use Rattle.kt_spacetime.specs.Logs.{Log}
 use Rattle.kt_spacetime.specs.declared.event.Event.{Event}
 use Rattle.kt_tables.specs.Peers.{LabelTable}
 use Rattle.kt_tables.specs.States.{State}
-use Rattle.kt_parts.specs.Asks.{IsRising}
+use Rattle.kt_parts.specs.Asks.{AreRisingAsks}
 use Rattle.kt_parts.specs.declared.actions.Action.{Action}
 use Rattle.kt_parts.specs.declared.actions.Action.TheVariants.{Join, Reply, Settle}
 use Rattle.kt_parts.specs.declared.actions.Then.{Then}
-use Rattle.kt_parts.specs.declared.actions.Then.TheVariants.{Answer, Commit}
+use Rattle.kt_parts.specs.declared.actions.Then.TheVariants.{AskAnswer, Commit}
 use Rattle.kt_process.specs.ProcessStates.{ProcessState, part_of_side, is_ready, asked_of, IsNumbered}
 use Rattle.kt_base.specs.Sets.{has}
 use Rattle.kt_base.specs.declared.words.Kind.{Kind}
@@ -49,7 +49,7 @@ pub record HasBack (w : Whole) (p : ℕ) : Type 0 where
   pub back : (q : ℕ) → q < w.size → length (channel w.kept q p) ≤ spare_of w.held q p
 
 -- its lists and tables are of all processes, and the instances that these are in have numbers from 1 on
-pub record IsSound (w : Whole) : Type 0 where
+pub record IsSoundSystem (w : Whole) : Type 0 where
   pub few : w.size ≤ 64
   pub states : length w.states ≡ w.size
   pub channels : w.channels.processes ≡ w.size
@@ -62,10 +62,10 @@ pub record IsSound (w : Whole) : Type 0 where
 -- who has joined may send these asks and go on so
 pub record CanJoin (w : Whole) (p : ℕ) (asks : List (ℕ × ℕ)) (goes : Then) : Type 0 where
   pub within : (j : ℕ) → j < length asks → (slice_index_or asks j (0, 0)).0 < w.size
-  pub rising : IsRising asks
+  pub rising : AreRisingAsks asks
   pub asks_fit : (j : ℕ) → j < length asks → 2 ≤ room_to w p (slice_index_or asks j (0, 0)).0
   pub parcels : (q : ℕ) → asked_of (state_of w p).side q ≡ true → 2 ≤ room_to w p q
-  pub answers : (to : ℕ) → goes ≡ Answer to → (to < w.size) × (2 ≤ room_to w p to)
+  pub answers : (to : ℕ) → goes ≡ AskAnswer to → (to < w.size) × (2 ≤ room_to w p to)
   pub back : goes ≡ Commit → is_ready (state_of w p).side ≡ true → HasBack w p
 
 -- who closes its instance may tell the decision

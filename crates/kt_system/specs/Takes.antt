@@ -17,9 +17,9 @@ abbrev pub WithSome : (ℕ → ℕ → Bool) → ℕ → Type 0
 WithSome test at = (from : ℕ) × (test at from ≡ true)
 
 -- the least number with a property, if any has it
-abbrev pub IsFirst : (ℕ → Type 0) → Option ℕ → Type 0
-IsFirst P None = (n : ℕ) → ¬ P n
-IsFirst P (Some m) = P m × ((n : ℕ) → n < m → ¬ P n)
+abbrev pub IsFirstNumber : (ℕ → Type 0) → Option ℕ → Type 0
+IsFirstNumber P None = (n : ℕ) → ¬ P n
+IsFirstNumber P (Some m) = P m × ((n : ℕ) → n < m → ¬ P n)
 
 -- the lesser of two numbers, where both are there
 abbrev pub lesser : Option ℕ → Option ℕ → Option ℕ

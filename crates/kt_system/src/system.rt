@@ -47,13 +47,13 @@ pub struct System {
 }
 
 impl Model for System {
-    ghost use Rattle.kt_system.specs.Systems.{Whole, IsSound};
+    ghost use Rattle.kt_system.specs.Systems.{Whole, IsSoundSystem};
 
     ghost Value = { Whole };
 
     ghost view = { λ s. record { size = s.size; states = s.processes.items; channels = s.channels; held = s.held; kept = s.kept; rows = s.log; begun = s.begun; put = s.tallies.items } };
 
-    ghost invariant = { λ s. IsSound (record { size = s.size; states = s.processes.items; channels = s.channels; held = s.held; kept = s.kept; rows = s.log; begun = s.begun; put = s.tallies.items }) };
+    ghost invariant = { λ s. IsSoundSystem (record { size = s.size; states = s.processes.items; channels = s.channels; held = s.held; kept = s.kept; rows = s.log; begun = s.begun; put = s.tallies.items }) };
 }
 
 impl System {

@@ -4,8 +4,8 @@ use Rattle.std.proofs.Common.{◌≡◌, ℕ, Bool, true, false, List, [], ◌�
 use Rattle.std.proofs.lemmas.Bool.Decides.{nat_tests}
 use Rattle.std.proofs.lemmas.Grind.{fold-append}
 use Rattle.std.proofs.lemmas.List.{append-nil}
-use Rattle.kt_tables.specs.Labels.{Rises}
-use Rattle.kt_tables.specs.Calls.{Call, sent, received, on_tentative, on_commit, on_abort, on_rollback, Parts, no_parts, parts_after, parts, sents, receiveds, Speaks}
+use Rattle.kt_tables.specs.Labels.{LabelsRise}
+use Rattle.kt_tables.specs.Calls.{Call, sent, received, on_tentative, on_commit, on_abort, on_rollback, PartsOfCalls, no_parts, parts_after, parts, sents, receiveds, Speaks}
 use Rattle.kt_tables.proofs.LabelLists.{Rises_end}
 
 pub parts_push : (calls : List Call) (c : Call) → parts (calls ++ c ∷ []) ≡ parts_after (parts calls) c
@@ -38,7 +38,7 @@ by_calls P none more calls = from [] calls none
     from front (c ∷ rest) h = subst P (append_assoc front (c ∷ []) rest) (from (front ++ c ∷ []) rest (more front c h))
 
 -- where the parts stand in the list
-pub record Ends (calls : List Call) (p : Parts) : Type 0 where
+pub record Ends (calls : List Call) (p : PartsOfCalls) : Type 0 where
   pub whole : p.calls ≡ calls
   pub none_aside : p.is_open ≡ false → p.aside ≡ []
   pub last : (front : List Call) × (p.since_rollback ≡ front ++ (p.aside ++ p.since))
@@ -55,7 +55,7 @@ rolled_more calls front rest c e = ap (λ (l : List Call). l ++ c ∷ []) e ∙ 
 opened_more : (calls cut since : List Call) (c : Call) → calls ≡ cut ++ on_tentative ∷ since → calls ++ c ∷ [] ≡ cut ++ on_tentative ∷ (since ++ c ∷ [])
 opened_more calls cut since c e = ap (λ (l : List Call). l ++ c ∷ []) e ∙ append_assoc cut (on_tentative ∷ since) (c ∷ [])
 
-ends_after : (calls : List Call) (p : Parts) (c : Call) → Ends calls p → Ends (calls ++ c ∷ []) (parts_after p c)
+ends_after : (calls : List Call) (p : PartsOfCalls) (c : Call) → Ends calls p → Ends (calls ++ c ∷ []) (parts_after p c)
 ends_after calls p (sent q l) h = record {
   whole = ap (λ (x : List Call). x ++ sent q l ∷ []) h.whole;
   none_aside = h.none_aside;
@@ -108,13 +108,13 @@ ends_after calls p on_rollback h = record {
 pub ends : (calls : List Call) → Ends calls (parts calls)
 ends calls = by_calls (λ calls. Ends calls (parts calls))
     (record { whole = refl; none_aside = λ o. refl; last = ([], refl); rolled = ([], refl); opened = λ o. absurd (cc (o)) })
-    (λ calls c h. subst (λ (p : Parts). Ends (calls ++ c ∷ []) p) (sym (parts_push calls c)) (ends_after calls (parts calls) c h)) calls
+    (λ calls c h. subst (λ (p : PartsOfCalls). Ends (calls ++ c ∷ []) p) (sym (parts_push calls c)) (ends_after calls (parts calls) c h)) calls
 
 -- nothing is sent while a tentative checkpoint is open
 abbrev pub Apart : List Call → Type 0
 Apart calls = (front rest : List Call) (q l : ℕ) → calls ≡ front ++ sent q l ∷ rest → (parts front).is_open ≡ false
 
-abbrev pub Quiet : Parts → Type 0
+abbrev pub Quiet : PartsOfCalls → Type 0
 Quiet p = p.is_open ≡ true → (q : ℕ) → sents q p.since ≡ []
 
 apart_front : (calls : List Call) (c : Call) → Apart (calls ++ c ∷ []) → Apart calls
@@ -124,7 +124,7 @@ apart_front calls c a front rest q l e =
 nothing_more : (q : ℕ) (since : List Call) (c : Call) → sents q since ≡ [] → sents q (c ∷ []) ≡ [] → sents q (since ++ c ∷ []) ≡ []
 nothing_more q since c e f = rw (sents-append q since (c ∷ []), e, f) refl
 
-quiet_after : (p : Parts) (c : Call) → ((q l : ℕ) → c ≡ sent q l → p.is_open ≡ false) → Quiet p → Quiet (parts_after p c)
+quiet_after : (p : PartsOfCalls) (c : Call) → ((q l : ℕ) → c ≡ sent q l → p.is_open ≡ false) → Quiet p → Quiet (parts_after p c)
 quiet_after p (sent q l) a h = λ o r. let n = a q l refl in absurd (cc (n, o))
 quiet_after p (received q l) a h = λ o r. nothing_more r p.since (received q l) (h o r) refl
 quiet_after p on_tentative a h = λ o r. refl
@@ -147,31 +147,31 @@ since_ends calls =
     (f ++ (g ++ p.aside), h.rolled.1 ∙ (ap (λ (l : List Call). f ++ l) (h.last.1 ∙ sym (append_assoc g p.aside p.since)) ∙ sym (append_assoc f (g ++ p.aside) p.since)))
 
 -- the labels sent in *since* rise
-pub sent_rises : (calls : List Call) → Speaks calls → (q : ℕ) → Rises 0 (sents q (parts calls).since)
+pub sent_rises : (calls : List Call) → Speaks calls → (q : ℕ) → LabelsRise 0 (sents q (parts calls).since)
 sent_rises calls s q =
     let h = since_ends calls in
     Rises_end (sents q h.0) (sents q (parts calls).since) 0
-    (subst (λ (l : List ℕ). Rises 0 l) (sents-append q h.0 (parts calls).since) (subst (λ (l : List Call). Rises 0 (sents q l)) h.1 (s.sent_rise q)))
+    (subst (λ (l : List ℕ). LabelsRise 0 l) (sents-append q h.0 (parts calls).since) (subst (λ (l : List Call). LabelsRise 0 (sents q l)) h.1 (s.sent_rise q)))
 
 -- so do the labels received in *since*
-pub received_rises : (calls : List Call) → Speaks calls → (q : ℕ) → Rises 0 (receiveds q (parts calls).since)
+pub received_rises : (calls : List Call) → Speaks calls → (q : ℕ) → LabelsRise 0 (receiveds q (parts calls).since)
 received_rises calls s q =
     let h = ends calls in
     let p = parts calls in
     let f = h.last.0 ++ p.aside in
     let e : p.since_rollback ≡ f ++ p.since = h.last.1 ∙ sym (append_assoc h.last.0 p.aside p.since) in
     Rises_end (receiveds q f) (receiveds q p.since) 0
-    (subst (λ (l : List ℕ). Rises 0 l) (receiveds-append q f p.since) (subst (λ (l : List Call). Rises 0 (receiveds q l)) e (s.received_rise q)))
+    (subst (λ (l : List ℕ). LabelsRise 0 l) (receiveds-append q f p.since) (subst (λ (l : List Call). LabelsRise 0 (receiveds q l)) e (s.received_rise q)))
 
 -- *before* is a beginning of the list, and so is the list cut before an open tentative checkpoint
-record Begins (calls : List Call) (p : Parts) : Type 0 where
+record Begins (calls : List Call) (p : PartsOfCalls) : Type 0 where
   before : (rest : List Call) × (calls ≡ p.before ++ rest)
   cut : p.is_open ≡ true → (rest : List Call) × (calls ≡ p.cut ++ rest)
 
 begins_more : (calls front : List Call) (c : Call) → (rest : List Call) × (calls ≡ front ++ rest) → (rest : List Call) × (calls ++ c ∷ [] ≡ front ++ rest)
 begins_more calls front c h = (h.0 ++ c ∷ [], rolled_more calls front h.0 c h.1)
 
-begins_after : (calls : List Call) (p : Parts) (c : Call) → p.calls ≡ calls → Begins calls p → Begins (calls ++ c ∷ []) (parts_after p c)
+begins_after : (calls : List Call) (p : PartsOfCalls) (c : Call) → p.calls ≡ calls → Begins calls p → Begins (calls ++ c ∷ []) (parts_after p c)
 begins_after calls p (sent q l) e h = record { before = begins_more calls p.before (sent q l) h.before; cut = λ o. begins_more calls p.cut (sent q l) (h.cut o) }
 begins_after calls p (received q l) e h = record { before = begins_more calls p.before (received q l) h.before; cut = λ o. begins_more calls p.cut (received q l) (h.cut o) }
 begins_after calls p on_tentative e h = record {
@@ -191,13 +191,13 @@ begins_after calls p on_rollback e h = record { before = begins_more calls p.bef
 
 begins : (calls : List Call) → Begins calls (parts calls)
 begins calls = by_calls (λ calls. Begins calls (parts calls)) (record { before = ([], refl); cut = λ o. absurd (cc (o)) })
-    (λ calls c h. subst (λ (p : Parts). Begins (calls ++ c ∷ []) p) (sym (parts_push calls c)) (begins_after calls (parts calls) c (ends calls).whole h)) calls
+    (λ calls c h. subst (λ (p : PartsOfCalls). Begins (calls ++ c ∷ []) p) (sym (parts_push calls c)) (begins_after calls (parts calls) c (ends calls).whole h)) calls
 
 pub before_begins : (calls : List Call) → (rest : List Call) × (calls ≡ (parts calls).before ++ rest)
 before_begins calls = (begins calls).before
 
 -- what is kept aside is *since* of the list cut before the tentative checkpoint
-abbrev pub IsAside : Parts → Type 0
+abbrev pub IsAside : PartsOfCalls → Type 0
 IsAside p = p.is_open ≡ true → p.aside ≡ (parts p.cut).since ++ on_tentative ∷ []
 
 aside_after : (calls : List Call) (c : Call) → IsAside (parts calls) → IsAside (parts_after (parts calls) c)

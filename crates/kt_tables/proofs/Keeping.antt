@@ -5,11 +5,11 @@ use Rattle.std.proofs.Common.{◌≡◌, ◌≢◌, ℕ, ◌≤◌, ◌<◌, max
 use Rattle.std.proofs.lemmas.Bool.{cases_eq}
 use Rattle.std.proofs.lemmas.Bool.Decides.{nat_tests}
 use Rattle.std.proofs.lemmas.List.{append-nil}
-use Rattle.kt_tables.specs.Labels.{has_label, least, greatest, Rises}
-use Rattle.kt_tables.specs.Calls.{Call, sent, received, on_tentative, on_commit, on_abort, on_rollback, Parts, parts_after, parts, sents, receiveds, Speaks}
+use Rattle.kt_tables.specs.Labels.{has_label, least, greatest, LabelsRise}
+use Rattle.kt_tables.specs.Calls.{Call, sent, received, on_tentative, on_commit, on_abort, on_rollback, PartsOfCalls, parts_after, parts, sents, receiveds, Speaks}
 use Rattle.kt_tables.specs.Peers.{LabelTable, label_of, no_label, at_peer, has_one, IsCohort}
 use Rattle.kt_tables.specs.States.{State}
-use Rattle.kt_tables.specs.Standing.{Keeps, StandsFor}
+use Rattle.kt_tables.specs.Standing.{KeepsLabels, TablesStandFor}
 use Rattle.kt_tables.proofs.LabelLists.{least_push, has_least, has_greatest, greatest-append, least_decides, greatest_decides}
 use Rattle.kt_tables.proofs.CallParts.{parts_push, sents-append, receiveds-append, ends, quiet, sent_rises, received_rises}
 
@@ -66,12 +66,12 @@ greatest_received f p l q calls h b = elim (cases_eq q p) [
     above x a = omega arith
 
 -- the least label, after one more that is greater than all
-least_sent : (t : LabelTable) (p l q : ℕ) (calls : List Call) → ((r : ℕ) → label_of t r ≡ least (sents r calls)) → Rises 0 (sents p (calls ++ sent p l ∷ [])) → Rises 0 (sents p calls) →
+least_sent : (t : LabelTable) (p l q : ℕ) (calls : List Call) → ((r : ℕ) → label_of t r ≡ least (sents r calls)) → LabelsRise 0 (sents p (calls ++ sent p l ∷ [])) → LabelsRise 0 (sents p calls) →
     at_peer p (if has_one t p then label_of t p else l) (label_of t) q ≡ least (sents q (calls ++ sent p l ∷ []))
 least_sent t p l q calls h rise old = elim (cases_eq q p) [
   | inl same ↦
       let e : sents p (calls ++ sent p l ∷ []) ≡ sents p calls ++ l ∷ [] = sents-append p calls (sent p l ∷ []) ∙ ap (λ (x : List ℕ). sents p calls ++ x) (sent_here p l) in
-      let k = least_push (sents p calls) l 0 (subst (λ (x : List ℕ). Rises 0 x) e rise) in
+      let k = least_push (sents p calls) l 0 (subst (λ (x : List ℕ). LabelsRise 0 x) e rise) in
       let one : has_one t p ≡ has_label (sents p calls) = ap (λ (x : ℕ). not (x == 0)) (h p) ∙ has_least (sents p calls) 0 old in
       let m : (if has_one t p then label_of t p else l) ≡ (if has_label (sents p calls) then least (sents p calls) else l) = ap (λ (b : Bool). if b then label_of t p else l) one ∙ ap (λ (x : ℕ). if has_label (sents p calls) then x else l) (h p) in
       subst (λ (r : ℕ). at_peer p (if has_one t p then label_of t p else l) (label_of t) r ≡ least (sents r (calls ++ sent p l ∷ []))) (sym same)
@@ -81,7 +81,7 @@ least_sent t p l q calls h rise old = elim (cases_eq q p) [
 
 -- tables that no call was made on
 pub keeps_nothing : (t : State) → t.is_tentative ≡ false → label_of t.last_rcvd ≡ no_label → label_of t.first_sent ≡ no_label → label_of t.kept_rcvd ≡ no_label → label_of t.kept_sent ≡ no_label →
-    label_of t.last_sent ≡ no_label → label_of t.last_out ≡ no_label → StandsFor t []
+    label_of t.last_sent ≡ no_label → label_of t.last_out ≡ no_label → TablesStandFor t []
 keeps_nothing t o a b c d e f = record {
   speaks = record {
     sent_rise = λ q. tt;
@@ -107,17 +107,17 @@ keeps_nothing t o a b c d e f = record {
     none (x ∷ front) rest c e = absurd (cc (e))
 
 -- the list that a table stands for, one call later
-pub later_list : (u : State) (calls : List Call) (c : Call) → Speaks (calls ++ c ∷ []) → Keeps u (parts_after (parts calls) c) → StandsFor u (calls ++ c ∷ [])
-later_list u calls c s k = record { speaks = s; keeps = subst (λ (p : Parts). Keeps u p) (sym (parts_push calls c)) k }
+pub later_list : (u : State) (calls : List Call) (c : Call) → Speaks (calls ++ c ∷ []) → KeepsLabels u (parts_after (parts calls) c) → TablesStandFor u (calls ++ c ∷ [])
+later_list u calls c s k = record { speaks = s; keeps = subst (λ (p : PartsOfCalls). KeepsLabels u p) (sym (parts_push calls c)) k }
 
-pub stands_sent : (t : State) (calls : List Call) (p l : ℕ) (first out : LabelTable) → StandsFor t calls → Speaks (calls ++ sent p l ∷ []) → label_of t.last_out p < l →
+pub stands_sent : (t : State) (calls : List Call) (p l : ℕ) (first out : LabelTable) → TablesStandFor t calls → Speaks (calls ++ sent p l ∷ []) → label_of t.last_out p < l →
     label_of first ≡ at_peer p (if has_one t.first_sent p then label_of t.first_sent p else l) (label_of t.first_sent) → label_of out ≡ at_peer p l (label_of t.last_out) →
-    StandsFor (record t { first_sent = first; last_out = out }) (calls ++ sent p l ∷ [])
+    TablesStandFor (record t { first_sent = first; last_out = out }) (calls ++ sent p l ∷ [])
 stands_sent t calls p l first out h s b f g =
     let v = parts calls in
     let k = h.keeps in
-    let rise : Rises 0 (sents p (v.since ++ sent p l ∷ [])) =
-    subst (λ (x : Parts). Rises 0 (sents p x.since)) (parts_push calls (sent p l)) (sent_rises (calls ++ sent p l ∷ []) s p) in
+    let rise : LabelsRise 0 (sents p (v.since ++ sent p l ∷ [])) =
+    subst (λ (x : PartsOfCalls). LabelsRise 0 (sents p x.since)) (parts_push calls (sent p l)) (sent_rises (calls ++ sent p l ∷ []) s p) in
     later_list _ calls (sent p l) s (record {
       is_open = k.is_open;
       last_rcvd = λ q. k.last_rcvd q ∙ ap greatest (sym (receiveds_more q v.since (sent p l) refl));
@@ -128,8 +128,8 @@ stands_sent t calls p l first out h s b f g =
       last_out = λ q. ap (λ (x : ℕ → ℕ). x q) g ∙ greatest_sent (label_of t.last_out) p l q v.calls k.last_out b;
     })
 
-pub stands_received : (t : State) (calls : List Call) (p l : ℕ) (last : LabelTable) → StandsFor t calls → Speaks (calls ++ received p l ∷ []) → label_of t.last_rcvd p < l →
-    label_of last ≡ at_peer p l (label_of t.last_rcvd) → StandsFor (record t { last_rcvd = last }) (calls ++ received p l ∷ [])
+pub stands_received : (t : State) (calls : List Call) (p l : ℕ) (last : LabelTable) → TablesStandFor t calls → Speaks (calls ++ received p l ∷ []) → label_of t.last_rcvd p < l →
+    label_of last ≡ at_peer p l (label_of t.last_rcvd) → TablesStandFor (record t { last_rcvd = last }) (calls ++ received p l ∷ [])
 stands_received t calls p l last h s b f =
     let v = parts calls in
     let k = h.keeps in
@@ -143,9 +143,9 @@ stands_received t calls p l last h s b f =
       last_out = λ q. k.last_out q ∙ ap greatest (sym (sents_more q v.calls (received p l) refl));
     })
 
-pub stands_tentative : (t : State) (calls : List Call) (rcvd first rcvd_aside first_aside : LabelTable) → StandsFor t calls → Speaks (calls ++ on_tentative ∷ []) →
+pub stands_tentative : (t : State) (calls : List Call) (rcvd first rcvd_aside first_aside : LabelTable) → TablesStandFor t calls → Speaks (calls ++ on_tentative ∷ []) →
     label_of rcvd ≡ no_label → label_of first ≡ no_label → label_of rcvd_aside ≡ label_of t.last_rcvd → label_of first_aside ≡ label_of t.first_sent →
-    StandsFor (record t { is_tentative = true; last_rcvd = rcvd; first_sent = first; kept_rcvd = rcvd_aside; kept_sent = first_aside }) (calls ++ on_tentative ∷ [])
+    TablesStandFor (record t { is_tentative = true; last_rcvd = rcvd; first_sent = first; kept_rcvd = rcvd_aside; kept_sent = first_aside }) (calls ++ on_tentative ∷ [])
 stands_tentative t calls rcvd first rcvd_aside first_aside h s f g d e =
     let v = parts calls in
     let k = h.keeps in
@@ -168,9 +168,9 @@ sent_before calls s o q =
     ap (λ (x : List Call). sents q x) (e.whole ∙ e.opened o)
     ∙ (sents-append q v.cut (on_tentative ∷ v.since) ∙ (ap (λ (x : List ℕ). sents q v.cut ++ x) n ∙ append-nil (sents q v.cut)))
 
-pub stands_commit : (t : State) (calls : List Call) (rcvd first last : LabelTable) → StandsFor t calls → Speaks (calls ++ on_commit ∷ []) → t.is_tentative ≡ true →
+pub stands_commit : (t : State) (calls : List Call) (rcvd first last : LabelTable) → TablesStandFor t calls → Speaks (calls ++ on_commit ∷ []) → t.is_tentative ≡ true →
     label_of rcvd ≡ no_label → label_of first ≡ no_label → label_of last ≡ label_of t.last_out →
-    StandsFor (record t { is_tentative = false; kept_rcvd = rcvd; kept_sent = first; last_sent = last }) (calls ++ on_commit ∷ [])
+    TablesStandFor (record t { is_tentative = false; kept_rcvd = rcvd; kept_sent = first; last_sent = last }) (calls ++ on_commit ∷ [])
 stands_commit t calls rcvd first last h s o f g e =
     let v = parts calls in
     let k = h.keeps in
@@ -187,9 +187,9 @@ stands_commit t calls rcvd first last h s o f g e =
       last_out = λ q. k.last_out q ∙ ap greatest (sym (sents_more q v.calls on_commit refl));
     })
 
-pub stands_abort : (t : State) (calls : List Call) (rcvd merged first none nothing : LabelTable) → StandsFor t calls → Speaks (calls ++ on_abort ∷ []) → t.is_tentative ≡ true →
+pub stands_abort : (t : State) (calls : List Call) (rcvd merged first none nothing : LabelTable) → TablesStandFor t calls → Speaks (calls ++ on_abort ∷ []) → t.is_tentative ≡ true →
     label_of rcvd ≡ label_of merged → ((q : ℕ) → label_of merged q ≡ max (label_of t.last_rcvd q) (label_of t.kept_rcvd q)) → label_of first ≡ label_of t.kept_sent → label_of none ≡ no_label → label_of nothing ≡ no_label →
-    StandsFor (record t { is_tentative = false; last_rcvd = rcvd; first_sent = first; kept_rcvd = none; kept_sent = nothing }) (calls ++ on_abort ∷ [])
+    TablesStandFor (record t { is_tentative = false; last_rcvd = rcvd; first_sent = first; kept_rcvd = none; kept_sent = nothing }) (calls ++ on_abort ∷ [])
 stands_abort t calls rcvd merged first none nothing h s o m e d f g =
     let v = parts calls in
     let k = h.keeps in
@@ -215,8 +215,8 @@ stands_abort t calls rcvd merged first none nothing h s o m e d f g =
     both : {a b x y : ℕ} → a ≡ x → b ≡ y → max a b ≡ max y x
     both p q = omega (arith, p, q)
 
-pub stands_rollback : (t : State) (calls : List Call) (rcvd first : LabelTable) → StandsFor t calls → Speaks (calls ++ on_rollback ∷ []) → t.is_tentative ≡ false →
-    label_of rcvd ≡ no_label → label_of first ≡ no_label → StandsFor (record t { last_rcvd = rcvd; first_sent = first }) (calls ++ on_rollback ∷ [])
+pub stands_rollback : (t : State) (calls : List Call) (rcvd first : LabelTable) → TablesStandFor t calls → Speaks (calls ++ on_rollback ∷ []) → t.is_tentative ≡ false →
+    label_of rcvd ≡ no_label → label_of first ≡ no_label → TablesStandFor (record t { last_rcvd = rcvd; first_sent = first }) (calls ++ on_rollback ∷ [])
 stands_rollback t calls rcvd first h s o f g =
     let v = parts calls in
     let k = h.keeps in
@@ -232,10 +232,10 @@ stands_rollback t calls rcvd first h s o f g =
     })
 
 -- a peer has a label exactly where the list has one
-pub has_first : (t : State) (calls : List Call) → StandsFor t calls → (q : ℕ) → has_one t.first_sent q ≡ has_label (sents q (parts calls).since)
+pub has_first : (t : State) (calls : List Call) → TablesStandFor t calls → (q : ℕ) → has_one t.first_sent q ≡ has_label (sents q (parts calls).since)
 has_first t calls h q = ap (λ (x : ℕ). not (x == 0)) (h.keeps.first_sent q) ∙ has_least (sents q (parts calls).since) 0 (sent_rises calls h.speaks q)
 
-pub has_last : (t : State) (calls : List Call) → StandsFor t calls → (q : ℕ) → has_one t.last_rcvd q ≡ has_label (receiveds q (parts calls).since)
+pub has_last : (t : State) (calls : List Call) → TablesStandFor t calls → (q : ℕ) → has_one t.last_rcvd q ≡ has_label (receiveds q (parts calls).since)
 has_last t calls h q = ap (λ (x : ℕ). not (x == 0)) (h.keeps.last_rcvd q) ∙ has_greatest (receiveds q (parts calls).since) 0 (received_rises calls h.speaks q)
 
 lt_decides : (a b : ℕ) → IsTrue (nat_lt a b) ↔ (a < b)
@@ -245,7 +245,7 @@ le_decides : (a b : ℕ) → IsTrue (nat_le a b) ↔ (a ≤ b)
 le_decides a b = (λ h. grind (arith, nat_tests), λ h. grind (arith, nat_tests))
 
 -- what the greatest label received tells
-pub roll_decides : (t : State) (calls : List Call) (q l x y : ℕ) → StandsFor t calls → x ≡ label_of t.last_rcvd q → y ≡ l →
+pub roll_decides : (t : State) (calls : List Call) (q l x y : ℕ) → TablesStandFor t calls → x ≡ label_of t.last_rcvd q → y ≡ l →
     IsTrue (nat_lt y x) ↔ ((z : ℕ) × Contains (receiveds q (parts calls).since) z × (l < z))
 roll_decides t calls q l x y h e f =
     let d = greatest_decides (receiveds q (parts calls).since) l in
@@ -253,14 +253,14 @@ roll_decides t calls q l x y h e f =
     (λ b. let a = (lt_decides y x).0 b in d.0 (omega arith), λ m. let a = d.1 m in (lt_decides y x).1 (omega arith))
 
 -- what the least label sent tells
-pub take_decides : (t : State) (calls : List Call) (q l x y : ℕ) → StandsFor t calls → x ≡ label_of t.first_sent q → y ≡ l → 0 < x →
+pub take_decides : (t : State) (calls : List Call) (q l x y : ℕ) → TablesStandFor t calls → x ≡ label_of t.first_sent q → y ≡ l → 0 < x →
     IsTrue (nat_le x y) ↔ ((z : ℕ) × Contains (sents q (parts calls).since) z × (z ≤ l))
 take_decides t calls q l x y h e f above =
     let d = least_decides (sents q (parts calls).since) l (sent_rises calls h.speaks q) in
     let g = h.keeps.first_sent q in
     (λ b. let a = (le_decides x y).0 b in d.0 (omega arith, omega arith), λ m. let a = d.1 m in (le_decides x y).1 (omega arith))
 
-pub take_none : (t : State) (calls : List Call) (q l x : ℕ) → StandsFor t calls → x ≡ label_of t.first_sent q → x ≤ 0 →
+pub take_none : (t : State) (calls : List Call) (q l x : ℕ) → TablesStandFor t calls → x ≡ label_of t.first_sent q → x ≤ 0 →
     IsTrue (nat_lt 0 x) ↔ ((z : ℕ) × Contains (sents q (parts calls).since) z × (z ≤ l))
 take_none t calls q l x h e none =
     let d = least_decides (sents q (parts calls).since) l (sent_rises calls h.speaks q) in

@@ -1,6 +1,6 @@
 -- What lists of calls say. No code keeps such a list.
 use Rattle.std.specs.Prelude.{◌≡◌, ℕ, ◌==◌, if◌then◌else◌, Bool, true, false, List, [], ◌∷◌, ◌++◌, fold}
-use Rattle.kt_tables.specs.Labels.{Rises}
+use Rattle.kt_tables.specs.Labels.{LabelsRise}
 
 -- a call that changes the tables of a process
 pub data Call : Type 0 where
@@ -12,7 +12,7 @@ pub data Call : Type 0 where
   on_rollback : Call
 
 -- a list of calls and what its parts are
-pub record Parts : Type 0 where
+pub record PartsOfCalls : Type 0 where
   -- the whole list
   pub calls : List Call
   -- the part after the last on_rollback
@@ -28,11 +28,11 @@ pub record Parts : Type 0 where
   -- while it is open: *since* of the list cut before it, and the on_tentative
   pub aside : List Call
 
-abbrev pub no_parts : Parts
+abbrev pub no_parts : PartsOfCalls
 no_parts = record { calls = []; since_rollback = []; since = []; before = []; is_open = false; cut = []; aside = [] }
 
 -- the parts after one more call
-abbrev pub parts_after : Parts → Call → Parts
+abbrev pub parts_after : PartsOfCalls → Call → PartsOfCalls
 parts_after p (sent q l) =
     record p { calls = p.calls ++ sent q l ∷ []; since_rollback = p.since_rollback ++ sent q l ∷ []; since = p.since ++ sent q l ∷ [] }
 parts_after p (received q l) =
@@ -74,7 +74,7 @@ parts_after p on_rollback = record {
   aside = [];
 }
 
-abbrev pub parts : List Call → Parts
+abbrev pub parts : List Call → PartsOfCalls
 parts calls = fold parts_after no_parts calls
 
 -- the labels of the messages sent to a peer, in order
@@ -100,6 +100,6 @@ receiveds q (on_rollback ∷ calls) = receiveds q calls
 -- the lists that the tables answer for: labels are above 0 and rise, call by call and peer by peer, those of
 -- `received` since the last on_rollback; and nothing is sent while a tentative checkpoint is open
 pub record Speaks (calls : List Call) : Type 0 where
-  pub sent_rise : (q : ℕ) → Rises 0 (sents q calls)
-  pub received_rise : (q : ℕ) → Rises 0 (receiveds q (parts calls).since_rollback)
+  pub sent_rise : (q : ℕ) → LabelsRise 0 (sents q calls)
+  pub received_rise : (q : ℕ) → LabelsRise 0 (receiveds q (parts calls).since_rollback)
   pub apart : (front rest : List Call) (q l : ℕ) → calls ≡ front ++ sent q l ∷ rest → (parts front).is_open ≡ false

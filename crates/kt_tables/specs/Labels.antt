@@ -17,6 +17,6 @@ greatest [] = 0
 greatest (x ∷ xs) = max x (greatest xs)
 
 -- labels above `low` that rise
-abbrev pub Rises : ℕ → List ℕ → Type 0
-Rises low [] = Unit {0}
-Rises low (x ∷ xs) = (low < x) × Rises x xs
+abbrev pub LabelsRise : ℕ → List ℕ → Type 0
+LabelsRise low [] = Unit {0}
+LabelsRise low (x ∷ xs) = (low < x) × LabelsRise x xs

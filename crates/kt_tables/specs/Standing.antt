@@ -1,12 +1,12 @@
 -- Which lists of calls the tables of a process stand for.
 use Rattle.std.specs.Prelude.{◌≡◌, ◌≤◌, ◌<◌, ℕ, nat_lt, nat_le, ◌&&◌, Bool, List}
 use Rattle.kt_tables.specs.Labels.{least, greatest}
-use Rattle.kt_tables.specs.Calls.{Call, Parts, parts, sents, receiveds, Speaks}
+use Rattle.kt_tables.specs.Calls.{Call, PartsOfCalls, parts, sents, receiveds, Speaks}
 use Rattle.kt_tables.specs.Peers.{LabelTable, label_of}
 use Rattle.kt_tables.specs.States.{State}
 
 -- the labels that the tables keep of the parts of a list, peer by peer
-pub record Keeps (t : State) (p : Parts) : Type 0 where
+pub record KeepsLabels (t : State) (p : PartsOfCalls) : Type 0 where
   pub is_open : t.is_tentative ≡ p.is_open
   pub last_rcvd : (q : ℕ) → label_of t.last_rcvd q ≡ greatest (receiveds q p.since)
   pub first_sent : (q : ℕ) → label_of t.first_sent q ≡ least (sents q p.since)
@@ -16,12 +16,12 @@ pub record Keeps (t : State) (p : Parts) : Type 0 where
   pub last_out : (q : ℕ) → label_of t.last_out q ≡ greatest (sents q p.calls)
 
 -- tables stand for a list that they answer for, where they keep its labels
-pub record StandsFor (t : State) (calls : List Call) : Type 0 where
+pub record TablesStandFor (t : State) (calls : List Call) : Type 0 where
   pub speaks : Speaks calls
-  pub keeps : Keeps t (parts calls)
+  pub keeps : KeepsLabels t (parts calls)
 
 -- each table has room for all peers, of which there are at most 64
-pub record HasRoom (t : State) (scratch : LabelTable) : Type 0 where
+pub record HasPeerRoom (t : State) (scratch : LabelTable) : Type 0 where
   pub few : t.processes ≤ 64
   pub last_rcvd : t.last_rcvd.peers ≡ t.processes
   pub first_sent : t.first_sent.peers ≡ t.processes

@@ -6,7 +6,7 @@ ghost use Rattle.kt_base.specs.Sets.{has};
 ghost use Rattle.kt_tables.specs.Calls.{Call, sent, received, on_tentative, on_commit, on_abort, on_rollback, Speaks, parts, parts_after, sents, receiveds};
 ghost use Rattle.kt_tables.specs.Labels.{has_label, greatest};
 ghost use Rattle.kt_tables.specs.States.{State};
-ghost use Rattle.kt_tables.specs.Standing.{StandsFor, CanSend, CanReceive};
+ghost use Rattle.kt_tables.specs.Standing.{TablesStandFor, CanSend, CanReceive};
 ghost use Rattle.kt_tables.specs.Peers.{label_of, no_label, at_peer, has_one, count_peers, IsCohort};
 
 use crate::peers::PeerLabels;
@@ -44,12 +44,12 @@ pub fn calls_that_follow()
 
 /// Which labels tables take that stand for a list: a law, with nothing to run.
 pub fn labels_that_follow()
-    ensures send { (t : State) (calls : List Call) (q l : ℕ) → StandsFor t calls → (CanSend t q l ↔ (greatest (sents q calls) < l)) }
-    ensures receive { (t : State) (calls : List Call) (q l : ℕ) → StandsFor t calls → greatest (receiveds q (parts calls).since_rollback) < l → CanReceive t q l }
+    ensures send { (t : State) (calls : List Call) (q l : ℕ) → TablesStandFor t calls → (CanSend t q l ↔ (greatest (sents q calls) < l)) }
+    ensures receive { (t : State) (calls : List Call) (q l : ℕ) → TablesStandFor t calls → greatest (receiveds q (parts calls).since_rollback) < l → CanReceive t q l }
 
     // What the longer list asks is enough.
-    ensures sent { (t : State) (calls : List Call) (q l : ℕ) → StandsFor t calls → Speaks (calls ++ sent q l ∷ []) → CanSend t q l }
-    ensures received { (t : State) (calls : List Call) (q l : ℕ) → StandsFor t calls → Speaks (calls ++ received q l ∷ []) → CanReceive t q l }
+    ensures sent { (t : State) (calls : List Call) (q l : ℕ) → TablesStandFor t calls → Speaks (calls ++ sent q l ∷ []) → CanSend t q l }
+    ensures received { (t : State) (calls : List Call) (q l : ℕ) → TablesStandFor t calls → Speaks (calls ++ received q l ∷ []) → CanReceive t q l }
 {}
 
 /// The label tables of one process: of each peer, the labels that decide who takes part in a checkpoint or a rollback.
@@ -71,7 +71,7 @@ pub struct Tables {
 
 impl Model for Tables {
     ghost use Rattle.kt_tables.specs.States.{State};
-    ghost use Rattle.kt_tables.specs.Standing.{HasRoom};
+    ghost use Rattle.kt_tables.specs.Standing.{HasPeerRoom};
 
     ghost Value = { State };
 
@@ -86,7 +86,7 @@ impl Model for Tables {
       last_out = t.last_out;
     } };
 
-    ghost invariant = { λ t. HasRoom (record {
+    ghost invariant = { λ t. HasPeerRoom (record {
       processes = t.processes;
       is_tentative = t.is_tentative;
       last_rcvd = t.last_rcvd;
@@ -99,7 +99,7 @@ impl Model for Tables {
 }
 
 impl Tables {
-    ghost use Rattle.kt_tables.specs.Standing.{StandsFor, CanSend, CanReceive, must_take, must_roll};
+    ghost use Rattle.kt_tables.specs.Standing.{TablesStandFor, CanSend, CanReceive, must_take, must_roll};
 
     /// Empty tables for a process among that many, at most 64. All room is taken here: no later call but the two
     /// cohort lists takes memory.
@@ -107,7 +107,7 @@ impl Tables {
         requires { processes ≤ 64 }
         ensures processes { IfOk result (λ t. t.processes ≡ processes) }
         ensures tentative { IfOk result (λ t. t.is_tentative ≡ false) }
-        ensures stands { IfOk result (λ t. StandsFor t []) }
+        ensures stands { IfOk result (λ t. TablesStandFor t []) }
         ensures last_out { IfOk result (λ t. label_of t.last_out ≡ no_label) }
     {
         Ok(Tables {
@@ -164,7 +164,7 @@ impl Tables {
         ensures processes { self.new.processes ≡ self.old.processes }
         ensures tentative { self.new.is_tentative ≡ self.old.is_tentative }
         ensures last_out { label_of self.new.last_out ≡ at_peer to label (label_of self.old.last_out) }
-        ensures stands { (calls : List Call) → StandsFor self.old calls → Speaks (calls ++ sent to label ∷ []) → StandsFor self.new (calls ++ sent to label ∷ []) }
+        ensures stands { (calls : List Call) → TablesStandFor self.old calls → Speaks (calls ++ sent to label ∷ []) → TablesStandFor self.new (calls ++ sent to label ∷ []) }
     {
         self.first_sent.put_first(to, label);
         self.last_out.put(to, label);
@@ -177,7 +177,7 @@ impl Tables {
         ensures processes { self.new.processes ≡ self.old.processes }
         ensures tentative { self.new.is_tentative ≡ self.old.is_tentative }
         ensures last_out { self.new.last_out ≡ self.old.last_out }
-        ensures stands { (calls : List Call) → StandsFor self.old calls → Speaks (calls ++ received from label ∷ []) → StandsFor self.new (calls ++ received from label ∷ []) }
+        ensures stands { (calls : List Call) → TablesStandFor self.old calls → Speaks (calls ++ received from label ∷ []) → TablesStandFor self.new (calls ++ received from label ∷ []) }
     {
         self.last_rcvd.put(from, label);
     }
@@ -188,7 +188,7 @@ impl Tables {
         ensures processes { self.new.processes ≡ self.old.processes }
         ensures tentative { self.new.is_tentative ≡ true }
         ensures last_out { self.new.last_out ≡ self.old.last_out }
-        ensures stands { (calls : List Call) → StandsFor self.old calls → StandsFor self.new (calls ++ on_tentative ∷ []) }
+        ensures stands { (calls : List Call) → TablesStandFor self.old calls → TablesStandFor self.new (calls ++ on_tentative ∷ []) }
     {
         self.kept_rcvd.take(&mut self.last_rcvd);
         self.kept_sent.take(&mut self.first_sent);
@@ -201,7 +201,7 @@ impl Tables {
         ensures processes { self.new.processes ≡ self.old.processes }
         ensures tentative { self.new.is_tentative ≡ false }
         ensures last_out { self.new.last_out ≡ self.old.last_out }
-        ensures stands { (calls : List Call) → StandsFor self.old calls → StandsFor self.new (calls ++ on_commit ∷ []) }
+        ensures stands { (calls : List Call) → TablesStandFor self.old calls → TablesStandFor self.new (calls ++ on_commit ∷ []) }
     {
         self.kept_rcvd.clear();
         self.kept_sent.clear();
@@ -215,7 +215,7 @@ impl Tables {
         ensures processes { self.new.processes ≡ self.old.processes }
         ensures tentative { self.new.is_tentative ≡ false }
         ensures last_out { self.new.last_out ≡ self.old.last_out }
-        ensures stands { (calls : List Call) → StandsFor self.old calls → StandsFor self.new (calls ++ on_abort ∷ []) }
+        ensures stands { (calls : List Call) → TablesStandFor self.old calls → TablesStandFor self.new (calls ++ on_abort ∷ []) }
     {
         self.first_sent.take(&mut self.kept_sent);
         self.merged.set_to_later(&self.last_rcvd, &self.kept_rcvd);
@@ -230,7 +230,7 @@ impl Tables {
         ensures processes { self.new.processes ≡ self.old.processes }
         ensures tentative { self.new.is_tentative ≡ false }
         ensures last_out { self.new.last_out ≡ self.old.last_out }
-        ensures stands { (calls : List Call) → StandsFor self.old calls → StandsFor self.new (calls ++ on_rollback ∷ []) }
+        ensures stands { (calls : List Call) → TablesStandFor self.old calls → TablesStandFor self.new (calls ++ on_rollback ∷ []) }
     {
         self.last_rcvd.clear();
         self.first_sent.clear();
@@ -240,9 +240,9 @@ impl Tables {
     /// checkpoint whose label is at most the one that the asker received last.
     pub fn must_take(&self, from: ProcNo, last: Label) -> bool
         requires { from < self.now.processes }
-        ensures decides { (calls : List Call) → StandsFor self.now calls →
+        ensures decides { (calls : List Call) → TablesStandFor self.now calls →
             (IsTrue result ↔ ((x : ℕ) × Contains (sents from (parts calls).since) x × (x ≤ last))) }
-        ensures test { (calls : List Call) → StandsFor self.now calls →
+        ensures test { (calls : List Call) → TablesStandFor self.now calls →
             result ≡ list_any (λ x. nat_le x last) (sents from (parts calls).since) }
         ensures labels { result ≡ must_take self.now from last }
     {
@@ -254,9 +254,9 @@ impl Tables {
     /// checkpoint whose label is above the last one that the asker sent before its permanent checkpoint.
     pub fn must_roll(&self, from: ProcNo, last_sent: Label) -> bool
         requires { from < self.now.processes }
-        ensures decides { (calls : List Call) → StandsFor self.now calls →
+        ensures decides { (calls : List Call) → TablesStandFor self.now calls →
             (IsTrue result ↔ ((x : ℕ) × Contains (receiveds from (parts calls).since) x × (last_sent < x))) }
-        ensures test { (calls : List Call) → StandsFor self.now calls →
+        ensures test { (calls : List Call) → TablesStandFor self.now calls →
             result ≡ list_any (λ x. nat_lt last_sent x) (receiveds from (parts calls).since) }
         ensures labels { result ≡ must_roll self.now from last_sent }
     {
@@ -268,7 +268,7 @@ impl Tables {
     pub fn ckpt_cohort(&self) -> Result<Vec<(ProcNo, Label)>, Memory>
         ensures rising { IfOk result (λ pairs. AllPairs (λ x y. x.0 < y.0) pairs.items) }
         ensures within { IfOk result (λ pairs. All (λ pair. pair.0 < self.now.processes) pairs.items) }
-        ensures cohort { IfOk result (λ pairs. (calls : List Call) → StandsFor self.now calls →
+        ensures cohort { IfOk result (λ pairs. (calls : List Call) → TablesStandFor self.now calls →
             IsCohort pairs.items (λ q. has_label (receiveds q (parts calls).since)) (λ q. greatest (receiveds q (parts calls).since))) }
         ensures labels { IfOk result (λ pairs. IsCohort pairs.items (has_one self.now.last_rcvd) (label_of self.now.last_rcvd)) }
     {
@@ -280,7 +280,7 @@ impl Tables {
     pub fn roll_cohort(&self) -> Result<Vec<(ProcNo, Label)>, Memory>
         ensures rising { IfOk result (λ pairs. AllPairs (λ x y. x.0 < y.0) pairs.items) }
         ensures within { IfOk result (λ pairs. All (λ pair. pair.0 < self.now.processes) pairs.items) }
-        ensures cohort { IfOk result (λ pairs. (calls : List Call) → StandsFor self.now calls →
+        ensures cohort { IfOk result (λ pairs. (calls : List Call) → TablesStandFor self.now calls →
             IsCohort pairs.items (λ q. has_label (sents q (parts calls).since)) (λ q. greatest (sents q (parts calls).before))) }
         ensures labels { IfOk result (λ pairs. IsCohort pairs.items (has_one self.now.first_sent) (label_of self.now.last_sent)) }
     {
@@ -290,7 +290,7 @@ impl Tables {
     /// The processes that `ckpt_cohort` lists, in a set: those that sent a message received since the last checkpoint.
     /// It takes no memory. To be called before `on_tentative`.
     pub fn ckpt_peers(&self) -> ProcSet
-        ensures peers { (calls : List Call) → StandsFor self.now calls →
+        ensures peers { (calls : List Call) → TablesStandFor self.now calls →
             (q : ℕ) → has result q ≡ has_label (receiveds q (parts calls).since) }
         ensures labels { (q : ℕ) → has result q ≡ has_one self.now.last_rcvd q }
         ensures within { (q : ℕ) → has result q ≡ true → q < self.now.processes }
@@ -301,7 +301,7 @@ impl Tables {
     /// The processes that `roll_cohort` lists, in a set: those that a message was sent to since the last checkpoint.
     /// It takes no memory.
     pub fn roll_peers(&self) -> ProcSet
-        ensures peers { (calls : List Call) → StandsFor self.now calls →
+        ensures peers { (calls : List Call) → TablesStandFor self.now calls →
             (q : ℕ) → has result q ≡ has_label (sents q (parts calls).since) }
         ensures labels { (q : ℕ) → has result q ≡ has_one self.now.first_sent q }
         ensures within { (q : ℕ) → has result q ≡ true → q < self.now.processes }
@@ -311,7 +311,7 @@ impl Tables {
 
     /// How many labels of messages received and sent since the last checkpoint are kept: one for each peer and kind.
     pub fn kept(&self) -> usize
-        ensures { (calls : List Call) → StandsFor self.now calls →
+        ensures { (calls : List Call) → TablesStandFor self.now calls →
             result ≡ count_peers self.now.processes (λ q. has_label (receiveds q (parts calls).since))
             + count_peers self.now.processes (λ q. has_label (sents q (parts calls).since)) }
     {

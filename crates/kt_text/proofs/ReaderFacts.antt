@@ -5,7 +5,7 @@ use Rattle.csv.specs.Reading.{ReadsNext, ReadRecord, NextIs, default_config, sou
 use Rattle.csv.specs.declared.parser.Config.{Config}
 use Rattle.csv.specs.declared.parser.State.{State}
 use Rattle.csv.specs.declared.reader.Reader.{Reader}
-use Rattle.kt_text.specs.Records.{records_left, Takes, left_in}
+use Rattle.kt_text.specs.Records.{records_left, FieldsTaken, left_in}
 use Rattle.kt_text.proofs.RecordFacts.{left-none, left-some}
 
 some_go : (cfg : Config) (s s2 : State) (xs ys : List ℕ) (f : List (List ℕ)) (o : Option Read) → next_record cfg s [] [] xs ≡ o → NextIs o true f s2 ys
@@ -19,7 +19,7 @@ none_go cfg s s2 xs ys f None e n = left-none cfg s xs e
 none_go cfg s s2 xs ys f (Some p) e n = cc n.0
 
 takes_go : (cfg : Config) (s s2 : State) (x k : Option (List ℕ)) (f : List (List ℕ)) → ReadsNext cfg s x k true f s2
-    → Takes (option_map (λ bytes. records_left cfg s bytes) x) (option_map (λ bytes. records_left cfg s2 bytes) k) f
+    → FieldsTaken (option_map (λ bytes. records_left cfg s bytes) x) (option_map (λ bytes. records_left cfg s2 bytes) k) f
 takes_go cfg s s2 None k f h = tt
 takes_go cfg s s2 (Some xs) None f h = h
 takes_go cfg s s2 (Some xs) (Some ys) f h = some_go cfg s s2 xs ys f _ refl h
@@ -32,7 +32,7 @@ ends_go cfg s s2 (Some xs) (Some ys) f h = none_go cfg s s2 xs ys f _ refl h
 
 -- a read that found a record
 pub takes : {R : Type 0} (rem : R → Option (List ℕ)) (a b : Reader R) (f : List (List ℕ)) → a.config ≡ default_config → ReadRecord rem a b true f
-    → Takes (left_in rem a) (left_in rem b) f
+    → FieldsTaken (left_in rem a) (left_in rem b) f
 takes rem a b f set r = rw r.1 (takes_go default_config a.state b.state (source_of rem a) (pending_of (rem b.rdr) b) f (rw set at r.0))
 
 -- a read that found none

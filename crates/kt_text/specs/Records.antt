@@ -23,7 +23,7 @@ pub record ReadsOn {R : Type 0} (records : Reader R) : Type 0 where
   pub going : has_failed records ≡ false
 
 -- known records of which the first has these fields
-abbrev pub Takes : Option (List (List (List ℕ))) → Option (List (List (List ℕ))) → List (List ℕ) → Type 0
-Takes None new fields = Unit {0}
-Takes (Some left) None fields = ⊥
-Takes (Some left) (Some rest) fields = left ≡ fields ∷ rest
+abbrev pub FieldsTaken : Option (List (List (List ℕ))) → Option (List (List (List ℕ))) → List (List ℕ) → Type 0
+FieldsTaken None new fields = Unit {0}
+FieldsTaken (Some left) None fields = ⊥
+FieldsTaken (Some left) (Some rest) fields = left ≡ fields ∷ rest

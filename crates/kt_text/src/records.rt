@@ -3,7 +3,7 @@
 ghost use Rattle.std.specs.Prelude.{◌≡◌, [], true, false, option_map, IfOk, IfSome};
 ghost use Rattle.csv.specs.Reading.{default_config, strip_bom, records};
 ghost use Rattle.csv.specs.Records.{fields_of};
-ghost use Rattle.kt_text.specs.Records.{ReadsOn, Takes, left_in};
+ghost use Rattle.kt_text.specs.Records.{ReadsOn, FieldsTaken, left_in};
 
 use crate::fault::ReadFault;
 use csv::{ByteRecord, Reader, ReaderBuilder};
@@ -34,7 +34,7 @@ pub fn next_record<R: Read>(
 ) -> Result<bool, ReadFault>
     requires { ReadsOn records.old }
     ensures found { IfOk result (λ found. found ≡ true → ReadsOn records.new
-        × Takes (left_in R.remaining records.old) (left_in R.remaining records.new) (fields_of current.new)) }
+        × FieldsTaken (left_in R.remaining records.old) (left_in R.remaining records.new) (fields_of current.new)) }
     ensures ended { IfOk result (λ found. found ≡ false
         → IfSome (left_in R.remaining records.old) (λ left. left ≡ [])) }
 {

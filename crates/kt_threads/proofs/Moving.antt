@@ -28,7 +28,7 @@ use Rattle.kt_values.specs.Values.{Rules, due}
 use Rattle.kt_spacetime.specs.declared.event.Event.{Event}
 use Rattle.kt_threads.specs.Errands.{errands_of}
 use Rattle.kt_threads.specs.Histories as histories
-use Rattle.kt_threads.specs.Histories.{IsMade, Leads, IsHistory, made_by, told_to, AreTold}
+use Rattle.kt_threads.specs.Histories.{IsMade, StepsLead, IsHistory, made_by, told_to, AreTold}
 use Rattle.kt_threads.specs.Moves.{move_of}
 use Rattle.kt_threads.specs.Workers.{AreServed}
 use Rattle.kt_threads.specs.Telling.{AreToldAsInRun}
@@ -91,7 +91,7 @@ run_after plan made before after first v plans r step =
     ((step.makes.runs first v r).leads)
 
 goes_on : (plan : Planned) (steps : List Made) (old new : World) (first : ℕ) (v : Progress) → old.agenda.plan ≡ plan
-    → Mirrors old.agenda old.system first v → Leads old steps new → Goes plan first v steps new
+    → Mirrors old.agenda old.system first v → StepsLead old steps new → Goes plan first v steps new
 goes_on plan [] old new first v plans r same = record {
   end = v;
   plans = ap (λ (a : Agenda). a.plan) same.agenda ∙ plans;

@@ -13,7 +13,7 @@ use Rattle.kt_plan.specs.declared.steps.Told.{Told}
 use Rattle.kt_plans.specs.Looks as run_looks
 use Rattle.kt_plans.specs.Progress.{Progress, progress_at_start}
 use Rattle.kt_system.specs.Systems.{Whole, IsSameSystem}
-use Rattle.kt_threads.specs.Histories.{IsMade, Leads, IsHistory}
+use Rattle.kt_threads.specs.Histories.{IsMade, StepsLead, IsHistory}
 use Rattle.kt_threads.specs.declared.state.Made.{Made}
 
 pub same_system : (s : Whole) → IsSameSystem s s
@@ -42,14 +42,14 @@ worlds_along u v w a b = record {
 }
 
 -- but for spare room, the same world is led to
-pub leads_same : (steps : List Made) (old now new : World) → IsSameWorld new now → Leads old steps now → Leads old steps new
+pub leads_same : (steps : List Made) (old now new : World) → IsSameWorld new now → StepsLead old steps now → StepsLead old steps new
 leads_same [] old now new same leads = worlds_along new now old same leads
 leads_same (made ∷ steps) old now new same leads =
     (leads.0, leads.1, leads.2, leads.3, leads_same steps leads.1 now new same leads.4)
 
 -- one more step
-pub leads_more : (steps : List Made) (made : Made) (old now new : World) → IsMade now made new → Leads old steps now
-    → Leads old (steps ++ made ∷ []) new
+pub leads_more : (steps : List Made) (made : Made) (old now new : World) → IsMade now made new → StepsLead old steps now
+    → StepsLead old (steps ++ made ∷ []) new
 leads_more [] made old now new step leads = (now, new, leads, step, same_world new)
 leads_more (first ∷ steps) made old now new step leads =
     (leads.0, leads.1, leads.2, leads.3, leads_more steps made leads.1 now new step leads.4)

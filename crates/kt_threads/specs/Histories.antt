@@ -31,16 +31,16 @@ pub record IsMade (old : World) (made : Made) (new : World) : Type 0 where
       ≡ run_looks.look old.agenda.plan v made.told.step
 
 -- steps lead one after another from one world to another, where only spare room may come between
-abbrev pub Leads : World → List Made → World → Type 0
-Leads old [] new = IsSameWorld new old
-Leads old (made ∷ steps) new = (before : World) × (after : World) × IsSameWorld before old × IsMade before made after × Leads after steps new
+abbrev pub StepsLead : World → List Made → World → Type 0
+StepsLead old [] new = IsSameWorld new old
+StepsLead old (made ∷ steps) new = (before : World) × (after : World) × IsSameWorld before old × IsMade before made after × StepsLead after steps new
 
 -- steps lead to a world from the one in which nothing of a plan is done, where its runs start
 pub record IsHistory (plan : Planned) (steps : List Made) (world : World) : Type 0 where
   pub begin : World
   pub opening : IsOpening begin plan 0 (2 ^ 24)
   pub starts : core.Mirrors begin.agenda begin.system 0 (progress_at_start plan 0)
-  pub leads : Leads begin steps world
+  pub leads : StepsLead begin steps world
 
 -- a world, the steps that led to it, and the first fault
 pub record WorldHistory : Type 0 where

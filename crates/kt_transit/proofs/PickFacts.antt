@@ -9,7 +9,7 @@ use Rattle.std.proofs.lemmas.Bool.{cases_lt, cases_eq}
 use Rattle.std.proofs.lemmas.Option.{slice_get_within, slice_get-get_or}
 use Rattle.kt_transit.specs.declared.in_transit.Sent.{Sent}
 use Rattle.kt_transit.specs.TransitList.{IsBySend, Belongs}
-use Rattle.kt_transit.specs.Marks.{ones, pick, shown, IsRising, IsMarked}
+use Rattle.kt_transit.specs.Marks.{ones, pick, shown, AreRisingMessages, HasMarkOfEach}
 
 abbrev pub AreUnset : ℕ → List Bool → Type 0
 AreUnset n marks = (k : ℕ) → n ≤ k → get_or marks k false ≡ false
@@ -194,7 +194,7 @@ belongs_picked marks xs msg p unset b = record {
 }
 
 -- numbers rise that rise from each one to the next
-pub rising_steps : (xs : List Sent) → ((k : ℕ) (a b : Sent) → slice_get xs k ≡ Some a → slice_get xs (suc k) ≡ Some b → a.msg < b.msg) → IsRising xs
+pub rising_steps : (xs : List Sent) → ((k : ℕ) (a b : Sent) → slice_get xs k ≡ Some a → slice_get xs (suc k) ≡ Some b → a.msg < b.msg) → AreRisingMessages xs
 rising_steps xs step = record { each = λ j k a b l e f. climb k j a b l e f }
   where
     climb : (k j : ℕ) (a b : Sent) → j < k → slice_get xs j ≡ Some a → slice_get xs k ≡ Some b → a.msg < b.msg
@@ -206,7 +206,7 @@ rising_steps xs step = record { each = λ j k a b l e f. climb k j a b l e f }
           omega (arith, climb k j a (get_or xs k a) (omega (arith, l, other)) e there, step k (get_or xs k a) b there f)
     ]
 
-pub shown_count : (marks : List Bool) (xs : List Sent) → 0 < length marks → IsMarked marks xs → length (shown marks xs) ≡ ones marks
+pub shown_count : (marks : List Bool) (xs : List Sent) → 0 < length marks → HasMarkOfEach marks xs → length (shown marks xs) ≡ ones marks
 shown_count marks xs some marked = ap (λ (l : List Sent). length l) (shown_picked marks xs some) ∙ picked_count marks xs marked.past
 
 pub shown_within : (marks : List Bool) (xs : List Sent) → length (shown marks xs) ≤ length xs
@@ -248,7 +248,7 @@ all_after xs middle place at within o k a l e = elim (cases_eq k middle) [
 ]
 
 -- a greater number at the end
-pub rising_pushed : (xs : List Sent) (a : Sent) → IsRising xs → ((k : ℕ) (b : Sent) → slice_get xs k ≡ Some b → b.msg < a.msg) → IsRising (xs ++ a ∷ [])
+pub rising_pushed : (xs : List Sent) (a : Sent) → AreRisingMessages xs → ((k : ℕ) (b : Sent) → slice_get xs k ≡ Some b → b.msg < a.msg) → AreRisingMessages (xs ++ a ∷ [])
 rising_pushed xs a r above = record {
   each = λ j k b d l e f. elim (get_push xs a k d f) [
     | inl old ↦ r.each j k b d l (sym (get_left xs (a ∷ []) j (omega (arith, l, slice_get_within xs k d old))) ∙ e) old
@@ -256,7 +256,7 @@ rising_pushed xs a r above = record {
   ];
 }
 
-pub marked_pushed : (marks : List Bool) (xs : List Sent) (a : Sent) → IsMarked marks xs → length xs + 1 < length marks → ((k : ℕ) (b : Sent) → slice_get xs k ≡ Some b → b.msg < a.msg) → IsMarked (set marks (length xs) true) (xs ++ a ∷ [])
+pub marked_pushed : (marks : List Bool) (xs : List Sent) (a : Sent) → HasMarkOfEach marks xs → length xs + 1 < length marks → ((k : ℕ) (b : Sent) → slice_get xs k ≡ Some b → b.msg < a.msg) → HasMarkOfEach (set marks (length xs) true) (xs ++ a ∷ [])
 marked_pushed marks xs a m lt above = record {
   within = omega (arith, lt, length-set marks (length xs) true, length-append xs (a ∷ []));
   past = λ k l. get_or-set_other marks (length xs) k true false (λ same. omega (arith, l, same, length-append xs (a ∷ []))) ∙ m.past k (omega (arith, l, length-append xs (a ∷ [])));

@@ -8,7 +8,7 @@ use Rattle.std.proofs.lemmas.Bool.Decides.{nat_tests}
 use Rattle.std.proofs.lemmas.Option.{slice_get_within, slice_get-get_or, get_or_from_slice_get}
 use Rattle.kt_transit.specs.declared.in_transit.Sent.{Sent}
 use Rattle.kt_transit.specs.TransitList.{IsBySend, Belongs, AreSentBefore}
-use Rattle.kt_transit.specs.Marks.{IsRising}
+use Rattle.kt_transit.specs.Marks.{AreRisingMessages}
 
 pub get_left : {X : Type 0} (xs ys : List X) (i : ℕ) → i < length xs → slice_get (xs ++ ys) i ≡ slice_get xs i
 get_left [] ys i l = absurd (omega arith)
@@ -31,21 +31,21 @@ in_order_right xs ys o = record {
   each = λ j k a b l e f. o.each (length xs + j) (length xs + k) a b (omega (arith, l)) (get_right xs ys j (length xs + j) refl ∙ e) (get_right xs ys k (length xs + k) refl ∙ f);
 }
 
-pub rising_left : (xs ys : List Sent) → IsRising (xs ++ ys) → IsRising xs
+pub rising_left : (xs ys : List Sent) → AreRisingMessages (xs ++ ys) → AreRisingMessages xs
 rising_left xs ys o = record {
   each = λ j k a b l e f. o.each j k a b l (get_left xs ys j (slice_get_within xs j a e) ∙ e) (get_left xs ys k (slice_get_within xs k b f) ∙ f);
 }
 
-pub rising_right : (xs ys : List Sent) → IsRising (xs ++ ys) → IsRising ys
+pub rising_right : (xs ys : List Sent) → AreRisingMessages (xs ++ ys) → AreRisingMessages ys
 rising_right xs ys o = record {
   each = λ j k a b l e f. o.each (length xs + j) (length xs + k) a b (omega (arith, l)) (get_right xs ys j (length xs + j) refl ∙ e) (get_right xs ys k (length xs + k) refl ∙ f);
 }
 
-pub rising_by_send : (xs : List Sent) → IsBySend xs → IsRising xs
+pub rising_by_send : (xs : List Sent) → IsBySend xs → AreRisingMessages xs
 rising_by_send xs o = record { each = λ j k a b l e f. (o.each j k a b l e f).msg }
 
 -- messages in order are parted by a number
-pub parted_by : (xs : List Sent) (msg : ℕ) → IsRising xs → IsPartitionedBy (λ (a : Sent). nat_lt a.msg msg) xs
+pub parted_by : (xs : List Sent) (msg : ℕ) → AreRisingMessages xs → IsPartitionedBy (λ (a : Sent). nat_lt a.msg msg) xs
 parted_by xs msg o i j d le lt below = elim (cases_eq i j) [
   | inl same ↦ rw same below
   | inr other ↦
@@ -75,7 +75,7 @@ belongs_at xs msg i within p = record {
     above_of a b e = grind (arith, nat_tests)
 
 -- a number that is not below the first of the messages after the cursor belongs before it
-pub belongs_before : (xs ys : List Sent) (msg i : ℕ) → IsRising (xs ++ ys) → ((a : Sent) → slice_get ys 0 ≡ Some a → msg ≤ a.msg) → Belongs msg xs i → Belongs msg (xs ++ ys) i
+pub belongs_before : (xs ys : List Sent) (msg i : ℕ) → AreRisingMessages (xs ++ ys) → ((a : Sent) → slice_get ys 0 ≡ Some a → msg ≤ a.msg) → Belongs msg xs i → Belongs msg (xs ++ ys) i
 belongs_before xs ys msg i o first b = record {
   within = omega (arith, b.within, length-append xs ys);
   below = λ k a low e. b.below k a low (sym (get_left xs ys k (omega (arith, low, b.within))) ∙ e);
@@ -92,7 +92,7 @@ belongs_before xs ys msg i o first b = record {
         omega (arith, first (get_or ys 0 a) there, (rising_right xs ys o).each 0 (suc j) (get_or ys 0 a) a (omega arith) there e)
 
 -- a number above the first of the messages after the cursor belongs among them
-pub belongs_after : (xs ys : List Sent) (msg i : ℕ) (first : Sent) → IsRising (xs ++ ys) → slice_get ys 0 ≡ Some first → first.msg < msg → Belongs msg ys i
+pub belongs_after : (xs ys : List Sent) (msg i : ℕ) (first : Sent) → AreRisingMessages (xs ++ ys) → slice_get ys 0 ≡ Some first → first.msg < msg → Belongs msg ys i
     → Belongs msg (xs ++ ys) (length xs + i)
 belongs_after xs ys msg i first o at low b = record {
   within = omega (arith, b.within, length-append xs ys);

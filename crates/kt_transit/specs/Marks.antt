@@ -21,14 +21,14 @@ shown [] messages = messages
 shown (mark ∷ marks) messages = pick (mark ∷ marks) messages
 
 -- the numbers of messages rise
-pub record IsRising (messages : List Sent) : Type 0 where
+pub record AreRisingMessages (messages : List Sent) : Type 0 where
   pub each : (j k : ℕ) (a b : Sent) → j < k → slice_get messages j ≡ Some a → slice_get messages k ≡ Some b → a.msg < b.msg
 
 -- marks fit messages whose numbers rise: there are more of them, and those past the messages are not set
-pub record IsMarked (marks : List Bool) (messages : List Sent) : Type 0 where
+pub record HasMarkOfEach (marks : List Bool) (messages : List Sent) : Type 0 where
   pub within : length messages < length marks
   pub past : (k : ℕ) → length messages ≤ k → slice_index_or marks k false ≡ false
-  pub rising : IsRising messages
+  pub rising : AreRisingMessages messages
 
 -- marks, and how many there can be before them
 pub record Marking : Type 0 where

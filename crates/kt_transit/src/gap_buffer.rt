@@ -4,7 +4,7 @@ ghost use Rattle.std.specs.Prelude.{◌≡◌, ◌+◌, ◌<◌, ◌≤◌, ◌+
 ghost use Rattle.std.specs.VecDeque.{deque_len, deque_capacity};
 ghost use Rattle.kt_transit.specs.declared.in_transit.Sent.{Sent};
 ghost use Rattle.kt_transit.specs.TransitList.{IsBySend, Belongs, AreSentBefore};
-ghost use Rattle.kt_transit.specs.Marks.{pick, IsRising};
+ghost use Rattle.kt_transit.specs.Marks.{pick, AreRisingMessages};
 
 use crate::counts::Counts;
 use crate::in_transit::Sent;
@@ -170,7 +170,7 @@ impl GapBuffer {
 
     /// Whether the numbers rise.
     pub(crate) fn is_rising(&self) -> bool
-        ensures { result ≡ true → IsRising self.now.messages }
+        ensures { result ≡ true → AreRisingMessages self.now.messages }
     {
         for index in 1..self.len() {
             if !are_in_order(self.get(index - 1), self.get(index)) {
@@ -184,7 +184,7 @@ impl GapBuffer {
     #[inline(never)]
     pub(crate) fn place_of(&self, msg: MsgNo) -> usize
         ensures within { result ≤ length self.now.messages }
-        ensures belongs { IsRising self.now.messages → Belongs msg self.now.messages result }
+        ensures belongs { AreRisingMessages self.now.messages → Belongs msg self.now.messages result }
     {
         if begins_below(&self.next, msg) {
             self.passed.len() + count_next_below(&self.next, msg)
@@ -207,7 +207,7 @@ fn begins_below(messages: &VecDeque<Sent>, msg: MsgNo) -> bool
 
 // Whether the last message has a lower number, or there is none.
 fn ends_below(messages: &[Sent], msg: MsgNo) -> bool
-    ensures { result ≡ true → IsRising messages.now → (k : ℕ) (a : Sent) → slice_get messages.now k ≡ Some a
+    ensures { result ≡ true → AreRisingMessages messages.now → (k : ℕ) (a : Sent) → slice_get messages.now k ≡ Some a
         → a.msg < msg }
 {
     match messages.last() {
@@ -219,7 +219,7 @@ fn ends_below(messages: &[Sent], msg: MsgNo) -> bool
 // How many messages have lower numbers.
 fn count_next_below(messages: &VecDeque<Sent>, msg: MsgNo) -> usize
     ensures within { result ≤ length messages.now.items }
-    ensures belongs { IsRising messages.now.items → Belongs msg messages.now.items result }
+    ensures belongs { AreRisingMessages messages.now.items → Belongs msg messages.now.items result }
 {
     messages.partition_point(
         |message: &Sent| -> bool
@@ -231,7 +231,7 @@ fn count_next_below(messages: &VecDeque<Sent>, msg: MsgNo) -> usize
 // The same. It looks at the last one first.
 fn count_below(messages: &[Sent], msg: MsgNo) -> usize
     ensures within { result ≤ length messages.now }
-    ensures belongs { IsRising messages.now → Belongs msg messages.now result }
+    ensures belongs { AreRisingMessages messages.now → Belongs msg messages.now result }
 {
     if ends_below(messages, msg) {
         return messages.len();

@@ -2,7 +2,7 @@
 
 ghost use Rattle.std.specs.Prelude.{◌≡◌, ◌+◌, ◌<◌, ◌≤◌, ◌++◌, ◌∷◌, [], ℕ, true, false, length, remove, take, slice_get, slice_index_or, Some, IfSome, IfNone, OnOk, OnErr};
 ghost use Rattle.kt_transit.specs.declared.in_transit.Sent.{Sent};
-ghost use Rattle.kt_transit.specs.Marks.{pick, shown, IsMarked, IsRising};
+ghost use Rattle.kt_transit.specs.Marks.{pick, shown, HasMarkOfEach, AreRisingMessages};
 ghost use Rattle.kt_transit.specs.TransitList.{IsBySend, Belongs, IsPutBack, AreSentBefore};
 
 use crate::counts::Counts;
@@ -34,13 +34,13 @@ pub struct InTransit {
 impl Model for InTransit {
     ghost use Rattle.std.specs.Prelude.{◌<◌, length};
     ghost use Rattle.kt_transit.specs.TransitList.{TransitList};
-    ghost use Rattle.kt_transit.specs.Marks.{shown, IsMarked};
+    ghost use Rattle.kt_transit.specs.Marks.{shown, HasMarkOfEach};
 
     ghost Value = { TransitList };
 
     ghost view = { λ w. record { messages = shown w.marks.marks w.slots.messages; room = w.slots.room } };
 
-    ghost invariant = { λ w. 0 < length w.marks.marks → IsMarked w.marks.marks w.slots.messages };
+    ghost invariant = { λ w. 0 < length w.marks.marks → HasMarkOfEach w.marks.marks w.slots.messages };
 }
 
 impl InTransit {
@@ -209,7 +209,7 @@ impl InTransit {
 #[cold]
 fn get_marked(slots: &GapBuffer, marks: &Counts, index: usize) -> Option<Sent>
     requires some { 0 < length marks.now.marks }
-    requires marked { IsMarked marks.now.marks slots.now.messages }
+    requires marked { HasMarkOfEach marks.now.marks slots.now.messages }
     ensures { result ≡ slice_get (pick marks.now.marks slots.now.messages) index }
 {
     if index < marks.total() {
@@ -223,8 +223,8 @@ fn get_marked(slots: &GapBuffer, marks: &Counts, index: usize) -> Option<Sent>
 // their messages rise and there are not too many.
 #[inline(always)]
 fn begin_marks(slots: &GapBuffer, marks: &mut Counts, index: usize) -> Result<(), Memory>
-    requires { 0 < length marks.old.marks → IsMarked marks.old.marks slots.now.messages }
-    ensures marked { 0 < length marks.new.marks → IsMarked marks.new.marks slots.now.messages }
+    requires { 0 < length marks.old.marks → HasMarkOfEach marks.old.marks slots.now.messages }
+    ensures marked { 0 < length marks.new.marks → HasMarkOfEach marks.new.marks slots.now.messages }
     ensures shown { shown marks.new.marks slots.now.messages ≡ shown marks.old.marks slots.now.messages }
 {
     if index > 0 && marks.is_empty() {
@@ -237,7 +237,7 @@ fn begin_marks(slots: &GapBuffer, marks: &mut Counts, index: usize) -> Result<()
 #[cold]
 fn mark_slots(slots: &GapBuffer, marks: &mut Counts) -> Result<(), Memory>
     requires { marks.old.marks ≡ [] }
-    ensures marked { 0 < length marks.new.marks → IsMarked marks.new.marks slots.now.messages }
+    ensures marked { 0 < length marks.new.marks → HasMarkOfEach marks.new.marks slots.now.messages }
     ensures shown { shown marks.new.marks slots.now.messages ≡ slots.now.messages }
 {
     let count = slots.len();
@@ -280,7 +280,7 @@ fn cut_marks(marks: &mut Counts, from: usize, until: usize)
 #[cold]
 fn drop_taken(slots: &mut GapBuffer, marks: &mut Counts)
     requires some { 0 < length marks.old.marks }
-    requires marked { IsMarked marks.old.marks slots.old.messages }
+    requires marked { HasMarkOfEach marks.old.marks slots.old.messages }
     ensures slots { slots.new ≡ record slots.old { messages = pick marks.old.marks slots.old.messages } }
     ensures marks { marks.new.marks ≡ [] }
 {
@@ -293,8 +293,8 @@ fn drop_taken(slots: &mut GapBuffer, marks: &mut Counts)
 #[cold]
 fn reserve_marked(slots: &mut GapBuffer, marks: &mut Counts, additional: usize) -> bool
     requires some { 0 < length marks.old.marks }
-    requires marked { IsMarked marks.old.marks slots.old.messages }
-    ensures marked { 0 < length marks.new.marks → IsMarked marks.new.marks slots.new.messages }
+    requires marked { HasMarkOfEach marks.old.marks slots.old.messages }
+    ensures marked { 0 < length marks.new.marks → HasMarkOfEach marks.new.marks slots.new.messages }
     ensures shown { shown marks.new.marks slots.new.messages ≡ pick marks.old.marks slots.old.messages }
     ensures room { slots.old.room ≤ slots.new.room }
     ensures dropped { result ≡ false → marks.new.marks ≡ [] }
@@ -314,7 +314,7 @@ fn reserve_marked(slots: &mut GapBuffer, marks: &mut Counts, additional: usize) 
 // Whether more was taken than is held and can be put back, or there is no mark for one more slot.
 fn is_crowded(slots: &GapBuffer, marks: &Counts, additional: usize) -> bool
     requires some { 0 < length marks.now.marks }
-    requires marked { IsMarked marks.now.marks slots.now.messages }
+    requires marked { HasMarkOfEach marks.now.marks slots.now.messages }
 {
     let held = marks.total();
     slots.len() - held > held.saturating_add(additional) || marks.len() - slots.len() <= 1
@@ -324,11 +324,11 @@ fn is_crowded(slots: &GapBuffer, marks: &Counts, additional: usize) -> bool
 #[cold]
 fn mark_next(slots: &mut GapBuffer, marks: &mut Counts, msg: MsgNo)
     requires some { 0 < length marks.old.marks }
-    requires marked { IsMarked marks.old.marks slots.old.messages }
+    requires marked { HasMarkOfEach marks.old.marks slots.old.messages }
     requires room { length (pick marks.old.marks slots.old.messages) < slots.old.room }
     ensures room { slots.new.room ≡ slots.old.room }
     ensures next { length slots.new.messages < slots.new.room }
-    ensures marked { (a : Sent) → a.msg ≡ msg → 0 < length marks.new.marks → IsMarked marks.new.marks (slots.new.messages ++ a ∷ []) }
+    ensures marked { (a : Sent) → a.msg ≡ msg → 0 < length marks.new.marks → HasMarkOfEach marks.new.marks (slots.new.messages ++ a ∷ []) }
     ensures shown { (a : Sent) → a.msg ≡ msg → shown marks.new.marks (slots.new.messages ++ a ∷ []) ≡ pick marks.old.marks slots.old.messages ++ a ∷ [] }
 {
     let marked = marks.len();
@@ -342,7 +342,7 @@ fn mark_next(slots: &mut GapBuffer, marks: &mut Counts, msg: MsgNo)
 
 // Whether this number is above that of the last message.
 fn is_above(slots: &GapBuffer, msg: MsgNo) -> bool
-    ensures { result ≡ true → IsRising slots.now.messages → (k : ℕ) (a : Sent)
+    ensures { result ≡ true → AreRisingMessages slots.now.messages → (k : ℕ) (a : Sent)
         → slice_get slots.now.messages k ≡ Some a → a.msg < msg }
 {
     let count = slots.len();
@@ -359,7 +359,7 @@ fn is_above(slots: &GapBuffer, msg: MsgNo) -> bool
 fn has_first(slots: &GapBuffer, marks: &Counts, msg: MsgNo) -> bool
     ensures before { result ≡ true → 0 < marks.now.before }
     ensures room { result ≡ true → length slots.now.messages < slots.now.room }
-    ensures below { result ≡ true → IsRising slots.now.messages → (k : ℕ) (a : Sent)
+    ensures below { result ≡ true → AreRisingMessages slots.now.messages → (k : ℕ) (a : Sent)
         → slice_get slots.now.messages k ≡ Some a → msg < a.msg }
 {
     marks.before() > 0 && slots.has_room() && is_below(slots, msg)
@@ -367,7 +367,7 @@ fn has_first(slots: &GapBuffer, marks: &Counts, msg: MsgNo) -> bool
 
 // Whether this number is below that of the first message.
 fn is_below(slots: &GapBuffer, msg: MsgNo) -> bool
-    ensures { result ≡ true → IsRising slots.now.messages → (k : ℕ) (a : Sent)
+    ensures { result ≡ true → AreRisingMessages slots.now.messages → (k : ℕ) (a : Sent)
         → slice_get slots.now.messages k ≡ Some a → msg < a.msg }
 {
     match slots.get(0) {
@@ -378,7 +378,7 @@ fn is_below(slots: &GapBuffer, msg: MsgNo) -> bool
 
 // The slot that this message was taken from, if it is still there.
 fn taken_slot(slots: &GapBuffer, marks: &Counts, message: &Sent) -> Option<usize>
-    requires { IsMarked marks.now.marks slots.now.messages }
+    requires { HasMarkOfEach marks.now.marks slots.now.messages }
     ensures there { IfSome result (λ slot. slice_get slots.now.messages slot ≡ Some message.now) }
     ensures unset { IfSome result (λ slot. slice_index_or marks.now.marks slot false ≡ false) }
     ensures belongs { IfSome result (λ slot. Belongs message.now.msg slots.now.messages slot) }
@@ -396,9 +396,9 @@ fn taken_slot(slots: &GapBuffer, marks: &Counts, message: &Sent) -> Option<usize
 #[cold]
 fn put_back_marked(slots: &mut GapBuffer, marks: &mut Counts, message: Sent)
     requires some { 0 < length marks.old.marks }
-    requires marked { IsMarked marks.old.marks slots.old.messages }
+    requires marked { HasMarkOfEach marks.old.marks slots.old.messages }
     requires room { length (pick marks.old.marks slots.old.messages) < slots.old.room }
-    ensures marked { 0 < length marks.new.marks → IsMarked marks.new.marks slots.new.messages }
+    ensures marked { 0 < length marks.new.marks → HasMarkOfEach marks.new.marks slots.new.messages }
     ensures messages { IsPutBack message (pick marks.old.marks slots.old.messages) (shown marks.new.marks slots.new.messages) }
     ensures room { slots.old.room ≤ slots.new.room }
 {
@@ -414,9 +414,9 @@ fn put_back_marked(slots: &mut GapBuffer, marks: &mut Counts, message: Sent)
 // rolls back comes in descending order, so this is once for all of them.
 fn put_back_without_slot(slots: &mut GapBuffer, marks: &mut Counts, message: Sent)
     requires some { 0 < length marks.old.marks }
-    requires marked { IsMarked marks.old.marks slots.old.messages }
+    requires marked { HasMarkOfEach marks.old.marks slots.old.messages }
     requires room { length (pick marks.old.marks slots.old.messages) < slots.old.room }
-    ensures marked { 0 < length marks.new.marks → IsMarked marks.new.marks slots.new.messages }
+    ensures marked { 0 < length marks.new.marks → HasMarkOfEach marks.new.marks slots.new.messages }
     ensures messages { IsPutBack message (pick marks.old.marks slots.old.messages) (shown marks.new.marks slots.new.messages) }
     ensures room { slots.old.room ≤ slots.new.room }
 {
@@ -434,7 +434,7 @@ fn put_back_without_slot(slots: &mut GapBuffer, marks: &mut Counts, message: Sen
 #[cold]
 fn count_marked_before(slots: &GapBuffer, marks: &Counts, place: usize) -> usize
     requires some { 0 < length marks.now.marks }
-    requires marked { IsMarked marks.now.marks slots.now.messages }
+    requires marked { HasMarkOfEach marks.now.marks slots.now.messages }
     ensures { IsBySend (pick marks.now.marks slots.now.messages)
         → AreSentBefore place (pick marks.now.marks slots.now.messages) result }
 {

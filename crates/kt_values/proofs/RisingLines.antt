@@ -25,7 +25,7 @@ use Rattle.kt_values.specs.Done.{Done, done, done_after}
 use Rattle.kt_values.specs.Values.{Act}
 use Rattle.kt_values.specs.Acts.{stepper}
 use Rattle.kt_protocol.specs.InTransit.{received_of}
-use Rattle.kt_values.specs.States.{messages_between, IsAbove, IsRising}
+use Rattle.kt_values.specs.States.{messages_between, IsAbove, AreRisingNumbers}
 use Rattle.kt_values.proofs.DoneAlong.{done_more}
 use Rattle.kt_values.proofs.OwnAndLive.{cut_in}
 use Rattle.kt_values.proofs.LegalFacts.{sound}
@@ -208,14 +208,14 @@ above_same : (n : ℕ) (l : List ℕ) → Over n l → IsAbove n l
 above_same n [] o = tt
 above_same n (x ∷ l) o = (o.0, above_same n l o.1)
 
-rising_same : (l : List ℕ) → Rising l → IsRising l
+rising_same : (l : List ℕ) → Rising l → AreRisingNumbers l
 rising_same [] r = tt
 rising_same (x ∷ l) r = (above_same x l r.0, rising_same l r.1)
 
 pub gone_of : (n : ℕ) (steps : List ProtocolStep) → ((xs : List ProtocolStep) → Invariant (once_closed (late_run (opening n) xs))) → Gone (late_run (opening n) steps) []
 gone_of n steps g = run_rises (opening n) steps g (record { keeps = kept.kept_of n [] (λ xs. g xs); carried = carried_of n [] (λ xs. g xs); rises = λ l. record { each = λ p q. tt } })
 
-pub rises_of : (n : ℕ) (steps : List ProtocolStep) → ((xs : List ProtocolStep) → Invariant (once_closed (late_run (opening n) xs))) → IsLegal (late_run (opening n) steps).log → (p q : ℕ) → IsRising (messages_between (done (late_run (opening n) steps).log).own (late_run (opening n) steps).channel (late_run (opening n) steps).held p q)
+pub rises_of : (n : ℕ) (steps : List ProtocolStep) → ((xs : List ProtocolStep) → Invariant (once_closed (late_run (opening n) xs))) → IsLegal (late_run (opening n) steps).log → (p q : ℕ) → AreRisingNumbers (messages_between (done (late_run (opening n) steps).log).own (late_run (opening n) steps).channel (late_run (opening n) steps).held p q)
 rises_of n steps g l p q = rising_same _ (((gone_of n steps g).rises l).each p q)
 
 pub kept_is : (n : ℕ) (steps : List ProtocolStep) → ((xs : List ProtocolStep) → Invariant (once_closed (late_run (opening n) xs))) → IsLegal (late_run (opening n) steps).log → (p q : ℕ) → messages ((late_run (opening n) steps).kept q p) ≡ received_of q (drop ((done (late_run (opening n) steps).log).permanent p) ((done (late_run (opening n) steps).log).own p))

@@ -6,7 +6,7 @@ use Rattle.kt_closing.specs.LateSteps.{late_run}
 use Rattle.kt_values.specs.Done.{done}
 use Rattle.kt_values.specs.Values.{Rules, Due, Act, Apply, Keep, Promote, Discard, Restore, Drop, due, first_due, does, does_all}
 use Rattle.kt_values.specs.Acts.{acts_through}
-use Rattle.kt_values.specs.Things.{Things, Saving, IsSaving, first_things, Leads, LeadsAlong, things_for}
+use Rattle.kt_values.specs.Things.{Things, Saving, IsSaving, first_things, ThingsLead, LeadsAlong, things_for}
 use Rattle.kt_values.proofs.RunActs.{whole_run}
 
 module _ {V B : Type 0} (r : Rules V) (s : Saving V B) (i : IsSaving r s) where
@@ -41,7 +41,7 @@ module _ {V B : Type 0} (r : Rules V) (s : Saving V B) (i : IsSaving r s) where
   saved_promoted None v = refl
   saved_promoted (Some w) v = refl
 
-  one : (a : Act) (d : Due V) (y : Things V B) → Valid d → Leads r s a (things_for s d) y → Valid (does r d a) × (y ≡ things_for s (does r d a))
+  one : (a : Act) (d : Due V) (y : Things V B) → Valid d → ThingsLead r s a (things_for s d) y → Valid (does r d a) × (y ≡ things_for s (does r d a))
   one (Apply from body) d y v l = (record { object = after_valid d.object from body l.0 v.object; permanent = v.permanent; tentative = v.tentative }, l.1)
   one Keep d y v l = (record { object = v.object; permanent = v.permanent; tentative = v.object }, l)
   one Promote d y v l = (record { object = v.object; permanent = promoted d.tentative d.permanent v.tentative v.permanent; tentative = none_valid }, l ∙ ap (λ (b : B). record { present = d.object; permanent = b; tentative = None }) (saved_promoted d.tentative d.permanent))

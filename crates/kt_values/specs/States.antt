@@ -56,6 +56,6 @@ IsAbove n [] = Unit {0}
 IsAbove n (x ∷ xs) = (n < x) × IsAbove n xs
 
 -- the numbers of a list rise
-abbrev pub IsRising : List ℕ → Type 0
-IsRising [] = Unit {0}
-IsRising (x ∷ xs) = IsAbove x xs × IsRising xs
+abbrev pub AreRisingNumbers : List ℕ → Type 0
+AreRisingNumbers [] = Unit {0}
+AreRisingNumbers (x ∷ xs) = IsAbove x xs × AreRisingNumbers xs

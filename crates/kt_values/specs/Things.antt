@@ -32,18 +32,18 @@ pub record Restores {V B : Type 0} (s : Saving V B) (x y : Things V B) : Type 0 
   pub present : y ≡ record x { present = Some value }
 
 -- an act leads from some things to others
-abbrev pub Leads : {V B : Type 0} → Rules V → Saving V B → Act → Things V B → Things V B → Type 0
-Leads r s (Apply from body) x y = (s.fits body ≡ true) × (y ≡ record x { present = option_map (λ v. r.after v from body) x.present })
-Leads r s Keep x y = y ≡ record x { tentative = option_map s.saved x.present }
-Leads r s Promote x y = y ≡ record x { permanent = unwrap_or x.tentative x.permanent; tentative = None }
-Leads r s Discard x y = y ≡ record x { tentative = None }
-Leads r s Restore x y = Restores s x y
-Leads r s Drop x y = y ≡ record x { present = None }
+abbrev pub ThingsLead : {V B : Type 0} → Rules V → Saving V B → Act → Things V B → Things V B → Type 0
+ThingsLead r s (Apply from body) x y = (s.fits body ≡ true) × (y ≡ record x { present = option_map (λ v. r.after v from body) x.present })
+ThingsLead r s Keep x y = y ≡ record x { tentative = option_map s.saved x.present }
+ThingsLead r s Promote x y = y ≡ record x { permanent = unwrap_or x.tentative x.permanent; tentative = None }
+ThingsLead r s Discard x y = y ≡ record x { tentative = None }
+ThingsLead r s Restore x y = Restores s x y
+ThingsLead r s Drop x y = y ≡ record x { present = None }
 
 -- some acts lead there, one after another
 abbrev pub LeadsAlong : {V B : Type 0} → Rules V → Saving V B → List Act → Things V B → Things V B → Type 0
 LeadsAlong r s [] x y = y ≡ x
-LeadsAlong {V} {B} r s (a ∷ acts) x y = (z : Things V B) × Leads r s a x z × LeadsAlong r s acts z y
+LeadsAlong {V} {B} r s (a ∷ acts) x y = (z : Things V B) × ThingsLead r s a x z × LeadsAlong r s acts z y
 
 -- the things of a process are those that are due to it
 abbrev pub things_for : {V B : Type 0} → Saving V B → Due V → Things V B

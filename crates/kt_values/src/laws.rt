@@ -17,7 +17,7 @@ ghost use Rattle.kt_values.specs.Done.{done};
 ghost use Rattle.kt_values.specs.Values.{Rules, due, first_due, does_all, can_all, spares, acts_along, closing, Apply, Keep, Promote, Discard, Restore, Drop};
 ghost use Rattle.kt_values.specs.Acts.{acts, acts_by, acts_through, stepper, failures};
 ghost use Rattle.kt_values.specs.SeenActs.{seen_acts};
-ghost use Rattle.kt_values.specs.States.{due_in, IsSent, live_in, permanent_in, messages_between, StandsOnce, KeepsReceived, IsRising};
+ghost use Rattle.kt_values.specs.States.{due_in, IsSent, live_in, permanent_in, messages_between, StandsOnce, KeepsReceived, AreRisingNumbers};
 ghost use Rattle.kt_values.specs.Marks.{marks};
 ghost use Rattle.kt_values.specs.Offers.{SendsOffers, HasOffers};
 ghost use Rattle.kt_values.specs.Things.{Things, Saving, IsSaving, first_things, LeadsAlong, things_for};
@@ -121,7 +121,7 @@ pub fn acts_of_runs()
 
     // These lists rise, in that order. What is kept is what was received past the own permanent position.
     ensures rising { (n : ℕ) (steps : List ProtocolStep) (p q : ℕ) →
-        IsRising (messages_between (done (late_run (opening n) steps).log).own (late_run (opening n) steps).channel (late_run (opening n) steps).held p q) }
+        AreRisingNumbers (messages_between (done (late_run (opening n) steps).log).own (late_run (opening n) steps).channel (late_run (opening n) steps).held p q) }
     ensures kept_lists { (n : ℕ) (steps : List ProtocolStep) → KeepsReceived (late_run (opening n) steps).log (late_run (opening n) steps).kept }
 
     // While a process is in a checkpoint, what a commit would leave of a kept list is what stands past the mark.

@@ -9,31 +9,31 @@ use Rattle.kt_cuts.specs.declared.deeds.Deed.TheVariants as deed
 use Rattle.kt_walk.specs.declared.queue.Arrival.{Arrival}
 use Rattle.kt_walk.specs.declared.received_from.Undone.{Undone}
 use Rattle.kt_cuts.specs.Legal.{has_deed}
-use Rattle.kt_cuts.specs.Lists.{Rises, sent_in}
+use Rattle.kt_cuts.specs.Lists.{NumbersRise, sent_in}
 use Rattle.kt_cuts.specs.Past.{Past}
 use Rattle.kt_cuts.specs.Orphans.{IsOrphanBetween, IsAtMost, earlier}
 use Rattle.kt_cuts.specs.Standing.{IsInOrder}
-use Rattle.kt_walk.specs.Arrivals.{ReceivedParts, IsRising, Parts, sent_at, received_at, undone_at, undo, IsSooner, AreInTurn, IsReceivedFrom, ShowsReceived, IsUncovered}
+use Rattle.kt_walk.specs.Arrivals.{ReceivedParts, AreRisingArrivals, PartsAt, sent_at, received_at, undone_at, undo, IsSooner, AreInTurn, IsReceivedFrom, ShowsReceived, IsUncovered}
 use Rattle.kt_cuts.proofs.Lists.{get_push, get_kept, get_last, get_take, get_in_take, get_drop}
 use Rattle.kt_cuts.proofs.DeedFacts.{has_at, has_front}
 use Rattle.kt_cuts.proofs.OrphanFacts.{get_from_drop, received_of, some_earlier, some_weaker, at_most_first, at_most_second}
 use Rattle.kt_walk.proofs.ItemPlaces.{in_turn_take, in_turn_joined, in_turn_undone, get_joined, has_left, has_right, get_mapped, mapped_get, rising_take, rising_drop, rising_push, one_send, sent_before, lacks_past, lacks_part, past_it, lacks_push, place_or_lacks}
 
 -- an item is within the first so many, or past them
-within_count : {X : Type 0} (number : X → ℕ) (xs : List X) (bound count k : ℕ) (x : X) → Parts number xs bound count → slice_get xs k ≡ Some x → number x < bound → k < count
+within_count : {X : Type 0} (number : X → ℕ) (xs : List X) (bound count k : ℕ) (x : X) → PartsAt number xs bound count → slice_get xs k ≡ Some x → number x < bound → k < count
 within_count number xs bound count k x parts e l = elim (cases_lt k count) [
   | inl low ↦ low
   | inr high ↦ absurd (omega (arith, l, parts.above k x high e))
 ]
 
-pub past_count : (number : Arrival → ℕ) (xs : List Arrival) (bound count k : ℕ) (x : Arrival) → Parts number xs bound count → slice_get xs k ≡ Some x → bound ≤ number x → count ≤ k
+pub past_count : (number : Arrival → ℕ) (xs : List Arrival) (bound count k : ℕ) (x : Arrival) → PartsAt number xs bound count → slice_get xs k ≡ Some x → bound ≤ number x → count ≤ k
 past_count number xs bound count k x parts e l = elim (cases_lt k count) [
   | inl low ↦ absurd (omega (arith, l, parts.below k x low e))
   | inr high ↦ high
 ]
 
 -- the sender's history is cut back
-pub received_from_sender_cut : (v : ReceivedParts) (rs ss : List Deed) (np nq n c : ℕ) → Rises (sent_in ss) → nq ≡ n → Parts sent_at v.arrivals n c → IsReceivedFrom v rs ss np nq
+pub received_from_sender_cut : (v : ReceivedParts) (rs ss : List Deed) (np nq n c : ℕ) → NumbersRise (sent_in ss) → nq ≡ n → PartsAt sent_at v.arrivals n c → IsReceivedFrom v rs ss np nq
     → IsReceivedFrom (record v { arrivals = take c v.arrivals; undone = v.undone ++ map undo (drop c v.arrivals) }) rs (take n ss) np nq
 received_from_sender_cut v rs ss np nq n c r last_permanent parts t = record {
   arrived = λ k a e. t.arrived k a (get_take c v.arrivals k a e).0;
@@ -79,7 +79,7 @@ received_from_sender_cut v rs ss np nq n c r last_permanent parts t = record {
 }
 
 -- the receiver's history is cut back
-pub received_from_receiver_cut : (v : ReceivedParts) (rs ss : List Deed) (np nq n c d : ℕ) → Parts received_at v.arrivals n c → Parts undone_at v.undone n d → IsReceivedFrom v rs ss np nq
+pub received_from_receiver_cut : (v : ReceivedParts) (rs ss : List Deed) (np nq n c d : ℕ) → PartsAt received_at v.arrivals n c → PartsAt undone_at v.undone n d → IsReceivedFrom v rs ss np nq
     → IsReceivedFrom (record v { arrivals = take c v.arrivals; undone = take d v.undone }) (take n rs) ss np nq
 received_from_receiver_cut v rs ss np nq n c d parts undone t = record {
   arrived = λ k a e.
@@ -109,13 +109,13 @@ received_from_receiver_cut v rs ss np nq n c d parts undone t = record {
 same_received : (v w : ReceivedParts) → w.receiver ≡ v.receiver → w.sender ≡ v.sender → w.arrivals ≡ v.arrivals → w.undone ≡ v.undone → v ≡ w
 same_received v w a b c d = λ i. record { receiver = (sym a) i; sender = (sym b) i; arrivals = (sym c) i; undone = (sym d) i }
 
-pub sender_cut : (v w : ReceivedParts) (rs ss : List Deed) (np nq n c : ℕ) → Rises (sent_in ss) → nq ≡ n → (IsRising v.arrivals → Parts sent_at v.arrivals n c)
+pub sender_cut : (v w : ReceivedParts) (rs ss : List Deed) (np nq n c : ℕ) → NumbersRise (sent_in ss) → nq ≡ n → (AreRisingArrivals v.arrivals → PartsAt sent_at v.arrivals n c)
     → w.receiver ≡ v.receiver → w.sender ≡ v.sender → w.arrivals ≡ take c v.arrivals → w.undone ≡ v.undone ++ map undo (drop c v.arrivals) → IsReceivedFrom v rs ss np nq → IsReceivedFrom w rs (take n ss) np nq
 sender_cut v w rs ss np nq n c r last_permanent parts a b d e t =
     let left : ReceivedParts = record v { arrivals = take c v.arrivals; undone = v.undone ++ map undo (drop c v.arrivals) } in
     subst (λ (x : ReceivedParts). IsReceivedFrom x rs (take n ss) np nq) (same_received left w a b d e) (received_from_sender_cut v rs ss np nq n c r last_permanent (parts t.rising) t)
 
-pub receiver_cut : (v w : ReceivedParts) (rs ss : List Deed) (np nq n c d : ℕ) → (IsRising v.arrivals → Parts received_at v.arrivals n c) → (AreInTurn v.undone → Parts undone_at v.undone n d)
+pub receiver_cut : (v w : ReceivedParts) (rs ss : List Deed) (np nq n c d : ℕ) → (AreRisingArrivals v.arrivals → PartsAt received_at v.arrivals n c) → (AreInTurn v.undone → PartsAt undone_at v.undone n d)
     → w.receiver ≡ v.receiver → w.sender ≡ v.sender → w.arrivals ≡ take c v.arrivals → w.undone ≡ take d v.undone → IsReceivedFrom v rs ss np nq → IsReceivedFrom w (take n rs) ss np nq
 receiver_cut v w rs ss np nq n c d parts undone a b e f t =
     let left : ReceivedParts = record v { arrivals = take c v.arrivals; undone = take d v.undone } in
@@ -136,7 +136,7 @@ received_committed v rs ss np nq mp mq l m t = record {
 }
 
 -- the first so many arrivals, which both permanent parts have, are forgotten
-pub received_forgotten : (v : ReceivedParts) (rs ss : List Deed) (np nq n c d : ℕ) → Parts sent_at v.arrivals nq c → Parts received_at v.arrivals np d → n ≤ c → n ≤ d → IsReceivedFrom v rs ss np nq
+pub received_forgotten : (v : ReceivedParts) (rs ss : List Deed) (np nq n c d : ℕ) → PartsAt sent_at v.arrivals nq c → PartsAt received_at v.arrivals np d → n ≤ c → n ≤ d → IsReceivedFrom v rs ss np nq
     → IsReceivedFrom (record v { arrivals = drop n v.arrivals }) rs ss np nq
 received_forgotten v rs ss np nq n c d sent received low_c low_d t = record {
   arrived = λ k a e. t.arrived (n + k) a (get_drop n v.arrivals k a e);
@@ -198,7 +198,7 @@ received_from_sender_more v rs ss np nq d other t = record {
 }
 
 -- the receiver receives a message of the sender's, whose send is live
-pub received_received : (v : ReceivedParts) (rs ss : List Deed) (np nq m i j : ℕ) → Rises (sent_in ss) → slice_get ss i ≡ Some (deed.Sent m v.receiver) → j ≡ length rs
+pub received_received : (v : ReceivedParts) (rs ss : List Deed) (np nq m i j : ℕ) → NumbersRise (sent_in ss) → slice_get ss i ≡ Some (deed.Sent m v.receiver) → j ≡ length rs
     → ((k x : ℕ) → slice_get rs k ≡ Some (deed.Received x v.sender) → x < m) → IsReceivedFrom v rs ss np nq
     → IsReceivedFrom (record v { arrivals = v.arrivals ++ record { msg = m; sent = i; received = j } ∷ [] }) (rs ++ deed.Received m v.sender ∷ []) ss np nq
 received_received v rs ss np nq m i j r sent place later t = record {
@@ -252,7 +252,7 @@ received_received v rs ss np nq m i j r sent place later t = record {
     new : Deed
     new = deed.Received m v.sender
 
-pub forgotten : (v w : ReceivedParts) (rs ss : List Deed) (np nq mp mq n c d : ℕ) → np ≤ mp → nq ≤ mq → (IsRising v.arrivals → Parts sent_at v.arrivals mq c) → (IsRising v.arrivals → Parts received_at v.arrivals mp d) → n ≤ c → n ≤ d
+pub forgotten : (v w : ReceivedParts) (rs ss : List Deed) (np nq mp mq n c d : ℕ) → np ≤ mp → nq ≤ mq → (AreRisingArrivals v.arrivals → PartsAt sent_at v.arrivals mq c) → (AreRisingArrivals v.arrivals → PartsAt received_at v.arrivals mp d) → n ≤ c → n ≤ d
     → w.receiver ≡ v.receiver → w.sender ≡ v.sender → w.arrivals ≡ drop n v.arrivals → w.undone ≡ v.undone → IsReceivedFrom v rs ss np nq → IsReceivedFrom w rs ss mp mq
 forgotten v w rs ss np nq mp mq n c d l m sent received low_c low_d a b e f t =
     let left : ReceivedParts = record v { arrivals = drop n v.arrivals } in
@@ -265,7 +265,7 @@ IsUndoneWithin undone place msg = (k : ℕ) × (u : Undone) × (slice_get undone
 
 -- a message is one of rising arrivals, past one place and before another one
 abbrev pub IsPast : List Arrival → ℕ → ℕ → ℕ → Type 0
-IsPast arrivals sent received msg = IsRising arrivals → (k : ℕ) × (a : Arrival) × (slice_get arrivals k ≡ Some a) × (a.msg ≡ msg) × (sent ≤ a.sent) × (a.received < received)
+IsPast arrivals sent received msg = AreRisingArrivals arrivals → (k : ℕ) × (a : Arrival) × (slice_get arrivals k ≡ Some a) × (a.msg ≡ msg) × (sent ≤ a.sent) × (a.received < received)
 
 -- the orphans of a receiver and a sender
 abbrev pub IsOrphanOf : ReceivedParts → (ℕ → ℕ) → ℕ → Type 0
@@ -293,7 +293,7 @@ some_orphan v cut x y past undone =
     (some_weaker (IsUndoneWithin v.undone (cut v.receiver)) (IsOrphanOf v cut) y (undone_orphan v cut) undone)
 
 pub least_orphan : (v : ReceivedParts) (cut : ℕ → ℕ) (x y : Option ℕ) (s : Past) (m : ℕ)
-    → ((k : ℕ) (a : Arrival) → IsRising v.arrivals → slice_get v.arrivals k ≡ Some a → cut v.sender ≤ a.sent → a.received < cut v.receiver → IsAtMost x a.msg)
+    → ((k : ℕ) (a : Arrival) → AreRisingArrivals v.arrivals → slice_get v.arrivals k ≡ Some a → cut v.sender ≤ a.sent → a.received < cut v.receiver → IsAtMost x a.msg)
     → ((k : ℕ) (u : Undone) → AreInTurn v.undone → slice_get v.undone k ≡ Some u → u.received < cut v.receiver → IsAtMost y u.msg)
     → s.permanent v.sender ≤ cut v.sender → ShowsReceived v s → IsOrphanBetween s cut v.receiver v.sender m → IsAtMost (earlier x y) m
 least_orphan v cut x y s m past undone last_permanent t o =
@@ -309,7 +309,7 @@ least_orphan v cut x y s m past undone last_permanent t o =
     ]
 
 -- none of what is left lies within both parts
-pub forgotten_none : (v w : ReceivedParts) (lengths : List ℕ) (n c d : ℕ) → Parts sent_at v.arrivals (slice_index lengths v.sender) c → Parts received_at v.arrivals (slice_index lengths v.receiver) d → n ≡ min c d
+pub forgotten_none : (v w : ReceivedParts) (lengths : List ℕ) (n c d : ℕ) → PartsAt sent_at v.arrivals (slice_index lengths v.sender) c → PartsAt received_at v.arrivals (slice_index lengths v.receiver) d → n ≡ min c d
     → w.receiver ≡ v.receiver → w.sender ≡ v.sender → w.arrivals ≡ drop n v.arrivals → w.undone ≡ v.undone → IsUncovered lengths w
 forgotten_none v w lengths n c d sent received least a b e _ = record {
   none = λ k x f cover.

@@ -16,7 +16,7 @@ use Rattle.kt_transit.specs.declared.in_transit.Sent.{Sent as InTransit}
 use Rattle.kt_transit.specs.LastReceived.{IsLastFrom}
 use Rattle.kt_transit.proofs.InTransitFacts.{same_away, other_deed, one_sent, one_taken}
 use Rattle.kt_transit.proofs.LastFacts.{last_received, last_stays}
-use Rattle.kt_walk.specs.Pairs.{PairState, IsTransit, ShowsTransit, IsFit, away_in}
+use Rattle.kt_walk.specs.Pairs.{PairState, IsTransit, ShowsTransit, IsFitPast, away_in}
 use Rattle.kt_walk.proofs.ItemPlaces.{lacks_push}
 use Rattle.kt_walk.proofs.PairFacts.{same_sent}
 
@@ -47,7 +47,7 @@ sender_more v rs ss dropped n d other w = record {
 }
 
 -- a deed of one process that neither sends to the receiver nor receives from the sender
-pub way_more : (v : PairState) (s : Past) (p : ℕ) (d : Deed) → IsFit s → (v.received_from.receiver ≡ p → (m : ℕ) → d ≢ deed.Received m v.received_from.sender) → (v.received_from.sender ≡ p → (m : ℕ) → d ≢ deed.Sent m v.received_from.receiver) → ShowsTransit v s
+pub way_more : (v : PairState) (s : Past) (p : ℕ) (d : Deed) → IsFitPast s → (v.received_from.receiver ≡ p → (m : ℕ) → d ≢ deed.Received m v.received_from.sender) → (v.received_from.sender ≡ p → (m : ℕ) → d ≢ deed.Sent m v.received_from.receiver) → ShowsTransit v s
     → IsTransit v (at_one p (s.live p ++ d ∷ []) s.live v.received_from.receiver) (at_one p (s.live p ++ d ∷ []) s.live v.received_from.sender) s.dropped (s.permanent v.received_from.receiver)
 way_more v s p d fit receives sends w =
     at_one_all (λ x l. (x ≡ p → (m : ℕ) → d ≢ deed.Received m v.received_from.sender) → IsTransit v (s.live x) now s.dropped (s.permanent x) → IsTransit v l now s.dropped (s.permanent x)) p (s.live p ++ d ∷ []) s.live
@@ -59,7 +59,7 @@ way_more v s p d fit receives sends w =
     now = at_one p (s.live p ++ d ∷ []) s.live v.received_from.sender
 
 -- one more message is sent
-pub way_sent : (v : PairState) (s : Past) → IsFit s → ShowsTransit v s
+pub way_sent : (v : PairState) (s : Past) → IsFitPast s → ShowsTransit v s
     → IsTransit (record v { in_transit = v.in_transit ++ record { msg = s.rows + 1; place = length (s.live v.received_from.sender) } ∷ [] }) (s.live v.received_from.receiver) (s.live v.received_from.sender ++ deed.Sent (s.rows + 1) v.received_from.receiver ∷ []) s.dropped (s.permanent v.received_from.receiver)
 way_sent v s fit w = record {
   in_transit = one_sent v.in_transit v.received_from.receiver (s.live v.received_from.sender) (away_in v.received_from.sender (s.live v.received_from.receiver) s.dropped) (s.rows + 1) less (λ i. not_received (has_deed new (s.live v.received_from.receiver)) refl i || not_dropped (s.dropped (s.rows + 1)) refl i) w.in_transit;

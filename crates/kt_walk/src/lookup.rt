@@ -8,7 +8,7 @@ ghost use Rattle.kt_cuts.specs.Legal.{IsLegal};
 ghost use Rattle.kt_transit.specs.TransitList.{IsBySend};
 ghost use Rattle.kt_walk.specs.declared.queue.Arrival.{Arrival};
 ghost use Rattle.kt_walk.specs.declared.received_from.Undone.{Undone};
-ghost use Rattle.kt_walk.specs.Arrivals.{Has, IsRising, Parts};
+ghost use Rattle.kt_walk.specs.Arrivals.{Has, AreRisingArrivals, PartsAt};
 ghost use Rattle.kt_walk.specs.Pairs.{PairState, ShowsPairs};
 ghost use Rattle.kt_walk.specs.TraceEntries.{entries_of, entries_of_all, number_of, trace_at};
 ghost use Rattle.kt_walk.specs.Keeping.{kept_trace, held_of};
@@ -24,7 +24,7 @@ impl Pair {
     /// What is kept of a message, if there is one of this number.
     pub(crate) fn trace(&self, msg: MsgNo) -> Option<Trace>
         ensures found { IfSome result (λ t. Has (entries_of self.now) (msg, t)) }
-        ensures none { IfNone result (IsBySend self.now.in_transit → IsRising self.now.received_from.arrivals
+        ensures none { IfNone result (IsBySend self.now.in_transit → AreRisingArrivals self.now.received_from.arrivals
             → (t : Trace) → Has (entries_of self.now) (msg, t) → ⊥) }
     {
         if let Some((_, message)) = self.find(msg) {
@@ -41,7 +41,7 @@ impl Pair {
     /// The places of the send and the receive of a message that both live histories have, counted from 1.
     pub(crate) fn places(&self, msg: MsgNo) -> Option<(usize, usize)>
         ensures found { IfSome result (λ r. Has (entries_of self.now) (msg, trace_at self.now.received_from r)) }
-        ensures none { IfNone result (IsRising self.now.received_from.arrivals → (sent received : ℕ)
+        ensures none { IfNone result (AreRisingArrivals self.now.received_from.arrivals → (sent received : ℕ)
             → Has (entries_of self.now) (msg, trace_at self.now.received_from (sent, received)) → ⊥) }
     {
         let arrival = find_arrival(self.received_from.arrivals(), msg)?;
@@ -95,7 +95,7 @@ fn first_trace(pairs: &[Pair], msg: MsgNo) -> Option<Trace>
     ensures found { IfSome result (λ t. (i : ℕ) × (v : PairState) × (slice_get pairs.now i ≡ Some v)
         × Has (entries_of v) (msg, t)) }
     ensures none { IfNone result ((i : ℕ) (v : PairState) (t : Trace) → slice_get pairs.now i ≡ Some v
-        → IsBySend v.in_transit → IsRising v.received_from.arrivals → Has (entries_of v) (msg, t) → ⊥) }
+        → IsBySend v.in_transit → AreRisingArrivals v.received_from.arrivals → Has (entries_of v) (msg, t) → ⊥) }
 {
     for pair in pairs {
         let found = pair.trace(msg);
@@ -120,7 +120,7 @@ fn count_all(pairs: &[Pair]) -> usize
 // How many of rising arrivals have lower numbers.
 fn count_below(arrivals: &[Arrival], msg: MsgNo) -> usize
     ensures bound { result ≤ length arrivals.now }
-    ensures parts { IsRising arrivals.now → Parts number_of arrivals.now msg result }
+    ensures parts { AreRisingArrivals arrivals.now → PartsAt number_of arrivals.now msg result }
 {
     arrivals.partition_point(
         |arrival: &Arrival| -> bool
@@ -132,7 +132,7 @@ fn count_below(arrivals: &[Arrival], msg: MsgNo) -> usize
 // The one of rising arrivals that has this number.
 fn find_arrival(arrivals: &[Arrival], msg: MsgNo) -> Option<Arrival>
     ensures found { IfSome result (λ a. Has arrivals.now a × (a.msg ≡ msg)) }
-    ensures none { IfNone result (IsRising arrivals.now → (k : ℕ) (a : Arrival) → slice_get arrivals.now k ≡ Some a
+    ensures none { IfNone result (AreRisingArrivals arrivals.now → (k : ℕ) (a : Arrival) → slice_get arrivals.now k ≡ Some a
         → a.msg ≡ msg → ⊥) }
 {
     let arrival = arrivals.get(count_below(arrivals, msg)).copied()?;

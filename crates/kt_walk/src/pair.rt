@@ -4,14 +4,14 @@ ghost use Rattle.std.specs.Prelude.{◌≡◌, ◌+◌, ◌^◌, ◌≤◌, ◌<
 ghost use Rattle.kt_cuts.specs.declared.deeds.Deed.{Deed};
 ghost use Rattle.kt_cuts.specs.declared.deeds.Deed.TheVariants as deed;
 ghost use Rattle.kt_cuts.specs.Past.{Past};
-ghost use Rattle.kt_cuts.specs.Lists.{Rises, sent_in};
+ghost use Rattle.kt_cuts.specs.Lists.{NumbersRise, sent_in};
 ghost use Rattle.kt_cuts.specs.Orphans.{IsOrphanBetween, IsAtMost};
 ghost use Rattle.kt_cuts.specs.Standing.{IsInOrder};
 ghost use Rattle.kt_transit.specs.TransitList.{AreInTransit, IsBySend};
 ghost use Rattle.kt_transit.specs.LastReceived.{IsLastFrom};
 ghost use Rattle.kt_walk.specs.declared.queue.Arrival.{Arrival};
 ghost use Rattle.kt_walk.specs.Searching.{IsFoundPast};
-ghost use Rattle.kt_walk.specs.Arrivals.{IsRising, IsUncovered, ShowsReceived, cut_back};
+ghost use Rattle.kt_walk.specs.Arrivals.{AreRisingArrivals, IsUncovered, ShowsReceived, cut_back};
 ghost use Rattle.kt_walk.specs.Pairs.{but_for, count_of, is_idle, IsPairCutBack, IsPairCommitted, IsPairState, IsEachOnce, AreNotDropped};
 
 use crate::last::{last_arrival, last_undone, latest};
@@ -29,9 +29,9 @@ pub(crate) fn put_all_back(in_transit: &mut InTransit, arrivals: &[Arrival])
     requires { length in_transit.old.messages + length arrivals.now ≤ in_transit.old.room }
     ensures count { length in_transit.new.messages ≡ length in_transit.old.messages + length arrivals.now }
     ensures room { in_transit.old.room ≤ in_transit.new.room }
-    ensures in_transit { (receiver : ℕ) (sent : List Deed) (away : ℕ → Bool) → Rises (sent_in sent)
+    ensures in_transit { (receiver : ℕ) (sent : List Deed) (away : ℕ → Bool) → NumbersRise (sent_in sent)
         → AreInTransit in_transit.old.messages receiver sent away
-        → IsRising arrivals.now → ((k : ℕ) (a : Arrival) → slice_get arrivals.now k ≡ Some a
+        → AreRisingArrivals arrivals.now → ((k : ℕ) (a : Arrival) → slice_get arrivals.now k ≡ Some a
         → (slice_get sent a.sent ≡ Some (deed.Sent a.msg receiver)) × (away a.msg ≡ true))
         → AreInTransit in_transit.new.messages receiver sent (but_for arrivals.now away) }
 {
@@ -100,7 +100,7 @@ impl Pair {
 
     /// The least message in both live histories that was sent at one place or later and received before another one.
     pub(crate) fn link(&self, sent: usize, received: usize) -> Option<MsgNo>
-        ensures { IsRising self.now.received_from.arrivals
+        ensures { AreRisingArrivals self.now.received_from.arrivals
             → IsFoundPast self.now.received_from.arrivals sent received result }
     {
         self.received_from.link(sent, received)
@@ -191,7 +191,7 @@ impl Pair {
             → j ≤ slice_index permanent.now self.old.received_from.sender
             → IsPairState self.old received sent dropped i j
             → IsPairState self.new received sent dropped (slice_index permanent.now self.old.received_from.receiver) (slice_index permanent.now self.old.received_from.sender) }
-        ensures none { IsRising self.old.received_from.arrivals → IsUncovered permanent.now self.new.received_from }
+        ensures none { AreRisingArrivals self.old.received_from.arrivals → IsUncovered permanent.now self.new.received_from }
     {
         let place = permanent[self.received_from.receiver().get() as usize];
         self.last_permanent = OptMsgNo::of(self.last_before(place));
@@ -231,7 +231,7 @@ impl Pair {
     fn cut_sender_back(&mut self, members: ProcSet, lengths: &[usize; 64])
         ensures receiver { self.new.received_from.receiver ≡ self.old.received_from.receiver }
         ensures sender { self.new.received_from.sender ≡ self.old.received_from.sender }
-        ensures pair_state { (received sent : List Deed) (dropped : ℕ → Bool) (i j : ℕ) → Rises (sent_in sent)
+        ensures pair_state { (received sent : List Deed) (dropped : ℕ → Bool) (i j : ℕ) → NumbersRise (sent_in sent)
             → j ≡ slice_index lengths.now self.old.received_from.sender
             → IsPairState self.old received sent dropped i j
             → IsPairState self.new received (cut_back members lengths.now self.old.received_from.sender sent) dropped i j }
@@ -248,7 +248,7 @@ impl Pair {
     fn cut_receiver_back(&mut self, members: ProcSet, lengths: &[usize; 64])
         ensures receiver { self.new.received_from.receiver ≡ self.old.received_from.receiver }
         ensures sender { self.new.received_from.sender ≡ self.old.received_from.sender }
-        ensures pair_state { (received sent : List Deed) (dropped : ℕ → Bool) (i j : ℕ) → Rises (sent_in sent)
+        ensures pair_state { (received sent : List Deed) (dropped : ℕ → Bool) (i j : ℕ) → NumbersRise (sent_in sent)
             → IsEachOnce received → AreNotDropped self.old.received_from.sender received dropped
             → i ≡ slice_index lengths.now self.old.received_from.receiver
             → IsPairState self.old received sent dropped i j
@@ -266,7 +266,7 @@ impl Pair {
     fn cut_receiver(&mut self, place: usize)
         ensures receiver { self.new.received_from.receiver ≡ self.old.received_from.receiver }
         ensures sender { self.new.received_from.sender ≡ self.old.received_from.sender }
-        ensures pair_state { (received sent : List Deed) (dropped : ℕ → Bool) (j : ℕ) → Rises (sent_in sent)
+        ensures pair_state { (received sent : List Deed) (dropped : ℕ → Bool) (j : ℕ) → NumbersRise (sent_in sent)
             → IsEachOnce received → AreNotDropped self.old.received_from.sender received dropped
             → IsPairState self.old received sent dropped place j
             → IsPairState self.new (take place received) sent dropped place j }
@@ -284,7 +284,7 @@ impl Pair {
     fn cut_sender(&mut self, place: usize)
         ensures receiver { self.new.received_from.receiver ≡ self.old.received_from.receiver }
         ensures sender { self.new.received_from.sender ≡ self.old.received_from.sender }
-        ensures pair_state { (received sent : List Deed) (dropped : ℕ → Bool) (i j : ℕ) → Rises (sent_in sent)
+        ensures pair_state { (received sent : List Deed) (dropped : ℕ → Bool) (i j : ℕ) → NumbersRise (sent_in sent)
             → j ≡ place
             → IsPairState self.old received sent dropped i j
             → IsPairState self.new received (take place sent) dropped i j }

@@ -14,7 +14,7 @@ ghost use Rattle.kt_walk.specs.Searching.{IsFoundPast};
 ghost use Rattle.kt_walk.specs.Arrivals.{IsByPair, ShowsReceived, RollsBack, MakesPermanent, KeepsPermanent};
 ghost use Rattle.kt_base.specs.Sets.{has};
 ghost use Rattle.kt_walk.specs.Peers.{is_in};
-ghost use Rattle.kt_walk.specs.Pairs.{PairState, received_from_of, AreInUse, AreInitialPairs, IsPairCommitted, IsFit, IsEachOnce, AreNotDropped, ShowsPairs};
+ghost use Rattle.kt_walk.specs.Pairs.{PairState, received_from_of, AreInUse, AreInitialPairs, IsPairCommitted, IsFitPast, IsEachOnce, AreNotDropped, ShowsPairs};
 
 use crate::pair::Pair;
 use crate::peers::Peers;
@@ -107,7 +107,7 @@ impl Pairs {
 
     /// A process, p, sends a message to another one; unchanged where there is no memory.
     pub(crate) fn send(&mut self, p: ProcNo, to: ProcNo, message: Sent) -> Result<(), Memory>
-        ensures ok { OnOk result ((s : Past) (body : _) → ShowsPairs self.old s → IsFit s → p ≢ to
+        ensures ok { OnOk result ((s : Past) (body : _) → ShowsPairs self.old s → IsFitPast s → p ≢ to
             → message.msg ≡ s.rows + 1 → message.place ≡ length (s.live p)
             → ShowsPairs self.new (after s (event.Sent p to body))) }
         ensures err { OnErr result (self.new ≡ self.old) }
@@ -129,7 +129,7 @@ impl Pairs {
     ) -> Result<(), Memory>
         requires { (v : PairState) → slice_get self.old (p * 64 + from) ≡ Some v
             → slice_get v.in_transit index ≡ Some (record { msg = arrival.msg; place = arrival.sent }) }
-        ensures ok { OnOk result ((s : Past) → ShowsPairs self.old s → IsFit s → IsInOrder s
+        ensures ok { OnOk result ((s : Past) → ShowsPairs self.old s → IsFitPast s → IsInOrder s
             → IsAllowed s (event.Received p from arrival.msg) → arrival.received ≡ length (s.live p)
             → ShowsPairs self.new (after s (event.Received p from arrival.msg))) }
         ensures err { OnErr result (self.new ≡ self.old) }
@@ -149,7 +149,7 @@ impl Pairs {
     ) -> Result<(), Memory>
         requires { (v : PairState) → slice_get self.old (p * 64 + from) ≡ Some v
             → slice_get v.in_transit index ≡ Some message }
-        ensures ok { OnOk result ((s : Past) → ShowsPairs self.old s → IsFit s
+        ensures ok { OnOk result ((s : Past) → ShowsPairs self.old s → IsFitPast s
             → ShowsPairs self.new (after s (event.Dropped p from message.msg))) }
         ensures err { OnErr result (self.new ≡ self.old) }
     {

@@ -5,11 +5,11 @@ ghost use Rattle.kt_cuts.specs.declared.deeds.Deed.{Deed};
 ghost use Rattle.kt_walk.specs.declared.queue.Arrival.{Arrival};
 ghost use Rattle.kt_walk.specs.declared.received_from.Undone.{Undone};
 ghost use Rattle.kt_cuts.specs.Past.{Past};
-ghost use Rattle.kt_cuts.specs.Lists.{Rises, sent_in};
+ghost use Rattle.kt_cuts.specs.Lists.{NumbersRise, sent_in};
 ghost use Rattle.kt_cuts.specs.Orphans.{IsOrphanBetween, IsAtMost};
 ghost use Rattle.kt_cuts.specs.Standing.{IsInOrder};
 ghost use Rattle.kt_walk.specs.Searching.{IsFoundPast};
-ghost use Rattle.kt_walk.specs.Arrivals.{IsRising, Parts, sent_at, received_at, undone_at, undo, AreInTurn, IsReceivedFrom, ShowsReceived, IsUncovered, is_empty};
+ghost use Rattle.kt_walk.specs.Arrivals.{AreRisingArrivals, PartsAt, sent_at, received_at, undone_at, undo, AreInTurn, IsReceivedFrom, ShowsReceived, IsUncovered, is_empty};
 
 use crate::queue::{Arrival, Queue};
 use kt_base::{Memory, MsgNo, ProcNo};
@@ -106,7 +106,7 @@ impl ReceivedFrom {
         ensures fewer { length self.new.arrivals ≤ length self.old.arrivals }
         ensures left { (k : ℕ) (a : Arrival) → slice_get self.new.arrivals k ≡ Some a
             → slice_get self.old.arrivals k ≡ Some a }
-        ensures received_from { (received sent : List Deed) (i j : ℕ) → Rises (sent_in sent) → j ≡ place
+        ensures received_from { (received sent : List Deed) (i j : ℕ) → NumbersRise (sent_in sent) → j ≡ place
             → IsReceivedFrom self.old received sent i j → IsReceivedFrom self.new received (take place sent) i j }
     {
         let arrivals = self.arrivals.as_slice();
@@ -119,7 +119,7 @@ impl ReceivedFrom {
     pub(crate) fn forget_received(&mut self, kept: usize, place: usize)
         requires { kept ≤ length self.old.arrivals }
         ensures kept { self.new ≡ record self.old { arrivals = take kept self.old.arrivals; undone = take (length self.new.undone) self.old.undone } }
-        ensures undone { AreInTurn self.old.undone → Parts undone_at self.old.undone place (length self.new.undone) }
+        ensures undone { AreInTurn self.old.undone → PartsAt undone_at self.old.undone place (length self.new.undone) }
     {
         self.arrivals.truncate(kept);
         let undone = count_undone_before(&self.undone, place);
@@ -149,7 +149,7 @@ impl ReceivedFrom {
             → i ≤ slice_index permanent.now self.old.receiver → j ≤ slice_index permanent.now self.old.sender
             → IsReceivedFrom self.old received sent i j
             → IsReceivedFrom self.new received sent (slice_index permanent.now self.old.receiver) (slice_index permanent.now self.old.sender) }
-        ensures none { IsRising self.old.arrivals → IsUncovered permanent.now self.new }
+        ensures none { AreRisingArrivals self.old.arrivals → IsUncovered permanent.now self.new }
     {
         let arrivals = self.arrivals.as_slice();
         let sent = count_sent_before(arrivals, permanent[self.sender.get() as usize]);
@@ -168,7 +168,7 @@ impl ReceivedFrom {
 
     /// The least message whose send is live that was sent at one place or later and received before another one.
     pub(crate) fn link(&self, sent: usize, received: usize) -> Option<MsgNo>
-        ensures { IsRising self.now.arrivals → IsFoundPast self.now.arrivals sent received result }
+        ensures { AreRisingArrivals self.now.arrivals → IsFoundPast self.now.arrivals sent received result }
     {
         first_past(self.arrivals.as_slice(), sent, received)
     }
@@ -192,7 +192,7 @@ impl ReceivedFrom {
 
 // Whether rising arrivals are sent at this place or later, all of them.
 fn all_sent_from(arrivals: &[Arrival], place: usize) -> bool
-    ensures { result ≡ true → IsRising arrivals.now → Parts sent_at arrivals.now place 0 }
+    ensures { result ≡ true → AreRisingArrivals arrivals.now → PartsAt sent_at arrivals.now place 0 }
 {
     match arrivals.first() {
         Some(first) => first.sent as usize >= place,
@@ -202,7 +202,7 @@ fn all_sent_from(arrivals: &[Arrival], place: usize) -> bool
 
 // Whether rising arrivals are received at this place or later, all of them.
 fn all_received_from(arrivals: &[Arrival], place: usize) -> bool
-    ensures { result ≡ true → IsRising arrivals.now → Parts received_at arrivals.now place 0 }
+    ensures { result ≡ true → AreRisingArrivals arrivals.now → PartsAt received_at arrivals.now place 0 }
 {
     match arrivals.first() {
         Some(first) => first.received as usize >= place,
@@ -213,7 +213,7 @@ fn all_received_from(arrivals: &[Arrival], place: usize) -> bool
 // How many of rising arrivals are sent before this place. It looks at the first one first.
 fn count_sent_before(arrivals: &[Arrival], place: usize) -> usize
     ensures bound { result ≤ length arrivals.now }
-    ensures parts { IsRising arrivals.now → Parts sent_at arrivals.now place result }
+    ensures parts { AreRisingArrivals arrivals.now → PartsAt sent_at arrivals.now place result }
 {
     if all_sent_from(arrivals, place) {
         return 0;
@@ -228,7 +228,7 @@ fn count_sent_before(arrivals: &[Arrival], place: usize) -> usize
 // How many of rising arrivals are received before this place. It looks at the first one first.
 pub(crate) fn count_received_before(arrivals: &[Arrival], place: usize) -> usize
     ensures bound { result ≤ length arrivals.now }
-    ensures parts { IsRising arrivals.now → Parts received_at arrivals.now place result }
+    ensures parts { AreRisingArrivals arrivals.now → PartsAt received_at arrivals.now place result }
 {
     if all_received_from(arrivals, place) {
         return 0;
@@ -258,7 +258,7 @@ fn undo_all(undone: &mut Vec<Undone>, arrivals: &[Arrival])
 // How many of undone messages in order are received before this place.
 pub(crate) fn count_undone_before(undone: &[Undone], place: usize) -> usize
     ensures bound { result ≤ length undone.now }
-    ensures parts { AreInTurn undone.now → Parts undone_at undone.now place result }
+    ensures parts { AreInTurn undone.now → PartsAt undone_at undone.now place result }
 {
     undone.partition_point(
         |message: &Undone| -> bool
@@ -269,9 +269,9 @@ pub(crate) fn count_undone_before(undone: &[Undone], place: usize) -> usize
 
 // The first of rising arrivals that is not sent before one place, if it is received before another one.
 fn first_past(arrivals: &[Arrival], sent: usize, received: usize) -> Option<MsgNo>
-    ensures orphan { IfSome result (λ msg. IsRising arrivals.now → (k : ℕ) × (a : Arrival)
+    ensures orphan { IfSome result (λ msg. AreRisingArrivals arrivals.now → (k : ℕ) × (a : Arrival)
         × (slice_get arrivals.now k ≡ Some a) × (a.msg ≡ msg) × (sent ≤ a.sent) × (a.received < received)) }
-    ensures least { (k : ℕ) (a : Arrival) → IsRising arrivals.now → slice_get arrivals.now k ≡ Some a
+    ensures least { (k : ℕ) (a : Arrival) → AreRisingArrivals arrivals.now → slice_get arrivals.now k ≡ Some a
         → sent ≤ a.sent → a.received < received → IsAtMost result a.msg }
 {
     let count = count_sent_before(arrivals, sent);

@@ -8,7 +8,7 @@ ghost use Rattle.kt_fifo.specs.Channels.{channel};
 ghost use Rattle.kt_process.specs.ProcessStates.{ProcessState, part_of_side, is_ready, inst_of, IsNumbered};
 ghost use Rattle.kt_process.specs.Turns.{joins_by};
 ghost use Rattle.kt_system.specs.Systems.{state_of};
-ghost use Rattle.kt_system.specs.Reads.{tally_of, held_parcel, next_parcel, can_take, saves_by, would_save, IsQuiet};
+ghost use Rattle.kt_system.specs.Reads.{tally_of, held_parcel, next_parcel, can_take, saves_by, would_save, IsQuietSystem};
 
 use super::{System, Tally};
 use kt_base::{InstNo, Kind, Label, ProcNo};
@@ -186,7 +186,7 @@ impl System {
 
     /// Whether no parcel is in a channel or held, and no process in an instance.
     pub fn is_quiet(&self) -> bool
-        ensures { IsTrue result ↔ IsQuiet self.now }
+        ensures { IsTrue result ↔ IsQuietSystem self.now }
     {
         is_empty(&self.channels) && is_empty(&self.held) && self.all_outside()
     }

@@ -5,7 +5,7 @@ ghost use Rattle.kt_base.specs.Sets.{has};
 ghost use Rattle.kt_fifo.specs.Channels.{channel};
 ghost use Rattle.kt_fifo.specs.Queues.{has_parcel};
 ghost use Rattle.kt_system.specs.Reads.{can_take, IsNextTake, HasNoTake};
-ghost use Rattle.kt_system.specs.Takes.{is_sent, is_held, WithSome, IsFirst, lesser};
+ghost use Rattle.kt_system.specs.Takes.{is_sent, is_held, WithSome, IsFirstNumber, lesser};
 
 use super::System;
 use kt_base::{ProcNo, ProcSet};
@@ -14,7 +14,7 @@ impl System {
     /// The least process that can take a parcel that is held for it.
     fn held_taker(&self) -> Option<ProcNo>
         ensures within { IfSome result (λ at. at < self.now.size) }
-        ensures first { IsFirst (WithSome (is_held self.now)) result }
+        ensures first { IsFirstNumber (WithSome (is_held self.now)) result }
     {
         let receivers = self.held.receivers();
         if receivers.first().is_none() {
@@ -32,7 +32,7 @@ impl System {
     /// The least process to which a parcel is in a channel.
     fn channel_taker(&self) -> Option<ProcNo>
         ensures within { IfSome result (λ at. at < self.now.size) }
-        ensures first { IsFirst (WithSome (is_sent self.now)) result }
+        ensures first { IsFirstNumber (WithSome (is_sent self.now)) result }
     {
         self.channels.receivers().first()
     }
@@ -40,7 +40,7 @@ impl System {
     /// The least process that can take a parcel.
     fn taker(&self) -> Option<ProcNo>
         ensures within { IfSome result (λ at. at < self.now.size) }
-        ensures first { IsFirst (WithSome (can_take self.now)) result }
+        ensures first { IsFirstNumber (WithSome (can_take self.now)) result }
     {
         least(self.channel_taker(), self.held_taker())
     }
@@ -70,7 +70,7 @@ impl System {
     pub fn sender(&self, at: ProcNo) -> Option<ProcNo>
         requires { at < self.now.size }
         ensures within { IfSome result (λ from. from < self.now.size) }
-        ensures first { IsFirst (λ from. can_take self.now at from ≡ true) result }
+        ensures first { IsFirstNumber (λ from. can_take self.now at from ≡ true) result }
     {
         least(self.senders(at).first(), self.held_senders(at).first())
     }

@@ -3,7 +3,7 @@ use Rattle.std.specs.Prelude.{not}
 use Rattle.kt_cuts.specs.Past.{past}
 use Rattle.kt_cuts.proofs.SortedFacts.{some_same}
 use Rattle.kt_checker.specs.Passing.{ListsReadyOf}
-use Rattle.kt_checker.specs.Order.{IsWrong}
+use Rattle.kt_checker.specs.Order.{IsFirstWhy}
 use Rattle.kt_checker.proofs.Chaining.{never}
 use Rattle.kt_checker.proofs.Answering.{refused_not}
 use Rattle.kt_checker.proofs.judge.fault_in.Goals as goal
@@ -17,7 +17,7 @@ returns-then-not-leaves_consistent c = λ rows hist before undecided.
       shown = λ e. absurd (cc);
       wrong = λ why is commit ready.
           let listed = subst (ListsReadyOf (past rows) certificate) (sym same) ready in
-          subst (IsWrong (past rows) c.args.instance.now.members.items c.args.instance.now.refused certificate) (some_same is) (
+          subst (IsFirstWhy (past rows) c.args.instance.now.members.items c.args.instance.now.refused certificate) (some_same is) (
             refused_not c.args.commit c.args.instance.now.refused c.if-commit-instance.false ∙ ap not commit,
             sym commit ∙ c.if-not-commit.false,
             same,

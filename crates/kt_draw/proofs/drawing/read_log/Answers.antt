@@ -1,5 +1,5 @@
 use Rattle.std.proofs.Common.{refl}
-use Rattle.kt_log_text.specs.Texts.{IsLogText, IsFirstFault}
+use Rattle.kt_log_text.specs.Texts.{IsLogText, IsFirstLogFault}
 use Rattle.kt_draw.proofs.BytesRead.{mapped}
 use Rattle.kt_draw.proofs.drawing.read_log.Goals as goal
 
@@ -7,4 +7,4 @@ pub returns-in-Ok-clause-read : goal.returns-in-Ok-clause-read
 returns-in-Ok-clause-read g c = mapped _ (g.L.Read.remaining c.args.reader) (λ text. IsLogText text c.in-Ok.log.rows) c.in-Ok.ensures.found
 
 pub returns-in-Err-clause-fault : goal.returns-in-Err-clause-fault
-returns-in-Err-clause-fault g c = (c.in-Err.fault, refl, mapped _ (g.L.Read.remaining c.args.reader) (λ text. IsFirstFault text c.in-Err.fault) c.in-Err.ensures.fault)
+returns-in-Err-clause-fault g c = (c.in-Err.fault, refl, mapped _ (g.L.Read.remaining c.args.reader) (λ text. IsFirstLogFault text c.in-Err.fault) c.in-Err.ensures.fault)

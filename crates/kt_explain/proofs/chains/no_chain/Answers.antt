@@ -2,13 +2,13 @@ use Rattle.std.proofs.Common.{ℕ, Option, Some, sym, subst}
 use Rattle.std.specs.Prelude.{IfOk}
 use Rattle.kt_checker.specs.declared.verdict.Verdict.TheVariants.{No}
 use Rattle.kt_checker.specs.declared.verdict.Why.TheVariants as why
-use Rattle.kt_checker.specs.Order.{IsAnswer}
+use Rattle.kt_checker.specs.Order.{IsCheckerAnswer}
 use Rattle.kt_explain.specs.Told.{IsExplanation}
 use Rattle.kt_explain.proofs.Chained.{chain_row}
 use Rattle.kt_explain.proofs.chains.no_chain.Goals as goal
 
 pub no_chain_at-requires : goal.no_chain_at-requires
-no_chain_at-requires c = record { answer = subst (λ (o : Option ℕ). IsAnswer c.args.log.now.rows c.args.certificates.now (No (Some c.args.inst) o why.Chain)) c.in-Some.is c.requires.answer }
+no_chain_at-requires c = record { answer = subst (λ (o : Option ℕ). IsCheckerAnswer c.args.log.now.rows c.args.certificates.now (No (Some c.args.inst) o why.Chain)) c.in-Some.is c.requires.answer }
 
 pub returns-in-Some : goal.returns-in-Some
 returns-in-Some c =
@@ -17,4 +17,4 @@ returns-in-Some c =
 pub returns-in-None : goal.returns-in-None
 returns-in-None c =
     absurd (chain_row c.args.log.now.rows c.args.certificates.now c.args.inst
-    (subst (λ (o : Option ℕ). IsAnswer c.args.log.now.rows c.args.certificates.now (No (Some c.args.inst) o why.Chain)) c.in-None.is c.requires.answer))
+    (subst (λ (o : Option ℕ). IsCheckerAnswer c.args.log.now.rows c.args.certificates.now (No (Some c.args.inst) o why.Chain)) c.in-None.is c.requires.answer))

@@ -1,7 +1,7 @@
 use Rattle.std.proofs.Common.{List, sym, subst}
 use Rattle.std.specs.Prelude.{IfOk}
 use Rattle.kt_checker.specs.declared.verdict.Verdict.{Verdict}
-use Rattle.kt_checker.specs.Order.{IsAnswer}
+use Rattle.kt_checker.specs.Order.{IsCheckerAnswer}
 use Rattle.kt_explain.specs.Told.{IsExplanation}
 use Rattle.kt_explain.specs.declared.explanation.Explanation.{Explanation}
 use Rattle.kt_chain.specs.declared.certificate.Certificate.{Certificate}
@@ -11,7 +11,7 @@ use Rattle.kt_explain.proofs.Leftovers.{yes_legal}
 use Rattle.kt_explain.proofs.explaining.explain.Goals as goal
 
 pub explain_no-requires : goal.explain_no-requires
-explain_no-requires c = record { answer = subst (λ (v : Verdict). IsAnswer c.args.log.now.rows c.args.certificates.now v) c.in-No.is c.requires.answer }
+explain_no-requires c = record { answer = subst (λ (v : Verdict). IsCheckerAnswer c.args.log.now.rows c.args.certificates.now v) c.in-No.is c.requires.answer }
 
 pub returns-in-No : goal.returns-in-No
 returns-in-No c = record {

@@ -3,7 +3,7 @@ use Rattle.std.specs.Prelude.{IfOk}
 use Rattle.kt_spacetime.specs.declared.event.Event.{Event}
 use Rattle.kt_chain.specs.declared.certificate.Certificate.{Certificate}
 use Rattle.kt_checker.specs.declared.verdict.Verdict.TheVariants.{No}
-use Rattle.kt_checker.specs.Order.{IsAnswer, IsBadLog}
+use Rattle.kt_checker.specs.Order.{IsCheckerAnswer, IsBadLog}
 use Rattle.kt_explain.specs.declared.explanation.Explanation.{Explanation}
 use Rattle.kt_explain.specs.Told.{IsExplanation}
 use Rattle.kt_explain.proofs.Faults.{bad_without_instance}
@@ -11,7 +11,7 @@ use Rattle.kt_explain.proofs.Gives.{ok_gives}
 use Rattle.kt_explain.proofs.explaining.explain_no.Goals as goal
 
 pub of_instance-requires : goal.of_instance-requires
-of_instance-requires c = record { answer = subst (λ (o : Option ℕ). IsAnswer c.args.log.now.rows c.args.certificates.now (No o c.args.row c.args.why)) c.in-Some.is c.requires.answer }
+of_instance-requires c = record { answer = subst (λ (o : Option ℕ). IsCheckerAnswer c.args.log.now.rows c.args.certificates.now (No o c.args.row c.args.why)) c.in-Some.is c.requires.answer }
 
 pub returns-in-Some : goal.returns-in-Some
 returns-in-Some c =
@@ -32,4 +32,4 @@ bad_log-requires-clause-bad c =
     let rows = c.args.log.now.rows in
     subst (λ (list : List Event). IsBadLog list (No None c.args.row c.args.why)) (sym c.rows.ensures.rows)
     (bad_without_instance rows c.args.certificates.now c.args.row c.args.why
-    (subst (λ (o : Option ℕ). IsAnswer rows c.args.certificates.now (No o c.args.row c.args.why)) c.in-None.is c.requires.answer))
+    (subst (λ (o : Option ℕ). IsCheckerAnswer rows c.args.certificates.now (No o c.args.row c.args.why)) c.in-None.is c.requires.answer))

@@ -5,7 +5,7 @@ use Rattle.kt_checker.specs.declared.verdict.Verdict.{Verdict}
 use Rattle.kt_checker.specs.declared.verdict.Verdict.TheVariants.{No}
 use Rattle.kt_checker.specs.declared.verdict.Why.{Why}
 use Rattle.kt_checker.specs.declared.verdict.Why.TheVariants as why
-use Rattle.kt_checker.specs.Order.{IsAnswer}
+use Rattle.kt_checker.specs.Order.{IsCheckerAnswer}
 use Rattle.kt_explain.specs.declared.explanation.Explanation.{Explanation}
 use Rattle.kt_explain.specs.Told.{IsExplanation, IsNoOf}
 use Rattle.kt_explain.proofs.Faults.{log_not_instance, orphan_row}
@@ -18,15 +18,15 @@ orphan-requires c =
     let certificates = c.args.certificates.now in
     let k = c.args.inst in
     record {
-      answer = subst (λ (w : Why). IsAnswer rows certificates (No (Some k) (Some c.in-Some.row) w)) c.in-Orphan.is
-          (subst (λ (o : Option ℕ). IsAnswer rows certificates (No (Some k) o c.args.why)) c.in-Some.is c.requires.answer);
+      answer = subst (λ (w : Why). IsCheckerAnswer rows certificates (No (Some k) (Some c.in-Some.row) w)) c.in-Orphan.is
+          (subst (λ (o : Option ℕ). IsCheckerAnswer rows certificates (No (Some k) o c.args.why)) c.in-Some.is c.requires.answer);
     }
 
 pub returns-in-Unknown : goal.returns-in-Unknown
 returns-in-Unknown c =
     let verdict = No (Some c.args.inst) c.args.row c.args.why in
     let no : IsNoOf verdict c.args.inst why.Unknown = (c.args.row, ap (λ (w : Why). No (Some c.args.inst) c.args.row w) c.in-Unknown.is) in
-    subst (λ (rows : List Event). IsExplanation rows c.args.certificates.now verdict c.unlike.result) c.rows.ensures.rows (c.unlike.ensures verdict no (subst (λ (rows : List Event). IsAnswer rows c.args.certificates.now verdict) (sym c.rows.ensures.rows) c.requires.answer))
+    subst (λ (rows : List Event). IsExplanation rows c.args.certificates.now verdict c.unlike.result) c.rows.ensures.rows (c.unlike.ensures verdict no (subst (λ (rows : List Event). IsCheckerAnswer rows c.args.certificates.now verdict) (sym c.rows.ensures.rows) c.requires.answer))
 
 pub returns-in-Cause : goal.returns-in-Cause
 returns-in-Cause c =
@@ -40,19 +40,19 @@ returns-in-Members c =
     let verdict = No (Some c.args.inst) c.args.row c.args.why in
     let no : IsNoOf verdict c.args.inst why.Members = (c.args.row, ap (λ (w : Why). No (Some c.args.inst) c.args.row w) c.in-Members.is) in
     ok_gives c.other_member.result
-    (λ (e : Explanation). (v : Verdict) → IsNoOf v c.args.inst why.Members → IsAnswer c.rows-in-Members.result.now certificates v → IsExplanation c.rows-in-Members.result.now certificates v e)
+    (λ (e : Explanation). (v : Verdict) → IsNoOf v c.args.inst why.Members → IsCheckerAnswer c.rows-in-Members.result.now certificates v → IsExplanation c.rows-in-Members.result.now certificates v e)
     (IsExplanation c.args.log.now.rows certificates verdict)
-    (λ e f. subst (λ (rows : List Event). IsExplanation rows certificates verdict e) c.rows-in-Members.ensures.rows (f verdict no (subst (λ (rows : List Event). IsAnswer rows certificates verdict) (sym c.rows-in-Members.ensures.rows) c.requires.answer))) c.other_member.ensures
+    (λ e f. subst (λ (rows : List Event). IsExplanation rows certificates verdict e) c.rows-in-Members.ensures.rows (f verdict no (subst (λ (rows : List Event). IsCheckerAnswer rows certificates verdict) (sym c.rows-in-Members.ensures.rows) c.requires.answer))) c.other_member.ensures
 
 pub returns-in-Missing : goal.returns-in-Missing
 returns-in-Missing c =
     let rows = c.args.log.now.rows in
     let certificates = c.args.certificates.now in
     subst (λ (w : Why). IsExplanation rows certificates (No (Some c.args.inst) c.args.row w) c.uncertified.result) (sym c.in-Missing.is)
-    (c.uncertified.ensures rows certificates (subst (λ (w : Why). IsAnswer rows certificates (No (Some c.args.inst) c.args.row w)) c.in-Missing.is c.requires.answer))
+    (c.uncertified.ensures rows certificates (subst (λ (w : Why). IsCheckerAnswer rows certificates (No (Some c.args.inst) c.args.row w)) c.in-Missing.is c.requires.answer))
 
 pub no_chain-requires : goal.no_chain-requires
-no_chain-requires c = record { answer = subst (λ (w : Why). IsAnswer c.args.log.now.rows c.args.certificates.now (No (Some c.args.inst) c.args.row w)) c.in-Chain.is c.requires.answer }
+no_chain-requires c = record { answer = subst (λ (w : Why). IsCheckerAnswer c.args.log.now.rows c.args.certificates.now (No (Some c.args.inst) c.args.row w)) c.in-Chain.is c.requires.answer }
 
 pub returns-in-Chain : goal.returns-in-Chain
 returns-in-Chain c =
@@ -62,13 +62,13 @@ pub returns-in-None : goal.returns-in-None
 returns-in-None c =
     let rows = c.args.log.now.rows in
     let certificates = c.args.certificates.now in
-    absurd (orphan_row rows certificates c.args.inst (subst (λ (w : Why). IsAnswer rows certificates (No (Some c.args.inst) None w)) c.in-Orphan.is
-    (subst (λ (o : Option ℕ). IsAnswer rows certificates (No (Some c.args.inst) o c.args.why)) c.in-None.is c.requires.answer)))
+    absurd (orphan_row rows certificates c.args.inst (subst (λ (w : Why). IsCheckerAnswer rows certificates (No (Some c.args.inst) None w)) c.in-Orphan.is
+    (subst (λ (o : Option ℕ). IsCheckerAnswer rows certificates (No (Some c.args.inst) o c.args.why)) c.in-None.is c.requires.answer)))
 
 pub returns-in-BadLog : goal.returns-in-BadLog
 returns-in-BadLog c =
     absurd (log_not_instance c.args.log.now.rows c.args.certificates.now c.args.inst c.args.row c.in-BadLog.field-0
-    (subst (λ (w : Why). IsAnswer c.args.log.now.rows c.args.certificates.now (No (Some c.args.inst) c.args.row w)) c.in-BadLog.is c.requires.answer))
+    (subst (λ (w : Why). IsCheckerAnswer c.args.log.now.rows c.args.certificates.now (No (Some c.args.inst) c.args.row w)) c.in-BadLog.is c.requires.answer))
 
 pub returns-in-Some : goal.returns-in-Some
 returns-in-Some c =

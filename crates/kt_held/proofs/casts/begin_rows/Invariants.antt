@@ -3,7 +3,7 @@ use Rattle.std.specs.Prelude.{IsSome, Some}
 use Rattle.std.specs.List.{AllZip}
 use Rattle.std.specs.Vec.Iter.{into_iter_items}
 use Rattle.kt_held.specs.Holdings.{content, first_holding, Holds}
-use Rattle.kt_held.specs.Refusals.{IsFirst}
+use Rattle.kt_held.specs.Refusals.{IsFirstObject}
 use Rattle.kt_held.proofs.casts.begin_rows.Given as goal
 
 abbrev pub invariant-loop-objects : goal.invariant-loop-objects
@@ -16,5 +16,5 @@ invariant-loop-objects g l = record {
       Holds (first_holding (content ((goal.Recoverable-dyn g (b.vtable, b.value)).kind_of b.value) ((goal.Recoverable-dyn g (b.vtable, b.value)).value_of b.value)))
       (Some (content ((goal.Recoverable-dyn g (b.vtable, b.value)).kind_of b.value) ((goal.Recoverable-dyn g (b.vtable, b.value)).value_of b.value))) h.depot)) l.helds.items;
   saved : (q : ℕ) → q < length l.yielded
-      → IsFirst (λ b. (goal.Recoverable-dyn g (b.vtable, b.value)).may_save b.value) (map (λ row. row.items) l.fn.cast.items) q;
+      → IsFirstObject (λ b. (goal.Recoverable-dyn g (b.vtable, b.value)).may_save b.value) (map (λ row. row.items) l.fn.cast.items) q;
 }

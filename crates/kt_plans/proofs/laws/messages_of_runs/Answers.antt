@@ -1,5 +1,5 @@
 use Rattle.std.proofs.Common.{length, sym}
-use Rattle.kt_values.specs.States.{IsRising}
+use Rattle.kt_values.specs.States.{AreRisingNumbers}
 use Rattle.kt_plans.specs.Lines.{message_line, EachIsOnceOnItsLine, RetainsReceived}
 use Rattle.kt_plans.proofs.ReachedRuns.{seen_of}
 use Rattle.kt_plans.proofs.LinesOfRuns.{once_seen, rising_seen, keeps_seen}
@@ -13,7 +13,7 @@ pub returns-clause-once : goal.returns-clause-once
 returns-clause-once c = λ plan first w i r. seen_of plan first w EachIsOnceOnItsLine i r (once_seen (length plan.names) first)
 
 pub returns-clause-rising : goal.returns-clause-rising
-returns-clause-rising c = λ plan first w p q i r. seen_of plan first w (λ v. IsRising (message_line v p q)) i r (λ s. rising_seen (length plan.names) first s p q)
+returns-clause-rising c = λ plan first w p q i r. seen_of plan first w (λ v. AreRisingNumbers (message_line v p q)) i r (λ s. rising_seen (length plan.names) first s p q)
 
 pub returns-clause-kept_lists : goal.returns-clause-kept_lists
 returns-clause-kept_lists c = λ plan first w i r. seen_of plan first w RetainsReceived i r (keeps_seen (length plan.names) first)

@@ -1,4 +1,4 @@
-use Rattle.kt_log_text.specs.Texts.{IsLogText, IsFirstFault}
+use Rattle.kt_log_text.specs.Texts.{IsLogText, IsFirstLogFault}
 use Rattle.kt_program.proofs.Mapped.{mapped}
 use Rattle.kt_program.proofs.explained.read_log.Goals as goal
 
@@ -9,5 +9,5 @@ pub returns-in-Err-clause-fault : goal.returns-in-Err-clause-fault
 returns-in-Err-clause-fault g c = (
   c.in-Err.fault,
   c.log_fault.ensures,
-  mapped _ (g.L.Read.remaining c.args.reader) (λ text. IsFirstFault text c.in-Err.fault) c.in-Err.ensures.fault,
+  mapped _ (g.L.Read.remaining c.args.reader) (λ text. IsFirstLogFault text c.in-Err.fault) c.in-Err.ensures.fault,
 )

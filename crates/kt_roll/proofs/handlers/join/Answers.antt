@@ -7,7 +7,7 @@ use Rattle.kt_parts.specs.Joins.{Joins}
 use Rattle.kt_parts.specs.Parts.{Part}
 use Rattle.kt_parts.specs.declared.actions.Action.{Action}
 use Rattle.kt_roll.specs.Rules.{is_asked, asked_label}
-use Rattle.kt_roll.specs.Actions.{AsksCohort}
+use Rattle.kt_roll.specs.Actions.{AsksRollbackCohort}
 use Rattle.kt_roll.proofs.handlers.join.Goals as goal
 
 pub returns-clause-joins : goal.returns-clause-joins
@@ -19,7 +19,7 @@ returns-clause-joins c =
 pub returns-clause-cohort : goal.returns-clause-cohort
 unfolding is_asked asked_label
 returns-clause-cohort c = λ calls h.
-    subst (λ (x : Action). AsksCohort calls x) (sym c.join-part.ensures.action)
+    subst (λ (x : Action). AsksRollbackCohort calls x) (sym c.join-part.ensures.action)
     (subst (λ (l : List (ℕ × ℕ)). IsCohort l (is_asked calls) (asked_label calls)) (sym c.new-2.ensures) (c.in_ok-pairs.ensures.cohort calls h))
 
 pub returns-clause-asked : goal.returns-clause-asked

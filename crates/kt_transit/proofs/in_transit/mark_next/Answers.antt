@@ -1,5 +1,5 @@
 use Rattle.std.proofs.Common.{◌≡◌, ◌++◌, ◌∷◌, [], List, Bool, true, length, length-set, set, arith, refl, sym, ap, ◌∙◌, subst}
-use Rattle.kt_transit.specs.Marks.{Marking, IsMarked, shown}
+use Rattle.kt_transit.specs.Marks.{Marking, HasMarkOfEach, shown}
 use Rattle.kt_transit.proofs.PickFacts.{shown_picked, pushed, marked_pushed}
 use Rattle.kt_transit.proofs.in_transit.mark_next.Goals as goal
 
@@ -9,7 +9,7 @@ overflow_add-next c = omega (arith, c.requires.marked.within, c.len-next.ensures
 pub returns-then-is_above-clause-marked : goal.returns-then-is_above-clause-marked
 returns-then-is_above-clause-marked c =
     let marks : set c.args.marks.now.marks (length c.args.slots.now.messages) true ≡ c.put.new.self.marks = ap (λ n. set c.args.marks.now.marks n true) (sym c.len-next.ensures.length) ∙ sym (ap (λ (v : Marking). v.marks) c.put.ensures) in
-    λ a same some. subst (λ (l : List Bool). IsMarked l (c.args.slots.now.messages ++ a ∷ [])) marks
+    λ a same some. subst (λ (l : List Bool). HasMarkOfEach l (c.args.slots.now.messages ++ a ∷ [])) marks
     (marked_pushed c.args.marks.now.marks c.args.slots.now.messages a c.requires.marked (omega (arith, c.if-next-marked.true, c.len-next.ensures.length, c.len-marked.ensures)) (λ k b e. omega (arith, same, c.if-is_above.ensures refl c.requires.marked.rising k b e)))
 
 pub returns-then-is_above-clause-shown : goal.returns-then-is_above-clause-shown

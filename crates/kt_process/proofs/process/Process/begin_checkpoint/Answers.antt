@@ -1,7 +1,7 @@
 use Rattle.std.proofs.Common.{◌≡◌, ℕ, List, [], ◌∷◌, ◌++◌, sym, subst}
 use Rattle.std.specs.Prelude.{Option, Some, None, IfSome, OnSome, IfNone}
 use Rattle.kt_tables.specs.Calls.{Call, on_tentative}
-use Rattle.kt_tables.specs.Standing.{StandsFor}
+use Rattle.kt_tables.specs.Standing.{TablesStandFor}
 use Rattle.kt_tables.specs.States.{State}
 use Rattle.kt_base.specs.declared.words.Kind.TheVariants as kind
 use Rattle.kt_parts.specs.Parts.{Part}
@@ -11,7 +11,7 @@ use Rattle.kt_process.specs.Sides.{SaveSide}
 use Rattle.kt_process.specs.declared.side.Side.TheVariants as side
 use Rattle.kt_process.specs.Shown.{IsSeenAs, BeginsAs, mark_of}
 use Rattle.kt_seen.specs.Seen.{SeenProcess}
-use Rattle.kt_ckpt.specs.Actions.{IsStart, AsksCohort}
+use Rattle.kt_ckpt.specs.Actions.{IsCheckpointStart, AsksCheckpointCohort}
 use Rattle.kt_process.proofs.Beginning.{begins_save, refuses_save}
 use Rattle.kt_process.proofs.process.Process.begin_checkpoint.Goals as goal
 use Rattle.kt_process.proofs.process.Process.begin_checkpoint.Goals.{in-Some+in-Some+in-Checkpoint-1, in-Some+in-Some+in-Rollback-1, in-Some+in-None-1, in_default}
@@ -29,10 +29,10 @@ joins c y part new h is made =
     let k = subst (λ (z : ProcessState). IsSeenAs z y) (sym c.self.view_is) h in
     let s = c.standing-standing.result in
     let action = c.in_ok-part.action in
-    let rule = subst (λ (o : Option Part). IsStart s o action) is c.in_ok-part.ensures.rule in
+    let rule = subst (λ (o : Option Part). IsCheckpointStart s o action) is c.in_ok-part.ensures.rule in
     let join = subst (λ (o : Option Part). IfSome o (λ (m : Part). Joins x.tables.processes c.args.inst None m action)) is c.in_ok-part.ensures.joins in
-    let cohort = subst (λ (o : Option Part). OnSome o ((calls : List Call) → StandsFor x.tables calls → AsksCohort calls action)) is c.in_ok-part.ensures.cohort in
-    let stands = subst (λ (o : Option Part). OnSome o ((calls : List Call) → StandsFor x.tables calls → StandsFor c.start.new.tables (calls ++ on_tentative ∷ []))) is c.in_ok-part.ensures.stands in
+    let cohort = subst (λ (o : Option Part). OnSome o ((calls : List Call) → TablesStandFor x.tables calls → AsksCheckpointCohort calls action)) is c.in_ok-part.ensures.cohort in
+    let stands = subst (λ (o : Option Part). OnSome o ((calls : List Call) → TablesStandFor x.tables calls → TablesStandFor c.start.new.tables (calls ++ on_tentative ∷ []))) is c.in_ok-part.ensures.stands in
     subst (λ (z : ProcessState). BeginsAs kind.Checkpoint c.args.able z.tables.processes c.args.inst (mark_of c.args.marks.items) y
     (record { tables = c.start.new.tables; side = Some (side.Checkpoint new); up = c.self.inside.up; used = c.self.inside.labels }) action) c.self.view_is
     (subst (λ (m : SaveSide). BeginsAs kind.Checkpoint c.args.able x.tables.processes c.args.inst (mark_of c.args.marks.items) y
@@ -48,7 +48,7 @@ stays c y h is =
     let k = subst (λ (z : ProcessState). IsSeenAs z y) (sym c.self.view_is) h in
     let s = c.standing-standing.result in
     let action = c.in_ok-part.action in
-    let rule = subst (λ (o : Option Part). IsStart s o action) is c.in_ok-part.ensures.rule in
+    let rule = subst (λ (o : Option Part). IsCheckpointStart s o action) is c.in_ok-part.ensures.rule in
     let same = subst (λ (o : Option Part). IfNone o (c.start.new.tables ≡ x.tables)) is c.in_ok-part.ensures.refused in
     subst (λ (z : ProcessState). BeginsAs kind.Checkpoint c.args.able z.tables.processes c.args.inst (mark_of c.args.marks.items) y
     (record { tables = c.start.new.tables; side = c.self.inside.side; up = c.self.inside.up; used = c.self.inside.labels }) action) c.self.view_is

@@ -2,10 +2,10 @@ use Rattle.std.proofs.Common.{◌≡◌, ℕ, List, sym, subst}
 use Rattle.std.specs.Prelude.{Option, Some, None, IfSome, OnSome, true}
 use Rattle.kt_base.specs.declared.words.Kind.TheVariants as kind
 use Rattle.kt_tables.specs.Calls.{Call}
-use Rattle.kt_tables.specs.Standing.{StandsFor}
+use Rattle.kt_tables.specs.Standing.{TablesStandFor}
 use Rattle.kt_tables.specs.States.{State}
 use Rattle.kt_parts.specs.Joins.{Joins}
-use Rattle.kt_roll.specs.Actions.{IsStart, AsksCohort}
+use Rattle.kt_roll.specs.Actions.{IsRollbackStart, AsksRollbackCohort}
 use Rattle.kt_roll.specs.Notes.{note_of}
 use Rattle.kt_roll.specs.Sides.{RollSide}
 use Rattle.kt_process.specs.ProcessStates.{ProcessState, part_of_side, inst_of, IsNumbered}
@@ -29,9 +29,9 @@ joins c y r h is =
     let k = subst (λ (z : ProcessState). IsSeenAs z y) (sym c.self.view_is) h in
     let s = c.standing-standing.result in
     let action = c.in_ok-side.action in
-    let rule = subst (λ (o : Option RollSide). IsStart s o action) is c.in_ok-side.ensures.rule in
+    let rule = subst (λ (o : Option RollSide). IsRollbackStart s o action) is c.in_ok-side.ensures.rule in
     let join = subst (λ (o : Option RollSide). IfSome o (λ (m : RollSide). Joins x.tables.processes c.args.inst None m.part action)) is c.in_ok-side.ensures.joins in
-    let cohort = subst (λ (o : Option RollSide). OnSome o ((calls : List Call) → StandsFor x.tables calls → AsksCohort calls action)) is c.in_ok-side.ensures.cohort in
+    let cohort = subst (λ (o : Option RollSide). OnSome o ((calls : List Call) → TablesStandFor x.tables calls → AsksRollbackCohort calls action)) is c.in_ok-side.ensures.cohort in
     let notes = subst (λ (o : Option RollSide). IfSome o (λ (m : RollSide). note_of m.notes ≡ Rattle.kt_roll.specs.Notes.no_note)) is c.in_ok-side.ensures.noted in
     subst (λ (z : ProcessState). BeginsAs kind.Rollback true z.tables.processes c.args.inst no_mark y (record x { side = Some (side.Rollback r) }) action) c.self.view_is
     (begins_roll x y s r no_mark x.tables.processes c.args.inst action k c.self.invariant.numbered c.self.invariant.few
@@ -41,7 +41,7 @@ stays : (c : goal.Joined-side) (y : SeenProcess) → IsSeenAs c.args.self.now y 
 stays c y h is =
     let s = c.standing-standing.result in
     let action = c.in_ok-side.action in
-    let rule = subst (λ (o : Option RollSide). IsStart s o action) is c.in_ok-side.ensures.rule in
+    let rule = subst (λ (o : Option RollSide). IsRollbackStart s o action) is c.in_ok-side.ensures.rule in
     refuses_roll c.args.self.now y s no_mark c.args.self.now.tables.processes c.args.inst action h (subst (λ (z : ProcessState). IsNumbered (part_of_side z.side)) c.self.view_is c.self.invariant.numbered)
     c.standing-standing.ensures.inst rule
 

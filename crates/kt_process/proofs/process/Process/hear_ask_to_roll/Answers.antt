@@ -2,12 +2,12 @@ use Rattle.std.proofs.Common.{◌≡◌, ℕ, List, arith, sym, subst, ap, ◌�
 use Rattle.std.specs.Prelude.{Option, Some, None, IfSome, OnSome, true, false}
 use Rattle.kt_base.specs.declared.words.Kind.TheVariants as kind
 use Rattle.kt_tables.specs.Calls.{Call}
-use Rattle.kt_tables.specs.Standing.{StandsFor}
+use Rattle.kt_tables.specs.Standing.{TablesStandFor}
 use Rattle.kt_parts.specs.Joins.{Joins}
-use Rattle.kt_roll.specs.Actions.{IsAnswer, AsksCohort}
+use Rattle.kt_roll.specs.Actions.{IsRollbackAnswer, AsksRollbackCohort}
 use Rattle.kt_roll.specs.Notes.{note_of, with_note}
 use Rattle.kt_roll.specs.Rules.{is_in}
-use Rattle.kt_roll.specs.Sides.{RollSide, IsAfter}
+use Rattle.kt_roll.specs.Sides.{RollSide, IsSideAfter}
 use Rattle.kt_process.specs.ProcessStates.{ProcessState, part_of_side, inst_of, is_ready, IsNumbered}
 use Rattle.kt_process.specs.declared.side.Side.{Side}
 use Rattle.kt_process.specs.declared.side.Side.TheVariants as side
@@ -32,9 +32,9 @@ returns-in_ok-action-in-Some-Rollback-clause-shows c = λ y h.
     let now : x.side ≡ Some (side.Rollback r) = subst (λ (z : ProcessState). z.side ≡ Some (side.Rollback r)) c.self.view_is is in
     let inst : s.in_inst ≡ Some r.part.inst = c.standing-standing.ensures.inst ∙ ap inst_of now in
     let none = no_join c.in_ok-action-in-Some-Rollback.field-0-0 s.in_inst r.part.inst _ inst c.in_ok-action-in-Some-Rollback.ensures.joined in
-    let rule = λ (calls : List Call) (st : StandsFor c.self.inside.tables calls). subst (λ (o : Option RollSide). IsAnswer calls s c.args.inst c.args.from c.args.label o action) none (c.in_ok-action-in-Some-Rollback.ensures.rule calls st) in
-    let rule2 = subst (λ (z : ProcessState). (calls : List Call) → StandsFor z.tables calls → IsAnswer calls s c.args.inst c.args.from c.args.label None action) c.self.view_is rule in
-    let after = subst (λ (o : Option ℕ). IsAfter (is_in o c.args.inst) c.args.from c.args.label r c.on_ask.new.side.0) c.standing-standing.ensures.inst c.on_ask.ensures.side.1 in
+    let rule = λ (calls : List Call) (st : TablesStandFor c.self.inside.tables calls). subst (λ (o : Option RollSide). IsRollbackAnswer calls s c.args.inst c.args.from c.args.label o action) none (c.in_ok-action-in-Some-Rollback.ensures.rule calls st) in
+    let rule2 = subst (λ (z : ProcessState). (calls : List Call) → TablesStandFor z.tables calls → IsRollbackAnswer calls s c.args.inst c.args.from c.args.label None action) c.self.view_is rule in
+    let after = subst (λ (o : Option ℕ). IsSideAfter (is_in o c.args.inst) c.args.from c.args.label r c.on_ask.new.side.0) c.standing-standing.ensures.inst c.on_ask.ensures.side.1 in
     let noted = notes_label x y r c.on_ask.new.side.0 c.args.from c.args.inst c.args.label now h after in
     replies_roll x _ y s no_mark x.tables.processes c.args.from c.args.inst c.args.label action h (subst (λ (z : ProcessState). IsNumbered (part_of_side z.side)) c.self.view_is c.self.invariant.numbered) (omega arith)
     c.standing-standing.ensures.inst rule2
@@ -53,8 +53,8 @@ returns-in_ok-action-in-Some-Checkpoint-clause-shows c = λ y h.
     let now : x.side ≡ Some (side.Checkpoint part) = subst (λ (z : ProcessState). z.side ≡ Some (side.Checkpoint part)) c.self.view_is is in
     let inst : s.in_inst ≡ Some part.part.inst = c.standing-standing.ensures.inst ∙ ap inst_of now in
     let none = no_join c.in_ok-action-in-Some-Checkpoint.field-0-0 s.in_inst part.part.inst _ inst c.in_ok-action-in-Some-Checkpoint.ensures.joined in
-    let rule = λ (calls : List Call) (st : StandsFor c.self.inside.tables calls). subst (λ (o : Option RollSide). IsAnswer calls s c.args.inst c.args.from c.args.label o action) none (c.in_ok-action-in-Some-Checkpoint.ensures.rule calls st) in
-    let rule2 = subst (λ (z : ProcessState). (calls : List Call) → StandsFor z.tables calls → IsAnswer calls s c.args.inst c.args.from c.args.label None action) c.self.view_is rule in
+    let rule = λ (calls : List Call) (st : TablesStandFor c.self.inside.tables calls). subst (λ (o : Option RollSide). IsRollbackAnswer calls s c.args.inst c.args.from c.args.label o action) none (c.in_ok-action-in-Some-Checkpoint.ensures.rule calls st) in
+    let rule2 = subst (λ (z : ProcessState). (calls : List Call) → TablesStandFor z.tables calls → IsRollbackAnswer calls s c.args.inst c.args.from c.args.label None action) c.self.view_is rule in
     let noted = notes_nothing x y c.args.from c.args.inst c.args.label h (ap is_ready now) (omega arith) in
     let back : x ≡ record (before_save c) { side = Some c.in-Some-Checkpoint.field-0 } = sym c.self.view_is ∙ ap (λ (z : Option Side). record (before_save c) { side = z }) c.in-Some-Checkpoint.is in
     replies_roll x _ y s no_mark x.tables.processes c.args.from c.args.inst c.args.label action h (subst (λ (z : ProcessState). IsNumbered (part_of_side z.side)) c.self.view_is c.self.invariant.numbered) (omega arith)
@@ -72,9 +72,9 @@ joins c y r h is =
     let k = subst (λ (z : ProcessState). IsSeenAs z y) (sym c.self.view_is) h in
     let s = c.standing-standing.result in
     let action = c.in_ok-side-in-None.action in
-    let rule = λ (calls : List Call) (st : StandsFor x.tables calls). subst (λ (o : Option RollSide). IsAnswer calls s c.args.inst c.args.from c.args.label o action) is (c.in_ok-side-in-None.ensures.rule calls st) in
+    let rule = λ (calls : List Call) (st : TablesStandFor x.tables calls). subst (λ (o : Option RollSide). IsRollbackAnswer calls s c.args.inst c.args.from c.args.label o action) is (c.in_ok-side-in-None.ensures.rule calls st) in
     let join = subst (λ (o : Option RollSide). IfSome o (λ (m : RollSide). Joins x.tables.processes c.args.inst (Some c.args.from) m.part action)) is c.in_ok-side-in-None.ensures.joins in
-    let cohort = subst (λ (o : Option RollSide). OnSome o ((calls : List Call) → StandsFor x.tables calls → AsksCohort calls action)) is c.in_ok-side-in-None.ensures.cohort in
+    let cohort = subst (λ (o : Option RollSide). OnSome o ((calls : List Call) → TablesStandFor x.tables calls → AsksRollbackCohort calls action)) is c.in_ok-side-in-None.ensures.cohort in
     let notes = subst (λ (o : Option RollSide). IfSome o (λ (m : RollSide). note_of m.notes ≡ with_note c.args.from c.args.label Rattle.kt_roll.specs.Notes.no_note)) is c.in_ok-side-in-None.ensures.noted in
     subst (λ (z : ProcessState). HearsAs kind.Rollback true z.tables.processes c.args.from c.args.inst c.args.label no_mark y (record x { side = Some (side.Rollback r) }) action) c.self.view_is
     (hears_roll x y s r no_mark x.tables.processes c.args.from c.args.inst c.args.label action k c.self.invariant.numbered c.self.invariant.few (omega arith)
@@ -85,8 +85,8 @@ stays c y h is =
     let s = c.standing-standing.result in
     let x = c.args.self.now in
     let action = c.in_ok-side-in-None.action in
-    let rule = λ (calls : List Call) (st : StandsFor c.self.inside.tables calls). subst (λ (o : Option RollSide). IsAnswer calls s c.args.inst c.args.from c.args.label o action) is (c.in_ok-side-in-None.ensures.rule calls st) in
-    let rule2 = subst (λ (z : ProcessState). (calls : List Call) → StandsFor z.tables calls → IsAnswer calls s c.args.inst c.args.from c.args.label None action) c.self.view_is rule in
+    let rule = λ (calls : List Call) (st : TablesStandFor c.self.inside.tables calls). subst (λ (o : Option RollSide). IsRollbackAnswer calls s c.args.inst c.args.from c.args.label o action) is (c.in_ok-side-in-None.ensures.rule calls st) in
+    let rule2 = subst (λ (z : ProcessState). (calls : List Call) → TablesStandFor z.tables calls → IsRollbackAnswer calls s c.args.inst c.args.from c.args.label None action) c.self.view_is rule in
     replies_roll x x y s no_mark x.tables.processes c.args.from c.args.inst c.args.label action h (subst (λ (z : ProcessState). IsNumbered (part_of_side z.side)) c.self.view_is c.self.invariant.numbered) (omega arith)
     c.standing-standing.ensures.inst rule2
     (notes_nothing x y c.args.from c.args.inst c.args.label h (subst (λ (z : ProcessState). is_ready z.side ≡ false) c.self.view_is (ap is_ready c.in-None.is)) (omega arith))

@@ -4,7 +4,7 @@ use Rattle.kt_tables.specs.Labels.{has_label}
 use Rattle.kt_tables.specs.Calls.{parts, sents, receiveds}
 use Rattle.kt_tables.specs.Peers.{count_peers, has_one}
 use Rattle.kt_tables.specs.States.{State}
-use Rattle.kt_tables.specs.Standing.{StandsFor}
+use Rattle.kt_tables.specs.Standing.{TablesStandFor}
 use Rattle.kt_tables.proofs.Cohorts.{count_most}
 use Rattle.kt_tables.proofs.Keeping.{has_first, has_last}
 use Rattle.kt_tables.proofs.tables.Tables.kept.Goals as goal
@@ -24,7 +24,7 @@ overflow_add-result c =
 
 pub returns : goal.returns
 returns c = λ calls h.
-    let stood = subst (λ (t : State). StandsFor t calls) (sym c.self.view_is) h in
+    let stood = subst (λ (t : State). TablesStandFor t calls) (sym c.self.view_is) h in
     let n = ap (λ (t : State). t.processes) c.self.view_is in
     let one : c.count.result ≡ count_peers c.args.self.now.processes (λ q. has_label (receiveds q (parts calls).since)) =
     c.count.ensures ∙ (ap (λ (m : ℕ). count_peers m (has_one c.self.inside.last_rcvd)) (c.self.invariant.last_rcvd ∙ n)

@@ -1,12 +1,12 @@
 use Rattle.std.proofs.Common.{ℕ, ◌<◌, ap, ◌∙◌, sym, subst}
 use Rattle.kt_tables.specs.States.{State}
-use Rattle.kt_tables.specs.Standing.{StandsFor}
+use Rattle.kt_tables.specs.Standing.{TablesStandFor}
 use Rattle.kt_tables.proofs.Keeping.{has_first}
 use Rattle.kt_tables.proofs.tables.Tables.roll_peers.Goals as goal
 
 pub returns-clause-peers : goal.returns-clause-peers
 returns-clause-peers c = λ calls h q.
-    let stood = subst (λ (t : State). StandsFor t calls) (sym c.self.view_is) h in
+    let stood = subst (λ (t : State). TablesStandFor t calls) (sym c.self.view_is) h in
     c.peers.ensures.peers q ∙ has_first _ calls stood q
 
 pub returns-clause-within : goal.returns-clause-within

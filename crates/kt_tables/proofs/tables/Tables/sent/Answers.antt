@@ -1,12 +1,12 @@
 use Rattle.std.proofs.Common.{◌<◌, sym, subst}
 use Rattle.kt_tables.specs.Peers.{label_of}
 use Rattle.kt_tables.specs.States.{State}
-use Rattle.kt_tables.specs.Standing.{StandsFor}
+use Rattle.kt_tables.specs.Standing.{TablesStandFor}
 use Rattle.kt_tables.proofs.Keeping.{stands_sent}
 use Rattle.kt_tables.proofs.tables.Tables.sent.Goals as goal
 
 pub returns-clause-stands : goal.returns-clause-stands
 returns-clause-stands c = λ calls h s.
-    let stood = subst (λ (t : State). StandsFor t calls) (sym c.self.view_is) h in
+    let stood = subst (λ (t : State). TablesStandFor t calls) (sym c.self.view_is) h in
     let above = subst (λ (t : State). label_of t.last_out c.args.to < c.args.label) (sym c.self.view_is) c.requires.rises in
     stands_sent _ calls c.args.to c.args.label _ _ stood s above c.put_first.ensures.labels c.put.ensures.labels

@@ -1,7 +1,7 @@
 use Rattle.std.proofs.Common.{rules, of_calls, ◌≡◌, ◌+◌, ◌++◌, List, length, refl, sym, subst}
 use Rattle.kt_transit.specs.declared.in_transit.Sent.{Sent}
 use Rattle.kt_transit.specs.TransitList.{Belongs}
-use Rattle.kt_transit.specs.Marks.{IsRising}
+use Rattle.kt_transit.specs.Marks.{AreRisingMessages}
 use Rattle.kt_transit.proofs.TransitFacts.{rising_left, rising_right, belongs_before, belongs_after}
 use Rattle.kt_transit.proofs.gap_buffer.GapBuffer.place_of.Goals as goal
 
@@ -22,4 +22,4 @@ returns-else-begins_below-clause-belongs c =
     let same : c.deref.result.now ≡ c.self.inside.passed.items = search (rules, of_calls) in
     rw (← c.self.view_is)
     (λ in_order. belongs_before passed next c.args.msg c.count_below.result in_order (c.if-begins_below.ensures.not_below refl)
-    (subst (λ (xs : List Sent). Belongs c.args.msg xs c.count_below.result) same (c.count_below.ensures.belongs (subst IsRising (sym same) (rising_left passed next in_order)))))
+    (subst (λ (xs : List Sent). Belongs c.args.msg xs c.count_below.result) same (c.count_below.ensures.belongs (subst AreRisingMessages (sym same) (rising_left passed next in_order)))))
