@@ -5,7 +5,7 @@ use Rattle.kt_base.specs.declared.words.Cause.{Cause}
 use Rattle.kt_base.specs.declared.words.Cause.TheVariants.{Busy, Down, NoSave}
 use Rattle.kt_tables.specs.Calls.{Call, on_commit, on_abort, parts, sents, receiveds}
 use Rattle.kt_tables.specs.Labels.{has_label, greatest}
-use Rattle.kt_parts.specs.Answers.{AskAnswer, replies, joins}
+use Rattle.kt_parts.specs.Answers.{Answer, replies, joins}
 
 -- whether an ask of q with this label makes the process take part: it sent q a message since its last checkpoint that q had received
 unfoldable pub must_join : List Call → ℕ → ℕ → Bool
@@ -26,7 +26,7 @@ checkpoint_refusal None true false = Some NoSave
 checkpoint_refusal None true true = None
 
 -- what comes of an ask
-abbrev pub checkpoint_answer : Option ℕ → Bool → Bool → ℕ → Bool → AskAnswer
+abbrev pub checkpoint_answer : Option ℕ → Bool → Bool → ℕ → Bool → Answer
 checkpoint_answer (Some other) up able inst must = if other == inst then replies true None else replies false (Some (Busy other))
 checkpoint_answer None up able inst false = replies true None
 checkpoint_answer None false able inst true = replies false (Some Down)

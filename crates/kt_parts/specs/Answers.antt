@@ -3,6 +3,6 @@ use Rattle.std.specs.Prelude.{Bool, Option}
 use Rattle.kt_base.specs.declared.words.Cause.{Cause}
 
 -- it replies, with the cause if it is unwilling, or it joins
-pub data AskAnswer : Type 0 where
-  replies : Bool → Option Cause → AskAnswer
-  joins : AskAnswer
+pub data Answer : Type 0 where
+  replies : Bool → Option Cause → Answer
+  joins : Answer

@@ -6,7 +6,7 @@ use Rattle.kt_parts.specs.Parts.{Part}
 use Rattle.kt_parts.specs.declared.actions.Action.{Action}
 use Rattle.kt_parts.specs.declared.actions.Action.TheVariants.{Nothing, Refuse, Join, Reply, Settle}
 use Rattle.kt_parts.specs.declared.actions.Then.{Then}
-use Rattle.kt_parts.specs.declared.actions.Then.TheVariants.{Wait, AskAnswer, Commit}
+use Rattle.kt_parts.specs.declared.actions.Then.TheVariants.{Wait, Answer, Commit}
 
 pub record Counts : Type 0 where
   pub asks : ℕ
@@ -25,7 +25,7 @@ decisions_to set = record { asks = 0; replies = 0; decisions = count_of set }
 -- who joins and asked nobody replies at once, if it has a parent; an initiator's decision then has nobody to go to
 abbrev pub replies_of : Then → ℕ
 replies_of Wait = 0
-replies_of (AskAnswer to) = 1
+replies_of (Answer to) = 1
 replies_of Commit = 0
 
 abbrev pub counts_of : Action → Counts

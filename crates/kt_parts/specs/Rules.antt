@@ -5,7 +5,7 @@ use Rattle.kt_parts.specs.Parts.{Part}
 use Rattle.kt_parts.specs.declared.actions.Action.{Action}
 use Rattle.kt_parts.specs.declared.actions.Action.TheVariants.{Nothing, Reply, Settle}
 use Rattle.kt_parts.specs.declared.actions.Then.{Then}
-use Rattle.kt_parts.specs.declared.actions.Then.TheVariants.{Wait, AskAnswer, Commit}
+use Rattle.kt_parts.specs.declared.actions.Then.TheVariants.{Wait, Answer, Commit}
 
 -- who is in an instance is willing in this one, and busy for any other
 abbrev pub reply_in : ℕ → ℕ → ℕ → Action
@@ -13,7 +13,7 @@ reply_in current inst to = if current == inst then Reply to true None else Reply
 
 -- who awaits nobody answers its parent willing, or commits
 abbrev pub way_alone : Option ℕ → Then
-way_alone (Some to) = AskAnswer to
+way_alone (Some to) = Answer to
 way_alone None = Commit
 
 abbrev pub way_on : Part → Then

@@ -17,7 +17,7 @@ use Rattle.kt_tables.specs.States.{State}
 use Rattle.kt_tables.proofs.CallParts.{sent_rises}
 use Rattle.kt_tables.proofs.LabelLists.{least_decides, greatest_decides}
 use Rattle.kt_tables.proofs.Tests.{up_to_test, above_test}
-use Rattle.kt_parts.specs.Answers.{AskAnswer, replies, joins}
+use Rattle.kt_parts.specs.Answers.{Answer, replies, joins}
 use Rattle.kt_parts.specs.Joins.{Joins}
 use Rattle.kt_parts.specs.Parts.{Part}
 use Rattle.kt_parts.specs.declared.actions.Action.{Action}
@@ -83,7 +83,7 @@ save_answer x able up q k l y num i u k1 speaks = rw (← i, ← u, takes_as y.c
     free true false true k h = rw (zero_other k h) refl
     free true false false k h = rw (zero_other k h) refl
 
-    busy : (n : ℕ) (rest : AskAnswer) → 1 ≤ n → (if n == k then replies true None else replies false (Some (Busy n))) ≡ (if n == k then replies true None else if not (n == 0) then replies false (Some (Busy n)) else rest)
+    busy : (n : ℕ) (rest : Answer) → 1 ≤ n → (if n == k then replies true None else replies false (Some (Busy n))) ≡ (if n == k then replies true None else if not (n == 0) then replies false (Some (Busy n)) else rest)
     busy n rest h = rw (is_some n h) refl
 
     at_side : (x : Option Side) (must : Bool) → IsNumbered (part_of_side x) → ckpt.checkpoint_answer (inst_of x) up able k must ≡
@@ -101,7 +101,7 @@ roll_answer x able q k l y num i k1 = rw (← i, rolls_as y.calls q l) (at_side 
     free false = rw (zero_other k k1) refl
     free true = rw (zero_other k k1) refl
 
-    busy : (n : ℕ) (rest : AskAnswer) → 1 ≤ n → (if n == k then replies true None else replies false (Some (Busy n))) ≡ (if n == k then replies true None else if not (n == 0) then replies false (Some (Busy n)) else rest)
+    busy : (n : ℕ) (rest : Answer) → 1 ≤ n → (if n == k then replies true None else replies false (Some (Busy n))) ≡ (if n == k then replies true None else if not (n == 0) then replies false (Some (Busy n)) else rest)
     busy n rest h = rw (is_some n h) refl
 
     at_side : (x : Option Side) (must : Bool) → IsNumbered (part_of_side x) → roll.rollback_answer (inst_of x) k must ≡

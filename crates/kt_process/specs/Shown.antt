@@ -10,7 +10,7 @@ use Rattle.kt_protocol.specs.Replies.{unable_cause}
 use Rattle.kt_tables.specs.Calls.{Call, on_tentative}
 use Rattle.kt_tables.specs.Peers.{IsCohort}
 use Rattle.kt_tables.specs.Standing.{TablesStandFor}
-use Rattle.kt_parts.specs.Answers.{AskAnswer, replies, joins}
+use Rattle.kt_parts.specs.Answers.{Answer, replies, joins}
 use Rattle.kt_parts.specs.Rules.{way_alone}
 use Rattle.kt_parts.specs.Parts.{Part}
 use Rattle.kt_parts.specs.declared.actions.Action.{Action}
@@ -94,12 +94,12 @@ BeginsAs kind able n k marks y new (Join asks goes) = (begin_cause kind able y �
 BeginsAs kind able n k marks y new action = ⊥
 
 -- what comes of an ask to a process in no instance
-abbrev pub answer_by : Kind → Bool → ℕ → ℕ → SeenProcess → AskAnswer
+abbrev pub answer_by : Kind → Bool → ℕ → ℕ → SeenProcess → Answer
 answer_by Checkpoint able q label y = if not (must_take y.calls q label) then replies true None else if not (able && y.up) then replies false (Some (unable_cause y.up)) else joins
 answer_by Rollback able q label y = if must_roll y.calls q label then joins else replies true None
 
 -- what comes of an ask of q for instance k
-abbrev pub answer_as : Kind → Bool → ℕ → ℕ → ℕ → SeenProcess → AskAnswer
+abbrev pub answer_as : Kind → Bool → ℕ → ℕ → ℕ → SeenProcess → Answer
 answer_as kind able q k label y =
     if y.inst == k then replies true None
     else if not (y.inst == 0) then replies false (Some (Busy y.inst))

@@ -5,7 +5,7 @@ use Rattle.kt_base.specs.declared.words.Cause.{Cause}
 use Rattle.kt_base.specs.declared.words.Cause.TheVariants.{Busy}
 use Rattle.kt_tables.specs.Calls.{Call, on_rollback, parts, sents, receiveds}
 use Rattle.kt_tables.specs.Labels.{has_label, greatest}
-use Rattle.kt_parts.specs.Answers.{AskAnswer, replies, joins}
+use Rattle.kt_parts.specs.Answers.{Answer, replies, joins}
 
 -- whether an ask of q with this label makes the process take part: it received a message of q since its last checkpoint that q undoes
 unfoldable pub must_join : List Call → ℕ → ℕ → Bool
@@ -29,7 +29,7 @@ is_in (Some current) inst = current == inst
 is_in None inst = false
 
 -- what comes of an ask
-abbrev pub rollback_answer : Option ℕ → ℕ → Bool → AskAnswer
+abbrev pub rollback_answer : Option ℕ → ℕ → Bool → Answer
 rollback_answer (Some other) inst must = if other == inst then replies true None else replies false (Some (Busy other))
 rollback_answer None inst false = replies true None
 rollback_answer None inst true = joins

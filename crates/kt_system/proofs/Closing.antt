@@ -9,7 +9,7 @@ use Rattle.kt_fifo.specs.Channels.{ChannelLists, channel}
 use Rattle.kt_spacetime.specs.declared.event.Event.TheVariants.{Closed}
 use Rattle.kt_parts.specs.Rules.{way_alone}
 use Rattle.kt_parts.specs.declared.actions.Then.{Then}
-use Rattle.kt_parts.specs.declared.actions.Then.TheVariants.{Wait, AskAnswer, Commit}
+use Rattle.kt_parts.specs.declared.actions.Then.TheVariants.{Wait, Answer, Commit}
 use Rattle.kt_seen.specs.Seen.{SeenPart, SeenProcess, SeenLists, Seen}
 use Rattle.kt_seen.specs.ListChanges.{with_decisions, trims}
 use Rattle.kt_seen.specs.SeenReplies.{seen_answering}
@@ -108,10 +108,10 @@ settles_wait v p k e = at_test ((v.states p).part.awaited == 0) (v.states p).par
     at_test true (Some to) e = absurd (cc (e))
     at_test false parent e = refl
 
-pub settles_answer : (v : Seen) (p k to : ℕ) → AskAnswer to ≡ goes_on (v.states p).part → seen_answering v p k to ≡ seen_settling v p k
+pub settles_answer : (v : Seen) (p k to : ℕ) → Answer to ≡ goes_on (v.states p).part → seen_answering v p k to ≡ seen_settling v p k
 settles_answer v p k to e = at_test ((v.states p).part.awaited == 0) (v.states p).part.parent e
   where
-    at_test : (b : Bool) (parent : Option ℕ) → AskAnswer to ≡ (if b then way_alone parent else Wait) → seen_answering v p k to ≡ (if b then seen_ending v p k parent else v)
+    at_test : (b : Bool) (parent : Option ℕ) → Answer to ≡ (if b then way_alone parent else Wait) → seen_answering v p k to ≡ (if b then seen_ending v p k parent else v)
     at_test true None e = absurd (cc (e))
     at_test true (Some other) e = let i : to ≡ other = cc in ap (λ (n : ℕ). seen_answering v p k n) i
     at_test false parent e = absurd (cc (e))

@@ -11,7 +11,7 @@ use Rattle.kt_cuts.specs.Past.{at_one}
 use Rattle.kt_fifo.specs.declared.parcels.Parcel.{Parcel}
 use Rattle.kt_protocol.specs.Replies.{unable_cause}
 use Rattle.kt_protocol.specs.States.{Begin}
-use Rattle.kt_parts.specs.Answers.{AskAnswer, replies, joins}
+use Rattle.kt_parts.specs.Answers.{Answer, replies, joins}
 use Rattle.kt_parts.specs.declared.actions.Action.{Action}
 use Rattle.kt_parts.specs.declared.actions.Action.TheVariants.{Nothing, Refuse, Join, Reply, Settle}
 use Rattle.kt_parts.specs.declared.actions.Then.{Then}

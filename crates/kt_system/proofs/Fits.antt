@@ -11,7 +11,7 @@ use Rattle.kt_parts.specs.Parts.{Part}
 use Rattle.kt_parts.specs.declared.actions.Action.{Action}
 use Rattle.kt_parts.specs.declared.actions.Action.TheVariants.{Nothing, Refuse, Join, Reply, Settle}
 use Rattle.kt_parts.specs.declared.actions.Then.{Then}
-use Rattle.kt_parts.specs.declared.actions.Then.TheVariants.{Wait, AskAnswer, Commit}
+use Rattle.kt_parts.specs.declared.actions.Then.TheVariants.{Wait, Answer, Commit}
 use Rattle.kt_process.specs.ProcessStates.{ProcessState, part_of_side, is_saving, is_ready, asked_of, asked_of_part}
 use Rattle.kt_process.specs.Turns.{peers_of, joins_by, reply_of, is_of, IsIn, HasPartners, HasJoined, IsBegin, IsHeard}
 use Rattle.kt_process.specs.declared.side.Side.{Side}
@@ -21,7 +21,7 @@ use Rattle.kt_system.specs.Shown.{IsTurned}
 use Rattle.kt_system.proofs.Frames.{room_turned, back_turned}
 
 -- who goes on by a reply has a parent, and who commits has none
-answer_parent : (b : Bool) (parent : Option ℕ) (to : ℕ) → (if b then way_alone parent else Wait) ≡ AskAnswer to → parent ≡ Some to
+answer_parent : (b : Bool) (parent : Option ℕ) (to : ℕ) → (if b then way_alone parent else Wait) ≡ Answer to → parent ≡ Some to
 answer_parent true (Some x) to e = cc
 answer_parent true None to e = absurd (cc)
 answer_parent false parent to e = absurd (cc)

@@ -5,7 +5,7 @@ use Rattle.kt_base.specs.declared.words.Kind.TheVariants.{Checkpoint, Rollback}
 use Rattle.kt_parts.specs.declared.actions.Action.{Action}
 use Rattle.kt_parts.specs.declared.actions.Action.TheVariants.{Nothing, Refuse, Join, Reply, Settle}
 use Rattle.kt_parts.specs.declared.actions.Then.{Then}
-use Rattle.kt_parts.specs.declared.actions.Then.TheVariants.{Wait, AskAnswer, Commit}
+use Rattle.kt_parts.specs.declared.actions.Then.TheVariants.{Wait, Answer, Commit}
 use Rattle.kt_plan.specs.declared.steps.Act.{Act as AnsweredAct}
 use Rattle.kt_plan.specs.declared.steps.Act.TheVariants as answered
 use Rattle.kt_values.specs.Values.{Act, Apply, Keep, Promote, Discard, Restore, Drop, closing}
@@ -34,7 +34,7 @@ acts_joining Rollback = []
 abbrev pub acts_going_on : Bool → Then → List Act
 acts_going_on roll Commit = closing roll true
 acts_going_on roll Wait = []
-acts_going_on roll (AskAnswer to) = []
+acts_going_on roll (Answer to) = []
 
 -- what follows from a command to begin an instance of a kind, or from an ask to take part in one
 abbrev pub acts_carried_out : Kind → Bool → Action → List Act

@@ -9,7 +9,7 @@ use Rattle.kt_parts.specs.Asks.{AreRisingAsks}
 use Rattle.kt_parts.specs.declared.actions.Action.{Action}
 use Rattle.kt_parts.specs.declared.actions.Action.TheVariants.{Join, Reply, Settle}
 use Rattle.kt_parts.specs.declared.actions.Then.{Then}
-use Rattle.kt_parts.specs.declared.actions.Then.TheVariants.{AskAnswer, Commit}
+use Rattle.kt_parts.specs.declared.actions.Then.TheVariants.{Answer, Commit}
 use Rattle.kt_process.specs.ProcessStates.{ProcessState, part_of_side, is_ready, asked_of, IsNumbered}
 use Rattle.kt_base.specs.Sets.{has}
 use Rattle.kt_base.specs.declared.words.Kind.{Kind}
@@ -65,7 +65,7 @@ pub record CanJoin (w : Whole) (p : ℕ) (asks : List (ℕ × ℕ)) (goes : Then
   pub rising : AreRisingAsks asks
   pub asks_fit : (j : ℕ) → j < length asks → 2 ≤ room_to w p (slice_index_or asks j (0, 0)).0
   pub parcels : (q : ℕ) → asked_of (state_of w p).side q ≡ true → 2 ≤ room_to w p q
-  pub answers : (to : ℕ) → goes ≡ AskAnswer to → (to < w.size) × (2 ≤ room_to w p to)
+  pub answers : (to : ℕ) → goes ≡ Answer to → (to < w.size) × (2 ≤ room_to w p to)
   pub back : goes ≡ Commit → is_ready (state_of w p).side ≡ true → HasBack w p
 
 -- who closes its instance may tell the decision
