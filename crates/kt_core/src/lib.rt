@@ -3,9 +3,11 @@
 
 mod agenda;
 mod faults;
+mod laws;
 mod ready;
 mod world;
 
 pub use faults::StepFault;
+pub use laws::runs_of_worlds;
 pub use ready::Ready;
 pub use world::World;

@@ -18,7 +18,6 @@ use Rattle.kt_plans.proofs.NeededBodies.{offers_seen}
 use Rattle.kt_plans.proofs.RunSteps.{rest_seen}
 use Rattle.kt_core.specs.Worlds.{World, can_make, step_refusal}
 use Rattle.kt_core.specs.declared.faults.StepFault.{StepFault}
-use Rattle.kt_core.proofs.Enabled.{enabled_is}
 use Rattle.kt_run.specs.Objects.{rules_by}
 use Rattle.kt_run.specs.Refused.{IsGivenNext, IsDefaultNext, IsGivenRefused, IsStopped}
 use Rattle.kt_run.specs.declared.orders.Order.{Order}
@@ -82,14 +81,15 @@ in_order_more plan cast given steps g now next x old new before after e o s come
       generator = moved ∙ sym more.1;
     }
 
--- where no step is enabled all is at rest
-pub in_order_rest : (plan : Planned) (cast : List (List Content)) (given steps : List Step) (g now : Option Generator) (w : World) (at : ToldAndHeld) → w.agenda.plan ≡ plan → GoesInOrder plan cast given steps g now w at
+-- where no step is enabled all is at rest; which steps are enabled is the law `runs_of_worlds: enabled`
+pub in_order_rest : (law : (w : World) (first : ℕ) (v : Progress) (x : Step) → Mirrors w.agenda w.system first v → can_make w x ≡ enabled w.agenda.plan v x)
+    → (plan : Planned) (cast : List (List Content)) (given steps : List Step) (g now : Option Generator) (w : World) (at : ToldAndHeld) → w.agenda.plan ≡ plan → GoesInOrder plan cast given steps g now w at
     → ((x : Step) → can_make w x ≡ false) → RestsInOrder plan cast given steps g w at
-in_order_rest plan cast given steps g now w at e o none = record {
+in_order_rest law plan cast given steps g now w at e o none = record {
   now = now;
   goes = o;
   rest = rest_seen plan 0 o.run.now (subst (λ (z : Planned). IsPlan z) e o.run.shown.limits) (record { moves = o.run.moves; leads = o.run.leads })
-      (λ x. subst (λ (z : Planned). enabled z o.run.now x ≡ false) e (sym (enabled_is w 0 o.run.now o.run.shown x) ∙ none x));
+      (λ x. subst (λ (z : Planned). enabled z o.run.now x ≡ false) e (sym (law w 0 o.run.now x o.run.shown) ∙ none x));
 }
 
 -- a step is refused

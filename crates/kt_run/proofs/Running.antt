@@ -31,7 +31,6 @@ use Rattle.kt_core.specs.declared.faults.StepFault.TheVariants.{NotEnabled, LogF
 use Rattle.std.proofs.lemmas.Bool.{ltb-false}
 use Rattle.kt_core.specs.declared.faults.StepFault.{StepFault}
 use Rattle.kt_core.specs.Shown.{Mirrors}
-use Rattle.kt_core.proofs.Enabled.{enabled_is, enabled_if}
 use Rattle.kt_run.specs.Objects.{Belongings, first_of, rules_of, rules_by, HoldDue}
 use Rattle.kt_run.specs.Refused.{IsGivenNext, IsDefaultNext, IsGivenRefused, IsDefaultRefused, IsStopped}
 use Rattle.kt_run.specs.Runs.{ToldAndHeld, Tells, StepsTo, Starts, BeginsRun, Goes, Rests, IsPlayed, IsToldPlay}
@@ -55,6 +54,9 @@ room_kept old new x grew e limit =
     let few = grew.few in
     omega (arith, room, rows, few, limit)
 
+abbrev Allows : World → Step → Type 0
+Allows old x = (first : ℕ) (v : Progress) → Mirrors old.agenda old.system first v → enabled old.agenda.plan v x ≡ true
+
 abbrev Leads : World → World → Give → Step → Type 0
 Leads old new give x = (first : ℕ) (v : Progress) → Mirrors old.agenda old.system first v → Mirrors new.agenda new.system first (progress_after old.agenda.plan v x give)
 
@@ -63,17 +65,17 @@ Acts old acts give x = (first : ℕ) (v : Progress) → Mirrors old.agenda old.s
 
 pub tells_now : (old new : World) (before after : List (List Told)) (x : Step) (give : Give) (told : Told) (acts : List Act) → acts ≡ told.acts → told.step ≡ x → LogGrows 4 old.system new.system → length told.rows ≡ 4
     → ((i : ℕ) → i < 4 → slice_get told.rows i ≡ Some (numbered_row new.system.rows.rows (length old.system.rows.rows + i))) → IsNoted told before after
-    → new.limit ≡ old.limit → step_refusal old x ≡ None → Leads old new give x → Acts old told.acts give x → Tells old before x give new after acts
+    → new.limit ≡ old.limit → step_refusal old x ≡ None → Allows old x → Leads old new give x → Acts old told.acts give x → Tells old before x give new after acts
 tells_now old new before after x give told acts same is grew four read noted limit =
-    subst (λ (y : Step). step_refusal old y ≡ None → Leads old new give y → Acts old told.acts give y → Tells old before y give new after acts) is
-    (λ allowed leads asks. (
+    subst (λ (y : Step). step_refusal old y ≡ None → Allows old y → Leads old new give y → Acts old told.acts give y → Tells old before y give new after acts) is
+    (λ allowed enables leads asks. (
       told,
       noted,
       same,
       limit,
       room_kept old new told.step grew allowed limit,
       λ first v r.
-          let on : enabled old.agenda.plan v told.step ≡ true = sym (enabled_is old first v r told.step) ∙ enabled_if old told.step allowed in (
+          let on = enables first v r in (
             on,
             leads first v r,
             told_as old.agenda.plan told give old new first v refl r (leads first v r) on grew four read (asks first v r),
@@ -98,12 +100,12 @@ unfolding rows_at
 four_at rows n = refl
 
 -- so it does where nobody keeps what it tells
-pub tells_unkept : (old new : World) (x : Step) (give : Give) (acts : List Act) → LogGrows 4 old.system new.system → new.limit ≡ old.limit → step_refusal old x ≡ None → Leads old new give x → Acts old acts give x
+pub tells_unkept : (old new : World) (x : Step) (give : Give) (acts : List Act) → LogGrows 4 old.system new.system → new.limit ≡ old.limit → step_refusal old x ≡ None → Allows old x → Leads old new give x → Acts old acts give x
     → Tells old [] x give new [] acts
-tells_unkept old new x give acts grew limit allowed leads asks =
+tells_unkept old new x give acts grew limit allowed enables leads asks =
     let told : Told = record { step = x; rows = rows_at new.system.rows.rows (length old.system.rows.rows); acts = acts } in
     tells_now old new [] [] x give told acts refl refl grew (four_at new.system.rows.rows (length old.system.rows.rows)) (read_at new.system.rows.rows (length old.system.rows.rows))
-    (record { count = refl; each = λ p l. absurd (omega (arith, l)) }) limit allowed leads asks
+    (record { count = refl; each = λ p l. absurd (omega (arith, l)) }) limit allowed enables leads asks
 
 abbrev Led : Planned → Progress → Step → World → Told → Give → Type 0
 Led plan v x new told give = (enabled plan v x ≡ true) × Mirrors new.agenda new.system 0 (progress_after plan v x give)

@@ -3,10 +3,11 @@
 ghost use Rattle.std.specs.Prelude.{◌≡◌, ◌≢◌, ◌<◌, ◌+◌, ◌-◌, ◌^◌, ℕ, List, [], Some, None, true, false, map, length, slice_index_or, OnOk, IfOk, IfErr};
 ghost use Rattle.std.specs.List.{AllZip};
 ghost use Rattle.kt_core.specs.Ready.{IsReady};
-ghost use Rattle.kt_core.specs.Worlds.{can_make, needs, step_refusal};
+ghost use Rattle.kt_core.specs.Worlds.{can_make, step_refusal};
 ghost use Rattle.kt_core.specs.declared.faults.StepFault.{StepFault};
 ghost use Rattle.kt_held.specs.Holdings.{Content, content};
 ghost use Rattle.kt_plan.specs.declared.steps.Step.{Step};
+ghost use Rattle.kt_plans.specs.Looks.{look};
 ghost use Rattle.kt_plans.specs.Steps.{process_of_step};
 ghost use Rattle.kt_run.specs.Faults.{IsCast, Answers, is_of_cast, stopped_at};
 ghost use Rattle.kt_run.specs.Objects.{has_of, first_of, HoldDue, AreLeft};
@@ -291,7 +292,8 @@ fn ready(world: &World, step: &Step, done: usize) -> Result<Ready, RunFault>
     requires { can_make world.now step.now ≡ true }
     ensures fault { IfErr result (λ fault. is_of_cast fault ≡ false) }
     ensures step { IfOk result (λ ready. ready.step ≡ step.now) }
-    ensures look { IfOk result (λ ready. ready.look ≡ needs world.now step.now) }
+    ensures look { (first : ℕ) (v : Progress) → Mirrors world.now.agenda world.now.system first v →
+        IfOk result (λ ready. ready.look ≡ look world.now.agenda.plan v step.now) }
     ensures ready { IfOk result (IsReady world.now) }
     ensures allowed { OnOk result (step_refusal world.now step.now ≡ None) }
     ensures refused { IfErr result (λ fault. (n : ℕ) (why : StepFault) → fault ≡ RunFault.Step n why →

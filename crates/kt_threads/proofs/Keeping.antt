@@ -13,7 +13,7 @@ use Rattle.kt_threads.specs.Moves.{move_of}
 use Rattle.kt_threads.specs.Workers.{AreServed, AllServed}
 use Rattle.kt_threads.specs.declared.errands.Errand.{Errand}
 use Rattle.kt_threads.specs.declared.state.Made.{Made}
-use Rattle.kt_threads.proofs.Moving.{run_of, served_of, nothing_tentative}
+use Rattle.kt_threads.proofs.Moving.{WorldLaws, run_of, served_of, nothing_tentative}
 use Rattle.kt_threads.proofs.Serving.{GivesOf}
 
 at_each : (olds : List Belongings) (lists : List (List Errand)) (news : List Belongings) → AllServed olds lists news → (p : ℕ) (c : Belongings)
@@ -51,7 +51,7 @@ none_saved None (Some saved) e h = absurd h
 none_saved (Some c) t e h = absurd (cc (e))
 
 -- all have what is due to them
-module _ (plan : Planned) (steps : List Made) (rows : List Event) (lived : histories.IsWholeHistory plan steps rows) (lists : List (List Errand))
+module _ (laws : WorldLaws) (plan : Planned) (steps : List Made) (rows : List Event) (lived : histories.IsWholeHistory plan steps rows) (lists : List (List Errand))
     (theirs : AreTheirs (length plan.names) steps lists) (olds news : List Belongings) (served : AllServed olds lists news)
     (cast : List (List Content)) (due : HoldDue cast [] olds) where
   abbrev objects : ℕ → List Content
@@ -64,7 +64,7 @@ module _ (plan : Planned) (steps : List Made) (rows : List Event) (lived : histo
       let l = within news p c e in
       let n = (as_many olds lists news served).1 in
       let m = theirs.count in
-      served_of plan steps rows lived (objects p) p t.0 c (due.each p t.0 t.1)
+      served_of laws plan steps rows lived (objects p) p t.0 c (due.each p t.0 t.1)
       (subst (λ (l : List Errand). AreServed t.0 l c) (theirs.each p (omega (arith, l, n, m))) t.2)
 
   pub due_then : HoldDue cast rows news
@@ -78,10 +78,10 @@ module _ (plan : Planned) (steps : List Made) (rows : List Event) (lived : histo
       (each p g.0 g.1).1
 
   pub run_then : IsRun plan cast (map move_of steps) rows
-  run_then = run_of plan steps rows lived cast gives
+  run_then = run_of laws plan steps rows lived cast gives
 
   pub settled_then : (p : ℕ) (c : Belongings) → slice_get news p ≡ Some c → c.depot.tentative ≡ None
   settled_then p c e =
       let first = first_of (objects p) in
-      none_saved _ c.depot.tentative (ap (option_map (content first.kind)) (nothing_tentative plan steps rows lived (rules_of first) p))
+      none_saved _ c.depot.tentative (ap (option_map (content first.kind)) (nothing_tentative laws plan steps rows lived (rules_of first) p))
       (each p c e).0.holds.tentative

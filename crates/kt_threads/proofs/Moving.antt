@@ -4,10 +4,7 @@ use Rattle.std.specs.List.{AllZip}
 use Rattle.std.specs.Prelude.{if◌then◌else◌}
 use Rattle.kt_core.specs.Agendas.{Agenda}
 use Rattle.kt_core.specs.Shown.{Mirrors}
-use Rattle.kt_core.specs.Worlds.{World, IsSameWorld}
-use Rattle.kt_core.proofs.Defaults.{rest_is}
-use Rattle.kt_core.proofs.Enabled.{enabled_if, enabled_is}
-use Rattle.kt_core.proofs.Leading.{run_same}
+use Rattle.kt_core.specs.Worlds.{World, IsSameWorld, IsWorldAtRest}
 use Rattle.kt_held.specs.Holdings.{Content}
 use Rattle.kt_plan.specs.Limits.{Planned, IsPlan}
 use Rattle.kt_plan.specs.declared.steps.Told.{Told}
@@ -46,11 +43,10 @@ record Goes (plan : Planned) (first : ℕ) (v : Progress) (steps : List Made) (n
   told : (p : ℕ) → AllZip IsToldAs (told_to p steps) (told_by plan v p (map move_of steps))
   served : (objects : List Content) (p : ℕ) → KeepsDue plan objects p v steps end
 
--- a run leads to the same world with other spare room
-same_run : (new old : World) (first : ℕ) (v : Progress) → IsSameWorld new old → Mirrors old.agenda old.system first v
-    → Mirrors new.agenda new.system first v
-same_run new old first v same r =
-    subst (λ (a : Agenda). Mirrors a new.system first v) (sym same.agenda) (run_same old.agenda old.system new.system first v same.system r)
+-- the law of worlds that lemmas rest on: whoever cites such a lemma calls `runs_of_worlds`
+pub record WorldLaws : Type 0 where
+  pub rest : (w : World) (first : ℕ) (v : Progress) → Mirrors w.agenda w.system first v → IsWorldAtRest w → is_at_rest w.agenda.plan v ≡ true
+  pub same : (old new : World) (first : ℕ) (v : Progress) → IsSameWorld new old → Mirrors old.agenda old.system first v → Mirrors new.agenda new.system first v
 
 -- where an enabled move leads, and others after it
 one_more : (on : Bool) (there : Option Progress) (end : Progress) → on ≡ true → there ≡ Some end → (if on then there else None) ≡ Some end
@@ -61,8 +57,7 @@ one_more false there end e f = absurd (cc (e))
 is_enabled : (plan : Planned) (old new : World) (made : Made) (first : ℕ) (v : Progress) → old.agenda.plan ≡ plan → IsMade old made new
     → Mirrors old.agenda old.system first v → enabled plan v made.told.step ≡ true
 is_enabled plan old new made first v plans step r =
-    subst (λ (p : Planned). enabled p v made.told.step ≡ true) plans
-    (sym (enabled_is old first v r made.told.step) ∙ enabled_if old made.told.step step.allowed)
+    subst (λ (p : Planned). enabled p v made.told.step ≡ true) plans (step.makes.runs first v r).enabled
 
 -- where the steps after the first one lead, all lead
 goes_first : (plan : Planned) (made : Made) (steps : List Made) (before after new : World) (first : ℕ) (v : Progress) → before.agenda.plan ≡ plan
@@ -90,26 +85,26 @@ run_after plan made before after first v plans r step =
     subst (λ (p : Planned). Mirrors after.agenda after.system first (progress_after p v made.told.step made.give)) plans
     ((step.makes.runs first v r).leads)
 
-goes_on : (plan : Planned) (steps : List Made) (old new : World) (first : ℕ) (v : Progress) → old.agenda.plan ≡ plan
+goes_on : WorldLaws → (plan : Planned) (steps : List Made) (old new : World) (first : ℕ) (v : Progress) → old.agenda.plan ≡ plan
     → Mirrors old.agenda old.system first v → StepsLead old steps new → Goes plan first v steps new
-goes_on plan [] old new first v plans r same = record {
+goes_on laws plan [] old new first v plans r same = record {
   end = v;
   plans = ap (λ (a : Agenda). a.plan) same.agenda ∙ plans;
   leads = refl;
-  shown = same_run new old first v same r;
+  shown = laws.same old new first v same r;
   rows = λ p. sym (append-nil (numbered_rows_by p v.now.log));
   told = λ p. tt;
   served = λ objects p b now h same. (subst (λ (c : Belongings). HoldsDue objects v.now.log p c) (sym same) h, tt);
 }
-goes_on plan (made ∷ steps) old new first v plans r leads =
-    let here : Mirrors leads.0.agenda leads.0.system first v = same_run leads.0 old first v leads.2 r in
+goes_on laws plan (made ∷ steps) old new first v plans r leads =
+    let here : Mirrors leads.0.agenda leads.0.system first v = laws.same old leads.0 first v leads.2 r in
     let kept : leads.0.agenda.plan ≡ plan = ap (λ (a : Agenda). a.plan) leads.2.agenda ∙ plans in
     let w = progress_after plan v made.told.step made.give in
     let next : Mirrors leads.1.agenda leads.1.system first w = run_after plan made leads.0 leads.1 first v kept here leads.3 in
     goes_first plan made steps leads.0 leads.1 new first v kept here leads.3 next
-    (goes_on plan steps leads.1 new first w (leads.3.keeps.plan ∙ kept) next leads.4)
+    (goes_on laws plan steps leads.1 new first w (leads.3.keeps.plan ∙ kept) next leads.4)
 
-module _ (plan : Planned) (steps : List Made) (rows : List Event) (lived : histories.IsWholeHistory plan steps rows) where
+module _ (laws : WorldLaws) (plan : Planned) (steps : List Made) (rows : List Event) (lived : histories.IsWholeHistory plan steps rows) where
   abbrev start : Progress
   start = progress_at_start plan 0
 
@@ -117,11 +112,11 @@ module _ (plan : Planned) (steps : List Made) (rows : List Event) (lived : histo
   h = lived.history
 
   goes : Goes plan 0 start steps lived.end
-  goes = goes_on plan steps h.begin lived.end 0 start h.opening.plans h.starts h.leads
+  goes = goes_on laws plan steps h.begin lived.end 0 start h.opening.plans h.starts h.leads
 
   at_rest : is_at_rest plan goes.end ≡ true
   at_rest = subst (λ (p : Planned). is_at_rest p goes.end ≡ true) goes.plans
-      (sym (rest_is lived.end 0 goes.end goes.shown true (λ _. lived.rest, λ _. refl)))
+      (laws.rest lived.end 0 goes.end goes.shown lived.rest)
 
   rows_are : rows ≡ goes.end.now.log
   rows_are = lived.log ∙ goes.shown.now.log

@@ -9,7 +9,6 @@ use Rattle.kt_plan.specs.declared.steps.Step.TheVariants.{Do, Take}
 use Rattle.kt_core.specs.Shown.{Mirrors}
 use Rattle.kt_core.specs.Worlds.{World}
 use Rattle.kt_plans.specs.Steps.{process_of_step, enabled, progress_after}
-use Rattle.kt_core.proofs.Enabled.{below}
 use Rattle.kt_held.specs.Holdings.{Content, content}
 use Rattle.kt_object.specs.Value.{offered}
 use Rattle.kt_plans.specs.Runs.{Move, RunReaches, after_moves}
@@ -140,8 +139,8 @@ and_left true b e = refl
 and_left false b e = absurd (cc (e))
 
 inside : (plan : Planned) (w : Progress) (x : Step) → enabled plan w x ≡ true → process_of_step x < (length plan.names)
-inside plan w (Do p) e = below p (length plan.names) (and_left (nat_lt p (length plan.names)) _ e)
-inside plan w (Take p q) e = below p (length plan.names) (and_left (nat_lt p (length plan.names)) (nat_lt q (length plan.names)) (and_left _ _ e))
+inside plan w (Do p) e = let l = and_left (nat_lt p (length plan.names)) _ e in grind (arith, nat_tests, l)
+inside plan w (Take p q) e = let l = and_left (nat_lt p (length plan.names)) (nat_lt q (length plan.names)) (and_left _ _ e) in grind (arith, nat_tests, l)
 
 on_first : (b : Bool) (there : Option Progress) (end : Progress) → (if b then there else None) ≡ Some end → (b ≡ true) × (there ≡ Some end)
 on_first true there end e = (refl, e)

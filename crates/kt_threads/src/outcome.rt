@@ -289,6 +289,7 @@ fn live_with<R: Threads + Wait + Sync>(
         MayReject (λ b saved. may_reject (b.vtable, b.value) saved) (first_of (slice_index_or cast p [])).kind
         (slice_index_or (objects_held objects.items) p [])) }
 {
+    kt_core::runs_of_worlds();
     let (log, _steps, _lists, told, objects, _listed) = work_out(
         rt,
         alloc,
@@ -385,6 +386,7 @@ pub fn live_log_of<R: Threads + Wait + Sync>(
         (slice_index_or (map (λ row. row.items) cast.items) p [])) }
 {
     kt_plans::certificates_of_promised_logs();
+    kt_core::runs_of_worlds();
     let objects = first_objects(alloc, plan, cast)?;
     let (log, _steps, _lists, _told, _objects, _listed) = work_out(
         rt,

@@ -53,6 +53,7 @@ pub fn live_recorded_run_of<R: Threads + Wait + Sync>(
         (slice_index_or (map (λ row. row.items) cast.items) p [])) }
 {
     kt_plans::certificates_of_promised_logs();
+    kt_core::runs_of_worlds();
     let objects = first_objects(alloc, plan, cast)?;
     let (log, _steps, _lists, _told, _objects, listed) = work_out(
         rt,

@@ -103,6 +103,10 @@ impl Worker {
         ensures { KeepsServing self.old self.new
             (λ b. content (kind_of (b.vtable, b.value)) (value_of (b.vtable, b.value)))
             (λ b saved. may_reject (b.vtable, b.value) saved) }
+
+        // Where the errand can't be noted, the thread ends by that, and names itself.
+        ensures unnoted { self.new.errands.items ≡ self.old.errands.items →
+            self.new.fault ≡ Some (LiveFault.Journal self.old.me) }
     {
         let acts = copied(&errand.acts);
         if self.errands.push(errand).is_err() {

@@ -92,6 +92,8 @@ impl World {
     pub fn ready(&self, step: &Step) -> Result<Ready, StepFault>
         ensures step { IfOk result (λ ready. ready.step ≡ step.now) }
         ensures look { IfOk result (λ ready. ready.look ≡ needs self.now step.now) }
+        ensures in_runs { (first : ℕ) (v : Progress) → Mirrors self.now.agenda self.now.system first v →
+            IfOk result (λ ready. ready.look ≡ look self.now.agenda.plan v step.now) }
         ensures ready { IfOk result (IsReady self.now) }
         ensures allowed { OnOk result (step_refusal self.now step.now ≡ None) }
         ensures refused { IfErr result (λ fault. step_refusal self.now step.now ≡ Some fault) }
@@ -117,6 +119,8 @@ impl World {
         requires { can_make self.now step.now ≡ true }
         ensures step { IfOk result (λ ready. ready.step ≡ step.now) }
         ensures look { IfOk result (λ ready. ready.look ≡ needs self.now step.now) }
+        ensures in_runs { (first : ℕ) (v : Progress) → Mirrors self.now.agenda self.now.system first v →
+            IfOk result (λ ready. ready.look ≡ look self.now.agenda.plan v step.now) }
         ensures ready { IfOk result (IsReady self.now) }
         ensures allowed { OnOk result (step_refusal self.now step.now ≡ None) }
         ensures refused { IfErr result (λ fault. step_refusal self.now step.now ≡ Some fault) }

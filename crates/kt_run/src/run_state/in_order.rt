@@ -106,6 +106,7 @@ impl RunState {
             (λ b. content (kind_of (b.vtable, b.value)) (value_of (b.vtable, b.value))))) }
     {
         let mut list = Vec::new(self.alloc);
+        kt_core::runs_of_worlds();
         for _number in 0..MAX_STEPS {
             let found = step_in_order(&self.world, generator, &mut list)?;
             let Some(step) = found else {

@@ -12,7 +12,7 @@ pub returns-clause-lived : goal.returns-clause-lived
 returns-clause-lived g c =
     let ends = c.in_ok-log.ensures in (
       map move_of (map (λ step. step.value) c.in_ok-log._steps.items),
-      run_then c.args.plan.now (map (λ step. step.value) c.in_ok-log._steps.items) c.in_ok-log.log.rows ends.history _ ends.theirs _ _ ends.served _ c.in_ok-objects.ensures.due,
+      run_then (record { rest = c.runs_of_worlds.ensures.rest; same = c.runs_of_worlds.ensures.same }) c.args.plan.now (map (λ step. step.value) c.in_ok-log._steps.items) c.in_ok-log.log.rows ends.history _ ends.theirs _ _ ends.served _ c.in_ok-objects.ensures.due,
     )
 
 if_err : {T E : Type 0} (r : Result T E) (P : E → Type 0) (e : E) → r ≡ Err e → P e → IfErr r P

@@ -18,7 +18,7 @@ returns-clause-run g c =
     record {
       moves = map move_of made;
       made = steps_of_moves made ∙ sym listed;
-      run = run_then c.args.plan.now made c.in_ok-log.log.rows ends.history _ ends.theirs _ _ ends.served _ c.in_ok-objects.ensures.due;
+      run = run_then (record { rest = c.runs_of_worlds.ensures.rest; same = c.runs_of_worlds.ensures.same }) c.args.plan.now made c.in_ok-log.log.rows ends.history _ ends.theirs _ _ ends.served _ c.in_ok-objects.ensures.due;
     }
 
 if_err : {T E : Type 0} (r : Result T E) (P : E → Type 0) (e : E) → r ≡ Err e → P e → IfErr r P

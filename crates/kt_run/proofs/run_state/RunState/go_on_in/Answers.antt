@@ -59,7 +59,7 @@ loop-number-preserved g c =
 
 pub returns-in_default-clause-rests : goal.returns-in_default-clause-rests
 returns-in_default-clause-rests g c = λ cast b.
-    in_order_rest c.args.self.now.world.agenda.plan cast c.args.made.now.items c.loop-number.made.items c.args.generator.now c.loop-number.generator c.loop-number.self.world (told_and_held c.loop-number.self.journals c.loop-number.self.objects.items (λ b. content ((goal.Recoverable-dyn g (b.vtable, b.value)).kind_of b.value) ((goal.Recoverable-dyn g (b.vtable, b.value)).value_of b.value))) c.loop-number.invariant.plan (c.loop-number.invariant.goes cast b)
+    in_order_rest c.runs_of_worlds.ensures.enabled c.args.self.now.world.agenda.plan cast c.args.made.now.items c.loop-number.made.items c.args.generator.now c.loop-number.generator c.loop-number.self.world (told_and_held c.loop-number.self.journals c.loop-number.self.objects.items (λ b. content ((goal.Recoverable-dyn g (b.vtable, b.value)).kind_of b.value) ((goal.Recoverable-dyn g (b.vtable, b.value)).value_of b.value))) c.loop-number.invariant.plan (c.loop-number.invariant.goes cast b)
     (subst (λ (o : Option Step). IfNone o ((step : Step) → can_make c.loop-number.self.world step ≡ false)) c.in_default.is c.in_ok-found.ensures.none)
 
 pub unreachable-requires : goal.unreachable-requires

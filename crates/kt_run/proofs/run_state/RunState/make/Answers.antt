@@ -3,7 +3,6 @@ use Rattle.std.specs.Prelude.{is_some}
 use Rattle.std.proofs.lemmas.Option.{slice_get_read}
 use Rattle.kt_held.specs.Holdings.{content}
 use Rattle.kt_plan.specs.declared.steps.Step.{Step}
-use Rattle.kt_core.proofs.Looks.{look_is}
 use Rattle.kt_run.specs.Runs.{Tells}
 use Rattle.kt_run.proofs.Acting.{held_to}
 use Rattle.kt_run.proofs.Rejecting.{act_refused, no_more_set}
@@ -16,7 +15,7 @@ returns-in-Ok-clause-leads g c =
     let old = c.in-Some.held.now in
     let there = slice_get_read helds (length helds) c.index.result old refl (let n = c.in-Some.ensures.variant.0 refl in omega (arith, n)) c.in-Some.ensures.value in
     held_to helds (λ b. content ((goal.Recoverable-dyn g (b.vtable, b.value)).kind_of b.value) ((goal.Recoverable-dyn g (b.vtable, b.value)).value_of b.value)) c.index.result old c.obey.new.self there c.args.self.now.world c.step_once.new.world c.args.self.now.journals c.step_once.new.journals
-    c.args.step (c.index.ensures.value ∙ c.process_of-p.ensures) c.ask-answer.result.give c.step_once.new.acts c.in_ok-ready.ready.look (λ first v r. c.in_ok-ready.ensures.look ∙ look_is c.args.self.now.world first v r c.args.step)
+    c.args.step (c.index.ensures.value ∙ c.process_of-p.ensures) c.ask-answer.result.give c.step_once.new.acts c.in_ok-ready.ready.look c.in_ok-ready.ensures.look
     c.ask-answer.ensures.body c.in-Ok.ensures.does c.in-Ok.ensures.spares (subst (λ (x : Step). Tells c.args.self.now.world c.args.self.now.journals x c.ask-answer.result.give c.step_once.new.world c.step_once.new.journals c.step_once.new.acts) c.in_ok-ready.ensures.step c.in_ok-step_once.ensures.leads)
 
 pub returns-in-Ok-clause-spares : goal.returns-in-Ok-clause-spares

@@ -1,0 +1,19 @@
+//! Laws of worlds; there is nothing to run.
+
+ghost use Rattle.std.specs.Prelude.{◌≡◌, ℕ, true};
+ghost use Rattle.kt_plan.specs.declared.steps.Step.{Step};
+ghost use Rattle.kt_plans.specs.Progress.{Progress};
+ghost use Rattle.kt_plans.specs.Steps.{enabled, is_at_rest};
+ghost use Rattle.kt_core.specs.Shown.{Mirrors};
+ghost use Rattle.kt_core.specs.Worlds.{World, IsSameWorld, IsWorldAtRest, can_make};
+
+/// What a world says of the runs that lead to it: which steps are enabled there, and that they have come to rest. They
+/// lead as well to the same world with other spare room.
+pub fn runs_of_worlds()
+    ensures enabled { (w : World) (first : ℕ) (v : Progress) (step : Step) → Mirrors w.agenda w.system first v →
+        can_make w step ≡ enabled w.agenda.plan v step }
+    ensures rest { (w : World) (first : ℕ) (v : Progress) → Mirrors w.agenda w.system first v →
+        IsWorldAtRest w → is_at_rest w.agenda.plan v ≡ true }
+    ensures same { (old new : World) (first : ℕ) (v : Progress) → IsSameWorld new old →
+        Mirrors old.agenda old.system first v → Mirrors new.agenda new.system first v }
+{}
