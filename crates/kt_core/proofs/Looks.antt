@@ -1,5 +1,5 @@
 -- What a step needs of its process's object, as the laws have it.
-use Rattle.std.specs.Prelude.{◌==◌, ◌&&◌, not, nat_lt, nat_le, if◌then◌else◌, Option, is_none, slice_get}
+use Rattle.std.specs.Prelude.{◌==◌, ◌&&◌, not, nat_lt, nat_le, if◌then◌else◌, Option, is_none, slice_get, Result, Ok, Err, IfOk}
 use Rattle.std.specs.Option.{option_or, option_map_or}
 use Rattle.std.proofs.Common.{◌≡◌, ◌<◌, ℕ, Bool, true, false, Some, None, List, [], ◌∷◌, refl, sym, ap, subst, ◌∙◌}
 use Rattle.kt_plan.specs.Limits.{Planned}
@@ -27,6 +27,8 @@ use Rattle.kt_system.specs.Systems.{state_of}
 use Rattle.kt_system.specs.Reads.{next_parcel, saves_by, would_save}
 use Rattle.kt_system.proofs.Replying.{ready_seen}
 use Rattle.kt_plans.specs.Looks as run_looks
+use Rattle.kt_core.specs.declared.faults.StepFault.{StepFault}
+use Rattle.kt_core.specs.declared.ready.Ready.{Ready}
 use Rattle.kt_plans.specs.Progress.{Progress}
 use Rattle.kt_plans.specs.Steps.{enabled}
 use Rattle.kt_fifo.specs.Queues.{has_parcel}
@@ -155,3 +157,9 @@ module _ (w : World) (first : ℕ) (v : Progress) (r : Mirrors w.agenda w.system
       at_test true e false f = absurd (cc (e, f))
       at_test false e true f = absurd (cc (e, f))
       at_test false e false f = refl
+
+-- what a step needs that is ready, it needs in each run that leads to the world
+pub ready_look : (w : World) (x y : Step) (found : Result Ready StepFault) → x ≡ y → IfOk found (λ ready. ready.look ≡ needs w y)
+    → (first : ℕ) (v : Progress) → Mirrors w.agenda w.system first v → IfOk found (λ ready. ready.look ≡ run_looks.look w.agenda.plan v x)
+ready_look w x y (Ok ready) e look first v r = look ∙ look_is w first v r y ∙ ap (λ (z : Step). run_looks.look w.agenda.plan v z) (sym e)
+ready_look w x y (Err fault) e look first v r = tt
