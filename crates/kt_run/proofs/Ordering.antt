@@ -16,6 +16,7 @@ use Rattle.kt_plans.proofs.FollowsRuns.{follows_seen}
 use Rattle.kt_plans.proofs.GoingOn.{play_append, goes_run}
 use Rattle.kt_plans.proofs.NeededBodies.{offers_seen}
 use Rattle.kt_plans.proofs.RunSteps.{rest_seen}
+use Rattle.kt_core.specs.Shown.{Mirrors}
 use Rattle.kt_core.specs.Worlds.{World, can_make, step_refusal}
 use Rattle.kt_core.specs.declared.faults.StepFault.{StepFault}
 use Rattle.kt_run.specs.Objects.{rules_by}
