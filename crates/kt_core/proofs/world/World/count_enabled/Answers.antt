@@ -1,4 +1,4 @@
-use Rattle.std.proofs.Common.{◌≡◌, ◌<◌, ◌≤◌, ◌∙◌, ℕ, suc, List, length, arith, sym, ap, subst}
+use Rattle.std.proofs.Common.{◌≡◌, ◌≤◌, ◌∙◌, suc, List, length, arith, ap}
 use Rattle.kt_plan.specs.declared.steps.Step.{Step}
 use Rattle.kt_core.specs.Choices.{choices}
 use Rattle.kt_core.specs.Worlds.{World}

@@ -1,4 +1,4 @@
-use Rattle.std.proofs.Common.{rules, ◌≡◌, ◌<◌, ◌≤◌, ◌+◌, ◌∙◌, ℕ, suc, Some, None, List, length, arith, refl, sym, ap, subst}
+use Rattle.std.proofs.Common.{rules, ◌≡◌, ◌+◌, ◌∙◌, ℕ, suc, Some, None, List, arith, sym, ap}
 use Rattle.std.specs.Prelude.{slice_get}
 use Rattle.kt_plan.specs.declared.steps.Step.{Step}
 use Rattle.kt_core.specs.Choices.{choices}

@@ -1,7 +1,6 @@
-use Rattle.std.proofs.Common.{◌≡◌, ◌<◌, ◌≤◌, ℕ, List, [], true, false, subst}
+use Rattle.std.proofs.Common.{◌≡◌, ◌<◌, ℕ, [], true, false, subst}
 use Rattle.std.specs.Prelude.{filter}
 use Rattle.kt_base.specs.Sets.{has}
-use Rattle.kt_plan.specs.declared.steps.Step.{Step}
 use Rattle.kt_core.specs.Choices.{steps_of}
 use Rattle.kt_core.specs.Worlds.{World, can_make}
 use Rattle.kt_core.proofs.Choices.{none_of_others, all_there}
