@@ -1,7 +1,6 @@
 //! In which order the steps of a run are made.
 
-ghost use Rattle.std.specs.Prelude.{◌≡◌, ◌<◌, ℕ, true, false, IfSome, IfNone, length, slice_get};
-ghost use Rattle.kt_core.specs.Choices.{choices};
+ghost use Rattle.std.specs.Prelude.{◌≡◌, ◌<◌, ℕ, Some, true, false, IfSome, IfNone};
 ghost use Rattle.kt_core.specs.Shown.{Mirrors};
 ghost use Rattle.kt_core.specs.Worlds.{can_make};
 ghost use Rattle.kt_plans.specs.Progress.{Progress};
