@@ -24,7 +24,7 @@ returns-clause-step c = λ first v r.
     c.nth_enabled.ensures.in_runs first v r ∙ ap (λ (t : ℕ × Generator). slice_get (enabled_steps c.args.world.now.agenda.plan v) t.0) (drawn c first v r)
 
 pub returns-clause-none : goal.returns-clause-none
-returns-clause-none c = none_within c.nth_enabled.result (choices c.args.world.now) c.number_below-place.result c.nth_enabled.ensures.choices (subst (λ (n : ℕ). c.number_below-place.result < n) c.count_enabled-count.ensures.choices c.number_below-place.ensures.below)
+returns-clause-none c = none_within _ c.nth_enabled.result (choices c.args.world.now) c.number_below-place.result c.nth_enabled.ensures.choices (subst (λ (n : ℕ). c.number_below-place.result < n) c.count_enabled-count.ensures.choices c.number_below-place.ensures.below)
 
 pub returns-clause-generator : goal.returns-clause-generator
 returns-clause-generator c = λ first v r. some_any c.nth_enabled.result (ap (λ (t : ℕ × Generator). Some t.1) (drawn c first v r))
