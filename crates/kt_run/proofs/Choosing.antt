@@ -1,13 +1,13 @@
 -- The step that comes next in an order.
-use Rattle.std.specs.Prelude.{Option, Result, Ok, Err, IfOk, IfSome, IfNone, Contains, slice_get}
-use Rattle.std.proofs.Common.{◌≡◌, ◌<◌, ◌≤◌, ℕ, Bool, true, false, Some, None, List, [], ◌∷◌, length, get_or, refl, sym, ap, subst, arith, ◌∙◌}
-use Rattle.std.proofs.lemmas.Option.{slice_get-get_or, slice_get_past, slice_get_within, get_or_from_slice_get}
+use Rattle.std.specs.Prelude.{Option, IfSome, IfNone, slice_get}
+use Rattle.std.proofs.Common.{◌≡◌, ◌<◌, ℕ, Some, None, List, length, sym, ap, arith, ◌∙◌}
+use Rattle.std.proofs.lemmas.Option.{slice_get-get_or, slice_get_past}
 use Rattle.kt_plan.specs.declared.steps.Step.{Step}
 use Rattle.kt_plan.specs.declared.steps.Step.TheVariants.{Do}
 use Rattle.kt_plans.specs.Progress.{Progress}
 use Rattle.kt_core.specs.Choices.{choices}
 use Rattle.kt_core.specs.Shown.{Mirrors}
-use Rattle.kt_core.specs.Worlds.{World, can_make}
+use Rattle.kt_core.specs.Worlds.{World}
 use Rattle.kt_core.proofs.Choices.{listed_in_run}
 use Rattle.kt_run.specs.Orders.{Generator, draw_below, generator_next, step_in_order}
 
@@ -16,9 +16,9 @@ pub none_at : (l : List Step) (count n : ℕ) → count ≡ length l → count �
 none_at l count n e zero = sym (slice_get_past l n (omega (arith, e, zero)))
 
 -- something stands at a place within
-pub none_within : {P : Type 0} (o : Option Step) (l : List Step) (n : ℕ) → o ≡ slice_get l n → n < length l → IfNone o P
-none_within None l n e k = absurd (let there = slice_get-get_or l n (Do 0) k in cc (e, there))
-none_within (Some x) l n e k = tt
+pub none_within : (P : Type 0) (o : Option Step) (l : List Step) (n : ℕ) → o ≡ slice_get l n → n < length l → IfNone o P
+none_within P None l n e k = absurd (let there = slice_get-get_or l n (Do 0) k in cc (e, there))
+none_within P (Some x) l n e k = tt
 
 pub some_any : {X P : Type 0} (o : Option X) → P → IfSome o (λ _. P)
 some_any None p = tt

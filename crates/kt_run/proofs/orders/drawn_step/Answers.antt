@@ -1,5 +1,5 @@
-use Rattle.std.proofs.Common.{◌≡◌, ◌<◌, ◌∙◌, ℕ, length, arith, sym, ap, subst}
-use Rattle.std.specs.Prelude.{IfSome, slice_get}
+use Rattle.std.proofs.Common.{◌≡◌, ◌<◌, ◌∙◌, ℕ, length, ap, subst}
+use Rattle.std.specs.Prelude.{slice_get}
 use Rattle.kt_core.specs.Choices.{choices}
 use Rattle.kt_run.specs.Orders.{Generator, draw_below}
 use Rattle.kt_run.proofs.Choosing.{none_at, none_within, some_any}
@@ -19,7 +19,7 @@ pub returns-clause-step : goal.returns-clause-step
 returns-clause-step c = c.nth_enabled.ensures.choices ∙ ap (λ (t : ℕ × Generator). slice_get (choices c.args.world.now) t.0) (drawn c)
 
 pub returns-clause-none : goal.returns-clause-none
-returns-clause-none c = none_within c.nth_enabled.result (choices c.args.world.now) c.number_below-place.result c.nth_enabled.ensures.choices (subst (λ (n : ℕ). c.number_below-place.result < n) c.count_enabled-count.ensures.choices c.number_below-place.ensures.below)
+returns-clause-none c = none_within _ c.nth_enabled.result (choices c.args.world.now) c.number_below-place.result c.nth_enabled.ensures.choices (subst (λ (n : ℕ). c.number_below-place.result < n) c.count_enabled-count.ensures.choices c.number_below-place.ensures.below)
 
 pub returns-clause-generator : goal.returns-clause-generator
 returns-clause-generator c = some_any c.nth_enabled.result (ap (λ (t : ℕ × Generator). t.1) (drawn c))
