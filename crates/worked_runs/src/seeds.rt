@@ -29,15 +29,15 @@ fn counted(count: u32, is_so: bool) -> u32 {
     count.saturating_add(u32::from(is_so))
 }
 
-// Plays the scenario of the stored run of this name by so many seeds.
-fn counts_of<R: Host>(rt: &R, name: &str, seeds: u32) -> Result<Counts> {
+// Plays the scenario of the stored run of this name by so many seeds, from the first one on.
+fn counts_of<R: Host>(rt: &R, name: &str, first: u32, seeds: u32) -> Result<Counts> {
     let again = again_words(rt.alloc(), name)?;
     let mut counts = Counts {
         same: 0,
         yes: 0,
         stored: 0,
     };
-    for seed in 0..seeds {
+    for seed in first..first.saturating_add(seeds) {
         let words = seed_words(rt.alloc(), name, seed)?;
         counts.same = counted(counts.same, is_played_again(rt, &words, &again)?);
         counts.yes = counted(counts.yes, is_yes(rt)?);
@@ -46,19 +46,21 @@ fn counts_of<R: Host>(rt: &R, name: &str, seeds: u32) -> Result<Counts> {
     Ok(counts)
 }
 
-// Shows what comes of the scenario that a line names by as many seeds as it says.
+// Shows what comes of the scenario that a line names by as many seeds as it says, from the first one on.
 fn show_seeds_of<R: Host>(rt: &R, line: &str) -> Result<()> {
-    let (name, number) = line.split_once(' ').unwrap_or((line, "1"));
-    let seeds = number.parse::<u32>().unwrap_or(1);
-    let counts = counts_of(rt, name, seeds)?;
+    let (name, numbers) = line.split_once(' ').unwrap_or((line, "0 1"));
+    let (first, seeds) = numbers.split_once(' ').unwrap_or((numbers, "1"));
+    let first = first.parse::<u32>().unwrap_or(0);
+    let seeds = seeds.parse::<u32>().unwrap_or(1);
+    let counts = counts_of(rt, name, first, seeds)?;
     println!(rt;
-        "seeds {name}: {} the same again, {} yes, {} the stored run, of {seeds}",
+        "seeds {name}: {} the same again, {} yes, {} the stored run, of {seeds} from {first} on",
         counts.same, counts.yes, counts.stored
     )?;
     Ok(())
 }
 
-/// Plays each scenario that a list names by as many seeds as stand behind its name.
+/// Plays each scenario that a list names by as many seeds as stand behind its name, from the first one on.
 pub(crate) fn show_seeds<R: Host>(rt: &R, list: &str) -> Result<()> {
     let names = fs::read_to_string(rt, list)?;
     for line in names.lines() {
