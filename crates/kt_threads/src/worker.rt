@@ -100,7 +100,7 @@ impl Worker {
             IsSavedState (kind_of (b.vtable, b.value)) (value_of (b.vtable, b.value)) s.items)) }
         requires offers { IfSome errand.offered (λ body. IfSome self.old.held.present (λ b.
             body ≡ offered (kind_of (b.vtable, b.value)) (value_of (b.vtable, b.value)))) }
-        ensures { KeepsServing self.old self.new
+        ensures serves { KeepsServing self.old self.new
             (λ b. content (kind_of (b.vtable, b.value)) (value_of (b.vtable, b.value)))
             (λ b saved. may_reject (b.vtable, b.value) saved) }
 
