@@ -105,9 +105,11 @@ impl RunState {
             self.new.world (told_and_held self.new.journals self.new.objects.items
             (λ b. content (kind_of (b.vtable, b.value)) (value_of (b.vtable, b.value))))) }
     {
+        let mut list = Vec::new(self.alloc);
         kt_core::runs_of_worlds();
         for _number in 0..MAX_STEPS {
-            let Some(step) = step_in_order(&self.world, generator) else {
+            let found = step_in_order(&self.world, generator, &mut list)?;
+            let Some(step) = found else {
                 return Ok(());
             };
             note_step(made, &step)?;
