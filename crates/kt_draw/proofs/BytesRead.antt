@@ -1,6 +1,6 @@
 -- What becomes of the bytes of a log that is to be drawn.
-use Rattle.std.proofs.Common.{◌≡◌, ℕ, List, Option, Some, None, sym, subst}
-use Rattle.std.specs.Prelude.{Result, Ok, Err, IfErr, IfSome, option_map}
+use Rattle.std.proofs.Common.{◌≡◌, ℕ, List, Option, sym, subst}
+use Rattle.std.specs.Prelude.{Result, Ok, Err, IfErr, IfSome}
 use Rattle.kt_spacetime.specs.declared.event.Event.{Event}
 use Rattle.kt_log_text.specs.declared.fault.LogFault.{LogFault}
 use Rattle.kt_log_text.specs.declared.fault.LogFault.TheVariants.{Read, TooLong, Version, Fields, Word, Number, Memory}
@@ -11,11 +11,6 @@ use Rattle.kt_draw.specs.declared.fault.DrawFault.{DrawFault}
 use Rattle.kt_draw.specs.declared.fault.DrawFault.TheVariants as draw
 use Rattle.kt_draw.specs.declared.span.Span.{Span}
 use Rattle.kt_draw.specs.Drawn.{IsNoPictureOf, IsUndrawnLog}
-
--- it holds of what a function makes where it holds so of the value
-pub mapped : {X Y : Type 0} (f : X → Y) (o : Option X) (P : Y → Type 0) → IfSome o (λ x. P (f x)) → IfSome (option_map f o) P
-mapped f None P h = tt
-mapped f (Some x) P h = h
 
 -- the first fault of the text
 of_text : (span : Span) (bytes : Option (List ℕ)) (fault : LogFault) → IfSome (rows_unread bytes).left (λ text. IsFirstLogFault text fault) → IsNoPictureOf span bytes (draw.Log fault)
@@ -38,3 +33,7 @@ of_rows span bytes read (draw.Log fault) says h = subst (λ (f : LogFault). IsNo
 pub rows_undrawn : {X : Type 0} (span : Span) (bytes : Option (List ℕ)) (read : List Event) (result : Result X DrawFault) → SaysRows bytes read → IfErr result (IsUndrawnLog span read) → IfErr result (IsNoPictureOf span bytes)
 rows_undrawn span bytes read (Ok x) says h = tt
 rows_undrawn span bytes read (Err e) says h = of_rows span bytes read e says h
+
+-- nothing is said of want of memory
+pub memory_refused : (span : Span) (bytes : Option (List ℕ)) (e : DrawFault) → e ≡ draw.Log Memory → IsNoPictureOf span bytes e
+memory_refused span bytes e is = subst (IsNoPictureOf span bytes) (sym is) tt

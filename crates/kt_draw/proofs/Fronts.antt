@@ -38,7 +38,7 @@ none_some : {X : Type 0} (x : X) → None ≡ Some x → ⊥
 none_some x e = cc
 
 -- the first row that breaks a rule is a row of the log
-broken_within : (s : Past) (log : List Event) (n : ℕ) (rule : Rule) → first_broken_after s log ≡ Some (n, rule) → (s.rows < n) × (n ≤ s.rows + length log)
+pub broken_within : (s : Past) (log : List Event) (n : ℕ) (rule : Rule) → first_broken_after s log ≡ Some (n, rule) → (s.rows < n) × (n ≤ s.rows + length log)
 broken_within s [] n rule e = absurd (none_some (n, rule) e)
 broken_within s (row ∷ rows) n rule e = at_rule (broken_rule s row) (λ g. broken_within (after s row) rows n rule g) e
   where
@@ -76,7 +76,7 @@ reads_front log kept n event rule broken number there =
     }
 
 -- a row that breaks a rule takes one column
-one_column : (b : Option Breach) → breach_columns b ≤ 1
+pub one_column : (b : Option Breach) → breach_columns b ≤ 1
 one_column None = omega arith
 one_column (Some b) = omega arith
 

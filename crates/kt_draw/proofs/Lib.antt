@@ -1,2 +1,4 @@
 pub mod Fronts
 pub mod BytesRead
+pub mod Following
+pub mod Streams

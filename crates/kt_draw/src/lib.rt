@@ -3,8 +3,13 @@
 
 mod drawing;
 mod fault;
+mod followed;
+mod reach;
+mod reading;
 mod span;
+mod streaming;
 
-pub use drawing::{draw_certified, draw_stream};
+pub use drawing::draw_certified;
 pub use fault::{DrawFault, PictureFault};
 pub use span::Span;
+pub use streaming::draw_stream;

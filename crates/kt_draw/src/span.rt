@@ -1,7 +1,8 @@
 //! Which rows of a log are drawn.
 
-ghost use Rattle.std.specs.Prelude.{◌≡◌, ◌≤◌, ◌<◌, ◌+◌, ◌^◌, IfOk, IfErr, MatchBool};
+ghost use Rattle.std.specs.Prelude.{◌≡◌, ◌≤◌, ◌<◌, ◌+◌, ◌-◌, ◌^◌, IfOk, IfErr, MatchBool};
 ghost use Rattle.kt_draw.specs.Drawn.{HasRows, IsNoWindow, IsShort, HasLast, first_row, last_row};
+ghost use Rattle.kt_draw.specs.Followed.{columns_wanted, last_wanted};
 
 use crate::fault::PictureFault;
 
@@ -43,8 +44,42 @@ pub(crate) fn window_of(rows: usize, seen: usize, span: Span) -> Result<Window, 
     Ok(Window { first, last })
 }
 
+/// How many rows come before the first one that is asked for.
+pub(crate) fn before_of(span: Span) -> usize
+    ensures exact { result ≡ first_row span.from - 1 }
+    ensures few { result < 2 ^ 32 }
+{
+    first_row(span.from).saturating_sub(1)
+}
+
+/// The last row that a picture may show where so many rows come before it.
+pub(crate) fn last_wanted(before: usize, to: Option<u32>) -> usize
+    requires { before < 2 ^ 32 }
+    ensures exact { result ≡ last_wanted before to }
+    ensures after { before ≤ result }
+{
+    before + columns_wanted(before, to)
+}
+
+// How many columns a picture has at most, where so many rows come before it.
+fn columns_wanted(before: usize, to: Option<u32>) -> usize
+    ensures exact { result ≡ columns_wanted before to }
+    ensures few { result ≤ 4096 }
+{
+    let Some(to) = to else {
+        return MOST_COLUMNS;
+    };
+    let columns = (to as usize).saturating_sub(before);
+    if columns < MOST_COLUMNS {
+        columns
+    } else {
+        MOST_COLUMNS
+    }
+}
+
 fn first_row(from: Option<u32>) -> usize
-    ensures { result ≡ first_row from }
+    ensures exact { result ≡ first_row from }
+    ensures few { result < 2 ^ 32 }
 {
     match from {
         Some(from) => from as usize,

@@ -4,6 +4,9 @@ pub mod LinkFacts
 pub mod EscapeFacts
 pub mod WindowFacts
 pub mod LawFacts
+pub mod PlaceFacts
+pub mod FollowedFacts
+pub mod DiagramFacts
 pub mod ShownFacts
 pub mod DecisionFacts
 pub mod CutFacts

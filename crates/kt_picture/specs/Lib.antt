@@ -1,9 +1,11 @@
 pub use Rattle.kt_spacetime.specs.Events
 pub mod Arrows
 pub mod Breach
+pub mod DiagramOf
 pub mod Escaping
 pub mod Evidence
 pub mod Fates
+pub mod Followed
 pub mod KnownOf
 pub mod Lanes
 pub mod Links

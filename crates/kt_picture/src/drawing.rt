@@ -1,22 +1,21 @@
 //! Pictures.
 
-ghost use Rattle.std.specs.Prelude.{◌≡◌, ◌≤◌, ◌+◌, ◌^◌, IfOk, OnOk, OnErr, if◌then◌else◌, length, drop};
+ghost use Rattle.std.specs.Prelude.{◌≡◌, ◌≤◌, [], IfOk, OnOk, OnErr, length, take, drop};
 ghost use Rattle.std.specs.Io.KnownBytes.{Appends};
 ghost use Rattle.kt_cuts.specs.Legal.{IsLegal};
 ghost use Rattle.kt_text.specs.Writing.{WritesFront};
+ghost use Rattle.kt_picture.specs.DiagramOf.{DiagramOf};
 ghost use Rattle.kt_picture.specs.Picture.{picture_of};
 
 use crate::breach::Breach;
-use crate::evidence::{Evidence, Notes};
-use crate::lanes::Lanes;
-use crate::layers::{push_picture, push_picture_end};
-use crate::links::Links;
-use crate::window::Window;
+use crate::diagram::Diagram;
+use crate::evidence::Evidence;
 use kt_base::Memory;
 use kt_plan::Names;
 use kt_spacetime::SpaceTime;
 use kt_text::WriteFault;
 use kt_text::pieces::write_rest;
+use kt_walk::Walk;
 use std::alloc::Global;
 use std::io::Write;
 
@@ -72,37 +71,51 @@ pub fn picture(
     ensures exact { IfOk result (λ t. t.items ≡ picture_of names.now log.now.rows before breach
         evidence.now.certificates.now evidence.now.orphan caption.now) }
 {
-    let lanes = Lanes::of_rows(alloc, log.rows())?;
-    let window = Window::of_log(alloc, log, before, &lanes)?;
-    let columns = columns_of(log, before, breach.is_some());
-    let links = Links::of(alloc, evidence.certificates, log.rows().len())?;
-    let notes = Notes {
-        certificates: evidence.certificates,
-        orphan: evidence.orphan,
-        names,
-        rows: log.rows(),
-        links,
-    };
-    let before = before as u32;
-    let mut text = Vec::new(alloc);
-    push_picture(&mut text, &lanes, before, columns, &notes, &window)?;
-    push_picture_end(
-        &mut text,
-        &lanes,
-        before + columns,
-        columns,
-        breach,
-        caption,
-    )?;
-    Ok(text)
+    let rows = log.rows();
+    let mut walk = Walk::new(alloc)?;
+    let mut diagram = Diagram::new(alloc);
+    pass_rows(&mut diagram, &mut walk, log, before)?;
+    add_rows(&mut diagram, &mut walk, log, before)?;
+    let sheet = diagram.sheet(alloc, &walk)?;
+    sheet.picture(alloc, rows, breach, evidence, names, caption)
 }
 
-// How many columns the picture of a log after its first so many rows has.
-fn columns_of(log: &SpaceTime, before: usize, is_broken: bool) -> u32
+// The rows of a legal log before the window.
+fn pass_rows(
+    diagram: &mut Diagram,
+    walk: &mut Walk,
+    log: &SpaceTime,
+    before: usize,
+) -> Result<(), Memory>
     requires before { before ≤ length log.now.rows }
-    ensures exact { result ≡ length (drop before log.now.rows) + (if is_broken then 1 else 0) }
-    ensures few { before + result ≤ 2 ^ 24 + 1 }
+    requires none { DiagramOf diagram.old walk.old [] [] }
+    ensures { OnOk result (DiagramOf diagram.new walk.new (take before log.now.rows) []) }
 {
-    let rows = (log.rows().len() - before) as u32;
-    if is_broken { rows + 1 } else { rows }
+    for row in &log.rows()[..before] {
+        // A legal log breaks no rule: what is wanting is memory.
+        let Ok(()) = diagram.pass(walk, row) else {
+            return Err(Memory);
+        };
+    }
+    Ok(())
+}
+
+// The rows of a legal log in the window.
+fn add_rows(
+    diagram: &mut Diagram,
+    walk: &mut Walk,
+    log: &SpaceTime,
+    before: usize,
+) -> Result<(), Memory>
+    requires before { before ≤ length log.now.rows }
+    requires passed { DiagramOf diagram.old walk.old (take before log.now.rows) [] }
+    ensures { OnOk result (DiagramOf diagram.new walk.new (take before log.now.rows) (drop before log.now.rows)) }
+{
+    for row in &log.rows()[before..] {
+        // A legal log breaks no rule: what is wanting is memory.
+        let Ok(()) = diagram.add(walk, row) else {
+            return Err(Memory);
+        };
+    }
+    Ok(())
 }

@@ -1,64 +1,85 @@
 //! What became of messages and instances by the end of the window.
 
-ghost use Rattle.std.specs.Prelude.{◌≡◌, ◌<◌, ◌^◌, ◌+◌, ◌==◌, ℕ, List};
+ghost use Rattle.std.specs.Prelude.{◌≡◌, ℕ, Some, List, map, option_map};
 ghost use Rattle.std.specs.List.{list_any};
 ghost use Rattle.kt_spacetime.specs.declared.event.Event.{Event};
-ghost use Rattle.kt_cuts.specs.Traces.{trace_of};
-ghost use Rattle.kt_histories.specs.HistoriesOf.{HistoriesOf};
-ghost use Rattle.kt_picture.specs.Fates.{is_send_undone, has_no_receive, receives, is_message_undone, is_receive_undone, is_sent_in_transit, joined_decision};
+ghost use Rattle.kt_cuts.specs.Legal.{is_undelivered};
+ghost use Rattle.kt_cuts.specs.Past.{past};
+ghost use Rattle.kt_walk.specs.WalkOf.{WalkOf};
+ghost use Rattle.kt_picture.specs.Fates.{has_no_receive, receives, is_message_undone, is_receive_undone, is_sent_in_transit, joined_decision};
+ghost use Rattle.kt_picture.specs.Followed.{IsFollowed, IsFollowedAs, event_of, message_in, told_at};
 
-use kt_base::MsgNo;
-use kt_histories::Histories;
+use crate::entry::{Entry, Message};
+use crate::shown::Shown;
+use kt_base::{MsgNo, ProcNo};
 use kt_spacetime::Event;
+use kt_walk::Walk;
 
-/// Whether the send of the message that the row after so many rows sends, receives or drops is undone.
-pub(crate) fn is_message_undone(end: &Histories, rows: u32, row: &Event) -> bool
-    requires { rows < 2 ^ 24 }
-    ensures { (upto : List Event) → HistoriesOf end.now upto → result ≡ is_message_undone upto (rows + 1) row.now }
+/// What a row shows with what became of it, where the window goes on with the rest.
+pub(crate) fn told(walk: &Walk, entry: &Entry, rest: &[Entry]) -> Shown
+    ensures { (upto : List Event) → WalkOf walk.now upto → IsFollowed upto entry.now
+        → result ≡ told_at upto entry.now.plain (map event_of rest.now) }
 {
-    match *row {
-        Event::Sent { .. } => is_send_undone(end, MsgNo::after(rows as usize)),
-        Event::Received { msg, .. } => is_send_undone(end, msg),
-        Event::Dropped { msg, .. } => is_send_undone(end, msg),
-        _ => false,
+    let plain = entry.plain;
+    let row = &entry.plain.event;
+    let is_undone = is_message_undone(entry.message);
+    let is_taken_back = is_receive_undone(row, entry.message, rest);
+    let in_transit = is_in_transit(walk, row, entry.message);
+    let decision = joined_decision(walk, row);
+    Shown {
+        row: plain.row,
+        column: plain.column,
+        event: *row,
+        since: plain.since,
+        up: plain.up,
+        open_in: plain.open_in,
+        is_undone,
+        is_taken_back,
+        is_in_transit: in_transit,
+        decision,
     }
 }
 
-fn is_send_undone(end: &Histories, msg: MsgNo) -> bool
-    ensures { (upto : List Event) → HistoriesOf end.now upto → result ≡ is_send_undone (trace_of upto msg) }
+// Whether the send of a row's message is undone.
+fn is_message_undone(message: Option<Message>) -> bool
+    ensures { (upto : List Event) (n : ℕ) (row : Event) → IsFollowedAs upto (message_in n row) message
+        → result ≡ is_message_undone upto n row }
 {
-    match end.trace(msg) {
-        Some(trace) => trace.sent.is_none(),
+    match message {
+        Some(message) => message.trace.sent.is_none(),
         None => false,
     }
 }
 
-/// Whether the row receives a message, and that is undone, where the window goes on with the rest.
-pub(crate) fn is_receive_undone(end: &Histories, row: &Event, rest: &[Event]) -> bool
-    ensures { (upto : List Event) → HistoriesOf end.now upto → result ≡ is_receive_undone upto row.now rest.now }
+// Whether the row receives a message, and that is undone, where the window goes on with the rest.
+fn is_receive_undone(row: &Event, message: Option<Message>, rest: &[Entry]) -> bool
+    ensures { (upto : List Event) (n : ℕ) → IsFollowedAs upto (message_in n row.now) message
+        → result ≡ is_receive_undone upto row.now (map event_of rest.now) }
 {
     match *row {
-        Event::Received { msg, .. } => has_no_receive(end, msg) || is_received_in(rest, msg),
+        Event::Received { msg, .. } => has_no_receive(message) || is_received_in(rest, msg),
         _ => false,
     }
 }
 
-fn has_no_receive(end: &Histories, msg: MsgNo) -> bool
-    ensures { (upto : List Event) → HistoriesOf end.now upto → result ≡ has_no_receive (trace_of upto msg) }
+// Whether no receive of a message is in its receiver's live history.
+fn has_no_receive(message: Option<Message>) -> bool
+    ensures { result ≡ has_no_receive (option_map (λ m. m.trace) message) }
 {
-    match end.trace(msg) {
-        Some(trace) => trace.received.is_none(),
+    match message {
+        Some(message) => message.trace.received.is_none(),
         None => true,
     }
 }
 
-fn is_received_in(rows: &[Event], msg: MsgNo) -> bool
-    ensures { result ≡ list_any (receives msg) rows.now }
+fn is_received_in(rest: &[Entry], msg: MsgNo) -> bool
+    ensures { result ≡ list_any (receives msg) (map event_of rest.now) }
 {
-    rows.iter().any(|row| receives(*row, msg))
+    rest.iter().any(|entry| receives(entry.plain.event, msg))
 }
 
-fn receives(row: Event, message: MsgNo) -> bool
+/// Whether a row receives this message.
+pub(crate) fn receives(row: Event, message: MsgNo) -> bool
     ensures { result ≡ receives message row }
 {
     match row {
@@ -67,24 +88,39 @@ fn receives(row: Event, message: MsgNo) -> bool
     }
 }
 
-/// Whether the row after so many rows sends a message that is in transit.
-pub(crate) fn is_in_transit(end: &Histories, rows: u32, row: &Event) -> bool
-    requires { rows < 2 ^ 24 }
-    ensures { (upto : List Event) → HistoriesOf end.now upto → result ≡ is_sent_in_transit upto (rows + 1) row.now }
+// Whether the row sends a message that is in transit.
+fn is_in_transit(walk: &Walk, row: &Event, message: Option<Message>) -> bool
+    ensures { (upto : List Event) (n : ℕ) → WalkOf walk.now upto → IsFollowedAs upto (message_in n row.now) message
+        → result ≡ is_sent_in_transit upto n row.now }
 {
     match *row {
-        Event::Sent { p, to, .. } => end.is_undelivered(to, p, MsgNo::after(rows as usize)),
+        Event::Sent { p, to, .. } => is_on_its_way(walk, p, to, message),
         _ => false,
     }
 }
 
-/// How the instance is decided that the process joins in the row.
-pub(crate) fn joined_decision(end: &Histories, row: &Event) -> Option<bool>
-    ensures { (upto : List Event) → HistoriesOf end.now upto → result ≡ joined_decision upto row.now }
+// Whether a message from one process to another is in transit.
+fn is_on_its_way(walk: &Walk, p: ProcNo, to: ProcNo, message: Option<Message>) -> bool
+    ensures { (upto : List Event) (n : ℕ) → WalkOf walk.now upto → IsFollowedAs upto (Some n) message
+        → result ≡ is_undelivered (past upto) to p n }
+{
+    match message {
+        Some(message) => walk.takes_in_transit(&Event::Received {
+            p: to,
+            from: p,
+            msg: message.msg,
+        }),
+        None => false,
+    }
+}
+
+// How the instance is decided that the process joins in the row.
+fn joined_decision(walk: &Walk, row: &Event) -> Option<bool>
+    ensures { (upto : List Event) → WalkOf walk.now upto → result ≡ joined_decision upto row.now }
 {
     match *row {
-        Event::Took { inst, .. } => end.decision(inst),
-        Event::Ready { inst, .. } => end.decision(inst),
+        Event::Took { inst, .. } => walk.decision(inst),
+        Event::Ready { inst, .. } => walk.decision(inst),
         _ => None,
     }
 }

@@ -1,27 +1,28 @@
 //! What is known at each row of the window.
 
-ghost use Rattle.std.specs.Prelude.{◌≡◌, ◌≤◌, ◌<◌, ◌^◌, ◌+◌, ◌++◌, ◌∷◌, [], ℕ, List, IfOk, OnOk, if◌then◌else◌, length, take, map, vec_len, slice_index, slice_set};
+ghost use Rattle.std.specs.Prelude.{◌≡◌, ◌≤◌, ◌<◌, ◌^◌, ◌+◌, ◌++◌, ◌∷◌, [], ℕ, List, Some, Err, OnOk, OnErr, if◌then◌else◌, map, replicate, slice_index, slice_set};
 ghost use Rattle.std.specs.List.{range_with_len};
 ghost use Rattle.kt_spacetime.specs.declared.event.Event.{Event};
+ghost use Rattle.kt_cuts.specs.declared.rules.Rule.{Rule};
+ghost use Rattle.kt_cuts.specs.declared.legality.LegalFault.TheVariants as fault;
 ghost use Rattle.kt_cuts.specs.Past.{past};
-ghost use Rattle.kt_cuts.specs.Legal.{IsLegal};
-ghost use Rattle.kt_histories.specs.HistoriesOf.{HistoriesOf};
-ghost use Rattle.kt_picture.specs.KnownAtRow.{KnownAtRow, seen_before, seen_after, shown_at, taken_after, places_after, place_after};
+ghost use Rattle.kt_cuts.specs.Legal.{first_broken};
+ghost use Rattle.kt_walk.specs.WalkOf.{WalkOf};
+ghost use Rattle.kt_picture.specs.Followed.{plain_at};
+ghost use Rattle.kt_picture.specs.KnownAtRow.{KnownAtRow, seen_after, taken_after, places_after, place_after};
 ghost use Rattle.kt_picture.specs.Window.{end_of};
 ghost use Rattle.kt_picture.specs.KnownOf.{KnownOf};
 
-use crate::fates::{is_in_transit, is_message_undone, is_receive_undone, joined_decision};
 use crate::shown::{End, Shown};
-use kt_base::{InstNo, Memory, ProcNo};
-use kt_histories::Histories;
-use kt_spacetime::{Event, SpaceTime};
-use std::alloc::Global;
+use kt_base::{InstNo, ProcNo};
+use kt_cuts::LegalFault;
+use kt_spacetime::Event;
+use kt_walk::Walk;
 
-/// What is known at a row of the window: of all rows before it, how many they are, and how many of them the window has.
-#[derive(Drop)]
+/// What is known at a row of the window, beside a walk: how many rows of the window came before it, and where marks of
+/// processes are there.
+#[derive(Clone, Copy)]
 pub(crate) struct Known {
-    pub(crate) histories: Histories,
-    pub(crate) rows: u32,
     pub(crate) column: u32,
     /// By process: the column of its last row.
     pub(crate) latest: [u32; 64],
@@ -32,61 +33,50 @@ pub(crate) struct Known {
 }
 
 impl Known {
-    /// What is known at the left end, after so many rows of a legal log.
-    pub(crate) fn before(alloc: Global, log: &SpaceTime, before: usize) -> Result<Known, Memory>
-        requires legal { IsLegal log.now.rows }
-        requires before { before ≤ length log.now.rows }
-        requires few { before ≤ 2 ^ 24 }
-        ensures { IfOk result (λ k. KnownOf k (seen_before (take before log.now.rows)) (take before log.now.rows)) }
+    /// What is known at the left end.
+    pub(crate) fn new() -> Known
+        ensures { result ≡ record { column = 0; latest = replicate 64 0; taken = replicate 64 0; places = replicate 64 0 } }
     {
-        let histories = Histories::of(alloc, log, before)?;
-        Ok(Known {
-            histories,
-            rows: before as u32,
+        Known {
             column: 0,
             latest: [0; 64],
             taken: [0; 64],
             places: [0; 64],
-        })
+        }
     }
 
-    /// What a row shows, where the window goes on with the rest.
-    pub(crate) fn shown(&self, end: &Histories, row: &Event, rest: &[Event]) -> Shown
-        requires few { self.now.rows < 2 ^ 24 }
+    /// What the next row shows, but for what becomes of it.
+    pub(crate) fn plain(&self, walk: &Walk, row: &Event) -> Shown
+        requires few { walk.now.rows < 2 ^ 24 }
         requires column { self.now.column < 2 ^ 24 }
-        ensures { (s : KnownAtRow) (rows upto : List Event) → KnownOf self.now s rows → HistoriesOf end.now upto
-            → result ≡ shown_at upto s row.now rest.now }
+        ensures { (s : KnownAtRow) (rows : List Event) → KnownOf self.now walk.now s rows → result ≡ plain_at s row.now }
     {
         let p = row.process();
         let since = self.latest_of(p);
-        let up = self.histories.is_up(p);
-        let inst = self.histories.open_in(p);
+        let up = walk.is_up(p);
+        let inst = walk.open_in(p);
         let open_in = number_of(inst);
-        let is_undone = is_message_undone(end, self.rows, row);
-        let is_taken_back = is_receive_undone(end, row, rest);
-        let in_transit = is_in_transit(end, self.rows, row);
-        let decision = joined_decision(end, row);
         Shown {
-            row: self.rows + 1,
+            row: walk.rows() as u32 + 1,
             column: self.column + 1,
             event: *row,
             since,
             up,
             open_in,
-            is_undone,
-            is_taken_back,
-            is_in_transit: in_transit,
-            decision,
+            is_undone: false,
+            is_taken_back: false,
+            is_in_transit: false,
+            decision: None,
         }
     }
 
     /// How a process's lane goes on to the right end.
-    pub(crate) fn end(&self, p: ProcNo) -> End
-        ensures { (s : KnownAtRow) (rows : List Event) → KnownOf self.now s rows → result ≡ end_of s p }
+    pub(crate) fn end(&self, walk: &Walk, p: ProcNo) -> End
+        ensures { (s : KnownAtRow) (rows : List Event) → KnownOf self.now walk.now s rows → result ≡ end_of s p }
     {
         let since = self.latest_of(p);
-        let up = self.histories.is_up(p);
-        let inst = self.histories.open_in(p);
+        let up = walk.is_up(p);
+        let inst = walk.open_in(p);
         let open_in = number_of(inst);
         End {
             process: p,
@@ -103,34 +93,36 @@ impl Known {
         self.latest[p.get() as usize]
     }
 
-    /// One more row, which breaks no rule.
-    pub(crate) fn add(&mut self, row: &Event) -> Result<(), Memory>
-        requires few { self.old.rows < 2 ^ 24 }
+    /// One more row, which the walk takes; unchanged where it does not.
+    pub(crate) fn add(&mut self, walk: &mut Walk, row: &Event) -> Result<(), LegalFault>
+        requires few { walk.old.rows < 2 ^ 24 }
         requires column { self.old.column < 2 ^ 24 }
-        requires messages { vec_len self.old.histories.replay.messages < 2 ^ 24 }
-        ensures { OnOk result ((s : KnownAtRow) (rows : List Event) → KnownOf self.old s rows
-            → IsLegal (rows ++ row.now ∷ []) → KnownOf self.new (seen_after s row.now) (rows ++ row.now ∷ [])) }
+        ensures fed { OnOk result ((s : KnownAtRow) (rows : List Event) → KnownOf self.old walk.old s rows
+            → KnownOf self.new walk.new (seen_after s row.now) (rows ++ row.now ∷ [])) }
+        ensures broken { (number : ℕ) (rule : Rule) → result ≡ Err (fault.Broken number rule) → (rows : List Event)
+            → WalkOf walk.old rows → first_broken (rows ++ row.now ∷ []) ≡ Some (number, rule) }
+        ensures unchanged { OnErr result (self.new ≡ self.old) }
+        ensures still { OnErr result (walk.new ≡ walk.old) }
     {
-        let places = places_after(&self.histories, row, &self.taken, &self.places);
+        let places = places_after(walk, row, &self.taken, &self.places);
         let taken = taken_after(self.column, row, &self.taken);
+        if let Err(fault) = walk.feed(row) {
+            return Err(fault);
+        }
         self.places = places;
         self.taken = taken;
-        self.histories.add(row)?;
         self.count(row.process());
         Ok(())
     }
 
     // One more row of this process.
     fn count(&mut self, p: ProcNo)
-        requires few { self.old.rows < 2 ^ 24 }
-        requires column { self.old.column < 2 ^ 24 }
+        requires { self.old.column < 2 ^ 24 }
         ensures { self.new ≡ record self.old {
-          rows = self.old.rows + 1;
           column = self.old.column + 1;
           latest = slice_set self.old.latest p (self.old.column + 1);
         } }
     {
-        self.rows += 1;
         self.column += 1;
         self.latest[p.get() as usize] = self.column;
     }
@@ -157,47 +149,42 @@ fn with_column(columns: &[u32; 64], p: ProcNo, column: u32) -> [u32; 64]
 }
 
 // The columns of permanent positions after a row.
-fn places_after(
-    histories: &Histories,
-    row: &Event,
-    taken: &[u32; 64],
-    places: &[u32; 64],
-) -> [u32; 64]
-    ensures { (rows : List Event) → HistoriesOf histories.now rows
+fn places_after(walk: &Walk, row: &Event, taken: &[u32; 64], places: &[u32; 64]) -> [u32; 64]
+    ensures { (rows : List Event) → WalkOf walk.now rows
         → result ≡ places_after (past rows) taken.now places.now row.now }
 {
     match *row {
-        Event::Decided { inst, commit, .. } => promoted_if(histories, inst, commit, taken, places),
+        Event::Decided { inst, commit, .. } => promoted_if(walk, inst, commit, taken, places),
         _ => *places,
     }
 }
 
 // The columns of permanent positions after the decision of an instance.
 fn promoted_if(
-    histories: &Histories,
+    walk: &Walk,
     inst: InstNo,
     commit: bool,
     taken: &[u32; 64],
     places: &[u32; 64],
 ) -> [u32; 64]
-    ensures { (rows : List Event) → HistoriesOf histories.now rows → result ≡ (if commit
+    ensures { (rows : List Event) → WalkOf walk.now rows → result ≡ (if commit
         then map (place_after (past rows) inst taken.now places.now) (range_with_len 0 64) else places.now) }
 {
     if commit {
-        promoted(histories, inst, taken, places)
+        promoted(walk, inst, taken, places)
     } else {
         *places
     }
 }
 
 // The columns of permanent positions after the commit of an instance: those of its `took` rows, where there are some.
-fn promoted(histories: &Histories, inst: InstNo, taken: &[u32; 64], places: &[u32; 64]) -> [u32; 64]
-    ensures { (rows : List Event) → HistoriesOf histories.now rows
+fn promoted(walk: &Walk, inst: InstNo, taken: &[u32; 64], places: &[u32; 64]) -> [u32; 64]
+    ensures { (rows : List Event) → WalkOf walk.now rows
         → result ≡ map (place_after (past rows) inst taken.now places.now) (range_with_len 0 64) }
 {
     let mut after = *places;
     for number in 0..ProcNo::COUNT {
-        if histories.position(inst, ProcNo::nth(number)).is_some() {
+        if walk.position(inst, ProcNo::nth(number)).is_some() {
             after[number as usize] = taken[number as usize];
         }
     }

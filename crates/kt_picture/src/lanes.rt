@@ -1,9 +1,11 @@
 //! The lanes of a picture.
 
-ghost use Rattle.std.specs.Prelude.{◌≡◌, ◌≤◌, ◌++◌, ◌∷◌, [], IfOk, OnOk, if◌then◌else◌, length};
-ghost use Rattle.kt_picture.specs.Lanes.{names_process, is_named, lanes_in, lane_of};
+ghost use Rattle.std.specs.Prelude.{◌≡◌, ◌≤◌, ◌==◌, ◌||◌, ◌++◌, ◌∷◌, [], ℕ, IfOk, OnOk, if◌then◌else◌, filter, length};
+ghost use Rattle.std.specs.List.{range_with_len};
+ghost use Rattle.kt_base.specs.Sets.{has};
+ghost use Rattle.kt_picture.specs.Lanes.{names_process, lane_of};
 
-use kt_base::{Memory, ProcNo};
+use kt_base::{Memory, ProcNo, ProcSet};
 use kt_spacetime::Event;
 use std::alloc::Global;
 use std::marker::Model;
@@ -25,13 +27,14 @@ impl Model for Lanes {
 }
 
 impl Lanes {
-    /// A lane for each process that these rows name.
-    pub(crate) fn of_rows(alloc: Global, rows: &[Event]) -> Result<Lanes, Memory>
-        ensures { IfOk result (λ l. l ≡ lanes_in rows.now) }
+    /// A lane for each process that rows name.
+    pub(crate) fn of_named(alloc: Global, named: ProcSet) -> Result<Lanes, Memory>
+        ensures { IfOk result (λ l. l ≡ filter (has named) (range_with_len 0 64)) }
     {
         let mut processes = Vec::new(alloc);
         for number in 0..ProcNo::COUNT {
-            add_if(&mut processes, ProcNo::nth(number), is_named(rows, number))?;
+            let p = ProcNo::nth(number);
+            add_if(&mut processes, p, named.has(p))?;
         }
         Ok(Lanes { processes })
     }
@@ -70,21 +73,21 @@ fn add_if(processes: &mut Vec<ProcNo>, p: ProcNo, named: bool) -> Result<(), Mem
     Ok(())
 }
 
-// Whether one of these rows names the process of this number.
-fn is_named(rows: &[Event], number: u8) -> bool
-    ensures { result ≡ is_named rows.now number }
+/// The processes that rows name, with those that one more row names.
+pub(crate) fn with_named(named: ProcSet, row: &Event) -> ProcSet
+    ensures { (q : ℕ) → has result q ≡ (has named q || names_process q row.now) }
 {
-    rows.iter().any(|row| names_process(*row, number))
+    match *row {
+        Event::Sent { p, to, .. } => with_both(named, p, to),
+        Event::Received { p, from, .. } => with_both(named, p, from),
+        Event::Dropped { p, from, .. } => with_both(named, p, from),
+        _ => named.with(row.process()),
+    }
 }
 
-// Whether a row names the process of this number.
-fn names_process(row: Event, number: u8) -> bool
-    ensures { result ≡ names_process number row }
+// These processes with two more.
+fn with_both(named: ProcSet, p: ProcNo, peer: ProcNo) -> ProcSet
+    ensures { (q : ℕ) → has result q ≡ (has named q || (p == q || peer == q)) }
 {
-    match row {
-        Event::Sent { p, to, .. } => p.get() == number || to.get() == number,
-        Event::Received { p, from, .. } => p.get() == number || from.get() == number,
-        Event::Dropped { p, from, .. } => p.get() == number || from.get() == number,
-        _ => row.process().get() == number,
-    }
+    named.with(p).with(peer)
 }

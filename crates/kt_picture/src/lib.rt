@@ -2,7 +2,9 @@
 #![tactic(auto)]
 
 mod breach;
+mod diagram;
 mod drawing;
+mod entry;
 mod escaping;
 mod evidence;
 mod fates;
@@ -20,6 +22,7 @@ mod window;
 mod words;
 
 pub use breach::{Breach, caption};
+pub use diagram::{Diagram, Sheet};
 pub use drawing::{draw, picture};
 pub use escaping::escaped_has_no_mark;
 pub use evidence::Evidence;

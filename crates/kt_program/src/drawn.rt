@@ -18,7 +18,7 @@ use std::io::{Read, Write};
 ///
 /// A log is drawn up to the first row that breaks a rule; that row is marked, and what comes after it is not read as rows.
 /// The line below says so, or that the log is legal. The text is read to its end, and the picture is made, before anything
-/// is written. It keeps the rows of the log in memory.
+/// is written. Of the rows of the log it keeps those of the picture.
 pub fn draw_bytes<L: Read + Drop, W: Write>(
     alloc: Global,
     log_reader: L,

@@ -1,4 +1,4 @@
-use Rattle.std.proofs.Common.{rules, ◌≡◌, ◌∙◌, ℕ, List, Option, Some, subst}
+use Rattle.std.proofs.Common.{rules, ◌≡◌, ◌∙◌, ℕ, List, Some, subst}
 use Rattle.kt_checker.specs.Words.{verdict_words}
 use Rattle.kt_draw.specs.Drawn.{IsDrawn}
 use Rattle.kt_draw.proofs.Fronts.{ok_weaker}

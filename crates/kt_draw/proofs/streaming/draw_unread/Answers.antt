@@ -1,0 +1,36 @@
+use Rattle.std.proofs.lemmas.Result.{err_from_is_err_and}
+use Rattle.kt_log_text.proofs.GatherFacts.{at_end, gathered_to_fault}
+use Rattle.kt_draw.proofs.BytesRead.{rows_undrawn, text_refused}
+use Rattle.kt_draw.proofs.Fronts.{ok_weaker}
+use Rattle.kt_draw.proofs.Streams.{drawn_none, drawn_few, drawn_more, drawn_all}
+use Rattle.kt_draw.proofs.streaming.draw_unread.Goals as goal
+
+pub loop-row-init : goal.loop-row-init
+loop-row-init g c = λ source e. drawn_none source c.args.rows.now c.args.reading.now c.args.span e c.requires.none_read
+
+pub feed-requires : goal.feed-requires
+feed-requires g c =
+    let h = c.loop-row.invariant c.requires.unread.0 c.requires.unread.1 in
+    record { few = (h.seen, h.shows, drawn_few c.loop-row.rows c.next.new.self c.loop-row.reading c.in-Some.row h (rw c.in-Some.is at c.in_ok-row.ensures.steps)) }
+
+pub loop-row-preserved : goal.loop-row-preserved
+loop-row-preserved g c = λ source e. drawn_more c.loop-row.rows c.next.new.self c.loop-row.reading c.feed.new.self c.in-Some.row (c.loop-row.invariant source e) (rw c.in-Some.is at c.in_ok-row.ensures.steps) c.in_ok-feed.ensures
+
+pub returns-in_err-row-clause-fault : goal.returns-in_err-row-clause-fault
+returns-in_err-row-clause-fault g c = λ source e.
+    let p = err_from_is_err_and c.from_residual.result c.from_residual.ensures.1 in
+    let seen = c.loop-row.invariant source e in
+    rw (p.1)
+    (text_refused c.args.span source c.in_err-row.field-0.0 _ p.2
+    (gathered_to_fault source c.loop-row.rows c.next.new.self seen.seen c.in_err-row.field-0.0 seen.gathers c.in_err-row.ensures.steps))
+
+pub returns-clause-picture : goal.returns-clause-picture
+returns-clause-picture g c = λ source e.
+    let h = c.loop-row.invariant source e in
+    ok_weaker c.picture.result _ _ (c.picture.ensures.picture h.seen h.shows)
+    (λ text p. (h.seen, drawn_all c.loop-row.rows c.next.new.self c.loop-row.reading h (at_end c.in_ok-row.field-0 c.in_default.not-Some c.in_ok-row.ensures.steps), p))
+
+pub returns-clause-fault : goal.returns-clause-fault
+returns-clause-fault g c = λ source e.
+    let h = c.loop-row.invariant source e in
+    rows_undrawn c.args.span source h.seen c.picture.result (drawn_all c.loop-row.rows c.next.new.self c.loop-row.reading h (at_end c.in_ok-row.field-0 c.in_default.not-Some c.in_ok-row.ensures.steps)) (c.picture.ensures.fault h.seen h.shows)

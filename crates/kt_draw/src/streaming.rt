@@ -1,0 +1,56 @@
+//! A stored log drawn row by row.
+
+ghost use Rattle.std.specs.Prelude.{◌≡◌, [], ℕ, List, Option, IfOk, IfErr};
+ghost use Rattle.kt_log_text.specs.Reading.{rows_unread};
+ghost use Rattle.kt_draw.specs.Drawn.{IsNoPictureOf, IsPictureOf};
+ghost use Rattle.kt_draw.specs.Followed.{ReadingOf};
+
+use crate::fault::DrawFault;
+use crate::reading::Reading;
+use crate::span::Span;
+use kt_log_text::RowReader;
+use kt_plan::Names;
+use std::alloc::Global;
+use std::io::Read;
+
+/// The picture of rows of the log that a reader tells, as one SVG document, with these names of its processes, or else
+/// their numbers.
+///
+/// A log is drawn up to the first row that breaks a rule; that row is marked, and what comes after it is not read as rows.
+/// The line below says so, or that the log is legal.
+///
+/// Fails at the first fault of the log's text, which is read to its end; then where there are no such rows, or more than
+/// 4,096 of them. Where memory is wanting it fails at any time. It keeps no rows of the log, but for those of the picture.
+pub fn draw_stream<L: Read + Drop>(
+    alloc: Global,
+    reader: L,
+    names: &Names,
+    span: Span,
+) -> Result<Vec<u8>, DrawFault>
+    ensures picture { IfOk result (λ text. IsPictureOf names.now span (L.remaining reader) text.items) }
+    ensures fault { IfErr result (IsNoPictureOf span (L.remaining reader)) }
+{
+    let mut reading = Reading::new(alloc, span)?;
+    let mut rows = RowReader::new(alloc, reader)?;
+    draw_unread(alloc, &mut reading, &mut rows, names, span)
+}
+
+// The picture of the rows that a reader gives, of which neither it nor what is drawn has seen any, or its fault.
+fn draw_unread<L: Read + Drop>(
+    alloc: Global,
+    reading: &mut Reading,
+    rows: &mut RowReader<L>,
+    names: &Names,
+    span: Span,
+) -> Result<Vec<u8>, DrawFault>
+    requires unread { (source : Option (List ℕ)) × (rows.old ≡ rows_unread source) }
+    requires none_read { ReadingOf reading.old span [] }
+    ensures picture { (source : Option (List ℕ)) → rows.old ≡ rows_unread source
+        → IfOk result (λ text. IsPictureOf names.now span source text.items) }
+    ensures fault { (source : Option (List ℕ)) → rows.old ≡ rows_unread source → IfErr result (IsNoPictureOf span source) }
+{
+    while let Some(row) = rows.next()? {
+        reading.feed(&row, span)?;
+    }
+    reading.picture(alloc, names, span)
+}

@@ -1,0 +1,222 @@
+//! A space-time diagram under way: rows come one after another, and are not kept.
+
+ghost use Rattle.std.specs.Prelude.{◌≡◌, ◌≤◌, ◌<◌, ◌^◌, ◌+◌, ◌++◌, ◌∷◌, [], ℕ, List, Some, Err, IfOk, OnOk, OnErr, if◌then◌else◌, length};
+ghost use Rattle.kt_spacetime.specs.declared.event.Event.{Event};
+ghost use Rattle.kt_cuts.specs.declared.rules.Rule.{Rule};
+ghost use Rattle.kt_cuts.specs.declared.legality.LegalFault.TheVariants as fault;
+ghost use Rattle.kt_cuts.specs.Legal.{first_broken};
+ghost use Rattle.kt_walk.specs.WalkOf.{WalkOf};
+ghost use Rattle.kt_walk.specs.WalkParts.{WalkParts};
+ghost use Rattle.kt_picture.specs.DiagramOf.{DiagramOf, HasRowsFor, SheetOf};
+ghost use Rattle.kt_picture.specs.Picture.{picture_of};
+ghost use Rattle.kt_picture.specs.KnownAtRow.{cut_in};
+
+use crate::breach::Breach;
+use crate::entry::{Entry, follow, message_of, taken_by};
+use crate::evidence::{Evidence, Notes};
+use crate::known::Known;
+use crate::lanes::{Lanes, with_named};
+use crate::layers::{push_picture, push_picture_end};
+use crate::links::Links;
+use crate::shown::CutMark;
+use crate::window::{Window, lane_ends, push_cut, shown_rows};
+use kt_base::{Memory, MsgNo, ProcSet};
+use kt_cuts::LegalFault;
+use kt_plan::Names;
+use kt_spacetime::Event;
+use kt_walk::Walk;
+use std::alloc::Global;
+
+/// A space-time diagram under way: beside a walk, what is drawn of the rows of a window. Of the rows before the window
+/// only the processes that they name are noted; the walk knows what came of them.
+#[derive(Drop)]
+pub struct Diagram {
+    pub(crate) known: Known,
+    pub(crate) named: ProcSet,
+    pub(crate) entries: Vec<Entry>,
+    pub(crate) cuts: Vec<CutMark>,
+}
+
+impl Diagram {
+    /// A diagram of no rows.
+    pub fn new(alloc: Global) -> Diagram
+        ensures { (w : WalkParts) → WalkOf w [] → DiagramOf result w [] [] }
+    {
+        Diagram {
+            known: Known::new(),
+            named: ProcSet::empty(),
+            entries: Vec::new(alloc),
+            cuts: Vec::new(alloc),
+        }
+    }
+
+    /// One more row before the window, which the walk takes; both are unchanged where it does not.
+    pub fn pass(&mut self, walk: &mut Walk, row: &Event) -> Result<(), LegalFault>
+        requires few { walk.old.rows < 2 ^ 24 }
+        ensures passed { OnOk result ((front : List Event) → DiagramOf self.old walk.old front []
+            → DiagramOf self.new walk.new (front ++ row.now ∷ []) []) }
+        ensures broken { (number : ℕ) (rule : Rule) → result ≡ Err (fault.Broken number rule) → (rows : List Event)
+            → WalkOf walk.old rows → first_broken (rows ++ row.now ∷ []) ≡ Some (number, rule) }
+        ensures unchanged { OnErr result (self.new ≡ self.old) }
+        ensures still { OnErr result (walk.new ≡ walk.old) }
+    {
+        if let Err(fault) = walk.feed(row) {
+            return Err(fault);
+        }
+        self.named = with_named(self.named, row);
+        Ok(())
+    }
+
+    /// One more row of the window, which the walk takes; both are unchanged where it breaks a rule.
+    pub fn add(&mut self, walk: &mut Walk, row: &Event) -> Result<(), LegalFault>
+        requires few { walk.old.rows < 2 ^ 24 }
+        requires short { self.old.known.column < 2 ^ 24 }
+        ensures added { OnOk result ((front window : List Event) → DiagramOf self.old walk.old front window
+            → DiagramOf self.new walk.new front (window ++ row.now ∷ [])) }
+        ensures broken { (number : ℕ) (rule : Rule) → result ≡ Err (fault.Broken number rule) → (rows : List Event)
+            → WalkOf walk.old rows → first_broken (rows ++ row.now ∷ []) ≡ Some (number, rule) }
+        ensures unchanged { (number : ℕ) (rule : Rule) → result ≡ Err (fault.Broken number rule) → self.new ≡ self.old }
+        ensures still { (number : ℕ) (rule : Rule) → result ≡ Err (fault.Broken number rule) → walk.new ≡ walk.old }
+    {
+        let msg = MsgNo::after(walk.rows());
+        let plain = self.known.plain(walk, row);
+        let taken = taken_by(walk, row);
+        if let Err(fault) = self.known.add(walk, row) {
+            return Err(fault);
+        }
+        follow(&mut self.entries, walk, row);
+        let message = message_of(walk, row, msg, taken);
+        let named = with_named(self.named, row);
+        self.named = named;
+        let entry = Entry { plain, message };
+        match keep(
+            &mut self.entries,
+            &mut self.cuts,
+            &self.known.places,
+            &entry,
+            row,
+        ) {
+            Ok(()) => Ok(()),
+            Err(Memory) => Err(LegalFault::Memory),
+        }
+    }
+
+    /// How many rows the window has so far.
+    pub fn columns(&self) -> u32
+        ensures { result ≡ self.now.known.column }
+    {
+        self.known.column
+    }
+
+    /// The window, with what became of its rows.
+    pub fn sheet(&self, alloc: Global, walk: &Walk) -> Result<Sheet, Memory>
+        requires few { walk.now.rows ≤ 2 ^ 24 }
+        ensures exact { IfOk result (λ sheet. (front window : List Event) → DiagramOf self.now walk.now front window
+            → SheetOf sheet (front ++ window) (length front)) }
+        ensures few { IfOk result (λ sheet. sheet.before + sheet.columns ≤ 2 ^ 24) }
+    {
+        let lanes = Lanes::of_named(alloc, self.named)?;
+        let shown = shown_rows(alloc, walk, self.entries.as_slice())?;
+        let ends = lane_ends(alloc, walk, &self.known, &lanes)?;
+        let mut cuts = Vec::new(alloc);
+        cuts.extend_from_slice(self.cuts.as_slice())?;
+        let rows = walk.rows() as u32;
+        let before = rows.saturating_sub(self.known.column);
+        Ok(Sheet {
+            lanes,
+            before,
+            columns: rows - before,
+            window: Window { shown, ends, cuts },
+        })
+    }
+}
+
+// Keeps a row of the window, and the permanent cut after it, where permanent positions are in these columns.
+fn keep(
+    entries: &mut Vec<Entry>,
+    cuts: &mut Vec<CutMark>,
+    places: &[u32; 64],
+    entry: &Entry,
+    row: &Event,
+) -> Result<(), Memory>
+    ensures entries { OnOk result (entries.new.items ≡ entries.old.items ++ entry.now ∷ []) }
+    ensures cuts { OnOk result (cuts.new.items ≡ cuts.old.items ++ cut_in places.now row.now) }
+{
+    push_item(entries, *entry)?;
+    push_cut(cuts, places, row)
+}
+
+// One more item.
+fn push_item<T: Copy>(items: &mut Vec<T>, item: T) -> Result<(), Memory>
+    ensures { OnOk result (items.new.items ≡ items.old.items ++ item ∷ []) }
+{
+    items.push(item)?;
+    Ok(())
+}
+
+/// A window of a log, with what became of its rows: what a picture shows.
+#[derive(Drop)]
+pub struct Sheet {
+    pub(crate) lanes: Lanes,
+    /// How many rows come before the window.
+    pub(crate) before: u32,
+    /// How many rows the window has.
+    pub(crate) columns: u32,
+    pub(crate) window: Window,
+}
+
+impl Sheet {
+    /// The picture of the window, as one SVG document: what `draw` writes. The rows are those up to the window's end; they
+    /// are asked for by the chains of certificates alone.
+    pub fn picture(
+        &self,
+        alloc: Global,
+        rows: &[Event],
+        breach: Option<Breach>,
+        evidence: &Evidence<'_>,
+        names: &Names,
+        caption: &[u8],
+    ) -> Result<Vec<u8>, Memory>
+        requires few { self.now.before + self.now.columns ≤ 2 ^ 24 }
+        ensures { IfOk result (λ t. (log : List Event) (before : ℕ) → SheetOf self.now log before
+            → HasRowsFor rows.now log evidence.now.certificates.now
+            → t.items ≡ picture_of names.now log before breach
+            evidence.now.certificates.now evidence.now.orphan caption.now) }
+    {
+        let columns = columns_of(self.columns, breach.is_some());
+        let links = Links::of(alloc, evidence.certificates, rows.len())?;
+        let notes = Notes {
+            certificates: evidence.certificates,
+            orphan: evidence.orphan,
+            names,
+            rows,
+            links,
+        };
+        let mut text = Vec::new(alloc);
+        push_picture(
+            &mut text,
+            &self.lanes,
+            self.before,
+            columns,
+            &notes,
+            &self.window,
+        )?;
+        push_picture_end(
+            &mut text,
+            &self.lanes,
+            self.before + columns,
+            columns,
+            breach,
+            caption,
+        )?;
+        Ok(text)
+    }
+}
+
+// How many columns a picture of so many rows has.
+fn columns_of(rows: u32, is_broken: bool) -> u32
+    requires { rows ≤ 2 ^ 24 }
+    ensures { result ≡ rows + (if is_broken then 1 else 0) }
+{
+    if is_broken { rows + 1 } else { rows }
+}

@@ -1,0 +1,158 @@
+//! A row of the window while the window goes on, with its message, which is followed row by row.
+
+ghost use Rattle.std.specs.Prelude.{◌≡◌, ◌≤◌, ◌<◌, ◌+◌, ◌^◌, ◌++◌, ◌∷◌, [], None, Some, ℕ, Option, List, if◌then◌else◌, length, map};
+ghost use Rattle.kt_spacetime.specs.declared.event.Event.{Event};
+ghost use Rattle.kt_cuts.specs.Past.{past};
+ghost use Rattle.kt_cuts.specs.Legal.{IsLegal, broken_rule};
+ghost use Rattle.kt_walk.specs.WalkOf.{WalkOf};
+ghost use Rattle.kt_picture.specs.Fates.{receives};
+ghost use Rattle.kt_picture.specs.Followed.{AreFollowed, IsFollowed, IsFollowedAs, if_within, message_in, message_kept, message_taken, trace_after, plain_of};
+
+use crate::fates::receives;
+use crate::shown::Shown;
+use kt_base::{MsgNo, ProcNo};
+use kt_cuts::Trace;
+use kt_spacetime::Event;
+use kt_walk::Walk;
+
+/// A message of the window, and where its rows stand so far.
+#[derive(Clone, Copy)]
+pub(crate) struct Message {
+    pub(crate) msg: MsgNo,
+    pub(crate) trace: Trace,
+}
+
+/// A row of the window: what it shows, but for what becomes of it, and its message, if it has one.
+#[derive(Clone, Copy)]
+pub(crate) struct Entry {
+    pub(crate) plain: Shown,
+    pub(crate) message: Option<Message>,
+}
+
+/// The message that the next row takes, as it stands before that row.
+pub(crate) fn taken_by(walk: &Walk, row: &Event) -> Option<Message>
+    ensures { (rows : List Event) → WalkOf walk.now rows → broken_rule (past rows) row.now ≡ None
+        → IsFollowedAs rows (message_taken row.now) result }
+{
+    match *row {
+        Event::Received { msg, .. } => traced(walk, msg),
+        Event::Dropped { msg, .. } => traced(walk, msg),
+        _ => None,
+    }
+}
+
+// A message that the walk keeps.
+fn traced(walk: &Walk, msg: MsgNo) -> Option<Message>
+    ensures { (rows : List Event) → WalkOf walk.now rows → result ≡ message_kept rows msg }
+{
+    let trace = walk.trace(msg)?;
+    Some(Message { msg, trace })
+}
+
+/// The message of the last row, which has this number; what the row takes is given as it stood before.
+pub(crate) fn message_of(
+    walk: &Walk,
+    row: &Event,
+    number: MsgNo,
+    taken: Option<Message>,
+) -> Option<Message>
+    ensures { (rows : List Event) → WalkOf walk.now (rows ++ row.now ∷ []) → number ≡ length (rows ++ row.now ∷ [])
+        → IsFollowedAs rows (message_taken row.now) taken
+        → IsFollowedAs (rows ++ row.now ∷ []) (message_in number row.now) result }
+{
+    match *row {
+        Event::Sent { p, to, .. } => Some(sent_by(walk, p, to, number)),
+        _ => followed(walk, row, taken),
+    }
+}
+
+// The message of this number that the last row sends from one process to another.
+fn sent_by(walk: &Walk, p: ProcNo, to: ProcNo, msg: MsgNo) -> Message
+    ensures number { result.msg ≡ msg }
+    ensures trace { (rows : List Event) → WalkOf walk.now rows → result.trace
+        ≡ record { from = p; to = to; sent = Some (length ((past rows).live p)); received = None } }
+{
+    let length = walk.length(p);
+    let trace = Trace {
+        from: p,
+        to,
+        sent: Some(length),
+        received: None,
+    };
+    Message { msg, trace }
+}
+
+/// Follows the messages of entries over the last row.
+pub(crate) fn follow(entries: &mut [Entry], walk: &Walk, row: &Event)
+    ensures plain { map plain_of entries.new ≡ map plain_of entries.old }
+    ensures followed { (rows : List Event) → WalkOf walk.now (rows ++ row.now ∷ []) → AreFollowed rows entries.old
+        → AreFollowed (rows ++ row.now ∷ []) entries.new }
+{
+    for index in 0..entries.len() {
+        let entry = &mut entries[index];
+        entry.follow(walk, row);
+    }
+}
+
+impl Entry {
+    // Follows the message over the last row.
+    fn follow(&mut self, walk: &Walk, row: &Event)
+        ensures plain { self.new.plain ≡ self.old.plain }
+        ensures followed { (rows : List Event) → WalkOf walk.now (rows ++ row.now ∷ []) → IsFollowed rows self.old
+            → IsFollowed (rows ++ row.now ∷ []) self.new }
+    {
+        self.message = followed(walk, row, self.message);
+    }
+}
+
+// A message after the last row, if there is one.
+fn followed(walk: &Walk, row: &Event, message: Option<Message>) -> Option<Message>
+    ensures { (rows : List Event) (wanted : Option ℕ) → WalkOf walk.now (rows ++ row.now ∷ [])
+        → IsFollowedAs rows wanted message → IsFollowedAs (rows ++ row.now ∷ []) wanted result }
+{
+    match message {
+        Some(message) => {
+            let msg = message.msg;
+            let trace = trace_after(walk, row, msg, message.trace);
+            Some(Message { msg, trace })
+        }
+        None => None,
+    }
+}
+
+// The trace of a message after the last row.
+fn trace_after(walk: &Walk, row: &Event, msg: MsgNo, trace: Trace) -> Trace
+    ensures { (rows : List Event) → WalkOf walk.now rows → result ≡ trace_after (past rows) row.now msg trace }
+{
+    let from = trace.from;
+    let to = trace.to;
+    let sender_length = walk.length(from);
+    let receiver_length = walk.length(to);
+    let sent = if_within(trace.sent, sender_length);
+    let received = received_after(*row, msg, trace.received, receiver_length);
+    Trace {
+        from,
+        to,
+        sent,
+        received,
+    }
+}
+
+// The place of a message's receive after a row, where its receiver's history has this length.
+fn received_after(row: Event, msg: MsgNo, received: Option<usize>, length: usize) -> Option<usize>
+    ensures { result ≡ (if receives msg row then Some length else if_within received length) }
+{
+    if receives(row, msg) {
+        Some(length)
+    } else {
+        if_within(received, length)
+    }
+}
+
+// A place, counted from 1, where a history of this length has it.
+fn if_within(place: Option<usize>, length: usize) -> Option<usize>
+    ensures { result ≡ if_within place length }
+{
+    let place = place?;
+    if place <= length { Some(place) } else { None }
+}
