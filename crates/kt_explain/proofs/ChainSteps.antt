@@ -25,7 +25,7 @@ use Rattle.kt_checker.specs.Passing.{IsChain}
 use Rattle.kt_checker.proofs.Chaining.{place_found, trace_parts, rollback_step}
 use Rattle.kt_checker.proofs.Links.{received_place, within_new}
 use Rattle.kt_explain.specs.declared.bad_chain.Demand.{Demand}
-use Rattle.kt_explain.specs.declared.bad_chain.Demand.TheVariants.{Message, Received, Sent, Past as SentPast, Within}
+use Rattle.kt_explain.specs.declared.bad_chain.Demand.TheVariants.{Message, GoneElsewhere, SentElsewhere, Received, Sent, Past as SentPast, Within}
 use Rattle.kt_explain.specs.BadChains.{AreItsEnds, IsUnmet, has_sent, has_received}
 
 -- what is not so, where it would be absurd
@@ -186,6 +186,16 @@ unmet_nowhere rows k kind at m demand l unmet next h = refuted demand unmet (mee
   where
     refuted : (demand : Demand) → IsUnmet rows k kind at m demand → Meets rows k kind at m → ⊥
     refuted Message u g = u g.from g.to g.message
+    refuted (GoneElsewhere from to p) u g = elsewhere kind u g.ends
+      where
+        elsewhere : (some : Kind) → (some ≡ Checkpoint) × (p ≡ at) × IsMessage rows m from to × (to ≢ at) → AreItsEnds rows some at m g.from g.to → ⊥
+        elsewhere Checkpoint v ends = v.3 ((one_message rows m from g.from to g.to v.2 g.message).1 ∙ ends.0)
+        elsewhere Rollback v ends = absurd (cc v.0)
+    refuted (SentElsewhere from to p) u g = elsewhere kind u g.ends
+      where
+        elsewhere : (some : Kind) → (some ≡ Rollback) × (p ≡ at) × IsMessage rows m from to × (from ≢ at) → AreItsEnds rows some at m g.from g.to → ⊥
+        elsewhere Checkpoint v ends = absurd (cc v.0)
+        elsewhere Rollback v ends = v.3 ((one_message rows m from g.from to g.to v.2 g.message).0 ∙ ends.0)
     refuted (Received q) u g =
         let same = one_ends rows kind at m u.0 q g.from g.to u.1 g.ends in
         clash g.received ((λ i. has_received (past rows) (sym same.1 i) (sym same.0 i) m) ∙ u.2)
@@ -213,12 +223,8 @@ module _ (rows : List Event) (l : IsLegal rows) (k at m : ℕ) (t : Trace) (trac
   in_checkpoint : t.to ≡ at → AreItsEnds rows Checkpoint at m t.from at
   in_checkpoint to = (refl, t.to, message)
 
-  pub unreceived_elsewhere : t.to ≢ at → IsUnmet rows k Checkpoint at m (Received at)
-  unreceived_elsewhere other = (
-    t.from,
-    (refl, t.to, message),
-    is_false (has_received (past rows) at t.from m) (λ e. other (one_message rows m t.from t.from t.to at message (received_message rows l t.from at m e)).1),
-  )
+  pub unreceived_elsewhere : t.to ≢ at → IsUnmet rows k Checkpoint at m (GoneElsewhere t.from t.to at)
+  unreceived_elsewhere other = (refl, refl, message, other)
 
   pub unreceived_checkpoint : t.to ≡ at → t.received ≡ None → IsUnmet rows k Checkpoint at m (Received at)
   unreceived_checkpoint to none = (t.from, in_checkpoint to, subst (λ (q : ℕ). has_received (past rows) q t.from m ≡ false) to (unplaced rows l t.to (deed.Received m t.from) (received_at ∙ none)))
@@ -262,12 +268,8 @@ module _ (rows : List Event) (l : IsLegal rows) (k at m : ℕ) (t : Trace) (trac
   in_rollback : t.from ≡ at → AreItsEnds rows Rollback at m at t.to
   in_rollback from = (refl, t.from, message)
 
-  pub unsent_elsewhere : t.from ≢ at → IsUnmet rows k Rollback at m (Sent at)
-  unsent_elsewhere other = (
-    t.to,
-    (refl, t.from, message),
-    is_false (has_sent (past rows) at t.to m) (λ e. other (one_message rows m t.from at t.to t.to message (sent_message rows l at t.to m e)).0),
-  )
+  pub unsent_elsewhere : t.from ≢ at → IsUnmet rows k Rollback at m (SentElsewhere t.from t.to at)
+  unsent_elsewhere other = (refl, refl, message, other)
 
   pub unsent_rollback : t.from ≡ at → t.sent ≡ None → IsUnmet rows k Rollback at m (Sent at)
   unsent_rollback from none = (t.to, in_rollback from, subst (λ (p : ℕ). has_sent (past rows) p t.to m ≡ false) from (unplaced rows l t.from (deed.Sent m t.to) (sent_place ∙ none)))

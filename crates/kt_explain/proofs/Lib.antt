@@ -15,3 +15,4 @@ pub mod Delivered
 pub mod Demands
 pub mod KnownRows
 pub mod Replaying
+pub mod RecordFacts

@@ -11,10 +11,10 @@ use Rattle.kt_cuts.specs.Chains.{is_sent_past, is_received_within}
 use Rattle.kt_chain.specs.declared.certificate.Certificate.{Certificate}
 use Rattle.kt_checker.specs.Passing.{IsChain, IsListOf}
 use Rattle.kt_explain.specs.declared.bad_chain.Demand.{Demand}
-use Rattle.kt_explain.specs.declared.bad_chain.Demand.TheVariants.{Message, Received, Sent, Past as SentPast, Within}
+use Rattle.kt_explain.specs.declared.bad_chain.Demand.TheVariants.{Message, GoneElsewhere, SentElsewhere, Received, Sent, Past as SentPast, Within}
 use Rattle.kt_explain.specs.declared.bad_chain.Break.{Break}
 use Rattle.kt_explain.specs.declared.bad_chain.Flaw.{Flaw}
-use Rattle.kt_explain.specs.declared.bad_chain.Flaw.TheVariants.{Initiator, Elsewhere, Broken}
+use Rattle.kt_explain.specs.declared.bad_chain.Flaw.TheVariants.{Initiator, Empty, Elsewhere, Broken}
 use Rattle.kt_explain.specs.declared.bad_chain.BadChain.{BadChain}
 
 -- whether a process has sent another one a message, as its live history has it
@@ -34,6 +34,8 @@ AreItsEnds rows Rollback at msg p q = (p ≡ at) × (from : ℕ) × IsMessage ro
 -- a demand of an instance's chain that a message does not meet, which has to lead on from a process
 abbrev pub IsUnmet : List Event → ℕ → Kind → ℕ → ℕ → Demand → Type 0
 IsUnmet rows k kind at msg Message = (p q : ℕ) → IsMessage rows msg p q → ⊥
+IsUnmet rows k kind at msg (GoneElsewhere from to p) = (kind ≡ Checkpoint) × (p ≡ at) × IsMessage rows msg from to × (to ≢ at)
+IsUnmet rows k kind at msg (SentElsewhere from to p) = (kind ≡ Rollback) × (p ≡ at) × IsMessage rows msg from to × (from ≢ at)
 IsUnmet rows k kind at msg (Received q) = (p : ℕ) × AreItsEnds rows kind at msg p q × (has_received (past rows) q p msg ≡ false)
 IsUnmet rows k kind at msg (Sent p) = (q : ℕ) × AreItsEnds rows kind at msg p q × (has_sent (past rows) p q msg ≡ false)
 IsUnmet rows k kind at msg (SentPast p) =
@@ -56,6 +58,7 @@ pub record IsBreak (rows : List Event) (c : Certificate) (chain : List ℕ) (b :
 -- what is wrong with a member's list
 abbrev pub IsFlaw : List Event → Certificate → ℕ → List ℕ → Flaw → Type 0
 IsFlaw rows c p chain Initiator = (p ≡ c.initiator) × (chain ≢ [])
+IsFlaw rows c p chain Empty = (p ≢ c.initiator) × (chain ≡ [])
 IsFlaw rows c p chain (Elsewhere x) = (p ≢ c.initiator) × (x ≢ p) × IsChain (past rows) c.inst c.kind c.initiator chain x
 IsFlaw rows c p chain (Broken b) = (p ≢ c.initiator) × IsBreak rows c chain b
 

@@ -54,9 +54,9 @@ instance_breach_words (instance.Decided inst row) =
     codes "instance " ++ (decimal inst ++ (codes " was decided in row " ++ (decimal row ++ 10 ∷ [])))
 instance_breach_words (instance.Undecided inst) = codes "instance " ++ (decimal inst ++ (codes " is not decided" ++ 10 ∷ []))
 instance_breach_words (instance.OfKind inst Checkpoint row) =
-    codes "instance " ++ (decimal inst ++ (codes " began in row " ++ (decimal row ++ (codes ", as a checkpoint" ++ 10 ∷ []))))
+    codes "instance " ++ (decimal inst ++ (codes " began in row " ++ (decimal row ++ (codes ", as a checkpoint: it is joined by took" ++ 10 ∷ []))))
 instance_breach_words (instance.OfKind inst Rollback row) =
-    codes "instance " ++ (decimal inst ++ (codes " began in row " ++ (decimal row ++ (codes ", as a rollback" ++ 10 ∷ []))))
+    codes "instance " ++ (decimal inst ++ (codes " began in row " ++ (decimal row ++ (codes ", as a rollback: it is joined by ready, and only who is busy is unwilling to" ++ 10 ∷ []))))
 instance_breach_words (instance.Initiator inst p row) =
     codes "the initiator of instance " ++ (decimal inst ++ (codes " is process " ++ (decimal p
     ++ (codes ", which began it in row " ++ (decimal row ++ 10 ∷ [])))))
@@ -64,11 +64,11 @@ instance_breach_words (instance.JustBegun p inst) =
     codes "process " ++ (decimal p ++ (codes " began instance " ++ (decimal inst
     ++ (codes " in the row before, and is to join it in this one" ++ 10 ∷ []))))
 instance_breach_words (instance.OwnCause inst) =
-    codes "instance " ++ (decimal inst ++ (codes " is refused, and can't be the cause of it" ++ 10 ∷ []))
+    codes "instance " ++ (decimal inst ++ (codes " can't be the cause for which a process is unwilling to join instance " ++ (decimal inst ++ 10 ∷ [])))
 
 -- what breaks a rule
 abbrev pub breach_words : Breach → List ℕ
 breach_words (breach.Message b) = message_breach_words b
 breach_words (breach.Process b) = process_breach_words b
 breach_words (breach.Instance b) = instance_breach_words b
-breach_words breach.NoCause = codes "no such command is refused for such a cause" ++ 10 ∷ []
+breach_words breach.NoCause = codes "send and fail are refused for down alone, rollback for busy alone, checkpoint for any cause" ++ 10 ∷ []

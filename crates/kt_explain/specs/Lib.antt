@@ -7,3 +7,4 @@ pub mod Breaches
 pub mod LeftOpen
 pub mod LeftOpenWords
 pub mod Told
+pub mod RecordsTold

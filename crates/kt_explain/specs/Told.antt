@@ -73,6 +73,7 @@ IsNoOf verdict k reason = (row : Option ℕ) × (verdict ≡ No (Some k) row rea
 pub record IsBadRow (rows : List Event) (b : BadRow) (place : ℕ) (row : Event) : Type 0 where
   pub row_is : b.row ≡ place + 1
   pub there : slice_get rows place ≡ Some row
+  pub event_is : b.event ≡ row
   pub breach_is : IsBreach (take place rows) (λ s. keeps b.rule s row) b.breach
   pub process : b.p ≡ process_of row
   pub open_in : b.open_in ≡ (past (take place rows)).open_in b.p

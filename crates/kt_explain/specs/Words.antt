@@ -2,10 +2,14 @@
 use Rattle.std.specs.Prelude.{ℕ, Option, Some, None, List, [], ◌∷◌, ◌++◌, codes}
 use Rattle.std.specs.Fmt.{decimal}
 use Rattle.kt_text.specs.Words.{kind_word, decision_word}
+use Rattle.kt_text.specs.Writing.{joined}
+use Rattle.kt_log_text.specs.Spelling.{spelling}
+use Rattle.kt_spacetime.specs.declared.event.Event.{Event}
 use Rattle.kt_cuts.specs.declared.rules.Rule.{Rule}
 use Rattle.kt_cuts.specs.declared.rules.Rule.TheVariants as rule
 use Rattle.kt_explain.specs.BreachWords.{breach_words}
 use Rattle.kt_explain.specs.declared.bad_row.BadRow.{BadRow}
+use Rattle.kt_explain.specs.declared.breach.Breach.{Breach}
 use Rattle.kt_explain.specs.declared.bad_chain.Break.{Break}
 use Rattle.kt_explain.specs.declared.bad_chain.Demand.{Demand}
 use Rattle.kt_explain.specs.declared.bad_chain.Demand.TheVariants as demand
@@ -60,13 +64,19 @@ abbrev pub orphan_words : OneOrphan → List ℕ
 orphan_words o =
     sent_words o ++ (received_words o ++ outsider_words o.outsider)
 
+-- between whom a message was sent
+abbrev pub parties_words : ℕ → ℕ → List ℕ
+parties_words from to = codes "was sent by process " ++ (decimal from ++ (codes " to process " ++ decimal to))
+
 -- the demand that a message of a chain does not meet
 abbrev pub demand_words : Demand → List ℕ
 demand_words demand.Message = codes "was never sent" ++ 10 ∷ []
-demand_words (demand.Received p) = codes "is not received by process " ++ (decimal p ++ 10 ∷ [])
-demand_words (demand.Sent p) = codes "is not sent by process " ++ (decimal p ++ 10 ∷ [])
-demand_words (demand.Past p) = codes "is not sent past the permanent position of process " ++ (decimal p ++ 10 ∷ [])
-demand_words (demand.Within p) = codes "is not received within the new position of process " ++ (decimal p ++ 10 ∷ [])
+demand_words (demand.GoneElsewhere from to p) = parties_words from to ++ (codes ", and is to be one that process " ++ (decimal p ++ (codes " received" ++ 10 ∷ [])))
+demand_words (demand.SentElsewhere from to p) = parties_words from to ++ (codes ", and is to be one that process " ++ (decimal p ++ (codes " sent" ++ 10 ∷ [])))
+demand_words (demand.Received p) = codes "was not received by process " ++ (decimal p ++ (codes ", or that was undone" ++ 10 ∷ []))
+demand_words (demand.Sent p) = codes "was not sent by process " ++ (decimal p ++ (codes ", or that was undone" ++ 10 ∷ []))
+demand_words (demand.Past p) = codes "was sent by process " ++ (decimal p ++ (codes " before its last permanent checkpoint" ++ 10 ∷ []))
+demand_words (demand.Within p) = codes "was received by process " ++ (decimal p ++ (codes ", and not before it took a checkpoint of the instance" ++ 10 ∷ []))
 
 -- the place of a chain of which the message leads nowhere
 abbrev pub break_words : Break → List ℕ
@@ -75,6 +85,7 @@ break_words b = (codes "and message " ++ (decimal b.msg ++ (codes ", in place " 
 -- what is wrong with the list of a member
 abbrev pub flaw_words : Flaw → List ℕ
 flaw_words flaw.Initiator = codes "the initiator, and has a chain" ++ 10 ∷ []
+flaw_words flaw.Empty = codes "and has no chain: each member but the initiator has one" ++ 10 ∷ []
 flaw_words (flaw.Elsewhere p) = codes "and its chain leads to process " ++ (decimal p ++ 10 ∷ [])
 flaw_words (flaw.Broken b) = break_words b
 
@@ -94,21 +105,37 @@ rule_words rule.Deciding = codes "rule 7, deciding: the initiator decides once, 
 rule_words rule.Closing = codes "rule 8, closing: who closes is in the instance, and that is decided"
 rule_words rule.Causes = codes "rule 9, causes: a failure and a refusal have the cause that they name"
 
--- the open instance that a process is in
-abbrev pub instance_words : Option ℕ → List ℕ
-instance_words (Some inst) = codes "in instance " ++ decimal inst
-instance_words None = codes "in no instance"
-
 -- the last row in which a process failed
 abbrev pub failure_words : Option ℕ → List ℕ
 failure_words (Some row) = codes ", failed in row " ++ decimal row ++ 10 ∷ []
 failure_words None = codes ", never failed" ++ 10 ∷ []
 
+-- that a process failed that is in no instance
+abbrev pub failed_words : ℕ → Option ℕ → List ℕ
+failed_words p (Some row) = codes "process " ++ (decimal p ++ (codes ": in no instance, failed in row " ++ (decimal row ++ 10 ∷ [])))
+failed_words p None = []
+
+-- where a process stands, if it is in an instance or failed
+abbrev pub standing_words : ℕ → Option ℕ → Option ℕ → List ℕ
+standing_words p (Some inst) failed = (codes "process " ++ (decimal p ++ (codes ": in instance " ++ decimal inst))) ++ failure_words failed
+standing_words p None failed = failed_words p failed
+
+-- a row as a log has it
+abbrev pub row_words : Event → List ℕ
+row_words row = joined (spelling row)
+
+-- the number of a row
+abbrev pub numbered_words : ℕ → List ℕ
+numbered_words row = codes "log row " ++ (decimal row ++ codes ", not counting a first line kt,2,-,-: ")
+
+-- a rule, and what breaks it
+abbrev pub broken_words : Rule → Breach → List ℕ
+broken_words rule breach = 10 ∷ (rule_words rule ++ 10 ∷ breach_words breach)
+
 -- a row that breaks a rule, the rule, what breaks it, and where the row's process stands before it
 abbrev pub bad_row_words : BadRow → List ℕ
 bad_row_words b =
-    codes "row " ++ decimal b.row ++ codes ": " ++ rule_words b.rule ++ 10 ∷ [] ++ breach_words b.breach
-    ++ codes "process " ++ decimal b.p ++ codes ": " ++ instance_words b.open_in ++ failure_words b.failed
+    numbered_words b.row ++ (row_words b.event ++ (broken_words b.rule b.breach ++ standing_words b.p b.open_in b.failed))
 
 -- the lines that are told of an answer
 abbrev pub explanation_words : Explanation → List ℕ

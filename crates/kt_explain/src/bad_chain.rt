@@ -12,6 +12,10 @@ use std::fmt;
 pub enum Demand {
     /// No row sends it.
     Message,
+    /// It was sent between these processes, and this one is to have received it.
+    GoneElsewhere { from: ProcNo, to: ProcNo, p: ProcNo },
+    /// It was sent between these processes, and this one is to have sent it.
+    SentElsewhere { from: ProcNo, to: ProcNo, p: ProcNo },
     /// This process has not received it, or the receive was undone.
     Received(ProcNo),
     /// This process has not sent it, or the send was undone.
@@ -35,6 +39,8 @@ pub struct Break {
 pub enum Flaw {
     /// It is the initiator's, and has a message.
     Initiator,
+    /// It is another member's, and has no message.
+    Empty,
     /// It leads to this process, and not to the member.
     Elsewhere(ProcNo),
     /// It leads nowhere.
@@ -68,6 +74,10 @@ fn write_flaw<W: fmt::Write>(f: &mut fmt::Formatter<W>, flaw: Flaw) -> fmt::Resu
 {
     match flaw {
         Flaw::Initiator => write!(f, "the initiator, and has a chain\n"),
+        Flaw::Empty => write!(
+            f,
+            "and has no chain: each member but the initiator has one\n"
+        ),
         Flaw::Elsewhere(p) => write!(f, "and its chain leads to process {p}\n"),
         Flaw::Broken(broken) => write_break(f, broken),
     }
@@ -88,17 +98,25 @@ fn write_demand<W: fmt::Write>(f: &mut fmt::Formatter<W>, demand: Demand) -> fmt
 {
     match demand {
         Demand::Message => write!(f, "was never sent\n"),
-        Demand::Received(p) => write!(f, "is not received by process {p}\n"),
-        Demand::Sent(p) => write!(f, "is not sent by process {p}\n"),
-        Demand::Past(p) => {
-            write!(
-                f,
-                "is not sent past the permanent position of process {p}\n"
-            )
+        Demand::GoneElsewhere { from, to, p } => write!(
+            f,
+            "was sent by process {from} to process {to}, and is to be one that process {p} received\n"
+        ),
+        Demand::SentElsewhere { from, to, p } => write!(
+            f,
+            "was sent by process {from} to process {to}, and is to be one that process {p} sent\n"
+        ),
+        Demand::Received(p) => {
+            write!(f, "was not received by process {p}, or that was undone\n")
         }
+        Demand::Sent(p) => write!(f, "was not sent by process {p}, or that was undone\n"),
+        Demand::Past(p) => write!(
+            f,
+            "was sent by process {p} before its last permanent checkpoint\n"
+        ),
         Demand::Within(p) => write!(
             f,
-            "is not received within the new position of process {p}\n"
+            "was received by process {p}, and not before it took a checkpoint of the instance\n"
         ),
     }
 }

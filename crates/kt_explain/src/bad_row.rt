@@ -2,17 +2,21 @@
 
 ghost use Rattle.std.specs.Prelude.{◌≡◌, Some};
 ghost use Rattle.std.specs.Fmt.{DisplaysOnOk};
-ghost use Rattle.kt_explain.specs.Words.{instance_words, failure_words, rule_words};
+ghost use Rattle.kt_explain.specs.Words.{broken_words, failed_words, failure_words, numbered_words, rule_words, standing_words};
 
 use crate::breach::Breach;
+use crate::row_text::write_row;
 use kt_base::{InstNo, ProcNo, RowNo};
 use kt_cuts::Rule;
+use kt_spacetime::Event;
 use std::fmt;
 
 /// A row that breaks a rule, what breaks it, and where its process stands before it.
 #[derive(Clone, Copy, Debug, PartialEq, Eq)]
 pub struct BadRow {
     pub row: RowNo,
+    /// What the row says.
+    pub event: Event,
     pub rule: Rule,
     pub breach: Breach,
     pub p: ProcNo,
@@ -31,17 +35,17 @@ impl fmt::Display for BadRow {
     fn fmt<W: fmt::Write>(&self, f: &mut fmt::Formatter<W>) -> fmt::Result {
         let BadRow {
             row,
+            event,
             rule,
             breach,
             p,
             open_in,
             failed,
         } = *self;
-        let name = rule_name(rule);
-        write!(f, "row {row}: {name}\n{breach}")?;
-        write!(f, "process {p}: ")?;
-        write_instance(f, open_in)?;
-        write_failure(f, failed)
+        write_number(f, row)?;
+        write_row(f, &event)?;
+        write_broken(f, rule, breach)?;
+        write_standing(f, p, open_in, failed)
     }
 }
 
@@ -68,13 +72,50 @@ pub fn rule_name(rule: Rule) -> &'static str
     }
 }
 
-// The open instance that a process is in.
-fn write_instance<W: fmt::Write>(f: &mut fmt::Formatter<W>, inst: Option<InstNo>) -> fmt::Result
-    ensures { DisplaysOnOk W.write_str_gives f.old result (Some (instance_words inst)) f.new }
+// The number of a row.
+fn write_number<W: fmt::Write>(f: &mut fmt::Formatter<W>, row: RowNo) -> fmt::Result
+    ensures { DisplaysOnOk W.write_str_gives f.old result (Some (numbered_words row)) f.new }
 {
-    match inst {
-        Some(inst) => write!(f, "in instance {inst}"),
-        None => write!(f, "in no instance"),
+    write!(f, "log row {row}, not counting a first line kt,2,-,-: ")
+}
+
+// A rule, and what breaks it.
+fn write_broken<W: fmt::Write>(f: &mut fmt::Formatter<W>, rule: Rule, breach: Breach) -> fmt::Result
+    ensures { DisplaysOnOk W.write_str_gives f.old result (Some (broken_words rule breach)) f.new }
+{
+    let name = rule_name(rule);
+    write!(f, "\n{name}\n{breach}")
+}
+
+// Where a process stands, if it is in an instance or failed.
+fn write_standing<W: fmt::Write>(
+    f: &mut fmt::Formatter<W>,
+    p: ProcNo,
+    open_in: Option<InstNo>,
+    failed: Option<RowNo>,
+) -> fmt::Result
+    ensures { DisplaysOnOk W.write_str_gives f.old result (Some (standing_words p open_in failed)) f.new }
+{
+    match open_in {
+        Some(inst) => {
+            write!(f, "process {p}: in instance {inst}")?;
+            write_failure(f, failed)
+        }
+        None => write_failed(f, p, failed),
+    }
+}
+
+// That a process failed that is in no instance.
+fn write_failed<W: fmt::Write>(
+    f: &mut fmt::Formatter<W>,
+    p: ProcNo,
+    failed: Option<RowNo>,
+) -> fmt::Result
+    ensures { DisplaysOnOk W.write_str_gives f.old result (Some (failed_words p failed)) f.new }
+{
+    match failed {
+        Some(row) => write!(f, "process {p}: in no instance, failed in row {row}\n"),
+        None => Ok(()),
     }
 }
 

@@ -71,6 +71,7 @@ fn bad_row(alloc: Global, rows: &[Event], row: RowNo, rule: Rule) -> Result<Expl
     match known.keeps(rule, &rows[index]) {
         Err(breach) => Ok(Explanation::BadLog(BadRow {
             row,
+            event: rows[index],
             rule,
             breach,
             p,

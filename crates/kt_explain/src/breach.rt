@@ -146,7 +146,10 @@ impl fmt::Display for Breach {
             Breach::Message(breach) => write!(f, "{breach}"),
             Breach::Process(breach) => write!(f, "{breach}"),
             Breach::Instance(breach) => write!(f, "{breach}"),
-            Breach::NoCause => write!(f, "no such command is refused for such a cause\n"),
+            Breach::NoCause => write!(
+                f,
+                "send and fail are refused for down alone, rollback for busy alone, checkpoint for any cause\n"
+            ),
         }
     }
 }
@@ -248,9 +251,15 @@ impl fmt::Display for InstanceBreach {
             InstanceBreach::Undecided(inst) => write!(f, "instance {inst} is not decided\n"),
             InstanceBreach::OfKind { inst, kind, row } => match kind {
                 Kind::Checkpoint => {
-                    write!(f, "instance {inst} began in row {row}, as a checkpoint\n")
+                    write!(
+                        f,
+                        "instance {inst} began in row {row}, as a checkpoint: it is joined by took\n"
+                    )
                 }
-                Kind::Rollback => write!(f, "instance {inst} began in row {row}, as a rollback\n"),
+                Kind::Rollback => write!(
+                    f,
+                    "instance {inst} began in row {row}, as a rollback: it is joined by ready, and only who is busy is unwilling to\n"
+                ),
             },
             InstanceBreach::Initiator { inst, p, row } => write!(
                 f,
@@ -262,7 +271,7 @@ impl fmt::Display for InstanceBreach {
             ),
             InstanceBreach::OwnCause(inst) => write!(
                 f,
-                "instance {inst} is refused, and can't be the cause of it\n"
+                "instance {inst} can't be the cause for which a process is unwilling to join instance {inst}\n"
             ),
         }
     }

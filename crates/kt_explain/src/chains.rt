@@ -99,6 +99,9 @@ fn flaw_of(
     if p == certificate.initiator {
         return if_any(chain);
     }
+    if chain.is_empty() {
+        return Some(Flaw::Empty);
+    }
     match end_of(histories, certificate, chain) {
         Ok(end) => if_another(end, p),
         Err(broken) => Some(Flaw::Broken(broken)),
@@ -194,7 +197,11 @@ fn checkpoint_step(
         → IsLegal rows → trace_of rows msg ≡ Some trace.now → IsUnmet rows inst kind.Checkpoint at msg demand) }
 {
     if trace.to != at {
-        return Err(Demand::Received(at));
+        return Err(Demand::GoneElsewhere {
+            from: trace.from,
+            to: trace.to,
+            p: at,
+        });
     }
     let Some(received) = trace.received else {
         return Err(Demand::Received(at));
@@ -230,7 +237,11 @@ fn rollback_step(histories: &Histories, at: ProcNo, trace: &Trace) -> Result<Pro
         → IsLegal rows → trace_of rows msg ≡ Some trace.now → IsUnmet rows k kind.Rollback at msg demand) }
 {
     if trace.from != at {
-        return Err(Demand::Sent(at));
+        return Err(Demand::SentElsewhere {
+            from: trace.from,
+            to: trace.to,
+            p: at,
+        });
     }
     let Some(sent) = trace.sent else {
         return Err(Demand::Sent(at));

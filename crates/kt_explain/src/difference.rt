@@ -68,8 +68,8 @@ pub(crate) fn kind_name(kind: Kind) -> &'static str
     }
 }
 
-// The word of a decision.
-fn decision_name(commit: bool) -> &'static str
+/// The word of a decision.
+pub(crate) fn decision_name(commit: bool) -> &'static str
     ensures { result.now ≡ decision_word commit }
 {
     if commit { "commit" } else { "abort" }

@@ -67,8 +67,8 @@ pub(crate) fn first_of(certificates: &[Certificate], inst: InstNo) -> Option<&Ce
     Some(&certificates[place])
 }
 
-// The first place from this one on of a certificate of an instance.
-fn place_from(certificates: &[Certificate], inst: InstNo, from: usize) -> Option<usize>
+/// The first place from this one on of a certificate of an instance.
+pub(crate) fn place_from(certificates: &[Certificate], inst: InstNo, from: usize) -> Option<usize>
     ensures found { IfSome result (λ place. (c : Certificates) × (slice_get certificates.now place ≡ Some c) × (c.inst ≡ inst)) }
     ensures from { IfSome result (λ place. from ≤ place) }
     ensures first { IfSome result (λ place. (n : ℕ) (c : Certificates) → from ≤ n → n < place

@@ -21,13 +21,15 @@ returns-in-Err c = λ certificates.
     let number = (legal_before rows c.args.row (c.get.result - 1) c.args.rule c.requires.bad place).1 in
     let low : c.get.result - 1 < length rows = omega (arith, number, c.requires.within) in
     let at = row_read rows (c.get.result - 1) c.index-rows-index.result low c.index-rows-index.is in
-    let again = row_read rows (c.get.result - 1) c.index-rows-index-2.result low c.index-rows-index-2.is in (
+    let again = row_read rows (c.get.result - 1) c.index-rows-index-2.result low c.index-rows-index-2.is in
+    let third = row_read rows (c.get.result - 1) c.index-rows-index-in-Err.result low c.index-rows-index-in-Err.is in (
       c.get.result - 1,
       c.index-rows-index-2.result,
       refl,
       record {
         row_is = number;
         there = again;
+        event_is = some_same (sym third ∙ again);
         breach_is = subst (λ (before : List Event). IsBreach before (λ s. keeps c.args.rule s c.index-rows-index-2.result) c.in-Err.breach) c.in_ok-known.ensures.rows c.in-Err.ensures;
         process = c.process-p.ensures ∙ ap process_of (some_same (sym at ∙ again));
         open_in = c.open_in.ensures;

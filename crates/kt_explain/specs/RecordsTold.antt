@@ -1,0 +1,48 @@
+-- Which record of the certificates' text an answer is about.
+use Rattle.std.specs.Prelude.{◌≡◌, ◌≤◌, ◌<◌, ◌+◌, ℕ, Option, Some, None, IfSome, List, [], ◌∷◌, ◌++◌, codes, length, take, slice_get}
+use Rattle.std.specs.Fmt.{decimal}
+use Rattle.kt_chain.specs.Spelling.{records_of}
+use Rattle.kt_chain.specs.declared.certificate.Certificate.{Certificate}
+use Rattle.kt_explain.specs.declared.explanation.Explanation.{Explanation}
+use Rattle.kt_explain.specs.declared.explanation.Explanation.TheVariants.{Nothing, Unknown, Objection, NoObjection, OtherMember, BadChain, Uncertified, Orphan, BadLog, LeftOpen}
+
+-- the instance of the certificate that an answer is about
+abbrev pub certified_inst : Explanation → Option ℕ
+certified_inst Nothing = None
+certified_inst (LeftOpen l) = None
+certified_inst (Unknown k difference) = Some k
+certified_inst (Objection k p row) = Some k
+certified_inst (NoObjection k) = Some k
+certified_inst (OtherMember k place listed joined) = Some k
+certified_inst (BadChain k chain) = Some k
+certified_inst (Uncertified k row) = None
+certified_inst (Orphan k orphan) = Some k
+certified_inst (BadLog b) = None
+
+-- the place, from 1, of the listed member that an answer is about; 0 where it is about none
+abbrev pub member_place : Explanation → ℕ
+member_place (BadChain k chain) = chain.place
+member_place (OtherMember k place (Some p) joined) = place
+member_place e = 0
+
+-- the first certificate of an instance stands at this place
+pub record IsFirstAt (certificates : List Certificate) (k i : ℕ) : Type 0 where
+  pub certificate : Certificate
+  pub there : slice_get certificates i ≡ Some certificate
+  pub of_inst : certificate.inst ≡ k
+  pub first : (n : ℕ) (other : Certificate) → n < i → slice_get certificates n ≡ Some other → other.inst ≡ k → ⊥
+
+-- an answer is about the record of this number: that of the first certificate of its instance, after those of the
+-- certificates before it, or that of the member in its place
+abbrev pub IsRecordOf : List Certificate → Explanation → ℕ → Type 0
+IsRecordOf certificates e number =
+    (k : ℕ) × (i : ℕ) × (certified_inst e ≡ Some k) × IsFirstAt certificates k i
+    × (number ≡ length (records_of (take i certificates)) + 1 + member_place e)
+
+abbrev pub IsRecordTold : List Certificate → Explanation → Option ℕ → Type 0
+IsRecordTold certificates e number = IfSome number (IsRecordOf certificates e)
+
+-- its line
+abbrev pub record_told_words : Option ℕ → List ℕ
+record_told_words None = []
+record_told_words (Some number) = codes "see record " ++ (decimal number ++ (codes " of the certificates" ++ 10 ∷ []))

@@ -1,0 +1,102 @@
+//! Which record of the certificates' text an answer is about.
+
+ghost use Rattle.std.specs.Prelude.{◌≡◌, ◌≤◌, IfSome, Some, length, take};
+ghost use Rattle.kt_chain.specs.Spelling.{certificate_records, records_of};
+ghost use Rattle.kt_explain.specs.RecordsTold.{IsRecordOf, IsRecordTold, certified_inst, member_place};
+
+use crate::explanation::Explanation;
+use crate::unknown::place_from;
+use kt_base::InstNo;
+use kt_chain::Certificate;
+use std::fmt;
+
+/// The number, from 1, of the record of the certificates' text that an answer is about, where it is about one.
+#[derive(Clone, Copy, Debug, PartialEq, Eq)]
+pub struct RecordTold {
+    pub number: Option<usize>,
+}
+
+impl fmt::Display for RecordTold {
+    ghost use Rattle.std.specs.Prelude.{Some};
+    ghost use Rattle.kt_explain.specs.RecordsTold.{record_told_words};
+
+    ghost output = { λ r. Some (record_told_words r.number) };
+
+    fn fmt<W: fmt::Write>(&self, f: &mut fmt::Formatter<W>) -> fmt::Result {
+        match self.number {
+            Some(number) => write!(f, "see record {number} of the certificates\n"),
+            None => Ok(()),
+        }
+    }
+}
+
+/// The record of the certificates' text that what is told is about: that of the first certificate of the instance, or of
+/// the member that is named.
+pub fn record_told(certificates: &[Certificate], explanation: &Explanation) -> RecordTold
+    ensures { IsRecordTold certificates.now explanation.now result.number }
+{
+    RecordTold {
+        number: number_of(certificates, explanation),
+    }
+}
+
+// The number of that record.
+fn number_of(certificates: &[Certificate], explanation: &Explanation) -> Option<usize>
+    ensures { IfSome result (IsRecordOf certificates.now explanation.now) }
+{
+    let inst = certified_inst(explanation)?;
+    let place = place_from(certificates, inst, 0)?;
+    let before = records_before(certificates, place)?;
+    let first = before.checked_add(1)?;
+    first.checked_add(member_place(explanation))
+}
+
+// The instance of the certificate that an answer is about.
+fn certified_inst(explanation: &Explanation) -> Option<InstNo>
+    ensures { result ≡ certified_inst explanation.now }
+{
+    match *explanation {
+        Explanation::Unknown { inst, .. }
+        | Explanation::Objection { inst, .. }
+        | Explanation::NoObjection { inst }
+        | Explanation::OtherMember { inst, .. }
+        | Explanation::BadChain { inst, .. }
+        | Explanation::Orphan { inst, .. } => Some(inst),
+        Explanation::Nothing
+        | Explanation::LeftOpen(_)
+        | Explanation::BadLog(_)
+        | Explanation::Uncertified { .. } => None,
+    }
+}
+
+// The place, from 1, of the listed member that an answer is about; 0 where it is about none.
+fn member_place(explanation: &Explanation) -> usize
+    ensures { result ≡ member_place explanation.now }
+{
+    match *explanation {
+        Explanation::BadChain { chain, .. } => chain.place,
+        Explanation::OtherMember { place, listed, .. } => {
+            if listed.is_some() { place } else { 0 }
+        }
+        _ => 0,
+    }
+}
+
+// How many records the first so many certificates have, unless they are too many to count.
+fn records_before(certificates: &[Certificate], count: usize) -> Option<usize>
+    requires { count ≤ length certificates.now }
+    ensures { IfSome result (λ number. number ≡ length (records_of (take count certificates.now))) }
+{
+    let mut number: usize = 0;
+    for place in 0..count {
+        number = number.checked_add(records_in(&certificates[place]))?;
+    }
+    Some(number)
+}
+
+// How many records a certificate has.
+fn records_in(certificate: &Certificate) -> usize
+    ensures { result ≡ length (certificate_records certificate.now) }
+{
+    certificate.members.list().len() + 1
+}
