@@ -27,11 +27,10 @@ begun_open s _ = None
 abbrev pub open_instances : List Event → List ℕ
 open_instances rows = filter_map (begun_open (past rows)) rows
 
--- an open instance as it is told: how it was decided, if it was, and the processes that are in it; or none, where there is
--- none
+-- an open instance as it is told, with the processes that are in it; or none, where there is none
 abbrev pub IsOpenInstance : Past → Option ℕ → Option OpenInstance → Type 0
 IsOpenInstance s None None = Unit {0}
-IsOpenInstance s (Some k) (Some o) = (o.inst ≡ k) × (o.decision ≡ s.decision k) × ((p : ℕ) → p < 64 → has o.inside p ≡ is_in s p k)
+IsOpenInstance s (Some k) (Some o) = (o.inst ≡ k) × ((p : ℕ) → p < 64 → has o.inside p ≡ is_in s p k)
 IsOpenInstance s _ _ = ⊥
 
 -- who is to receive the message that a row of this number sent, if it is in transit

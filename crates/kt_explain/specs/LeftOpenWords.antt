@@ -1,5 +1,5 @@
 -- The lines of what a log leaves open.
-use Rattle.std.specs.Prelude.{ℕ, zero, suc, ◌-◌, ◌==◌, nat_le, if◌then◌else◌, Bool, Option, Some, None, List, [], ◌∷◌, ◌++◌, codes}
+use Rattle.std.specs.Prelude.{ℕ, zero, suc, ◌-◌, ◌==◌, nat_le, if◌then◌else◌, Option, Some, None, List, [], ◌∷◌, ◌++◌, codes}
 use Rattle.std.specs.Fmt.{decimal}
 use Rattle.std.specs.List.{flat_map}
 use Rattle.kt_base.specs.Sets.{has, count_of}
@@ -15,30 +15,18 @@ unfoldable pub members_below : ℕ → ℕ → List ℕ
 members_below set zero = []
 members_below set (suc p) = members_below set p ++ member_words set p
 
--- the word for so many processes, and for so many messages
-abbrev pub process_word : ℕ → List ℕ
-process_word count = if count == 1 then codes "process" else codes "processes"
-
-abbrev pub message_word : ℕ → List ℕ
-message_word count = if count == 1 then codes "message" else codes "messages"
-
 -- the processes of a set, and the end of the line
 abbrev pub processes_words : ℕ → List ℕ
-processes_words set = process_word (count_of set) ++ (members_below set 64 ++ 10 ∷ [])
+processes_words set = codes "processes" ++ (members_below set 64 ++ 10 ∷ [])
 
 -- the processes that are in an instance, or that nobody is
 abbrev pub inside_words : ℕ → List ℕ
 inside_words set = if count_of set == 0 then codes "no process" ++ 10 ∷ [] else processes_words set
 
--- how an instance was decided, if it was
-abbrev pub decided_words : Option Bool → List ℕ
-decided_words None = codes "undecided"
-decided_words (Some commit) = if commit then codes "committed" else codes "aborted"
-
 -- an open instance
 abbrev pub open_words : Option OpenInstance → List ℕ
 open_words None = []
-open_words (Some o) = (codes "open: instance " ++ (decimal o.inst ++ (codes ", " ++ (decided_words o.decision ++ codes ": ")))) ++ inside_words o.inside
+open_words (Some o) = (codes "open: instance " ++ (decimal o.inst ++ codes ": ")) ++ inside_words o.inside
 
 -- how many instances are open beyond the first four
 abbrev pub more_words : ℕ → List ℕ
@@ -55,7 +43,7 @@ down_words set = if count_of set == 0 then [] else codes "down: " ++ processes_w
 
 -- how many messages were dropped
 abbrev pub dropped_words : ℕ → List ℕ
-dropped_words count = if count == 0 then [] else codes "dropped: " ++ (decimal count ++ (codes " " ++ (message_word count ++ 10 ∷ [])))
+dropped_words count = if count == 0 then [] else codes "dropped: " ++ (decimal count ++ (codes " messages" ++ 10 ∷ []))
 
 -- what a log leaves open, a line each
 abbrev pub left_open_words : LeftOpen → List ℕ

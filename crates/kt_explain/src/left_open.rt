@@ -3,7 +3,7 @@
 ghost use Rattle.std.specs.Prelude.{◌≡◌, Some};
 ghost use Rattle.std.specs.List.{flat_map};
 ghost use Rattle.std.specs.Fmt.{DisplaysOnOk};
-ghost use Rattle.kt_explain.specs.LeftOpenWords.{decided_words, process_word, message_word, member_words, members_below, processes_words, inside_words, open_words, more_words, in_transit_words, down_words, dropped_words};
+ghost use Rattle.kt_explain.specs.LeftOpenWords.{member_words, members_below, processes_words, inside_words, open_words, more_words, in_transit_words, down_words, dropped_words};
 
 use kt_base::{InstNo, ProcNo, ProcSet};
 use std::fmt;
@@ -12,8 +12,6 @@ use std::fmt;
 #[derive(Clone, Copy, Debug, PartialEq, Eq)]
 pub struct OpenInstance {
     pub inst: InstNo,
-    /// How it was decided, if it was; true for a commit.
-    pub decision: Option<bool>,
     /// The processes that are in it.
     pub inside: ProcSet,
 }
@@ -70,36 +68,11 @@ fn write_instance<W: fmt::Write>(
 ) -> fmt::Result
     ensures { DisplaysOnOk W.write_str_gives f.old result (Some (open_words instance.now)) f.new }
 {
-    let Some(
-        OpenInstance {
-            inst,
-            decision,
-            inside,
-        },
-    ) = *instance
-    else {
+    let Some(OpenInstance { inst, inside }) = *instance else {
         return Ok(());
     };
-    let name = decision_name(decision);
-    write!(f, "open: instance {inst}, {name}: ")?;
+    write!(f, "open: instance {inst}: ")?;
     write_inside(f, inside)
-}
-
-// How an instance was decided, if it was.
-fn decision_name(decision: Option<bool>) -> &'static str
-    ensures { result.now ≡ decided_words decision }
-{
-    match decision {
-        Some(commit) => decided_name(commit),
-        None => "undecided",
-    }
-}
-
-// How an instance was decided.
-fn decided_name(commit: bool) -> &'static str
-    ensures { result.now ≡ decided_words (Some commit) }
-{
-    if commit { "committed" } else { "aborted" }
 }
 
 // The processes that are in an instance.
@@ -157,8 +130,7 @@ fn write_dropped<W: fmt::Write>(f: &mut fmt::Formatter<W>, dropped: usize) -> fm
     if dropped == 0 {
         Ok(())
     } else {
-        let name = message_name(dropped);
-        write!(f, "dropped: {dropped} {name}\n")
+        write!(f, "dropped: {dropped} messages\n")
     }
 }
 
@@ -166,24 +138,9 @@ fn write_dropped<W: fmt::Write>(f: &mut fmt::Formatter<W>, dropped: usize) -> fm
 fn write_processes<W: fmt::Write>(f: &mut fmt::Formatter<W>, set: ProcSet) -> fmt::Result
     ensures { DisplaysOnOk W.write_str_gives f.old result (Some (processes_words set)) f.new }
 {
-    let name = process_name(set.count());
-    write!(f, "{name}")?;
+    write!(f, "processes")?;
     write_members(f, set)?;
     write!(f, "\n")
-}
-
-// The word for so many processes.
-fn process_name(count: u32) -> &'static str
-    ensures { result.now ≡ process_word count }
-{
-    if count == 1 { "process" } else { "processes" }
-}
-
-// The word for so many messages.
-fn message_name(count: usize) -> &'static str
-    ensures { result.now ≡ message_word count }
-{
-    if count == 1 { "message" } else { "messages" }
 }
 
 // The processes of a set, by rising number.

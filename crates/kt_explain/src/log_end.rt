@@ -157,7 +157,6 @@ fn told_at(histories: &Histories, insts: &[InstNo], index: usize) -> Option<Open
     match insts.get(index) {
         Some(inst) => Some(OpenInstance {
             inst: *inst,
-            decision: histories.decision(*inst),
             inside: inside(histories, *inst),
         }),
         None => None,
