@@ -3,16 +3,14 @@ use Rattle.std.proofs.Common.{◌≡◌, ◌+◌, ℕ, Bool, List, [], ◌∷◌
 use Rattle.std.specs.Prelude.{MatchBool, slice_get, slice_index_or}
 use Rattle.kt_text.specs.Records.{FieldsTaken}
 use Rattle.kt_hints.specs.Records.{IsRecordAfter}
-use Rattle.kt_hints.specs.Rows.{IsRowAfter, NamesFormat, headers, last_message}
+use Rattle.kt_hints.specs.Rows.{IsRowAfter, NamesFormat, headers}
 
 -- the first record was read, and then those up to the row
-pub row_found : (left rest : Option (List (List (List ℕ)))) (first fields : List (List ℕ)) (before more last : ℕ) (named : Bool) → FieldsTaken left rest first
-    → MatchBool named (NamesFormat first) (¬ NamesFormat first) → more ≡ headers named → last ≡ last_message named → IsRecordAfter rest first (before + more) fields → IsRowAfter left before last fields
-row_found None rest first fields before more last named takes format headed is after = tt
-row_found (Some left) None first fields before more last named takes format headed is after = absurd takes
-row_found (Some left) (Some rest) first fields before more last named takes format headed is after = record {
-  named = named;
+pub row_found : (left rest : Option (List (List (List ℕ)))) (first fields : List (List ℕ)) (before more : ℕ) (named : Bool) → FieldsTaken left rest first
+    → MatchBool named (NamesFormat first) (¬ NamesFormat first) → more ≡ headers named → IsRecordAfter rest first (before + more) fields → IsRowAfter left before named fields
+row_found None rest first fields before more named takes format headed after = tt
+row_found (Some left) None first fields before more named takes format headed after = absurd takes
+row_found (Some left) (Some rest) first fields before more named takes format headed after = record {
   format = subst (λ (all : List (List (List ℕ))). MatchBool named (NamesFormat (slice_index_or all 0 [])) (¬ NamesFormat (slice_index_or all 0 []))) (sym takes) format;
   taken = subst (λ (all : List (List (List ℕ))). slice_get all (before + headers named) ≡ Some fields) (sym takes) (subst (λ (n : ℕ). slice_get (first ∷ rest) (before + n) ≡ Some fields) headed after);
-  is = is;
 }

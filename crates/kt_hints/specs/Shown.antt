@@ -1,6 +1,7 @@
 -- Texts of others, shown to a person.
 use Rattle.std.specs.Prelude.{ℕ, ◌/◌, ◌%◌, ◌+◌, ◌-◌, ◌&&◌, Bool, if◌then◌else◌, nat_lt, List, [], ◌∷◌, ◌++◌, take, codes}
 use Rattle.std.specs.List.{flat_map}
+use Rattle.std.specs.Fmt.{decimal}
 
 -- whether a byte is a printable character of ASCII
 abbrev pub is_printable : ℕ → Bool
@@ -25,3 +26,7 @@ shown text = flat_map shown_byte (take most_shown text)
 -- a line below a fault: two spaces, words of the program, and what is shown of a text
 abbrev pub hint_line : List ℕ → List ℕ → List ℕ
 hint_line label text = codes "  " ++ (label ++ (shown text ++ 10 ∷ []))
+
+-- the same with a number after the words, and more words
+abbrev pub numbered_line : List ℕ → ℕ → List ℕ → List ℕ → List ℕ
+numbered_line label number more text = codes "  " ++ (label ++ (decimal number ++ (more ++ (shown text ++ 10 ∷ []))))

@@ -1,14 +1,16 @@
 //! What is told of a fault to the person who made the mistake: lines below the fault's line, and what they show of texts.
 #![tactic(auto)]
 
+pub mod forms;
 pub mod limits;
 pub mod lines;
 pub mod records;
 pub mod rows;
 pub mod shown;
 
-pub use limits::Limit;
+pub use forms::{CertificateForm, RowForm, push_certificate_form, push_count, push_row_form};
+pub use limits::{Limit, push_limit};
 pub use lines::line_at;
-pub use records::record_at;
+pub use records::{Record, record_at};
 pub use rows::{Row, row_at};
-pub use shown::{push_hint, push_shown};
+pub use shown::{push_hint, push_numbered, push_shown};

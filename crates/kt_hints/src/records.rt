@@ -7,6 +7,7 @@ ghost use Rattle.kt_text.specs.Records.{ReadsOn, left_in};
 ghost use Rattle.kt_text.specs.Writing.{joined};
 ghost use Rattle.kt_hints.specs.Records.{IsRecordAfter, IsRecordAt, led};
 
+use crate::forms::{CertificateForm, certificate_form};
 use csv::{ByteRecord, Reader};
 use kt_base::Memory;
 use kt_text::ReadFault;
@@ -15,14 +16,25 @@ use kt_text::records::{next_record, read_records};
 use std::alloc::Global;
 use std::io::Read;
 
-/// The fields of the record after so many others of a text, joined by commas; None where it has not so many.
+/// A record of certificates, as it is told.
+#[derive(Debug, Drop)]
+pub struct Record {
+    /// Its fields, joined by commas.
+    pub text: Vec<u8>,
+    /// How many they are.
+    pub fields: usize,
+    /// What a record is to be that begins as it does.
+    pub form: Option<CertificateForm>,
+}
+
+/// The record after so many others of a text of certificates; None where it has not so many.
 pub fn record_at<R: Read + Drop>(
     alloc: Global,
     reader: R,
     before: u32,
-) -> Result<Option<Vec<u8>>, ReadFault>
-    ensures { IfOk result (λ found. IfSome found (λ text. IfSome (R.remaining reader)
-        (λ bytes. IsRecordAt (records default_config (strip_bom bytes)) before text.items))) }
+) -> Result<Option<Record>, ReadFault>
+    ensures { IfOk result (λ found. IfSome found (λ one. IfSome (R.remaining reader)
+        (λ bytes. IsRecordAt (records default_config (strip_bom bytes)) before one))) }
 {
     let Ok(mut records) = read_records(alloc, reader) else {
         return Err(ReadFault::Memory);
@@ -32,7 +44,11 @@ pub fn record_at<R: Read + Drop>(
         return Ok(None);
     }
     match joined_fields(alloc, &current) {
-        Ok(text) => Ok(Some(text)),
+        Ok(text) => Ok(Some(Record {
+            text,
+            fields: current.len(),
+            form: certificate_form(field_at(&current, 0)),
+        })),
         Err(_) => Err(ReadFault::Memory),
     }
 }

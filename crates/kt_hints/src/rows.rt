@@ -6,6 +6,7 @@ ghost use Rattle.csv.specs.Records.{fields_of};
 ghost use Rattle.kt_text.specs.Records.{ReadsOn, left_in};
 ghost use Rattle.kt_hints.specs.Rows.{IsRowAfter, IsRowAt, NamesFormat, headers, last_message};
 
+use crate::forms::{RowForm, row_form};
 use crate::limits::{Limit, limit_of};
 use crate::records::{advance, field_at, joined_fields};
 use csv::{ByteRecord, Reader};
@@ -19,6 +20,12 @@ use std::io::Read;
 pub struct Row {
     /// Its fields, joined by commas.
     pub text: Vec<u8>,
+    /// How many they are.
+    pub fields: usize,
+    /// The number of its record in the text, in which the one that names the format counts too.
+    pub record_number: u64,
+    /// What a row is to be that begins as it does.
+    pub form: Option<RowForm>,
     /// What a number of it goes beyond.
     pub beyond: Option<Limit>,
 }
@@ -36,34 +43,37 @@ pub fn row_at<R: Read + Drop>(
         return Err(ReadFault::Memory);
     };
     let mut current = ByteRecord::new(alloc);
-    let Some(last_message) = find_row(&mut records, &mut current, before)? else {
+    let Some(named) = find_row(&mut records, &mut current, before)? else {
         return Ok(None);
     };
     match joined_fields(alloc, &current) {
         Ok(text) => Ok(Some(Row {
             text,
-            beyond: limit_of(&current, last_message),
+            fields: current.len(),
+            record_number: u64::from(before) + headers(named) + 1,
+            form: row_form(field_at(&current, 0)),
+            beyond: limit_of(&current, last_message(named)),
         })),
         Err(_) => Err(ReadFault::Memory),
     }
 }
 
-// The row after so many others into `current`, and the greatest number that a message has in its format.
+// The row after so many others into `current`, and whether the text names its format.
 fn find_row<R: Read>(
     records: &mut Reader<R>,
     current: &mut ByteRecord,
     before: u32,
-) -> Result<Option<u32>, ReadFault>
+) -> Result<Option<bool>, ReadFault>
     requires { ReadsOn records.old }
-    ensures { IfOk result (λ found. IfSome found (λ last.
-        IsRowAfter (left_in R.remaining records.old) before last (fields_of current.new))) }
+    ensures { IfOk result (λ found. IfSome found (λ named.
+        IsRowAfter (left_in R.remaining records.old) before named (fields_of current.new))) }
 {
     if !next_record(records, current)? {
         return Ok(None);
     }
     let named = names_format(current);
     if advance(records, current, u64::from(before) + headers(named))? {
-        Ok(Some(last_message(named)))
+        Ok(Some(named))
     } else {
         Ok(None)
     }

@@ -2,7 +2,8 @@
 
 ghost use Rattle.std.specs.Prelude.{◌≡◌, ◌<◌, ◌^◌, ◌++◌, ℕ, List, All, true, OnOk, length, slice_index, take};
 ghost use Rattle.std.specs.List.{flat_map, list_all};
-ghost use Rattle.kt_hints.specs.Shown.{hex_digit, hint_line, is_printable, most_shown, shown, shown_byte};
+ghost use Rattle.std.specs.Fmt.{decimal};
+ghost use Rattle.kt_hints.specs.Shown.{hex_digit, hint_line, is_printable, most_shown, numbered_line, shown, shown_byte};
 
 use kt_base::Memory;
 
@@ -17,6 +18,35 @@ pub fn push_hint(lines: &mut Vec<u8>, label: &str, text: &[u8]) -> Result<(), Me
     lines.extend_from_slice(label.as_bytes())?;
     push_shown(lines, text)?;
     lines.extend_from_slice(b"\n")?;
+    Ok(())
+}
+
+/// Gathers a line below a fault with a number: two spaces, words of the program, the number, more words, and what is shown
+/// of a text.
+pub fn push_numbered(
+    lines: &mut Vec<u8>,
+    label: &str,
+    number: u64,
+    more: &str,
+    text: &[u8],
+) -> Result<(), Memory>
+    ensures { OnOk result (lines.new.items ≡ lines.old.items ++ numbered_line label.now number more.now text.now) }
+{
+    lines.extend_from_slice(b"  ")?;
+    lines.extend_from_slice(label.as_bytes())?;
+    push_number(lines, number)?;
+    lines.extend_from_slice(more.as_bytes())?;
+    push_shown(lines, text)?;
+    lines.push(b'\n')?;
+    Ok(())
+}
+
+/// Gathers a number.
+pub(crate) fn push_number(lines: &mut Vec<u8>, number: u64) -> Result<(), Memory>
+    ensures { OnOk result (lines.new.items ≡ lines.old.items ++ decimal number) }
+{
+    let mut digits = itoa::Buffer::new();
+    lines.extend_from_slice(digits.format(number).as_bytes())?;
     Ok(())
 }
 

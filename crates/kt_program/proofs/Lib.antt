@@ -19,3 +19,4 @@ pub mod KeptRuns
 pub mod OrderedRuns
 pub mod KeptLives
 pub mod Seeds
+pub mod HinderedFacts

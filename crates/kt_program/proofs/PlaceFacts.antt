@@ -9,13 +9,16 @@ use Rattle.csv.specs.Reading.{default_config, strip_bom, records}
 use Rattle.kt_hints.specs.Records.{IsRecordAt}
 use Rattle.kt_hints.specs.Rows.{IsRowAt}
 use Rattle.kt_hints.specs.Shown.{hint_line}
+use Rattle.kt_hints.specs.declared.records.Record.{Record}
 use Rattle.kt_hints.specs.declared.rows.Row.{Row}
 use Rattle.kt_plan.specs.Limits.{Planned}
 use Rattle.kt_plan.specs.declared.steps.Step.{Step}
 use Rattle.kt_scenario.specs.Scenario.{IsScenario}
 use Rattle.kt_scenario.specs.Steps.{AreSteps}
+use Rattle.kt_program.specs.Expected.{record_fault_lines, row_fault_lines}
+use Rattle.kt_program.specs.Hindrances.{IsHindranceOrNone}
 use Rattle.kt_program.specs.Inputs.{AreStepsOfFile, IsPlanOfFile, IsTextOfFile}
-use Rattle.kt_program.specs.Places.{IsLineAt, IsLineOrNone, IsPlaceShown, IsRecordIn, IsRecordOrNone, IsRecordRead, IsRowIn, IsRowOrNone, IsRowRead, IsStepIn, IsStepOrNone, limit_line, limit_of, line_at_fault, record_of, row_of, hinted_step, step_of}
+use Rattle.kt_program.specs.Places.{IsLineAt, IsLineOrNone, IsPlaceShown, IsRecordIn, IsRecordOrNone, IsRecordRead, IsRowIn, IsRowOrNone, IsRowRead, IsStepIn, IsStepOrNone, line_at_fault, record_of, row_line, row_of, hinted_step, step_of}
 use Rattle.kt_program.specs.Stored.{BytesTold}
 use Rattle.kt_program.specs.declared.fault.ProgramFault.{ProgramFault}
 
@@ -57,36 +60,41 @@ row_read told file r o n before (Some row) same is less found = (file, row_in (t
 pub no_row : {F : Type 0} (told : F → BytesTold) (fault : ProgramFault) (old : List ℕ) → (text : List ℕ) × (old ≡ old ++ text) × IsRowOrNone told fault text
 no_row told fault old = ([], sym (append-nil old), inl refl)
 
-pub one_row : {F : Type 0} (told : F → BytesTold) (fault : ProgramFault) (old middle new slice : List ℕ) (row : Row) → IsRowRead told (row_of fault) row → slice ≡ row.text.items
-    → middle ≡ old ++ hint_line (codes "record: ") slice → new ≡ middle ++ limit_line (limit_of fault row.beyond) → (text : List ℕ) × (new ≡ old ++ text) × IsRowOrNone told fault text
-one_row told fault old middle new slice row read same first more =
-    let shown = hint_line (codes "record: ") row.text.items in
-    let limit = limit_line (limit_of fault row.beyond) in (
-      shown ++ limit,
-      more ∙ ap (λ (x : List ℕ). x ++ limit) (first ∙ ap (λ (x : List ℕ). old ++ hint_line (codes "record: ") x) same) ∙ append_assoc old shown limit,
+pub one_row : {F : Type 0} (told : F → BytesTold) (fault : ProgramFault) (old middle new : List ℕ) (row : Row) → IsRowRead told (row_of fault) row
+    → middle ≡ old ++ row_line row → new ≡ middle ++ row_fault_lines fault row → (text : List ℕ) × (new ≡ old ++ text) × IsRowOrNone told fault text
+one_row told fault old middle new row read first more =
+    let shown = row_line row in
+    let expected = row_fault_lines fault row in (
+      shown ++ expected,
+      more ∙ ap (λ (x : List ℕ). x ++ expected) first ∙ append_assoc old shown expected,
       inr (record { row = row; read = read; is = refl }),
     )
 
 -- a record that was read
-record_in : (told : BytesTold) (o : Option ℕ) (n before : ℕ) (joined : List ℕ) → o ≡ Some n → before ≡ n - 1
-    → IfSome told (λ bytes. IsRecordAt (records default_config (strip_bom bytes)) before joined) → IfSome told (IsRecordIn o joined)
-record_in None o n before joined is less found = tt
-record_in (Some bytes) o n before joined is less found =
-    subst (λ (x : Option ℕ). IsRecordIn x joined bytes) (sym is) (subst (λ (k : ℕ). IsRecordAt (records default_config (strip_bom bytes)) k joined) less found)
+record_in : (told : BytesTold) (o : Option ℕ) (n before : ℕ) (one : Record) → o ≡ Some n → before ≡ n - 1
+    → IfSome told (λ bytes. IsRecordAt (records default_config (strip_bom bytes)) before one) → IfSome told (IsRecordIn o one)
+record_in None o n before one is less found = tt
+record_in (Some bytes) o n before one is less found =
+    subst (λ (x : Option ℕ). IsRecordIn x one bytes) (sym is) (subst (λ (k : ℕ). IsRecordAt (records default_config (strip_bom bytes)) k one) less found)
 
-pub record_read : {A F : Type 0} (items : A → List ℕ) (told : F → BytesTold) (file : F) (r o : Option ℕ) (n before : ℕ) (found : Option A) → r ≡ o → r ≡ Some n → before ≡ n - 1
-    → IfSome found (λ text. IfSome (told file) (λ bytes. IsRecordAt (records default_config (strip_bom bytes)) before (items text))) → IfSome found (λ text. IsRecordRead told o (items text))
-record_read items told file r o n before None same is less found = tt
-record_read items told file r o n before (Some text) same is less found = (file, record_in (told file) o n before (items text) (sym same ∙ is) less found)
+pub record_read : {F : Type 0} (told : F → BytesTold) (file : F) (r o : Option ℕ) (n before : ℕ) (found : Option Record) → r ≡ o → r ≡ Some n → before ≡ n - 1
+    → IfSome found (λ one. IfSome (told file) (λ bytes. IsRecordAt (records default_config (strip_bom bytes)) before one)) → IfSome found (IsRecordRead told o)
+record_read told file r o n before None same is less found = tt
+record_read told file r o n before (Some one) same is less found = (file, record_in (told file) o n before one (sym same ∙ is) less found)
 
 -- no record was gathered, or one
 pub no_record : {F : Type 0} (told : F → BytesTold) (fault : ProgramFault) (old : List ℕ) → (text : List ℕ) × (old ≡ old ++ text) × IsRecordOrNone told fault text
 no_record told fault old = ([], sym (append-nil old), inl refl)
 
-pub one_record : {F : Type 0} (told : F → BytesTold) (fault : ProgramFault) (old new slice joined : List ℕ) → IsRecordRead told (record_of fault) joined → slice ≡ joined
-    → new ≡ old ++ hint_line (codes "record: ") slice → (text : List ℕ) × (new ≡ old ++ text) × IsRecordOrNone told fault text
-one_record told fault old new slice joined read same e =
-    (hint_line (codes "record: ") joined, e ∙ ap (λ (x : List ℕ). old ++ hint_line (codes "record: ") x) same, inr (record { joined = joined; read = read; is = refl }))
+pub one_record : {F : Type 0} (told : F → BytesTold) (fault : ProgramFault) (old middle new slice : List ℕ) (one : Record) → IsRecordRead told (record_of fault) one → slice ≡ one.text.items
+    → middle ≡ old ++ hint_line (codes "record: ") slice → new ≡ middle ++ record_fault_lines fault one → (text : List ℕ) × (new ≡ old ++ text) × IsRecordOrNone told fault text
+one_record told fault old middle new slice one read same first more =
+    let shown = hint_line (codes "record: ") one.text.items in
+    let expected = record_fault_lines fault one in (
+      shown ++ expected,
+      more ∙ ap (λ (x : List ℕ). x ++ expected) (first ∙ ap (λ (x : List ℕ). old ++ hint_line (codes "record: ") x) same) ∙ append_assoc old shown expected,
+      inr (record { one = one; read = read; is = refl }),
+    )
 
 -- a plan, and steps, that were read
 pub plan_read : {F : Type 0} (told : F → BytesTold) (text slice : List ℕ) (plan : Planned) → IsTextOfFile told text → slice ≡ text → IsScenario slice plan → IsPlanOfFile told plan
@@ -111,11 +119,12 @@ step_found list o n r one is item there =
 pub no_step : {F : Type 0} (told : F → BytesTold) (fault : ProgramFault) (old : List ℕ) → (text : List ℕ) × (old ≡ old ++ text) × IsStepOrNone told fault text
 no_step told fault old = ([], sym (append-nil old), inl refl)
 
-pub one_step : {F : Type 0} (told : F → BytesTold) (fault : ProgramFault) (old new : List ℕ) (plan : Planned) (list slice : List Step) (one : Step) (r : Option ℕ) → IsPlanOfFile told plan → AreStepsOfFile told plan.names list
-    → slice ≡ list → r ≡ step_of fault → IsStepIn r slice one → new ≡ old ++ hinted_step plan.names one → (text : List ℕ) × (new ≡ old ++ text) × IsStepOrNone told fault text
-one_step told fault old new plan list slice one r planned given same is stands e = (
-  hinted_step plan.names one,
-  e,
+pub one_step : {F : Type 0} (told : F → BytesTold) (fault : ProgramFault) (old middle new : List ℕ) (plan : Planned) (list slice other : List Step) (one : Step) (r done : Option ℕ) → IsPlanOfFile told plan → AreStepsOfFile told plan.names list
+    → slice ≡ list → r ≡ step_of fault → IsStepIn r slice one → middle ≡ old ++ hinted_step plan.names one → other ≡ list → done ≡ step_of fault
+    → ((part : List ℕ) × (new ≡ middle ++ part) × IsHindranceOrNone plan other done part) → (text : List ℕ) × (new ≡ old ++ text) × IsStepOrNone told fault text
+one_step told fault old middle new plan list slice other one r done planned given same is stands e again there more = (
+  hinted_step plan.names one ++ more.0,
+  more.1 ∙ ap (λ (x : List ℕ). x ++ more.0) e ∙ append_assoc old (hinted_step plan.names one) more.0,
   inr (record {
     plan = plan;
     planned = planned;
@@ -123,6 +132,8 @@ one_step told fault old new plan list slice one r planned given same is stands e
     given = given;
     one = one;
     stands = subst (λ (x : Option ℕ). IsStepIn x list one) is (subst (λ (x : List Step). IsStepIn r x one) same stands);
+    hindrance_part = more.0;
+    hindrance = subst (λ (x : Option ℕ). IsHindranceOrNone plan list x more.0) there (subst (λ (x : List Step). IsHindranceOrNone plan x done more.0) again more.2);
     is = refl;
   }),
 )

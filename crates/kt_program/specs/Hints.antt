@@ -11,9 +11,7 @@ use Rattle.kt_log_text.specs.declared.fault.LogFault.TheVariants as log
 use Rattle.kt_certify.specs.declared.fault.Unfit.{Unfit}
 use Rattle.kt_certify.specs.declared.fault.Unfit.TheVariants as unfit
 use Rattle.kt_explain.specs.Words.{rule_words}
-use Rattle.kt_hints.specs.Limits.{limit_words}
 use Rattle.kt_hints.specs.Shown.{hint_line}
-use Rattle.kt_hints.specs.declared.limits.Limit.TheVariants as limit
 use Rattle.kt_run.specs.declared.faults.RunFault.{RunFault}
 use Rattle.kt_run.specs.declared.faults.RunFault.TheVariants as run
 use Rattle.kt_text.specs.Writing.{WritesFront}
@@ -21,6 +19,7 @@ use Rattle.kt_program.specs.Asking.{IsUnasked}
 use Rattle.kt_program.specs.FaultTexts.{WritesLineOf}
 use Rattle.kt_program.specs.Names.{Name}
 use Rattle.kt_program.specs.Places.{IsPlaceShown}
+use Rattle.kt_program.specs.Reasons.{scenario_reason, steps_reason}
 use Rattle.kt_program.specs.Program.{NamesAsked, program as definition}
 use Rattle.kt_program.specs.Stored.{BytesTold}
 use Rattle.kt_program.specs.declared.ask.AskFault.{AskFault}
@@ -125,9 +124,10 @@ abbrev pub file_line : Name → List ℕ
 file_line None = []
 file_line (Some name) = hint_line (codes "file: ") name.now
 
--- why a log is refused, or has no certificates, in words of the program
+-- why an input is refused, or a log has no certificates, in words of the program
 abbrev pub log_reason : LogFault → Option (List ℕ)
-log_reason log.TooLong = Some (limit_words limit.Row)
+log_reason log.TooLong = Some (codes "a log has at most 16777216 rows, and without a first record kt,2,-,- at most 1048576")
+log_reason log.Version = Some (codes "a first record that begins with kt is kt,2,-,-")
 log_reason fault = None
 
 abbrev pub unfit_reason : Unfit → List ℕ
@@ -135,6 +135,8 @@ unfit_reason (unfit.BadLog row rule) = rule_words rule
 unfit_reason (unfit.NoChain inst row process) = codes "no message links the process with an earlier member of the instance"
 
 abbrev pub fault_reason : ProgramFault → Option (List ℕ)
+fault_reason (program.Scenario fault) = scenario_reason fault
+fault_reason (program.Steps fault) = steps_reason fault
 fault_reason (program.App (app.Log fault)) = log_reason fault
 fault_reason (program.App (app.Unfit why)) = Some (unfit_reason why)
 fault_reason fault = None

@@ -17,3 +17,6 @@ pub mod Stored
 pub mod FaultTexts
 pub mod Places
 pub mod Hints
+pub mod Hindrances
+pub mod Expected
+pub mod Reasons

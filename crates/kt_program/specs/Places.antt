@@ -7,11 +7,10 @@ use Rattle.kt_certify.specs.declared.fault.Unfit.TheVariants as unfit
 use Rattle.kt_chain.specs.declared.fault.CertTextFault.{CertTextFault}
 use Rattle.kt_chain.specs.declared.fault.CertTextFault.TheVariants as cert
 use Rattle.kt_core.specs.declared.faults.StepFault.TheVariants as step
-use Rattle.kt_hints.specs.Limits.{limit_words}
 use Rattle.kt_hints.specs.Records.{IsRecordAt}
 use Rattle.kt_hints.specs.Rows.{IsRowAt}
-use Rattle.kt_hints.specs.Shown.{hint_line}
-use Rattle.kt_hints.specs.declared.limits.Limit.{Limit}
+use Rattle.kt_hints.specs.Shown.{hint_line, numbered_line}
+use Rattle.kt_hints.specs.declared.records.Record.{Record}
 use Rattle.kt_hints.specs.declared.rows.Row.{Row}
 use Rattle.kt_log_text.specs.declared.fault.LogFault.{LogFault}
 use Rattle.kt_log_text.specs.declared.fault.LogFault.TheVariants as log
@@ -23,6 +22,8 @@ use Rattle.kt_scenario.specs.declared.fault.ScenarioFault.{ScenarioFault}
 use Rattle.kt_scenario.specs.declared.fault.ScenarioFault.TheVariants as scenario
 use Rattle.kt_scenario.specs.declared.fault.StepsFault.{StepsFault}
 use Rattle.kt_scenario.specs.declared.fault.StepsFault.TheVariants as steps
+use Rattle.kt_program.specs.Expected.{record_fault_lines, row_fault_lines}
+use Rattle.kt_program.specs.Hindrances.{IsHindranceOrNone}
 use Rattle.kt_program.specs.Inputs.{AreStepsOfFile, IsPlanOfFile, IsTextOfFile}
 use Rattle.kt_program.specs.Stored.{BytesTold}
 use Rattle.kt_program.specs.declared.fault.AppFault.TheVariants as app
@@ -106,25 +107,19 @@ abbrev pub IsRowIn : Option ℕ → Row → List ℕ → Type 0
 IsRowIn None row text = ⊥
 IsRowIn (Some number) row text = IsRowAt (records default_config (strip_bom text)) (number - 1) row
 
--- what a number of a row goes beyond, where the fault is that of a number
-abbrev pub limit_of : ProgramFault → Option Limit → Option Limit
-limit_of (program.App (app.Log (log.Number number))) beyond = beyond
-limit_of fault beyond = None
-
--- its line
-abbrev pub limit_line : Option Limit → List ℕ
-limit_line None = []
-limit_line (Some limit) = hint_line (limit_words limit) []
+-- a row, with the number of its record in the file
+abbrev pub row_line : Row → List ℕ
+row_line row = numbered_line (codes "record ") row.record_number (codes " of the file: ") row.text.items
 
 -- the row of this number that some file tells
 abbrev pub IsRowRead : {F : Type 0} → (F → BytesTold) → Option ℕ → Row → Type 0
 IsRowRead {F} told number row = (file : F) × IfSome (told file) (IsRowIn number row)
 
--- it is shown, and what a number of it goes beyond
+-- it is shown, and what was expected of it
 pub record IsRowShown {F : Type 0} (told : F → BytesTold) (fault : ProgramFault) (text : List ℕ) : Type 0 where
   pub row : Row
   pub read : IsRowRead told (row_of fault) row
-  pub is : text ≡ hint_line (codes "record: ") row.text.items ++ limit_line (limit_of fault row.beyond)
+  pub is : text ≡ row_line row ++ row_fault_lines fault row
 
 -- the number of the record that a fault of the certificates' text names
 abbrev pub certificate_record : CertTextFault → Option ℕ
@@ -141,20 +136,20 @@ abbrev pub record_of : ProgramFault → Option ℕ
 record_of (program.App (app.Cert fault)) = certificate_record fault
 record_of fault = None
 
--- the record of a text by its number, its fields joined by commas
-abbrev pub IsRecordIn : Option ℕ → List ℕ → List ℕ → Type 0
-IsRecordIn None joined text = ⊥
-IsRecordIn (Some number) joined text = IsRecordAt (records default_config (strip_bom text)) (number - 1) joined
+-- the record of a text by its number
+abbrev pub IsRecordIn : Option ℕ → Record → List ℕ → Type 0
+IsRecordIn None one text = ⊥
+IsRecordIn (Some number) one text = IsRecordAt (records default_config (strip_bom text)) (number - 1) one
 
 -- the record of this number that some file tells
-abbrev pub IsRecordRead : {F : Type 0} → (F → BytesTold) → Option ℕ → List ℕ → Type 0
-IsRecordRead {F} told number joined = (file : F) × IfSome (told file) (IsRecordIn number joined)
+abbrev pub IsRecordRead : {F : Type 0} → (F → BytesTold) → Option ℕ → Record → Type 0
+IsRecordRead {F} told number one = (file : F) × IfSome (told file) (IsRecordIn number one)
 
--- it is shown
+-- it is shown, and what was expected of it
 pub record IsRecordShown {F : Type 0} (told : F → BytesTold) (fault : ProgramFault) (text : List ℕ) : Type 0 where
-  pub joined : List ℕ
-  pub read : IsRecordRead told (record_of fault) joined
-  pub is : text ≡ hint_line (codes "record: ") joined
+  pub one : Record
+  pub read : IsRecordRead told (record_of fault) one
+  pub is : text ≡ hint_line (codes "record: ") one.text.items ++ record_fault_lines fault one
 
 -- how many steps come before the one that a fault names
 abbrev pub step_of : ProgramFault → Option ℕ
@@ -170,7 +165,7 @@ IsStepIn (Some done) list one = slice_get list done ≡ Some one
 abbrev pub hinted_step : List (List ℕ) → Step → List ℕ
 hinted_step names one = hint_line (codes "step: ") (step_words names one)
 
--- the step after so many others is shown, of a plan and of steps that some files tell
+-- the step after so many others is shown, and what stands in its way, of a plan and of steps that some files tell
 pub record IsStepShown {F : Type 0} (told : F → BytesTold) (fault : ProgramFault) (text : List ℕ) : Type 0 where
   pub plan : Planned
   pub planned : IsPlanOfFile told plan
@@ -178,7 +173,9 @@ pub record IsStepShown {F : Type 0} (told : F → BytesTold) (fault : ProgramFau
   pub given : AreStepsOfFile told plan.names list
   pub one : Step
   pub stands : IsStepIn (step_of fault) list one
-  pub is : text ≡ hinted_step plan.names one
+  pub hindrance_part : List ℕ
+  pub hindrance : IsHindranceOrNone plan list (step_of fault) hindrance_part
+  pub is : text ≡ hinted_step plan.names one ++ hindrance_part
 
 -- such a row, record or step, or none where its file can't be read again
 abbrev pub IsRowOrNone : {F : Type 0} → (F → BytesTold) → ProgramFault → List ℕ → Type 0

@@ -2,17 +2,18 @@
 
 ghost use Rattle.std.specs.Prelude.{◌≡◌, ◌++◌, ℕ, List, OnOk, IfSome};
 ghost use Rattle.kt_program.specs.Inputs.{AreStepsOfFile, IsPlanOfFile, IsTextOfFile};
-ghost use Rattle.kt_program.specs.Places.{IsLineAt, IsLineOrNone, IsPlaceShown, IsRecordOrNone, IsRecordRead, IsRowOrNone, IsRowRead, IsStepIn, IsStepOrNone, limit_line, limit_of, line_at_fault, record_of, row_of, hinted_step};
+ghost use Rattle.kt_program.specs.Places.{IsLineAt, IsLineOrNone, IsPlaceShown, IsRecordOrNone, IsRecordRead, IsRowOrNone, IsRowRead, IsStepIn, IsStepOrNone, line_at_fault, record_of, row_line, row_of, hinted_step};
 
-use crate::fault::{AppFault, ProgramFault};
+use crate::expected::{push_record_fault, push_row_fault};
+use crate::fault::ProgramFault;
+use crate::hindered::push_hindrance;
 use crate::inputs::{regular_file, text_of_file};
 use crate::line::Asked;
 use crate::subject::{
     file_of, line_at_fault, record_of, row_of, scenario_of, step_of, steps_file_of,
 };
 use kt_base::Memory;
-use kt_hints::{Limit, Row, line_at, push_hint, record_at, row_at};
-use kt_log_text::LogFault;
+use kt_hints::{Record, Row, line_at, push_hint, push_numbered, record_at, row_at};
 use kt_plan::{Plan, Step};
 use kt_scenario::{parse, parse_steps, push_step_words};
 use std::alloc::Global;
@@ -82,7 +83,7 @@ fn numbered_line(text: &[u8], number: Option<usize>) -> Option<&[u8]>
     line_at(text, number.saturating_sub(1))
 }
 
-// Gathers the row of a log that a fault names, and what a number of it goes beyond.
+// Gathers the row of a log that a fault names, and what was expected of it.
 #[tactic(auto, using(crate::proofs::PlaceFacts::no_row, crate::proofs::PlaceFacts::one_row))]
 fn push_row<F: Files>(
     files: &F,
@@ -97,9 +98,22 @@ fn push_row<F: Files>(
     let Some(row) = row_of_fault(files, alloc, asked, fault) else {
         return Ok(());
     };
-    push_hint(lines, "record: ", row.text.as_slice())?;
-    push_limit(lines, fault, row.beyond)?;
+    push_row_text(lines, &row)?;
+    push_row_fault(lines, fault, &row)?;
     Ok(())
+}
+
+// Gathers a row, with the number of its record in the file.
+fn push_row_text(lines: &mut Vec<u8>, row: &Row) -> Result<(), Memory>
+    ensures { OnOk result (lines.new.items ≡ lines.old.items ++ row_line row.now) }
+{
+    push_numbered(
+        lines,
+        "record ",
+        row.record_number,
+        " of the file: ",
+        row.text.as_slice(),
+    )
 }
 
 // The row of a log that a fault names, where that can be read again.
@@ -121,30 +135,7 @@ fn row_of_fault<F: Files>(
     }
 }
 
-// Gathers what a number of a row goes beyond, where the fault is that of a number.
-fn push_limit(
-    lines: &mut Vec<u8>,
-    fault: &ProgramFault,
-    beyond: Option<Limit>,
-) -> Result<(), Memory>
-    ensures { OnOk result (lines.new.items ≡ lines.old.items ++ limit_line (limit_of fault.now beyond)) }
-{
-    match limit_of(fault, beyond) {
-        Some(limit) => push_hint(lines, limit.words(), b""),
-        None => Ok(()),
-    }
-}
-
-fn limit_of(fault: &ProgramFault, beyond: Option<Limit>) -> Option<Limit>
-    ensures { result ≡ limit_of fault.now beyond }
-{
-    match fault {
-        ProgramFault::App(AppFault::Log(LogFault::Number(_))) => beyond,
-        _ => None,
-    }
-}
-
-// Gathers the record of certificates that a fault names.
+// Gathers the record of certificates that a fault names, and what was expected of it.
 #[tactic(auto, using(crate::proofs::PlaceFacts::no_record, crate::proofs::PlaceFacts::one_record))]
 fn push_record<F: Files>(
     files: &F,
@@ -156,10 +147,11 @@ fn push_record<F: Files>(
     ensures { OnOk result ((text : List ℕ) × (lines.new.items ≡ lines.old.items ++ text)
         × IsRecordOrNone F.File.remaining fault.now text) }
 {
-    let Some(joined) = record_of_fault(files, alloc, asked, fault) else {
+    let Some(one) = record_of_fault(files, alloc, asked, fault) else {
         return Ok(());
     };
-    push_hint(lines, "record: ", joined.as_slice())?;
+    push_hint(lines, "record: ", one.text.as_slice())?;
+    push_record_fault(lines, fault, &one)?;
     Ok(())
 }
 
@@ -170,8 +162,8 @@ fn record_of_fault<F: Files>(
     alloc: Global,
     asked: &Asked<'_>,
     fault: &ProgramFault,
-) -> Option<Vec<u8>>
-    ensures { IfSome result (λ joined. IsRecordRead F.File.remaining (record_of fault.now) joined.items) }
+) -> Option<Record>
+    ensures { IfSome result (IsRecordRead F.File.remaining (record_of fault.now)) }
 {
     let number = record_of(fault)?;
     let name = file_of(asked, fault)?;
@@ -182,7 +174,7 @@ fn record_of_fault<F: Files>(
     }
 }
 
-// Gathers the step that a fault names.
+// Gathers the step that a fault names, and what stands in its way.
 #[tactic(auto, using(crate::proofs::PlaceFacts::no_step, crate::proofs::PlaceFacts::one_step))]
 fn push_step<F: Files>(
     files: &F,
@@ -206,7 +198,9 @@ fn push_step<F: Files>(
     let Some(step) = step_at(steps.as_slice(), step_of(fault)) else {
         return Ok(());
     };
-    push_one_step(alloc, lines, &plan, &step)
+    push_one_step(alloc, lines, &plan, &step)?;
+    push_hindrance(alloc, lines, &plan, steps.as_slice(), step_of(fault))?;
+    Ok(())
 }
 
 // The step after so many others.

@@ -1,26 +1,109 @@
-//! Why a log is refused, or has no certificates, in words.
+//! Why an input is refused, or a log has no certificates, in words.
 
 ghost use Rattle.std.specs.Prelude.{◌≡◌, ◌++◌, OnOk};
-ghost use Rattle.kt_program.specs.Hints.{reason_line, fault_reason, unfit_reason};
+ghost use Rattle.kt_program.specs.Hints.{reason_line, fault_reason, log_reason, unfit_reason};
+ghost use Rattle.kt_program.specs.Reasons.{scenario_reason, steps_reason};
 
 use crate::fault::{AppFault, ProgramFault};
 use kt_base::Memory;
 use kt_certify::Unfit;
 use kt_explain::rule_name;
-use kt_hints::{Limit, push_hint};
+use kt_hints::push_hint;
 use kt_log_text::LogFault;
+use kt_scenario::{ScenarioFault, StepsFault};
 
-/// Gathers why a log is refused, or has no certificates, in words of the program.
+/// Gathers why an input is refused, or a log has no certificates, in words of the program.
 pub(crate) fn push_reason(lines: &mut Vec<u8>, fault: &ProgramFault) -> Result<(), Memory>
     ensures { OnOk result (lines.new.items ≡ lines.old.items ++ reason_line (fault_reason fault.now)) }
 {
     match fault {
-        ProgramFault::App(AppFault::Log(LogFault::TooLong)) => push_hint(
+        ProgramFault::Scenario(fault) => push_scenario_reason(lines, fault),
+        ProgramFault::Steps(fault) => push_steps_reason(lines, fault),
+        ProgramFault::App(AppFault::Log(fault)) => push_log_reason(lines, fault),
+        ProgramFault::App(AppFault::Unfit(why)) => push_hint(lines, unfit_reason(why), b""),
+        _ => Ok(()),
+    }
+}
+
+// Gathers why a log is refused.
+fn push_log_reason(lines: &mut Vec<u8>, fault: &LogFault) -> Result<(), Memory>
+    ensures { OnOk result (lines.new.items ≡ lines.old.items ++ reason_line (log_reason fault.now)) }
+{
+    match fault {
+        LogFault::TooLong => push_hint(
             lines,
-            Limit::Row.words(),
+            "a log has at most 16777216 rows, and without a first record kt,2,-,- at most 1048576",
             b"",
         ),
-        ProgramFault::App(AppFault::Unfit(why)) => push_hint(lines, unfit_reason(why), b""),
+        LogFault::Version => push_hint(
+            lines,
+            "a first record that begins with kt is kt,2,-,-",
+            b"",
+        ),
+        _ => Ok(()),
+    }
+}
+
+// Gathers what was expected of the line of a scenario that is refused.
+fn push_scenario_reason(lines: &mut Vec<u8>, fault: &ScenarioFault) -> Result<(), Memory>
+    ensures { OnOk result (lines.new.items ≡ lines.old.items ++ reason_line (scenario_reason fault.now)) }
+{
+    match fault {
+        ScenarioFault::Command(_) => push_hint(
+            lines,
+            "a line begins with object, send, checkpoint, rollback, fail or settle",
+            b"",
+        ),
+        ScenarioFault::Words(_) => push_hint(
+            lines,
+            "expected: object NAME KIND, send A B BODY, checkpoint A, rollback A, fail A or settle",
+            b"",
+        ),
+        ScenarioFault::Name(_) => push_hint(
+            lines,
+            "a name has 1 to 16 of a to z, 0 to 9 and _, and begins with a letter",
+            b"",
+        ),
+        ScenarioFault::KindWord(_) => push_hint(lines, "a kind is sum, last or tail", b""),
+        ScenarioFault::Unknown(_) => push_hint(
+            lines,
+            "a name has an object line above the line that uses it",
+            b"",
+        ),
+        ScenarioFault::Number(_) => push_hint(
+            lines,
+            "a body is . or a whole number of 64 bits, without a leading zero",
+            b"",
+        ),
+        ScenarioFault::TooManyObjects(_) => push_hint(
+            lines,
+            "a scenario has at most 64 objects",
+            b"",
+        ),
+        ScenarioFault::TooManyCommands(_) => push_hint(
+            lines,
+            "a scenario has at most 4096 commands",
+            b"",
+        ),
+        _ => Ok(()),
+    }
+}
+
+// Gathers what was expected of the line of a text of steps that is refused.
+fn push_steps_reason(lines: &mut Vec<u8>, fault: &StepsFault) -> Result<(), Memory>
+    ensures { OnOk result (lines.new.items ≡ lines.old.items ++ reason_line (steps_reason fault.now)) }
+{
+    match fault {
+        StepsFault::Command(_) | StepsFault::Words(_) => push_hint(
+            lines,
+            "expected: do A or take AT FROM",
+            b"",
+        ),
+        StepsFault::Unknown(_) => push_hint(
+            lines,
+            "no object line of the scenario has this name",
+            b"",
+        ),
         _ => Ok(()),
     }
 }

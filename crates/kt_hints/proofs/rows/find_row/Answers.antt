@@ -11,5 +11,5 @@ returns-then-branch g c =
     let there : c.in_ok-advance.field-0 ≡ true = search rules in
     let same : c.from.result ≡ c.args.before = search rules in
     let read = c.in_ok-next_record.ensures.found found in
-    subst (λ (n : ℕ). IsRowAfter (left_in g.R.Read.remaining c.args.records.now) n c.last_message.result (fields_of c.advance.new.current)) same
-    (row_found _ _ _ _ _ _ _ _ read.1 c.names_format-named.ensures c.headers.ensures c.last_message.ensures (c.in_ok-advance.ensures there))
+    subst (λ (n : ℕ). IsRowAfter (left_in g.R.Read.remaining c.args.records.now) n c.names_format-named.result (fields_of c.advance.new.current)) same
+    (row_found _ _ _ _ _ _ _ read.1 c.names_format-named.ensures c.headers.ensures (c.in_ok-advance.ensures there))
