@@ -15,8 +15,8 @@ beyond_line name number last = numbered_line name number (codes " is over the li
 
 -- the line of a number that goes beyond the last one
 abbrev pub limit_line : Limit → List ℕ
-limit_line (limit.Message number last) = beyond_line (codes "message ") number last
-limit_line (limit.Instance number) = beyond_line (codes "instance ") number last_instance
+limit_line (limit.Message number last) = beyond_line (codes "the log has more than its format holds: message ") number last
+limit_line (limit.Instance number) = beyond_line (codes "the log has more than its format holds: instance ") number last_instance
 
 -- a text is this number, which is greater than that one
 abbrev pub Names : ℕ → List ℕ → ℕ → Type 0

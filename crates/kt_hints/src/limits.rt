@@ -27,8 +27,18 @@ pub fn push_limit(lines: &mut Vec<u8>, limit: &Limit) -> Result<(), Memory>
     ensures { OnOk result (lines.new.items ≡ lines.old.items ++ limit_line limit.now) }
 {
     match *limit {
-        Limit::Message { number, last } => push_beyond(lines, "message ", number, last),
-        Limit::Instance(number) => push_beyond(lines, "instance ", number, LAST_INSTANCE),
+        Limit::Message { number, last } => push_beyond(
+            lines,
+            "the log has more than its format holds: message ",
+            number,
+            last,
+        ),
+        Limit::Instance(number) => push_beyond(
+            lines,
+            "the log has more than its format holds: instance ",
+            number,
+            LAST_INSTANCE,
+        ),
     }
 }
 
