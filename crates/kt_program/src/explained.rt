@@ -1,6 +1,6 @@
 //! Stored runs judged, and the answers told of.
 
-ghost use Rattle.std.specs.Prelude.{◌≡◌, ◌≢◌, IfOk, IfErr, IfSome, OnOk};
+ghost use Rattle.std.specs.Prelude.{◌≡◌, ◌≢◌, ℕ, Option, IfOk, IfErr, IfSome, OnOk};
 ghost use Rattle.std.specs.Io.KnownBytes.{Appends};
 ghost use Rattle.kt_log_text.specs.declared.fault.LogFault.{LogFault as LogFaults};
 ghost use Rattle.kt_log_text.specs.Texts as rows;
@@ -15,7 +15,7 @@ use crate::checked::{is_yes, log_fault, read_certificates};
 use crate::fault::AppFault;
 use kt_chain::{CertTextFault, Certificate};
 use kt_checker::{Verdict, check};
-use kt_explain::{Explanation, explain};
+use kt_explain::{Explanation, RecordTold, explain, record_told};
 use kt_log_text::{LogFault, read_csv};
 use kt_spacetime::SpaceTime;
 use std::alloc::Global;
@@ -35,6 +35,7 @@ pub(crate) struct StoredRun {
 struct Answer {
     verdict: Verdict,
     explanation: Explanation,
+    place: RecordTold,
 }
 
 /// Judges a stored log with its certificates as `check_bytes` does, and writes below the line of the answer what is told
@@ -47,9 +48,10 @@ pub fn explain_bytes<L: Read + Drop, C: Read + Drop, W: Write>(
 ) -> Result<bool, AppFault>
     // The line is that of the checker's answer to the rows and the certificates that the bytes say, and what is told of
     // it is so.
-    ensures answer { IfOk result (λ passed. (verdict : Verdicts) × (e : Explanations) × (passed ≡ is_yes verdict)
-        × IsExplainedOf (L.remaining log_reader) (C.remaining cert_reader) verdict e
-        × Appends (W.contents writer.old) (W.contents writer.new) (explained_text verdict e)) }
+    ensures answer { IfOk result (λ passed. (verdict : Verdicts) × (e : Explanations) × (number : Option ℕ)
+        × (passed ≡ is_yes verdict)
+        × IsExplainedOf (L.remaining log_reader) (C.remaining cert_reader) verdict e number
+        × Appends (W.contents writer.old) (W.contents writer.new) (explained_text verdict e number)) }
     // A fault but one of the writer is the first of the log, else that of the certificates.
     ensures fault { IfErr result (λ e. e ≢ app.Write
         → IsRefusal (L.remaining log_reader) (C.remaining cert_reader) e) }
@@ -102,7 +104,7 @@ fn answer_of(
     certificates: &[Certificate],
 ) -> Result<Answer, AppFault>
     ensures explained { IfOk result (λ answer. IsExplained log.now.rows certificates.now answer.verdict
-        answer.explanation) }
+        answer.explanation answer.place.number) }
     ensures fault { IfErr result (λ e. e ≡ app.Memory) }
 {
     let verdict = check(alloc, log, certificates)?;
@@ -110,20 +112,22 @@ fn answer_of(
     Ok(Answer {
         verdict,
         explanation,
+        place: record_told(certificates, &explanation),
     })
 }
 
 // Writes the line of an answer, and the lines of what is told of it.
 fn write_answer<W: Write>(writer: &mut W, answer: &Answer) -> Result<(), AppFault>
     ensures written { OnOk result (Appends (W.contents writer.old) (W.contents writer.new)
-        (explained_text answer.now.verdict answer.now.explanation)) }
+        (explained_text answer.now.verdict answer.now.explanation answer.now.place.number)) }
     ensures fault { IfErr result (λ e. e ≡ app.Write) }
 {
     let Answer {
         verdict,
         explanation,
+        place,
     } = answer;
-    if write!(writer, "{verdict}\n{explanation}").is_err() {
+    if write!(writer, "{verdict}\n{explanation}{place}").is_err() {
         return Err(AppFault::Write);
     }
     match writer.flush() {
