@@ -64,7 +64,7 @@ instance_breach_words (instance.JustBegun p inst) =
     codes "process " ++ (decimal p ++ (codes " began instance " ++ (decimal inst
     ++ (codes " in the row before, and is to join it in this one" ++ 10 ∷ []))))
 instance_breach_words (instance.OwnCause inst) =
-    codes "instance " ++ (decimal inst ++ (codes " can't be the cause for which a process is unwilling to join instance " ++ (decimal inst ++ 10 ∷ [])))
+    codes "who is busy with instance " ++ (decimal inst ++ (codes " has joined it, and is not unwilling to join it" ++ 10 ∷ []))
 
 -- what breaks a rule
 abbrev pub breach_words : Breach → List ℕ

@@ -3,20 +3,27 @@ use Rattle.std.specs.Prelude.{◌≡◌, ◌≤◌, ◌<◌, ◌+◌, ℕ, Optio
 use Rattle.std.specs.Fmt.{decimal}
 use Rattle.kt_chain.specs.Spelling.{records_of}
 use Rattle.kt_chain.specs.declared.certificate.Certificate.{Certificate}
+use Rattle.kt_explain.specs.declared.difference.Difference.{Difference}
+use Rattle.kt_explain.specs.declared.difference.Difference.TheVariants.{Second}
 use Rattle.kt_explain.specs.declared.explanation.Explanation.{Explanation}
 use Rattle.kt_explain.specs.declared.explanation.Explanation.TheVariants.{Nothing, Unknown, Objection, NoObjection, OtherMember, BadChain, Uncertified, Orphan, BadLog, LeftOpen}
 
--- the instance of the certificate that an answer is about
+-- the instance whose first certificate differs from the log, where it is that one that is wrong
+abbrev pub inst_of_first : ℕ → Difference → Option ℕ
+inst_of_first k Second = None
+inst_of_first k difference = Some k
+
+-- the instance of the certificate that an answer is about; none where the certificate can't be right, or is another one
 abbrev pub certified_inst : Explanation → Option ℕ
 certified_inst Nothing = None
 certified_inst (LeftOpen l) = None
-certified_inst (Unknown k difference) = Some k
-certified_inst (Objection k p row) = Some k
-certified_inst (NoObjection k) = Some k
+certified_inst (Unknown k difference) = inst_of_first k difference
+certified_inst (Objection k p row) = None
+certified_inst (NoObjection k) = None
 certified_inst (OtherMember k place listed joined) = Some k
 certified_inst (BadChain k chain) = Some k
 certified_inst (Uncertified k row) = None
-certified_inst (Orphan k orphan) = Some k
+certified_inst (Orphan k orphan) = None
 certified_inst (BadLog b) = None
 
 -- the place, from 1, of the listed member that an answer is about; 0 where it is about none

@@ -38,6 +38,7 @@ HasTwo certificates k = (i : ℕ) × (c : Certificate) × (slice_get certificate
 
 -- what a log has otherwise than a certificate
 abbrev pub IsDifference : List Event → List Certificate → Certificate → Difference → Type 0
+IsDifference rows certificates c difference.Unbegun = HasNoRow (begins_inst c.inst) rows
 IsDifference rows certificates c difference.Undecided = HasNoRow (decides_inst c.inst) rows
 IsDifference rows certificates c (difference.Kind kind row) =
     (p : ℕ) × IsFirstRow (begins_inst c.inst) rows row (event.Began p c.inst kind) × (kind ≢ c.kind)

@@ -1,5 +1,5 @@
 -- The sentences that are written of an answer.
-use Rattle.std.specs.Prelude.{ℕ, Option, Some, None, List, [], ◌∷◌, ◌++◌, codes}
+use Rattle.std.specs.Prelude.{ℕ, ◌==◌, if◌then◌else◌, Option, Some, None, List, [], ◌∷◌, ◌++◌, codes}
 use Rattle.std.specs.Fmt.{decimal}
 use Rattle.kt_text.specs.Words.{kind_word, decision_word}
 use Rattle.kt_text.specs.Writing.{joined}
@@ -17,7 +17,7 @@ use Rattle.kt_explain.specs.declared.bad_chain.Flaw.{Flaw}
 use Rattle.kt_explain.specs.declared.bad_chain.Flaw.TheVariants as flaw
 use Rattle.kt_explain.specs.declared.bad_chain.BadChain.{BadChain as OneBadChain}
 use Rattle.kt_explain.specs.declared.difference.Difference.{Difference}
-use Rattle.kt_explain.specs.declared.difference.Difference.TheVariants.{Undecided, Kind, Initiator, Decision, Members, Second}
+use Rattle.kt_explain.specs.declared.difference.Difference.TheVariants.{Unbegun, Undecided, Kind, Initiator, Decision, Members, Second}
 use Rattle.kt_explain.specs.declared.explanation.Explanation.{Explanation}
 use Rattle.kt_explain.specs.declared.explanation.Explanation.TheVariants.{Nothing, Unknown, Objection, NoObjection, OtherMember, BadChain, Uncertified, Orphan, BadLog, LeftOpen}
 use Rattle.kt_explain.specs.declared.orphan.Orphan.{Orphan as OneOrphan}
@@ -25,12 +25,13 @@ use Rattle.kt_explain.specs.LeftOpenWords.{left_open_words}
 
 -- what the log has otherwise than a certificate of an instance
 abbrev pub difference_words : Difference → List ℕ
+difference_words Unbegun = codes "no row begins it"
 difference_words Undecided = codes "no row decides it"
 difference_words (Kind kind row) = codes "row " ++ (decimal row ++ (codes " begins it as a " ++ (kind_word kind ++ codes ", and the certificate says otherwise")))
 difference_words (Initiator p row) = codes "process " ++ (decimal p ++ (codes " begins it in row " ++ (decimal row ++ codes ", and the certificate names another one")))
 difference_words (Decision commit row) = codes "row " ++ (decimal row ++ (codes " decides it, " ++ (decision_word commit ++ codes ", and the certificate says otherwise")))
 difference_words Members = codes "it is aborted, and its certificate lists members"
-difference_words Second = codes "it has an earlier certificate"
+difference_words Second = codes "it has a second certificate, after the first one"
 
 -- a place of a list
 abbrev pub place_words : ℕ → ℕ → List ℕ
@@ -68,30 +69,45 @@ orphan_words o =
 abbrev pub parties_words : ℕ → ℕ → List ℕ
 parties_words from to = codes "was sent by process " ++ (decimal from ++ (codes " to process " ++ decimal to))
 
--- the demand that a message of a chain does not meet
-abbrev pub demand_words : Demand → List ℕ
-demand_words demand.Message = codes "was never sent" ++ 10 ∷ []
-demand_words (demand.GoneElsewhere from to p) = parties_words from to ++ (codes ", and is to be one that process " ++ (decimal p ++ (codes " received" ++ 10 ∷ [])))
-demand_words (demand.SentElsewhere from to p) = parties_words from to ++ (codes ", and is to be one that process " ++ (decimal p ++ (codes " sent" ++ 10 ∷ [])))
-demand_words (demand.Received p) = codes "was not received by process " ++ (decimal p ++ (codes ", or that was undone" ++ 10 ∷ []))
-demand_words (demand.Sent p) = codes "was not sent by process " ++ (decimal p ++ (codes ", or that was undone" ++ 10 ∷ []))
-demand_words (demand.Past p) = codes "was sent by process " ++ (decimal p ++ (codes " before its last permanent checkpoint" ++ 10 ∷ []))
-demand_words (demand.Within p) = codes "was received by process " ++ (decimal p ++ (codes ", and not before it took a checkpoint of the instance" ++ 10 ∷ []))
+-- a message that comes after the chain has come to its member
+abbrev pub arrived_words : ℕ → List ℕ
+arrived_words p = codes "is one too many: the chain has come to process " ++ (decimal p ++ (codes " before it" ++ 10 ∷ []))
+
+-- a message between these, of the chain of a member, that another one is to have received, or sent
+abbrev pub gone_words : ℕ → ℕ → ℕ → ℕ → List ℕ
+gone_words member from to p =
+    if member == p then arrived_words p
+    else parties_words from to ++ (codes ", and is to be one that process " ++ (decimal p ++ (codes " received" ++ 10 ∷ [])))
+
+abbrev pub elsewhere_words : ℕ → ℕ → ℕ → ℕ → List ℕ
+elsewhere_words member from to p =
+    if member == p then arrived_words p
+    else parties_words from to ++ (codes ", and is to be one that process " ++ (decimal p ++ (codes " sent" ++ 10 ∷ [])))
+
+-- the demand that a message of the chain of a member does not meet
+abbrev pub demand_words : ℕ → Demand → List ℕ
+demand_words member demand.Message = codes "was never sent: a message has the number of the row that sends it" ++ 10 ∷ []
+demand_words member (demand.GoneElsewhere from to p) = gone_words member from to p
+demand_words member (demand.SentElsewhere from to p) = elsewhere_words member from to p
+demand_words member (demand.Received p) = codes "was not received by process " ++ (decimal p ++ (codes ", or that was undone: it links nobody" ++ 10 ∷ []))
+demand_words member (demand.Sent p) = codes "was not sent by process " ++ (decimal p ++ (codes ", or that was undone: it links nobody" ++ 10 ∷ []))
+demand_words member (demand.Past p) = codes "was sent by process " ++ (decimal p ++ (codes " before its last permanent checkpoint" ++ 10 ∷ []))
+demand_words member (demand.Within p) = codes "was received by process " ++ (decimal p ++ (codes ", and not before it took a checkpoint of the instance" ++ 10 ∷ []))
 
 -- the place of a chain of which the message leads nowhere
-abbrev pub break_words : Break → List ℕ
-break_words b = (codes "and message " ++ (decimal b.msg ++ (codes ", in place " ++ (decimal b.place ++ codes " of its chain, ")))) ++ demand_words b.demand
+abbrev pub break_words : ℕ → Break → List ℕ
+break_words member b = (codes "and message " ++ (decimal b.msg ++ (codes ", in place " ++ (decimal b.place ++ codes " of its chain, ")))) ++ demand_words member b.demand
 
 -- what is wrong with the list of a member
-abbrev pub flaw_words : Flaw → List ℕ
-flaw_words flaw.Initiator = codes "the initiator, and has a chain" ++ 10 ∷ []
-flaw_words flaw.Empty = codes "and has no chain: each member but the initiator has one" ++ 10 ∷ []
-flaw_words (flaw.Elsewhere p) = codes "and its chain leads to process " ++ (decimal p ++ 10 ∷ [])
-flaw_words (flaw.Broken b) = break_words b
+abbrev pub flaw_words : ℕ → Flaw → List ℕ
+flaw_words member flaw.Initiator = codes "the initiator, and has a chain" ++ 10 ∷ []
+flaw_words member flaw.Empty = codes "and has no chain: each member but the initiator has one" ++ 10 ∷ []
+flaw_words member (flaw.Elsewhere p) = codes "and its chain leads to process " ++ (decimal p ++ (codes ", and not to process " ++ (decimal member ++ 10 ∷ [])))
+flaw_words member (flaw.Broken b) = break_words member b
 
 -- a member whose list is no chain
 abbrev pub bad_chain_words : OneBadChain → List ℕ
-bad_chain_words b = (codes "member " ++ (decimal b.place ++ (codes " is process " ++ (decimal b.p ++ codes ", ")))) ++ flaw_words b.flaw
+bad_chain_words b = (codes "member " ++ (decimal b.place ++ (codes " is process " ++ (decimal b.p ++ codes ", ")))) ++ flaw_words b.p b.flaw
 
 -- a rule by number and name, and what it asks
 abbrev pub rule_words : Rule → List ℕ

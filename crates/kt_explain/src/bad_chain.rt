@@ -2,7 +2,7 @@
 
 ghost use Rattle.std.specs.Prelude.{◌≡◌, Some};
 ghost use Rattle.std.specs.Fmt.{DisplaysOnOk};
-ghost use Rattle.kt_explain.specs.Words.{break_words, demand_words, flaw_words};
+ghost use Rattle.kt_explain.specs.Words.{arrived_words, break_words, demand_words, elsewhere_words, flaw_words, gone_words};
 
 use kt_base::{MsgNo, ProcNo};
 use std::fmt;
@@ -64,13 +64,13 @@ impl fmt::Display for BadChain {
     fn fmt<W: fmt::Write>(&self, f: &mut fmt::Formatter<W>) -> fmt::Result {
         let BadChain { place, p, flaw } = *self;
         write!(f, "member {place} is process {p}, ")?;
-        write_flaw(f, flaw)
+        write_flaw(f, p, flaw)
     }
 }
 
 // What is wrong with the list of a member.
-fn write_flaw<W: fmt::Write>(f: &mut fmt::Formatter<W>, flaw: Flaw) -> fmt::Result
-    ensures { DisplaysOnOk W.write_str_gives f.old result (Some (flaw_words flaw)) f.new }
+fn write_flaw<W: fmt::Write>(f: &mut fmt::Formatter<W>, member: ProcNo, flaw: Flaw) -> fmt::Result
+    ensures { DisplaysOnOk W.write_str_gives f.old result (Some (flaw_words member flaw)) f.new }
 {
     match flaw {
         Flaw::Initiator => write!(f, "the initiator, and has a chain\n"),
@@ -78,38 +78,56 @@ fn write_flaw<W: fmt::Write>(f: &mut fmt::Formatter<W>, flaw: Flaw) -> fmt::Resu
             f,
             "and has no chain: each member but the initiator has one\n"
         ),
-        Flaw::Elsewhere(p) => write!(f, "and its chain leads to process {p}\n"),
-        Flaw::Broken(broken) => write_break(f, broken),
+        Flaw::Elsewhere(p) => {
+            write!(
+                f,
+                "and its chain leads to process {p}, and not to process {member}\n"
+            )
+        }
+        Flaw::Broken(broken) => write_break(f, member, broken),
     }
 }
 
 // The place of a chain of which the message leads nowhere.
-fn write_break<W: fmt::Write>(f: &mut fmt::Formatter<W>, broken: Break) -> fmt::Result
-    ensures { DisplaysOnOk W.write_str_gives f.old result (Some (break_words broken)) f.new }
+fn write_break<W: fmt::Write>(
+    f: &mut fmt::Formatter<W>,
+    member: ProcNo,
+    broken: Break,
+) -> fmt::Result
+    ensures { DisplaysOnOk W.write_str_gives f.old result (Some (break_words member broken)) f.new }
 {
     let Break { place, msg, demand } = broken;
     write!(f, "and message {msg}, in place {place} of its chain, ")?;
-    write_demand(f, demand)
+    write_demand(f, member, demand)
 }
 
-// The demand that a message of a chain does not meet.
-fn write_demand<W: fmt::Write>(f: &mut fmt::Formatter<W>, demand: Demand) -> fmt::Result
-    ensures { DisplaysOnOk W.write_str_gives f.old result (Some (demand_words demand)) f.new }
+// The demand that a message of the chain of a member does not meet.
+fn write_demand<W: fmt::Write>(
+    f: &mut fmt::Formatter<W>,
+    member: ProcNo,
+    demand: Demand,
+) -> fmt::Result
+    ensures { DisplaysOnOk W.write_str_gives f.old result (Some (demand_words member demand)) f.new }
 {
     match demand {
-        Demand::Message => write!(f, "was never sent\n"),
-        Demand::GoneElsewhere { from, to, p } => write!(
+        Demand::Message => write!(
             f,
-            "was sent by process {from} to process {to}, and is to be one that process {p} received\n"
+            "was never sent: a message has the number of the row that sends it\n"
         ),
-        Demand::SentElsewhere { from, to, p } => write!(
-            f,
-            "was sent by process {from} to process {to}, and is to be one that process {p} sent\n"
-        ),
+        Demand::GoneElsewhere { from, to, p } => write_gone(f, member, from, to, p),
+        Demand::SentElsewhere { from, to, p } => write_elsewhere(f, member, from, to, p),
         Demand::Received(p) => {
-            write!(f, "was not received by process {p}, or that was undone\n")
+            write!(
+                f,
+                "was not received by process {p}, or that was undone: it links nobody\n"
+            )
         }
-        Demand::Sent(p) => write!(f, "was not sent by process {p}, or that was undone\n"),
+        Demand::Sent(p) => {
+            write!(
+                f,
+                "was not sent by process {p}, or that was undone: it links nobody\n"
+            )
+        }
         Demand::Past(p) => write!(
             f,
             "was sent by process {p} before its last permanent checkpoint\n"
@@ -119,4 +137,52 @@ fn write_demand<W: fmt::Write>(f: &mut fmt::Formatter<W>, demand: Demand) -> fmt
             "was received by process {p}, and not before it took a checkpoint of the instance\n"
         ),
     }
+}
+
+// A message between these, that this process is to have received, or that comes too late.
+fn write_gone<W: fmt::Write>(
+    f: &mut fmt::Formatter<W>,
+    member: ProcNo,
+    from: ProcNo,
+    to: ProcNo,
+    p: ProcNo,
+) -> fmt::Result
+    ensures { DisplaysOnOk W.write_str_gives f.old result (Some (gone_words member from to p)) f.new }
+{
+    if member == p {
+        return write_arrived(f, p);
+    }
+    write!(
+        f,
+        "was sent by process {from} to process {to}, and is to be one that process {p} received\n"
+    )
+}
+
+// A message between these, that this process is to have sent, or that comes too late.
+fn write_elsewhere<W: fmt::Write>(
+    f: &mut fmt::Formatter<W>,
+    member: ProcNo,
+    from: ProcNo,
+    to: ProcNo,
+    p: ProcNo,
+) -> fmt::Result
+    ensures { DisplaysOnOk W.write_str_gives f.old result (Some (elsewhere_words member from to p)) f.new }
+{
+    if member == p {
+        return write_arrived(f, p);
+    }
+    write!(
+        f,
+        "was sent by process {from} to process {to}, and is to be one that process {p} sent\n"
+    )
+}
+
+// A message that comes after the chain has come to its member.
+fn write_arrived<W: fmt::Write>(f: &mut fmt::Formatter<W>, p: ProcNo) -> fmt::Result
+    ensures { DisplaysOnOk W.write_str_gives f.old result (Some (arrived_words p)) f.new }
+{
+    write!(
+        f,
+        "is one too many: the chain has come to process {p} before it\n"
+    )
 }

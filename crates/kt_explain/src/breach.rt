@@ -271,7 +271,7 @@ impl fmt::Display for InstanceBreach {
             ),
             InstanceBreach::OwnCause(inst) => write!(
                 f,
-                "instance {inst} can't be the cause for which a process is unwilling to join instance {inst}\n"
+                "who is busy with instance {inst} has joined it, and is not unwilling to join it\n"
             ),
         }
     }

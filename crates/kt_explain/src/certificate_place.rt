@@ -2,8 +2,9 @@
 
 ghost use Rattle.std.specs.Prelude.{◌≡◌, ◌≤◌, IfSome, Some, length, take};
 ghost use Rattle.kt_chain.specs.Spelling.{certificate_records, records_of};
-ghost use Rattle.kt_explain.specs.RecordsTold.{IsRecordOf, IsRecordTold, certified_inst, member_place};
+ghost use Rattle.kt_explain.specs.RecordsTold.{IsRecordOf, IsRecordTold, certified_inst, inst_of_first, member_place};
 
+use crate::difference::Difference;
 use crate::explanation::Explanation;
 use crate::unknown::place_from;
 use kt_base::InstNo;
@@ -56,16 +57,25 @@ fn certified_inst(explanation: &Explanation) -> Option<InstNo>
     ensures { result ≡ certified_inst explanation.now }
 {
     match *explanation {
-        Explanation::Unknown { inst, .. }
-        | Explanation::Objection { inst, .. }
-        | Explanation::NoObjection { inst }
-        | Explanation::OtherMember { inst, .. }
-        | Explanation::BadChain { inst, .. }
-        | Explanation::Orphan { inst, .. } => Some(inst),
-        Explanation::Nothing
+        Explanation::Unknown { inst, difference } => inst_of_first(inst, difference),
+        Explanation::OtherMember { inst, .. } | Explanation::BadChain { inst, .. } => Some(inst),
+        Explanation::Objection { .. }
+        | Explanation::NoObjection { .. }
+        | Explanation::Orphan { .. }
+        | Explanation::Nothing
         | Explanation::LeftOpen(_)
         | Explanation::BadLog(_)
         | Explanation::Uncertified { .. } => None,
+    }
+}
+
+// The instance whose first certificate differs from the log, where it is that one that is wrong.
+fn inst_of_first(inst: InstNo, difference: Difference) -> Option<InstNo>
+    ensures { result ≡ inst_of_first inst difference }
+{
+    match difference {
+        Difference::Second => None,
+        _ => Some(inst),
     }
 }
 

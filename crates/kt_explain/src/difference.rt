@@ -9,7 +9,9 @@ use std::fmt;
 /// What the log has otherwise than a certificate of an instance.
 #[derive(Clone, Copy, Debug, PartialEq, Eq)]
 pub enum Difference {
-    /// No row decides the instance.
+    /// No row begins the instance.
+    Unbegun,
+    /// No row decides the instance, which began.
     Undecided,
     /// The instance began in this row as this other kind.
     Kind(Kind, RowNo),
@@ -31,6 +33,7 @@ impl fmt::Display for Difference {
 
     fn fmt<W: fmt::Write>(&self, f: &mut fmt::Formatter<W>) -> fmt::Result {
         match *self {
+            Difference::Unbegun => write!(f, "no row begins it"),
             Difference::Undecided => write!(f, "no row decides it"),
             Difference::Kind(kind, row) => {
                 let name = kind_name(kind);
@@ -53,7 +56,7 @@ impl fmt::Display for Difference {
                 )
             }
             Difference::Members => write!(f, "it is aborted, and its certificate lists members"),
-            Difference::Second => write!(f, "it has an earlier certificate"),
+            Difference::Second => write!(f, "it has a second certificate, after the first one"),
         }
     }
 }

@@ -2,7 +2,7 @@
 
 ghost use Rattle.std.specs.Prelude.{◌≡◌, ◌≤◌, ◌<◌, ◌^◌, ℕ, List, Some, false, [], length, slice_get, IfSome, IfNone};
 ghost use Rattle.kt_chain.specs.declared.certificate.Certificate.{Certificate as Certificates};
-ghost use Rattle.kt_explain.specs.Finding.{IsFirstRow, begins_inst, decides_inst};
+ghost use Rattle.kt_explain.specs.Finding.{HasNoRow, IsFirstRow, begins_inst, decides_inst};
 ghost use Rattle.kt_spacetime.specs.declared.event.Event.{Event as Events};
 ghost use Rattle.kt_checker.specs.declared.verdict.Verdict.{Verdict};
 ghost use Rattle.kt_checker.specs.declared.verdict.Why.TheVariants as why;
@@ -92,7 +92,7 @@ fn difference_of(rows: &[Event], certificate: &Certificate) -> Option<Difference
     ensures none { IfNone result (IsLegal rows.now → (n : ℕ) × IsAsInLog rows.now certificate.now n) }
 {
     let Some(decided) = first_row(rows, &Sought::Decided(certificate.inst)) else {
-        return Some(Difference::Undecided);
+        return Some(undecided(rows, certificate.inst));
     };
     let Some(began) = first_row(rows, &Sought::Began(certificate.inst)) else {
         return None;
@@ -100,6 +100,19 @@ fn difference_of(rows: &[Event], certificate: &Certificate) -> Option<Difference
     match other_beginning(&began, certificate) {
         Some(difference) => Some(difference),
         None => other_decision(&decided, certificate),
+    }
+}
+
+// That no row decides an instance, or that none begins it.
+fn undecided(rows: &[Event], inst: InstNo) -> Difference
+    requires few { length rows.now ≤ 2 ^ 24 }
+    requires undecided { HasNoRow (decides_inst inst) rows.now }
+    ensures { (certificates : List Certificates) (c : Certificates) → c.inst ≡ inst
+        → IsDifference rows.now certificates c result }
+{
+    match first_row(rows, &Sought::Began(inst)) {
+        Some(_) => Difference::Undecided,
+        None => Difference::Unbegun,
     }
 }
 

@@ -13,7 +13,7 @@ use Rattle.kt_program.specs.Asking.{IsUnasked}
 use Rattle.kt_program.specs.Ending.{Ends, EndsOn}
 use Rattle.kt_program.specs.Faults.{refusal_status}
 use Rattle.kt_program.specs.FaultTexts.{WritesLineOf}
-use Rattle.kt_program.specs.Hints.{AreHints, AreHintsTold, IsHintOfFile, IsHintOfWords, IsHinted, IsReadVerb, IsTried, IsTriedShown, WritesHints, file_line, file_of, reason_line, fault_reason, said_lines, see_help, unmade_of, unread_of, written_lines}
+use Rattle.kt_program.specs.Hints.{AreHints, AreHintsTold, IsHintOfFile, IsHintOfWords, IsHinted, IsReadVerb, IsTried, IsTriedShown, WritesHints, file_line, file_of, reason_lines, said_lines, see_help, unmade_of, unread_of, written_lines}
 use Rattle.kt_program.specs.Inputs.{IsRead}
 use Rattle.kt_program.specs.Names.{Name}
 use Rattle.kt_program.specs.Places.{IsPlaceShown}
@@ -82,11 +82,11 @@ one_tried asked fault old new name verb tried e = (hint_line verb name.now, e, i
 
 -- hints of a file, once its name, the place, why it is refused and what was tried were gathered
 pub of_file : {F : Type 0} (told : F → BytesTold) (asked : Asked) (fault : ProgramFault) (old first next more new : List ℕ) → old ≡ [] → first ≡ old ++ file_line (file_of asked fault)
-    → ((text : List ℕ) × (next ≡ first ++ text) × IsPlaceShown told fault text) → more ≡ next ++ reason_line (fault_reason fault)
+    → ((text : List ℕ) × (next ≡ first ++ text) × IsPlaceShown told fault text) → more ≡ next ++ reason_lines fault
     → ((text : List ℕ) × (new ≡ more ++ text) × IsTriedShown asked fault text) → IsHintOfFile told asked fault new
 of_file told asked fault old first next more new empty named place reason last =
     let file = file_line (file_of asked fault) in
-    let why = reason_line (fault_reason fault) in
+    let why = reason_lines fault in
     let front : first ≡ file = named ∙ ap (λ (x : List ℕ). x ++ file) empty in
     let second : next ≡ file ++ place.0 = place.1 ∙ ap (λ (x : List ℕ). x ++ place.0) front in
     let third : more ≡ (file ++ place.0) ++ why = reason ∙ ap (λ (x : List ℕ). x ++ why) second in
@@ -125,3 +125,9 @@ pub nothing_done : {F : Type 0} (told : F → BytesTold) (terminal : Bool) (faul
     → Ends told terminal status out out old new
 nothing_done told terminal fault status out old new is line =
     ([], record { outcome = Err fault; status_is = is; output = λ _. inl refl; quiet = tt; line = line_alone told terminal [] fault old new line })
+
+-- what holds after one line, and after another one below it
+pub two_lines : {T E : Type 0} (r : Result T E) (old one two first second : List ℕ) → one ≡ old ++ first → OnOk r (two ≡ one ++ second)
+    → OnOk r (two ≡ old ++ (first ++ second))
+two_lines (Ok x) old one two first second e f = f ∙ (ap (λ (x : List ℕ). x ++ second) e ∙ append_assoc old first second)
+two_lines (Err x) old one two first second e f = tt

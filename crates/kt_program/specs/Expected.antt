@@ -17,7 +17,7 @@ use Rattle.kt_program.specs.declared.fault.ProgramFault.TheVariants as program
 
 -- how a number is written
 abbrev pub zeros_line : List ℕ
-zeros_line = hint_line (codes "no number begins with a zero but 0 itself") []
+zeros_line = hint_line (codes "a number is written by its digits, without leading zeros") []
 
 -- what was expected of the numbers of a row: that one is not beyond the last one, or what the row is to be
 abbrev pub number_lines : Option RowForm → Option Limit → List ℕ

@@ -9,6 +9,7 @@ use Rattle.kt_chain.specs.declared.fault.CertTextFault.TheVariants as cert
 use Rattle.kt_log_text.specs.declared.fault.LogFault.{LogFault}
 use Rattle.kt_log_text.specs.declared.fault.LogFault.TheVariants as log
 use Rattle.kt_certify.specs.declared.fault.Unfit.{Unfit}
+use Rattle.kt_cuts.specs.declared.rules.Rule.{Rule}
 use Rattle.kt_certify.specs.declared.fault.Unfit.TheVariants as unfit
 use Rattle.kt_explain.specs.Words.{rule_words}
 use Rattle.kt_hints.specs.Shown.{hint_line}
@@ -130,21 +131,32 @@ log_reason log.TooLong = Some (codes "a log has at most 16777216 rows, and witho
 log_reason log.Version = Some (codes "a first record that begins with kt is kt,2,-,-")
 log_reason fault = None
 
-abbrev pub unfit_reason : Unfit → List ℕ
-unfit_reason (unfit.BadLog row rule) = rule_words rule
-unfit_reason (unfit.NoChain inst row process) = codes "no message links the process with an earlier member of the instance"
+-- a rule that a row breaks, and what tells how
+abbrev pub rule_lines : Rule → List ℕ
+rule_lines rule =
+    hint_line (rule_words rule) [] ++ hint_line (codes "koo_toueg check --explain, with this log and /dev/null, tells what breaks it") []
+
+-- why a log has no certificates: a rule that is broken, or a member without a chain
+abbrev pub unfit_lines : Unfit → List ℕ
+unfit_lines (unfit.BadLog row rule) = rule_lines rule
+unfit_lines (unfit.NoChain inst row process) =
+    hint_line (codes "the row decides the instance; no message links the process with a member that joined it before") []
 
 abbrev pub fault_reason : ProgramFault → Option (List ℕ)
 fault_reason (program.Scenario fault) = scenario_reason fault
 fault_reason (program.Steps fault) = steps_reason fault
 fault_reason (program.App (app.Log fault)) = log_reason fault
-fault_reason (program.App (app.Unfit why)) = Some (unfit_reason why)
 fault_reason fault = None
 
 -- its line
 abbrev pub reason_line : Option (List ℕ) → List ℕ
 reason_line None = []
 reason_line (Some words) = hint_line words []
+
+-- the lines of a fault, or of a no
+abbrev pub reason_lines : ProgramFault → List ℕ
+reason_lines (program.App (app.Unfit why)) = unfit_lines why
+reason_lines fault = reason_line (fault_reason fault)
 
 -- where the log of a run is written, where that is asked
 abbrev pub new_log_of : Asked → Name
@@ -260,7 +272,7 @@ pub record IsHintOfFile {F : Type 0} (told : F → BytesTold) (asked : Asked) (f
   pub place : IsPlaceShown told fault place_part
   pub tried_part : List ℕ
   pub tried : IsTriedShown asked fault tried_part
-  pub is : text ≡ file_line (file_of asked fault) ++ (place_part ++ (reason_line (fault_reason fault) ++ tried_part))
+  pub is : text ≡ file_line (file_of asked fault) ++ (place_part ++ (reason_lines fault ++ tried_part))
 
 -- where to read of the words
 abbrev pub see_help : List ℕ

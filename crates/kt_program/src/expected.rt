@@ -62,7 +62,11 @@ fn push_number_fault(
 fn push_zeros(lines: &mut Vec<u8>) -> Result<(), Memory>
     ensures { OnOk result (lines.new.items ≡ lines.old.items ++ zeros_line) }
 {
-    push_hint(lines, "no number begins with a zero but 0 itself", b"")
+    push_hint(
+        lines,
+        "a number is written by its digits, without leading zeros",
+        b"",
+    )
 }
 
 /// Gathers what was expected of a record of certificates, where a fault is one of their text.

@@ -1,12 +1,13 @@
 //! Why an input is refused, or a log has no certificates, in words.
 
 ghost use Rattle.std.specs.Prelude.{◌≡◌, ◌++◌, OnOk};
-ghost use Rattle.kt_program.specs.Hints.{reason_line, fault_reason, log_reason, unfit_reason};
+ghost use Rattle.kt_program.specs.Hints.{log_reason, reason_line, reason_lines, rule_lines, unfit_lines};
 ghost use Rattle.kt_program.specs.Reasons.{scenario_reason, steps_reason};
 
 use crate::fault::{AppFault, ProgramFault};
 use kt_base::Memory;
 use kt_certify::Unfit;
+use kt_cuts::Rule;
 use kt_explain::rule_name;
 use kt_hints::push_hint;
 use kt_log_text::LogFault;
@@ -14,13 +15,13 @@ use kt_scenario::{ScenarioFault, StepsFault};
 
 /// Gathers why an input is refused, or a log has no certificates, in words of the program.
 pub(crate) fn push_reason(lines: &mut Vec<u8>, fault: &ProgramFault) -> Result<(), Memory>
-    ensures { OnOk result (lines.new.items ≡ lines.old.items ++ reason_line (fault_reason fault.now)) }
+    ensures { OnOk result (lines.new.items ≡ lines.old.items ++ reason_lines fault.now) }
 {
     match fault {
         ProgramFault::Scenario(fault) => push_scenario_reason(lines, fault),
         ProgramFault::Steps(fault) => push_steps_reason(lines, fault),
         ProgramFault::App(AppFault::Log(fault)) => push_log_reason(lines, fault),
-        ProgramFault::App(AppFault::Unfit(why)) => push_hint(lines, unfit_reason(why), b""),
+        ProgramFault::App(AppFault::Unfit(why)) => push_unfit(lines, why),
         _ => Ok(()),
     }
 }
@@ -108,13 +109,28 @@ fn push_steps_reason(lines: &mut Vec<u8>, fault: &StepsFault) -> Result<(), Memo
     }
 }
 
-// Why a log has no certificates, in words of the program.
-fn unfit_reason(why: &Unfit) -> &'static str
-    ensures { result.now ≡ unfit_reason why.now }
+// Gathers which rule a row breaks, and what tells how; or which member lacks a chain.
+fn push_unfit(lines: &mut Vec<u8>, why: &Unfit) -> Result<(), Memory>
+    ensures { OnOk result (lines.new.items ≡ lines.old.items ++ unfit_lines why.now) }
 {
     match why {
-        Unfit::BadLog(_, rule) => rule_name(*rule),
-        Unfit::NoChain(_, _, _) =>
-            "no message links the process with an earlier member of the instance",
+        Unfit::BadLog(_, rule) => push_rule(lines, *rule),
+        Unfit::NoChain(_, _, _) => push_hint(
+            lines,
+            "the row decides the instance; no message links the process with a member that joined it before",
+            b"",
+        ),
     }
+}
+
+// Gathers a rule that a row breaks, and what tells how.
+fn push_rule(lines: &mut Vec<u8>, rule: Rule) -> Result<(), Memory>
+    ensures { OnOk result (lines.new.items ≡ lines.old.items ++ rule_lines rule) }
+{
+    push_hint(lines, rule_name(rule), b"")?;
+    push_hint(
+        lines,
+        "koo_toueg check --explain, with this log and /dev/null, tells what breaks it",
+        b"",
+    )
 }
