@@ -36,13 +36,13 @@ process_breach_words (process.OwnPeer p) = codes "both processes of the row are 
 process_breach_words (process.Down p row) = codes "process " ++ (decimal p ++ (codes " is down since row " ++ (decimal row ++ 10 ∷ [])))
 process_breach_words (process.Up p) = codes "process " ++ (decimal p ++ (codes " is up" ++ 10 ∷ []))
 process_breach_words (process.Inside p inst row) =
-    codes "process " ++ (decimal p ++ (codes " is in instance " ++ (decimal inst ++ (codes " since row " ++ (decimal row ++ 10 ∷ [])))))
+    codes "process " ++ (decimal p ++ (codes " has been in instance " ++ (decimal inst ++ (codes " since row " ++ (decimal row ++ 10 ∷ [])))))
 process_breach_words (process.Rolling p inst row) =
-    codes "process " ++ (decimal p ++ (codes " is in instance " ++ (decimal inst ++ (codes ", a rollback, since row " ++ (decimal row ++ 10 ∷ [])))))
+    codes "process " ++ (decimal p ++ (codes " has been in instance " ++ (decimal inst ++ (codes ", a rollback, since row " ++ (decimal row ++ 10 ∷ [])))))
 process_breach_words (process.NotInside p inst (Some other)) =
-    codes "process " ++ (decimal p ++ (codes " is in instance " ++ (decimal other ++ (codes ", and not in instance " ++ (decimal inst ++ 10 ∷ [])))))
+    codes "process " ++ (decimal p ++ (codes " is in instance " ++ (decimal other ++ (codes ", and not in instance " ++ (decimal inst ++ (codes ": it did not join that, or has closed it" ++ 10 ∷ []))))))
 process_breach_words (process.NotInside p inst None) =
-    codes "process " ++ (decimal p ++ (codes " is not in instance " ++ (decimal inst ++ (codes ", and in no other one" ++ 10 ∷ []))))
+    codes "process " ++ (decimal p ++ (codes " is in no instance: it did not join instance " ++ (decimal inst ++ (codes ", or has closed it" ++ 10 ∷ []))))
 process_breach_words (process.Joined p inst row) =
     codes "process " ++ (decimal p ++ (codes " joined instance " ++ (decimal inst ++ (codes " already, in row " ++ (decimal row ++ 10 ∷ [])))))
 
@@ -62,7 +62,7 @@ instance_breach_words (instance.Initiator inst p row) =
     ++ (codes ", which began it in row " ++ (decimal row ++ 10 ∷ [])))))
 instance_breach_words (instance.JustBegun p inst) =
     codes "process " ++ (decimal p ++ (codes " began instance " ++ (decimal inst
-    ++ (codes " in the row before, and is to join it in this one" ++ 10 ∷ []))))
+    ++ (codes " in the row before, and is to join it in this one, by took in a checkpoint and by ready in a rollback" ++ 10 ∷ []))))
 instance_breach_words (instance.OwnCause inst) =
     codes "who is busy with instance " ++ (decimal inst ++ (codes " has joined it, and is not unwilling to join it" ++ 10 ∷ []))
 

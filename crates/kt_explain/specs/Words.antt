@@ -31,7 +31,7 @@ difference_words (Kind kind row) = codes "row " ++ (decimal row ++ (codes " begi
 difference_words (Initiator p row) = codes "process " ++ (decimal p ++ (codes " begins it in row " ++ (decimal row ++ codes ", and the certificate names another one")))
 difference_words (Decision commit row) = codes "row " ++ (decimal row ++ (codes " decides it, " ++ (decision_word commit ++ codes ", and the certificate says otherwise")))
 difference_words Members = codes "it is aborted, and its certificate lists members"
-difference_words Second = codes "it has a second certificate, after the first one"
+difference_words Second = codes "it has a second certificate, after the first one; koo_toueg certify makes one for each instance"
 
 -- a place of a list
 abbrev pub place_words : ℕ → ℕ → List ℕ
@@ -91,7 +91,7 @@ demand_words member (demand.GoneElsewhere from to p) = gone_words member from to
 demand_words member (demand.SentElsewhere from to p) = elsewhere_words member from to p
 demand_words member (demand.Received p) = codes "was not received by process " ++ (decimal p ++ (codes ", or that was undone: it links nobody" ++ 10 ∷ []))
 demand_words member (demand.Sent p) = codes "was not sent by process " ++ (decimal p ++ (codes ", or that was undone: it links nobody" ++ 10 ∷ []))
-demand_words member (demand.Past p) = codes "was sent by process " ++ (decimal p ++ (codes " before its last permanent checkpoint" ++ 10 ∷ []))
+demand_words member (demand.Past p) = codes "was sent by process " ++ (decimal p ++ (codes " before its checkpoint that was permanent at that time" ++ 10 ∷ []))
 demand_words member (demand.Within p) = codes "was received by process " ++ (decimal p ++ (codes ", and not before it took a checkpoint of the instance" ++ 10 ∷ []))
 
 -- the place of a chain of which the message leads nowhere
@@ -161,7 +161,7 @@ explanation_words (Objection inst p row) = codes "instance " ++ (decimal inst ++
 explanation_words (NoObjection inst) = codes "instance " ++ (decimal inst ++ (codes " is aborted, and no process was unwilling to join it" ++ 10 ∷ []))
 explanation_words (OtherMember inst place listed joined) = place_words inst place ++ (listed_words listed ++ joined_words joined)
 explanation_words (BadChain inst chain) = codes "instance " ++ (decimal inst ++ (codes ": " ++ bad_chain_words chain))
-explanation_words (Uncertified inst row) = codes "row " ++ (decimal row ++ (codes " decides instance " ++ (decimal inst ++ (codes ", and no certificate is of it" ++ 10 ∷ []))))
+explanation_words (Uncertified inst row) = codes "row " ++ (decimal row ++ (codes " decides instance " ++ (decimal inst ++ (codes ", and no certificate is of it: koo_toueg certify makes it" ++ 10 ∷ []))))
 explanation_words (Orphan inst orphan) = codes "instance " ++ (decimal inst ++ (codes ": " ++ orphan_words orphan))
 explanation_words (BadLog b) = bad_row_words b
 explanation_words (LeftOpen l) = left_open_words l

@@ -130,7 +130,7 @@ fn write_demand<W: fmt::Write>(
         }
         Demand::Past(p) => write!(
             f,
-            "was sent by process {p} before its last permanent checkpoint\n"
+            "was sent by process {p} before its checkpoint that was permanent at that time\n"
         ),
         Demand::Within(p) => write!(
             f,

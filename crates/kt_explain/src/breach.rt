@@ -209,20 +209,23 @@ impl fmt::Display for ProcessBreach {
             ProcessBreach::Down { p, row } => write!(f, "process {p} is down since row {row}\n"),
             ProcessBreach::Up(p) => write!(f, "process {p} is up\n"),
             ProcessBreach::Inside { p, inst, row } => {
-                write!(f, "process {p} is in instance {inst} since row {row}\n")
+                write!(
+                    f,
+                    "process {p} has been in instance {inst} since row {row}\n"
+                )
             }
             ProcessBreach::Rolling { p, inst, row } => write!(
                 f,
-                "process {p} is in instance {inst}, a rollback, since row {row}\n"
+                "process {p} has been in instance {inst}, a rollback, since row {row}\n"
             ),
             ProcessBreach::NotInside { p, inst, open_in } => match open_in {
                 Some(other) => write!(
                     f,
-                    "process {p} is in instance {other}, and not in instance {inst}\n"
+                    "process {p} is in instance {other}, and not in instance {inst}: it did not join that, or has closed it\n"
                 ),
                 None => write!(
                     f,
-                    "process {p} is not in instance {inst}, and in no other one\n"
+                    "process {p} is in no instance: it did not join instance {inst}, or has closed it\n"
                 ),
             },
             ProcessBreach::Joined { p, inst, row } => write!(
@@ -267,7 +270,7 @@ impl fmt::Display for InstanceBreach {
             ),
             InstanceBreach::JustBegun { p, inst } => write!(
                 f,
-                "process {p} began instance {inst} in the row before, and is to join it in this one\n"
+                "process {p} began instance {inst} in the row before, and is to join it in this one, by took in a checkpoint and by ready in a rollback\n"
             ),
             InstanceBreach::OwnCause(inst) => write!(
                 f,

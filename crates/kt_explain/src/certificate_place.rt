@@ -25,7 +25,10 @@ impl fmt::Display for RecordTold {
 
     fn fmt<W: fmt::Write>(&self, f: &mut fmt::Formatter<W>) -> fmt::Result {
         match self.number {
-            Some(number) => write!(f, "see record {number} of the certificates\n"),
+            Some(number) => write!(
+                f,
+                "see record {number} of the certificates; koo_toueg certify makes them of a log\n"
+            ),
             None => Ok(()),
         }
     }

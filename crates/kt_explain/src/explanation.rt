@@ -102,7 +102,7 @@ impl fmt::Display for Explanation {
             Explanation::Uncertified { inst, row } => {
                 write!(
                     f,
-                    "row {row} decides instance {inst}, and no certificate is of it\n"
+                    "row {row} decides instance {inst}, and no certificate is of it: koo_toueg certify makes it\n"
                 )
             }
         }
