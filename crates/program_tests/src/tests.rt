@@ -2,6 +2,7 @@ mod faults;
 mod handles;
 mod lines;
 mod long;
+mod pictures;
 mod writers;
 
 use kt_chain::read_certs;
