@@ -50,7 +50,7 @@ joined_words None = codes ", and nobody joined" ++ 10 ∷ []
 -- who would have had to join
 abbrev pub outsider_words : Option ℕ → List ℕ
 outsider_words None = []
-outsider_words (Some p) = codes "process " ++ decimal p ++ codes " did not join" ++ 10 ∷ []
+outsider_words (Some p) = codes "process " ++ decimal p ++ codes " did not join: the log commits the instance without it" ++ 10 ∷ []
 
 -- who sent an orphan, in which row
 abbrev pub sent_words : OneOrphan → List ℕ

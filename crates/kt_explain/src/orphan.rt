@@ -46,5 +46,8 @@ fn write_outsider<W: fmt::Write>(f: &mut fmt::Formatter<W>, outsider: Option<Pro
     let Some(p) = outsider else {
         return Ok(());
     };
-    write!(f, "process {p} did not join\n")
+    write!(
+        f,
+        "process {p} did not join: the log commits the instance without it\n"
+    )
 }

@@ -140,7 +140,7 @@ rule_lines rule =
 abbrev pub unfit_lines : Unfit → List ℕ
 unfit_lines (unfit.BadLog row rule) = rule_lines rule
 unfit_lines (unfit.NoChain inst row process) =
-    hint_line (codes "the row decides the instance; no message links the process with a member that joined it before") []
+    hint_line (codes "the log is at fault: the process joined the instance, and no message links it with a member that joined before it") []
 
 abbrev pub fault_reason : ProgramFault → Option (List ℕ)
 fault_reason (program.Scenario fault) = scenario_reason fault

@@ -117,7 +117,7 @@ fn push_unfit(lines: &mut Vec<u8>, why: &Unfit) -> Result<(), Memory>
         Unfit::BadLog(_, rule) => push_rule(lines, *rule),
         Unfit::NoChain(_, _, _) => push_hint(
             lines,
-            "the row decides the instance; no message links the process with a member that joined it before",
+            "the log is at fault: the process joined the instance, and no message links it with a member that joined before it",
             b"",
         ),
     }
