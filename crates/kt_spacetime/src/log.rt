@@ -57,18 +57,22 @@ impl SpaceTime {
     }
 
     /// Makes room for at least this many more rows.
+    #[inline(always)]
     pub fn reserve(&mut self, count: usize) -> Result<(), Memory>
         ensures rows { self.new.rows ≡ self.old.rows }
         ensures room { OnOk result (count ≤ self.new.spare) }
         ensures kept { self.old.spare ≤ self.new.spare }
         ensures err { OnErr result (self.new ≡ self.old) }
     {
-        self.rows.reserve(count)?;
-        self.spare = self.spare.max(count);
+        if self.spare < count {
+            self.rows.reserve(count)?;
+            self.spare = self.rows.capacity() - self.rows.len();
+        }
         Ok(())
     }
 
     /// Adds a row at the end, in the room made before.
+    #[inline(always)]
     pub fn push_reserved(&mut self, event: Event)
         requires room { 0 < self.old.spare }
         requires few { length self.old.rows < 2 ^ 24 }
@@ -77,6 +81,17 @@ impl SpaceTime {
     {
         self.spare -= 1;
         event.read_numbers();
-        self.rows.extend_from_slice(&[event]).unwrap();
+        push_copy(&mut self.rows, &event);
     }
+}
+
+/// Adds a copy of an item at the end, in the room made before.
+#[inline(always)]
+fn push_copy<T: Copy>(items: &mut Vec<T>, item: &T)
+    requires { vec_len items.old < vec_capacity items.old }
+    ensures items { items.new.items ≡ items.old.items ++ item.now ∷ [] }
+    ensures len { vec_len items.new ≡ vec_len items.old + 1 }
+    ensures capacity { vec_capacity items.new ≡ vec_capacity items.old }
+{
+    items.push_reserved(*item);
 }

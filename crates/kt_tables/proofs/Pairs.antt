@@ -1,9 +1,9 @@
 -- Pairs by rising peer.
-use Rattle.std.specs.Prelude.{◌==◌, if◌then◌else◌, nat_lt, insert}
-use Rattle.std.proofs.Common.{◌≡◌, ◌≢◌, ℕ, suc, ◌+◌, ◌≤◌, ◌<◌, true, false, List, [], ◌∷◌, ◌++◌, length, get_or, set, take, drop, refl, arith, sym, ap, subst, ◌∙◌, inl, inr, length-append, length-take, length-drop}
+use Rattle.std.specs.Prelude.{◌==◌, if◌then◌else◌, nat_lt, insert, min}
+use Rattle.std.proofs.Common.{◌≡◌, ◌≢◌, ℕ, zero, suc, ◌+◌, ◌≤◌, ◌<◌, true, false, List, [], ◌∷◌, ◌++◌, length, get_or, set, take, drop, refl, arith, sym, ap, subst, ◌∙◌, inl, inr, length-append, length-take, length-drop}
 use Rattle.std.proofs.lemmas.Bool.{cases_lt, cases_eq}
 use Rattle.std.proofs.lemmas.Bool.Decides.{nat_tests}
-use Rattle.std.proofs.lemmas.List.{get_or_default, at_drop_more, at_drop_all}
+use Rattle.std.proofs.lemmas.List.{get_or_default, take_all}
 use Rattle.std.proofs.Math.Path.{fun_ext}
 use Rattle.kt_tables.specs.Peers.{LabelTable, label_of, no_label, find_label, IsTable, at_peer}
 use Rattle.kt_tables.specs.Walks.{place_of, head_label, after_peer, stands_at}
@@ -235,21 +235,53 @@ unfolding label_of
 put_labels t u q l e = ap find_label e ∙ fun_ext (λ x. put_find t.pairs q l x)
 
 -- a walk along the pairs for the label of a peer
-pub label_next : (vs ps : Pairs) (i q : ℕ) (x : ℕ × ℕ) → vs ≡ ps → i < length vs → x ≡ get_or vs i x → x.0 ≢ q →
-    find_label ps q ≡ find_label (drop i ps) q → find_label ps q ≡ find_label (drop (i + 1) ps) q
-label_next vs ps i q x e b r other h =
-    let c : i < length ps = subst (λ (l : Pairs). i < length l) e b in
-    let k : x ≡ get_or ps i x = subst (λ (l : Pairs). x ≡ get_or l i x) e r in
-    h ∙ (at_drop_more (λ (l : Pairs). find_label l q) ps i x c ∙ find_other (get_or ps i x) (drop (i + 1) ps) q (λ s. other (ap (λ (t : ℕ × ℕ). t.0) k ∙ s)))
 
-pub label_found : (vs ps : Pairs) (i q : ℕ) (x : ℕ × ℕ) → vs ≡ ps → i < length vs → x ≡ get_or vs i x → x.0 ≡ q →
-    find_label ps q ≡ find_label (drop i ps) q → x.1 ≡ find_label ps q
-label_found vs ps i q x e b r same h =
-    let c : i < length ps = subst (λ (l : Pairs). i < length l) e b in
-    let k : x ≡ get_or ps i x = subst (λ (l : Pairs). x ≡ get_or l i x) e r in
-    let f = find_same (get_or ps i x) (drop (i + 1) ps) q (ap (λ (t : ℕ × ℕ). t.0) (sym k) ∙ same) in
-    ap (λ (t : ℕ × ℕ). t.1) k ∙ sym (h ∙ (at_drop_more (λ (l : Pairs). find_label l q) ps i x c ∙ f))
+-- the pairs before the last one are a table too
+pub table_before : (low n : ℕ) (ps : Pairs) (pair : ℕ × ℕ) → IsTable low n (ps ++ pair ∷ []) → IsTable low n ps
+unfolding IsTable
+table_before low n [] pair h = tt
+table_before low n (first ∷ ps) pair h = (h.0, h.1, h.2, table_before (first.0 + 1) n ps pair h.3)
 
-pub label_last : (vs ps : Pairs) (i q : ℕ) → vs ≡ ps → length vs ≤ i → find_label ps q ≡ find_label (drop i ps) q → find_label ps q ≡ 0
+-- a last pair of another peer says nothing of this one
+pub find_before : (ps : Pairs) (pair : ℕ × ℕ) (q : ℕ) → pair.0 ≢ q → find_label (ps ++ pair ∷ []) q ≡ find_label ps q
 unfolding find_label
-label_last vs ps i q e b h = h ∙ at_drop_all (λ (l : Pairs). find_label l q) ps i (subst (λ (l : Pairs). length l ≤ i) e b)
+find_before [] pair q other = find_other pair [] q other
+find_before (first ∷ ps) pair q other = let h = find_before ps pair q other in grind (arith, nat_tests)
+
+-- what stands before a pair of a lesser peer, or of this one, says nothing of it
+pub find_at_last : (low n : ℕ) (ps : Pairs) (pair : ℕ × ℕ) (q : ℕ) → IsTable low n (ps ++ pair ∷ []) → pair.0 ≤ q
+    → find_label (ps ++ pair ∷ []) q ≡ find_label (pair ∷ []) q
+find_at_last low n ps pair q h b = find_skip low n ps (pair ∷ []) pair.0 pair.1 q h b
+
+-- the first so many pairs are a table too
+pub table_take : (low n k : ℕ) (ps : Pairs) → IsTable low n ps → IsTable low n (take k ps)
+unfolding IsTable
+table_take low n zero ps h = tt
+table_take low n (suc k) [] h = tt
+table_take low n (suc k) (pair ∷ ps) h = (h.0, h.1, h.2, table_take (pair.0 + 1) n k ps h.3)
+
+-- the pair of a peer stands no further on than its number
+pub find_take : (low n k : ℕ) (ps : Pairs) (q : ℕ) → IsTable low n ps → q < low + k → find_label (take k ps) q ≡ find_label ps q
+unfolding IsTable find_label
+find_take low n zero ps q h b = sym (find_below low n ps q h (omega arith))
+find_take low n (suc k) [] q h b = refl
+find_take low n (suc k) (pair ∷ ps) q h b =
+    let l : low ≤ pair.0 = h.0 in
+    let r = find_take (pair.0 + 1) n k ps q h.3 (omega (arith, l)) in
+    grind (arith, nat_tests)
+
+-- as far as that, or all of them
+pub find_as_far : (n k : ℕ) (ps : Pairs) (q : ℕ) → IsTable 0 n ps → k ≡ min (length ps) (q + 1) → find_label (take k ps) q ≡ find_label ps q
+find_as_far n k ps q h e = elim (cases_lt q k) [
+  | inl less ↦ let b : q < 0 + k = omega (arith, less) in find_take 0 n k ps q h b
+  | inr more ↦ let all : length ps ≤ k = omega (arith, e, more) in ap (λ (xs : Pairs). find_label xs q) (take_all k ps all)
+]
+
+-- no pairs have no label
+pub find_none : (q : ℕ) → find_label [] q ≡ 0
+unfolding find_label
+find_none q = refl
+
+pub no_pairs : (ps : Pairs) → length ps ≡ 0 → ps ≡ []
+no_pairs [] e = refl
+no_pairs (pair ∷ ps) e = let no : ⊥ = omega (arith, e) in absurd no

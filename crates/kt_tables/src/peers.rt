@@ -1,8 +1,8 @@
 //! One table: a label for each peer that has one.
 
-ghost use Rattle.std.specs.Prelude.{◌≡◌, ◌<◌, ℕ, true, if◌then◌else◌, max, IfOk, ◌≤◌, length, drop, All, AllPairs};
+ghost use Rattle.std.specs.Prelude.{◌≡◌, ◌<◌, ◌∷◌, [], ℕ, true, if◌then◌else◌, max, IfOk, ◌≤◌, length, drop, All, AllPairs};
 ghost use Rattle.kt_base.specs.Sets.{has};
-ghost use Rattle.kt_tables.specs.Peers.{label_of, no_label, at_peer, has_one, count_peers, IsCohort};
+ghost use Rattle.kt_tables.specs.Peers.{label_of, find_label, IsTable, no_label, at_peer, has_one, count_peers, IsCohort};
 ghost use Rattle.kt_tables.specs.Walks.{place_of, after_peer, smaller_head, head_label, stands_at};
 
 use kt_base::{Label, Memory, ProcNo, ProcSet};
@@ -66,6 +66,41 @@ fn stands(pairs: &[(ProcNo, Label)], place: usize, peer: ProcNo) -> bool
     ensures { result ≡ stands_at pairs.now place peer }
 {
     place < pairs.len() && pairs[place].0.get() == peer.get()
+}
+
+/// The label of a pair, where that is the pair of a peer.
+#[inline(always)]
+fn label_in(pair: &(ProcNo, Label), peer: ProcNo) -> Label
+    ensures { result ≡ find_label (pair.now ∷ []) peer }
+{
+    if pair.0.get() == peer.get() {
+        pair.1
+    } else {
+        none()
+    }
+}
+
+/// The first pairs, as far as the pair of a peer may stand: no further on than its number, since pairs stand by rising peer.
+#[inline(always)]
+fn as_far_as(pairs: &[(ProcNo, Label)], peer: ProcNo) -> &[(ProcNo, Label)]
+    ensures table { (n : ℕ) → IsTable 0 n pairs.now → IsTable 0 n result.now }
+    ensures label { (n : ℕ) → IsTable 0 n pairs.now → find_label result.now peer ≡ find_label pairs.now peer }
+{
+    &pairs[..pairs.len().min(peer.index() + 1)]
+}
+
+/// The label of a peer in some pairs, 0 for none: from the last pair on, which is the peer's own where most peers have one.
+fn label_from_back(pairs: &[(ProcNo, Label)], peer: ProcNo) -> Label
+    ensures { (n : ℕ) → IsTable 0 n pairs.now → result ≡ find_label pairs.now peer }
+{
+    let mut rest: &[(ProcNo, Label)] = pairs;
+    while let Some((pair, before)) = rest.split_last() {
+        if pair.0.get() <= peer.get() {
+            return label_in(pair, peer);
+        }
+        rest = before;
+    }
+    none()
 }
 
 /// The label at the head, where that is the pair of a peer.
@@ -137,12 +172,7 @@ impl PeerLabels {
     pub(crate) fn label(&self, peer: ProcNo) -> Label
         ensures { result ≡ label_of self.now peer }
     {
-        for pair in &self.pairs {
-            if pair.0.get() == peer.get() {
-                return pair.1;
-            }
-        }
-        none()
+        label_from_back(as_far_as(&self.pairs, peer), peer)
     }
 
     /// Gives a peer a label.
