@@ -6,7 +6,7 @@ use Rattle.std.proofs.lemmas.List.{length-set, get_or-set_same, get_or-set_other
 use Rattle.std.proofs.lemmas.Bool.Decides.{nat_tests}
 use Rattle.std.proofs.lemmas.Bool.{cases_lt, cases_eq}
 use Rattle.std.proofs.lemmas.Grind.{get_or-set_at}
-use Rattle.kt_base.specs.Sets.{has}
+use Rattle.kt_base.specs.Sets.{has, count_of}
 use Rattle.kt_fifo.specs.declared.parcels.Parcel.{Parcel}
 use Rattle.kt_fifo.specs.Queues.{Queue, no_queue, has_parcel}
 use Rattle.kt_fifo.specs.Channels.{ChannelLists, queue, channel, spare_of, at_pair, IsWired}
@@ -130,9 +130,9 @@ apart_written w from to i y h p q other =
     ap (λ (f : ℕ → ℕ → List Parcel). f p q) (channel_written w from to i y h) ∙ off_second p q from to y.parcels (channel w p q) other
 
 -- the senders to the receiver of the pair
-here_written : (w : ChannelLists) (senders : List ℕ) (receivers from to i s f : ℕ) (y : Queue) → IsWired w senders receivers → IsPlace w from to i →
+here_written : (w : ChannelLists) (senders counts : List ℕ) (receivers from to i s f : ℕ) (y : Queue) → IsWired w senders counts receivers → IsPlace w from to i →
     NotesSender senders receivers from to s f y.parcels → (p : ℕ) → has s p ≡ has_parcel (channel (written w i y) p to)
-here_written w senders receivers from to i s f y k h n p =
+here_written w senders counts receivers from to i s f y k h n p =
     let e : channel (written w i y) p to ≡ at_pair from to y.parcels (channel w) p to = ap (λ (g : ℕ → ℕ → List Parcel). g p to) (channel_written w from to i y h) in
     rw e (elim (cases_eq p from) [
       | inl it ↦ rw it (n.here ∙ ap has_parcel (sym (at_both from to y.parcels (channel w from to))))
@@ -143,11 +143,11 @@ no_parcel : (l : List Parcel) → has_parcel l ≡ false → l ≡ []
 no_parcel [] e = refl
 no_parcel (x ∷ xs) e = cc
 
-noted_written : (w : ChannelLists) (senders : List ℕ) (receivers from to i s f : ℕ) (y : Queue) → IsWired w senders receivers → IsPlace w from to i →
-    NotesSender senders receivers from to s f y.parcels → IsWired (written w i y) (set senders to s) f
-noted_written w senders receivers from to i s f y k h n =
+noted_written : (w : ChannelLists) (senders counts new : List ℕ) (receivers from to i s f : ℕ) (y : Queue) → IsWired w senders counts receivers → IsPlace w from to i →
+    NotesSender senders receivers from to s f y.parcels → slice_index new to ≡ count_of s → ((q : ℕ) → q ≢ to → slice_index new q ≡ slice_index counts q) → IsWired (written w i y) (set senders to s) new f
+noted_written w senders counts new receivers from to i s f y k h n counted same_counts =
     let long : to < length senders = omega (arith, h.to_in, k.one_each) in
-    let here = here_written w senders receivers from to i s f y k h n in
+    let here = here_written w senders counts receivers from to i s f y k h n in
     let apart = apart_written w from to i y h in
     record {
       few = k.few;
@@ -169,23 +169,28 @@ noted_written w senders receivers from to i s f y k h n =
         | inl same ↦ rw same (no_parcel _ (sym (here p) ∙ n.none (ap (has f) (sym same) ∙ e) p))
         | inr other ↦ apart p q other ∙ k.none p q (sym (n.apart q other) ∙ e)
       ];
+      counted = λ q b. elim (cases_eq q to) [
+        | inl same ↦ rw (same, get_or-set_same senders to s 0 long) counted
+        | inr other ↦ rw (get_or-set_other senders to q s 0 other) (same_counts q other ∙ k.counted q b)
+      ];
+      past = λ q b. let low = h.to_in in same_counts q (let d : q ≢ to = omega (arith, b, low) in d) ∙ k.past q b;
     }
 
 -- a write at one place, with the senders to its receiver and the receivers
-pub wired_written : (w : ChannelLists) (senders : List ℕ) (receivers from to i r s t f : ℕ) (y : Queue) → IsWired w senders receivers → IsPlace w from to i →
+pub wired_written : (w : ChannelLists) (senders counts new : List ℕ) (receivers from to i r s t f : ℕ) (y : Queue) → IsWired w senders counts receivers → IsPlace w from to i →
     r ≡ to → t ≡ get_or senders r t → has s from ≡ has_parcel y.parcels → ((p : ℕ) → p ≢ from → has s p ≡ has t p) →
     (has f to ≡ true → (p : ℕ) × (has s p ≡ true)) → (has f to ≡ false → (p : ℕ) → has s p ≡ false) → ((q : ℕ) → q ≢ to → has f q ≡ has receivers q) →
-    IsWired (written w i y) (set senders r s) f
-wired_written w senders receivers from to i r s t f y k h it read here others some none apart =
+    slice_index new to ≡ count_of s → ((q : ℕ) → q ≢ to → slice_index new q ≡ slice_index counts q) → IsWired (written w i y) (set senders r s) new f
+wired_written w senders counts new receivers from to i r s t f y k h it read here others some none apart counted same_counts =
     let long : to < length senders = omega (arith, h.to_in, k.one_each) in
     let old : t ≡ slice_index senders to = subst (λ (j : ℕ). t ≡ get_or senders j t) it read ∙ get_or_default senders to t 0 long in
-    subst (λ (j : ℕ). IsWired (written w i y) (set senders j s) f) (sym it) (noted_written w senders receivers from to i s f y k h (record {
+    subst (λ (j : ℕ). IsWired (written w i y) (set senders j s) new f) (sym it) (noted_written w senders counts new receivers from to i s f y k h (record {
       here = here;
       others = λ p n. others p n ∙ ap (λ (x : ℕ). has x p) old;
       some = some;
       none = none;
       apart = apart;
-    }))
+    }) counted same_counts)
 
 -- the place that the code finds
 pub place_of : (w v : ChannelLists) (from to i : ℕ) → w ≡ v → length w.queues ≡ w.processes * w.processes → from < v.processes → to < v.processes → i ≡ from * v.processes + to → IsPlace w from to i
@@ -229,3 +234,42 @@ grows_at f g from to e le p q =
 pub others_at : (f g : ℕ → ℕ → ℕ) (from to : ℕ) → g ≡ at_pair from to (g from to) f → (p q : ℕ) → (p ≡ from → q ≡ to → ⊥) → g p q ≡ f p q
 others_at f g from to e p q n =
     let k : g p q ≡ at_pair from to (g from to) f p q = ap (λ (h : ℕ → ℕ → ℕ). h p q) e in grind (arith, nat_tests)
+
+-- the count of the senders that were there
+pub count_before : (w : ChannelLists) (senders counts : List ℕ) (receivers from to i r t : ℕ) → IsWired w senders counts receivers → IsPlace w from to i → r ≡ to → t ≡ get_or senders r t → slice_index counts to ≡ count_of t
+count_before w senders counts receivers from to i r t k h it read =
+    let long : to < length senders = omega (arith, h.to_in, k.one_each) in
+    let old : t ≡ slice_index senders to = subst (λ (j : ℕ). t ≡ get_or senders j t) it read ∙ get_or_default senders to t 0 long in
+    k.counted to h.to_in ∙ ap count_of (sym old)
+
+-- room for more changes no list
+at_itself : (p from q to : ℕ) (f : ℕ → ℕ → List Parcel) → at_pair from to (f from to) f p q ≡ f p q
+at_itself p from q to f = elim (cases_eq p from) [
+  | inl a ↦ elim (cases_eq q to) [
+    | inl b ↦ rw (a, b) (at_both from to (f from to) (f from to))
+    | inr b ↦ off_second p q from to (f from to) (f p q) b
+  ]
+  | inr a ↦ off_one p from q to (f from to) (f p q) a
+]
+  where
+    off_one : (p from q to : ℕ) (x y : List Parcel) → p ≢ from → (if nat_eq p from && nat_eq q to then x else y) ≡ y
+    off_one p from q to x y n = grind (arith, nat_tests)
+
+pub lists_kept : (w : ChannelLists) (from to i : ℕ) (x y : Queue) → IsPlace w from to i → x ≡ get_or w.queues i x → y.parcels ≡ x.parcels → channel (written w i y) ≡ channel w
+lists_kept w from to i x y h r e =
+    lists_changed w from to i x y (λ l. l) h r e
+    ∙ fun_ext (λ p. fun_ext (λ q. at_itself p from q to (channel w)))
+
+pub wired_kept : (w : ChannelLists) (senders counts : List ℕ) (receivers i : ℕ) (y : Queue) → IsWired w senders counts receivers → channel (written w i y) ≡ channel w → IsWired (written w i y) senders counts receivers
+wired_kept w senders counts receivers i y k e =
+    let at = λ (p q : ℕ). ap (λ (f : ℕ → ℕ → List Parcel). f p q) e in
+    record {
+      few = k.few;
+      square = length-set w.queues i y ∙ k.square;
+      one_each = k.one_each;
+      exact = λ p q b. k.exact p q b ∙ ap has_parcel (sym (at p q));
+      some = λ q m. let r = k.some q m in (r.0, ap has_parcel (at r.0 q) ∙ r.1);
+      none = λ p q m. at p q ∙ k.none p q m;
+      counted = k.counted;
+      past = k.past;
+    }

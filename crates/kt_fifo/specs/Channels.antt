@@ -1,6 +1,6 @@
 -- One list of parcels, with room, for each ordered pair of processes.
 use Rattle.std.specs.Prelude.{◌≡◌, ℕ, ◌+◌, ◌*◌, ◌≤◌, ◌<◌, ◌==◌, ◌&&◌, nat_lt, if◌then◌else◌, true, false, List, [], length, slice_index_or, slice_index}
-use Rattle.kt_base.specs.Sets.{has}
+use Rattle.kt_base.specs.Sets.{has, count_of}
 use Rattle.kt_fifo.specs.declared.parcels.Parcel.{Parcel}
 use Rattle.kt_fifo.specs.Queues.{Queue, no_queue, has_parcel}
 
@@ -33,12 +33,14 @@ nothing from to = []
 abbrev pub IsTarget : ℕ → ℕ → ℕ → ℕ → Type 0
 IsTarget from targets p q = (p ≡ from) × (has targets q ≡ true)
 
--- a queue for each pair; for each receiver the set of those whose list to it is not empty; and the set of those to whom
--- some list is not empty
-pub record IsWired (w : ChannelLists) (senders : List ℕ) (receivers : ℕ) : Type 0 where
+-- a queue for each pair; for each receiver the set of those whose list to it is not empty, and how many they are; and the
+-- set of those to whom some list is not empty
+pub record IsWired (w : ChannelLists) (senders counts : List ℕ) (receivers : ℕ) : Type 0 where
   pub few : w.processes ≤ 64
   pub square : length w.queues ≡ w.processes * w.processes
   pub one_each : length senders ≡ w.processes
   pub exact : (from to : ℕ) → to < w.processes → has (slice_index senders to) from ≡ has_parcel (channel w from to)
   pub some : (to : ℕ) → has receivers to ≡ true → (from : ℕ) × (has_parcel (channel w from to) ≡ true)
   pub none : (from to : ℕ) → has receivers to ≡ false → channel w from to ≡ []
+  pub counted : (to : ℕ) → to < w.processes → slice_index counts to ≡ count_of (slice_index senders to)
+  pub past : (to : ℕ) → w.processes ≤ to → slice_index counts to ≡ 0

@@ -1,12 +1,14 @@
 //! Channels between all pairs of processes.
 
-ghost use Rattle.std.specs.Prelude.{◌≡◌, ◌≢◌, ℕ, ◌<◌, ◌≤◌, ◌+◌, ◌-◌, ◌*◌, true, false, List, [], ◌∷◌, ◌++◌, length, drop, slice_get, IfOk, OnOk, OnErr};
+ghost use Rattle.std.specs.Prelude.{◌≡◌, ◌≢◌, ℕ, ◌<◌, ◌≤◌, ◌+◌, ◌-◌, ◌*◌, true, false, List, [], ◌∷◌, ◌++◌, length, drop, slice_get, slice_index, IfOk, OnOk, OnErr, IfSome, IfNone};
 ghost use Rattle.std.specs.Option.{option_copied};
-ghost use Rattle.kt_base.specs.Sets.{has};
+ghost use Rattle.kt_base.specs.Sets.{has, count_of};
 ghost use Rattle.kt_fifo.specs.Queues.{has_parcel};
 ghost use Rattle.kt_fifo.specs.Channels.{channel, spare_of, at_pair, nothing, IsTarget};
+ghost use Rattle.kt_fifo.specs.Counts.{count_first, waits, busy_pairs, IsPairAt};
 ghost use Rattle.kt_fifo.specs.Parcels.{without_above};
 
+use crate::counts::{Counts, member_at};
 use crate::fifo::Fifo;
 use crate::parcels::Parcel;
 use kt_base::{Label, Memory, ProcNo, ProcSet};
@@ -21,6 +23,7 @@ pub struct Channels {
     processes: usize,
     fifos: Vec<Fifo>,
     senders: Vec<ProcSet>,
+    counts: Counts,
     receivers: ProcSet,
 }
 
@@ -31,7 +34,7 @@ impl Model for Channels {
 
     ghost view = { λ c. record { processes = c.processes; queues = c.fifos.items } };
 
-    ghost invariant = { λ c. IsWired (record { processes = c.processes; queues = c.fifos.items }) c.senders.items c.receivers };
+    ghost invariant = { λ c. IsWired (record { processes = c.processes; queues = c.fifos.items }) c.senders.items c.counts c.receivers };
 }
 
 /// A set, once it is known whether one process is in it.
@@ -55,6 +58,25 @@ fn note_receiver(receivers: &mut ProcSet, to: ProcNo, senders: ProcSet)
     *receivers = noted(*receivers, to, senders.first().is_some());
 }
 
+/// Counts the senders to a process anew, where one of them came or went.
+#[inline(always)]
+fn note_count(counts: &mut Counts, to: ProcNo, from: ProcNo, before: ProcSet, senders: ProcSet)
+    requires sender { from < 64 }
+    requires counted { slice_index counts.old to ≡ count_of before }
+    requires others { (q : ℕ) → q ≢ from → has senders q ≡ has before q }
+    ensures counted { slice_index counts.new to ≡ count_of senders }
+    ensures others { (q : ℕ) → q ≢ to → slice_index counts.new q ≡ slice_index counts.old q }
+{
+    if senders.has(from) == before.has(from) {
+        return;
+    }
+    if senders.has(from) {
+        counts.add(to);
+    } else {
+        counts.remove(to);
+    }
+}
+
 impl Channels {
     /// Channels with empty lists between that many processes, at most 64.
     pub fn new(alloc: Global, processes: usize) -> Result<Channels, Memory>
@@ -72,6 +94,7 @@ impl Channels {
             processes,
             fifos,
             senders,
+            counts: Counts::new(),
             receivers: ProcSet::empty(),
         })
     }
@@ -127,6 +150,34 @@ impl Channels {
         ensures within { (to : ℕ) → has result to ≡ true → to < self.now.processes }
     {
         self.receivers
+    }
+
+    /// How many processes have a parcel in transit to this one.
+    #[inline(always)]
+    pub fn sender_count(&self, to: ProcNo) -> usize
+        requires { to < self.now.processes }
+        ensures { result ≡ count_first (waits self.now to) self.now.processes }
+    {
+        self.counts.get(to)
+    }
+
+    /// How many ordered pairs of processes have a parcel in transit.
+    #[inline(always)]
+    pub fn busy_pairs(&self) -> usize
+        ensures { result ≡ busy_pairs self.now }
+    {
+        self.counts.total()
+    }
+
+    /// The pair at a place among those that have a parcel in transit, the receiver first: by receiver, and then by sender.
+    #[inline(always)]
+    pub fn pair_at(&self, place: usize) -> Option<(ProcNo, ProcNo)>
+        ensures some { IfSome result (λ pair. IsPairAt self.now pair.0 pair.1 place) }
+        ensures none { IfNone result (busy_pairs self.now ≤ place) }
+    {
+        let (to, left) = self.counts.find(place)?;
+        let from = member_at(self.senders[to.index()], left)?;
+        Some((to, from))
     }
 
     /// The oldest parcel from one process to another.
@@ -193,8 +244,10 @@ impl Channels {
         let fifo = &mut self.fifos[place];
         fifo.push_reserved(parcel);
         let receiver = to.get() as usize;
-        let senders = noted(self.senders[receiver], from, true);
+        let before = self.senders[receiver];
+        let senders = noted(before, from, true);
         self.senders[receiver] = senders;
+        note_count(&mut self.counts, to, from, before, senders);
         note_receiver(&mut self.receivers, to, senders);
     }
 
@@ -214,8 +267,10 @@ impl Channels {
         let parcel = fifo.pop();
         let waits = fifo.has_parcel();
         let receiver = to.get() as usize;
-        let senders = noted(self.senders[receiver], from, waits);
+        let before = self.senders[receiver];
+        let senders = noted(before, from, waits);
         self.senders[receiver] = senders;
+        note_count(&mut self.counts, to, from, before, senders);
         note_receiver(&mut self.receivers, to, senders);
         parcel
     }
@@ -234,8 +289,10 @@ impl Channels {
         fifo.drop_above(label);
         let waits = fifo.has_parcel();
         let receiver = to.get() as usize;
-        let senders = noted(self.senders[receiver], from, waits);
+        let before = self.senders[receiver];
+        let senders = noted(before, from, waits);
         self.senders[receiver] = senders;
+        note_count(&mut self.counts, to, from, before, senders);
         note_receiver(&mut self.receivers, to, senders);
     }
 
@@ -261,11 +318,15 @@ impl Channels {
         fifo.put_before(&mut other.fifos[other_place]);
         let waits = fifo.has_parcel();
         let receiver = to.get() as usize;
-        let senders = noted(self.senders[receiver], from, waits);
+        let before = self.senders[receiver];
+        let senders = noted(before, from, waits);
         self.senders[receiver] = senders;
+        note_count(&mut self.counts, to, from, before, senders);
         note_receiver(&mut self.receivers, to, senders);
-        let other_senders = noted(other.senders[receiver], from, false);
+        let other_before = other.senders[receiver];
+        let other_senders = noted(other_before, from, false);
         other.senders[receiver] = other_senders;
+        note_count(&mut other.counts, to, from, other_before, other_senders);
         note_receiver(&mut other.receivers, to, other_senders);
     }
 }

@@ -75,7 +75,7 @@ impl Fifo {
         requires { 0 < self.old.spare }
         ensures { self.new ≡ record { parcels = self.old.parcels ++ parcel ∷ []; spare = self.old.spare - 1 } }
     {
-        self.parcels.push_back(parcel).unwrap();
+        self.parcels.push_back_reserved(parcel);
     }
 
     /// Adds a parcel before all others, in room made beforehand.
@@ -83,7 +83,7 @@ impl Fifo {
         requires { 0 < self.old.spare }
         ensures { self.new ≡ record { parcels = parcel ∷ self.old.parcels; spare = self.old.spare - 1 } }
     {
-        self.parcels.push_front(parcel).unwrap();
+        self.parcels.push_front_reserved(parcel);
     }
 
     /// The oldest parcel.

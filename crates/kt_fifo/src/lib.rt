@@ -2,8 +2,10 @@
 #![tactic(auto)]
 
 mod channels;
+mod counts;
 mod fifo;
 mod parcels;
 
 pub use channels::Channels;
+pub use counts::member_at;
 pub use parcels::Parcel;

@@ -1,12 +1,17 @@
 use Rattle.std.proofs.Common.{◌∙◌}
 use Rattle.kt_fifo.specs.Parcels.{without_above}
-use Rattle.kt_fifo.proofs.Wiring.{place_of, lists_changed, spare_freed, wired_written}
+use Rattle.kt_fifo.proofs.Wiring.{place_of, lists_changed, spare_freed, wired_written, count_before}
 use Rattle.kt_fifo.proofs.channels.Channels.drop_above.Goals as goal
+
+pub note_count-requires-clause-counted : goal.note_count-requires-clause-counted
+note_count-requires-clause-counted c =
+    let at = place_of _ _ _ _ _ c.self.view_is c.self.invariant.square c.requires.from c.requires.to c.place-place.ensures.place in
+    count_before _ _ _ _ _ _ _ _ _ c.self.invariant at c.get-receiver.ensures.value c.index-before.ensures
 
 pub invariant_of-self : goal.invariant_of-self
 invariant_of-self c =
     let at = place_of _ _ _ _ _ c.self.view_is c.self.invariant.square c.requires.from c.requires.to c.place-place.ensures.place in
-    wired_written _ _ _ _ _ _ _ _ _ _ _ c.self.invariant at c.get-receiver.ensures.value c.index.ensures (c.noted-senders.ensures.here ∙ c.has_parcel-waits.ensures) c.noted-senders.ensures.others c.note_receiver.ensures.some c.note_receiver.ensures.none c.note_receiver.ensures.others
+    wired_written _ _ _ _ _ _ _ _ _ _ _ _ _ c.self.invariant at c.get-receiver.ensures.value c.index-before.ensures (c.noted-senders.ensures.here ∙ c.has_parcel-waits.ensures) c.noted-senders.ensures.others c.note_receiver.ensures.some c.note_receiver.ensures.none c.note_receiver.ensures.others c.note_count.ensures.counted c.note_count.ensures.others
 
 pub returns-clause-lists : goal.returns-clause-lists
 returns-clause-lists c =
