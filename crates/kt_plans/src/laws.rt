@@ -131,6 +131,10 @@ pub fn logs_follow_plans()
     ensures follows { (plan : Planned) (first : ℕ) (w : Progress) → IsPlan plan → RunReaches plan first w →
         is_at_rest plan w ≡ true → FollowsPlan plan w.now.log }
 
+    // A process has a row for each command that it has done.
+    ensures counts { (plan : Planned) (first : ℕ) (w : Progress) (p : ℕ) → IsPlan plan → RunReaches plan first w →
+        length (command_rows p w.now.log) ≡ w.done p }
+
     // A row of a later phase comes after all of earlier ones.
     ensures order { (plan : Planned) (log : List Event) (m n j k : ℕ) → BeginsPlan plan log → m ≤ n →
         phase_at plan log m ≡ Some j → phase_at plan log n ≡ Some k → j ≤ k }
@@ -416,8 +420,11 @@ pub fn steps_of_runs()
     ensures of_another { (plan : Planned) (first : ℕ) (w : Progress) (p q : ℕ) → IsPlan plan → RunReaches plan first w →
         enabled plan w (Take p q) ≡ true → p ≢ q }
 
-    // In every world, reached or not, a look is idle exactly where its step is not enabled.
+    // In every world, reached or not, a look is idle exactly where its step is not enabled; and a process that is asked
+    // for a body is up.
     ensures idle { (plan : Planned) (w : Progress) (x : Step) → (look plan w x ≡ Idle) ↔ (enabled plan w x ≡ false) }
+    ensures up { (plan : Planned) (w : Progress) (x : Step) → look plan w x ≡ NeedsBody →
+        (w.now.states (process_of_step x)).up ≡ true }
 
     // Of what the object gives, that counts which the step asks for.
     ensures gives { (plan : Planned) (first : ℕ) (w : Progress) (x : Step) (a b : Give) → IsPlan plan →

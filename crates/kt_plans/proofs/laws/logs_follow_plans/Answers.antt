@@ -2,7 +2,7 @@ use Rattle.std.proofs.Common.{arith}
 use Rattle.kt_plans.specs.Plans.{commands_of}
 use Rattle.kt_plans.specs.Follows.{command_rows}
 use Rattle.kt_plans.proofs.CommandRows.{phases_rise, answer_first, answer_all}
-use Rattle.kt_plans.proofs.FollowsRuns.{begins_seen, follows_seen}
+use Rattle.kt_plans.proofs.FollowsRuns.{begins_seen, follows_seen, run_follows}
 use Rattle.kt_plans.proofs.laws.logs_follow_plans.Goals as goal
 
 pub returns-clause-begins : goal.returns-clause-begins
@@ -10,6 +10,9 @@ returns-clause-begins c = begins_seen
 
 pub returns-clause-follows : goal.returns-clause-follows
 returns-clause-follows c = follows_seen
+
+pub returns-clause-counts : goal.returns-clause-counts
+returns-clause-counts c = λ plan first w p i r. (run_follows plan first i w r).along.counts p
 
 pub returns-clause-order : goal.returns-clause-order
 returns-clause-order c = λ plan log m n j k b l e f. phases_rise plan log m n j k b.phases l e f

@@ -3,6 +3,7 @@ use Rattle.kt_plans.proofs.OthersStep.{waits}
 use Rattle.kt_plans.proofs.RunSteps.{stays_on, stays_seen}
 use Rattle.kt_plans.proofs.DefaultSteps.{nothing_default, default_nothing, default_on, default_first, gives_same, unwilling_seen}
 use Rattle.kt_plans.proofs.IdleLooks.{idle_exactly}
+use Rattle.kt_plans.proofs.OffersSent.{up_seen}
 use Rattle.kt_plans.proofs.TakesOfOthers.{of_another}
 use Rattle.kt_plans.proofs.laws.steps_of_runs.Goals as goal
 use Rattle.kt_plans.proofs.DefaultOrder.{some_is}
@@ -42,6 +43,9 @@ returns-clause-of_another c = of_another
 
 pub returns-clause-idle : goal.returns-clause-idle
 returns-clause-idle c = idle_exactly
+
+pub returns-clause-up : goal.returns-clause-up
+returns-clause-up c = up_seen
 
 pub returns-clause-exact : goal.returns-clause-exact
 returns-clause-exact c = λ plan w x. (some_is plan w x, exact_first plan w x)
