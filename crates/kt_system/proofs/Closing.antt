@@ -1,14 +1,9 @@
 -- A process that closes its instance, or goes on in it, as the machine has it.
 use Rattle.std.specs.Prelude.{Option, Some, None, ◌==◌, if◌then◌else◌}
-use Rattle.std.proofs.Common.{◌≡◌, ◌<◌, ◌≤◌, ℕ, Bool, true, false, List, [], ◌∷◌, ◌++◌, length, refl, arith, ap, subst, sym, ◌∙◌}
-use Rattle.std.proofs.Math.Path.{fun_ext}
-use Rattle.std.proofs.lemmas.Bool.Decides.{nat_tests}
-use Rattle.kt_base.specs.Sets.{has}
-use Rattle.kt_cuts.specs.Past.{at_one}
+use Rattle.std.proofs.Common.{◌≡◌, ◌≤◌, ℕ, Bool, true, false, refl, ap, sym}
 use Rattle.kt_fifo.specs.Channels.{ChannelLists, channel}
 use Rattle.kt_spacetime.specs.declared.event.Event.TheVariants.{Closed}
 use Rattle.kt_parts.specs.Rules.{way_alone}
-use Rattle.kt_parts.specs.declared.actions.Then.{Then}
 use Rattle.kt_parts.specs.declared.actions.Then.TheVariants.{Wait, Answer, Commit}
 use Rattle.kt_seen.specs.Seen.{SeenPart, SeenProcess, SeenLists, Seen}
 use Rattle.kt_seen.specs.ListChanges.{with_decisions, trims}
@@ -21,7 +16,7 @@ use Rattle.kt_process.specs.ProcessStates.{ProcessState, asked_of, inst_of, is_r
 use Rattle.kt_process.specs.Turns.{noted_by, marks_of}
 use Rattle.kt_process.specs.declared.side.Side.{Side}
 use Rattle.kt_process.specs.declared.side.Side.TheVariants as side
-use Rattle.kt_process.specs.Shown.{IsSeenAs, part_shown, inst_shown, closed_as, goes_on, mark_of}
+use Rattle.kt_process.specs.Shown.{IsSeenAs, part_shown, closed_as, goes_on, mark_of}
 use Rattle.kt_system.specs.Shown.{with_row, turned_to, lists_closed, held_closed, kept_closed}
 
 -- a part is read of the process that keeps it

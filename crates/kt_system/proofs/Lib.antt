@@ -14,3 +14,4 @@ pub mod Counting
 pub mod Tallying
 pub mod Growing
 pub mod Saving
+pub mod Places

@@ -1,12 +1,12 @@
 -- Messages sent, taken and received, as the machine has them.
-use Rattle.std.specs.Prelude.{◌==◌, ◌&&◌, not, nat_lt, if◌then◌else◌, Option, Some, None}
-use Rattle.std.proofs.Common.{◌≡◌, ◌<◌, ◌≤◌, ◌+◌, ℕ, Bool, true, false, List, [], ◌∷◌, ◌++◌, drop, length, refl, arith, ap, subst, sym, ◌∙◌}
+use Rattle.std.specs.Prelude.{◌==◌, nat_lt, if◌then◌else◌}
+use Rattle.std.proofs.Common.{◌≡◌, ◌<◌, ◌+◌, ℕ, Bool, true, false, List, [], ◌∷◌, ◌++◌, refl, arith, ap, subst, sym}
 use Rattle.std.specs.Prelude.{ℤ}
 use Rattle.std.proofs.lemmas.Bool.Decides.{nat_tests}
 use Rattle.kt_base.specs.declared.words.Cause.TheVariants.{Down}
 use Rattle.kt_base.specs.declared.words.Verb.TheVariants as verb
 use Rattle.kt_cuts.specs.Past.{at_one}
-use Rattle.kt_tables.specs.Calls.{Call, sent, received, Speaks}
+use Rattle.kt_tables.specs.Calls.{Call, sent, Speaks}
 use Rattle.kt_protocol.specs.States.{Send, Fail}
 use Rattle.kt_seen.specs.Seen.{SeenProcess, SeenLists, Seen}
 use Rattle.kt_seen.specs.SeenMessages.{seen_sending, seen_refusal, seen_failing, seen_receiving, seen_dropping, seen_arrival}

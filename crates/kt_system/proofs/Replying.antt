@@ -1,23 +1,21 @@
 -- Replies and decisions taken, as the machine has them.
 use Rattle.std.specs.Prelude.{◌==◌, ◌&&◌, not, ◌-◌, if◌then◌else◌, Option, Some, None, option_map}
-use Rattle.std.proofs.Common.{◌≡◌, ◌≢◌, ◌<◌, ◌≤◌, ◌+◌, ℕ, zero, suc, Bool, true, false, List, [], ◌∷◌, drop, refl, arith, ap, subst, sym, ◌∙◌, inl, inr}
+use Rattle.std.proofs.Common.{◌≡◌, ◌≢◌, ◌≤◌, ℕ, zero, suc, Bool, true, false, List, refl, arith, ap, subst, sym, ◌∙◌, inl, inr}
 use Rattle.std.proofs.Math.Path.{fun_ext}
 use Rattle.std.proofs.lemmas.Bool.{cases_eq}
 use Rattle.std.proofs.lemmas.Bool.Decides.{nat_tests}
 use Rattle.kt_cuts.specs.Past.{at_one}
 use Rattle.kt_fifo.specs.declared.parcels.Parcel.{Parcel}
-use Rattle.kt_fifo.specs.declared.parcels.Parcel.TheVariants as parcel
-use Rattle.kt_parts.specs.Rules.{reply_action, last_action, after_reply}
+use Rattle.kt_parts.specs.Rules.{last_action, after_reply}
 use Rattle.kt_parts.specs.Parts.{Part}
-use Rattle.kt_parts.specs.declared.actions.Action.{Action}
 use Rattle.kt_parts.specs.declared.actions.Action.TheVariants as what
 use Rattle.kt_process.specs.ProcessStates.{ProcessState, part_of_side, inst_of, is_ready, IsNumbered}
 use Rattle.kt_process.specs.Turns.{reply_of}
 use Rattle.kt_process.specs.declared.side.Side.{Side}
 use Rattle.kt_process.specs.declared.side.Side.TheVariants as side
-use Rattle.kt_process.specs.Shown.{IsSeenAs, part_shown, inst_shown, part_as, counted_as}
+use Rattle.kt_process.specs.Shown.{IsSeenAs, part_shown, inst_shown, counted_as}
 use Rattle.kt_seen.specs.Seen.{SeenPart, SeenProcess, Seen}
-use Rattle.kt_seen.specs.SeenClosing.{seen_closing, seen_settling, seen_ending}
+use Rattle.kt_seen.specs.SeenClosing.{seen_closing, seen_settling}
 use Rattle.kt_seen.specs.SeenMessages.{seen_without_front}
 use Rattle.kt_seen.specs.SeenReplies.{seen_reply, part_after_reply}
 use Rattle.kt_seen.specs.Transition.{is_seen_ready}

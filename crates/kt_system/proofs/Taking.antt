@@ -1,14 +1,12 @@
 -- A process that takes its next parcel, as the machine has it.
-use Rattle.std.specs.Prelude.{◌==◌, ◌&&◌, not, ℤ, if◌then◌else◌, Option, Some, None, slice_get}
-use Rattle.std.proofs.Common.{◌≡◌, ◌<◌, ◌≤◌, ◌+◌, ℕ, Bool, true, false, List, [], ◌∷◌, ◌++◌, drop, length, refl, arith, ap, subst, sym, ◌∙◌}
-use Rattle.std.proofs.lemmas.Bool.Decides.{nat_tests}
-use Rattle.kt_cuts.specs.Past.{at_one}
+use Rattle.std.specs.Prelude.{ℤ, if◌then◌else◌, Some, None, slice_get}
+use Rattle.std.proofs.Common.{◌≡◌, ℕ, Bool, true, false, List, [], ◌∷◌, ◌++◌, drop, refl, ap, subst, sym}
 use Rattle.kt_fifo.specs.declared.parcels.Parcel.{Parcel}
-use Rattle.kt_fifo.specs.declared.parcels.Parcel.TheVariants.{App, Ask, Reply, Decide}
+use Rattle.kt_fifo.specs.declared.parcels.Parcel.TheVariants.{App}
 use Rattle.kt_protocol.specs.States.{Take}
 use Rattle.kt_tables.specs.Calls.{Call, received, Speaks}
 use Rattle.kt_seen.specs.Seen.{SeenProcess, SeenLists, Seen}
-use Rattle.kt_seen.specs.SeenMessages.{seen_arrival, seen_receiving, seen_dropping, seen_holding}
+use Rattle.kt_seen.specs.SeenMessages.{seen_arrival, seen_holding}
 use Rattle.kt_seen.specs.Transition.{transition, seen_front, seen_take, is_seen_ready}
 use Rattle.kt_system.proofs.Messages.{at_same, arrives_up}
 

@@ -5,3 +5,4 @@ pub mod Shown
 pub mod ShownActs
 pub mod Tallies
 pub mod Keeps
+pub mod Counts

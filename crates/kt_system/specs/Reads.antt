@@ -1,10 +1,11 @@
 -- What can be read of a system.
-use Rattle.std.specs.Prelude.{◌≡◌, ◌<◌, ◌≤◌, ◌-◌, ◌⊎◌, ℕ, Bool, true, false, Option, None, [], if◌then◌else◌, is_some, slice_get, slice_index_or}
+use Rattle.std.specs.Prelude.{◌≡◌, ◌<◌, ◌≤◌, ◌-◌, ◌⊎◌, ℕ, Bool, true, false, Option, Some, None, [], if◌then◌else◌, is_some, slice_get, slice_index_or}
 use Rattle.std.specs.Option.{option_or, option_map_or}
 use Rattle.kt_base.specs.declared.words.Kind.TheVariants as kind
 use Rattle.kt_fifo.specs.Channels.{channel}
 use Rattle.kt_fifo.specs.declared.parcels.Parcel.{Parcel}
 use Rattle.kt_fifo.specs.declared.parcels.Parcel.TheVariants.{Ask}
+use Rattle.kt_parts.specs.Parts.{Part}
 use Rattle.kt_process.specs.ProcessStates.{ProcessState, is_ready, inst_of}
 use Rattle.kt_process.specs.Turns.{joins_by}
 use Rattle.kt_system.specs.declared.system.Tally.{Tally}
@@ -16,6 +17,11 @@ no_tally = record { asks = 0; replies = 0; decisions = 0 }
 -- what an instance put into channels
 abbrev pub tally_of : Whole → ℕ → Tally
 tally_of w inst = slice_index_or w.put (inst - 1) no_tally
+
+-- how many replies a process with this part awaits
+abbrev pub awaited_of : Option Part → ℕ
+awaited_of None = 0
+awaited_of (Some part) = part.awaited
 
 -- the first parcel of another process that is held for one, where that is in no rollback
 abbrev pub held_parcel : Whole → ℕ → ℕ → Option Parcel

@@ -1,5 +1,5 @@
 -- A system of processes, and what a step of it needs of room.
-use Rattle.std.specs.Prelude.{◌≡◌, ℕ, ◌+◌, ◌<◌, ◌≤◌, Bool, true, false, None, List, [], ◌++◌, All, length, slice_index_or}
+use Rattle.std.specs.Prelude.{◌≡◌, ℕ, ◌+◌, ◌<◌, ◌≤◌, true, false, None, List, [], ◌++◌, All, length, slice_index_or}
 use Rattle.kt_fifo.specs.Channels.{ChannelLists, channel, spare_of}
 use Rattle.kt_spacetime.specs.Logs.{Log}
 use Rattle.kt_spacetime.specs.declared.event.Event.{Event}
@@ -12,7 +12,6 @@ use Rattle.kt_parts.specs.declared.actions.Then.{Then}
 use Rattle.kt_parts.specs.declared.actions.Then.TheVariants.{Answer, Commit}
 use Rattle.kt_process.specs.ProcessStates.{ProcessState, part_of_side, is_ready, asked_of, IsNumbered}
 use Rattle.kt_base.specs.Sets.{has}
-use Rattle.kt_base.specs.declared.words.Kind.{Kind}
 use Rattle.kt_system.specs.declared.system.Tally.{Tally}
 
 -- how many processes it has, and these; the parcels in channels, held, and kept; its log; how many instances began; and

@@ -16,6 +16,7 @@ use std::alloc::Global;
 use std::marker::Model;
 
 mod commands;
+mod counts;
 mod instances;
 mod leaves;
 mod messages;

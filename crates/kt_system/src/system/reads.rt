@@ -8,7 +8,7 @@ ghost use Rattle.kt_fifo.specs.Channels.{channel};
 ghost use Rattle.kt_process.specs.ProcessStates.{ProcessState, part_of_side, is_ready, inst_of, IsNumbered};
 ghost use Rattle.kt_process.specs.Turns.{joins_by};
 ghost use Rattle.kt_system.specs.Systems.{state_of};
-ghost use Rattle.kt_system.specs.Reads.{tally_of, held_parcel, next_parcel, can_take, saves_by, would_save, IsQuietSystem};
+ghost use Rattle.kt_system.specs.Reads.{tally_of, awaited_of, held_parcel, next_parcel, can_take, saves_by, would_save, IsQuietSystem};
 
 use super::{System, Tally};
 use kt_base::{InstNo, Kind, Label, ProcNo};
@@ -55,6 +55,17 @@ impl System {
         ensures { result ≡ (state_of self.now p).up }
     {
         self.process(p).is_up()
+    }
+
+    /// How many replies a process awaits in the instance that it is in; 0 where it is in none.
+    pub fn awaited(&self, p: ProcNo) -> u32
+        requires { p < self.now.size }
+        ensures { result ≡ awaited_of (part_of_side (state_of self.now p).side) }
+    {
+        match self.process(p).part() {
+            Some(part) => part.awaited(),
+            None => 0,
+        }
     }
 
     /// Whether a process is in a rollback.
@@ -193,7 +204,7 @@ impl System {
 }
 
 /// Whether no parcel is in any list.
-fn is_empty(channels: &Channels) -> bool
+pub(super) fn is_empty(channels: &Channels) -> bool
     ensures { IsTrue result ↔ ((p q : ℕ) → channel channels.now p q ≡ []) }
 {
     channels.receivers().first().is_none()

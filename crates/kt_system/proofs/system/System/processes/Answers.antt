@@ -1,4 +1,4 @@
-use Rattle.std.proofs.Common.{◌≡◌, ◌<◌, ℕ, ap, subst, arith}
+use Rattle.std.proofs.Common.{◌<◌, ℕ, subst, arith}
 use Rattle.kt_process.specs.ProcessStates.{ProcessState, part_of_side, IsNumbered}
 use Rattle.kt_system.specs.Systems.{Whole, state_of}
 use Rattle.kt_system.proofs.Turns.{each_state}
