@@ -1,14 +1,12 @@
 -- What a pass knows of rows after one more.
-use Rattle.std.proofs.Common.{◌≡◌, ◌≤◌, ◌+◌, ℕ, true, false, Option, Some, None, List, [], ◌∷◌, ◌++◌, length, refl, sym, ap, subst, ◌∙◌, arith, length-append}
+use Rattle.std.proofs.Common.{◌≡◌, ◌≤◌, true, false, Option, Some, None, List, [], ◌∷◌, ◌++◌, length, refl, sym, subst, ◌∙◌, arith, length-append}
 use Rattle.kt_spacetime.specs.declared.event.Event.{Event}
-use Rattle.kt_cuts.specs.declared.rules.Rule.{Rule}
 use Rattle.kt_cuts.specs.Past.{start}
-use Rattle.kt_cuts.specs.Legal.{IsLegal, first_broken}
+use Rattle.kt_cuts.specs.Legal.{IsLegal}
 use Rattle.kt_cuts.proofs.SortedFacts.{some_same}
 use Rattle.kt_walk.specs.WalkOf.{WalkOf}
 use Rattle.kt_checker.proofs.Answering.{no_broken}
-use Rattle.kt_certify.specs.Faults.{HasNoChain, IsFirstWithout, IsUnfit}
-use Rattle.kt_certify.specs.Instances.{AreInstancesOf}
+use Rattle.kt_certify.specs.Faults.{IsUnfit}
 use Rattle.kt_certify.specs.PassOf.{KeepsFit, PassKeeps, PassOf, IsBroken, AreEntered, tells_rule}
 use Rattle.kt_certify.specs.declared.fault.Unfit.{Unfit}
 use Rattle.kt_certify.specs.declared.fault.Unfit.TheVariants.{BadLog, NoChain}

@@ -21,6 +21,7 @@ pub mod Ranges
 pub mod Rows
 pub mod Whole
 pub mod Fit
+pub mod RunFacts
 pub mod Reading
 pub mod Worked
 pub mod ChainLinks

@@ -1,5 +1,5 @@
 -- A log certified while its rows are read.
-use Rattle.std.proofs.Common.{◌≡◌, ◌≤◌, ◌<◌, ◌^◌, ◌∷◌, ◌++◌, ℕ, List, [], Option, Some, None, IfSome, All, refl, sym, subst, arith, length, ◌∙◌}
+use Rattle.std.proofs.Common.{◌≡◌, ◌≤◌, ◌<◌, ◌^◌, ◌∷◌, ◌++◌, ℕ, List, [], Option, Some, None, IfSome, All, sym, subst, arith, length}
 use Rattle.std.specs.List.{filter_map}
 use Rattle.std.proofs.lemmas.List.Elements.{All-push}
 use Rattle.kt_spacetime.specs.declared.event.Event.{Event}
@@ -12,7 +12,7 @@ use Rattle.kt_log_text.proofs.TextFacts.{one_log}
 use Rattle.kt_chain.specs.declared.certificate.Certificate.{Certificate}
 use Rattle.kt_chain.specs.Spelling.{HasShortChains, records_of}
 use Rattle.kt_chain.specs.Texts.{IsCertText}
-use Rattle.kt_certify.specs.Faults.{IsFitLog, IsUnfit}
+use Rattle.kt_certify.specs.Faults.{IsUnfit}
 use Rattle.kt_certify.specs.PassOf.{PassOf}
 use Rattle.kt_certify.specs.Streamed.{AreRowsOf, AreCertified}
 use Rattle.kt_certify.specs.declared.fault.Unfit.{Unfit}

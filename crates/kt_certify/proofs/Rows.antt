@@ -20,8 +20,7 @@ use Rattle.kt_certify.specs.Linking.{chain_of, chained}
 use Rattle.kt_certify.specs.Faults.{HasNoChain, IsFirstWithout, IsUnlinked}
 use Rattle.kt_certify.specs.Instances.{InstanceParts, instances_after, AreInstancesOf, beginning_kept, joined_kept}
 use Rattle.kt_certify.specs.Stops.{AreChainedTo, HasChains, IsStuck, StopsIn, StopsOn}
-use Rattle.kt_certify.specs.declared.fault.Stop.{Stop}
-use Rattle.kt_certify.specs.declared.fault.Stop.TheVariants.{NoChain, Memory}
+use Rattle.kt_certify.specs.declared.fault.Stop.TheVariants.{NoChain}
 use Rattle.kt_certify.proofs.Chained.{process, processes_are}
 use Rattle.kt_certify.proofs.Entered.{beginning_there}
 use Rattle.kt_certify.proofs.PassSteps.{step}
@@ -96,7 +95,7 @@ lacks_in : (log more : List Event) (k p : ℕ) (h : HasNoChain (log ++ more) k p
 lacks_in log more k p h low = (lacks_in_at log more k p h low).0
 
 -- what a log lacks, a longer one lacks
-lacks_more : (log more : List Event) (k p : ℕ) (h : HasNoChain log k p) → (o : HasNoChain (log ++ more) k p) × (o.row ≡ h.row) × (o.place ≡ h.place)
+pub lacks_more : (log more : List Event) (k p : ℕ) (h : HasNoChain log k p) → (o : HasNoChain (log ++ more) k p) × (o.row ≡ h.row) × (o.place ≡ h.place)
 lacks_more log more k p h =
     let low : h.row < length log = slice_get_within log h.row (Decided h.decider k true) h.decided in
     let same : take h.row log ≡ take h.row (log ++ more) = sym (take-append-le h.row log more (omega (arith, low))) in

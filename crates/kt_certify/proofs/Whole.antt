@@ -1,9 +1,9 @@
 -- What a pass over all rows of a log has found.
-use Rattle.std.proofs.Common.{◌≡◌, ℕ, ◌+◌, ◌^◌, ◌≤◌, Option, Some, None, All, List, [], ◌∷◌, ◌++◌, length, take, drop, sym, subst, ◌∙◌}
+use Rattle.std.proofs.Common.{◌≡◌, ℕ, ◌+◌, ◌^◌, ◌≤◌, Option, Some, None, All, List, [], ◌∷◌, ◌++◌, length, sym, subst, ◌∙◌}
 use Rattle.std.specs.List.{filter_map}
 use Rattle.kt_spacetime.specs.declared.event.Event.{Event}
 use Rattle.kt_cuts.specs.declared.rules.Rule.{Rule}
-use Rattle.kt_cuts.specs.Past.{Past, start, after}
+use Rattle.kt_cuts.specs.Past.{Past, after}
 use Rattle.kt_cuts.specs.Legal.{broken_rule, first_broken_after, or_later}
 use Rattle.kt_chain.specs.declared.certificate.Certificate.{Certificate}
 use Rattle.kt_chain.specs.Spelling.{HasShortChains, records_of}

@@ -54,7 +54,7 @@ impl Instance {
         Ok(())
     }
 
-    // Its certificate, where the next row decides it.
+    // Its certificate, where the next row decides it; where it is aborted, nothing is asked of the walk.
     fn certified(
         &self,
         alloc: Global,
@@ -62,7 +62,7 @@ impl Instance {
         inst: InstNo,
         commit: bool,
     ) -> Result<Certificate, Stop>
-        ensures certificate { IfOk result (λ c. (rows : List Event) → WalkOf walk.now rows
+        ensures certificate { IfOk result (λ c. (rows : List Event) → (commit ≡ true → WalkOf walk.now rows)
             → c ≡ certified (past rows) self.now.joined inst commit self.now.beginning) }
         ensures chained { IfOk result (λ c. (rows : List Event) → WalkOf walk.now rows → commit ≡ true
             → HasChains (past rows) inst self.now) }
@@ -90,7 +90,7 @@ impl Instance {
         })
     }
 
-    /// The next row decides it.
+    /// The next row decides it. Where it is aborted, nothing is asked of the walk.
     pub(crate) fn decide(
         &mut self,
         alloc: Global,
@@ -98,7 +98,7 @@ impl Instance {
         inst: InstNo,
         commit: bool,
     ) -> Result<(), Stop>
-        ensures decided { OnOk result ((rows : List Event) → WalkOf walk.now rows
+        ensures decided { OnOk result ((rows : List Event) → (commit ≡ true → WalkOf walk.now rows)
             → self.new ≡ decided_as (past rows) inst commit self.old) }
         ensures chained { OnOk result ((rows : List Event) → WalkOf walk.now rows → commit ≡ true
             → HasChains (past rows) inst self.old) }

@@ -7,6 +7,7 @@ mod fault;
 mod instance;
 mod laws;
 mod pass;
+mod runs;
 mod streaming;
 
 pub use certifying::certify;
@@ -15,4 +16,5 @@ pub use laws::{
     certificates_in_one_pass, certificates_of_fit_logs, certificates_of_legal_logs,
     certificates_of_logs, linking_messages_of_walks,
 };
+pub use runs::certificates_of_run;
 pub use streaming::certify_stream;

@@ -1,6 +1,6 @@
 //! One pass over the rows of a log.
 
-ghost use Rattle.std.specs.Prelude.{◌≡◌, ◌<◌, ◌^◌, ◌++◌, ◌∷◌, [], ℕ, true, Some, List, IfOk, IfErr, IfSome, IfNone, OnOk};
+ghost use Rattle.std.specs.Prelude.{◌≡◌, ◌<◌, ◌^◌, ◌++◌, ◌∷◌, [], ℕ, true, false, Some, List, IfOk, IfErr, IfSome, IfNone, OnOk};
 ghost use Rattle.std.specs.List.{filter_map};
 ghost use Rattle.kt_spacetime.specs.declared.event.Event.{Event};
 ghost use Rattle.kt_spacetime.specs.declared.event.Event.TheVariants as event;
@@ -9,6 +9,7 @@ ghost use Rattle.kt_cuts.specs.Legal.{IsLegal};
 ghost use Rattle.kt_cuts.specs.Standing.{at_number};
 ghost use Rattle.kt_walk.specs.WalkOf.{WalkOf};
 ghost use Rattle.kt_certify.specs.Faults.{HasNoChain};
+ghost use Rattle.kt_certify.specs.Decisions.{is_commit};
 ghost use Rattle.kt_certify.specs.Instances.{InstanceParts, AreInstancesOf, changed, joined_by, decided_as, instances_after};
 ghost use Rattle.kt_certify.specs.Stops.{HasChains, StopsIn, StopsOn};
 ghost use Rattle.kt_certify.specs.PassOf.{AreEntered, IsBroken, PassOf, tells_rule};
@@ -93,6 +94,18 @@ impl Pass {
         Ok(Some(Unfit::NoChain(inst, number, process)))
     }
 
+    /// One more row, which commits no instance: what it changes of the instances alone. From then on rows are no longer fed.
+    pub(crate) fn note(&mut self, row: &Event) -> Result<(), Memory>
+        ensures { OnOk result ((rows : List Event) → is_commit row.now ≡ false → IsLegal (rows ++ row.now ∷ [])
+            → AreInstancesOf rows self.old.instances.items
+            → AreInstancesOf (rows ++ row.now ∷ []) self.new.instances.items) }
+    {
+        match enter(&mut self.instances, self.alloc, &self.walk, row) {
+            Ok(()) => Ok(()),
+            Err(_) => Err(Memory),
+        }
+    }
+
     /// Why the rows are not fit.
     pub(crate) fn unfit(&self) -> Option<Unfit>
         ensures { result ≡ self.now.unfit }
@@ -126,9 +139,9 @@ fn feed(walk: &mut Walk, row: &Event) -> Result<Option<Unfit>, Memory>
     Ok(Some(Unfit::BadLog(number, rule)))
 }
 
-// What the next row changes of the instances.
+// What the next row changes of the instances. Where it commits none, nothing is asked of the walk.
 fn enter(instances: &mut Vec<Instance>, alloc: Global, walk: &Walk, row: &Event) -> Result<(), Stop>
-    ensures entered { OnOk result ((rows : List Event) → WalkOf walk.now rows
+    ensures entered { OnOk result ((rows : List Event) → (is_commit row.now ≡ true → WalkOf walk.now rows)
         → instances.new.items ≡ instances_after (past rows) row.now instances.old.items) }
     ensures chained { OnOk result ((rows : List Event) (p k : ℕ) (v : InstanceParts) → WalkOf walk.now rows
         → row.now ≡ event.Decided p k true → at_number instances.old.items k ≡ Some v
@@ -187,7 +200,7 @@ fn decide(
     inst: InstNo,
     commit: bool,
 ) -> Result<(), Stop>
-    ensures decided { OnOk result ((rows : List Event) → WalkOf walk.now rows
+    ensures decided { OnOk result ((rows : List Event) → (commit ≡ true → WalkOf walk.now rows)
         → instances.new.items ≡ changed inst (decided_as (past rows) inst commit) instances.old.items) }
     ensures chained { OnOk result ((rows : List Event) (v : InstanceParts) → WalkOf walk.now rows → commit ≡ true
         → at_number instances.old.items inst ≡ Some v → HasChains (past rows) inst v) }

@@ -16,7 +16,7 @@ returns-in_default-clause-entered c = λ rows h walk legal.
     let row = c.args.row.now in
     let es = c.args.self.now.instances.items in
     let fit = fit_so_far c.args.self.now rows h (none_of c.args.self.now.unfit (sym c.if-is_some.ensures)) in (
-      entered_more rows row es c.enter.new.instances.items legal (c.in_default.ensures.entered rows walk) fit.instances,
+      entered_more rows row es c.enter.new.instances.items legal (c.in_default.ensures.entered rows (λ _. walk)) fit.instances,
       chained_more rows row es fit.instances (λ p k e is at. c.in_default.ensures.chained rows p k e walk is at) fit.chained,
     )
 
