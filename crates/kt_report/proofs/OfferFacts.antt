@@ -113,3 +113,15 @@ module _ (rows : List Event) (row : Event) (legal : IsLegal (rows ++ row ∷ [])
         let within = slice_get_within list u o e in
         h.each u o e ∙ ap (offers_of k) (other_due (rules_of_kind k) u (λ same. omega (arith, within, past, same ∙ sym whose)));
   }
+
+  -- the process does nothing to its object
+  pub none_acted : (list : List Offers) (kinds : List ℕ) → [] ≡ acts_of (done rows) row → ShowsOffers list kinds rows → ShowsOffers list kinds (rows ++ row ∷ [])
+  none_acted list kinds idle h = record {
+    count = h.count;
+    each = λ u o e.
+        let k = slice_index kinds u in
+        h.each u o e ∙ ap (offers_of k) (elim (cases_eq u (process_of row)) [
+          | inl same ↦ own_due (rules_of_kind k) u [] same idle
+          | inr n ↦ other_due (rules_of_kind k) u n
+        ]);
+  }

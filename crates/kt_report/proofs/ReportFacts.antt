@@ -1,5 +1,5 @@
 -- The parts of a report, one after another.
-use Rattle.std.proofs.Common.{◌≡◌, ◌++◌, ℕ, ℤ, List, [], Option, None, length, map, refl, ap, subst}
+use Rattle.std.proofs.Common.{◌≡◌, ◌++◌, ℕ, ℤ, List, [], Option, None, length, map, refl, ap, subst, ◌∙◌}
 use Rattle.std.specs.Prelude.{count_by}
 use Rattle.std.proofs.lemmas.List.{length-map}
 use Rattle.std.specs.List.{flat_map}
@@ -9,9 +9,12 @@ use Rattle.kt_chain.specs.declared.certificate.Certificate.{Certificate}
 use Rattle.kt_text.specs.Writing.{Sends, WritesFront}
 use Rattle.kt_text.proofs.PieceFacts.{sends_gathered, sends_rest, front_none, front_last, front_longer}
 use Rattle.kt_plan.specs.Limits.{Planned}
+use Rattle.kt_report.specs.declared.offers.Offers.{Offers}
+use Rattle.kt_report.specs.Shown.{ShowsOffers}
+use Rattle.kt_report.proofs.OfferFacts.{offers_are}
 use Rattle.kt_report.specs.Exact.{offers_in, lost_in, report_of}
 use Rattle.kt_report.specs.Lines.{instance_lines, refusal_line, losses_line}
-use Rattle.kt_report.specs.Report.{object_lines, is_drop, WritesReport, WritesReportFront}
+use Rattle.kt_report.specs.Report.{object_lines, is_drop, report_with, WritesReport, WritesReportFront}
 
 -- what was sent and what was gathered after it go out
 pub parts_go_out : (a c d : Option (List ℕ)) (start y z u commands objects losses : List ℕ) → start ≡ [] → Sends a c start y commands
@@ -22,31 +25,25 @@ parts_go_out a c d start y z u commands objects losses none p o e out =
     let four = sends_gathered a c [] z u (commands ++ objects) losses three e in
     sends_rest a c d u (commands ++ objects ++ losses) four out
 
--- the parts make a report
-pub writes_report : (a d : Option (List ℕ)) (names : List (List ℕ)) (rows : List Event) (certificates : List Certificate) (offers : List (Option ℤ)) (lost dropped : ℕ) → length offers ≡ length names
-    → dropped ≡ count_by is_drop rows → Appends a d (flat_map (instance_lines names rows) certificates ++ flat_map (refusal_line names) rows ++ object_lines names offers ++ losses_line lost dropped)
-    → WritesReport a d names rows certificates
-writes_report a d names rows certificates offers lost dropped one_each count out =
-    let before = flat_map (instance_lines names rows) certificates ++ flat_map (refusal_line names) rows ++ object_lines names offers in
-    record {
-      text = before ++ losses_line lost dropped;
-      written = out;
-      is = record {
-        offers = offers;
-        one_each = one_each;
-        lost = lost;
-        is = ap (λ (n : ℕ). before ++ losses_line lost n) count;
-      };
-    }
+-- the text makes a report
+pub writes_report : (a d : Option (List ℕ)) (names : List (List ℕ)) (rows : List Event) (certificates : List Certificate) (offers : List (Option ℤ)) (lost : ℕ) → length offers ≡ length names
+    → Appends a d (report_with names rows certificates offers lost) → WritesReport a d names rows certificates
+writes_report a d names rows certificates offers lost one_each out = record {
+  text = report_with names rows certificates offers lost;
+  written = out;
+  is = record { offers = offers; one_each = one_each; lost = lost; is = refl };
+}
 
--- the parts make the report of a legal log
-pub is_exact : (a d : Option (List ℕ)) (plan : Planned) (rows : List Event) (certificates : List Certificate) (offers : List (Option ℤ)) (lost dropped : ℕ) → offers ≡ offers_in plan.kinds rows
-    → lost ≡ lost_in rows → dropped ≡ count_by is_drop rows
-    → Appends a d (flat_map (instance_lines plan.names rows) certificates ++ flat_map (refusal_line plan.names) rows ++ object_lines plan.names offers ++ losses_line lost dropped)
-    → Appends a d (report_of plan rows certificates)
-is_exact a d plan rows certificates offers lost dropped same_offers same_lost same_dropped out =
-    let before = flat_map (instance_lines plan.names rows) certificates ++ flat_map (refusal_line plan.names) rows in
-    subst (λ (text : List ℕ). Appends a d text) (λ j. before ++ object_lines plan.names (same_offers j) ++ losses_line (same_lost j) (same_dropped j)) out
+-- the text is the report of a log, where objects offer so and so many messages are lost
+pub is_exact : (plan planned : Planned) (rows log : List Event) (certificates : List Certificate) (offers : List (Option ℤ)) (lost : ℕ) → plan ≡ planned → rows ≡ log → offers ≡ offers_in plan.kinds rows
+    → lost ≡ lost_in rows → report_with plan.names rows certificates offers lost ≡ report_of planned log certificates
+is_exact plan planned rows log certificates offers lost same_plan same_rows same_offers same_lost =
+    (λ j. report_with plan.names rows certificates (same_offers j) (same_lost j)) ∙ (λ j. report_of (same_plan j) (same_rows j) certificates)
+
+-- what objects offer after a replay of a legal log
+pub replayed_offers : (list shown : List Offers) (kinds sliced : List ℕ) (rows : List Event) → shown ≡ list → sliced ≡ kinds → ShowsOffers list sliced rows → map (λ (o : Offers). o.now) shown ≡ offers_in kinds rows
+replayed_offers list shown kinds sliced rows all_shown all_sliced h =
+    ap (map (λ (o : Offers). o.now)) all_shown ∙ offers_are list sliced rows h ∙ ap (λ (ks : List ℕ). offers_in ks rows) all_sliced
 
 -- the lines of instances and of refused commands
 abbrev pub commands_of : List (List ℕ) → List Event → List Certificate → List ℕ
@@ -65,48 +62,25 @@ parts_stop a c d start y z u commands objects losses none p o e out =
     let four = sends_gathered a c [] z u (commands ++ objects) losses three e in
     front_last a c d [] u (commands ++ objects ++ losses) four out
 
--- a front part of the parts is one of a report
-pub stops_in_parts : (a d : Option (List ℕ)) (names : List (List ℕ)) (rows : List Event) (certificates : List Certificate) (offers : List (Option ℤ)) (lost dropped : ℕ) → length offers ≡ length names
-    → dropped ≡ count_by is_drop rows → WritesFront a d (commands_of names rows certificates ++ object_lines names offers ++ losses_line lost dropped) → WritesReportFront a d names rows certificates
-stops_in_parts a d names rows certificates offers lost dropped one_each count out =
-    let before = commands_of names rows certificates ++ object_lines names offers in
-    record {
-      text = before ++ losses_line lost dropped;
-      written = out;
-      is = record {
-        offers = offers;
-        one_each = one_each;
-        lost = lost;
-        is = ap (λ (n : ℕ). before ++ losses_line lost n) count;
-      };
-    }
+-- a front part of the text is one of a report
+pub stops_report : (a d : Option (List ℕ)) (names : List (List ℕ)) (rows : List Event) (certificates : List Certificate) (offers : List (Option ℤ)) (lost : ℕ) → length offers ≡ length names
+    → WritesFront a d (report_with names rows certificates offers lost) → WritesReportFront a d names rows certificates
+stops_report a d names rows certificates offers lost one_each out = record {
+  text = report_with names rows certificates offers lost;
+  written = out;
+  is = record { offers = offers; one_each = one_each; lost = lost; is = refl };
+}
 
--- and where the log is legal, it is one of its report
-pub stops_exactly : (a d : Option (List ℕ)) (plan : Planned) (rows : List Event) (certificates : List Certificate) (offers : List (Option ℤ)) (lost dropped : ℕ) → offers ≡ offers_in plan.kinds rows
-    → lost ≡ lost_in rows → dropped ≡ count_by is_drop rows → WritesFront a d (commands_of plan.names rows certificates ++ object_lines plan.names offers ++ losses_line lost dropped)
-    → WritesFront a d (report_of plan rows certificates)
-stops_exactly a d plan rows certificates offers lost dropped same_offers same_lost same_dropped out =
-    let before = commands_of plan.names rows certificates in
-    subst (λ (text : List ℕ). WritesFront a d text) (λ j. before ++ object_lines plan.names (same_offers j) ++ losses_line (same_lost j) (same_dropped j)) out
-
--- a front part of the first lines is one of a report
-pub stops_early : (a d : Option (List ℕ)) (names named : List (List ℕ)) (rows log : List Event) (certificates : List Certificate) → names ≡ named → rows ≡ log
-    → WritesFront a d (commands_of names rows certificates) → WritesReportFront a d named log certificates
-stops_early a d names named rows log certificates same_names same_rows out =
+-- nothing is a front part of a report
+pub stops_unbegun : (a : Option (List ℕ)) (names : List (List ℕ)) (rows : List Event) (certificates : List Certificate) → WritesReportFront a a names rows certificates
+stops_unbegun a names rows certificates =
     let offers = map (λ (name : List ℕ). let none : Option ℤ = None in none) names in
-    let objects = object_lines names offers in
-    let losses = losses_line 0 (count_by is_drop rows) in
-    let commands = commands_of names rows certificates in
-    let all = front_longer a d (commands ++ objects) losses (front_longer a d commands objects out) in
-    let stopped = stops_in_parts a d names rows certificates offers 0 (count_by is_drop rows) (length-map names (λ (name : List ℕ). let none : Option ℤ = None in none)) refl all in
-    subst (λ (ns : List (List ℕ)). WritesReportFront a d ns log certificates) same_names (subst (λ (rs : List Event). WritesReportFront a d names rs certificates) same_rows stopped)
+    stops_report a a names rows certificates offers 0 (length-map names (λ (name : List ℕ). let none : Option ℤ = None in none)) (front_none a (report_with names rows certificates offers 0))
 
--- and of the report of a legal log
-pub stops_early_exactly : (a d : Option (List ℕ)) (plan planned : Planned) (rows log : List Event) (certificates : List Certificate) → plan ≡ planned → rows ≡ log
-    → WritesFront a d (commands_of plan.names rows certificates) → WritesFront a d (report_of planned log certificates)
-stops_early_exactly a d plan planned rows log certificates same_plan same_rows out =
-    let commands = commands_of plan.names rows certificates in
-    let objects = object_lines plan.names (offers_in plan.kinds rows) in
-    let losses = losses_line (lost_in rows) (count_by is_drop rows) in
-    let all : WritesFront a d (report_of plan rows certificates) = front_longer a d (commands ++ objects) losses (front_longer a d commands objects out) in
-    subst (λ (p : Planned). WritesFront a d (report_of p log certificates)) same_plan (subst (λ (rs : List Event). WritesFront a d (report_of plan rs certificates)) same_rows all)
+-- a front part of the lines of instances and commands is one of the text
+pub stops_early : (a d : Option (List ℕ)) (names : List (List ℕ)) (rows : List Event) (certificates : List Certificate) (offers : List (Option ℤ)) (lost : ℕ)
+    → WritesFront a d (commands_of names rows certificates) → WritesFront a d (report_with names rows certificates offers lost)
+stops_early a d names rows certificates offers lost out =
+    let commands = commands_of names rows certificates in
+    let objects = object_lines names offers in
+    front_longer a d (commands ++ objects) (losses_line lost (count_by is_drop rows)) (front_longer a d commands objects out)

@@ -1,6 +1,6 @@
 -- The report of a legal log: what each object offers, how many messages are lost, and the text.
-use Rattle.std.specs.Prelude.{◌-◌, ℕ, ℤ, Bool, false, List, ◌++◌, Option, Some, length, map, count_by, slice_get, slice_index}
-use Rattle.std.specs.List.{flat_map, range_with_len}
+use Rattle.std.specs.Prelude.{◌-◌, ℕ, ℤ, Bool, false, List, Option, Some, length, map, count_by, slice_get, slice_index}
+use Rattle.std.specs.List.{range_with_len}
 use Rattle.kt_object.specs.Value.{opening_value, after, offered}
 use Rattle.kt_plan.specs.Limits.{Planned}
 use Rattle.kt_spacetime.specs.declared.event.Event.{Event}
@@ -10,8 +10,7 @@ use Rattle.kt_cuts.specs.Legal.{is_undelivered}
 use Rattle.kt_values.specs.Values.{Rules}
 use Rattle.kt_values.specs.Offers.{offer}
 use Rattle.kt_chain.specs.declared.certificate.Certificate.{Certificate}
-use Rattle.kt_report.specs.Lines.{instance_lines, refusal_line, losses_line}
-use Rattle.kt_report.specs.Report.{object_lines, is_drop}
+use Rattle.kt_report.specs.Report.{report_with}
 
 -- how an object of a kind behaves: its first value, its value after a message, and what it offers
 abbrev pub rules_of_kind : ℕ → Rules (List ℤ)
@@ -33,6 +32,4 @@ lost_in log = count_by (λ msg. is_lost (past log) msg (slice_get log (msg - 1))
 
 -- the report of a log of a run of this plan, with these certificates
 abbrev pub report_of : Planned → List Event → List Certificate → List ℕ
-report_of plan log certificates =
-    flat_map (instance_lines plan.names log) certificates ++ flat_map (refusal_line plan.names) log
-    ++ object_lines plan.names (offers_in plan.kinds log) ++ losses_line (lost_in log) (count_by is_drop log)
+report_of plan log certificates = report_with plan.names log certificates (offers_in plan.kinds log) (lost_in log)

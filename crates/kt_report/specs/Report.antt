@@ -19,12 +19,18 @@ object_lines (name ∷ names) (offer ∷ offers) = object_line name offer ++ obj
 object_lines (name ∷ names) [] = []
 object_lines [] _ = []
 
+-- a report of these instances, refused commands, objects and losses
+abbrev pub report_with : List (List ℕ) → List Event → List Certificate → List (Option ℤ) → ℕ → List ℕ
+report_with names rows certificates offers lost =
+    flat_map (instance_lines names rows) certificates ++ flat_map (refusal_line names) rows
+    ++ object_lines names offers ++ losses_line lost (count_by is_drop rows)
+
 -- the report of a run: its instances, its refused commands, its objects and its losses
 pub record IsReport (names : List (List ℕ)) (rows : List Event) (certificates : List Certificate) (text : List ℕ) : Type 0 where
   pub offers : List (Option ℤ)
   pub one_each : length offers ≡ length names
   pub lost : ℕ
-  pub is : text ≡ flat_map (instance_lines names rows) certificates ++ flat_map (refusal_line names) rows ++ object_lines names offers ++ losses_line lost (count_by is_drop rows)
+  pub is : text ≡ report_with names rows certificates offers lost
 
 -- the report of a run is written after what was written before
 pub record WritesReport (old new : Option (List ℕ)) (names : List (List ℕ)) (rows : List Event) (certificates : List Certificate) : Type 0 where

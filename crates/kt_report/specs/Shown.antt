@@ -5,7 +5,6 @@ use Rattle.kt_plan.specs.declared.steps.Act.TheVariants as plain
 use Rattle.kt_spacetime.specs.declared.event.Event.{Event}
 use Rattle.kt_cuts.specs.Past.{Past, past, is_committed}
 use Rattle.kt_cuts.specs.Standing.{at_number}
-use Rattle.kt_walk.specs.WalkOf.{WalkOf}
 use Rattle.kt_object.specs.Value.{offered}
 use Rattle.kt_values.specs.Done.{done}
 use Rattle.kt_values.specs.Values.{Act, Apply, Keep, Promote, Discard, Restore, Drop, Due, due}
@@ -51,6 +50,5 @@ pub record ShowsReportInstances (instances : List Instance) (s : Past) : Type 0 
 
 -- a replay stands for the rows of a legal log, where processes have objects of these kinds
 pub record ReplayOf (replay : Replay) (kinds : List ℕ) (rows : List Event) : Type 0 where
-  pub walk : WalkOf replay.walk rows
   pub instances : ShowsReportInstances replay.instances.items (past rows)
   pub offers : ShowsOffers replay.objects.items kinds rows

@@ -12,4 +12,4 @@ mod unwilling;
 mod words;
 mod writing;
 
-pub use writing::report;
+pub use writing::{report, report_of_run};

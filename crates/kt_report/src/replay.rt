@@ -1,12 +1,11 @@
-//! A log gone through row by row.
+//! What objects offer, and the instances, along the rows of a log.
 
-ghost use Rattle.std.specs.Prelude.{◌≡◌, ◌<◌, ◌≤◌, ◌^◌, ◌++◌, ◌∷◌, [], ℕ, ℤ, List, length, true, false, OnOk, IfOk};
+ghost use Rattle.std.specs.Prelude.{◌≡◌, ◌++◌, ◌∷◌, [], ℕ, ℤ, List, length, OnOk, IfOk};
 ghost use Rattle.kt_spacetime.specs.declared.event.Event.{Event};
 ghost use Rattle.kt_spacetime.specs.declared.event.Event.TheVariants as event;
 ghost use Rattle.kt_spacetime.specs.Events.{process_of};
 ghost use Rattle.kt_cuts.specs.Past.{past};
 ghost use Rattle.kt_cuts.specs.Legal.{IsLegal};
-ghost use Rattle.kt_walk.specs.WalkOf.{WalkOf};
 ghost use Rattle.kt_values.specs.Done.{done};
 ghost use Rattle.kt_values.specs.Values.{acts_of};
 ghost use Rattle.kt_report.specs.Shown.{ReplayOf, ShowsReportInstances, ShowsOffers, act_of};
@@ -14,17 +13,13 @@ ghost use Rattle.kt_report.specs.Shown.{ReplayOf, ShowsReportInstances, ShowsOff
 use crate::closings::{Instance, closing, note};
 use crate::offers::Offers;
 use kt_base::{Memory, MsgNo, ProcNo};
-use kt_cuts::LegalFault;
 use kt_plan::Act;
 use kt_spacetime::Event;
-use kt_walk::Walk;
 use std::alloc::Global;
 
-/// What is known after some rows of a log: what the rows mean, what the object of each process offers, and the
-/// instances that have begun.
+/// What is known after some rows of a log: what the object of each process offers, and the instances that have begun.
 #[derive(Drop)]
 pub(crate) struct Replay {
-    pub(crate) walk: Walk,
     pub(crate) objects: Vec<Offers>,
     instances: Vec<Instance>,
 }
@@ -33,15 +28,12 @@ impl Replay {
     /// What is known after all rows of a legal log, where the processes have objects of these kinds. Of another log no
     /// more is said than how many objects there are.
     pub(crate) fn of_rows(alloc: Global, kinds: &[u8], rows: &[Event]) -> Result<Replay, Memory>
-        requires { length rows.now ≤ 2 ^ 24 }
         ensures count { IfOk result (λ replay. length replay.objects.items ≡ length kinds.now) }
         ensures exact { IfOk result (λ replay. IsLegal rows.now → ReplayOf replay kinds.now rows.now) }
     {
         let mut replay = Replay::new(alloc, kinds)?;
         for place in 0..rows.len() {
-            if !replay.feed(&rows[..place], &rows[place])? {
-                return Ok(replay);
-            }
+            replay.feed(&rows[..place], &rows[place])?;
         }
         Ok(replay)
     }
@@ -51,28 +43,21 @@ impl Replay {
         ensures { IfOk result (λ replay. ReplayOf replay kinds.now []) }
     {
         Ok(Replay {
-            walk: Walk::new(alloc)?,
             objects: new_objects(alloc, kinds)?,
             instances: Vec::new(alloc),
         })
     }
 
-    // Takes one more row after those before, and answers whether it breaks no rule.
-    fn feed(&mut self, before: &[Event], row: &Event) -> Result<bool, Memory>
-        requires few { self.old.walk.rows < 2 ^ 24 }
-        ensures fed { IfOk result (λ is_legal. is_legal ≡ true → (kinds : List ℕ)
+    // Takes one more row after those before.
+    fn feed(&mut self, before: &[Event], row: &Event) -> Result<(), Memory>
+        ensures fed { OnOk result (IsLegal (before.now ++ row.now ∷ []) → (kinds : List ℕ)
             → ReplayOf self.old kinds before.now → ReplayOf self.new kinds (before.now ++ row.now ∷ [])) }
-        ensures broken { IfOk result (λ is_legal. is_legal ≡ false → (kinds : List ℕ)
-            → ReplayOf self.old kinds before.now → IsLegal (before.now ++ row.now ∷ []) → ⊥) }
         ensures count { length self.new.objects.items ≡ length self.old.objects.items }
     {
         let act = act_at(self.instances.as_slice(), before, row);
-        if !is_fed(&mut self.walk, row)? {
-            return Ok(false);
-        }
         note(&mut self.instances, row)?;
         act_on(&mut self.objects, row.process(), act);
-        Ok(true)
+        Ok(())
     }
 }
 
@@ -85,21 +70,6 @@ fn new_objects(alloc: Global, kinds: &[u8]) -> Result<Vec<Offers>, Memory>
         objects.push(Offers::new(*kind))?;
     }
     Ok(objects)
-}
-
-// Whether a walk takes one more row, which breaks no rule then.
-fn is_fed(walk: &mut Walk, row: &Event) -> Result<bool, Memory>
-    requires few { walk.old.rows < 2 ^ 24 }
-    ensures fed { IfOk result (λ is_legal. is_legal ≡ true → (rows : List Event) → WalkOf walk.old rows
-        → IsLegal (rows ++ row.now ∷ []) × WalkOf walk.new (rows ++ row.now ∷ [])) }
-    ensures broken { IfOk result (λ is_legal. is_legal ≡ false → (rows : List Event) → WalkOf walk.old rows
-        → IsLegal (rows ++ row.now ∷ []) → ⊥) }
-{
-    match walk.feed(row) {
-        Ok(()) => Ok(true),
-        Err(LegalFault::Broken(..)) => Ok(false),
-        Err(LegalFault::Memory) => Err(Memory),
-    }
 }
 
 // What a row's process does to its object and its saved states, after the rows before.
@@ -141,6 +111,19 @@ fn body_in(row: Event) -> i64
 
 // Does an act of a process to what its object offers.
 fn act_on(objects: &mut Vec<Offers>, p: ProcNo, act: Act)
+    ensures shows { (kinds : List ℕ) (rows : List Event) (row : Event) → p ≡ process_of row
+        → act_of act ≡ acts_of (done rows) row → IsLegal (rows ++ row ∷ []) → ShowsOffers objects.old.items kinds rows
+        → ShowsOffers objects.new.items kinds (rows ++ row ∷ []) }
+    ensures count { length objects.new.items ≡ length objects.old.items }
+{
+    match act {
+        Act::Nothing => {}
+        _ => change(objects, p, act),
+    }
+}
+
+// Does an act that changes something.
+fn change(objects: &mut Vec<Offers>, p: ProcNo, act: Act)
     ensures shows { (kinds : List ℕ) (rows : List Event) (row : Event) → p ≡ process_of row
         → act_of act ≡ acts_of (done rows) row → IsLegal (rows ++ row ∷ []) → ShowsOffers objects.old.items kinds rows
         → ShowsOffers objects.new.items kinds (rows ++ row ∷ []) }

@@ -1,17 +1,18 @@
 //! Reports.
 
-ghost use Rattle.std.specs.Prelude.{◌++◌, OnOk, OnErr};
+ghost use Rattle.std.specs.Prelude.{◌≡◌, ◌++◌, OnOk, OnErr, length, map};
 ghost use Rattle.std.specs.List.{flat_map};
 ghost use Rattle.std.specs.Io.KnownBytes.{Appends};
 ghost use Rattle.kt_cuts.specs.Legal.{IsLegal};
-ghost use Rattle.kt_report.specs.Exact.{report_of};
+ghost use Rattle.kt_report.specs.Exact.{lost_in, report_of};
 ghost use Rattle.kt_report.specs.Lines.{instance_lines, refusal_line};
-ghost use Rattle.kt_report.specs.Report.{WritesReport, WritesReportFront};
+ghost use Rattle.kt_report.specs.Report.{WritesReport, WritesReportFront, report_with};
 ghost use Rattle.kt_text.specs.Writing.{Sends, WritesFront};
 
 use crate::instances::write_instances;
 use crate::losses::{dropped, lost, push_losses};
 use crate::objects::push_objects;
+use crate::offers::Offers;
 use crate::refusals::write_refusals;
 use crate::replay::Replay;
 use crate::unwilling::Unwilling;
@@ -54,10 +55,67 @@ pub fn report<W: Write>(
 {
     let rows = log.rows();
     let replay = Replay::of_rows(alloc, plan.kinds.as_slice(), rows)?;
+    let lost = lost(alloc, rows)?;
+    write_parts(
+        alloc,
+        &plan.names,
+        rows,
+        certificates,
+        replay.objects.as_slice(),
+        lost,
+        writer,
+    )
+}
+
+/// Writes the report of a run as `report` does, where its log is legal and no message is lost at its end, as at the end of
+/// each run: so the messages are not followed along the log.
+pub fn report_of_run<W: Write>(
+    alloc: Global,
+    plan: &Plan,
+    log: &SpaceTime,
+    certificates: &[Certificate],
+    writer: &mut W,
+) -> Result<(), WriteFault>
+    requires legal { IsLegal log.now.rows }
+    requires none_lost { lost_in log.now.rows ≡ 0 }
+    ensures exact { OnOk result (Appends (W.contents writer.old) (W.contents writer.new)
+        (report_of plan.now log.now.rows certificates.now)) }
+    ensures front { OnErr result (WritesFront (W.contents writer.old) (W.contents writer.new)
+        (report_of plan.now log.now.rows certificates.now)) }
+{
+    let rows = log.rows();
+    let replay = Replay::of_rows(alloc, plan.kinds.as_slice(), rows)?;
+    write_parts(
+        alloc,
+        &plan.names,
+        rows,
+        certificates,
+        replay.objects.as_slice(),
+        0,
+        writer,
+    )
+}
+
+// Writes a report, whose objects offer this, and which says that so many messages are lost.
+fn write_parts<W: Write>(
+    alloc: Global,
+    names: &Names,
+    rows: &[Event],
+    certificates: &[Certificate],
+    objects: &[Offers],
+    lost: usize,
+    writer: &mut W,
+) -> Result<(), WriteFault>
+    requires { length objects.now ≡ length names.now }
+    ensures written { OnOk result (Appends (W.contents writer.old) (W.contents writer.new)
+        (report_with names.now rows.now certificates.now (map (λ o. o.now) objects.now) lost)) }
+    ensures front { OnErr result (WritesFront (W.contents writer.old) (W.contents writer.new)
+        (report_with names.now rows.now certificates.now (map (λ o. o.now) objects.now) lost)) }
+{
     let mut text = Vec::new(alloc);
-    write_commands(alloc, &mut text, &plan.names, rows, certificates, writer)?;
-    push_objects(&mut text, &plan.names, replay.objects.as_slice())?;
-    push_losses(&mut text, lost(&replay.walk, rows), dropped(rows))?;
+    write_commands(alloc, &mut text, names, rows, certificates, writer)?;
+    push_objects(&mut text, names, objects)?;
+    push_losses(&mut text, lost, dropped(rows))?;
     write_rest(&mut text, writer)
 }
 

@@ -1,18 +1,8 @@
-use Rattle.std.proofs.Common.{arith, ◌<◌, ◌≤◌, ◌∙◌, refl, length}
-use Rattle.std.proofs.lemmas.Option.{slice_get_read}
-use Rattle.kt_report.proofs.OfferFacts.{acted, no_object_acted}
+use Rattle.std.proofs.Common.{◌∙◌, sym, ap}
+use Rattle.kt_report.specs.Shown.{act_of}
+use Rattle.kt_report.proofs.OfferFacts.{none_acted}
 use Rattle.kt_report.proofs.replay.act_on.Goals as goal
 
-pub returns-then-place-len-clause-shows : goal.returns-then-place-len-clause-shows
-returns-then-place-len-clause-shows c = λ kinds rows row whose is legal h.
-    let list = c.args.objects.now.items in
-    let place = c.index-place.result in
-    let x = c.index.result.now in
-    let within : place < length list = omega (arith, c.if-place-len.true, c.len.ensures, c.args.objects.now.ok.0) in
-    acted rows row legal list kinds place c.args.act x c.after.result (c.index-place.ensures.value ∙ whose) is (slice_get_read list (length list) place x refl within c.index.ensures) c.after.ensures h
-
-pub returns-else-place-len-clause-shows : goal.returns-else-place-len-clause-shows
-returns-else-place-len-clause-shows c = λ kinds rows row whose is legal h.
-    let list = c.args.objects.now.items in
-    let past : length list ≤ c.index-place.result = omega (arith, c.if-place-len.false, c.len.ensures, c.args.objects.now.ok.0) in
-    no_object_acted rows row legal list kinds c.index-place.result (c.index-place.ensures.value ∙ whose) past h
+pub returns-in-Nothing-clause-shows : goal.returns-in-Nothing-clause-shows
+returns-in-Nothing-clause-shows c = λ kinds rows row whose is legal h.
+    none_acted rows row legal c.args.objects.now.items kinds (ap act_of (sym c.in-Nothing.is) ∙ is) h

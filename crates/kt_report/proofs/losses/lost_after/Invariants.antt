@@ -4,7 +4,7 @@ use Rattle.std.specs.List.{range_with_len}
 use Rattle.kt_cuts.specs.Past.{past}
 use Rattle.kt_walk.specs.WalkOf.{WalkOf}
 use Rattle.kt_report.specs.Exact.{is_lost}
-use Rattle.kt_report.proofs.losses.lost.Given as goal
+use Rattle.kt_report.proofs.losses.lost_after.Given as goal
 
 abbrev pub invariant-loop-place : goal.invariant-loop-place
 invariant-loop-place l = record {

@@ -1,7 +1,7 @@
 use Rattle.std.proofs.Common.{◌++◌, ◌∷◌, [], refl}
 use Rattle.kt_cuts.specs.Past.{start}
 use Rattle.kt_cuts.proofs.LegalLogs.{legal_unbroken}
-use Rattle.kt_report.proofs.replay.is_fed.Goals as goal
+use Rattle.kt_report.proofs.losses.is_fed.Goals as goal
 
 pub returns-in-Err-Broken-clause-broken : goal.returns-in-Err-Broken-clause-broken
 returns-in-Err-Broken-clause-broken c = λ e rows w legal.

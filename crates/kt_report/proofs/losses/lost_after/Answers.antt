@@ -6,8 +6,8 @@ use Rattle.kt_cuts.proofs.Replayed.{row_read}
 use Rattle.kt_walk.specs.WalkOf.{WalkOf}
 use Rattle.kt_report.specs.Exact.{is_lost}
 use Rattle.kt_report.proofs.MessageFacts.{count-more}
-use Rattle.kt_report.proofs.losses.lost.Goals as goal
-use Rattle.kt_report.proofs.losses.lost.Goals.{then-is_lost, else-is_lost}
+use Rattle.kt_report.proofs.losses.lost_after.Goals as goal
+use Rattle.kt_report.proofs.losses.lost_after.Goals.{then-is_lost, else-is_lost}
 
 pub loop-place-preserved : goal.loop-place-preserved
 loop-place-preserved c =
