@@ -1,7 +1,7 @@
 -- The list of the steps that can be made.
-use Rattle.std.specs.Prelude.{◌&&◌, ◌||◌, filter, cond, Contains, nat_lt, ◌↔◌, Option, Some, None, is_some}
-use Rattle.std.proofs.Common.{◌≡◌, ◌≢◌, ◌<◌, ◌≤◌, ◌+◌, ℕ, zero, suc, Bool, true, false, List, [], ◌∷◌, ◌++◌, length, refl, sym, ap, subst, arith, add-one, append_assoc, append-nil, ◌∙◌, inl, inr}
-use Rattle.std.proofs.lemmas.Bool.{cases_lt, cases_eq, and_parts, and_from, or_left, or_right, false_from_ne_true}
+use Rattle.std.specs.Prelude.{◌&&◌, filter, cond, Contains, nat_lt, ◌↔◌, Option, Some, None, is_some}
+use Rattle.std.proofs.Common.{◌≡◌, ◌≢◌, ◌<◌, ◌≤◌, ℕ, zero, suc, Bool, true, false, List, [], ◌∷◌, ◌++◌, refl, sym, ap, subst, arith, append-nil, ◌∙◌, inl, inr}
+use Rattle.std.proofs.lemmas.Bool.{cases_lt, cases_eq, and_parts, and_from}
 use Rattle.std.proofs.lemmas.Bool.Decides.{nat_tests}
 use Rattle.std.proofs.lemmas.List.Elements.{filter-append, filter_agree, filter_passes, All-contains, Contains-append_left, Contains-append_right, Contains-push}
 use Rattle.kt_base.specs.Sets.{has}
@@ -17,10 +17,10 @@ use Rattle.kt_core.specs.Agendas.{open_command}
 use Rattle.kt_core.specs.Worlds.{World, process_may_do, can_do, can_make}
 use Rattle.kt_core.proofs.Enabled.{below, enabled_is}
 
-left_out : (f : Step → Bool) (x : Step) → f x ≡ false → filter f (x ∷ []) ≡ []
+pub left_out : (f : Step → Bool) (x : Step) → f x ≡ false → filter f (x ∷ []) ≡ []
 left_out f x e = ap (λ (b : Bool). cond b (x ∷ []) []) e
 
-kept : (f : Step → Bool) (x : Step) → f x ≡ true → filter f (x ∷ []) ≡ x ∷ []
+pub kept : (f : Step → Bool) (x : Step) → f x ≡ true → filter f (x ∷ []) ≡ x ∷ []
 kept f x e = ap (λ (b : Bool). cond b (x ∷ []) []) e
 
 -- takes that do not pass add nothing
@@ -55,32 +55,15 @@ module _ (set less q : ℕ) (least : (r : ℕ) → r < q → has set r ≡ false
     | inr k ↦ let same : q ≡ r = omega (arith, m, k) in subst (λ (n : ℕ). has less n ≡ false) same removed
   ]
 
--- the takes of p from the first b are listed, and these are the senders from b on
-pub record Taken (w : World) (p : ℕ) (old now : List Step) (senders b : ℕ) : Type 0 where
-  pub within : b ≤ w.system.size
-  pub are : now ≡ old ++ filter (can_make w) (takes_of p b)
-  pub later : (q : ℕ) → b ≤ q → has senders q ≡ can_take w.system p q
-  pub earlier : (q : ℕ) → q < b → has senders q ≡ false
-  pub there : (q : ℕ) → has senders q ≡ true → q < w.system.size
-
-pub taken_none : (w : World) (p : ℕ) (old : List Step) (senders : ℕ) → ((q : ℕ) → has senders q ≡ can_take w.system p q) → ((q : ℕ) → has senders q ≡ true → q < w.system.size) → Taken w p old old senders 0
-taken_none w p old senders all there = record {
-  within = omega arith;
-  are = sym (append-nil old);
-  later = λ q _. all q;
-  earlier = λ q l. absurd (omega (arith, l));
-  there = there;
-}
-
 last_false : (a b c : Bool) → c ≡ false → (a && (b && c)) ≡ false
 last_false true true c e = e
 last_false true false c e = refl
 last_false false b c e = refl
 
-is_below : (p n : ℕ) → p < n → nat_lt p n ≡ true
+pub is_below : (p n : ℕ) → p < n → nat_lt p n ≡ true
 is_below p n l = grind (arith, nat_tests, l)
 
-no_take : (w : World) (p q : ℕ) → can_take w.system p q ≡ false → can_make w (Take p q) ≡ false
+pub no_take : (w : World) (p q : ℕ) → can_take w.system p q ≡ false → can_make w (Take p q) ≡ false
 no_take w p q e = last_false (nat_lt p w.system.size) (nat_lt q w.system.size) (can_take w.system p q) e
 
 takes : (w : World) (p q : ℕ) → p < w.system.size → q < w.system.size → can_take w.system p q ≡ true → can_make w (Take p q) ≡ true
@@ -91,50 +74,6 @@ takes w p q l k e =
 -- a process does its next command where it can
 pub does : (w : World) (p : ℕ) (b : Bool) → p < w.system.size → can_do w p ≡ b → can_make w (Do p) ≡ b
 does w p b l e = ap (λ (t : Bool). t && can_do w p) (is_below p w.system.size l) ∙ e
-
-module _ (w : World) (p : ℕ) (low : p < w.system.size) (old now : List Step) (senders b : ℕ) (t : Taken w p old now senders b) where
-  not_before : (q : ℕ) → has senders q ≡ true → b ≤ q
-  not_before q e = elim (cases_lt q b) [
-    | inl l ↦ absurd (let f = t.earlier q l in cc (e, f))
-    | inr h ↦ h
-  ]
-
-  -- the next sender is taken of
-  pub taken_more : (new : List Step) (less q : ℕ) → has senders q ≡ true → ((r : ℕ) → r < q → has senders r ≡ false) → has less q ≡ false → ((r : ℕ) → r ≢ q → has less r ≡ has senders r) → new ≡ now ++ Take p q ∷ []
-      → (b ≤ q) × Taken w p old new less (suc q)
-  taken_more new less q member least removed others e =
-      let from = not_before q member in
-      let there = t.there q member in (
-        from,
-        record {
-          within = omega (arith, there);
-          are = e ∙ (ap (λ (l : List Step). l ++ Take p q ∷ []) t.are
-              ∙ (append_assoc old (filter (can_make w) (takes_of p b)) (Take p q ∷ [])
-              ∙ ap (λ (l : List Step). old ++ l) (sym (takes_next (can_make w) p b q from
-              (λ r m k. no_take w p r (sym (t.later r m) ∙ least r k)) (takes w p q low there (sym (t.later q from) ∙ member))))));
-          later = λ r m. others r (let n : r ≢ q = omega (arith, m) in n) ∙ t.later r (omega (arith, m, from));
-          earlier = gone_up_to senders less q least member removed others;
-          there = λ r m. t.there r (was_member senders less q least member removed others r m);
-        },
-      )
-
-  -- no sender is left
-  pub taken_all : ((q : ℕ) → has senders q ≡ false) → now ≡ old ++ filter (can_make w) (takes_of p w.system.size)
-  taken_all none = t.are ∙ ap (λ (l : List Step). old ++ l) (sym (takes_skipped (can_make w) p b w.system.size t.within (λ r m k. no_take w p r (sym (t.later r m) ∙ none r))))
-
-  pub taken_to_end : w.system.size ≤ b → now ≡ old ++ filter (can_make w) (takes_of p w.system.size)
-  taken_to_end end = let within = t.within in let e : b ≡ w.system.size = omega (arith, end, within) in t.are ∙ ap (λ (n : ℕ). old ++ filter (can_make w) (takes_of p n)) e
-
--- after the takes of a process, its next command
-pub steps_kept : (f : Step → Bool) (n p : ℕ) (old : List Step) → f (Do p) ≡ true → (old ++ filter f (takes_of p n)) ++ Do p ∷ [] ≡ old ++ filter f (steps_of n p)
-steps_kept f n p old e =
-    append_assoc old (filter f (takes_of p n)) (Do p ∷ [])
-    ∙ ap (λ (l : List Step). old ++ l) (ap (λ (l : List Step). filter f (takes_of p n) ++ l) (sym (kept f (Do p) e)) ∙ sym (filter-append f (takes_of p n) (Do p ∷ [])))
-
-pub steps_left_out : (f : Step → Bool) (n p : ℕ) (old : List Step) → f (Do p) ≡ false → old ++ filter f (takes_of p n) ≡ old ++ filter f (steps_of n p)
-steps_left_out f n p old e =
-    ap (λ (l : List Step). old ++ l)
-    (sym (filter-append f (takes_of p n) (Do p ∷ []) ∙ (ap (λ (l : List Step). filter f (takes_of p n) ++ l) (left_out f (Do p) e) ∙ append-nil (filter f (takes_of p n)))))
 
 -- processes with no step that passes add nothing
 pub first_skipped : (f : Step → Bool) (n b c : ℕ) → b ≤ c → ((p : ℕ) → b ≤ p → p < c → filter f (steps_of n p) ≡ []) → filter f (steps_of_first n c) ≡ filter f (steps_of_first n b)
@@ -169,23 +108,6 @@ is_none_if : {X : Type 0} (o : Option X) → is_some o ≡ false → o ≡ None
 is_none_if None e = refl
 is_none_if (Some x) e = absurd (cc (e))
 
--- none is listed, and all are left that have parcels or commands of the open phase
-pub listed_none : (w : World) (now : List Step) (waiting left : ℕ) → now ≡ [] → w.system.size ≡ length w.agenda.plan.names → ((p q : ℕ) → has waiting p ≡ false → can_take w.system p q ≡ false) → ((p : ℕ) → has waiting p ≡ true → p < w.system.size) →
-    ((p : ℕ) → p < length w.agenda.plan.names → has left p ≡ (has waiting p || is_some (open_command w.agenda p))) → ((p : ℕ) → length w.agenda.plan.names ≤ p → has left p ≡ has waiting p) → Listed w now left 0
-listed_none w now waiting left empty size idle low all past = record {
-  within = omega arith;
-  are = empty;
-  later = λ p _ l gone.
-      let is = all p (omega (arith, l, size)) in
-      no_step w p l (λ q. idle p q (false_from_ne_true _ (λ t. cc (gone, is, or_left (has waiting p) (is_some (open_command w.agenda p)) t))))
-      (is_none_if _ (false_from_ne_true _ (λ t. cc (gone, is, or_right (has waiting p) (is_some (open_command w.agenda p)) t))));
-  earlier = λ p l. absurd (omega (arith, l));
-  there = λ p member. elim (cases_lt p w.system.size) [
-    | inl l ↦ l
-    | inr h ↦ low p (sym (past p (omega (arith, h, size))) ∙ member)
-  ];
-}
-
 module _ (w : World) (now : List Step) (left b : ℕ) (t : Listed w now left b) where
   -- the steps of the next process are listed
   pub listed_more : (new : List Step) (less p : ℕ) → has left p ≡ true → ((r : ℕ) → r < p → has left r ≡ false) → has less p ≡ false → ((r : ℕ) → r ≢ p → has less r ≡ has left r) → new ≡ now ++ filter (can_make w) (steps_of w.system.size p)
@@ -205,6 +127,13 @@ module _ (w : World) (now : List Step) (left b : ℕ) (t : Listed w now left b) 
           there = λ r m. t.there r (was_member left less p least member removed others r m);
         },
       )
+
+  -- those before the next process are listed
+  pub listed_upto : (p : ℕ) → has left p ≡ true → ((r : ℕ) → r < p → has left r ≡ false) → now ≡ filter (can_make w) (steps_of_first w.system.size p)
+  listed_upto p member least =
+      let there = t.there p member in
+      let from : b ≤ p = elim (cases_lt p b) [ inl l ↦ absurd (let g = t.earlier p l in cc (g, member)) | inr h ↦ h ] in
+      t.are ∙ sym (first_skipped (can_make w) w.system.size b p from (λ r a k. t.later r a (omega (arith, k, there)) (least r k)))
 
   -- no process is left
   pub listed_all : ((p : ℕ) → has left p ≡ false) → now ≡ choices w

@@ -1,6 +1,6 @@
 -- The default step, and rest, as the laws have them.
-use Rattle.std.specs.Prelude.{◌==◌, ◌&&◌, ◌||◌, nat_lt, Option, option_map, slice_get, IfSome, IfNone, IsTrue, ◌↔◌, is_some}
-use Rattle.std.proofs.Common.{length, ◌≡◌, ◌⊎◌, ◌<◌, ℕ, Bool, true, false, Some, None, List, [], ◌∷◌, refl, sym, arith, ap, ◌∙◌, inl, inr}
+use Rattle.std.specs.Prelude.{◌==◌, ◌&&◌, ◌||◌, nat_lt, Option, slice_get, IfSome, IfNone, IsTrue, ◌↔◌, is_some, if◌then◌else◌}
+use Rattle.std.proofs.Common.{length, drop, subst, ◌≡◌, ◌⊎◌, ◌<◌, ℕ, zero, suc, Bool, true, false, Some, None, List, [], ◌∷◌, refl, sym, arith, ap, ◌∙◌, inl, inr}
 use Rattle.std.proofs.lemmas.Bool.{cases_lt}
 use Rattle.std.proofs.lemmas.Bool.Decides.{nat_tests}
 use Rattle.kt_plan.specs.Limits.{IsPlan, Planned}
@@ -12,27 +12,33 @@ use Rattle.kt_protocol.proofs.StepFacts.{none_is}
 use Rattle.kt_process.specs.ProcessStates.{ProcessState}
 use Rattle.kt_system.specs.Systems.{state_of}
 use Rattle.kt_system.specs.Reads.{can_take, IsNextTake, HasNoTake}
-use Rattle.kt_plans.proofs.CommandPlaces.{at_place}
-use Rattle.kt_plans.proofs.PhaseOrder.{none_of_if}
+use Rattle.kt_plans.specs.Plans.{commands_of}
 use Rattle.kt_plans.specs.Progress as run_world
 use Rattle.kt_plans.specs.Steps.{enabled, is_at_rest}
 use Rattle.kt_plans.specs.Defaults.{default_step}
 use Rattle.kt_plans.specs.Order.{comes_before, next_place}
-use Rattle.kt_plans.proofs.DefaultSteps.{default_nothing}
-use Rattle.kt_plans.proofs.OpenPhase.{next_there_seen}
-use Rattle.kt_plans.proofs.OnlyDefault.{only_first}
-use Rattle.kt_plans.proofs.RunSteps.{rest_seen}
+use Rattle.kt_core.specs.PlanLaws.{PlanLaws}
 use Rattle.kt_core.specs.Agendas.{Agenda, agenda_place, agenda_command, open_command}
 use Rattle.kt_core.specs.Worlds.{World, process_may_do, can_do, can_make, IsWorldAtRest, IsNextDo, IsDefaultStep}
 use Rattle.kt_core.specs.Shown.{Mirrors}
-use Rattle.kt_core.proofs.Places.{HasPlaces, next_is, next_shown}
-use Rattle.kt_core.proofs.Quiet.{quiet_shown, quiet_from}
+use Rattle.kt_core.proofs.Places.{HasPlaces, alike, next_is, next_shown}
+use Rattle.kt_core.proofs.Quiet.{none_of_if, quiet_shown, quiet_from}
 use Rattle.kt_core.proofs.Enabled.{few, below, enabled_is}
 use Rattle.kt_core.proofs.Leading.{open_is_next}
 
 -- whose the next command is
+own_left : (k p : ℕ) (l : List Command) (c : Command) → slice_get (drop k (commands_of p l)) 0 ≡ Some c → c.by ≡ p
+own_left zero p [] c e = absurd (cc (e))
+own_left (suc k) p [] c e = absurd (cc (e))
+own_left k p (d ∷ l) c e = go (λ j. own_left j p l c) k (d.by == p) refl e
+  where
+    go : ((j : ℕ) → slice_get (drop j (commands_of p l)) 0 ≡ Some c → c.by ≡ p) → (k : ℕ) (b : Bool) → (d.by == p) ≡ b → slice_get (drop k (if b then d ∷ commands_of p l else commands_of p l)) 0 ≡ Some c → c.by ≡ p
+    go r zero true i f = let s : d ≡ c = cc (f) in subst (λ (x : Command). x.by ≡ p) s (alike d.by p i)
+    go r (suc k) true i f = r k f
+    go r k false i f = r k f
+
 own_is : (a : Agenda) (v : run_world.Progress) (p : ℕ) (c : Command) → HasPlaces a v → p < 64 → agenda_command a p ≡ Some c → c.by ≡ p
-own_is a v p c h low e = (at_place (v.done p) p a.plan.commands c (next_shown a v p c h low e)).mine
+own_is a v p c h low e = own_left (v.done p) p a.plan.commands c (next_shown a v p c h low e)
 
 both : (a b : Bool) → (a && b) ≡ true → (a ≡ true) × (b ≡ true)
 both true true e = (refl, refl)
@@ -55,7 +61,7 @@ earlier_taker p q u r h = grind (arith, nat_tests, h)
 earlier_sender : (p q u r : ℕ) → p ≡ u → q < r → (nat_lt p u || (p == u && nat_lt q r)) ≡ true
 earlier_sender p q u r e h = grind (arith, nat_tests, e, h)
 
-module _ (w : World) (first : ℕ) (v : run_world.Progress) (r : Mirrors w.agenda w.system first v) where
+module _ (laws : PlanLaws) (w : World) (first : ℕ) (v : run_world.Progress) (r : Mirrors w.agenda w.system first v) where
   abbrev pub plan : Planned
   plan = w.agenda.plan
 
@@ -111,9 +117,9 @@ module _ (w : World) (first : ℕ) (v : run_world.Progress) (r : Mirrors w.agend
       ]
 
   pub default_is : (o : Option Step) → IfSome o (IsDefaultStep w) → IfSome o (λ step. can_make w step ≡ true) → IfNone o ((step : Step) → can_make w step ≡ false) → o ≡ default_step plan v
-  default_is None a b n = sym (default_nothing plan first v limits r.reached (nothing_there n))
-  default_is (Some (Do p)) a b n = sym (only_first plan first v (Do p) limits r.reached (on_there (Do p) b) (do_first p a.0 a.1))
-  default_is (Some (Take at from)) a b n = sym (only_first plan first v (Take at from) limits r.reached (on_there (Take at from) b) (take_first at from a))
+  default_is None a b n = sym ((laws.none plan first v limits r.reached).1 (nothing_there n))
+  default_is (Some (Do p)) a b n = sym (laws.only plan first v (Do p) limits r.reached (on_there (Do p) b) (do_first p a.0 a.1))
+  default_is (Some (Take at from)) a b n = sym (laws.only plan first v (Take at from) limits r.reached (on_there (Take at from) b) (take_first at from a))
 
   has_none : (p : ℕ) → p < 64 → agenda_command w.agenda p ≡ None → is_some (slice_get (run_world.commands_left plan v p) 0) ≡ false
   has_none p low e = at_left (run_world.commands_left plan v p) (sym (next_is w.agenda v p r.places low) ∙ e)
@@ -134,7 +140,7 @@ module _ (w : World) (first : ℕ) (v : run_world.Progress) (r : Mirrors w.agend
       at_next (Some c) f g = absurd (let z = f ∙ g in cc (z))
 
   is_there : (p : ℕ) (c : Command) → p < 64 → agenda_command w.agenda p ≡ Some c → p < w.system.size
-  is_there p c low e = let t = next_there_seen plan first v p c limits r.reached (next_shown w.agenda v p c r.places low e) in let z = r.size in omega (arith, t, z)
+  is_there p c low e = let t = laws.there plan first v p c limits r.reached (next_shown w.agenda v p c r.places low e) in let z = r.size in omega (arith, t, z)
 
   rests : IsWorldAtRest w → is_at_rest plan v ≡ true
   rests h = rw (
@@ -165,4 +171,4 @@ module _ (w : World) (first : ℕ) (v : run_world.Progress) (r : Mirrors w.agend
       at_test false false f g = refl
 
   pub never_stuck : ((x : Step) → can_make w x ≡ false) → is_at_rest plan v ≡ true
-  never_stuck n = rest_seen plan first v limits r.reached (nothing_there n)
+  never_stuck n = laws.at_rest plan first v limits r.reached (nothing_there n)

@@ -10,8 +10,7 @@ use Rattle.kt_plans.specs.Hindrances.{hindrance, hindrance_of_command}
 use Rattle.kt_plans.specs.declared.hindrances.Hindrance.TheVariants.{NoCommand, PhaseNotOpen, SendInInstance, NoParcel}
 use Rattle.kt_plans.specs.Progress.{Progress, next_command}
 use Rattle.kt_plans.specs.Steps.{may_do, may_do_job, enabled}
-use Rattle.kt_plans.proofs.HindrancesOfSteps.{none_exactly, no_command_left}
-use Rattle.kt_plans.proofs.OpenPhase.{ahead_seen, next_there_seen}
+use Rattle.kt_core.specs.PlanLaws.{PlanLaws}
 use Rattle.kt_core.specs.Agendas.{agenda_command, if_open, open_command}
 use Rattle.kt_core.specs.Worlds.{World, can_make}
 use Rattle.kt_core.specs.Shown.{Mirrors}
@@ -48,12 +47,12 @@ flip true false e = absurd (cc (e))
 flip false true e = absurd (cc (e))
 flip false false e = refl
 
-module _ (w : World) (first : ℕ) (v : Progress) (r : Mirrors w.agenda w.system first v) where
+module _ (laws : PlanLaws) (w : World) (first : ℕ) (v : Progress) (r : Mirrors w.agenda w.system first v) where
   low : (p : ℕ) → p < length w.agenda.plan.names → p < 64
   low p l = let f = r.limits.names.few in omega (arith, l, f)
 
   there : (p : ℕ) (c : Command) → next_command w.agenda.plan v p ≡ Some c → p < length w.agenda.plan.names
-  there p c e = next_there_seen w.agenda.plan first v p c r.limits r.reached e
+  there p c e = laws.there w.agenda.plan first v p c r.limits r.reached e
 
   -- no command is left
   none_left : (p : ℕ) (o : Option Command) → next_command w.agenda.plan v p ≡ o → agenda_command w.agenda p ≡ None → o ≡ None
@@ -61,12 +60,12 @@ module _ (w : World) (first : ℕ) (v : Progress) (r : Mirrors w.agenda w.system
   none_left p (Some c) e none = absurd (let f = sym none ∙ (next_is w.agenda v p r.places (low p (there p c e)) ∙ e) in cc (f))
 
   no_command : (p : ℕ) → agenda_command w.agenda p ≡ None → hindrance w.agenda.plan v (Do p) ≡ Some NoCommand
-  no_command p none = (no_command_left w.agenda.plan first v p r.limits r.reached).1 (none_left p (next_command w.agenda.plan v p) refl none)
+  no_command p none = (laws.no_command w.agenda.plan first v p r.limits r.reached).1 (none_left p (next_command w.agenda.plan v p) refl none)
 
   -- there is one, whose phase is open or not
   phase_is : (p : ℕ) (c : Command) → p < length w.agenda.plan.names → agenda_command w.agenda p ≡ Some c → (c.phase == v.phase) ≡ nat_le c.phase w.agenda.phase
   phase_is p c l e = phase_test c.phase w.agenda.phase v.phase (r.phase p c (low p l) e)
-      (ahead_seen w.agenda.plan first v p c r.limits r.reached (next_shown w.agenda v p c r.places (low p l) e))
+      (laws.ahead w.agenda.plan first v p c r.limits r.reached (next_shown w.agenda v p c r.places (low p l) e))
 
   is_opened : (p : ℕ) (c : Command) → p < length w.agenda.plan.names → agenda_command w.agenda p ≡ Some c → is_none (open_command w.agenda p) ≡ not (c.phase == v.phase)
   is_opened p c l e = ap (λ (o : Option Command). is_none (if_open w.agenda.phase o)) e ∙ (opened (nat_le c.phase w.agenda.phase) c ∙ sym (ap not (phase_is p c l e)))
@@ -105,7 +104,7 @@ module _ (w : World) (first : ℕ) (v : Progress) (r : Mirrors w.agenda w.system
 
   -- a step that can be made
   pub nothing : (x : Step) → can_make w x ≡ true → hindrance w.agenda.plan v x ≡ None
-  nothing x on = (none_exactly w.agenda.plan v x).1 (sym (enabled_is w first v r x) ∙ on)
+  nothing x on = (laws.nothing w.agenda.plan v x).1 (sym (enabled_is w first v r x) ∙ on)
 
   pub no_parcel : (x : Step) {p q : ℕ} → x ≡ Take p q → can_make w x ≡ false → hindrance w.agenda.plan v x ≡ Some NoParcel
   no_parcel x {p = p} {q = q} is off = subst (λ (y : Step). hindrance w.agenda.plan v y ≡ Some NoParcel) (sym is) (off_take (enabled w.agenda.plan v (Take p q)) (sym (enabled_is w first v r (Take p q)) ∙ (ap (can_make w) (sym is) ∙ off)))

@@ -10,7 +10,7 @@ pub mod Nexts
 pub mod Firsts
 pub mod Opens
 pub mod Phases
-pub mod Reaching
 pub mod Tallied
 pub mod Making
 pub mod Choices
+pub mod Counted

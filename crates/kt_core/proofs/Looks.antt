@@ -22,7 +22,6 @@ use Rattle.kt_process.specs.ProcessStates.{ProcessState, inst_of, is_ready, part
 use Rattle.kt_process.specs.Shown.{IsSeenAs}
 use Rattle.kt_seen.specs.Seen.{Seen, SeenProcess, SeenLists}
 use Rattle.kt_seen.specs.CallTests.{must_take}
-use Rattle.kt_seen.specs.Messages.{AreMessagesBy}
 use Rattle.kt_system.specs.Systems.{state_of}
 use Rattle.kt_system.specs.Reads.{next_parcel, saves_by, would_save}
 use Rattle.kt_system.proofs.Replying.{ready_seen}
@@ -32,7 +31,8 @@ use Rattle.kt_core.specs.declared.ready.Ready.{Ready}
 use Rattle.kt_plans.specs.Progress.{Progress}
 use Rattle.kt_plans.specs.Steps.{enabled}
 use Rattle.kt_fifo.specs.Queues.{has_parcel}
-use Rattle.kt_plans.proofs.StatesKeep.{held_seen}
+use Rattle.kt_plans.specs.Messages.{AreMessagesTo}
+use Rattle.kt_core.specs.PlanLaws.{PlanLaws}
 use Rattle.kt_core.specs.Agendas.{open_command}
 use Rattle.kt_core.specs.Worlds.{World, process_may_do, can_do, can_make, needs_of_job, needs_of_step, needs}
 use Rattle.kt_core.specs.Shown.{Mirrors}
@@ -106,20 +106,20 @@ front_look x v p q (Reply k w ∷ rest) h n = refl
 front_look x v p q (Decide k c ∷ rest) h n = refl
 
 -- what is held is a message
-held_look : (x : ProcessState) (first : ℕ) (log : List Event) (q : ℕ) (y : Parcel) (ys : List Parcel) → AreMessagesBy first log q (y ∷ ys) → (if saves_by x q y then NeedsSave else Plain) ≡ Plain
-held_look x first log q (App l m body) ys h = refl
-held_look x first log q (Ask k d l) ys h = absurd h.0
-held_look x first log q (Reply k w) ys h = refl
-held_look x first log q (Decide k c) ys h = refl
+held_look : (x : ProcessState) (first : ℕ) (log : List Event) (q p : ℕ) (y : Parcel) (ys : List Parcel) → AreMessagesTo first log q p (y ∷ ys) → (if saves_by x q y then NeedsSave else Plain) ≡ Plain
+held_look x first log q p (App l m body) ys h = refl
+held_look x first log q p (Ask k d l) ys h = absurd h.0
+held_look x first log q p (Reply k w) ys h = refl
+held_look x first log q p (Decide k c) ys h = refl
 
 -- what p would take of q
-parcel_look : (x : ProcessState) (v : Seen) (first p q : ℕ) (r : Bool) (held sent : List Parcel) → is_ready x.side ≡ r → IsSeenAs x (v.states p) → IsNumbered (part_of_side x.side) → AreMessagesBy first v.log q held →
+parcel_look : (x : ProcessState) (v : Seen) (first p q : ℕ) (r : Bool) (held sent : List Parcel) → is_ready x.side ≡ r → IsSeenAs x (v.states p) → IsNumbered (part_of_side x.side) → AreMessagesTo first v.log q p held →
     (if option_map_or (saves_by x q) (option_or (if r then None else slice_get held 0) (slice_get sent 0)) false then NeedsSave else Plain) ≡ (if not r && has_parcel held then Plain else run_looks.look_of_front v p q sent)
 parcel_look x v first p q true held sent e h n m = front_look x v p q sent h n
 parcel_look x v first p q false [] sent e h n m = front_look x v p q sent h n
-parcel_look x v first p q false (y ∷ ys) sent e h n m = held_look x first v.log q y ys m
+parcel_look x v first p q false (y ∷ ys) sent e h n m = held_look x first v.log q p y ys m
 
-module _ (w : World) (first : ℕ) (v : Progress) (r : Mirrors w.agenda w.system first v) where
+module _ (laws : PlanLaws) (w : World) (first : ℕ) (v : Progress) (r : Mirrors w.agenda w.system first v) where
   abbrev pub plan : Planned
   plan = w.agenda.plan
 
@@ -127,7 +127,7 @@ module _ (w : World) (first : ℕ) (v : Progress) (r : Mirrors w.agenda w.system
   unfolding next_parcel
   take_look p q l =
       parcel_look (state_of w.system p) v.now first p q (is_ready (state_of w.system p).side) (channel w.system.held q p) (channel w.system.channels q p) refl (r.now.states p l) (r.numbered p l)
-      (subst (λ (f : SeenLists). AreMessagesBy first v.now.log q (f q p)) (sym r.now.held) (held_seen plan first v r.limits r.reached q p))
+      (subst (λ (f : SeenLists). AreMessagesTo first v.now.log q p (f q p)) (sym r.now.held) (laws.held plan first v p q r.limits r.reached))
       ∙ λ i. if not (ready_seen (state_of w.system p) v.now p (r.now.states p l) (r.numbered p l) i) && has_parcel (r.now.held i q p) then Plain else run_looks.look_of_front v.now p q (r.now.channels i q p)
 
   do_look : (p : ℕ) (c : Command) → p < w.system.size → open_command w.agenda p ≡ Some c → (needs_of_step w (Do p)) ≡ run_looks.look_of_step plan v ((Do p))
@@ -159,7 +159,7 @@ module _ (w : World) (first : ℕ) (v : Progress) (r : Mirrors w.agenda w.system
       at_test false e false f = refl
 
 -- what a step needs that is ready, it needs in each run that leads to the world
-pub ready_look : (w : World) (x y : Step) (found : Result Ready StepFault) → x ≡ y → IfOk found (λ ready. ready.look ≡ needs w y)
+pub ready_look : PlanLaws → (w : World) (x y : Step) (found : Result Ready StepFault) → x ≡ y → IfOk found (λ ready. ready.look ≡ needs w y)
     → (first : ℕ) (v : Progress) → Mirrors w.agenda w.system first v → IfOk found (λ ready. ready.look ≡ run_looks.look w.agenda.plan v x)
-ready_look w x y (Ok ready) e look first v r = look ∙ look_is w first v r y ∙ ap (λ (z : Step). run_looks.look w.agenda.plan v z) (sym e)
-ready_look w x y (Err fault) e look first v r = tt
+ready_look laws w x y (Ok ready) e look first v r = look ∙ look_is laws w first v r y ∙ ap (λ (z : Step). run_looks.look w.agenda.plan v z) (sym e)
+ready_look laws w x y (Err fault) e look first v r = tt

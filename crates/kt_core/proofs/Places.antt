@@ -1,6 +1,6 @@
 -- The places of next commands, as the laws of plans have them.
-use Rattle.std.specs.Prelude.{◌==◌, if◌then◌else◌, Option, option_map, slice_get, map}
-use Rattle.std.proofs.Common.{◌≡◌, ◌≢◌, ◌<◌, ◌≤◌, ◌+◌, ℕ, zero, suc, Bool, true, false, Some, None, List, [], ◌∷◌, length, refl, sym, arith, ap, subst, ◌∙◌, inl, inr}
+use Rattle.std.specs.Prelude.{◌==◌, if◌then◌else◌, slice_get}
+use Rattle.std.proofs.Common.{◌≡◌, ◌≢◌, ◌<◌, ◌≤◌, ◌+◌, ℕ, zero, suc, Bool, true, false, Some, List, [], ◌∷◌, length, refl, sym, arith, ap, subst, ◌∙◌, inl, inr}
 use Rattle.std.proofs.lemmas.Bool.{cases_lt, cases_eq}
 use Rattle.std.proofs.lemmas.Bool.Decides.{nat_tests}
 use Rattle.kt_cuts.specs.Past.{at_one}
@@ -39,7 +39,7 @@ passed d cs p j other n = record {
 unlike : (a b : ℕ) → (a == b) ≡ false → a ≢ b
 unlike a b e f = grind (arith, nat_tests, e, f)
 
-alike : (a b : ℕ) → (a == b) ≡ true → a ≡ b
+pub alike : (a b : ℕ) → (a == b) ≡ true → a ≡ b
 alike a b e = grind (arith, nat_tests, e)
 
 -- the first command

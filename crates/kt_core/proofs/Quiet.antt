@@ -1,7 +1,7 @@
 -- A system where nothing is in transit, and who is in no instance, as the laws have it.
 use Rattle.std.specs.Prelude.{◌==◌, ◌&&◌, ◌||◌, not, if◌then◌else◌, Option, is_none, is_some, slice_get}
 use Rattle.std.specs.Option.{option_or}
-use Rattle.std.proofs.Common.{◌≡◌, ◌<◌, ◌≤◌, ℕ, Bool, true, false, Some, None, List, [], ◌∷◌, refl, sym, arith, ap, ◌∙◌}
+use Rattle.std.proofs.Common.{◌≡◌, ◌<◌, ◌≤◌, ℕ, zero, suc, Bool, true, false, Some, None, List, [], ◌∷◌, refl, sym, arith, ap, ◌∙◌}
 use Rattle.std.proofs.lemmas.Bool.Decides.{nat_tests}
 use Rattle.kt_fifo.specs.Channels.{channel}
 use Rattle.kt_fifo.specs.declared.parcels.Parcel.{Parcel}
@@ -17,7 +17,6 @@ use Rattle.kt_system.specs.Systems.{Whole, state_of}
 use Rattle.kt_system.specs.Reads.{IsQuietSystem, next_parcel, can_take}
 use Rattle.kt_system.specs.Shown.{ShowsState}
 use Rattle.kt_system.proofs.Replying.{ready_seen}
-use Rattle.kt_plans.proofs.PhaseOrder.{none_of_if}
 use Rattle.kt_plans.specs.Progress.{is_quiet}
 use Rattle.kt_plans.specs.Steps.{can_take_from}
 use Rattle.kt_fifo.specs.Queues.{has_parcel}
@@ -25,6 +24,10 @@ use Rattle.kt_fifo.specs.Queues.{has_parcel}
 -- all instances that processes are in have numbers from 1 on
 abbrev pub AreNumbered : Whole → Type 0
 AreNumbered s = (p : ℕ) → p < s.size → IsNumbered (part_of_side (state_of s p).side)
+
+pub none_of_if : (n : ℕ) (f : ℕ → Bool) → ((v : ℕ) → v < n → f v ≡ false) → none_of n f ≡ true
+none_of_if zero f h = refl
+none_of_if (suc n) f h = let a = h n (omega arith) in let b = none_of_if n f (λ v l. h v (omega (arith, l))) in rw (a, b) refl
 
 positive : (n : ℕ) → 1 ≤ n → (n == 0) ≡ false
 positive n h = grind (arith, nat_tests)

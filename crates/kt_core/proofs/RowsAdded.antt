@@ -6,16 +6,16 @@ use Rattle.kt_spacetime.specs.declared.event.Event.{Event}
 use Rattle.kt_plans.specs.Rows.{AreRowsOfStep}
 use Rattle.kt_plans.specs.Steps.{enabled, progress_after}
 use Rattle.kt_plans.specs.Progress.{Progress}
-use Rattle.kt_plans.proofs.RowsFit.{fits}
+use Rattle.kt_core.specs.PlanLaws.{PlanLaws}
 use Rattle.kt_core.specs.Shown.{Mirrors}
 use Rattle.kt_core.specs.Worlds.{World, step_refusal}
 use Rattle.kt_core.proofs.Enabled.{enabled_is, enabled_if}
 
-pub rows_fit : (old new : World) (first : ℕ) (v : Progress) (x : Step) (give : Give) → step_refusal old x ≡ None → Mirrors old.agenda old.system first v
+pub rows_fit : PlanLaws → (old new : World) (first : ℕ) (v : Progress) (x : Step) (give : Give) → step_refusal old x ≡ None → Mirrors old.agenda old.system first v
     → Mirrors new.agenda new.system first (progress_after old.agenda.plan v x give)
     → AreRowsOfStep old.agenda.plan v x give (drop (length old.system.rows.rows) new.system.rows.rows)
-rows_fit old new first v x give e r next =
+rows_fit laws old new first v x give e r next =
     let on : enabled old.agenda.plan v x ≡ true = sym (enabled_is old first v r x) ∙ enabled_if old x e in
     subst (λ (l : List Event). AreRowsOfStep old.agenda.plan v x give l)
     (ap (λ (l : List Event). drop (length v.now.log) l) (sym next.now.log) ∙ ap (λ (l : List Event). drop (length l) new.system.rows.rows) (sym r.now.log))
-    (fits old.agenda.plan first v x give r.limits r.reached on).fit
+    (laws.fit old.agenda.plan first v x give r.limits r.reached on)

@@ -25,8 +25,7 @@ use Rattle.kt_plans.specs.Work.{begins_instance, count_begins}
 use Rattle.kt_plans.specs.Tallies.{Tallies, total_below, IsRaised, RunPuts, count_in_channels, count_in_front, count_where, is_ask_of, is_decision_of, is_reply_of, taken_off}
 use Rattle.kt_plans.specs.Progress.{Progress}
 use Rattle.kt_fifo.specs.Queues.{has_parcel}
-use Rattle.kt_plans.proofs.PutRuns.{run_of}
-use Rattle.kt_plans.proofs.RunsEnd.{few_begun, none_put, few_asks, few_replies, few_decisions}
+use Rattle.kt_core.specs.PlanLaws.{PlanLaws}
 use Rattle.kt_core.specs.Shown.{tally_shown}
 use Rattle.kt_core.proofs.Quiet.{AreNumbered}
 
@@ -110,25 +109,25 @@ begins_few (c ∷ cs) = let i = begins_few cs in at_test (begins_instance c.job)
     at_test false i = omega (arith, i)
 
 -- what an instance puts is little, and nothing where there are not so many commands
-module _ (plan : Planned) (first : ℕ) (w : Progress) (put : Tallies) (i : IsPlan plan) (r : RunPuts plan first w put) where
+module _ (laws : PlanLaws) (plan : Planned) (first : ℕ) (w : Progress) (put : Tallies) (i : IsPlan plan) (r : RunPuts plan first w put) where
   asks_few : (k : ℕ) → put.asks k ≤ 4096
   asks_few k =
       let few = i.names.few in
-      let most = few_asks plan first w put i r k in
+      let most = laws.asks plan first w put k i r in
       let low = mul-le (length plan.names) (length plan.names - 1) 64 64 (omega (arith, few)) (omega (arith, few)) in
       omega (arith, most, low)
 
   replies_few : (k : ℕ) → put.replies k ≤ put.asks k
-  replies_few k = few_replies plan first w put i r k
+  replies_few k = laws.replies plan first w put k i r
 
   decisions_few : (k : ℕ) → put.decisions k ≤ put.asks k
-  decisions_few k = few_decisions plan first w put i r k
+  decisions_few k = laws.decisions plan first w put k i r
 
   none_past : (k : ℕ) → length plan.commands < k → put.asks k ≡ 0
   none_past k h =
-      let begun = few_begun plan first w i (run_of plan first w put r) in
+      let begun = laws.instances plan first w i (record { moves = r.moves; leads = r.leads }) in
       let few = begins_few plan.commands in
-      none_put plan first w put i r k (omega (arith, begun, few, h))
+      laws.unbegun plan first w put k i r (omega (arith, begun, few, h))
 
   -- the tallies after a step
   pub tallies_lead : (s t : Whole) (v : Progress) (old : Tallies) (x : Step) (taken : List Parcel) → s.size ≡ length plan.names → t.size ≡ length plan.names → ShowsState s v.now → ShowsState t w.now → length plan.commands ≤ length s.put →

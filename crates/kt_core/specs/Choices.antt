@@ -1,10 +1,13 @@
 -- All steps that processes could make, and those that are enabled.
-use Rattle.std.specs.Prelude.{ℕ, zero, suc, ◌++◌, List, [], ◌∷◌, filter, length}
+use Rattle.std.specs.Prelude.{◌≡◌, ◌<◌, ℕ, zero, suc, true, false, Option, Some, None, ◌++◌, List, [], ◌∷◌, filter, length}
+use Rattle.kt_base.specs.Sets.{has}
+use Rattle.kt_fifo.specs.Channels.{channel}
 use Rattle.kt_plan.specs.declared.steps.Step.{Step}
 use Rattle.kt_plan.specs.declared.steps.Step.TheVariants.{Do, Take}
 use Rattle.kt_plan.specs.Limits.{Planned}
 use Rattle.kt_plans.specs.Progress.{Progress}
-use Rattle.kt_plans.specs.Steps.{enabled}
+use Rattle.kt_plans.specs.Steps.{enabled, process_of_step}
+use Rattle.kt_core.specs.Agendas.{open_command}
 use Rattle.kt_core.specs.Worlds.{World, can_make}
 
 -- a process takes of each of the first n
@@ -32,3 +35,18 @@ choices w = filter (can_make w) (all_steps w.system.size)
 -- those that are enabled in a run of a plan
 abbrev pub enabled_steps : Planned → Progress → List Step
 enabled_steps plan w = filter (enabled plan w) (all_steps (length plan.names))
+
+-- no parcel is held, and no command is of the open phase: all that can be made are takes of parcels in channels
+pub record HasTakesAlone (w : World) : Type 0 where
+  pub held : (p q : ℕ) → channel w.system.held p q ≡ []
+  pub closed : (p : ℕ) → p < w.system.size → open_command w.agenda p ≡ None
+
+-- these processes are there, and no step of any other one can be made
+pub record HasNoOthers (w : World) (movers : ℕ) : Type 0 where
+  pub there : (p : ℕ) → has movers p ≡ true → p < w.system.size
+  pub others : (p : ℕ) → p < w.system.size → has movers p ≡ false → (step : Step) → process_of_step step ≡ p → can_make w step ≡ false
+
+-- who may have a step that can be made; where nobody is named, takes are all
+abbrev pub AreMovers : World → Option ℕ → Type 0
+AreMovers w None = HasTakesAlone w
+AreMovers w (Some movers) = HasNoOthers w movers

@@ -1,7 +1,9 @@
 pub mod Agendas
 pub mod Worlds
 pub mod Shown
+pub mod PlanLaws
 pub mod Making
 pub mod Ready
 pub mod FaultTexts
 pub mod Choices
+pub mod Priorities

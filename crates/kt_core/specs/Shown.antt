@@ -1,14 +1,7 @@
 -- A plan, its steps and its worlds as the laws of plans have them.
-use Rattle.std.specs.Prelude.{◌≡◌, ◌<◌, ◌≤◌, ℕ, Some, length, map}
-use Rattle.kt_plan.specs.Limits.{Planned, IsPlan}
+use Rattle.std.specs.Prelude.{◌≡◌, ◌<◌, ◌≤◌, ℕ, Some, length}
+use Rattle.kt_plan.specs.Limits.{IsPlan}
 use Rattle.kt_plan.specs.declared.commands.Command.{Command}
-use Rattle.kt_plan.specs.declared.commands.Job.{Job}
-use Rattle.kt_plan.specs.declared.commands.Job.TheVariants.{Send, Checkpoint, Rollback, Fail}
-use Rattle.kt_plan.specs.declared.steps.Step.{Step}
-use Rattle.kt_plan.specs.declared.steps.Step.TheVariants.{Do, Take}
-use Rattle.kt_plan.specs.declared.steps.Give.{Give}
-use Rattle.kt_plan.specs.declared.steps.Look.{Look}
-use Rattle.kt_plan.specs.declared.steps.Look.TheVariants.{Idle, NeedsSave, NeedsBody, Plain}
 use Rattle.kt_process.specs.ProcessStates.{part_of_side, IsNumbered}
 use Rattle.kt_system.specs.Systems.{Whole, state_of}
 use Rattle.kt_system.specs.declared.system.Tally.{Tally}

@@ -139,7 +139,7 @@ impl Agenda {
     }
 
     /// Whether a command of the open phase is not done.
-    fn has_open(&self) -> bool
+    pub(crate) fn has_open(&self) -> bool
         ensures some { result ≡ true → (p : ℕ) × ((p < 64) × (is_some (open_command self.now p) ≡ true)) }
         ensures none { result ≡ false → (p : ℕ) → p < 64 → open_command self.now p ≡ None }
     {

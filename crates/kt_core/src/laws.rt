@@ -4,6 +4,7 @@ ghost use Rattle.std.specs.Prelude.{◌≡◌, ℕ, true};
 ghost use Rattle.kt_plan.specs.declared.steps.Step.{Step};
 ghost use Rattle.kt_plans.specs.Progress.{Progress};
 ghost use Rattle.kt_plans.specs.Steps.{enabled, is_at_rest};
+ghost use Rattle.kt_core.specs.PlanLaws.{PlanLaws};
 ghost use Rattle.kt_core.specs.Shown.{Mirrors};
 ghost use Rattle.kt_core.specs.Worlds.{World, IsSameWorld, IsWorldAtRest, can_make};
 
@@ -16,4 +17,27 @@ pub fn runs_of_worlds()
         IsWorldAtRest w → is_at_rest w.agenda.plan v ≡ true }
     ensures same { (old new : World) (first : ℕ) (v : Progress) → IsSameWorld new old →
         Mirrors old.agenda old.system first v → Mirrors new.agenda new.system first v }
-{}
+{
+    laws_of_runs();
+}
+
+/// The laws of runs that proofs of this crate rest on: whose proof cites one of their lemmas calls it.
+pub(crate) fn laws_of_runs()
+    ensures { PlanLaws }
+{
+    kt_plans::progress_of_runs();
+    kt_plans::progress_after_steps();
+    kt_plans::places_of_commands();
+    kt_plans::phases_of_runs();
+    kt_plans::processes_of_runs();
+    kt_plans::protocol_of_runs();
+    kt_plans::messages_of_runs();
+    kt_plans::rows_of_runs();
+    kt_plans::acts_of_runs();
+    kt_plans::steps_of_runs();
+    kt_plans::never_stuck();
+    kt_plans::hindrances_of_steps();
+    kt_plans::tallies_of_runs();
+    // what an object holds is a list of numbers, and so is an array to a clause
+    kt_plans::values_of_runs::<[i64; 1]>();
+}

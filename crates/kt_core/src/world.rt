@@ -12,6 +12,7 @@ ghost use Rattle.kt_core.specs.Worlds.{IsOpening};
 ghost use Rattle.kt_core.specs.Shown.{Mirrors, MirrorsPut, IsReached, tally_shown};
 
 use crate::agenda::Agenda;
+use crate::laws::laws_of_runs;
 use kt_base::{InstNo, Label, Memory, ProcNo, RowNo};
 use kt_plan::Plan;
 use kt_spacetime::SpaceTime;
@@ -23,6 +24,7 @@ mod choices;
 mod commands;
 mod hindrances;
 mod looks;
+mod priorities;
 mod steps;
 
 /// A system of processes whose commands are those of a plan: which are done, and which may be done.
@@ -79,6 +81,7 @@ impl World {
         ensures opening { IfOk result (λ w. IsOpening w plan used limit) }
         ensures starts { IfOk result (λ w. Mirrors w.agenda w.system used (progress_at_start plan used)) }
     {
+        laws_of_runs();
         let size = plan.size();
         let system = System::new(alloc, size, used, plan.commands.len())?;
         let _processes = system.processes();

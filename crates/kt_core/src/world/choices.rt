@@ -1,67 +1,137 @@
-//! All steps that are enabled.
+//! How many steps are enabled, and the one at a place among them.
 
-ghost use Rattle.std.specs.Prelude.{◌≡◌, ◌<◌, ◌++◌, ◌↔◌, ℕ, true, filter, Contains, OnOk};
-ghost use Rattle.kt_core.specs.Choices.{choices, enabled_steps, steps_of, takes_of};
+ghost use Rattle.std.specs.Prelude.{◌≡◌, ◌<◌, ◌≤◌, ℕ, true, false, [], Some, None, IfSome, filter, length, slice_get};
+ghost use Rattle.kt_core.specs.Choices.{choices, enabled_steps, steps_of, HasTakesAlone, HasNoOthers, AreMovers};
 ghost use Rattle.kt_core.specs.Shown.{Mirrors};
 ghost use Rattle.kt_core.specs.Worlds.{can_make};
 ghost use Rattle.kt_plans.specs.Progress.{Progress};
 
 use super::World;
-use kt_base::{Memory, ProcNo};
+use kt_base::{ProcNo, ProcSet};
 use kt_plan::Step;
 
 impl World {
-    /// Lists the enabled steps, each once, in place of what the list has: by process, what it can take, by the senders'
-    /// numbers, and then its next command.
-    ///
-    /// No process is looked at for which there is no parcel and whose next command is of a later phase, and no pair of
-    /// processes without a parcel. After a fault the list has some of them.
-    pub fn list_enabled(&self, list: &mut Vec<Step>) -> Result<(), Memory>
-        ensures choices { OnOk result (list.new.items ≡ choices self.now) }
-        ensures in_runs { (first : ℕ) (v : Progress) → Mirrors self.now.agenda self.now.system first v →
-            OnOk result (list.new.items ≡ enabled_steps self.now.agenda.plan v) }
-
-        // None is left out.
-        ensures all { OnOk result ((step : Step) → (can_make self.now step ≡ true) ↔ Contains list.new.items step) }
+    /// The processes that may have an enabled step: those for which there are parcels, and those whose next command is of
+    /// the open phase. None where all that can be enabled are takes of parcels in channels.
+    #[inline(always)]
+    pub fn movers(&self) -> Option<ProcSet>
+        ensures { AreMovers self.now result }
     {
-        list.clear();
-        let mut left = self.agenda.with_open(self.system.receivers());
+        if self.has_takes_alone() {
+            return None;
+        }
+        Some(self.agenda.with_open(self.system.receivers()))
+    }
+
+    /// How many steps are enabled: as channels count them where takes are all, else as the movers have them.
+    #[inline(always)]
+    pub fn count_enabled(&self, movers: &Option<ProcSet>) -> usize
+        requires { AreMovers self.now movers.now }
+        ensures choices { result ≡ length (choices self.now) }
+        ensures none { result ≡ 0 → (step : Step) → can_make self.now step ≡ false }
+        ensures in_runs { (first : ℕ) (v : Progress) → Mirrors self.now.agenda self.now.system first v →
+            result ≡ length (enabled_steps self.now.agenda.plan v) }
+    {
+        match *movers {
+            Some(movers) => self.count_of_movers(movers),
+            None => self.system.takes(),
+        }
+    }
+
+    /// The enabled step at a place: by process, what it can take, by the senders' numbers, and then its next command. None
+    /// past all.
+    #[inline(always)]
+    pub fn enabled_at(&self, movers: &Option<ProcSet>, place: usize) -> Option<Step>
+        requires { AreMovers self.now movers.now }
+        ensures choices { result ≡ slice_get (choices self.now) place }
+        ensures enabled { IfSome result (λ step. can_make self.now step ≡ true) }
+        ensures in_runs { (first : ℕ) (v : Progress) → Mirrors self.now.agenda self.now.system first v →
+            result ≡ slice_get (enabled_steps self.now.agenda.plan v) place }
+    {
+        match *movers {
+            Some(movers) => self.step_of_movers(movers, place),
+            None => self.take_at(place),
+        }
+    }
+
+    /// The enabled step at a place, where takes of parcels in channels are all.
+    #[inline(always)]
+    fn take_at(&self, place: usize) -> Option<Step>
+        requires { HasTakesAlone self.now }
+        ensures { result ≡ slice_get (choices self.now) place }
+    {
+        let (at, from) = self.system.take_at(place)?;
+        Some(Step::Take { at, from })
+    }
+
+    /// Whether all that can be enabled are takes of parcels in channels: none is held, and no command is of the open phase.
+    #[inline(always)]
+    fn has_takes_alone(&self) -> bool
+        ensures { result ≡ true → HasTakesAlone self.now }
+    {
+        let _count = self.system.processes();
+        if !self.system.holds_none() {
+            return false;
+        }
+        !self.agenda.has_open()
+    }
+
+    /// How many steps of some processes are enabled, where no other process has one.
+    fn count_of_movers(&self, movers: ProcSet) -> usize
+        requires { HasNoOthers self.now movers }
+        ensures { result ≡ length (choices self.now) }
+    {
+        let mut left = movers;
+        let mut count: usize = 0;
         for _number in 0..self.system.processes() {
             let Some(p) = left.first() else {
-                return Ok(());
+                return count;
             };
-            self.add_steps(p, list)?;
+            count += self.count_of(p);
             left = left.without(p);
         }
-        Ok(())
+        count
     }
 
-    /// Adds the enabled steps of a process.
-    fn add_steps(&self, p: ProcNo, list: &mut Vec<Step>) -> Result<(), Memory>
-        requires { p < self.now.system.size }
-        ensures { OnOk result (list.new.items ≡ list.old.items ++ filter (can_make self.now) (steps_of self.now.system.size p)) }
+    /// The enabled step at a place, where no process but these has one.
+    fn step_of_movers(&self, movers: ProcSet, place: usize) -> Option<Step>
+        requires { HasNoOthers self.now movers }
+        ensures { result ≡ slice_get (choices self.now) place }
     {
-        self.add_takes(p, list)?;
-        if !self.can_do(p) {
-            return Ok(());
-        }
-        list.push(Step::Do(p))?;
-        Ok(())
-    }
-
-    /// Adds what a process can take.
-    fn add_takes(&self, at: ProcNo, list: &mut Vec<Step>) -> Result<(), Memory>
-        requires { at < self.now.system.size }
-        ensures { OnOk result (list.new.items ≡ list.old.items ++ filter (can_make self.now) (takes_of at self.now.system.size)) }
-    {
-        let mut senders = self.system.all_senders(at);
+        let mut left = movers;
+        let mut after = place;
         for _number in 0..self.system.processes() {
-            let Some(from) = senders.first() else {
-                return Ok(());
-            };
-            list.push(Step::Take { at, from })?;
-            senders = senders.without(from);
+            let p = left.first()?;
+            let count = self.count_of(p);
+            if after < count {
+                return Some(self.step_at(p, after));
+            }
+            after -= count;
+            left = left.without(p);
         }
-        Ok(())
+        None
+    }
+
+    /// How many steps of a process are enabled.
+    #[inline(always)]
+    fn count_of(&self, p: ProcNo) -> usize
+        requires { p < self.now.system.size }
+        ensures count { result ≡ length (filter (can_make self.now) (steps_of self.now.system.size p)) }
+        ensures few { result ≤ 65 }
+    {
+        let takes = self.system.take_count(p);
+        if self.can_do(p) { takes + 1 } else { takes }
+    }
+
+    /// The enabled step of a process at a place among its own: what it can take, and then its next command.
+    fn step_at(&self, p: ProcNo, place: usize) -> Step
+        requires there { p < self.now.system.size }
+        requires within { place < length (filter (can_make self.now) (steps_of self.now.system.size p)) }
+        ensures { slice_get (filter (can_make self.now) (steps_of self.now.system.size p)) place ≡ Some result }
+    {
+        match self.system.sender_at(p, place) {
+            Some(from) => Step::Take { at: p, from },
+            None => Step::Do(p),
+        }
     }
 }

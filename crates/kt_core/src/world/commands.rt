@@ -18,6 +18,7 @@ ghost use Rattle.kt_core.specs.Worlds.{step_refusal, is_send, IsSameWorld};
 
 use super::World;
 use super::steps::settle;
+use crate::laws::laws_of_runs;
 use kt_base::{Memory, ProcNo};
 use kt_plan::{Act, Give, Job, Step};
 use kt_system::System;
@@ -38,6 +39,7 @@ impl World {
         ensures err { OnErr result (IsSameWorld self.new self.old) }
         ensures made { OnOk result (MakesStep self.old (Step.Do p) give acts.new self.new) }
     {
+        laws_of_runs();
         let Some(command) = self.agenda.command_at(p, place) else {
             return Ok(());
         };

@@ -7,6 +7,7 @@ ghost use Rattle.kt_plans.specs.Hindrances.{hindrance};
 ghost use Rattle.kt_plans.specs.Progress.{Progress};
 
 use super::World;
+use crate::laws::laws_of_runs;
 use kt_base::ProcNo;
 use kt_plan::Step;
 use kt_plans::Hindrance;
@@ -18,6 +19,7 @@ impl World {
         ensures in_runs { (first : ℕ) (v : Progress) → Mirrors self.now.agenda self.now.system first v →
             result ≡ hindrance self.now.agenda.plan v step.now }
     {
+        laws_of_runs();
         if self.enabled(step) {
             return None;
         }
@@ -33,6 +35,7 @@ impl World {
         ensures { (first : ℕ) (v : Progress) → Mirrors self.now.agenda self.now.system first v →
             hindrance self.now.agenda.plan v (Step.Do p) ≡ Some result }
     {
+        laws_of_runs();
         let place = self.agenda.place(p);
         if self.agenda.command_at(p, place).is_none() {
             Hindrance::NoCommand

@@ -15,6 +15,7 @@ ghost use Rattle.kt_core.specs.Shown.{Mirrors};
 
 use super::World;
 use crate::faults::StepFault;
+use crate::laws::laws_of_runs;
 use crate::ready::Ready;
 use kt_base::ProcNo;
 use kt_plan::{Command, Job, Look, Step};
@@ -79,6 +80,7 @@ impl World {
         ensures in_runs { (first : ℕ) (v : Progress) → Mirrors self.now.agenda self.now.system first v →
             result ≡ look self.now.agenda.plan v step.now }
     {
+        laws_of_runs();
         if !self.enabled(step) {
             return Look::Idle;
         }
@@ -98,6 +100,7 @@ impl World {
         ensures allowed { OnOk result (step_refusal self.now step.now ≡ None) }
         ensures refused { IfErr result (λ fault. step_refusal self.now step.now ≡ Some fault) }
     {
+        laws_of_runs();
         match *step {
             Step::Do(p) => match self.command_of(p) {
                 Some(command) => self.ready_to_do(p, &command),
@@ -125,6 +128,7 @@ impl World {
         ensures allowed { OnOk result (step_refusal self.now step.now ≡ None) }
         ensures refused { IfErr result (λ fault. step_refusal self.now step.now ≡ Some fault) }
     {
+        laws_of_runs();
         match *step {
             Step::Do(p) => match self.agenda.open_command(p) {
                 Some(command) => self.ready_to_do(p, &command),
@@ -255,6 +259,7 @@ impl World {
         ensures follows { IsTrue result → FollowsPlan self.now.agenda.plan self.now.system.rows.rows }
     {
         kt_plans::logs_follow_plans();
+        laws_of_runs();
         self.agenda.is_done() && self.system.is_quiet()
     }
 
@@ -267,6 +272,7 @@ impl World {
         ensures in_runs { (first : ℕ) (v : Progress) → Mirrors self.now.agenda self.now.system first v →
             result ≡ default_step self.now.agenda.plan v }
     {
+        laws_of_runs();
         match self.system.next_take() {
             Some((at, from)) => Some(Step::Take { at, from }),
             None => match self.first_do() {

@@ -13,6 +13,7 @@ ghost use Rattle.kt_core.specs.Shown.{Mirrors};
 use super::World;
 use crate::agenda::Agenda;
 use crate::faults::StepFault;
+use crate::laws::laws_of_runs;
 use crate::ready::Ready;
 use kt_base::{Memory, ProcNo, RowNo};
 use kt_plan::{Act, Give, Step, Told};
@@ -41,6 +42,7 @@ impl World {
         ensures step { IfOk result (λ told. told.step ≡ step) }
         ensures told { IfOk result (λ told. (i : ℕ) → i < 4 → slice_get told.rows i ≡ Some (numbered_row self.new.system.rows.rows (length self.old.system.rows.rows + i))) }
     {
+        laws_of_runs();
         match self.ready(&step) {
             Ok(ready) => {
                 let count = self.system.log().rows().len();
@@ -107,6 +109,7 @@ impl World {
         ensures err { OnErr result (IsSameWorld self.new self.old) }
         ensures made { OnOk result (MakesStep self.old (Step.Take at from) give acts.new self.new) }
     {
+        laws_of_runs();
         let told = self.system.take(self.alloc, at, from, give.able)?;
         settle(&mut self.agenda, &self.system);
         *acts = told;

@@ -10,7 +10,7 @@ pub returns-clause-enabled : goal.returns-clause-enabled
 returns-clause-enabled c = λ w first v step r. enabled_is w first v r step
 
 pub returns-clause-rest : goal.returns-clause-rest
-returns-clause-rest c = λ w first v r rest. sym (rest_is w first v r true (λ _. rest, λ _. refl))
+returns-clause-rest c = λ w first v r rest. sym (rest_is c.laws_of_runs.ensures w first v r true (λ _. rest, λ _. refl))
 
 pub returns-clause-same : goal.returns-clause-same
 returns-clause-same c = λ old new first v same r.

@@ -1,5 +1,5 @@
 use Rattle.std.specs.Prelude.{nat_le}
-use Rattle.std.proofs.Common.{◌≡◌, ℕ, true, false, ap}
+use Rattle.std.proofs.Common.{◌≡◌, true, false, ap}
 use Rattle.kt_core.specs.Agendas.{Agenda}
 use Rattle.kt_core.proofs.Opens.{some_open, none_open, done_closed}
 use Rattle.kt_core.proofs.agenda.Agenda.has_open.Goals as goal

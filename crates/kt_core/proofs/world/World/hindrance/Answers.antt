@@ -8,7 +8,7 @@ use Rattle.kt_core.proofs.world.World.hindrance.Goals as goal
 pub returns-then-enabled-clause-in_runs : goal.returns-then-enabled-clause-in_runs
 returns-then-enabled-clause-in_runs c = λ first v r.
     let on : can_make c.args.self.now c.args.step.now ≡ true = search rules in
-    sym (nothing c.args.self.now first v r c.args.step.now on)
+    sym (nothing c.laws_of_runs.ensures c.args.self.now first v r c.args.step.now on)
 
 pub returns-in-Do-clause-in_runs : goal.returns-in-Do-clause-in_runs
 returns-in-Do-clause-in_runs c = λ first v r.
@@ -17,4 +17,4 @@ returns-in-Do-clause-in_runs c = λ first v r.
 pub returns-in-Take-clause-in_runs : goal.returns-in-Take-clause-in_runs
 returns-in-Take-clause-in_runs c = λ first v r.
     let off : can_make c.args.self.now c.args.step.now ≡ false = search rules in
-    sym (no_parcel c.args.self.now first v r c.args.step.now c.in-Take.is off)
+    sym (no_parcel c.laws_of_runs.ensures c.args.self.now first v r c.args.step.now c.in-Take.is off)

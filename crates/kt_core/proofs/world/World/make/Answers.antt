@@ -40,7 +40,7 @@ returns-clause-starts c =
     let last = c.open_next.new.self in
     let size = c.size-size.ensures in
     subst (λ (plan : Planned). Mirrors last c.in_ok-system.system c.args.used (progress_at_start plan c.args.used)) made.plan
-    (start_leads first last c.in_ok-system.system c.args.used (subst (λ (plan : Planned). IsPlan plan) (sym made.plan) size.plan) (c.in_ok-system.ensures.size ∙ (size.size ∙ ap (λ (plan : Planned). length plan.names) (sym made.plan))) c.processes-processes.ensures.numbered
+    (start_leads c.laws_of_runs.ensures first last c.in_ok-system.system c.args.used (subst (λ (plan : Planned). IsPlan plan) (sym made.plan) size.plan) (c.in_ok-system.ensures.size ∙ (size.size ∙ ap (λ (plan : Planned). length plan.names) (sym made.plan))) c.processes-processes.ensures.numbered
     (subst (λ (n : ℕ). ShowsState c.in_ok-system.system (opening_seen n c.args.used)) (size.size ∙ ap (λ (plan : Planned). length plan.names) (sym made.plan)) c.in_ok-system.ensures.shows)
     (λ p low. subst (λ (plan : Planned). IsNextOf plan.commands p 0 (agenda_place first p)) (sym made.plan) (made.next p low))
     opened.plan opened.next

@@ -11,4 +11,4 @@ returns-in_ok-make_step-in-Ok-clause-made c =
 pub returns-in_ok-make_step-in-Ok-clause-rows : goal.returns-in_ok-make_step-in-Ok-clause-rows
 returns-in_ok-make_step-in-Ok-clause-rows c = λ first v r.
     let made = returns-in_ok-make_step-in-Ok-clause-made c in
-    rows_fit c.args.self.now c.make_step.new.self first v c.args.step c.args.give c.in-Ok.ensures.allowed r ((made.runs first v r).leads)
+    rows_fit c.laws_of_runs.ensures c.args.self.now c.make_step.new.self first v c.args.step c.args.give c.in-Ok.ensures.allowed r ((made.runs first v r).leads)
