@@ -2,6 +2,7 @@
 use Rattle.std.proofs.Common.{◌≡◌, ◌≢◌, ◌⊎◌, inl, inr, ◌∙◌, ◌+◌, arith, ℕ, zero, suc, ℤ, Bool, List, [], ◌∷◌, ◌++◌, length, drop, map, set, refl, sym, ap, subst, Option, Some, None, IfSome, All}
 use Rattle.std.specs.Prelude.{IsSome, is_some, is_none, slice_get, slice_index_or, option_map, unwrap_or, if◌then◌else◌}
 use Rattle.std.proofs.lemmas.Option.{slice_get-map}
+use Rattle.std.proofs.lemmas.List.{drop-map}
 use Rattle.std.proofs.lemmas.List.Elements.{All-head, All-tail}
 use Rattle.std.specs.List.{AllZip}
 use Rattle.std.specs.declared.alloc.Global.{Global}
@@ -18,7 +19,7 @@ use Rattle.kt_system.specs.ShownActs.{act_shown, acts_shown}
 use Rattle.kt_values.specs.Done.{done}
 use Rattle.kt_values.specs.Values as values
 use Rattle.kt_values.specs.Values.{Rules, Due, due, first_due, acts_along}
-use Rattle.kt_run.specs.Objects.{Belongings, belongings_of, has_of, rules_of, first_of, rules_by, holding_of, spares_taken, HoldsDue, HoldDue}
+use Rattle.kt_run.specs.Objects.{Belongings, belongings_of, has_of, rules_of, first_of, rules_by, holding_of, spares_taken, HoldsDue, HoldDue, IsDone}
 
 none_more : (n : ℕ) → n ≡ 0 + n
 none_more n = omega arith
@@ -112,17 +113,7 @@ drop_more {A} (suc m) n [] = none_left n ∙ sym (none_left (suc m + n))
     none_left (suc j) = refl
 drop_more (suc m) n (x ∷ xs) = drop_more m n xs ∙ ap (λ (k : ℕ). drop k (x ∷ xs)) (let e : suc (m + n) ≡ suc m + n = omega arith in e)
 
--- what is done to what a process has
-pub record IsDone (acts : List Act) (old new : Belongings) : Type 0 where
-  pub does : (h : Holding) → Holds h old.present old.depot → Holds (held.does_all h acts) new.present new.depot
-  pub spares : new.spares ≡ drop (spares_of_all (is_some old.present) acts) old.spares
-
--- so it is where it is done to real objects
-map_drop : {A B : Type 0} (g : A → B) (n : ℕ) (xs : List A) → map g (drop n xs) ≡ drop n (map g xs)
-map_drop g zero xs = refl
-map_drop g (suc n) [] = refl
-map_drop g (suc n) (x ∷ xs) = map_drop g n xs
-
+-- what is done to real objects is done to what the process has
 there_same : {A B : Type 0} (g : A → B) (o : Option A) → is_some o ≡ is_some (option_map g o)
 there_same g None = refl
 there_same g (Some x) = refl
@@ -133,7 +124,7 @@ pub done_by : {A : Type 0} (g : A → Content) (acts : List Act) (object object'
     → IsDone acts (record { present = option_map g object; spares = map g left; depot = depot }) (record { present = option_map g object'; spares = map g left'; depot = depot' })
 done_by g acts object object' left left' depot depot' does e = record {
   does = does;
-  spares = ap (map g) e ∙ (map_drop g (spares_of_all (is_some object) acts) left ∙ ap (λ (up : Bool). drop (spares_of_all up acts) (map g left)) (there_same g object));
+  spares = ap (map g) e ∙ (sym (drop-map g (spares_of_all (is_some object) acts) left) ∙ ap (λ (up : Bool). drop (spares_of_all up acts) (map g left)) (there_same g object));
 }
 
 -- acts that lead from what is due after one log to what is due after another one, and the spares that they take

@@ -12,3 +12,4 @@ pub mod OneRun
 pub mod Telling
 pub mod Spares
 pub mod Rejecting
+pub mod Moves

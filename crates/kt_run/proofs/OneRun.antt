@@ -1,6 +1,6 @@
 -- The same steps, over the same objects, make the same run, as far as no save is refused.
 use Rattle.std.specs.Prelude.{Option, slice_get, unwrap_or, if◌then◌else◌, ◌+◌, ◌==◌, ◌&&◌}
-use Rattle.std.proofs.Common.{◌≡◌, ℕ, ℤ, Bool, true, false, List, [], ◌∷◌, ◌++◌, length, map, take, append_assoc, refl, sym, ap, subst, ◌∙◌, Some, None}
+use Rattle.std.proofs.Common.{◌≡◌, ℕ, Bool, true, false, List, [], ◌∷◌, ◌++◌, length, map, take, append_assoc, append-nil, arith, refl, sym, ap, subst, ◌∙◌, Some, None}
 use Rattle.std.proofs.Math.Seq.{take-append_seam}
 use Rattle.kt_base.specs.declared.words.Cause.TheVariants.{Down}
 use Rattle.kt_spacetime.specs.declared.event.Event.{Event}
@@ -27,17 +27,12 @@ use Rattle.kt_plans.specs.Rows.{AreRowsOfCommand, AreRowsOfDo, refusal_cause}
 use Rattle.kt_plans.specs.Told.{rows_along}
 use Rattle.kt_plans.specs.Follows.{command_answered}
 use Rattle.kt_plans.specs.Offers.{SendsWhatIsOffered}
-use Rattle.kt_plans.proofs.ActsOfSteps.{log_grows}
-use Rattle.kt_plans.proofs.DefaultSteps.{gives_same}
-use Rattle.kt_plans.proofs.FollowsRuns.{first_left, run_follows}
-use Rattle.kt_plans.proofs.OffersSent.{sent_seen}
-use Rattle.kt_plans.proofs.OpenPhase.{in_phase_seen}
-use Rattle.kt_plans.proofs.RowsFit.{fits}
-use Rattle.kt_plans.proofs.RunSteps.{start_reached_seen, next_reached_seen}
-use Rattle.kt_plans.proofs.WholeLogs.{log_from}
 use Rattle.kt_run.specs.Objects.{rules_by}
 use Rattle.kt_run.specs.OneRun.{SavesAll}
+use Rattle.kt_run.specs.RunLaws.{RunLaws}
 use Rattle.kt_run.specs.Runs.{IsRun}
+use Rattle.kt_run.proofs.Moves.{first_move}
+use Rattle.kt_run.proofs.Telling.{get_dropped}
 
 needs_body : (l : Look) → uses_body l ≡ true → l ≡ NeedsBody
 needs_body Idle e = absurd (cc (e))
@@ -78,36 +73,38 @@ row_of_send u p give c q rows j up f =
     = subst (λ (x : Job). AreRowsOfCommand (u.now.begun + 1) p x give.body (refusal_cause (u.now.states p) give.able x) rows) j f in
     subst (λ (b : Bool). AreRowsOfCommand (u.now.begun + 1) p (job.Send q None) give.body (if b then None else Some Down) rows) up are
 
-first_move : (plan : Planned) (u w : Progress) (x : Move) (xs : List Move) → after_moves plan u (x ∷ xs) ≡ Some w → (enabled plan u x.step ≡ true) × (after_moves plan (progress_after plan u x.step x.give) xs ≡ Some w)
-first_move plan u w x xs e = go (enabled plan u x.step) refl e
-  where
-    go : (b : Bool) → enabled plan u x.step ≡ b → (if b then after_moves plan (progress_after plan u x.step x.give) xs else None) ≡ Some w → (enabled plan u x.step ≡ true) × (after_moves plan (progress_after plan u x.step x.give) xs ≡ Some w)
-    go true on f = (on, f)
-    go false on f = absurd (cc (f))
-
-module _ {V : Type 0} (rules : ℕ → Rules V) (plan : Planned) (first : ℕ) (i : IsPlan plan) where
+module _ {V : Type 0} (laws : RunLaws) (rules : ℕ → Rules V) (plan : Planned) (first : ℕ) (i : IsPlan plan) where
   -- some moves lead on, send what is offered, and save
   abbrev Leads : Progress → List Move → Progress → Type 0
   Leads u xs w = (after_moves plan u xs ≡ Some w) × SendsWhatIsOffered rules plan w.now.log × SavesAll plan u xs
 
+  -- a log has the rows that the moves add
+  log_on : (xs : List Move) (u w : Progress) → RunReaches plan first u → after_moves plan u xs ≡ Some w → w.now.log ≡ u.now.log ++ rows_along plan u xs
+  log_on [] u w s e = ap (λ (o : Option Progress). (unwrap_or o u).now.log) (sym e) ∙ sym (append-nil u.now.log)
+  log_on (x ∷ xs) u w s e =
+      let on = first_move plan u w x xs e in
+      log_on xs (progress_after plan u x.step x.give) w (laws.next plan first u x.step x.give i s on.0) on.1
+      ∙ (ap (λ (l : List Event). l ++ rows_along plan (progress_after plan u x.step x.give) xs) (laws.grows plan first u x.step x.give i s on.0)
+      ∙ append_assoc u.now.log (rows_added plan u x.step x.give) (rows_along plan (progress_after plan u x.step x.give) xs))
+
   offered_here : (u : Progress) (p : ℕ) (give : Give) (w : Progress) (more : List Event) → RunReaches plan first u → enabled plan u (Do p) ≡ true → look plan u (Do p) ≡ NeedsBody
       → SendsWhatIsOffered rules plan w.now.log → w.now.log ≡ (progress_after plan u (Do p) give).now.log ++ more → offer (rules p) u.now.log p ≡ Some give.body
   offered_here u p give w more s b e o l =
-      let c = in_phase_seen plan first u p i s b in
+      let c = laws.in_phase plan first u p i s b in
       let looked : look_of_step plan u (Do p) ≡ NeedsBody = sym (ap (λ (x : Bool). if x then look_of_step plan u (Do p) else Idle) b) ∙ e in
       let asks : look_of_command u p (Some c.0) ≡ NeedsBody = subst (λ (x : Option Command). look_of_command u p x ≡ NeedsBody) c.1 looked in
       let own = sends_offered ((u.now.states p).inst == 0) (u.now.states p).up c.0.job asks in
-      let fit = subst (λ (x : Option Command). AreRowsOfDo u.now p give x (rows_added plan u (Do p) give)) c.1 (fits plan first u (Do p) give i s b).fit in
+      let fit = subst (λ (x : Option Command). AreRowsOfDo u.now p give x (rows_added plan u (Do p) give)) c.1 (laws.fit plan first u (Do p) give i s b) in
       let added = row_of_send u p give c.0 own.0 (rows_added plan u (Do p) give) own.1 own.2 fit in
       let log : w.now.log ≡ u.now.log ++ Sent p own.0 give.body ∷ more = l
-      ∙ (ap (λ (t : List Event). t ++ more) (log_grows plan first u (Do p) give i s b ∙ ap (λ (t : List Event). u.now.log ++ t) added)
+      ∙ (ap (λ (t : List Event). t ++ more) (laws.grows plan first u (Do p) give i s b ∙ ap (λ (t : List Event). u.now.log ++ t) added)
       ∙ append_assoc u.now.log (Sent p own.0 give.body ∷ []) more) in
       let there : slice_get w.now.log (length u.now.log) ≡ Some (Sent p own.0 give.body)
       = ap (λ (t : List Event). slice_get t (length u.now.log)) log ∙ get_seam u.now.log (Sent p own.0 give.body) more in
       let before : take (length u.now.log) w.now.log ≡ u.now.log
       = ap (take (length u.now.log)) log ∙ take-append_seam u.now.log (Sent p own.0 give.body ∷ more) in
-      let count = (run_follows plan first i u s).along.counts p in
-      let next : slice_get (commands_of p plan.commands) (u.done p) ≡ Some c.0 = sym (first_left (u.done p) (commands_of p plan.commands)) ∙ c.1 in
+      let count = laws.counts plan first u p i s in
+      let next : slice_get (commands_of p plan.commands) (u.done p) ≡ Some c.0 = get_dropped (u.done p) (u.done p) 0 (commands_of p plan.commands) (omega arith) ∙ c.1 in
       let answers : command_answered plan u.now.log (Sent p own.0 give.body) ≡ Some c.0 = ap (slice_get (commands_of p plan.commands)) count ∙ next in
       subst (λ (x : List Event). offer (rules p) x p ≡ Some give.body) before
       (o (length u.now.log) p own.0 give.body c.0 there
@@ -117,8 +114,8 @@ module _ {V : Type 0} (rules : ℕ → Rules V) (plan : Planned) (first : ℕ) (
       → SendsWhatIsOffered rules plan w.now.log → uses_body (look plan u x) ≡ true → offer (rules (process_of_step x)) u.now.log (process_of_step x) ≡ Some give.body
   body_given u (Do p) give w xs s b e o asks =
       offered_here u p give w (rows_along plan (progress_after plan u (Do p) give) xs) s b (needs_body (look plan u (Do p)) asks) o
-      (log_from plan first i xs (progress_after plan u (Do p) give) w (next_reached_seen plan first u (Do p) give i s b) e)
-  body_given u (Take p q) give w xs s b e o asks = absurd (let f = sent_seen plan first u (Take p q) give i s b in cc (asks, f))
+      (log_on xs (progress_after plan u (Do p) give) w (laws.next plan first u (Do p) give i s b) e)
+  body_given u (Take p q) give w xs s b e o asks = absurd (let f = laws.sends plan first u (Take p q) give i s b in cc (asks, f))
 
   -- the same step leads on to the same progress
   same_next : (u : Progress) (x : Step) (one other : Give) (xs ys : List Move) (w v : Progress) → RunReaches plan first u
@@ -126,7 +123,7 @@ module _ {V : Type 0} (rules : ℕ → Rules V) (plan : Planned) (first : ℕ) (
   same_next u x one other xs ys w v s a b =
       let on = first_move plan u w (record { step = x; give = one }) xs a.0 in
       let too = first_move plan u v (record { step = x; give = other }) ys b.0 in
-      gives_same plan first u x one other i s on.0
+      laws.gives plan first u x one other i s on.0
       (λ asks. let n = needs_save (look plan u x) asks in a.2.0 n ∙ sym (b.2.0 n))
       (λ asks. let f = body_given u x one w xs s on.0 on.1 a.1 asks in let g = body_given u x other v ys s too.0 too.1 b.1 asks in cc (f, g))
 
@@ -143,17 +140,17 @@ module _ {V : Type 0} (rules : ℕ → Rules V) (plan : Planned) (first : ℕ) (
       let other = subst (λ (z : Step). Leads u (record { step = z; give = y.give } ∷ ys) v) step b in
       let next = same_next u x.step x.give y.give xs ys w v s a other in
       let on = (first_move plan u w x xs a.0).0 in
-      same_end xs ys (progress_after plan u x.step x.give) w v (next_reached_seen plan first u x.step x.give i s on) rest (rest_of u x xs w a)
+      same_end xs ys (progress_after plan u x.step x.give) w v (laws.next plan first u x.step x.give i s on) rest (rest_of u x xs w a)
       (subst (λ (z : Progress). Leads z ys v) (sym next) (rest_of u (record { step = x.step; give = y.give }) ys v other))
 
 -- the rows are the same
-pub same_rows : (plan : Planned) (cast : List (List Content)) (xs ys : List Move) (rows others : List Event) → IsPlan plan → IsRun plan cast xs rows → IsRun plan cast ys others → map (λ (m : Move). m.step) xs ≡ map (λ (m : Move). m.step) ys
+pub same_rows : RunLaws → (plan : Planned) (cast : List (List Content)) (xs ys : List Move) (rows others : List Event) → IsPlan plan → IsRun plan cast xs rows → IsRun plan cast ys others → map (λ (m : Move). m.step) xs ≡ map (λ (m : Move). m.step) ys
     → SavesAll plan (progress_at_start plan 0) xs → SavesAll plan (progress_at_start plan 0) ys → rows ≡ others
-same_rows plan cast xs ys rows others i a b e f g =
+same_rows laws plan cast xs ys rows others i a b e f g =
     let start = progress_at_start plan 0 in
     a.log
     ∙ (ap (λ (v : Progress). v.now.log)
-    (same_end (rules_by cast) plan 0 i xs ys start a.end b.end (start_reached_seen plan 0) e
+    (same_end laws (rules_by cast) plan 0 i xs ys start a.end b.end (record { moves = []; leads = refl }) e
     (a.leads, subst (λ (l : List Event). SendsWhatIsOffered (rules_by cast) plan l) a.log a.offers, f)
     (b.leads, subst (λ (l : List Event). SendsWhatIsOffered (rules_by cast) plan l) b.log b.offers, g))
     ∙ sym b.log)

@@ -12,10 +12,6 @@ use Rattle.kt_plans.specs.Progress.{Progress}
 use Rattle.kt_plans.specs.Steps.{enabled, process_of_step, progress_after}
 use Rattle.kt_plans.specs.Follows.{FollowsPlan}
 use Rattle.kt_plans.specs.Offers.{SendsWhatIsOffered}
-use Rattle.kt_plans.proofs.FollowsRuns.{follows_seen}
-use Rattle.kt_plans.proofs.GoingOn.{play_append, goes_run}
-use Rattle.kt_plans.proofs.NeededBodies.{offers_seen}
-use Rattle.kt_plans.proofs.RunSteps.{rest_seen}
 use Rattle.kt_core.specs.Shown.{Mirrors}
 use Rattle.kt_core.specs.Worlds.{World, can_make, step_refusal}
 use Rattle.kt_core.specs.declared.faults.StepFault.{StepFault}
@@ -24,6 +20,8 @@ use Rattle.kt_run.specs.Refused.{IsGivenNext, IsDefaultNext, IsGivenRefused, IsS
 use Rattle.kt_run.specs.declared.orders.Order.{Order}
 use Rattle.kt_run.specs.Orders.{Generator, step_in_order, generator_next, generator_after, generator_of, AreInOrder, GoesInOrder, RestsInOrder, IsOrderedRun, IsOneRefused, IsOneStopped}
 use Rattle.kt_run.specs.Runs.{ToldAndHeld, StepsTo, BeginsRun, Goes}
+use Rattle.kt_run.specs.RunLaws.{RunLaws}
+use Rattle.kt_run.proofs.Moves.{play_append, goes_run}
 use Rattle.kt_run.proofs.Running.{begins_by}
 
 -- one move more is in order, and the generator is that after it
@@ -59,11 +57,11 @@ in_order_start plan cast given g w at b = record {
 }
 
 -- one step more
-pub in_order_more : (plan : Planned) (cast : List (List Content)) (given steps : List Step) (g now next : Option Generator) (x : Step) (old new : World) (before after : ToldAndHeld) → old.agenda.plan ≡ plan
+pub in_order_more : RunLaws → (plan : Planned) (cast : List (List Content)) (given steps : List Step) (g now next : Option Generator) (x : Step) (old new : World) (before after : ToldAndHeld) → old.agenda.plan ≡ plan
     → (o : GoesInOrder plan cast given steps g now old before) → StepsTo old before x new after → Some x ≡ step_in_order old.agenda.plan o.run.now now → next ≡ generator_next old.agenda.plan o.run.now now
     → GoesInOrder plan cast given (steps ++ x ∷ []) g next new after
-in_order_more plan cast given steps g now next x old new before after e o s comes turn =
-    let b = begins_by plan cast steps x old new before after e o.run s in
+in_order_more laws plan cast given steps g now next x old new before after e o s comes turn =
+    let b = begins_by laws plan cast steps x old new before after e o.run s in
     let m : Move = record { step = x; give = s.1 } in
     let chosen = subst (λ (z : Planned). step_in_order z o.run.now now ≡ Some x) e (sym comes) in
     let moved = subst (λ (z : Planned). next ≡ generator_next z o.run.now now) e turn in
@@ -83,13 +81,13 @@ in_order_more plan cast given steps g now next x old new before after e o s come
     }
 
 -- where no step is enabled all is at rest; which steps are enabled is the law `runs_of_worlds: enabled`
-pub in_order_rest : (law : (w : World) (first : ℕ) (v : Progress) (x : Step) → Mirrors w.agenda w.system first v → can_make w x ≡ enabled w.agenda.plan v x)
+pub in_order_rest : RunLaws → (law : (w : World) (first : ℕ) (v : Progress) (x : Step) → Mirrors w.agenda w.system first v → can_make w x ≡ enabled w.agenda.plan v x)
     → (plan : Planned) (cast : List (List Content)) (given steps : List Step) (g now : Option Generator) (w : World) (at : ToldAndHeld) → w.agenda.plan ≡ plan → GoesInOrder plan cast given steps g now w at
     → ((x : Step) → can_make w x ≡ false) → RestsInOrder plan cast given steps g w at
-in_order_rest law plan cast given steps g now w at e o none = record {
+in_order_rest laws law plan cast given steps g now w at e o none = record {
   now = now;
   goes = o;
-  rest = rest_seen plan 0 o.run.now (subst (λ (z : Planned). IsPlan z) e o.run.shown.limits) (record { moves = o.run.moves; leads = o.run.leads })
+  rest = laws.at_rest plan 0 o.run.now (subst (λ (z : Planned). IsPlan z) e o.run.shown.limits) (record { moves = o.run.moves; leads = o.run.leads })
       (λ x. subst (λ (z : Planned). enabled z o.run.now x ≡ false) e (sym (law w 0 o.run.now x o.run.shown) ∙ none x));
 }
 
@@ -119,7 +117,7 @@ goes_begins plan cast given w at h = record {
   moves = h.given ++ h.more;
   now = h.now;
   made = refl;
-  leads = goes_run plan 0 h.given h.more h.now h.goes_on;
+  leads = goes_run plan h.given h.more h.now h.goes_on;
   shown = h.shown;
   limit = h.limit;
   few = h.few;
@@ -137,7 +135,7 @@ given_one_stopped plan cast given p s = go s.next
     go (inl n) = one_stopped plan cast (take s.done given) s.world n.at s.step p n.run s.own s.made
     go (inr n) = one_stopped plan cast (map (λ (m : Move). m.step) (n.run.given ++ n.run.more)) s.world n.at s.step p (goes_begins plan cast given s.world n.at n.run) s.own s.made
 
-module _ (plan : Planned) (cast : List (List Content)) (given steps : List Step) (order : Order) (w : World) (at : ToldAndHeld) (rows : List Event) (limits : IsPlan plan) (r : RestsInOrder plan cast given steps (generator_of order) w at) (log : rows ≡ w.system.rows.rows) where
+module _ (laws : RunLaws) (plan : Planned) (cast : List (List Content)) (given steps : List Step) (order : Order) (w : World) (at : ToldAndHeld) (rows : List Event) (limits : IsPlan plan) (r : RestsInOrder plan cast given steps (generator_of order) w at) (log : rows ≡ w.system.rows.rows) where
   rows_are : rows ≡ r.goes.run.now.now.log
   rows_are = log ∙ r.goes.run.shown.now.log
 
@@ -152,7 +150,7 @@ module _ (plan : Planned) (cast : List (List Content)) (given steps : List Step)
         rest = r.rest;
         log = rows_are;
         offers = subst (λ (l : List Event). SendsWhatIsOffered (rules_by cast) plan l) (sym rows_are)
-            (offers_seen (rules_by cast) plan 0 limits r.goes.run.moves r.goes.run.now r.goes.run.leads r.goes.run.offers);
+            (laws.offers (rules_by cast) plan 0 r.goes.run.moves r.goes.run.now limits r.goes.run.leads r.goes.run.offers);
       };
     };
     first = r.goes.first;
@@ -165,4 +163,4 @@ module _ (plan : Planned) (cast : List (List Content)) (given steps : List Step)
   }
 
   pub follows_in_order : FollowsPlan plan rows
-  follows_in_order = subst (λ (l : List Event). FollowsPlan plan l) (sym rows_are) (follows_seen plan 0 r.goes.run.now limits (record { moves = r.goes.run.moves; leads = r.goes.run.leads }) r.rest)
+  follows_in_order = subst (λ (l : List Event). FollowsPlan plan l) (sym rows_are) (laws.follows plan 0 r.goes.run.now limits (record { moves = r.goes.run.moves; leads = r.goes.run.leads }) r.rest)

@@ -1,6 +1,6 @@
 -- The acts of a step can be done on what is held, but for what an object rejects.
-use Rattle.std.proofs.Common.{◌≡◌, ◌⊎◌, ◌∙◌, ◌+◌, ◌-◌, ◌≤◌, ◌<◌, arith, ℕ, zero, suc, ℤ, Bool, true, false, List, [], ◌∷◌, ◌++◌, length, drop, map, set, take, refl, sym, ap, subst, inl, inr, Option, Some, None, length-drop}
-use Rattle.std.specs.Prelude.{IsSome, IfSome, ◌&&◌, ◌||◌, ◌==◌, nat_lt, is_some, is_none, not, slice_get, slice_index, slice_index_or, option_map, if◌then◌else◌, All}
+use Rattle.std.proofs.Common.{◌≡◌, ◌≢◌, ◌⊎◌, ◌∙◌, ◌+◌, ◌-◌, ◌≤◌, ◌<◌, arith, ℕ, zero, suc, ℤ, Bool, true, false, List, [], ◌∷◌, length, map, set, take, refl, sym, ap, subst, inl, inr, Option, Some, None, length-drop}
+use Rattle.std.specs.Prelude.{IsSome, IfSome, ◌&&◌, ◌||◌, nat_lt, is_some, is_none, not, slice_get, slice_index, slice_index_or, option_map, if◌then◌else◌, All}
 use Rattle.std.specs.List.{Any, AllZip}
 use Rattle.std.proofs.lemmas.Option.{slice_get-map}
 use Rattle.std.proofs.lemmas.Bool.{cases_lt, lt-ltb}
@@ -19,28 +19,26 @@ use Rattle.kt_held.specs.declared.faults.ActFault.{ActFault}
 use Rattle.kt_held.specs.declared.faults.ActFault.TheVariants as act
 use Rattle.kt_held.specs.declared.held.Held.{Held}
 use Rattle.kt_plans.specs.Steps.{process_of_step, enabled, progress_after}
-use Rattle.kt_plan.specs.Limits.{Planned, IsPlan}
+use Rattle.kt_plan.specs.Limits.{Planned}
 use Rattle.kt_plan.specs.declared.steps.Act.{Act}
 use Rattle.kt_plan.specs.declared.steps.Act.TheVariants as answered
 use Rattle.kt_plan.specs.declared.steps.Give.{Give}
 use Rattle.kt_plan.specs.declared.steps.Step.{Step}
 use Rattle.kt_plan.specs.declared.steps.Told.{Told}
-use Rattle.kt_plans.specs.Runs.{Move, RunReaches}
+use Rattle.kt_plans.specs.Runs.{RunReaches}
 use Rattle.kt_plans.specs.StepActs.{keeps_only_first, acts_of_step}
-use Rattle.kt_plans.specs.Progress.{Progress, progress_at_start}
-use Rattle.kt_plans.proofs.ActsOfSteps.{values_can, keeps_seen, spares_next}
-use Rattle.kt_plans.proofs.FailuresEnough.{spares_seen}
-use Rattle.kt_system.specs.ShownActs.{act_shown, acts_shown}
+use Rattle.kt_plans.specs.Progress.{Progress}
+use Rattle.kt_system.specs.ShownActs.{acts_shown}
 use Rattle.kt_values.specs.Done.{done}
 use Rattle.kt_values.specs.Values as values
 use Rattle.kt_values.specs.Values.{Rules, Due, due, can_all}
 use Rattle.kt_run.specs.Faults.{of_act, IsCast}
-use Rattle.kt_run.specs.Objects.{Belongings, belongings_of, has_of, rules_of, first_of, rules_by, holding_of, spares_taken, HoldsDue, HoldDue}
+use Rattle.kt_run.specs.Objects.{belongings_of, has_of, rules_of, first_of, holding_of, spares_taken, HoldsDue, HoldDue}
 use Rattle.kt_run.specs.Rejections.{MayReject, objects_held, RejectNoMore, HaveSpares}
+use Rattle.kt_run.specs.RunLaws.{RunLaws}
 use Rattle.kt_run.specs.Runs.{Tells}
 use Rattle.kt_run.specs.declared.faults.RunFault.TheVariants.{Object}
 use Rattle.kt_run.proofs.Holding.{all_same}
-use Rattle.kt_plans.proofs.GoingOn.{play_append}
 
 both : (x y : Bool) → x ≡ true → y ≡ true → (x && y) ≡ true
 both true y e f = f
@@ -141,7 +139,7 @@ true≢ true e f = cc (f)
 true≢ false e f = cc (e)
 
 -- what a step asks fits what its process holds
-module _ {X : Type 0} {D : X → Type 0} (helds : List (Held X D)) (content_of : DynBox X Global D → Content) (i : ℕ) (x : Held X D) (at : slice_get helds i ≡ Some x)
+module _ {X : Type 0} {D : X → Type 0} (laws : RunLaws) (helds : List (Held X D)) (content_of : DynBox X Global D → Content) (i : ℕ) (x : Held X D) (at : slice_get helds i ≡ Some x)
     (old new : World) (before after : List (List Told)) (step : Step) (place : i ≡ process_of_step step) (give : Give) (acts : List Act) (tells : Tells old before step give new after acts)
     (first : ℕ) (v : Progress) (m : Mirrors old.agenda old.system first v) (cast : List (List Content)) (spares : HaveSpares old.agenda.plan cast)
     (due_to : HoldDue cast v.now.log (has_of helds content_of)) where
@@ -160,26 +158,19 @@ module _ {X : Type 0} {D : X → Type 0} (helds : List (Held X D)) (content_of :
   within : i < length cast
   within = let l = place_of helds i x at in let n = length-map helds (belongings_of content_of) in let e = due_to.count in omega (arith, l, n, e)
 
-  abbrev move : Move
-  move = record { step = step; give = give }
-
-  led : RunReaches old.agenda.plan first (progress_after old.agenda.plan v step give)
-  led = record {
-    moves = m.reached.moves ++ move ∷ [];
-    leads = play_append old.agenda.plan m.reached.moves (move ∷ []) (progress_at_start old.agenda.plan first) v (progress_after old.agenda.plan v step give) m.reached.leads
-        (let on = tells.5 first v m in let e = on.0 in rw e refl);
-  }
-
   left : length x.spares.items ≡ length (slice_index_or cast i []) - (spares_taken (rules_of c) v.now.log i + 1)
   left = sym (length-map x.spares.items content_of) ∙ (ap length holds.spares ∙ length-drop (spares_taken (rules_of c) v.now.log i + 1) (slice_index_or cast i []))
 
   on : enabled old.agenda.plan v step ≡ true
   on = let t = tells.5 first v m in t.0
 
+  led : RunReaches old.agenda.plan first (progress_after old.agenda.plan v step give)
+  led = laws.next old.agenda.plan first v step give m.limits m.reached on
+
   enough : values.spares (rules_of c) d (acts_shown acts) ≤ length x.spares.items
   enough =
-      let taken = spares_next (rules_of c) old.agenda.plan first v step give i m.limits m.reached on in
-      let few = spares_seen (rules_of c) old.agenda.plan first (progress_after old.agenda.plan v step give) i m.limits led in
+      let taken = laws.taken (rules_of c) old.agenda.plan first v step give i m.limits m.reached on in
+      let few = laws.spares (rules_of c) old.agenda.plan first (progress_after old.agenda.plan v step give) i m.limits led in
       let given = spares i within in
       let e = ap (values.spares (rules_of c) d) asked in
       let n = left in
@@ -190,8 +181,8 @@ module _ {X : Type 0} {D : X → Type 0} (helds : List (Held X D)) (content_of :
   fits_held saved able = acts_fit c d (is_some x.present) (is_some x.depot.tentative) saved (length x.spares.items) acts
       (sym (mapped content_of x.present) ∙ (ap is_some holds.holds.object ∙ mapped (content c.kind) d.object))
       (saved_there _ x.depot.tentative holds.holds.tentative ∙ mapped (content c.kind) d.tentative)
-      (ap (can_all (rules_of c) d) asked ∙ values_can (rules_of c) old.agenda.plan first v step give i m.limits m.reached on)
-      (ap (λ (b : Bool). keeps_only_first b (acts_shown acts)) (sym able) ∙ (ap (keeps_only_first give.able) asked ∙ keeps_seen old.agenda.plan first v step give i m.limits m.reached on))
+      (ap (can_all (rules_of c) d) asked ∙ laws.can (rules_of c) old.agenda.plan first v step give i m.limits m.reached on)
+      (ap (λ (b : Bool). keeps_only_first b (acts_shown acts)) (sym able) ∙ (ap (keeps_only_first give.able) asked ∙ laws.keeps old.agenda.plan first v step give i m.limits m.reached on))
       enough
 
   pub rejected_held : (may_reject : DynBox X Global D → List ℕ → Type 0)
@@ -281,10 +272,24 @@ module _ {R B : Type 0} (items : R → List B) (kind_of : B → ℕ) (content_of
   at_row k (row ∷ cast) zero l all = first_kind (items row) k l all
   at_row k (row ∷ cast) (suc p) l all = at_row k cast p l all
 
-  none_past : (P : B → Type 0) (cast : List R) (p : ℕ) → length cast ≤ p → Any P (slice_index_or (map items cast) p []) → ⊥
-  none_past P [] p l any = let n = any.2 in (omega (arith, n))
-  none_past P (row ∷ cast) zero l any = absurd (omega (arith, l))
-  none_past P (row ∷ cast) (suc p) l any = none_past P cast p (omega (arith, l)) any
+  past : (cast : List R) (p : ℕ) → length cast ≤ p → slice_index_or (map items cast) p [] ≡ []
+  past [] p l = refl
+  past (row ∷ cast) zero l = absurd (omega (arith, l))
+  past (row ∷ cast) (suc p) l = past cast p (omega (arith, l))
+
+  pub kinds_of : (plan : Planned) (cast : List R) → IsCast plan (map (λ row. map kind_of (items row)) cast) → (p : ℕ) → slice_index_or (map items cast) p [] ≢ []
+      → (first_of (slice_index_or (map (λ row. map content_of (items row)) cast) p [])).kind ≡ slice_index plan.kinds p
+  kinds_of plan cast is p some = at_row (slice_index plan.kinds p) cast p (let n = is.sizes.objects p inside in omega (arith, n)) (is.kinds p inside)
+    where
+      inside : p < length plan.kinds
+      inside = by_order (cases_lt p (length cast))
+        where
+          by_order : (p < length cast) ⊎ (length cast ≤ p) → p < length plan.kinds
+          by_order (inl l) = let n = length-map cast (λ row. map kind_of (items row)) in let m = is.sizes.processes in omega (arith, l, n, m)
+          by_order (inr l) = absurd (some (past cast p l))
+
+  none_rejects : (P : B → Type 0) (objects : List B) → Any P objects → objects ≢ []
+  none_rejects P objects any e = let n = (subst (Any P) e any).2 in omega (arith, n)
 
   pub of_plan : (may_reject : B → List ℕ → Type 0) (plan : Planned) (cast : List R) (p : ℕ) → IsCast plan (map (λ row. map kind_of (items row)) cast)
       → MayReject may_reject (first_of (slice_index_or (map (λ row. map content_of (items row)) cast) p [])).kind (slice_index_or (map items cast) p [])
@@ -292,19 +297,6 @@ module _ {R B : Type 0} (items : R → List B) (kind_of : B → ℕ) (content_of
   of_plan may_reject plan cast p is x = record {
     value = x.value;
     saved = x.saved;
-    is = subst (λ (k : ℕ). IsSavedState k x.value x.saved) same x.is;
+    is = subst (λ (k : ℕ). IsSavedState k x.value x.saved) (kinds_of plan cast is p (none_rejects (λ b. may_reject b x.saved) _ x.rejected)) x.is;
     rejected = x.rejected;
   }
-    where
-      count : length cast ≡ length plan.kinds
-      count = sym (length-map cast (λ row. map kind_of (items row))) ∙ is.sizes.processes
-
-      inside : p < length plan.kinds
-      inside = by_order (cases_lt p (length cast))
-        where
-          by_order : (p < length cast) ⊎ (length cast ≤ p) → p < length plan.kinds
-          by_order (inl l) = let n = count in omega (arith, l, n)
-          by_order (inr l) = absurd (none_past (λ b. may_reject b x.saved) cast p l x.rejected)
-
-      same : (first_of (slice_index_or (map (λ row. map content_of (items row)) cast) p [])).kind ≡ slice_index plan.kinds p
-      same = at_row (slice_index plan.kinds p) cast p (let n = is.sizes.objects p inside in omega (arith, n)) (is.kinds p inside)

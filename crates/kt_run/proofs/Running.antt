@@ -14,16 +14,11 @@ use Rattle.kt_spacetime.specs.declared.event.Event.{Event}
 use Rattle.kt_plans.specs.Runs.{Move, after_moves, RunReaches}
 use Rattle.kt_plans.specs.Progress.{Progress, progress_at_start}
 use Rattle.kt_plans.specs.Follows.{FollowsPlan}
-use Rattle.kt_plans.proofs.FollowsRuns.{follows_seen}
 use Rattle.kt_plans.specs.Steps.{enabled, progress_after, process_of_step}
 use Rattle.kt_plans.specs.Defaults.{default_step}
 use Rattle.kt_plans.specs.StepActs.{acts_of_step}
 use Rattle.kt_plans.specs.Told.{told_at}
 use Rattle.kt_plans.specs.Offers.{GivesOffer, GivesOffers, SendsWhatIsOffered}
-use Rattle.kt_plans.proofs.NeededBodies.{offers_seen}
-use Rattle.kt_plans.proofs.WholeLogs.{no_tentative}
-use Rattle.kt_plans.proofs.PhasesOpen.{opening_is}
-use Rattle.kt_plans.proofs.GoingOn.{play_append, goes_run, goes_first, goes_next, goes_below, goes_rest}
 use Rattle.kt_system.specs.ShownActs.{acts_shown}
 use Rattle.kt_system.specs.Systems.{LogGrows}
 use Rattle.kt_core.specs.Worlds.{World, step_refusal, is_full, numbered_row, can_make}
@@ -32,9 +27,11 @@ use Rattle.std.proofs.lemmas.Bool.{ltb-false}
 use Rattle.kt_core.specs.declared.faults.StepFault.{StepFault}
 use Rattle.kt_core.specs.Shown.{Mirrors}
 use Rattle.kt_run.specs.Objects.{Belongings, first_of, rules_of, rules_by, HoldDue}
+use Rattle.kt_run.specs.RunLaws.{RunLaws}
 use Rattle.kt_run.specs.Refused.{IsGivenNext, IsDefaultNext, IsGivenRefused, IsDefaultRefused, IsStopped}
 use Rattle.kt_run.specs.Runs.{ToldAndHeld, Tells, StepsTo, Starts, BeginsRun, Goes, Rests, IsPlayed, IsToldPlay}
 use Rattle.kt_run.specs.Telling.{IsToldAs, AreToldInRun, AreToldTheirRows, TellsItsRows, AreEmpty, IsNoted}
+use Rattle.kt_run.proofs.Moves.{first_move, play_append, goes_first, goes_run}
 use Rattle.kt_run.proofs.Numbering.{told_their_none, told_their_more}
 use Rattle.kt_run.proofs.Telling.{told_as, tells_its_rows, tells_nothing, tells_more}
 
@@ -63,10 +60,10 @@ Leads old new give x = (first : ℕ) (v : Progress) → Mirrors old.agenda old.s
 abbrev Acts : World → List Act → Give → Step → Type 0
 Acts old acts give x = (first : ℕ) (v : Progress) → Mirrors old.agenda old.system first v → acts_shown acts ≡ acts_of_step old.agenda.plan v x give (process_of_step x)
 
-pub tells_now : (old new : World) (before after : List (List Told)) (x : Step) (give : Give) (told : Told) (acts : List Act) → acts ≡ told.acts → told.step ≡ x → LogGrows 4 old.system new.system → length told.rows ≡ 4
+pub tells_now : RunLaws → (old new : World) (before after : List (List Told)) (x : Step) (give : Give) (told : Told) (acts : List Act) → acts ≡ told.acts → told.step ≡ x → LogGrows 4 old.system new.system → length told.rows ≡ 4
     → ((i : ℕ) → i < 4 → slice_get told.rows i ≡ Some (numbered_row new.system.rows.rows (length old.system.rows.rows + i))) → IsNoted told before after
     → new.limit ≡ old.limit → step_refusal old x ≡ None → Allows old x → Leads old new give x → Acts old told.acts give x → Tells old before x give new after acts
-tells_now old new before after x give told acts same is grew four read noted limit =
+tells_now laws old new before after x give told acts same is grew four read noted limit =
     subst (λ (y : Step). step_refusal old y ≡ None → Allows old y → Leads old new give y → Acts old told.acts give y → Tells old before y give new after acts) is
     (λ allowed enables leads asks. (
       told,
@@ -78,8 +75,8 @@ tells_now old new before after x give told acts same is grew four read noted lim
           let on = enables first v r in (
             on,
             leads first v r,
-            told_as old.agenda.plan told give old new first v refl r (leads first v r) on grew four read (asks first v r),
-            tells_its_rows old.agenda.plan told give old new first v refl r (leads first v r) on grew four read (asks first v r),
+            told_as laws old.agenda.plan told give old new first v refl r (leads first v r) on grew four read (asks first v r),
+            tells_its_rows laws old.agenda.plan told give old new first v refl r (leads first v r) on grew four read (asks first v r),
           ),
     ))
 
@@ -100,11 +97,11 @@ unfolding rows_at
 four_at rows n = refl
 
 -- so it does where nobody keeps what it tells
-pub tells_unkept : (old new : World) (x : Step) (give : Give) (acts : List Act) → LogGrows 4 old.system new.system → new.limit ≡ old.limit → step_refusal old x ≡ None → Allows old x → Leads old new give x → Acts old acts give x
+pub tells_unkept : RunLaws → (old new : World) (x : Step) (give : Give) (acts : List Act) → LogGrows 4 old.system new.system → new.limit ≡ old.limit → step_refusal old x ≡ None → Allows old x → Leads old new give x → Acts old acts give x
     → Tells old [] x give new [] acts
-tells_unkept old new x give acts grew limit allowed enables leads asks =
+tells_unkept laws old new x give acts grew limit allowed enables leads asks =
     let told : Told = record { step = x; rows = rows_at new.system.rows.rows (length old.system.rows.rows); acts = acts } in
-    tells_now old new [] [] x give told acts refl refl grew (four_at new.system.rows.rows (length old.system.rows.rows)) (read_at new.system.rows.rows (length old.system.rows.rows))
+    tells_now laws old new [] [] x give told acts refl refl grew (four_at new.system.rows.rows (length old.system.rows.rows)) (read_at new.system.rows.rows (length old.system.rows.rows))
     (record { count = refl; each = λ p l. absurd (omega (arith, l)) }) limit allowed enables leads asks
 
 abbrev Led : Planned → Progress → Step → World → Told → Give → Type 0
@@ -127,13 +124,7 @@ keeps plan cast old new before after x v e s r due = subst (λ (z : Planned). Ke
 gives_more : (rules : ℕ → Rules (List ℤ)) (plan : Planned) (xs : List Move) (m : Move) (u v : Progress) → after_moves plan u xs ≡ Some v
     → GivesOffers rules plan u xs → GivesOffer rules plan v m.step m.give → GivesOffers rules plan u (xs ++ m ∷ [])
 gives_more rules plan [] m u v e o g = (subst (λ (w : Progress). GivesOffer rules plan w m.step m.give) (sym (ap (λ (w : Option Progress). unwrap_or w u) e)) g, tt)
-gives_more rules plan (x ∷ xs) m u v e o g = (o.0, go (enabled plan u x.step) e (λ f. gives_more rules plan xs m (progress_after plan u x.step x.give) v f o.1 g))
-  where
-    go : (b : Bool) → (if b then after_moves plan (progress_after plan u x.step x.give) xs else None) ≡ Some v
-        → (after_moves plan (progress_after plan u x.step x.give) xs ≡ Some v → GivesOffers rules plan (progress_after plan u x.step x.give) (xs ++ m ∷ []))
-        → GivesOffers rules plan (progress_after plan u x.step x.give) (xs ++ m ∷ [])
-    go true e f = f e
-    go false e f = absurd (cc (e))
+gives_more rules plan (x ∷ xs) m u v e o g = (o.0, gives_more rules plan xs m (progress_after plan u x.step x.give) v (first_move plan u v x xs e).1 o.1 g)
 
 pub begins_start : (plan : Planned) (cast : List (List Content)) (w : World) (at : ToldAndHeld) → Starts plan w → AreEmpty at.told → HoldDue cast [] at.has → BeginsRun plan cast [] w at
 begins_start plan cast w at s n due = record {
@@ -145,14 +136,14 @@ begins_start plan cast w at s n due = record {
   limit = s.limit;
   few = (let e = ap (λ (l : List Event). length l) s.rows in omega (arith, e));
   tells = tells_nothing plan at.told n;
-  rows = subst (λ (log : List Event). AreToldTheirRows log at.told) (sym (ap (λ (v : _). v.log) (opening_is plan 0).now)) (told_their_none at.told n);
+  rows = subst (λ (log : List Event). AreToldTheirRows log at.told) (sym s.rows ∙ s.shown.now.log) (told_their_none at.told n);
   offers = tt;
-  due = subst (λ (log : List Event). HoldDue cast log at.has) (sym (ap (λ (v : _). v.log) (opening_is plan 0).now)) due;
+  due = subst (λ (log : List Event). HoldDue cast log at.has) (sym s.rows ∙ s.shown.now.log) due;
 }
 
-pub begins_more : (plan : Planned) (cast : List (List Content)) (steps : List Step) (x : Step) (old new : World) (before after : ToldAndHeld) → old.agenda.plan ≡ plan → BeginsRun plan cast steps old before → StepsTo old before x new after
+pub begins_more : RunLaws → (plan : Planned) (cast : List (List Content)) (steps : List Step) (x : Step) (old new : World) (before after : ToldAndHeld) → old.agenda.plan ≡ plan → BeginsRun plan cast steps old before → StepsTo old before x new after
     → BeginsRun plan cast (steps ++ x ∷ []) new after
-begins_more plan cast steps x old new before after e b s =
+begins_more laws plan cast steps x old new before after e b s =
     let l = led plan old new before after x b.now e s b.shown in
     let k = keeps plan cast old new before after x b.now e s b.shown b.due in
     let m : Move = record { step = x; give = s.1 } in
@@ -164,28 +155,28 @@ begins_more plan cast steps x old new before after e b s =
       shown = l.1;
       limit = s.3 ∙ b.limit;
       few = s.4;
-      tells = tells_more plan b.moves b.now m s.0 before.told after.told b.leads l.2 s.2 b.tells;
+      tells = tells_more laws plan b.moves b.now m s.0 before.told after.told b.leads l.2 s.2 b.tells;
       rows = told_their_more s.0 b.now.now.log (progress_after plan b.now x s.1).now.log l.3 before.told after.told s.2 b.rows;
       offers = gives_more (rules_by cast) plan b.moves m (progress_at_start plan 0) b.now b.leads b.offers k.0;
       due = k.1;
     }
 
 -- its moves are those before and this one
-pub begins_by : (plan : Planned) (cast : List (List Content)) (steps : List Step) (x : Step) (old new : World) (before after : ToldAndHeld) → old.agenda.plan ≡ plan → (b : BeginsRun plan cast steps old before) → (s : StepsTo old before x new after)
+pub begins_by : RunLaws → (plan : Planned) (cast : List (List Content)) (steps : List Step) (x : Step) (old new : World) (before after : ToldAndHeld) → old.agenda.plan ≡ plan → (b : BeginsRun plan cast steps old before) → (s : StepsTo old before x new after)
     → (r : BeginsRun plan cast (steps ++ x ∷ []) new after) × (r.moves ≡ b.moves ++ record { step = x; give = s.1 } ∷ []) × (r.now ≡ progress_after plan b.now x s.1) × (enabled plan b.now x ≡ true)
 unfolding begins_more
-begins_by plan cast steps x old new before after e b s = (begins_more plan cast steps x old new before after e b s, refl, refl, (led plan old new before after x b.now e s b.shown).0)
+begins_by laws plan cast steps x old new before after e b s = (begins_more laws plan cast steps x old new before after e b s, refl, refl, (led plan old new before after x b.now e s b.shown).0)
 
 -- so few that they are counted
-pub begins_few : (plan : Planned) (cast : List (List Content)) (steps : List Step) (w : World) (at : ToldAndHeld) → w.agenda.plan ≡ plan → BeginsRun plan cast steps w at → length steps < 67108864
-begins_few plan cast steps w at e b =
+pub begins_few : RunLaws → (plan : Planned) (cast : List (List Content)) (steps : List Step) (w : World) (at : ToldAndHeld) → w.agenda.plan ≡ plan → BeginsRun plan cast steps w at → length steps < 67108864
+begins_few laws plan cast steps w at e b =
     let few = b.few in
     let limit = b.limit in
     let i = subst (λ (z : Planned). IsPlan z) e b.shown.limits in
     let names = i.names.few in
     let commands = i.few in
     let log = ap (λ (l : List Event). length l) b.shown.now.log in
-    let below = goes_below plan 0 b.moves [] b.now i names (omega (arith, commands)) (omega (arith, few, limit, log)) (goes_first plan 0 b.moves b.now b.leads) in
+    let below = laws.limits plan 0 b.moves [] b.now i names (omega (arith, commands)) (omega (arith, few, limit, log)) (goes_first plan b.moves b.now b.leads) in
     let made = sym (length-map b.moves (λ (m : Move). m.step)) ∙ ap (λ (l : List Step). length l) b.made in
     omega (arith, below, made)
 
@@ -200,7 +191,7 @@ goes_start plan cast steps w at b = (
     more = [];
     now = b.now;
     begins = b.made;
-    goes_on = goes_first plan 0 b.moves b.now b.leads;
+    goes_on = goes_first plan b.moves b.now b.leads;
     shown = b.shown;
     limit = b.limit;
     few = b.few;
@@ -212,13 +203,13 @@ goes_start plan cast steps w at b = (
   omega arith,
 )
 
-pub goes_more : (plan : Planned) (cast : List (List Content)) (steps : List Step) (n : ℕ) (x : Step) (old new : World) (before after : ToldAndHeld) → old.agenda.plan ≡ plan → (h : GoesSo plan cast steps n old before) → StepsTo old before x new after
+pub goes_more : RunLaws → (plan : Planned) (cast : List (List Content)) (steps : List Step) (n : ℕ) (x : Step) (old new : World) (before after : ToldAndHeld) → old.agenda.plan ≡ plan → (h : GoesSo plan cast steps n old before) → StepsTo old before x new after
     → Some x ≡ default_step old.agenda.plan h.0.now → GoesSo plan cast steps (n + 1) new after
-goes_more plan cast steps n x old new before after e h s d =
+goes_more laws plan cast steps n x old new before after e h s d =
     let g = h.0 in
     let l = led plan old new before after x g.now e s g.shown in
     let k = keeps plan cast old new before after x g.now e s g.shown g.due in
-    let run = goes_run plan 0 g.given g.more g.now g.goes_on in
+    let run = goes_run plan g.given g.more g.now g.goes_on in
     let limits = subst (λ (z : Planned). IsPlan z) e g.shown.limits in
     let m : Move = record { step = x; give = s.1 } in
     let more = length_push g.more m in
@@ -228,12 +219,12 @@ goes_more plan cast steps n x old new before after e h s d =
         more = g.more ++ m ∷ [];
         now = progress_after plan g.now x s.1;
         begins = g.begins;
-        goes_on = goes_next plan 0 g.given g.more g.now x s.1 limits g.goes_on (subst (λ (z : Planned). default_step z g.now ≡ Some x) e (sym d));
+        goes_on = laws.next_default plan 0 g.given g.more g.now x s.1 limits g.goes_on (subst (λ (z : Planned). default_step z g.now ≡ Some x) e (sym d));
         shown = l.1;
         limit = s.3 ∙ g.limit;
         few = s.4;
         tells = subst (λ (moves : List Move). AreToldInRun plan moves after.told) (append_assoc g.given g.more (m ∷ []))
-            (tells_more plan (g.given ++ g.more) g.now m s.0 before.told after.told run l.2 s.2 g.tells);
+            (tells_more laws plan (g.given ++ g.more) g.now m s.0 before.told after.told run l.2 s.2 g.tells);
         rows = told_their_more s.0 g.now.now.log (progress_after plan g.now x s.1).now.log l.3 before.told after.told s.2 g.rows;
         offers = subst (λ (moves : List Move). GivesOffers (rules_by cast) plan (progress_at_start plan 0) moves) (append_assoc g.given g.more (m ∷ []))
             (gives_more (rules_by cast) plan (g.given ++ g.more) m (progress_at_start plan 0) g.now run g.offers k.0);
@@ -246,9 +237,9 @@ begins_count : (moves : List Move) (steps : List Step) → map (λ (m : Move). m
 begins_count moves steps e = sym (length-map moves (λ (m : Move). m.step)) ∙ ap (λ (l : List Step). length l) e
 
 -- so few that they are counted
-pub goes_few : (plan : Planned) (cast : List (List Content)) (steps : List Step) (n : ℕ) (w : World) (at : ToldAndHeld) → w.agenda.plan ≡ plan → GoesSo plan cast steps n w at
+pub goes_few : RunLaws → (plan : Planned) (cast : List (List Content)) (steps : List Step) (n : ℕ) (w : World) (at : ToldAndHeld) → w.agenda.plan ≡ plan → GoesSo plan cast steps n w at
     → length steps + n < 67108864
-goes_few plan cast steps n w at e h =
+goes_few laws plan cast steps n w at e h =
     let g = h.0 in
     let few = g.few in
     let limit = g.limit in
@@ -257,26 +248,26 @@ goes_few plan cast steps n w at e h =
     let names = i.names.few in
     let commands = i.few in
     let log = ap (λ (l : List Event). length l) g.shown.now.log in
-    let below = goes_below plan 0 g.given g.more g.now i names (omega (arith, commands)) (omega (arith, few, limit, log)) g.goes_on in
+    let below = laws.limits plan 0 g.given g.more g.now i names (omega (arith, commands)) (omega (arith, few, limit, log)) g.goes_on in
     let given = begins_count g.given steps g.begins in
     omega (arith, below, so, given)
 
 -- no run has so many steps
-pub too_many : (plan : Planned) (cast : List (List Content)) (steps : List Step) (n : ℕ) (w : World) (at : ToldAndHeld) → w.agenda.plan ≡ plan → GoesSo plan cast steps n w at → 4294967295 ≤ n → ⊥
-too_many plan cast steps n w at e h many = let below = goes_few plan cast steps n w at e h in omega (arith, below, many)
+pub too_many : RunLaws → (plan : Planned) (cast : List (List Content)) (steps : List Step) (n : ℕ) (w : World) (at : ToldAndHeld) → w.agenda.plan ≡ plan → GoesSo plan cast steps n w at → 4294967295 ≤ n → ⊥
+too_many laws plan cast steps n w at e h many = let below = goes_few laws plan cast steps n w at e h in omega (arith, below, many)
 
-pub rests_now : (plan : Planned) (cast : List (List Content)) (steps : List Step) (w : World) (at : ToldAndHeld) → w.agenda.plan ≡ plan → (g : Goes plan cast steps w at) → None ≡ default_step w.agenda.plan g.now → Rests plan cast steps w at
-rests_now plan cast steps w at e g d = record {
+pub rests_now : RunLaws → (plan : Planned) (cast : List (List Content)) (steps : List Step) (w : World) (at : ToldAndHeld) → w.agenda.plan ≡ plan → (g : Goes plan cast steps w at) → None ≡ default_step w.agenda.plan g.now → Rests plan cast steps w at
+rests_now laws plan cast steps w at e g d = record {
   run = g;
-  rest = goes_rest plan 0 g.given g.more g.now (subst (λ (z : Planned). IsPlan z) e g.shown.limits) g.goes_on (subst (λ (z : Planned). default_step z g.now ≡ None) e (sym d));
+  rest = laws.no_default plan 0 g.given g.more g.now (subst (λ (z : Planned). IsPlan z) e g.shown.limits) g.goes_on (subst (λ (z : Planned). default_step z g.now ≡ None) e (sym d));
 }
 
-module _ (plan : Planned) (cast : List (List Content)) (steps : List Step) (w : World) (at : ToldAndHeld) (rows : List Event) (limits : IsPlan plan) (r : Rests plan cast steps w at) (log : rows ≡ w.system.rows.rows) where
+module _ (laws : RunLaws) (plan : Planned) (cast : List (List Content)) (steps : List Step) (w : World) (at : ToldAndHeld) (rows : List Event) (limits : IsPlan plan) (r : Rests plan cast steps w at) (log : rows ≡ w.system.rows.rows) where
   rows_are : rows ≡ r.run.now.now.log
   rows_are = log ∙ r.run.shown.now.log
 
   leads : after_moves plan (progress_at_start plan 0) (r.run.given ++ r.run.more) ≡ Some r.run.now
-  leads = goes_run plan 0 r.run.given r.run.more r.run.now r.run.goes_on
+  leads = goes_run plan r.run.given r.run.more r.run.now r.run.goes_on
 
   reached : RunReaches plan 0 r.run.now
   reached = record { moves = r.run.given ++ r.run.more; leads = leads }
@@ -292,7 +283,7 @@ module _ (plan : Planned) (cast : List (List Content)) (steps : List Step) (w : 
       rest = r.rest;
       log = rows_are;
       offers = subst (SendsWhatIsOffered (rules_by cast) plan) (sym rows_are)
-          (offers_seen (rules_by cast) plan 0 limits (r.run.given ++ r.run.more) r.run.now leads r.run.offers);
+          (laws.offers (rules_by cast) plan 0 (r.run.given ++ r.run.more) r.run.now limits leads r.run.offers);
     };
     begun = r.run.goes_on.begun;
     leads = r.run.goes_on.begins;
@@ -300,7 +291,7 @@ module _ (plan : Planned) (cast : List (List Content)) (steps : List Step) (w : 
   }
 
   pub follows_of : FollowsPlan plan rows
-  follows_of = subst (λ (l : List Event). FollowsPlan plan l) (sym rows_are) (follows_seen plan 0 r.run.now limits reached r.rest)
+  follows_of = subst (λ (l : List Event). FollowsPlan plan l) (sym rows_are) (laws.follows plan 0 r.run.now limits reached r.rest)
 
   pub told_run_of : length at.told ≡ length plan.names → IsToldPlay plan cast steps rows at.told
   unfolding run_of
@@ -322,7 +313,7 @@ module _ (plan : Planned) (cast : List (List Content)) (steps : List Step) (w : 
   settled_of p b f =
       let c = first_of (slice_index_or cast p []) in
       let h = r.run.due.each p b f in
-      none_saved _ b.depot.tentative (ap (option_map (content c.kind)) (no_tentative (rules_of c) plan 0 r.run.now p limits reached r.rest)) h.holds.tentative
+      none_saved _ b.depot.tentative (ap (option_map (content c.kind)) (laws.rested (rules_of c) plan 0 r.run.now p limits reached r.rest)) h.holds.tentative
 
 -- the next step of those given
 pub given_next : (plan : Planned) (cast : List (List Content)) (steps : List Step) (i : ℕ) (w : World) (at : ToldAndHeld) (x : Step) → BeginsRun plan cast (take i steps) w at → i < length steps → x ≡ get_or steps i x → IsGivenNext plan cast steps i w x

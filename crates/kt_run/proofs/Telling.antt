@@ -15,13 +15,12 @@ use Rattle.kt_plans.specs.Runs.{Move, RunReaches, after_moves}
 use Rattle.kt_plans.specs.StepActs.{rows_added, acts_of_step}
 use Rattle.kt_plans.specs.Told.{StepTold, told_at, told_by, told_by_move}
 use Rattle.kt_plans.specs.Progress.{Progress, progress_at_start}
-use Rattle.kt_plans.proofs.ActsOfSteps.{log_grows, rows_of_one}
-use Rattle.kt_plans.proofs.ToldAlong.{told_more}
 use Rattle.kt_spacetime.specs.Events.{process_of}
 use Rattle.kt_spacetime.specs.declared.event.Event.{Event}
 use Rattle.kt_system.specs.ShownActs.{acts_shown}
 use Rattle.kt_system.specs.Systems.{LogGrows}
 use Rattle.kt_run.proofs.Numbering.{Row}
+use Rattle.kt_run.specs.RunLaws.{RunLaws}
 use Rattle.kt_run.specs.Telling.{numbered, rows_of, IsToldAs, AreToldInRun, AreEmpty, TellsItsRows, told_here, IsNoted}
 
 without_numbers : (n : ℕ) (l : List Event) → map (λ (row : Row). row.1) (numbered n l) ≡ l
@@ -54,8 +53,8 @@ those_four n a b c d (w ∷ x ∷ y ∷ []) e f g h few = rw (e, f, g) refl
 those_four n a b c d (w ∷ x ∷ y ∷ z ∷ []) e f g h few = rw (e, f, g, h) refl
 those_four n a b c d (w ∷ x ∷ y ∷ z ∷ u ∷ l) e f g h few = absurd (omega (arith, few))
 
-get_dropped : (n k i : ℕ) (l : List Event) → k ≡ n + i → slice_get l k ≡ slice_get (drop n l) i
-get_dropped zero k i l e = let f : k ≡ i = omega (arith, e) in ap (λ (j : ℕ). slice_get l j) f
+pub get_dropped : {X : Type 0} (n k i : ℕ) (l : List X) → k ≡ n + i → slice_get l k ≡ slice_get (drop n l) i
+get_dropped zero k i l e = let f : k ≡ i = omega (arith, e) in ap (slice_get l) f
 get_dropped (suc n) k i [] e = refl
 get_dropped (suc n) zero i (x ∷ l) e = absurd (omega (arith, e))
 get_dropped (suc n) (suc k) i (x ∷ l) e = get_dropped n k i l (omega (arith, e))
@@ -71,7 +70,7 @@ tells_rows told n rows four read few =
     reads i l = read i l ∙ ap (λ (o : Option Event). Some (option_map (λ (row : Event). (n + i + 1, row)) o)) (get_dropped n (n + i) i rows refl)
 
 -- one step, from a world that a run led to
-module _ (plan : Planned) (told : Told) (give : Give) (old new : World) (first : ℕ) (v : Progress) (plans : old.agenda.plan ≡ plan) (r : Mirrors old.agenda old.system first v)
+module _ (laws : RunLaws) (plan : Planned) (told : Told) (give : Give) (old new : World) (first : ℕ) (v : Progress) (plans : old.agenda.plan ≡ plan) (r : Mirrors old.agenda old.system first v)
     (next : Mirrors new.agenda new.system first (progress_after plan v told.step give))
     (on : enabled plan v told.step ≡ true) (grew : LogGrows 4 old.system new.system) (four : length told.rows ≡ 4)
     (read : (i : ℕ) → i < 4 → slice_get told.rows i ≡ Some (numbered_row new.system.rows.rows (length old.system.rows.rows + i)))
@@ -92,7 +91,7 @@ module _ (plan : Planned) (told : Told) (give : Give) (old new : World) (first :
   reached = subst (λ (p : Planned). RunReaches p first v) plans r.reached
 
   grows : w.now.log ≡ v.now.log ++ added
-  grows = log_grows plan first v told.step give limits reached on
+  grows = laws.grows plan first v told.step give limits reached on
 
   added_is : added ≡ grew.more
   added_is =
@@ -108,7 +107,7 @@ module _ (plan : Planned) (told : Told) (give : Give) (old new : World) (first :
       ∙ ap (λ (rows : List Event). Some (numbered_row w.now.log (length rows + i))) r.now.log)) few
 
   own : (i : ℕ) (row : Event) → slice_get added i ≡ Some row → process_of row ≡ process_of_step told.step
-  own i row h = rows_of_one plan first v told.step give i row limits reached on h
+  own i row h = laws.rows plan first v told.step give i row limits reached on h
 
   acts : acts_shown told.acts ≡ acts_of_step plan v told.step give (process_of_step told.step)
   acts =
@@ -141,14 +140,14 @@ told_now plan v x p told same =
     at_both true = (same, tt)
     at_both false = tt
 
-pub tells_more : (plan : Planned) (moves : List Move) (v : Progress) (x : Move) (told : Told) (before after : List (List Told))
+pub tells_more : RunLaws → (plan : Planned) (moves : List Move) (v : Progress) (x : Move) (told : Told) (before after : List (List Told))
     → after_moves plan (progress_at_start plan 0) moves ≡ Some v → IsToldAs told (told_at plan v x)
     → IsNoted told before after → AreToldInRun plan moves before → AreToldInRun plan (moves ++ x ∷ []) after
-tells_more plan moves v x told before after e same noted h p l =
+tells_more laws plan moves v x told before after e same noted h p l =
     let start = progress_at_start plan 0 in
     let count = noted.count in
     let there : p < length before = omega (arith, l, count) in
     subst (λ (list : List Told). AllZip IsToldAs list (told_by plan start p (moves ++ x ∷ []))) (sym (noted.each p there))
-    (subst (λ (list : List StepTold). AllZip IsToldAs (slice_index_or before p [] ++ told_here p told) list) (sym (told_more plan p moves start v x e))
+    (subst (λ (list : List StepTold). AllZip IsToldAs (slice_index_or before p [] ++ told_here p told) list) (sym (laws.told_more plan p moves start v x e))
     (all_zip_append IsToldAs (slice_index_or before p []) (told_here p told) (told_by plan start p moves) (told_by_move plan v p x)
     (h p there) (told_now plan v x p told same)))

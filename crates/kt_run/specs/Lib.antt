@@ -8,3 +8,4 @@ pub mod Rejections
 pub mod FaultTexts
 pub mod Orders
 pub mod OneRun
+pub mod RunLaws

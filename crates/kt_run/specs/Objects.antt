@@ -1,11 +1,13 @@
 -- What the processes of a run hold: what is due to them.
-use Rattle.std.specs.Prelude.{◌≡◌, ◌+◌, ℕ, ℤ, Option, Some, option_map, List, [], ◌∷◌, drop, length, map, slice_get, slice_index_or}
+use Rattle.std.specs.Prelude.{◌≡◌, ◌+◌, ℕ, ℤ, Option, Some, is_some, option_map, List, [], ◌∷◌, drop, length, map, slice_get, slice_index_or}
 use Rattle.std.specs.declared.alloc.Global.{Global}
 use Rattle.std.specs.declared.dyn_box.DynBox.{DynBox}
 use Rattle.kt_object.specs.SavedStates.{SavedStates}
 use Rattle.kt_object.specs.Value.{after, offered}
-use Rattle.kt_held.specs.Holdings.{Content, content, Holding, Holds}
+use Rattle.kt_held.specs.Fits.{spares_of_all}
+use Rattle.kt_held.specs.Holdings.{Content, content, Holding, Holds, does_all}
 use Rattle.kt_held.specs.declared.held.Held.{Held}
+use Rattle.kt_plan.specs.declared.steps.Act.{Act}
 use Rattle.kt_spacetime.specs.declared.event.Event.{Event}
 use Rattle.kt_values.specs.Done.{done, done_start}
 use Rattle.kt_values.specs.Values as values
@@ -16,6 +18,11 @@ pub record Belongings : Type 0 where
   pub present : Option Content
   pub spares : List Content
   pub depot : SavedStates
+
+-- acts are done to what a process has
+pub record IsDone (acts : List Act) (old new : Belongings) : Type 0 where
+  pub does : (h : Holding) → Holds h old.present old.depot → Holds (does_all h acts) new.present new.depot
+  pub spares : new.spares ≡ drop (spares_of_all (is_some old.present) acts) old.spares
 
 -- of what is held, by the contents of objects
 abbrev pub belongings_of : {X : Type 0} {D : X → Type 0} → (DynBox X Global D → Content) → Held X D → Belongings

@@ -1,5 +1,5 @@
 -- Runs of a plan that begin with given steps and go on by default steps.
-use Rattle.std.specs.Prelude.{◌≡◌, ◌≤◌, ◌^◌, [], ◌++◌, ℕ, true, Some, List, map, length}
+use Rattle.std.specs.Prelude.{◌≡◌, ◌<◌, ◌≤◌, ◌+◌, ◌^◌, [], ◌++◌, ℕ, true, Some, List, map, length, slice_get}
 use Rattle.std.specs.declared.alloc.Global.{Global}
 use Rattle.std.specs.declared.dyn_box.DynBox.{DynBox}
 use Rattle.kt_spacetime.specs.declared.event.Event.{Event}
@@ -15,8 +15,10 @@ use Rattle.kt_plans.specs.Progress.{Progress, progress_at_start}
 use Rattle.kt_plans.specs.Steps.{enabled, progress_after, is_at_rest}
 use Rattle.kt_plans.specs.Offers.{GivesOffer, GivesOffers, SendsWhatIsOffered}
 use Rattle.kt_plans.specs.Told.{told_at}
-use Rattle.kt_core.specs.Worlds.{World}
+use Rattle.kt_core.specs.Making.{MakesStep}
+use Rattle.kt_core.specs.Worlds.{World, numbered_row}
 use Rattle.kt_core.specs.Shown.{Mirrors}
+use Rattle.kt_system.specs.Systems.{LogGrows}
 use Rattle.kt_run.specs.Objects.{Belongings, has_of, rules_by, HoldDue}
 use Rattle.kt_run.specs.Telling.{IsToldAs, AreToldInRun, AreToldTheirRows, TellsItsRows, IsNoted}
 
@@ -53,6 +55,14 @@ StepsTo old before step new after = (told : Told) × (give : Give) × IsNoted to
     × ((cast : List (List Content)) → HoldDue cast v.now.log before.has →
     GivesOffer (rules_by cast) old.agenda.plan v step give
     × HoldDue cast (progress_after old.agenda.plan v step give).now.log after.has))
+
+-- a step leads from one world to another, and tells its rows with their numbers, and its acts
+pub record IsToldStep (old : World) (told : Told) (give : Give) (new : World) : Type 0 where
+  pub grows : LogGrows 4 old.system new.system
+  pub makes : MakesStep old told.step give told.acts new
+  pub four : length told.rows ≡ 4
+  pub rows : (i : ℕ) → i < 4 → slice_get told.rows i
+      ≡ Some (numbered_row new.system.rows.rows (length old.system.rows.rows + i))
 
 -- nothing is done in a world, whose log may have 2^24 rows and has none
 pub record Starts (plan : Planned) (world : World) : Type 0 where

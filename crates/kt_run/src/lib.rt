@@ -13,7 +13,7 @@ mod runs;
 
 pub use faults::RunFault;
 pub use hindered::{HinderedStep, hindered_step};
-pub use laws::one_run;
+pub use laws::{one_run, steps_of_worlds};
 pub use orders::Order;
 pub use recorded::{RecordedRun, recorded_run_of};
 pub use runs::{Outcome, log_of, run};

@@ -1,12 +1,11 @@
 //! In which order the steps of a run are made.
 
-ghost use Rattle.std.specs.Prelude.{◌≡◌, ◌<◌, ℕ, [], Some, true, false, IfOk, IfSome, IfNone, length, slice_get};
+ghost use Rattle.std.specs.Prelude.{◌≡◌, ◌<◌, ℕ, Some, true, false, IfSome, IfNone};
 ghost use Rattle.kt_core.specs.Shown.{Mirrors};
 ghost use Rattle.kt_core.specs.Worlds.{can_make};
 ghost use Rattle.kt_plans.specs.Progress.{Progress};
 ghost use Rattle.kt_run.specs.Orders.{draw_below, generator_next, generator_of, step_in_order};
 
-use kt_base::Memory;
 use kt_core::World;
 use kt_plan::Step;
 use rand_core::SeedableRng;
@@ -37,62 +36,40 @@ impl Order {
     }
 }
 
-/// The step that comes next in a world, if one is enabled; the list is for those that are.
+/// The step that comes next in a world, if one is enabled.
 pub(crate) fn step_in_order(
     world: &World,
     generator: &mut Option<Xoshiro256PlusPlus>,
-    list: &mut Vec<Step>,
-) -> Result<Option<Step>, Memory>
-    ensures enabled { IfOk result (λ found. IfSome found (λ step. can_make world.now step ≡ true)) }
-    ensures none { IfOk result (λ found. IfNone found ((step : Step) → can_make world.now step ≡ false)) }
+) -> Option<Step>
+    ensures enabled { IfSome result (λ step. can_make world.now step ≡ true) }
+    ensures none { IfNone result ((step : Step) → can_make world.now step ≡ false) }
     ensures step { (first : ℕ) (v : Progress) → Mirrors world.now.agenda world.now.system first v →
-        IfOk result (λ found. found ≡ step_in_order world.now.agenda.plan v generator.old) }
+        result ≡ step_in_order world.now.agenda.plan v generator.old }
     ensures generator { (first : ℕ) (v : Progress) → Mirrors world.now.agenda world.now.system first v →
-        IfOk result (λ found. IfSome found (λ _. generator.new ≡ generator_next world.now.agenda.plan v generator.old)) }
+        IfSome result (λ _. generator.new ≡ generator_next world.now.agenda.plan v generator.old) }
 {
     match generator {
-        Some(source) => drawn_step(world, source, list),
-        None => Ok(world.default_step()),
+        Some(source) => drawn_step(world, source),
+        None => world.default_step(),
     }
 }
 
-// A step that is drawn from all that are enabled, if any are.
-fn drawn_step(
-    world: &World,
-    generator: &mut Xoshiro256PlusPlus,
-    list: &mut Vec<Step>,
-) -> Result<Option<Step>, Memory>
-    ensures enabled { IfOk result (λ found. IfSome found (λ step. can_make world.now step ≡ true)) }
-    ensures none { IfOk result (λ found. IfNone found ((step : Step) → can_make world.now step ≡ false)) }
+// A step that is drawn from all that are enabled, if any are: they are counted, and the one at the place drawn is found.
+fn drawn_step(world: &World, generator: &mut Xoshiro256PlusPlus) -> Option<Step>
+    ensures enabled { IfSome result (λ step. can_make world.now step ≡ true) }
+    ensures none { IfNone result ((step : Step) → can_make world.now step ≡ false) }
     ensures step { (first : ℕ) (v : Progress) → Mirrors world.now.agenda world.now.system first v →
-        IfOk result (λ found. found ≡ step_in_order world.now.agenda.plan v (Some generator.old)) }
+        result ≡ step_in_order world.now.agenda.plan v (Some generator.old) }
     ensures generator { (first : ℕ) (v : Progress) → Mirrors world.now.agenda world.now.system first v →
-        IfOk result (λ found. IfSome found (λ _.
-        Some generator.new ≡ generator_next world.now.agenda.plan v (Some generator.old))) }
+        IfSome result (λ _. Some generator.new ≡ generator_next world.now.agenda.plan v (Some generator.old)) }
 {
-    world.list_enabled(list)?;
-    Ok(drawn_of(generator, list.as_slice()))
-}
-
-// One of some steps, if there are any.
-fn drawn_of(generator: &mut Xoshiro256PlusPlus, list: &[Step]) -> Option<Step>
-    ensures step { result ≡ slice_get list.now (draw_below (length list.now) generator.old).0 }
-    ensures none { IfNone result (list.now ≡ []) }
-    ensures generator { IfSome result (λ _. generator.new ≡ (draw_below (length list.now) generator.old).1) }
-{
-    let count = list.len() as u64;
+    let movers = world.movers();
+    let count = world.count_enabled(&movers);
     if count == 0 {
         return None;
     }
-    let place = number_below(generator, count);
-    step_at(list, place as usize)
-}
-
-// The step at a place of a list, if there is one.
-fn step_at(list: &[Step], place: usize) -> Option<Step>
-    ensures { result ≡ slice_get list.now place }
-{
-    list.get(place).copied()
+    let place = number_below(generator, count as u64);
+    world.enabled_at(&movers, place as usize)
 }
 
 // A number below a count, each as likely as another: a word counts as it is below the greatest multiple of the count.

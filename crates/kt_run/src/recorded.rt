@@ -11,6 +11,7 @@ ghost use Rattle.kt_run.specs.Orders.{IsOrderedRun, IsOneRefused, IsOneStopped};
 ghost use Rattle.kt_run.specs.Rejections.{MayReject};
 
 use crate::faults::RunFault;
+use crate::laws::laws_of_runs;
 use crate::orders::Order;
 use crate::run_state::RunState;
 use kt_held::Cast;
@@ -63,6 +64,7 @@ pub fn recorded_run_of(
     ensures promised { IfOk result (λ kept. IsPromised kept.log.rows) }
     ensures follows { IfOk result (λ kept. FollowsPlan plan.now kept.log.rows) }
 {
+    laws_of_runs();
     let mut run_state = RunState::begin(alloc, plan, cast)?;
     let mut generator = order.generator();
     let made = run_state.make_in_order(steps, &mut generator)?;

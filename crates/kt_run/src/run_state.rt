@@ -21,6 +21,7 @@ ghost use Rattle.kt_run.specs.Telling.{AreEmpty};
 
 use crate::faults::RunFault;
 use crate::journals::{Journals, process_of};
+use crate::laws::laws_of_runs;
 use kt_base::ProcNo;
 use kt_core::{Ready, StepFault, World};
 use kt_held::{Cast, Held, begin_all};
@@ -168,6 +169,7 @@ impl RunState {
             (told_and_held self.new.journals self.new.objects.items
             (λ b. content (kind_of (b.vtable, b.value)) (value_of (b.vtable, b.value))))) }
     {
+        laws_of_runs();
         for step in steps {
             if !self.world.enabled(step) {
                 return Err(RunFault::Step(self.done, StepFault::NotEnabled));
@@ -220,6 +222,7 @@ impl RunState {
             (told_and_held self.new.journals self.new.objects.items
             (λ b. content (kind_of (b.vtable, b.value)) (value_of (b.vtable, b.value))))) }
     {
+        laws_of_runs();
         for _number in 0..MAX_STEPS {
             let Some(step) = self.world.default_step() else {
                 return Ok(());
@@ -264,6 +267,7 @@ impl RunState {
             (told_and_held self.new.journals self.new.objects.items
             (λ b. content (kind_of (b.vtable, b.value)) (value_of (b.vtable, b.value))))) }
     {
+        laws_of_runs();
         let p = process_of(&step);
         let Some(held) = self.objects.get_mut(p.index()) else {
             return Err(RunFault::Step(self.done, StepFault::NotEnabled));
@@ -354,6 +358,7 @@ fn act_once(
     ensures untold { IfErr result (λ fault. (p : ℕ) → fault ≢ RunFault.Journal p) }
     ensures leads { OnOk result (Tells world.old [] ready.now.step give world.new [] acts.new) }
 {
+    laws_of_runs();
     match world.make_step(ready, give, acts) {
         Ok(()) => Ok(()),
         Err(_) => Err(RunFault::Memory),
@@ -377,6 +382,7 @@ fn tell_once(
     ensures objects { IfErr result (λ fault. (p : ℕ) → fault ≢ RunFault.Object p) }
     ensures leads { OnOk result (Tells world.old journals.old ready.now.step give world.new journals.new acts.new) }
 {
+    laws_of_runs();
     let step = ready.step;
     let p = process_of(&step);
     let told = match world.step(step, give) {

@@ -16,6 +16,7 @@ ghost use Rattle.kt_run.specs.Telling.{AreToldTheirRows};
 
 use crate::faults::RunFault;
 use crate::journals::Journals;
+use crate::laws::laws_of_runs;
 use crate::run_state::RunState;
 use kt_held::{Cast, Held};
 use kt_object::Recoverable;
@@ -83,6 +84,7 @@ pub fn run(alloc: Global, plan: &Plan, steps: &[Step], cast: Cast) -> Result<Out
     // The log follows the plan, told by its rows alone.
     ensures follows { IfOk result (λ outcome. FollowsPlan plan.now outcome.log.rows) }
 {
+    laws_of_runs();
     let mut run_state = RunState::begin(alloc, plan, cast)?;
     run_state.keep_journals()?;
     run_state.make_all(steps)?;
@@ -125,6 +127,7 @@ pub fn log_of(alloc: Global, plan: &Plan, steps: &[Step], cast: Cast) -> Result<
     // It follows the plan, told by its rows alone.
     ensures follows { IfOk result (λ log. FollowsPlan plan.now log.rows) }
 {
+    laws_of_runs();
     let mut run_state = RunState::begin(alloc, plan, cast)?;
     run_state.make_all(steps)?;
     Ok(run_state.world.into_log())

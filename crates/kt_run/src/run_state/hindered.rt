@@ -12,6 +12,7 @@ ghost use Rattle.kt_run.specs.Telling.{AreEmpty};
 use super::RunState;
 use crate::faults::RunFault;
 use crate::hindered::HinderedStep;
+use crate::laws::laws_of_runs;
 use kt_object::Recoverable;
 use kt_plan::Step;
 
@@ -32,6 +33,7 @@ impl RunState {
             (λ b. content (kind_of (b.vtable, b.value)) (value_of (b.vtable, b.value)))) →
             IfOk result (λ found. IfNone found (AreMade self.old.world.agenda.plan cast steps.now)) }
     {
+        laws_of_runs();
         for step in steps {
             if let Some(hindrance) = self.world.hindrance(step) {
                 return Ok(Some(HinderedStep {

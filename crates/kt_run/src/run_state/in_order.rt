@@ -12,6 +12,7 @@ ghost use Rattle.kt_run.specs.Telling.{AreEmpty};
 
 use super::{MAX_STEPS, RunState};
 use crate::faults::RunFault;
+use crate::laws::laws_of_runs;
 use crate::orders::step_in_order;
 use kt_object::Recoverable;
 use kt_plan::Step;
@@ -105,10 +106,10 @@ impl RunState {
             self.new.world (told_and_held self.new.journals self.new.objects.items
             (λ b. content (kind_of (b.vtable, b.value)) (value_of (b.vtable, b.value))))) }
     {
-        let mut list = Vec::new(self.alloc);
         kt_core::runs_of_worlds();
+        laws_of_runs();
         for _number in 0..MAX_STEPS {
-            let found = step_in_order(&self.world, generator, &mut list)?;
+            let found = step_in_order(&self.world, generator);
             let Some(step) = found else {
                 return Ok(());
             };

@@ -1,4 +1,4 @@
-use Rattle.std.proofs.Common.{◌≡◌, ◌-◌, ◌∙◌, arith, refl, sym}
+use Rattle.std.proofs.Common.{◌-◌, ◌∙◌, arith, refl, sym}
 use Rattle.kt_run.proofs.Drawing.{drawn_here, drawn_again, drawn_none}
 use Rattle.kt_run.proofs.orders.number_below.Goals as goal
 

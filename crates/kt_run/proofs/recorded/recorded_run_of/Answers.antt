@@ -17,14 +17,14 @@ returns-clause-run g c =
     let limits = subst IsPlan c.in_ok-run_state.ensures.plan c.in_ok-run_state.ensures.starts.shown.limits in
     let rests = subst (λ (h : Option Generator). RestsInOrder c.args.plan.now (map (λ row. map (λ b. content ((goal.Recoverable-dyn g (b.vtable, b.value)).kind_of b.value) ((goal.Recoverable-dyn g (b.vtable, b.value)).value_of b.value)) row.items) c.args.cast.items) c.args.steps.now c.in_ok-made.made.items h c.make_in_order.new.self.world (told_and_held c.make_in_order.new.self.journals c.make_in_order.new.self.objects.items (λ b. content ((goal.Recoverable-dyn g (b.vtable, b.value)).kind_of b.value) ((goal.Recoverable-dyn g (b.vtable, b.value)).value_of b.value)))) c.generator-generator.ensures
     (subst (λ (p : Planned). RestsInOrder p (map (λ row. map (λ b. content ((goal.Recoverable-dyn g (b.vtable, b.value)).kind_of b.value) ((goal.Recoverable-dyn g (b.vtable, b.value)).value_of b.value)) row.items) c.args.cast.items) c.args.steps.now c.in_ok-made.made.items c.generator-generator.result c.make_in_order.new.self.world (told_and_held c.make_in_order.new.self.journals c.make_in_order.new.self.objects.items (λ b. content ((goal.Recoverable-dyn g (b.vtable, b.value)).kind_of b.value) ((goal.Recoverable-dyn g (b.vtable, b.value)).value_of b.value)))) c.in_ok-run_state.ensures.plan (c.in_ok-made.ensures.rests (map (λ row. map (λ b. content ((goal.Recoverable-dyn g (b.vtable, b.value)).kind_of b.value) ((goal.Recoverable-dyn g (b.vtable, b.value)).value_of b.value)) row.items) c.args.cast.items) c.in_ok-run_state.ensures.due)) in
-    run_in_order c.args.plan.now (map (λ row. map (λ b. content ((goal.Recoverable-dyn g (b.vtable, b.value)).kind_of b.value) ((goal.Recoverable-dyn g (b.vtable, b.value)).value_of b.value)) row.items) c.args.cast.items) c.args.steps.now c.in_ok-made.made.items c.args.order c.make_in_order.new.self.world (told_and_held c.make_in_order.new.self.journals c.make_in_order.new.self.objects.items (λ b. content ((goal.Recoverable-dyn g (b.vtable, b.value)).kind_of b.value) ((goal.Recoverable-dyn g (b.vtable, b.value)).value_of b.value))) c.into_log.result.rows limits rests (ap (λ l. l.rows) c.into_log.ensures.log)
+    run_in_order c.laws_of_runs.ensures c.args.plan.now (map (λ row. map (λ b. content ((goal.Recoverable-dyn g (b.vtable, b.value)).kind_of b.value) ((goal.Recoverable-dyn g (b.vtable, b.value)).value_of b.value)) row.items) c.args.cast.items) c.args.steps.now c.in_ok-made.made.items c.args.order c.make_in_order.new.self.world (told_and_held c.make_in_order.new.self.journals c.make_in_order.new.self.objects.items (λ b. content ((goal.Recoverable-dyn g (b.vtable, b.value)).kind_of b.value) ((goal.Recoverable-dyn g (b.vtable, b.value)).value_of b.value))) c.into_log.result.rows limits rests (ap (λ l. l.rows) c.into_log.ensures.log)
 
 pub returns-clause-follows : goal.returns-clause-follows
 returns-clause-follows g c =
     let limits = subst IsPlan c.in_ok-run_state.ensures.plan c.in_ok-run_state.ensures.starts.shown.limits in
     let rests = subst (λ (h : Option Generator). RestsInOrder c.args.plan.now (map (λ row. map (λ b. content ((goal.Recoverable-dyn g (b.vtable, b.value)).kind_of b.value) ((goal.Recoverable-dyn g (b.vtable, b.value)).value_of b.value)) row.items) c.args.cast.items) c.args.steps.now c.in_ok-made.made.items h c.make_in_order.new.self.world (told_and_held c.make_in_order.new.self.journals c.make_in_order.new.self.objects.items (λ b. content ((goal.Recoverable-dyn g (b.vtable, b.value)).kind_of b.value) ((goal.Recoverable-dyn g (b.vtable, b.value)).value_of b.value)))) c.generator-generator.ensures
     (subst (λ (p : Planned). RestsInOrder p (map (λ row. map (λ b. content ((goal.Recoverable-dyn g (b.vtable, b.value)).kind_of b.value) ((goal.Recoverable-dyn g (b.vtable, b.value)).value_of b.value)) row.items) c.args.cast.items) c.args.steps.now c.in_ok-made.made.items c.generator-generator.result c.make_in_order.new.self.world (told_and_held c.make_in_order.new.self.journals c.make_in_order.new.self.objects.items (λ b. content ((goal.Recoverable-dyn g (b.vtable, b.value)).kind_of b.value) ((goal.Recoverable-dyn g (b.vtable, b.value)).value_of b.value)))) c.in_ok-run_state.ensures.plan (c.in_ok-made.ensures.rests (map (λ row. map (λ b. content ((goal.Recoverable-dyn g (b.vtable, b.value)).kind_of b.value) ((goal.Recoverable-dyn g (b.vtable, b.value)).value_of b.value)) row.items) c.args.cast.items) c.in_ok-run_state.ensures.due)) in
-    follows_in_order c.args.plan.now (map (λ row. map (λ b. content ((goal.Recoverable-dyn g (b.vtable, b.value)).kind_of b.value) ((goal.Recoverable-dyn g (b.vtable, b.value)).value_of b.value)) row.items) c.args.cast.items) c.args.steps.now c.in_ok-made.made.items c.args.order c.make_in_order.new.self.world (told_and_held c.make_in_order.new.self.journals c.make_in_order.new.self.objects.items (λ b. content ((goal.Recoverable-dyn g (b.vtable, b.value)).kind_of b.value) ((goal.Recoverable-dyn g (b.vtable, b.value)).value_of b.value))) c.into_log.result.rows limits rests (ap (λ l. l.rows) c.into_log.ensures.log)
+    follows_in_order c.laws_of_runs.ensures c.args.plan.now (map (λ row. map (λ b. content ((goal.Recoverable-dyn g (b.vtable, b.value)).kind_of b.value) ((goal.Recoverable-dyn g (b.vtable, b.value)).value_of b.value)) row.items) c.args.cast.items) c.args.steps.now c.in_ok-made.made.items c.args.order c.make_in_order.new.self.world (told_and_held c.make_in_order.new.self.journals c.make_in_order.new.self.objects.items (λ b. content ((goal.Recoverable-dyn g (b.vtable, b.value)).kind_of b.value) ((goal.Recoverable-dyn g (b.vtable, b.value)).value_of b.value))) c.into_log.result.rows limits rests (ap (λ l. l.rows) c.into_log.ensures.log)
 
 if_err : {T E : Type 0} (r : Result T E) (P : E → Type 0) (e : E) → r ≡ Err e → P e → IfErr r P
 if_err r P e is p = rw is p

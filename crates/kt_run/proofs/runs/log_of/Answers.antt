@@ -14,7 +14,7 @@ use Rattle.kt_run.proofs.runs.log_of.Goals as goal
 pub returns-clause-run : goal.returns-clause-run
 returns-clause-run g c =
     let end = c.make_all.new.self in
-    run_of c.args.plan.now
+    run_of c.laws_of_runs.ensures c.args.plan.now
     (map (λ row. map (λ b. content ((goal.Recoverable-dyn g (b.vtable, b.value)).kind_of b.value) ((goal.Recoverable-dyn g (b.vtable, b.value)).value_of b.value)) row.items) c.args.cast.items)
     c.args.steps.now end.world (told_and_held end.journals end.objects.items (λ b. content ((goal.Recoverable-dyn g (b.vtable, b.value)).kind_of b.value) ((goal.Recoverable-dyn g (b.vtable, b.value)).value_of b.value))) c.into_log.result.rows
     (subst IsPlan c.in_ok-run_state.ensures.plan c.in_ok-run_state.ensures.starts.shown.limits)
@@ -29,7 +29,7 @@ returns-clause-run g c =
 pub returns-clause-follows : goal.returns-clause-follows
 returns-clause-follows g c =
     let end = c.make_all.new.self in
-    follows_of c.args.plan.now
+    follows_of c.laws_of_runs.ensures c.args.plan.now
     (map (λ row. map (λ b. content ((goal.Recoverable-dyn g (b.vtable, b.value)).kind_of b.value) ((goal.Recoverable-dyn g (b.vtable, b.value)).value_of b.value)) row.items) c.args.cast.items)
     c.args.steps.now end.world (told_and_held end.journals end.objects.items (λ b. content ((goal.Recoverable-dyn g (b.vtable, b.value)).kind_of b.value) ((goal.Recoverable-dyn g (b.vtable, b.value)).value_of b.value))) c.into_log.result.rows
     (subst IsPlan c.in_ok-run_state.ensures.plan c.in_ok-run_state.ensures.starts.shown.limits)

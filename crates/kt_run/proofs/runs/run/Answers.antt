@@ -10,6 +10,7 @@ use Rattle.kt_plan.specs.Limits.{Planned, IsPlan}
 use Rattle.kt_plan.specs.declared.steps.Told.{Told}
 use Rattle.kt_run.specs.Objects.{belongings_of, first_of, has_of, HoldDue, AreLeft}
 use Rattle.kt_run.specs.Rejections.{objects_held, HaveSpares, MayReject}
+use Rattle.kt_run.proofs.Casting.{of_right}
 use Rattle.kt_run.proofs.Rejecting.{have_spares, of_plan, rejected_of}
 use Rattle.kt_run.specs.Runs.{told_and_held, Rests, IsToldPlay}
 use Rattle.kt_run.specs.Telling.{AreToldTheirRows}
@@ -53,33 +54,33 @@ returns-clause-run g c =
     subst (λ (told : List (List Told)). IsToldPlay c.args.plan.now
     (map (λ row. map (λ b. content ((goal.Recoverable-dyn g (b.vtable, b.value)).kind_of b.value) ((goal.Recoverable-dyn g (b.vtable, b.value)).value_of b.value)) row.items) c.args.cast.items)
     c.args.steps.now c.into_log.result.rows told) (sym c.into_lists.ensures)
-    (told_run_of c.args.plan.now
+    (told_run_of c.laws_of_runs.ensures c.args.plan.now
     (map (λ row. map (λ b. content ((goal.Recoverable-dyn g (b.vtable, b.value)).kind_of b.value) ((goal.Recoverable-dyn g (b.vtable, b.value)).value_of b.value)) row.items) c.args.cast.items)
     c.args.steps.now end.world (told_and_held end.journals end.objects.items (λ b. content ((goal.Recoverable-dyn g (b.vtable, b.value)).kind_of b.value) ((goal.Recoverable-dyn g (b.vtable, b.value)).value_of b.value))) c.into_log.result.rows (limits g c) (rests g c) (ap (λ l. l.rows) c.into_log.ensures.log) count)
 
 pub returns-clause-told : goal.returns-clause-told
 returns-clause-told g c =
     subst (λ (told : List (List Told)). AreToldTheirRows c.into_log.result.rows told) (sym c.into_lists.ensures)
-    (their_rows c.args.plan.now
+    (their_rows c.laws_of_runs.ensures c.args.plan.now
     (map (λ row. map (λ b. content ((goal.Recoverable-dyn g (b.vtable, b.value)).kind_of b.value) ((goal.Recoverable-dyn g (b.vtable, b.value)).value_of b.value)) row.items) c.args.cast.items)
     c.args.steps.now c.make_all.new.self.world (told_and_held c.make_all.new.self.journals c.make_all.new.self.objects.items (λ b. content ((goal.Recoverable-dyn g (b.vtable, b.value)).kind_of b.value) ((goal.Recoverable-dyn g (b.vtable, b.value)).value_of b.value))) c.into_log.result.rows (limits g c) (rests g c) (ap (λ l. l.rows) c.into_log.ensures.log))
 
 pub returns-clause-due : goal.returns-clause-due
 returns-clause-due g c =
-    due_of c.args.plan.now
+    due_of c.laws_of_runs.ensures c.args.plan.now
     (map (λ row. map (λ b. content ((goal.Recoverable-dyn g (b.vtable, b.value)).kind_of b.value) ((goal.Recoverable-dyn g (b.vtable, b.value)).value_of b.value)) row.items) c.args.cast.items)
     c.args.steps.now c.make_all.new.self.world (told_and_held c.make_all.new.self.journals c.make_all.new.self.objects.items (λ b. content ((goal.Recoverable-dyn g (b.vtable, b.value)).kind_of b.value) ((goal.Recoverable-dyn g (b.vtable, b.value)).value_of b.value))) c.into_log.result.rows (limits g c) (rests g c) (ap (λ l. l.rows) c.into_log.ensures.log)
 
 pub returns-clause-follows : goal.returns-clause-follows
 returns-clause-follows g c =
-    follows_of c.args.plan.now
+    follows_of c.laws_of_runs.ensures c.args.plan.now
     (map (λ row. map (λ b. content ((goal.Recoverable-dyn g (b.vtable, b.value)).kind_of b.value) ((goal.Recoverable-dyn g (b.vtable, b.value)).value_of b.value)) row.items) c.args.cast.items)
     c.args.steps.now c.make_all.new.self.world (told_and_held c.make_all.new.self.journals c.make_all.new.self.objects.items (λ b. content ((goal.Recoverable-dyn g (b.vtable, b.value)).kind_of b.value) ((goal.Recoverable-dyn g (b.vtable, b.value)).value_of b.value))) c.into_log.result.rows (limits g c) (rests g c) (ap (λ l. l.rows) c.into_log.ensures.log)
 
 pub returns-clause-settled : goal.returns-clause-settled
 returns-clause-settled g c = λ p other l.
     let helds = c.make_all.new.self.objects.items in
-    settled_of c.args.plan.now
+    settled_of c.laws_of_runs.ensures c.args.plan.now
     (map (λ row. map (λ b. content ((goal.Recoverable-dyn g (b.vtable, b.value)).kind_of b.value) ((goal.Recoverable-dyn g (b.vtable, b.value)).value_of b.value)) row.items) c.args.cast.items)
     c.args.steps.now c.make_all.new.self.world (told_and_held c.make_all.new.self.journals c.make_all.new.self.objects.items (λ b. content ((goal.Recoverable-dyn g (b.vtable, b.value)).kind_of b.value) ((goal.Recoverable-dyn g (b.vtable, b.value)).value_of b.value))) c.into_log.result.rows (limits g c) (rests g c) (ap (λ l. l.rows) c.into_log.ensures.log)
     p (belongings_of (λ b. content ((goal.Recoverable-dyn g (b.vtable, b.value)).kind_of b.value) ((goal.Recoverable-dyn g (b.vtable, b.value)).value_of b.value)) (slice_index_or helds p other))
@@ -90,6 +91,10 @@ if_err r P e is p = rw is p
 
 pub returns-in_err-run_state-clause-refused : goal.returns-in_err-run_state-clause-refused
 returns-in_err-run_state-clause-refused g c = if_err c.from_residual.result _ c.in_err-run_state.field-0.0 (search rules) (λ done why e. absurd (c.in_err-run_state.ensures.early done why e))
+
+pub returns-in_err-make_all-clause-fault : goal.returns-in_err-make_all-clause-fault
+returns-in_err-make_all-clause-fault g c = if_err c.from_residual-in_err-make_all.result _ c.in_err-make_all.field-0.0 (search rules)
+    (of_right _ _ c.in_err-make_all.field-0.0 c.in_ok-run_state.ensures.cast c.in_err-make_all.ensures.fault)
 
 pub returns-in_err-make_all-clause-refused : goal.returns-in_err-make_all-clause-refused
 returns-in_err-make_all-clause-refused g c = if_err c.from_residual-in_err-make_all.result _ c.in_err-make_all.field-0.0 (search rules)

@@ -22,25 +22,25 @@ loop-number-preserved g c = record {
   done = let d = c.in_ok-make.ensures.done in let e = c.loop-number.invariant.done in omega (arith, d, e);
   per_process = c.in_ok-make.ensures.per_process;
   goes = λ cast steps b. let goes = c.loop-number.invariant.goes cast steps b in
-      goes_more c.args.self.now.world.agenda.plan cast steps c.loop-number._number c.in-Some.step c.loop-number.self.world c.make.new.self.world (told_and_held c.loop-number.self.journals c.loop-number.self.objects.items (λ b. content ((goal.Recoverable-dyn g (b.vtable, b.value)).kind_of b.value) ((goal.Recoverable-dyn g (b.vtable, b.value)).value_of b.value))) (told_and_held c.make.new.self.journals c.make.new.self.objects.items (λ b. content ((goal.Recoverable-dyn g (b.vtable, b.value)).kind_of b.value) ((goal.Recoverable-dyn g (b.vtable, b.value)).value_of b.value))) c.loop-number.invariant.plan goes c.in_ok-make.ensures.leads (c.in-Some.ensures.in_runs 0 goes.0.now goes.0.shown);
+      goes_more c.laws_of_runs.ensures c.args.self.now.world.agenda.plan cast steps c.loop-number._number c.in-Some.step c.loop-number.self.world c.make.new.self.world (told_and_held c.loop-number.self.journals c.loop-number.self.objects.items (λ b. content ((goal.Recoverable-dyn g (b.vtable, b.value)).kind_of b.value) ((goal.Recoverable-dyn g (b.vtable, b.value)).value_of b.value))) (told_and_held c.make.new.self.journals c.make.new.self.objects.items (λ b. content ((goal.Recoverable-dyn g (b.vtable, b.value)).kind_of b.value) ((goal.Recoverable-dyn g (b.vtable, b.value)).value_of b.value))) c.loop-number.invariant.plan goes c.in_ok-make.ensures.leads (c.in-Some.ensures.in_runs 0 goes.0.now goes.0.shown);
 }
 
 pub returns-in_default-clause-rests : goal.returns-in_default-clause-rests
 returns-in_default-clause-rests g c = λ cast steps b. let goes = (c.loop-number.invariant.goes cast steps b).0 in
-    rests_now c.args.self.now.world.agenda.plan cast steps c.loop-number.self.world (told_and_held c.loop-number.self.journals c.loop-number.self.objects.items (λ b. content ((goal.Recoverable-dyn g (b.vtable, b.value)).kind_of b.value) ((goal.Recoverable-dyn g (b.vtable, b.value)).value_of b.value))) c.loop-number.invariant.plan goes (c.in_default.ensures.in_runs 0 goes.now goes.shown)
+    rests_now c.laws_of_runs.ensures c.args.self.now.world.agenda.plan cast steps c.loop-number.self.world (told_and_held c.loop-number.self.journals c.loop-number.self.objects.items (λ b. content ((goal.Recoverable-dyn g (b.vtable, b.value)).kind_of b.value) ((goal.Recoverable-dyn g (b.vtable, b.value)).value_of b.value))) c.loop-number.invariant.plan goes (c.in_default.ensures.in_runs 0 goes.now goes.shown)
 
 pub unreachable-requires : goal.unreachable-requires
 unreachable-requires g c =
     let b = c.requires.begun in
     let over = c.loop-number-test.false in
-    too_many c.args.self.now.world.agenda.plan b.0 b.1 c.loop-number._number c.loop-number.self.world (told_and_held c.loop-number.self.journals c.loop-number.self.objects.items (λ b. content ((goal.Recoverable-dyn g (b.vtable, b.value)).kind_of b.value) ((goal.Recoverable-dyn g (b.vtable, b.value)).value_of b.value))) c.loop-number.invariant.plan (c.loop-number.invariant.goes b.0 b.1 b.2) (omega (arith, over))
+    too_many c.laws_of_runs.ensures c.args.self.now.world.agenda.plan b.0 b.1 c.loop-number._number c.loop-number.self.world (told_and_held c.loop-number.self.journals c.loop-number.self.objects.items (λ b. content ((goal.Recoverable-dyn g (b.vtable, b.value)).kind_of b.value) ((goal.Recoverable-dyn g (b.vtable, b.value)).value_of b.value))) c.loop-number.invariant.plan (c.loop-number.invariant.goes b.0 b.1 b.2) (omega (arith, over))
 
 pub make-requires-clause-few : goal.make-requires-clause-few
 make-requires-clause-few g c =
     let b = c.requires.begun in
     let d = c.loop-number.invariant.done in
     let l = b.3 in
-    let few = goes_few c.args.self.now.world.agenda.plan b.0 b.1 c.loop-number._number c.loop-number.self.world (told_and_held c.loop-number.self.journals c.loop-number.self.objects.items (λ b. content ((goal.Recoverable-dyn g (b.vtable, b.value)).kind_of b.value) ((goal.Recoverable-dyn g (b.vtable, b.value)).value_of b.value))) c.loop-number.invariant.plan (c.loop-number.invariant.goes b.0 b.1 b.2) in
+    let few = goes_few c.laws_of_runs.ensures c.args.self.now.world.agenda.plan b.0 b.1 c.loop-number._number c.loop-number.self.world (told_and_held c.loop-number.self.journals c.loop-number.self.objects.items (λ b. content ((goal.Recoverable-dyn g (b.vtable, b.value)).kind_of b.value) ((goal.Recoverable-dyn g (b.vtable, b.value)).value_of b.value))) c.loop-number.invariant.plan (c.loop-number.invariant.goes b.0 b.1 b.2) in
     omega (arith, d, l, few)
 
 if_err : {T E : Type 0} (r : Result T E) (P : E → Type 0) (e : E) → r ≡ Err e → P e → IfErr r P

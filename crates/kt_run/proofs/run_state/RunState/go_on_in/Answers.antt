@@ -26,13 +26,13 @@ loop-number-init g c = record {
 }
 
 pub make-requires-clause-enabled : goal.make-requires-clause-enabled
-make-requires-clause-enabled g c = subst (λ (o : Option Step). IfSome o (λ step. can_make c.loop-number.self.world step ≡ true)) c.in-Some.is c.in_ok-found.ensures.enabled
+make-requires-clause-enabled g c = subst (λ (o : Option Step). IfSome o (λ step. can_make c.loop-number.self.world step ≡ true)) c.in-Some.is c.step_in_order-found.ensures.enabled
 
 pub make-requires-clause-few : goal.make-requires-clause-few
 make-requires-clause-few g c =
     let b = c.requires.begun in
     let goes = c.loop-number.invariant.goes b.0 b.1 in
-    let few = begins_few c.args.self.now.world.agenda.plan b.0 c.loop-number.made.items c.loop-number.self.world (told_and_held c.loop-number.self.journals c.loop-number.self.objects.items (λ b. content ((goal.Recoverable-dyn g (b.vtable, b.value)).kind_of b.value) ((goal.Recoverable-dyn g (b.vtable, b.value)).value_of b.value))) c.loop-number.invariant.plan goes.run in
+    let few = begins_few c.laws_of_runs.ensures c.args.self.now.world.agenda.plan b.0 c.loop-number.made.items c.loop-number.self.world (told_and_held c.loop-number.self.journals c.loop-number.self.objects.items (λ b. content ((goal.Recoverable-dyn g (b.vtable, b.value)).kind_of b.value) ((goal.Recoverable-dyn g (b.vtable, b.value)).value_of b.value))) c.loop-number.invariant.plan goes.run in
     let done = c.loop-number.invariant.done in
     omega (arith, few, done)
 
@@ -51,22 +51,22 @@ loop-number-preserved g c =
       many = omega (arith, items, longer, many);
       per_process = c.in_ok-make.ensures.per_process;
       goes = λ cast b. let goes = c.loop-number.invariant.goes cast b in
-          subst (λ (l : List Step). GoesInOrder c.args.self.now.world.agenda.plan cast c.args.made.now.items l c.args.generator.now c.step_in_order.new.generator c.make.new.self.world (told_and_held c.make.new.self.journals c.make.new.self.objects.items (λ b. content ((goal.Recoverable-dyn g (b.vtable, b.value)).kind_of b.value) ((goal.Recoverable-dyn g (b.vtable, b.value)).value_of b.value)))) (sym c.in_ok-note_step.ensures.ok)
-          (in_order_more c.args.self.now.world.agenda.plan cast c.args.made.now.items c.loop-number.made.items c.args.generator.now c.loop-number.generator c.step_in_order.new.generator c.in-Some.step c.loop-number.self.world c.make.new.self.world (told_and_held c.loop-number.self.journals c.loop-number.self.objects.items (λ b. content ((goal.Recoverable-dyn g (b.vtable, b.value)).kind_of b.value) ((goal.Recoverable-dyn g (b.vtable, b.value)).value_of b.value))) (told_and_held c.make.new.self.journals c.make.new.self.objects.items (λ b. content ((goal.Recoverable-dyn g (b.vtable, b.value)).kind_of b.value) ((goal.Recoverable-dyn g (b.vtable, b.value)).value_of b.value)))
-          c.loop-number.invariant.plan goes c.in_ok-make.ensures.leads (sym c.in-Some.is ∙ c.in_ok-found.ensures.step 0 goes.run.now goes.run.shown)
-          (subst (λ (o : Option Step). IfSome o (λ _. c.step_in_order.new.generator ≡ generator_next c.loop-number.self.world.agenda.plan goes.run.now c.loop-number.generator)) c.in-Some.is (c.in_ok-found.ensures.generator 0 goes.run.now goes.run.shown)));
+          subst (λ (l : List Step). GoesInOrder c.args.self.now.world.agenda.plan cast c.args.made.now.items l c.args.generator.now c.step_in_order-found.new.generator c.make.new.self.world (told_and_held c.make.new.self.journals c.make.new.self.objects.items (λ b. content ((goal.Recoverable-dyn g (b.vtable, b.value)).kind_of b.value) ((goal.Recoverable-dyn g (b.vtable, b.value)).value_of b.value)))) (sym c.in_ok-note_step.ensures.ok)
+          (in_order_more c.laws_of_runs.ensures c.args.self.now.world.agenda.plan cast c.args.made.now.items c.loop-number.made.items c.args.generator.now c.loop-number.generator c.step_in_order-found.new.generator c.in-Some.step c.loop-number.self.world c.make.new.self.world (told_and_held c.loop-number.self.journals c.loop-number.self.objects.items (λ b. content ((goal.Recoverable-dyn g (b.vtable, b.value)).kind_of b.value) ((goal.Recoverable-dyn g (b.vtable, b.value)).value_of b.value))) (told_and_held c.make.new.self.journals c.make.new.self.objects.items (λ b. content ((goal.Recoverable-dyn g (b.vtable, b.value)).kind_of b.value) ((goal.Recoverable-dyn g (b.vtable, b.value)).value_of b.value)))
+          c.loop-number.invariant.plan goes c.in_ok-make.ensures.leads (sym c.in-Some.is ∙ c.step_in_order-found.ensures.step 0 goes.run.now goes.run.shown)
+          (subst (λ (o : Option Step). IfSome o (λ _. c.step_in_order-found.new.generator ≡ generator_next c.loop-number.self.world.agenda.plan goes.run.now c.loop-number.generator)) c.in-Some.is (c.step_in_order-found.ensures.generator 0 goes.run.now goes.run.shown)));
     }
 
 pub returns-in_default-clause-rests : goal.returns-in_default-clause-rests
 returns-in_default-clause-rests g c = λ cast b.
-    in_order_rest c.runs_of_worlds.ensures.enabled c.args.self.now.world.agenda.plan cast c.args.made.now.items c.loop-number.made.items c.args.generator.now c.loop-number.generator c.loop-number.self.world (told_and_held c.loop-number.self.journals c.loop-number.self.objects.items (λ b. content ((goal.Recoverable-dyn g (b.vtable, b.value)).kind_of b.value) ((goal.Recoverable-dyn g (b.vtable, b.value)).value_of b.value))) c.loop-number.invariant.plan (c.loop-number.invariant.goes cast b)
-    (subst (λ (o : Option Step). IfNone o ((step : Step) → can_make c.loop-number.self.world step ≡ false)) c.in_default.is c.in_ok-found.ensures.none)
+    in_order_rest c.laws_of_runs.ensures c.runs_of_worlds.ensures.enabled c.args.self.now.world.agenda.plan cast c.args.made.now.items c.loop-number.made.items c.args.generator.now c.loop-number.generator c.loop-number.self.world (told_and_held c.loop-number.self.journals c.loop-number.self.objects.items (λ b. content ((goal.Recoverable-dyn g (b.vtable, b.value)).kind_of b.value) ((goal.Recoverable-dyn g (b.vtable, b.value)).value_of b.value))) c.loop-number.invariant.plan (c.loop-number.invariant.goes cast b)
+    (subst (λ (o : Option Step). IfNone o ((step : Step) → can_make c.loop-number.self.world step ≡ false)) c.in_default.is c.step_in_order-found.ensures.none)
 
 pub unreachable-requires : goal.unreachable-requires
 unreachable-requires g c =
     let b = c.requires.begun in
     let goes = c.loop-number.invariant.goes b.0 b.1 in
-    let few = begins_few c.args.self.now.world.agenda.plan b.0 c.loop-number.made.items c.loop-number.self.world (told_and_held c.loop-number.self.journals c.loop-number.self.objects.items (λ b. content ((goal.Recoverable-dyn g (b.vtable, b.value)).kind_of b.value) ((goal.Recoverable-dyn g (b.vtable, b.value)).value_of b.value))) c.loop-number.invariant.plan goes.run in
+    let few = begins_few c.laws_of_runs.ensures c.args.self.now.world.agenda.plan b.0 c.loop-number.made.items c.loop-number.self.world (told_and_held c.loop-number.self.journals c.loop-number.self.objects.items (λ b. content ((goal.Recoverable-dyn g (b.vtable, b.value)).kind_of b.value) ((goal.Recoverable-dyn g (b.vtable, b.value)).value_of b.value))) c.loop-number.invariant.plan goes.run in
     let over = c.loop-number-test.false in
     let many = c.loop-number.invariant.many in
     omega (arith, few, over, many)

@@ -1,4 +1,4 @@
-use Rattle.std.proofs.Common.{◌∙◌, arith, length, refl, sym, ap, subst, Err}
+use Rattle.std.proofs.Common.{◌∙◌, arith, length, refl, sym, subst}
 use Rattle.std.specs.Prelude.{is_some}
 use Rattle.std.proofs.lemmas.Option.{slice_get_read}
 use Rattle.kt_held.specs.Holdings.{content}
@@ -14,7 +14,7 @@ returns-in-Ok-clause-leads g c =
     let helds = c.args.self.now.objects.items in
     let old = c.in-Some.held.now in
     let there = slice_get_read helds (length helds) c.index.result old refl (let n = c.in-Some.ensures.variant.0 refl in omega (arith, n)) c.in-Some.ensures.value in
-    held_to helds (λ b. content ((goal.Recoverable-dyn g (b.vtable, b.value)).kind_of b.value) ((goal.Recoverable-dyn g (b.vtable, b.value)).value_of b.value)) c.index.result old c.obey.new.self there c.args.self.now.world c.step_once.new.world c.args.self.now.journals c.step_once.new.journals
+    held_to c.laws_of_runs.ensures helds (λ b. content ((goal.Recoverable-dyn g (b.vtable, b.value)).kind_of b.value) ((goal.Recoverable-dyn g (b.vtable, b.value)).value_of b.value)) c.index.result old c.obey.new.self there c.args.self.now.world c.step_once.new.world c.args.self.now.journals c.step_once.new.journals
     c.args.step (c.index.ensures.value ∙ c.process_of-p.ensures) c.ask-answer.result.give c.step_once.new.acts c.in_ok-ready.ready.look c.in_ok-ready.ensures.look
     c.ask-answer.ensures.body c.in-Ok.ensures.does c.in-Ok.ensures.spares (subst (λ (x : Step). Tells c.args.self.now.world c.args.self.now.journals x c.ask-answer.result.give c.step_once.new.world c.step_once.new.journals c.step_once.new.acts) c.in_ok-ready.ensures.step c.in_ok-step_once.ensures.leads)
 
@@ -40,7 +40,7 @@ returns-in-Err-clause-object g c = λ cast first v shown spares due p e.
     let helds = c.args.self.now.objects.items in
     let old = c.in-Some.held.now in
     let there = slice_get_read helds (length helds) c.index.result old refl (let n = c.in-Some.ensures.variant.0 refl in omega (arith, n)) c.in-Some.ensures.value in
-    act_refused helds (λ b. content ((goal.Recoverable-dyn g (b.vtable, b.value)).kind_of b.value) ((goal.Recoverable-dyn g (b.vtable, b.value)).value_of b.value)) c.index.result old there c.args.self.now.world c.step_once.new.world c.args.self.now.journals c.step_once.new.journals
+    act_refused c.laws_of_runs.ensures helds (λ b. content ((goal.Recoverable-dyn g (b.vtable, b.value)).kind_of b.value) ((goal.Recoverable-dyn g (b.vtable, b.value)).value_of b.value)) c.index.result old there c.args.self.now.world c.step_once.new.world c.args.self.now.journals c.step_once.new.journals
     c.args.step (c.index.ensures.value ∙ c.process_of-p.ensures) c.ask-answer.result.give c.step_once.new.acts (subst (λ (x : Step). Tells c.args.self.now.world c.args.self.now.journals x c.ask-answer.result.give c.step_once.new.world c.step_once.new.journals c.step_once.new.acts) c.in_ok-ready.ensures.step c.in_ok-step_once.ensures.leads) first v shown cast spares due
     (λ b saved. (goal.Recoverable-dyn g (b.vtable, b.value)).may_reject b.value saved) (is_some c.ask-answer.result.saved) c.in-Err.fault c.process_of-p.result p c.ask-answer.ensures.able (sym c.index.ensures.value)
     (λ unfit. c.in-Err.ensures.unfit (rw unfit refl)) (λ form. c.in-Err.ensures.form (rw form refl)) (sym c.of_act.ensures ∙ e)

@@ -26,7 +26,7 @@ loop-step-preserved g c = record {
   done = let d = c.in_ok-make.ensures.done in let e = c.loop-step.invariant.done in omega (arith, d, e);
   per_process = c.in_ok-make.ensures.per_process;
   begun = λ cast due. subst (λ (l : List Step). BeginsRun c.args.self.now.world.agenda.plan cast l c.make.new.self.world (told_and_held c.make.new.self.journals c.make.new.self.objects.items (λ b. content ((goal.Recoverable-dyn g (b.vtable, b.value)).kind_of b.value) ((goal.Recoverable-dyn g (b.vtable, b.value)).value_of b.value)))) (sym (take_next c.args.steps.now c.loop-step.step-index c.step-item.result (search rules) c.step-item.is))
-      (begins_more c.args.self.now.world.agenda.plan cast (take c.loop-step.step-index c.args.steps.now) c.step-item.result c.loop-step.self.world c.make.new.self.world (told_and_held c.loop-step.self.journals c.loop-step.self.objects.items (λ b. content ((goal.Recoverable-dyn g (b.vtable, b.value)).kind_of b.value) ((goal.Recoverable-dyn g (b.vtable, b.value)).value_of b.value))) (told_and_held c.make.new.self.journals c.make.new.self.objects.items (λ b. content ((goal.Recoverable-dyn g (b.vtable, b.value)).kind_of b.value) ((goal.Recoverable-dyn g (b.vtable, b.value)).value_of b.value))) c.loop-step.invariant.plan (c.loop-step.invariant.begun cast due) c.in_ok-make.ensures.leads);
+      (begins_more c.laws_of_runs.ensures c.args.self.now.world.agenda.plan cast (take c.loop-step.step-index c.args.steps.now) c.step-item.result c.loop-step.self.world c.make.new.self.world (told_and_held c.loop-step.self.journals c.loop-step.self.objects.items (λ b. content ((goal.Recoverable-dyn g (b.vtable, b.value)).kind_of b.value) ((goal.Recoverable-dyn g (b.vtable, b.value)).value_of b.value))) (told_and_held c.make.new.self.journals c.make.new.self.objects.items (λ b. content ((goal.Recoverable-dyn g (b.vtable, b.value)).kind_of b.value) ((goal.Recoverable-dyn g (b.vtable, b.value)).value_of b.value))) c.loop-step.invariant.plan (c.loop-step.invariant.begun cast due) c.in_ok-make.ensures.leads);
 }
 
 if_err : {T E : Type 0} (r : Result T E) (P : E → Type 0) (e : E) → r ≡ Err e → P e → IfErr r P
