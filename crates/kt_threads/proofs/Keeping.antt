@@ -13,7 +13,8 @@ use Rattle.kt_threads.specs.Moves.{move_of}
 use Rattle.kt_threads.specs.Workers.{AreServed, AllServed}
 use Rattle.kt_threads.specs.declared.errands.Errand.{Errand}
 use Rattle.kt_threads.specs.declared.state.Made.{Made}
-use Rattle.kt_threads.proofs.Moving.{WorldLaws, run_of, served_of, nothing_tentative}
+use Rattle.kt_threads.specs.WorldLaws.{WorldLaws}
+use Rattle.kt_threads.proofs.Moving.{run_of, served_of, nothing_tentative}
 use Rattle.kt_threads.proofs.Serving.{GivesOf}
 
 at_each : (olds : List Belongings) (lists : List (List Errand)) (news : List Belongings) → AllServed olds lists news → (p : ℕ) (c : Belongings)

@@ -4,7 +4,7 @@ use Rattle.std.specs.List.{AllZip}
 use Rattle.std.specs.Prelude.{if◌then◌else◌}
 use Rattle.kt_core.specs.Agendas.{Agenda}
 use Rattle.kt_core.specs.Shown.{Mirrors}
-use Rattle.kt_core.specs.Worlds.{World, IsSameWorld, IsWorldAtRest}
+use Rattle.kt_core.specs.Worlds.{World}
 use Rattle.kt_held.specs.Holdings.{Content}
 use Rattle.kt_plan.specs.Limits.{Planned, IsPlan}
 use Rattle.kt_plan.specs.declared.steps.Told.{Told}
@@ -13,13 +13,9 @@ use Rattle.kt_plans.specs.Runs.{after_moves, RunReaches}
 use Rattle.kt_plans.specs.Steps.{enabled, progress_after, is_at_rest}
 use Rattle.kt_plans.specs.Told.{told_by}
 use Rattle.kt_plans.specs.Progress.{Progress, progress_at_start}
-use Rattle.kt_plans.proofs.NeededBodies.{offers_seen}
-use Rattle.kt_plans.proofs.PhasesOpen.{opening_is}
-use Rattle.kt_plans.proofs.WholeLogs.{no_tentative}
 use Rattle.kt_run.specs.Objects.{Belongings, rules_of, rules_by, first_of, HoldsDue}
 use Rattle.kt_run.specs.Runs.{IsRun}
 use Rattle.kt_run.specs.Telling.{numbered_rows_by, numbered_rows_told, AreToldTheirRows, IsToldAs}
-use Rattle.kt_seen.specs.Seen.{Seen}
 use Rattle.kt_values.specs.Done.{done}
 use Rattle.kt_values.specs.Values.{Rules, due}
 use Rattle.kt_spacetime.specs.declared.event.Event.{Event}
@@ -27,6 +23,7 @@ use Rattle.kt_threads.specs.Errands.{errands_of}
 use Rattle.kt_threads.specs.Histories as histories
 use Rattle.kt_threads.specs.Histories.{IsMade, StepsLead, IsHistory, made_by, told_to, AreTold}
 use Rattle.kt_threads.specs.Moves.{move_of}
+use Rattle.kt_threads.specs.WorldLaws.{WorldLaws}
 use Rattle.kt_threads.specs.Workers.{AreServed}
 use Rattle.kt_threads.specs.Telling.{AreToldAsInRun}
 use Rattle.kt_threads.proofs.Serving.{GivesOf, KeepsDue, gives_all, served_more}
@@ -43,11 +40,6 @@ record Goes (plan : Planned) (first : ℕ) (v : Progress) (steps : List Made) (n
   told : (p : ℕ) → AllZip IsToldAs (told_to p steps) (told_by plan v p (map move_of steps))
   served : (objects : List Content) (p : ℕ) → KeepsDue plan objects p v steps end
 
--- the law of worlds that lemmas rest on: whoever cites such a lemma calls `runs_of_worlds`
-pub record WorldLaws : Type 0 where
-  pub rest : (w : World) (first : ℕ) (v : Progress) → Mirrors w.agenda w.system first v → IsWorldAtRest w → is_at_rest w.agenda.plan v ≡ true
-  pub same : (old new : World) (first : ℕ) (v : Progress) → IsSameWorld new old → Mirrors old.agenda old.system first v → Mirrors new.agenda new.system first v
-
 -- where an enabled move leads, and others after it
 one_more : (on : Bool) (there : Option Progress) (end : Progress) → on ≡ true → there ≡ Some end → (if on then there else None) ≡ Some end
 one_more true there end e f = f
@@ -60,18 +52,17 @@ is_enabled plan old new made first v plans step r =
     subst (λ (p : Planned). enabled p v made.told.step ≡ true) plans (step.makes.runs first v r).enabled
 
 -- where the steps after the first one lead, all lead
-goes_first : (plan : Planned) (made : Made) (steps : List Made) (before after new : World) (first : ℕ) (v : Progress) → before.agenda.plan ≡ plan
+goes_first : WorldLaws → (plan : Planned) (made : Made) (steps : List Made) (before after new : World) (first : ℕ) (v : Progress) → before.agenda.plan ≡ plan
     → Mirrors before.agenda before.system first v → IsMade before made after
-    → Mirrors after.agenda after.system first (progress_after plan v made.told.step made.give)
     → Goes plan first (progress_after plan v made.told.step made.give) steps new → Goes plan first v (made ∷ steps) new
-goes_first plan made steps before after new first v plans r step next rest = record {
+goes_first laws plan made steps before after new first v plans r step rest = record {
   end = rest.end;
   plans = rest.plans;
   leads = one_more (enabled plan v made.told.step) _ rest.end on rest.leads;
   shown = rest.shown;
-  rows = λ p. rest.rows p ∙ rows_more plan made before after first v plans r step next on p steps;
-  told = λ p. told_more plan made before after first v plans r step next on p steps (rest.told p);
-  served = λ objects p. served_more plan made before after first v plans r step on objects p steps rest.end (rest.served objects p);
+  rows = λ p. rest.rows p ∙ rows_more laws plan made before after first v plans r step p steps;
+  told = λ p. told_more laws plan made before after first v plans r step p steps (rest.told p);
+  served = λ objects p. served_more laws plan made before after first v plans r step objects p steps rest.end (rest.served objects p);
 }
   where
     on : enabled plan v made.told.step ≡ true
@@ -101,7 +92,7 @@ goes_on laws plan (made ∷ steps) old new first v plans r leads =
     let kept : leads.0.agenda.plan ≡ plan = ap (λ (a : Agenda). a.plan) leads.2.agenda ∙ plans in
     let w = progress_after plan v made.told.step made.give in
     let next : Mirrors leads.1.agenda leads.1.system first w = run_after plan made leads.0 leads.1 first v kept here leads.3 in
-    goes_first plan made steps leads.0 leads.1 new first v kept here leads.3 next
+    goes_first laws plan made steps leads.0 leads.1 new first v kept here leads.3
     (goes_on laws plan steps leads.1 new first w (leads.3.keeps.plan ∙ kept) next leads.4)
 
 module _ (laws : WorldLaws) (plan : Planned) (steps : List Made) (rows : List Event) (lived : histories.IsWholeHistory plan steps rows) where
@@ -122,7 +113,7 @@ module _ (laws : WorldLaws) (plan : Planned) (steps : List Made) (rows : List Ev
   rows_are = lived.log ∙ goes.shown.now.log
 
   opens : start.now.log ≡ []
-  opens = ap (λ (v : Seen). v.log) (opening_is plan 0).now
+  opens = sym h.starts.now.log ∙ h.opening.rows
 
   their_rows : (p : ℕ) → numbered_rows_told (told_to p steps) ≡ numbered_rows_by p rows
   their_rows p =
@@ -161,11 +152,11 @@ module _ (laws : WorldLaws) (plan : Planned) (steps : List Made) (rows : List Ev
     rest = at_rest;
     log = rows_are;
     offers = subst (SendsWhatIsOffered (rules_by cast) plan) (sym rows_are)
-        (offers_seen (rules_by cast) plan 0 limits (map move_of steps) goes.end goes.leads
+        (laws.offers (rules_by cast) plan 0 (map move_of steps) goes.end limits goes.leads
         (gives_all (rules_by cast) plan (map move_of steps) start goes.end goes.leads gives));
   }
 
   pub nothing_tentative : (rules : Rules (List ℤ)) (p : ℕ) → (due rules (done rows) p).tentative ≡ None
   nothing_tentative rules p =
       subst (λ (l : List Event). (due rules (done l) p).tentative ≡ None) (sym rows_are)
-      (no_tentative rules plan 0 goes.end p limits reached at_rest)
+      (laws.rested rules plan 0 goes.end p limits reached at_rest)

@@ -1,5 +1,5 @@
 -- An object that rejects a saved state, and whose it is.
-use Rattle.std.proofs.Common.{◌≡◌, ◌≢◌, ◌⊎◌, ◌∙◌, inl, inr, ℕ, zero, suc, List, [], ◌∷◌, map, refl, sym, ap, subst, All, IfSome, Option, Some, None}
+use Rattle.std.proofs.Common.{arith, ◌≡◌, ◌≢◌, ◌⊎◌, ◌∙◌, inl, inr, ℕ, zero, suc, List, [], ◌∷◌, map, refl, sym, ap, subst, All, IfSome, Option, Some, None}
 use Rattle.std.specs.List.{AllZip, Any}
 use Rattle.std.specs.Prelude.{option_map, slice_get, slice_index_or, take}
 use Rattle.std.specs.declared.alloc.Global.{Global}
@@ -22,6 +22,15 @@ use Rattle.kt_threads.specs.Workers.{IsOfKind, HasOf, KeepsObjects, KeepsServing
 use Rattle.kt_threads.specs.declared.faults.LiveFault.{LiveFault}
 use Rattle.kt_threads.specs.declared.faults.LiveFault.TheVariants.{CastSize, CastKind, Object, Journal, Step, Spawn, Differ, Memory}
 use Rattle.kt_threads.specs.declared.worker.Worker.{Worker}
+
+-- of objects of which the first one is of a kind
+pub of_kind : {B : Type 0} (may_reject : B → List ℕ → Type 0) (k kind : ℕ) (objects : List B) → (objects ≢ [] → k ≡ kind) → MayReject may_reject k objects → MayReject may_reject kind objects
+of_kind may_reject k kind objects same x = record {
+  value = x.value;
+  saved = x.saved;
+  is = subst (λ (n : ℕ). IsSavedState n x.value x.saved) (same (λ e. let n = (subst (Any (λ b. may_reject b x.saved)) e x.rejected).2 in (omega (arith, n)))) x.is;
+  rejected = x.rejected;
+}
 
 -- contents of one kind stay so
 applied_kind : (kind from : ℕ) (body : _) (o : Option Content) → IfSome o (λ c. c.kind ≡ kind) → IfSome (option_map (applied from body) o) (λ c. c.kind ≡ kind)

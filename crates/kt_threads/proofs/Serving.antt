@@ -1,53 +1,28 @@
 -- A step that is served keeps what its process has what is due to it.
-use Rattle.std.proofs.Common.{length, ◌≡◌, ◌≢◌, ◌∙◌, ◌==◌, ◌<◌, arith, ℕ, ℤ, Bool, true, false, List, [], ◌∷◌, map, refl, sym, ap, subst, Option, Some, None, IfSome}
-use Rattle.std.specs.Prelude.{◌&&◌, nat_lt, is_some, option_map, if◌then◌else◌}
+use Rattle.std.proofs.Common.{length, ◌≡◌, ◌≢◌, ◌∙◌, ◌==◌, ◌<◌, arith, ℕ, ℤ, Bool, true, false, List, [], ◌∷◌, map, refl, sym, subst, Option, Some, None}
+use Rattle.std.specs.Prelude.{◌&&◌, nat_lt, if◌then◌else◌}
 use Rattle.std.proofs.lemmas.Bool.Decides.{nat_tests}
 use Rattle.kt_plan.specs.declared.steps.Step.{Step}
-use Rattle.kt_plan.specs.declared.steps.Look.TheVariants.{NeedsBody}
 use Rattle.kt_plan.specs.declared.steps.Give.{Give}
 use Rattle.kt_plan.specs.declared.steps.Step.TheVariants.{Do, Take}
 use Rattle.kt_core.specs.Shown.{Mirrors}
 use Rattle.kt_core.specs.Worlds.{World}
 use Rattle.kt_plans.specs.Steps.{process_of_step, enabled, progress_after}
-use Rattle.kt_held.specs.Holdings.{Content, content}
-use Rattle.kt_object.specs.Value.{offered}
-use Rattle.kt_plans.specs.Runs.{Move, RunReaches, after_moves}
-use Rattle.kt_plans.specs.Steps as run_steps
-use Rattle.kt_plan.specs.Limits.{Planned, IsPlan}
-use Rattle.kt_plan.specs.declared.steps.Look.{Look}
-use Rattle.kt_plan.specs.declared.steps.Look.TheVariants as look
-use Rattle.kt_plans.specs.Looks.{look}
+use Rattle.kt_held.specs.Holdings.{Content}
+use Rattle.kt_plans.specs.Runs.{Move, after_moves}
+use Rattle.kt_plan.specs.Limits.{Planned}
 use Rattle.kt_plans.specs.Offers.{GivesOffer, GivesOffers}
-use Rattle.kt_plans.specs.StepActs.{acts_of_step}
 use Rattle.kt_plans.specs.Progress.{Progress}
-use Rattle.kt_plans.proofs.ActsOfSteps.{object_seen}
-use Rattle.kt_plans.proofs.OffersSent.{up_seen}
 use Rattle.kt_run.specs.Objects.{Belongings, rules_of, first_of, HoldsDue}
-use Rattle.kt_run.proofs.Acting.{acts_along_step, others_along}
-use Rattle.kt_run.proofs.Holding.{holds_next, holds_still}
-use Rattle.kt_run.proofs.Numbering.{kept, left}
-use Rattle.kt_system.specs.ShownActs.{acts_shown}
-use Rattle.kt_values.specs.Done.{done}
-use Rattle.kt_values.specs.Values.{Rules, due}
+use Rattle.kt_values.specs.Values.{Rules}
 use Rattle.kt_threads.specs.Errands.{errands_of}
 use Rattle.kt_threads.specs.Histories.{IsMade, made_by}
 use Rattle.kt_threads.specs.Moves.{move_of}
 use Rattle.kt_threads.specs.Workers.{AreServed}
+use Rattle.kt_threads.specs.WorldLaws.{WorldLaws}
 use Rattle.kt_threads.specs.declared.state.Made.{Made}
 use Rattle.kt_threads.proofs.Asking.{IsMadeServed, first_served}
-use Rattle.kt_threads.proofs.Telling.{equal_of}
-
-needs_body : (l : Look) → l ≡ NeedsBody → l ≡ look.NeedsBody
-needs_body look.Idle e = absurd (cc (e))
-needs_body look.NeedsSave e = absurd (cc (e))
-needs_body look.NeedsBody e = refl
-needs_body look.Plain e = absurd (cc (e))
-
--- what an object that is there offers
-given_offer : (first : Content) (object : Option (List ℤ)) (present : Option Content) (body : ℤ) → is_some object ≡ true → present ≡ option_map (content first.kind) object
-    → IfSome present (λ c. body ≡ offered c.kind c.value) → option_map (offered first.kind) object ≡ Some body
-given_offer first None present body up is asked = absurd (cc (up))
-given_offer first (Some value) present body up is asked = ap Some (sym (subst (λ (o : Option Content). IfSome o (λ c. body ≡ offered c.kind c.value)) is asked))
+use Rattle.kt_threads.proofs.Telling.{equal_of, kept, left}
 
 -- at a process's own moves, what is given is what its object offers, if it is asked for
 abbrev pub GivesOf : Rules (List ℤ) → ℕ → Planned → Progress → List Move → Type 0
@@ -60,9 +35,8 @@ KeepsDue plan objects p v steps end = (b now : Belongings) → HoldsDue objects 
     → HoldsDue objects end.now.log p now × GivesOf (rules_of (first_of objects)) p plan v (map move_of steps)
 
 -- one step, from a world that a run led to
-module _ (plan : Planned) (made : Made) (before after : World) (first : ℕ) (v : Progress) (plans : before.agenda.plan ≡ plan)
-    (r : Mirrors before.agenda before.system first v) (step : IsMade before made after)
-    (on : enabled plan v made.told.step ≡ true) where
+module _ (laws : WorldLaws) (plan : Planned) (made : Made) (before after : World) (first : ℕ) (v : Progress) (plans : before.agenda.plan ≡ plan)
+    (r : Mirrors before.agenda before.system first v) (step : IsMade before made after) where
   abbrev x : Step
   x = made.told.step
 
@@ -72,37 +46,22 @@ module _ (plan : Planned) (made : Made) (before after : World) (first : ℕ) (v 
   abbrev w : Progress
   w = progress_after plan v x give
 
-  limits : IsPlan plan
-  limits = subst (λ (p : Planned). IsPlan p) plans r.limits
-
-  reached : RunReaches plan first v
-  reached = subst (λ (p : Planned). RunReaches p first v) plans r.reached
-
-  acts : acts_shown made.told.acts ≡ acts_of_step plan v x give (process_of_step x)
-  acts =
-      subst (λ (p : Planned). acts_shown made.told.acts ≡ acts_of_step p v x give (process_of_step made.told.step)) plans ((step.makes.runs first v r).asks)
-
-  looks : made.look ≡ look plan v x
-  looks = subst (λ (p : Planned). made.look ≡ look p v x) plans (step.look first v r)
-
   its : (objects : List Content) (b c : Belongings) → IsMadeServed b made c → HoldsDue objects v.now.log (process_of_step x) b
       → HoldsDue objects w.now.log (process_of_step x) c
   its objects b c s h =
-      holds_next objects (process_of_step x) made.told.acts v.now.log w.now.log b c
-      (acts_along_step plan first v x give limits reached on (rules_of (first_of objects)) (acts_shown made.told.acts) acts)
-      (record { does = s.does; spares = s.spares }) h
+      subst (λ (z : Planned). HoldsDue objects (progress_after z v x give).now.log (process_of_step x) c) plans
+      (laws.its before after x give made.told.acts first v objects b c step.makes r (record { does = s.does; spares = s.spares }) h)
 
   others : (objects : List Content) (p : ℕ) (b : Belongings) → p ≢ process_of_step x → HoldsDue objects v.now.log p b → HoldsDue objects w.now.log p b
   others objects p b n h =
-      holds_still objects p v.now.log w.now.log b
-      (others_along plan first v x give limits reached on (rules_of (first_of objects)) p n) h
+      subst (λ (z : Planned). HoldsDue objects (progress_after z v x give).now.log p b) plans
+      (laws.others before after x give made.told.acts first v objects p b step.makes r n h)
 
   gives : (objects : List Content) (b c : Belongings) → IsMadeServed b made c → HoldsDue objects v.now.log (process_of_step x) b
       → GivesOffer (λ (_ : ℕ). rules_of (first_of objects)) plan v x give
-  gives objects b c s h n =
-      given_offer (first_of objects) (due (rules_of (first_of objects)) (done v.now.log) (process_of_step x)).object b.present made.give.body
-      (object_seen (rules_of (first_of objects)) plan first v (process_of_step x) limits reached ∙ up_seen plan v x n)
-      h.holds.object (s.offers (needs_body made.look (looks ∙ n)))
+  gives objects b c s h =
+      subst (λ (z : Planned). GivesOffer (λ (_ : ℕ). rules_of (first_of objects)) z v x give) plans
+      (laws.gives before x give first v objects b r h (λ n. s.offers (step.look first v r ∙ n)))
 
   of_first : (p : ℕ) → (process_of_step made.told.step == p) ≡ true → p ≡ process_of_step x
   of_first p e = sym (equal_of (process_of_step made.told.step) p e)

@@ -1,10 +1,10 @@
 -- A worker's next step, and what workers come to.
-use Rattle.std.proofs.Common.{◌≡◌, ◌∙◌, ◌+◌, true, List, [], ◌∷◌, ◌++◌, drop, map, refl, sym, ap, subst, All, IfSome, ℕ, ℤ, suc, Option, Some, None}
+use Rattle.std.proofs.Common.{◌≡◌, ◌∙◌, ◌+◌, Bool, true, List, [], ◌∷◌, ◌++◌, drop, map, refl, sym, ap, subst, All, IfSome, ℕ, ℤ, suc, Option, Some, None}
 use Rattle.std.specs.List.{AllZip}
 use Rattle.std.specs.Prelude.{is_some, option_map, slice_get}
 use Rattle.std.specs.declared.alloc.Global.{Global}
 use Rattle.std.specs.declared.dyn_box.DynBox.{DynBox}
-use Rattle.std.proofs.lemmas.List.{drop-drop}
+use Rattle.std.proofs.lemmas.List.{drop-drop, drop-map}
 use Rattle.std.proofs.lemmas.List.Elements.{All-head, All-tail, All-cons, All-nil}
 use Rattle.kt_object.specs.Value.{offered}
 use Rattle.kt_held.specs.Fits.{spares_of_all}
@@ -13,8 +13,6 @@ use Rattle.kt_held.specs.declared.held.Held.{Held}
 use Rattle.kt_plan.specs.declared.steps.Act.{Act}
 use Rattle.kt_plan.specs.declared.steps.Look.TheVariants as look
 use Rattle.kt_run.specs.Objects.{Belongings, belongings_of, has_of, AreLeft}
-use Rattle.kt_run.proofs.Acting.{of_content}
-use Rattle.kt_run.proofs.Holding.{IsDone, done_by}
 use Rattle.kt_threads.specs.Errands.{errand_of}
 use Rattle.kt_threads.specs.Workers.{IsServed, AreServed, KeepsServing, AllServed}
 use Rattle.kt_threads.specs.declared.errands.Errand.{Errand}
@@ -27,11 +25,30 @@ use Rattle.kt_threads.proofs.Zips.{mapped}
 pub left_on : {A : Type 0} (all xs ys : List A) (n : ℕ) → ys ≡ drop n xs → AreLeft all xs → AreLeft all ys
 left_on all xs ys n is l = (l.0 + n, is ∙ (ap (λ (z : List _). drop n z) l.1 ∙ drop-drop n l.0 all))
 
+-- of what is given, and later on
+pub left_then : {A H R : Type 0} (spares : H → List A) (items : R → List A) (rows : List R) (gs hs : List H) → AllZip (λ row g. AreLeft (items row) (spares g)) rows gs
+    → AllZip (λ g h. AreLeft (spares g) (spares h)) gs hs → AllZip (λ row h. AreLeft (items row) (spares h)) rows hs
+left_then spares items [] [] [] a b = tt
+left_then spares items [] [] (h ∷ hs) a b = absurd b
+left_then spares items [] (g ∷ gs) hs a b = absurd a
+left_then spares items (row ∷ rows) [] hs a b = absurd a
+left_then spares items (row ∷ rows) (g ∷ gs) [] a b = absurd b
+left_then spares items (row ∷ rows) (g ∷ gs) (h ∷ hs) a b = (left_on (items row) (spares g) (spares h) b.0.0 b.0.1 a.0, left_then spares items rows gs hs a.1 b.1)
+
 -- what one more step asked
 served_next : (errands : List Errand) (errand : Errand) (first now new : Belongings) → IsServed now errand new → AreServed first errands now
     → AreServed first (errands ++ errand ∷ []) new
 served_next [] errand first now new step same = (new, subst (λ (b : Belongings). IsServed b errand new) same step, refl)
 served_next (d ∷ errands) errand first now new step s = (s.0, s.1, served_next errands errand s.0 now new step s.2)
+
+-- what is so of an object's content
+of_content : {A : Type 0} (g : A → Content) (o : Option A) (P : Content → Type 0) → IfSome o (λ b. P (g b)) → IfSome (option_map g o) P
+of_content g None P h = h
+of_content g (Some b) P h = h
+
+there_same : {A B : Type 0} (g : A → B) (o : Option A) → is_some o ≡ is_some (option_map g o)
+there_same g None = refl
+there_same g (Some b) = refl
 
 module _ {X : Type 0} {D : X → Type 0} (content_of : DynBox X Global D → Content) where
   pub offers_held : (offered_body : Option ℤ) (present : Option (DynBox X Global D))
@@ -54,12 +71,16 @@ module _ {X : Type 0} {D : X → Type 0} (content_of : DynBox X Global D → Con
       → y.spares.items ≡ drop (spares_of_all (is_some x.present) acts) x.spares.items
       → AreServed first errands (belongings_of content_of x) → AreServed first more (belongings_of content_of y)
   served_on first errands more errand acts x y is_more same offers does spares s =
-      let done : IsDone errand.acts (belongings_of content_of x) (belongings_of content_of y) =
-      subst (λ (a : List Act). IsDone a (belongings_of content_of x) (belongings_of content_of y)) same
-      (done_by content_of acts x.present y.present x.spares.items y.spares.items x.depot y.depot does spares) in
+      let served : IsServed (belongings_of content_of x) errand (belongings_of content_of y) = record {
+        does = subst (λ (a : List Act). (h : Holding) → Holds h (option_map content_of x.present) x.depot → Holds (does_all h a) (option_map content_of y.present) y.depot) same does;
+        spares = ap (map content_of) spares
+            ∙ (sym (drop-map content_of (spares_of_all (is_some x.present) acts) x.spares.items)
+            ∙ (ap (λ (up : Bool). drop (spares_of_all up acts) (map content_of x.spares.items)) (there_same content_of x.present)
+            ∙ ap (λ (a : List Act). drop (spares_of_all (is_some (option_map content_of x.present)) a) (map content_of x.spares.items)) same));
+        offers = offers_held errand.offered x.present offers;
+      } in
       subst (λ (l : List Errand). AreServed first l (belongings_of content_of y)) (sym is_more)
-      (served_next errands errand first (belongings_of content_of x) (belongings_of content_of y)
-      (record { does = done.does; spares = done.spares; offers = offers_held errand.offered x.present offers }) s)
+      (served_next errands errand first (belongings_of content_of x) (belongings_of content_of y) served s)
 
 -- one after the other
 pub keeps_then : {X : Type 0} {D : X → Type 0} (content_of : DynBox X Global D → Content) (may_reject : DynBox X Global D → List ℕ → Type 0) (a b c : Worker X D)

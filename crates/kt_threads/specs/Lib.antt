@@ -7,3 +7,4 @@ pub mod Noted
 pub mod Workers
 pub mod Telling
 pub mod Turns
+pub mod WorldLaws

@@ -63,12 +63,13 @@ impl Board {
             if !must_wait(minutes.state(), me) {
                 break;
             }
-            self.wake(&mut minutes, me);
             minutes.sleep(me);
+            self.wake(&mut minutes);
             minutes = news.wait(rt, minutes);
         }
         let next = go_on(&mut minutes, me);
-        self.wake(&mut minutes, me);
+        minutes.leave(me);
+        self.wake(&mut minutes);
         next
     }
 
@@ -90,11 +91,13 @@ impl Board {
         if minutes.state().fault().is_some() {
             return Next::End;
         }
+        minutes.arrive(me);
         if !minutes.state().is_next(me, &step, look) {
             return Next::Again;
         }
         let next = minutes.make(step, give);
-        self.wake(&mut minutes, me);
+        minutes.leave(me);
+        self.wake(&mut minutes);
         next
     }
 
@@ -105,14 +108,14 @@ impl Board {
         self.wake_all();
     }
 
-    /// Who leaves the lock wakes the next process that sleeps though it can make a step, unless one was woken and has not come
-    /// yet; and all of them where all is over.
-    fn wake(&self, minutes: &mut Minutes, me: ProcNo) {
+    /// Who leaves the lock wakes a process that sleeps though it can make a step, unless another thread is at the lock or on
+    /// its way there; and all of them where all is over.
+    fn wake(&self, minutes: &mut Minutes) {
         if minutes.state().is_over() {
             self.wake_all();
             return;
         }
-        let Some(p) = minutes.call_after(me) else {
+        let Some(p) = minutes.call() else {
             return;
         };
         if let Some(news) = self.news.get(p.index()) {

@@ -4,6 +4,7 @@
 mod board;
 mod errands;
 mod faults;
+mod laws;
 mod lists;
 mod minutes;
 mod outcome;

@@ -11,6 +11,7 @@ use crate::faults::LiveFault;
 use crate::lists::{ErrandLists, StepList, ToldLists};
 use crate::state::{Made, State};
 use kt_base::{Memory, ProcNo, ProcSet};
+use kt_core::Priority;
 use kt_plan::{Give, Step, Told};
 use std::alloc::Global;
 use std::marker::Model;
@@ -27,7 +28,7 @@ pub(crate) enum Keep {
 }
 
 /// A state; what each process's object was asked for; and what each process was told, or all steps, where somebody asks for
-/// them. Beside these, which processes' threads sleep, and the one that was called and has not come yet.
+/// them. Beside these, which processes' threads sleep, and which are at the lock, or were called and are on their way.
 #[derive(Drop)]
 pub(crate) struct Minutes {
     state: State,
@@ -35,7 +36,7 @@ pub(crate) struct Minutes {
     told: ToldLists,
     steps: StepList,
     asleep: ProcSet,
-    called: Option<ProcNo>,
+    coming: ProcSet,
 }
 
 impl Model for Minutes {
@@ -70,7 +71,7 @@ impl Minutes {
             told,
             steps: StepList::of(alloc, keep == Keep::Steps),
             asleep: ProcSet::empty(),
-            called: None,
+            coming: ProcSet::empty(),
         })
     }
 
@@ -114,51 +115,54 @@ impl Minutes {
         ensures { self.new ≡ self.old }
     {
         self.asleep = self.asleep.without(me);
-        if self.called == Some(me) {
-            self.called = None;
-        }
+        self.coming = self.coming.with(me);
+    }
+
+    /// A process's thread leaves the lock, to its object.
+    pub(crate) fn leave(&mut self, me: ProcNo)
+        ensures { self.new ≡ self.old }
+    {
+        self.coming = self.coming.without(me);
     }
 
     /// A process's thread goes to sleep.
     pub(crate) fn sleep(&mut self, me: ProcNo)
         ensures { self.new ≡ self.old }
     {
+        self.leave(me);
         self.asleep = self.asleep.with(me);
     }
 
-    /// Calls the next process after this one, in a round, that sleeps though it can make a step; none while the one that was
-    /// called before has not come.
-    pub(crate) fn call_after(&mut self, me: ProcNo) -> Option<ProcNo>
+    /// Calls a process that sleeps though it can make a step, if there is one; none while a thread is at the lock or on
+    /// its way there.
+    pub(crate) fn call(&mut self) -> Option<ProcNo>
         ensures { self.new ≡ self.old }
     {
-        if self.called.is_some() {
+        if self.coming.first().is_some() {
             return None;
         }
-        self.called = self.sleeper_after(me);
-        self.called
+        let p = self.best_sleeper()?;
+        self.arrive(p);
+        Some(p)
     }
 
-    /// The next process after this one, in a round, that sleeps though it can make a step.
-    fn sleeper_after(&self, me: ProcNo) -> Option<ProcNo> {
-        for ahead in 1..64u8 {
-            let p = self.sleeper(me.get().saturating_add(ahead) % 64);
-            if p.is_some() {
-                return p;
+    /// Of the processes that sleep though they can make a step, the one that steps best; of several the least.
+    fn best_sleeper(&self) -> Option<ProcNo> {
+        let mut later = Later {
+            down: None,
+            awaits: None,
+        };
+        let mut left = self.asleep;
+        for _number in 0..ProcNo::COUNT {
+            let Some(p) = left.first() else {
+                return later.first();
+            };
+            if can_step(&self.state, p) && !later.puts_off(p, self.state.priority(p)) {
+                return Some(p);
             }
+            left = left.without(p);
         }
-        None
-    }
-
-    /// The process of this number, if it sleeps though it can make a step.
-    fn sleeper(&self, number: u8) -> Option<ProcNo>
-        ensures { IfSome result (λ p. HasStep self.now.world p) }
-    {
-        let p = ProcNo::new(number)?;
-        if self.asleep.has(p) && can_step(&self.state, p) {
-            Some(p)
-        } else {
-            None
-        }
+        later.first()
     }
 
     /// Keeps the first fault.
@@ -204,6 +208,35 @@ fn note_made(
     told.note(process_of(&made.told.step), made.told)?;
     steps.note(made.told.step)?;
     Ok(())
+}
+
+/// The first processes found that step better later, by why.
+#[derive(Clone, Copy)]
+struct Later {
+    down: Option<ProcNo>,
+    awaits: Option<ProcNo>,
+}
+
+impl Later {
+    /// Whether a process of this priority steps later: it is kept then, if it is the first.
+    fn puts_off(&mut self, p: ProcNo, priority: Priority) -> bool {
+        match priority {
+            Priority::Now => false,
+            Priority::Down => {
+                self.down = self.down.or(Some(p));
+                true
+            }
+            Priority::Awaits => {
+                self.awaits = self.awaits.or(Some(p));
+                true
+            }
+        }
+    }
+
+    /// The one that steps first.
+    fn first(&self) -> Option<ProcNo> {
+        self.down.or(self.awaits)
+    }
 }
 
 /// Whether a process can make a step.

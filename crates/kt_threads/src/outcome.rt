@@ -1,7 +1,7 @@
 //! All processes, each in a thread of its own.
 
 ghost use Rattle.std.specs.List.{AllZip};
-ghost use Rattle.std.specs.Prelude.{◌≡◌, ◌⊎◌, [], ℕ, List, length, true, false, None, Some, All, map, option_map, slice_index, slice_index_or, OnOk, IfOk, IfErr, IsTrue, ◌↔◌};
+ghost use Rattle.std.specs.Prelude.{◌≡◌, ◌≢◌, ◌⊎◌, [], ℕ, List, length, true, false, None, Some, All, map, option_map, slice_index, slice_index_or, OnOk, IfOk, IfErr, IsTrue, ◌↔◌};
 ghost use Rattle.kt_core.specs.Worlds.{IsWorldAtRest};
 ghost use Rattle.kt_held.specs.Holdings.{Content, content};
 ghost use Rattle.kt_held.specs.Refusals.{IsLeastRefused};
@@ -20,6 +20,7 @@ ghost use Rattle.kt_threads.specs.Workers.{AllServed, KeepsServing};
 use crate::board::Board;
 use crate::errands::{Errand, are_all_same};
 use crate::faults::LiveFault;
+use crate::laws::laws_of_worlds;
 use crate::minutes::{Keep, Minutes};
 use crate::spawning::{SpawnFault, run_all};
 use crate::state::{Made, State};
@@ -41,6 +42,9 @@ pub(crate) fn first_objects(alloc: Global, plan: &Plan, cast: Cast) -> Result<Ve
     ensures fault { IfErr result (AnswersLive plan.now (map (λ row. map (λ b. kind_of b) row.items) cast.items)) }
     ensures object { IfErr result (λ fault. (p : ℕ) → fault ≡ LiveFault.Object p →
         IsLeastRefused (λ b. may_save b) (λ b. may_refuse b) (map (λ row. row.items) cast.items) p) }
+    ensures kinds { OnOk result ((p : ℕ) → slice_index_or (map (λ row. row.items) cast.items) p [] ≢ [] →
+        (first_of (slice_index_or (map (λ row. map (λ b. content (kind_of b) (value_of b)) row.items) cast.items) p [])).kind
+        ≡ slice_index plan.now.kinds p) }
     ensures given { IfOk result (λ objects. objects_held objects.items ≡ map (λ row. row.items) cast.items) }
     ensures due { IfOk result (λ objects. HoldDue
         (map (λ row. map (λ b. content (kind_of b) (value_of b)) row.items) cast.items) []
@@ -289,7 +293,7 @@ fn live_with<R: Threads + Wait + Sync>(
         MayReject (λ b saved. may_reject (b.vtable, b.value) saved) (first_of (slice_index_or cast p [])).kind
         (slice_index_or (objects_held objects.items) p [])) }
 {
-    kt_core::runs_of_worlds();
+    laws_of_worlds();
     let (log, _steps, _lists, told, objects, _listed) = work_out(
         rt,
         alloc,
@@ -386,7 +390,7 @@ pub fn live_log_of<R: Threads + Wait + Sync>(
         (slice_index_or (map (λ row. row.items) cast.items) p [])) }
 {
     kt_plans::certificates_of_promised_logs();
-    kt_core::runs_of_worlds();
+    laws_of_worlds();
     let objects = first_objects(alloc, plan, cast)?;
     let (log, _steps, _lists, _told, _objects, _listed) = work_out(
         rt,

@@ -11,6 +11,7 @@ ghost use Rattle.kt_run.specs.Rejections.{MayReject};
 ghost use Rattle.kt_threads.specs.Faults.{AnswersLive};
 
 use crate::faults::LiveFault;
+use crate::laws::laws_of_worlds;
 use crate::minutes::Keep;
 use crate::outcome::{first_objects, work_out};
 use kt_held::Cast;
@@ -53,7 +54,7 @@ pub fn live_recorded_run_of<R: Threads + Wait + Sync>(
         (slice_index_or (map (λ row. row.items) cast.items) p [])) }
 {
     kt_plans::certificates_of_promised_logs();
-    kt_core::runs_of_worlds();
+    laws_of_worlds();
     let objects = first_objects(alloc, plan, cast)?;
     let (log, _steps, _lists, _told, _objects, listed) = work_out(
         rt,

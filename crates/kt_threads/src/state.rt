@@ -10,7 +10,7 @@ ghost use Rattle.kt_threads.specs.Turns.{IsNext, IsOver};
 use crate::faults::LiveFault;
 use crate::plans::is_same_plan;
 use kt_base::{Memory, ProcNo};
-use kt_core::{StepFault, World};
+use kt_core::{Priority, StepFault, World};
 use kt_plan::{Give, Look, Plan, Step, Told};
 use kt_spacetime::SpaceTime;
 use std::alloc::Global;
@@ -130,6 +130,11 @@ impl State {
         ensures next { IsNext self.now.world p result }
     {
         self.world.next_step_of(p)
+    }
+
+    /// How well a process steps now, where others can step too.
+    pub(crate) fn priority(&self, p: ProcNo) -> Priority {
+        self.world.priority(p)
     }
 
     /// What a step needs of the process's object.

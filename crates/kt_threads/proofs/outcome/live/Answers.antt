@@ -1,10 +1,10 @@
-use Rattle.std.proofs.Common.{rules, ◌≡◌, [], inl, inr, map, refl, subst}
+use Rattle.std.proofs.Common.{rules, ◌≡◌, [], inl, inr, map, subst}
 use Rattle.std.specs.Prelude.{Result, Err, IfErr, slice_index_or}
 use Rattle.kt_held.specs.Holdings.{content}
 use Rattle.kt_run.specs.Objects.{first_of}
 use Rattle.kt_run.specs.Rejections.{MayReject}
-use Rattle.kt_run.proofs.Rejecting.{of_plan}
-use Rattle.kt_run.proofs.Spares.{left_then}
+use Rattle.kt_threads.proofs.Rejecting.{of_kind}
+use Rattle.kt_threads.proofs.Working.{left_then}
 use Rattle.kt_threads.proofs.outcome.live.Goals as goal
 
 pub returns-clause-settled : goal.returns-clause-settled
@@ -23,7 +23,7 @@ returns-in_err-objects-clause-object g c = if_err c.from_residual.result _ c.in_
 
 pub returns-in_err-outcome-clause-object : goal.returns-in_err-outcome-clause-object
 returns-in_err-outcome-clause-object g c = if_err c.from_residual-in_err-outcome.result _ c.in_err-outcome.field-0.0 (search rules)
-    (λ p e. inr (of_plan (λ row. row.items) (λ b. (goal.Recoverable-dyn g (b.vtable, b.value)).kind_of b.value) (λ b. content ((goal.Recoverable-dyn g (b.vtable, b.value)).kind_of b.value) ((goal.Recoverable-dyn g (b.vtable, b.value)).value_of b.value)) (λ b. refl) (λ b saved. (goal.Recoverable-dyn g (b.vtable, b.value)).may_reject b.value saved) c.args.plan.now c.args.cast.items p c.in_ok-objects.ensures.cast
+    (λ p e. inr (of_kind (λ b saved. (goal.Recoverable-dyn g (b.vtable, b.value)).may_reject b.value saved) _ _ (slice_index_or (map (λ row. row.items) c.args.cast.items) p []) (c.in_ok-objects.ensures.kinds p)
     (subst (λ objects. MayReject (λ b saved. (goal.Recoverable-dyn g (b.vtable, b.value)).may_reject b.value saved) (first_of (slice_index_or (map (λ row. map (λ b. content ((goal.Recoverable-dyn g (b.vtable, b.value)).kind_of b.value) ((goal.Recoverable-dyn g (b.vtable, b.value)).value_of b.value)) row.items) c.args.cast.items) p [])).kind (slice_index_or objects p []))
     c.in_ok-objects.ensures.given
     (c.in_err-outcome.ensures.object (map (λ row. map (λ b. content ((goal.Recoverable-dyn g (b.vtable, b.value)).kind_of b.value) ((goal.Recoverable-dyn g (b.vtable, b.value)).value_of b.value)) row.items) c.args.cast.items) c.in_ok-objects.ensures.due p e))))
