@@ -50,7 +50,7 @@ joined_words None = codes ", and nobody joined" ++ 10 ∷ []
 -- who would have had to join
 abbrev pub outsider_words : Option ℕ → List ℕ
 outsider_words None = []
-outsider_words (Some p) = codes "process " ++ decimal p ++ codes " did not join: the log commits the instance without it" ++ 10 ∷ []
+outsider_words (Some p) = codes "process " ++ decimal p ++ codes " did not join, and has to before the instance is committed: the log is at fault" ++ 10 ∷ []
 
 -- who sent an orphan, in which row
 abbrev pub sent_words : OneOrphan → List ℕ
@@ -89,9 +89,9 @@ abbrev pub demand_words : ℕ → Demand → List ℕ
 demand_words member demand.Message = codes "was never sent: a message has the number of the row that sends it" ++ 10 ∷ []
 demand_words member (demand.GoneElsewhere from to p) = gone_words member from to p
 demand_words member (demand.SentElsewhere from to p) = elsewhere_words member from to p
-demand_words member (demand.Received p) = codes "was not received by process " ++ (decimal p ++ (codes ", or that was undone: it links nobody" ++ 10 ∷ []))
-demand_words member (demand.Sent p) = codes "was not sent by process " ++ (decimal p ++ (codes ", or that was undone: it links nobody" ++ 10 ∷ []))
-demand_words member (demand.Past p) = codes "was sent by process " ++ (decimal p ++ (codes " before its checkpoint that was permanent at that time" ++ 10 ∷ []))
+demand_words member (demand.Received p) = codes "was not received by process " ++ (decimal p ++ (codes ", or a rollback undid that: it links nobody" ++ 10 ∷ []))
+demand_words member (demand.Sent p) = codes "was not sent by process " ++ (decimal p ++ (codes ", or a rollback undid that: it links nobody" ++ 10 ∷ []))
+demand_words member (demand.Past p) = codes "was sent by process " ++ (decimal p ++ (codes " before its last permanent checkpoint: it links nobody" ++ 10 ∷ []))
 demand_words member (demand.Within p) = codes "was received by process " ++ (decimal p ++ (codes ", and not before it took a checkpoint of the instance" ++ 10 ∷ []))
 
 -- the place of a chain of which the message leads nowhere
@@ -100,7 +100,7 @@ break_words member b = (codes "and message " ++ (decimal b.msg ++ (codes ", in p
 
 -- what is wrong with the list of a member
 abbrev pub flaw_words : ℕ → Flaw → List ℕ
-flaw_words member flaw.Initiator = codes "the initiator, and has a chain" ++ 10 ∷ []
+flaw_words member flaw.Initiator = codes "the initiator, and has a chain: the initiator has none" ++ 10 ∷ []
 flaw_words member flaw.Empty = codes "and has no chain: each member but the initiator has one" ++ 10 ∷ []
 flaw_words member (flaw.Elsewhere p) = codes "and its chain leads to process " ++ (decimal p ++ (codes ", and not to process " ++ (decimal member ++ 10 ∷ [])))
 flaw_words member (flaw.Broken b) = break_words member b
@@ -157,11 +157,11 @@ bad_row_words b =
 abbrev pub explanation_words : Explanation → List ℕ
 explanation_words Nothing = []
 explanation_words (Unknown inst difference) = codes "instance " ++ decimal inst ++ codes ": " ++ difference_words difference ++ 10 ∷ []
-explanation_words (Objection inst p row) = codes "instance " ++ (decimal inst ++ (codes " is committed, and process " ++ (decimal p ++ (codes " was unwilling to join it in row " ++ (decimal row ++ 10 ∷ [])))))
-explanation_words (NoObjection inst) = codes "instance " ++ (decimal inst ++ (codes " is aborted, and no process was unwilling to join it" ++ 10 ∷ []))
+explanation_words (Objection inst p row) = codes "instance " ++ (decimal inst ++ (codes " is committed, and process " ++ (decimal p ++ (codes " was unwilling to join it in row " ++ (decimal row ++ (codes ": the log is at fault" ++ 10 ∷ []))))))
+explanation_words (NoObjection inst) = codes "instance " ++ (decimal inst ++ (codes " is aborted, and no process was unwilling to join it: the log is at fault" ++ 10 ∷ []))
 explanation_words (OtherMember inst place listed joined) = place_words inst place ++ (listed_words listed ++ joined_words joined)
 explanation_words (BadChain inst chain) = codes "instance " ++ (decimal inst ++ (codes ": " ++ bad_chain_words chain))
-explanation_words (Uncertified inst row) = codes "row " ++ (decimal row ++ (codes " decides instance " ++ (decimal inst ++ (codes ", and no certificate is of it: koo_toueg certify makes it" ++ 10 ∷ []))))
+explanation_words (Uncertified inst row) = codes "row " ++ (decimal row ++ (codes " decides instance " ++ (decimal inst ++ (codes ", and there is no certificate of it: koo_toueg certify makes it" ++ 10 ∷ []))))
 explanation_words (Orphan inst orphan) = codes "instance " ++ (decimal inst ++ (codes ": " ++ orphan_words orphan))
 explanation_words (BadLog b) = bad_row_words b
 explanation_words (LeftOpen l) = left_open_words l

@@ -73,7 +73,10 @@ fn write_flaw<W: fmt::Write>(f: &mut fmt::Formatter<W>, member: ProcNo, flaw: Fl
     ensures { DisplaysOnOk W.write_str_gives f.old result (Some (flaw_words member flaw)) f.new }
 {
     match flaw {
-        Flaw::Initiator => write!(f, "the initiator, and has a chain\n"),
+        Flaw::Initiator => write!(
+            f,
+            "the initiator, and has a chain: the initiator has none\n"
+        ),
         Flaw::Empty => write!(
             f,
             "and has no chain: each member but the initiator has one\n"
@@ -119,18 +122,18 @@ fn write_demand<W: fmt::Write>(
         Demand::Received(p) => {
             write!(
                 f,
-                "was not received by process {p}, or that was undone: it links nobody\n"
+                "was not received by process {p}, or a rollback undid that: it links nobody\n"
             )
         }
         Demand::Sent(p) => {
             write!(
                 f,
-                "was not sent by process {p}, or that was undone: it links nobody\n"
+                "was not sent by process {p}, or a rollback undid that: it links nobody\n"
             )
         }
         Demand::Past(p) => write!(
             f,
-            "was sent by process {p} before its checkpoint that was permanent at that time\n"
+            "was sent by process {p} before its last permanent checkpoint: it links nobody\n"
         ),
         Demand::Within(p) => write!(
             f,

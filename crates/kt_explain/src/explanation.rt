@@ -77,13 +77,13 @@ impl fmt::Display for Explanation {
             Explanation::Objection { inst, p, row } => {
                 write!(
                     f,
-                    "instance {inst} is committed, and process {p} was unwilling to join it in row {row}\n"
+                    "instance {inst} is committed, and process {p} was unwilling to join it in row {row}: the log is at fault\n"
                 )
             }
             Explanation::NoObjection { inst } => {
                 write!(
                     f,
-                    "instance {inst} is aborted, and no process was unwilling to join it\n"
+                    "instance {inst} is aborted, and no process was unwilling to join it: the log is at fault\n"
                 )
             }
             Explanation::OtherMember {
@@ -102,7 +102,7 @@ impl fmt::Display for Explanation {
             Explanation::Uncertified { inst, row } => {
                 write!(
                     f,
-                    "row {row} decides instance {inst}, and no certificate is of it: koo_toueg certify makes it\n"
+                    "row {row} decides instance {inst}, and there is no certificate of it: koo_toueg certify makes it\n"
                 )
             }
         }
