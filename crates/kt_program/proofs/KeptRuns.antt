@@ -22,7 +22,6 @@ use Rattle.kt_run.specs.OneRun.{SavesAll}
 use Rattle.kt_run.specs.Orders.{IsOrderedRun, IsRunBy}
 use Rattle.kt_run.specs.Runs.{IsPlayed, IsRun}
 use Rattle.kt_run.specs.declared.orders.Order.{Order}
-use Rattle.kt_run.proofs.OneRun.{same_end}
 use Rattle.kt_scenario.specs.Steps.{AreSteps, most_steps}
 use Rattle.kt_scenario.specs.Written.{IsStepOf, steps_text}
 use Rattle.kt_program.specs.Recorded.{AreReadBack, IsKeptRun, IsPlayedAgain}
@@ -102,9 +101,9 @@ module _ (laws : RunLaws) (plan : Planned) (cast : List (List Content)) (limits 
         ∙ ap (λ (l : List Event). l ++ rows_along plan other.begun other.more) (sym (laws.log plan 0 other.given other.begun limits other.leads))) in
         let offers = offered_first cast plan other.begun.now.log (rows_along plan other.begun other.more)
         (subst (λ (l : List Event). SendsWhatIsOffered (rules_by cast) plan l) (other.run.log ∙ log) other.run.offers) in
-        let here : other.begun ≡ run.end = same_end (rules_by cast) plan 0 limits other.given moves start other.begun run.end (record { moves = []; leads = refl }) (other.begins ∙ sym made)
-        (other.leads, offers, saves_first plan other.given other.more start t)
-        (run.leads, subst (λ (l : List Event). SendsWhatIsOffered (rules_by cast) plan l) run.log run.offers, saves_first plan moves [] start s) in
+        let here : other.begun ≡ run.end = laws.ends plan cast other.given moves other.begun run.end limits other.leads run.leads (other.begins ∙ sym made)
+        offers (subst (λ (l : List Event). SendsWhatIsOffered (rules_by cast) plan l) run.log run.offers)
+        (saves_first plan other.given other.more start t) (saves_first plan moves [] start s) in
         let none = none_more other.begun other.more reached (subst (λ (w : Progress). is_at_rest plan w ≡ true) (sym here) run.rest) other.default in
         let end : other.begun ≡ other.run.end = ap (λ (o : Option Progress). unwrap_or o other.begun) (subst (λ (ms : List Move). after_moves plan other.begun ms ≡ Some other.run.end) none on) in
         other.run.log ∙ (ap (λ (w : Progress). w.now.log) (sym end ∙ here) ∙ sym run.log)

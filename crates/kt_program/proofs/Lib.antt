@@ -1,3 +1,4 @@
+pub mod RunFacts
 pub mod Apart
 pub mod Casting
 pub mod StoredLogs

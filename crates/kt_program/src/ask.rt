@@ -579,7 +579,7 @@ fn nothing_asked(alloc: Global) -> Result<Error, AllocError>
     let mut command = program_command(alloc)?;
     command.error(
         ErrorKind::MissingSubcommand,
-        "a command is missing, or a number is not spelled by its digits",
+        "a command is missing, or a number is written with a sign or a leading zero",
     )
 }
 

@@ -4,7 +4,8 @@ ghost use Rattle.std.specs.Prelude.{◌≡◌, ◌≢◌, ◌⊎◌, [], ℕ, If
 ghost use Rattle.kt_core.specs.declared.faults.StepFault.{StepFault};
 ghost use Rattle.kt_held.specs.Holdings.{content};
 ghost use Rattle.kt_held.specs.Refusals.{IsLeastRefused};
-ghost use Rattle.kt_plans.specs.Headline.{IsCertified};
+ghost use Rattle.kt_plans.specs.Follows.{FollowsPlan};
+ghost use Rattle.kt_plans.specs.Headline.{IsCertified, IsPromised};
 ghost use Rattle.kt_run.specs.Faults.{Answers};
 ghost use Rattle.kt_run.specs.Refused.{IsStepRefused, IsStopped};
 ghost use Rattle.kt_run.specs.Rejections.{MayReject};
@@ -17,13 +18,14 @@ ghost use Rattle.kt_threads.specs.declared.faults.LiveFault.TheVariants as live_
 ghost use Rattle.kt_program.specs.Played.{IsOfWriting, IsWritten, StopsAtFault, WritesRun, outputs};
 
 use crate::fault::AppFault;
-use kt_certify::certify;
+use crate::laws::no_message_is_lost;
+use kt_certify::certificates_of_run;
 use kt_chain::write_certs;
 use kt_held::Cast;
 use kt_log_text::write_csv;
 use kt_object::Recoverable;
 use kt_plan::{Plan, Step};
-use kt_report::report;
+use kt_report::report_of_run;
 use kt_run::log_of;
 use kt_spacetime::SpaceTime;
 use kt_threads::live_log_of;
@@ -139,7 +141,9 @@ fn write_run<L: Write, C: Write, R: Write>(
     cert_writer: &mut C,
     report_writer: &mut R,
 ) -> Result<(), AppFault>
-    requires { IsCertified log.now.rows }
+    requires promised { IsPromised log.now.rows }
+    requires certified { IsCertified log.now.rows }
+    requires follows { FollowsPlan plan.now log.now.rows }
     ensures written { OnOk result (WritesRun plan.now log.now.rows
         (outputs (L.contents log_writer.old) (C.contents cert_writer.old) (R.contents report_writer.old))
         (outputs (L.contents log_writer.new) (C.contents cert_writer.new) (R.contents report_writer.new))) }
@@ -148,9 +152,10 @@ fn write_run<L: Write, C: Write, R: Write>(
         (outputs (L.contents log_writer.new) (C.contents cert_writer.new) (R.contents report_writer.new))) }
     ensures writing { IfErr result IsOfWriting }
 {
+    no_message_is_lost();
     write_csv(alloc, log, log_writer)?;
-    let certificates = certify(alloc, log)?;
+    let certificates = certificates_of_run(alloc, log)?;
     write_certs(alloc, certificates.as_slice(), cert_writer)?;
-    report(alloc, plan, log, certificates.as_slice(), report_writer)?;
+    report_of_run(alloc, plan, log, certificates.as_slice(), report_writer)?;
     Ok(())
 }

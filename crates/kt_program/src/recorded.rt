@@ -25,15 +25,16 @@ ghost use Rattle.kt_program.specs.Recorded.{IsKeptRun, IsOfRecording, IsRecorded
 
 use crate::casts::cast_of;
 use crate::fault::AppFault;
+use crate::laws::no_message_is_lost;
 use crate::outputs::Output;
 use kt_base::Memory;
-use kt_certify::certify;
+use kt_certify::certificates_of_run;
 use kt_chain::write_certs;
 use kt_held::Cast;
 use kt_log_text::write_csv;
 use kt_object::{Last, Object, Recoverable, SlotBook, Sum, Tail};
 use kt_plan::{Plan, Step};
-use kt_report::report;
+use kt_report::report_of_run;
 use kt_run::{Order, RecordedRun, RunFault, recorded_run_of};
 use kt_scenario::write_steps;
 use kt_spacetime::SpaceTime;
@@ -141,6 +142,7 @@ fn recorded_cast(
     kt_plans::steps_of_runs();
     kt_plans::never_stuck();
     kt_plans::told_of_runs();
+    kt_run::one_run();
     kt_scenario::steps_are_read_back();
     recorded_run_of(alloc, plan, steps, order, cast)
 }
@@ -157,7 +159,9 @@ pub(crate) fn write_recorded<L: Write, C: Write, S: Write, R: Write>(
     steps_writer: &mut Output<S>,
     report_writer: &mut R,
 ) -> Result<(), AppFault>
-    requires { IsCertified log.now.rows }
+    requires promised { IsPromised log.now.rows }
+    requires certified { IsCertified log.now.rows }
+    requires follows { FollowsPlan plan.now log.now.rows }
     ensures written { OnOk result (WritesRun plan.now log.now.rows
         (outputs (L.contents log_writer.old) (C.contents cert_writer.old) (R.contents report_writer.old))
         (outputs (L.contents log_writer.new) (C.contents cert_writer.new) (R.contents report_writer.new))) }
@@ -171,11 +175,12 @@ pub(crate) fn write_recorded<L: Write, C: Write, S: Write, R: Write>(
         (contents_of S.contents steps_writer.new))) }
     ensures writing { IfErr result IsOfRecording }
 {
+    no_message_is_lost();
     write_csv(alloc, log, log_writer)?;
-    let certificates = certify(alloc, log)?;
+    let certificates = certificates_of_run(alloc, log)?;
     write_certs(alloc, certificates.as_slice(), cert_writer)?;
     write_made(alloc, plan, steps, steps_writer)?;
-    report(alloc, plan, log, certificates.as_slice(), report_writer)?;
+    report_of_run(alloc, plan, log, certificates.as_slice(), report_writer)?;
     Ok(())
 }
 

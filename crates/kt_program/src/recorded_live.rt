@@ -114,6 +114,7 @@ fn recorded_live_cast<T: Threads + Wait + Sync>(
     kt_plans::steps_of_runs();
     kt_plans::never_stuck();
     kt_plans::told_of_runs();
+    kt_run::one_run();
     kt_scenario::steps_are_read_back();
     live_recorded_run_of(rt, alloc, plan, cast)
 }

@@ -1,5 +1,3 @@
-use Rattle.std.proofs.Common.{map, subst, sym}
-use Rattle.kt_held.specs.Holdings.{content}
 use Rattle.kt_program.proofs.Casting.{are_new}
 use Rattle.kt_program.proofs.HinderedFacts.{if_some_so}
 use Rattle.kt_program.proofs.hindered.hindered_cast.Goals as goal

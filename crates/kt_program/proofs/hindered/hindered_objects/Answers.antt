@@ -1,4 +1,4 @@
-use Rattle.std.proofs.Common.{rules, All, ℕ, ◌∙◌, ap, sym}
+use Rattle.std.proofs.Common.{rules, All, ◌∙◌, ap, sym}
 use Rattle.kt_object.specs.Value.{opening_value}
 use Rattle.kt_plan.specs.Limits.{IsKindOfObject}
 use Rattle.kt_program.proofs.Casting.{sizes_of_cast, kinds_of_cast, made_of_cast}
