@@ -13,6 +13,7 @@ use Rattle.kt_system.specs.Reads.{can_take}
 use Rattle.kt_core.specs.Choices.{takes_of, steps_of, steps_of_first, all_steps, choices, enabled_steps}
 use Rattle.kt_core.specs.Shown.{Mirrors}
 use Rattle.kt_system.specs.Systems.{state_of}
+use Rattle.kt_core.specs.PlanLaws.{PlanLaws}
 use Rattle.kt_core.specs.Agendas.{open_command}
 use Rattle.kt_core.specs.Worlds.{World, process_may_do, can_do, can_make}
 use Rattle.kt_core.proofs.Enabled.{below, enabled_is}
@@ -185,7 +186,7 @@ pub all_listed : (w : World) (x : Step) → (can_make w x ≡ true) ↔ Contains
 all_listed w x = (listed w x, All-contains (λ (y : Step). can_make w y ≡ true) (choices w) x (filter_passes (can_make w) (all_steps w.system.size)))
 
 -- as each run has them that leads here
-pub listed_in_run : (w : World) (first : ℕ) (v : Progress) → Mirrors w.agenda w.system first v → choices w ≡ enabled_steps w.agenda.plan v
-listed_in_run w first v r =
-    filter_agree (can_make w) (enabled w.agenda.plan v) (enabled_is w first v r) (all_steps w.system.size)
+pub listed_in_run : PlanLaws → (w : World) (first : ℕ) (v : Progress) → Mirrors w.agenda w.system first v → choices w ≡ enabled_steps w.agenda.plan v
+listed_in_run laws w first v r =
+    filter_agree (can_make w) (enabled w.agenda.plan v) (enabled_is laws w first v r) (all_steps w.system.size)
     ∙ ap (λ (n : ℕ). filter (enabled w.agenda.plan v) (all_steps n)) r.size

@@ -37,8 +37,8 @@ own_left k p (d ∷ l) c e = go (λ j. own_left j p l c) k (d.by == p) refl e
     go r (suc k) true i f = r k f
     go r k false i f = r k f
 
-own_is : (a : Agenda) (v : run_world.Progress) (p : ℕ) (c : Command) → HasPlaces a v → p < 64 → agenda_command a p ≡ Some c → c.by ≡ p
-own_is a v p c h low e = own_left (v.done p) p a.plan.commands c (next_shown a v p c h low e)
+own_is : PlanLaws → (a : Agenda) (v : run_world.Progress) (p : ℕ) (c : Command) → HasPlaces a v → p < 64 → agenda_command a p ≡ Some c → c.by ≡ p
+own_is laws a v p c h low e = own_left (v.done p) p a.plan.commands c (next_shown laws a v p c h low e)
 
 both : (a b : Bool) → (a && b) ≡ true → (a ≡ true) × (b ≡ true)
 both true true e = (refl, refl)
@@ -69,14 +69,14 @@ module _ (laws : PlanLaws) (w : World) (first : ℕ) (v : run_world.Progress) (r
   limits = r.limits
 
   on_here : (x : Step) → enabled plan v x ≡ true → can_make w x ≡ true
-  on_here x e = enabled_is w first v r x ∙ e
+  on_here x e = enabled_is laws w first v r x ∙ e
 
   on_there : (x : Step) → can_make w x ≡ true → enabled plan v x ≡ true
-  on_there x e = sym (enabled_is w first v r x) ∙ e
+  on_there x e = sym (enabled_is laws w first v r x) ∙ e
 
   nothing_there : ((x : Step) → can_make w x ≡ false) → (x : Step) → enabled plan v x ≡ false
-  nothing_there n (Do p) = sym (enabled_is w first v r (Do p)) ∙ n (Do p)
-  nothing_there n (Take p q) = sym (enabled_is w first v r (Take p q)) ∙ n (Take p q)
+  nothing_there n (Do p) = sym (enabled_is laws w first v r (Do p)) ∙ n (Do p)
+  nothing_there n (Take p q) = sym (enabled_is laws w first v r (Take p q)) ∙ n (Take p q)
 
   take_first : (at from : ℕ) → IsNextTake w.system at from → (y : Step) → enabled plan v y ≡ true → (Take at from ≡ y) ⊎ (comes_before plan v (Take at from) y ≡ true)
   take_first at from n (Do u) e = inr refl
@@ -94,7 +94,7 @@ module _ (laws : PlanLaws) (w : World) (first : ℕ) (v : run_world.Progress) (r
   command_there p l e =
       let s = some_if (state_of w.system p) (open_command w.agenda p) e in
       let n = open_is_next w.agenda p s.0 s.1 in
-      (s.0, n, own_is w.agenda v p s.0 r.places (few w first v r p l) n)
+      (s.0, n, own_is laws w.agenda v p s.0 r.places (few w first v r p l) n)
 
   same_place : (p q : ℕ) → p < w.system.size → q < w.system.size → can_do w p ≡ true → can_do w q ≡ true → agenda_place w.agenda p ≡ agenda_place w.agenda q → p ≡ q
   same_place p q l k e f same =
@@ -122,14 +122,14 @@ module _ (laws : PlanLaws) (w : World) (first : ℕ) (v : run_world.Progress) (r
   default_is (Some (Take at from)) a b n = sym (laws.only plan first v (Take at from) limits r.reached (on_there (Take at from) b) (take_first at from a))
 
   has_none : (p : ℕ) → p < 64 → agenda_command w.agenda p ≡ None → is_some (slice_get (run_world.commands_left plan v p) 0) ≡ false
-  has_none p low e = at_left (run_world.commands_left plan v p) (sym (next_is w.agenda v p r.places low) ∙ e)
+  has_none p low e = at_left (run_world.commands_left plan v p) (sym (next_is laws w.agenda v p r.places low) ∙ e)
     where
       at_left : (l : List Command) → slice_get l 0 ≡ None → is_some (slice_get l 0) ≡ false
       at_left [] f = refl
       at_left (c ∷ cs) f = absurd (cc (f))
 
   none_next : (p : ℕ) → p < 64 → is_some (slice_get (run_world.commands_left plan v p) 0) ≡ false → agenda_command w.agenda p ≡ None
-  none_next p low e = at_next (agenda_command w.agenda p) (next_is w.agenda v p r.places low) (at_left (run_world.commands_left plan v p) e)
+  none_next p low e = at_next (agenda_command w.agenda p) (next_is laws w.agenda v p r.places low) (at_left (run_world.commands_left plan v p) e)
     where
       at_left : (l : List Command) → is_some (slice_get l 0) ≡ false → slice_get l 0 ≡ None
       at_left [] f = refl
@@ -140,7 +140,7 @@ module _ (laws : PlanLaws) (w : World) (first : ℕ) (v : run_world.Progress) (r
       at_next (Some c) f g = absurd (let z = f ∙ g in cc (z))
 
   is_there : (p : ℕ) (c : Command) → p < 64 → agenda_command w.agenda p ≡ Some c → p < w.system.size
-  is_there p c low e = let t = laws.there plan first v p c limits r.reached (next_shown w.agenda v p c r.places low e) in let z = r.size in omega (arith, t, z)
+  is_there p c low e = let t = laws.there plan first v p c limits r.reached (next_shown laws w.agenda v p c r.places low e) in let z = r.size in omega (arith, t, z)
 
   rests : IsWorldAtRest w → is_at_rest plan v ≡ true
   rests h = rw (

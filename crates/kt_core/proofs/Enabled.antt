@@ -12,13 +12,13 @@ use Rattle.kt_system.specs.Systems.{state_of}
 use Rattle.kt_system.specs.Reads.{can_take}
 use Rattle.kt_plans.specs.Steps as run_steps
 use Rattle.kt_plans.specs.Progress.{Progress}
-use Rattle.kt_plans.proofs.OpenPhase.{ahead_seen}
+use Rattle.kt_core.specs.PlanLaws.{PlanLaws}
 use Rattle.kt_core.specs.Agendas.{agenda_command, if_open, open_command}
 use Rattle.kt_core.specs.Worlds.{World, is_send, process_may_do, can_do, can_make, step_refusal, is_full, lacks_label}
 use Rattle.kt_core.specs.declared.faults.StepFault.TheVariants.{NotEnabled, LogFull, LabelsSpent}
 use Rattle.kt_core.specs.Shown.{Mirrors}
 use Rattle.kt_core.proofs.Places.{next_is, next_shown}
-use Rattle.kt_core.proofs.Quiet.{AreNumbered, closed_is, can_take_is}
+use Rattle.kt_core.proofs.Quiet.{closed_is, can_take_is}
 
 and_same : (a b c d : Bool) → a ≡ c → (a ≡ true → b ≡ d) → (a && b) ≡ (c && d)
 and_same true b true d e f = f refl
@@ -46,17 +46,12 @@ phase_test c a v e h = go (nat_le c a) refl
     go false f = (let k : (c == v) ≡ false = grind (arith, nat_tests, e, h, f) in k)
 
 module _ (w : World) (first : ℕ) (v : Progress) (r : Mirrors w.agenda w.system first v) where
-  size : w.system.size ≡ length w.agenda.plan.names
-  size = r.size
-
-  num : AreNumbered w.system
-  num = r.numbered
-
   pub few : (p : ℕ) → p < w.system.size → p < 64
-  few p l = let f = r.limits.names.few in omega (arith, l, size, f)
+  few p l = let s = r.size in let f = r.limits.names.few in omega (arith, l, s, f)
 
+module _ (laws : PlanLaws) (w : World) (first : ℕ) (v : Progress) (r : Mirrors w.agenda w.system first v) where
   may_do_job : (p : ℕ) → p < w.system.size → (j : Job) → (not (is_send j) || is_none (inst_of (state_of w.system p).side)) ≡ run_steps.may_do_job ((v.now.states p).inst == 0) j
-  may_do_job p l (Send to body) = closed_is (state_of w.system p) (v.now.states p) (r.now.states p l) (num p l)
+  may_do_job p l (Send to body) = closed_is (state_of w.system p) (v.now.states p) (r.now.states p l) (r.numbered p l)
   may_do_job p l Checkpoint = refl
   may_do_job p l Rollback = refl
   may_do_job p l Fail = refl
@@ -64,24 +59,24 @@ module _ (w : World) (first : ℕ) (v : Progress) (r : Mirrors w.agenda w.system
   may_do_is : (p : ℕ) → p < w.system.size → (o : Option Command) → agenda_command w.agenda p ≡ o → process_may_do (state_of w.system p) (if_open w.agenda.phase o) ≡ run_steps.may_do v p o
   may_do_is p l None e = refl
   may_do_is p l (Some c) e =
-      let ahead = ahead_seen w.agenda.plan first v p c r.limits r.reached (next_shown w.agenda v p c r.places (few p l) e) in
-      go (nat_le c.phase w.agenda.phase) (phase_test c.phase w.agenda.phase v.phase (r.phase p c (few p l) e) ahead)
+      let ahead = laws.ahead w.agenda.plan first v p c r.limits r.reached (next_shown laws w.agenda v p c r.places (few w first v r p l) e) in
+      go (nat_le c.phase w.agenda.phase) (phase_test c.phase w.agenda.phase v.phase (r.phase p c (few w first v r p l) e) ahead)
     where
       go : (b : Bool) → (c.phase == v.phase) ≡ b → process_may_do (state_of w.system p) (if b then Some c else None) ≡ ((c.phase == v.phase) && run_steps.may_do_job ((v.now.states p).inst == 0) c.job)
       go true f = rw f (may_do_job p l c.job)
       go false f = rw f refl
 
   pub enabled_is : (x : Step) → can_make w x ≡ run_steps.enabled w.agenda.plan v x
-  enabled_is (Do p) = and_same (nat_lt p w.system.size) (can_do w p) (nat_lt p (length w.agenda.plan.names)) _ (ap (λ (n : ℕ). nat_lt p n) size)
-      (λ e. let l = below p w.system.size e in may_do_is p l (agenda_command w.agenda p) refl ∙ ap (λ (o : Option Command). run_steps.may_do v p o) (next_is w.agenda v p r.places (few p l)))
+  enabled_is (Do p) = and_same (nat_lt p w.system.size) (can_do w p) (nat_lt p (length w.agenda.plan.names)) _ (ap (λ (n : ℕ). nat_lt p n) r.size)
+      (λ e. let l = below p w.system.size e in may_do_is p l (agenda_command w.agenda p) refl ∙ ap (λ (o : Option Command). run_steps.may_do v p o) (next_is laws w.agenda v p r.places (few w first v r p l)))
   enabled_is (Take p q) = and_both (nat_lt p w.system.size) (nat_lt q w.system.size) (can_take w.system p q) (nat_lt p (length w.agenda.plan.names)) (nat_lt q (length w.agenda.plan.names)) (run_steps.can_take_from v.now p q)
-      (ap (λ (n : ℕ). nat_lt p n) size) (ap (λ (n : ℕ). nat_lt q n) size) (λ e f. can_take_is w.system v.now p q r.now num (below p w.system.size e))
+      (ap (λ (n : ℕ). nat_lt p n) r.size) (ap (λ (n : ℕ). nat_lt q n) r.size) (λ e f. can_take_is w.system v.now p q r.now r.numbered (below p w.system.size e))
 
 -- a step that can be made is one of each run that leads to the world
-pub IfSome-enabled_in_run : (w : World) (first : ℕ) (v : Progress) → Mirrors w.agenda w.system first v → (found : Option Step) → IfSome found (λ x. can_make w x ≡ true)
+pub IfSome-enabled_in_run : PlanLaws → (w : World) (first : ℕ) (v : Progress) → Mirrors w.agenda w.system first v → (found : Option Step) → IfSome found (λ x. can_make w x ≡ true)
     → IfSome found (λ x. run_steps.enabled w.agenda.plan v x ≡ true)
-IfSome-enabled_in_run w first v r None h = tt
-IfSome-enabled_in_run w first v r (Some x) h = sym (enabled_is w first v r x) ∙ h
+IfSome-enabled_in_run laws w first v r None h = tt
+IfSome-enabled_in_run laws w first v r (Some x) h = sym (enabled_is laws w first v r x) ∙ h
 
 -- what is refused for nothing but want of memory is enabled
 pub enabled_if : (w : World) (x : Step) → step_refusal w x ≡ None → can_make w x ≡ true

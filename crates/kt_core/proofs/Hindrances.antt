@@ -57,7 +57,7 @@ module _ (laws : PlanLaws) (w : World) (first : ℕ) (v : Progress) (r : Mirrors
   -- no command is left
   none_left : (p : ℕ) (o : Option Command) → next_command w.agenda.plan v p ≡ o → agenda_command w.agenda p ≡ None → o ≡ None
   none_left p None e none = refl
-  none_left p (Some c) e none = absurd (let f = sym none ∙ (next_is w.agenda v p r.places (low p (there p c e)) ∙ e) in cc (f))
+  none_left p (Some c) e none = absurd (let f = sym none ∙ (next_is laws w.agenda v p r.places (low p (there p c e)) ∙ e) in cc (f))
 
   no_command : (p : ℕ) → agenda_command w.agenda p ≡ None → hindrance w.agenda.plan v (Do p) ≡ Some NoCommand
   no_command p none = (laws.no_command w.agenda.plan first v p r.limits r.reached).1 (none_left p (next_command w.agenda.plan v p) refl none)
@@ -65,24 +65,24 @@ module _ (laws : PlanLaws) (w : World) (first : ℕ) (v : Progress) (r : Mirrors
   -- there is one, whose phase is open or not
   phase_is : (p : ℕ) (c : Command) → p < length w.agenda.plan.names → agenda_command w.agenda p ≡ Some c → (c.phase == v.phase) ≡ nat_le c.phase w.agenda.phase
   phase_is p c l e = phase_test c.phase w.agenda.phase v.phase (r.phase p c (low p l) e)
-      (laws.ahead w.agenda.plan first v p c r.limits r.reached (next_shown w.agenda v p c r.places (low p l) e))
+      (laws.ahead w.agenda.plan first v p c r.limits r.reached (next_shown laws w.agenda v p c r.places (low p l) e))
 
   is_opened : (p : ℕ) (c : Command) → p < length w.agenda.plan.names → agenda_command w.agenda p ≡ Some c → is_none (open_command w.agenda p) ≡ not (c.phase == v.phase)
   is_opened p c l e = ap (λ (o : Option Command). is_none (if_open w.agenda.phase o)) e ∙ (opened (nat_le c.phase w.agenda.phase) c ∙ sym (ap not (phase_is p c l e)))
 
   of_its_next : (p : ℕ) (c : Command) → p < length w.agenda.plan.names → agenda_command w.agenda p ≡ Some c → hindrance w.agenda.plan v (Do p)
       ≡ (if not (c.phase == v.phase) then Some PhaseNotOpen else if may_do_job ((v.now.states p).inst == 0) c.job then None else Some SendInInstance)
-  of_its_next p c l e = of_next v p (length w.agenda.plan.names) (next_command w.agenda.plan v p) c (is_below p (length w.agenda.plan.names) l) (next_shown w.agenda v p c r.places (low p l) e)
+  of_its_next p c l e = of_next v p (length w.agenda.plan.names) (next_command w.agenda.plan v p) c (is_below p (length w.agenda.plan.names) l) (next_shown laws w.agenda v p c r.places (low p l) e)
 
   phase_not_open : (p : ℕ) (c : Command) → p < length w.agenda.plan.names → agenda_command w.agenda p ≡ Some c → is_none (open_command w.agenda p) ≡ true → hindrance w.agenda.plan v (Do p) ≡ Some PhaseNotOpen
   phase_not_open p c l e shut = of_its_next p c l e ∙ not_opened (c.phase == v.phase) (may_do_job ((v.now.states p).inst == 0) c.job) (flip (c.phase == v.phase) false (sym (is_opened p c l e) ∙ shut))
 
   send_in_instance : (p : ℕ) (c : Command) → p < length w.agenda.plan.names → agenda_command w.agenda p ≡ Some c → is_none (open_command w.agenda p) ≡ false → can_make w (Do p) ≡ false → hindrance w.agenda.plan v (Do p) ≡ Some SendInInstance
   send_in_instance p c l e open_one off =
-      let next = next_shown w.agenda v p c r.places (low p l) e in
+      let next = next_shown laws w.agenda v p c r.places (low p l) e in
       of_its_next p c l e ∙ has_to_wait (nat_lt p (length w.agenda.plan.names)) (c.phase == v.phase) (may_do_job ((v.now.states p).inst == 0) c.job)
       (is_below p (length w.agenda.plan.names) l) (flip (c.phase == v.phase) true (sym (is_opened p c l e) ∙ open_one))
-      (subst (λ (o : Option Command). (nat_lt p (length w.agenda.plan.names) && may_do v p o) ≡ false) next (sym (enabled_is w first v r (Do p)) ∙ off))
+      (subst (λ (o : Option Command). (nat_lt p (length w.agenda.plan.names) && may_do v p o) ≡ false) next (sym (enabled_is laws w first v r (Do p)) ∙ off))
 
   -- the same of a command that was read
   is_there : (p n : ℕ) (c : Command) → n ≡ length w.agenda.plan.names → IsCommandOf n c → c.by ≡ p → p < length w.agenda.plan.names
@@ -104,10 +104,10 @@ module _ (laws : PlanLaws) (w : World) (first : ℕ) (v : Progress) (r : Mirrors
 
   -- a step that can be made
   pub nothing : (x : Step) → can_make w x ≡ true → hindrance w.agenda.plan v x ≡ None
-  nothing x on = (laws.nothing w.agenda.plan v x).1 (sym (enabled_is w first v r x) ∙ on)
+  nothing x on = (laws.nothing w.agenda.plan v x).1 (sym (enabled_is laws w first v r x) ∙ on)
 
   pub no_parcel : (x : Step) {p q : ℕ} → x ≡ Take p q → can_make w x ≡ false → hindrance w.agenda.plan v x ≡ Some NoParcel
-  no_parcel x {p = p} {q = q} is off = subst (λ (y : Step). hindrance w.agenda.plan v y ≡ Some NoParcel) (sym is) (off_take (enabled w.agenda.plan v (Take p q)) (sym (enabled_is w first v r (Take p q)) ∙ (ap (can_make w) (sym is) ∙ off)))
+  no_parcel x {p = p} {q = q} is off = subst (λ (y : Step). hindrance w.agenda.plan v y ≡ Some NoParcel) (sym is) (off_take (enabled w.agenda.plan v (Take p q)) (sym (enabled_is laws w first v r (Take p q)) ∙ (ap (can_make w) (sym is) ∙ off)))
     where
       off_take : (b : Bool) → b ≡ false → (if b then None else Some NoParcel) ≡ Some NoParcel
       off_take true e = absurd (cc (e))

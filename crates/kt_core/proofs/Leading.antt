@@ -52,11 +52,11 @@ same_agenda m plan next k e f g = λ i. record { plan = e i; next = f i; phase =
 least_is : PlanLaws → (b : Agenda) (first : ℕ) (w : run_world.Progress) (p : ℕ) (c : Command) → IsPlan b.plan → RunReaches b.plan first w → HasPlaces b w →
     run_world.is_quiet (length b.plan.names) w.now ≡ true → p < 64 → agenda_command b p ≡ Some c → IsLeastPhase b w.phase
 least_is laws b first w p c i r h quiet low e = record {
-  least = λ q d under f. laws.ahead plan first w q d limits r (next_shown b w q d h under f);
+  least = λ q d under f. laws.ahead plan first w q d limits r (next_shown laws b w q d h under f);
   process = found.0;
   command = found.1;
   there = under;
-  is = next_is b w found.0 h under ∙ found.3;
+  is = next_is laws b w found.0 h under ∙ found.3;
   attained = found.4;
 }
   where
@@ -67,7 +67,7 @@ least_is laws b first w p c i r h quiet low e = record {
     limits = i
 
     found : (q : ℕ) × (d : Command) × (q < length b.plan.names) × (run_world.next_command plan w q ≡ Some d) × (d.phase ≡ w.phase)
-    found = laws.attained plan first w p c limits r quiet (next_shown b w p c h low e)
+    found = laws.attained plan first w p c limits r quiet (next_shown laws b w p c h low e)
 
     under : found.0 < 64
     under = let x = found.2 in let few = i.names.few in omega (arith, x, few)
@@ -158,7 +158,7 @@ do_leads laws a m b s t p c give first v r low opened e shows mp mk mn mo bp bn 
     within = slice_get_within a.plan.commands (agenda_place a p) c next
 
     there : run_world.next_command plan v p ≡ Some c
-    there = next_shown a v p c r.places low next
+    there = next_shown laws a v p c r.places low next
 
     is : IsSameButPhase (record v { now = transition v.now (protocol_step p c.job give); done = at_one p (v.done p + 1) v.done }) w
     is = laws.does plan v p give c there
@@ -288,7 +288,7 @@ pub do_acts : PlanLaws → (a : Agenda) (s : Whole) (p : ℕ) (c : Command) (giv
 do_acts laws a s p c give first v told r low opened e shows =
     let plan = a.plan in
     let limits = r.limits in
-    let there = next_shown a v p c r.places low (open_is_next a p c opened) in
+    let there = next_shown laws a v p c r.places low (open_is_next a p c opened) in
     let y = protocol_step p c.job give in
     shows r.now (begun_few laws a s first v p c r there)
     ∙ (sym (laws.seen_acts plan first v (Do p) give y limits r.reached e (ap (steps_of_command p give) there))

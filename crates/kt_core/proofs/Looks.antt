@@ -134,7 +134,7 @@ module _ (laws : PlanLaws) (w : World) (first : ℕ) (v : Progress) (r : Mirrors
   do_look p c l e =
       ap (λ (o : Option Command). (Rattle.kt_core.specs.Worlds.needs_of_command (state_of w.system p) o)) e
       ∙ (job_look (state_of w.system p) (v.now.states p) c.job (r.now.states p l) (r.numbered p l)
-      ∙ ap (λ (o : Option Command). run_looks.look_of_command v p o) (sym (next_shown w.agenda v p c r.places (few w first v r p l) (open_is_next w.agenda p c e))))
+      ∙ ap (λ (o : Option Command). run_looks.look_of_command v p o) (sym (next_shown laws w.agenda v p c r.places (few w first v r p l) (open_is_next w.agenda p c e))))
 
   some_if : (p : ℕ) (o : Option Command) → process_may_do (state_of w.system p) o ≡ true → (c : Command) × (o ≡ Some c)
   some_if p None e = absurd (cc (e))
@@ -150,7 +150,7 @@ module _ (laws : PlanLaws) (w : World) (first : ℕ) (v : Progress) (r : Mirrors
   step_look (Take p q) e = take_look p q (below p w.system.size (both (nat_lt p w.system.size) _ e).0)
 
   pub look_is : (x : Step) → (needs w x) ≡ run_looks.look plan v x
-  look_is x = at_test (can_make w x) refl (enabled plan v x) (sym (enabled_is w first v r x))
+  look_is x = at_test (can_make w x) refl (enabled plan v x) (sym (enabled_is laws w first v r x))
     where
       at_test : (a : Bool) → can_make w x ≡ a → (b : Bool) → b ≡ can_make w x → (if a then needs_of_step w x else Idle) ≡ (if b then run_looks.look_of_step plan v x else Idle)
       at_test true e true f = step_look x e

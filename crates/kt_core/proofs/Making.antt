@@ -40,7 +40,7 @@ module _ (laws : PlanLaws) (old new : World) (step : Step) (give : Give) (acts :
   limits = r.limits
 
   on : enabled plan v x ≡ true
-  on = sym (enabled_is old first v r step) ∙ enabled_if old step allowed
+  on = sym (enabled_is laws old first v r step) ∙ enabled_if old step allowed
 
   pub leads_run : ((put : Tallies) → MirrorsPut old.agenda old.system first v put → MirrorsPut new.agenda new.system first (progress_after plan v step give) (tallies_after plan v step give put)) → LeadsRun old step give acts new first v
   leads_run puts = record {

@@ -6,8 +6,8 @@ use Rattle.std.proofs.lemmas.Bool.Decides.{nat_tests}
 use Rattle.kt_cuts.specs.Past.{at_one}
 use Rattle.kt_plan.specs.declared.commands.Command.{Command}
 use Rattle.kt_plans.specs.Order.{place_of_command, next_place}
-use Rattle.kt_plans.proofs.CommandPlaces.{place_get}
 use Rattle.kt_plans.specs.Progress as run_world
+use Rattle.kt_core.specs.PlanLaws.{PlanLaws}
 use Rattle.kt_core.specs.Agendas.{Agenda, agenda_place, agenda_command, IsNextOf, by_at}
 
 -- one command more in front
@@ -87,12 +87,12 @@ only_place cs p i j k a b = elim (cases_lt j k) [
 abbrev pub HasPlaces : Agenda → run_world.Progress → Type 0
 HasPlaces a v = (p : ℕ) → p < 64 → agenda_place a p ≡ next_place a.plan v p
 
-pub next_is : (a : Agenda) (v : run_world.Progress) (p : ℕ) → HasPlaces a v → p < 64 → agenda_command a p ≡ run_world.next_command a.plan v p
-next_is a v p h low = ap (λ (i : ℕ). slice_get a.plan.commands i) (h p low) ∙ place_get (v.done p) p a.plan.commands
+pub next_is : PlanLaws → (a : Agenda) (v : run_world.Progress) (p : ℕ) → HasPlaces a v → p < 64 → agenda_command a p ≡ run_world.next_command a.plan v p
+next_is laws a v p h low = ap (λ (i : ℕ). slice_get a.plan.commands i) (h p low) ∙ laws.place a.plan v p
 
 -- the next command of a process, where the laws have one
-pub next_shown : (a : Agenda) (v : run_world.Progress) (p : ℕ) (c : Command) → HasPlaces a v → p < 64 → agenda_command a p ≡ Some c → run_world.next_command a.plan v p ≡ Some c
-next_shown a v p c h low e = sym (next_is a v p h low) ∙ e
+pub next_shown : PlanLaws → (a : Agenda) (v : run_world.Progress) (p : ℕ) (c : Command) → HasPlaces a v → p < 64 → agenda_command a p ≡ Some c → run_world.next_command a.plan v p ≡ Some c
+next_shown laws a v p c h low e = sym (next_is laws a v p h low) ∙ e
 
 -- at the start
 pub places_at_start : (a : Agenda) (v : run_world.Progress) → ((p : ℕ) → p < 64 → IsNextOf a.plan.commands p 0 (agenda_place a p)) → v.done ≡ (λ p. 0) → HasPlaces a v

@@ -15,7 +15,7 @@ pub rows_fit : PlanLaws → (old new : World) (first : ℕ) (v : Progress) (x : 
     → Mirrors new.agenda new.system first (progress_after old.agenda.plan v x give)
     → AreRowsOfStep old.agenda.plan v x give (drop (length old.system.rows.rows) new.system.rows.rows)
 rows_fit laws old new first v x give e r next =
-    let on : enabled old.agenda.plan v x ≡ true = sym (enabled_is old first v r x) ∙ enabled_if old x e in
+    let on : enabled old.agenda.plan v x ≡ true = sym (enabled_is laws old first v r x) ∙ enabled_if old x e in
     subst (λ (l : List Event). AreRowsOfStep old.agenda.plan v x give l)
     (ap (λ (l : List Event). drop (length v.now.log) l) (sym next.now.log) ∙ ap (λ (l : List Event). drop (length l) new.system.rows.rows) (sym r.now.log))
     (laws.fit old.agenda.plan first v x give r.limits r.reached on)

@@ -11,7 +11,7 @@ use Rattle.kt_plans.specs.Defaults.{default_step}
 use Rattle.kt_plans.specs.Hindrances.{hindrance}
 use Rattle.kt_plans.specs.declared.hindrances.Hindrance.TheVariants.{NoCommand}
 use Rattle.kt_plans.specs.Messages.{AreMessagesTo}
-use Rattle.kt_plans.specs.Order.{comes_before}
+use Rattle.kt_plans.specs.Order.{comes_before, next_place}
 use Rattle.kt_plans.specs.Progress.{Progress, is_quiet, next_command, progress_at_start}
 use Rattle.kt_plans.specs.Rows.{AreRowsOfStep}
 use Rattle.kt_plans.specs.Runs.{IsSameButPhase, RunReaches, protocol_steps}
@@ -44,6 +44,8 @@ pub record PlanLaws : Type 0 where
       → IsSameButPhase (record w { now = transition w.now (protocol_step p c.job give); done = at_one p (w.done p + 1) w.done })
       (progress_after plan w (Do p) give)
   -- places_of_commands
+  pub place : (plan : Planned) (w : Progress) (p : ℕ)
+      → slice_get plan.commands (next_place plan w p) ≡ next_command plan w p
   pub there : (plan : Planned) (first : ℕ) (w : Progress) (p : ℕ) (c : Command) → IsPlan plan → RunReaches plan first w
       → next_command plan w p ≡ Some c → p < length plan.names
   -- phases_of_runs

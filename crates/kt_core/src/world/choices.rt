@@ -7,6 +7,7 @@ ghost use Rattle.kt_core.specs.Worlds.{can_make};
 ghost use Rattle.kt_plans.specs.Progress.{Progress};
 
 use super::World;
+use crate::laws::laws_of_runs;
 use kt_base::{ProcNo, ProcSet};
 use kt_plan::Step;
 
@@ -32,6 +33,7 @@ impl World {
         ensures in_runs { (first : ℕ) (v : Progress) → Mirrors self.now.agenda self.now.system first v →
             result ≡ length (enabled_steps self.now.agenda.plan v) }
     {
+        laws_of_runs();
         match *movers {
             Some(movers) => self.count_of_movers(movers),
             None => self.system.takes(),
@@ -48,6 +50,7 @@ impl World {
         ensures in_runs { (first : ℕ) (v : Progress) → Mirrors self.now.agenda self.now.system first v →
             result ≡ slice_get (enabled_steps self.now.agenda.plan v) place }
     {
+        laws_of_runs();
         match *movers {
             Some(movers) => self.step_of_movers(movers, place),
             None => self.take_at(place),

@@ -27,6 +27,7 @@ impl World {
         ensures in_runs { (first : ℕ) (v : Progress) → Mirrors self.now.agenda self.now.system first v →
             result ≡ enabled self.now.agenda.plan v step.now }
     {
+        laws_of_runs();
         match *step {
             Step::Do(p) => self.is_there(p) && self.can_do(p),
             Step::Take { at, from } => {
@@ -291,6 +292,7 @@ impl World {
         ensures in_runs { (first : ℕ) (v : Progress) → Mirrors self.now.agenda self.now.system first v →
             IfSome result (λ step. enabled self.now.agenda.plan v step ≡ true) }
     {
+        laws_of_runs();
         if !self.is_there(p) {
             return None;
         }

@@ -6,6 +6,7 @@ returns c = record {
   opens = c.progress_after_steps.ensures.start;
   takes = c.progress_after_steps.ensures.takes;
   does = c.progress_after_steps.ensures.does;
+  place = c.places_of_commands.ensures.next;
   there = c.places_of_commands.ensures.there;
   ahead = c.phases_of_runs.ensures.ahead;
   attained = c.phases_of_runs.ensures.attained;

@@ -7,7 +7,7 @@ use Rattle.kt_core.proofs.Leading.{run_same}
 use Rattle.kt_core.proofs.laws.runs_of_worlds.Goals as goal
 
 pub returns-clause-enabled : goal.returns-clause-enabled
-returns-clause-enabled c = λ w first v step r. enabled_is w first v r step
+returns-clause-enabled c = λ w first v step r. enabled_is c.laws_of_runs.ensures w first v r step
 
 pub returns-clause-rest : goal.returns-clause-rest
 returns-clause-rest c = λ w first v r rest. sym (rest_is c.laws_of_runs.ensures w first v r true (λ _. rest, λ _. refl))

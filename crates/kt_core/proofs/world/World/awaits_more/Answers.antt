@@ -3,7 +3,7 @@ use Rattle.std.specs.Prelude.{nat_lt}
 use Rattle.kt_base.specs.Sets.{has, count_of}
 use Rattle.kt_process.specs.ProcessStates.{part_of_side}
 use Rattle.kt_system.specs.Reads.{awaited_of, can_take}
-use Rattle.kt_system.specs.Systems.{Whole, state_of}
+use Rattle.kt_system.specs.Systems.{state_of}
 use Rattle.kt_core.specs.Worlds.{World}
 use Rattle.kt_core.proofs.world.World.awaits_more.Goals as goal
 

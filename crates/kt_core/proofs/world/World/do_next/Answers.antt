@@ -37,7 +37,7 @@ invariant_of-self-2 c =
     let there = does_there w p allowed in
     let size = c.self.invariant.size in
     let command = opened_as w p c.in-Some.command allowed (sym c.in-Some.ensures.command) in
-    let on = sym (enabled_is w r.0 r.1 r.2 (Do p)) ∙ enabled_if w (Do p) allowed in
+    let on = sym (enabled_is c.laws_of_runs.ensures w r.0 r.1 r.2 (Do p)) ∙ enabled_if w (Do p) allowed in
     let move = c.advance.ensures in
     let opened = c.settle.ensures in
     let next = do_leads c.laws_of_runs.ensures a c.advance.new.self c.settle.new.agenda s c.do_job.new.system p c.in-Some.command c.args.give r.0 r.1 r.2 (few w r.0 r.1 r.2 p there) command on
@@ -68,7 +68,7 @@ returns-clause-made c =
     let move = c.advance.ensures in
     let opened = c.settle.ensures in
     let next = open_is_next a p c.in-Some.command command in
-    let on : (first : ℕ) (v : Progress) → Mirrors a s first v → enabled a.plan v (Do p) ≡ true = λ first v r. sym (enabled_is w first v r (Do p)) ∙ enabled_if w (Do p) allowed in
+    let on : (first : ℕ) (v : Progress) → Mirrors a s first v → enabled a.plan v (Do p) ≡ true = λ first v r. sym (enabled_is c.laws_of_runs.ensures w first v r (Do p)) ∙ enabled_if w (Do p) allowed in
     let leads : (first : ℕ) (v : Progress) → Mirrors a s first v → Mirrors b c.do_job.new.system first (progress_after a.plan v (Do p) c.args.give) =
     λ first v r. do_leads c.laws_of_runs.ensures a c.advance.new.self b s c.do_job.new.system p c.in-Some.command c.args.give first v r (few w first v r p there) command (on first v r)
     (λ h begun says. c.in_ok-told.ensures.shows v.now h begun says) move.plan move.phase move.next move.others opened.plan opened.next opened.settled (c.do_job.ensures.size ∙ size) opened.numbered c.in_ok-told.ensures.tallies in

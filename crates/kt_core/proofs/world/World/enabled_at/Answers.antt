@@ -12,7 +12,7 @@ returns-in-None c =
     record {
       choices = is;
       enabled = some_made w c.take_at.result c.args.place is;
-      in_runs = λ first v r. is ∙ ap (λ (l : List Step). slice_get l c.args.place) (listed_in_run w first v r);
+      in_runs = λ first v r. is ∙ ap (λ (l : List Step). slice_get l c.args.place) (listed_in_run c.laws_of_runs.ensures w first v r);
     }
 
 pub returns-in-Some : goal.returns-in-Some
@@ -22,5 +22,5 @@ returns-in-Some c =
     record {
       choices = is;
       enabled = some_made w c.step_of_movers.result c.args.place is;
-      in_runs = λ first v r. is ∙ ap (λ (l : List Step). slice_get l c.args.place) (listed_in_run w first v r);
+      in_runs = λ first v r. is ∙ ap (λ (l : List Step). slice_get l c.args.place) (listed_in_run c.laws_of_runs.ensures w first v r);
     }

@@ -30,7 +30,7 @@ invariant_of-self-2 c =
     let allowed = subst (λ (z : World). step_refusal z (Take c.args.at c.args.from) ≡ None) (sym c.self.view_is) c.requires in
     let size = c.self.invariant.size in
     let opened = c.settle.ensures in
-    let on = sym (enabled_is w r.0 r.1 r.2 (Take c.args.at c.args.from)) ∙ enabled_if w (Take c.args.at c.args.from) allowed in
+    let on = sym (enabled_is c.laws_of_runs.ensures w r.0 r.1 r.2 (Take c.args.at c.args.from)) ∙ enabled_if w (Take c.args.at c.args.from) allowed in
     let next = take_leads c.laws_of_runs.ensures a c.settle.new.agenda c.self.inside.system c.take.new.self c.args.at c.args.from c.args.give r.0 r.1 r.2 on
     (λ h says. c.in_ok-told.ensures.shows r.1.now h says) opened.plan opened.next opened.settled (c.take.ensures.keeps.size ∙ size) opened.numbered c.in_ok-told.ensures.keeps.tallies in
     record {
@@ -53,7 +53,7 @@ returns-clause-made c =
     let size = c.self.invariant.size in
     let opened = c.settle.ensures in
     let on : (first : ℕ) (v : Progress) → Mirrors a c.self.inside.system first v → enabled a.plan v (Take c.args.at c.args.from) ≡ true =
-    λ first v r. sym (enabled_is w first v r (Take c.args.at c.args.from)) ∙ enabled_if w (Take c.args.at c.args.from) allowed in
+    λ first v r. sym (enabled_is c.laws_of_runs.ensures w first v r (Take c.args.at c.args.from)) ∙ enabled_if w (Take c.args.at c.args.from) allowed in
     let leads : (first : ℕ) (v : Progress) → Mirrors a c.self.inside.system first v → Mirrors c.settle.new.agenda c.take.new.self first (progress_after a.plan v (Take c.args.at c.args.from) c.args.give) =
     λ first v r. take_leads c.laws_of_runs.ensures a c.settle.new.agenda c.self.inside.system c.take.new.self c.args.at c.args.from c.args.give first v r (on first v r)
     (λ h says. c.in_ok-told.ensures.shows v.now h says) opened.plan opened.next opened.settled (c.take.ensures.keeps.size ∙ size) opened.numbered c.in_ok-told.ensures.keeps.tallies in
