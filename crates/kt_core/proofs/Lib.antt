@@ -9,6 +9,7 @@ pub mod Places
 pub mod Nexts
 pub mod Firsts
 pub mod Opens
+pub mod InPhase
 pub mod Phases
 pub mod Tallied
 pub mod Making

@@ -30,16 +30,16 @@ none_open a phase least e p low = go (agenda_command a p) refl
 pub done_closed : (a : Agenda) → IsDone a → (p : ℕ) → p < 64 → open_command a p ≡ None
 done_closed a done p low = ap (if_open a.phase) (done.none p low)
 
--- a process joins a set where it has an open command, and else it does not
-pub joins : (set more p : ℕ) (o : Option Command) → has more p ≡ true → is_some o ≡ true → has more p ≡ (has set p || is_some o)
-joins set more p o e f = e ∙ sym (or_right (has set p) (is_some o) f)
+-- a process joins a set, or it does not
+pub joins : (set more p : ℕ) (b : Bool) → has more p ≡ true → b ≡ true → has more p ≡ (has set p || b)
+joins set more p b e f = e ∙ sym (or_right (has set p) b f)
 
-pub stays : (set p : ℕ) (o : Option Command) → is_some o ≡ false → has set p ≡ (has set p || is_some o)
-stays set p o e = sym (ap (λ (b : Bool). has set p || b) e ∙ or-false (has set p))
+pub stays : (set p : ℕ) (b : Bool) → b ≡ false → has set p ≡ (has set p || b)
+stays set p b e = sym (ap (λ (b : Bool). has set p || b) e ∙ or-false (has set p))
 
 -- where none is open, none joins a set
 pub none_joins : (set p : ℕ) (o : Option Command) → o ≡ None → has set p ≡ (has set p || is_some o)
-none_joins set p o e = stays set p o (ap is_some e)
+none_joins set p o e = stays set p (is_some o) (ap is_some e)
 
 -- of the first so many processes, those with an open command have joined a set
 pub record IsWithOpen (a : Agenda) (set all count : ℕ) : Type 0 where

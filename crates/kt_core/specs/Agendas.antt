@@ -1,5 +1,6 @@
 -- Which commands of a plan are done.
-use Rattle.std.specs.Prelude.{◌≡◌, ◌≢◌, ◌≤◌, ◌<◌, ◌+◌, ℕ, List, Option, Some, None, length, slice_get, slice_index_or, nat_le, if◌then◌else◌}
+use Rattle.std.specs.Prelude.{◌≡◌, ◌≢◌, ◌≤◌, ◌<◌, ◌+◌, ℕ, List, Option, Some, None, length, is_some, slice_get, slice_index_or, nat_le, if◌then◌else◌}
+use Rattle.kt_base.specs.Sets.{has}
 use Rattle.kt_plan.specs.Limits.{Planned, IsPlan}
 use Rattle.kt_plan.specs.declared.commands.Command.{Command}
 use Rattle.kt_plan.specs.declared.commands.Job.TheVariants.{Fail}
@@ -75,9 +76,14 @@ pub record IsFirstLeft (commands : List Command) (next : List ℕ) (place : ℕ)
   pub within : place ≤ length commands
   pub left : place < length commands → slice_index_or next (by_at commands place) 0 ≡ place
 
--- each place is one of the process's own; by command, there is the place of the following one of the same process; and
--- there is that of the first one that is not done
-pub record IsAgenda (plan : Planned) (next following : List ℕ) (first : ℕ) : Type 0 where
+-- a set has the processes whose next commands are of a phase that is open
+abbrev pub AreInPhase : List Command → List ℕ → ℕ → ℕ → Type 0
+AreInPhase commands next phase set = (p : ℕ) → p < 64
+    → has set p ≡ is_some (if_open phase (slice_get commands (slice_index_or next p 0)))
+
+-- each place is one of the process's own; by command, there is the place of the following one of the same process; there
+-- is that of the first one that is not done; and there are the processes whose next commands are of the open phase
+pub record IsAgenda (plan : Planned) (next following : List ℕ) (first phase set : ℕ) : Type 0 where
   pub limits : IsPlan plan
   pub processes : length next ≡ 64
   pub commands : length following ≡ length plan.commands
@@ -85,3 +91,4 @@ pub record IsAgenda (plan : Planned) (next following : List ℕ) (first : ℕ) :
   pub follows : (i : ℕ) → i < length plan.commands
       → IsNextOf plan.commands (by_at plan.commands i) (i + 1) (slice_index_or following i 0)
   pub left : IsFirstLeft plan.commands next first
+  pub in_phase : AreInPhase plan.commands next phase set

@@ -1,17 +1,17 @@
 //! Which commands of a plan are done: each process does its own in order, and those of a later phase once that is open.
 
-ghost use Rattle.std.specs.Prelude.{◌≡◌, ◌≢◌, ◌<◌, ◌≤◌, ◌+◌, ◌-◌, ◌||◌, ◌↔◌, ℕ, true, false, Some, None, IsTrue, IfOk, IfSome, IfNone, is_some, length};
+ghost use Rattle.std.specs.Prelude.{◌≡◌, ◌≢◌, ◌<◌, ◌≤◌, ◌+◌, ◌-◌, ◌||◌, ◌↔◌, ℕ, true, false, Some, None, IsTrue, IfOk, IfSome, IfNone, is_some, length, slice_get};
 ghost use Rattle.kt_base.specs.Sets.{has};
-ghost use Rattle.kt_plan.specs.Limits.{IsPlan, IsCommandOf};
-ghost use Rattle.kt_core.specs.Agendas.{agenda_place, agenda_command, if_open, open_command, IsNextOf, IsDone, IsLeastPhase, ArePlaces, AreOwn, AreDoneBefore, IsFirstLeft};
+ghost use Rattle.kt_plan.specs.Limits.{IsPlan, IsCommandOf, IsInPhases};
+ghost use Rattle.kt_core.specs.Agendas.{agenda_place, agenda_command, if_open, open_command, IsNextOf, IsDone, IsLeastPhase, ArePlaces, AreOwn, AreDoneBefore, AreInPhase, IsFirstLeft};
 
 use kt_base::{Memory, ProcNo, ProcSet};
 use kt_plan::{Command, Plan};
 use std::alloc::Global;
 use std::marker::Model;
 
-/// The commands of a plan, the place of each process's next one, that of the first one that is not done, and the phase that
-/// is open.
+/// The commands of a plan, the place of each process's next one, that of the first one that is not done, the phase that is
+/// open, and the processes whose next commands are of it.
 #[derive(Debug, Drop)]
 pub(crate) struct Agenda {
     plan: Plan,
@@ -19,6 +19,7 @@ pub(crate) struct Agenda {
     following: Vec<usize>,
     first: usize,
     phase: u32,
+    in_phase: ProcSet,
 }
 
 impl Model for Agenda {
@@ -28,7 +29,7 @@ impl Model for Agenda {
 
     ghost view = { λ a. record { plan = a.plan; next = a.next; phase = a.phase } };
 
-    ghost invariant = { λ a. IsAgenda a.plan a.next a.following.items a.first };
+    ghost invariant = { λ a. IsAgenda a.plan a.next a.following.items a.first a.phase a.in_phase };
 }
 
 impl Agenda {
@@ -40,12 +41,14 @@ impl Agenda {
     {
         let _size = plan.size();
         let (next, following) = places(alloc, &plan.commands)?;
+        let in_phase = in_phase(&plan.commands, &next, 0, 0);
         Ok(Agenda {
             plan,
             next,
             following,
             first: 0,
             phase: 0,
+            in_phase,
         })
     }
 
@@ -88,23 +91,7 @@ impl Agenda {
         ensures own { IfSome result (λ command. command.by ≡ p) }
     {
         let command = self.command_at(p, self.place(p));
-        self.if_open(command)
-    }
-
-    /// A command, if it is of the open phase.
-    fn if_open(&self, command: Option<Command>) -> Option<Command>
-        ensures result { result ≡ if_open self.now.phase command }
-    {
-        match command {
-            Some(command) => {
-                if command.phase <= self.phase {
-                    Some(command)
-                } else {
-                    None
-                }
-            }
-            None => None,
-        }
+        if_open(self.phase, command)
     }
 
     /// A set of processes, and those whose next commands are of the open phase.
@@ -120,22 +107,9 @@ impl Agenda {
         let mut all = set;
         for number in 0..self.processes() as u8 {
             let p = ProcNo::nth(number);
-            all = self.with_if_open(all, p);
+            all = with_if(all, p, self.in_phase.has(p));
         }
         all
-    }
-
-    /// A set of processes, and this one, if its next command is of the open phase.
-    #[tactic(auto, using(crate::proofs::Opens::joins, crate::proofs::Opens::stays))]
-    fn with_if_open(&self, set: ProcSet, p: ProcNo) -> ProcSet
-        ensures here { has result p ≡ (has set p || is_some (open_command self.now p)) }
-        ensures others { (q : ℕ) → q ≢ p → has result q ≡ has set q }
-    {
-        if self.open_command(p).is_some() {
-            set.with(p)
-        } else {
-            set
-        }
     }
 
     /// Whether a command of the open phase is not done.
@@ -158,8 +132,10 @@ impl Agenda {
     {
         let place = self.place(p);
         if place < self.following.len() {
-            self.next[p.index()] = self.following[place];
+            let next = self.following[place];
+            self.next[p.index()] = next;
             self.first = first_left(&self.plan.commands, &self.next, self.first);
+            self.in_phase = in_phase_after(&self.plan.commands, self.in_phase, p, next, self.phase);
         }
     }
 
@@ -212,8 +188,27 @@ impl Agenda {
         ensures opens { (phase : ℕ) → IsLeastPhase self.old phase → self.old.phase ≤ phase → self.new.phase ≡ phase }
     {
         if let Some(phase) = self.least_phase() {
-            self.phase = self.phase.max(phase);
+            if self.phase < phase {
+                self.phase = phase;
+                self.in_phase = in_phase(&self.plan.commands, &self.next, self.first, phase);
+            }
         }
+    }
+}
+
+/// A command, if its phase is open.
+fn if_open(phase: u32, command: Option<Command>) -> Option<Command>
+    ensures result { result ≡ if_open phase command }
+{
+    match command {
+        Some(command) => {
+            if command.phase <= phase {
+                Some(command)
+            } else {
+                None
+            }
+        }
+        None => None,
     }
 }
 
@@ -247,4 +242,47 @@ fn first_left(commands: &[Command], next: &[usize; 64], from: usize) -> usize
         }
     }
     commands.len()
+}
+
+/// The processes whose next commands are of a phase that is open, where those before a place are done.
+fn in_phase(commands: &[Command], next: &[usize; 64], first: usize, phase: u32) -> ProcSet
+    requires own { AreOwn commands.now next.now }
+    requires done { AreDoneBefore commands.now next.now first }
+    requires within { first ≤ length commands.now }
+    requires phases { IsInPhases commands.now }
+    ensures { AreInPhase commands.now next.now phase result }
+{
+    let mut set = ProcSet::empty();
+    for place in first..commands.len() {
+        let command = commands[place];
+        if phase < command.phase {
+            return set;
+        }
+        set = with_if(set, command.by, next[command.by.index()] == place);
+    }
+    set
+}
+
+/// Those processes, once the next command of one of them stands at a place.
+fn in_phase_after(
+    commands: &[Command],
+    set: ProcSet,
+    p: ProcNo,
+    place: usize,
+    phase: u32,
+) -> ProcSet
+    ensures here { has result p ≡ is_some (if_open phase (slice_get commands.now place)) }
+    ensures others { (q : ℕ) → q ≢ p → has result q ≡ has set q }
+{
+    let command = if_open(phase, commands.get(place).copied());
+    with_if(set.without(p), p, command.is_some())
+}
+
+/// A set of processes, and this one, if it joins.
+#[tactic(auto, using(crate::proofs::Opens::joins, crate::proofs::Opens::stays))]
+fn with_if(set: ProcSet, p: ProcNo, joins: bool) -> ProcSet
+    ensures here { has result p ≡ (has set p || joins) }
+    ensures others { (q : ℕ) → q ≢ p → has result q ≡ has set q }
+{
+    if joins { set.with(p) } else { set }
 }
