@@ -45,7 +45,7 @@ fn push_row(text: &mut Vec<u8>, row: Event) -> Result<(), Memory>
     ensures { OnOk result (text.new.items ≡ text.old.items ++ line_of (spelling row)) }
 {
     push_fields(text, row)?;
-    text.extend_from_slice(b"\n")?;
+    text.push(b'\n')?;
     Ok(())
 }
 
@@ -64,7 +64,7 @@ fn push_fields(text: &mut Vec<u8>, row: Event) -> Result<(), Memory>
             push_joined(text, b"decided", p, inst, decision_text(commit))
         }
         Event::Closed { p, inst } => push_joined(text, b"closed", p, inst, b"-"),
-        Event::Failed { p } => push_four(text, b"failed", p, b"-", b"-"),
+        Event::Failed { p } => push_failed(text, p),
         Event::Refused { p, verb, cause } => push_refused(text, p, verb, cause),
     }
 }
@@ -72,18 +72,14 @@ fn push_fields(text: &mut Vec<u8>, row: Event) -> Result<(), Memory>
 fn push_sent(text: &mut Vec<u8>, p: ProcNo, to: ProcNo, body: i64) -> Result<(), Memory>
     ensures { OnOk result (text.new.items ≡ text.old.items ++ joined (codes "sent" ∷ decimal p ∷ decimal to ∷ signed_decimal body ∷ [])) }
 {
-    let mut receiver = itoa::Buffer::new();
     let mut digits = itoa::Buffer::new();
-    push_four(
-        text,
-        b"sent",
-        p,
-        receiver.format(to.get()).as_bytes(),
-        digits.format(body).as_bytes(),
-    )
+    push_process(text, b"sent", p)?;
+    push_number(text, u32::from(to.get()))?;
+    push_field(text, digits.format(body).as_bytes())
 }
 
 // A row that takes a message.
+#[inline(always)]
 fn push_taken(
     text: &mut Vec<u8>,
     word: &[u8],
@@ -93,18 +89,13 @@ fn push_taken(
 ) -> Result<(), Memory>
     ensures { OnOk result (text.new.items ≡ text.old.items ++ joined (word.now ∷ decimal p ∷ decimal from ∷ decimal msg ∷ [])) }
 {
-    let mut sender = itoa::Buffer::new();
-    let mut message = itoa::Buffer::new();
-    push_four(
-        text,
-        word,
-        p,
-        sender.format(from.get()).as_bytes(),
-        message.format(msg.get()).as_bytes(),
-    )
+    push_process(text, word, p)?;
+    push_number(text, u32::from(from.get()))?;
+    push_number(text, msg.get())
 }
 
 // A row of an instance.
+#[inline(always)]
 fn push_joined(
     text: &mut Vec<u8>,
     word: &[u8],
@@ -114,52 +105,52 @@ fn push_joined(
 ) -> Result<(), Memory>
     ensures { OnOk result (text.new.items ≡ text.old.items ++ joined (word.now ∷ decimal p ∷ decimal inst ∷ third.now ∷ [])) }
 {
-    let mut instance = itoa::Buffer::new();
-    push_four(text, word, p, instance.format(inst.get()).as_bytes(), third)
+    push_process(text, word, p)?;
+    push_number(text, u32::from(inst.get()))?;
+    push_field(text, third)
+}
+
+fn push_failed(text: &mut Vec<u8>, p: ProcNo) -> Result<(), Memory>
+    ensures { OnOk result (text.new.items ≡ text.old.items ++ joined (codes "failed" ∷ decimal p ∷ codes "-" ∷ codes "-" ∷ [])) }
+{
+    push_process(text, b"failed", p)?;
+    push_field(text, b"-")?;
+    push_field(text, b"-")
 }
 
 fn push_unwilling(text: &mut Vec<u8>, p: ProcNo, inst: InstNo, cause: Cause) -> Result<(), Memory>
     ensures { OnOk result (text.new.items ≡ text.old.items ++ joined (codes "unwilling" ∷ decimal p ∷ decimal inst ∷ cause_word cause ∷ [])) }
 {
-    let mut instance = itoa::Buffer::new();
-    push_three(
-        text,
-        b"unwilling",
-        p,
-        instance.format(inst.get()).as_bytes(),
-    )?;
+    push_process(text, b"unwilling", p)?;
+    push_number(text, u32::from(inst.get()))?;
     push_cause(text, cause)
 }
 
 fn push_refused(text: &mut Vec<u8>, p: ProcNo, verb: Verb, cause: Cause) -> Result<(), Memory>
     ensures { OnOk result (text.new.items ≡ text.old.items ++ joined (codes "refused" ∷ decimal p ∷ verb_word verb ∷ cause_word cause ∷ [])) }
 {
-    push_three(text, b"refused", p, verb_text(verb))?;
+    push_process(text, b"refused", p)?;
+    push_field(text, verb_text(verb))?;
     push_cause(text, cause)
 }
 
-// Four fields.
-fn push_four(
-    text: &mut Vec<u8>,
-    word: &[u8],
-    p: ProcNo,
-    second: &[u8],
-    third: &[u8],
-) -> Result<(), Memory>
-    ensures { OnOk result (text.new.items ≡ text.old.items ++ joined (word.now ∷ decimal p ∷ second.now ∷ third.now ∷ [])) }
+// The first two of four fields.
+#[inline(always)]
+fn push_process(text: &mut Vec<u8>, word: &[u8], p: ProcNo) -> Result<(), Memory>
+    ensures { OnOk result (text.new.items ≡ text.old.items ++ joined (word.now ∷ decimal p ∷ [])) }
 {
-    push_three(text, word, p, second)?;
-    push_field(text, third)
+    text.extend_from_slice(word)?;
+    push_number(text, u32::from(p.get()))
 }
 
-// The first three of four fields.
-fn push_three(text: &mut Vec<u8>, word: &[u8], p: ProcNo, second: &[u8]) -> Result<(), Memory>
-    ensures { OnOk result (text.new.items ≡ text.old.items ++ joined (word.now ∷ decimal p ∷ second.now ∷ [])) }
+// A comma and a number.
+fn push_number(text: &mut Vec<u8>, number: u32) -> Result<(), Memory>
+    ensures { OnOk result (text.new.items ≡ text.old.items ++ 44 ∷ decimal number) }
 {
-    let mut process = itoa::Buffer::new();
-    text.extend_from_slice(word)?;
-    push_field(text, process.format(p.get()).as_bytes())?;
-    push_field(text, second)
+    let mut digits = itoa::Buffer::new();
+    text.push(b',')?;
+    text.extend_from_slice(digits.format(number).as_bytes())?;
+    Ok(())
 }
 
 // A comma and a cause.
