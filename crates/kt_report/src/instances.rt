@@ -134,9 +134,9 @@ fn push_ends(text: &mut Vec<u8>, names: &Names, row: Event) -> Result<(), Memory
 fn push_pair(text: &mut Vec<u8>, sender: &[u8], receiver: &[u8]) -> Result<(), Memory>
     ensures { OnOk result (text.new.items ≡ text.old.items ++ 58 ∷ (sender.now ++ 62 ∷ receiver.now)) }
 {
-    text.extend_from_slice(b":")?;
+    text.push(b':')?;
     text.extend_from_slice(sender)?;
-    text.extend_from_slice(b">")?;
+    text.push(b'>')?;
     text.extend_from_slice(receiver)?;
     Ok(())
 }

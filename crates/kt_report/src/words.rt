@@ -38,10 +38,11 @@ pub(crate) fn verb_text(verb: Verb) -> &'static [u8]
 }
 
 /// Gathers a blank and a word.
+#[inline(always)]
 pub(crate) fn push_word(text: &mut Vec<u8>, word: &[u8]) -> Result<(), Memory>
     ensures { OnOk result (text.new.items ≡ text.old.items ++ 32 ∷ word.now) }
 {
-    text.extend_from_slice(b" ")?;
+    text.push(b' ')?;
     text.extend_from_slice(word)?;
     Ok(())
 }
@@ -74,6 +75,6 @@ pub(crate) fn push_cause(text: &mut Vec<u8>, cause: Cause) -> Result<(), Memory>
 pub(crate) fn end_line(text: &mut Vec<u8>) -> Result<(), Memory>
     ensures { OnOk result (text.new.items ≡ text.old.items ++ 10 ∷ []) }
 {
-    text.extend_from_slice(b"\n")?;
+    text.push(b'\n')?;
     Ok(())
 }
