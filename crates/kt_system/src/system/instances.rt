@@ -148,6 +148,7 @@ impl System {
     }
 
     /// A process replies to one that asked it.
+    #[inline(always)]
     pub(super) fn reply(&mut self, p: ProcNo, to: ProcNo, inst: InstNo, willing: bool)
         requires p { p < self.old.size }
         requires to { to < self.old.size }
