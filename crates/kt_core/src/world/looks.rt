@@ -266,6 +266,7 @@ impl World {
 
     /// The step that is made where none is given: the enabled `Take` with the least `at`, then the least `from`; with
     /// none, the enabled `Do` whose command comes first.
+    #[inline(always)]
     pub fn default_step(&self) -> Option<Step>
         ensures step { IfSome result (IsDefaultStep self.now) }
         ensures enabled { IfSome result (λ step. can_make self.now step ≡ true) }

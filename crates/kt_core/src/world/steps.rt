@@ -111,8 +111,8 @@ impl World {
     {
         laws_of_runs();
         let told = self.system.take(self.alloc, at, from, give.able)?;
-        settle(&mut self.agenda, &self.system);
         *acts = told;
+        settle(&mut self.agenda, &self.system);
         Ok(())
     }
 
@@ -138,7 +138,8 @@ impl World {
     }
 }
 
-/// The next phase opens, where the open one is done and nothing is in transit.
+/// The next phase opens, where the open one is done and nothing is in transit. While a command of the open one is left, no
+/// process is looked at.
 pub(super) fn settle(agenda: &mut Agenda, system: &System)
     ensures plan { agenda.new.plan ≡ agenda.old.plan }
     ensures next { agenda.new.next ≡ agenda.old.next }
@@ -146,6 +147,9 @@ pub(super) fn settle(agenda: &mut Agenda, system: &System)
     ensures numbered { (p : ℕ) → p < system.now.size → IsNumbered (part_of_side (state_of system.now p).side) }
 {
     let _processes = system.processes();
+    if agenda.has_open() {
+        return;
+    }
     if system.is_quiet() {
         agenda.open_next();
     }
