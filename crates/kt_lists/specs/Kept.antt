@@ -1,7 +1,5 @@
 -- What becomes of the lists of parcels kept and held for a process when it closes its instance.
-use Rattle.std.specs.Prelude.{ℕ, ◌==◌, ◌&&◌, nat_lt, if◌then◌else◌, Option, Some, None, List, [], ◌++◌, length, drop, slice_index_or}
-use Rattle.kt_fifo.specs.declared.parcels.Parcel.{Parcel}
-use Rattle.kt_fifo.specs.Parcels.{without_above}
+use Rattle.std.specs.Prelude.{ℕ, ◌==◌, ◌&&◌, nat_lt, if◌then◌else◌, Option, [], ◌++◌, length}
 use Rattle.kt_seen.specs.Seen.{SeenLists}
 use Rattle.kt_seen.specs.ListChanges.{low}
 

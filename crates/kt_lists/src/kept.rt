@@ -92,9 +92,10 @@ pub fn marks_of(alloc: Global, kept: &Channels, p: ProcNo) -> Result<Vec<usize>,
     ensures marks { IfOk result (λ r. mark_of r.items ≡ kept_of (channel kept.now) p) }
 {
     let mut marks = vec![in alloc; 0; kept.processes()]?;
-    for number in 0..kept.processes() as u8 {
-        let from = ProcNo::new(number).unwrap();
-        marks[number as usize] = kept.len(from, p);
+    let mut rest = kept.senders(p);
+    while let Some(from) = rest.first() {
+        marks[from.index()] = kept.len(from, p);
+        rest = rest.without(from);
     }
     Ok(marks)
 }

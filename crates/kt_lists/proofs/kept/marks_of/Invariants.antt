@@ -1,10 +1,16 @@
-use Rattle.std.proofs.Common.{◌≡◌, ◌<◌, ℕ, length}
+use Rattle.std.proofs.Common.{◌≡◌, ℕ, true, false, length}
+use Rattle.kt_base.specs.Sets.{has, count_of}
+use Rattle.kt_fifo.specs.Queues.{has_parcel}
 use Rattle.kt_fifo.specs.Channels.{channel}
 use Rattle.kt_process.specs.Shown.{mark_of}
 use Rattle.kt_lists.proofs.kept.marks_of.Given as goal
 
-abbrev pub invariant-loop-number : goal.invariant-loop-number
-invariant-loop-number l = record {
+abbrev pub invariant-loop-from : goal.invariant-loop-from
+invariant-loop-from l = record {
   size : length l.marks.items ≡ l.kept.processes;
-  marks : (q : ℕ) → q < l.number → mark_of l.marks.items q ≡ length (channel l.kept q l.p);
+  rest : (q : ℕ) → has l.rest q ≡ true → has_parcel (channel l.kept q l.p) ≡ true;
+  marks : (q : ℕ) → has l.rest q ≡ false → mark_of l.marks.items q ≡ length (channel l.kept q l.p);
 }
+
+abbrev pub decreases-loop-from : goal.decreases-loop-from
+decreases-loop-from l = count_of l.rest
