@@ -3,6 +3,7 @@
 ghost use Rattle.std.specs.Prelude.{◌≡◌, [], ◌∷◌, ◌++◌, codes, map, OnOk, OnErr};
 ghost use Rattle.std.specs.Fmt.{decimal, signed_decimal};
 ghost use Rattle.std.specs.Io.KnownBytes.{Appends};
+ghost use Rattle.kt_base.specs.declared.words.Cause.TheVariants.{Busy};
 ghost use Rattle.kt_log_text.specs.Spelling.{spelling, verb_word, cause_word};
 ghost use Rattle.kt_log_text.specs.Texts.{header};
 ghost use Rattle.kt_text.specs.Writing.{joined, line_of, text_of, WritesFront};
@@ -144,6 +145,7 @@ fn push_process(text: &mut Vec<u8>, word: &[u8], p: ProcNo) -> Result<(), Memory
 }
 
 // A comma and a number.
+#[inline(always)]
 fn push_number(text: &mut Vec<u8>, number: u32) -> Result<(), Memory>
     ensures { OnOk result (text.new.items ≡ text.old.items ++ 44 ∷ decimal number) }
 {
@@ -154,19 +156,28 @@ fn push_number(text: &mut Vec<u8>, number: u32) -> Result<(), Memory>
 }
 
 // A comma and a cause.
+#[inline(always)]
 fn push_cause(text: &mut Vec<u8>, cause: Cause) -> Result<(), Memory>
     ensures { OnOk result (text.new.items ≡ text.old.items ++ 44 ∷ cause_word cause) }
 {
     match cause {
-        Cause::Busy(inst) => {
-            let mut instance = itoa::Buffer::new();
-            push_field(text, b"busy-")?;
-            text.extend_from_slice(instance.format(inst.get()).as_bytes())?;
+        Cause::Busy(inst) => push_busy(text, inst),
+        Cause::Down => {
+            text.extend_from_slice(b",down")?;
             Ok(())
         }
-        Cause::Down => push_field(text, b"down"),
         Cause::NoSave => push_field(text, b"nosave"),
     }
+}
+
+// A comma and the cause of a process that is in another instance.
+fn push_busy(text: &mut Vec<u8>, inst: InstNo) -> Result<(), Memory>
+    ensures { OnOk result (text.new.items ≡ text.old.items ++ 44 ∷ cause_word (Busy inst)) }
+{
+    let mut instance = itoa::Buffer::new();
+    push_field(text, b"busy-")?;
+    text.extend_from_slice(instance.format(inst.get()).as_bytes())?;
+    Ok(())
 }
 
 fn verb_text(verb: Verb) -> &'static [u8]
