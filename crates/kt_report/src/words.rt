@@ -2,10 +2,11 @@
 
 ghost use Rattle.std.specs.Prelude.{◌≡◌, ◌∷◌, ◌++◌, [], OnOk};
 ghost use Rattle.std.specs.Fmt.{decimal};
+ghost use Rattle.kt_base.specs.declared.words.Cause.TheVariants.{Busy};
 ghost use Rattle.kt_log_text.specs.Spelling.{verb_word, cause_word};
 ghost use Rattle.kt_report.specs.Lines.{name_of};
 
-use kt_base::{Cause, Memory, ProcNo, Verb};
+use kt_base::{Cause, InstNo, Memory, ProcNo, Verb};
 use kt_plan::Names;
 
 /// The name of a process, or `-` where it has none.
@@ -56,19 +57,25 @@ pub(crate) fn push_number(text: &mut Vec<u8>, number: u32) -> Result<(), Memory>
 }
 
 /// Gathers a blank and a cause, as a log has it.
+#[inline(always)]
 pub(crate) fn push_cause(text: &mut Vec<u8>, cause: Cause) -> Result<(), Memory>
     ensures { OnOk result (text.new.items ≡ text.old.items ++ 32 ∷ cause_word cause) }
 {
     match cause {
-        Cause::Busy(inst) => {
-            let mut instance = itoa::Buffer::new();
-            push_word(text, b"busy-")?;
-            text.extend_from_slice(instance.format(inst.get()).as_bytes())?;
-            Ok(())
-        }
+        Cause::Busy(inst) => push_busy(text, inst),
         Cause::Down => push_word(text, b"down"),
         Cause::NoSave => push_word(text, b"nosave"),
     }
+}
+
+// A blank and the cause of a process that is in another instance.
+fn push_busy(text: &mut Vec<u8>, inst: InstNo) -> Result<(), Memory>
+    ensures { OnOk result (text.new.items ≡ text.old.items ++ 32 ∷ cause_word (Busy inst)) }
+{
+    let mut instance = itoa::Buffer::new();
+    push_word(text, b"busy-")?;
+    text.extend_from_slice(instance.format(inst.get()).as_bytes())?;
+    Ok(())
 }
 
 /// Ends a line.
