@@ -59,13 +59,16 @@ impl Fifo {
     }
 
     /// Makes room for that many parcels more.
+    #[inline(always)]
     pub(crate) fn reserve(&mut self, count: usize) -> Result<(), Memory>
         ensures parcels { self.new.parcels ≡ self.old.parcels }
         ensures grows { self.old.spare ≤ self.new.spare }
         ensures ok { OnOk result (count ≤ self.new.spare) }
         ensures full { OnErr result (self.old.spare < count) }
     {
-        self.parcels.reserve(count)?;
+        if self.spare() < count {
+            self.parcels.reserve(count)?;
+        }
         Ok(())
     }
 
