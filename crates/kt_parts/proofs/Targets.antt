@@ -24,6 +24,19 @@ target_more old new asks x h a b q = elim (cases_eq q x.0) [
     other : (q p : ℕ) (b : Bool) → (q ≡ p → ⊥) → (b || (p == q)) ≡ b
     other q p b n = grind (arith, nat_tests)
 
+below_few : (set n : ℕ) → count_below set n ≤ n
+unfolding count_below
+below_few set zero = omega arith
+below_few set (suc n) = let few = below_few set n in bit_few (has set n) (count_below set n) n few
+  where
+    bit_few : (b : Bool) (k m : ℕ) → k ≤ m → k + (if b then 1 else 0) ≤ suc m
+    bit_few true k m l = omega (arith, l)
+    bit_few false k m l = omega (arith, l)
+
+-- no more are asked than there are numbers of processes
+pub few_asked : (set : ℕ) (asks : List (ℕ × ℕ)) → count_of set ≡ length asks → length asks ≤ 64
+few_asked set asks e = let h = below_few set 64 in let same : count_below set 64 ≡ length asks = e in omega (arith, h, same)
+
 -- how many numbers below n pass a test
 count_to : ℕ → (ℕ → Bool) → ℕ
 count_to zero test = 0

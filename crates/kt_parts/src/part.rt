@@ -42,7 +42,7 @@ impl Part {
             inst,
             parent,
             asked,
-            awaited: asked.count(),
+            awaited: asks.list().len() as u32,
             willing: true,
         };
         let goes = part.way_on();

@@ -1,6 +1,6 @@
-use Rattle.std.proofs.Common.{◌≡◌, sym, ◌∙◌, refl, true}
+use Rattle.std.proofs.Common.{◌≡◌, ℕ, sym, ◌∙◌, refl, true, ap, length, arith}
 use Rattle.kt_base.specs.Sets.{has}
-use Rattle.kt_parts.proofs.Targets.{asked_below}
+use Rattle.kt_parts.proofs.Targets.{asked_below, few_asked}
 use Rattle.kt_parts.proofs.part.Part.join.Goals as goal
 
 pub returns-clause-joins : goal.returns-clause-joins
@@ -11,7 +11,7 @@ returns-clause-joins c = λ n within. (
       parent = refl;
       asked = c.targets-asked.ensures.members;
       count = c.targets-asked.ensures.count;
-      awaited = c.count.ensures ∙ c.targets-asked.ensures.count;
+      awaited = ap length c.list.ensures.asks;
       willing = refl;
     };
     below = λ q e. asked_below n c.args.asks q within (sym (c.targets-asked.ensures.members q) ∙ e);
@@ -20,3 +20,9 @@ returns-clause-joins c = λ n within. (
   },
   c.way_on-goes.ensures,
 )
+
+pub overflow_cast-part : goal.overflow_cast-part
+overflow_cast-part c =
+    let few = few_asked c.targets-asked.result c.args.asks c.targets-asked.ensures.count in
+    let same : length c.list.result.now ≡ length c.args.asks = ap length c.list.ensures.asks in
+    omega (arith, few, same)
