@@ -1,5 +1,5 @@
 -- What is noted of processes goes on by a step.
-use Rattle.std.proofs.Common.{arith, ◌≡◌, ◌≢◌, ◌∙◌, ◌<◌, ℕ, List, [], ◌∷◌, ◌++◌, append_assoc, append-nil, length, map, set, sym, ap, refl, get_or, Bool, true, false, Result, Ok, Err}
+use Rattle.std.proofs.Common.{arith, ◌≡◌, ◌≢◌, ◌∙◌, ◌<◌, ℕ, List, [], ◌∷◌, ◌++◌, append_assoc, append-nil, length, map, set, sym, subst, ap, refl, get_or, Bool, true, false, Result, Ok, Err}
 use Rattle.std.specs.Prelude.{◌==◌, if◌then◌else◌, is_err, option_map, Option, Some, None, OnOk}
 use Rattle.std.proofs.lemmas.Bool.{eqb-true, eqb-false}
 use Rattle.std.proofs.lemmas.List.{map-append, map-set, length-map, length-set, get_or-map, get_or-set_same, get_or-set_other}
@@ -135,6 +135,10 @@ told_next made steps p old new place noted tells = record { each = go }
         ∙ (ap (λ (k : ℕ). told_to q steps ++ (if k == q then made.told ∷ [] else [])) place
         ∙ sym (told_more q steps made)))
 
+-- where no list is kept, nothing has to be noted
+pub untold_next : (made : Made) (steps : List Made) (told : List (List Told)) → told ≡ [] → AreToldBy (steps ++ made ∷ []) told
+untold_next made steps told none = record { each = λ p l. absurd (omega (arith, subst (λ (lists : List (List Told)). p < length lists) none l)) }
+
 -- a list for the steps, if there is one, has none at first
 pub listed_first : (lists : Bool) (steps : List Made) (listed : Option (List Step)) → steps ≡ [] → listed ≡ (if lists then Some [] else None) → AreListed steps listed
 listed_first true steps listed none e = rw (none, e) refl
@@ -147,15 +151,16 @@ listed_next made steps None new e listed = rw e tt
 listed_next made steps (Some list) new e listed =
     rw e (ap (λ (l : List Step). l ++ made.told.step ∷ []) listed ∙ sym (map-append (λ (m : Made). m.told.step) steps (made ∷ [])))
 
-pub noted_next : (made : Made) (p : ℕ) (steps : List Made) (errands errands' : List (List Errand)) (told told' : List (List Told))
-    (listed listed' : Option (List Step)) → p ≡ process_of_step made.told.step
-    → ((s : List Made) → AreAskedBy s errands → AreAskedBy (s ++ made ∷ []) errands')
-    → IsNotedBy p made.told told told' → listed' ≡ option_map (λ list. list ++ made.told.step ∷ []) listed
+pub noted_next : (made : Made) (steps : List Made) (errands errands' : List (List Errand)) (told told' : List (List Told))
+    (listed listed' : Option (List Step)) (step : Step) → ((s : List Made) → AreAskedBy s errands → AreAskedBy (s ++ made ∷ []) errands')
+    → ((s : List Made) → AreToldBy s told → AreToldBy (s ++ made ∷ []) told')
+    → step ≡ made.told.step → listed' ≡ option_map (λ list. list ++ step ∷ []) listed
     → AreNoted steps errands told listed → AreNoted (steps ++ made ∷ []) errands' told' listed'
-noted_next made p steps errands errands' told told' listed listed' place asks noted more n = record {
+noted_next made steps errands errands' told told' listed listed' step asks tells same more n = record {
   asked = asks steps n.asked;
-  tells = told_next made steps p told told' place noted n.tells;
-  lists = listed_next made steps listed listed' more n.lists;
+  tells = tells steps n.tells;
+  lists = listed_next made steps listed listed'
+      (more ∙ ap (λ (s : Step). option_map (λ (list : List Step). list ++ s ∷ []) listed) same) n.lists;
 }
 
 pub at_ok : {T E : Type 0} (r : Result T E) (P : Type 0) → is_err r ≡ false → OnOk r P → P

@@ -1,19 +1,22 @@
 -- Steps one after another.
-use Rattle.std.proofs.Common.{◌≡◌, ◌∙◌, ◌<◌, ◌+◌, ◌^◌, ℕ, List, [], ◌∷◌, ◌++◌, length, refl, sym, subst, ap, Option, None, Some, Result, Ok, Err, IfSome}
+use Rattle.std.proofs.Common.{arith, ◌≡◌, ◌∙◌, ◌<◌, ◌+◌, ◌^◌, ℕ, zero, suc, List, [], ◌∷◌, ◌++◌, length, refl, sym, subst, ap, None, Some}
 use Rattle.std.specs.Prelude.{slice_get}
 use Rattle.kt_core.specs.Making.{KeepsPlan, MakesStep}
+use Rattle.kt_core.specs.Ready.{IsReady}
 use Rattle.kt_core.specs.Shown.{Mirrors}
-use Rattle.kt_core.specs.Worlds.{World, IsSameWorld, IsOpening, numbered_row, step_refusal}
-use Rattle.kt_core.specs.declared.faults.StepFault.{StepFault}
+use Rattle.kt_core.specs.Worlds.{World, IsSameWorld, IsOpening, numbered_row}
+use Rattle.kt_core.specs.declared.ready.Ready.{Ready}
 use Rattle.kt_plan.specs.Limits.{Planned}
+use Rattle.kt_plan.specs.declared.steps.Act.{Act}
 use Rattle.kt_plan.specs.declared.steps.Give.{Give}
-use Rattle.kt_plan.specs.declared.steps.Look.{Look}
 use Rattle.kt_plan.specs.declared.steps.Step.{Step}
-use Rattle.kt_plan.specs.declared.steps.Told.{Told}
 use Rattle.kt_plans.specs.Looks as run_looks
 use Rattle.kt_plans.specs.Progress.{Progress, progress_at_start}
 use Rattle.kt_system.specs.Systems.{Whole, IsSameSystem}
+use Rattle.kt_spacetime.specs.declared.event.Event.{Event}
 use Rattle.kt_threads.specs.Histories.{IsMade, StepsLead, IsHistory}
+use Rattle.kt_threads.specs.Rows.{four_rows}
+use Rattle.kt_threads.specs.Turns.{IsReadyStep}
 use Rattle.kt_threads.specs.declared.state.Made.{Made}
 
 pub same_system : (s : Whole) → IsSameSystem s s
@@ -72,24 +75,36 @@ history_same steps now new same h = record {
   leads = leads_same steps h.begin now new same h.leads;
 }
 
--- a step that was made was not refused
-pub not_refused : (why : Option StepFault) (result : Result Told StepFault) (told : Told) → result ≡ Ok told
-    → IfSome why (λ fault. result ≡ Err fault) → why ≡ None
-not_refused None result told is h = refl
-not_refused (Some fault) result told is h = absurd (cc (sym is ∙ h))
+-- of the rows that a step tells, the one at a place
+pub told_at_place : (rows : List Event) (count i : ℕ) → i < 4 → slice_get (four_rows rows count) i ≡ Some (numbered_row rows (count + i))
+told_at_place rows count zero l = ap (λ (k : ℕ). Some (numbered_row rows k)) (omega arith)
+told_at_place rows count (suc zero) l = ap (λ (k : ℕ). Some (numbered_row rows k)) (omega arith)
+told_at_place rows count (suc (suc zero)) l = ap (λ (k : ℕ). Some (numbered_row rows k)) (omega arith)
+told_at_place rows count (suc (suc (suc zero))) l = ap (λ (k : ℕ). Some (numbered_row rows k)) (omega arith)
+told_at_place rows count (suc (suc (suc (suc i)))) l = absurd (omega (arith, l))
 
--- a step leads from one world to another, and tells that it was made
-pub makes : (old new : World) (step : Step) (look : Look) (give : Give) (told : Told) → told.step ≡ step → step_refusal old step ≡ None
-    → KeepsPlan old new → MakesStep old step give told.acts new → length told.rows ≡ 4
-    → ((i : ℕ) → i < 4 → slice_get told.rows i ≡ Some (numbered_row new.system.rows.rows (length old.system.rows.rows + i)))
-    → ((first : ℕ) (v : Progress) → Mirrors old.agenda old.system first v
-    → look ≡ run_looks.look old.agenda.plan v step)
-    → IsMade old (record { look = look; give = give; told = told }) new
-makes old new step look give told is allowed keeps made four rows looks = record {
-  allowed = subst (λ (s : Step). step_refusal old s ≡ None) (sym is) allowed;
-  keeps = keeps;
-  makes = subst (λ (s : Step). MakesStep old s give told.acts new) (sym is) made;
-  four = four;
-  rows = rows;
-  look = λ first v r. subst (λ (s : Step). look ≡ run_looks.look old.agenda.plan v s) (sym is) (looks first v r);
+-- a step of which all was looked up was made
+pub acted : (old new : World) (next : Ready) (give : Give) (acts : List Act) (count : ℕ) (made : Made)
+    → made ≡ record { look = next.look; give = give; told = record { step = next.step; rows = four_rows new.system.rows.rows count; acts = acts } }
+    → count ≡ length old.system.rows.rows → IsReadyStep old next → KeepsPlan old new → MakesStep old next.step give acts new
+    → IsMade old made new
+acted old new next give acts count made is before ready keeps makes = subst (λ (m : Made). IsMade old m new) (sym is) step
+  where
+    step : IsMade old (record { look = next.look; give = give; told = record { step = next.step; rows = four_rows new.system.rows.rows count; acts = acts } }) new
+    step = record {
+      allowed = ready.ready.allowed;
+      keeps = keeps;
+      makes = makes;
+      four = refl;
+      rows = λ i l. told_at_place new.system.rows.rows count i l ∙ ap (λ (k : ℕ). Some (numbered_row new.system.rows.rows (k + i))) before;
+      look = ready.look;
+    }
+
+-- of a step that can be made all was looked up
+pub ready_step : (w : World) (next : Ready) (step : Step) → next.step ≡ step → IsReady w next
+    → ((first : ℕ) (v : Progress) → Mirrors w.agenda w.system first v → next.look ≡ run_looks.look w.agenda.plan v step)
+    → IsReadyStep w next
+ready_step w next step is ready looks = record {
+  ready = ready;
+  look = λ first v r. subst (λ (s : Step). next.look ≡ run_looks.look w.agenda.plan v s) (sym is) (looks first v r);
 }

@@ -4,6 +4,7 @@ pub mod FaultTexts
 pub mod Histories
 pub mod Moves
 pub mod Noted
+pub mod Rows
 pub mod Workers
 pub mod Telling
 pub mod Turns

@@ -2,7 +2,12 @@
 use Rattle.std.specs.Prelude.{◌≡◌, ◌⊎◌, ℕ, true, false, Option, Some, None, IsSome}
 use Rattle.kt_core.specs.declared.faults.StepFault.{StepFault}
 use Rattle.kt_core.specs.declared.faults.StepFault.TheVariants as refused
+use Rattle.kt_core.specs.Ready.{IsReady}
+use Rattle.kt_core.specs.Shown.{Mirrors}
 use Rattle.kt_core.specs.Worlds.{World, can_make, step_refusal, IsWorldAtRest, IsNextStepOf}
+use Rattle.kt_core.specs.declared.ready.Ready.{Ready}
+use Rattle.kt_plans.specs.Looks as run_looks
+use Rattle.kt_plans.specs.Progress.{Progress}
 use Rattle.kt_plans.specs.Steps.{process_of_step}
 use Rattle.kt_plan.specs.declared.steps.Step.{Step}
 use Rattle.kt_threads.specs.Faults.{live_of_step}
@@ -13,6 +18,12 @@ use Rattle.kt_threads.specs.declared.faults.LiveFault.{LiveFault}
 abbrev pub IsNext : World → ℕ → Option Step → Type 0
 IsNext w p None = (step : Step) → process_of_step step ≡ p → can_make w step ≡ false
 IsNext w p (Some step) = IsNextStepOf w p step × (can_make w step ≡ true)
+
+-- a step of which all was looked up: it is not refused, and needs what it needs in each run of the plan that leads here
+pub record IsReadyStep (w : World) (next : Ready) : Type 0 where
+  pub ready : IsReady w next
+  pub look : (first : ℕ) (v : Progress) → Mirrors w.agenda w.system first v → next.look
+      ≡ run_looks.look w.agenda.plan v next.step
 
 -- a process can make a step
 pub record HasStep (w : World) (p : ℕ) : Type 0 where

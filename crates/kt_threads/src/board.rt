@@ -1,15 +1,15 @@
 //! The lock, and what each thread does at it.
 
-ghost use Rattle.std.specs.Prelude.{◌≡◌, ◌≢◌, ◌⊎◌, ◌↔◌, Some, None, IfSome, IfNone, IsSome, IsTrue};
-ghost use Rattle.kt_core.specs.Worlds.{needs};
+ghost use Rattle.std.specs.Prelude.{◌≡◌, ◌≢◌, ◌↔◌, IfSome, IsTrue};
 ghost use Rattle.kt_plans.specs.Steps.{process_of_step};
-ghost use Rattle.kt_threads.specs.Turns.{HasStep, IsNext, IsOver};
+ghost use Rattle.kt_threads.specs.Turns.{HasStep, IsOver};
 
 use crate::errands::errand_for;
 use crate::faults::LiveFault;
 use crate::minutes::Minutes;
-use crate::state::{Made, State};
+use crate::state::{Acted, State};
 use kt_base::{Memory, ProcNo};
+use kt_core::Ready;
 use kt_plan::{Give, Look, Step};
 use std::alloc::Global;
 use std::sync::{Condvar, Mutex, Wait};
@@ -18,12 +18,12 @@ use std::sync::{Condvar, Mutex, Wait};
 const MOST_IN_ONE_HOLD: usize = 1024;
 
 /// What comes next for a process.
-#[derive(Clone, Copy, Debug, PartialEq, Eq)]
+#[derive(Drop)]
 pub(crate) enum Next {
     /// Its object is asked for what its next step needs.
     Ask(Step, Look),
     /// Its step was made.
-    Made(Made),
+    Made(Acted),
     /// Another step comes next by now.
     Again,
     /// All is done, or a fault ended it.
@@ -60,17 +60,17 @@ impl Board {
         let mut minutes = self.minutes.lock(rt);
         for _ in rt.forever() {
             minutes.arrive(me);
-            if !must_wait(minutes.state(), me) {
-                break;
+            let next = go_on(&mut minutes, me);
+            if !is_nothing(&next) || !must_wait(minutes.state(), me) {
+                minutes.leave(me);
+                self.wake(&mut minutes, me);
+                return next;
             }
             minutes.sleep(me);
-            self.wake(&mut minutes);
+            self.wake(&mut minutes, me);
             minutes = news.wait(rt, minutes);
         }
-        let next = go_on(&mut minutes, me);
-        minutes.leave(me);
-        self.wake(&mut minutes);
-        next
+        Next::End
     }
 
     /// Makes a step for which the process's object was asked, if it still comes next and needs the same.
@@ -92,12 +92,9 @@ impl Board {
             return Next::End;
         }
         minutes.arrive(me);
-        if !minutes.state().is_next(me, &step, look) {
-            return Next::Again;
-        }
-        let next = minutes.make(step, give);
+        let next = make_asked(&mut minutes, me, step, look, give);
         minutes.leave(me);
-        self.wake(&mut minutes);
+        self.wake(&mut minutes, me);
         next
     }
 
@@ -110,12 +107,12 @@ impl Board {
 
     /// Who leaves the lock wakes a process that sleeps though it can make a step, unless another thread is at the lock or on
     /// its way there; and all of them where all is over.
-    fn wake(&self, minutes: &mut Minutes) {
+    fn wake(&self, minutes: &mut Minutes, me: ProcNo) {
         if minutes.state().is_over() {
             self.wake_all();
             return;
         }
-        let Some(p) = minutes.call() else {
+        let Some(p) = minutes.call(me) else {
             return;
         };
         if let Some(news) = self.news.get(p.index()) {
@@ -153,18 +150,32 @@ fn must_wait(state: &State, me: ProcNo) -> bool
     state.next_step_of(me).is_none() && !state.is_over()
 }
 
-/// The step that a process makes next, and what it needs of the process's object; None after a fault.
-fn next_in(state: &State, me: ProcNo) -> Option<(Step, Look)>
-    ensures look { IfSome result (λ next. next.1 ≡ needs state.now.world next.0) }
-    ensures next { IfSome result (λ next. IsNext state.now.world me (Some next.0)) }
-    ensures going { IfSome result (λ _. state.now.fault ≡ None) }
-    ensures none { IfNone result (IsSome state.now.fault ⊎ IsNext state.now.world me None) }
+/// Whether nothing comes next for a process by now.
+fn is_nothing(next: &Next) -> bool {
+    matches!(next, Next::Again)
+}
+
+/// Whether this is the step that comes next, and what it needs.
+fn is_for(ready: &Ready, step: Step, look: Look) -> bool
+    ensures next { IsTrue result ↔ ((ready.now.step ≡ step) × (ready.now.look ≡ look)) }
 {
-    if state.fault().is_some() {
-        return None;
+    ready.step == step && ready.look == look
+}
+
+/// Makes the step for which a process's object was asked, if it still comes next and needs the same.
+fn make_asked(minutes: &mut Minutes, me: ProcNo, step: Step, look: Look, give: Give) -> Next
+    ensures look { (made : _) → result ≡ Next.Made made → made.look ≡ look }
+    ensures give { (made : _) → result ≡ Next.Made made → made.give ≡ give }
+    ensures step { (made : _) → result ≡ Next.Made made → made.told.step ≡ step }
+    ensures own { (made : _) → result ≡ Next.Made made → process_of_step step ≡ me }
+{
+    let Some(ready) = minutes.ready(me) else {
+        return Next::Again;
+    };
+    if !is_for(&ready, step, look) {
+        return Next::Again;
     }
-    let step = state.next_step_of(me)?;
-    Some((step, state.look(&step)))
+    minutes.make(&ready, give)
 }
 
 /// Makes a process's next step, if it needs nothing of its object.
@@ -173,18 +184,18 @@ fn make_next(minutes: &mut Minutes, me: ProcNo) -> Next
     ensures saves { (made : _) → result ≡ Next.Made made → made.look ≢ Look.NeedsSave }
     ensures own { (made : _) → result ≡ Next.Made made → process_of_step made.told.step ≡ me }
 {
-    let Some((step, look)) = next_in(minutes.state(), me) else {
+    let Some(ready) = minutes.ready(me) else {
         return if minutes.state().is_over() {
             Next::End
         } else {
             Next::Again
         };
     };
-    if look == Look::NeedsSave || look == Look::NeedsBody {
-        return Next::Ask(step, look);
+    if ready.look == Look::NeedsSave || ready.look == Look::NeedsBody {
+        return Next::Ask(ready.step, ready.look);
     }
     minutes.make(
-        step,
+        &ready,
         Give {
             able: false,
             body: 0,

@@ -6,7 +6,7 @@ ghost use Rattle.kt_threads.specs.Noted.{AreAskedBy};
 ghost use Rattle.kt_threads.specs.Errands.{body_for, are_no_acts, errand_of, is_no_errand};
 
 use crate::lists::ErrandLists;
-use crate::state::Made;
+use crate::state::Acted;
 use kt_base::{Memory, ProcNo};
 use kt_plan::{Act, Look, Step};
 
@@ -52,29 +52,29 @@ fn offered_for(look: Look, body: i64) -> Option<i64>
 }
 
 /// What a step asks of its process's object; None where that is nothing.
-pub(crate) fn errand_for(made: &Made) -> Option<Errand>
+pub(crate) fn errand_for(made: &Acted) -> Option<Errand>
     ensures is { IfSome result (λ errand. errand ≡ errand_of made.now) }
     ensures some { IfSome result (λ _. is_no_errand (errand_of made.now) ≡ false) }
     ensures none { IfNone result (is_no_errand (errand_of made.now) ≡ true) }
 {
     let offered = offered_for(made.look, made.give.body);
-    if offered.is_none() && are_nothing(&made.told.acts) {
+    if offered.is_none() && are_nothing(&made.acts) {
         return None;
     }
     Some(Errand {
         offered,
-        acts: copied(&made.told.acts),
+        acts: copied(&made.acts),
     })
 }
 
 /// Notes what a step asks of its process's object.
 #[tactic(auto, using(crate::proofs::Noting::none_asked_next, crate::proofs::Noting::asked_next))]
-pub(crate) fn note_errand(lists: &mut ErrandLists, made: &Made) -> Result<(), Memory>
+pub(crate) fn note_errand(lists: &mut ErrandLists, made: &Acted) -> Result<(), Memory>
     ensures { OnOk result ((steps : _)
         → AreAskedBy steps lists.old → AreAskedBy (steps ++ made.now ∷ []) lists.new) }
 {
     if let Some(errand) = errand_for(made) {
-        lists.note(process_of(&made.told.step), errand)?;
+        lists.note(process_of(&made.step), errand)?;
     }
     Ok(())
 }

@@ -1,6 +1,6 @@
 //! What is noted of steps: a list for each process, or for none where nobody asks for it, and a list of all.
 
-ghost use Rattle.std.specs.Prelude.{◌≡◌, [], ◌∷◌, ◌++◌, Some, None, map, option_map, slice_index_or, if◌then◌else◌, IfOk, OnOk};
+ghost use Rattle.std.specs.Prelude.{◌≡◌, false, [], ◌∷◌, ◌++◌, Some, None, map, option_map, slice_index_or, if◌then◌else◌, IfOk, OnOk};
 ghost use Rattle.kt_threads.specs.Noted.{IsNotedBy};
 
 use crate::errands::Errand;
@@ -79,6 +79,13 @@ impl ToldLists {
             lists.push(Vec::new(alloc))?;
         }
         Ok(ToldLists { lists })
+    }
+
+    /// Whether there are any.
+    pub(crate) fn are_kept(&self) -> bool
+        ensures { result ≡ false → self.now ≡ [] }
+    {
+        !self.lists.is_empty()
     }
 
     /// Notes what a step of a process told it.

@@ -1,17 +1,18 @@
 //! What lies under the lock: a state, and what is noted of the steps that led to it.
 
-ghost use Rattle.std.specs.Prelude.{◌≡◌, [], ◌∷◌, ◌++◌, None, map, option_map, IfOk, IfSome, IsTrue, OnOk, ◌↔◌};
-ghost use Rattle.kt_core.specs.Worlds.{needs};
-ghost use Rattle.kt_threads.specs.Noted.{AreNoted};
-ghost use Rattle.kt_threads.specs.Turns.{EndsBy, HasStep};
+ghost use Rattle.std.specs.Prelude.{◌≡◌, ◌⊎◌, ◌^◌, ◌≤◌, [], ◌∷◌, ◌++◌, None, map, option_map, IfOk, IfNone, IfSome, IsSome, IsTrue, OnOk, ◌↔◌};
+ghost use Rattle.kt_plans.specs.Steps.{process_of_step};
+ghost use Rattle.kt_threads.specs.Noted.{AreNoted, AreToldBy};
+ghost use Rattle.kt_threads.specs.Rows.{four_rows};
+ghost use Rattle.kt_threads.specs.Turns.{EndsBy, HasStep, IsNext, IsReadyStep};
 
 use crate::board::Next;
 use crate::errands::{Errand, note_errand, process_of};
 use crate::faults::LiveFault;
 use crate::lists::{ErrandLists, StepList, ToldLists};
-use crate::state::{Made, State};
+use crate::state::{Acted, State};
 use kt_base::{Memory, ProcNo, ProcSet};
-use kt_core::Priority;
+use kt_core::{Priority, Ready};
 use kt_plan::{Give, Step, Told};
 use std::alloc::Global;
 use std::marker::Model;
@@ -82,12 +83,34 @@ impl Minutes {
         &self.state
     }
 
-    /// Makes a step, and notes it. A step that is refused, or want of memory, ends all.
-    pub(crate) fn make(&mut self, step: Step, give: Give) -> Next
-        ensures look { (made : _) → result ≡ Next.Made made → made.look ≡ needs self.old.world step }
+    /// The step that a process makes next, with what was looked up for it; None where it can make none, or after a fault. A
+    /// step that is refused ends all.
+    pub(crate) fn ready(&mut self, me: ProcNo) -> Option<Ready>
+        ensures ready { IfSome result (IsReadyStep self.new.world) }
+        ensures own { IfSome result (λ ready. process_of_step ready.step ≡ me) }
+        ensures going { IfSome result (λ _. self.new.fault ≡ None) }
+        ensures none { IfNone result (IsSome self.old.fault ⊎ IsNext self.old.world me None
+            ⊎ ((step : Step) × EndsBy self.old step self.new.fault)) }
+    {
+        if self.state.fault().is_some() {
+            return None;
+        }
+        match self.state.next_ready(me) {
+            Ok(next) => next,
+            Err(fault) => {
+                self.state.stop(LiveFault::of_step(fault));
+                None
+            }
+        }
+    }
+
+    /// Makes a step of which all was looked up, and notes it. Want of memory ends all.
+    pub(crate) fn make(&mut self, ready: &Ready, give: Give) -> Next
+        requires { IsReadyStep self.old.world ready.now }
+        ensures look { (made : _) → result ≡ Next.Made made → made.look ≡ ready.now.look }
         ensures give { (made : _) → result ≡ Next.Made made → made.give ≡ give }
-        ensures step { (made : _) → result ≡ Next.Made made → made.told.step ≡ step }
-        ensures end { result ≡ Next.End → EndsBy self.old step self.new.fault }
+        ensures step { (made : _) → result ≡ Next.Made made → made.told.step ≡ ready.now.step }
+        ensures end { result ≡ Next.End → EndsBy self.old ready.now.step self.new.fault }
     {
         let Minutes {
             state,
@@ -96,14 +119,13 @@ impl Minutes {
             steps,
             ..
         } = self;
-        let made = match state.make(step, give) {
-            Ok(made) => made,
-            Err(fault) => {
-                state.stop(LiveFault::of_step(fault));
-                return Next::End;
-            }
+        let count = state.rows();
+        let Ok(made) = state.act(ready, give) else {
+            state.stop(LiveFault::Memory);
+            return Next::End;
         };
-        if note_made(errands, told, steps, &made).is_err() {
+        let noted = note_made(errands, told, steps, state, count, &made);
+        if noted.is_err() {
             state.stop(LiveFault::Memory);
             return Next::End;
         }
@@ -134,33 +156,33 @@ impl Minutes {
     }
 
     /// Calls a process that sleeps though it can make a step, if there is one; none while a thread is at the lock or on
-    /// its way there.
-    pub(crate) fn call(&mut self) -> Option<ProcNo>
+    /// its way there. It is looked for from the one that comes after the caller.
+    pub(crate) fn call(&mut self, me: ProcNo) -> Option<ProcNo>
         ensures { self.new ≡ self.old }
     {
         if self.coming.first().is_some() {
             return None;
         }
-        let p = self.best_sleeper()?;
+        let p = self.best_sleeper(me)?;
         self.arrive(p);
         Some(p)
     }
 
-    /// Of the processes that sleep though they can make a step, the one that steps best; of several the least.
-    fn best_sleeper(&self) -> Option<ProcNo> {
+    /// Of the processes that sleep though they can make a step, the one that steps best; of several the next one after `me`, as
+    /// parcels for several are most often taken in their order.
+    fn best_sleeper(&self, me: ProcNo) -> Option<ProcNo> {
         let mut later = Later {
             down: None,
             awaits: None,
         };
-        let mut left = self.asleep;
-        for _number in 0..ProcNo::COUNT {
-            let Some(p) = left.first() else {
-                return later.first();
-            };
-            if can_step(&self.state, p) && !later.puts_off(p, self.state.priority(p)) {
+        for number in 1..=ProcNo::COUNT {
+            let p = ProcNo::nth((me.get() + number) % ProcNo::COUNT);
+            if self.asleep.has(p)
+                && can_step(&self.state, p)
+                && !later.puts_off(p, self.state.priority(p))
+            {
                 return Some(p);
             }
-            left = left.without(p);
         }
         later.first()
     }
@@ -199,14 +221,31 @@ fn note_made(
     errands: &mut ErrandLists,
     told: &mut ToldLists,
     steps: &mut StepList,
-    made: &Made,
+    state: &State,
+    count: usize,
+    made: &Acted,
 ) -> Result<(), Memory>
+    requires rows { made.now.told.rows ≡ four_rows state.now.world.system.rows.rows count }
+    requires few { count ≤ 2 ^ 24 }
     ensures { OnOk result ((before : _) → AreNoted before errands.old told.old steps.old
         → AreNoted (before ++ made.now ∷ []) errands.new told.new steps.new) }
 {
     note_errand(errands, made)?;
-    told.note(process_of(&made.told.step), made.told)?;
-    steps.note(made.told.step)?;
+    note_told(told, state, count, made)?;
+    steps.note(made.step)?;
+    Ok(())
+}
+
+/// Notes what a step told, where that is kept.
+fn note_told(lists: &mut ToldLists, state: &State, count: usize, made: &Acted) -> Result<(), Memory>
+    requires rows { made.now.told.rows ≡ four_rows state.now.world.system.rows.rows count }
+    requires few { count ≤ 2 ^ 24 }
+    ensures { OnOk result ((before : _) → AreToldBy before lists.old
+        → AreToldBy (before ++ made.now ∷ []) lists.new) }
+{
+    if lists.are_kept() {
+        lists.note(process_of(&made.step), state.told(made, count))?;
+    }
     Ok(())
 }
 

@@ -23,7 +23,7 @@ use crate::faults::LiveFault;
 use crate::laws::laws_of_worlds;
 use crate::minutes::{Keep, Minutes};
 use crate::spawning::{SpawnFault, run_all};
-use crate::state::{Made, State};
+use crate::state::{Acted, State};
 use crate::worker::{Worker, work};
 use kt_base::ProcNo;
 use kt_held::{Cast, Held, begin_all};
@@ -113,7 +113,7 @@ fn finish(
 ) -> Result<
     (
         SpaceTime,
-        Vec<Snapshot<Made>>,
+        Vec<Snapshot<Acted>>,
         Vec<Vec<Errand>>,
         Vec<Vec<Told>>,
         Option<Vec<Step>>,
@@ -221,7 +221,7 @@ pub(crate) fn work_out<R: Threads + Wait + Sync>(
 ) -> Result<
     (
         SpaceTime,
-        Vec<Snapshot<Made>>,
+        Vec<Snapshot<Acted>>,
         Vec<Vec<Errand>>,
         Vec<Vec<Told>>,
         Vec<Held>,

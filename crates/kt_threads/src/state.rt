@@ -1,18 +1,20 @@
 //! A world, and the steps that led to it.
 
-ghost use Rattle.std.specs.Prelude.{◌≡◌, ◌⊎◌, ◌+◌, ◌^◌, [], ◌∷◌, ◌++◌, None, Some, IfOk, IfErr, IfSome, OnErr, IsTrue, ◌↔◌, ◌<◌, map, vec_len, vec_capacity};
-ghost use Rattle.kt_core.specs.Worlds.{needs, step_refusal, IsWorldAtRest, IsOpening, IsSameWorld};
+ghost use Rattle.std.specs.Prelude.{◌≡◌, ◌⊎◌, ◌+◌, ◌^◌, [], ◌∷◌, ◌++◌, None, Some, IfOk, IfErr, IfSome, OnErr, IsTrue, ◌↔◌, ◌<◌, ◌≤◌, length, map, option_map, vec_len, vec_capacity};
+ghost use Rattle.kt_core.specs.Worlds.{needs, numbered_row, step_refusal, IsWorldAtRest, IsOpening, IsSameWorld};
 ghost use Rattle.kt_plans.specs.Follows.{FollowsPlan};
 ghost use Rattle.kt_plans.specs.Headline.{IsPromised};
+ghost use Rattle.kt_plans.specs.Steps.{process_of_step};
 ghost use Rattle.kt_threads.specs.Histories.{IsMade, IsHistory, first_fault};
-ghost use Rattle.kt_threads.specs.Turns.{IsNext, IsOver};
+ghost use Rattle.kt_threads.specs.Rows.{four_rows};
+ghost use Rattle.kt_threads.specs.Turns.{IsNext, IsOver, IsReadyStep};
 
 use crate::faults::LiveFault;
 use crate::plans::is_same_plan;
-use kt_base::{Memory, ProcNo};
-use kt_core::{Priority, StepFault, World};
-use kt_plan::{Give, Look, Plan, Step, Told};
-use kt_spacetime::SpaceTime;
+use kt_base::{Memory, ProcNo, RowNo};
+use kt_core::{Priority, Ready, StepFault, World};
+use kt_plan::{Act, Give, Look, Plan, Step, Told};
+use kt_spacetime::{Event, SpaceTime};
 use std::alloc::Global;
 use std::marker::Model;
 use std::snapshot::Snapshot;
@@ -25,12 +27,36 @@ pub struct Made {
     pub told: Told,
 }
 
+/// Nothing to be done to an object.
+const NO_ACTS: [Act; 2] = [Act::Nothing, Act::Nothing];
+
+/// A step that was made, which contracts see as what was made. The rows that it told are read off the log only where somebody
+/// asks for them.
+#[derive(Drop)]
+pub(crate) struct Acted {
+    pub(crate) step: Step,
+    pub(crate) look: Look,
+    pub(crate) give: Give,
+    pub(crate) acts: [Act; 2],
+    count: Snapshot<usize>,
+    world: Snapshot<World>,
+}
+
+impl Model for Acted {
+    ghost use Rattle.kt_threads.specs.declared.state.Made.{Made};
+    ghost use Rattle.kt_threads.specs.Rows.{four_rows};
+
+    ghost Value = { Made };
+
+    ghost view = { λ a. record { look = a.look; give = a.give; told = record { step = a.step; rows = four_rows a.world.value.system.rows.rows a.count.value; acts = a.acts } } };
+}
+
 /// A world with the steps that led to it from the world in which nothing of its plan is done, and the first fault. A step
 /// takes no memory here: what is recorded of it is for contracts alone.
 #[derive(Drop)]
 pub struct State {
     world: World,
-    steps: Vec<Snapshot<Made>>,
+    steps: Vec<Snapshot<Acted>>,
     fault: Option<LiveFault>,
 }
 
@@ -76,15 +102,74 @@ impl State {
         ensures err_steps { OnErr result (self.new.steps ≡ self.old.steps) }
         ensures fault { self.new.fault ≡ self.old.fault }
     {
+        let ready = self.world.ready(&step)?;
+        let count = self.rows();
+        let made = self.act(&ready, give)?;
+        Ok(Made {
+            look: made.look,
+            give,
+            told: self.told(&made, count),
+        })
+    }
+
+    /// Makes a step of which all was looked up, and records it. What it told is made by `told`.
+    ///
+    /// After want of memory the world and the steps are as they were.
+    pub(crate) fn act(&mut self, ready: &Ready, give: Give) -> Result<Acted, Memory>
+        requires { IsReadyStep self.old.world ready.now }
+        ensures steps { IfOk result (λ made. self.new.steps ≡ self.old.steps ++ made ∷ []) }
+        ensures made { IfOk result (λ made. IsMade self.old.world made self.new.world) }
+        ensures look { IfOk result (λ made. made.look ≡ ready.now.look) }
+        ensures give { IfOk result (λ made. made.give ≡ give) }
+        ensures step { IfOk result (λ made. made.told.step ≡ ready.now.step) }
+        ensures rows { IfOk result (λ made. made.told.rows
+            ≡ four_rows self.new.world.system.rows.rows (length self.old.world.system.rows.rows)) }
+        ensures err_world { OnErr result (IsSameWorld self.new.world self.old.world) }
+        ensures err_steps { OnErr result (self.new.steps ≡ self.old.steps) }
+        ensures fault { self.new.fault ≡ self.old.fault }
+    {
         let State { world, steps, .. } = self;
-        if steps.reserve(1).is_err() {
-            return Err(StepFault::Memory);
-        }
-        let look = world.look(&step);
-        let told = world.step(step, give)?;
-        let made = made_of(look, &give, &told);
+        steps.reserve(1)?;
+        let count = world.log().rows().len();
+        let mut acts = NO_ACTS;
+        world.make_step(ready, give, &mut acts)?;
+        let made = acted_of(ready, &give, &acts, &count, world);
         record_made(steps, &made);
         Ok(made)
+    }
+
+    /// How many rows the log has.
+    pub(crate) fn rows(&self) -> usize
+        ensures count { result ≡ length self.now.world.system.rows.rows }
+        ensures few { result ≤ 2 ^ 24 }
+    {
+        self.world.log().rows().len()
+    }
+
+    /// What a step told, after which the log has these first rows and those of the step.
+    pub(crate) fn told(&self, made: &Acted, count: usize) -> Told
+        requires rows { made.now.told.rows ≡ four_rows self.now.world.system.rows.rows count }
+        requires few { count ≤ 2 ^ 24 }
+        ensures { result ≡ made.now.told }
+    {
+        Told {
+            step: made.step,
+            rows: [
+                self.row(count),
+                self.row(count + 1),
+                self.row(count + 2),
+                self.row(count + 3),
+            ],
+            acts: [made.acts[0], made.acts[1]],
+        }
+    }
+
+    /// The row after the first so many, with its number, if there is one.
+    fn row(&self, count: usize) -> Option<(RowNo, Event)>
+        ensures { result ≡ numbered_row self.now.world.system.rows.rows count }
+    {
+        let event = self.world.log().rows().get(count)?;
+        Some((RowNo::after(count), *event))
     }
 
     /// Keeps the first fault.
@@ -137,26 +222,21 @@ impl State {
         self.world.priority(p)
     }
 
-    /// What a step needs of the process's object.
-    pub(crate) fn look(&self, step: &Step) -> Look
-        ensures { result ≡ needs self.now.world step.now }
-    {
-        self.world.look(step)
-    }
-
-    /// Whether this is the step that a process makes next, and what it needs.
-    pub(crate) fn is_next(&self, p: ProcNo, step: &Step, look: Look) -> bool
-        ensures next { IsTrue result ↔
-            (IsNext self.now.world p (Some step.now) × (look ≡ needs self.now.world step.now)) }
+    /// The step that a process makes next, with what was looked up for it, if it can make one; or why it is refused.
+    pub(crate) fn next_ready(&self, p: ProcNo) -> Result<Option<Ready>, StepFault>
+        ensures next { IfOk result (λ next. IsNext self.now.world p (option_map (λ ready. ready.step) next)) }
+        ensures ready { IfOk result (λ next. IfSome next (IsReadyStep self.now.world)) }
+        ensures own { IfOk result (λ next. IfSome next (λ ready. process_of_step ready.step ≡ p)) }
+        ensures refused { IfErr result (λ fault. (step : Step) × (step_refusal self.now.world step ≡ Some fault)) }
     {
         match self.world.next_step_of(p) {
-            Some(next) => next == *step && self.world.look(step) == look,
-            None => false,
+            Some(step) => Ok(Some(self.world.ready_found(&step)?)),
+            None => Ok(None),
         }
     }
 
     /// The log, of which all is so that is promised of a run's, and the steps.
-    pub(crate) fn into_parts(self) -> (SpaceTime, Vec<Snapshot<Made>>)
+    pub(crate) fn into_parts(self) -> (SpaceTime, Vec<Snapshot<Acted>>)
         ensures log { result.0 ≡ self.world.system.rows }
         ensures promised { IsPromised result.0.rows }
         ensures steps { map (λ step. step.value) result.1.items ≡ self.steps }
@@ -167,22 +247,33 @@ impl State {
     }
 }
 
-/// The record of a step.
-fn made_of(look: Look, give: &Give, told: &Told) -> Made
-    ensures { result ≡ record { look = look; give = give.now; told = told.now } }
+/// A step that was made, of a world that had so many rows before it.
+fn acted_of(ready: &Ready, give: &Give, acts: &[Act; 2], count: &usize, world: &World) -> Acted
+    ensures { result ≡ record {
+      look = ready.now.look;
+      give = give.now;
+      told = record {
+        step = ready.now.step;
+        rows = four_rows world.now.system.rows.rows count.now;
+        acts = acts.now;
+      };
+    } }
 {
-    Made {
-        look,
+    Acted {
+        step: ready.step,
+        look: ready.look,
         give: Give {
             able: give.able,
             body: give.body,
         },
-        told: *told,
+        acts: [acts[0], acts[1]],
+        count: Snapshot::of(count),
+        world: Snapshot::of(world),
     }
 }
 
 /// Records a step, in the room made before.
-fn record_made(steps: &mut Vec<Snapshot<Made>>, made: &Made)
+fn record_made(steps: &mut Vec<Snapshot<Acted>>, made: &Acted)
     requires { vec_len steps.old < vec_capacity steps.old }
     ensures { map (λ step. step.value) steps.new.items ≡ map (λ step. step.value) steps.old.items ++ made.now ∷ [] }
 {

@@ -9,7 +9,7 @@ ghost use Rattle.kt_threads.specs.Workers.{KeepsServing};
 use crate::board::{Board, Next};
 use crate::errands::{Errand, copied, errand_for};
 use crate::faults::LiveFault;
-use crate::state::Made;
+use crate::state::Acted;
 use kt_base::ProcNo;
 use kt_held::Held;
 use kt_object::Recoverable;
@@ -73,7 +73,7 @@ impl Worker {
 
     /// Does what a step that was made asks of the object. `saved` is the object's state that was saved for the step. Whether
     /// there may be more.
-    fn obey<R: Wait>(&mut self, rt: &R, board: &Board, made: Made, saved: Option<Vec<u8>>) -> bool
+    fn obey<R: Wait>(&mut self, rt: &R, board: &Board, made: Acted, saved: Option<Vec<u8>>) -> bool
         requires saved { IfSome saved (λ s. IfSome self.old.held.present (λ b.
             IsSavedState (kind_of (b.vtable, b.value)) (value_of (b.vtable, b.value)) s.items)) }
         requires offered { made.look ≡ Look.NeedsBody → IfSome self.old.held.present (λ b.
