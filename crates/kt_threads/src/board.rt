@@ -63,11 +63,11 @@ impl Board {
             let next = go_on(&mut minutes, me);
             if !is_nothing(&next) || !must_wait(minutes.state(), me) {
                 minutes.leave(me);
-                self.wake(&mut minutes, me);
+                self.wake(&mut minutes);
                 return next;
             }
             minutes.sleep(me);
-            self.wake(&mut minutes, me);
+            self.wake(&mut minutes);
             minutes = news.wait(rt, minutes);
         }
         Next::End
@@ -94,7 +94,7 @@ impl Board {
         minutes.arrive(me);
         let next = make_asked(&mut minutes, me, step, look, give);
         minutes.leave(me);
-        self.wake(&mut minutes, me);
+        self.wake(&mut minutes);
         next
     }
 
@@ -107,12 +107,12 @@ impl Board {
 
     /// Who leaves the lock wakes a process that sleeps though it can make a step, unless another thread is at the lock or on
     /// its way there; and all of them where all is over.
-    fn wake(&self, minutes: &mut Minutes, me: ProcNo) {
+    fn wake(&self, minutes: &mut Minutes) {
         if minutes.state().is_over() {
             self.wake_all();
             return;
         }
-        let Some(p) = minutes.call(me) else {
+        let Some(p) = minutes.call() else {
             return;
         };
         if let Some(news) = self.news.get(p.index()) {

@@ -156,33 +156,36 @@ impl Minutes {
     }
 
     /// Calls a process that sleeps though it can make a step, if there is one; none while a thread is at the lock or on
-    /// its way there. It is looked for from the one that comes after the caller.
-    pub(crate) fn call(&mut self, me: ProcNo) -> Option<ProcNo>
+    /// its way there.
+    pub(crate) fn call(&mut self) -> Option<ProcNo>
         ensures { self.new ≡ self.old }
     {
         if self.coming.first().is_some() {
             return None;
         }
-        let p = self.best_sleeper(me)?;
+        let p = self.best_sleeper()?;
         self.arrive(p);
         Some(p)
     }
 
-    /// Of the processes that sleep though they can make a step, the one that steps best; of several the next one after `me`, as
-    /// parcels for several are most often taken in their order.
-    fn best_sleeper(&self, me: ProcNo) -> Option<ProcNo> {
+    /// Of the processes that sleep though they can make a step, the one that steps best; of several the least.
+    fn best_sleeper(&self) -> Option<ProcNo> {
         let mut later = Later {
             down: None,
             awaits: None,
         };
-        for number in 1..=ProcNo::COUNT {
-            let p = ProcNo::nth((me.get() + number) % ProcNo::COUNT);
+        let mut left = self.state.may_step();
+        for _number in 0..ProcNo::COUNT {
+            let Some(p) = left.first() else {
+                return later.first();
+            };
             if self.asleep.has(p)
                 && can_step(&self.state, p)
                 && !later.puts_off(p, self.state.priority(p))
             {
                 return Some(p);
             }
+            left = left.without(p);
         }
         later.first()
     }
@@ -237,6 +240,7 @@ fn note_made(
 }
 
 /// Notes what a step told, where that is kept.
+#[tactic(auto, using(crate::proofs::Noting::told_next, crate::proofs::Noting::untold_next))]
 fn note_told(lists: &mut ToldLists, state: &State, count: usize, made: &Acted) -> Result<(), Memory>
     requires rows { made.now.told.rows ≡ four_rows state.now.world.system.rows.rows count }
     requires few { count ≤ 2 ^ 24 }

@@ -1,6 +1,7 @@
 //! A world, and the steps that led to it.
 
 ghost use Rattle.std.specs.Prelude.{◌≡◌, ◌⊎◌, ◌+◌, ◌^◌, [], ◌∷◌, ◌++◌, None, Some, IfOk, IfErr, IfSome, OnErr, IsTrue, ◌↔◌, ◌<◌, ◌≤◌, length, map, option_map, vec_len, vec_capacity};
+ghost use Rattle.kt_core.specs.Choices.{HasNoOthers};
 ghost use Rattle.kt_core.specs.Worlds.{needs, numbered_row, step_refusal, IsWorldAtRest, IsOpening, IsSameWorld};
 ghost use Rattle.kt_plans.specs.Follows.{FollowsPlan};
 ghost use Rattle.kt_plans.specs.Headline.{IsPromised};
@@ -11,7 +12,7 @@ ghost use Rattle.kt_threads.specs.Turns.{IsNext, IsOver, IsReadyStep};
 
 use crate::faults::LiveFault;
 use crate::plans::is_same_plan;
-use kt_base::{Memory, ProcNo, RowNo};
+use kt_base::{Memory, ProcNo, ProcSet, RowNo};
 use kt_core::{Priority, Ready, StepFault, World};
 use kt_plan::{Act, Give, Look, Plan, Step, Told};
 use kt_spacetime::{Event, SpaceTime};
@@ -215,6 +216,13 @@ impl State {
         ensures next { IsNext self.now.world p result }
     {
         self.world.next_step_of(p)
+    }
+
+    /// The processes that may be able to make a step.
+    pub(crate) fn may_step(&self) -> ProcSet
+        ensures { HasNoOthers self.now.world result }
+    {
+        self.world.may_step()
     }
 
     /// How well a process steps now, where others can step too.

@@ -10,6 +10,7 @@ ghost use Rattle.kt_plans.specs.Progress.{Progress};
 ghost use Rattle.kt_plans.specs.Looks.{look};
 ghost use Rattle.kt_plans.specs.Defaults.{default_step};
 ghost use Rattle.kt_core.specs.Agendas.{open_command};
+ghost use Rattle.kt_core.specs.Choices.{HasNoOthers};
 ghost use Rattle.kt_core.specs.Ready.{IsReady};
 ghost use Rattle.kt_core.specs.Shown.{Mirrors};
 
@@ -17,7 +18,7 @@ use super::World;
 use crate::faults::StepFault;
 use crate::laws::laws_of_runs;
 use crate::ready::Ready;
-use kt_base::ProcNo;
+use kt_base::{ProcNo, ProcSet};
 use kt_plan::{Command, Job, Look, Step};
 
 impl World {
@@ -307,6 +308,15 @@ impl World {
                 }
             }
         }
+    }
+
+    /// The processes that may have an enabled step: those for which there are parcels, and those whose next command is of
+    /// the open phase.
+    #[inline(always)]
+    pub fn may_step(&self) -> ProcSet
+        ensures { HasNoOthers self.now result }
+    {
+        self.agenda.with_open(self.system.receivers())
     }
 
     /// The process whose next command comes first among those that can be done: most often that of the first one of all.
