@@ -107,9 +107,17 @@ impl Agenda {
         let mut all = set;
         for number in 0..self.processes() as u8 {
             let p = ProcNo::nth(number);
-            all = with_if(all, p, self.in_phase.has(p));
+            all = with_if(all, p, self.is_open(p));
         }
         all
+    }
+
+    /// Whether a process's next command is of the open phase.
+    #[inline(always)]
+    pub(crate) fn is_open(&self, p: ProcNo) -> bool
+        ensures { result ≡ is_some (open_command self.now p) }
+    {
+        self.in_phase.has(p)
     }
 
     /// Whether a command of the open phase is not done.

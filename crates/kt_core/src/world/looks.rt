@@ -42,6 +42,9 @@ impl World {
         requires { p < self.now.system.size }
         ensures { result ≡ can_do self.now p }
     {
+        if !self.agenda.is_open(p) {
+            return false;
+        }
         match self.agenda.open_command(p) {
             Some(command) => self.may_do(p, &command),
             None => false,

@@ -1,7 +1,7 @@
-use Rattle.std.specs.Prelude.{◌||◌, is_some}
-use Rattle.std.proofs.Common.{◌≡◌, ◌∙◌, Bool, ap, subst, arith, refl}
+use Rattle.std.specs.Prelude.{◌||◌}
+use Rattle.std.proofs.Common.{◌∙◌, Bool, ap, arith, refl}
 use Rattle.kt_base.specs.Sets.{has}
-use Rattle.kt_core.specs.Agendas.{Agenda, open_command}
+use Rattle.kt_core.specs.Agendas.{open_command}
 use Rattle.kt_core.proofs.Opens.{none_joins, with_next}
 use Rattle.kt_core.proofs.agenda.Agenda.with_open.Goals as goal
 
@@ -16,9 +16,8 @@ loop-number-init c = record { members = λ p l. absurd (omega (arith, l)); other
 
 pub loop-number-preserved : goal.loop-number-preserved
 loop-number-preserved c =
-    let there : has c.self.inside.in_phase c.nth-p.result ≡ is_some (open_command c.args.self.now c.nth-p.result) = subst (λ (a : Agenda). has c.self.inside.in_phase c.nth-p.result ≡ is_some (open_command a c.nth-p.result)) c.self.view_is (c.self.invariant.in_phase c.nth-p.result (let few = c.processes-number-end.ensures.few in omega (arith, c.nth-p.ensures, c.loop-number-test.true, few))) in
     with_next c.args.self.now c.args.set c.loop-number.all c.with_if-all.result c.loop-number.number c.nth-p.result c.nth-p.ensures c.loop-number.invariant
-    (c.with_if-all.ensures.here ∙ ap (λ (b : Bool). has c.loop-number.all c.nth-p.result || b) (c.has.ensures ∙ there)) c.with_if-all.ensures.others
+    (c.with_if-all.ensures.here ∙ ap (λ (b : Bool). has c.loop-number.all c.nth-p.result || b) c.is_open.ensures) c.with_if-all.ensures.others
 
 pub returns-clause-members : goal.returns-clause-members
 returns-clause-members c = λ p l.
