@@ -6,6 +6,7 @@ pub mod FoundRows
 pub mod Gives
 pub mod Orphaned
 pub mod Faults
+pub mod CauseRows
 pub mod SameLists
 pub mod ReceivedRows
 pub mod Begun

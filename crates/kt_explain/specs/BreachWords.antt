@@ -1,11 +1,13 @@
 -- The sentences that are written of what breaks a rule.
-use Rattle.std.specs.Prelude.{ℕ, Some, None, List, [], ◌∷◌, ◌++◌, codes}
+use Rattle.std.specs.Prelude.{ℕ, Option, Some, None, List, [], ◌∷◌, ◌++◌, codes}
 use Rattle.std.specs.Fmt.{decimal}
+use Rattle.kt_base.specs.declared.words.Kind.{Kind}
 use Rattle.kt_base.specs.declared.words.Kind.TheVariants.{Checkpoint, Rollback}
 use Rattle.kt_explain.specs.declared.breach.Breach.{Breach}
 use Rattle.kt_explain.specs.declared.breach.Breach.TheVariants as breach
 use Rattle.kt_explain.specs.declared.breach.MessageBreach.{MessageBreach}
 use Rattle.kt_explain.specs.declared.breach.MessageBreach.TheVariants as message
+use Rattle.kt_explain.specs.declared.breach.Outside.{Outside}
 use Rattle.kt_explain.specs.declared.breach.ProcessBreach.{ProcessBreach}
 use Rattle.kt_explain.specs.declared.breach.ProcessBreach.TheVariants as process
 use Rattle.kt_explain.specs.declared.breach.InstanceBreach.{InstanceBreach}
@@ -30,6 +32,25 @@ message_breach_words (message.DroppedLater p from msg row) =
     codes "process " ++ (decimal p ++ (codes " dropped the later message " ++ (decimal msg ++ (codes " of process "
     ++ (decimal from ++ (codes " before, in row " ++ (decimal row ++ 10 ∷ [])))))))
 
+-- where a process is that is not in an instance
+abbrev pub open_in_words : ℕ → ℕ → Option ℕ → List ℕ
+open_in_words p inst (Some other) = codes "process " ++ (decimal p ++ (codes " is in instance " ++ (decimal other ++ (codes ", and not in " ++ (decimal inst ++ codes ": ")))))
+open_in_words p inst None = codes "process " ++ (decimal p ++ codes " is in no instance: ")
+
+-- in which row it closed the instance
+abbrev pub closing_words : Option ℕ → List ℕ
+closing_words (Some row) = codes ", and closed it in row " ++ (decimal row ++ 10 ∷ [])
+closing_words None = 10 ∷ []
+
+-- why it is not in the instance
+abbrev pub absence_words : ℕ → Option ℕ → Option ℕ → List ℕ
+absence_words inst (Some row) closed = (codes "it joined instance " ++ (decimal inst ++ (codes " in row " ++ decimal row))) ++ closing_words closed
+absence_words inst None closed = codes "it has not joined instance " ++ (decimal inst ++ 10 ∷ [])
+
+-- a process that is not in an instance
+abbrev pub outside_words : Outside → List ℕ
+outside_words o = open_in_words o.p o.inst o.open_in ++ absence_words o.inst o.joined o.closed
+
 -- what is so of a process
 abbrev pub process_breach_words : ProcessBreach → List ℕ
 process_breach_words (process.OwnPeer p) = codes "both processes of the row are process " ++ (decimal p ++ 10 ∷ [])
@@ -39,12 +60,18 @@ process_breach_words (process.Inside p inst row) =
     codes "process " ++ (decimal p ++ (codes " has been in instance " ++ (decimal inst ++ (codes " since row " ++ (decimal row ++ 10 ∷ [])))))
 process_breach_words (process.Rolling p inst row) =
     codes "process " ++ (decimal p ++ (codes " has been in instance " ++ (decimal inst ++ (codes ", a rollback, since row " ++ (decimal row ++ 10 ∷ [])))))
-process_breach_words (process.NotInside p inst (Some other)) =
-    codes "process " ++ (decimal p ++ (codes " is in instance " ++ (decimal other ++ (codes ", and not in instance " ++ (decimal inst ++ (codes ": it did not join that, or has closed it" ++ 10 ∷ []))))))
-process_breach_words (process.NotInside p inst None) =
-    codes "process " ++ (decimal p ++ (codes " is in no instance: it did not join instance " ++ (decimal inst ++ (codes ", or has closed it" ++ 10 ∷ []))))
+process_breach_words (process.NotInside o) = outside_words o
 process_breach_words (process.Joined p inst row) =
     codes "process " ++ (decimal p ++ (codes " joined instance " ++ (decimal inst ++ (codes " already, in row " ++ (decimal row ++ 10 ∷ [])))))
+
+-- that a process began an instance in the row before, and how it joins it in this one
+abbrev pub just_begun_words : ℕ → ℕ → Kind → List ℕ
+just_begun_words p inst Checkpoint =
+    codes "process " ++ (decimal p ++ (codes " began instance " ++ (decimal inst ++ (codes ", a checkpoint, in the row before: this one has to be took,"
+    ++ (decimal p ++ (codes "," ++ (decimal inst ++ (codes ",-" ++ 10 ∷ []))))))))
+just_begun_words p inst Rollback =
+    codes "process " ++ (decimal p ++ (codes " began instance " ++ (decimal inst ++ (codes ", a rollback, in the row before: this one has to be ready,"
+    ++ (decimal p ++ (codes "," ++ (decimal inst ++ (codes ",-" ++ 10 ∷ []))))))))
 
 -- what is so of an instance
 abbrev pub instance_breach_words : InstanceBreach → List ℕ
@@ -60,9 +87,7 @@ instance_breach_words (instance.OfKind inst Rollback row) =
 instance_breach_words (instance.Initiator inst p row) =
     codes "the initiator of instance " ++ (decimal inst ++ (codes " is process " ++ (decimal p
     ++ (codes ", which began it in row " ++ (decimal row ++ 10 ∷ [])))))
-instance_breach_words (instance.JustBegun p inst) =
-    codes "process " ++ (decimal p ++ (codes " began instance " ++ (decimal inst
-    ++ (codes " in the row before, and is to join it in this one, by took in a checkpoint and by ready in a rollback" ++ 10 ∷ []))))
+instance_breach_words (instance.JustBegun p inst kind) = just_begun_words p inst kind
 instance_breach_words (instance.OwnCause inst) =
     codes "who is busy with instance " ++ (decimal inst ++ (codes " has joined it, and is not unwilling to join it" ++ 10 ∷ []))
 

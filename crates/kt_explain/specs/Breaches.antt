@@ -14,13 +14,14 @@ use Rattle.kt_explain.specs.declared.breach.Breach.{Breach}
 use Rattle.kt_explain.specs.declared.breach.Breach.TheVariants as breach
 use Rattle.kt_explain.specs.declared.breach.MessageBreach.{MessageBreach}
 use Rattle.kt_explain.specs.declared.breach.MessageBreach.TheVariants as message
+use Rattle.kt_explain.specs.declared.breach.Outside.{Outside}
 use Rattle.kt_explain.specs.declared.breach.ProcessBreach.{ProcessBreach}
 use Rattle.kt_explain.specs.declared.breach.ProcessBreach.TheVariants as process
 use Rattle.kt_explain.specs.declared.breach.InstanceBreach.{InstanceBreach}
 use Rattle.kt_explain.specs.declared.breach.InstanceBreach.TheVariants as instance
 use Rattle.kt_explain.specs.declared.breach.before.Before.{Before}
 use Rattle.kt_explain.specs.BadChains.{has_sent, has_received}
-use Rattle.kt_explain.specs.Finding.{IsFirstRow, IsLastNumber, begins_inst, decides_inst, drops, fails, receives}
+use Rattle.kt_explain.specs.Finding.{IsFirstRow, IsLastNumber, begins_inst, closes, decides_inst, drops, fails, receives}
 
 -- the greatest message from a sender that is in a list of deeds as received
 pub record IsLatestFrom (from : ℕ) (deeds : List Deed) (msg : ℕ) : Type 0 where
@@ -49,6 +50,13 @@ IsSoOfMessage rows (message.ReceivedLater p from msg row) =
 IsSoOfMessage rows (message.DroppedLater p from msg row) =
     IsLatestFrom from ((past rows).dropped_since p) msg × IsLastIn (drops msg) rows row
 
+-- a process is not in an instance, but in this open one, or in none; in which rows it joined and closed that, if it did
+pub record IsOutside (rows : List Event) (o : Outside) : Type 0 where
+  pub open_in : (past rows).open_in o.p ≡ o.open_in
+  pub another : is_instance o.open_in o.inst ≡ false
+  pub joined : IsLastNumber (is_join o.p o.inst) rows o.joined
+  pub closed : IsLastNumber (closes o.p o.inst) rows o.closed
+
 -- what is told of a process is so after these rows
 abbrev pub IsSoOfProcess : List Event → ProcessBreach → Type 0
 IsSoOfProcess rows (process.OwnPeer p) = Unit {0}
@@ -57,8 +65,7 @@ IsSoOfProcess rows (process.Up p) = (past rows).up p ≡ true
 IsSoOfProcess rows (process.Inside p k row) = ((past rows).open_in p ≡ Some k) × IsLastIn (is_join p k) rows row
 IsSoOfProcess rows (process.Rolling p k row) =
     ((past rows).open_in p ≡ Some k) × (is_rollback (past rows) k ≡ true) × IsLastIn (is_join p k) rows row
-IsSoOfProcess rows (process.NotInside p k open_in) =
-    ((past rows).open_in p ≡ open_in) × (is_instance open_in k ≡ false)
+IsSoOfProcess rows (process.NotInside o) = IsOutside rows o
 IsSoOfProcess rows (process.Joined p k row) = (is_member (past rows) k p ≡ true) × IsLastIn (is_join p k) rows row
 
 -- what is told of an instance is so after these rows
@@ -72,7 +79,7 @@ IsSoOfInstance rows (instance.OfKind k kind row) =
     (kind_of (past rows) k ≡ Some kind) × (p : ℕ) × IsFirstRow (begins_inst k) rows row (event.Began p k kind)
 IsSoOfInstance rows (instance.Initiator k p row) =
     (initiator_of (past rows) k ≡ Some p) × (kind : Kind) × IsFirstRow (begins_inst k) rows row (event.Began p k kind)
-IsSoOfInstance rows (instance.JustBegun p k) = (kind : Kind) × ((past rows).last ≡ Some (event.Began p k kind))
+IsSoOfInstance rows (instance.JustBegun p k kind) = (past rows).last ≡ Some (event.Began p k kind)
 IsSoOfInstance rows (instance.OwnCause k) = Unit {0}
 
 -- what is told of a breach is so after these rows

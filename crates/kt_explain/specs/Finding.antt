@@ -5,7 +5,7 @@ use Rattle.kt_spacetime.specs.declared.event.Event.TheVariants as event
 use Rattle.kt_cuts.specs.Legal.{is_join}
 use Rattle.kt_checker.specs.Unwilling.{is_unwilling}
 use Rattle.kt_explain.specs.declared.finding.Sought.{Sought}
-use Rattle.kt_explain.specs.declared.finding.Sought.TheVariants.{Unwilling, Began, Decided, Received, Failed, Dropped, Joined}
+use Rattle.kt_explain.specs.declared.finding.Sought.TheVariants.{Unwilling, Began, Decided, Received, Failed, Dropped, Joined, Closed}
 use Rattle.kt_explain.specs.declared.finding.Found.{Found}
 
 -- whether a row begins an instance
@@ -33,6 +33,11 @@ abbrev pub drops : ℕ → Event → Bool
 drops msg (event.Dropped p from n) = n == msg
 drops msg _ = false
 
+-- whether this process closes this instance by a row
+abbrev pub closes : ℕ → ℕ → Event → Bool
+closes p k (event.Closed q j) = (q == p) && (j == k)
+closes p k _ = false
+
 -- whether a row says what is sought
 abbrev pub is_sought : Sought → Event → Bool
 is_sought (Unwilling k) row = is_unwilling k row
@@ -42,6 +47,7 @@ is_sought (Received p from msg) row = receives p from msg row
 is_sought (Failed p) row = fails p row
 is_sought (Dropped msg) row = drops msg row
 is_sought (Joined p k) row = is_join p k row
+is_sought (Closed p k) row = closes p k row
 
 -- no row passes a test
 abbrev pub HasNoRow : (Event → Bool) → List Event → Type 0

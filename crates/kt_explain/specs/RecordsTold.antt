@@ -1,25 +1,19 @@
 -- Which record of the certificates' text an answer is about.
-use Rattle.std.specs.Prelude.{◌≡◌, ◌≤◌, ◌<◌, ◌+◌, ℕ, Option, Some, None, IfSome, List, [], ◌∷◌, ◌++◌, codes, length, take, slice_get}
+use Rattle.std.specs.Prelude.{◌≡◌, ◌≤◌, ◌<◌, ◌+◌, ℕ, Bool, true, false, Option, Some, None, IfSome, List, [], ◌∷◌, ◌++◌, codes, length, take, slice_get}
 use Rattle.std.specs.Fmt.{decimal}
 use Rattle.kt_chain.specs.Spelling.{records_of}
 use Rattle.kt_chain.specs.declared.certificate.Certificate.{Certificate}
-use Rattle.kt_explain.specs.declared.difference.Difference.{Difference}
 use Rattle.kt_explain.specs.declared.difference.Difference.TheVariants.{Second}
 use Rattle.kt_explain.specs.declared.explanation.Explanation.{Explanation}
 use Rattle.kt_explain.specs.declared.explanation.Explanation.TheVariants.{Nothing, Unknown, Objection, NoObjection, OtherMember, BadChain, Uncertified, Orphan, BadLog, LeftOpen}
 
--- the instance whose first certificate differs from the log, where it is that one that is wrong
-abbrev pub inst_of_first : ℕ → Difference → Option ℕ
-inst_of_first k Second = None
-inst_of_first k difference = Some k
-
--- the instance of the certificate that an answer is about; none where the certificate can't be right, or is another one
+-- the instance of the certificate that an answer is about; none where it is about none, or the certificate can't be right
 abbrev pub certified_inst : Explanation → Option ℕ
 certified_inst Nothing = None
 certified_inst (LeftOpen l) = None
-certified_inst (Unknown k difference) = inst_of_first k difference
-certified_inst (Objection k p row) = None
-certified_inst (NoObjection k) = None
+certified_inst (Unknown k difference) = Some k
+certified_inst (Objection k p row decided) = None
+certified_inst (NoObjection k decided) = None
 certified_inst (OtherMember k place listed joined) = Some k
 certified_inst (BadChain k chain) = Some k
 certified_inst (Uncertified k row) = None
@@ -32,18 +26,29 @@ member_place (BadChain k chain) = chain.place
 member_place (OtherMember k place (Some p) joined) = place
 member_place e = 0
 
--- the first certificate of an instance stands at this place
-pub record IsFirstAt (certificates : List Certificate) (k i : ℕ) : Type 0 where
+-- the first certificate of an instance from a place on stands at this one
+pub record IsNextAt (certificates : List Certificate) (k from i : ℕ) : Type 0 where
   pub certificate : Certificate
   pub there : slice_get certificates i ≡ Some certificate
   pub of_inst : certificate.inst ≡ k
-  pub first : (n : ℕ) (other : Certificate) → n < i → slice_get certificates n ≡ Some other → other.inst ≡ k → ⊥
+  pub after : from ≤ i
+  pub first : (n : ℕ) (other : Certificate) → from ≤ n → n < i → slice_get certificates n ≡ Some other → other.inst ≡ k → ⊥
 
--- an answer is about the record of this number: that of the first certificate of its instance, after those of the
--- certificates before it, or that of the member in its place
+-- whether an answer is about the second certificate of its instance
+abbrev pub is_of_second : Explanation → Bool
+is_of_second (Unknown k Second) = true
+is_of_second e = false
+
+-- the first certificate of an instance stands at this place, or the second
+abbrev pub IsPlaceOf : List Certificate → ℕ → Bool → ℕ → Type 0
+IsPlaceOf certificates k false i = IsNextAt certificates k 0 i
+IsPlaceOf certificates k true i = (j : ℕ) × IsNextAt certificates k 0 j × IsNextAt certificates k (j + 1) i
+
+-- an answer is about the record of this number: that of the first certificate of its instance, or of the second, after
+-- those of the certificates before it, or that of the member in its place
 abbrev pub IsRecordOf : List Certificate → Explanation → ℕ → Type 0
 IsRecordOf certificates e number =
-    (k : ℕ) × (i : ℕ) × (certified_inst e ≡ Some k) × IsFirstAt certificates k i
+    (k : ℕ) × (i : ℕ) × (certified_inst e ≡ Some k) × IsPlaceOf certificates k (is_of_second e) i
     × (number ≡ length (records_of (take i certificates)) + 1 + member_place e)
 
 abbrev pub IsRecordTold : List Certificate → Explanation → Option ℕ → Type 0

@@ -1,5 +1,5 @@
 -- When what is told of an answer is so.
-use Rattle.std.specs.Prelude.{◌≡◌, ◌≢◌, ◌<◌, ◌+◌, ℕ, Bool, false, Option, Some, None, List, [], map, take, slice_get}
+use Rattle.std.specs.Prelude.{◌≡◌, ◌≢◌, ◌<◌, ◌+◌, ℕ, Bool, true, false, Option, Some, None, List, [], map, take, slice_get}
 use Rattle.kt_spacetime.specs.declared.event.Event.{Event}
 use Rattle.kt_spacetime.specs.declared.event.Event.TheVariants as event
 use Rattle.kt_base.specs.declared.words.Kind.{Kind}
@@ -66,6 +66,10 @@ pub record DifferAt (xs ys : List ℕ) (place : ℕ) (x y : Option ℕ) : Type 0
   pub differ : x ≢ y
   pub first : (n : ℕ) → n < index → slice_get xs n ≡ slice_get ys n
 
+-- a row decides an instance so
+abbrev pub HasDecided : List Event → ℕ → ℕ → Bool → Type 0
+HasDecided rows row k commit = (p : ℕ) × (row_at rows row ≡ Some (event.Decided p k commit))
+
 -- an answer is a no to a certificate of this instance, or for the want of one
 abbrev pub IsNoOf : Verdict → ℕ → Why → Type 0
 IsNoOf verdict k reason = (row : Option ℕ) × (verdict ≡ No (Some k) row reason)
@@ -85,9 +89,11 @@ abbrev pub IsExplanation : List Event → List Certificate → Verdict → Expla
 IsExplanation rows certificates verdict Nothing = (verdict ≡ Yes) × LeavesNothing rows
 IsExplanation rows certificates verdict (LeftOpen l) = (verdict ≡ Yes) × IsLeftOpen rows l
 IsExplanation rows certificates verdict (Unknown k d) = IsNoOf verdict k why.Unknown × IsUnlike rows certificates k d
-IsExplanation rows certificates verdict (Objection k p row) =
-    IsNoOf verdict k why.Cause × (cause : Cause) × IsFirstRow (is_unwilling k) rows row (event.Unwilling p k cause)
-IsExplanation rows certificates verdict (NoObjection k) = IsNoOf verdict k why.Cause × HasNoRow (is_unwilling k) rows
+IsExplanation rows certificates verdict (Objection k p row decided) =
+    (verdict ≡ No (Some k) (Some decided) why.Cause) × HasDecided rows decided k true
+    × (cause : Cause) × IsFirstRow (is_unwilling k) rows row (event.Unwilling p k cause)
+IsExplanation rows certificates verdict (NoObjection k decided) =
+    (verdict ≡ No (Some k) (Some decided) why.Cause) × HasDecided rows decided k false × HasNoRow (is_unwilling k) rows
 IsExplanation rows certificates verdict (OtherMember k place listed joined) =
     IsNoOf verdict k why.Members
     × (c : Certificate) × IsItsFirst certificates k c × DifferAt (listed_in c) (members rows k) place listed joined
@@ -95,8 +101,7 @@ IsExplanation rows certificates verdict (BadChain k chain) =
     (n : ℕ) × (verdict ≡ No (Some k) (Some (n + 1)) why.Chain)
     × (c : Certificate) × IsItsFirst certificates k c × IsBadChain (take n rows) c chain
 IsExplanation rows certificates verdict (Uncertified k row) =
-    IsNoOf verdict k why.Missing
-    × (p : ℕ) × (commit : Bool) × (row_at rows row ≡ Some (event.Decided p k commit)) × (HasCertificate certificates k → ⊥)
+    IsNoOf verdict k why.Missing × (commit : Bool) × HasDecided rows row k commit × (HasCertificate certificates k → ⊥)
 IsExplanation rows certificates verdict (Orphan k orphan) =
     (n : ℕ) × (verdict ≡ No (Some k) (Some (n + 1)) why.Orphan)
     × (c : Certificate) × IsItsFirst certificates k c × IsOrphanTold (take n rows) k c.kind orphan

@@ -90,7 +90,7 @@ demand_words member demand.Message = codes "was never sent: a message has the nu
 demand_words member (demand.GoneElsewhere from to p) = gone_words member from to p
 demand_words member (demand.SentElsewhere from to p) = elsewhere_words member from to p
 demand_words member (demand.Received p) = codes "was not received by process " ++ (decimal p ++ (codes ", or a rollback undid that: it links nobody" ++ 10 ∷ []))
-demand_words member (demand.Sent p) = codes "was not sent by process " ++ (decimal p ++ (codes ", or a rollback undid that: it links nobody" ++ 10 ∷ []))
+demand_words member (demand.Sent p) = codes "was sent by process " ++ (decimal p ++ (codes ", and a rollback undid that: it links nobody" ++ 10 ∷ []))
 demand_words member (demand.Past p) = codes "was sent by process " ++ (decimal p ++ (codes " before its last permanent checkpoint: it links nobody" ++ 10 ∷ []))
 demand_words member (demand.Within p) = codes "was received by process " ++ (decimal p ++ (codes ", and not before it took a checkpoint of the instance" ++ 10 ∷ []))
 
@@ -116,10 +116,10 @@ rule_words rule.Message = codes "rule 2, message: what is received or dropped wa
 rule_words rule.Order = codes "rule 3, order: messages of one sender are taken in the order in which they were sent"
 rule_words rule.Sending = codes "rule 4, sending: who sends is up and in no open instance"
 rule_words rule.Receiving = codes "rule 5, receiving: who receives is up, who drops is down, and neither is in an open rollback"
-rule_words rule.Joining = codes "rule 6, joining: who joins is in no open instance, joins once, before the decision, as the kind asks"
+rule_words rule.Joining = codes "rule 6, joining: who joins is in no open instance, and joins once, before the decision, by took in a checkpoint, by ready in a rollback; the initiator joins in the row after began"
 rule_words rule.Deciding = codes "rule 7, deciding: the initiator decides once, while it is in its instance"
 rule_words rule.Closing = codes "rule 8, closing: who closes is in the instance, and that is decided"
-rule_words rule.Causes = codes "rule 9, causes: a failure and a refusal have the cause that they name"
+rule_words rule.Causes = codes "rule 9, causes: who fails is up; who is unwilling or refuses names no other cause than the one that it has"
 
 -- the last row in which a process failed
 abbrev pub failure_words : Option ℕ → List ℕ
@@ -157,8 +157,12 @@ bad_row_words b =
 abbrev pub explanation_words : Explanation → List ℕ
 explanation_words Nothing = []
 explanation_words (Unknown inst difference) = codes "instance " ++ decimal inst ++ codes ": " ++ difference_words difference ++ 10 ∷ []
-explanation_words (Objection inst p row) = codes "instance " ++ (decimal inst ++ (codes " is committed, and process " ++ (decimal p ++ (codes " was unwilling to join it in row " ++ (decimal row ++ (codes ": the log is at fault" ++ 10 ∷ []))))))
-explanation_words (NoObjection inst) = codes "instance " ++ (decimal inst ++ (codes " is aborted, and no process was unwilling to join it: the log is at fault" ++ 10 ∷ []))
+explanation_words (Objection inst p row decided) =
+    codes "row " ++ (decimal decided ++ (codes " commits instance " ++ (decimal inst ++ (codes ", which process " ++ (decimal p ++ (codes " was unwilling to join in row "
+    ++ (decimal row ++ (codes ", and has to abort it: the log is at fault" ++ 10 ∷ []))))))))
+explanation_words (NoObjection inst decided) =
+    codes "row " ++ (decimal decided ++ (codes " aborts instance " ++ (decimal inst
+    ++ (codes ", and no row has a process that was unwilling to join it: the log is at fault" ++ 10 ∷ []))))
 explanation_words (OtherMember inst place listed joined) = place_words inst place ++ (listed_words listed ++ joined_words joined)
 explanation_words (BadChain inst chain) = codes "instance " ++ (decimal inst ++ (codes ": " ++ bad_chain_words chain))
 explanation_words (Uncertified inst row) = codes "row " ++ (decimal row ++ (codes " decides instance " ++ (decimal inst ++ (codes ", and there is no certificate of it: koo_toueg certify makes it" ++ 10 ∷ []))))

@@ -18,7 +18,7 @@ pub enum Demand {
     SentElsewhere { from: ProcNo, to: ProcNo, p: ProcNo },
     /// This process has not received it, or the receive was undone.
     Received(ProcNo),
-    /// This process has not sent it, or the send was undone.
+    /// This process sent it, and the send was undone.
     Sent(ProcNo),
     /// This process sent it, and not past its permanent position.
     Past(ProcNo),
@@ -128,7 +128,7 @@ fn write_demand<W: fmt::Write>(
         Demand::Sent(p) => {
             write!(
                 f,
-                "was not sent by process {p}, or a rollback undid that: it links nobody\n"
+                "was sent by process {p}, and a rollback undid that: it links nobody\n"
             )
         }
         Demand::Past(p) => write!(

@@ -64,11 +64,12 @@ pub fn rule_name(rule: Rule) -> &'static str
         Rule::Receiving =>
             "rule 5, receiving: who receives is up, who drops is down, and neither is in an open rollback",
         Rule::Joining =>
-            "rule 6, joining: who joins is in no open instance, joins once, before the decision, as the kind asks",
+            "rule 6, joining: who joins is in no open instance, and joins once, before the decision, by took in a checkpoint, by ready in a rollback; the initiator joins in the row after began",
         Rule::Deciding =>
             "rule 7, deciding: the initiator decides once, while it is in its instance",
         Rule::Closing => "rule 8, closing: who closes is in the instance, and that is decided",
-        Rule::Causes => "rule 9, causes: a failure and a refusal have the cause that they name",
+        Rule::Causes =>
+            "rule 9, causes: who fails is up; who is unwilling or refuses names no other cause than the one that it has",
     }
 }
 

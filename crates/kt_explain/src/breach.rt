@@ -1,5 +1,9 @@
 //! What breaks a rule, as it is told.
 
+ghost use Rattle.std.specs.Prelude.{◌≡◌, Some};
+ghost use Rattle.std.specs.Fmt.{DisplaysOnOk};
+ghost use Rattle.kt_explain.specs.BreachWords.{absence_words, closing_words, open_in_words, just_begun_words};
+
 pub(crate) mod before;
 mod deliveries;
 mod rules;
@@ -68,36 +72,30 @@ pub enum ProcessBreach {
     /// It is also the other process of the row's message.
     OwnPeer(ProcNo),
     /// It is down since this row.
-    Down {
-        p: ProcNo,
-        row: RowNo,
-    },
+    Down { p: ProcNo, row: RowNo },
     /// It is up.
     Up(ProcNo),
     /// It is in the open instance, which it joined in this row.
-    Inside {
-        p: ProcNo,
-        inst: InstNo,
-        row: RowNo,
-    },
+    Inside { p: ProcNo, inst: InstNo, row: RowNo },
     /// It is in the open instance, a rollback, which it joined in this row.
-    Rolling {
-        p: ProcNo,
-        inst: InstNo,
-        row: RowNo,
-    },
-    /// It is not in the instance, but in this open one, or in none.
-    NotInside {
-        p: ProcNo,
-        inst: InstNo,
-        open_in: Option<InstNo>,
-    },
+    Rolling { p: ProcNo, inst: InstNo, row: RowNo },
+    /// It is not in the instance.
+    NotInside(Outside),
     /// It joined the instance in this row.
-    Joined {
-        p: ProcNo,
-        inst: InstNo,
-        row: RowNo,
-    },
+    Joined { p: ProcNo, inst: InstNo, row: RowNo },
+}
+
+/// A process that is not in an instance.
+#[derive(Clone, Copy, Debug, PartialEq, Eq)]
+pub struct Outside {
+    pub p: ProcNo,
+    pub inst: InstNo,
+    /// The open instance that it is in.
+    pub open_in: Option<InstNo>,
+    /// The row in which it joined the instance.
+    pub joined: Option<RowNo>,
+    /// The row in which it closed the instance.
+    pub closed: Option<RowNo>,
 }
 
 /// What is so of an instance.
@@ -126,10 +124,11 @@ pub enum InstanceBreach {
         p: ProcNo,
         row: RowNo,
     },
-    /// This process began it in the row before.
+    /// This process began it in the row before, as one of this kind.
     JustBegun {
         p: ProcNo,
         inst: InstNo,
+        kind: Kind,
     },
     /// It is the one that is refused, and the one that the cause names.
     OwnCause(InstNo),
@@ -218,21 +217,95 @@ impl fmt::Display for ProcessBreach {
                 f,
                 "process {p} has been in instance {inst}, a rollback, since row {row}\n"
             ),
-            ProcessBreach::NotInside { p, inst, open_in } => match open_in {
-                Some(other) => write!(
-                    f,
-                    "process {p} is in instance {other}, and not in instance {inst}: it did not join that, or has closed it\n"
-                ),
-                None => write!(
-                    f,
-                    "process {p} is in no instance: it did not join instance {inst}, or has closed it\n"
-                ),
-            },
+            ProcessBreach::NotInside(outside) => write!(f, "{outside}"),
             ProcessBreach::Joined { p, inst, row } => write!(
                 f,
                 "process {p} joined instance {inst} already, in row {row}\n"
             ),
         }
+    }
+}
+
+impl fmt::Display for Outside {
+    ghost use Rattle.std.specs.Prelude.{Some};
+    ghost use Rattle.kt_explain.specs.BreachWords.{outside_words};
+
+    ghost output = { λ o. Some (outside_words o) };
+
+    fn fmt<W: fmt::Write>(&self, f: &mut fmt::Formatter<W>) -> fmt::Result {
+        let Outside {
+            p,
+            inst,
+            open_in,
+            joined,
+            closed,
+        } = *self;
+        write_open_in(f, p, inst, open_in)?;
+        write_absence(f, inst, joined, closed)
+    }
+}
+
+// Where a process is that is not in an instance.
+fn write_open_in<W: fmt::Write>(
+    f: &mut fmt::Formatter<W>,
+    p: ProcNo,
+    inst: InstNo,
+    open_in: Option<InstNo>,
+) -> fmt::Result
+    ensures { DisplaysOnOk W.write_str_gives f.old result (Some (open_in_words p inst open_in)) f.new }
+{
+    match open_in {
+        Some(other) => write!(f, "process {p} is in instance {other}, and not in {inst}: "),
+        None => write!(f, "process {p} is in no instance: "),
+    }
+}
+
+// Why it is not in the instance.
+fn write_absence<W: fmt::Write>(
+    f: &mut fmt::Formatter<W>,
+    inst: InstNo,
+    joined: Option<RowNo>,
+    closed: Option<RowNo>,
+) -> fmt::Result
+    ensures { DisplaysOnOk W.write_str_gives f.old result (Some (absence_words inst joined closed)) f.new }
+{
+    match joined {
+        Some(row) => {
+            write!(f, "it joined instance {inst} in row {row}")?;
+            write_closing(f, closed)
+        }
+        None => write!(f, "it has not joined instance {inst}\n"),
+    }
+}
+
+// In which row it closed the instance.
+fn write_closing<W: fmt::Write>(f: &mut fmt::Formatter<W>, closed: Option<RowNo>) -> fmt::Result
+    ensures { DisplaysOnOk W.write_str_gives f.old result (Some (closing_words closed)) f.new }
+{
+    match closed {
+        Some(row) => write!(f, ", and closed it in row {row}\n"),
+        None => write!(f, "\n"),
+    }
+}
+
+// That a process began an instance in the row before, and how it joins it in this one.
+fn write_just_begun<W: fmt::Write>(
+    f: &mut fmt::Formatter<W>,
+    p: ProcNo,
+    inst: InstNo,
+    kind: Kind,
+) -> fmt::Result
+    ensures { DisplaysOnOk W.write_str_gives f.old result (Some (just_begun_words p inst kind)) f.new }
+{
+    match kind {
+        Kind::Checkpoint => write!(
+            f,
+            "process {p} began instance {inst}, a checkpoint, in the row before: this one has to be took,{p},{inst},-\n"
+        ),
+        Kind::Rollback => write!(
+            f,
+            "process {p} began instance {inst}, a rollback, in the row before: this one has to be ready,{p},{inst},-\n"
+        ),
     }
 }
 
@@ -268,10 +341,7 @@ impl fmt::Display for InstanceBreach {
                 f,
                 "the initiator of instance {inst} is process {p}, which began it in row {row}\n"
             ),
-            InstanceBreach::JustBegun { p, inst } => write!(
-                f,
-                "process {p} began instance {inst} in the row before, and is to join it in this one, by took in a checkpoint and by ready in a rollback\n"
-            ),
+            InstanceBreach::JustBegun { p, inst, kind } => write_just_begun(f, p, inst, kind),
             InstanceBreach::OwnCause(inst) => write!(
                 f,
                 "who is busy with instance {inst} has joined it, and is not unwilling to join it\n"

@@ -1,8 +1,8 @@
 //! Which record of the certificates' text an answer is about.
 
-ghost use Rattle.std.specs.Prelude.{◌≡◌, ◌≤◌, IfSome, Some, length, take};
+ghost use Rattle.std.specs.Prelude.{◌≡◌, ◌<◌, ◌≤◌, IfSome, Some, length, take};
 ghost use Rattle.kt_chain.specs.Spelling.{certificate_records, records_of};
-ghost use Rattle.kt_explain.specs.RecordsTold.{IsRecordOf, IsRecordTold, certified_inst, inst_of_first, member_place};
+ghost use Rattle.kt_explain.specs.RecordsTold.{IsPlaceOf, IsRecordOf, IsRecordTold, certified_inst, is_of_second, member_place};
 
 use crate::difference::Difference;
 use crate::explanation::Explanation;
@@ -34,8 +34,8 @@ impl fmt::Display for RecordTold {
     }
 }
 
-/// The record of the certificates' text that what is told is about: that of the first certificate of the instance, or of
-/// the member that is named.
+/// The record of the certificates' text that what is told is about: that of the first certificate of the instance, of
+/// the second where that is one too many, or of the member that is named.
 pub fn record_told(certificates: &[Certificate], explanation: &Explanation) -> RecordTold
     ensures { IsRecordTold certificates.now explanation.now result.number }
 {
@@ -49,7 +49,7 @@ fn number_of(certificates: &[Certificate], explanation: &Explanation) -> Option<
     ensures { IfSome result (IsRecordOf certificates.now explanation.now) }
 {
     let inst = certified_inst(explanation)?;
-    let place = place_from(certificates, inst, 0)?;
+    let place = place_of(certificates, inst, is_of_second(explanation))?;
     let before = records_before(certificates, place)?;
     let first = before.checked_add(1)?;
     first.checked_add(member_place(explanation))
@@ -60,8 +60,9 @@ fn certified_inst(explanation: &Explanation) -> Option<InstNo>
     ensures { result ≡ certified_inst explanation.now }
 {
     match *explanation {
-        Explanation::Unknown { inst, difference } => inst_of_first(inst, difference),
-        Explanation::OtherMember { inst, .. } | Explanation::BadChain { inst, .. } => Some(inst),
+        Explanation::Unknown { inst, .. }
+        | Explanation::OtherMember { inst, .. }
+        | Explanation::BadChain { inst, .. } => Some(inst),
         Explanation::Objection { .. }
         | Explanation::NoObjection { .. }
         | Explanation::Orphan { .. }
@@ -72,13 +73,26 @@ fn certified_inst(explanation: &Explanation) -> Option<InstNo>
     }
 }
 
-// The instance whose first certificate differs from the log, where it is that one that is wrong.
-fn inst_of_first(inst: InstNo, difference: Difference) -> Option<InstNo>
-    ensures { result ≡ inst_of_first inst difference }
+// Whether an answer is about the second certificate of its instance.
+fn is_of_second(explanation: &Explanation) -> bool
+    ensures { result ≡ is_of_second explanation.now }
 {
-    match difference {
-        Difference::Second => None,
-        _ => Some(inst),
+    match *explanation {
+        Explanation::Unknown { difference, .. } => difference == Difference::Second,
+        _ => false,
+    }
+}
+
+// The place of the first certificate of an instance, or of the second.
+fn place_of(certificates: &[Certificate], inst: InstNo, second: bool) -> Option<usize>
+    ensures place { IfSome result (IsPlaceOf certificates.now inst second) }
+    ensures within { IfSome result (λ place. place < length certificates.now) }
+{
+    let first = place_from(certificates, inst, 0)?;
+    if second {
+        place_from(certificates, inst, first + 1)
+    } else {
+        Some(first)
     }
 }
 

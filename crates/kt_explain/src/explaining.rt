@@ -67,7 +67,7 @@ fn of_instance(
 {
     match why {
         Why::Unknown => Ok(unlike(log.rows(), certificates, inst)),
-        Why::Cause => Ok(objection(log.rows(), inst)),
+        Why::Cause => Ok(objection(log.rows(), inst, row)),
         Why::Members => other_member(alloc, log.rows(), certificates, inst),
         Why::Missing => Ok(uncertified(inst, row)),
         Why::Orphan => match row {

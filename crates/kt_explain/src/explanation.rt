@@ -24,15 +24,17 @@ pub enum Explanation {
         inst: InstNo,
         difference: Difference,
     },
-    /// A process was unwilling to join the instance, which is committed.
+    /// A process was unwilling to join the instance, in this row, and this later one commits it.
     Objection {
         inst: InstNo,
         p: ProcNo,
         row: RowNo,
+        decided: RowNo,
     },
-    /// No process was unwilling to join the instance, which is aborted.
+    /// No process was unwilling to join the instance, which this row aborts.
     NoObjection {
         inst: InstNo,
+        decided: RowNo,
     },
     /// The first place, from 1, at which the list of a certificate differs from the members: who is listed there, and who
     /// joined.
@@ -74,16 +76,21 @@ impl fmt::Display for Explanation {
             Explanation::Unknown { inst, difference } => {
                 write!(f, "instance {inst}: {difference}\n")
             }
-            Explanation::Objection { inst, p, row } => {
+            Explanation::Objection {
+                inst,
+                p,
+                row,
+                decided,
+            } => {
                 write!(
                     f,
-                    "instance {inst} is committed, and process {p} was unwilling to join it in row {row}: the log is at fault\n"
+                    "row {decided} commits instance {inst}, which process {p} was unwilling to join in row {row}, and has to abort it: the log is at fault\n"
                 )
             }
-            Explanation::NoObjection { inst } => {
+            Explanation::NoObjection { inst, decided } => {
                 write!(
                     f,
-                    "instance {inst} is aborted, and no process was unwilling to join it: the log is at fault\n"
+                    "row {decided} aborts instance {inst}, and no row has a process that was unwilling to join it: the log is at fault\n"
                 )
             }
             Explanation::OtherMember {

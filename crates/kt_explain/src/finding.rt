@@ -23,6 +23,8 @@ pub enum Sought {
     Dropped(MsgNo),
     /// This process joined this instance.
     Joined(ProcNo, InstNo),
+    /// This process closed this instance.
+    Closed(ProcNo, InstNo),
 }
 
 /// A row that was found, with its number.
@@ -88,6 +90,7 @@ fn is_sought(sought: &Sought, row: &Event) -> bool
         Event::Failed { p } => *sought == Sought::Failed(p),
         Event::Dropped { msg, .. } => *sought == Sought::Dropped(msg),
         Event::Took { p, inst } | Event::Ready { p, inst } => *sought == Sought::Joined(p, inst),
+        Event::Closed { p, inst } => *sought == Sought::Closed(p, inst),
         _ => false,
     }
 }

@@ -24,7 +24,7 @@ mod unknown;
 
 pub use bad_chain::{BadChain, Break, Demand, Flaw};
 pub use bad_row::{BadRow, rule_name};
-pub use breach::{Breach, InstanceBreach, MessageBreach, ProcessBreach};
+pub use breach::{Breach, InstanceBreach, MessageBreach, Outside, ProcessBreach};
 pub use certificate_place::{RecordTold, record_told};
 pub use difference::Difference;
 pub use explaining::explain;

@@ -8,7 +8,7 @@ ghost use Rattle.kt_cuts.specs.Past.{Past, past, after};
 ghost use Rattle.kt_cuts.specs.Legal.{follows};
 ghost use Rattle.kt_explain.specs.Breaches.{IsJudged};
 
-use crate::breach::{Breach, InstanceBreach, ProcessBreach};
+use crate::breach::{Breach, InstanceBreach, Outside, ProcessBreach};
 use crate::finding::{Found, Sought, first_row, last_number};
 use kt_base::{InstNo, Kind, Memory, ProcNo, RowNo};
 use kt_histories::Histories;
@@ -114,10 +114,15 @@ impl Before<'_> {
     {
         let open_in = self.histories.open_in(p);
         if open_in == Some(inst) {
-            Ok(())
-        } else {
-            Err(Breach::Process(ProcessBreach::NotInside { p, inst, open_in }))
+            return Ok(());
         }
+        Err(Breach::Process(ProcessBreach::NotInside(Outside {
+            p,
+            inst,
+            open_in,
+            joined: last_number(self.rows, &Sought::Joined(p, inst)),
+            closed: last_number(self.rows, &Sought::Closed(p, inst)),
+        })))
     }
 
     /// The process has not joined the instance.
@@ -325,8 +330,8 @@ pub(crate) fn other_cause(inst: InstNo, cause: InstNo) -> Result<(), Breach>
 }
 
 /// A row after the one in which a process began an instance is that process's joining.
-pub(crate) fn joins(p: ProcNo, inst: InstNo, row: &Event) -> Result<(), Breach>
-    ensures { (rows : List Events) (kind : Kinds) → (past rows).last ≡ Some (event.Began p inst kind)
+pub(crate) fn joins(p: ProcNo, inst: InstNo, kind: Kind, row: &Event) -> Result<(), Breach>
+    ensures { (rows : List Events) → (past rows).last ≡ Some (event.Began p inst kind)
         → IsJudged rows (λ s. follows s.last row.now) result }
 {
     match *row {
@@ -334,9 +339,9 @@ pub(crate) fn joins(p: ProcNo, inst: InstNo, row: &Event) -> Result<(), Breach>
             if q == p && joined == inst {
                 Ok(())
             } else {
-                Err(Breach::Instance(InstanceBreach::JustBegun { p, inst }))
+                Err(Breach::Instance(InstanceBreach::JustBegun { p, inst, kind }))
             }
         }
-        _ => Err(Breach::Instance(InstanceBreach::JustBegun { p, inst })),
+        _ => Err(Breach::Instance(InstanceBreach::JustBegun { p, inst, kind })),
     }
 }

@@ -221,7 +221,7 @@ impl Before<'_> {
         ensures { IsJudged self.now.rows.now (λ s. follows s.last row.now) result }
     {
         match self.rows.last() {
-            Some(Event::Began { p, inst, .. }) => joins(*p, *inst, row),
+            Some(Event::Began { p, inst, kind }) => joins(*p, *inst, *kind, row),
             _ => Ok(()),
         }
     }

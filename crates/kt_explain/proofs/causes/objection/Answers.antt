@@ -1,15 +1,19 @@
-use Rattle.std.proofs.Common.{◌≡◌, subst, sym, ap, ◌∙◌}
-use Rattle.kt_spacetime.specs.declared.event.Event.{Event}
-use Rattle.kt_spacetime.specs.declared.event.Event.TheVariants.{Unwilling}
-use Rattle.kt_checker.specs.Unwilling.{is_unwilling}
-use Rattle.kt_explain.specs.Finding.{IsFirstRow}
-use Rattle.kt_explain.proofs.FoundRows.{unwilling_row}
+use Rattle.std.proofs.Common.{ℕ, Option, Some, sym, subst}
+use Rattle.kt_checker.specs.declared.verdict.Verdict.TheVariants.{No}
+use Rattle.kt_checker.specs.declared.verdict.Why.TheVariants as why
+use Rattle.kt_checker.specs.Order.{IsCheckerAnswer}
+use Rattle.kt_explain.specs.Told.{IsExplanation}
+use Rattle.kt_explain.proofs.CauseRows.{cause_row}
 use Rattle.kt_explain.proofs.causes.objection.Goals as goal
 
-pub returns : goal.returns
-returns c = λ certificates verdict no.
+pub returns-in-None : goal.returns-in-None
+returns-in-None c = λ certificates answer.
+    let rows = c.args.rows.now in
+    absurd (cause_row rows certificates c.args.inst (subst (λ (o : Option ℕ). IsCheckerAnswer rows certificates (No (Some c.args.inst) o why.Cause)) c.in-None.is answer))
+
+pub returns-in-Some : goal.returns-in-Some
+returns-in-Some c = λ certificates answer.
+    let rows = c.args.rows.now in
     let k = c.args.inst in
-    let first : IsFirstRow (is_unwilling k) c.args.rows.now c.in-Some.found.number c.in-Some.found.row = c.in-Some.ensures in
-    let row = unwilling_row k c.in-Some.found.row first.passes in
-    let is : c.in-Some.found.row ≡ Unwilling c.process.result k row.0 = row.1 ∙ ap (λ p. Unwilling p k row.0) (sym c.process.ensures) in
-    (no, row.0, subst (λ (r : Event). IsFirstRow (is_unwilling k) c.args.rows.now c.in-Some.found.number r) is first)
+    subst (λ (o : Option ℕ). IsExplanation rows certificates (No (Some k) o why.Cause) c.objection_to.result) (sym c.in-Some.is)
+    (c.objection_to.ensures certificates (subst (λ (o : Option ℕ). IsCheckerAnswer rows certificates (No (Some k) o why.Cause)) c.in-Some.is answer))

@@ -1,4 +1,4 @@
-use Rattle.std.proofs.Common.{rules, ◌≡◌, ◌∙◌, length, map, arith}
+use Rattle.std.proofs.Common.{rules, ◌≡◌, length, map, arith}
 use Rattle.std.proofs.lemmas.List.{length-map}
 use Rattle.kt_chain.specs.Spelling.{member_record}
 use Rattle.kt_explain.proofs.certificate_place.records_in.Goals as goal

@@ -30,9 +30,12 @@ returns-in-Unknown c =
 
 pub returns-in-Cause : goal.returns-in-Cause
 returns-in-Cause c =
-    let verdict = No (Some c.args.inst) c.args.row c.args.why in
-    let no : IsNoOf verdict c.args.inst why.Cause = (c.args.row, ap (λ (w : Why). No (Some c.args.inst) c.args.row w) c.in-Cause.is) in
-    subst (λ (rows : List Event). IsExplanation rows c.args.certificates.now verdict c.objection.result) c.rows-in-Cause.ensures.rows (c.objection.ensures c.args.certificates.now verdict no)
+    let certificates = c.args.certificates.now in
+    let k = c.args.inst in
+    subst (λ (rows : List Event). IsExplanation rows certificates (No (Some k) c.args.row c.args.why) c.objection.result) c.rows-in-Cause.ensures.rows
+    (subst (λ (w : Why). IsExplanation c.rows-in-Cause.result.now certificates (No (Some k) c.args.row w) c.objection.result) (sym c.in-Cause.is)
+    (c.objection.ensures certificates (subst (λ (rows : List Event). IsCheckerAnswer rows certificates (No (Some k) c.args.row why.Cause)) (sym c.rows-in-Cause.ensures.rows)
+    (subst (λ (w : Why). IsCheckerAnswer c.args.log.now.rows certificates (No (Some k) c.args.row w)) c.in-Cause.is c.requires.answer))))
 
 pub returns-in-Members : goal.returns-in-Members
 returns-in-Members c =

@@ -18,10 +18,6 @@ pub returns-in-Initiator-clause-writes : goal.returns-in-Initiator-clause-writes
 returns-in-Initiator-clause-writes g c = λ plain ok.
     subst (λ (x : InstanceBreach). HasWritten {W = g.row.W.Denot} g.W.Write.write_str_gives c.args.f.now (instance_breach_words x) c.write-in-Initiator.new.self) (sym (c.in-Initiator.is)) (c.write-in-Initiator.ensures.writes plain ok)
 
-pub returns-in-JustBegun-clause-writes : goal.returns-in-JustBegun-clause-writes
-returns-in-JustBegun-clause-writes g c = λ plain ok.
-    subst (λ (x : InstanceBreach). HasWritten {W = g.row.W.Denot} g.W.Write.write_str_gives c.args.f.now (instance_breach_words x) c.write-in-JustBegun.new.self) (sym (c.in-JustBegun.is)) (c.write-in-JustBegun.ensures.writes plain ok)
-
 pub returns-in-OwnCause-clause-writes : goal.returns-in-OwnCause-clause-writes
 returns-in-OwnCause-clause-writes g c = λ plain ok.
     subst (λ (x : InstanceBreach). HasWritten {W = g.row.W.Denot} g.W.Write.write_str_gives c.args.f.now (instance_breach_words x) c.write-in-OwnCause.new.self) (sym (c.in-OwnCause.is)) (c.write-in-OwnCause.ensures.writes plain ok)

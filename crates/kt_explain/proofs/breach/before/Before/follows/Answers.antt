@@ -7,5 +7,5 @@ use Rattle.kt_explain.proofs.breach.before.Before.follows.Goals as goal
 pub returns-in-Some-Began : goal.returns-in-Some-Began
 returns-in-Some-Began c =
     let rows = c.args.self.now.rows.now in
-    c.joins.ensures rows c.in-Some-Began.field-0-2
+    c.joins.ensures rows
     (last_known rows _ (sym c.last.ensures.value ∙ (ap option_copied c.in-Some-Began.is ∙ ap (λ (x : Event). Some x) c.in-Some-Began.field-0-is)))
