@@ -3,6 +3,7 @@ pub mod Words
 pub mod BreachWords
 pub mod Orphans
 pub mod BadChains
+pub mod ChainRows
 pub mod Breaches
 pub mod LeftOpen
 pub mod LeftOpenWords

@@ -15,14 +15,14 @@ certified_inst (Unknown k difference) = Some k
 certified_inst (Objection k p row decided) = None
 certified_inst (NoObjection k decided) = None
 certified_inst (OtherMember k place listed joined) = Some k
-certified_inst (BadChain k chain) = Some k
+certified_inst (BadChain k chain about) = Some k
 certified_inst (Uncertified k row) = None
 certified_inst (Orphan k orphan) = None
 certified_inst (BadLog b) = None
 
 -- the place, from 1, of the listed member that an answer is about; 0 where it is about none
 abbrev pub member_place : Explanation → ℕ
-member_place (BadChain k chain) = chain.place
+member_place (BadChain k chain about) = chain.place
 member_place (OtherMember k place (Some p) joined) = place
 member_place e = 0
 

@@ -16,6 +16,7 @@ use Rattle.kt_explain.specs.declared.bad_chain.Demand.TheVariants as demand
 use Rattle.kt_explain.specs.declared.bad_chain.Flaw.{Flaw}
 use Rattle.kt_explain.specs.declared.bad_chain.Flaw.TheVariants as flaw
 use Rattle.kt_explain.specs.declared.bad_chain.BadChain.{BadChain as OneBadChain}
+use Rattle.kt_explain.specs.declared.chain_rows.ChainRows.{ChainRows}
 use Rattle.kt_explain.specs.declared.difference.Difference.{Difference}
 use Rattle.kt_explain.specs.declared.difference.Difference.TheVariants.{Unbegun, Undecided, Kind, Initiator, Decision, Members, Second}
 use Rattle.kt_explain.specs.declared.explanation.Explanation.{Explanation}
@@ -31,7 +32,7 @@ difference_words (Kind kind row) = codes "row " ++ (decimal row ++ (codes " begi
 difference_words (Initiator p row) = codes "process " ++ (decimal p ++ (codes " begins it in row " ++ (decimal row ++ codes ", and the certificate names another one")))
 difference_words (Decision commit row) = codes "row " ++ (decimal row ++ (codes " decides it, " ++ (decision_word commit ++ codes ", and the certificate says otherwise")))
 difference_words Members = codes "it is aborted, and its certificate lists members"
-difference_words Second = codes "it has a second certificate, after the first one; koo_toueg certify makes one for each instance"
+difference_words Second = codes "it has a second certificate, and is to have one"
 
 -- a place of a list
 abbrev pub place_words : ℕ → ℕ → List ℕ
@@ -84,30 +85,51 @@ elsewhere_words member from to p =
     if member == p then arrived_words p
     else parties_words from to ++ (codes ", and is to be one that process " ++ (decimal p ++ (codes " sent" ++ 10 ∷ [])))
 
--- the demand that a message of the chain of a member does not meet
-abbrev pub demand_words : ℕ → Demand → List ℕ
-demand_words member demand.Message = codes "was never sent: a message has the number of the row that sends it" ++ 10 ∷ []
-demand_words member (demand.GoneElsewhere from to p) = gone_words member from to p
-demand_words member (demand.SentElsewhere from to p) = elsewhere_words member from to p
-demand_words member (demand.Received p) = codes "was not received by process " ++ (decimal p ++ (codes ", or a rollback undid that: it links nobody" ++ 10 ∷ []))
-demand_words member (demand.Sent p) = codes "was sent by process " ++ (decimal p ++ (codes ", and a rollback undid that: it links nobody" ++ 10 ∷ []))
-demand_words member (demand.Past p) = codes "was sent by process " ++ (decimal p ++ (codes " before its last permanent checkpoint: it links nobody" ++ 10 ∷ []))
-demand_words member (demand.Within p) = codes "was received by process " ++ (decimal p ++ (codes ", and not before it took a checkpoint of the instance" ++ 10 ∷ []))
+-- that a process has not received a message: never, or in this row, and that was undone
+abbrev pub unreceived_words : ℕ → Option ℕ → List ℕ
+unreceived_words p (Some row) = codes "was received by process " ++ (decimal p ++ (codes " in row " ++ (decimal row ++ (codes ", and a rollback undid that: it links nobody" ++ 10 ∷ []))))
+unreceived_words p None = codes "was never received by process " ++ (decimal p ++ (codes ": it links nobody" ++ 10 ∷ []))
+
+-- that a process sent a message, and not past its permanent position, with the row in which it took that
+abbrev pub past_words : ℕ → Option ℕ → List ℕ
+past_words p (Some row) =
+    codes "was sent by process " ++ (decimal p ++ (codes " before it took its last permanent checkpoint, in row " ++ (decimal row ++ (codes ": it links nobody" ++ 10 ∷ []))))
+past_words p None = codes "was sent by process " ++ (decimal p ++ (codes " before it took its last permanent checkpoint: it links nobody" ++ 10 ∷ []))
+
+-- that a process received a message, and not before it joined the instance
+abbrev pub receipt_words : ℕ → Option ℕ → List ℕ
+receipt_words p (Some row) = codes "was received by process " ++ (decimal p ++ (codes " in row " ++ (decimal row ++ codes ", ")))
+receipt_words p None = codes "was received by process " ++ (decimal p ++ codes ", ")
+
+abbrev pub beyond_words : Option ℕ → List ℕ
+beyond_words (Some row) = codes "and not before it took its checkpoint of the instance, in row " ++ (decimal row ++ (codes ": it links nobody" ++ 10 ∷ []))
+beyond_words None = codes "and not before it took a checkpoint of the instance: it links nobody" ++ 10 ∷ []
+
+-- the demand that a message of the chain of a member does not meet, and the rows that it is about
+abbrev pub demand_words : ℕ → Demand → ChainRows → List ℕ
+demand_words member demand.Message about = codes "was never sent: a message has the number of the row that sends it" ++ 10 ∷ []
+demand_words member (demand.GoneElsewhere from to p) about = gone_words member from to p
+demand_words member (demand.SentElsewhere from to p) about = elsewhere_words member from to p
+demand_words member (demand.Received p) about = unreceived_words p about.received
+demand_words member (demand.Sent p) about = codes "was sent by process " ++ (decimal p ++ (codes ", and a rollback undid that: it links nobody" ++ 10 ∷ []))
+demand_words member (demand.Past p) about = past_words p about.permanent
+demand_words member (demand.Within p) about = receipt_words p about.received ++ beyond_words about.joined
 
 -- the place of a chain of which the message leads nowhere
-abbrev pub break_words : ℕ → Break → List ℕ
-break_words member b = (codes "and message " ++ (decimal b.msg ++ (codes ", in place " ++ (decimal b.place ++ codes " of its chain, ")))) ++ demand_words member b.demand
+abbrev pub break_words : ℕ → Break → ChainRows → List ℕ
+break_words member b about = (codes "and message " ++ (decimal b.msg ++ (codes ", in place " ++ (decimal b.place ++ codes " of its chain, ")))) ++ demand_words member b.demand about
 
 -- what is wrong with the list of a member
-abbrev pub flaw_words : ℕ → Flaw → List ℕ
-flaw_words member flaw.Initiator = codes "the initiator, and has a chain: the initiator has none" ++ 10 ∷ []
-flaw_words member flaw.Empty = codes "and has no chain: each member but the initiator has one" ++ 10 ∷ []
-flaw_words member (flaw.Elsewhere p) = codes "and its chain leads to process " ++ (decimal p ++ (codes ", and not to process " ++ (decimal member ++ 10 ∷ [])))
-flaw_words member (flaw.Broken b) = break_words member b
+abbrev pub flaw_words : ℕ → Flaw → ChainRows → List ℕ
+flaw_words member flaw.Initiator about = codes "the initiator, and has a chain: the initiator has none" ++ 10 ∷ []
+flaw_words member flaw.Empty about = codes "and has no chain: each member but the initiator has one" ++ 10 ∷ []
+flaw_words member (flaw.Elsewhere p) about = codes "and its chain leads to process " ++ (decimal p ++ (codes ", and not to process " ++ (decimal member ++ 10 ∷ [])))
+flaw_words member (flaw.Broken b) about = break_words member b about
 
--- a member whose list is no chain
-abbrev pub bad_chain_words : OneBadChain → List ℕ
-bad_chain_words b = (codes "member " ++ (decimal b.place ++ (codes " is process " ++ (decimal b.p ++ codes ", ")))) ++ flaw_words b.p b.flaw
+-- a member of an instance whose list is no chain, and the rows that this is about
+abbrev pub bad_chain_words : ℕ → OneBadChain → ChainRows → List ℕ
+bad_chain_words inst b about =
+    (codes "instance " ++ (decimal inst ++ (codes ": member " ++ (decimal b.place ++ (codes " is process " ++ (decimal b.p ++ codes ", ")))))) ++ flaw_words b.p b.flaw about
 
 -- a rule by number and name, and what it asks
 abbrev pub rule_words : Rule → List ℕ
@@ -158,13 +180,13 @@ abbrev pub explanation_words : Explanation → List ℕ
 explanation_words Nothing = []
 explanation_words (Unknown inst difference) = codes "instance " ++ decimal inst ++ codes ": " ++ difference_words difference ++ 10 ∷ []
 explanation_words (Objection inst p row decided) =
-    codes "row " ++ (decimal decided ++ (codes " commits instance " ++ (decimal inst ++ (codes ", which process " ++ (decimal p ++ (codes " was unwilling to join in row "
-    ++ (decimal row ++ (codes ", and has to abort it: the log is at fault" ++ 10 ∷ []))))))))
+    codes "row " ++ (decimal decided ++ (codes " commits instance " ++ (decimal inst ++ (codes ", and has to abort it, since process " ++ (decimal p
+    ++ (codes " was unwilling to join it in row " ++ (decimal row ++ (codes ": the log is at fault" ++ 10 ∷ []))))))))
 explanation_words (NoObjection inst decided) =
     codes "row " ++ (decimal decided ++ (codes " aborts instance " ++ (decimal inst
     ++ (codes ", and no row has a process that was unwilling to join it: the log is at fault" ++ 10 ∷ []))))
 explanation_words (OtherMember inst place listed joined) = place_words inst place ++ (listed_words listed ++ joined_words joined)
-explanation_words (BadChain inst chain) = codes "instance " ++ (decimal inst ++ (codes ": " ++ bad_chain_words chain))
+explanation_words (BadChain inst chain about) = bad_chain_words inst chain about
 explanation_words (Uncertified inst row) = codes "row " ++ (decimal row ++ (codes " decides instance " ++ (decimal inst ++ (codes ", and there is no certificate of it: koo_toueg certify makes it" ++ 10 ∷ []))))
 explanation_words (Orphan inst orphan) = codes "instance " ++ (decimal inst ++ (codes ": " ++ orphan_words orphan))
 explanation_words (BadLog b) = bad_row_words b

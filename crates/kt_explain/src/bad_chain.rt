@@ -2,9 +2,10 @@
 
 ghost use Rattle.std.specs.Prelude.{◌≡◌, Some};
 ghost use Rattle.std.specs.Fmt.{DisplaysOnOk};
-ghost use Rattle.kt_explain.specs.Words.{arrived_words, break_words, demand_words, elsewhere_words, flaw_words, gone_words};
+ghost use Rattle.kt_explain.specs.Words.{arrived_words, bad_chain_words, beyond_words, break_words, demand_words, elsewhere_words, flaw_words, gone_words, past_words, receipt_words, unreceived_words};
 
-use kt_base::{MsgNo, ProcNo};
+use crate::chain_rows::ChainRows;
+use kt_base::{InstNo, MsgNo, ProcNo, RowNo};
 use std::fmt;
 
 /// A demand on a message of a chain that it does not meet.
@@ -55,22 +56,28 @@ pub struct BadChain {
     pub flaw: Flaw,
 }
 
-impl fmt::Display for BadChain {
-    ghost use Rattle.std.specs.Prelude.{Some};
-    ghost use Rattle.kt_explain.specs.Words.{bad_chain_words};
-
-    ghost output = { λ b. Some (bad_chain_words b) };
-
-    fn fmt<W: fmt::Write>(&self, f: &mut fmt::Formatter<W>) -> fmt::Result {
-        let BadChain { place, p, flaw } = *self;
-        write!(f, "member {place} is process {p}, ")?;
-        write_flaw(f, p, flaw)
-    }
+/// A member of an instance whose list is no chain, and the rows that this is about.
+pub(crate) fn write_bad_chain<W: fmt::Write>(
+    f: &mut fmt::Formatter<W>,
+    inst: InstNo,
+    chain: BadChain,
+    about: ChainRows,
+) -> fmt::Result
+    ensures { DisplaysOnOk W.write_str_gives f.old result (Some (bad_chain_words inst chain about)) f.new }
+{
+    let BadChain { place, p, flaw } = chain;
+    write!(f, "instance {inst}: member {place} is process {p}, ")?;
+    write_flaw(f, p, flaw, about)
 }
 
 // What is wrong with the list of a member.
-fn write_flaw<W: fmt::Write>(f: &mut fmt::Formatter<W>, member: ProcNo, flaw: Flaw) -> fmt::Result
-    ensures { DisplaysOnOk W.write_str_gives f.old result (Some (flaw_words member flaw)) f.new }
+fn write_flaw<W: fmt::Write>(
+    f: &mut fmt::Formatter<W>,
+    member: ProcNo,
+    flaw: Flaw,
+    about: ChainRows,
+) -> fmt::Result
+    ensures { DisplaysOnOk W.write_str_gives f.old result (Some (flaw_words member flaw about)) f.new }
 {
     match flaw {
         Flaw::Initiator => write!(
@@ -87,7 +94,7 @@ fn write_flaw<W: fmt::Write>(f: &mut fmt::Formatter<W>, member: ProcNo, flaw: Fl
                 "and its chain leads to process {p}, and not to process {member}\n"
             )
         }
-        Flaw::Broken(broken) => write_break(f, member, broken),
+        Flaw::Broken(broken) => write_break(f, member, broken, about),
     }
 }
 
@@ -96,12 +103,13 @@ fn write_break<W: fmt::Write>(
     f: &mut fmt::Formatter<W>,
     member: ProcNo,
     broken: Break,
+    about: ChainRows,
 ) -> fmt::Result
-    ensures { DisplaysOnOk W.write_str_gives f.old result (Some (break_words member broken)) f.new }
+    ensures { DisplaysOnOk W.write_str_gives f.old result (Some (break_words member broken about)) f.new }
 {
     let Break { place, msg, demand } = broken;
     write!(f, "and message {msg}, in place {place} of its chain, ")?;
-    write_demand(f, member, demand)
+    write_demand(f, member, demand, about)
 }
 
 // The demand that a message of the chain of a member does not meet.
@@ -109,8 +117,9 @@ fn write_demand<W: fmt::Write>(
     f: &mut fmt::Formatter<W>,
     member: ProcNo,
     demand: Demand,
+    about: ChainRows,
 ) -> fmt::Result
-    ensures { DisplaysOnOk W.write_str_gives f.old result (Some (demand_words member demand)) f.new }
+    ensures { DisplaysOnOk W.write_str_gives f.old result (Some (demand_words member demand about)) f.new }
 {
     match demand {
         Demand::Message => write!(
@@ -119,25 +128,84 @@ fn write_demand<W: fmt::Write>(
         ),
         Demand::GoneElsewhere { from, to, p } => write_gone(f, member, from, to, p),
         Demand::SentElsewhere { from, to, p } => write_elsewhere(f, member, from, to, p),
-        Demand::Received(p) => {
-            write!(
-                f,
-                "was not received by process {p}, or a rollback undid that: it links nobody\n"
-            )
-        }
+        Demand::Received(p) => write_unreceived(f, p, about.received),
         Demand::Sent(p) => {
             write!(
                 f,
                 "was sent by process {p}, and a rollback undid that: it links nobody\n"
             )
         }
-        Demand::Past(p) => write!(
+        Demand::Past(p) => write_past(f, p, about.permanent),
+        Demand::Within(p) => {
+            write_receipt(f, p, about.received)?;
+            write_beyond(f, about.joined)
+        }
+    }
+}
+
+// That a process has not received a message: never, or in this row, and that was undone.
+fn write_unreceived<W: fmt::Write>(
+    f: &mut fmt::Formatter<W>,
+    p: ProcNo,
+    received: Option<RowNo>,
+) -> fmt::Result
+    ensures { DisplaysOnOk W.write_str_gives f.old result (Some (unreceived_words p received)) f.new }
+{
+    match received {
+        Some(row) => write!(
             f,
-            "was sent by process {p} before its last permanent checkpoint: it links nobody\n"
+            "was received by process {p} in row {row}, and a rollback undid that: it links nobody\n"
         ),
-        Demand::Within(p) => write!(
+        None => write!(f, "was never received by process {p}: it links nobody\n"),
+    }
+}
+
+// That a process sent a message, and not past its permanent position.
+fn write_past<W: fmt::Write>(
+    f: &mut fmt::Formatter<W>,
+    p: ProcNo,
+    permanent: Option<RowNo>,
+) -> fmt::Result
+    ensures { DisplaysOnOk W.write_str_gives f.old result (Some (past_words p permanent)) f.new }
+{
+    match permanent {
+        Some(row) => write!(
             f,
-            "was received by process {p}, and not before it took a checkpoint of the instance\n"
+            "was sent by process {p} before it took its last permanent checkpoint, in row {row}: it links nobody\n"
+        ),
+        None => write!(
+            f,
+            "was sent by process {p} before it took its last permanent checkpoint: it links nobody\n"
+        ),
+    }
+}
+
+// That a process received a message.
+fn write_receipt<W: fmt::Write>(
+    f: &mut fmt::Formatter<W>,
+    p: ProcNo,
+    received: Option<RowNo>,
+) -> fmt::Result
+    ensures { DisplaysOnOk W.write_str_gives f.old result (Some (receipt_words p received)) f.new }
+{
+    match received {
+        Some(row) => write!(f, "was received by process {p} in row {row}, "),
+        None => write!(f, "was received by process {p}, "),
+    }
+}
+
+// That it did not receive it before it joined the instance.
+fn write_beyond<W: fmt::Write>(f: &mut fmt::Formatter<W>, joined: Option<RowNo>) -> fmt::Result
+    ensures { DisplaysOnOk W.write_str_gives f.old result (Some (beyond_words joined)) f.new }
+{
+    match joined {
+        Some(row) => write!(
+            f,
+            "and not before it took its checkpoint of the instance, in row {row}: it links nobody\n"
+        ),
+        None => write!(
+            f,
+            "and not before it took a checkpoint of the instance: it links nobody\n"
         ),
     }
 }

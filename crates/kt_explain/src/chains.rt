@@ -16,6 +16,7 @@ ghost use Rattle.kt_explain.specs.BadChains.{IsBadChain, IsBreak, IsFlaw, IsUnme
 ghost use Rattle.kt_explain.specs.Told.{IsExplanation};
 
 use crate::bad_chain::{BadChain, Break, Demand, Flaw};
+use crate::breach::before::Before;
 use crate::explanation::Explanation;
 use crate::unknown::first_of;
 use kt_base::{InstNo, Kind, Memory, MsgNo, ProcNo, RowNo};
@@ -56,9 +57,15 @@ fn no_chain_at(
     let Some(certificate) = first_of(certificates, inst) else {
         return Ok(Explanation::Nothing);
     };
-    let histories = Histories::of(alloc, log, row.get() as usize - 1)?;
-    match bad_chain(&histories, certificate) {
-        Some(chain) => Ok(Explanation::BadChain { inst, chain }),
+    let rows = log.rows();
+    let upto = row.get() as usize - 1;
+    let before = Before::of(alloc, &rows[..upto])?;
+    match bad_chain(&before.histories, certificate) {
+        Some(chain) => Ok(Explanation::BadChain {
+            inst,
+            chain,
+            about: before.chain_rows(inst, &chain.flaw),
+        }),
         None => Ok(Explanation::Nothing),
     }
 }

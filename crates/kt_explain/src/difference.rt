@@ -56,10 +56,7 @@ impl fmt::Display for Difference {
                 )
             }
             Difference::Members => write!(f, "it is aborted, and its certificate lists members"),
-            Difference::Second => write!(
-                f,
-                "it has a second certificate, after the first one; koo_toueg certify makes one for each instance"
-            ),
+            Difference::Second => write!(f, "it has a second certificate, and is to have one"),
         }
     }
 }

@@ -4,8 +4,9 @@ ghost use Rattle.std.specs.Prelude.{◌≡◌, Some};
 ghost use Rattle.std.specs.Fmt.{DisplaysOnOk};
 ghost use Rattle.kt_explain.specs.Words.{listed_words, joined_words};
 
-use crate::bad_chain::BadChain;
+use crate::bad_chain::{BadChain, write_bad_chain};
 use crate::bad_row::BadRow;
+use crate::chain_rows::ChainRows;
 use crate::difference::Difference;
 use crate::left_open::LeftOpen;
 use crate::orphan::Orphan;
@@ -48,6 +49,7 @@ pub enum Explanation {
     BadChain {
         inst: InstNo,
         chain: BadChain,
+        about: ChainRows,
     },
     /// The cut that the decision of the instance makes has this orphan, and no lesser one.
     Orphan {
@@ -84,7 +86,7 @@ impl fmt::Display for Explanation {
             } => {
                 write!(
                     f,
-                    "row {decided} commits instance {inst}, which process {p} was unwilling to join in row {row}, and has to abort it: the log is at fault\n"
+                    "row {decided} commits instance {inst}, and has to abort it, since process {p} was unwilling to join it in row {row}: the log is at fault\n"
                 )
             }
             Explanation::NoObjection { inst, decided } => {
@@ -103,7 +105,7 @@ impl fmt::Display for Explanation {
                 write_listed(f, listed)?;
                 write_joined(f, joined)
             }
-            Explanation::BadChain { inst, chain } => write!(f, "instance {inst}: {chain}"),
+            Explanation::BadChain { inst, chain, about } => write_bad_chain(f, inst, chain, about),
             Explanation::Orphan { inst, orphan } => write!(f, "instance {inst}: {orphan}"),
             Explanation::BadLog(row) => write!(f, "{row}"),
             Explanation::Uncertified { inst, row } => {

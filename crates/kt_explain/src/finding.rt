@@ -17,6 +17,8 @@ pub enum Sought {
     Decided(InstNo),
     /// This process received from that one this message.
     Received(ProcNo, ProcNo, MsgNo),
+    /// This process received this message.
+    Got(ProcNo, MsgNo),
     /// This process failed.
     Failed(ProcNo),
     /// This message was dropped.
@@ -86,7 +88,9 @@ fn is_sought(sought: &Sought, row: &Event) -> bool
         Event::Unwilling { inst, .. } => *sought == Sought::Unwilling(inst),
         Event::Began { inst, .. } => *sought == Sought::Began(inst),
         Event::Decided { inst, .. } => *sought == Sought::Decided(inst),
-        Event::Received { p, from, msg } => *sought == Sought::Received(p, from, msg),
+        Event::Received { p, from, msg } => {
+            *sought == Sought::Received(p, from, msg) || *sought == Sought::Got(p, msg)
+        }
         Event::Failed { p } => *sought == Sought::Failed(p),
         Event::Dropped { msg, .. } => *sought == Sought::Dropped(msg),
         Event::Took { p, inst } | Event::Ready { p, inst } => *sought == Sought::Joined(p, inst),

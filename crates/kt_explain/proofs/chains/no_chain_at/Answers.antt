@@ -1,9 +1,14 @@
-use Rattle.std.proofs.Common.{◌≡◌, ◌+◌, ◌-◌, ℕ, Some, take, ap, subst, arith}
+use Rattle.std.proofs.Common.{◌≡◌, ◌∙◌, ◌+◌, ◌-◌, ◌≤◌, ℕ, Some, List, length, take, sym, ap, subst, arith}
+use Rattle.std.proofs.lemmas.List.{length-take-le}
+use Rattle.kt_spacetime.specs.declared.event.Event.{Event}
 use Rattle.kt_cuts.specs.Past.{past}
+use Rattle.kt_cuts.specs.Legal.{IsLegal}
 use Rattle.kt_cuts.proofs.LegalLogs.{legal_take}
 use Rattle.kt_checker.specs.declared.verdict.Verdict.TheVariants.{No}
 use Rattle.kt_checker.specs.declared.verdict.Why.TheVariants as why
 use Rattle.kt_checker.specs.Passing.{HasLists}
+use Rattle.kt_histories.specs.HistoriesOf.{HistoriesOf}
+use Rattle.kt_explain.specs.ChainRows.{AreChainRows}
 use Rattle.kt_explain.proofs.Chained.{chain_fault}
 use Rattle.kt_explain.proofs.chains.no_chain_at.Goals as goal
 
@@ -12,22 +17,35 @@ returns-in_default c =
     let h = chain_fault c.args.log.now.rows c.args.certificates.now c.args.inst c.args.row c.requires.answer in
     absurd (c.in_default.ensures.none h.certificate h.first)
 
-pub of-requires-clause-upto : goal.of-requires-clause-upto
-of-requires-clause-upto c =
-    let h = chain_fault c.args.log.now.rows c.args.certificates.now c.args.inst c.args.row c.requires.answer in
-    omega (arith, c.get.ensures.value, h.row_is, h.upto)
+pub of-requires-clause-legal : goal.of-requires-clause-legal
+of-requires-clause-legal c =
+    let rows = c.args.log.now.rows in
+    let h = chain_fault rows c.args.certificates.now c.args.inst c.args.row c.requires.answer in
+    subst (λ (list : List Event). IsLegal (take (c.get.result - 1) list)) (sym c.rows-rows.ensures.rows) (legal_take (c.get.result - 1) rows h.legal)
+
+pub slice_bounds-of-end : goal.slice_bounds-of-end
+slice_bounds-of-end c =
+    let rows = c.args.log.now.rows in
+    let h = chain_fault rows c.args.certificates.now c.args.inst c.args.row c.requires.answer in
+    let same : length c.rows-rows.result.now ≡ length rows = ap length c.rows-rows.ensures.rows in
+    let within : c.get.result - 1 ≤ length c.rows-rows.result.now = omega (arith, c.get.ensures.value, h.row_is, h.upto, same) in
+    omega (arith, within, length-take-le (c.get.result - 1) c.rows-rows.result.now within)
 
 pub returns-in-Some-bad_chain : goal.returns-in-Some-bad_chain
 returns-in-Some-bad_chain c =
     let rows = c.args.log.now.rows in
     let h = chain_fault rows c.args.certificates.now c.args.inst c.args.row c.requires.answer in
     let n = c.get.result - 1 in
-    let number : c.args.row ≡ n + 1 = omega (arith, c.get.ensures.value, h.row_is) in (
+    let number : c.args.row ≡ n + 1 = omega (arith, c.get.ensures.value, h.row_is) in
+    let known = c.in_ok-before.before in
+    let same : known.rows.now ≡ take n rows = c.in_ok-before.ensures.rows ∙ ap (take n) c.rows-rows.ensures.rows in
+    let histories : HistoriesOf known.histories (take n rows) = subst (HistoriesOf known.histories) same c.in_ok-before.ensures.before.histories in (
       n,
       ap (λ (r : ℕ). No (Some c.args.inst) (Some r) why.Chain) number,
       c.in-Some.certificate.now,
       c.in-Some.ensures.first,
-      c.in-Some-bad_chain.ensures.bad (take n rows) c.in_ok-histories.ensures (legal_take n rows h.legal),
+      c.in-Some-bad_chain.ensures.bad (take n rows) histories (legal_take n rows h.legal),
+      subst (λ (list : List Event). AreChainRows list c.args.inst c.in-Some-bad_chain.chain.flaw c.chain_rows.result) same c.chain_rows.ensures,
     )
 
 pub returns : goal.returns
@@ -35,6 +53,9 @@ returns c =
     let rows = c.args.log.now.rows in
     let h = chain_fault rows c.args.certificates.now c.args.inst c.args.row c.requires.answer in
     let n = c.get.result - 1 in
-    let same : n ≡ h.place = omega (arith, c.get.ensures.value, h.row_is) in
-    let lists = c.in-None.ensures.none (take n rows) c.in_ok-histories.ensures (legal_take n rows h.legal) in
-    absurd (h.unlisted c.in-Some.certificate.now c.in-Some.ensures.first (subst (λ (m : ℕ). HasLists (past (take m rows)) c.in-Some.certificate.now) same lists))
+    let at : n ≡ h.place = omega (arith, c.get.ensures.value, h.row_is) in
+    let known = c.in_ok-before.before in
+    let same : known.rows.now ≡ take n rows = c.in_ok-before.ensures.rows ∙ ap (take n) c.rows-rows.ensures.rows in
+    let histories : HistoriesOf known.histories (take n rows) = subst (HistoriesOf known.histories) same c.in_ok-before.ensures.before.histories in
+    let lists : HasLists (past (take n rows)) c.in-Some.certificate.now = c.in-None.ensures.none (take n rows) histories (legal_take n rows h.legal) in
+    absurd (h.unlisted c.in-Some.certificate.now c.in-Some.ensures.first (subst (λ (m : ℕ). HasLists (past (take m rows)) c.in-Some.certificate.now) at lists))

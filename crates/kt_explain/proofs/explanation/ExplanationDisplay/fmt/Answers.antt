@@ -31,4 +31,4 @@ returns-in-Orphan-clause-writes g c = λ plain ok.
 
 pub returns-in-BadChain-clause-writes : goal.returns-in-BadChain-clause-writes
 returns-in-BadChain-clause-writes g c = λ plain ok.
-    subst (λ (x : Explanation). HasWritten {W = g.row.W.Denot} g.W.Write.write_str_gives c.args.f.now (explanation_words x) c.write-in-BadChain.new.self) (sym c.in-BadChain.is) (c.write-in-BadChain.ensures.writes plain ok)
+    subst (λ (x : Explanation). HasWritten {W = g.row.W.Denot} g.W.Write.write_str_gives c.args.f.now (explanation_words x) c.write_bad_chain.new.f) (sym c.in-BadChain.is) (c.write_bad_chain.ensures plain ok)
