@@ -5,6 +5,7 @@ pub mod Orphans
 pub mod BadChains
 pub mod ChainRows
 pub mod Breaches
+pub mod Undoing
 pub mod LeftOpen
 pub mod LeftOpenWords
 pub mod Told

@@ -1,5 +1,5 @@
 -- When what is told of an answer is so.
-use Rattle.std.specs.Prelude.{◌≡◌, ◌≢◌, ◌<◌, ◌+◌, ℕ, Bool, true, false, Option, Some, None, List, [], map, take, slice_get}
+use Rattle.std.specs.Prelude.{◌≡◌, ◌≢◌, ◌<◌, ◌+◌, ℕ, Bool, true, false, Option, Some, None, IfSome, List, [], map, take, slice_get}
 use Rattle.kt_spacetime.specs.declared.event.Event.{Event}
 use Rattle.kt_spacetime.specs.declared.event.Event.TheVariants as event
 use Rattle.kt_base.specs.declared.words.Kind.{Kind}
@@ -25,6 +25,7 @@ use Rattle.kt_explain.specs.declared.explanation.Explanation.TheVariants.{Nothin
 use Rattle.kt_explain.specs.LeftOpen.{IsLeftOpen, LeavesNothing}
 use Rattle.kt_explain.specs.Orphans.{IsOrphanTold}
 use Rattle.kt_explain.specs.Breaches.{IsBreach}
+use Rattle.kt_explain.specs.Undoing.{IsUndoneIn}
 use Rattle.kt_explain.specs.BadChains.{IsBadChain}
 use Rattle.kt_explain.specs.ChainRows.{AreChainRows}
 use Rattle.kt_explain.specs.Finding.{HasNoRow, IsFirstRow, IsLastNumber, begins_inst, decides_inst, fails}
@@ -84,6 +85,7 @@ pub record IsBadRow (rows : List Event) (b : BadRow) (place : ℕ) (row : Event)
   pub process : b.p ≡ process_of row
   pub open_in : b.open_in ≡ (past (take place rows)).open_in b.p
   pub failed : IsLastNumber (fails b.p) (take place rows) b.failed
+  pub undone : IfSome b.undone (IsUndoneIn (take place rows) b.breach)
 
 -- what is told of an answer is so; nothing is told after a yes to a log that leaves nothing open, and else never
 abbrev pub IsExplanation : List Event → List Certificate → Verdict → Explanation → Type 0

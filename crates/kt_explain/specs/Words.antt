@@ -170,10 +170,18 @@ numbered_words row = codes "log row " ++ (decimal row ++ codes ", not counting a
 abbrev pub broken_words : Rule → Breach → List ℕ
 broken_words rule breach = 10 ∷ (rule_words rule ++ 10 ∷ breach_words breach)
 
--- a row that breaks a rule, the rule, what breaks it, and where the row's process stands before it
+-- the row that undid the send of the row's message, and where the row's process stands
+abbrev pub undone_words : Option ℕ → List ℕ
+undone_words (Some row) = codes "row " ++ (decimal row ++ (codes " undid it" ++ 10 ∷ []))
+undone_words None = []
+
+abbrev pub around_words : BadRow → List ℕ
+around_words b = undone_words b.undone ++ standing_words b.p b.open_in b.failed
+
+-- a row that breaks a rule, the rule, what breaks it, what undid its message, and where its process stands before it
 abbrev pub bad_row_words : BadRow → List ℕ
 bad_row_words b =
-    numbered_words b.row ++ (row_words b.event ++ (broken_words b.rule b.breach ++ standing_words b.p b.open_in b.failed))
+    numbered_words b.row ++ (row_words b.event ++ (broken_words b.rule b.breach ++ around_words b))
 
 -- the lines that are told of an answer
 abbrev pub explanation_words : Explanation → List ℕ

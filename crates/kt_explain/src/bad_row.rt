@@ -2,7 +2,7 @@
 
 ghost use Rattle.std.specs.Prelude.{◌≡◌, Some};
 ghost use Rattle.std.specs.Fmt.{DisplaysOnOk};
-ghost use Rattle.kt_explain.specs.Words.{broken_words, failed_words, failure_words, numbered_words, rule_words, standing_words};
+ghost use Rattle.kt_explain.specs.Words.{around_words, broken_words, failed_words, failure_words, numbered_words, rule_words, standing_words, undone_words};
 
 use crate::breach::Breach;
 use crate::row_text::write_row;
@@ -24,6 +24,8 @@ pub struct BadRow {
     pub open_in: Option<InstNo>,
     /// The last row before it in which the process failed.
     pub failed: Option<RowNo>,
+    /// The row before it that undid the send of its message, where that is what breaks the rule.
+    pub undone: Option<RowNo>,
 }
 
 impl fmt::Display for BadRow {
@@ -38,14 +40,12 @@ impl fmt::Display for BadRow {
             event,
             rule,
             breach,
-            p,
-            open_in,
-            failed,
+            ..
         } = *self;
         write_number(f, row)?;
         write_row(f, &event)?;
         write_broken(f, rule, breach)?;
-        write_standing(f, p, open_in, failed)
+        write_around(f, self)
     }
 }
 
@@ -86,6 +86,24 @@ fn write_broken<W: fmt::Write>(f: &mut fmt::Formatter<W>, rule: Rule, breach: Br
 {
     let name = rule_name(rule);
     write!(f, "\n{name}\n{breach}")
+}
+
+// What undid the send of a row's message, and where the row's process stands.
+fn write_around<W: fmt::Write>(f: &mut fmt::Formatter<W>, row: &BadRow) -> fmt::Result
+    ensures { DisplaysOnOk W.write_str_gives f.old result (Some (around_words row.now)) f.new }
+{
+    write_undone(f, row.undone)?;
+    write_standing(f, row.p, row.open_in, row.failed)
+}
+
+// The row that undid the send of a message.
+fn write_undone<W: fmt::Write>(f: &mut fmt::Formatter<W>, undone: Option<RowNo>) -> fmt::Result
+    ensures { DisplaysOnOk W.write_str_gives f.old result (Some (undone_words undone)) f.new }
+{
+    match undone {
+        Some(row) => write!(f, "row {row} undid it\n"),
+        None => Ok(()),
+    }
 }
 
 // Where a process stands, if it is in an instance or failed.

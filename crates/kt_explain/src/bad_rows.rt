@@ -14,6 +14,7 @@ use crate::breach::before::Before;
 use crate::explanation::Explanation;
 use crate::finding::{Sought, last_number};
 use crate::standing::open_in;
+use crate::undoing::undone_in;
 use kt_base::{Memory, RowNo};
 use kt_checker::Why;
 use kt_cuts::Rule;
@@ -77,6 +78,7 @@ fn bad_row(alloc: Global, rows: &[Event], row: RowNo, rule: Rule) -> Result<Expl
             p,
             open_in: open_in(before, p),
             failed: last_number(before, &Sought::Failed(p)),
+            undone: undone_in(alloc, before, &breach)?,
         })),
         Ok(()) => Ok(Explanation::Nothing),
     }

@@ -21,6 +21,7 @@ mod orphan;
 mod orphans;
 mod row_text;
 mod standing;
+mod undoing;
 mod unknown;
 
 pub use bad_chain::{BadChain, Break, Demand, Flaw};

@@ -34,6 +34,7 @@ returns-in-Err c = λ certificates.
         process = c.process-p.ensures ∙ ap process_of (some_same (sym at ∙ again));
         open_in = c.open_in.ensures;
         failed = c.last_number.ensures;
+        undone = c.in_ok-undone_in-in-Err.ensures;
       },
     )
 

@@ -7,5 +7,5 @@ returns-clause-writes g c = λ plain ok.
     let a = c.in_ok-write_number.ensures plain refl in
     let b = c.in_ok-write_row.ensures a.plain refl in
     let d = c.in_ok-write_broken.ensures b.plain refl in
-    let e = c.write_standing.ensures d.plain ok in
+    let e = c.write_around.ensures d.plain ok in
     put_four g.W.Write.write_str_gives _ _ _ _ _ _ _ _ _ _ a b d e refl

@@ -1,0 +1,69 @@
+//! The row that undid the send of a message.
+
+ghost use Rattle.std.specs.Prelude.{◌≡◌, ◌≤◌, ◌<◌, ◌+◌, ◌^◌, ◌&&◌, if◌then◌else◌, not, List, Some, IfOk, IfSome, length};
+ghost use Rattle.kt_spacetime.specs.declared.event.Event.{Event as Events};
+ghost use Rattle.kt_cuts.specs.Legal.{IsLegal};
+ghost use Rattle.kt_cuts.specs.Traces.{trace_of};
+ghost use Rattle.kt_histories.specs.HistoriesOf.{HistoriesOf};
+ghost use Rattle.kt_explain.specs.Undoing.{IsUndoing, IsUndoneIn, is_send_live};
+
+use crate::breach::{Breach, MessageBreach};
+use kt_base::{Memory, MsgNo, RowNo};
+use kt_histories::Histories;
+use kt_spacetime::{Event, SpaceTime};
+use std::alloc::Global;
+
+/// The row that undid what a breach tells as undone.
+pub(crate) fn undone_in(
+    alloc: Global,
+    rows: &[Event],
+    breach: &Breach,
+) -> Result<Option<RowNo>, Memory>
+    requires few { length rows.now ≤ 2 ^ 24 }
+    requires legal { IsLegal rows.now }
+    ensures { IfOk result (λ row. IfSome row (IsUndoneIn rows.now breach.now)) }
+{
+    match *breach {
+        Breach::Message(MessageBreach::Undone { msg, .. }) => undoing(alloc, rows, msg),
+        _ => Ok(None),
+    }
+}
+
+// The last row that undid the send of a message.
+fn undoing(alloc: Global, rows: &[Event], msg: MsgNo) -> Result<Option<RowNo>, Memory>
+    requires few { length rows.now ≤ 2 ^ 24 }
+    requires legal { IsLegal rows.now }
+    ensures { IfOk result (λ row. IfSome row (IsUndoing rows.now msg)) }
+{
+    let mut histories = Histories::of(alloc, &SpaceTime::new(alloc), 0)?;
+    let mut undone = None;
+    for place in 0..rows.len() {
+        let was = is_send_live(&histories, msg);
+        histories.add(&rows[place])?;
+        let is = is_send_live(&histories, msg);
+        undone = undone_after(undone, was, is, place);
+    }
+    Ok(undone)
+}
+
+// Whether the send of a message is live.
+fn is_send_live(histories: &Histories, msg: MsgNo) -> bool
+    ensures { (rows : List Events) → HistoriesOf histories.now rows → result ≡ is_send_live (trace_of rows msg) }
+{
+    match histories.trace(msg) {
+        Some(trace) => trace.sent.is_some(),
+        None => false,
+    }
+}
+
+// The last row that undid the send of a message, after the row at this place.
+fn undone_after(undone: Option<RowNo>, was: bool, is: bool, place: usize) -> Option<RowNo>
+    requires { place < 2 ^ 24 }
+    ensures { result ≡ (if was && not is then Some (place + 1) else undone) }
+{
+    if was && !is {
+        Some(RowNo::after(place))
+    } else {
+        undone
+    }
+}
