@@ -27,6 +27,10 @@ shown text = flat_map shown_byte (take most_shown text)
 abbrev pub hint_line : List ℕ → List ℕ → List ℕ
 hint_line label text = codes "  " ++ (label ++ (shown text ++ 10 ∷ []))
 
--- the same with a number after the words, and more words
+-- the last part of a line: words of the program, a number, more words, and what is shown of a text
+abbrev pub counted_part : List ℕ → ℕ → List ℕ → List ℕ → List ℕ
+counted_part label number more text = label ++ (decimal number ++ (more ++ (shown text ++ 10 ∷ [])))
+
+-- a line below a fault of such a part alone
 abbrev pub numbered_line : List ℕ → ℕ → List ℕ → List ℕ → List ℕ
-numbered_line label number more text = codes "  " ++ (label ++ (decimal number ++ (more ++ (shown text ++ 10 ∷ []))))
+numbered_line label number more text = codes "  " ++ counted_part label number more text

@@ -12,5 +12,5 @@ pub use forms::{CertificateForm, RowForm, push_certificate_form, push_count, pus
 pub use limits::{Limit, push_limit};
 pub use lines::line_at;
 pub use records::{Record, record_at};
-pub use rows::{Row, row_at};
+pub use rows::{Row, push_row_line, row_at};
 pub use shown::{push_hint, push_numbered, push_shown};

@@ -1,15 +1,17 @@
 //! Rows of logs.
 
-ghost use Rattle.std.specs.Prelude.{◌≡◌, ◌≢◌, [], codes, IfOk, IfSome, MatchBool, slice_index_or};
+ghost use Rattle.std.specs.Prelude.{◌≡◌, ◌≢◌, ◌++◌, [], codes, IfOk, IfSome, MatchBool, OnOk, slice_index_or};
 ghost use Rattle.csv.specs.Reading.{default_config, strip_bom, records};
 ghost use Rattle.csv.specs.Records.{fields_of};
 ghost use Rattle.kt_text.specs.Records.{ReadsOn, left_in};
-ghost use Rattle.kt_hints.specs.Rows.{IsRowAfter, IsRowAt, NamesFormat, headers, last_message};
+ghost use Rattle.kt_hints.specs.Rows.{IsRowAfter, IsRowAt, NamesFormat, headers, last_message, row_line};
 
 use crate::forms::{RowForm, row_form};
 use crate::limits::{Limit, limit_of};
 use crate::records::{advance, field_at, joined_fields};
+use crate::shown::{push_counted, push_number};
 use csv::{ByteRecord, Reader};
+use kt_base::Memory;
 use kt_text::ReadFault;
 use kt_text::records::{next_record, read_records};
 use std::alloc::Global;
@@ -22,6 +24,8 @@ pub struct Row {
     pub text: Vec<u8>,
     /// How many they are.
     pub fields: usize,
+    /// Its number, from 1.
+    pub number: u64,
     /// The number of its record in the text, in which the one that names the format counts too.
     pub record_number: u64,
     /// What a row is to be that begins as it does.
@@ -50,12 +54,28 @@ pub fn row_at<R: Read + Drop>(
         Ok(text) => Ok(Some(Row {
             text,
             fields: current.len(),
+            number: u64::from(before) + 1,
             record_number: u64::from(before) + headers(named) + 1,
             form: row_form(field_at(&current, 0)),
             beyond: limit_of(&current, last_message(named)),
         })),
         Err(_) => Err(ReadFault::Memory),
     }
+}
+
+/// Gathers a line below a fault with a row: two spaces, its number, that of its record in the text, and what is shown of it.
+pub fn push_row_line(lines: &mut Vec<u8>, row: &Row) -> Result<(), Memory>
+    ensures { OnOk result (lines.new.items ≡ lines.old.items ++ row_line row.now) }
+{
+    lines.extend_from_slice(b"  log row ")?;
+    push_number(lines, row.number)?;
+    push_counted(
+        lines,
+        ", record ",
+        row.record_number,
+        " of the file: ",
+        row.text.as_slice(),
+    )
 }
 
 // The row after so many others into `current`, and whether the text names its format.

@@ -3,7 +3,7 @@
 ghost use Rattle.std.specs.Prelude.{◌≡◌, ◌<◌, ◌^◌, ◌++◌, ℕ, List, All, true, OnOk, length, slice_index, take};
 ghost use Rattle.std.specs.List.{flat_map, list_all};
 ghost use Rattle.std.specs.Fmt.{decimal};
-ghost use Rattle.kt_hints.specs.Shown.{hex_digit, hint_line, is_printable, most_shown, numbered_line, shown, shown_byte};
+ghost use Rattle.kt_hints.specs.Shown.{counted_part, hex_digit, hint_line, is_printable, most_shown, numbered_line, shown, shown_byte};
 
 use kt_base::Memory;
 
@@ -33,6 +33,19 @@ pub fn push_numbered(
     ensures { OnOk result (lines.new.items ≡ lines.old.items ++ numbered_line label.now number more.now text.now) }
 {
     lines.extend_from_slice(b"  ")?;
+    push_counted(lines, label, number, more, text)
+}
+
+/// Gathers the last part of a line: words of the program, a number, more words, and what is shown of a text.
+pub(crate) fn push_counted(
+    lines: &mut Vec<u8>,
+    label: &str,
+    number: u64,
+    more: &str,
+    text: &[u8],
+) -> Result<(), Memory>
+    ensures { OnOk result (lines.new.items ≡ lines.old.items ++ counted_part label.now number more.now text.now) }
+{
     lines.extend_from_slice(label.as_bytes())?;
     push_number(lines, number)?;
     lines.extend_from_slice(more.as_bytes())?;

@@ -7,7 +7,7 @@ use Rattle.std.specs.Slice.{IsItemAt}
 use Rattle.std.proofs.lemmas.Option.{slice_get_read}
 use Rattle.csv.specs.Reading.{default_config, strip_bom, records}
 use Rattle.kt_hints.specs.Records.{IsRecordAt}
-use Rattle.kt_hints.specs.Rows.{IsRowAt}
+use Rattle.kt_hints.specs.Rows.{IsRowAt, row_line}
 use Rattle.kt_hints.specs.Shown.{hint_line}
 use Rattle.kt_hints.specs.declared.records.Record.{Record}
 use Rattle.kt_hints.specs.declared.rows.Row.{Row}
@@ -18,7 +18,7 @@ use Rattle.kt_scenario.specs.Steps.{AreSteps}
 use Rattle.kt_program.specs.Expected.{record_fault_lines, row_fault_lines}
 use Rattle.kt_program.specs.Hindrances.{IsHindranceOrNone}
 use Rattle.kt_program.specs.Inputs.{AreStepsOfFile, IsPlanOfFile, IsTextOfFile}
-use Rattle.kt_program.specs.Places.{IsLineAt, IsLineOrNone, IsPlaceShown, IsRecordIn, IsRecordOrNone, IsRecordRead, IsRowIn, IsRowOrNone, IsRowRead, IsStepIn, IsStepOrNone, line_at_fault, record_of, row_line, row_of, hinted_step, step_of}
+use Rattle.kt_program.specs.Places.{IsLineAt, IsLineOrNone, IsPlaceShown, IsRecordIn, IsRecordOrNone, IsRecordRead, IsRowIn, IsRowOrNone, IsRowRead, IsStepIn, IsStepOrNone, line_at_fault, record_of, row_of, hinted_step, step_of}
 use Rattle.kt_program.specs.Stored.{BytesTold}
 use Rattle.kt_program.specs.declared.fault.ProgramFault.{ProgramFault}
 

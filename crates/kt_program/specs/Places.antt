@@ -8,8 +8,8 @@ use Rattle.kt_chain.specs.declared.fault.CertTextFault.{CertTextFault}
 use Rattle.kt_chain.specs.declared.fault.CertTextFault.TheVariants as cert
 use Rattle.kt_core.specs.declared.faults.StepFault.TheVariants as step
 use Rattle.kt_hints.specs.Records.{IsRecordAt}
-use Rattle.kt_hints.specs.Rows.{IsRowAt}
-use Rattle.kt_hints.specs.Shown.{hint_line, numbered_line}
+use Rattle.kt_hints.specs.Rows.{IsRowAt, row_line}
+use Rattle.kt_hints.specs.Shown.{hint_line}
 use Rattle.kt_hints.specs.declared.records.Record.{Record}
 use Rattle.kt_hints.specs.declared.rows.Row.{Row}
 use Rattle.kt_log_text.specs.declared.fault.LogFault.{LogFault}
@@ -106,10 +106,6 @@ row_of fault = None
 abbrev pub IsRowIn : Option ℕ → Row → List ℕ → Type 0
 IsRowIn None row text = ⊥
 IsRowIn (Some number) row text = IsRowAt (records default_config (strip_bom text)) (number - 1) row
-
--- a row, with the number of its record in the file
-abbrev pub row_line : Row → List ℕ
-row_line row = numbered_line (codes "record ") row.record_number (codes " of the file: ") row.text.items
 
 -- the row of this number that some file tells
 abbrev pub IsRowRead : {F : Type 0} → (F → BytesTold) → Option ℕ → Row → Type 0

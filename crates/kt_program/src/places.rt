@@ -2,7 +2,7 @@
 
 ghost use Rattle.std.specs.Prelude.{◌≡◌, ◌++◌, ℕ, List, OnOk, IfSome};
 ghost use Rattle.kt_program.specs.Inputs.{AreStepsOfFile, IsPlanOfFile, IsTextOfFile};
-ghost use Rattle.kt_program.specs.Places.{IsLineAt, IsLineOrNone, IsPlaceShown, IsRecordOrNone, IsRecordRead, IsRowOrNone, IsRowRead, IsStepIn, IsStepOrNone, line_at_fault, record_of, row_line, row_of, hinted_step};
+ghost use Rattle.kt_program.specs.Places.{IsLineAt, IsLineOrNone, IsPlaceShown, IsRecordOrNone, IsRecordRead, IsRowOrNone, IsRowRead, IsStepIn, IsStepOrNone, line_at_fault, record_of, row_of, hinted_step};
 
 use crate::expected::{push_record_fault, push_row_fault};
 use crate::fault::ProgramFault;
@@ -13,7 +13,7 @@ use crate::subject::{
     file_of, line_at_fault, record_of, row_of, scenario_of, step_of, steps_file_of,
 };
 use kt_base::Memory;
-use kt_hints::{Record, Row, line_at, push_hint, push_numbered, record_at, row_at};
+use kt_hints::{Record, Row, line_at, push_hint, push_row_line, record_at, row_at};
 use kt_plan::{Plan, Step};
 use kt_scenario::{parse, parse_steps, push_step_words};
 use std::alloc::Global;
@@ -98,22 +98,9 @@ fn push_row<F: Files>(
     let Some(row) = row_of_fault(files, alloc, asked, fault) else {
         return Ok(());
     };
-    push_row_text(lines, &row)?;
+    push_row_line(lines, &row)?;
     push_row_fault(lines, fault, &row)?;
     Ok(())
-}
-
-// Gathers a row, with the number of its record in the file.
-fn push_row_text(lines: &mut Vec<u8>, row: &Row) -> Result<(), Memory>
-    ensures { OnOk result (lines.new.items ≡ lines.old.items ++ row_line row.now) }
-{
-    push_numbered(
-        lines,
-        "record ",
-        row.record_number,
-        " of the file: ",
-        row.text.as_slice(),
-    )
 }
 
 // The row of a log that a fault names, where that can be read again.
