@@ -67,10 +67,10 @@ process_breach_words (process.Joined p inst row) =
 -- that a process began an instance in the row before, and how it joins it in this one
 abbrev pub just_begun_words : ℕ → ℕ → Kind → List ℕ
 just_begun_words p inst Checkpoint =
-    codes "process " ++ (decimal p ++ (codes " began instance " ++ (decimal inst ++ (codes ", a checkpoint, in the row before: this one has to be took,"
+    codes "process " ++ (decimal p ++ (codes " began instance " ++ (decimal inst ++ (codes ", a checkpoint, in the row before: next has to come took,"
     ++ (decimal p ++ (codes "," ++ (decimal inst ++ (codes ",-" ++ 10 ∷ []))))))))
 just_begun_words p inst Rollback =
-    codes "process " ++ (decimal p ++ (codes " began instance " ++ (decimal inst ++ (codes ", a rollback, in the row before: this one has to be ready,"
+    codes "process " ++ (decimal p ++ (codes " began instance " ++ (decimal inst ++ (codes ", a rollback, in the row before: next has to come ready,"
     ++ (decimal p ++ (codes "," ++ (decimal inst ++ (codes ",-" ++ 10 ∷ []))))))))
 
 -- what is so of an instance
@@ -83,13 +83,13 @@ instance_breach_words (instance.Undecided inst) = codes "instance " ++ (decimal 
 instance_breach_words (instance.OfKind inst Checkpoint row) =
     codes "instance " ++ (decimal inst ++ (codes " began in row " ++ (decimal row ++ (codes ", as a checkpoint: it is joined by took" ++ 10 ∷ []))))
 instance_breach_words (instance.OfKind inst Rollback row) =
-    codes "instance " ++ (decimal inst ++ (codes " began in row " ++ (decimal row ++ (codes ", as a rollback: it is joined by ready, and only who is busy is unwilling to" ++ 10 ∷ []))))
+    codes "instance " ++ (decimal inst ++ (codes " began in row " ++ (decimal row ++ (codes ", as a rollback: it is joined by ready; only who is busy is unwilling to join it" ++ 10 ∷ []))))
 instance_breach_words (instance.Initiator inst p row) =
     codes "the initiator of instance " ++ (decimal inst ++ (codes " is process " ++ (decimal p
     ++ (codes ", which began it in row " ++ (decimal row ++ 10 ∷ [])))))
 instance_breach_words (instance.JustBegun p inst kind) = just_begun_words p inst kind
 instance_breach_words (instance.OwnCause inst) =
-    codes "who is busy with instance " ++ (decimal inst ++ (codes " has joined it, and is not unwilling to join it" ++ 10 ∷ []))
+    codes "who is busy with instance " ++ (decimal inst ++ (codes " has joined it, and can't be unwilling to join it" ++ 10 ∷ []))
 
 -- what breaks a rule
 abbrev pub breach_words : Breach → List ℕ

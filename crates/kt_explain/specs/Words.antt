@@ -28,11 +28,11 @@ use Rattle.kt_explain.specs.LeftOpenWords.{left_open_words}
 abbrev pub difference_words : Difference → List ℕ
 difference_words Unbegun = codes "no row begins it"
 difference_words Undecided = codes "no row decides it"
-difference_words (Kind kind row) = codes "row " ++ (decimal row ++ (codes " begins it as a " ++ (kind_word kind ++ codes ", and the certificate says otherwise")))
-difference_words (Initiator p row) = codes "process " ++ (decimal p ++ (codes " begins it in row " ++ (decimal row ++ codes ", and the certificate names another one")))
-difference_words (Decision commit row) = codes "row " ++ (decimal row ++ (codes " decides it, " ++ (decision_word commit ++ codes ", and the certificate says otherwise")))
+difference_words (Kind kind row) = codes "row " ++ (decimal row ++ (codes " begins it as a " ++ (kind_word kind ++ codes ", but the certificate says otherwise")))
+difference_words (Initiator p row) = codes "process " ++ (decimal p ++ (codes " begins it in row " ++ (decimal row ++ codes ", but the certificate names another process")))
+difference_words (Decision commit row) = codes "row " ++ (decimal row ++ (codes " decides it, " ++ (decision_word commit ++ codes ", but the certificate says otherwise")))
 difference_words Members = codes "it is aborted, and its certificate lists members"
-difference_words Second = codes "it has a second certificate, and is to have one"
+difference_words Second = codes "it has two certificates, and may have only one"
 
 -- a place of a list
 abbrev pub place_words : ℕ → ℕ → List ℕ
@@ -46,12 +46,12 @@ listed_words None = codes "nobody is listed"
 -- who joined at a place
 abbrev pub joined_words : Option ℕ → List ℕ
 joined_words (Some p) = codes ", and process " ++ decimal p ++ codes " joined" ++ 10 ∷ []
-joined_words None = codes ", and nobody joined" ++ 10 ∷ []
+joined_words None = codes ", but nobody joined" ++ 10 ∷ []
 
 -- who would have had to join
 abbrev pub outsider_words : Option ℕ → List ℕ
 outsider_words None = []
-outsider_words (Some p) = codes "process " ++ decimal p ++ codes " did not join, and has to before the instance is committed: the log is at fault" ++ 10 ∷ []
+outsider_words (Some p) = codes "process " ++ decimal p ++ codes " did not join, but has to before the instance is committed: the log is at fault" ++ 10 ∷ []
 
 -- who sent an orphan, in which row
 abbrev pub sent_words : OneOrphan → List ℕ
@@ -72,7 +72,7 @@ parties_words from to = codes "was sent by process " ++ (decimal from ++ (codes 
 
 -- a message that comes after the chain has come to its member
 abbrev pub arrived_words : ℕ → List ℕ
-arrived_words p = codes "is one too many: the chain has come to process " ++ (decimal p ++ (codes " before it" ++ 10 ∷ []))
+arrived_words p = codes "is one too many: the chain has reached process " ++ (decimal p ++ (codes " before it" ++ 10 ∷ []))
 
 -- a message between these, of the chain of a member, that another one is to have received, or sent
 abbrev pub gone_words : ℕ → ℕ → ℕ → ℕ → List ℕ
@@ -93,8 +93,8 @@ unreceived_words p None = codes "was never received by process " ++ (decimal p +
 -- that a process sent a message, and not past its permanent position, with the row in which it took that
 abbrev pub past_words : ℕ → Option ℕ → List ℕ
 past_words p (Some row) =
-    codes "was sent by process " ++ (decimal p ++ (codes " before it took its last permanent checkpoint, in row " ++ (decimal row ++ (codes ": it links nobody" ++ 10 ∷ []))))
-past_words p None = codes "was sent by process " ++ (decimal p ++ (codes " before it took its last permanent checkpoint: it links nobody" ++ 10 ∷ []))
+    codes "was sent by process " ++ (decimal p ++ (codes " before its last permanent checkpoint, in row " ++ (decimal row ++ (codes ": it links nobody" ++ 10 ∷ []))))
+past_words p None = codes "was sent by process " ++ (decimal p ++ (codes " before its last permanent checkpoint: it links nobody" ++ 10 ∷ []))
 
 -- that a process received a message, and not before it joined the instance
 abbrev pub receipt_words : ℕ → Option ℕ → List ℕ
@@ -102,7 +102,7 @@ receipt_words p (Some row) = codes "was received by process " ++ (decimal p ++ (
 receipt_words p None = codes "was received by process " ++ (decimal p ++ codes ", ")
 
 abbrev pub beyond_words : Option ℕ → List ℕ
-beyond_words (Some row) = codes "and not before it took its checkpoint of the instance, in row " ++ (decimal row ++ (codes ": it links nobody" ++ 10 ∷ []))
+beyond_words (Some row) = codes "after its checkpoint of the instance, in row " ++ (decimal row ++ (codes ": it links nobody" ++ 10 ∷ []))
 beyond_words None = codes "and not before it took a checkpoint of the instance: it links nobody" ++ 10 ∷ []
 
 -- the demand that a message of the chain of a member does not meet, and the rows that it is about
@@ -121,9 +121,9 @@ break_words member b about = (codes "and message " ++ (decimal b.msg ++ (codes "
 
 -- what is wrong with the list of a member
 abbrev pub flaw_words : ℕ → Flaw → ChainRows → List ℕ
-flaw_words member flaw.Initiator about = codes "the initiator, and has a chain: the initiator has none" ++ 10 ∷ []
-flaw_words member flaw.Empty about = codes "and has no chain: each member but the initiator has one" ++ 10 ∷ []
-flaw_words member (flaw.Elsewhere p) about = codes "and its chain leads to process " ++ (decimal p ++ (codes ", and not to process " ++ (decimal member ++ 10 ∷ [])))
+flaw_words member flaw.Initiator about = codes "the initiator, and has a chain: it must have none" ++ 10 ∷ []
+flaw_words member flaw.Empty about = codes "and has no chain: each member but the initiator must have one" ++ 10 ∷ []
+flaw_words member (flaw.Elsewhere p) about = codes "but its chain ends at process " ++ (decimal p ++ (codes ", and not at process " ++ (decimal member ++ 10 ∷ [])))
 flaw_words member (flaw.Broken b) about = break_words member b about
 
 -- a member of an instance whose list is no chain, and the rows that this is about
@@ -133,15 +133,15 @@ bad_chain_words inst b about =
 
 -- a rule by number and name, and what it asks
 abbrev pub rule_words : Rule → List ℕ
-rule_words rule.Numbers = codes "rule 1, numbers: an instance begins before it is named, by the next number, and a peer is another process"
-rule_words rule.Message = codes "rule 2, message: what is received or dropped was sent to this process and not undone, received or dropped"
+rule_words rule.Numbers = codes "rule 1, numbers: an instance begins with the next number, and is named only after that; nobody sends to itself"
+rule_words rule.Message = codes "rule 2, message: only what was sent to this process, and not undone, received or dropped since, is received or dropped"
 rule_words rule.Order = codes "rule 3, order: messages of one sender are taken in the order in which they were sent"
 rule_words rule.Sending = codes "rule 4, sending: who sends is up and in no open instance"
 rule_words rule.Receiving = codes "rule 5, receiving: who receives is up, who drops is down, and neither is in an open rollback"
 rule_words rule.Joining = codes "rule 6, joining: who joins is in no open instance, and joins once, before the decision, by took in a checkpoint, by ready in a rollback; the initiator joins in the row after began"
 rule_words rule.Deciding = codes "rule 7, deciding: the initiator decides once, while it is in its instance"
-rule_words rule.Closing = codes "rule 8, closing: who closes is in the instance, and that is decided"
-rule_words rule.Causes = codes "rule 9, causes: who fails is up; who is unwilling or refuses names no other cause than the one that it has"
+rule_words rule.Closing = codes "rule 8, closing: only a member that is in the instance closes it, once it is decided"
+rule_words rule.Causes = codes "rule 9, causes: only who is up fails; a cause that a row names has to be so"
 
 -- the last row in which a process failed
 abbrev pub failure_words : Option ℕ → List ℕ
@@ -164,7 +164,7 @@ row_words row = joined (spelling row)
 
 -- the number of a row
 abbrev pub numbered_words : ℕ → List ℕ
-numbered_words row = codes "log row " ++ (decimal row ++ codes ", not counting a first line kt,2,-,-: ")
+numbered_words row = codes "log row " ++ (decimal row ++ codes " (a first line kt,2,-,- is not counted): ")
 
 -- a rule, and what breaks it
 abbrev pub broken_words : Rule → Breach → List ℕ
@@ -188,14 +188,14 @@ abbrev pub explanation_words : Explanation → List ℕ
 explanation_words Nothing = []
 explanation_words (Unknown inst difference) = codes "instance " ++ decimal inst ++ codes ": " ++ difference_words difference ++ 10 ∷ []
 explanation_words (Objection inst p row decided) =
-    codes "row " ++ (decimal decided ++ (codes " commits instance " ++ (decimal inst ++ (codes ", and has to abort it, since process " ++ (decimal p
+    codes "row " ++ (decimal decided ++ (codes " commits instance " ++ (decimal inst ++ (codes ", but has to abort it, since process " ++ (decimal p
     ++ (codes " was unwilling to join it in row " ++ (decimal row ++ (codes ": the log is at fault" ++ 10 ∷ []))))))))
 explanation_words (NoObjection inst decided) =
     codes "row " ++ (decimal decided ++ (codes " aborts instance " ++ (decimal inst
-    ++ (codes ", and no row has a process that was unwilling to join it: the log is at fault" ++ 10 ∷ []))))
+    ++ (codes ", but no process was unwilling to join it: the log is at fault" ++ 10 ∷ []))))
 explanation_words (OtherMember inst place listed joined) = place_words inst place ++ (listed_words listed ++ joined_words joined)
 explanation_words (BadChain inst chain about) = bad_chain_words inst chain about
-explanation_words (Uncertified inst row) = codes "row " ++ (decimal row ++ (codes " decides instance " ++ (decimal inst ++ (codes ", and there is no certificate of it: koo_toueg certify makes it" ++ 10 ∷ []))))
+explanation_words (Uncertified inst row) = codes "row " ++ (decimal row ++ (codes " decides instance " ++ (decimal inst ++ (codes ", but there is no certificate of it: koo_toueg certify makes it" ++ 10 ∷ []))))
 explanation_words (Orphan inst orphan) = codes "instance " ++ (decimal inst ++ (codes ": " ++ orphan_words orphan))
 explanation_words (BadLog b) = bad_row_words b
 explanation_words (LeftOpen l) = left_open_words l

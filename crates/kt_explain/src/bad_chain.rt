@@ -80,18 +80,15 @@ fn write_flaw<W: fmt::Write>(
     ensures { DisplaysOnOk W.write_str_gives f.old result (Some (flaw_words member flaw about)) f.new }
 {
     match flaw {
-        Flaw::Initiator => write!(
-            f,
-            "the initiator, and has a chain: the initiator has none\n"
-        ),
+        Flaw::Initiator => write!(f, "the initiator, and has a chain: it must have none\n"),
         Flaw::Empty => write!(
             f,
-            "and has no chain: each member but the initiator has one\n"
+            "and has no chain: each member but the initiator must have one\n"
         ),
         Flaw::Elsewhere(p) => {
             write!(
                 f,
-                "and its chain leads to process {p}, and not to process {member}\n"
+                "but its chain ends at process {p}, and not at process {member}\n"
             )
         }
         Flaw::Broken(broken) => write_break(f, member, broken, about),
@@ -171,11 +168,11 @@ fn write_past<W: fmt::Write>(
     match permanent {
         Some(row) => write!(
             f,
-            "was sent by process {p} before it took its last permanent checkpoint, in row {row}: it links nobody\n"
+            "was sent by process {p} before its last permanent checkpoint, in row {row}: it links nobody\n"
         ),
         None => write!(
             f,
-            "was sent by process {p} before it took its last permanent checkpoint: it links nobody\n"
+            "was sent by process {p} before its last permanent checkpoint: it links nobody\n"
         ),
     }
 }
@@ -201,7 +198,7 @@ fn write_beyond<W: fmt::Write>(f: &mut fmt::Formatter<W>, joined: Option<RowNo>)
     match joined {
         Some(row) => write!(
             f,
-            "and not before it took its checkpoint of the instance, in row {row}: it links nobody\n"
+            "after its checkpoint of the instance, in row {row}: it links nobody\n"
         ),
         None => write!(
             f,
@@ -254,6 +251,6 @@ fn write_arrived<W: fmt::Write>(f: &mut fmt::Formatter<W>, p: ProcNo) -> fmt::Re
 {
     write!(
         f,
-        "is one too many: the chain has come to process {p} before it\n"
+        "is one too many: the chain has reached process {p} before it\n"
     )
 }

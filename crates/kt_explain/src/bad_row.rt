@@ -55,9 +55,9 @@ pub fn rule_name(rule: Rule) -> &'static str
 {
     match rule {
         Rule::Numbers =>
-            "rule 1, numbers: an instance begins before it is named, by the next number, and a peer is another process",
+            "rule 1, numbers: an instance begins with the next number, and is named only after that; nobody sends to itself",
         Rule::Message =>
-            "rule 2, message: what is received or dropped was sent to this process and not undone, received or dropped",
+            "rule 2, message: only what was sent to this process, and not undone, received or dropped since, is received or dropped",
         Rule::Order =>
             "rule 3, order: messages of one sender are taken in the order in which they were sent",
         Rule::Sending => "rule 4, sending: who sends is up and in no open instance",
@@ -67,9 +67,10 @@ pub fn rule_name(rule: Rule) -> &'static str
             "rule 6, joining: who joins is in no open instance, and joins once, before the decision, by took in a checkpoint, by ready in a rollback; the initiator joins in the row after began",
         Rule::Deciding =>
             "rule 7, deciding: the initiator decides once, while it is in its instance",
-        Rule::Closing => "rule 8, closing: who closes is in the instance, and that is decided",
+        Rule::Closing =>
+            "rule 8, closing: only a member that is in the instance closes it, once it is decided",
         Rule::Causes =>
-            "rule 9, causes: who fails is up; who is unwilling or refuses names no other cause than the one that it has",
+            "rule 9, causes: only who is up fails; a cause that a row names has to be so",
     }
 }
 
@@ -77,7 +78,7 @@ pub fn rule_name(rule: Rule) -> &'static str
 fn write_number<W: fmt::Write>(f: &mut fmt::Formatter<W>, row: RowNo) -> fmt::Result
     ensures { DisplaysOnOk W.write_str_gives f.old result (Some (numbered_words row)) f.new }
 {
-    write!(f, "log row {row}, not counting a first line kt,2,-,-: ")
+    write!(f, "log row {row} (a first line kt,2,-,- is not counted): ")
 }
 
 // A rule, and what breaks it.

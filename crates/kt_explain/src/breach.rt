@@ -300,11 +300,11 @@ fn write_just_begun<W: fmt::Write>(
     match kind {
         Kind::Checkpoint => write!(
             f,
-            "process {p} began instance {inst}, a checkpoint, in the row before: this one has to be took,{p},{inst},-\n"
+            "process {p} began instance {inst}, a checkpoint, in the row before: next has to come took,{p},{inst},-\n"
         ),
         Kind::Rollback => write!(
             f,
-            "process {p} began instance {inst}, a rollback, in the row before: this one has to be ready,{p},{inst},-\n"
+            "process {p} began instance {inst}, a rollback, in the row before: next has to come ready,{p},{inst},-\n"
         ),
     }
 }
@@ -334,7 +334,7 @@ impl fmt::Display for InstanceBreach {
                 }
                 Kind::Rollback => write!(
                     f,
-                    "instance {inst} began in row {row}, as a rollback: it is joined by ready, and only who is busy is unwilling to\n"
+                    "instance {inst} began in row {row}, as a rollback: it is joined by ready; only who is busy is unwilling to join it\n"
                 ),
             },
             InstanceBreach::Initiator { inst, p, row } => write!(
@@ -344,7 +344,7 @@ impl fmt::Display for InstanceBreach {
             InstanceBreach::JustBegun { p, inst, kind } => write_just_begun(f, p, inst, kind),
             InstanceBreach::OwnCause(inst) => write!(
                 f,
-                "who is busy with instance {inst} has joined it, and is not unwilling to join it\n"
+                "who is busy with instance {inst} has joined it, and can't be unwilling to join it\n"
             ),
         }
     }

@@ -27,7 +27,7 @@ impl fmt::Display for RecordTold {
         match self.number {
             Some(number) => write!(
                 f,
-                "see record {number} of the certificates; koo_toueg certify makes them from a log\n"
+                "see record {number} of the certificates; koo_toueg certify makes them from the log, or says whom no message links\n"
             ),
             None => Ok(()),
         }

@@ -39,24 +39,24 @@ impl fmt::Display for Difference {
                 let name = kind_name(kind);
                 write!(
                     f,
-                    "row {row} begins it as a {name}, and the certificate says otherwise"
+                    "row {row} begins it as a {name}, but the certificate says otherwise"
                 )
             }
             Difference::Initiator(p, row) => {
                 write!(
                     f,
-                    "process {p} begins it in row {row}, and the certificate names another one"
+                    "process {p} begins it in row {row}, but the certificate names another process"
                 )
             }
             Difference::Decision(commit, row) => {
                 let name = decision_name(commit);
                 write!(
                     f,
-                    "row {row} decides it, {name}, and the certificate says otherwise"
+                    "row {row} decides it, {name}, but the certificate says otherwise"
                 )
             }
             Difference::Members => write!(f, "it is aborted, and its certificate lists members"),
-            Difference::Second => write!(f, "it has a second certificate, and is to have one"),
+            Difference::Second => write!(f, "it has two certificates, and may have only one"),
         }
     }
 }

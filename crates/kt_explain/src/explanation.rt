@@ -86,13 +86,13 @@ impl fmt::Display for Explanation {
             } => {
                 write!(
                     f,
-                    "row {decided} commits instance {inst}, and has to abort it, since process {p} was unwilling to join it in row {row}: the log is at fault\n"
+                    "row {decided} commits instance {inst}, but has to abort it, since process {p} was unwilling to join it in row {row}: the log is at fault\n"
                 )
             }
             Explanation::NoObjection { inst, decided } => {
                 write!(
                     f,
-                    "row {decided} aborts instance {inst}, and no row has a process that was unwilling to join it: the log is at fault\n"
+                    "row {decided} aborts instance {inst}, but no process was unwilling to join it: the log is at fault\n"
                 )
             }
             Explanation::OtherMember {
@@ -111,7 +111,7 @@ impl fmt::Display for Explanation {
             Explanation::Uncertified { inst, row } => {
                 write!(
                     f,
-                    "row {row} decides instance {inst}, and there is no certificate of it: koo_toueg certify makes it\n"
+                    "row {row} decides instance {inst}, but there is no certificate of it: koo_toueg certify makes it\n"
                 )
             }
         }
@@ -134,6 +134,6 @@ fn write_joined<W: fmt::Write>(f: &mut fmt::Formatter<W>, joined: Option<ProcNo>
 {
     match joined {
         Some(p) => write!(f, ", and process {p} joined\n"),
-        None => write!(f, ", and nobody joined\n"),
+        None => write!(f, ", but nobody joined\n"),
     }
 }

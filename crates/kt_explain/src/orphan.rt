@@ -48,6 +48,6 @@ fn write_outsider<W: fmt::Write>(f: &mut fmt::Formatter<W>, outsider: Option<Pro
     };
     write!(
         f,
-        "process {p} did not join, and has to before the instance is committed: the log is at fault\n"
+        "process {p} did not join, but has to before the instance is committed: the log is at fault\n"
     )
 }
