@@ -100,14 +100,14 @@ impl Agenda {
             has result p ≡ (has set p || is_some (open_command self.now p)) }
         ensures others { (p : ℕ) → length self.now.plan.names ≤ p → has result p ≡ has set p }
     {
-        let _count = self.processes();
-        if !self.has_open() {
-            return set;
-        }
         let mut all = set;
-        for number in 0..self.processes() as u8 {
-            let p = ProcNo::nth(number);
-            all = with_if(all, p, self.is_open(p));
+        let mut left = self.in_phase;
+        for _number in 0..self.processes() {
+            let Some(p) = left.first() else {
+                return all;
+            };
+            all = all.with(p);
+            left = left.without(p);
         }
         all
     }
