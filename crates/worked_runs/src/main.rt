@@ -1,7 +1,7 @@
 //! Shows what is read from each stored run: its first broken rule, or what its histories are after each row, as both
 //! readers tell it, the checker's answer in both formats, whether what is written is what was read, its answer to
 //! certificates that are made after each row, and whether those made of its text are the stored ones. Then plays each
-//! scenario that a stored run is of, some in many drawn orders, and runs each in threads.
+//! scenario that a stored run is of, some in many drawn orders, and runs each in threads. Last, shows some as pictures.
 #![tactic(auto)]
 
 mod again;
@@ -11,6 +11,7 @@ mod facts;
 mod lives;
 mod long;
 mod made;
+mod pictures;
 mod plays;
 mod readers;
 mod seeds;
@@ -26,6 +27,7 @@ use kt_spacetime::SpaceTime;
 use lives::{show_large_live, show_lives};
 use long::show_long;
 use made::{show_made, show_many};
+use pictures::show_pictures;
 use plays::show_plays;
 use seeds::show_seeds;
 use std::fs;
@@ -76,5 +78,6 @@ fn main(rt: HostRuntime) -> Result<()> {
     show_lives(&rt, "lives.txt")?;
     show_large_live(&rt)?;
     show_long(&rt)?;
-    show_many(&rt)
+    show_many(&rt)?;
+    show_pictures(&rt, "pictures.txt")
 }

@@ -1,8 +1,8 @@
-//! Shows each stored run as a picture.
-#![tactic(auto)]
+//! Stored runs as pictures.
 
 ghost use Rattle.kt_cuts.specs.Legal.{IsLegal};
 
+use crate::commands::stored;
 use anyhow::Result;
 use kt_histories::legal;
 use kt_log_text::read_csv;
@@ -12,7 +12,7 @@ use kt_spacetime::SpaceTime;
 use std::fs;
 
 // Shows a legal log as a picture.
-fn show_picture(rt: &HostRuntime, log: &SpaceTime) -> Result<()>
+fn show_picture<R: Print + AllocGlobal>(rt: &R, log: &SpaceTime) -> Result<()>
     requires { IsLegal log.now.rows }
 {
     let names = Names::new(rt.alloc());
@@ -28,9 +28,9 @@ fn show_picture(rt: &HostRuntime, log: &SpaceTime) -> Result<()>
     Ok(())
 }
 
-// Shows the stored run of this name.
-fn show_stored(rt: &HostRuntime, name: &str) -> Result<()> {
-    let text = fs::read(rt, name)?;
+// Shows the stored run of this name as a picture.
+fn show_stored_picture(rt: &HostRuntime, name: &str) -> Result<()> {
+    let text = stored(rt, name, ".log.csv")?;
     let log = read_csv(rt.alloc(), text.as_slice())?;
     match legal(rt.alloc(), &log) {
         Ok(()) => show_picture(rt, &log),
@@ -41,10 +41,11 @@ fn show_stored(rt: &HostRuntime, name: &str) -> Result<()> {
     }
 }
 
-fn main(rt: HostRuntime) -> Result<()> {
-    let names = fs::read_to_string(&rt, "pictures.txt")?;
+/// Shows as a picture each stored run that a list names.
+pub(crate) fn show_pictures(rt: &HostRuntime, list: &str) -> Result<()> {
+    let names = fs::read_to_string(rt, list)?;
     for name in names.lines() {
-        show_stored(&rt, name)?;
+        show_stored_picture(rt, name)?;
     }
     Ok(())
 }
