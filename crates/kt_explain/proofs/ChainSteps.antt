@@ -1,8 +1,9 @@
 -- Where a message leads on in a chain, by its trace, and why it does not.
-use Rattle.std.proofs.Common.{◌≡◌, ◌≢◌, ℕ, zero, suc, ◌+◌, ◌<◌, ◌≤◌, ◌==◌, not, Bool, true, false, unwrap_or, Option, Some, None, option_map, List, [], ◌∷◌, take, drop, refl, sym, ap, ◌∙◌, subst, arith}
+use Rattle.std.proofs.Common.{◌≡◌, ◌≢◌, ℕ, zero, suc, ◌+◌, ◌<◌, ◌≤◌, ◌==◌, not, Bool, true, false, unwrap_or, Option, Some, None, option_map, List, [], ◌∷◌, length, take, drop, refl, sym, ap, ◌∙◌, subst, arith}
 use Rattle.std.specs.List.{slice_get}
 use Rattle.std.specs.Option.{option_flatten}
 use Rattle.std.proofs.lemmas.Bool.Decides.{nat_tests}
+use Rattle.std.proofs.lemmas.Option.{slice_get_within}
 use Rattle.kt_base.specs.declared.words.Kind.{Kind}
 use Rattle.kt_base.specs.declared.words.Kind.TheVariants.{Checkpoint, Rollback}
 use Rattle.kt_spacetime.specs.declared.event.Event.{Event}
@@ -174,6 +175,26 @@ meets rows k Rollback at m next l h =
   where
     other : Rollback ≡ Checkpoint → ⊥
     other e = cc
+
+-- a message leads on to one process alone
+pub one_next : (rows : List Event) (k : ℕ) (kind : Kind) (at m x y : ℕ) → IsLegal rows → IsChain (past rows) k kind at (m ∷ []) x → IsChain (past rows) k kind at (m ∷ []) y → x ≡ y
+one_next rows k Checkpoint at m x y l a b =
+    let first = sent_message rows l a.0 at m (past_sent (past rows) a.0 at m a.1.sent) in
+    let second = sent_message rows l b.0 at m (past_sent (past rows) b.0 at m b.1.sent) in
+    sym a.2 ∙ ((one_message rows m a.0 b.0 at at first second).0 ∙ b.2)
+one_next rows k Rollback at m x y l a b =
+    let first = sent_message rows l at a.0 m (past_sent (past rows) at a.0 m a.1.sent) in
+    let second = sent_message rows l at b.0 m (past_sent (past rows) at b.0 m b.1.sent) in
+    sym a.2 ∙ ((one_message rows m at at a.0 b.0 first second).1 ∙ b.2)
+
+-- the number of a row
+numbered_row : (rows : List Event) (m : ℕ) (row : Event) → row_at rows m ≡ Some row → (n : ℕ) × (m ≡ n + 1) × (n < length rows)
+numbered_row rows zero row e = absurd (none_some row e)
+numbered_row rows (suc n) row e = (n, omega arith, slice_get_within rows n row e)
+
+-- a message that leads on has the number of a row
+pub led_row : (rows : List Event) (k : ℕ) (kind : Kind) (at m next : ℕ) → IsLegal rows → IsChain (past rows) k kind at (m ∷ []) next → (n : ℕ) × (m ≡ n + 1) × (n < length rows)
+led_row rows k kind at m next l h = numbered_row rows m _ (meets rows k kind at m next l h).message.1
 
 -- a message has to lead on between one sender and one receiver
 one_ends : (rows : List Event) (kind : Kind) (at m p q x y : ℕ) → AreItsEnds rows kind at m p q → AreItsEnds rows kind at m x y → (p ≡ x) × (q ≡ y)

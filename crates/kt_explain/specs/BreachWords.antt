@@ -51,15 +51,19 @@ absence_words inst None closed = codes "it has not joined instance " ++ (decimal
 abbrev pub outside_words : Outside → List ℕ
 outside_words o = open_in_words o.p o.inst o.open_in ++ absence_words o.inst o.joined o.closed
 
+-- how a process leaves an instance
+abbrev pub leaving_words : ℕ → ℕ → List ℕ
+leaving_words p inst = codes ", and has to close it first: closed," ++ (decimal p ++ (codes "," ++ (decimal inst ++ (codes ",- once it is decided" ++ 10 ∷ []))))
+
 -- what is so of a process
 abbrev pub process_breach_words : ProcessBreach → List ℕ
 process_breach_words (process.OwnPeer p) = codes "both processes of the row are process " ++ (decimal p ++ 10 ∷ [])
 process_breach_words (process.Down p row) = codes "process " ++ (decimal p ++ (codes " is down since row " ++ (decimal row ++ 10 ∷ [])))
 process_breach_words (process.Up p) = codes "process " ++ (decimal p ++ (codes " is up" ++ 10 ∷ []))
 process_breach_words (process.Inside p inst row) =
-    codes "process " ++ (decimal p ++ (codes " has been in instance " ++ (decimal inst ++ (codes " since row " ++ (decimal row ++ 10 ∷ [])))))
+    (codes "process " ++ (decimal p ++ (codes " has been in instance " ++ (decimal inst ++ (codes " since row " ++ decimal row))))) ++ leaving_words p inst
 process_breach_words (process.Rolling p inst row) =
-    codes "process " ++ (decimal p ++ (codes " has been in instance " ++ (decimal inst ++ (codes ", a rollback, since row " ++ (decimal row ++ 10 ∷ [])))))
+    (codes "process " ++ (decimal p ++ (codes " has been in instance " ++ (decimal inst ++ (codes ", a rollback, since row " ++ decimal row))))) ++ leaving_words p inst
 process_breach_words (process.NotInside o) = outside_words o
 process_breach_words (process.Joined p inst row) =
     codes "process " ++ (decimal p ++ (codes " joined instance " ++ (decimal inst ++ (codes " already, in row " ++ (decimal row ++ 10 ∷ [])))))

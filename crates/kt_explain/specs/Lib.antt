@@ -4,6 +4,7 @@ pub mod BreachWords
 pub mod Orphans
 pub mod BadChains
 pub mod ChainRows
+pub mod Linking
 pub mod Breaches
 pub mod Undoing
 pub mod LeftOpen

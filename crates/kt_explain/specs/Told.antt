@@ -28,6 +28,7 @@ use Rattle.kt_explain.specs.Breaches.{IsBreach}
 use Rattle.kt_explain.specs.Undoing.{IsUndoneIn}
 use Rattle.kt_explain.specs.BadChains.{IsBadChain}
 use Rattle.kt_explain.specs.ChainRows.{AreChainRows}
+use Rattle.kt_explain.specs.Linking.{IsLinkFound}
 use Rattle.kt_explain.specs.Finding.{HasNoRow, IsFirstRow, IsLastNumber, begins_inst, decides_inst, fails}
 
 -- a certificate is the first one of an instance
@@ -44,8 +45,8 @@ IsDifference rows certificates c difference.Unbegun = HasNoRow (begins_inst c.in
 IsDifference rows certificates c difference.Undecided = HasNoRow (decides_inst c.inst) rows
 IsDifference rows certificates c (difference.Kind kind row) =
     (p : ℕ) × IsFirstRow (begins_inst c.inst) rows row (event.Began p c.inst kind) × (kind ≢ c.kind)
-IsDifference rows certificates c (difference.Initiator p row) =
-    (kind : Kind) × IsFirstRow (begins_inst c.inst) rows row (event.Began p c.inst kind) × (p ≢ c.initiator)
+IsDifference rows certificates c (difference.Initiator p named row) =
+    (kind : Kind) × IsFirstRow (begins_inst c.inst) rows row (event.Began p c.inst kind) × (named ≡ c.initiator) × (p ≢ named)
 IsDifference rows certificates c (difference.Decision commit row) =
     (p : ℕ) × IsFirstRow (decides_inst c.inst) rows row (event.Decided p c.inst commit) × (commit ≢ c.commit)
 IsDifference rows certificates c difference.Members = (c.commit ≡ false) × (c.members ≢ [])
@@ -100,10 +101,10 @@ IsExplanation rows certificates verdict (NoObjection k decided) =
 IsExplanation rows certificates verdict (OtherMember k place listed joined) =
     IsNoOf verdict k why.Members
     × (c : Certificate) × IsItsFirst certificates k c × DifferAt (listed_in c) (members rows k) place listed joined
-IsExplanation rows certificates verdict (BadChain k chain about) =
+IsExplanation rows certificates verdict (BadChain k chain about link) =
     (n : ℕ) × (verdict ≡ No (Some k) (Some (n + 1)) why.Chain)
     × (c : Certificate) × IsItsFirst certificates k c × IsBadChain (take n rows) c chain
-    × AreChainRows (take n rows) k chain.flaw about
+    × AreChainRows (take n rows) k chain.flaw about × IsLinkFound (take n rows) c chain.place chain.p link
 IsExplanation rows certificates verdict (Uncertified k row) =
     IsNoOf verdict k why.Missing × (commit : Bool) × HasDecided rows row k commit × (HasCertificate certificates k → ⊥)
 IsExplanation rows certificates verdict (Orphan k orphan) =

@@ -1,7 +1,8 @@
 -- The sentences that are written of an answer.
-use Rattle.std.specs.Prelude.{ℕ, ◌==◌, if◌then◌else◌, Option, Some, None, List, [], ◌∷◌, ◌++◌, codes}
+use Rattle.std.specs.Prelude.{ℕ, ◌==◌, if◌then◌else◌, Bool, true, false, is_none, Option, Some, None, List, [], ◌∷◌, ◌++◌, codes}
 use Rattle.std.specs.Fmt.{decimal}
-use Rattle.kt_text.specs.Words.{kind_word, decision_word}
+use Rattle.kt_base.specs.declared.words.Kind.{Kind as OneKind}
+use Rattle.kt_base.specs.declared.words.Kind.TheVariants.{Checkpoint, Rollback}
 use Rattle.kt_text.specs.Writing.{joined}
 use Rattle.kt_log_text.specs.Spelling.{spelling}
 use Rattle.kt_spacetime.specs.declared.event.Event.{Event}
@@ -10,6 +11,8 @@ use Rattle.kt_cuts.specs.declared.rules.Rule.TheVariants as rule
 use Rattle.kt_explain.specs.BreachWords.{breach_words}
 use Rattle.kt_explain.specs.declared.bad_row.BadRow.{BadRow}
 use Rattle.kt_explain.specs.declared.breach.Breach.{Breach}
+use Rattle.kt_explain.specs.declared.breach.Breach.TheVariants as breach
+use Rattle.kt_explain.specs.declared.breach.ProcessBreach.TheVariants as process
 use Rattle.kt_explain.specs.declared.bad_chain.Break.{Break}
 use Rattle.kt_explain.specs.declared.bad_chain.Demand.{Demand}
 use Rattle.kt_explain.specs.declared.bad_chain.Demand.TheVariants as demand
@@ -21,16 +24,28 @@ use Rattle.kt_explain.specs.declared.difference.Difference.{Difference}
 use Rattle.kt_explain.specs.declared.difference.Difference.TheVariants.{Unbegun, Undecided, Kind, Initiator, Decision, Members, Second}
 use Rattle.kt_explain.specs.declared.explanation.Explanation.{Explanation}
 use Rattle.kt_explain.specs.declared.explanation.Explanation.TheVariants.{Nothing, Unknown, Objection, NoObjection, OtherMember, BadChain, Uncertified, Orphan, BadLog, LeftOpen}
+use Rattle.kt_explain.specs.declared.linking.Link.{Link}
 use Rattle.kt_explain.specs.declared.orphan.Orphan.{Orphan as OneOrphan}
 use Rattle.kt_explain.specs.LeftOpenWords.{left_open_words}
+
+-- an instance began as one of this kind, and its certificate says the other
+abbrev pub other_kind_words : OneKind → ℕ → List ℕ
+other_kind_words Checkpoint row = codes "row " ++ (decimal row ++ codes " begins it as a checkpoint, but the certificate says rollback")
+other_kind_words Rollback row = codes "row " ++ (decimal row ++ codes " begins it as a rollback, but the certificate says checkpoint")
+
+-- it was decided so, and its certificate says the other
+abbrev pub other_decision_words : Bool → ℕ → List ℕ
+other_decision_words true row = codes "row " ++ (decimal row ++ codes " decides it, commit, but the certificate says abort")
+other_decision_words false row = codes "row " ++ (decimal row ++ codes " decides it, abort, but the certificate says commit")
 
 -- what the log has otherwise than a certificate of an instance
 abbrev pub difference_words : Difference → List ℕ
 difference_words Unbegun = codes "no row begins it"
 difference_words Undecided = codes "no row decides it"
-difference_words (Kind kind row) = codes "row " ++ (decimal row ++ (codes " begins it as a " ++ (kind_word kind ++ codes ", but the certificate says otherwise")))
-difference_words (Initiator p row) = codes "process " ++ (decimal p ++ (codes " begins it in row " ++ (decimal row ++ codes ", but the certificate names another process")))
-difference_words (Decision commit row) = codes "row " ++ (decimal row ++ (codes " decides it, " ++ (decision_word commit ++ codes ", but the certificate says otherwise")))
+difference_words (Kind kind row) = other_kind_words kind row
+difference_words (Initiator p named row) =
+    codes "process " ++ (decimal p ++ (codes " begins it in row " ++ (decimal row ++ (codes ", but the certificate names process " ++ decimal named))))
+difference_words (Decision commit row) = other_decision_words commit row
 difference_words Members = codes "it is aborted, and its certificate lists members"
 difference_words Second = codes "it has two certificates, and may have only one"
 
@@ -38,15 +53,21 @@ difference_words Second = codes "it has two certificates, and may have only one"
 abbrev pub place_words : ℕ → ℕ → List ℕ
 place_words inst place = codes "member " ++ (decimal place ++ (codes " of instance " ++ (decimal inst ++ codes ": ")))
 
--- who is listed at a place
-abbrev pub listed_words : Option ℕ → List ℕ
-listed_words (Some p) = codes "process " ++ decimal p ++ codes " is listed"
-listed_words None = codes "nobody is listed"
+-- who joined where this process is listed
+abbrev pub listed_words : ℕ → Option ℕ → List ℕ
+listed_words q (Some p) = codes "process " ++ (decimal q ++ (codes " is listed, and process " ++ (decimal p ++ (codes " joined" ++ 10 ∷ []))))
+listed_words q None = codes "process " ++ (decimal q ++ (codes " is listed, but nobody joined" ++ 10 ∷ []))
 
--- who joined at a place
-abbrev pub joined_words : Option ℕ → List ℕ
-joined_words (Some p) = codes ", and process " ++ decimal p ++ codes " joined" ++ 10 ∷ []
-joined_words None = codes ", but nobody joined" ++ 10 ∷ []
+-- who joined where nobody is listed
+abbrev pub missing_words : Option ℕ → List ℕ
+missing_words (Some p) =
+    codes "nobody is listed, and process " ++ (decimal p ++ (codes " joined: its record has to follow the one that is named below" ++ 10 ∷ []))
+missing_words None = codes "nobody is listed, and nobody joined" ++ 10 ∷ []
+
+-- who is listed at a place, and who joined there
+abbrev pub unlike_words : Option ℕ → Option ℕ → List ℕ
+unlike_words (Some q) joined = listed_words q joined
+unlike_words None joined = missing_words joined
 
 -- who would have had to join
 abbrev pub outsider_words : Option ℕ → List ℕ
@@ -131,6 +152,24 @@ abbrev pub bad_chain_words : ℕ → OneBadChain → ChainRows → List ℕ
 bad_chain_words inst b about =
     (codes "instance " ++ (decimal inst ++ (codes ": member " ++ (decimal b.place ++ (codes " is process " ++ (decimal b.p ++ codes ", ")))))) ++ flaw_words b.p b.flaw about
 
+-- that this message links a member with this one before it
+abbrev pub linked_words : ℕ → Link → List ℕ
+linked_words member l =
+    codes "message " ++ (decimal l.msg ++ (codes " links process " ++ (decimal member ++ (codes " with process " ++ (decimal l.q
+    ++ (codes ", a member before it: its chain can be that of process " ++ (decimal l.q ++ (codes ", followed by " ++ (decimal l.msg ++ 10 ∷ [])))))))))
+
+-- which message links a member with one before it; the initiator needs none
+abbrev pub linking_words : ℕ → Option Link → List ℕ
+linking_words member (Some l) = linked_words member l
+linking_words member None =
+    codes "no message links process " ++ (decimal member ++ (codes " with a member before it: the log is at fault" ++ 10 ∷ []))
+
+abbrev pub link_words : ℕ → Flaw → Option Link → List ℕ
+link_words member flaw.Initiator link = []
+link_words member flaw.Empty link = linking_words member link
+link_words member (flaw.Elsewhere p) link = linking_words member link
+link_words member (flaw.Broken b) link = linking_words member link
+
 -- a rule by number and name, and what it asks
 abbrev pub rule_words : Rule → List ℕ
 rule_words rule.Numbers = codes "rule 1, numbers: an instance begins with the next number, and is named only after that; nobody sends to itself"
@@ -175,8 +214,20 @@ abbrev pub undone_words : Option ℕ → List ℕ
 undone_words (Some row) = codes "row " ++ (decimal row ++ (codes " undid it" ++ 10 ∷ []))
 undone_words None = []
 
+-- whether what breaks a rule says all of where the row's process stands
+abbrev pub says_standing : Breach → Option ℕ → Option ℕ → Bool
+says_standing (breach.Process (process.Inside p k row)) open_in failed = is_none failed
+says_standing (breach.Process (process.Rolling p k row)) open_in failed = is_none failed
+says_standing (breach.Process (process.NotInside o)) open_in failed = is_none failed
+says_standing (breach.Process (process.Down p row)) open_in failed = is_none open_in
+says_standing breach open_in failed = false
+
+-- where the row's process stands, unless what breaks the rule says that
+abbrev pub process_words : BadRow → List ℕ
+process_words b = if says_standing b.breach b.open_in b.failed then [] else standing_words b.p b.open_in b.failed
+
 abbrev pub around_words : BadRow → List ℕ
-around_words b = undone_words b.undone ++ standing_words b.p b.open_in b.failed
+around_words b = undone_words b.undone ++ process_words b
 
 -- a row that breaks a rule, the rule, what breaks it, what undid its message, and where its process stands before it
 abbrev pub bad_row_words : BadRow → List ℕ
@@ -193,8 +244,8 @@ explanation_words (Objection inst p row decided) =
 explanation_words (NoObjection inst decided) =
     codes "row " ++ (decimal decided ++ (codes " aborts instance " ++ (decimal inst
     ++ (codes ", but no process was unwilling to join it: the log is at fault" ++ 10 ∷ []))))
-explanation_words (OtherMember inst place listed joined) = place_words inst place ++ (listed_words listed ++ joined_words joined)
-explanation_words (BadChain inst chain about) = bad_chain_words inst chain about
+explanation_words (OtherMember inst place listed joined) = place_words inst place ++ unlike_words listed joined
+explanation_words (BadChain inst chain about link) = bad_chain_words inst chain about ++ link_words chain.p chain.flaw link
 explanation_words (Uncertified inst row) = codes "row " ++ (decimal row ++ (codes " decides instance " ++ (decimal inst ++ (codes ", but there is no certificate of it: koo_toueg certify makes it" ++ 10 ∷ []))))
 explanation_words (Orphan inst orphan) = codes "instance " ++ (decimal inst ++ (codes ": " ++ orphan_words orphan))
 explanation_words (BadLog b) = bad_row_words b

@@ -60,12 +60,12 @@ pub struct BadChain {
 pub(crate) fn write_bad_chain<W: fmt::Write>(
     f: &mut fmt::Formatter<W>,
     inst: InstNo,
-    chain: BadChain,
+    chain: &BadChain,
     about: ChainRows,
 ) -> fmt::Result
-    ensures { DisplaysOnOk W.write_str_gives f.old result (Some (bad_chain_words inst chain about)) f.new }
+    ensures { DisplaysOnOk W.write_str_gives f.old result (Some (bad_chain_words inst chain.now about)) f.new }
 {
-    let BadChain { place, p, flaw } = chain;
+    let BadChain { place, p, flaw } = *chain;
     write!(f, "instance {inst}: member {place} is process {p}, ")?;
     write_flaw(f, p, flaw, about)
 }

@@ -2,9 +2,9 @@
 
 ghost use Rattle.std.specs.Prelude.{◌≡◌, Some};
 ghost use Rattle.std.specs.Fmt.{DisplaysOnOk};
-ghost use Rattle.kt_explain.specs.Words.{around_words, broken_words, failed_words, failure_words, numbered_words, rule_words, standing_words, undone_words};
+ghost use Rattle.kt_explain.specs.Words.{around_words, broken_words, failed_words, failure_words, numbered_words, process_words, rule_words, says_standing, standing_words, undone_words};
 
-use crate::breach::Breach;
+use crate::breach::{Breach, ProcessBreach};
 use crate::row_text::write_row;
 use kt_base::{InstNo, ProcNo, RowNo};
 use kt_cuts::Rule;
@@ -94,7 +94,33 @@ fn write_around<W: fmt::Write>(f: &mut fmt::Formatter<W>, row: &BadRow) -> fmt::
     ensures { DisplaysOnOk W.write_str_gives f.old result (Some (around_words row.now)) f.new }
 {
     write_undone(f, row.undone)?;
-    write_standing(f, row.p, row.open_in, row.failed)
+    write_process(f, row)
+}
+
+// Where the row's process stands, unless what breaks the rule says that.
+fn write_process<W: fmt::Write>(f: &mut fmt::Formatter<W>, row: &BadRow) -> fmt::Result
+    ensures { DisplaysOnOk W.write_str_gives f.old result (Some (process_words row.now)) f.new }
+{
+    if says_standing(&row.breach, row.open_in, row.failed) {
+        Ok(())
+    } else {
+        write_standing(f, row.p, row.open_in, row.failed)
+    }
+}
+
+// Whether what breaks a rule says all of where the row's process stands.
+fn says_standing(breach: &Breach, open_in: Option<InstNo>, failed: Option<RowNo>) -> bool
+    ensures { result ≡ says_standing breach.now open_in failed }
+{
+    match *breach {
+        Breach::Process(
+            ProcessBreach::Inside { .. }
+            | ProcessBreach::Rolling { .. }
+            | ProcessBreach::NotInside(_),
+        ) => failed.is_none(),
+        Breach::Process(ProcessBreach::Down { .. }) => open_in.is_none(),
+        _ => false,
+    }
 }
 
 // The row that undid the send of a message.

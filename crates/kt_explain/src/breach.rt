@@ -2,7 +2,7 @@
 
 ghost use Rattle.std.specs.Prelude.{◌≡◌, Some};
 ghost use Rattle.std.specs.Fmt.{DisplaysOnOk};
-ghost use Rattle.kt_explain.specs.BreachWords.{absence_words, closing_words, open_in_words, just_begun_words};
+ghost use Rattle.kt_explain.specs.BreachWords.{absence_words, closing_words, open_in_words, just_begun_words, leaving_words};
 
 pub(crate) mod before;
 mod deliveries;
@@ -208,15 +208,16 @@ impl fmt::Display for ProcessBreach {
             ProcessBreach::Down { p, row } => write!(f, "process {p} is down since row {row}\n"),
             ProcessBreach::Up(p) => write!(f, "process {p} is up\n"),
             ProcessBreach::Inside { p, inst, row } => {
+                write!(f, "process {p} has been in instance {inst} since row {row}")?;
+                write_leaving(f, p, inst)
+            }
+            ProcessBreach::Rolling { p, inst, row } => {
                 write!(
                     f,
-                    "process {p} has been in instance {inst} since row {row}\n"
-                )
+                    "process {p} has been in instance {inst}, a rollback, since row {row}"
+                )?;
+                write_leaving(f, p, inst)
             }
-            ProcessBreach::Rolling { p, inst, row } => write!(
-                f,
-                "process {p} has been in instance {inst}, a rollback, since row {row}\n"
-            ),
             ProcessBreach::NotInside(outside) => write!(f, "{outside}"),
             ProcessBreach::Joined { p, inst, row } => write!(
                 f,
@@ -224,6 +225,16 @@ impl fmt::Display for ProcessBreach {
             ),
         }
     }
+}
+
+// How a process leaves an instance.
+fn write_leaving<W: fmt::Write>(f: &mut fmt::Formatter<W>, p: ProcNo, inst: InstNo) -> fmt::Result
+    ensures { DisplaysOnOk W.write_str_gives f.old result (Some (leaving_words p inst)) f.new }
+{
+    write!(
+        f,
+        ", and has to close it first: closed,{p},{inst},- once it is decided\n"
+    )
 }
 
 impl fmt::Display for Outside {

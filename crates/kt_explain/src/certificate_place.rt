@@ -1,11 +1,13 @@
 //! Which record of the certificates' text an answer is about.
 
-ghost use Rattle.std.specs.Prelude.{◌≡◌, ◌<◌, ◌≤◌, IfSome, Some, length, take};
+ghost use Rattle.std.specs.Prelude.{◌≡◌, ◌<◌, ◌≤◌, if◌then◌else◌, IfSome, Some, None, length, take};
 ghost use Rattle.kt_chain.specs.Spelling.{certificate_records, records_of};
-ghost use Rattle.kt_explain.specs.RecordsTold.{IsPlaceOf, IsRecordOf, IsRecordTold, certified_inst, is_of_second, member_place};
+ghost use Rattle.kt_explain.specs.RecordsTold.{IsPlaceOf, IsRecordOf, IsRecordTold, certified_inst, is_at_fault, is_of_second, member_place};
 
+use crate::bad_chain::Flaw;
 use crate::difference::Difference;
 use crate::explanation::Explanation;
+use crate::linking::Link;
 use crate::unknown::place_from;
 use kt_base::InstNo;
 use kt_chain::Certificate;
@@ -35,7 +37,7 @@ impl fmt::Display for RecordTold {
 }
 
 /// The record of the certificates' text that what is told is about: that of the first certificate of the instance, of
-/// the second where that is one too many, or of the member that is named.
+/// the second where that is one too many, of the member that is named, or of the one after which a member is missing.
 pub fn record_told(certificates: &[Certificate], explanation: &Explanation) -> RecordTold
     ensures { IsRecordTold certificates.now explanation.now result.number }
 {
@@ -60,9 +62,13 @@ fn certified_inst(explanation: &Explanation) -> Option<InstNo>
     ensures { result ≡ certified_inst explanation.now }
 {
     match *explanation {
-        Explanation::Unknown { inst, .. }
-        | Explanation::OtherMember { inst, .. }
-        | Explanation::BadChain { inst, .. } => Some(inst),
+        Explanation::Unknown { inst, .. } | Explanation::OtherMember { inst, .. } => Some(inst),
+        Explanation::BadChain {
+            inst,
+            chain,
+            link,
+            ..
+        } => if_mendable(inst, &chain.flaw, link),
         Explanation::Objection { .. }
         | Explanation::NoObjection { .. }
         | Explanation::Orphan { .. }
@@ -70,6 +76,20 @@ fn certified_inst(explanation: &Explanation) -> Option<InstNo>
         | Explanation::LeftOpen(_)
         | Explanation::BadLog(_)
         | Explanation::Uncertified { .. } => None,
+    }
+}
+
+// The instance, unless its log is at fault: its member has to have a chain, and no message links it with one before it.
+fn if_mendable(inst: InstNo, flaw: &Flaw, link: Option<Link>) -> Option<InstNo>
+    ensures { result ≡ (if is_at_fault flaw.now link then None else Some inst) }
+{
+    match flaw {
+        Flaw::Initiator => Some(inst),
+        Flaw::Empty | Flaw::Elsewhere(_) | Flaw::Broken(_) => if link.is_some() {
+            Some(inst)
+        } else {
+            None
+        },
     }
 }
 
@@ -96,14 +116,18 @@ fn place_of(certificates: &[Certificate], inst: InstNo, second: bool) -> Option<
     }
 }
 
-// The place, from 1, of the listed member that an answer is about; 0 where it is about none.
+// The place, from 1, of the listed member that an answer is about, or after which one is missing; 0 where it is about none.
 fn member_place(explanation: &Explanation) -> usize
     ensures { result ≡ member_place explanation.now }
 {
     match *explanation {
         Explanation::BadChain { chain, .. } => chain.place,
         Explanation::OtherMember { place, listed, .. } => {
-            if listed.is_some() { place } else { 0 }
+            if listed.is_some() {
+                place
+            } else {
+                place.saturating_sub(1)
+            }
         }
         _ => 0,
     }

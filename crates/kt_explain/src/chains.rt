@@ -65,6 +65,7 @@ fn no_chain_at(
             inst,
             chain,
             about: before.chain_rows(inst, &chain.flaw),
+            link: before.link_before(certificate, chain.place, chain.p),
         }),
         None => Ok(Explanation::Nothing),
     }
@@ -170,8 +171,8 @@ fn end_of(
     Ok(at)
 }
 
-// The process that a message leads to from this one, or a demand that it does not meet.
-fn step(
+/// The process that a message leads to from this one, or a demand that it does not meet.
+pub(crate) fn step(
     histories: &Histories,
     certificate: &Certificate,
     at: ProcNo,

@@ -1,7 +1,9 @@
 //! What differs between a certificate and the log.
 
-ghost use Rattle.std.specs.Prelude.{◌≡◌};
+ghost use Rattle.std.specs.Prelude.{◌≡◌, Some};
+ghost use Rattle.std.specs.Fmt.{DisplaysOnOk};
 ghost use Rattle.kt_text.specs.Words.{kind_word, decision_word};
+ghost use Rattle.kt_explain.specs.Words.{other_decision_words, other_kind_words};
 
 use kt_base::{Kind, ProcNo, RowNo};
 use std::fmt;
@@ -15,8 +17,12 @@ pub enum Difference {
     Undecided,
     /// The instance began in this row as this other kind.
     Kind(Kind, RowNo),
-    /// This other process began the instance, in this row.
-    Initiator(ProcNo, RowNo),
+    /// This process began the instance, in this row, and the certificate names another one.
+    Initiator {
+        p: ProcNo,
+        named: ProcNo,
+        row: RowNo,
+    },
     /// This row decides the instance, and otherwise; true for a commit.
     Decision(bool, RowNo),
     /// The instance is aborted, and the certificate lists members.
@@ -35,29 +41,50 @@ impl fmt::Display for Difference {
         match *self {
             Difference::Unbegun => write!(f, "no row begins it"),
             Difference::Undecided => write!(f, "no row decides it"),
-            Difference::Kind(kind, row) => {
-                let name = kind_name(kind);
+            Difference::Kind(kind, row) => write_kind(f, kind, row),
+            Difference::Initiator { p, named, row } => {
                 write!(
                     f,
-                    "row {row} begins it as a {name}, but the certificate says otherwise"
+                    "process {p} begins it in row {row}, but the certificate names process {named}"
                 )
             }
-            Difference::Initiator(p, row) => {
-                write!(
-                    f,
-                    "process {p} begins it in row {row}, but the certificate names another process"
-                )
-            }
-            Difference::Decision(commit, row) => {
-                let name = decision_name(commit);
-                write!(
-                    f,
-                    "row {row} decides it, {name}, but the certificate says otherwise"
-                )
-            }
+            Difference::Decision(commit, row) => write_decision(f, commit, row),
             Difference::Members => write!(f, "it is aborted, and its certificate lists members"),
             Difference::Second => write!(f, "it has two certificates, and may have only one"),
         }
+    }
+}
+
+// That an instance began as one of this kind, and the certificate says the other.
+fn write_kind<W: fmt::Write>(f: &mut fmt::Formatter<W>, kind: Kind, row: RowNo) -> fmt::Result
+    ensures { DisplaysOnOk W.write_str_gives f.old result (Some (other_kind_words kind row)) f.new }
+{
+    match kind {
+        Kind::Checkpoint => write!(
+            f,
+            "row {row} begins it as a checkpoint, but the certificate says rollback"
+        ),
+        Kind::Rollback => write!(
+            f,
+            "row {row} begins it as a rollback, but the certificate says checkpoint"
+        ),
+    }
+}
+
+// That an instance was decided so, and the certificate says the other.
+fn write_decision<W: fmt::Write>(f: &mut fmt::Formatter<W>, commit: bool, row: RowNo) -> fmt::Result
+    ensures { DisplaysOnOk W.write_str_gives f.old result (Some (other_decision_words commit row)) f.new }
+{
+    if commit {
+        write!(
+            f,
+            "row {row} decides it, commit, but the certificate says abort"
+        )
+    } else {
+        write!(
+            f,
+            "row {row} decides it, abort, but the certificate says commit"
+        )
     }
 }
 

@@ -2,13 +2,14 @@
 
 ghost use Rattle.std.specs.Prelude.{◌≡◌, Some};
 ghost use Rattle.std.specs.Fmt.{DisplaysOnOk};
-ghost use Rattle.kt_explain.specs.Words.{listed_words, joined_words};
+ghost use Rattle.kt_explain.specs.Words.{listed_words, missing_words, unlike_words};
 
 use crate::bad_chain::{BadChain, write_bad_chain};
 use crate::bad_row::BadRow;
 use crate::chain_rows::ChainRows;
 use crate::difference::Difference;
 use crate::left_open::LeftOpen;
+use crate::linking::{Link, write_link};
 use crate::orphan::Orphan;
 use kt_base::{InstNo, ProcNo, RowNo};
 use std::fmt;
@@ -50,6 +51,8 @@ pub enum Explanation {
         inst: InstNo,
         chain: BadChain,
         about: ChainRows,
+        /// What links that member with one before it.
+        link: Option<Link>,
     },
     /// The cut that the decision of the instance makes has this orphan, and no lesser one.
     Orphan {
@@ -102,10 +105,17 @@ impl fmt::Display for Explanation {
                 joined,
             } => {
                 write!(f, "member {place} of instance {inst}: ")?;
-                write_listed(f, listed)?;
-                write_joined(f, joined)
+                write_unlike(f, listed, joined)
             }
-            Explanation::BadChain { inst, chain, about } => write_bad_chain(f, inst, chain, about),
+            Explanation::BadChain {
+                inst,
+                chain,
+                about,
+                link,
+            } => {
+                write_bad_chain(f, inst, &chain, about)?;
+                write_link(f, &chain, link)
+            }
             Explanation::Orphan { inst, orphan } => write!(f, "instance {inst}: {orphan}"),
             Explanation::BadLog(row) => write!(f, "{row}"),
             Explanation::Uncertified { inst, row } => {
@@ -118,22 +128,43 @@ impl fmt::Display for Explanation {
     }
 }
 
-// Who is listed at a place.
-fn write_listed<W: fmt::Write>(f: &mut fmt::Formatter<W>, listed: Option<ProcNo>) -> fmt::Result
-    ensures { DisplaysOnOk W.write_str_gives f.old result (Some (listed_words listed)) f.new }
+// Who is listed at a place, and who joined there.
+fn write_unlike<W: fmt::Write>(
+    f: &mut fmt::Formatter<W>,
+    listed: Option<ProcNo>,
+    joined: Option<ProcNo>,
+) -> fmt::Result
+    ensures { DisplaysOnOk W.write_str_gives f.old result (Some (unlike_words listed joined)) f.new }
 {
     match listed {
-        Some(p) => write!(f, "process {p} is listed"),
-        None => write!(f, "nobody is listed"),
+        Some(q) => write_listed(f, q, joined),
+        None => write_missing(f, joined),
     }
 }
 
-// Who joined at a place.
-fn write_joined<W: fmt::Write>(f: &mut fmt::Formatter<W>, joined: Option<ProcNo>) -> fmt::Result
-    ensures { DisplaysOnOk W.write_str_gives f.old result (Some (joined_words joined)) f.new }
+// Who joined where this process is listed.
+fn write_listed<W: fmt::Write>(
+    f: &mut fmt::Formatter<W>,
+    q: ProcNo,
+    joined: Option<ProcNo>,
+) -> fmt::Result
+    ensures { DisplaysOnOk W.write_str_gives f.old result (Some (listed_words q joined)) f.new }
 {
     match joined {
-        Some(p) => write!(f, ", and process {p} joined\n"),
-        None => write!(f, ", but nobody joined\n"),
+        Some(p) => write!(f, "process {q} is listed, and process {p} joined\n"),
+        None => write!(f, "process {q} is listed, but nobody joined\n"),
+    }
+}
+
+// Who joined where nobody is listed.
+fn write_missing<W: fmt::Write>(f: &mut fmt::Formatter<W>, joined: Option<ProcNo>) -> fmt::Result
+    ensures { DisplaysOnOk W.write_str_gives f.old result (Some (missing_words joined)) f.new }
+{
+    match joined {
+        Some(p) => write!(
+            f,
+            "nobody is listed, and process {p} joined: its record has to follow the one that is named below\n"
+        ),
+        None => write!(f, "nobody is listed, and nobody joined\n"),
     }
 }

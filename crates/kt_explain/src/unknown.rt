@@ -131,7 +131,11 @@ fn other_beginning(began: &Found, certificate: &Certificate) -> Option<Differenc
         return Some(Difference::Kind(kind, began.number));
     }
     if p != certificate.initiator {
-        return Some(Difference::Initiator(p, began.number));
+        return Some(Difference::Initiator {
+            p,
+            named: certificate.initiator,
+            row: began.number,
+        });
     }
     None
 }

@@ -9,6 +9,7 @@ use Rattle.kt_checker.specs.declared.verdict.Why.TheVariants as why
 use Rattle.kt_checker.specs.Passing.{HasLists}
 use Rattle.kt_histories.specs.HistoriesOf.{HistoriesOf}
 use Rattle.kt_explain.specs.ChainRows.{AreChainRows}
+use Rattle.kt_explain.specs.Linking.{IsLinkFound}
 use Rattle.kt_explain.proofs.Chained.{chain_fault}
 use Rattle.kt_explain.proofs.chains.no_chain_at.Goals as goal
 
@@ -46,6 +47,7 @@ returns-in-Some-bad_chain c =
       c.in-Some.ensures.first,
       c.in-Some-bad_chain.ensures.bad (take n rows) histories (legal_take n rows h.legal),
       subst (λ (list : List Event). AreChainRows list c.args.inst c.in-Some-bad_chain.chain.flaw c.chain_rows.result) same c.chain_rows.ensures,
+      subst (λ (list : List Event). IsLinkFound list c.in-Some.certificate.now c.in-Some-bad_chain.chain.place c.in-Some-bad_chain.chain.p c.link_before.result) same c.link_before.ensures,
     )
 
 pub returns : goal.returns

@@ -1,5 +1,5 @@
 use Rattle.std.proofs.Common.{refl, sym, subst}
-use Rattle.std.proofs.lemmas.Grind.{put_three}
+use Rattle.std.proofs.lemmas.Grind.{put_two}
 use Rattle.std.specs.Fmt.{HasWritten}
 use Rattle.kt_explain.specs.declared.explanation.Explanation.{Explanation}
 use Rattle.kt_explain.specs.Words.{explanation_words}
@@ -17,18 +17,20 @@ pub returns-in-Uncertified-clause-writes : goal.returns-in-Uncertified-clause-wr
 returns-in-Uncertified-clause-writes g c = λ plain ok.
     subst (λ (x : Explanation). HasWritten {W = g.row.W.Denot} g.W.Write.write_str_gives c.args.f.now (explanation_words x) c.write-in-Uncertified.new.self) (sym c.in-Uncertified.is) (c.write-in-Uncertified.ensures.writes plain ok)
 
-pub returns-in_ok-write_listed-in-OtherMember-clause-writes : goal.returns-in_ok-write_listed-in-OtherMember-clause-writes
-returns-in_ok-write_listed-in-OtherMember-clause-writes g c = λ plain ok.
+pub returns-in_ok-write-in-OtherMember-clause-writes : goal.returns-in_ok-write-in-OtherMember-clause-writes
+returns-in_ok-write-in-OtherMember-clause-writes g c = λ plain ok.
     let a = c.in_ok-write-in-OtherMember.ensures.writes plain refl in
-    let b = c.in_ok-write_listed-in-OtherMember.ensures a.plain refl in
-    let d = c.write_joined.ensures b.plain ok in
-    subst (λ (x : Explanation). HasWritten {W = g.row.W.Denot} g.W.Write.write_str_gives c.args.f.now (explanation_words x) c.write_joined.new.f) (sym c.in-OtherMember.is)
-    (put_three g.W.Write.write_str_gives _ _ _ _ _ _ _ _ a b d refl)
+    let b = c.write_unlike.ensures a.plain ok in
+    subst (λ (x : Explanation). HasWritten {W = g.row.W.Denot} g.W.Write.write_str_gives c.args.f.now (explanation_words x) c.write_unlike.new.f) (sym c.in-OtherMember.is)
+    (put_two g.W.Write.write_str_gives _ _ _ _ _ _ a b refl)
 
 pub returns-in-Orphan-clause-writes : goal.returns-in-Orphan-clause-writes
 returns-in-Orphan-clause-writes g c = λ plain ok.
     subst (λ (x : Explanation). HasWritten {W = g.row.W.Denot} g.W.Write.write_str_gives c.args.f.now (explanation_words x) c.write-in-Orphan.new.self) (sym c.in-Orphan.is) (c.write-in-Orphan.ensures.writes plain ok)
 
-pub returns-in-BadChain-clause-writes : goal.returns-in-BadChain-clause-writes
-returns-in-BadChain-clause-writes g c = λ plain ok.
-    subst (λ (x : Explanation). HasWritten {W = g.row.W.Denot} g.W.Write.write_str_gives c.args.f.now (explanation_words x) c.write_bad_chain.new.f) (sym c.in-BadChain.is) (c.write_bad_chain.ensures plain ok)
+pub returns-in_ok-write_bad_chain-in-BadChain-clause-writes : goal.returns-in_ok-write_bad_chain-in-BadChain-clause-writes
+returns-in_ok-write_bad_chain-in-BadChain-clause-writes g c = λ plain ok.
+    let a = c.in_ok-write_bad_chain-in-BadChain.ensures plain refl in
+    let b = c.write_link.ensures a.plain ok in
+    subst (λ (x : Explanation). HasWritten {W = g.row.W.Denot} g.W.Write.write_str_gives c.args.f.now (explanation_words x) c.write_link.new.f) (sym c.in-BadChain.is)
+    (put_two g.W.Write.write_str_gives _ _ _ _ _ _ a b refl)

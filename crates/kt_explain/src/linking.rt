@@ -1,0 +1,125 @@
+//! The message that links a member with one before it.
+
+ghost use Rattle.std.specs.Prelude.{◌≡◌, ◌↔◌, ℕ, List, Some, IsTrue, IfNone, IfSome};
+ghost use Rattle.std.specs.Fmt.{DisplaysOnOk};
+ghost use Rattle.kt_spacetime.specs.declared.event.Event.{Event as Events};
+ghost use Rattle.kt_cuts.specs.Legal.{IsLegal};
+ghost use Rattle.kt_histories.specs.HistoriesOf.{HistoriesOf};
+ghost use Rattle.kt_explain.specs.Linking.{LeadsTo};
+ghost use Rattle.kt_explain.specs.Words.{link_words, linked_words, linking_words};
+
+use crate::bad_chain::{BadChain, Flaw};
+use crate::breach::before::Before;
+use crate::chains::step;
+use kt_base::{MsgNo, ProcNo};
+use kt_chain::Certificate;
+use kt_histories::Histories;
+use std::fmt;
+
+/// A message that links a member with this one, which is listed before it.
+#[derive(Clone, Copy, Debug, PartialEq, Eq)]
+pub struct Link {
+    pub msg: MsgNo,
+    pub q: ProcNo,
+}
+
+impl Before<'_> {
+    ghost use Rattle.kt_explain.specs.Breaches.{KnowsBefore};
+    ghost use Rattle.kt_explain.specs.Linking.{IsLinkFound, LeadsTo};
+
+    /// The least message that links a process with the first one before a place, from 1, of a certificate's list with which
+    /// any links it.
+    pub(crate) fn link_before(
+        &self,
+        certificate: &Certificate,
+        place: usize,
+        p: ProcNo,
+    ) -> Option<Link>
+        requires before { KnowsBefore self.now }
+        ensures { IsLinkFound self.now.rows.now certificate.now place p result }
+    {
+        let members = certificate.members.list();
+        let count = members.len().min(place.saturating_sub(1));
+        for index in 0..count {
+            let (q, _chain) = &members[index];
+            if let Some(msg) = self.link_from(certificate, *q, p) {
+                return Some(Link { msg, q: *q });
+            }
+        }
+        None
+    }
+
+    // The least message that leads from one process to another in a certificate's instance.
+    fn link_from(&self, certificate: &Certificate, q: ProcNo, p: ProcNo) -> Option<MsgNo>
+        requires before { KnowsBefore self.now }
+        ensures leads { IfSome result (λ msg. LeadsTo self.now.rows.now certificate.now q msg p) }
+        ensures none { IfNone result ((msg : ℕ) → LeadsTo self.now.rows.now certificate.now q msg p → ⊥) }
+    {
+        for place in 0..self.rows.len() {
+            let msg = MsgNo::after(place);
+            if leads_to(&self.histories, certificate, q, msg, p) {
+                return Some(msg);
+            }
+        }
+        None
+    }
+}
+
+// Whether a message leads from one process to another in a certificate's instance.
+fn leads_to(
+    histories: &Histories,
+    certificate: &Certificate,
+    q: ProcNo,
+    msg: MsgNo,
+    p: ProcNo,
+) -> bool
+    ensures { (rows : List Events) → HistoriesOf histories.now rows → IsLegal rows
+        → IsTrue result ↔ LeadsTo rows certificate.now q msg p }
+{
+    match step(histories, certificate, q, msg) {
+        Ok(next) => next == p,
+        Err(_) => false,
+    }
+}
+
+/// Which message links a member with one before it; the initiator needs none.
+pub(crate) fn write_link<W: fmt::Write>(
+    f: &mut fmt::Formatter<W>,
+    chain: &BadChain,
+    link: Option<Link>,
+) -> fmt::Result
+    ensures { DisplaysOnOk W.write_str_gives f.old result (Some (link_words chain.now.p chain.now.flaw link)) f.new }
+{
+    match chain.flaw {
+        Flaw::Initiator => Ok(()),
+        Flaw::Empty | Flaw::Elsewhere(_) | Flaw::Broken(_) => write_linking(f, chain.p, link),
+    }
+}
+
+// Which message links a member with one before it.
+fn write_linking<W: fmt::Write>(
+    f: &mut fmt::Formatter<W>,
+    member: ProcNo,
+    link: Option<Link>,
+) -> fmt::Result
+    ensures { DisplaysOnOk W.write_str_gives f.old result (Some (linking_words member link)) f.new }
+{
+    match link {
+        Some(link) => write_linked(f, member, link),
+        None => write!(
+            f,
+            "no message links process {member} with a member before it: the log is at fault\n"
+        ),
+    }
+}
+
+// That this message links a member with this one before it.
+fn write_linked<W: fmt::Write>(f: &mut fmt::Formatter<W>, member: ProcNo, link: Link) -> fmt::Result
+    ensures { DisplaysOnOk W.write_str_gives f.old result (Some (linked_words member link)) f.new }
+{
+    let Link { msg, q } = link;
+    write!(
+        f,
+        "message {msg} links process {member} with process {q}, a member before it: its chain can be that of process {q}, followed by {msg}\n"
+    )
+}
