@@ -1,8 +1,9 @@
 -- What an answer says of a member whose list is no chain, and what follows from what is told of it.
 use Rattle.std.proofs.Common.{◌≡◌, ℕ, ◌+◌, ◌<◌, ◌≤◌, Some, None, List, [], ◌∷◌, length, take, refl, sym, ap, ◌∙◌, subst, inl, inr, arith}
 use Rattle.std.specs.List.{slice_get}
-use Rattle.std.proofs.lemmas.Bool.{cases_lt}
+use Rattle.std.proofs.lemmas.Bool.{cases_eq, cases_lt}
 use Rattle.kt_base.specs.declared.words.Kind.{Kind}
+use Rattle.kt_base.specs.declared.words.Kind.TheVariants.{Checkpoint, Rollback}
 use Rattle.kt_spacetime.specs.declared.event.Event.{Event}
 use Rattle.kt_cuts.specs.Past.{Past, past}
 use Rattle.kt_cuts.specs.Legal.{IsLegal}
@@ -15,7 +16,12 @@ use Rattle.kt_checker.specs.Order.{IsCheckerAnswer}
 use Rattle.kt_checker.specs.Passing.{HasLists, IsChain, IsListOf}
 use Rattle.kt_checker.proofs.Chaining.{chain_more}
 use Rattle.kt_checker.proofs.Sound.{within}
+use Rattle.kt_explain.specs.BadChains.{IsBadChain}
+use Rattle.kt_explain.specs.Linking.{IsLinking, MakesChain}
 use Rattle.kt_explain.specs.Told.{IsItsFirst}
+use Rattle.kt_explain.specs.declared.bad_chain.BadChain.{BadChain}
+use Rattle.kt_explain.specs.declared.linking.Linking.{Linking}
+use Rattle.kt_explain.specs.declared.linking.Linking.TheVariants.{Linked, Unlinked}
 use Rattle.kt_explain.proofs.Faults.{certificate_fault, one_first, none_some}
 
 -- what a no to a list that is no chain says of the first certificate of its instance
@@ -68,3 +74,25 @@ one_more_list s c index p list there last before n q other low e = elim (cases_l
       let pair = some_same (sym there ∙ (ap (slice_get c.members) same ∙ e)) in
       subst (λ (m : ℕ × List ℕ). IsListOf s c.inst c.kind c.initiator m.0 m.1) pair last
 ]
+
+-- no message leads nowhere
+empty_chain : (s : Past) (k : ℕ) (kind : Kind) (q p : ℕ) → q ≡ p → IsChain s k kind q [] p
+empty_chain s k Checkpoint q p e = e
+empty_chain s k Rollback q p e = e
+
+-- the list of a member leads to it
+own_chain : (s : Past) (k : ℕ) (kind : Kind) (initiator q : ℕ) (list : List ℕ) → IsListOf s k kind initiator q list → IsChain s k kind initiator list q
+own_chain s k kind initiator q list own = elim (cases_eq q initiator) [
+  | inl same ↦ subst (λ (l : List ℕ). IsChain s k kind initiator l q) (sym (own.none same)) (empty_chain s k kind initiator q (sym same))
+  | inr other ↦ own.leads other
+]
+
+-- a message that links a member with an earlier one makes a chain of the list of that
+pub chain_made : (rows : List Event) (c : Certificate) (b : BadChain) (linking : Linking) → IsBadChain rows c b → IsLinking rows c b.place b.p linking → MakesChain rows c b.place b.p linking
+chain_made rows c b (Unlinked joined) bad link = tt
+chain_made rows c b (Linked l) bad link =
+    let listed = link.0 in
+    let low : listed.0 < bad.index = omega (arith, listed.2, bad.place_is) in
+    let own = bad.first listed.0 l.q listed.1 low listed.3 in
+    let led = own_chain (past rows) c.inst c.kind c.initiator l.q listed.1 own in
+    (listed.0, listed.1, listed.2, listed.3, chain_more (past rows) c.inst c.kind c.initiator l.q b.p l.msg listed.1 led link.1)

@@ -1,10 +1,13 @@
 -- A message that links a member with one before it.
-use Rattle.std.specs.Prelude.{◌≡◌, ◌<◌, ◌+◌, ℕ, Option, Some, None, List, [], ◌∷◌, slice_get}
+use Rattle.std.specs.Prelude.{◌≡◌, ◌<◌, ◌+◌, ℕ, Some, List, [], ◌∷◌, ◌++◌, slice_get}
 use Rattle.kt_spacetime.specs.declared.event.Event.{Event}
 use Rattle.kt_cuts.specs.Past.{past}
+use Rattle.kt_cuts.specs.Legal.{is_join}
 use Rattle.kt_chain.specs.declared.certificate.Certificate.{Certificate}
 use Rattle.kt_checker.specs.Passing.{IsChain}
-use Rattle.kt_explain.specs.declared.linking.Link.{Link}
+use Rattle.kt_explain.specs.declared.linking.Linking.{Linking}
+use Rattle.kt_explain.specs.declared.linking.Linking.TheVariants.{Linked, Unlinked}
+use Rattle.kt_explain.specs.Finding.{IsLastNumber}
 
 -- a certificate lists a process before a place, counted from 1
 abbrev pub IsListedBefore : Certificate → ℕ → ℕ → Type 0
@@ -14,7 +17,19 @@ IsListedBefore c place q = (n : ℕ) × (list : List ℕ) × (n + 1 < place) × 
 abbrev pub LeadsTo : List Event → Certificate → ℕ → ℕ → ℕ → Type 0
 LeadsTo rows c q msg p = IsChain (past rows) c.inst c.kind q (msg ∷ []) p
 
--- a message that leads to a process from one that is listed before a place, or that there is none
-abbrev pub IsLinkFound : List Event → Certificate → ℕ → ℕ → Option Link → Type 0
-IsLinkFound rows c place p (Some l) = IsListedBefore c place l.q × LeadsTo rows c l.q l.msg p
-IsLinkFound rows c place p None = (q msg : ℕ) → IsListedBefore c place q → LeadsTo rows c q msg p → ⊥
+-- no message leads to a process from one that is listed before a place
+abbrev pub HasNoLink : List Event → Certificate → ℕ → ℕ → Type 0
+HasNoLink rows c place p = (q msg : ℕ) → IsListedBefore c place q → LeadsTo rows c q msg p → ⊥
+
+-- a message that leads to a process from one that is listed before a place; or that there is none, and in which row that
+-- process joined the instance
+abbrev pub IsLinking : List Event → Certificate → ℕ → ℕ → Linking → Type 0
+IsLinking rows c place p (Linked l) = IsListedBefore c place l.q × LeadsTo rows c l.q l.msg p
+IsLinking rows c place p (Unlinked joined) = HasNoLink rows c place p × IsLastNumber (is_join p c.inst) rows joined
+
+-- the list of that one, followed by the message, is a chain from the initiator to the process
+abbrev pub MakesChain : List Event → Certificate → ℕ → ℕ → Linking → Type 0
+MakesChain rows c place p (Linked l) =
+    (n : ℕ) × (list : List ℕ) × (n + 1 < place) × (slice_get c.members n ≡ Some (l.q, list))
+    × IsChain (past rows) c.inst c.kind c.initiator (list ++ l.msg ∷ []) p
+MakesChain rows c place p (Unlinked joined) = Unit {0}

@@ -1,19 +1,21 @@
 -- Which record of the certificates' text an answer is about.
-use Rattle.std.specs.Prelude.{◌≡◌, ◌≤◌, ◌<◌, ◌+◌, ◌-◌, ℕ, if◌then◌else◌, Bool, true, false, is_none, Option, Some, None, IfSome, List, [], ◌∷◌, ◌++◌, codes, length, take, slice_get}
+use Rattle.std.specs.Prelude.{◌≡◌, ◌≤◌, ◌<◌, ◌+◌, ◌-◌, ℕ, if◌then◌else◌, Bool, true, false, Option, Some, None, IfSome, List, [], ◌∷◌, ◌++◌, codes, length, take, slice_get}
 use Rattle.std.specs.Fmt.{decimal}
 use Rattle.kt_chain.specs.Spelling.{records_of}
 use Rattle.kt_chain.specs.declared.certificate.Certificate.{Certificate}
 use Rattle.kt_explain.specs.declared.bad_chain.Flaw.{Flaw}
 use Rattle.kt_explain.specs.declared.bad_chain.Flaw.TheVariants.{Initiator}
-use Rattle.kt_explain.specs.declared.linking.Link.{Link}
+use Rattle.kt_explain.specs.declared.linking.Linking.{Linking}
+use Rattle.kt_explain.specs.declared.linking.Linking.TheVariants.{Linked, Unlinked}
 use Rattle.kt_explain.specs.declared.difference.Difference.TheVariants.{Second}
 use Rattle.kt_explain.specs.declared.explanation.Explanation.{Explanation}
 use Rattle.kt_explain.specs.declared.explanation.Explanation.TheVariants.{Nothing, Unknown, Objection, NoObjection, OtherMember, BadChain, Uncertified, Orphan, BadLog, LeftOpen}
 
 -- whether a member has to have a chain, and no message links it with one before it: the log is at fault
-abbrev pub is_at_fault : Flaw → Option Link → Bool
-is_at_fault Initiator link = false
-is_at_fault flaw link = is_none link
+abbrev pub is_at_fault : Flaw → Linking → Bool
+is_at_fault Initiator linking = false
+is_at_fault flaw (Linked link) = false
+is_at_fault flaw (Unlinked joined) = true
 
 -- the instance of the certificate that an answer is about; none where it is about none, or the certificate can't be right
 abbrev pub certified_inst : Explanation → Option ℕ
@@ -23,14 +25,14 @@ certified_inst (Unknown k difference) = Some k
 certified_inst (Objection k p row decided) = None
 certified_inst (NoObjection k decided) = None
 certified_inst (OtherMember k place listed joined) = Some k
-certified_inst (BadChain k chain about link) = if is_at_fault chain.flaw link then None else Some k
+certified_inst (BadChain k chain about linking) = if is_at_fault chain.flaw linking then None else Some k
 certified_inst (Uncertified k row) = None
 certified_inst (Orphan k orphan) = None
 certified_inst (BadLog b) = None
 
 -- the place, from 1, of the listed member that an answer is about, or after which one is missing; 0 where it is about none
 abbrev pub member_place : Explanation → ℕ
-member_place (BadChain k chain about link) = chain.place
+member_place (BadChain k chain about linking) = chain.place
 member_place (OtherMember k place (Some p) joined) = place
 member_place (OtherMember k place None joined) = place - 1
 member_place e = 0

@@ -28,7 +28,7 @@ use Rattle.kt_explain.specs.Breaches.{IsBreach}
 use Rattle.kt_explain.specs.Undoing.{IsUndoneIn}
 use Rattle.kt_explain.specs.BadChains.{IsBadChain}
 use Rattle.kt_explain.specs.ChainRows.{AreChainRows}
-use Rattle.kt_explain.specs.Linking.{IsLinkFound}
+use Rattle.kt_explain.specs.Linking.{IsLinking, MakesChain}
 use Rattle.kt_explain.specs.Finding.{HasNoRow, IsFirstRow, IsLastNumber, begins_inst, decides_inst, fails}
 
 -- a certificate is the first one of an instance
@@ -101,10 +101,11 @@ IsExplanation rows certificates verdict (NoObjection k decided) =
 IsExplanation rows certificates verdict (OtherMember k place listed joined) =
     IsNoOf verdict k why.Members
     × (c : Certificate) × IsItsFirst certificates k c × DifferAt (listed_in c) (members rows k) place listed joined
-IsExplanation rows certificates verdict (BadChain k chain about link) =
+IsExplanation rows certificates verdict (BadChain k chain about linking) =
     (n : ℕ) × (verdict ≡ No (Some k) (Some (n + 1)) why.Chain)
     × (c : Certificate) × IsItsFirst certificates k c × IsBadChain (take n rows) c chain
-    × AreChainRows (take n rows) k chain.flaw about × IsLinkFound (take n rows) c chain.place chain.p link
+    × AreChainRows (take n rows) k chain.flaw about
+    × IsLinking (take n rows) c chain.place chain.p linking × MakesChain (take n rows) c chain.place chain.p linking
 IsExplanation rows certificates verdict (Uncertified k row) =
     IsNoOf verdict k why.Missing × (commit : Bool) × HasDecided rows row k commit × (HasCertificate certificates k → ⊥)
 IsExplanation rows certificates verdict (Orphan k orphan) =

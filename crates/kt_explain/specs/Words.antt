@@ -25,6 +25,8 @@ use Rattle.kt_explain.specs.declared.difference.Difference.TheVariants.{Unbegun,
 use Rattle.kt_explain.specs.declared.explanation.Explanation.{Explanation}
 use Rattle.kt_explain.specs.declared.explanation.Explanation.TheVariants.{Nothing, Unknown, Objection, NoObjection, OtherMember, BadChain, Uncertified, Orphan, BadLog, LeftOpen}
 use Rattle.kt_explain.specs.declared.linking.Link.{Link}
+use Rattle.kt_explain.specs.declared.linking.Linking.{Linking}
+use Rattle.kt_explain.specs.declared.linking.Linking.TheVariants.{Linked, Unlinked}
 use Rattle.kt_explain.specs.declared.orphan.Orphan.{Orphan as OneOrphan}
 use Rattle.kt_explain.specs.LeftOpenWords.{left_open_words}
 
@@ -158,17 +160,24 @@ linked_words member l =
     codes "message " ++ (decimal l.msg ++ (codes " links process " ++ (decimal member ++ (codes " with process " ++ (decimal l.q
     ++ (codes ", a member before it: its chain can be that of process " ++ (decimal l.q ++ (codes ", followed by " ++ (decimal l.msg ++ 10 ∷ [])))))))))
 
--- which message links a member with one before it; the initiator needs none
-abbrev pub linking_words : ℕ → Option Link → List ℕ
-linking_words member (Some l) = linked_words member l
-linking_words member None =
+-- that no message links a member, which joined in this row, with one before it
+abbrev pub unlinked_words : ℕ → Option ℕ → List ℕ
+unlinked_words member (Some row) =
+    codes "no message links process " ++ (decimal member ++ (codes " with a member before it, but it joined in row " ++ (decimal row ++ (codes ": the log is at fault" ++ 10 ∷ []))))
+unlinked_words member None =
     codes "no message links process " ++ (decimal member ++ (codes " with a member before it: the log is at fault" ++ 10 ∷ []))
 
-abbrev pub link_words : ℕ → Flaw → Option Link → List ℕ
-link_words member flaw.Initiator link = []
-link_words member flaw.Empty link = linking_words member link
-link_words member (flaw.Elsewhere p) link = linking_words member link
-link_words member (flaw.Broken b) link = linking_words member link
+-- which message links a member with one before it, or that none does
+abbrev pub linking_words : ℕ → Linking → List ℕ
+linking_words member (Linked l) = linked_words member l
+linking_words member (Unlinked joined) = unlinked_words member joined
+
+-- the same, unless the member is the initiator, which needs none
+abbrev pub link_words : ℕ → Flaw → Linking → List ℕ
+link_words member flaw.Initiator linking = []
+link_words member flaw.Empty linking = linking_words member linking
+link_words member (flaw.Elsewhere p) linking = linking_words member linking
+link_words member (flaw.Broken b) linking = linking_words member linking
 
 -- a rule by number and name, and what it asks
 abbrev pub rule_words : Rule → List ℕ
@@ -245,7 +254,7 @@ explanation_words (NoObjection inst decided) =
     codes "row " ++ (decimal decided ++ (codes " aborts instance " ++ (decimal inst
     ++ (codes ", but no process was unwilling to join it: the log is at fault" ++ 10 ∷ []))))
 explanation_words (OtherMember inst place listed joined) = place_words inst place ++ unlike_words listed joined
-explanation_words (BadChain inst chain about link) = bad_chain_words inst chain about ++ link_words chain.p chain.flaw link
+explanation_words (BadChain inst chain about linking) = bad_chain_words inst chain about ++ link_words chain.p chain.flaw linking
 explanation_words (Uncertified inst row) = codes "row " ++ (decimal row ++ (codes " decides instance " ++ (decimal inst ++ (codes ", but there is no certificate of it: koo_toueg certify makes it" ++ 10 ∷ []))))
 explanation_words (Orphan inst orphan) = codes "instance " ++ (decimal inst ++ (codes ": " ++ orphan_words orphan))
 explanation_words (BadLog b) = bad_row_words b

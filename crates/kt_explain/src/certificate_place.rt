@@ -7,7 +7,7 @@ ghost use Rattle.kt_explain.specs.RecordsTold.{IsPlaceOf, IsRecordOf, IsRecordTo
 use crate::bad_chain::Flaw;
 use crate::difference::Difference;
 use crate::explanation::Explanation;
-use crate::linking::Link;
+use crate::linking::Linking;
 use crate::unknown::place_from;
 use kt_base::InstNo;
 use kt_chain::Certificate;
@@ -66,9 +66,9 @@ fn certified_inst(explanation: &Explanation) -> Option<InstNo>
         Explanation::BadChain {
             inst,
             chain,
-            link,
+            linking,
             ..
-        } => if_mendable(inst, &chain.flaw, link),
+        } => if_mendable(inst, &chain.flaw, linking),
         Explanation::Objection { .. }
         | Explanation::NoObjection { .. }
         | Explanation::Orphan { .. }
@@ -80,15 +80,14 @@ fn certified_inst(explanation: &Explanation) -> Option<InstNo>
 }
 
 // The instance, unless its log is at fault: its member has to have a chain, and no message links it with one before it.
-fn if_mendable(inst: InstNo, flaw: &Flaw, link: Option<Link>) -> Option<InstNo>
-    ensures { result ≡ (if is_at_fault flaw.now link then None else Some inst) }
+fn if_mendable(inst: InstNo, flaw: &Flaw, linking: Linking) -> Option<InstNo>
+    ensures { result ≡ (if is_at_fault flaw.now linking then None else Some inst) }
 {
     match flaw {
         Flaw::Initiator => Some(inst),
-        Flaw::Empty | Flaw::Elsewhere(_) | Flaw::Broken(_) => if link.is_some() {
-            Some(inst)
-        } else {
-            None
+        Flaw::Empty | Flaw::Elsewhere(_) | Flaw::Broken(_) => match linking {
+            Linking::Linked(_) => Some(inst),
+            Linking::Unlinked(_) => None,
         },
     }
 }

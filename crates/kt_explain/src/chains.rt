@@ -65,7 +65,7 @@ fn no_chain_at(
             inst,
             chain,
             about: before.chain_rows(inst, &chain.flaw),
-            link: before.link_before(certificate, chain.place, chain.p),
+            linking: before.link_before(certificate, chain.place, chain.p),
         }),
         None => Ok(Explanation::Nothing),
     }

@@ -9,7 +9,7 @@ use crate::bad_row::BadRow;
 use crate::chain_rows::ChainRows;
 use crate::difference::Difference;
 use crate::left_open::LeftOpen;
-use crate::linking::{Link, write_link};
+use crate::linking::{Linking, write_link};
 use crate::orphan::Orphan;
 use kt_base::{InstNo, ProcNo, RowNo};
 use std::fmt;
@@ -52,7 +52,7 @@ pub enum Explanation {
         chain: BadChain,
         about: ChainRows,
         /// What links that member with one before it.
-        link: Option<Link>,
+        linking: Linking,
     },
     /// The cut that the decision of the instance makes has this orphan, and no lesser one.
     Orphan {
@@ -111,10 +111,10 @@ impl fmt::Display for Explanation {
                 inst,
                 chain,
                 about,
-                link,
+                linking,
             } => {
                 write_bad_chain(f, inst, &chain, about)?;
-                write_link(f, &chain, link)
+                write_link(f, &chain, linking)
             }
             Explanation::Orphan { inst, orphan } => write!(f, "instance {inst}: {orphan}"),
             Explanation::BadLog(row) => write!(f, "{row}"),

@@ -34,5 +34,5 @@ pub use difference::Difference;
 pub use explaining::explain;
 pub use explanation::Explanation;
 pub use left_open::{LeftOpen, OpenInstance};
-pub use linking::Link;
+pub use linking::{Link, Linking};
 pub use orphan::Orphan;

@@ -6,12 +6,13 @@ ghost use Rattle.kt_spacetime.specs.declared.event.Event.{Event as Events};
 ghost use Rattle.kt_cuts.specs.Legal.{IsLegal};
 ghost use Rattle.kt_histories.specs.HistoriesOf.{HistoriesOf};
 ghost use Rattle.kt_explain.specs.Linking.{LeadsTo};
-ghost use Rattle.kt_explain.specs.Words.{link_words, linked_words, linking_words};
+ghost use Rattle.kt_explain.specs.Words.{link_words, linked_words, linking_words, unlinked_words};
 
 use crate::bad_chain::{BadChain, Flaw};
 use crate::breach::before::Before;
 use crate::chains::step;
-use kt_base::{MsgNo, ProcNo};
+use crate::finding::{Sought, last_number};
+use kt_base::{MsgNo, ProcNo, RowNo};
 use kt_chain::Certificate;
 use kt_histories::Histories;
 use std::fmt;
@@ -23,30 +24,33 @@ pub struct Link {
     pub q: ProcNo,
 }
 
+/// Which message links a member with one that is listed before it.
+#[derive(Clone, Copy, Debug, PartialEq, Eq)]
+pub enum Linking {
+    Linked(Link),
+    /// None does. It joined the instance in this row.
+    Unlinked(Option<RowNo>),
+}
+
 impl Before<'_> {
     ghost use Rattle.kt_explain.specs.Breaches.{KnowsBefore};
-    ghost use Rattle.kt_explain.specs.Linking.{IsLinkFound, LeadsTo};
+    ghost use Rattle.kt_explain.specs.Linking.{IsLinking, LeadsTo};
 
     /// The least message that links a process with the first one before a place, from 1, of a certificate's list with which
     /// any links it.
-    pub(crate) fn link_before(
-        &self,
-        certificate: &Certificate,
-        place: usize,
-        p: ProcNo,
-    ) -> Option<Link>
+    pub(crate) fn link_before(&self, certificate: &Certificate, place: usize, p: ProcNo) -> Linking
         requires before { KnowsBefore self.now }
-        ensures { IsLinkFound self.now.rows.now certificate.now place p result }
+        ensures { IsLinking self.now.rows.now certificate.now place p result }
     {
         let members = certificate.members.list();
         let count = members.len().min(place.saturating_sub(1));
         for index in 0..count {
             let (q, _chain) = &members[index];
             if let Some(msg) = self.link_from(certificate, *q, p) {
-                return Some(Link { msg, q: *q });
+                return Linking::Linked(Link { msg, q: *q });
             }
         }
-        None
+        Linking::Unlinked(last_number(self.rows, &Sought::Joined(p, certificate.inst)))
     }
 
     // The least message that leads from one process to another in a certificate's instance.
@@ -82,34 +86,31 @@ fn leads_to(
     }
 }
 
-/// Which message links a member with one before it; the initiator needs none.
+/// Which message links a member with one before it, or that none does; the initiator needs none.
 pub(crate) fn write_link<W: fmt::Write>(
     f: &mut fmt::Formatter<W>,
     chain: &BadChain,
-    link: Option<Link>,
+    linking: Linking,
 ) -> fmt::Result
-    ensures { DisplaysOnOk W.write_str_gives f.old result (Some (link_words chain.now.p chain.now.flaw link)) f.new }
+    ensures { DisplaysOnOk W.write_str_gives f.old result (Some (link_words chain.now.p chain.now.flaw linking)) f.new }
 {
     match chain.flaw {
         Flaw::Initiator => Ok(()),
-        Flaw::Empty | Flaw::Elsewhere(_) | Flaw::Broken(_) => write_linking(f, chain.p, link),
+        Flaw::Empty | Flaw::Elsewhere(_) | Flaw::Broken(_) => write_linking(f, chain.p, linking),
     }
 }
 
-// Which message links a member with one before it.
+// Which message links a member with one before it, or that none does.
 fn write_linking<W: fmt::Write>(
     f: &mut fmt::Formatter<W>,
     member: ProcNo,
-    link: Option<Link>,
+    linking: Linking,
 ) -> fmt::Result
-    ensures { DisplaysOnOk W.write_str_gives f.old result (Some (linking_words member link)) f.new }
+    ensures { DisplaysOnOk W.write_str_gives f.old result (Some (linking_words member linking)) f.new }
 {
-    match link {
-        Some(link) => write_linked(f, member, link),
-        None => write!(
-            f,
-            "no message links process {member} with a member before it: the log is at fault\n"
-        ),
+    match linking {
+        Linking::Linked(link) => write_linked(f, member, link),
+        Linking::Unlinked(joined) => write_unlinked(f, member, joined),
     }
 }
 
@@ -122,4 +123,24 @@ fn write_linked<W: fmt::Write>(f: &mut fmt::Formatter<W>, member: ProcNo, link: 
         f,
         "message {msg} links process {member} with process {q}, a member before it: its chain can be that of process {q}, followed by {msg}\n"
     )
+}
+
+// That no message links a member, which joined in this row, with one before it.
+fn write_unlinked<W: fmt::Write>(
+    f: &mut fmt::Formatter<W>,
+    member: ProcNo,
+    joined: Option<RowNo>,
+) -> fmt::Result
+    ensures { DisplaysOnOk W.write_str_gives f.old result (Some (unlinked_words member joined)) f.new }
+{
+    match joined {
+        Some(row) => write!(
+            f,
+            "no message links process {member} with a member before it, but it joined in row {row}: the log is at fault\n"
+        ),
+        None => write!(
+            f,
+            "no message links process {member} with a member before it: the log is at fault\n"
+        ),
+    }
 }

@@ -9,8 +9,8 @@ use Rattle.kt_checker.specs.declared.verdict.Why.TheVariants as why
 use Rattle.kt_checker.specs.Passing.{HasLists}
 use Rattle.kt_histories.specs.HistoriesOf.{HistoriesOf}
 use Rattle.kt_explain.specs.ChainRows.{AreChainRows}
-use Rattle.kt_explain.specs.Linking.{IsLinkFound}
-use Rattle.kt_explain.proofs.Chained.{chain_fault}
+use Rattle.kt_explain.specs.Linking.{IsLinking}
+use Rattle.kt_explain.proofs.Chained.{chain_fault, chain_made}
 use Rattle.kt_explain.proofs.chains.no_chain_at.Goals as goal
 
 pub returns-in_default : goal.returns-in_default
@@ -40,14 +40,19 @@ returns-in-Some-bad_chain c =
     let number : c.args.row ≡ n + 1 = omega (arith, c.get.ensures.value, h.row_is) in
     let known = c.in_ok-before.before in
     let same : known.rows.now ≡ take n rows = c.in_ok-before.ensures.rows ∙ ap (take n) c.rows-rows.ensures.rows in
-    let histories : HistoriesOf known.histories (take n rows) = subst (HistoriesOf known.histories) same c.in_ok-before.ensures.before.histories in (
+    let histories : HistoriesOf known.histories (take n rows) = subst (HistoriesOf known.histories) same c.in_ok-before.ensures.before.histories in
+    let bad = c.in-Some-bad_chain.ensures.bad (take n rows) histories (legal_take n rows h.legal) in
+    let found = c.in-Some-bad_chain.chain in
+    let certificate = c.in-Some.certificate.now in
+    let linking : IsLinking (take n rows) certificate found.place found.p c.link_before.result = subst (λ (list : List Event). IsLinking list certificate found.place found.p c.link_before.result) same c.link_before.ensures in (
       n,
       ap (λ (r : ℕ). No (Some c.args.inst) (Some r) why.Chain) number,
       c.in-Some.certificate.now,
       c.in-Some.ensures.first,
-      c.in-Some-bad_chain.ensures.bad (take n rows) histories (legal_take n rows h.legal),
+      bad,
       subst (λ (list : List Event). AreChainRows list c.args.inst c.in-Some-bad_chain.chain.flaw c.chain_rows.result) same c.chain_rows.ensures,
-      subst (λ (list : List Event). IsLinkFound list c.in-Some.certificate.now c.in-Some-bad_chain.chain.place c.in-Some-bad_chain.chain.p c.link_before.result) same c.link_before.ensures,
+      linking,
+      chain_made (take n rows) certificate found c.link_before.result bad linking,
     )
 
 pub returns : goal.returns

@@ -1,4 +1,4 @@
-use Rattle.std.proofs.Common.{◌≡◌, ◌<◌, ◌≤◌, ◌+◌, ◌-◌, ◌∙◌, ℕ, Some, List, length, refl, ap, sym, subst, inl, inr, arith}
+use Rattle.std.proofs.Common.{◌≡◌, ◌<◌, ◌+◌, ◌∙◌, ℕ, Some, List, length, refl, ap, sym, subst, inl, inr, arith}
 use Rattle.std.specs.List.{slice_get}
 use Rattle.std.proofs.lemmas.Bool.{cases_lt}
 use Rattle.std.proofs.lemmas.Option.{slice_get_read, slice_get_within}
@@ -38,9 +38,12 @@ loop-index-preserved c = λ n q msg list low there led.
     ]
 
 pub returns : goal.returns
-returns c = λ q msg listed led.
-    let members = c.args.certificate.now.members in
-    let within : listed.0 < length members = slice_get_within members listed.0 _ listed.3 in
-    let same : length c.list-members.result.now ≡ length members = ap length c.list-members.ensures in
-    let low : listed.0 < c.loop-index.index = omega (arith, within, same, listed.2, c.loop-index-test.false, c.min-count.ensures, c.saturating_sub.ensures) in
-    c.loop-index.invariant listed.0 q msg listed.1 low listed.3 led
+returns c = (
+  λ q msg listed led.
+      let members = c.args.certificate.now.members in
+      let within : listed.0 < length members = slice_get_within members listed.0 _ listed.3 in
+      let same : length c.list-members.result.now ≡ length members = ap length c.list-members.ensures in
+      let low : listed.0 < c.loop-index.index = omega (arith, within, same, listed.2, c.loop-index-test.false, c.min-count.ensures, c.saturating_sub.ensures) in
+      c.loop-index.invariant listed.0 q msg listed.1 low listed.3 led,
+  c.last_number.ensures,
+)
