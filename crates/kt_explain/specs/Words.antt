@@ -32,13 +32,13 @@ use Rattle.kt_explain.specs.LeftOpenWords.{left_open_words}
 
 -- an instance began as one of this kind, and its certificate says the other
 abbrev pub other_kind_words : OneKind → ℕ → List ℕ
-other_kind_words Checkpoint row = codes "row " ++ (decimal row ++ codes " begins it as a checkpoint, but the certificate says rollback")
-other_kind_words Rollback row = codes "row " ++ (decimal row ++ codes " begins it as a rollback, but the certificate says checkpoint")
+other_kind_words Checkpoint row = codes "row " ++ (decimal row ++ codes " begins it as a checkpoint: the certificate has to say that, and not rollback")
+other_kind_words Rollback row = codes "row " ++ (decimal row ++ codes " begins it as a rollback: the certificate has to say that, and not checkpoint")
 
 -- it was decided so, and its certificate says the other
 abbrev pub other_decision_words : Bool → ℕ → List ℕ
-other_decision_words true row = codes "row " ++ (decimal row ++ codes " decides it, commit, but the certificate says abort")
-other_decision_words false row = codes "row " ++ (decimal row ++ codes " decides it, abort, but the certificate says commit")
+other_decision_words true row = codes "row " ++ (decimal row ++ codes " decides it, commit: the certificate has to say that, and not abort")
+other_decision_words false row = codes "row " ++ (decimal row ++ codes " decides it, abort: the certificate has to say that, and not commit")
 
 -- what the log has otherwise than a certificate of an instance
 abbrev pub difference_words : Difference → List ℕ
@@ -46,7 +46,7 @@ difference_words Unbegun = codes "no row begins it"
 difference_words Undecided = codes "no row decides it"
 difference_words (Kind kind row) = other_kind_words kind row
 difference_words (Initiator p named row) =
-    codes "process " ++ (decimal p ++ (codes " begins it in row " ++ (decimal row ++ (codes ", but the certificate names process " ++ decimal named))))
+    codes "process " ++ (decimal p ++ (codes " begins it in row " ++ (decimal row ++ (codes ": the certificate has to name that one, and not process " ++ decimal named))))
 difference_words (Decision commit row) = other_decision_words commit row
 difference_words Members = codes "it is aborted, and its certificate lists members"
 difference_words Second = codes "it has two certificates, and may have only one"
@@ -63,7 +63,7 @@ listed_words q None = codes "process " ++ (decimal q ++ (codes " is listed, but 
 -- who joined where nobody is listed
 abbrev pub missing_words : Option ℕ → List ℕ
 missing_words (Some p) =
-    codes "nobody is listed, and process " ++ (decimal p ++ (codes " joined: its record has to follow the one that is named below" ++ 10 ∷ []))
+    codes "process " ++ (decimal p ++ (codes " joined too, and has no record: add one after the record named below" ++ 10 ∷ []))
 missing_words None = codes "nobody is listed, and nobody joined" ++ 10 ∷ []
 
 -- who is listed at a place, and who joined there
@@ -95,18 +95,18 @@ parties_words from to = codes "was sent by process " ++ (decimal from ++ (codes 
 
 -- a message that comes after the chain has come to its member
 abbrev pub arrived_words : ℕ → List ℕ
-arrived_words p = codes "is one too many: the chain has reached process " ++ (decimal p ++ (codes " before it" ++ 10 ∷ []))
+arrived_words p = codes "is one too many: the chain has reached process " ++ (decimal p ++ (codes " before it, and has to end there" ++ 10 ∷ []))
 
 -- a message between these, of the chain of a member, that another one is to have received, or sent
 abbrev pub gone_words : ℕ → ℕ → ℕ → ℕ → List ℕ
 gone_words member from to p =
     if member == p then arrived_words p
-    else parties_words from to ++ (codes ", and is to be one that process " ++ (decimal p ++ (codes " received" ++ 10 ∷ [])))
+    else parties_words from to ++ (codes ", but here the chain is at process " ++ (decimal p ++ (codes ", which has to have received it" ++ 10 ∷ [])))
 
 abbrev pub elsewhere_words : ℕ → ℕ → ℕ → ℕ → List ℕ
 elsewhere_words member from to p =
     if member == p then arrived_words p
-    else parties_words from to ++ (codes ", and is to be one that process " ++ (decimal p ++ (codes " sent" ++ 10 ∷ [])))
+    else parties_words from to ++ (codes ", but here the chain is at process " ++ (decimal p ++ (codes ", which has to have sent it" ++ 10 ∷ [])))
 
 -- that a process has not received a message: never, or in this row, and that was undone
 abbrev pub unreceived_words : ℕ → Option ℕ → List ℕ
@@ -116,7 +116,7 @@ unreceived_words p None = codes "was never received by process " ++ (decimal p +
 -- that a process sent a message, and not past its permanent position, with the row in which it took that
 abbrev pub past_words : ℕ → Option ℕ → List ℕ
 past_words p (Some row) =
-    codes "was sent by process " ++ (decimal p ++ (codes " before its last permanent checkpoint, in row " ++ (decimal row ++ (codes ": it links nobody" ++ 10 ∷ []))))
+    codes "was sent by process " ++ (decimal p ++ (codes " before its last permanent checkpoint, taken in row " ++ (decimal row ++ (codes ": it links nobody" ++ 10 ∷ []))))
 past_words p None = codes "was sent by process " ++ (decimal p ++ (codes " before its last permanent checkpoint: it links nobody" ++ 10 ∷ []))
 
 -- that a process received a message, and not before it joined the instance
@@ -125,7 +125,7 @@ receipt_words p (Some row) = codes "was received by process " ++ (decimal p ++ (
 receipt_words p None = codes "was received by process " ++ (decimal p ++ codes ", ")
 
 abbrev pub beyond_words : Option ℕ → List ℕ
-beyond_words (Some row) = codes "after its checkpoint of the instance, in row " ++ (decimal row ++ (codes ": it links nobody" ++ 10 ∷ []))
+beyond_words (Some row) = codes "after its checkpoint of the instance, taken in row " ++ (decimal row ++ (codes ": it links nobody" ++ 10 ∷ []))
 beyond_words None = codes "and not before it took a checkpoint of the instance: it links nobody" ++ 10 ∷ []
 
 -- the demand that a message of the chain of a member does not meet, and the rows that it is about
@@ -158,12 +158,12 @@ bad_chain_words inst b about =
 abbrev pub linked_words : ℕ → Link → List ℕ
 linked_words member l =
     codes "message " ++ (decimal l.msg ++ (codes " links process " ++ (decimal member ++ (codes " with process " ++ (decimal l.q
-    ++ (codes ", a member before it: its chain can be that of process " ++ (decimal l.q ++ (codes ", followed by " ++ (decimal l.msg ++ 10 ∷ [])))))))))
+    ++ (codes ", a member before it: its chain can be that of process " ++ (decimal l.q ++ (codes ", followed by message " ++ (decimal l.msg ++ 10 ∷ [])))))))))
 
 -- that no message links a member, which joined in this row, with one before it
 abbrev pub unlinked_words : ℕ → Option ℕ → List ℕ
 unlinked_words member (Some row) =
-    codes "no message links process " ++ (decimal member ++ (codes " with a member before it, but it joined in row " ++ (decimal row ++ (codes ": the log is at fault" ++ 10 ∷ []))))
+    codes "no message links process " ++ (decimal member ++ (codes " with a member before it: it should not have joined in row " ++ (decimal row ++ (codes ", or a row is missing; the log is at fault" ++ 10 ∷ []))))
 unlinked_words member None =
     codes "no message links process " ++ (decimal member ++ (codes " with a member before it: the log is at fault" ++ 10 ∷ []))
 
@@ -172,12 +172,23 @@ abbrev pub linking_words : ℕ → Linking → List ℕ
 linking_words member (Linked l) = linked_words member l
 linking_words member (Unlinked joined) = unlinked_words member joined
 
+-- whether a chain has come to its member before a message
+abbrev pub has_arrived : ℕ → Demand → Bool
+has_arrived member (demand.GoneElsewhere from to p) = member == p
+has_arrived member (demand.SentElsewhere from to p) = member == p
+has_arrived member demand = false
+
+-- the same, unless the chain is only too long
+abbrev pub past_end_words : ℕ → Demand → Linking → List ℕ
+past_end_words member demand (Linked l) = if has_arrived member demand then [] else linked_words member l
+past_end_words member demand (Unlinked joined) = unlinked_words member joined
+
 -- the same, unless the member is the initiator, which needs none
 abbrev pub link_words : ℕ → Flaw → Linking → List ℕ
 link_words member flaw.Initiator linking = []
 link_words member flaw.Empty linking = linking_words member linking
 link_words member (flaw.Elsewhere p) linking = linking_words member linking
-link_words member (flaw.Broken b) linking = linking_words member linking
+link_words member (flaw.Broken b) linking = past_end_words member b.demand linking
 
 -- a rule by number and name, and what it asks
 abbrev pub rule_words : Rule → List ℕ

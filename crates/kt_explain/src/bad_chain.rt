@@ -168,7 +168,7 @@ fn write_past<W: fmt::Write>(
     match permanent {
         Some(row) => write!(
             f,
-            "was sent by process {p} before its last permanent checkpoint, in row {row}: it links nobody\n"
+            "was sent by process {p} before its last permanent checkpoint, taken in row {row}: it links nobody\n"
         ),
         None => write!(
             f,
@@ -198,7 +198,7 @@ fn write_beyond<W: fmt::Write>(f: &mut fmt::Formatter<W>, joined: Option<RowNo>)
     match joined {
         Some(row) => write!(
             f,
-            "after its checkpoint of the instance, in row {row}: it links nobody\n"
+            "after its checkpoint of the instance, taken in row {row}: it links nobody\n"
         ),
         None => write!(
             f,
@@ -222,7 +222,7 @@ fn write_gone<W: fmt::Write>(
     }
     write!(
         f,
-        "was sent by process {from} to process {to}, and is to be one that process {p} received\n"
+        "was sent by process {from} to process {to}, but here the chain is at process {p}, which has to have received it\n"
     )
 }
 
@@ -241,7 +241,7 @@ fn write_elsewhere<W: fmt::Write>(
     }
     write!(
         f,
-        "was sent by process {from} to process {to}, and is to be one that process {p} sent\n"
+        "was sent by process {from} to process {to}, but here the chain is at process {p}, which has to have sent it\n"
     )
 }
 
@@ -251,6 +251,6 @@ fn write_arrived<W: fmt::Write>(f: &mut fmt::Formatter<W>, p: ProcNo) -> fmt::Re
 {
     write!(
         f,
-        "is one too many: the chain has reached process {p} before it\n"
+        "is one too many: the chain has reached process {p} before it, and has to end there\n"
     )
 }

@@ -45,7 +45,7 @@ impl fmt::Display for Difference {
             Difference::Initiator { p, named, row } => {
                 write!(
                     f,
-                    "process {p} begins it in row {row}, but the certificate names process {named}"
+                    "process {p} begins it in row {row}: the certificate has to name that one, and not process {named}"
                 )
             }
             Difference::Decision(commit, row) => write_decision(f, commit, row),
@@ -62,11 +62,11 @@ fn write_kind<W: fmt::Write>(f: &mut fmt::Formatter<W>, kind: Kind, row: RowNo) 
     match kind {
         Kind::Checkpoint => write!(
             f,
-            "row {row} begins it as a checkpoint, but the certificate says rollback"
+            "row {row} begins it as a checkpoint: the certificate has to say that, and not rollback"
         ),
         Kind::Rollback => write!(
             f,
-            "row {row} begins it as a rollback, but the certificate says checkpoint"
+            "row {row} begins it as a rollback: the certificate has to say that, and not checkpoint"
         ),
     }
 }
@@ -78,12 +78,12 @@ fn write_decision<W: fmt::Write>(f: &mut fmt::Formatter<W>, commit: bool, row: R
     if commit {
         write!(
             f,
-            "row {row} decides it, commit, but the certificate says abort"
+            "row {row} decides it, commit: the certificate has to say that, and not abort"
         )
     } else {
         write!(
             f,
-            "row {row} decides it, abort, but the certificate says commit"
+            "row {row} decides it, abort: the certificate has to say that, and not commit"
         )
     }
 }

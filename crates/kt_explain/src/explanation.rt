@@ -163,7 +163,7 @@ fn write_missing<W: fmt::Write>(f: &mut fmt::Formatter<W>, joined: Option<ProcNo
     match joined {
         Some(p) => write!(
             f,
-            "nobody is listed, and process {p} joined: its record has to follow the one that is named below\n"
+            "process {p} joined too, and has no record: add one after the record named below\n"
         ),
         None => write!(f, "nobody is listed, and nobody joined\n"),
     }

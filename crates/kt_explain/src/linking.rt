@@ -6,9 +6,9 @@ ghost use Rattle.kt_spacetime.specs.declared.event.Event.{Event as Events};
 ghost use Rattle.kt_cuts.specs.Legal.{IsLegal};
 ghost use Rattle.kt_histories.specs.HistoriesOf.{HistoriesOf};
 ghost use Rattle.kt_explain.specs.Linking.{LeadsTo};
-ghost use Rattle.kt_explain.specs.Words.{link_words, linked_words, linking_words, unlinked_words};
+ghost use Rattle.kt_explain.specs.Words.{has_arrived, link_words, linked_words, linking_words, past_end_words, unlinked_words};
 
-use crate::bad_chain::{BadChain, Flaw};
+use crate::bad_chain::{BadChain, Demand, Flaw};
 use crate::breach::before::Before;
 use crate::chains::step;
 use crate::finding::{Sought, last_number};
@@ -96,7 +96,43 @@ pub(crate) fn write_link<W: fmt::Write>(
 {
     match chain.flaw {
         Flaw::Initiator => Ok(()),
-        Flaw::Empty | Flaw::Elsewhere(_) | Flaw::Broken(_) => write_linking(f, chain.p, linking),
+        Flaw::Empty | Flaw::Elsewhere(_) => write_linking(f, chain.p, linking),
+        Flaw::Broken(broken) => write_past_end(f, chain.p, broken.demand, linking),
+    }
+}
+
+// Which message links a member with one before it, unless its chain is only too long; or that none does.
+fn write_past_end<W: fmt::Write>(
+    f: &mut fmt::Formatter<W>,
+    member: ProcNo,
+    demand: Demand,
+    linking: Linking,
+) -> fmt::Result
+    ensures { DisplaysOnOk W.write_str_gives f.old result (Some (past_end_words member demand linking)) f.new }
+{
+    match linking {
+        Linking::Linked(link) => {
+            if has_arrived(member, demand) {
+                Ok(())
+            } else {
+                write_linked(f, member, link)
+            }
+        }
+        Linking::Unlinked(joined) => write_unlinked(f, member, joined),
+    }
+}
+
+// Whether a chain has come to its member before a message.
+fn has_arrived(member: ProcNo, demand: Demand) -> bool
+    ensures { result ≡ has_arrived member demand }
+{
+    match demand {
+        Demand::GoneElsewhere { p, .. } | Demand::SentElsewhere { p, .. } => member == p,
+        Demand::Message
+        | Demand::Received(_)
+        | Demand::Sent(_)
+        | Demand::Past(_)
+        | Demand::Within(_) => false,
     }
 }
 
@@ -121,7 +157,7 @@ fn write_linked<W: fmt::Write>(f: &mut fmt::Formatter<W>, member: ProcNo, link: 
     let Link { msg, q } = link;
     write!(
         f,
-        "message {msg} links process {member} with process {q}, a member before it: its chain can be that of process {q}, followed by {msg}\n"
+        "message {msg} links process {member} with process {q}, a member before it: its chain can be that of process {q}, followed by message {msg}\n"
     )
 }
 
@@ -136,7 +172,7 @@ fn write_unlinked<W: fmt::Write>(
     match joined {
         Some(row) => write!(
             f,
-            "no message links process {member} with a member before it, but it joined in row {row}: the log is at fault\n"
+            "no message links process {member} with a member before it: it should not have joined in row {row}, or a row is missing; the log is at fault\n"
         ),
         None => write!(
             f,
