@@ -1,6 +1,6 @@
 //! Commands.
 
-ghost use Rattle.std.specs.Prelude.{◌≡◌, ◌<◌, ◌≤◌, ◌+◌, ◌^◌, ◌-◌, ℕ, None, IfOk, OnOk, OnErr, true, [], length};
+ghost use Rattle.std.specs.Prelude.{◌≡◌, ◌<◌, ◌≤◌, ◌+◌, ◌^◌, ◌-◌, ℕ, None, OnOk, OnErr, true, [], length};
 ghost use Rattle.kt_plan.specs.Limits.{IsJobOf};
 ghost use Rattle.kt_process.specs.ProcessStates.{inst_of};
 ghost use Rattle.kt_tables.specs.Calls.{Speaks};
@@ -43,10 +43,9 @@ impl World {
         let Some(command) = self.agenda.command_at(p, place) else {
             return Ok(());
         };
-        let told = do_job(self.alloc, &mut self.system, p, &command.job, give)?;
+        do_job(self.alloc, &mut self.system, p, &command.job, give, acts)?;
         self.agenda.advance(p);
         settle(&mut self.agenda, &self.system);
-        *acts = told;
         Ok(())
     }
 }
@@ -58,7 +57,8 @@ fn do_job(
     p: ProcNo,
     job: &Job,
     give: Give,
-) -> Result<[Act; 2], Memory>
+    acts: &mut [Act; 2],
+) -> Result<(), Memory>
     requires p { p < system.old.size }
     requires job { IsJobOf system.old.size p job.now }
     requires few { length system.old.rows.rows + 4 ≤ 2 ^ 24 }
@@ -72,12 +72,12 @@ fn do_job(
         Speaks (((transition v (protocol_step p job.now give)).states p).calls) →
         OnOk result (ShowsState system.new (transition v (protocol_step p job.now give))) }
     ensures acts { (v : Seen) → ShowsState system.old v → system.old.begun < 4096 →
-        IfOk result (λ acts. acts_shown acts ≡ seen_acts v (protocol_step p job.now give)) }
+        OnOk result (acts_shown acts.new ≡ seen_acts v (protocol_step p job.now give)) }
 {
     match *job {
-        Job::Send { to, body } => system.send(p, to, body.unwrap_or(give.body)),
-        Job::Checkpoint => system.begin_checkpoint(alloc, p, give.able),
-        Job::Rollback => system.begin_rollback(p),
-        Job::Fail => system.fail(p),
+        Job::Send { to, body } => system.send(p, to, body.unwrap_or(give.body), acts),
+        Job::Checkpoint => system.begin_checkpoint(alloc, p, give.able, acts),
+        Job::Rollback => system.begin_rollback(p, acts),
+        Job::Fail => system.fail(p, acts),
     }
 }

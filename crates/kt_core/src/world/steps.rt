@@ -110,8 +110,7 @@ impl World {
         ensures made { OnOk result (MakesStep self.old (Step.Take at from) give acts.new self.new) }
     {
         laws_of_runs();
-        let told = self.system.take(self.alloc, at, from, give.able)?;
-        *acts = told;
+        self.system.take(self.alloc, at, from, give.able, acts)?;
         settle(&mut self.agenda, &self.system);
         Ok(())
     }

@@ -43,43 +43,48 @@ impl System {
         alloc: Global,
         p: ProcNo,
         able: bool,
-    ) -> Result<[Act; 2], Memory>
+        acts: &mut [Act; 2],
+    ) -> Result<(), Memory>
         requires p { p < self.old.size }
         requires few { length self.old.rows.rows + 4 ≤ 2 ^ 24 }
         ensures keeps { KeepsInStep result [] self.old self.new }
         ensures shows { (v : Seen) → ShowsState self.old v → self.old.begun < 4096 → OnOk result (ShowsState self.new (transition v (BeginStep p false able))) }
-        ensures acts { (v : Seen) → ShowsState self.old v → self.old.begun < 4096 → IfOk result (λ acts. acts_shown acts ≡ seen_acts v (BeginStep p false able)) }
+        ensures acts { (v : Seen) → ShowsState self.old v → self.old.begun < 4096 → OnOk result (acts_shown acts.new ≡ seen_acts v (BeginStep p false able)) }
         ensures spent { 4096 ≤ self.old.begun → IsSameSystem self.new self.old }
-        ensures spent_acts { 4096 ≤ self.old.begun → IfOk result (λ acts. acts_shown acts ≡ []) }
+        ensures spent_acts { 4096 ≤ self.old.begun → OnOk result (acts_shown acts.new ≡ []) }
     {
         let Some(inst) = self.next_inst() else {
-            return Ok(NO_ACTS);
+            *acts = NO_ACTS;
+            return Ok(());
         };
         let targets = self.process(p).peers(Kind::Checkpoint);
         self.make_room(p, targets)?;
         let marks = self.marks(alloc, p)?;
         let action = self.tell_to_save(p, able, inst, marks)?;
-        Ok(self.begin(p, inst, Kind::Checkpoint, action))
+        self.begin(p, inst, Kind::Checkpoint, action, acts);
+        Ok(())
     }
 
     /// A process begins a rollback, or refuses.
-    pub fn begin_rollback(&mut self, p: ProcNo) -> Result<[Act; 2], Memory>
+    pub fn begin_rollback(&mut self, p: ProcNo, acts: &mut [Act; 2]) -> Result<(), Memory>
         requires p { p < self.old.size }
         requires few { length self.old.rows.rows + 4 ≤ 2 ^ 24 }
         ensures keeps { KeepsInStep result [] self.old self.new }
         ensures shows { (v : Seen) (able : Bool) → ShowsState self.old v → self.old.begun < 4096 → OnOk result (ShowsState self.new (transition v (BeginStep p true able))) }
-        ensures acts { (v : Seen) (able : Bool) → ShowsState self.old v → self.old.begun < 4096 → IfOk result (λ acts. acts_shown acts ≡ seen_acts v (BeginStep p true able)) }
+        ensures acts { (v : Seen) (able : Bool) → ShowsState self.old v → self.old.begun < 4096 → OnOk result (acts_shown acts.new ≡ seen_acts v (BeginStep p true able)) }
         ensures spent { 4096 ≤ self.old.begun → IsSameSystem self.new self.old }
-        ensures spent_acts { 4096 ≤ self.old.begun → IfOk result (λ acts. acts_shown acts ≡ []) }
+        ensures spent_acts { 4096 ≤ self.old.begun → OnOk result (acts_shown acts.new ≡ []) }
     {
         let Some(inst) = self.next_inst() else {
-            return Ok(NO_ACTS);
+            *acts = NO_ACTS;
+            return Ok(());
         };
         let targets = self.process(p).peers(Kind::Rollback);
         self.make_room(p, targets)?;
         self.make_room_back(p)?;
         let action = self.tell_to_roll(p, inst)?;
-        Ok(self.begin(p, inst, Kind::Rollback, action))
+        self.begin(p, inst, Kind::Rollback, action, acts);
+        Ok(())
     }
 
     /// How many parcels are kept for a process, by sender.
@@ -119,25 +124,26 @@ impl System {
     }
 
     /// What follows from a command to begin an instance.
-    fn begin(&mut self, p: ProcNo, inst: InstNo, kind: Kind, action: Action) -> [Act; 2]
+    fn begin(&mut self, p: ProcNo, inst: InstNo, kind: Kind, action: Action, acts: &mut [Act; 2])
         requires p { p < self.old.size }
         requires spare { 4 ≤ self.old.rows.spare }
         requires few { length self.old.rows.rows + 4 ≤ 2 ^ 24 }
         requires room { CanCarryOut self.old p action }
         ensures keeps { KeepsInPart 4 [] self.old self.new }
         ensures shows { (v : Seen) (test : ℕ → Bool) (label : ℕ → ℕ) → ShowsState self.old v → JoinsAs self.old v p test label action → ShowsState self.new (begun_as v p inst kind test label action) }
-        ensures acts { acts_shown result ≡ acts_carried_out kind (is_ready (state_of self.old p).side) action }
+        ensures acts { acts_shown acts.new ≡ acts_carried_out kind (is_ready (state_of self.old p).side) action }
     {
         match action {
             Action::Refuse(cause) => {
                 self.refuse(p, verb_of(kind), cause);
-                NO_ACTS
+                *acts = NO_ACTS;
             }
             Action::Join { ask, goes } => {
                 self.open(p, inst, kind);
-                self.join(p, inst, kind, &ask, goes)
+                let told = self.join(p, inst, kind, &ask, goes);
+                *acts = told;
             }
-            Action::Nothing | Action::Reply { .. } | Action::Settle { .. } => NO_ACTS,
+            Action::Nothing | Action::Reply { .. } | Action::Settle { .. } => *acts = NO_ACTS,
         }
     }
 
@@ -164,11 +170,12 @@ impl System {
         inst: InstNo,
         label: Label,
         able: bool,
-    ) -> Result<[Act; 2], Memory>
+        acts: &mut [Act; 2],
+    ) -> Result<(), Memory>
         requires can { CanStep self.old at from }
         ensures keeps { KeepsInStep result (front self.old at from) self.old self.new }
         ensures shows { (v : Seen) → ShowsState self.old v → OnOk result (ShowsState self.new (seen_ask v at from able inst false label (drop 1 (v.channel from at)))) }
-        ensures acts { (v : Seen) → ShowsState self.old v → IfOk result (λ acts. acts_shown acts ≡ seen_acts_asked v at from able inst false label) }
+        ensures acts { (v : Seen) → ShowsState self.old v → OnOk result (acts_shown acts.new ≡ seen_acts_asked v at from able inst false label) }
     {
         let joins = self.process(at).joins_checkpoint(able, from, label);
         let targets = self.targets(at, from, Kind::Checkpoint, joins);
@@ -176,7 +183,8 @@ impl System {
         let marks = self.marks_if(alloc, at, joins)?;
         let action = self.ask_to_save(at, able, from, inst, label, marks)?;
         self.pop(at, from);
-        Ok(self.answer(at, from, inst, Kind::Checkpoint, action))
+        self.answer(at, from, inst, Kind::Checkpoint, action, acts);
+        Ok(())
     }
 
     /// A process takes an ask to take part in a rollback.
@@ -186,18 +194,20 @@ impl System {
         from: ProcNo,
         inst: InstNo,
         label: Label,
-    ) -> Result<[Act; 2], Memory>
+        acts: &mut [Act; 2],
+    ) -> Result<(), Memory>
         requires can { CanStep self.old at from }
         ensures keeps { KeepsInStep result (front self.old at from) self.old self.new }
         ensures shows { (v : Seen) (able : Bool) → ShowsState self.old v → OnOk result (ShowsState self.new (seen_ask v at from able inst true label (drop 1 (v.channel from at)))) }
-        ensures acts { (v : Seen) (able : Bool) → ShowsState self.old v → IfOk result (λ acts. acts_shown acts ≡ seen_acts_asked v at from able inst true label) }
+        ensures acts { (v : Seen) (able : Bool) → ShowsState self.old v → OnOk result (acts_shown acts.new ≡ seen_acts_asked v at from able inst true label) }
     {
         let joins = self.process(at).joins_rollback(from, label);
         let targets = self.targets(at, from, Kind::Rollback, joins);
         self.make_room(at, targets)?;
         let action = self.ask_to_roll(at, from, inst, label)?;
         self.pop(at, from);
-        Ok(self.answer(at, from, inst, Kind::Rollback, action))
+        self.answer(at, from, inst, Kind::Rollback, action, acts);
+        Ok(())
     }
 
     /// What follows from an ask.
@@ -209,7 +219,8 @@ impl System {
         inst: InstNo,
         kind: Kind,
         action: Action,
-    ) -> [Act; 2]
+        acts: &mut [Act; 2],
+    )
         requires at { at < self.old.size }
         requires from { from < self.old.size }
         requires spare { 4 ≤ self.old.rows.spare }
@@ -218,7 +229,7 @@ impl System {
         requires room { CanCarryOut self.old at action }
         ensures keeps { KeepsInPart 4 [] self.old self.new }
         ensures shows { (v : Seen) (test : ℕ → Bool) (label : ℕ → ℕ) → ShowsState self.old v → JoinsAs self.old v at test label action → ShowsState self.new (answered_as v at from inst kind test label action) }
-        ensures acts { acts_shown result ≡ acts_carried_out kind (is_ready (state_of self.old at).side) action }
+        ensures acts { acts_shown acts.new ≡ acts_carried_out kind (is_ready (state_of self.old at).side) action }
     {
         match action {
             Action::Reply {
@@ -228,10 +239,13 @@ impl System {
             } => {
                 self.reply(at, from, inst, willing);
                 self.say_why(at, inst, cause);
-                NO_ACTS
+                *acts = NO_ACTS;
             }
-            Action::Join { ask, goes } => self.join(at, inst, kind, &ask, goes),
-            Action::Nothing | Action::Refuse(_) | Action::Settle { .. } => NO_ACTS,
+            Action::Join { ask, goes } => {
+                let told = self.join(at, inst, kind, &ask, goes);
+                *acts = told;
+            }
+            Action::Nothing | Action::Refuse(_) | Action::Settle { .. } => *acts = NO_ACTS,
         }
     }
 
@@ -257,15 +271,16 @@ impl System {
         kind: Kind,
         label: Label,
         able: bool,
-    ) -> Result<[Act; 2], Memory>
+        acts: &mut [Act; 2],
+    ) -> Result<(), Memory>
         requires can { CanStep self.old at from }
         ensures keeps { KeepsInStep result (front self.old at from) self.old self.new }
         ensures shows { (v : Seen) → ShowsState self.old v → OnOk result (ShowsState self.new (seen_ask v at from able inst (is_rollback_kind (Some kind)) label (drop 1 (v.channel from at)))) }
-        ensures acts { (v : Seen) → ShowsState self.old v → IfOk result (λ acts. acts_shown acts ≡ seen_acts_asked v at from able inst (is_rollback_kind (Some kind)) label) }
+        ensures acts { (v : Seen) → ShowsState self.old v → OnOk result (acts_shown acts.new ≡ seen_acts_asked v at from able inst (is_rollback_kind (Some kind)) label) }
     {
         match kind {
-            Kind::Checkpoint => self.take_ask_to_save(alloc, at, from, inst, label, able),
-            Kind::Rollback => self.take_ask_to_roll(at, from, inst, label),
+            Kind::Checkpoint => self.take_ask_to_save(alloc, at, from, inst, label, able, acts),
+            Kind::Rollback => self.take_ask_to_roll(at, from, inst, label, acts),
         }
     }
 }

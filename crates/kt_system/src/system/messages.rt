@@ -2,7 +2,7 @@
 
 ghost use Rattle.std.specs.Prelude.{◌≡◌, ◌<◌, ◌≤◌, ◌+◌, ◌-◌, ◌^◌, true, length};
 ghost use Rattle.kt_system.specs.Systems.{state_of};
-ghost use Rattle.std.specs.Prelude.{[], ◌∷◌, ◌++◌, false, drop, OnOk, IfOk, if◌then◌else◌};
+ghost use Rattle.std.specs.Prelude.{[], ◌∷◌, ◌++◌, false, drop, OnOk, if◌then◌else◌};
 ghost use Rattle.kt_fifo.specs.declared.parcels.Parcel.TheVariants as parcel;
 ghost use Rattle.kt_tables.specs.Calls.{received, Speaks};
 ghost use Rattle.kt_protocol.specs.States.{Send as SendStep, Fail as FailStep};
@@ -49,41 +49,52 @@ pub(super) const NO_ACTS: [Act; 2] = [Act::Nothing, Act::Nothing];
 impl System {
     /// A process sends a message to another one; where its object is down, it refuses. That it may send, and that its
     /// labels are not spent, was tested before.
-    pub fn send(&mut self, p: ProcNo, to: ProcNo, body: i64) -> Result<[Act; 2], Memory>
+    pub fn send(
+        &mut self,
+        p: ProcNo,
+        to: ProcNo,
+        body: i64,
+        acts: &mut [Act; 2],
+    ) -> Result<(), Memory>
         requires can { CanStep self.old p to }
         requires left { (state_of self.old p).up ≡ true → (state_of self.old p).used < 2 ^ 48 - 1 }
         ensures keeps { KeepsInStep result [] self.old self.new }
         ensures shows { (v : Seen) → ShowsState self.old v → (v.states p).inst ≡ 0 → (to ≡ p → ⊥) → Speaks (((transition v (SendStep p to body)).states p).calls) → OnOk result (ShowsState self.new (transition v (SendStep p to body))) }
-        ensures acts { (v : Seen) → IfOk result (λ acts. acts_shown acts ≡ seen_acts v (SendStep p to body)) }
+        ensures acts { (v : Seen) → OnOk result (acts_shown acts.new ≡ seen_acts v (SendStep p to body)) }
     {
         self.make_room_to(p, to)?;
         if !self.is_up(p) {
             self.refuse(p, Verb::Send, Cause::Down);
-            return Ok(NO_ACTS);
+            *acts = NO_ACTS;
+            return Ok(());
         }
         let msg = MsgNo::after(self.log.rows().len());
         let label = self.note_sent(p, to);
         self.put(p, to, Parcel::App { label, msg, body });
         self.write(Event::Sent { p, to, body });
-        Ok(NO_ACTS)
+        *acts = NO_ACTS;
+        Ok(())
     }
 
     /// A process's object fails; where it is down already, the process refuses.
-    pub fn fail(&mut self, p: ProcNo) -> Result<[Act; 2], Memory>
+    pub fn fail(&mut self, p: ProcNo, acts: &mut [Act; 2]) -> Result<(), Memory>
         requires p { p < self.old.size }
         requires few { length self.old.rows.rows + 4 ≤ 2 ^ 24 }
         ensures keeps { KeepsInStep result [] self.old self.new }
         ensures shows { (v : Seen) → ShowsState self.old v → OnOk result (ShowsState self.new (transition v (FailStep p))) }
-        ensures acts { (v : Seen) → ShowsState self.old v → IfOk result (λ acts. acts_shown acts ≡ seen_acts v (FailStep p)) }
+        ensures acts { (v : Seen) → ShowsState self.old v → OnOk result (acts_shown acts.new ≡ seen_acts v (FailStep p)) }
     {
         self.make_room_for_rows()?;
         if !self.is_up(p) {
             self.refuse(p, Verb::Fail, Cause::Down);
-            return Ok(NO_ACTS);
+            *acts = NO_ACTS;
+            return Ok(());
         }
         self.put_down(p);
         self.write(Event::Failed { p });
-        Ok([Act::Drop, Act::Nothing])
+        let told = [Act::Drop, Act::Nothing];
+        *acts = told;
+        Ok(())
     }
 
     /// A command is refused.
@@ -102,21 +113,23 @@ impl System {
         at: ProcNo,
         from: ProcNo,
         message: Message,
-    ) -> Result<[Act; 2], Memory>
+        acts: &mut [Act; 2],
+    ) -> Result<(), Memory>
         requires can { CanStep self.old at from }
         ensures keeps { KeepsInStep result (front self.old at from) self.old self.new }
         ensures shows { (v : Seen) → ShowsState self.old v → (is_seen_ready v at ≡ false → (v.states at).up ≡ true → Speaks ((v.states at).calls ++ received from message.label ∷ [])) →
             OnOk result (ShowsState self.new (if is_seen_ready v at then seen_holding v at from (parcel.App message.label message.msg message.body) (drop 1 (v.channel from at))
             else seen_arrival v (with_rest v.channel from at (drop 1 (v.channel from at))) v.held at from message.label message.msg message.body)) }
-        ensures acts { (v : Seen) → ShowsState self.old v → IfOk result (λ acts. acts_shown acts ≡ (if is_seen_ready v at then [] else seen_acts_arriving v at from message.body)) }
+        ensures acts { (v : Seen) → ShowsState self.old v → OnOk result (acts_shown acts.new ≡ (if is_seen_ready v at then [] else seen_acts_arriving v at from message.body)) }
     {
         if self.is_ready(at) {
             self.held.reserve_many(from, at, 1)?;
             self.pop(at, from);
             self.held.push_reserved(from, at, message.parcel());
-            return Ok(NO_ACTS);
+            *acts = NO_ACTS;
+            return Ok(());
         }
-        self.accept(at, from, message, false)
+        self.accept(at, from, message, false, acts)
     }
 
     /// A message goes from the front of the channel or of the held list.
@@ -143,19 +156,21 @@ impl System {
         from: ProcNo,
         message: Message,
         is_held: bool,
-    ) -> Result<[Act; 2], Memory>
+        acts: &mut [Act; 2],
+    ) -> Result<(), Memory>
         requires can { CanStep self.old at from }
         ensures keeps { KeepsInStep result (if is_held then [] else front self.old at from) self.old self.new }
         ensures shows { (v : Seen) → ShowsState self.old v → ((v.states at).up ≡ true → Speaks ((v.states at).calls ++ received from message.label ∷ [])) →
             OnOk result (ShowsState self.new (seen_arrival v (channel_without is_held v at from) (held_without is_held v at from) at from message.label message.msg message.body)) }
-        ensures acts { (v : Seen) → ShowsState self.old v → IfOk result (λ acts. acts_shown acts ≡ seen_acts_arriving v at from message.body) }
+        ensures acts { (v : Seen) → ShowsState self.old v → OnOk result (acts_shown acts.new ≡ seen_acts_arriving v at from message.body) }
     {
         self.make_room_for_rows()?;
         let msg = message.msg;
         if !self.is_up(at) {
             self.remove(at, from, is_held);
             self.write(Event::Dropped { p: at, from, msg });
-            return Ok(NO_ACTS);
+            *acts = NO_ACTS;
+            return Ok(());
         }
         self.kept.reserve_many(from, at, 1)?;
         self.remove(at, from, is_held);
@@ -163,6 +178,8 @@ impl System {
         self.kept.push_reserved(from, at, message.parcel());
         self.write(Event::Received { p: at, from, msg });
         let body = message.body;
-        Ok([Act::Apply { from, body }, Act::Nothing])
+        let told = [Act::Apply { from, body }, Act::Nothing];
+        *acts = told;
+        Ok(())
     }
 }

@@ -2,7 +2,7 @@
 
 ghost use Rattle.std.specs.Prelude.{◌≡◌, ◌<◌, ◌≤◌, ◌+◌, ◌^◌, ℕ, true, length};
 ghost use Rattle.kt_system.specs.Systems.{state_of, CanGoOn};
-ghost use Rattle.std.specs.Prelude.{Bool, [], drop, OnOk, IfOk, ◌==◌, ◌∷◌};
+ghost use Rattle.std.specs.Prelude.{Bool, [], drop, OnOk, ◌==◌, ◌∷◌};
 ghost use Rattle.kt_tables.specs.Calls.{Speaks};
 ghost use Rattle.kt_protocol.specs.States.{Take as TakeStep};
 ghost use Rattle.kt_seen.specs.Transition.{transition, seen_front, seen_take};
@@ -31,29 +31,31 @@ impl System {
         from: ProcNo,
         inst: InstNo,
         willing: bool,
-    ) -> Result<[Act; 2], Memory>
+        acts: &mut [Act; 2],
+    ) -> Result<(), Memory>
         requires can { CanStep self.old at from }
         ensures keeps { KeepsInStep result (front self.old at from) self.old self.new }
         ensures shows { (v : Seen) → ShowsState self.old v → OnOk result (ShowsState self.new (after_reply_taken v at from inst willing (drop 1 (v.channel from at)))) }
-        ensures acts { (v : Seen) → ShowsState self.old v → IfOk result (λ acts. acts_shown acts ≡ seen_acts_replied v at willing) }
+        ensures acts { (v : Seen) → ShowsState self.old v → OnOk result (acts_shown acts.new ≡ seen_acts_replied v at willing) }
     {
         let targets = self.process(at).partners();
         self.make_room(at, targets)?;
         self.make_room_back_if_ready(at)?;
         self.pop(at, from);
         let action = self.hear_reply(at, willing);
-        Ok(self.go_on(at, inst, &action))
+        self.go_on(at, inst, &action, acts);
+        Ok(())
     }
 
     /// What follows from a reply.
-    fn go_on(&mut self, p: ProcNo, inst: InstNo, action: &Action) -> [Act; 2]
+    fn go_on(&mut self, p: ProcNo, inst: InstNo, action: &Action, acts: &mut [Act; 2])
         requires p { p < self.old.size }
         requires spare { 2 ≤ self.old.rows.spare }
         requires few { length self.old.rows.rows + 2 ≤ 2 ^ 24 }
         requires room { CanGoOn self.old p action.now }
         ensures keeps { KeepsInPart 2 [] self.old self.new }
         ensures shows { (v : Seen) → ShowsState self.old v → ((commit : Bool) (tell : ℕ) → action.now ≡ what.Settle commit tell → IsInside self.old p) → ShowsState self.new (gone_on v p inst action.now) }
-        ensures acts { acts_shown result ≡ acts_gone_on (is_ready (state_of self.old p).side) action.now }
+        ensures acts { acts_shown acts.new ≡ acts_gone_on (is_ready (state_of self.old p).side) action.now }
     {
         match action {
             Action::Reply {
@@ -62,13 +64,16 @@ impl System {
                 cause: _cause,
             } => {
                 self.reply(p, *to, inst, *willing);
-                NO_ACTS
+                *acts = NO_ACTS;
             }
             Action::Settle {
                 commit,
                 tell: _tell,
-            } => [self.decide(p, inst, *commit), Act::Nothing],
-            Action::Nothing | Action::Refuse(_) | Action::Join { .. } => NO_ACTS,
+            } => {
+                let told = [self.decide(p, inst, *commit), Act::Nothing];
+                *acts = told;
+            }
+            Action::Nothing | Action::Refuse(_) | Action::Join { .. } => *acts = NO_ACTS,
         }
     }
 
@@ -91,21 +96,25 @@ impl System {
         from: ProcNo,
         inst: InstNo,
         commit: bool,
-    ) -> Result<[Act; 2], Memory>
+        acts: &mut [Act; 2],
+    ) -> Result<(), Memory>
         requires can { CanStep self.old at from }
         ensures keeps { KeepsInStep result (front self.old at from) self.old self.new }
         ensures shows { (v : Seen) → ShowsState self.old v → OnOk result (ShowsState self.new (after_decision_taken v at from inst commit (drop 1 (v.channel from at)))) }
-        ensures acts { (v : Seen) → ShowsState self.old v → IfOk result (λ acts. acts_shown acts ≡ seen_acts_decided v at inst commit) }
+        ensures acts { (v : Seen) → ShowsState self.old v → OnOk result (acts_shown acts.new ≡ seen_acts_decided v at inst commit) }
     {
         if !self.is_in(at, inst) {
             self.pop(at, from);
-            return Ok(NO_ACTS);
+            *acts = NO_ACTS;
+            return Ok(());
         }
         let targets = self.process(at).asked();
         self.make_room(at, targets)?;
         self.make_room_back_if_ready(at)?;
         self.pop(at, from);
-        Ok([self.close(at, inst, commit), Act::Nothing])
+        let told = [self.close(at, inst, commit), Act::Nothing];
+        *acts = told;
+        Ok(())
     }
 
     /// A process takes the front of a channel.
@@ -115,41 +124,52 @@ impl System {
         at: ProcNo,
         from: ProcNo,
         able: bool,
-    ) -> Result<[Act; 2], Memory>
+        acts: &mut [Act; 2],
+    ) -> Result<(), Memory>
         requires can { CanStep self.old at from }
         ensures keeps { KeepsInStep result (front self.old at from) self.old self.new }
         ensures shows { (v : Seen) → ShowsState self.old v → Speaks (((seen_front v at from able (v.channel from at)).states at).calls) → OnOk result (ShowsState self.new (seen_front v at from able (v.channel from at))) }
-        ensures acts { (v : Seen) → ShowsState self.old v → IfOk result (λ acts. acts_shown acts ≡ seen_acts_taking v at from able (v.channel from at)) }
+        ensures acts { (v : Seen) → ShowsState self.old v → OnOk result (acts_shown acts.new ≡ seen_acts_taking v at from able (v.channel from at)) }
     {
         let Some(parcel) = self.channels.front(from, at).copied() else {
-            return Ok(NO_ACTS);
+            *acts = NO_ACTS;
+            return Ok(());
         };
         match parcel {
             Parcel::App { label, msg, body } => {
-                self.take_message(at, from, Message { label, msg, body })
+                self.take_message(at, from, Message { label, msg, body }, acts)
             }
             Parcel::Ask { inst, kind, label } => {
-                self.take_ask(alloc, at, from, inst, kind, label, able)
+                self.take_ask(alloc, at, from, inst, kind, label, able, acts)
             }
-            Parcel::Reply { inst, willing } => self.take_reply(at, from, inst, willing),
-            Parcel::Decide { inst, commit } => self.take_decision(at, from, inst, commit),
+            Parcel::Reply { inst, willing } => self.take_reply(at, from, inst, willing, acts),
+            Parcel::Decide { inst, commit } => self.take_decision(at, from, inst, commit, acts),
         }
     }
 
     /// A process takes the first message of another process that is held for it.
-    fn take_held(&mut self, at: ProcNo, from: ProcNo, parcel: Parcel) -> Result<[Act; 2], Memory>
+    fn take_held(
+        &mut self,
+        at: ProcNo,
+        from: ProcNo,
+        parcel: Parcel,
+        acts: &mut [Act; 2],
+    ) -> Result<(), Memory>
         requires can { CanStep self.old at from }
         ensures keeps { KeepsInStep result [] self.old self.new }
         ensures shows { (v : Seen) (able : Bool) → ShowsState self.old v → v.held from at ≡ parcel ∷ drop 1 (v.held from at) →
             Speaks (((seen_take v at from able (v.held from at)).states at).calls) → OnOk result (ShowsState self.new (seen_take v at from able (v.held from at))) }
         ensures acts { (v : Seen) (able : Bool) → ShowsState self.old v → v.held from at ≡ parcel ∷ drop 1 (v.held from at) →
-            IfOk result (λ acts. acts_shown acts ≡ seen_acts_taking_held v at from able (v.held from at)) }
+            OnOk result (acts_shown acts.new ≡ seen_acts_taking_held v at from able (v.held from at)) }
     {
         match parcel {
             Parcel::App { label, msg, body } => {
-                self.accept(at, from, Message { label, msg, body }, true)
+                self.accept(at, from, Message { label, msg, body }, true, acts)
             }
-            Parcel::Ask { .. } | Parcel::Reply { .. } | Parcel::Decide { .. } => Ok(NO_ACTS),
+            Parcel::Ask { .. } | Parcel::Reply { .. } | Parcel::Decide { .. } => {
+                *acts = NO_ACTS;
+                Ok(())
+            }
         }
     }
 
@@ -162,15 +182,16 @@ impl System {
         at: ProcNo,
         from: ProcNo,
         able: bool,
-    ) -> Result<[Act; 2], Memory>
+        acts: &mut [Act; 2],
+    ) -> Result<(), Memory>
         requires can { CanStep self.old at from }
         ensures keeps { KeepsInStep result (taken_off self.old at from) self.old self.new }
         ensures shows { (v : Seen) → ShowsState self.old v → Speaks (((transition v (TakeStep at from able)).states at).calls) → OnOk result (ShowsState self.new (transition v (TakeStep at from able))) }
-        ensures acts { (v : Seen) → ShowsState self.old v → IfOk result (λ acts. acts_shown acts ≡ seen_acts v (TakeStep at from able)) }
+        ensures acts { (v : Seen) → ShowsState self.old v → OnOk result (acts_shown acts.new ≡ seen_acts v (TakeStep at from able)) }
     {
         match self.held_parcel(at, from) {
-            Some(parcel) => self.take_held(at, from, parcel),
-            None => self.take_front(alloc, at, from, able),
+            Some(parcel) => self.take_held(at, from, parcel, acts),
+            None => self.take_front(alloc, at, from, able, acts),
         }
     }
 }

@@ -21,7 +21,7 @@ pub invariant_of-self : goal.invariant_of-self
 invariant_of-self c =
     let r = c.self.invariant.reached in
     record {
-      reached = (r.0, r.1, run_same c.self.inside.agenda c.self.inside.system c.do_job.new.system r.0 r.1 c.in_err-told.ensures.err r.2, r.3, puts_same c.self.inside.agenda c.self.inside.system c.do_job.new.system r.0 r.1 r.3 c.in_err-told.ensures.err r.4);
+      reached = (r.0, r.1, run_same c.self.inside.agenda c.self.inside.system c.do_job.new.system r.0 r.1 c.in_err-do_job.ensures.err r.2, r.3, puts_same c.self.inside.agenda c.self.inside.system c.do_job.new.system r.0 r.1 r.3 c.in_err-do_job.ensures.err r.4);
       size = c.do_job.ensures.size ∙ c.self.invariant.size;
       rows = c.self.invariant.rows;
     }
@@ -41,14 +41,14 @@ invariant_of-self-2 c =
     let move = c.advance.ensures in
     let opened = c.settle.ensures in
     let next = do_leads c.laws_of_runs.ensures a c.advance.new.self c.settle.new.agenda s c.do_job.new.system p c.in-Some.command c.args.give r.0 r.1 r.2 (few w r.0 r.1 r.2 p there) command on
-    (λ h begun says. c.in_ok-told.ensures.shows r.1.now h begun says) move.plan move.phase move.next move.others opened.plan opened.next opened.settled (c.do_job.ensures.size ∙ size) opened.numbered c.in_ok-told.ensures.tallies in
+    (λ h begun says. c.in_ok-do_job.ensures.shows r.1.now h begun says) move.plan move.phase move.next move.others opened.plan opened.next opened.settled (c.do_job.ensures.size ∙ size) opened.numbered c.in_ok-do_job.ensures.tallies in
     record {
       reached = (
         r.0,
         progress_after a.plan r.1 (Do p) c.args.give,
         next,
         tallies_after a.plan r.1 (Do p) c.args.give r.3,
-        do_puts c.laws_of_runs.ensures a c.settle.new.agenda s c.do_job.new.system p c.args.give r.0 r.1 r.3 (opened.plan ∙ move.plan) r.2 r.4 on next c.in_ok-told.ensures.tallies,
+        do_puts c.laws_of_runs.ensures a c.settle.new.agenda s c.do_job.new.system p c.args.give r.0 r.1 r.3 (opened.plan ∙ move.plan) r.2 r.4 on next c.in_ok-do_job.ensures.tallies,
       );
       size = c.do_job.ensures.size ∙ (size ∙ ap (λ (plan : Planned). length plan.names) (sym (opened.plan ∙ move.plan)));
       rows = c.self.invariant.rows;
@@ -71,14 +71,14 @@ returns-clause-made c =
     let on : (first : ℕ) (v : Progress) → Mirrors a s first v → enabled a.plan v (Do p) ≡ true = λ first v r. sym (enabled_is c.laws_of_runs.ensures w first v r (Do p)) ∙ enabled_if w (Do p) allowed in
     let leads : (first : ℕ) (v : Progress) → Mirrors a s first v → Mirrors b c.do_job.new.system first (progress_after a.plan v (Do p) c.args.give) =
     λ first v r. do_leads c.laws_of_runs.ensures a c.advance.new.self b s c.do_job.new.system p c.in-Some.command c.args.give first v r (few w first v r p there) command (on first v r)
-    (λ h begun says. c.in_ok-told.ensures.shows v.now h begun says) move.plan move.phase move.next move.others opened.plan opened.next opened.settled (c.do_job.ensures.size ∙ size) opened.numbered c.in_ok-told.ensures.tallies in
+    (λ h begun says. c.in_ok-do_job.ensures.shows v.now h begun says) move.plan move.phase move.next move.others opened.plan opened.next opened.settled (c.do_job.ensures.size ∙ size) opened.numbered c.in_ok-do_job.ensures.tallies in
     let same : (q : ℕ) → agenda_place b q ≡ agenda_place c.advance.new.self q = λ q. ap (λ (l : List ℕ). slice_index_or l q 0) opened.next in
-    subst (λ (z : World). MakesStep z (Do p) c.args.give c.in_ok-told.told (record { agenda = b; system = c.do_job.new.system; limit = c.self.inside.limit })) c.self.view_is
-    (makes_step c.laws_of_runs.ensures w (record { agenda = b; system = c.do_job.new.system; limit = c.self.inside.limit }) (Do p) c.args.give c.in_ok-told.told c.self.invariant.reached allowed (
+    subst (λ (z : World). MakesStep z (Do p) c.args.give c.do_job.new.acts (record { agenda = b; system = c.do_job.new.system; limit = c.self.inside.limit })) c.self.view_is
+    (makes_step c.laws_of_runs.ensures w (record { agenda = b; system = c.do_job.new.system; limit = c.self.inside.limit }) (Do p) c.args.give c.do_job.new.acts c.self.invariant.reached allowed (
       subst (λ (j : ℕ). IsNextOf a.plan.commands p (agenda_place a p + 1) j) (sym (same p)) (move.next (slice_get_within a.plan.commands (agenda_place a p) c.in-Some.command next)),
       λ q n. same q ∙ move.others q n,
     )
     (settles_from c.do_job.new.system a c.advance.new.self b move.phase opened.settled)
     leads
-    (λ first v r. do_acts c.laws_of_runs.ensures a s p c.in-Some.command c.args.give first v (acts_shown c.in_ok-told.told) r (few w first v r p there) command (on first v r) (λ h begun. c.in_ok-told.ensures.acts v.now h begun))
-    (λ first v put r y. do_puts c.laws_of_runs.ensures a b s c.do_job.new.system p c.args.give first v put (opened.plan ∙ move.plan) r y (on first v r) (leads first v r) c.in_ok-told.ensures.tallies))
+    (λ first v r. do_acts c.laws_of_runs.ensures a s p c.in-Some.command c.args.give first v (acts_shown c.do_job.new.acts) r (few w first v r p there) command (on first v r) (λ h begun. c.in_ok-do_job.ensures.acts v.now h begun))
+    (λ first v put r y. do_puts c.laws_of_runs.ensures a b s c.do_job.new.system p c.args.give first v put (opened.plan ∙ move.plan) r y (on first v r) (leads first v r) c.in_ok-do_job.ensures.tallies))

@@ -17,7 +17,7 @@ pub invariant_of-self : goal.invariant_of-self
 invariant_of-self c =
     let r = c.self.invariant.reached in
     record {
-      reached = (r.0, r.1, run_same c.self.inside.agenda c.self.inside.system c.take.new.self r.0 r.1 c.in_err-told.ensures.keeps.err r.2, r.3, puts_same c.self.inside.agenda c.self.inside.system c.take.new.self r.0 r.1 r.3 c.in_err-told.ensures.keeps.err r.4);
+      reached = (r.0, r.1, run_same c.self.inside.agenda c.self.inside.system c.take.new.self r.0 r.1 c.in_err-take.ensures.keeps.err r.2, r.3, puts_same c.self.inside.agenda c.self.inside.system c.take.new.self r.0 r.1 r.3 c.in_err-take.ensures.keeps.err r.4);
       size = c.take.ensures.keeps.size ∙ c.self.invariant.size;
       rows = c.self.invariant.rows;
     }
@@ -32,14 +32,14 @@ invariant_of-self-2 c =
     let opened = c.settle.ensures in
     let on = sym (enabled_is c.laws_of_runs.ensures w r.0 r.1 r.2 (Take c.args.at c.args.from)) ∙ enabled_if w (Take c.args.at c.args.from) allowed in
     let next = take_leads c.laws_of_runs.ensures a c.settle.new.agenda c.self.inside.system c.take.new.self c.args.at c.args.from c.args.give r.0 r.1 r.2 on
-    (λ h says. c.in_ok-told.ensures.shows r.1.now h says) opened.plan opened.next opened.settled (c.take.ensures.keeps.size ∙ size) opened.numbered c.in_ok-told.ensures.keeps.tallies in
+    (λ h says. c.in_ok-take.ensures.shows r.1.now h says) opened.plan opened.next opened.settled (c.take.ensures.keeps.size ∙ size) opened.numbered c.in_ok-take.ensures.keeps.tallies in
     record {
       reached = (
         r.0,
         progress_after a.plan r.1 (Take c.args.at c.args.from) c.args.give,
         next,
         tallies_after a.plan r.1 (Take c.args.at c.args.from) c.args.give r.3,
-        take_puts c.laws_of_runs.ensures a c.settle.new.agenda c.self.inside.system c.take.new.self c.args.at c.args.from c.args.give r.0 r.1 r.3 opened.plan r.2 r.4 on next c.in_ok-told.ensures.keeps.tallies,
+        take_puts c.laws_of_runs.ensures a c.settle.new.agenda c.self.inside.system c.take.new.self c.args.at c.args.from c.args.give r.0 r.1 r.3 opened.plan r.2 r.4 on next c.in_ok-take.ensures.keeps.tallies,
       );
       size = c.take.ensures.keeps.size ∙ (size ∙ ap (λ (plan : Planned). length plan.names) (sym opened.plan));
       rows = c.self.invariant.rows;
@@ -56,10 +56,10 @@ returns-clause-made c =
     λ first v r. sym (enabled_is c.laws_of_runs.ensures w first v r (Take c.args.at c.args.from)) ∙ enabled_if w (Take c.args.at c.args.from) allowed in
     let leads : (first : ℕ) (v : Progress) → Mirrors a c.self.inside.system first v → Mirrors c.settle.new.agenda c.take.new.self first (progress_after a.plan v (Take c.args.at c.args.from) c.args.give) =
     λ first v r. take_leads c.laws_of_runs.ensures a c.settle.new.agenda c.self.inside.system c.take.new.self c.args.at c.args.from c.args.give first v r (on first v r)
-    (λ h says. c.in_ok-told.ensures.shows v.now h says) opened.plan opened.next opened.settled (c.take.ensures.keeps.size ∙ size) opened.numbered c.in_ok-told.ensures.keeps.tallies in
-    subst (λ (z : World). MakesStep z (Take c.args.at c.args.from) c.args.give c.in_ok-told.told (record { agenda = c.settle.new.agenda; system = c.take.new.self; limit = c.self.inside.limit })) c.self.view_is
-    (makes_step c.laws_of_runs.ensures w (record { agenda = c.settle.new.agenda; system = c.take.new.self; limit = c.self.inside.limit }) (Take c.args.at c.args.from) c.args.give c.in_ok-told.told c.self.invariant.reached allowed
+    (λ h says. c.in_ok-take.ensures.shows v.now h says) opened.plan opened.next opened.settled (c.take.ensures.keeps.size ∙ size) opened.numbered c.in_ok-take.ensures.keeps.tallies in
+    subst (λ (z : World). MakesStep z (Take c.args.at c.args.from) c.args.give c.take.new.acts (record { agenda = c.settle.new.agenda; system = c.take.new.self; limit = c.self.inside.limit })) c.self.view_is
+    (makes_step c.laws_of_runs.ensures w (record { agenda = c.settle.new.agenda; system = c.take.new.self; limit = c.self.inside.limit }) (Take c.args.at c.args.from) c.args.give c.take.new.acts c.self.invariant.reached allowed
     opened.next opened.settled
     leads
-    (λ first v r. take_acts c.laws_of_runs.ensures a c.self.inside.system c.args.at c.args.from c.args.give first v (acts_shown c.in_ok-told.told) r (on first v r) (λ h. c.in_ok-told.ensures.acts v.now h))
-    (λ first v put r y. take_puts c.laws_of_runs.ensures a c.settle.new.agenda c.self.inside.system c.take.new.self c.args.at c.args.from c.args.give first v put opened.plan r y (on first v r) (leads first v r) c.in_ok-told.ensures.keeps.tallies))
+    (λ first v r. take_acts c.laws_of_runs.ensures a c.self.inside.system c.args.at c.args.from c.args.give first v (acts_shown c.take.new.acts) r (on first v r) (λ h. c.in_ok-take.ensures.acts v.now h))
+    (λ first v put r y. take_puts c.laws_of_runs.ensures a c.settle.new.agenda c.self.inside.system c.take.new.self c.args.at c.args.from c.args.give first v put opened.plan r y (on first v r) (leads first v r) c.in_ok-take.ensures.keeps.tallies))

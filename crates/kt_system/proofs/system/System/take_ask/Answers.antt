@@ -4,7 +4,6 @@ use Rattle.kt_base.specs.declared.words.Kind.{Kind}
 use Rattle.kt_cuts.specs.Past.{is_rollback_kind}
 use Rattle.kt_seen.specs.Transition.{seen_ask}
 use Rattle.kt_system.specs.Shown.{ShowsState}
-use Rattle.std.specs.Prelude.{IfOk}
 use Rattle.kt_values.specs.SeenActs.{seen_acts_asked}
 use Rattle.kt_system.specs.ShownActs.{acts_shown}
 use Rattle.kt_system.proofs.system.System.take_ask.Goals as goal
@@ -16,10 +15,10 @@ returns-in-Rollback-clause-shows c = λ v h.
 
 pub returns-in-Checkpoint-clause-acts : goal.returns-in-Checkpoint-clause-acts
 returns-in-Checkpoint-clause-acts c = λ v h.
-    subst (λ (k : Kind). IfOk c.take_ask_to_save.result (λ acts. acts_shown acts ≡ seen_acts_asked v c.args.at c.args.from c.args.able c.args.inst (is_rollback_kind (Some k)) c.args.label)) (sym c.in-Checkpoint.is)
+    subst (λ (k : Kind). OnOk c.take_ask_to_save.result (acts_shown c.take_ask_to_save.new.acts ≡ seen_acts_asked v c.args.at c.args.from c.args.able c.args.inst (is_rollback_kind (Some k)) c.args.label)) (sym c.in-Checkpoint.is)
     (c.take_ask_to_save.ensures.acts v h)
 
 pub returns-in-Rollback-clause-acts : goal.returns-in-Rollback-clause-acts
 returns-in-Rollback-clause-acts c = λ v h.
-    subst (λ (k : Kind). IfOk c.take_ask_to_roll.result (λ acts. acts_shown acts ≡ seen_acts_asked v c.args.at c.args.from c.args.able c.args.inst (is_rollback_kind (Some k)) c.args.label)) (sym c.in-Rollback.is)
+    subst (λ (k : Kind). OnOk c.take_ask_to_roll.result (acts_shown c.take_ask_to_roll.new.acts ≡ seen_acts_asked v c.args.at c.args.from c.args.able c.args.inst (is_rollback_kind (Some k)) c.args.label)) (sym c.in-Rollback.is)
     (c.take_ask_to_roll.ensures.acts v c.args.able h)

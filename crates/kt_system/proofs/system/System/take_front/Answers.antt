@@ -6,7 +6,6 @@ use Rattle.kt_seen.specs.Transition.{seen_front}
 use Rattle.kt_system.specs.Systems.{Whole}
 use Rattle.kt_system.specs.Shown.{ShowsState}
 use Rattle.kt_system.proofs.Taking.{front_is}
-use Rattle.std.specs.Prelude.{IfOk}
 use Rattle.std.specs.Prelude.{ℤ, if◌then◌else◌}
 use Rattle.std.specs.Int.{w64}
 use Rattle.std.proofs.Common.{[], rules}
@@ -51,5 +50,5 @@ returns-in-App-clause-acts c = λ v h.
     let got : slice_get (v.channel from at) 0 ≡ Some c.in-Some.parcel = ap (λ (f : SeenLists). slice_get (f from at) 0) (sym i.channels) ∙ (sym c.front.ensures ∙ (sym c.copied.ensures ∙ c.in-Some.is)) in
     let list = front_is (v.channel from at) c.in-Some.parcel got ∙ ap (λ (x : Parcel). x ∷ drop 1 (v.channel from at)) c.in-App.is in
     let fits = to_z-of_z w64 c.in-App.body (search rules) in
-    let told = subst (λ (z : ℤ). IfOk c.take_message.result (λ acts. acts_shown acts ≡ (if is_seen_ready v at then [] else seen_acts_arriving v at from z))) fits (c.take_message.ensures.acts v h) in
-    subst (λ (l : List Parcel). IfOk c.take_message.result (λ acts. acts_shown acts ≡ seen_acts_taking v at from c.args.able l)) (sym list) told
+    let told = subst (λ (z : ℤ). OnOk c.take_message.result (acts_shown c.take_message.new.acts ≡ (if is_seen_ready v at then [] else seen_acts_arriving v at from z))) fits (c.take_message.ensures.acts v h) in
+    subst (λ (l : List Parcel). OnOk c.take_message.result (acts_shown c.take_message.new.acts ≡ seen_acts_taking v at from c.args.able l)) (sym list) told
