@@ -1,8 +1,8 @@
 -- What a write at one pair's place changes.
 use Rattle.std.specs.Prelude.{nat_eq, ◌&&◌, if◌then◌else◌, slice_index}
-use Rattle.std.proofs.Common.{◌≡◌, ◌≢◌, ℕ, ◌+◌, ◌-◌, ◌*◌, ◌≤◌, ◌<◌, Bool, true, false, List, [], ◌∷◌, ◌++◌, length, set, get_or, refl, arith, sym, ap, subst, ◌∙◌, inl, inr}
+use Rattle.std.proofs.Common.{◌≡◌, ◌≢◌, ℕ, ◌+◌, ◌-◌, ◌*◌, ◌≤◌, ◌<◌, Bool, true, false, List, [], ◌∷◌, ◌++◌, length, drop, set, get_or, refl, arith, sym, ap, subst, ◌∙◌, inl, inr}
 use Rattle.std.proofs.Math.Path.{fun_ext}
-use Rattle.std.proofs.lemmas.List.{length-set, get_or-set_same, get_or-set_other, get_or_default}
+use Rattle.std.proofs.lemmas.List.{length-set, get_or-set_same, get_or-set_other, get_or_default, set-get_or}
 use Rattle.std.proofs.lemmas.Bool.Decides.{nat_tests}
 use Rattle.std.proofs.lemmas.Bool.{cases_lt, cases_eq}
 use Rattle.std.proofs.lemmas.Grind.{get_or-set_at}
@@ -191,6 +191,25 @@ wired_written w senders counts new receivers from to i r s t f y k h it read her
       none = none;
       apart = apart;
     }) counted same_counts)
+
+-- where a list has a parcel still, no sender goes
+pub wired_left : (w : ChannelLists) (senders counts : List ℕ) (receivers from to i : ℕ) (x y : Queue) → IsWired w senders counts receivers → IsPlace w from to i →
+    x ≡ get_or w.queues i x → y.parcels ≡ drop 1 x.parcels → has_parcel y.parcels ≡ true → IsWired (written w i y) senders counts receivers
+wired_left w senders counts receivers from to i x y k h read rest still =
+    let before = had_parcel x.parcels (ap has_parcel (sym rest) ∙ still) in
+    let here : has (slice_index senders to) from ≡ true = k.exact from to h.to_in ∙ (ap (λ (q : Queue). has_parcel q.parcels) (queue_read w from to i x h read) ∙ before) in
+    subst (λ (l : List ℕ). IsWired (written w i y) l counts receivers) (set-get_or senders to 0)
+    (noted_written w senders counts counts receivers from to i (slice_index senders to) receivers y k h (record {
+      here = here ∙ sym still;
+      others = λ p n. refl;
+      some = λ e. (from, here);
+      none = λ e p. k.exact p to h.to_in ∙ ap has_parcel (k.none p to e);
+      apart = λ q n. refl;
+    }) (k.counted to h.to_in) (λ q n. refl))
+  where
+    had_parcel : (l : List Parcel) → has_parcel (drop 1 l) ≡ true → has_parcel l ≡ true
+    had_parcel [] e = e
+    had_parcel (x ∷ xs) e = refl
 
 -- the place that the code finds
 pub place_of : (w v : ChannelLists) (from to i : ℕ) → w ≡ v → length w.queues ≡ w.processes * w.processes → from < v.processes → to < v.processes → i ≡ from * v.processes + to → IsPlace w from to i

@@ -265,10 +265,12 @@ impl Channels {
         let place = self.place(from, to);
         let fifo = &mut self.fifos[place];
         let parcel = fifo.pop();
-        let waits = fifo.has_parcel();
+        if fifo.has_parcel() {
+            return parcel;
+        }
         let receiver = to.get() as usize;
         let before = self.senders[receiver];
-        let senders = noted(before, from, waits);
+        let senders = before.without(from);
         self.senders[receiver] = senders;
         note_count(&mut self.counts, to, from, before, senders);
         note_receiver(&mut self.receivers, to, senders);
