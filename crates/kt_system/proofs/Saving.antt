@@ -1,19 +1,42 @@
 -- Which parcel comes next, and which make a process take its tentative checkpoint.
-use Rattle.std.specs.Prelude.{◌&&◌, Option, Some, None, if◌then◌else◌, is_none, slice_get}
+use Rattle.std.specs.Prelude.{◌&&◌, not, Option, Some, None, if◌then◌else◌, is_none, slice_get}
 use Rattle.std.specs.Option.{option_or, option_map_or}
-use Rattle.std.proofs.Common.{◌≡◌, ℕ, Bool, true, false, refl, ap, ◌∙◌}
+use Rattle.std.proofs.Common.{◌≡◌, ℕ, Bool, true, false, List, [], ◌∷◌, refl, ap, ◌∙◌}
 use Rattle.kt_base.specs.declared.words.Kind.TheVariants as kind
 use Rattle.kt_fifo.specs.Channels.{channel}
+use Rattle.kt_fifo.specs.Queues.{has_parcel}
 use Rattle.kt_fifo.specs.declared.parcels.Parcel.{Parcel}
 use Rattle.kt_fifo.specs.declared.parcels.Parcel.TheVariants.{App, Ask, Reply, Decide}
 use Rattle.kt_process.specs.ProcessStates.{ProcessState, is_ready, inst_of}
 use Rattle.kt_system.specs.Systems.{Whole, state_of}
-use Rattle.kt_system.specs.Reads.{next_parcel, saves_by, would_save}
+use Rattle.kt_system.specs.Takes.{is_held}
+use Rattle.kt_system.specs.Reads.{held_parcel, next_parcel, saves_by, would_save}
 
--- in a rollback a process takes what is sent
-pub next_ready : (w : Whole) (at from : ℕ) → is_ready (state_of w at).side ≡ true → next_parcel w at from ≡ slice_get (channel w.channels from at) 0
+none_off : (b : Bool) → (not b && false) ≡ false
+none_off true = refl
+none_off false = refl
+
+-- where nothing is held for any process, none takes what is held for it
+pub none_held : (w : Whole) (at from : ℕ) → channel w.held from at ≡ [] → is_held w at from ≡ false
+none_held w at from e = ap (λ (l : List Parcel). not (is_ready (state_of w at).side) && has_parcel l) e ∙ none_off (is_ready (state_of w at).side)
+
+-- nor does a process in a rollback
+pub ready_held : (w : Whole) (at from : ℕ) → is_ready (state_of w at).side ≡ true → is_held w at from ≡ false
+ready_held w at from e = ap (λ (b : Bool). not b && has_parcel (channel w.held from at)) e
+
+no_front : (b : Bool) (l : List Parcel) → (not b && has_parcel l) ≡ false → (if b then None else slice_get l 0) ≡ None
+no_front true l e = refl
+no_front false [] e = refl
+no_front false (x ∷ xs) e = absurd (cc (e))
+
+-- who does not has no first parcel that is held
+pub held_unheld : (w : Whole) (at from : ℕ) → is_held w at from ≡ false → held_parcel w at from ≡ None
+held_unheld w at from e = no_front (is_ready (state_of w at).side) (channel w.held from at) e
+
+-- and takes what is sent
+pub next_unheld : (w : Whole) (at from : ℕ) → is_held w at from ≡ false → next_parcel w at from ≡ slice_get (channel w.channels from at) 0
 unfolding next_parcel
-next_ready w at from e = ap (λ (b : Bool). option_or (if b then None else slice_get (channel w.held from at) 0) (slice_get (channel w.channels from at) 0)) e
+next_unheld w at from e = ap (λ (o : Option Parcel). option_or o (slice_get (channel w.channels from at) 0)) (held_unheld w at from e)
 
 -- else what is held for it
 pub next_held : (w : Whole) (at from : ℕ) (y : Parcel) → is_ready (state_of w at).side ≡ false → slice_get (channel w.held from at) 0 ≡ Some y → next_parcel w at from ≡ Some y

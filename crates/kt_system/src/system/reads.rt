@@ -8,6 +8,7 @@ ghost use Rattle.kt_fifo.specs.Channels.{channel};
 ghost use Rattle.kt_process.specs.ProcessStates.{ProcessState, part_of_side, is_ready, inst_of, IsNumbered};
 ghost use Rattle.kt_process.specs.Turns.{joins_by};
 ghost use Rattle.kt_system.specs.Systems.{state_of};
+ghost use Rattle.kt_system.specs.Takes.{is_held};
 ghost use Rattle.kt_system.specs.Reads.{tally_of, awaited_of, held_parcel, next_parcel, can_take, saves_by, would_save, IsQuietSystem};
 
 use super::{System, Tally};
@@ -111,6 +112,22 @@ impl System {
         }
     }
 
+    /// Whether a process takes what is held for it: it is in no rollback, and something is held. Mostly nothing is held for
+    /// any process, which is asked first.
+    #[tactic(auto, using(crate::proofs::Saving::ready_held))]
+    pub(super) fn takes_held(&self, at: ProcNo) -> bool
+        requires { at < self.now.size }
+        ensures some { result ≡ true → is_ready (state_of self.now at).side ≡ false }
+        ensures none { result ≡ false → (from : ℕ) → is_held self.now at from ≡ false }
+        ensures numbered { IsNumbered (part_of_side (state_of self.now at).side) }
+    {
+        let _count = self.processes();
+        if self.holds_none() {
+            return false;
+        }
+        !self.is_ready(at)
+    }
+
     /// The first parcel of another process that is held for this one, where it is in no rollback.
     pub(super) fn held_parcel(&self, at: ProcNo, from: ProcNo) -> Option<Parcel>
         requires at { at < self.now.size }
@@ -118,7 +135,7 @@ impl System {
         ensures parcel { result ≡ held_parcel self.now at from }
         ensures numbered { IsNumbered (part_of_side (state_of self.now at).side) }
     {
-        if self.is_ready(at) {
+        if !self.takes_held(at) {
             return None;
         }
         self.held.front(from, at).copied()
@@ -135,13 +152,13 @@ impl System {
     }
 
     /// The parcel that a process would take next from another one, where it lies.
-    #[tactic(auto, using(crate::proofs::Saving::next_ready, crate::proofs::Saving::next_held, crate::proofs::Saving::next_sent))]
+    #[tactic(auto, using(crate::proofs::Saving::next_unheld, crate::proofs::Saving::next_held, crate::proofs::Saving::next_sent))]
     fn next_front(&self, at: ProcNo, from: ProcNo) -> Option<&Parcel>
         requires at { at < self.now.size }
         requires from { from < self.now.size }
         ensures { option_copied result ≡ next_parcel self.now at from }
     {
-        if self.is_ready(at) {
+        if !self.takes_held(at) {
             return self.channels.front(from, at);
         }
         match self.held.front(from, at) {

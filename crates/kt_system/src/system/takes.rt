@@ -60,7 +60,7 @@ impl System {
         ensures held { (q : ℕ) → has result q ≡ is_held self.now at q }
         ensures within { (q : ℕ) → has result q ≡ true → q < self.now.size }
     {
-        if self.is_ready(at) {
+        if !self.takes_held(at) {
             return ProcSet::empty();
         }
         self.held.senders(at)
