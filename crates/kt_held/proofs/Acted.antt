@@ -7,7 +7,7 @@ use Rattle.kt_object.proofs.SavedOnce.{kind_once, value_once}
 use Rattle.kt_plan.specs.declared.steps.Act.{Act}
 use Rattle.kt_plan.specs.declared.steps.Act.TheVariants.{Nothing, Apply, Keep, Promote, Discard, Restore, Drop}
 use Rattle.kt_held.specs.Holdings.{Content, content, Holding, applied, does, does_all, AreSaved, Holds}
-use Rattle.kt_held.specs.Fits.{ActLeads, fits, fits_all, is_up_after, has_tentative_after, is_saved_after, spares_of, spares_of_all}
+use Rattle.kt_held.specs.Fits.{Outline, ActLeads, fits, fits_all, is_up_after, has_tentative_after, is_saved_after, spares_of, spares_of_all}
 
 -- these bytes are a saved state of this content
 abbrev IsSaved : Content → List ℕ → Type 0
@@ -143,6 +143,13 @@ both_fit acts a b up tentative saved up' tentative' spares left is n one two sam
     (subst (λ (t : Bool). fits (record { up = is_up_after up a; tentative = t; saved = is_saved_after saved a; spares = left }) b ≡ true) same_tentative
     (subst (λ (u : Bool). fits (record { up = u; tentative = tentative'; saved = is_saved_after saved a; spares = left }) b ≡ true) same_up
     (subst (λ (k : Bool). fits (record { up = up'; tentative = tentative'; saved = k; spares = left }) b ≡ true) (sym (used_up saved a n)) two)))) refl))
+
+-- nothing leads nowhere, and fits always
+pub idle_leads : (a : Act) (v : Option Content) (d : SavedStates) → a ≡ Nothing → ActLeads a v d v d
+idle_leads a v d e = subst (λ (a : Act). ActLeads a v d v d) (sym e) (refl, refl)
+
+pub idle_fits : (a : Act) (o : Outline) → a ≡ Nothing → fits o a ≡ true
+idle_fits a o e = ap (fits o) e
 
 -- where the first is nothing, the second alone
 module _ (acts : List Act) (a b : Act) (is : acts ≡ a ∷ b ∷ []) (nothing : a ≡ Nothing) where

@@ -308,6 +308,9 @@ impl Held {
             return self.act(second, saved);
         }
         self.act(first, saved)?;
+        if is_nothing(&second) {
+            return Ok(());
+        }
         self.act(second, None)?;
         Ok(())
     }

@@ -3,7 +3,7 @@ use Rattle.std.specs.Prelude.{Result, Ok, Err, OnErr, OnOk}
 use Rattle.kt_held.specs.Fits.{is_up_after}
 use Rattle.kt_held.specs.Refusals.{held_objects}
 use Rattle.kt_held.proofs.Rejected.{rejected_first, rejected_after}
-use Rattle.kt_held.proofs.Acted.{both_done, one_done, second_done, is_some-map, leads_up, leads_tentative, both_fit, two_of}
+use Rattle.kt_held.proofs.Acted.{both_done, one_done, second_done, idle_leads, idle_fits, is_some-map, leads_up, leads_tentative, both_fit, two_of}
 use Rattle.kt_held.proofs.held.Held.obey.Goals as goal
 
 on_err : {T E : Type 0} (r : Result T E) (P : Type 0) → P → OnErr r P
@@ -27,6 +27,22 @@ returns-clause-fits g c =
     let first = get_or acts 0 c.index-acts-0.result in
     let is = two_of acts c.index-acts-0.result c.index-acts-1.result (omega arith) in
     both_fit acts _ _ _ _ _ _ _ _ _ is (c.is_nothing.ensures.no c.if-is_nothing.false) c.in_ok-act.ensures.fits c.in_ok-act-2.ensures.fits
+    (sym (is_some-map _ c.act-2.new.self.present) ∙ (leads_up first _ _ _ _ c.in_ok-act.ensures.leads ∙ ap (λ (up : Bool). is_up_after up first) (is_some-map _ c.args.self.now.present)))
+    (leads_tentative first _ _ _ _ c.in_ok-act.ensures.leads)
+    (ap length c.in_ok-act.ensures.spares ∙ length-drop _ c.args.self.now.spares.items)
+
+pub returns-then-is_nothing-2-clause-does : goal.returns-then-is_nothing-2-clause-does
+returns-then-is_nothing-2-clause-does g c =
+    let is = two_of c.args.acts c.index-acts-0.result c.index-acts-1.result (omega arith) in
+    let idle = idle_leads (get_or c.args.acts 1 c.index-acts-1.result) _ _ (c.is_nothing-2.ensures.yes c.if-is_nothing-2.true) in
+    λ h held. both_done c.args.acts _ _ h _ _ _ _ _ _ is c.in_ok-act.ensures.leads idle held
+
+pub returns-then-is_nothing-2-clause-fits : goal.returns-then-is_nothing-2-clause-fits
+returns-then-is_nothing-2-clause-fits g c =
+    let acts = c.args.acts in
+    let first = get_or acts 0 c.index-acts-0.result in
+    let is = two_of acts c.index-acts-0.result c.index-acts-1.result (omega arith) in
+    both_fit acts _ _ _ _ _ _ _ _ _ is (c.is_nothing.ensures.no c.if-is_nothing.false) c.in_ok-act.ensures.fits (idle_fits (get_or acts 1 c.index-acts-1.result) _ (c.is_nothing-2.ensures.yes c.if-is_nothing-2.true))
     (sym (is_some-map _ c.act-2.new.self.present) ∙ (leads_up first _ _ _ _ c.in_ok-act.ensures.leads ∙ ap (λ (up : Bool). is_up_after up first) (is_some-map _ c.args.self.now.present)))
     (leads_tentative first _ _ _ _ c.in_ok-act.ensures.leads)
     (ap length c.in_ok-act.ensures.spares ∙ length-drop _ c.args.self.now.spares.items)
