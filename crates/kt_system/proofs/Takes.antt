@@ -86,6 +86,14 @@ pub first_sender : (w : Whole) (at : ℕ) (a b : Option ℕ) → IsFirstNumber (
 first_sender w at a b x y = first_of_either (λ from. is_sent w at from ≡ true) (λ from. is_held w at from ≡ true) (λ from. can_take w at from ≡ true) a b
     (λ n s. if_sent w at n s) (λ n s. if_held w at n s) (λ n s. either w at n s) x y
 
+alone_is : (a : Option ℕ) → lesser a None ≡ a
+alone_is None = refl
+alone_is (Some m) = refl
+
+-- where none is held that one can take, the first of those that are sent
+pub first_sent : (w : Whole) (at : ℕ) (a : Option ℕ) → ((from : ℕ) → is_held w at from ≡ false) → IsFirstNumber (λ from. is_sent w at from ≡ true) a → IsFirstNumber (λ from. can_take w at from ≡ true) a
+first_sent w at a none x = subst (λ (o : Option ℕ). IsFirstNumber (λ from. can_take w at from ≡ true) o) (alone_is a) (first_sender w at a None x (λ from e. cc (none from, e)))
+
 pub lesser_within : (n : ℕ) (a b : Option ℕ) → IfSome a (λ p. p < n) → IfSome b (λ p. p < n) → IfSome (lesser a b) (λ p. p < n)
 lesser_within n None b x y = y
 lesser_within n (Some p) None x y = x

@@ -72,7 +72,11 @@ impl System {
         ensures within { IfSome result (λ from. from < self.now.size) }
         ensures first { IsFirstNumber (λ from. can_take self.now at from ≡ true) result }
     {
-        least(self.senders(at).first(), self.held_senders(at).first())
+        let sent = self.senders(at).first();
+        if !self.takes_held(at) {
+            return sent;
+        }
+        least(sent, self.held_senders(at).first())
     }
 
     /// The processes from which one can take a parcel.
