@@ -12,7 +12,7 @@ use kt_base::{Cause, InstNo, Memory, MsgNo, ProcNo, Verb};
 use kt_spacetime::{Event, SpaceTime};
 use kt_text::WriteFault;
 use kt_text::fields::{decision_text, kind_text};
-use kt_text::pieces::{push_field, write_full, write_rest};
+use kt_text::pieces::{push_decimal, push_field, write_full, write_rest};
 use std::alloc::Global;
 use std::io::Write;
 
@@ -149,10 +149,8 @@ fn push_process(text: &mut Vec<u8>, word: &[u8], p: ProcNo) -> Result<(), Memory
 fn push_number(text: &mut Vec<u8>, number: u32) -> Result<(), Memory>
     ensures { OnOk result (text.new.items ≡ text.old.items ++ 44 ∷ decimal number) }
 {
-    let mut digits = itoa::Buffer::new();
     text.push(b',')?;
-    text.extend_from_slice(digits.format(number).as_bytes())?;
-    Ok(())
+    push_decimal(text, number)
 }
 
 // A comma and a cause.
@@ -174,10 +172,8 @@ fn push_cause(text: &mut Vec<u8>, cause: Cause) -> Result<(), Memory>
 fn push_busy(text: &mut Vec<u8>, inst: InstNo) -> Result<(), Memory>
     ensures { OnOk result (text.new.items ≡ text.old.items ++ 44 ∷ cause_word (Busy inst)) }
 {
-    let mut instance = itoa::Buffer::new();
     push_field(text, b"busy-")?;
-    text.extend_from_slice(instance.format(inst.get()).as_bytes())?;
-    Ok(())
+    push_decimal(text, u32::from(inst.get()))
 }
 
 fn verb_text(verb: Verb) -> &'static [u8]
