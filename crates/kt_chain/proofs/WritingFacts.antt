@@ -1,28 +1,44 @@
 -- Texts gathered and written piece by piece.
-use Rattle.std.proofs.Common.{◌≡◌, ◌∙◌, ◌<◌, ◌≤◌, ◌+◌, ℕ, List, [], ◌∷◌, ◌++◌, length, refl, sym, ap, subst, take, drop, get_or, Option, append_assoc, add-one}
-use Rattle.std.proofs.lemmas.List.{take_more, take_all, map-append, append-nil, take-append-drop}
+use Rattle.std.proofs.Common.{◌≡◌, ◌∙◌, ◌<◌, ◌≤◌, ◌+◌, ◌-◌, ℕ, List, [], ◌∷◌, ◌++◌, length, refl, sym, ap, subst, take, drop, get_or, Option, append_assoc, add-one, arith}
+use Rattle.std.proofs.lemmas.List.{take_more, take_all, flat_map_more, length-drop, map-append, append-nil, take-append-drop}
 use Rattle.std.proofs.lemmas.List.Concat.{flat_map-append}
 use Rattle.std.specs.Fmt.{decimal}
 use Rattle.std.specs.Io.{StartsWith}
 use Rattle.kt_text.specs.Writing.{line_of, text_of, Sends, WritesFront}
 use Rattle.kt_text.proofs.PieceFacts.{sends_more, sends_gathered, sends_nothing, text_more, starts, items_more, front_after, front_last, records_front}
 use Rattle.kt_chain.specs.declared.certificate.Certificate.{Certificate}
-use Rattle.kt_chain.specs.Spelling.{Member, instance_record, member_record, certificate_records, records_of, chain_word}
+use Rattle.kt_chain.specs.Spelling.{Member, instance_record, member_record, certificate_records, records_of, chain_word, marked}
 
--- a chain with one more number
-chain_more : (first : ℕ) (others : List ℕ) (msg : ℕ) → chain_word (first ∷ (others ++ msg ∷ [])) ≡ chain_word (first ∷ others) ++ 47 ∷ decimal msg
-chain_more first [] msg = refl
-chain_more first (next ∷ others) msg = ap (λ (x : List ℕ). decimal first ++ 47 ∷ x) (chain_more next others msg) ∙ sym (append_assoc (decimal first) (47 ∷ chain_word (next ∷ others)) (47 ∷ decimal msg))
+-- the numbers of a chain joined by marks are its marked numbers without the first mark
+chain_marked : (first : ℕ) (others : List ℕ) → chain_word (first ∷ others) ≡ decimal first ++ marked others
+chain_marked first [] = sym (append-nil (decimal first))
+chain_marked first (next ∷ others) = ap (λ (x : List ℕ). decimal first ++ 47 ∷ x) (chain_marked next others)
 
--- one more number of a chain is gathered
-pub gathers_number : (text old new messages others : List ℕ) (first i msg : ℕ) → messages ≡ first ∷ others → i < length others → get_or others i msg ≡ msg → old ≡ text ++ 44 ∷ chain_word (take (i + 1) messages)
-    → new ≡ old ++ 47 ∷ decimal msg → new ≡ text ++ 44 ∷ chain_word (take (i + 1 + 1) messages)
-gathers_number text old new messages others first i msg e within at was more =
-    let before : take (i + 1) messages ≡ first ∷ take i others = rw (e, add-one i) refl in
-    let after : take (i + 1 + 1) messages ≡ first ∷ take (i + 1) others = rw (e, add-one (i + 1)) refl in
-    let step : take (i + 1) others ≡ take i others ++ msg ∷ [] = take_more others i msg within ∙ ap (λ (m : ℕ). take i others ++ m ∷ []) at in
-    more ∙ ap (λ (x : List ℕ). x ++ 47 ∷ decimal msg) (was ∙ ap (λ (x : List ℕ). text ++ 44 ∷ chain_word x) before) ∙ append_assoc text (44 ∷ chain_word (first ∷ take i others)) (47 ∷ decimal msg)
-    ∙ ap (λ (x : List ℕ). text ++ 44 ∷ x) (sym (chain_more first (take i others) msg)) ∙ ap (λ (x : List ℕ). text ++ 44 ∷ chain_word x) (sym (after ∙ ap (λ (x : List ℕ). first ∷ x) step))
+pub word_marked : (messages : List ℕ) → 0 < length messages → chain_word messages ≡ drop 1 (marked messages)
+word_marked [] some = absurd (omega (arith, some))
+word_marked (first ∷ others) some = chain_marked first others
+
+-- there is a mark before the first number
+pub marks_first : (messages : List ℕ) → 0 < length messages → 1 ≤ length (marked messages)
+marks_first [] some = absurd (omega (arith, some))
+marks_first (first ∷ others) some = omega arith
+
+-- one more number is marked
+pub marks_more : (text messages old new : List ℕ) (i msg : ℕ) → i < length messages → get_or messages i msg ≡ msg
+    → old ≡ text ++ marked (take i messages) → new ≡ old ++ 47 ∷ decimal msg → new ≡ text ++ marked (take (i + 1) messages)
+marks_more text messages old new i msg within at was more =
+    let step : take (i + 1) messages ≡ take i messages ++ msg ∷ [] = take_more messages i msg within ∙ ap (λ (m : ℕ). take i messages ++ m ∷ []) at in
+    more ∙ ap (λ (x : List ℕ). x ++ 47 ∷ decimal msg) was ∙ flat_map_more (λ (m : ℕ). 47 ∷ decimal m) text (take i messages) msg
+    ∙ ap (λ (x : List ℕ). text ++ marked x) (sym step)
+
+-- the numbers of a chain are those of one that it goes on from, and the others
+pub marks_on : (told messages old new : List ℕ) → messages ≡ told ++ drop (length told) messages → old ≡ marked told
+    → new ≡ old ++ marked (take (length messages - length told) (drop (length told) messages)) → new ≡ marked messages
+marks_on told messages old new on was more =
+    let rest = drop (length told) messages in
+    let all : take (length messages - length told) rest ≡ rest = take_all (length messages - length told) rest (omega (arith, length-drop (length told) messages)) in
+    more ∙ ap (λ (x : List ℕ). old ++ marked x) all ∙ ap (λ (x : List ℕ). x ++ marked rest) was
+    ∙ sym (flat_map-append (λ (m : ℕ). 47 ∷ decimal m) told rest) ∙ ap marked (sym on)
 
 -- the records of a certificate with some of its members
 abbrev pub records_to : Certificate → List Member → List (List (List ℕ))

@@ -15,6 +15,10 @@ abbrev pub chain_word : List ℕ → List ℕ
 chain_word [] = codes "-"
 chain_word (msg ∷ messages) = join_with_byte 47 (map decimal (msg ∷ messages))
 
+-- the numbers of some messages, with a `/` before each
+abbrev pub marked : List ℕ → List ℕ
+marked messages = flat_map (λ (msg : ℕ). 47 ∷ decimal msg) messages
+
 -- the record of an instance: its number, its kind, its initiator and how it was decided
 abbrev pub instance_record : Certificate → List (List ℕ)
 instance_record c = codes "cert" ∷ decimal c.inst ∷ kind_word c.kind ∷ decimal c.initiator ∷ decision_word c.commit ∷ []

@@ -1,16 +1,16 @@
 //! Certificates written as text.
 
-ghost use Rattle.std.specs.Prelude.{◌≡◌, ◌<◌, [], ◌∷◌, ◌++◌, codes, map, length, All, OnOk, OnErr};
+ghost use Rattle.std.specs.Prelude.{◌≡◌, ◌<◌, ◌≤◌, [], ◌∷◌, ◌++◌, codes, drop, map, length, All, IfOk, OnOk, OnErr};
 ghost use Rattle.std.specs.Io.KnownBytes.{Appends};
 ghost use Rattle.std.specs.Fmt.{decimal};
 ghost use Rattle.kt_text.specs.Writing.{Sends, WritesFront, line_of, text_of};
-ghost use Rattle.kt_chain.specs.Spelling.{Member, instance_record, member_record, certificate_records, records_of, chain_word, HasShortChains};
+ghost use Rattle.kt_chain.specs.Spelling.{Member, instance_record, member_record, certificate_records, records_of, chain_word, marked, HasShortChains};
 
 use crate::certificate::{Certificate, Chain};
 use kt_base::{InstNo, Memory, MsgNo, ProcNo};
 use kt_text::WriteFault;
 use kt_text::fields::{decision_text, kind_text};
-use kt_text::pieces::{push_field, write_full, write_rest};
+use kt_text::pieces::{push_decimal, push_field, write_full, write_rest};
 use std::alloc::Global;
 use std::io::Write;
 
@@ -30,15 +30,17 @@ pub fn write_certs<W: Write>(
         (text_of (records_of certificates.now))) }
 {
     let mut text = Vec::new(alloc);
+    let mut words = Vec::new(alloc);
     for certificate in certificates {
-        write_certificate(&mut text, certificate, writer)?;
+        write_certificate(&mut text, &mut words, certificate, writer)?;
     }
     write_rest(&mut text, writer)
 }
 
-// Writes or gathers the records of a certificate.
+// Writes or gathers the records of a certificate. What is in the list of words before counts for nothing.
 fn write_certificate<W: Write>(
     text: &mut Vec<u8>,
+    words: &mut Vec<u8>,
     certificate: &Certificate,
     writer: &mut W,
 ) -> Result<(), WriteFault>
@@ -48,9 +50,11 @@ fn write_certificate<W: Write>(
         (text.old.items ++ text_of (certificate_records certificate.now))) }
 {
     push_instance(text, certificate)?;
+    words.clear();
+    let mut told: &[MsgNo] = &[];
     for member in certificate.members.list() {
         write_full(text, writer)?;
-        push_member(text, certificate.inst, member)?;
+        told = push_member(text, words, told, certificate.inst, member)?;
     }
     write_full(text, writer)
 }
@@ -68,10 +72,18 @@ fn push_instance(text: &mut Vec<u8>, certificate: &Certificate) -> Result<(), Me
     Ok(())
 }
 
-// The record of a member.
-fn push_member(text: &mut Vec<u8>, inst: InstNo, member: &(ProcNo, Chain)) -> Result<(), Memory>
-    requires { length member.now.1 < 64 }
-    ensures { OnOk result (text.new.items ≡ text.old.items ++ line_of (member_record inst member.now)) }
+// The record of a member. The words are those of a chain that was told, and then of the one that is answered.
+fn push_member<'a>(
+    text: &mut Vec<u8>,
+    words: &mut Vec<u8>,
+    told: &'a [MsgNo],
+    inst: InstNo,
+    member: &'a (ProcNo, Chain),
+) -> Result<&'a [MsgNo], Memory>
+    requires few { length member.now.1 < 64 }
+    requires words { words.old.items ≡ marked told.now }
+    ensures record { OnOk result (text.new.items ≡ text.old.items ++ line_of (member_record inst member.now)) }
+    ensures words { IfOk result (λ told. words.new.items ≡ marked told.now) }
 {
     let (process, chain) = member;
     let messages = chain.messages();
@@ -79,21 +91,67 @@ fn push_member(text: &mut Vec<u8>, inst: InstNo, member: &(ProcNo, Chain)) -> Re
     push_number(text, b',', u32::from(inst.get()))?;
     push_number(text, b',', u32::from(process.get()))?;
     push_number(text, b',', messages.len() as u32)?;
-    push_chain(text, messages)?;
+    let told = push_chain(text, words, told, messages)?;
     text.push(b'\n')?;
-    Ok(())
+    Ok(told)
 }
 
-// A comma and a chain.
-fn push_chain(text: &mut Vec<u8>, messages: &[MsgNo]) -> Result<(), Memory>
-    ensures { OnOk result (text.new.items ≡ text.old.items ++ 44 ∷ chain_word messages.now) }
+// A comma and a chain. The words are those of a chain that was told, and then of the one that is answered.
+fn push_chain<'a>(
+    text: &mut Vec<u8>,
+    words: &mut Vec<u8>,
+    told: &'a [MsgNo],
+    messages: &'a [MsgNo],
+) -> Result<&'a [MsgNo], Memory>
+    requires { words.old.items ≡ marked told.now }
+    ensures chain { OnOk result (text.new.items ≡ text.old.items ++ 44 ∷ chain_word messages.now) }
+    ensures words { IfOk result (λ told. words.new.items ≡ marked told.now) }
 {
-    let Some((first, others)) = messages.split_first() else {
-        return push_field(text, b"-");
-    };
-    push_number(text, b',', first.get())?;
-    for msg in others {
-        push_number(text, b'/', msg.get())?;
+    match messages {
+        [] => {
+            push_field(text, b"-")?;
+            Ok(told)
+        }
+        // Most chains have one message.
+        [msg] => {
+            push_number(text, b',', msg.get())?;
+            Ok(told)
+        }
+        _ => {
+            retell(words, told, messages)?;
+            push_field(text, unmarked(words.as_slice()))?;
+            Ok(messages)
+        }
+    }
+}
+
+// Words without the mark before the first one.
+fn unmarked(words: &[u8]) -> &[u8]
+    requires { 1 ≤ length words.now }
+    ensures { result.now ≡ drop 1 words.now }
+{
+    &words[1..]
+}
+
+// Makes the words of a chain out of those of another one. Where it goes on from that one, as along a ring, only the
+// messages that it has more are spelled.
+fn retell(words: &mut Vec<u8>, told: &[MsgNo], messages: &[MsgNo]) -> Result<(), Memory>
+    requires { words.old.items ≡ marked told.now }
+    ensures { OnOk result (words.new.items ≡ marked messages.now) }
+{
+    if messages.starts_with(told) {
+        return push_marked(words, &messages[told.len()..]);
+    }
+    words.clear();
+    push_marked(words, messages)
+}
+
+// The numbers of messages, with a mark before each.
+fn push_marked(words: &mut Vec<u8>, messages: &[MsgNo]) -> Result<(), Memory>
+    ensures { OnOk result (words.new.items ≡ words.old.items ++ marked messages.now) }
+{
+    for msg in messages {
+        push_number(words, b'/', msg.get())?;
     }
     Ok(())
 }
@@ -102,8 +160,6 @@ fn push_chain(text: &mut Vec<u8>, messages: &[MsgNo]) -> Result<(), Memory>
 fn push_number(text: &mut Vec<u8>, mark: u8, number: u32) -> Result<(), Memory>
     ensures { OnOk result (text.new.items ≡ text.old.items ++ mark ∷ decimal number) }
 {
-    let mut digits = itoa::Buffer::new();
     text.push(mark)?;
-    text.extend_from_slice(digits.format(number).as_bytes())?;
-    Ok(())
+    push_decimal(text, number)
 }

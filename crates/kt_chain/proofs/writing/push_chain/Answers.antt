@@ -1,13 +1,15 @@
-use Rattle.std.proofs.Common.{rules, arith, ◌≡◌, ◌<◌, ◌∙◌, ◌∷◌, ◌++◌, ℕ, ap, length, get_or}
-use Rattle.std.specs.Fmt.{decimal}
-use Rattle.kt_chain.proofs.WritingFacts.{gathers_number}
+use Rattle.std.proofs.Common.{arith, ◌≡◌, ◌≤◌, ◌<◌, ◌∙◌, ◌∷◌, ◌++◌, List, ℕ, ap, sym, drop, length, subst}
+use Rattle.kt_chain.proofs.WritingFacts.{word_marked, marks_first}
 use Rattle.kt_chain.proofs.writing.push_chain.Goals as goal
 
-pub loop-msg-preserved : goal.loop-msg-preserved
-loop-msg-preserved c =
-    let messages : c.args.messages.now ≡ c.in-Some.first.now ∷ c.in-Some.others.now = search rules in
-    let within : c.loop-msg.msg-index < length c.in-Some.others.now = omega arith in
-    let at : get_or c.in-Some.others.now c.loop-msg.msg-index c.msg-item.result ≡ c.msg-item.result = search rules in
-    let more = c.in_ok-push_number-2.ensures ∙ ap (λ (n : ℕ). c.loop-msg.text.items ++ 47 ∷ decimal n) c.get-in-loop-msg.ensures.value in
-    gathers_number c.args.text.now.items c.loop-msg.text.items c.push_number-in-loop-msg.new.text.items c.args.messages.now c.in-Some.others.now c.in-Some.first.now c.loop-msg.msg-index
-    c.msg-item.result messages within at c.loop-msg.invariant more
+pub unmarked-requires : goal.unmarked-requires
+unmarked-requires c =
+    let some : 0 < length c.args.messages.now = omega (arith, c.in_default.len_at_least) in
+    subst (λ (words : List ℕ). 1 ≤ length words) (sym (c.as_slice.ensures.value ∙ c.in_ok-retell-in_default.ensures))
+    (marks_first c.args.messages.now some)
+
+pub returns-in_ok-push_field-in_default-clause-chain : goal.returns-in_ok-push_field-in_default-clause-chain
+returns-in_ok-push_field-in_default-clause-chain c =
+    let some : 0 < length c.args.messages.now = omega (arith, c.in_default.len_at_least) in
+    let word = c.unmarked.ensures ∙ ap (drop 1) (c.as_slice.ensures.value ∙ c.in_ok-retell-in_default.ensures) ∙ sym (word_marked c.args.messages.now some) in
+    c.in_ok-push_field-in_default.ensures ∙ ap (λ (field : List ℕ). c.args.text.now.items ++ 44 ∷ field) word
