@@ -30,6 +30,10 @@ ends_word names _ = []
 abbrev pub message_word : List (List ℕ) → List Event → ℕ → List ℕ
 message_word names rows msg = decimal msg ++ ends_word names (slice_get rows (msg - 1))
 
+-- the messages of a chain, each with a blank before it
+abbrev pub chain_words : List (List ℕ) → List Event → List ℕ → List ℕ
+chain_words names rows messages = flat_map (λ (msg : ℕ). 32 ∷ message_word names rows msg) messages
+
 -- the line of a member: its name and the messages of its chain
 abbrev pub member_line : List (List ℕ) → List Event → Member → List ℕ
 member_line names rows member = line (codes "member" ∷ name_of names member.0 ∷ map (message_word names rows) member.1)

@@ -1,11 +1,11 @@
 //! The lines of instances.
 
-ghost use Rattle.std.specs.Prelude.{◌≡◌, ◌∷◌, ◌++◌, ℕ, OnOk, OnErr};
+ghost use Rattle.std.specs.Prelude.{◌≡◌, ◌∷◌, ◌++◌, ℕ, IfOk, OnOk, OnErr};
 ghost use Rattle.std.specs.List.{flat_map};
 ghost use Rattle.kt_base.specs.Numbers.{IsInstNo};
 ghost use Rattle.kt_text.specs.Writing.{Sends, WritesFront};
 ghost use Rattle.kt_report.specs.Unwilling.{answer_line, answers_to, unwilling_of};
-ghost use Rattle.kt_report.specs.Lines.{ends_word, instance_line, instance_lines, member_line, message_word};
+ghost use Rattle.kt_report.specs.Lines.{chain_words, ends_word, instance_line, instance_lines, member_line, message_word};
 
 use crate::unwilling::Unwilling;
 use crate::words::{end_line, name_text, push_cause, push_number, push_word};
@@ -16,10 +16,12 @@ use kt_spacetime::Event;
 use kt_text::WriteFault;
 use kt_text::fields::{decision_text, kind_text};
 use kt_text::pieces::write_full;
+use std::alloc::Global;
 use std::io::Write;
 
 /// Writes or gathers the lines of every instance that has a certificate.
 pub(crate) fn write_instances<W: Write>(
+    alloc: Global,
     text: &mut Vec<u8>,
     names: &Names,
     rows: &[Event],
@@ -32,15 +34,25 @@ pub(crate) fn write_instances<W: Write>(
     ensures stopped { OnErr result (WritesFront (W.contents writer.old) (W.contents writer.new)
         (text.old.items ++ flat_map (instance_lines names.now rows.now) certificates.now)) }
 {
+    let mut words = Vec::new(alloc);
     for certificate in certificates {
-        write_instance(text, names, rows, unwilling, certificate, writer)?;
+        write_instance(
+            text,
+            &mut words,
+            names,
+            rows,
+            unwilling,
+            certificate,
+            writer,
+        )?;
     }
     Ok(())
 }
 
-// Writes or gathers the lines of an instance.
+// Writes or gathers the lines of an instance. What is in the list of words before counts for nothing.
 fn write_instance<W: Write>(
     text: &mut Vec<u8>,
+    words: &mut Vec<u8>,
     names: &Names,
     rows: &[Event],
     unwilling: &Unwilling,
@@ -54,7 +66,7 @@ fn write_instance<W: Write>(
 {
     push_instance(text, names, certificate)?;
     if certificate.commit {
-        write_members(text, names, rows, certificate, writer)
+        write_members(text, words, names, rows, certificate, writer)
     } else {
         write_unwilling(text, names, unwilling.of(certificate.inst), writer)
     }
@@ -72,9 +84,10 @@ fn push_instance(text: &mut Vec<u8>, names: &Names, certificate: &Certificate) -
     end_line(text)
 }
 
-// Writes or gathers the lines of the members of an instance.
+// Writes or gathers the lines of the members of an instance. What is in the list of words before counts for nothing.
 fn write_members<W: Write>(
     text: &mut Vec<u8>,
+    words: &mut Vec<u8>,
     names: &Names,
     rows: &[Event],
     certificate: &Certificate,
@@ -84,29 +97,91 @@ fn write_members<W: Write>(
     ensures stopped { OnErr result (WritesFront (W.contents writer.old) (W.contents writer.new)
         (text.old.items ++ flat_map (member_line names.now rows.now) certificate.now.members)) }
 {
+    words.clear();
+    let mut told: &[MsgNo] = &[];
     for member in certificate.members.list() {
-        push_member(text, names, rows, member)?;
+        told = push_member(text, words, told, names, rows, member)?;
         write_full(text, writer)?;
     }
     Ok(())
 }
 
-// The line of a member.
-fn push_member(
+// The line of a member. The words are those of a chain that was told, and then of the one that is answered.
+fn push_member<'a>(
     text: &mut Vec<u8>,
+    words: &mut Vec<u8>,
+    told: &'a [MsgNo],
     names: &Names,
     rows: &[Event],
-    member: &(ProcNo, Chain),
-) -> Result<(), Memory>
-    ensures { OnOk result (text.new.items ≡ text.old.items ++ member_line names.now rows.now member.now) }
+    member: &'a (ProcNo, Chain),
+) -> Result<&'a [MsgNo], Memory>
+    requires { words.old.items ≡ chain_words names.now rows.now told.now }
+    ensures line { OnOk result (text.new.items ≡ text.old.items ++ member_line names.now rows.now member.now) }
+    ensures words { IfOk result (λ told. words.new.items ≡ chain_words names.now rows.now told.now) }
 {
     let (process, chain) = member;
     text.extend_from_slice(b"member")?;
     push_word(text, name_text(names, *process))?;
-    for msg in chain.messages() {
+    let told = push_chain(text, words, told, names, rows, chain.messages())?;
+    end_line(text)?;
+    Ok(told)
+}
+
+// The messages of a chain. The words are those of a chain that was told, and then of the one that is answered.
+fn push_chain<'a>(
+    text: &mut Vec<u8>,
+    words: &mut Vec<u8>,
+    told: &'a [MsgNo],
+    names: &Names,
+    rows: &[Event],
+    chain: &'a [MsgNo],
+) -> Result<&'a [MsgNo], Memory>
+    requires { words.old.items ≡ chain_words names.now rows.now told.now }
+    ensures chain { OnOk result (text.new.items ≡ text.old.items ++ chain_words names.now rows.now chain.now) }
+    ensures words { IfOk result (λ told. words.new.items ≡ chain_words names.now rows.now told.now) }
+{
+    // Most chains have one message.
+    if let [msg] = chain {
         push_message(text, names, rows, *msg)?;
+        return Ok(told);
     }
-    end_line(text)
+    retell(words, told, names, rows, chain)?;
+    text.extend_from_slice(words.as_slice())?;
+    Ok(chain)
+}
+
+// Makes the words of a chain out of those of another one. Where it goes on from that one, as along a ring, only the
+// messages that it has more are told.
+fn retell(
+    words: &mut Vec<u8>,
+    told: &[MsgNo],
+    names: &Names,
+    rows: &[Event],
+    chain: &[MsgNo],
+) -> Result<(), Memory>
+    requires { words.old.items ≡ chain_words names.now rows.now told.now }
+    ensures { OnOk result (words.new.items ≡ chain_words names.now rows.now chain.now) }
+{
+    if chain.starts_with(told) {
+        return push_messages(words, names, rows, &chain[told.len()..]);
+    }
+    words.clear();
+    push_messages(words, names, rows, chain)
+}
+
+// Messages, with a blank before each.
+fn push_messages(
+    words: &mut Vec<u8>,
+    names: &Names,
+    rows: &[Event],
+    messages: &[MsgNo],
+) -> Result<(), Memory>
+    ensures { OnOk result (words.new.items ≡ words.old.items ++ chain_words names.now rows.now messages.now) }
+{
+    for msg in messages {
+        push_message(words, names, rows, *msg)?;
+    }
+    Ok(())
 }
 
 // A blank and a message of a chain: its number and between whom it went.

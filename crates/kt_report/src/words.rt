@@ -8,6 +8,7 @@ ghost use Rattle.kt_report.specs.Lines.{name_of};
 
 use kt_base::{Cause, InstNo, Memory, ProcNo, Verb};
 use kt_plan::Names;
+use kt_text::pieces::push_decimal;
 
 /// The name of a process, or `-` where it has none.
 pub(crate) fn name_text(names: &Names, p: ProcNo) -> &[u8]
@@ -52,8 +53,8 @@ pub(crate) fn push_word(text: &mut Vec<u8>, word: &[u8]) -> Result<(), Memory>
 pub(crate) fn push_number(text: &mut Vec<u8>, number: u32) -> Result<(), Memory>
     ensures { OnOk result (text.new.items ≡ text.old.items ++ 32 ∷ decimal number) }
 {
-    let mut digits = itoa::Buffer::new();
-    push_word(text, digits.format(number).as_bytes())
+    text.push(b' ')?;
+    push_decimal(text, number)
 }
 
 /// Gathers a blank and a cause, as a log has it.
@@ -72,10 +73,8 @@ pub(crate) fn push_cause(text: &mut Vec<u8>, cause: Cause) -> Result<(), Memory>
 fn push_busy(text: &mut Vec<u8>, inst: InstNo) -> Result<(), Memory>
     ensures { OnOk result (text.new.items ≡ text.old.items ++ 32 ∷ cause_word (Busy inst)) }
 {
-    let mut instance = itoa::Buffer::new();
     push_word(text, b"busy-")?;
-    text.extend_from_slice(instance.format(inst.get()).as_bytes())?;
-    Ok(())
+    push_decimal(text, u32::from(inst.get()))
 }
 
 /// Ends a line.

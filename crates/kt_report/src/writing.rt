@@ -135,6 +135,6 @@ fn write_commands<W: Write>(
         ++ flat_map (refusal_line names.now) rows.now))) }
 {
     let unwilling = Unwilling::in_rows(alloc, rows)?;
-    write_instances(text, names, rows, &unwilling, certificates, writer)?;
+    write_instances(alloc, text, names, rows, &unwilling, certificates, writer)?;
     write_refusals(text, names, rows, writer)
 }
