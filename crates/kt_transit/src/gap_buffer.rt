@@ -13,6 +13,9 @@ use std::alloc::Global;
 use std::collections::VecDeque;
 use std::marker::Model;
 
+// So many messages keep their room. Most lists have few at a time, and would give it back and ask for it again.
+const FEW: usize = 4;
+
 /// Messages in transit from one process to another, in the order of their sends. There is a cursor among them: what
 /// happens just there takes no time that grows with their number.
 #[derive(Drop)]
@@ -82,15 +85,15 @@ impl GapBuffer {
         Ok(())
     }
 
-    /// Gives back the room that is not needed for the messages and so many more.
+    /// Gives back the room that is not needed for the messages and so many more, but for that of a few.
     pub(crate) fn shrink(&mut self, additional: usize)
         ensures messages { self.new.messages ≡ self.old.messages }
         ensures room { length self.old.messages + additional ≤ self.old.room
             → length self.new.messages + additional ≤ self.new.room }
     {
-        self.passed.shrink_to_fit();
+        self.passed.shrink_to(FEW);
         let wanted = self.len().saturating_add(additional);
-        self.next.shrink_to(wanted);
+        self.next.shrink_to(wanted.max(FEW));
     }
 
     /// Adds a message at the end, where there is room.

@@ -162,7 +162,7 @@ impl Pair {
         self.in_transit.take(index)
     }
 
-    /// Gives back the room that was needed, where there are no messages.
+    /// Gives back the room that was needed, but for that of a few messages, where there are none.
     pub(crate) fn shrink(&mut self)
         ensures { self.new ≡ self.old }
     {

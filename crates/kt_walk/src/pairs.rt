@@ -185,7 +185,7 @@ impl Pairs {
     }
 
     /// Gives back the room of the pairs that came to have no messages at the last decision or after it, and have none
-    /// now. Those that have messages at each decision keep it, so that it is not asked for again and again.
+    /// now, but for that of a few. Those that have messages at each decision keep it, so that it is not asked for again and again.
     pub(crate) fn shrink(&mut self)
         ensures { self.new ≡ self.old }
     {

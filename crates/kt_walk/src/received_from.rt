@@ -11,7 +11,7 @@ ghost use Rattle.kt_cuts.specs.Standing.{IsInOrder};
 ghost use Rattle.kt_walk.specs.Searching.{IsFoundPast};
 ghost use Rattle.kt_walk.specs.Arrivals.{AreRisingArrivals, PartsAt, sent_at, received_at, undone_at, undo, AreInTurn, IsReceivedFrom, ShowsReceived, IsUncovered, is_empty};
 
-use crate::queue::{Arrival, Queue};
+use crate::queue::{Arrival, FEW, Queue};
 use kt_base::{Memory, MsgNo, ProcNo};
 use kt_cuts::Cut;
 use kt_cuts::orphans::{earlier, if_wanted};
@@ -157,13 +157,13 @@ impl ReceivedFrom {
         self.arrivals.skip(sent.min(received));
     }
 
-    /// Gives back the room that the messages do not need.
+    /// Gives back the room that the messages do not need, but for that of a few.
     pub(crate) fn shrink(&mut self)
         ensures { self.new ≡ self.old }
     {
         self.arrivals.shrink();
         let wanted = self.undone.len().saturating_add(self.arrivals.len());
-        self.undone.shrink_to(wanted);
+        self.undone.shrink_to(wanted.max(FEW));
     }
 
     /// The least message whose send is live that was sent at one place or later and received before another one.
