@@ -3,4 +3,3 @@ pub mod NumberFacts
 pub mod RecordFacts
 pub mod ReaderFacts
 pub mod PieceFacts
-pub mod DigitFacts

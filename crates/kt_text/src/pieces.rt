@@ -1,6 +1,6 @@
 //! Texts gathered and written piece by piece, so that memory for writing does not grow with the text.
 
-ghost use Rattle.std.specs.Prelude.{◌≡◌, ◌<◌, ◌≤◌, ◌+◌, ◌%◌, [], ◌∷◌, ◌++◌, length, take, IfOk, OnOk, OnErr};
+ghost use Rattle.std.specs.Prelude.{◌≡◌, ◌≤◌, [], ◌∷◌, ◌++◌, length, take, IfOk, OnOk, OnErr};
 ghost use Rattle.std.specs.Fmt.{decimal};
 ghost use Rattle.std.specs.Io.KnownBytes.{Appends};
 ghost use Rattle.kt_text.specs.Writing.{Sends, WritesFront};
@@ -106,61 +106,7 @@ pub fn push_field(text: &mut Vec<u8>, field: &[u8]) -> Result<(), Memory>
 pub fn push_decimal(text: &mut Vec<u8>, number: u32) -> Result<(), Memory>
     ensures { OnOk result (text.new.items ≡ text.old.items ++ decimal number) }
 {
-    // Most are numbers of processes, and have one digit or two.
-    if number < 10 {
-        text.push(digit(number))?;
-        return Ok(());
-    }
-    if number < 100 {
-        text.extend_from_slice(&[digit(number / 10), digit(number)])?;
-        return Ok(());
-    }
-    push_long(text, number)
-}
-
-// Gathers a number of three digits or more. So many bytes as are known beforehand are gathered in half the time.
-fn push_long(text: &mut Vec<u8>, number: u32) -> Result<(), Memory>
-    requires { 100 ≤ number }
-    ensures { OnOk result (text.new.items ≡ text.old.items ++ decimal number) }
-{
-    if number < 1000 {
-        text.extend_from_slice(&three_digits(number))?;
-        return Ok(());
-    }
-    if number < 10_000 {
-        text.extend_from_slice(&four_digits(number))?;
-        return Ok(());
-    }
     let mut digits = itoa::Buffer::new();
     text.extend_from_slice(digits.format(number).as_bytes())?;
     Ok(())
-}
-
-// The digits of a number that has three.
-fn three_digits(number: u32) -> [u8; 3]
-    requires { (100 ≤ number) × (number < 1000) }
-    ensures { result ≡ decimal number }
-{
-    [digit(number / 100), digit(number / 10), digit(number)]
-}
-
-// The digits of a number that has four.
-fn four_digits(number: u32) -> [u8; 4]
-    requires { (1000 ≤ number) × (number < 10000) }
-    ensures { result ≡ decimal number }
-{
-    [
-        digit(number / 1000),
-        digit(number / 100),
-        digit(number / 10),
-        digit(number),
-    ]
-}
-
-// The last digit of a number.
-#[inline(always)]
-fn digit(number: u32) -> u8
-    ensures { result ≡ 48 + number % 10 }
-{
-    b'0' + (number % 10) as u8
 }
