@@ -68,4 +68,4 @@ IsRecordTold certificates e number = IfSome number (IsRecordOf certificates e)
 -- its line
 abbrev pub record_told_words : Option ℕ → List ℕ
 record_told_words None = []
-record_told_words (Some number) = codes "see record " ++ (decimal number ++ (codes " of the certificates; koo_toueg certify makes them from the log, or says whom no message links" ++ 10 ∷ []))
+record_told_words (Some number) = codes "the certificates are at fault, see record " ++ (decimal number ++ (codes ": koo_toueg certify makes them anew from the log" ++ 10 ∷ []))

@@ -42,8 +42,8 @@ other_decision_words false row = codes "row " ++ (decimal row ++ codes " decides
 
 -- what the log has otherwise than a certificate of an instance
 abbrev pub difference_words : Difference → List ℕ
-difference_words Unbegun = codes "no row begins it"
-difference_words Undecided = codes "no row decides it"
+difference_words Unbegun = codes "no row begins it, so it may have no certificate"
+difference_words Undecided = codes "no row decides it, so it may have no certificate"
 difference_words (Kind kind row) = other_kind_words kind row
 difference_words (Initiator p named row) =
     codes "process " ++ (decimal p ++ (codes " begins it in row " ++ (decimal row ++ (codes ": the certificate has to name that one, and not process " ++ decimal named))))
@@ -254,16 +254,24 @@ abbrev pub bad_row_words : BadRow → List ℕ
 bad_row_words b =
     numbered_words b.row ++ (row_words b.event ++ (broken_words b.rule b.breach ++ around_words b))
 
+-- an instance is committed in this row, though this process was unwilling to join it
+abbrev pub objection_words : ℕ → ℕ → ℕ → ℕ → List ℕ
+objection_words inst p row decided =
+    codes "row " ++ (decimal decided ++ (codes " commits instance " ++ (decimal inst ++ (codes ", but has to abort it, since process " ++ (decimal p
+    ++ (codes " was unwilling to join it in row " ++ (decimal row ++ (codes ": the log is at fault" ++ 10 ∷ []))))))))
+
+-- an instance is aborted in this row, though no process was unwilling to join it
+abbrev pub no_objection_words : ℕ → ℕ → List ℕ
+no_objection_words inst decided =
+    codes "row " ++ (decimal decided ++ (codes " aborts instance " ++ (decimal inst
+    ++ (codes ", but no process was unwilling to join it: the log is at fault" ++ 10 ∷ []))))
+
 -- the lines that are told of an answer
 abbrev pub explanation_words : Explanation → List ℕ
 explanation_words Nothing = []
 explanation_words (Unknown inst difference) = codes "instance " ++ decimal inst ++ codes ": " ++ difference_words difference ++ 10 ∷ []
-explanation_words (Objection inst p row decided) =
-    codes "row " ++ (decimal decided ++ (codes " commits instance " ++ (decimal inst ++ (codes ", but has to abort it, since process " ++ (decimal p
-    ++ (codes " was unwilling to join it in row " ++ (decimal row ++ (codes ": the log is at fault" ++ 10 ∷ []))))))))
-explanation_words (NoObjection inst decided) =
-    codes "row " ++ (decimal decided ++ (codes " aborts instance " ++ (decimal inst
-    ++ (codes ", but no process was unwilling to join it: the log is at fault" ++ 10 ∷ []))))
+explanation_words (Objection inst p row decided) = objection_words inst p row decided
+explanation_words (NoObjection inst decided) = no_objection_words inst decided
 explanation_words (OtherMember inst place listed joined) = place_words inst place ++ unlike_words listed joined
 explanation_words (BadChain inst chain about linking) = bad_chain_words inst chain about ++ link_words chain.p chain.flaw linking
 explanation_words (Uncertified inst row) = codes "row " ++ (decimal row ++ (codes " decides instance " ++ (decimal inst ++ (codes ", but there is no certificate of it: koo_toueg certify makes it" ++ 10 ∷ []))))

@@ -29,7 +29,7 @@ impl fmt::Display for RecordTold {
         match self.number {
             Some(number) => write!(
                 f,
-                "see record {number} of the certificates; koo_toueg certify makes them from the log, or says whom no message links\n"
+                "the certificates are at fault, see record {number}: koo_toueg certify makes them anew from the log\n"
             ),
             None => Ok(()),
         }

@@ -39,8 +39,8 @@ impl fmt::Display for Difference {
 
     fn fmt<W: fmt::Write>(&self, f: &mut fmt::Formatter<W>) -> fmt::Result {
         match *self {
-            Difference::Unbegun => write!(f, "no row begins it"),
-            Difference::Undecided => write!(f, "no row decides it"),
+            Difference::Unbegun => write!(f, "no row begins it, so it may have no certificate"),
+            Difference::Undecided => write!(f, "no row decides it, so it may have no certificate"),
             Difference::Kind(kind, row) => write_kind(f, kind, row),
             Difference::Initiator { p, named, row } => {
                 write!(

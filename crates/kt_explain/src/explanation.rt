@@ -2,7 +2,7 @@
 
 ghost use Rattle.std.specs.Prelude.{◌≡◌, Some};
 ghost use Rattle.std.specs.Fmt.{DisplaysOnOk};
-ghost use Rattle.kt_explain.specs.Words.{listed_words, missing_words, unlike_words};
+ghost use Rattle.kt_explain.specs.Words.{listed_words, missing_words, no_objection_words, objection_words, unlike_words};
 
 use crate::bad_chain::{BadChain, write_bad_chain};
 use crate::bad_row::BadRow;
@@ -86,18 +86,8 @@ impl fmt::Display for Explanation {
                 p,
                 row,
                 decided,
-            } => {
-                write!(
-                    f,
-                    "row {decided} commits instance {inst}, but has to abort it, since process {p} was unwilling to join it in row {row}: the log is at fault\n"
-                )
-            }
-            Explanation::NoObjection { inst, decided } => {
-                write!(
-                    f,
-                    "row {decided} aborts instance {inst}, but no process was unwilling to join it: the log is at fault\n"
-                )
-            }
+            } => write_objection(f, inst, p, row, decided),
+            Explanation::NoObjection { inst, decided } => write_no_objection(f, inst, decided),
             Explanation::OtherMember {
                 inst,
                 place,
@@ -126,6 +116,36 @@ impl fmt::Display for Explanation {
             }
         }
     }
+}
+
+// That an instance is committed in this row, though this process was unwilling to join it.
+fn write_objection<W: fmt::Write>(
+    f: &mut fmt::Formatter<W>,
+    inst: InstNo,
+    p: ProcNo,
+    row: RowNo,
+    decided: RowNo,
+) -> fmt::Result
+    ensures { DisplaysOnOk W.write_str_gives f.old result (Some (objection_words inst p row decided)) f.new }
+{
+    write!(
+        f,
+        "row {decided} commits instance {inst}, but has to abort it, since process {p} was unwilling to join it in row {row}: the log is at fault\n"
+    )
+}
+
+// That an instance is aborted in this row, though no process was unwilling to join it.
+fn write_no_objection<W: fmt::Write>(
+    f: &mut fmt::Formatter<W>,
+    inst: InstNo,
+    decided: RowNo,
+) -> fmt::Result
+    ensures { DisplaysOnOk W.write_str_gives f.old result (Some (no_objection_words inst decided)) f.new }
+{
+    write!(
+        f,
+        "row {decided} aborts instance {inst}, but no process was unwilling to join it: the log is at fault\n"
+    )
 }
 
 // Who is listed at a place, and who joined there.

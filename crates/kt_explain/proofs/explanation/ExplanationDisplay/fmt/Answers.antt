@@ -7,11 +7,11 @@ use Rattle.kt_explain.proofs.explanation.ExplanationDisplay.fmt.Goals as goal
 
 pub returns-in-Objection-clause-writes : goal.returns-in-Objection-clause-writes
 returns-in-Objection-clause-writes g c = λ plain ok.
-    subst (λ (x : Explanation). HasWritten {W = g.row.W.Denot} g.W.Write.write_str_gives c.args.f.now (explanation_words x) c.write-in-Objection.new.self) (sym c.in-Objection.is) (c.write-in-Objection.ensures.writes plain ok)
+    subst (λ (x : Explanation). HasWritten {W = g.row.W.Denot} g.W.Write.write_str_gives c.args.f.now (explanation_words x) c.write_objection.new.f) (sym c.in-Objection.is) (c.write_objection.ensures plain ok)
 
 pub returns-in-NoObjection-clause-writes : goal.returns-in-NoObjection-clause-writes
 returns-in-NoObjection-clause-writes g c = λ plain ok.
-    subst (λ (x : Explanation). HasWritten {W = g.row.W.Denot} g.W.Write.write_str_gives c.args.f.now (explanation_words x) c.write-in-NoObjection.new.self) (sym c.in-NoObjection.is) (c.write-in-NoObjection.ensures.writes plain ok)
+    subst (λ (x : Explanation). HasWritten {W = g.row.W.Denot} g.W.Write.write_str_gives c.args.f.now (explanation_words x) c.write_no_objection.new.f) (sym c.in-NoObjection.is) (c.write_no_objection.ensures plain ok)
 
 pub returns-in-Uncertified-clause-writes : goal.returns-in-Uncertified-clause-writes
 returns-in-Uncertified-clause-writes g c = λ plain ok.
