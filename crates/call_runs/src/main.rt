@@ -1,24 +1,36 @@
 //! Makes stored lists of calls of label tables and of channels, walks logs that stored scripts tell of, and makes stored
-//! lists of calls of messages in transit; shows what is answered.
+//! lists of calls of messages in transit; shows what is answered. Then shows what is read of stored texts, and written.
 #![tactic(auto)]
 
 mod answers;
+mod certificates;
+mod certified;
 mod channel_calls;
 mod cuts;
+mod entries;
+mod failing;
+mod heads;
 mod lists;
+mod logs;
+mod long_text;
+mod numbers;
 mod readers;
 mod rounds;
 mod rows;
 mod run;
+mod scenarios;
 mod scripts;
 mod table_calls;
+mod texts;
 mod transit;
 mod words;
+mod writing;
 
 use anyhow::{Context, Result, bail};
 use lists::show_calls;
 use scripts::show_script;
 use std::fs;
+use texts::show_texts;
 use transit::show_list;
 
 // Shows what a script asks, or what a list of calls makes of messages in transit, under its title.
@@ -52,5 +64,6 @@ fn main(rt: HostRuntime) -> Result<()> {
     show_file(&rt, "tables")?;
     show_file(&rt, "channels")?;
     show_file(&rt, "scripts")?;
-    show_file(&rt, "transit")
+    show_file(&rt, "transit")?;
+    show_texts(&rt)
 }

@@ -1,30 +1,18 @@
-//! Shows what is read of stored texts, and what is written of it: logs, certificates, scenarios, steps and numbers; what
+//! Stored texts of logs, certificates, scenarios, steps and numbers: what is read of each, and what is written of it; what
 //! of it is read and written where a reader or a writer fails; what is read of texts that are too long; and the
 //! certificates of stored logs.
-#![tactic(auto)]
 
-mod certificates;
-mod certified;
-mod entries;
-mod failing;
-mod heads;
-mod logs;
-mod long_text;
-mod numbers;
-mod scenarios;
-mod writing;
-
+use crate::certificates::{show_certificates, show_long_certificates};
+use crate::certified::show_certified;
+use crate::entries::{Entry, entries};
+use crate::logs::{show_log, show_long_log};
+use crate::numbers::show_numbers;
+use crate::scenarios::{show_long_scenario, show_long_steps, show_scenario, show_steps};
+use crate::writing::{Form, show_pieces};
 use anyhow::{Result, bail};
-use certificates::{show_certificates, show_long_certificates};
-use certified::show_certified;
-use entries::{Entry, entries};
 use kt_plan::Plan;
 use kt_scenario::parse;
-use logs::{show_log, show_long_log};
-use numbers::show_numbers;
-use scenarios::{show_long_scenario, show_long_steps, show_scenario, show_steps};
 use std::fs;
-use writing::{Form, show_pieces};
 
 // The files of texts, in the order in which they are shown.
 const FILES: [&str; 11] = [
@@ -112,8 +100,9 @@ fn stored_plan(rt: &HostRuntime) -> Result<Plan> {
     Ok(parse(rt.alloc(), text.as_slice())?)
 }
 
-fn main(rt: HostRuntime) -> Result<()> {
-    show_number_file(&rt)?;
-    let plan = stored_plan(&rt)?;
-    show_files(&rt, &plan)
+/// Shows the texts of each file.
+pub(crate) fn show_texts(rt: &HostRuntime) -> Result<()> {
+    show_number_file(rt)?;
+    let plan = stored_plan(rt)?;
+    show_files(rt, &plan)
 }
