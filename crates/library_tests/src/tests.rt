@@ -1,4 +1,5 @@
 mod base;
 mod cuts;
 mod histories;
+mod object;
 mod spacetime;
