@@ -65,24 +65,30 @@ fn messages_round_a_ring(alloc: Global) -> Result<SpaceTime, Fail> {
     Ok(log)
 }
 
+// Sees what is said of a log.
+fn judges<R: Abort + AllocGlobal>(rt: &R, log: &SpaceTime, wanted: Result<(), LegalFault>) {
+    let said = legal(rt.alloc(), log);
+    assert_eq!(rt; said, wanted);
+}
+
+// Sees that the log is legal, and not with one more row, in which the first message is received again.
+fn judges_ring<R: Abort + AllocGlobal>(rt: &R, log: &mut SpaceTime) -> Result<(), Fail> {
+    judges(rt, log, Ok(()));
+    let row = Event::Received {
+        p: ProcNo::nth(1),
+        from: ProcNo::nth(0),
+        msg: MsgNo::after(0),
+    };
+    add(log, row)?;
+    let place = RowNo::after(2 * MESSAGES as usize);
+    judges(rt, log, Err(LegalFault::Broken(place, Rule::Message)));
+    Ok(())
+}
+
 #[test]
 fn a_large_log_is_judged(rt: HostRuntime) -> Result<(), Fail> {
     let mut log = messages_round_a_ring(rt.alloc())?;
-    assert_eq!(rt; legal(rt.alloc(), &log), Ok(()));
-    add(
-        &mut log,
-        Event::Received {
-            p: process(1)?,
-            from: process(0)?,
-            msg: message(1)?,
-        },
-    )?;
-    let row = RowNo::new(2 * MESSAGES + 1).ok_or("no row")?;
-    assert_eq!(rt;
-        legal(rt.alloc(), &log),
-        Err(LegalFault::Broken(row, Rule::Message))
-    );
-    Ok(())
+    judges_ring(&rt, &mut log)
 }
 
 // Sees the orphan of each cut in which a process has some even number of events, and the others all of theirs.
@@ -100,14 +106,19 @@ fn sees_orphans(rt: &impl Abort, found: &Histories, number: u32) -> Result<(), F
     Ok(())
 }
 
+// Sees that the present cut has no orphan, and which one has each of the others.
+fn sees_all_orphans(rt: &impl Abort, found: &Histories) -> Result<(), Fail> {
+    assert_eq!(rt; found.first_orphan(&Cut::new([DEEDS; 64])), None);
+    for number in 1..64_u32 {
+        sees_orphans(rt, found, number)?;
+    }
+    Ok(())
+}
+
 #[test]
 fn many_cuts_of_a_large_log_are_tested(rt: HostRuntime) -> Result<(), Fail> {
     let log = messages_round_a_ring(rt.alloc())?;
     legal(rt.alloc(), &log)?;
     let found = Histories::of(rt.alloc(), &log, log.rows().len())?;
-    assert_eq!(rt; found.first_orphan(&Cut::new([DEEDS; 64])), None);
-    for number in 1..64_u32 {
-        sees_orphans(&rt, &found, number)?;
-    }
-    Ok(())
+    sees_all_orphans(&rt, &found)
 }

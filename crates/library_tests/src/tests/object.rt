@@ -25,10 +25,8 @@ fn object_of(alloc: Global, kind: u8) -> Result<Object, Fail> {
 }
 
 fn apply_all(object: &mut Object, bodies: &[i64]) {
-    if let Some(from) = ProcNo::new(3) {
-        for body in bodies {
-            object.apply(from, *body);
-        }
+    for body in bodies {
+        object.apply(ProcNo::nth(3), *body);
     }
 }
 
@@ -132,9 +130,9 @@ fn a_sum_saturates_at_both_ends(rt: HostRuntime) -> Result<(), Fail> {
 fn a_caller_knows_the_trait_alone(rt: HostRuntime) -> Result<(), Fail> {
     let alloc = rt.alloc();
     let mut sum = boxed_sum(alloc, SlotBook::new(alloc).open()?)?;
-    let from = ProcNo::new(0).ok_or("no process")?;
-    assert_eq!(rt; answer_of(&mut sum, from, 4), 4);
-    assert_eq!(rt; answer_of(&mut sum, from, 5), 9);
+    let from = ProcNo::nth(0);
+    let answers = (answer_of(&mut sum, from, 4), answer_of(&mut sum, from, 5));
+    assert_eq!(rt; answers, (4, 9));
     Ok(())
 }
 
@@ -205,19 +203,22 @@ fn only_a_tail_has_no_number_or_many(rt: HostRuntime) -> Result<(), Fail> {
     Ok(())
 }
 
-#[test]
-fn an_object_may_be_unable_to_save(rt: HostRuntime) -> Result<(), Fail> {
-    let alloc = rt.alloc();
-    let sum = Sum::new(SlotBook::new(alloc).open()?);
-    let mut object: Object = Box::new(alloc, Stubborn::unable_at(2, sum))?;
-    apply_all(&mut object, &[5]);
-    let mut out = Vec::new(alloc);
-    object.save(&mut out)?;
-    assert_eq!(rt; object.save(&mut out), Err(SaveFault::Unable));
+/// Sees that the second of three saves of a sum at 5 is refused, and adds nothing.
+fn saves_but_once(rt: &impl Abort, object: &Object, out: &mut Vec<u8>) -> Result<(), Fail> {
+    object.save(out)?;
+    assert_eq!(rt; object.save(out), Err(SaveFault::Unable));
     assert_eq!(rt; out.as_slice(), SUM_AT_5.as_slice());
-    object.save(&mut out)?;
+    object.save(out)?;
     assert_eq!(rt; out.len(), 2 * SUM_AT_5.len());
     Ok(())
+}
+
+#[test]
+fn an_object_may_be_unable_to_save(rt: HostRuntime) -> Result<(), Fail> {
+    let sum = Sum::new(SlotBook::new(rt.alloc()).open()?);
+    let mut object: Object = Box::new(rt.alloc(), Stubborn::unable_at(2, sum))?;
+    apply_all(&mut object, &[5]);
+    saves_but_once(&rt, &object, &mut Vec::new(rt.alloc()))
 }
 
 #[test]
@@ -231,9 +232,8 @@ fn an_object_may_take_no_saved_state(rt: HostRuntime) -> Result<(), Fail> {
 
 /// Sees that so many slots are freed and so many are out then.
 fn frees(rt: &impl Abort, book: &mut SlotBook, freed: usize, out: usize) {
-    assert_eq!(rt; book.collect(), freed);
-    assert_eq!(rt; book.out(), out);
-    assert_eq!(rt; book.collect(), 0);
+    let found = (book.collect(), book.out(), book.collect());
+    assert_eq!(rt; found, (freed, out, 0));
 }
 
 fn guarded(alloc: Global, book: &mut SlotBook) -> Result<Object, Fail> {
@@ -394,8 +394,8 @@ fn want_of_memory_leaves_all_as_it_was(rt: HostRuntime) {
 
 /// Sees what a depot keeps.
 fn keeps(rt: &impl Abort, depot: &Depot, permanent: &[u8], tentative: Option<&[u8]>) {
-    assert_eq!(rt; depot.permanent(), permanent);
-    assert_eq!(rt; depot.tentative(), tentative);
+    let found = (depot.permanent(), depot.tentative());
+    assert_eq!(rt; found, (permanent, tentative));
 }
 
 #[test]
