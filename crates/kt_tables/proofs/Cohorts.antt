@@ -6,7 +6,7 @@ use Rattle.std.proofs.lemmas.Bool.{cases_lt, cases_eq}
 use Rattle.std.proofs.lemmas.Bool.Decides.{nat_tests}
 use Rattle.std.proofs.lemmas.List.Elements.{All-map}
 use Rattle.std.proofs.lemmas.List.Folds.{Any-from_list_any}
-use Rattle.std.proofs.lemmas.List.{length-map, get_or-map, get_or_default, take_more, map-append}
+use Rattle.std.proofs.lemmas.List.{length-map, get_or-map, get_or_default, take_more, map-append, ext_get_or}
 use Rattle.kt_base.specs.Sets.{has}
 use Rattle.kt_tables.specs.Peers.{find_label, IsTable, count_peers, IsCohort}
 use Rattle.kt_tables.specs.Walks.{place_of, head_label}
@@ -35,6 +35,15 @@ find_at low n (pair ∷ ps) (suc k) d h b =
     let a = table_above (pair.0 + 1) n ps k d h.3 (omega arith) in
     rw (find_other pair ps (get_or ps k d).0 (λ e. absurd (omega arith))) (find_at (pair.0 + 1) n ps k d h.3 (omega arith))
 
+-- the label at a place is that of its peer
+find_each : (low n : ℕ) (ps : Pairs) (k : ℕ) (d : ℕ × ℕ) → IsTable low n ps → k < length ps → find_label ps (get_or ps k d).0 ≡ (get_or ps k d).1
+unfolding IsTable
+find_each low n [] k d h b = absurd (omega arith)
+find_each low n (pair ∷ ps) zero d h b = find_same pair ps pair.0 refl
+find_each low n (pair ∷ ps) (suc k) d h b =
+    let a = table_above (pair.0 + 1) n ps k d h.3 (omega arith) in
+    find_other pair ps (get_or ps k d).0 (λ e. absurd (omega arith)) ∙ find_each (pair.0 + 1) n ps k d h.3 (omega arith)
+
 -- a label above 0 stands at a place
 find_in : (ps : Pairs) (q : ℕ) (d : ℕ × ℕ) → 0 < find_label ps q → (k : ℕ) × (k < length ps) × ((get_or ps k d).0 ≡ q)
 unfolding find_label
@@ -46,6 +55,13 @@ find_in (pair ∷ ps) q d h = elim (cases_eq pair.0 q) [
 
 abbrev pub beside : (ℕ → ℕ) → ℕ × ℕ → ℕ × ℕ
 beside g pair = (pair.0, g pair.0)
+
+-- a table's own labels beside its peers are its pairs
+pub own_labels : (n : ℕ) (ps : Pairs) → IsTable 0 n ps → map (beside (find_label ps)) ps ≡ ps
+own_labels n ps h = ext_get_or (0, 0) (map (beside (find_label ps)) ps) ps (length-map ps (beside (find_label ps))) (λ i b.
+    let i_in : i < length ps = omega (arith, length-map ps (beside (find_label ps))) in
+    get_or-map (beside (find_label ps)) ps i (0, 0) (0, 0) i_in
+    ∙ ap (λ (l : ℕ). let t : ℕ × ℕ = ((get_or ps i (0, 0)).0, l) in t) (find_each 0 n ps i (0, 0) h i_in))
 
 above_zero : (x : ℕ) → not (x == 0) ≡ true → 0 < x
 above_zero x h = grind (arith, nat_tests)

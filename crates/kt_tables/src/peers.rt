@@ -258,6 +258,10 @@ impl PeerLabels {
         ensures peers { self.new.peers ≡ self.old.peers }
         ensures labels { (q : ℕ) → label_of self.new q ≡ max (label_of first.now q) (label_of second.now q) }
     {
+        if first.pairs.is_empty() {
+            self.copy_from(second);
+            return;
+        }
         self.pairs.clear();
         let mut first: &[(ProcNo, Label)] = &first.pairs;
         let mut second: &[(ProcNo, Label)] = &second.pairs;
@@ -281,6 +285,16 @@ impl PeerLabels {
             rest = from_peer(rest, pair.0);
             cohort.push_reserved((pair.0, head(rest, pair.0)));
         }
+        Ok(cohort)
+    }
+
+    /// The peers that have a label, by rising number, each with it.
+    pub(crate) fn own_cohort(&self) -> Result<Vec<(ProcNo, Label)>, Memory>
+        ensures cohort { IfOk result (λ pairs. IsCohort pairs.items (has_one self.now) (label_of self.now)) }
+        ensures rising { IfOk result (λ pairs. AllPairs (λ x y. x.0 < y.0) pairs.items) }
+        ensures within { IfOk result (λ pairs. All (λ pair. pair.0 < self.now.peers) pairs.items) }
+    {
+        let cohort = Vec::from_slice(*self.pairs.allocator(), self.pairs.as_slice())?;
         Ok(cohort)
     }
 }

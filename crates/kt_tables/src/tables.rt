@@ -272,7 +272,7 @@ impl Tables {
             IsCohort pairs.items (λ q. has_label (receiveds q (parts calls).since)) (λ q. greatest (receiveds q (parts calls).since))) }
         ensures labels { IfOk result (λ pairs. IsCohort pairs.items (has_one self.now.last_rcvd) (label_of self.now.last_rcvd)) }
     {
-        self.last_rcvd.cohort(&self.last_rcvd)
+        self.last_rcvd.own_cohort()
     }
 
     /// The processes to ask at a rollback, by rising number: those that a message was sent to since the last
