@@ -260,6 +260,57 @@ impl Held {
         Ok(())
     }
 
+    /// Does what it is told, one act after another.
+    #[inline(always)]
+    fn do_both(&mut self, acts: [Act; 2], saved: Option<Vec<u8>>) -> Result<(), ActFault>
+        requires saved { IfSome saved (λ s. IfSome self.old.present (λ b. IsSavedState (kind_of b) (value_of b) s.items)) }
+
+        // what is held then
+        ensures does { OnOk result ((h : Holding)
+            → Holds h (option_map (λ b. content (kind_of b) (value_of b)) self.old.present) self.old.depot
+            → Holds (does_all h acts) (option_map (λ b. content (kind_of b) (value_of b)) self.new.present) self.new.depot) }
+        ensures spares { OnOk result (self.new.spares.items ≡ drop (spares_of_all (is_some self.old.present) acts) self.old.spares.items) }
+
+        // which acts can be done
+        ensures fits { OnOk result (fits_all (record {
+          up = is_some self.old.present;
+          tentative = is_some self.old.depot.tentative;
+          saved = is_some saved;
+          spares = length self.old.spares.items;
+        }) acts ≡ true) }
+        ensures unfit { result ≡ Err ActFault.Unfit → fits_all (record {
+          up = is_some self.old.present;
+          tentative = is_some self.old.depot.tentative;
+          saved = is_some saved;
+          spares = length self.old.spares.items;
+        }) acts ≡ false }
+        ensures failed { IfErr result (λ fault. fault ≢ ActFault.Unfit → Contains acts Act.Restore) }
+        ensures form { result ≡ Err ActFault.Form → (h : Holding)
+            → Holds h (option_map (λ b. content (kind_of b) (value_of b)) self.old.present) self.old.depot
+            → IsRejected (λ b saved. may_reject b saved) (held_objects self.old.present self.old.spares.items) h acts }
+
+        // no object rejects more than those that were held before
+        ensures rejects { (bytes : List ℕ)
+            → Any (λ b. may_reject b bytes) (held_objects self.new.present self.new.spares.items)
+            → Any (λ b. may_reject b bytes) (held_objects self.old.present self.old.spares.items) }
+
+        // a refusal
+        ensures err { OnErr result ((done : ℕ) × (done < 2) × ((h : Holding)
+            → Holds h (option_map (λ b. content (kind_of b) (value_of b)) self.old.present) self.old.depot
+            → Holds (does_all h (take done acts)) (option_map (λ b. content (kind_of b) (value_of b)) self.new.present) self.new.depot)) }
+    {
+        let [first, second] = acts;
+        if is_nothing(&first) {
+            return self.act(second, saved);
+        }
+        self.act(first, saved)?;
+        if is_nothing(&second) {
+            return Ok(());
+        }
+        self.act(second, None)?;
+        Ok(())
+    }
+
     /// Does the acts that a step tells, in order. `saved` is the object's state that was saved for the step; the first thing
     /// that is done keeps it, where that is to be kept. After a fault the acts before the one at fault are done, and no more.
     #[inline(always)]
@@ -303,15 +354,6 @@ impl Held {
         if are_nothing(&acts) {
             return Ok(());
         }
-        let [first, second] = acts;
-        if is_nothing(&first) {
-            return self.act(second, saved);
-        }
-        self.act(first, saved)?;
-        if is_nothing(&second) {
-            return Ok(());
-        }
-        self.act(second, None)?;
-        Ok(())
+        self.do_both(acts, saved)
     }
 }

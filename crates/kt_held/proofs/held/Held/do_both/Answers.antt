@@ -4,7 +4,7 @@ use Rattle.kt_held.specs.Fits.{is_up_after}
 use Rattle.kt_held.specs.Refusals.{held_objects}
 use Rattle.kt_held.proofs.Rejected.{rejected_first, rejected_after}
 use Rattle.kt_held.proofs.Acted.{both_done, one_done, second_done, idle_leads, idle_fits, is_some-map, leads_up, leads_tentative, both_fit, two_of}
-use Rattle.kt_held.proofs.held.Held.obey.Goals as goal
+use Rattle.kt_held.proofs.held.Held.do_both.Goals as goal
 
 on_err : {T E : Type 0} (r : Result T E) (P : Type 0) → P → OnErr r P
 on_err (Ok value) P p = tt
