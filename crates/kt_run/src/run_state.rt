@@ -334,7 +334,7 @@ fn step_once(
     ensures leads { OnOk result (Tells world.old journals.old ready.now.step give world.new journals.new acts.new) }
 {
     if journals.are_kept() {
-        tell_once(world, journals, ready, give, acts)
+        tell_once(world, journals, ready.step, give, acts)
     } else {
         act_once(world, ready, give, acts)
     }
@@ -369,21 +369,20 @@ fn act_once(
 fn tell_once(
     world: &mut World,
     journals: &mut Journals,
-    ready: &Ready,
+    step: Step,
     give: Give,
     acts: &mut [Act; 2],
 ) -> Result<(), RunFault>
-    requires { IsReady world.old ready.now }
+    requires { step_refusal world.old step ≡ None }
     ensures fault { IfErr result (λ fault. is_of_cast fault ≡ false) }
     ensures plan { world.new.agenda.plan ≡ world.old.agenda.plan }
     ensures size { world.new.system.size ≡ world.old.system.size }
     ensures early { IfErr result (λ fault. (n : ℕ) (why : StepFault) → fault ≢ RunFault.Step n why) }
-    ensures named { IfErr result (λ fault. (p : ℕ) → stopped_at fault ≡ Some p → process_of_step ready.now.step ≡ p) }
+    ensures named { IfErr result (λ fault. (p : ℕ) → stopped_at fault ≡ Some p → process_of_step step ≡ p) }
     ensures objects { IfErr result (λ fault. (p : ℕ) → fault ≢ RunFault.Object p) }
-    ensures leads { OnOk result (Tells world.old journals.old ready.now.step give world.new journals.new acts.new) }
+    ensures leads { OnOk result (Tells world.old journals.old step give world.new journals.new acts.new) }
 {
     laws_of_runs();
-    let step = ready.step;
     let p = process_of(&step);
     let told = match world.step(step, give) {
         Ok(told) => told,
