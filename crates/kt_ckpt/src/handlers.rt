@@ -9,7 +9,7 @@ ghost use Rattle.kt_parts.specs.Rules.{after_reply, reply_action, settle_action}
 ghost use Rattle.kt_parts.specs.Joins.{Joins};
 ghost use Rattle.kt_parts.specs.Replies.{IsReplyTo};
 ghost use Rattle.kt_parts.specs.Counts.{counts_of, counts_at_reply, counts_if_joined, no_parcel, one_reply, decisions_to};
-ghost use Rattle.kt_ckpt.specs.Rules.{checkpoint_refusal, checkpoint_call_of_decision};
+ghost use Rattle.kt_ckpt.specs.Rules.{checkpoint_refusal, checkpoint_call_of_decision, must_join};
 ghost use Rattle.kt_ckpt.specs.Actions.{AsksCheckpointCohort, IsCheckpointStart, IsCheckpointAnswer};
 
 use kt_base::{Cause, InstNo, Label, Memory, ProcNo, Standing};
@@ -81,6 +81,38 @@ pub fn start(
     Ok((Some(side), action))
 }
 
+/// The reply of a process that an ask does not make join; None where it joins.
+#[inline(always)]
+pub fn answer(
+    tables: &Tables,
+    standing: Standing,
+    from: ProcNo,
+    inst: InstNo,
+    label: Label,
+) -> Option<Action>
+    requires from { from < tables.now.processes }
+    ensures rule { IfSome result (λ action. (calls : List Call) → TablesStandFor tables.now calls → IsCheckpointAnswer calls standing inst from label None action) }
+    ensures counts { IfSome result (λ action. counts_of action ≡ one_reply) }
+    ensures replies { IfSome result (λ action. IsReplyTo from action) }
+
+    // Where it joins, nothing forbids that.
+    ensures joins { IfNone result (checkpoint_refusal standing.in_inst standing.up standing.able ≡ None) }
+    ensures outside { IfNone result (standing.in_inst ≡ None) }
+    ensures joined { IfNone result ((standing.up ≡ true) × (standing.able ≡ true) × (must_take tables.now from label ≡ true)) }
+    ensures must { IfNone result ((calls : List Call) → TablesStandFor tables.now calls → must_join calls from label ≡ true) }
+{
+    if let Some(current) = standing.in_inst {
+        return Some(Action::reply_in(current, inst, from));
+    }
+    if !tables.must_take(from, label) {
+        return Some(Action::willing(from));
+    }
+    if let Some(cause) = refusal(standing) {
+        return Some(Action::unwilling(from, cause));
+    }
+    None
+}
+
 /// A process asks this one to take part in an instance: it replies, or takes its tentative checkpoint.
 pub fn on_ask(
     tables: &mut Tables,
@@ -114,14 +146,8 @@ pub fn on_ask(
     ensures asked { IfOk result (λ r. IfSome r.0 (λ side. (q : ℕ) → has side.asked q ≡ true → has_one tables.old.last_rcvd q ≡ true)) }
     ensures last_out { tables.new.last_out ≡ tables.old.last_out }
 {
-    if let Some(current) = standing.in_inst {
-        return Ok((None, Action::reply_in(current, inst, from)));
-    }
-    if !tables.must_take(from, label) {
-        return Ok((None, Action::willing(from)));
-    }
-    if let Some(cause) = refusal(standing) {
-        return Ok((None, Action::unwilling(from, cause)));
+    if let Some(action) = answer(tables, standing, from, inst, label) {
+        return Ok((None, action));
     }
     let (side, action) = join(tables, inst, Some(from))?;
     Ok((Some(side), action))

@@ -3,5 +3,5 @@
 
 mod handlers;
 
-pub use handlers::{on_ask, on_decide, on_reply, start};
+pub use handlers::{answer, on_ask, on_decide, on_reply, start};
 pub use kt_parts::{Action, Asks, Part as Side, Then};

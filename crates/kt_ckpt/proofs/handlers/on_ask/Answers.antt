@@ -1,27 +1,17 @@
-use Rattle.std.proofs.Common.{◌≡◌, refl, sym, ◌∙◌}
-use Rattle.kt_ckpt.specs.Rules.{must_join}
-use Rattle.kt_ckpt.proofs.Rulings.{outside, refused, joined, join_answers}
+use Rattle.std.proofs.Common.{◌≡◌, List, true, refl, subst}
+use Rattle.std.specs.Prelude.{Option, None, IfNone}
+use Rattle.kt_parts.specs.declared.actions.Action.{Action}
+use Rattle.kt_tables.specs.Calls.{Call}
+use Rattle.kt_tables.specs.Standing.{TablesStandFor}
+use Rattle.kt_ckpt.specs.Rules.{checkpoint_refusal, must_join}
+use Rattle.kt_ckpt.proofs.Rulings.{joined, join_answers}
 use Rattle.kt_ckpt.proofs.handlers.on_ask.Goals as goal
 
-pub returns-then-not-must_take-clause-rule : goal.returns-then-not-must_take-clause-rule
-unfolding must_join
-returns-then-not-must_take-clause-rule c = λ calls h.
-    let must : c.must_take.result ≡ must_join calls c.args.from c.args.label = c.must_take.ensures.test calls h in
-    rw c.willing.ensures (refl, outside c.args.standing.in_inst c.args.standing.up c.args.standing.able c.args.inst _ c.must_take.result (cc) must (cc))
-
-pub returns-in-Some-refusal-clause-rule : goal.returns-in-Some-refusal-clause-rule
-unfolding must_join
-returns-in-Some-refusal-clause-rule c = λ calls h.
-    let must : c.must_take.result ≡ must_join calls c.args.from c.args.label = c.must_take.ensures.test calls h in
-    rw c.unwilling.ensures (
-      refl,
-      refused c.args.standing.in_inst c.args.standing.up c.args.standing.able c.args.inst _ c.must_take.result c.in-Some-refusal.cause (cc) must (cc)
-          (sym c.refusal.ensures ∙ c.in-Some-refusal.is),
-    )
-
 pub returns-clause-rule : goal.returns-clause-rule
-unfolding must_join
 returns-clause-rule c = λ calls h.
-    let must : c.must_take.result ≡ must_join calls c.args.from c.args.label = c.must_take.ensures.test calls h in
-    join_answers calls c.args.standing c.args.inst c.args.from c.args.label _ _ c.in_ok-side.side c.in_ok-side.action c.in_ok-side.ensures.joins
-    (joined c.args.standing.in_inst c.args.standing.up c.args.standing.able c.args.inst _ c.must_take.result (cc) must (cc) (sym c.refusal.ensures ∙ c.in_default-refusal.is))
+    let s = c.args.standing in
+    let free = subst (λ (o : Option Action). IfNone o (checkpoint_refusal s.in_inst s.up s.able ≡ None)) c.in_default.is c.answer.ensures.joins in
+    let facts = subst (λ (o : Option Action). IfNone o (s.in_inst ≡ None)) c.in_default.is c.answer.ensures.outside in
+    let must = subst (λ (o : Option Action). IfNone o ((calls : List Call) → TablesStandFor c.args.tables.now calls → must_join calls c.args.from c.args.label ≡ true)) c.in_default.is c.answer.ensures.must in
+    join_answers calls s c.args.inst c.args.from c.args.label _ _ c.in_ok-side.side c.in_ok-side.action c.in_ok-side.ensures.joins
+    (joined s.in_inst s.up s.able c.args.inst _ (must_join calls c.args.from c.args.label) facts refl (must calls h) free)
