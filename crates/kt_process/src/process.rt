@@ -6,6 +6,7 @@ ghost use Rattle.kt_base.specs.Sets.{has};
 ghost use Rattle.kt_base.specs.declared.words.Kind.TheVariants as kind;
 ghost use Rattle.kt_tables.specs.Calls.{Call, sent, received, on_tentative, Speaks};
 ghost use Rattle.kt_tables.specs.Standing.{TablesStandFor, CanReceive};
+ghost use Rattle.kt_parts.specs.Replies.{IsReplyTo};
 ghost use Rattle.kt_parts.specs.Rules.{after_reply, settle_action};
 ghost use Rattle.kt_roll.specs.Notes.{note_of};
 ghost use Rattle.kt_process.specs.ProcessStates.{ProcessState, part_of_side, is_saving, is_ready, inst_of, asked_of, IsNear, IsNumbered, ProcessFits};
@@ -267,6 +268,23 @@ impl Process {
             self.side = Some(Side::Rollback(side));
         }
         Ok(action)
+    }
+
+    /// Its reply to an ask to take part in a checkpoint that does not make it join; None where it joins.
+    #[inline(always)]
+    pub fn answer_to_save(
+        &self,
+        able: bool,
+        from: ProcNo,
+        inst: InstNo,
+        label: Label,
+    ) -> Option<Action>
+        requires { from < self.now.tables.processes }
+        ensures replies { IfSome result (λ action. IsReplyTo from action) }
+        ensures shows { IfSome result (λ action. (y : SeenProcess) (marks : ℕ → ℕ) → IsSeenAs self.now y → HearsAs kind.Checkpoint able self.now.tables.processes from inst label marks y self.now action) }
+        ensures none { IfNone result (joins_by self.now kind.Checkpoint able from label ≡ true) }
+    {
+        kt_ckpt::answer(&self.tables, self.standing(able), from, inst, label)
     }
 
     /// It is asked to take part in a checkpoint: it replies, or takes its tentative one. The marks count only where it
