@@ -6,6 +6,7 @@ use Rattle.std.proofs.lemmas.List.Elements.{All-get_or}
 use Rattle.std.proofs.lemmas.List.Folds.{list_any_at}
 use Rattle.kt_base.specs.Sets.{has}
 use Rattle.kt_base.specs.declared.words.Kind.{Kind}
+use Rattle.kt_parts.specs.Replies.{IsReplyTo}
 use Rattle.kt_parts.specs.Rules.{way_alone, last_action, after_reply}
 use Rattle.kt_parts.specs.Parts.{Part}
 use Rattle.kt_parts.specs.declared.actions.Action.{Action}
@@ -146,3 +147,11 @@ replies_fit p set w now m r a b action partners within fits g k back h turn foll
         at_test : (t : Bool) → (s.awaited == 1) ≡ t → CanGoOn b p (if t then last_action s.parent (s.willing && w) s.asked else Nothing)
         at_test true f = at_parent s.parent refl (one_left s.awaited f)
         at_test false f = tt
+
+-- a reply needs no more room
+pub reply_fits : (b : Whole) (p from : ℕ) (action : Action) → IsReplyTo from action → CanCarryOut b p action
+reply_fits b p from Nothing h = absurd h
+reply_fits b p from (Refuse cause) h = absurd h
+reply_fits b p from (Reply to willing cause) h = tt
+reply_fits b p from (Settle commit tell) h = absurd h
+reply_fits b p from (Join asks goes) h = absurd h

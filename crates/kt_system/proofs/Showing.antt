@@ -1,5 +1,5 @@
 -- What a system shows after one part of it has changed.
-use Rattle.std.proofs.Common.{◌≡◌, ◌≢◌, ◌<◌, ℕ, List, [], ◌∷◌, ◌++◌, get_or, set, arith, ap, subst, sym, ◌∙◌, inl, inr}
+use Rattle.std.proofs.Common.{◌≡◌, ◌≢◌, ◌<◌, ℕ, List, [], ◌∷◌, ◌++◌, get_or, set, refl, arith, ap, subst, sym, ◌∙◌, inl, inr}
 use Rattle.std.proofs.Math.Path.{fun_ext}
 use Rattle.std.proofs.lemmas.Bool.{cases_eq}
 use Rattle.std.proofs.lemmas.Bool.Decides.{nat_tests}
@@ -54,6 +54,19 @@ at_same p x f = grind (arith, nat_tests)
 
 at_other : {X : Type 0} (p u : ℕ) (x : X) (f : ℕ → X) → u ≢ p → at_one p x f u ≡ f u
 at_other p u x f n = grind (arith, nat_tests)
+
+-- where nothing is changed
+pub turned_none : (a : Whole) (p : ℕ) → IsTurned a a p
+turned_none a p = record {
+  size = refl;
+  others = λ q other. refl;
+  channels = refl;
+  held = refl;
+  kept = refl;
+  rows = refl;
+  begun = refl;
+  put = refl;
+}
 
 -- one process has changed
 pub shows_turned : (a b : Whole) (v : Seen) (p : ℕ) (y : SeenProcess) → IsTurned a b p → IsSeenAs (state_of b p) y → ShowsState a v → ShowsState b (turned_to v p y)

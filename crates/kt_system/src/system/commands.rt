@@ -2,7 +2,8 @@
 
 ghost use Rattle.std.specs.Prelude.{◌≡◌, ◌<◌, ◌≤◌, ◌+◌, ◌^◌, ℕ, true, IfOk, IfSome, IfNone, length};
 ghost use Rattle.kt_base.specs.Sets.{has};
-ghost use Rattle.kt_process.specs.Turns.{peers_of};
+ghost use Rattle.kt_base.specs.declared.words.Kind.TheVariants as kind;
+ghost use Rattle.kt_process.specs.Turns.{peers_of, joins_by};
 ghost use Rattle.kt_system.specs.Systems.{state_of, room_to, CanCarryOut, KeepsParcels, IsSameSystem, LogGrows};
 ghost use Rattle.std.specs.Prelude.{[], Bool, false, Some, drop, OnOk};
 ghost use Rattle.kt_fifo.specs.Channels.{channel};
@@ -96,18 +97,6 @@ impl System {
         marks_of(alloc, &self.kept, p)
     }
 
-    /// How many parcels are kept for a process, by sender, where it joins an instance; else nothing.
-    fn marks_if(&self, alloc: Global, p: ProcNo, joins: bool) -> Result<Vec<usize>, Memory>
-        requires { p < self.now.size }
-        ensures length { joins ≡ true → IfOk result (λ marks. length marks.items ≡ self.now.size) }
-        ensures marks { joins ≡ true → IfOk result (λ marks. mark_of marks.items ≡ kept_of (channel self.now.kept) p) }
-    {
-        if joins {
-            return self.marks(alloc, p);
-        }
-        Ok(Vec::new(alloc))
-    }
-
     /// An instance begins.
     fn open(&mut self, p: ProcNo, inst: InstNo, kind: Kind)
         requires spare { 1 ≤ self.old.rows.spare }
@@ -161,6 +150,34 @@ impl System {
         ProcSet::empty().with(from)
     }
 
+    /// A process takes an ask to take part in a checkpoint, which it joins.
+    #[inline(never)]
+    fn join_to_save(
+        &mut self,
+        alloc: Global,
+        at: ProcNo,
+        from: ProcNo,
+        inst: InstNo,
+        label: Label,
+        able: bool,
+        acts: &mut [Act; 2],
+    ) -> Result<(), Memory>
+        requires can { CanStep self.old at from }
+        requires joins { joins_by (state_of self.old at) kind.Checkpoint able from label ≡ true }
+        requires tables { (state_of self.old at).tables.processes ≡ self.old.size }
+        ensures keeps { KeepsInStep result (front self.old at from) self.old self.new }
+        ensures shows { (v : Seen) → ShowsState self.old v → OnOk result (ShowsState self.new (seen_ask v at from able inst false label (drop 1 (v.channel from at)))) }
+        ensures acts { (v : Seen) → ShowsState self.old v → OnOk result (acts_shown acts.new ≡ seen_acts_asked v at from able inst false label) }
+    {
+        let targets = self.targets(at, from, Kind::Checkpoint, true);
+        self.make_room(at, targets)?;
+        let marks = self.marks(alloc, at)?;
+        let action = self.ask_to_save(at, able, from, inst, label, marks)?;
+        self.pop(at, from);
+        self.answer(at, from, inst, Kind::Checkpoint, action, acts);
+        Ok(())
+    }
+
     /// A process takes an ask to take part in a checkpoint.
     fn take_ask_to_save(
         &mut self,
@@ -177,11 +194,10 @@ impl System {
         ensures shows { (v : Seen) → ShowsState self.old v → OnOk result (ShowsState self.new (seen_ask v at from able inst false label (drop 1 (v.channel from at)))) }
         ensures acts { (v : Seen) → ShowsState self.old v → OnOk result (acts_shown acts.new ≡ seen_acts_asked v at from able inst false label) }
     {
-        let joins = self.process(at).joins_checkpoint(able, from, label);
-        let targets = self.targets(at, from, Kind::Checkpoint, joins);
-        self.make_room(at, targets)?;
-        let marks = self.marks_if(alloc, at, joins)?;
-        let action = self.ask_to_save(at, able, from, inst, label, marks)?;
+        let Some(action) = self.answer_to_save(at, able, from, inst, label) else {
+            return self.join_to_save(alloc, at, from, inst, label, able, acts);
+        };
+        self.make_room(at, ProcSet::empty().with(from))?;
         self.pop(at, from);
         self.answer(at, from, inst, Kind::Checkpoint, action, acts);
         Ok(())

@@ -1,9 +1,10 @@
 //! One process of a system: how it is read, and each of its turns.
 
-ghost use Rattle.std.specs.Prelude.{◌≡◌, ◌<◌, ◌+◌, ◌-◌, ◌^◌, ℕ, true, OnErr, IfOk, length};
+ghost use Rattle.std.specs.Prelude.{◌≡◌, ◌<◌, ◌+◌, ◌-◌, ◌^◌, ℕ, true, OnErr, IfOk, IfSome, IfNone, length};
 ghost use Rattle.std.specs.Option.{option_map};
 ghost use Rattle.kt_base.specs.Sets.{has};
 ghost use Rattle.kt_base.specs.declared.words.Kind.TheVariants as kind;
+ghost use Rattle.kt_parts.specs.Replies.{IsReplyTo};
 ghost use Rattle.kt_parts.specs.Rules.{after_reply};
 ghost use Rattle.kt_process.specs.Turns.{joins_by, reply_of, IsBegin, IsHeard};
 ghost use Rattle.kt_system.specs.Systems.{state_of};
@@ -91,6 +92,26 @@ impl System {
         ensures shows { IfOk result (λ action. (v : Seen) → ShowsState self.old v → BeginsAs kind.Rollback true v.processes inst no_mark (v.states p) (state_of self.new p) action) }
     {
         self.processes[p.index()].begin_rollback(inst)
+    }
+
+    /// The reply of a process to an ask to take part in a checkpoint that does not make it join; None where it joins.
+    #[inline(always)]
+    pub(super) fn answer_to_save(
+        &self,
+        p: ProcNo,
+        able: bool,
+        from: ProcNo,
+        inst: InstNo,
+        label: Label,
+    ) -> Option<Action>
+        requires p { p < self.now.size }
+        requires from { from < self.now.size }
+        ensures replies { IfSome result (λ action. IsReplyTo from action) }
+        ensures shows { IfSome result (λ action. (v : Seen) (marks : ℕ → ℕ) → ShowsState self.now v → HearsAs kind.Checkpoint able v.processes from inst label marks (v.states p) (state_of self.now p) action) }
+        ensures none { IfNone result (joins_by (state_of self.now p) kind.Checkpoint able from label ≡ true) }
+        ensures tables { (state_of self.now p).tables.processes ≡ self.now.size }
+    {
+        self.process(p).answer_to_save(able, from, inst, label)
     }
 
     /// A process hears an ask to take part in a checkpoint. The marks count only where it joins.
