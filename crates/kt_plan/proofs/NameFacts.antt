@@ -6,7 +6,7 @@ use Rattle.std.proofs.lemmas.List.Sums.{fails_before_first}
 use Rattle.std.proofs.lemmas.List.Folds.{list_any_none}
 use Rattle.std.proofs.lemmas.Slice.Eq.{bytes_eq-Decides}
 use Rattle.std.proofs.lemmas.Bool.Decides.{nat_tests}
-use Rattle.std.specs.Str.{bytes_eq, IsAscii}
+use Rattle.std.specs.Str.{bytes_eq, IsAscii, IsUtf8}
 use Rattle.std.specs.Char.{is_ascii_lowercase}
 use Rattle.std.proofs.lemmas.List.{length-map, map-append, length-append, get_or-take, length-take, get_or_default}
 use Rattle.std.proofs.lemmas.List.Elements.{All-push}
@@ -83,6 +83,14 @@ improper names word are wrong =
     differs : {x : List ℕ} (b : Bool) → (b ≡ true → word ≡ x) → is_name x ≡ true → b ≡ false
     differs true same proper = let e = ap is_name (same refl) in cc (e, proper, wrong)
     differs false same proper = refl
+
+-- nor does one that is no text
+pub unreadable : (names : List (List ℕ)) (word : List ℕ) → AreNames names → ¬ (IsUtf8 word) → number_in names word ≡ None
+unreadable names word are wrong = improper names word are (unnamed (is_name word) refl)
+  where
+    unnamed : (b : Bool) → is_name word ≡ b → b ≡ false
+    unnamed true e = absurd (wrong (IsUtf8-from_ascii word (ascii word e)))
+    unnamed false e = refl
 
 -- a new name
 pub one_more : (names : List (List ℕ)) (name : List ℕ) → AreNames names → is_name name ≡ true → number_in names name ≡ None → length names < 64 → AreNames (names ++ name ∷ [])

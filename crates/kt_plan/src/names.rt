@@ -48,6 +48,21 @@ pub fn name_in(word: &[u8]) -> Option<&str>
     }
 }
 
+// The place of the first text that a word is.
+fn place_among(texts: &[String], word: &[u8]) -> Option<usize>
+    ensures place { result ≡ position (λ text. bytes_eq word.now (string_bytes text)) texts.now }
+    ensures within { IfSome result (λ place. place < length texts.now) }
+{
+    texts.iter().position(
+        |text: &String| -> bool
+            ensures { result ≡ bytes_eq word.entry.now (string_bytes text.entry.now) }
+        { word == text.as_str().as_bytes() },
+    )
+}
+
+// So few names are looked through in a fraction of the time that it takes to look one up.
+const FEW: usize = 8;
+
 /// At most 64 names of processes, all different, numbered from 0 in the order in which they came.
 #[derive(Debug, Drop)]
 pub struct Names {
@@ -96,8 +111,14 @@ impl Names {
         ensures number { result ≡ number_in self.now word.now }
     {
         let set = &self.set;
-        let name = name_in(word)?;
-        let number = set.get_index_of(name)?;
+        if set.len() <= FEW {
+            let number = place_among(set.as_slice(), word)?;
+            return Some(ProcNo::nth(number as u8));
+        }
+        let Ok(text) = std::str::from_utf8(word) else {
+            return None;
+        };
+        let number = set.get_index_of(text)?;
         Some(ProcNo::nth(number as u8))
     }
 

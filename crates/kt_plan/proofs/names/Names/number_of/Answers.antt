@@ -1,26 +1,31 @@
-use Rattle.std.proofs.Common.{◌≡◌, ◌∙◌, sym, ap, subst, List, ℕ, rules}
-use Rattle.std.specs.Prelude.{Option, Some, None}
+use Rattle.std.proofs.Common.{◌∙◌, sym, ap, subst, refl}
+use Rattle.std.specs.Prelude.{Some, None}
 use Rattle.std.specs.String.{string_bytes}
-use Rattle.kt_plan.proofs.NameFacts.{looked_up, improper}
+use Rattle.kt_plan.proofs.NameFacts.{looked_up, unreadable}
 use Rattle.kt_plan.specs.Names.{AreNames}
 use Rattle.kt_plan.proofs.names.Names.number_of.Goals as goal
 
-pub returns-in_err-name : goal.returns-in_err-name
-returns-in_err-name c = record {
-  number = c.from_residual.ensures ∙ sym (improper c.args.self.now c.args.word.now (subst AreNames c.self.view_is c.self.invariant) c.in_err-name.ensures.none);
+pub returns-then-len-le-FEW : goal.returns-then-len-le-FEW
+returns-then-len-le-FEW c = record {
+  number = ap Some c.nth.ensures ∙ looked_up string_bytes c.self.inside.set.keys c.args.self.now c.args.word.now c.args.word.now (Some c.in_ok-number.number) c.self.view_is refl (rw c.as_slice.ensures.keys at c.in_ok-number.ensures.place);
 }
 
 pub returns-in_err-number : goal.returns-in_err-number
-returns-in_err-number c =
-    let named : c.in_ok-name.name.now ≡ c.args.word.now = search rules in
-    record {
-      number = c.from_residual-in_err-number.ensures ∙ looked_up string_bytes c.self.inside.set.keys c.args.self.now c.in_ok-name.name.now c.args.word.now None c.self.view_is named c.in_err-number.ensures.index;
-    }
+returns-in_err-number c = record {
+  number = c.from_residual.ensures ∙ looked_up string_bytes c.self.inside.set.keys c.args.self.now c.args.word.now c.args.word.now None c.self.view_is refl (rw c.as_slice.ensures.keys at c.in_err-number.ensures.place);
+}
+
+pub returns-in_default : goal.returns-in_default
+returns-in_default c = record {
+  number = sym (unreadable c.args.self.now c.args.word.now (subst AreNames c.self.view_is c.self.invariant) c.in_default.ensures.cases.0);
+}
+
+pub returns-in_err-number-2 : goal.returns-in_err-number-2
+returns-in_err-number-2 c = record {
+  number = c.from_residual-in_err-number-2.ensures ∙ looked_up string_bytes c.self.inside.set.keys c.args.self.now c.in-Ok.text.now c.args.word.now None c.self.view_is c.in-Ok.ensures.cases.0 c.in_err-number-2.ensures.index;
+}
 
 pub returns : goal.returns
-returns c =
-    let named : c.in_ok-name.name.now ≡ c.args.word.now = search rules in
-    let number : c.nth.result ≡ c.in_ok-number.number = search rules in
-    record {
-      number = ap Some number ∙ looked_up string_bytes c.self.inside.set.keys c.args.self.now c.in_ok-name.name.now c.args.word.now (Some c.in_ok-number.number) c.self.view_is named c.in_ok-number.ensures.index;
-    }
+returns c = record {
+  number = ap Some c.nth-2.ensures ∙ looked_up string_bytes c.self.inside.set.keys c.args.self.now c.in-Ok.text.now c.args.word.now (Some c.in_ok-number-2.number) c.self.view_is c.in-Ok.ensures.cases.0 c.in_ok-number-2.ensures.index;
+}
