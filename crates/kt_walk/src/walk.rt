@@ -129,6 +129,51 @@ impl Walk {
         Ok(())
     }
 
+    /// Takes one more row of a legal log, and tests no rule. A walk that lacks the memory for it is unchanged.
+    pub fn feed_legal(&mut self, row: &Event) -> Result<(), Memory>
+        requires few { self.old.rows < 2 ^ 24 }
+        ensures fed { OnOk result ((rows : List Event) → WalkOf self.old rows → IsLegal (rows ++ row.now ∷ [])
+            → WalkOf self.new (rows ++ row.now ∷ [])) }
+        ensures unchanged { OnErr result (self.new ≡ self.old) }
+    {
+        match *row {
+            Event::Sent { p, to, .. } => self.send(p, to),
+            Event::Received { p, from, msg } => self.receive_legal(p, from, msg),
+            Event::Dropped { p, from, msg } => self.drop_legal(p, from, msg),
+            _ => self.add(row),
+        }
+    }
+
+    // Takes a row of a legal log that receives a message.
+    fn receive_legal(&mut self, p: ProcNo, from: ProcNo, msg: MsgNo) -> Result<(), Memory>
+        requires few { self.old.rows < 2 ^ 24 }
+        ensures fed { OnOk result ((rows : List Event) → WalkOf self.old rows
+            → IsLegal (rows ++ event.Received p from msg ∷ [])
+            → WalkOf self.new (rows ++ event.Received p from msg ∷ [])) }
+        ensures unchanged { OnErr result (self.new ≡ self.old) }
+    {
+        match self.pairs.find(p, from, msg) {
+            Some((index, message)) => self.receive(p, from, index, message),
+            // In a legal log the message is in transit.
+            None => Ok(()),
+        }
+    }
+
+    // Takes a row of a legal log that drops a message.
+    fn drop_legal(&mut self, p: ProcNo, from: ProcNo, msg: MsgNo) -> Result<(), Memory>
+        requires few { self.old.rows < 2 ^ 24 }
+        ensures fed { OnOk result ((rows : List Event) → WalkOf self.old rows
+            → IsLegal (rows ++ event.Dropped p from msg ∷ [])
+            → WalkOf self.new (rows ++ event.Dropped p from msg ∷ [])) }
+        ensures unchanged { OnErr result (self.new ≡ self.old) }
+    {
+        match self.pairs.find(p, from, msg) {
+            Some((index, message)) => self.drop_message(p, from, index, message),
+            // In a legal log the message is in transit.
+            None => Ok(()),
+        }
+    }
+
     // The number of the next row and the least rule that it breaks, where it breaks one; it is tested rule by rule.
     // Whether the message that it takes is in transit is given.
     #[inline(never)]
