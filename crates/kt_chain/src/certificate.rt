@@ -48,6 +48,16 @@ impl Chain {
         Ok(())
     }
 
+    /// This chain and one more message at its end, with room for no more.
+    pub fn longer(&self, alloc: Global, msg: MsgNo) -> Result<Chain, Memory>
+        ensures { IfOk result (λ longer. longer ≡ self.now ++ msg ∷ []) }
+    {
+        let mut messages = Vec::with_capacity(alloc, self.messages.len().saturating_add(1))?;
+        messages.extend_from_slice(self.messages.as_slice())?;
+        messages.push(msg)?;
+        Ok(Chain { messages })
+    }
+
     /// The messages in order.
     pub fn messages(&self) -> &[MsgNo]
         ensures { result.now ≡ self.now }
@@ -78,6 +88,15 @@ impl Members {
         Members {
             list: Vec::new(alloc),
         }
+    }
+
+    /// No members, with room for so many.
+    pub fn with_capacity(alloc: Global, capacity: usize) -> Result<Members, Memory>
+        ensures { IfOk result (λ members. members ≡ []) }
+    {
+        Ok(Members {
+            list: Vec::with_capacity(alloc, capacity)?,
+        })
     }
 
     /// Adds a member at the end.
