@@ -13,7 +13,7 @@ use Rattle.kt_cuts.proofs.LegalLogs.{legal_take}
 use Rattle.kt_checker.proofs.Answering.{no_broken}
 use Rattle.kt_certify.specs.Faults.{HasNoChain, IsUnfit}
 use Rattle.kt_certify.specs.Instances.{InstanceParts, AreInstancesOf}
-use Rattle.kt_certify.specs.PassOf.{PassOf}
+use Rattle.kt_certify.specs.PassOf.{KeepsFit, PassOf}
 use Rattle.kt_certify.specs.declared.fault.Unfit.{Unfit}
 use Rattle.kt_certify.specs.declared.fault.Unfit.TheVariants.{BadLog, NoChain}
 use Rattle.kt_certify.specs.declared.pass.Pass.{Pass}
@@ -31,12 +31,12 @@ module _ (log : List Event) (legal : IsLegal log) (chained : (k p : ℕ) → Has
       let more = lacks_more (take n log) (drop n log) k p h.1.lacks in
       chained k p (subst (λ (l : List Event). HasNoChain l k p) (take-append-drop n log) more.0)
 
-  -- so a pass over them has their instances
-  pub instances_so_far : (pass : Pass) → PassOf pass (take n log) → AreInstancesOf (take n log) pass.instances.items
-  instances_so_far pass h = at pass.unfit refl
+  -- so a pass over them knows all that is known of rows that are fit
+  pub fit_in_front : (pass : Pass) → PassOf pass (take n log) → KeepsFit pass (take n log)
+  fit_in_front pass h = at pass.unfit refl
     where
-      at : (o : Option Unfit) → pass.unfit ≡ o → AreInstancesOf (take n log) pass.instances.items
-      at None e = (fit_so_far pass (take n log) h e).instances
+      at : (o : Option Unfit) → pass.unfit ≡ o → KeepsFit pass (take n log)
+      at None e = fit_so_far pass (take n log) h e
       at (Some why) e = absurd (never_unfit why (h.unfit why e))
 
 -- the certificates that are kept of all rows

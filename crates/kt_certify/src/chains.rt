@@ -28,18 +28,6 @@ fn link(walk: &Walk, inst: InstNo, kind: Kind, p: ProcNo, q: ProcNo) -> Option<M
     }
 }
 
-// A chain with one more message.
-fn longer(alloc: Global, chain: &Chain, msg: MsgNo) -> Result<Chain, Memory>
-    ensures { IfOk result (λ longer. longer ≡ chain.now ++ msg ∷ []) }
-{
-    let mut longer = Chain::new(alloc);
-    for earlier in chain.messages() {
-        longer.push(*earlier)?;
-    }
-    longer.push(msg)?;
-    Ok(longer)
-}
-
 // The chain of the first of these members that a message links the process with, and the least such message.
 fn chain_through(
     alloc: Global,
@@ -54,7 +42,7 @@ fn chain_through(
 {
     for (q, chain) in earlier {
         if let Some(msg) = link(walk, inst, kind, p, *q) {
-            return Ok(Some(longer(alloc, chain, msg)?));
+            return Ok(Some(chain.longer(alloc, msg)?));
         }
     }
     Ok(None)
@@ -95,7 +83,7 @@ pub(crate) fn chained(
     ensures fault { IfErr result (λ f. (rows : List Event) → WalkOf walk.now rows
         → StopsAt (past rows) inst kind initiator joined.now f) }
 {
-    let mut members = Members::new(alloc);
+    let mut members = Members::with_capacity(alloc, joined.len())?;
     for p in joined {
         let Some(chain) = chain_of(alloc, walk, inst, kind, initiator, members.list(), *p)? else {
             return Err(Stop::NoChain(inst, *p));

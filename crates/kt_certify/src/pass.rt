@@ -94,6 +94,21 @@ impl Pass {
         Ok(Some(Unfit::NoChain(inst, number, process)))
     }
 
+    /// One more row of a legal log of which no member lacks a chain, which tests no rule.
+    pub(crate) fn feed_legal(&mut self, row: &Event) -> Result<(), Memory>
+        requires few { self.old.walk.rows < 2 ^ 24 }
+        ensures walk { OnOk result ((rows : List Event) → IsLegal (rows ++ row.now ∷ []) → WalkOf self.old.walk rows
+            → WalkOf self.new.walk (rows ++ row.now ∷ [])) }
+        ensures instances { OnOk result ((rows : List Event) → IsLegal (rows ++ row.now ∷ []) → WalkOf self.old.walk rows
+            → AreInstancesOf rows self.old.instances.items
+            → AreInstancesOf (rows ++ row.now ∷ []) self.new.instances.items) }
+    {
+        match enter(&mut self.instances, self.alloc, &self.walk, row) {
+            Ok(()) => self.walk.feed_legal(row),
+            Err(_) => Err(Memory),
+        }
+    }
+
     /// One more row, which commits no instance: what it changes of the instances alone. From then on rows are no longer fed.
     pub(crate) fn note(&mut self, row: &Event) -> Result<(), Memory>
         ensures { OnOk result ((rows : List Event) → is_commit row.now ≡ false → IsLegal (rows ++ row.now ∷ [])

@@ -9,7 +9,7 @@ ghost use Rattle.kt_certify.specs.Certificates.{certificates};
 ghost use Rattle.kt_certify.specs.Decisions.{is_commit};
 ghost use Rattle.kt_certify.specs.Faults.{HasNoChain};
 ghost use Rattle.kt_certify.specs.Instances.{AreInstancesOf};
-ghost use Rattle.kt_certify.specs.PassOf.{PassOf};
+ghost use Rattle.kt_walk.specs.WalkOf.{WalkOf};
 
 use crate::pass::Pass;
 use kt_base::Memory;
@@ -62,14 +62,16 @@ fn is_commit(row: &Event) -> bool
     }
 }
 
-// Feeds rows to a pass that has seen none.
+// Feeds rows of a legal log of which no member lacks a chain to a pass that has seen none.
 fn feed_all(pass: &mut Pass, rows: &[Event]) -> Result<(), Memory>
-    requires none_seen { PassOf pass.old [] }
+    requires walk { WalkOf pass.old.walk [] }
+    requires instances { AreInstancesOf [] pass.old.instances.items }
+    requires legal { IsLegal rows.now }
     requires few { length rows.now ≤ 2 ^ 24 }
-    ensures { OnOk result (PassOf pass.new rows.now) }
+    ensures { OnOk result (AreInstancesOf rows.now pass.new.instances.items) }
 {
     for row in rows {
-        pass.feed(row)?;
+        pass.feed_legal(row)?;
     }
     Ok(())
 }

@@ -1,17 +1,20 @@
-use Rattle.std.proofs.Common.{ℕ, List, sym, subst}
+use Rattle.std.proofs.Common.{sym, subst}
 use Rattle.std.proofs.lemmas.Result.{IfOk-weaker}
-use Rattle.kt_spacetime.specs.declared.event.Event.{Event}
 use Rattle.kt_cuts.specs.Legal.{IsLegal}
-use Rattle.kt_certify.specs.Faults.{HasNoChain}
-use Rattle.kt_certify.proofs.RunFacts.{instances_so_far, are_certificates, are_short, are_said}
+use Rattle.kt_cuts.proofs.LegalLogs.{legal_take}
+use Rattle.kt_certify.proofs.RunFacts.{fit_in_front, are_certificates, are_short, are_said}
 use Rattle.kt_certify.proofs.runs.certificates_of_run.Goals as goal
 
-pub note_from-requires-clause-before : goal.note_from-requires-clause-before
-note_from-requires-clause-before c =
+pub feed_all-requires-clause-walk : goal.feed_all-requires-clause-walk
+feed_all-requires-clause-walk c = (fit_in_front _ c.requires.legal c.requires.chained 0 c.in_ok-pass.pass c.in_ok-pass.ensures).walk
+
+pub feed_all-requires-clause-instances : goal.feed_all-requires-clause-instances
+feed_all-requires-clause-instances c = (fit_in_front _ c.requires.legal c.requires.chained 0 c.in_ok-pass.pass c.in_ok-pass.ensures).instances
+
+pub feed_all-requires-clause-legal : goal.feed_all-requires-clause-legal
+feed_all-requires-clause-legal c =
     let rows = c.rows-rows.result.now in
-    let same = sym c.rows-rows.ensures.rows in
-    let chained = subst (λ (l : List Event). (k p : ℕ) → HasNoChain l k p → ⊥) same c.requires.chained in
-    instances_so_far rows (subst IsLegal same c.requires.legal) chained c.rows_to_commit-walked.result c.feed_all.new.pass c.in_ok-feed_all.ensures
+    legal_take c.rows_to_commit-walked.result rows (subst IsLegal (sym c.rows-rows.ensures.rows) c.requires.legal)
 
 pub returns-clause-certificates : goal.returns-clause-certificates
 returns-clause-certificates c =
