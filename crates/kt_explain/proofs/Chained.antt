@@ -17,7 +17,7 @@ use Rattle.kt_checker.specs.Passing.{HasLists, IsChain, IsListOf}
 use Rattle.kt_checker.proofs.Chaining.{chain_more}
 use Rattle.kt_checker.proofs.Sound.{within}
 use Rattle.kt_explain.specs.BadChains.{IsBadChain}
-use Rattle.kt_explain.specs.Linking.{IsLinking, MakesChain}
+use Rattle.kt_explain.specs.Linking.{GoesOn, IsLinking, MakesChain}
 use Rattle.kt_explain.specs.Told.{IsItsFirst}
 use Rattle.kt_explain.specs.declared.bad_chain.BadChain.{BadChain}
 use Rattle.kt_explain.specs.declared.linking.Linking.{Linking}
@@ -96,3 +96,8 @@ chain_made rows c b (Linked l) bad link =
     let own = bad.first listed.0 l.q listed.1 low listed.3 in
     let led = own_chain (past rows) c.inst c.kind c.initiator l.q listed.1 own in
     (listed.0, listed.1, listed.2, listed.3, chain_more (past rows) c.inst c.kind c.initiator l.q b.p l.msg listed.1 led link.1)
+
+-- a message that links a process with an earlier member goes on from any chain to that
+pub goes_on : (rows : List Event) (c : Certificate) (place p : ℕ) (linking : Linking) → IsLinking rows c place p linking → GoesOn rows c p linking
+goes_on rows c place p (Unlinked joined) link = tt
+goes_on rows c place p (Linked l) link = λ list led. chain_more (past rows) c.inst c.kind c.initiator l.q p l.msg list led link.1

@@ -219,26 +219,34 @@ one_first certificates k a b g h = elim (cases_order g.0 h.0) [
   ]
 ]
 
--- the list that is not an instance's members
-pub members_fault : (rows : List Event) (certificates : List Certificate) (k : ℕ) (row : Option ℕ) → IsCheckerAnswer rows certificates (No (Some k) row why.Members) → (c : Certificate) × IsItsFirst certificates k c × (listed_in c ≡ members rows k → ⊥)
-members_fault rows certificates k row a =
-    let h = certificate_fault rows certificates k row why.Members (λ e. cc) (λ e. cc) a in
-    (h.certificate, h.first, λ same. h.wrong.2 (same ∙ ap (members rows) h.of_instance))
+-- what a no to a list that is not an instance's members says of the first certificate of the instance
+pub record MembersFault (rows : List Event) (certificates : List Certificate) (k r : ℕ) : Type 0 where
+  pub legal : IsLegal rows
+  pub place : ℕ
+  pub row_is : r ≡ place + 1
+  pub upto : place ≤ length rows
+  pub certificate : Certificate
+  pub first : IsItsFirst certificates k certificate
+  pub unlike : (c : Certificate) → IsItsFirst certificates k c → listed_in c ≡ members rows k → ⊥
 
-as_no : (rows : List Event) (certificates : List Certificate) (k : ℕ) (v : Verdict) (is : IsNoOf v k why.Members) → IsCheckerAnswer rows certificates v → IsCheckerAnswer rows certificates (No (Some k) is.0 why.Members)
-as_no rows certificates k v is a = subst (IsCheckerAnswer rows certificates) is.1 a
+pub members_fault : (rows : List Event) (certificates : List Certificate) (k r : ℕ) → IsCheckerAnswer rows certificates (No (Some k) (Some r) why.Members) → MembersFault rows certificates k r
+members_fault rows certificates k r answer =
+    let h = certificate_fault rows certificates k (Some r) why.Members (λ e. cc) (λ e. cc) answer in
+    record {
+      legal = h.legal;
+      place = h.place;
+      row_is = some_same h.row_is;
+      upto = within rows h.place _ h.in_log.decided;
+      certificate = h.certificate;
+      first = h.first;
+      unlike = λ c first same. h.wrong.2 (ap listed_in (one_first certificates k h.certificate c h.first first) ∙ (same ∙ ap (members rows) h.of_instance));
+    }
 
--- the first certificate of an instance does not list its members, where that is the reason
-pub unlike_first : (rows : List Event) (certificates : List Certificate) (k : ℕ) (v : Verdict) (c : Certificate) → IsNoOf v k why.Members → IsCheckerAnswer rows certificates v → IsItsFirst certificates k c → listed_in c ≡ members rows k → ⊥
-unlike_first rows certificates k v c is a first same =
-    let h = members_fault rows certificates k is.0 (as_no rows certificates k v is a) in
-    h.2 (ap listed_in (one_first certificates k h.0 c h.1 first) ∙ same)
-
--- the instance has a certificate then
-pub members_first : (rows : List Event) (certificates : List Certificate) (k : ℕ) (v : Verdict) → IsNoOf v k why.Members → IsCheckerAnswer rows certificates v → ((c : Certificate) → IsItsFirst certificates k c → ⊥) → ⊥
-members_first rows certificates k v is a none =
-    let h = members_fault rows certificates k is.0 (as_no rows certificates k v is a) in
-    none h.0 h.1
+-- it comes with a row
+pub members_row : (rows : List Event) (certificates : List Certificate) (k : ℕ) → IsCheckerAnswer rows certificates (No (Some k) None why.Members) → ⊥
+members_row rows certificates k a =
+    let h = certificate_fault rows certificates k None why.Members (λ e. cc) (λ e. cc) a in
+    none_some (h.place + 1) h.row_is
 
 -- what is known just before the decision of an instance of which the first certificate is answered by an orphan
 pub record Before (rows : List Event) (c : Certificate) (k r : ℕ) : Type 0 where

@@ -4,6 +4,7 @@ pub mod FilledSets
 pub mod LastRows
 pub mod FoundRows
 pub mod Gives
+pub mod Heads
 pub mod Orphaned
 pub mod Faults
 pub mod CauseRows

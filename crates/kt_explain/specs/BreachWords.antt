@@ -32,10 +32,16 @@ message_breach_words (message.DroppedLater p from msg row) =
     codes "process " ++ (decimal p ++ (codes " dropped the later message " ++ (decimal msg ++ (codes " of process "
     ++ (decimal from ++ (codes " before, in row " ++ (decimal row ++ 10 ∷ [])))))))
 
+-- whether an instance is decided, with the row
+abbrev pub decision_words : Option ℕ → List ℕ
+decision_words (Some row) = codes ", which row " ++ (decimal row ++ codes " decides")
+decision_words None = codes ", which is not decided"
+
 -- where a process is that is not in an instance
-abbrev pub open_in_words : ℕ → ℕ → Option ℕ → List ℕ
-open_in_words p inst (Some other) = codes "process " ++ (decimal p ++ (codes " is in instance " ++ (decimal other ++ (codes ", and not in " ++ (decimal inst ++ codes ": ")))))
-open_in_words p inst None = codes "process " ++ (decimal p ++ codes " is in no instance: ")
+abbrev pub open_in_words : ℕ → ℕ → Option ℕ → Option ℕ → List ℕ
+open_in_words p inst (Some other) decided =
+    (codes "process " ++ (decimal p ++ (codes " is in instance " ++ decimal other))) ++ (decision_words decided ++ (codes ", and not in instance " ++ (decimal inst ++ codes ": ")))
+open_in_words p inst None decided = codes "process " ++ (decimal p ++ codes " is in no instance: ")
 
 -- in which row it closed the instance
 abbrev pub closing_words : Option ℕ → List ℕ
@@ -49,11 +55,11 @@ absence_words inst None closed = codes "it has not joined instance " ++ (decimal
 
 -- a process that is not in an instance
 abbrev pub outside_words : Outside → List ℕ
-outside_words o = open_in_words o.p o.inst o.open_in ++ absence_words o.inst o.joined o.closed
+outside_words o = open_in_words o.p o.inst o.open_in o.decided ++ absence_words o.inst o.joined o.closed
 
 -- how a process leaves an instance
 abbrev pub leaving_words : ℕ → ℕ → List ℕ
-leaving_words p inst = codes ", and has to close it first: closed," ++ (decimal p ++ (codes "," ++ (decimal inst ++ (codes ",- once it is decided" ++ 10 ∷ []))))
+leaving_words p inst = codes ", and has to close it first: closed," ++ (decimal p ++ (codes "," ++ (decimal inst ++ (codes ",-, after a row decided of its initiator" ++ 10 ∷ []))))
 
 -- what is so of a process
 abbrev pub process_breach_words : ProcessBreach → List ℕ
@@ -82,12 +88,16 @@ abbrev pub instance_breach_words : InstanceBreach → List ℕ
 instance_breach_words (instance.Next number) = codes "the next instance to begin has number " ++ (decimal number ++ 10 ∷ [])
 instance_breach_words (instance.NotBegun inst) = codes "instance " ++ (decimal inst ++ (codes " has not begun" ++ 10 ∷ []))
 instance_breach_words (instance.Decided inst row) =
-    codes "instance " ++ (decimal inst ++ (codes " was decided in row " ++ (decimal row ++ 10 ∷ [])))
-instance_breach_words (instance.Undecided inst) = codes "instance " ++ (decimal inst ++ (codes " is not decided" ++ 10 ∷ []))
+    codes "instance " ++ (decimal inst ++ (codes " was decided in row " ++ (decimal row
+    ++ (codes ": after that nobody joins it, is unwilling to join it or decides it, so the row has to go" ++ 10 ∷ []))))
+instance_breach_words (instance.Undecided inst) = codes "instance " ++ (decimal inst ++ (codes " is not decided: its initiator does that, by a row decided" ++ 10 ∷ []))
 instance_breach_words (instance.OfKind inst Checkpoint row) =
     codes "instance " ++ (decimal inst ++ (codes " began in row " ++ (decimal row ++ (codes ", as a checkpoint: it is joined by took" ++ 10 ∷ []))))
 instance_breach_words (instance.OfKind inst Rollback row) =
-    codes "instance " ++ (decimal inst ++ (codes " began in row " ++ (decimal row ++ (codes ", as a rollback: it is joined by ready; only who is busy is unwilling to join it" ++ 10 ∷ []))))
+    codes "instance " ++ (decimal inst ++ (codes " began in row " ++ (decimal row ++ (codes ", as a rollback: it is joined by ready" ++ 10 ∷ []))))
+instance_breach_words (instance.OnlyBusy inst row) =
+    codes "instance " ++ (decimal inst ++ (codes " began in row " ++ (decimal row
+    ++ (codes ", as a rollback: only who is in another instance is unwilling to join it, all others join it by ready, up or down" ++ 10 ∷ []))))
 instance_breach_words (instance.Initiator inst p row) =
     codes "the initiator of instance " ++ (decimal inst ++ (codes " is process " ++ (decimal p
     ++ (codes ", which began it in row " ++ (decimal row ++ 10 ∷ [])))))

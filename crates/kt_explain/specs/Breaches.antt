@@ -1,6 +1,7 @@
 -- What breaks a rule: when what is told is so, and what it is against.
 use Rattle.std.specs.Prelude.{◌≡◌, ◌≤◌, ◌+◌, ◌^◌, ℕ, Bool, true, false, Option, Some, None, Result, Ok, Err, is_some, List, [], length}
 use Rattle.kt_base.specs.declared.words.Kind.{Kind}
+use Rattle.kt_base.specs.declared.words.Kind.TheVariants.{Rollback}
 use Rattle.kt_spacetime.specs.declared.event.Event.{Event}
 use Rattle.kt_spacetime.specs.declared.event.Event.TheVariants as event
 use Rattle.kt_cuts.specs.declared.deeds.Deed.{Deed}
@@ -50,10 +51,16 @@ IsSoOfMessage rows (message.ReceivedLater p from msg row) =
 IsSoOfMessage rows (message.DroppedLater p from msg row) =
     IsLatestFrom from ((past rows).dropped_since p) msg × IsLastIn (drops msg) rows row
 
+-- in which row the open instance of a process was decided, if it was
+abbrev pub IsDecidedIn : List Event → Option ℕ → Option ℕ → Type 0
+IsDecidedIn rows None decided = decided ≡ None
+IsDecidedIn rows (Some k) decided = IsLastNumber (decides_inst k) rows decided
+
 -- a process is not in an instance, but in this open one, or in none; in which rows it joined and closed that, if it did
 pub record IsOutside (rows : List Event) (o : Outside) : Type 0 where
   pub open_in : (past rows).open_in o.p ≡ o.open_in
   pub another : is_instance o.open_in o.inst ≡ false
+  pub decided : IsDecidedIn rows o.open_in o.decided
   pub joined : IsLastNumber (is_join o.p o.inst) rows o.joined
   pub closed : IsLastNumber (closes o.p o.inst) rows o.closed
 
@@ -77,6 +84,8 @@ IsSoOfInstance rows (instance.Decided k row) =
 IsSoOfInstance rows (instance.Undecided k) = (past rows).decision k ≡ None
 IsSoOfInstance rows (instance.OfKind k kind row) =
     (kind_of (past rows) k ≡ Some kind) × (p : ℕ) × IsFirstRow (begins_inst k) rows row (event.Began p k kind)
+IsSoOfInstance rows (instance.OnlyBusy k row) =
+    (kind_of (past rows) k ≡ Some Rollback) × (p : ℕ) × (kind : Kind) × IsFirstRow (begins_inst k) rows row (event.Began p k kind)
 IsSoOfInstance rows (instance.Initiator k p row) =
     (initiator_of (past rows) k ≡ Some p) × (kind : Kind) × IsFirstRow (begins_inst k) rows row (event.Began p k kind)
 IsSoOfInstance rows (instance.JustBegun p k kind) = (past rows).last ≡ Some (event.Began p k kind)

@@ -1,5 +1,5 @@
 -- A message that links a member with one before it.
-use Rattle.std.specs.Prelude.{◌≡◌, ◌<◌, ◌+◌, ℕ, Some, List, [], ◌∷◌, ◌++◌, slice_get}
+use Rattle.std.specs.Prelude.{◌≡◌, ◌<◌, ◌+◌, ◌==◌, ℕ, Option, Some, None, List, [], ◌∷◌, ◌++◌, slice_get}
 use Rattle.kt_spacetime.specs.declared.event.Event.{Event}
 use Rattle.kt_cuts.specs.Past.{past}
 use Rattle.kt_cuts.specs.Legal.{is_join}
@@ -21,10 +21,10 @@ LeadsTo rows c q msg p = IsChain (past rows) c.inst c.kind q (msg ∷ []) p
 abbrev pub HasNoLink : List Event → Certificate → ℕ → ℕ → Type 0
 HasNoLink rows c place p = (q msg : ℕ) → IsListedBefore c place q → LeadsTo rows c q msg p → ⊥
 
--- a message that leads to a process from one that is listed before a place; or that there is none, and in which row that
+-- a message that leads to a process from one that is listed before a place, and whether that is the initiator; or that there is none, and in which row that
 -- process joined the instance
 abbrev pub IsLinking : List Event → Certificate → ℕ → ℕ → Linking → Type 0
-IsLinking rows c place p (Linked l) = IsListedBefore c place l.q × LeadsTo rows c l.q l.msg p
+IsLinking rows c place p (Linked l) = IsListedBefore c place l.q × LeadsTo rows c l.q l.msg p × (l.of_initiator ≡ (l.q == c.initiator))
 IsLinking rows c place p (Unlinked joined) = HasNoLink rows c place p × IsLastNumber (is_join p c.inst) rows joined
 
 -- the list of that one, followed by the message, is a chain from the initiator to the process
@@ -33,3 +33,16 @@ MakesChain rows c place p (Linked l) =
     (n : ℕ) × (list : List ℕ) × (n + 1 < place) × (slice_get c.members n ≡ Some (l.q, list))
     × IsChain (past rows) c.inst c.kind c.initiator (list ++ l.msg ∷ []) p
 MakesChain rows c place p (Unlinked joined) = Unit {0}
+
+-- any chain from the initiator to that one, followed by the message, is a chain to the process
+abbrev pub GoesOn : List Event → Certificate → ℕ → Linking → Type 0
+GoesOn rows c p (Linked l) =
+    (list : List ℕ) → IsChain (past rows) c.inst c.kind c.initiator list l.q → IsChain (past rows) c.inst c.kind c.initiator (list ++ l.msg ∷ []) p
+GoesOn rows c p (Unlinked joined) = Unit {0}
+
+-- how the process that joined at a place, counted from 1, is linked; nobody joined there, or the initiator, which needs no
+-- message
+abbrev pub IsLinkingOf : List Event → Certificate → ℕ → Option ℕ → Option Linking → Type 0
+IsLinkingOf rows c place None linking = linking ≡ None
+IsLinkingOf rows c place (Some p) None = p ≡ c.initiator
+IsLinkingOf rows c place (Some p) (Some linking) = IsLinking rows c place p linking × GoesOn rows c p linking

@@ -11,7 +11,13 @@ use Rattle.kt_explain.specs.declared.difference.Difference.TheVariants.{Second}
 use Rattle.kt_explain.specs.declared.explanation.Explanation.{Explanation}
 use Rattle.kt_explain.specs.declared.explanation.Explanation.TheVariants.{Nothing, Unknown, Objection, NoObjection, OtherMember, BadChain, Uncertified, Orphan, BadLog, LeftOpen}
 
--- whether a member has to have a chain, and no message links it with one before it: the log is at fault
+-- whether a process that joined is not the initiator, and no message links it with one before it: the log is at fault
+abbrev pub is_unlinked : Option Linking → Bool
+is_unlinked None = false
+is_unlinked (Some (Linked link)) = false
+is_unlinked (Some (Unlinked joined)) = true
+
+-- the same of a member whose list is no chain
 abbrev pub is_at_fault : Flaw → Linking → Bool
 is_at_fault Initiator linking = false
 is_at_fault flaw (Linked link) = false
@@ -21,20 +27,24 @@ is_at_fault flaw (Unlinked joined) = true
 abbrev pub certified_inst : Explanation → Option ℕ
 certified_inst Nothing = None
 certified_inst (LeftOpen l) = None
-certified_inst (Unknown k difference) = Some k
+certified_inst (Unknown k difference head) = Some k
 certified_inst (Objection k p row decided) = None
 certified_inst (NoObjection k decided) = None
-certified_inst (OtherMember k place listed joined) = Some k
+certified_inst (OtherMember k unlike linking) = if is_unlinked linking then None else Some k
 certified_inst (BadChain k chain about linking) = if is_at_fault chain.flaw linking then None else Some k
 certified_inst (Uncertified k row) = None
 certified_inst (Orphan k orphan) = None
 certified_inst (BadLog b) = None
 
+-- the place of the one who is listed, or of the one before it where nobody is
+abbrev pub unlike_place : Option ℕ → ℕ → ℕ
+unlike_place (Some p) place = place
+unlike_place None place = place - 1
+
 -- the place, from 1, of the listed member that an answer is about, or after which one is missing; 0 where it is about none
 abbrev pub member_place : Explanation → ℕ
 member_place (BadChain k chain about linking) = chain.place
-member_place (OtherMember k place (Some p) joined) = place
-member_place (OtherMember k place None joined) = place - 1
+member_place (OtherMember k unlike linking) = unlike_place unlike.listed unlike.place
 member_place e = 0
 
 -- the first certificate of an instance from a place on stands at this one
@@ -47,7 +57,7 @@ pub record IsNextAt (certificates : List Certificate) (k from i : ℕ) : Type 0 
 
 -- whether an answer is about the second certificate of its instance
 abbrev pub is_of_second : Explanation → Bool
-is_of_second (Unknown k Second) = true
+is_of_second (Unknown k Second head) = true
 is_of_second e = false
 
 -- the first certificate of an instance stands at this place, or the second
@@ -68,4 +78,4 @@ IsRecordTold certificates e number = IfSome number (IsRecordOf certificates e)
 -- its line
 abbrev pub record_told_words : Option ℕ → List ℕ
 record_told_words None = []
-record_told_words (Some number) = codes "the certificates are at fault, see record " ++ (decimal number ++ (codes ": koo_toueg certify makes them anew from the log" ++ 10 ∷ []))
+record_told_words (Some number) = codes "the certificates are at fault, see record " ++ (decimal number ++ (codes ": koo_toueg --hints certify makes them anew from the log, or says why it can't" ++ 10 ∷ []))

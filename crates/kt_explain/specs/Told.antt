@@ -1,5 +1,5 @@
 -- When what is told of an answer is so.
-use Rattle.std.specs.Prelude.{◌≡◌, ◌≢◌, ◌<◌, ◌+◌, ℕ, Bool, true, false, Option, Some, None, IfSome, List, [], map, take, slice_get}
+use Rattle.std.specs.Prelude.{◌≡◌, ◌⊎◌, ◌≢◌, ◌<◌, ◌+◌, ℕ, Bool, true, false, Option, Some, None, IfSome, List, [], map, take, slice_get}
 use Rattle.kt_spacetime.specs.declared.event.Event.{Event}
 use Rattle.kt_spacetime.specs.declared.event.Event.TheVariants as event
 use Rattle.kt_base.specs.declared.words.Kind.{Kind}
@@ -20,6 +20,7 @@ use Rattle.kt_checker.specs.Judged.{IsFirstCertificate}
 use Rattle.kt_explain.specs.declared.bad_row.BadRow.{BadRow}
 use Rattle.kt_explain.specs.declared.difference.Difference.{Difference}
 use Rattle.kt_explain.specs.declared.difference.Difference.TheVariants as difference
+use Rattle.kt_explain.specs.declared.difference.Head.{Head}
 use Rattle.kt_explain.specs.declared.explanation.Explanation.{Explanation}
 use Rattle.kt_explain.specs.declared.explanation.Explanation.TheVariants.{Nothing, Unknown, Objection, NoObjection, OtherMember, BadChain, Uncertified, Orphan, BadLog, LeftOpen}
 use Rattle.kt_explain.specs.LeftOpen.{IsLeftOpen, LeavesNothing}
@@ -28,7 +29,7 @@ use Rattle.kt_explain.specs.Breaches.{IsBreach}
 use Rattle.kt_explain.specs.Undoing.{IsUndoneIn}
 use Rattle.kt_explain.specs.BadChains.{IsBadChain}
 use Rattle.kt_explain.specs.ChainRows.{AreChainRows}
-use Rattle.kt_explain.specs.Linking.{IsLinking, MakesChain}
+use Rattle.kt_explain.specs.Linking.{IsLinking, IsLinkingOf, MakesChain}
 use Rattle.kt_explain.specs.Finding.{HasNoRow, IsFirstRow, IsLastNumber, begins_inst, decides_inst, fails}
 
 -- a certificate is the first one of an instance
@@ -55,6 +56,19 @@ IsDifference rows certificates c difference.Second = HasTwo certificates c.inst
 -- what a log has otherwise than the first certificate of an instance
 abbrev pub IsUnlike : List Event → List Certificate → ℕ → Difference → Type 0
 IsUnlike rows certificates k d = (c : Certificate) × IsItsFirst certificates k c × IsDifference rows certificates c d
+
+-- what the first record of the certificate of an instance says by a log: how the instance began, and how it was decided
+pub record IsHeadOf (rows : List Event) (k : ℕ) (h : Head) : Type 0 where
+  pub begins : ℕ
+  pub began : IsFirstRow (begins_inst k) rows begins (event.Began h.initiator k h.kind)
+  pub decides : ℕ
+  pub decider : ℕ
+  pub decided : IsFirstRow (decides_inst k) rows decides (event.Decided decider k h.commit)
+
+-- it is told, unless no row begins the instance or none decides it
+abbrev pub IsHeadTold : List Event → ℕ → Option Head → Type 0
+IsHeadTold rows k None = HasNoRow (begins_inst k) rows ⊎ HasNoRow (decides_inst k) rows
+IsHeadTold rows k (Some head) = IsHeadOf rows k head
 
 -- the processes that a certificate lists
 abbrev pub listed_in : Certificate → List ℕ
@@ -92,15 +106,16 @@ pub record IsBadRow (rows : List Event) (b : BadRow) (place : ℕ) (row : Event)
 abbrev pub IsExplanation : List Event → List Certificate → Verdict → Explanation → Type 0
 IsExplanation rows certificates verdict Nothing = (verdict ≡ Yes) × LeavesNothing rows
 IsExplanation rows certificates verdict (LeftOpen l) = (verdict ≡ Yes) × IsLeftOpen rows l
-IsExplanation rows certificates verdict (Unknown k d) = IsNoOf verdict k why.Unknown × IsUnlike rows certificates k d
+IsExplanation rows certificates verdict (Unknown k d head) = IsNoOf verdict k why.Unknown × IsUnlike rows certificates k d × IsHeadTold rows k head
 IsExplanation rows certificates verdict (Objection k p row decided) =
     (verdict ≡ No (Some k) (Some decided) why.Cause) × HasDecided rows decided k true
     × (cause : Cause) × IsFirstRow (is_unwilling k) rows row (event.Unwilling p k cause)
 IsExplanation rows certificates verdict (NoObjection k decided) =
     (verdict ≡ No (Some k) (Some decided) why.Cause) × HasDecided rows decided k false × HasNoRow (is_unwilling k) rows
-IsExplanation rows certificates verdict (OtherMember k place listed joined) =
-    IsNoOf verdict k why.Members
-    × (c : Certificate) × IsItsFirst certificates k c × DifferAt (listed_in c) (members rows k) place listed joined
+IsExplanation rows certificates verdict (OtherMember k unlike linking) =
+    (n : ℕ) × (verdict ≡ No (Some k) (Some (n + 1)) why.Members)
+    × (c : Certificate) × IsItsFirst certificates k c × DifferAt (listed_in c) (members rows k) unlike.place unlike.listed unlike.joined
+    × IsLinkingOf (take n rows) c unlike.place unlike.joined linking
 IsExplanation rows certificates verdict (BadChain k chain about linking) =
     (n : ℕ) × (verdict ≡ No (Some k) (Some (n + 1)) why.Chain)
     × (c : Certificate) × IsItsFirst certificates k c × IsBadChain (take n rows) c chain

@@ -2,7 +2,7 @@
 
 ghost use Rattle.std.specs.Prelude.{◌≡◌, Some};
 ghost use Rattle.std.specs.Fmt.{DisplaysOnOk};
-ghost use Rattle.kt_explain.specs.Words.{around_words, broken_words, failed_words, failure_words, numbered_words, process_words, rule_words, says_standing, standing_words, undone_words};
+ghost use Rattle.kt_explain.specs.Words.{around_words, broken_words, answer_words, busy_words, down_words, failed_words, failure_words, joined_by, numbered_words, process_words, rule_words, says_standing, refused_by, standing_words, undone_words, up_words};
 
 use crate::breach::{Breach, ProcessBreach};
 use crate::row_text::write_row;
@@ -57,14 +57,14 @@ pub fn rule_name(rule: Rule) -> &'static str
         Rule::Numbers =>
             "rule 1, numbers: an instance begins with the next number, and is named only after that; nobody sends to itself",
         Rule::Message =>
-            "rule 2, message: only what was sent to this process, and not undone, received or dropped since, is received or dropped",
+            "rule 2, message: a process receives or drops only what was sent to it, and not received, dropped or undone since",
         Rule::Order =>
             "rule 3, order: messages of one sender are taken in the order in which they were sent",
         Rule::Sending => "rule 4, sending: who sends is up and in no open instance",
         Rule::Receiving =>
             "rule 5, receiving: who receives is up, who drops is down, and neither is in an open rollback",
         Rule::Joining =>
-            "rule 6, joining: who joins is in no open instance, and joins once, before the decision, by took in a checkpoint, by ready in a rollback; the initiator joins in the row after began",
+            "rule 6, joining: a process joins once, while in no open instance, before the decision, by took in a checkpoint, by ready in a rollback; the initiator in the row after began",
         Rule::Deciding =>
             "rule 7, deciding: the initiator decides once, while it is in its instance",
         Rule::Closing =>
@@ -89,12 +89,103 @@ fn write_broken<W: fmt::Write>(f: &mut fmt::Formatter<W>, rule: Rule, breach: Br
     write!(f, "\n{name}\n{breach}")
 }
 
-// What undid the send of a row's message, and where the row's process stands.
+// What undid the send of a row's message, what its process answers if it is busy, and where that stands.
 fn write_around<W: fmt::Write>(f: &mut fmt::Formatter<W>, row: &BadRow) -> fmt::Result
     ensures { DisplaysOnOk W.write_str_gives f.old result (Some (around_words row.now)) f.new }
 {
     write_undone(f, row.undone)?;
+    write_answer(f, &row.event, &row.breach)?;
     write_process(f, row)
+}
+
+// What the row's process answers to the instance that asks it to join, where that is what the row has otherwise.
+fn write_answer<W: fmt::Write>(
+    f: &mut fmt::Formatter<W>,
+    row: &Event,
+    breach: &Breach,
+) -> fmt::Result
+    ensures { DisplaysOnOk W.write_str_gives f.old result (Some (answer_words row.now breach.now)) f.new }
+{
+    match *breach {
+        Breach::Process(ProcessBreach::Inside { p, inst, .. }) => {
+            write_busy(f, p, inst, joined_by(row))
+        }
+        Breach::Process(ProcessBreach::Up(p)) => write_up(f, p, refused_by(row)),
+        Breach::Process(ProcessBreach::Down { p, .. }) => write_down(f, p, refused_by(row)),
+        _ => Ok(()),
+    }
+}
+
+// What a process that is up answers to a checkpoint that asks it to join.
+fn write_up<W: fmt::Write>(
+    f: &mut fmt::Formatter<W>,
+    p: ProcNo,
+    refused: Option<InstNo>,
+) -> fmt::Result
+    ensures { DisplaysOnOk W.write_str_gives f.old result (Some (up_words p refused)) f.new }
+{
+    let Some(inst) = refused else {
+        return Ok(());
+    };
+    write!(
+        f,
+        "so it joins, took,{p},{inst},-, or can't be saved, unwilling,{p},{inst},nosave\n"
+    )
+}
+
+// What a process that is down answers to a checkpoint that asks it to join.
+fn write_down<W: fmt::Write>(
+    f: &mut fmt::Formatter<W>,
+    p: ProcNo,
+    refused: Option<InstNo>,
+) -> fmt::Result
+    ensures { DisplaysOnOk W.write_str_gives f.old result (Some (down_words p refused)) f.new }
+{
+    let Some(inst) = refused else {
+        return Ok(());
+    };
+    write!(
+        f,
+        "so it is unwilling for that, unwilling,{p},{inst},down\n"
+    )
+}
+
+// The instance that a row is unwilling to join.
+fn refused_by(row: &Event) -> Option<InstNo>
+    ensures { result ≡ refused_by row.now }
+{
+    match *row {
+        Event::Unwilling { inst, .. } => Some(inst),
+        _ => None,
+    }
+}
+
+// That a process that is in this open instance is unwilling to join that one.
+fn write_busy<W: fmt::Write>(
+    f: &mut fmt::Formatter<W>,
+    p: ProcNo,
+    other: InstNo,
+    joined: Option<InstNo>,
+) -> fmt::Result
+    ensures { DisplaysOnOk W.write_str_gives f.old result (Some (busy_words p other joined)) f.new }
+{
+    match joined {
+        Some(inst) => write!(
+            f,
+            "until then it is unwilling to join instance {inst}: unwilling,{p},{inst},busy-{other}\n"
+        ),
+        None => Ok(()),
+    }
+}
+
+// The instance that a row joins.
+fn joined_by(row: &Event) -> Option<InstNo>
+    ensures { result ≡ joined_by row.now }
+{
+    match *row {
+        Event::Took { inst, .. } | Event::Ready { inst, .. } => Some(inst),
+        _ => None,
+    }
 }
 
 // Where the row's process stands, unless what breaks the rule says that.
@@ -171,6 +262,6 @@ fn write_failure<W: fmt::Write>(f: &mut fmt::Formatter<W>, failed: Option<RowNo>
 {
     match failed {
         Some(row) => write!(f, ", failed in row {row}\n"),
-        None => write!(f, ", never failed\n"),
+        None => write!(f, "\n"),
     }
 }

@@ -2,7 +2,7 @@
 
 ghost use Rattle.std.specs.Prelude.{◌≡◌, Some};
 ghost use Rattle.std.specs.Fmt.{DisplaysOnOk};
-ghost use Rattle.kt_explain.specs.BreachWords.{absence_words, closing_words, open_in_words, just_begun_words, leaving_words};
+ghost use Rattle.kt_explain.specs.BreachWords.{absence_words, closing_words, decision_words, open_in_words, just_begun_words, leaving_words};
 
 pub(crate) mod before;
 mod deliveries;
@@ -92,6 +92,8 @@ pub struct Outside {
     pub inst: InstNo,
     /// The open instance that it is in.
     pub open_in: Option<InstNo>,
+    /// The row that decided that.
+    pub decided: Option<RowNo>,
     /// The row in which it joined the instance.
     pub joined: Option<RowNo>,
     /// The row in which it closed the instance.
@@ -116,6 +118,11 @@ pub enum InstanceBreach {
     OfKind {
         inst: InstNo,
         kind: Kind,
+        row: RowNo,
+    },
+    /// It began in this row, as a rollback, which only those are unwilling to join that are in another instance.
+    OnlyBusy {
+        inst: InstNo,
         row: RowNo,
     },
     /// This process began it in this row.
@@ -233,7 +240,7 @@ fn write_leaving<W: fmt::Write>(f: &mut fmt::Formatter<W>, p: ProcNo, inst: Inst
 {
     write!(
         f,
-        ", and has to close it first: closed,{p},{inst},- once it is decided\n"
+        ", and has to close it first: closed,{p},{inst},-, after a row decided of its initiator\n"
     )
 }
 
@@ -248,10 +255,11 @@ impl fmt::Display for Outside {
             p,
             inst,
             open_in,
+            decided,
             joined,
             closed,
         } = *self;
-        write_open_in(f, p, inst, open_in)?;
+        write_open_in(f, p, inst, open_in, decided)?;
         write_absence(f, inst, joined, closed)
     }
 }
@@ -262,12 +270,27 @@ fn write_open_in<W: fmt::Write>(
     p: ProcNo,
     inst: InstNo,
     open_in: Option<InstNo>,
+    decided: Option<RowNo>,
 ) -> fmt::Result
-    ensures { DisplaysOnOk W.write_str_gives f.old result (Some (open_in_words p inst open_in)) f.new }
+    ensures { DisplaysOnOk W.write_str_gives f.old result (Some (open_in_words p inst open_in decided)) f.new }
 {
     match open_in {
-        Some(other) => write!(f, "process {p} is in instance {other}, and not in {inst}: "),
+        Some(other) => {
+            write!(f, "process {p} is in instance {other}")?;
+            write_decision(f, decided)?;
+            write!(f, ", and not in instance {inst}: ")
+        }
         None => write!(f, "process {p} is in no instance: "),
+    }
+}
+
+// Whether an instance is decided, with the row.
+fn write_decision<W: fmt::Write>(f: &mut fmt::Formatter<W>, decided: Option<RowNo>) -> fmt::Result
+    ensures { DisplaysOnOk W.write_str_gives f.old result (Some (decision_words decided)) f.new }
+{
+    match decided {
+        Some(row) => write!(f, ", which row {row} decides"),
+        None => write!(f, ", which is not decided"),
     }
 }
 
@@ -333,9 +356,15 @@ impl fmt::Display for InstanceBreach {
             }
             InstanceBreach::NotBegun(inst) => write!(f, "instance {inst} has not begun\n"),
             InstanceBreach::Decided { inst, row } => {
-                write!(f, "instance {inst} was decided in row {row}\n")
+                write!(
+                    f,
+                    "instance {inst} was decided in row {row}: after that nobody joins it, is unwilling to join it or decides it, so the row has to go\n"
+                )
             }
-            InstanceBreach::Undecided(inst) => write!(f, "instance {inst} is not decided\n"),
+            InstanceBreach::Undecided(inst) => write!(
+                f,
+                "instance {inst} is not decided: its initiator does that, by a row decided\n"
+            ),
             InstanceBreach::OfKind { inst, kind, row } => match kind {
                 Kind::Checkpoint => {
                     write!(
@@ -345,9 +374,13 @@ impl fmt::Display for InstanceBreach {
                 }
                 Kind::Rollback => write!(
                     f,
-                    "instance {inst} began in row {row}, as a rollback: it is joined by ready; only who is busy is unwilling to join it\n"
+                    "instance {inst} began in row {row}, as a rollback: it is joined by ready\n"
                 ),
             },
+            InstanceBreach::OnlyBusy { inst, row } => write!(
+                f,
+                "instance {inst} began in row {row}, as a rollback: only who is in another instance is unwilling to join it, all others join it by ready, up or down\n"
+            ),
             InstanceBreach::Initiator { inst, p, row } => write!(
                 f,
                 "the initiator of instance {inst} is process {p}, which began it in row {row}\n"

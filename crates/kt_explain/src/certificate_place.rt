@@ -2,11 +2,11 @@
 
 ghost use Rattle.std.specs.Prelude.{◌≡◌, ◌<◌, ◌≤◌, if◌then◌else◌, IfSome, Some, None, length, take};
 ghost use Rattle.kt_chain.specs.Spelling.{certificate_records, records_of};
-ghost use Rattle.kt_explain.specs.RecordsTold.{IsPlaceOf, IsRecordOf, IsRecordTold, certified_inst, is_at_fault, is_of_second, member_place};
+ghost use Rattle.kt_explain.specs.RecordsTold.{IsPlaceOf, IsRecordOf, IsRecordTold, certified_inst, is_at_fault, is_of_second, is_unlinked, member_place, unlike_place};
 
 use crate::bad_chain::Flaw;
 use crate::difference::Difference;
-use crate::explanation::Explanation;
+use crate::explanation::{Explanation, Unlike};
 use crate::linking::Linking;
 use crate::unknown::place_from;
 use kt_base::InstNo;
@@ -29,7 +29,7 @@ impl fmt::Display for RecordTold {
         match self.number {
             Some(number) => write!(
                 f,
-                "the certificates are at fault, see record {number}: koo_toueg certify makes them anew from the log\n"
+                "the certificates are at fault, see record {number}: koo_toueg --hints certify makes them anew from the log, or says why it can't\n"
             ),
             None => Ok(()),
         }
@@ -62,7 +62,14 @@ fn certified_inst(explanation: &Explanation) -> Option<InstNo>
     ensures { result ≡ certified_inst explanation.now }
 {
     match *explanation {
-        Explanation::Unknown { inst, .. } | Explanation::OtherMember { inst, .. } => Some(inst),
+        Explanation::Unknown { inst, .. } => Some(inst),
+        Explanation::OtherMember { inst, linking, .. } => {
+            if is_unlinked(linking) {
+                None
+            } else {
+                Some(inst)
+            }
+        }
         Explanation::BadChain {
             inst,
             chain,
@@ -76,6 +83,16 @@ fn certified_inst(explanation: &Explanation) -> Option<InstNo>
         | Explanation::LeftOpen(_)
         | Explanation::BadLog(_)
         | Explanation::Uncertified { .. } => None,
+    }
+}
+
+// Whether a process that joined is not the initiator, and no message links it with one before it.
+fn is_unlinked(linking: Option<Linking>) -> bool
+    ensures { result ≡ is_unlinked linking }
+{
+    match linking {
+        Some(Linking::Unlinked(_)) => true,
+        Some(Linking::Linked(_)) | None => false,
     }
 }
 
@@ -121,14 +138,19 @@ fn member_place(explanation: &Explanation) -> usize
 {
     match *explanation {
         Explanation::BadChain { chain, .. } => chain.place,
-        Explanation::OtherMember { place, listed, .. } => {
-            if listed.is_some() {
-                place
-            } else {
-                place.saturating_sub(1)
-            }
-        }
+        Explanation::OtherMember { unlike, .. } => unlike_place(&unlike),
         _ => 0,
+    }
+}
+
+// The place of the one who is listed, or of the one before it where nobody is.
+fn unlike_place(unlike: &Unlike) -> usize
+    ensures { result ≡ unlike_place unlike.now.listed unlike.now.place }
+{
+    if unlike.listed.is_some() {
+        unlike.place
+    } else {
+        unlike.place.saturating_sub(1)
     }
 }
 

@@ -3,9 +3,9 @@
 ghost use Rattle.std.specs.Prelude.{◌≡◌, Some};
 ghost use Rattle.std.specs.Fmt.{DisplaysOnOk};
 ghost use Rattle.kt_text.specs.Words.{kind_word, decision_word};
-ghost use Rattle.kt_explain.specs.Words.{other_decision_words, other_kind_words};
+ghost use Rattle.kt_explain.specs.Words.{begin_words, head_words, is_of_head, later_words, other_decision_words, other_kind_words, right_head_words};
 
-use kt_base::{Kind, ProcNo, RowNo};
+use kt_base::{InstNo, Kind, ProcNo, RowNo};
 use std::fmt;
 
 /// What the log has otherwise than a certificate of an instance.
@@ -31,6 +31,14 @@ pub enum Difference {
     Second,
 }
 
+/// What the first record of an instance's certificate has to say by the log.
+#[derive(Clone, Copy, Debug, PartialEq, Eq)]
+pub struct Head {
+    pub kind: Kind,
+    pub initiator: ProcNo,
+    pub commit: bool,
+}
+
 impl fmt::Display for Difference {
     ghost use Rattle.std.specs.Prelude.{Some};
     ghost use Rattle.kt_explain.specs.Words.{difference_words};
@@ -39,8 +47,14 @@ impl fmt::Display for Difference {
 
     fn fmt<W: fmt::Write>(&self, f: &mut fmt::Formatter<W>) -> fmt::Result {
         match *self {
-            Difference::Unbegun => write!(f, "no row begins it, so it may have no certificate"),
-            Difference::Undecided => write!(f, "no row decides it, so it may have no certificate"),
+            Difference::Unbegun => write!(
+                f,
+                "no row begins it, so it may have no certificate: the records of its certificate have to go"
+            ),
+            Difference::Undecided => write!(
+                f,
+                "no row decides it, so it may have no certificate: the records of its certificate have to go"
+            ),
             Difference::Kind(kind, row) => write_kind(f, kind, row),
             Difference::Initiator { p, named, row } => {
                 write!(
@@ -49,9 +63,79 @@ impl fmt::Display for Difference {
                 )
             }
             Difference::Decision(commit, row) => write_decision(f, commit, row),
-            Difference::Members => write!(f, "it is aborted, and its certificate lists members"),
-            Difference::Second => write!(f, "it has two certificates, and may have only one"),
+            Difference::Members => write!(
+                f,
+                "it is aborted, and its certificate lists members: their records have to go"
+            ),
+            Difference::Second => write!(
+                f,
+                "it has two certificates, and may have only one: the records of the second have to go"
+            ),
         }
+    }
+}
+
+/// The first record of the certificate of an instance, as it has to be by the log, where it is that record that differs.
+pub(crate) fn write_right_head<W: fmt::Write>(
+    f: &mut fmt::Formatter<W>,
+    inst: InstNo,
+    difference: Difference,
+    head: Option<Head>,
+) -> fmt::Result
+    ensures { DisplaysOnOk W.write_str_gives f.old result (Some (right_head_words inst difference head)) f.new }
+{
+    match head {
+        Some(head) if is_of_head(difference) => write_head(f, inst, head),
+        _ => Ok(()),
+    }
+}
+
+// Whether the first record of a certificate has something otherwise than the log.
+fn is_of_head(difference: Difference) -> bool
+    ensures { result ≡ is_of_head difference }
+{
+    match difference {
+        Difference::Kind(..) | Difference::Initiator { .. } | Difference::Decision(..) => true,
+        Difference::Unbegun | Difference::Undecided | Difference::Members | Difference::Second =>
+            false,
+    }
+}
+
+// The first record of the certificate of an instance, as it has to be by the log.
+fn write_head<W: fmt::Write>(f: &mut fmt::Formatter<W>, inst: InstNo, head: Head) -> fmt::Result
+    ensures { DisplaysOnOk W.write_str_gives f.old result (Some (head_words inst head)) f.new }
+{
+    let Head {
+        kind,
+        initiator,
+        commit,
+    } = head;
+    let kind = kind_name(kind);
+    let decision = decision_name(commit);
+    write_begin(f, commit)?;
+    write!(f, "{inst},{kind},{initiator},{decision}")?;
+    write_later(f, commit)
+}
+
+// What is judged next, once that record stands.
+fn write_later<W: fmt::Write>(f: &mut fmt::Formatter<W>, commit: bool) -> fmt::Result
+    ensures { DisplaysOnOk W.write_str_gives f.old result (Some (later_words commit)) f.new }
+{
+    if commit {
+        write!(f, "; its members are judged after that\n")
+    } else {
+        write!(f, "; whether the log may abort it is judged after that\n")
+    }
+}
+
+// That a certificate begins with a record; it is the only one of an abort.
+fn write_begin<W: fmt::Write>(f: &mut fmt::Formatter<W>, commit: bool) -> fmt::Result
+    ensures { DisplaysOnOk W.write_str_gives f.old result (Some (begin_words commit)) f.new }
+{
+    if commit {
+        write!(f, "it has to begin with cert,")
+    } else {
+        write!(f, "it has to be the one record cert,")
     }
 }
 

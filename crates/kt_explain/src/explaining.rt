@@ -68,7 +68,7 @@ fn of_instance(
     match why {
         Why::Unknown => Ok(unlike(log.rows(), certificates, inst)),
         Why::Cause => Ok(objection(log.rows(), inst, row)),
-        Why::Members => other_member(alloc, log.rows(), certificates, inst),
+        Why::Members => other_member(alloc, log, certificates, inst, row),
         Why::Missing => Ok(uncertified(inst, row)),
         Why::Orphan => match row {
             Some(row) => orphan(alloc, log, certificates, inst, row),

@@ -2,17 +2,25 @@
 
 ghost use Rattle.std.specs.Prelude.{◌≡◌, Some};
 ghost use Rattle.std.specs.Fmt.{DisplaysOnOk};
-ghost use Rattle.kt_explain.specs.Words.{listed_words, missing_words, no_objection_words, objection_words, unlike_words};
+ghost use Rattle.kt_explain.specs.Words.{joined_link_words, listed_words, missing_words, no_objection_words, objection_words, other_member_words, uncertified_words, unlike_words};
 
 use crate::bad_chain::{BadChain, write_bad_chain};
 use crate::bad_row::BadRow;
 use crate::chain_rows::ChainRows;
-use crate::difference::Difference;
+use crate::difference::{Difference, Head, write_right_head};
 use crate::left_open::LeftOpen;
-use crate::linking::{Linking, write_link};
-use crate::orphan::Orphan;
+use crate::linking::{Linking, write_joined_link, write_link};
+use crate::orphan::{Orphan, write_outsider};
 use kt_base::{InstNo, ProcNo, RowNo};
 use std::fmt;
+
+/// A place, from 1, of a certificate's list, who is listed there, and who joined there instead.
+#[derive(Clone, Copy, Debug, PartialEq, Eq)]
+pub struct Unlike {
+    pub place: usize,
+    pub listed: Option<ProcNo>,
+    pub joined: Option<ProcNo>,
+}
 
 /// What is told of an answer of the checker, in the words of the log.
 #[derive(Clone, Copy, Debug, PartialEq, Eq)]
@@ -25,6 +33,8 @@ pub enum Explanation {
     Unknown {
         inst: InstNo,
         difference: Difference,
+        /// What the first record of its certificate has to say, unless no row begins the instance or none decides it.
+        head: Option<Head>,
     },
     /// A process was unwilling to join the instance, in this row, and this later one commits it.
     Objection {
@@ -38,13 +48,12 @@ pub enum Explanation {
         inst: InstNo,
         decided: RowNo,
     },
-    /// The first place, from 1, at which the list of a certificate differs from the members: who is listed there, and who
-    /// joined.
+    /// The first place at which the list of a certificate differs from the members.
     OtherMember {
         inst: InstNo,
-        place: usize,
-        listed: Option<ProcNo>,
-        joined: Option<ProcNo>,
+        unlike: Unlike,
+        /// What links the one that joined with a member before it; none where it is the initiator.
+        linking: Option<Linking>,
     },
     /// The first member whose list is no chain for it.
     BadChain {
@@ -78,8 +87,13 @@ impl fmt::Display for Explanation {
         match *self {
             Explanation::Nothing => Ok(()),
             Explanation::LeftOpen(left) => write!(f, "{left}"),
-            Explanation::Unknown { inst, difference } => {
-                write!(f, "instance {inst}: {difference}\n")
+            Explanation::Unknown {
+                inst,
+                difference,
+                head,
+            } => {
+                write!(f, "instance {inst}: {difference}\n")?;
+                write_right_head(f, inst, difference, head)
             }
             Explanation::Objection {
                 inst,
@@ -90,13 +104,9 @@ impl fmt::Display for Explanation {
             Explanation::NoObjection { inst, decided } => write_no_objection(f, inst, decided),
             Explanation::OtherMember {
                 inst,
-                place,
-                listed,
-                joined,
-            } => {
-                write!(f, "member {place} of instance {inst}: ")?;
-                write_unlike(f, listed, joined)
-            }
+                unlike,
+                linking,
+            } => write_other_member(f, inst, &unlike, linking),
             Explanation::BadChain {
                 inst,
                 chain,
@@ -104,16 +114,14 @@ impl fmt::Display for Explanation {
                 linking,
             } => {
                 write_bad_chain(f, inst, &chain, about)?;
-                write_link(f, &chain, linking)
+                write_link(f, inst, &chain, linking)
             }
-            Explanation::Orphan { inst, orphan } => write!(f, "instance {inst}: {orphan}"),
+            Explanation::Orphan { inst, orphan } => {
+                write!(f, "instance {inst}: {orphan}")?;
+                write_outsider(f, inst, orphan.from, orphan.outsider)
+            }
             Explanation::BadLog(row) => write!(f, "{row}"),
-            Explanation::Uncertified { inst, row } => {
-                write!(
-                    f,
-                    "row {row} decides instance {inst}, but there is no certificate of it: koo_toueg certify makes it\n"
-                )
-            }
+            Explanation::Uncertified { inst, row } => write_uncertified(f, inst, row),
         }
     }
 }
@@ -130,7 +138,7 @@ fn write_objection<W: fmt::Write>(
 {
     write!(
         f,
-        "row {decided} commits instance {inst}, but has to abort it, since process {p} was unwilling to join it in row {row}: the log is at fault\n"
+        "row {decided} commits instance {inst}, but it has to be aborted, since process {p} was unwilling to join it in row {row}: the log is at fault; then koo_toueg certify makes the certificates anew\n"
     )
 }
 
@@ -144,21 +152,48 @@ fn write_no_objection<W: fmt::Write>(
 {
     write!(
         f,
-        "row {decided} aborts instance {inst}, but no process was unwilling to join it: the log is at fault\n"
+        "row {decided} aborts instance {inst}, but no process was unwilling to join it: it has to be committed, or a row unwilling is missing before; the log is at fault; then koo_toueg certify makes the certificates anew\n"
     )
 }
 
-// Who is listed at a place, and who joined there.
-fn write_unlike<W: fmt::Write>(
+// That an instance that is decided in this row has no certificate.
+fn write_uncertified<W: fmt::Write>(
     f: &mut fmt::Formatter<W>,
-    listed: Option<ProcNo>,
-    joined: Option<ProcNo>,
+    inst: InstNo,
+    row: RowNo,
 ) -> fmt::Result
-    ensures { DisplaysOnOk W.write_str_gives f.old result (Some (unlike_words listed joined)) f.new }
+    ensures { DisplaysOnOk W.write_str_gives f.old result (Some (uncertified_words inst row)) f.new }
 {
-    match listed {
-        Some(q) => write_listed(f, q, joined),
-        None => write_missing(f, joined),
+    write!(
+        f,
+        "row {row} decides instance {inst}, but there is no certificate of it: koo_toueg --hints certify makes it, or says why it can't\n"
+    )
+}
+
+// The first place at which the list of an instance's certificate differs, and how the one who joined there is linked.
+fn write_other_member<W: fmt::Write>(
+    f: &mut fmt::Formatter<W>,
+    inst: InstNo,
+    unlike: &Unlike,
+    linking: Option<Linking>,
+) -> fmt::Result
+    ensures { DisplaysOnOk W.write_str_gives f.old result
+        (Some (other_member_words inst unlike.now linking)) f.new }
+{
+    let place = unlike.place;
+    write!(f, "member {place} of instance {inst}: ")?;
+    write_unlike(f, unlike)?;
+    write_joined_link(f, inst, unlike, linking)
+}
+
+// Who is listed at a place, and who joined there.
+fn write_unlike<W: fmt::Write>(f: &mut fmt::Formatter<W>, unlike: &Unlike) -> fmt::Result
+    ensures { DisplaysOnOk W.write_str_gives f.old result
+        (Some (unlike_words unlike.now.listed unlike.now.joined)) f.new }
+{
+    match unlike.listed {
+        Some(q) => write_listed(f, q, unlike.joined),
+        None => write_missing(f, unlike.joined),
     }
 }
 
@@ -171,8 +206,14 @@ fn write_listed<W: fmt::Write>(
     ensures { DisplaysOnOk W.write_str_gives f.old result (Some (listed_words q joined)) f.new }
 {
     match joined {
-        Some(p) => write!(f, "process {q} is listed, and process {p} joined\n"),
-        None => write!(f, "process {q} is listed, but nobody joined\n"),
+        Some(p) => write!(
+            f,
+            "process {q} is listed, but process {p} joined there: the record of process {p} has to stand in this place\n"
+        ),
+        None => write!(
+            f,
+            "process {q} is listed, but no more processes joined: its record has to go\n"
+        ),
     }
 }
 
@@ -181,10 +222,7 @@ fn write_missing<W: fmt::Write>(f: &mut fmt::Formatter<W>, joined: Option<ProcNo
     ensures { DisplaysOnOk W.write_str_gives f.old result (Some (missing_words joined)) f.new }
 {
     match joined {
-        Some(p) => write!(
-            f,
-            "process {p} joined too, and has no record: add one after the record named below\n"
-        ),
+        Some(p) => write!(f, "process {p} joined too, and has no record\n"),
         None => write!(f, "nobody is listed, and nobody joined\n"),
     }
 }

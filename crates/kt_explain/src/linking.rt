@@ -6,13 +6,14 @@ ghost use Rattle.kt_spacetime.specs.declared.event.Event.{Event as Events};
 ghost use Rattle.kt_cuts.specs.Legal.{IsLegal};
 ghost use Rattle.kt_histories.specs.HistoriesOf.{HistoriesOf};
 ghost use Rattle.kt_explain.specs.Linking.{LeadsTo};
-ghost use Rattle.kt_explain.specs.Words.{has_arrived, link_words, linked_words, linking_words, past_end_words, unlinked_words};
+ghost use Rattle.kt_explain.specs.Words.{chain_words, direct_words, has_arrived, joined_link_words, link_words, linked_words, linking_words, past_end_words, unlinked_words};
 
 use crate::bad_chain::{BadChain, Demand, Flaw};
 use crate::breach::before::Before;
 use crate::chains::step;
+use crate::explanation::Unlike;
 use crate::finding::{Sought, last_number};
-use kt_base::{MsgNo, ProcNo, RowNo};
+use kt_base::{InstNo, MsgNo, ProcNo, RowNo};
 use kt_chain::Certificate;
 use kt_histories::Histories;
 use std::fmt;
@@ -22,6 +23,8 @@ use std::fmt;
 pub struct Link {
     pub msg: MsgNo,
     pub q: ProcNo,
+    /// That one is the initiator.
+    pub of_initiator: bool,
 }
 
 /// Which message links a member with one that is listed before it.
@@ -34,7 +37,7 @@ pub enum Linking {
 
 impl Before<'_> {
     ghost use Rattle.kt_explain.specs.Breaches.{KnowsBefore};
-    ghost use Rattle.kt_explain.specs.Linking.{IsLinking, LeadsTo};
+    ghost use Rattle.kt_explain.specs.Linking.{IsLinking, IsLinkingOf, LeadsTo};
 
     /// The least message that links a process with the first one before a place, from 1, of a certificate's list with which
     /// any links it.
@@ -47,10 +50,27 @@ impl Before<'_> {
         for index in 0..count {
             let (q, _chain) = &members[index];
             if let Some(msg) = self.link_from(certificate, *q, p) {
-                return Linking::Linked(Link { msg, q: *q });
+                return Linking::Linked(Link {
+                    msg,
+                    q: *q,
+                    of_initiator: *q == certificate.initiator,
+                });
             }
         }
         Linking::Unlinked(last_number(self.rows, &Sought::Joined(p, certificate.inst)))
+    }
+
+    /// How the process that joined at a place is linked with one that a certificate lists before it; none where it is the
+    /// initiator, or nobody joined there.
+    pub(crate) fn linking_of(&self, certificate: &Certificate, unlike: &Unlike) -> Option<Linking>
+        requires before { KnowsBefore self.now }
+        ensures { IsLinkingOf self.now.rows.now certificate.now unlike.now.place unlike.now.joined result }
+    {
+        let p = unlike.joined?;
+        if p == certificate.initiator {
+            return None;
+        }
+        Some(self.link_before(certificate, unlike.place, p))
     }
 
     // The least message that leads from one process to another in a certificate's instance.
@@ -89,33 +109,57 @@ fn leads_to(
 /// Which message links a member with one before it, or that none does; the initiator needs none.
 pub(crate) fn write_link<W: fmt::Write>(
     f: &mut fmt::Formatter<W>,
+    inst: InstNo,
     chain: &BadChain,
     linking: Linking,
 ) -> fmt::Result
-    ensures { DisplaysOnOk W.write_str_gives f.old result (Some (link_words chain.now.p chain.now.flaw linking)) f.new }
+    ensures { DisplaysOnOk W.write_str_gives f.old result (Some (link_words inst chain.now.p chain.now.flaw linking)) f.new }
 {
     match chain.flaw {
         Flaw::Initiator => Ok(()),
-        Flaw::Empty | Flaw::Elsewhere(_) => write_linking(f, chain.p, linking),
-        Flaw::Broken(broken) => write_past_end(f, chain.p, broken.demand, linking),
+        Flaw::Empty | Flaw::Elsewhere(_) => write_linking(f, inst, chain.p, linking),
+        Flaw::Broken(broken) => write_past_end(f, inst, chain.p, broken.demand, linking),
+    }
+}
+
+/// Which message links the process that joined with a member before it, or its record where it is the initiator.
+pub(crate) fn write_joined_link<W: fmt::Write>(
+    f: &mut fmt::Formatter<W>,
+    inst: InstNo,
+    unlike: &Unlike,
+    linking: Option<Linking>,
+) -> fmt::Result
+    ensures { DisplaysOnOk W.write_str_gives f.old result
+        (Some (joined_link_words inst unlike.now.joined linking)) f.new }
+{
+    let Some(p) = unlike.joined else {
+        return Ok(());
+    };
+    match linking {
+        Some(linking) => write_linking(f, inst, p, linking),
+        None => write!(
+            f,
+            "process {p} is the initiator: its record is member,{inst},{p},0,-\n"
+        ),
     }
 }
 
 // Which message links a member with one before it, unless its chain is only too long; or that none does.
 fn write_past_end<W: fmt::Write>(
     f: &mut fmt::Formatter<W>,
+    inst: InstNo,
     member: ProcNo,
     demand: Demand,
     linking: Linking,
 ) -> fmt::Result
-    ensures { DisplaysOnOk W.write_str_gives f.old result (Some (past_end_words member demand linking)) f.new }
+    ensures { DisplaysOnOk W.write_str_gives f.old result (Some (past_end_words inst member demand linking)) f.new }
 {
     match linking {
         Linking::Linked(link) => {
             if has_arrived(member, demand) {
                 Ok(())
             } else {
-                write_linked(f, member, link)
+                write_linked(f, inst, member, link)
             }
         }
         Linking::Unlinked(joined) => write_unlinked(f, member, joined),
@@ -139,25 +183,67 @@ fn has_arrived(member: ProcNo, demand: Demand) -> bool
 // Which message links a member with one before it, or that none does.
 fn write_linking<W: fmt::Write>(
     f: &mut fmt::Formatter<W>,
+    inst: InstNo,
     member: ProcNo,
     linking: Linking,
 ) -> fmt::Result
-    ensures { DisplaysOnOk W.write_str_gives f.old result (Some (linking_words member linking)) f.new }
+    ensures { DisplaysOnOk W.write_str_gives f.old result (Some (linking_words inst member linking)) f.new }
 {
     match linking {
-        Linking::Linked(link) => write_linked(f, member, link),
+        Linking::Linked(link) => write_linked(f, inst, member, link),
         Linking::Unlinked(joined) => write_unlinked(f, member, joined),
     }
 }
 
-// That this message links a member with this one before it.
-fn write_linked<W: fmt::Write>(f: &mut fmt::Formatter<W>, member: ProcNo, link: Link) -> fmt::Result
-    ensures { DisplaysOnOk W.write_str_gives f.old result (Some (linked_words member link)) f.new }
+// That this message links a member of an instance with this one before it.
+fn write_linked<W: fmt::Write>(
+    f: &mut fmt::Formatter<W>,
+    inst: InstNo,
+    member: ProcNo,
+    link: Link,
+) -> fmt::Result
+    ensures { DisplaysOnOk W.write_str_gives f.old result (Some (linked_words inst member link)) f.new }
 {
-    let Link { msg, q } = link;
+    let Link {
+        msg,
+        q,
+        of_initiator,
+    } = link;
+    write!(f, "message {msg} links process {member} with process {q}")?;
+    if of_initiator {
+        write_direct(f, inst, member, msg)
+    } else {
+        write_chain(f, msg, member, q)
+    }
+}
+
+// The record of a member that a message links with the initiator.
+fn write_direct<W: fmt::Write>(
+    f: &mut fmt::Formatter<W>,
+    inst: InstNo,
+    member: ProcNo,
+    msg: MsgNo,
+) -> fmt::Result
+    ensures { DisplaysOnOk W.write_str_gives f.old result (Some (direct_words inst member msg)) f.new }
+{
     write!(
         f,
-        "message {msg} links process {member} with process {q}, a member before it: its chain can be that of process {q}, followed by message {msg}\n"
+        ", the initiator: the record of process {member} can be member,{inst},{member},1,{msg}\n"
+    )
+}
+
+// The chain of a member that a message links with another one before it.
+fn write_chain<W: fmt::Write>(
+    f: &mut fmt::Formatter<W>,
+    msg: MsgNo,
+    member: ProcNo,
+    q: ProcNo,
+) -> fmt::Result
+    ensures { DisplaysOnOk W.write_str_gives f.old result (Some (chain_words msg member q)) f.new }
+{
+    write!(
+        f,
+        ", a member before it: the chain of process {member} can be that of process {q}, followed by message {msg}\n"
     )
 }
 
@@ -172,11 +258,11 @@ fn write_unlinked<W: fmt::Write>(
     match joined {
         Some(row) => write!(
             f,
-            "no message links process {member} with a member before it: it should not have joined in row {row}, or a row is missing; the log is at fault\n"
+            "the log is at fault: no message links process {member} with a member before it; its rows of the instance have to go, that of joining, row {row}, and closed, or a row received is missing, by which a message links them\n"
         ),
         None => write!(
             f,
-            "no message links process {member} with a member before it: the log is at fault\n"
+            "the log is at fault: no message links process {member} with a member before it\n"
         ),
     }
 }

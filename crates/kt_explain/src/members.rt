@@ -1,62 +1,65 @@
 //! What is told of a list that is not an instance's members.
 
-ghost use Rattle.std.specs.Prelude.{◌≡◌, List, Some, IfOk, IfNone, IfSome, map, slice_get};
-ghost use Rattle.kt_spacetime.specs.declared.event.Event.{Event as Events};
+ghost use Rattle.std.specs.Prelude.{◌≡◌, Some, IfOk, IfNone, IfSome, map, slice_get};
 ghost use Rattle.kt_cuts.specs.Chains.{joins, members};
-ghost use Rattle.kt_chain.specs.declared.certificate.Certificate.{Certificate as Certificates};
-ghost use Rattle.kt_checker.specs.declared.verdict.Verdict.{Verdict};
+ghost use Rattle.kt_checker.specs.declared.verdict.Verdict.TheVariants.{No};
 ghost use Rattle.kt_checker.specs.declared.verdict.Why.TheVariants as why;
 ghost use Rattle.kt_checker.specs.Order.{IsCheckerAnswer};
-ghost use Rattle.kt_explain.specs.Told.{DifferAt, IsNoOf, IsItsFirst, IsExplanation, listed_in};
+ghost use Rattle.kt_explain.specs.Told.{DifferAt, IsExplanation, listed_in};
 
-use crate::explanation::Explanation;
+use crate::breach::before::Before;
+use crate::explanation::{Explanation, Unlike};
 use crate::unknown::first_of;
-use kt_base::{InstNo, Memory, ProcNo};
+use kt_base::{InstNo, Memory, ProcNo, RowNo};
 use kt_chain::Certificate;
-use kt_spacetime::Event;
+use kt_spacetime::{Event, SpaceTime};
 use std::alloc::Global;
 
 /// The first place at which the list of an instance's first certificate differs from its members.
 pub(crate) fn other_member(
     alloc: Global,
-    rows: &[Event],
+    log: &SpaceTime,
     certificates: &[Certificate],
     inst: InstNo,
+    row: Option<RowNo>,
 ) -> Result<Explanation, Memory>
-    ensures { IfOk result (λ e. (verdict : Verdict) → IsNoOf verdict inst why.Members
-        → IsCheckerAnswer rows.now certificates.now verdict → IsExplanation rows.now certificates.now verdict e) }
+    requires answer { IsCheckerAnswer log.now.rows certificates.now (No (Some inst) row why.Members) }
+    ensures { IfOk result (IsExplanation log.now.rows certificates.now (No (Some inst) row why.Members)) }
 {
-    let joined = joined_in(alloc, rows, inst)?;
-    match first_of(certificates, inst) {
-        Some(certificate) => Ok(unlike_at(inst, certificate, joined.as_slice())),
+    match row {
+        Some(row) => other_member_at(alloc, log, certificates, inst, row),
         None => Ok(Explanation::Nothing),
     }
 }
 
-// The first place at which the list of a certificate of an instance differs from those who joined.
-fn unlike_at(inst: InstNo, certificate: &Certificate, joined: &[ProcNo]) -> Explanation
-    ensures { (rows : List Events) (certificates : List Certificates) (verdict : Verdict)
-        → IsNoOf verdict inst why.Members → IsItsFirst certificates inst certificate.now
-        → joined.now ≡ members rows inst → (listed_in certificate.now ≡ members rows inst → ⊥)
-        → IsExplanation rows certificates verdict result }
+// The first place at which the list of an instance's first certificate differs from its members. This row decides the
+// instance.
+fn other_member_at(
+    alloc: Global,
+    log: &SpaceTime,
+    certificates: &[Certificate],
+    inst: InstNo,
+    row: RowNo,
+) -> Result<Explanation, Memory>
+    requires answer { IsCheckerAnswer log.now.rows certificates.now (No (Some inst) (Some row) why.Members) }
+    ensures { IfOk result (IsExplanation log.now.rows certificates.now (No (Some inst) (Some row) why.Members)) }
 {
-    match first_unlike(certificate, joined) {
-        Some(unlike) => Explanation::OtherMember {
-            inst,
-            place: unlike.place,
-            listed: unlike.listed,
-            joined: unlike.joined,
-        },
-        None => Explanation::Nothing,
-    }
-}
-
-// Who is listed at a place, counted from 1, and who joined there.
-#[derive(Clone, Copy, Debug, PartialEq, Eq)]
-struct Unlike {
-    place: usize,
-    listed: Option<ProcNo>,
-    joined: Option<ProcNo>,
+    let Some(certificate) = first_of(certificates, inst) else {
+        return Ok(Explanation::Nothing);
+    };
+    let rows = log.rows();
+    let members = joined_in(alloc, rows, inst)?;
+    let Some(unlike) = first_unlike(certificate, members.as_slice()) else {
+        return Ok(Explanation::Nothing);
+    };
+    let upto = row.get() as usize - 1;
+    let before = Before::of(alloc, &rows[..upto])?;
+    let linking = before.linking_of(certificate, &unlike);
+    Ok(Explanation::OtherMember {
+        inst,
+        unlike,
+        linking,
+    })
 }
 
 /// The members of an instance, in the order in which they joined.

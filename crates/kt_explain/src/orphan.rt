@@ -2,9 +2,9 @@
 
 ghost use Rattle.std.specs.Prelude.{◌≡◌, Some};
 ghost use Rattle.std.specs.Fmt.{DisplaysOnOk};
-ghost use Rattle.kt_explain.specs.Words.{outsider_words};
+ghost use Rattle.kt_explain.specs.Words.{outsider_words, ready_words, took_words};
 
-use kt_base::{MsgNo, ProcNo, RowNo};
+use kt_base::{InstNo, MsgNo, ProcNo, RowNo};
 use std::fmt;
 
 /// An orphan of the cut that the decision of an instance makes. Its number is that of the row that sent it.
@@ -31,23 +31,48 @@ impl fmt::Display for Orphan {
             from,
             to,
             received,
-            outsider,
+            ..
         } = *self;
         write!(f, "message {msg}: process {from} sent it in row {msg}")?;
-        write!(f, ", process {to} received it in row {received}\n")?;
-        write_outsider(f, outsider)
+        write!(f, ", process {to} received it in row {received}\n")
     }
 }
 
-// Who would have had to join.
-fn write_outsider<W: fmt::Write>(f: &mut fmt::Formatter<W>, outsider: Option<ProcNo>) -> fmt::Result
-    ensures { DisplaysOnOk W.write_str_gives f.old result (Some (outsider_words outsider)) f.new }
+/// Who would have had to join the instance: the sender of the orphan, this process, a checkpoint, its receiver a rollback.
+pub(crate) fn write_outsider<W: fmt::Write>(
+    f: &mut fmt::Formatter<W>,
+    inst: InstNo,
+    from: ProcNo,
+    outsider: Option<ProcNo>,
+) -> fmt::Result
+    ensures { DisplaysOnOk W.write_str_gives f.old result (Some (outsider_words inst from outsider)) f.new }
 {
     let Some(p) = outsider else {
         return Ok(());
     };
+    if p == from {
+        write_took(f, inst, p)
+    } else {
+        write_ready(f, inst, p)
+    }
+}
+
+// That a process would have had to join a checkpoint.
+fn write_took<W: fmt::Write>(f: &mut fmt::Formatter<W>, inst: InstNo, p: ProcNo) -> fmt::Result
+    ensures { DisplaysOnOk W.write_str_gives f.old result (Some (took_words inst p)) f.new }
+{
     write!(
         f,
-        "process {p} did not join, but has to before the instance is committed: the log is at fault\n"
+        "process {p} did not join, but has to before the instance is committed, by a row took,{p},{inst},-: the log is at fault; then koo_toueg certify makes the certificates anew\n"
+    )
+}
+
+// That a process would have had to join a rollback.
+fn write_ready<W: fmt::Write>(f: &mut fmt::Formatter<W>, inst: InstNo, p: ProcNo) -> fmt::Result
+    ensures { DisplaysOnOk W.write_str_gives f.old result (Some (ready_words inst p)) f.new }
+{
+    write!(
+        f,
+        "process {p} did not join, but has to before the instance is committed, by a row ready,{p},{inst},-: the log is at fault; then koo_toueg certify makes the certificates anew\n"
     )
 }

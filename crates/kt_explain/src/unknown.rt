@@ -10,9 +10,9 @@ ghost use Rattle.kt_spacetime.specs.declared.event.Event.TheVariants as event;
 ghost use Rattle.kt_cuts.specs.Legal.{IsLegal};
 ghost use Rattle.kt_checker.specs.Order.{IsCheckerAnswer};
 ghost use Rattle.kt_checker.specs.Passing.{IsAsInLog, IsSecond};
-ghost use Rattle.kt_explain.specs.Told.{IsDifference, IsItsFirst, IsNoOf, IsExplanation, IsUnlike};
+ghost use Rattle.kt_explain.specs.Told.{IsDifference, IsHeadTold, IsItsFirst, IsNoOf, IsExplanation, IsUnlike};
 
-use crate::difference::Difference;
+use crate::difference::{Difference, Head};
 use crate::explanation::Explanation;
 use crate::finding::{Found, Sought, first_row};
 use kt_base::InstNo;
@@ -27,9 +27,47 @@ pub(crate) fn unlike(rows: &[Event], certificates: &[Certificate], inst: InstNo)
         → IsExplanation rows.now certificates.now verdict result }
 {
     match first_unlike(rows, certificates, inst) {
-        Some(difference) => Explanation::Unknown { inst, difference },
+        Some(difference) => Explanation::Unknown {
+            inst,
+            difference,
+            head: head_of(rows, inst),
+        },
         None => Explanation::Nothing,
     }
+}
+
+// What the first record of an instance's certificate has to say by the log.
+fn head_of(rows: &[Event], inst: InstNo) -> Option<Head>
+    requires few { length rows.now ≤ 2 ^ 24 }
+    ensures { IsHeadTold rows.now inst result }
+{
+    let Some(began) = first_row(rows, &Sought::Began(inst)) else {
+        return None;
+    };
+    let Some(decided) = first_row(rows, &Sought::Decided(inst)) else {
+        return None;
+    };
+    head_by(&began, &decided)
+}
+
+// What the first record of an instance's certificate has to say that these rows begin and decide.
+fn head_by(began: &Found, decided: &Found) -> Option<Head>
+    ensures head { IfSome result (λ h. (k j p : ℕ) × (began.now.row ≡ event.Began h.initiator k h.kind)
+        × (decided.now.row ≡ event.Decided p j h.commit)) }
+    ensures none { IfNone result ((k j p q : ℕ) (kind : _) (commit : _) → began.now.row ≡ event.Began p k kind
+        → decided.now.row ≡ event.Decided q j commit → ⊥) }
+{
+    let Event::Began { p, kind, .. } = began.row else {
+        return None;
+    };
+    let Event::Decided { commit, .. } = decided.row else {
+        return None;
+    };
+    Some(Head {
+        kind,
+        initiator: p,
+        commit,
+    })
 }
 
 // What the log has otherwise than the first certificate of an instance, or that the instance has two.

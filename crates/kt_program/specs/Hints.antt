@@ -12,7 +12,7 @@ use Rattle.kt_certify.specs.declared.fault.Unfit.{Unfit}
 use Rattle.kt_cuts.specs.declared.rules.Rule.{Rule}
 use Rattle.kt_certify.specs.declared.fault.Unfit.TheVariants as unfit
 use Rattle.kt_explain.specs.Words.{rule_words}
-use Rattle.kt_hints.specs.Shown.{hint_line}
+use Rattle.kt_hints.specs.Shown.{hint_line, numbered_line}
 use Rattle.kt_run.specs.declared.faults.RunFault.{RunFault}
 use Rattle.kt_run.specs.declared.faults.RunFault.TheVariants as run
 use Rattle.kt_text.specs.Writing.{WritesFront}
@@ -136,11 +136,16 @@ abbrev pub rule_lines : Rule → List ℕ
 rule_lines rule =
     hint_line (rule_words rule) [] ++ hint_line (codes "koo_toueg check --explain, with this log and /dev/null, tells what breaks it") []
 
+-- a member of an instance that no message links with one that joined before it
+abbrev pub unlinked_lines : ℕ → ℕ → List ℕ
+unlinked_lines inst process =
+    numbered_line (codes "no message links process ") process (codes " with a member that joined before it: the log is at fault") []
+    ++ numbered_line (codes "its rows of instance ") inst (codes " have to go, took or ready and closed, or a row received is missing, by which a message links them") []
+
 -- why a log has no certificates: a rule that is broken, or a member without a chain
 abbrev pub unfit_lines : Unfit → List ℕ
 unfit_lines (unfit.BadLog row rule) = rule_lines rule
-unfit_lines (unfit.NoChain inst row process) =
-    hint_line (codes "the log is at fault: the process joined the instance, and no message links it with a member that joined before it") []
+unfit_lines (unfit.NoChain inst row process) = unlinked_lines inst process
 
 abbrev pub fault_reason : ProgramFault → Option (List ℕ)
 fault_reason (program.Scenario fault) = scenario_reason fault

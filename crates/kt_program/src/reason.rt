@@ -1,15 +1,15 @@
 //! Why an input is refused, or a log has no certificates, in words.
 
 ghost use Rattle.std.specs.Prelude.{◌≡◌, ◌++◌, OnOk};
-ghost use Rattle.kt_program.specs.Hints.{log_reason, reason_line, reason_lines, rule_lines, unfit_lines};
+ghost use Rattle.kt_program.specs.Hints.{log_reason, reason_line, reason_lines, rule_lines, unfit_lines, unlinked_lines};
 ghost use Rattle.kt_program.specs.Reasons.{scenario_reason, steps_reason};
 
 use crate::fault::{AppFault, ProgramFault};
-use kt_base::Memory;
+use kt_base::{InstNo, Memory, ProcNo};
 use kt_certify::Unfit;
 use kt_cuts::Rule;
 use kt_explain::rule_name;
-use kt_hints::push_hint;
+use kt_hints::{push_hint, push_numbered};
 use kt_log_text::LogFault;
 use kt_scenario::{ScenarioFault, StepsFault};
 
@@ -115,12 +115,28 @@ fn push_unfit(lines: &mut Vec<u8>, why: &Unfit) -> Result<(), Memory>
 {
     match why {
         Unfit::BadLog(_, rule) => push_rule(lines, *rule),
-        Unfit::NoChain(_, _, _) => push_hint(
-            lines,
-            "the log is at fault: the process joined the instance, and no message links it with a member that joined before it",
-            b"",
-        ),
+        Unfit::NoChain(inst, _, process) => push_unlinked(lines, *inst, *process),
     }
+}
+
+// Gathers which member no message links with one that joined its instance before it.
+fn push_unlinked(lines: &mut Vec<u8>, inst: InstNo, process: ProcNo) -> Result<(), Memory>
+    ensures { OnOk result (lines.new.items ≡ lines.old.items ++ unlinked_lines inst process) }
+{
+    push_numbered(
+        lines,
+        "no message links process ",
+        u64::from(process.get()),
+        " with a member that joined before it: the log is at fault",
+        b"",
+    )?;
+    push_numbered(
+        lines,
+        "its rows of instance ",
+        u64::from(inst.get()),
+        " have to go, took or ready and closed, or a row received is missing, by which a message links them",
+        b"",
+    )
 }
 
 // Gathers a rule that a row breaks, and what tells how.

@@ -33,7 +33,7 @@ struct BegunIn {
 impl Before<'_> {
     ghost use Rattle.kt_cuts.specs.Past.{past, is_checkpoint, is_rollback, is_member, initiator_of, beginning_of};
     ghost use Rattle.kt_cuts.specs.Legal.{IsLegal, has_begun, is_in, is_in_none, is_instance, is_rolling, is_undecided};
-    ghost use Rattle.kt_explain.specs.Breaches.{KnowsBefore, IsJudged};
+    ghost use Rattle.kt_explain.specs.Breaches.{KnowsBefore, IsDecidedIn, IsJudged};
     ghost use Rattle.kt_explain.specs.Finding.{IsFirstRow, begins_inst};
 
     /// Those of the rows of a legal log.
@@ -120,9 +120,18 @@ impl Before<'_> {
             p,
             inst,
             open_in,
+            decided: self.decided_in(open_in),
             joined: last_number(self.rows, &Sought::Joined(p, inst)),
             closed: last_number(self.rows, &Sought::Closed(p, inst)),
         })))
+    }
+
+    // The row that decided an open instance.
+    fn decided_in(&self, open_in: Option<InstNo>) -> Option<RowNo>
+        requires before { KnowsBefore self.now }
+        ensures { IsDecidedIn self.now.rows.now open_in result }
+    {
+        last_number(self.rows, &Sought::Decided(open_in?))
     }
 
     /// The process has not joined the instance.
@@ -204,6 +213,20 @@ impl Before<'_> {
         match kind {
             Kind::Checkpoint => Ok(()),
             Kind::Rollback => Err(Breach::Instance(InstanceBreach::OfKind { inst, kind, row })),
+        }
+    }
+
+    /// The instance is a checkpoint, which those too are unwilling to join that are in no other instance.
+    pub(crate) fn excusing(&self, inst: InstNo) -> Result<(), Breach>
+        requires before { KnowsBefore self.now }
+        ensures { IsJudged self.now.rows.now (λ s. is_checkpoint s inst) result }
+    {
+        let Some(BegunIn { row, kind, .. }) = self.beginning(inst) else {
+            return Err(Breach::Instance(InstanceBreach::NotBegun(inst)));
+        };
+        match kind {
+            Kind::Checkpoint => Ok(()),
+            Kind::Rollback => Err(Breach::Instance(InstanceBreach::OnlyBusy { inst, row })),
         }
     }
 

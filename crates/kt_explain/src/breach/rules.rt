@@ -206,10 +206,10 @@ impl Before<'_> {
         ensures { IsJudged self.now.rows.now
             (λ s. is_in_none s p && not (is_member s inst p) && is_undecided s inst) result }
     {
-        if let Err(breach) = self.idle(p) {
+        if let Err(breach) = self.not_joined(p, inst) {
             return Err(breach);
         }
-        if let Err(breach) = self.not_joined(p, inst) {
+        if let Err(breach) = self.idle(p) {
             return Err(breach);
         }
         self.undecided(inst)
@@ -323,7 +323,7 @@ impl Before<'_> {
         requires before { KnowsBefore self.now }
         ensures { IsJudged self.now.rows.now (λ s. is_checkpoint s inst && is_in_none s p && not (s.up p)) result }
     {
-        if let Err(breach) = self.checkpoint(inst) {
+        if let Err(breach) = self.excusing(inst) {
             return Err(breach);
         }
         if let Err(breach) = self.idle(p) {
@@ -337,7 +337,7 @@ impl Before<'_> {
         requires before { KnowsBefore self.now }
         ensures { IsJudged self.now.rows.now (λ s. is_checkpoint s inst && is_in_none s p && s.up p) result }
     {
-        if let Err(breach) = self.checkpoint(inst) {
+        if let Err(breach) = self.excusing(inst) {
             return Err(breach);
         }
         if let Err(breach) = self.idle(p) {

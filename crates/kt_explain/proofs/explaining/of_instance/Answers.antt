@@ -1,15 +1,12 @@
 use Rattle.std.proofs.Common.{ℕ, Option, Some, None, List, sym, ap, subst}
 use Rattle.std.specs.Prelude.{IfOk}
 use Rattle.kt_spacetime.specs.declared.event.Event.{Event}
-use Rattle.kt_checker.specs.declared.verdict.Verdict.{Verdict}
 use Rattle.kt_checker.specs.declared.verdict.Verdict.TheVariants.{No}
 use Rattle.kt_checker.specs.declared.verdict.Why.{Why}
 use Rattle.kt_checker.specs.declared.verdict.Why.TheVariants as why
 use Rattle.kt_checker.specs.Order.{IsCheckerAnswer}
-use Rattle.kt_explain.specs.declared.explanation.Explanation.{Explanation}
 use Rattle.kt_explain.specs.Told.{IsExplanation, IsNoOf}
 use Rattle.kt_explain.proofs.Faults.{log_not_instance, orphan_row}
-use Rattle.kt_explain.proofs.Gives.{ok_gives}
 use Rattle.kt_explain.proofs.explaining.of_instance.Goals as goal
 
 pub orphan-requires : goal.orphan-requires
@@ -37,15 +34,12 @@ returns-in-Cause c =
     (c.objection.ensures certificates (subst (λ (rows : List Event). IsCheckerAnswer rows certificates (No (Some k) c.args.row why.Cause)) (sym c.rows-in-Cause.ensures.rows)
     (subst (λ (w : Why). IsCheckerAnswer c.args.log.now.rows certificates (No (Some k) c.args.row w)) c.in-Cause.is c.requires.answer))))
 
+pub other_member-requires : goal.other_member-requires
+other_member-requires c = record { answer = subst (λ (w : Why). IsCheckerAnswer c.args.log.now.rows c.args.certificates.now (No (Some c.args.inst) c.args.row w)) c.in-Members.is c.requires.answer }
+
 pub returns-in-Members : goal.returns-in-Members
 returns-in-Members c =
-    let certificates = c.args.certificates.now in
-    let verdict = No (Some c.args.inst) c.args.row c.args.why in
-    let no : IsNoOf verdict c.args.inst why.Members = (c.args.row, ap (λ (w : Why). No (Some c.args.inst) c.args.row w) c.in-Members.is) in
-    ok_gives c.other_member.result
-    (λ (e : Explanation). (v : Verdict) → IsNoOf v c.args.inst why.Members → IsCheckerAnswer c.rows-in-Members.result.now certificates v → IsExplanation c.rows-in-Members.result.now certificates v e)
-    (IsExplanation c.args.log.now.rows certificates verdict)
-    (λ e f. subst (λ (rows : List Event). IsExplanation rows certificates verdict e) c.rows-in-Members.ensures.rows (f verdict no (subst (λ (rows : List Event). IsCheckerAnswer rows certificates verdict) (sym c.rows-in-Members.ensures.rows) c.requires.answer))) c.other_member.ensures
+    subst (λ (w : Why). IfOk c.other_member.result (IsExplanation c.args.log.now.rows c.args.certificates.now (No (Some c.args.inst) c.args.row w))) (sym c.in-Members.is) c.other_member.ensures
 
 pub returns-in-Missing : goal.returns-in-Missing
 returns-in-Missing c =

@@ -1,11 +1,20 @@
-use Rattle.std.proofs.Common.{◌∙◌}
-use Rattle.kt_explain.proofs.Faults.{unlike_first, members_first}
+use Rattle.std.proofs.Common.{ℕ, Option, Some, sym, subst}
+use Rattle.std.specs.Prelude.{IfOk}
+use Rattle.kt_checker.specs.declared.verdict.Verdict.TheVariants.{No}
+use Rattle.kt_checker.specs.declared.verdict.Why.TheVariants as why
+use Rattle.kt_checker.specs.Order.{IsCheckerAnswer}
+use Rattle.kt_explain.specs.Told.{IsExplanation}
+use Rattle.kt_explain.proofs.Faults.{members_row}
 use Rattle.kt_explain.proofs.members.other_member.Goals as goal
 
-pub returns-in-Some : goal.returns-in-Some
-returns-in-Some c = λ verdict no answer.
-    c.unlike_at.ensures c.args.rows.now c.args.certificates.now verdict no c.in-Some.ensures.first (c.as_slice.ensures.value ∙ c.in_ok-joined.ensures)
-    (λ same. absurd (unlike_first c.args.rows.now c.args.certificates.now c.args.inst verdict c.in-Some.certificate.now no answer c.in-Some.ensures.first same))
+pub other_member_at-requires : goal.other_member_at-requires
+other_member_at-requires c = record { answer = subst (λ (o : Option ℕ). IsCheckerAnswer c.args.log.now.rows c.args.certificates.now (No (Some c.args.inst) o why.Members)) c.in-Some.is c.requires.answer }
 
-pub returns : goal.returns
-returns c = λ verdict is answer. absurd (members_first c.args.rows.now c.args.certificates.now c.args.inst verdict is answer c.in-None.ensures.none)
+pub returns-in-Some : goal.returns-in-Some
+returns-in-Some c =
+    subst (λ (o : Option ℕ). IfOk c.other_member_at.result (IsExplanation c.args.log.now.rows c.args.certificates.now (No (Some c.args.inst) o why.Members))) (sym c.in-Some.is) c.other_member_at.ensures
+
+pub returns-in-None : goal.returns-in-None
+returns-in-None c =
+    absurd (members_row c.args.log.now.rows c.args.certificates.now c.args.inst
+    (subst (λ (o : Option ℕ). IsCheckerAnswer c.args.log.now.rows c.args.certificates.now (No (Some c.args.inst) o why.Members)) c.in-None.is c.requires.answer))

@@ -21,3 +21,7 @@ returns-in-Initiator-clause-writes g c = λ plain ok.
 pub returns-in-OwnCause-clause-writes : goal.returns-in-OwnCause-clause-writes
 returns-in-OwnCause-clause-writes g c = λ plain ok.
     subst (λ (x : InstanceBreach). HasWritten {W = g.row.W.Denot} g.W.Write.write_str_gives c.args.f.now (instance_breach_words x) c.write-in-OwnCause.new.self) (sym (c.in-OwnCause.is)) (c.write-in-OwnCause.ensures.writes plain ok)
+
+pub returns-in-OnlyBusy-clause-writes : goal.returns-in-OnlyBusy-clause-writes
+returns-in-OnlyBusy-clause-writes g c = λ plain ok.
+    subst (λ (x : InstanceBreach). HasWritten {W = g.row.W.Denot} g.W.Write.write_str_gives c.args.f.now (instance_breach_words x) c.write-in-OnlyBusy.new.self) (sym (c.in-OnlyBusy.is)) (c.write-in-OnlyBusy.ensures.writes plain ok)

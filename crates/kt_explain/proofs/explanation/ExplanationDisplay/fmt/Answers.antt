@@ -15,18 +15,25 @@ returns-in-NoObjection-clause-writes g c = λ plain ok.
 
 pub returns-in-Uncertified-clause-writes : goal.returns-in-Uncertified-clause-writes
 returns-in-Uncertified-clause-writes g c = λ plain ok.
-    subst (λ (x : Explanation). HasWritten {W = g.row.W.Denot} g.W.Write.write_str_gives c.args.f.now (explanation_words x) c.write-in-Uncertified.new.self) (sym c.in-Uncertified.is) (c.write-in-Uncertified.ensures.writes plain ok)
+    subst (λ (x : Explanation). HasWritten {W = g.row.W.Denot} g.W.Write.write_str_gives c.args.f.now (explanation_words x) c.write_uncertified.new.f) (sym c.in-Uncertified.is) (c.write_uncertified.ensures plain ok)
 
-pub returns-in_ok-write-in-OtherMember-clause-writes : goal.returns-in_ok-write-in-OtherMember-clause-writes
-returns-in_ok-write-in-OtherMember-clause-writes g c = λ plain ok.
-    let a = c.in_ok-write-in-OtherMember.ensures.writes plain refl in
-    let b = c.write_unlike.ensures a.plain ok in
-    subst (λ (x : Explanation). HasWritten {W = g.row.W.Denot} g.W.Write.write_str_gives c.args.f.now (explanation_words x) c.write_unlike.new.f) (sym c.in-OtherMember.is)
+pub returns-in_ok-write-in-Unknown-clause-writes : goal.returns-in_ok-write-in-Unknown-clause-writes
+returns-in_ok-write-in-Unknown-clause-writes g c = λ plain ok.
+    let a = c.in_ok-write-in-Unknown.ensures.writes plain refl in
+    let b = c.write_right_head.ensures a.plain ok in
+    subst (λ (x : Explanation). HasWritten {W = g.row.W.Denot} g.W.Write.write_str_gives c.args.f.now (explanation_words x) c.write_right_head.new.f) (sym c.in-Unknown.is)
     (put_two g.W.Write.write_str_gives _ _ _ _ _ _ a b refl)
 
-pub returns-in-Orphan-clause-writes : goal.returns-in-Orphan-clause-writes
-returns-in-Orphan-clause-writes g c = λ plain ok.
-    subst (λ (x : Explanation). HasWritten {W = g.row.W.Denot} g.W.Write.write_str_gives c.args.f.now (explanation_words x) c.write-in-Orphan.new.self) (sym c.in-Orphan.is) (c.write-in-Orphan.ensures.writes plain ok)
+pub returns-in-OtherMember-clause-writes : goal.returns-in-OtherMember-clause-writes
+returns-in-OtherMember-clause-writes g c = λ plain ok.
+    subst (λ (x : Explanation). HasWritten {W = g.row.W.Denot} g.W.Write.write_str_gives c.args.f.now (explanation_words x) c.write_other_member.new.f) (sym c.in-OtherMember.is) (c.write_other_member.ensures plain ok)
+
+pub returns-in_ok-write-in-Orphan-clause-writes : goal.returns-in_ok-write-in-Orphan-clause-writes
+returns-in_ok-write-in-Orphan-clause-writes g c = λ plain ok.
+    let a = c.in_ok-write-in-Orphan.ensures.writes plain refl in
+    let b = c.write_outsider.ensures a.plain ok in
+    subst (λ (x : Explanation). HasWritten {W = g.row.W.Denot} g.W.Write.write_str_gives c.args.f.now (explanation_words x) c.write_outsider.new.f) (sym c.in-Orphan.is)
+    (put_two g.W.Write.write_str_gives _ _ _ _ _ _ a b refl)
 
 pub returns-in_ok-write_bad_chain-in-BadChain-clause-writes : goal.returns-in_ok-write_bad_chain-in-BadChain-clause-writes
 returns-in_ok-write_bad_chain-in-BadChain-clause-writes g c = λ plain ok.

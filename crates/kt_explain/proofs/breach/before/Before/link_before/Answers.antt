@@ -19,6 +19,7 @@ returns-in-Some c =
     let before : i + 1 < c.args.place = omega (arith, c.loop-index-test.true, c.min-count.ensures, c.saturating_sub.ensures) in (
       (i, member.1, before, ap (λ (ms : List (ℕ × List ℕ)). slice_get ms i) (sym c.list-members.ensures) ∙ there),
       c.in-Some.ensures.leads,
+      c.eq.ensures,
     )
 
 pub loop-index-preserved : goal.loop-index-preserved
