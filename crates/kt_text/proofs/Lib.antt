@@ -3,3 +3,4 @@ pub mod NumberFacts
 pub mod RecordFacts
 pub mod ReaderFacts
 pub mod PieceFacts
+pub mod LineFacts

@@ -3,6 +3,7 @@
 
 mod fault;
 pub mod fields;
+pub mod lines;
 pub mod pieces;
 pub mod records;
 

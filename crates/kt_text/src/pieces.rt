@@ -101,12 +101,19 @@ pub fn push_field(text: &mut Vec<u8>, field: &[u8]) -> Result<(), Memory>
     Ok(())
 }
 
-/// Gathers a number by its decimal digits.
+// No number below 2^32 has more digits.
+const DIGITS: usize = 16;
+
+/// Gathers a mark and a number by its decimal digits.
 #[inline(always)]
-pub fn push_decimal(text: &mut Vec<u8>, number: u32) -> Result<(), Memory>
-    ensures { OnOk result (text.new.items ≡ text.old.items ++ decimal number) }
+pub fn push_number(text: &mut Vec<u8>, mark: u8, number: u32) -> Result<(), Memory>
+    ensures { OnOk result (text.new.items ≡ text.old.items ++ mark ∷ decimal number) }
 {
-    let mut digits = itoa::Buffer::new();
-    text.extend_from_slice(digits.format(number).as_bytes())?;
+    let mut bytes = [0; 2 * DIGITS];
+    let start = itoa::write_digits(u64::from(number), &mut bytes, DIGITS) - 1;
+    bytes[start] = mark;
+    // So many bytes as are known beforehand are copied without a call; those after the number are taken off again.
+    text.extend_from_slice(&bytes[start..start + DIGITS])?;
+    text.truncate(text.len() - start);
     Ok(())
 }
