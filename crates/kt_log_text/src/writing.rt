@@ -1,6 +1,6 @@
 //! Logs written as text.
 
-ghost use Rattle.std.specs.Prelude.{◌≡◌, [], ◌∷◌, ◌++◌, codes, map, OnOk, OnErr};
+ghost use Rattle.std.specs.Prelude.{◌≡◌, ◌≤◌, ◌+◌, [], ◌∷◌, ◌++◌, codes, length, map, OnOk, OnErr};
 ghost use Rattle.std.specs.Fmt.{decimal, signed_decimal};
 ghost use Rattle.std.specs.Io.KnownBytes.{Appends};
 ghost use Rattle.kt_base.specs.declared.words.Cause.TheVariants.{Busy};
@@ -12,7 +12,8 @@ use kt_base::{Cause, InstNo, Memory, MsgNo, ProcNo, Verb};
 use kt_spacetime::{Event, SpaceTime};
 use kt_text::WriteFault;
 use kt_text::fields::{decision_text, kind_text};
-use kt_text::pieces::{push_decimal, push_field, write_full, write_rest};
+use kt_text::lines::Line;
+use kt_text::pieces::{write_full, write_rest};
 use std::alloc::Global;
 use std::io::Write;
 
@@ -27,9 +28,10 @@ pub fn write_csv<W: Write>(alloc: Global, log: &SpaceTime, writer: &mut W) -> Re
 {
     let mut text = Vec::new(alloc);
     push_header(&mut text)?;
+    let mut line = Line::new();
     let rows = log.rows();
     for row in rows {
-        push_row(&mut text, *row)?;
+        push_row(&mut text, &mut line, *row)?;
         write_full(&mut text, writer)?;
     }
     write_rest(&mut text, writer)
@@ -42,142 +44,160 @@ fn push_header(text: &mut Vec<u8>) -> Result<(), Memory>
     Ok(())
 }
 
-fn push_row(text: &mut Vec<u8>, row: Event) -> Result<(), Memory>
+fn push_row(text: &mut Vec<u8>, line: &mut Line, row: Event) -> Result<(), Memory>
     ensures { OnOk result (text.new.items ≡ text.old.items ++ line_of (spelling row)) }
 {
-    push_fields(text, row)?;
-    text.push(b'\n')?;
-    Ok(())
+    line.clear();
+    line.put_byte(b'\n');
+    put_fields(line, row);
+    line.push_to(text)
 }
 
-fn push_fields(text: &mut Vec<u8>, row: Event) -> Result<(), Memory>
-    ensures { OnOk result (text.new.items ≡ text.old.items ++ joined (spelling row)) }
+// Puts the fields of a row before the end of its line.
+#[inline(always)]
+fn put_fields(line: &mut Line, row: Event)
+    requires { length line.old ≤ 1 }
+    ensures { line.new ≡ joined (spelling row) ++ line.old }
 {
     match row {
-        Event::Sent { p, to, body } => push_sent(text, p, to, body),
-        Event::Received { p, from, msg } => push_taken(text, b"received", p, from, msg),
-        Event::Dropped { p, from, msg } => push_taken(text, b"dropped", p, from, msg),
-        Event::Began { p, inst, kind } => push_joined(text, b"began", p, inst, kind_text(kind)),
-        Event::Took { p, inst } => push_joined(text, b"took", p, inst, b"-"),
-        Event::Ready { p, inst } => push_joined(text, b"ready", p, inst, b"-"),
-        Event::Unwilling { p, inst, cause } => push_unwilling(text, p, inst, cause),
+        Event::Sent { p, to, body } => put_sent(line, p, to, body),
+        Event::Received { p, from, msg } => put_taken(line, b"received", p, from, msg),
+        Event::Dropped { p, from, msg } => put_taken(line, b"dropped", p, from, msg),
+        Event::Began { p, inst, kind } => put_joined(line, b"began", p, inst, kind_text(kind)),
+        Event::Took { p, inst } => put_joined(line, b"took", p, inst, b"-"),
+        Event::Ready { p, inst } => put_joined(line, b"ready", p, inst, b"-"),
+        Event::Unwilling { p, inst, cause } => put_unwilling(line, p, inst, cause),
         Event::Decided { p, inst, commit } => {
-            push_joined(text, b"decided", p, inst, decision_text(commit))
+            put_joined(line, b"decided", p, inst, decision_text(commit))
         }
-        Event::Closed { p, inst } => push_joined(text, b"closed", p, inst, b"-"),
-        Event::Failed { p } => push_failed(text, p),
-        Event::Refused { p, verb, cause } => push_refused(text, p, verb, cause),
+        Event::Closed { p, inst } => put_joined(line, b"closed", p, inst, b"-"),
+        Event::Failed { p } => put_failed(line, p),
+        Event::Refused { p, verb, cause } => put_refused(line, p, verb, cause),
     }
 }
 
-fn push_sent(text: &mut Vec<u8>, p: ProcNo, to: ProcNo, body: i64) -> Result<(), Memory>
-    ensures { OnOk result (text.new.items ≡ text.old.items ++ joined (codes "sent" ∷ decimal p ∷ decimal to ∷ signed_decimal body ∷ [])) }
+#[inline(always)]
+fn put_sent(line: &mut Line, p: ProcNo, to: ProcNo, body: i64)
+    requires { length line.old ≤ 1 }
+    ensures { line.new ≡ joined (codes "sent" ∷ decimal p ∷ decimal to ∷ signed_decimal body ∷ []) ++ line.old }
 {
     let mut digits = itoa::Buffer::new();
-    push_process(text, b"sent", p)?;
-    push_number(text, u32::from(to.get()))?;
-    push_field(text, digits.format(body).as_bytes())
+    put_field(line, digits.format(body).as_bytes());
+    put_number(line, u32::from(to.get()));
+    put_process(line, b"sent", p);
 }
 
 // A row that takes a message.
 #[inline(always)]
-fn push_taken(
-    text: &mut Vec<u8>,
-    word: &[u8],
-    p: ProcNo,
-    from: ProcNo,
-    msg: MsgNo,
-) -> Result<(), Memory>
-    ensures { OnOk result (text.new.items ≡ text.old.items ++ joined (word.now ∷ decimal p ∷ decimal from ∷ decimal msg ∷ [])) }
+fn put_taken(line: &mut Line, word: &[u8], p: ProcNo, from: ProcNo, msg: MsgNo)
+    requires empty { length line.old ≤ 1 }
+    requires short { length word.now ≤ 9 }
+    ensures { line.new ≡ joined (word.now ∷ decimal p ∷ decimal from ∷ decimal msg ∷ []) ++ line.old }
 {
-    push_process(text, word, p)?;
-    push_number(text, u32::from(from.get()))?;
-    push_number(text, msg.get())
+    put_number(line, msg.get());
+    put_number(line, u32::from(from.get()));
+    put_process(line, word, p);
 }
 
 // A row of an instance.
 #[inline(always)]
-fn push_joined(
-    text: &mut Vec<u8>,
-    word: &[u8],
-    p: ProcNo,
-    inst: InstNo,
-    third: &[u8],
-) -> Result<(), Memory>
-    ensures { OnOk result (text.new.items ≡ text.old.items ++ joined (word.now ∷ decimal p ∷ decimal inst ∷ third.now ∷ [])) }
+fn put_joined(line: &mut Line, word: &[u8], p: ProcNo, inst: InstNo, third: &[u8])
+    requires empty { length line.old ≤ 1 }
+    requires short { (length word.now ≤ 9) × (length third.now ≤ 10) }
+    ensures { line.new ≡ joined (word.now ∷ decimal p ∷ decimal inst ∷ third.now ∷ []) ++ line.old }
 {
-    push_process(text, word, p)?;
-    push_number(text, u32::from(inst.get()))?;
-    push_field(text, third)
+    put_field(line, third);
+    put_number(line, u32::from(inst.get()));
+    put_process(line, word, p);
 }
 
-fn push_failed(text: &mut Vec<u8>, p: ProcNo) -> Result<(), Memory>
-    ensures { OnOk result (text.new.items ≡ text.old.items ++ joined (codes "failed" ∷ decimal p ∷ codes "-" ∷ codes "-" ∷ [])) }
+fn put_failed(line: &mut Line, p: ProcNo)
+    requires { length line.old ≤ 1 }
+    ensures { line.new ≡ joined (codes "failed" ∷ decimal p ∷ codes "-" ∷ codes "-" ∷ []) ++ line.old }
 {
-    push_process(text, b"failed", p)?;
-    push_field(text, b"-")?;
-    push_field(text, b"-")
+    put_field(line, b"-");
+    put_field(line, b"-");
+    put_process(line, b"failed", p);
 }
 
-fn push_unwilling(text: &mut Vec<u8>, p: ProcNo, inst: InstNo, cause: Cause) -> Result<(), Memory>
-    ensures { OnOk result (text.new.items ≡ text.old.items ++ joined (codes "unwilling" ∷ decimal p ∷ decimal inst ∷ cause_word cause ∷ [])) }
+#[inline(always)]
+fn put_unwilling(line: &mut Line, p: ProcNo, inst: InstNo, cause: Cause)
+    requires { length line.old ≤ 1 }
+    ensures { line.new ≡ joined (codes "unwilling" ∷ decimal p ∷ decimal inst ∷ cause_word cause ∷ []) ++ line.old }
 {
-    push_process(text, b"unwilling", p)?;
-    push_number(text, u32::from(inst.get()))?;
-    push_cause(text, cause)
+    put_cause(line, cause);
+    put_number(line, u32::from(inst.get()));
+    put_process(line, b"unwilling", p);
 }
 
-fn push_refused(text: &mut Vec<u8>, p: ProcNo, verb: Verb, cause: Cause) -> Result<(), Memory>
-    ensures { OnOk result (text.new.items ≡ text.old.items ++ joined (codes "refused" ∷ decimal p ∷ verb_word verb ∷ cause_word cause ∷ [])) }
+fn put_refused(line: &mut Line, p: ProcNo, verb: Verb, cause: Cause)
+    requires { length line.old ≤ 1 }
+    ensures { line.new ≡ joined (codes "refused" ∷ decimal p ∷ verb_word verb ∷ cause_word cause ∷ []) ++ line.old }
 {
-    push_process(text, b"refused", p)?;
-    push_field(text, verb_text(verb))?;
-    push_cause(text, cause)
+    put_cause(line, cause);
+    put_field(line, verb_text(verb));
+    put_process(line, b"refused", p);
 }
 
 // The first two of four fields.
 #[inline(always)]
-fn push_process(text: &mut Vec<u8>, word: &[u8], p: ProcNo) -> Result<(), Memory>
-    ensures { OnOk result (text.new.items ≡ text.old.items ++ joined (word.now ∷ decimal p ∷ [])) }
+fn put_process(line: &mut Line, word: &[u8], p: ProcNo)
+    requires { length word.now + length line.old ≤ 53 }
+    ensures { line.new ≡ joined (word.now ∷ decimal p ∷ []) ++ line.old }
 {
-    text.extend_from_slice(word)?;
-    push_number(text, u32::from(p.get()))
+    put_number(line, u32::from(p.get()));
+    line.put(word);
 }
 
 // A comma and a number.
 #[inline(always)]
-fn push_number(text: &mut Vec<u8>, number: u32) -> Result<(), Memory>
-    ensures { OnOk result (text.new.items ≡ text.old.items ++ 44 ∷ decimal number) }
+fn put_number(line: &mut Line, number: u32)
+    requires { length line.old ≤ 53 }
+    ensures text { line.new ≡ 44 ∷ (decimal number ++ line.old) }
+    ensures length { length line.new ≤ length line.old + 11 }
 {
-    text.push(b',')?;
-    push_decimal(text, number)
+    line.put_decimal(number);
+    line.put_byte(b',');
+}
+
+// A comma and a field.
+#[inline(always)]
+fn put_field(line: &mut Line, field: &[u8])
+    requires { length field.now + length line.old ≤ 63 }
+    ensures text { line.new ≡ 44 ∷ (field.now ++ line.old) }
+    ensures length { length line.new ≡ length field.now + length line.old + 1 }
+{
+    line.put(field);
+    line.put_byte(b',');
 }
 
 // A comma and a cause.
 #[inline(always)]
-fn push_cause(text: &mut Vec<u8>, cause: Cause) -> Result<(), Memory>
-    ensures { OnOk result (text.new.items ≡ text.old.items ++ 44 ∷ cause_word cause) }
+fn put_cause(line: &mut Line, cause: Cause)
+    requires { length line.old ≤ 1 }
+    ensures text { line.new ≡ 44 ∷ (cause_word cause ++ line.old) }
+    ensures length { length line.new ≤ 17 }
 {
     match cause {
-        Cause::Busy(inst) => push_busy(text, inst),
-        Cause::Down => {
-            text.extend_from_slice(b",down")?;
-            Ok(())
-        }
-        Cause::NoSave => push_field(text, b"nosave"),
+        Cause::Busy(inst) => put_busy(line, inst),
+        Cause::Down => put_field(line, b"down"),
+        Cause::NoSave => put_field(line, b"nosave"),
     }
 }
 
 // A comma and the cause of a process that is in another instance.
-fn push_busy(text: &mut Vec<u8>, inst: InstNo) -> Result<(), Memory>
-    ensures { OnOk result (text.new.items ≡ text.old.items ++ 44 ∷ cause_word (Busy inst)) }
+fn put_busy(line: &mut Line, inst: InstNo)
+    requires { length line.old ≤ 1 }
+    ensures text { line.new ≡ 44 ∷ (cause_word (Busy inst) ++ line.old) }
+    ensures length { length line.new ≤ 17 }
 {
-    push_field(text, b"busy-")?;
-    push_decimal(text, u32::from(inst.get()))
+    line.put_decimal(u32::from(inst.get()));
+    put_field(line, b"busy-");
 }
 
 fn verb_text(verb: Verb) -> &'static [u8]
-    ensures { result.now ≡ verb_word verb }
+    ensures word { result.now ≡ verb_word verb }
+    ensures short { length result.now ≤ 10 }
 {
     match verb {
         Verb::Send => b"send",
