@@ -1,16 +1,17 @@
 //! Certificates written as text.
 
-ghost use Rattle.std.specs.Prelude.{◌≡◌, ◌<◌, ◌≤◌, [], ◌∷◌, ◌++◌, codes, drop, map, length, All, IfOk, OnOk, OnErr};
+ghost use Rattle.std.specs.Prelude.{◌≡◌, ◌<◌, ◌≤◌, ◌+◌, [], ◌∷◌, ◌++◌, codes, drop, map, length, All, IfOk, OnOk, OnErr};
 ghost use Rattle.std.specs.Io.KnownBytes.{Appends};
 ghost use Rattle.std.specs.Fmt.{decimal};
-ghost use Rattle.kt_text.specs.Writing.{Sends, WritesFront, line_of, text_of};
+ghost use Rattle.kt_text.specs.Writing.{Sends, WritesFront, joined, line_of, text_of};
 ghost use Rattle.kt_chain.specs.Spelling.{Member, instance_record, member_record, certificate_records, records_of, chain_word, marked, HasShortChains};
 
 use crate::certificate::{Certificate, Chain};
 use kt_base::{InstNo, Memory, MsgNo, ProcNo};
 use kt_text::WriteFault;
 use kt_text::fields::{decision_text, kind_text};
-use kt_text::pieces::{push_decimal, push_field, write_full, write_rest};
+use kt_text::lines::Line;
+use kt_text::pieces::{push_field, push_number, write_full, write_rest};
 use std::alloc::Global;
 use std::io::Write;
 
@@ -87,13 +88,23 @@ fn push_member<'a>(
 {
     let (process, chain) = member;
     let messages = chain.messages();
-    text.extend_from_slice(b"member")?;
-    push_number(text, b',', u32::from(inst.get()))?;
-    push_number(text, b',', u32::from(process.get()))?;
-    push_number(text, b',', messages.len() as u32)?;
+    push_front(text, inst, *process, messages.len() as u32)?;
     let told = push_chain(text, words, told, messages)?;
     text.push(b'\n')?;
     Ok(told)
+}
+
+// What the record of a member says before its chain.
+fn push_front(text: &mut Vec<u8>, inst: InstNo, process: ProcNo, count: u32) -> Result<(), Memory>
+    ensures { OnOk result (text.new.items ≡ text.old.items
+        ++ joined (codes "member" ∷ decimal inst ∷ decimal process ∷ decimal count ∷ [])) }
+{
+    let mut line = Line::new();
+    put_number(&mut line, count);
+    put_number(&mut line, u32::from(process.get()));
+    put_number(&mut line, u32::from(inst.get()));
+    line.put(b"member");
+    line.push_to(text)
 }
 
 // A comma and a chain. The words are those of a chain that was told, and then of the one that is answered.
@@ -156,10 +167,13 @@ fn push_marked(words: &mut Vec<u8>, messages: &[MsgNo]) -> Result<(), Memory>
     Ok(())
 }
 
-// A mark and a number.
-fn push_number(text: &mut Vec<u8>, mark: u8, number: u32) -> Result<(), Memory>
-    ensures { OnOk result (text.new.items ≡ text.old.items ++ mark ∷ decimal number) }
+// A comma and a number.
+#[inline(always)]
+fn put_number(line: &mut Line, number: u32)
+    requires { length line.old ≤ 53 }
+    ensures text { line.new ≡ 44 ∷ (decimal number ++ line.old) }
+    ensures length { length line.new ≤ length line.old + 11 }
 {
-    text.push(mark)?;
-    push_decimal(text, number)
+    line.put_decimal(number);
+    line.put_byte(b',');
 }
