@@ -13,7 +13,7 @@ use kt_spacetime::{Event, SpaceTime};
 use kt_text::WriteFault;
 use kt_text::fields::{decision_text, kind_text};
 use kt_text::lines::Line;
-use kt_text::pieces::{write_full, write_rest};
+use kt_text::pieces::{new_text, write_full, write_rest};
 use std::alloc::Global;
 use std::io::Write;
 
@@ -26,7 +26,7 @@ pub fn write_csv<W: Write>(alloc: Global, log: &SpaceTime, writer: &mut W) -> Re
     ensures stopped { OnErr result (WritesFront (W.contents writer.old) (W.contents writer.new)
         (text_of (header ∷ map spelling log.now.rows))) }
 {
-    let mut text = Vec::new(alloc);
+    let mut text = new_text(alloc)?;
     push_header(&mut text)?;
     let mut line = Line::new();
     let rows = log.rows();

@@ -7,10 +7,21 @@ ghost use Rattle.kt_text.specs.Writing.{Sends, WritesFront};
 
 use crate::fault::WriteFault;
 use kt_base::Memory;
+use std::alloc::Global;
 use std::io::{ErrorKind, Write};
 
 // A text goes out once this many bytes of it are gathered.
 const PIECE: usize = 32_768;
+
+// Most of what is gathered at once has no more bytes than this.
+const SPARE: usize = 4_096;
+
+/// A text of which nothing is gathered, with room for what is gathered before it goes out.
+pub fn new_text(alloc: Global) -> Result<Vec<u8>, Memory>
+    ensures { IfOk result (λ text. text.items ≡ []) }
+{
+    Ok(Vec::with_capacity(alloc, PIECE + SPARE)?)
+}
 
 /// Writes what is gathered, if it is 32 KiB or more; at a fault, a front part of it.
 pub fn write_full<W: Write>(text: &mut Vec<u8>, writer: &mut W) -> Result<(), WriteFault>
