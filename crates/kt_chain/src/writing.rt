@@ -11,7 +11,7 @@ use kt_base::{InstNo, Memory, MsgNo, ProcNo};
 use kt_text::WriteFault;
 use kt_text::fields::{decision_text, kind_text};
 use kt_text::lines::Line;
-use kt_text::pieces::{push_field, push_number, write_full, write_rest};
+use kt_text::pieces::{new_text, push_field, push_number, write_full, write_rest};
 use std::alloc::Global;
 use std::io::Write;
 
@@ -30,7 +30,7 @@ pub fn write_certs<W: Write>(
     ensures stopped { OnErr result (WritesFront (W.contents writer.old) (W.contents writer.new)
         (text_of (records_of certificates.now))) }
 {
-    let mut text = Vec::new(alloc);
+    let mut text = new_text(alloc)?;
     let mut words = Vec::new(alloc);
     for certificate in certificates {
         write_certificate(&mut text, &mut words, certificate, writer)?;

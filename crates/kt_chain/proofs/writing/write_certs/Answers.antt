@@ -20,7 +20,7 @@ returns-in_err-write_certificate-clause-stopped g c =
     let certificate = c.certificate-item.result in
     let within : c.loop-certificate.certificate-index < length certificates = omega arith in
     let at : get_or certificates c.loop-certificate.certificate-index certificate ≡ certificate = search rules in
-    at_fault c.from_residual.result
+    at_fault c.from_residual-in_err-write_certificate.result
     (stops_at_certificate (contents c.args.writer.now) (contents c.loop-certificate.writer) (contents c.write_certificate.new.writer) c.loop-certificate.text.items certificates
     c.loop-certificate.certificate-index certificate within at c.loop-certificate.invariant c.in_err-write_certificate.ensures.stopped)
 
