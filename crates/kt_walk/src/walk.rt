@@ -237,6 +237,7 @@ impl Walk {
     }
 
     // A process sends a message to another one, which breaks no rule.
+    #[inline(always)]
     fn send(&mut self, p: ProcNo, to: ProcNo) -> Result<(), Memory>
         requires few { self.old.rows < 2 ^ 24 }
         ensures fed { OnOk result ((rows : List Event) (body : _) → WalkOf self.old rows
@@ -254,6 +255,7 @@ impl Walk {
     }
 
     // A process receives a message, which breaks no rule, at this place among those in transit.
+    #[inline(always)]
     fn receive(
         &mut self,
         p: ProcNo,
