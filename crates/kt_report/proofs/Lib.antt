@@ -6,3 +6,4 @@ pub mod OfferFacts
 pub mod InstanceFacts
 pub mod MessageFacts
 pub mod ReportFacts
+pub mod NameFacts

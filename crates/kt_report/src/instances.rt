@@ -1,6 +1,6 @@
 //! The lines of instances.
 
-ghost use Rattle.std.specs.Prelude.{◌≡◌, ◌∷◌, ◌++◌, ℕ, IfOk, OnOk, OnErr};
+ghost use Rattle.std.specs.Prelude.{◌≡◌, ◌≤◌, ◌∷◌, ◌++◌, [], ℕ, Some, length, IfOk, OnOk, OnErr};
 ghost use Rattle.std.specs.List.{flat_map};
 ghost use Rattle.kt_base.specs.Numbers.{IsInstNo};
 ghost use Rattle.kt_text.specs.Writing.{Sends, WritesFront};
@@ -8,14 +8,15 @@ ghost use Rattle.kt_report.specs.Unwilling.{answer_line, answers_to, unwilling_o
 ghost use Rattle.kt_report.specs.Lines.{chain_words, ends_word, instance_line, instance_lines, member_line, message_word};
 
 use crate::unwilling::Unwilling;
-use crate::words::{end_line, name_text, push_cause, push_number, push_word};
+use crate::words::{end_line, name_text, push_word, put_cause, put_word};
 use kt_base::{Cause, Memory, MsgNo, ProcNo};
 use kt_chain::{Certificate, Chain};
 use kt_plan::Names;
 use kt_spacetime::Event;
 use kt_text::WriteFault;
 use kt_text::fields::{decision_text, kind_text};
-use kt_text::pieces::write_full;
+use kt_text::lines::Line;
+use kt_text::pieces::{push_number, write_full};
 use std::alloc::Global;
 use std::io::Write;
 
@@ -77,7 +78,7 @@ fn push_instance(text: &mut Vec<u8>, names: &Names, certificate: &Certificate) -
     ensures { OnOk result (text.new.items ≡ text.old.items ++ instance_line names.now certificate.now) }
 {
     text.extend_from_slice(b"instance")?;
-    push_number(text, u32::from(certificate.inst.get()))?;
+    push_number(text, b' ', u32::from(certificate.inst.get()))?;
     push_word(text, kind_text(certificate.kind))?;
     push_word(text, name_text(names, certificate.initiator))?;
     push_word(text, decision_text(certificate.commit))?;
@@ -188,32 +189,40 @@ fn push_messages(
 fn push_message(text: &mut Vec<u8>, names: &Names, rows: &[Event], msg: MsgNo) -> Result<(), Memory>
     ensures { OnOk result (text.new.items ≡ text.old.items ++ 32 ∷ message_word names.now rows.now msg) }
 {
-    push_number(text, msg.get())?;
-    match rows.get(msg.index()) {
-        Some(row) => push_ends(text, names, *row),
-        None => Ok(()),
+    let mut line = Line::new();
+    if let Some(row) = rows.get(msg.index()) {
+        put_ends(&mut line, names, *row);
     }
+    line.put_decimal(msg.get());
+    line.put_byte(b' ');
+    line.push_to(text)
 }
 
 // Between whom a message went, if this row sent it.
-fn push_ends(text: &mut Vec<u8>, names: &Names, row: Event) -> Result<(), Memory>
-    ensures { OnOk result (text.new.items ≡ text.old.items ++ ends_word names.now (Some row)) }
+#[inline(always)]
+fn put_ends(line: &mut Line, names: &Names, row: Event)
+    requires { line.old ≡ [] }
+    ensures text { line.new ≡ ends_word names.now (Some row) }
+    ensures length { length line.new ≤ 34 }
 {
     match row {
-        Event::Sent { p, to, .. } => push_pair(text, name_text(names, p), name_text(names, to)),
-        _ => Ok(()),
+        Event::Sent { p, to, .. } => put_pair(line, name_text(names, p), name_text(names, to)),
+        _ => {}
     }
 }
 
 // The names of a sender and of a receiver.
-fn push_pair(text: &mut Vec<u8>, sender: &[u8], receiver: &[u8]) -> Result<(), Memory>
-    ensures { OnOk result (text.new.items ≡ text.old.items ++ 58 ∷ (sender.now ++ 62 ∷ receiver.now)) }
+#[inline(always)]
+fn put_pair(line: &mut Line, sender: &[u8], receiver: &[u8])
+    requires empty { line.old ≡ [] }
+    requires short { (length sender.now ≤ 16) × (length receiver.now ≤ 16) }
+    ensures text { line.new ≡ 58 ∷ (sender.now ++ 62 ∷ receiver.now) }
+    ensures length { length line.new ≤ 34 }
 {
-    text.push(b':')?;
-    text.extend_from_slice(sender)?;
-    text.push(b'>')?;
-    text.extend_from_slice(receiver)?;
-    Ok(())
+    line.put(receiver);
+    line.put_byte(b'>');
+    line.put(sender);
+    line.put_byte(b':');
 }
 
 // Writes or gathers the lines of those who were unwilling to join an instance.
@@ -227,20 +236,29 @@ fn write_unwilling<W: Write>(
     ensures stopped { OnErr result (WritesFront (W.contents writer.old) (W.contents writer.new)
         (text.old.items ++ flat_map (answer_line names.now) unwilling.now)) }
 {
+    let mut line = Line::new();
     for answer in unwilling {
-        push_unwilling(text, names, *answer)?;
+        push_unwilling(text, &mut line, names, *answer)?;
         write_full(text, writer)?;
     }
     Ok(())
 }
 
 // The line of one who was unwilling.
-fn push_unwilling(text: &mut Vec<u8>, names: &Names, answer: (ProcNo, Cause)) -> Result<(), Memory>
+#[inline(always)]
+fn push_unwilling(
+    text: &mut Vec<u8>,
+    line: &mut Line,
+    names: &Names,
+    answer: (ProcNo, Cause),
+) -> Result<(), Memory>
     ensures { OnOk result (text.new.items ≡ text.old.items ++ answer_line names.now answer) }
 {
     let (process, cause) = answer;
-    text.extend_from_slice(b"unwilling")?;
-    push_word(text, name_text(names, process))?;
-    push_cause(text, cause)?;
-    end_line(text)
+    line.clear();
+    line.put_byte(b'\n');
+    put_cause(line, cause);
+    put_word(line, name_text(names, process));
+    line.put(b"unwilling");
+    line.push_to(text)
 }

@@ -6,11 +6,12 @@ ghost use Rattle.kt_spacetime.specs.declared.event.Event.TheVariants.{Refused};
 ghost use Rattle.kt_text.specs.Writing.{Sends, WritesFront};
 ghost use Rattle.kt_report.specs.Lines.{refusal_line};
 
-use crate::words::{end_line, name_text, push_cause, push_word, verb_text};
+use crate::words::{name_text, put_cause, put_word, verb_text};
 use kt_base::{Cause, Memory, ProcNo, Verb};
 use kt_plan::Names;
 use kt_spacetime::Event;
 use kt_text::WriteFault;
+use kt_text::lines::Line;
 use kt_text::pieces::write_full;
 use std::io::Write;
 
@@ -52,9 +53,11 @@ fn push_refusal(
 ) -> Result<(), Memory>
     ensures { OnOk result (text.new.items ≡ text.old.items ++ refusal_line names.now (Refused p verb cause)) }
 {
-    text.extend_from_slice(b"refused")?;
-    push_word(text, name_text(names, p))?;
-    push_word(text, verb_text(verb))?;
-    push_cause(text, cause)?;
-    end_line(text)
+    let mut line = Line::new();
+    line.put_byte(b'\n');
+    put_cause(&mut line, cause);
+    put_word(&mut line, verb_text(verb));
+    put_word(&mut line, name_text(names, p));
+    line.put(b"refused");
+    line.push_to(text)
 }

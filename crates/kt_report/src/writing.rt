@@ -20,7 +20,7 @@ use kt_chain::Certificate;
 use kt_plan::{Names, Plan};
 use kt_spacetime::{Event, SpaceTime};
 use kt_text::WriteFault;
-use kt_text::pieces::write_rest;
+use kt_text::pieces::{new_text, write_rest};
 use std::alloc::Global;
 use std::io::Write;
 
@@ -112,7 +112,7 @@ fn write_parts<W: Write>(
     ensures front { OnErr result (WritesFront (W.contents writer.old) (W.contents writer.new)
         (report_with names.now rows.now certificates.now (map (λ o. o.now) objects.now) lost)) }
 {
-    let mut text = Vec::new(alloc);
+    let mut text = new_text(alloc)?;
     write_commands(alloc, &mut text, names, rows, certificates, writer)?;
     push_objects(&mut text, names, objects)?;
     push_losses(&mut text, lost, dropped(rows))?;

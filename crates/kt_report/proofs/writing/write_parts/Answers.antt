@@ -24,11 +24,11 @@ returns g c =
     ap (λ (n : ℕ). commands ++ object_lines names offers ++ losses_line c.args.lost n) c.dropped.ensures in
     record {
       written = on_ok_weaker c.write_rest.result (λ out. subst (λ (t : List ℕ). Appends a d t) same
-          (parts_go_out a b d c.new-text.result.items c.write_commands.new.text.items c.push_objects.new.text.items c.push_losses.new.text.items commands (object_lines names offers) losses
-          c.new-text.ensures.items c.in_ok-write_commands.ensures.sent c.in_ok-push_objects.ensures c.in_ok-push_losses.ensures out)) c.write_rest.ensures.written;
+          (parts_go_out a b d c.in_ok-text.text.items c.write_commands.new.text.items c.push_objects.new.text.items c.push_losses.new.text.items commands (object_lines names offers) losses
+          c.in_ok-text.ensures c.in_ok-write_commands.ensures.sent c.in_ok-push_objects.ensures c.in_ok-push_losses.ensures out)) c.write_rest.ensures.written;
       front = on_err_weaker c.write_rest.result (λ out. subst (λ (t : List ℕ). WritesFront a d t) same
-          (parts_stop a b d c.new-text.result.items c.write_commands.new.text.items c.push_objects.new.text.items c.push_losses.new.text.items commands (object_lines names offers) losses
-          c.new-text.ensures.items c.in_ok-write_commands.ensures.sent c.in_ok-push_objects.ensures c.in_ok-push_losses.ensures out)) c.write_rest.ensures.stopped;
+          (parts_stop a b d c.in_ok-text.text.items c.write_commands.new.text.items c.push_objects.new.text.items c.push_losses.new.text.items commands (object_lines names offers) losses
+          c.in_ok-text.ensures c.in_ok-write_commands.ensures.sent c.in_ok-push_objects.ensures c.in_ok-push_losses.ensures out)) c.write_rest.ensures.stopped;
     }
 
 pub returns-in_err-write_commands-clause-front : goal.returns-in_err-write_commands-clause-front
@@ -37,8 +37,8 @@ returns-in_err-write_commands-clause-front g c =
     let a = contents c.args.writer.now in
     let d = contents c.write_commands.new.writer in
     let commands = commands_of c.args.names.now c.args.rows.now c.args.certificates.now in
-    let out : WritesFront a d commands = subst (λ (t : List ℕ). WritesFront a d (t ++ commands)) c.new-text.ensures.items c.in_err-write_commands.ensures.stopped in
-    at_fault c.from_residual.result (stops_early a d c.args.names.now c.args.rows.now c.args.certificates.now (map (λ (o : Offers). o.now) c.args.objects.now) c.args.lost out)
+    let out : WritesFront a d commands = subst (λ (t : List ℕ). WritesFront a d (t ++ commands)) c.in_ok-text.ensures c.in_err-write_commands.ensures.stopped in
+    at_fault c.from_residual-in_err-write_commands.result (stops_early a d c.args.names.now c.args.rows.now c.args.certificates.now (map (λ (o : Offers). o.now) c.args.objects.now) c.args.lost out)
 
 pub returns-in_err-push_objects-clause-front : goal.returns-in_err-push_objects-clause-front
 returns-in_err-push_objects-clause-front g c =
@@ -46,7 +46,7 @@ returns-in_err-push_objects-clause-front g c =
     let a = contents c.args.writer.now in
     let d = contents c.write_commands.new.writer in
     let commands = commands_of c.args.names.now c.args.rows.now c.args.certificates.now in
-    let out : WritesFront a d commands = stops_gathering a d c.new-text.result.items c.write_commands.new.text.items commands c.new-text.ensures.items c.in_ok-write_commands.ensures.sent in
+    let out : WritesFront a d commands = stops_gathering a d c.in_ok-text.text.items c.write_commands.new.text.items commands c.in_ok-text.ensures c.in_ok-write_commands.ensures.sent in
     at_fault c.from_residual-in_err-push_objects.result (stops_early a d c.args.names.now c.args.rows.now c.args.certificates.now (map (λ (o : Offers). o.now) c.args.objects.now) c.args.lost out)
 
 pub returns-in_err-push_losses-clause-front : goal.returns-in_err-push_losses-clause-front
@@ -55,5 +55,5 @@ returns-in_err-push_losses-clause-front g c =
     let a = contents c.args.writer.now in
     let d = contents c.write_commands.new.writer in
     let commands = commands_of c.args.names.now c.args.rows.now c.args.certificates.now in
-    let out : WritesFront a d commands = stops_gathering a d c.new-text.result.items c.write_commands.new.text.items commands c.new-text.ensures.items c.in_ok-write_commands.ensures.sent in
+    let out : WritesFront a d commands = stops_gathering a d c.in_ok-text.text.items c.write_commands.new.text.items commands c.in_ok-text.ensures c.in_ok-write_commands.ensures.sent in
     at_fault c.from_residual-in_err-push_losses.result (stops_early a d c.args.names.now c.args.rows.now c.args.certificates.now (map (λ (o : Offers). o.now) c.args.objects.now) c.args.lost out)
