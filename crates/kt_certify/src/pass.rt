@@ -155,6 +155,7 @@ fn feed(walk: &mut Walk, row: &Event) -> Result<Option<Unfit>, Memory>
 }
 
 // What the next row changes of the instances. Where it commits none, nothing is asked of the walk.
+#[inline(always)]
 fn enter(instances: &mut Vec<Instance>, alloc: Global, walk: &Walk, row: &Event) -> Result<(), Stop>
     ensures entered { OnOk result ((rows : List Event) → (is_commit row.now ≡ true → WalkOf walk.now rows)
         → instances.new.items ≡ instances_after (past rows) row.now instances.old.items) }
@@ -207,7 +208,8 @@ fn join(instances: &mut Vec<Instance>, p: ProcNo, inst: InstNo) -> Result<(), Me
     Ok(())
 }
 
-// The next row decides the instance of this number, if there is one.
+// The next row decides the instance of this number, if there is one. It stands apart, so that other rows take little.
+#[inline(never)]
 fn decide(
     instances: &mut Vec<Instance>,
     alloc: Global,
