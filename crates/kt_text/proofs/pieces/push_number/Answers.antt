@@ -1,4 +1,4 @@
-use Rattle.std.proofs.Common.{◌≡◌, ◌∙◌, ◌+◌, ◌-◌, ◌<◌, ◌++◌, ◌∷◌, List, ℕ, ap, sym, arith, length, take, drop, set, replicate, decimal, length-append, length-take, length-drop, length-set}
+use Rattle.std.proofs.Common.{◌≡◌, ◌∙◌, ◌+◌, ◌-◌, ◌++◌, ◌∷◌, List, ℕ, ap, arith, length, take, drop, set, replicate, decimal, length-take, length-drop, length-set}
 use Rattle.std.proofs.lemmas.Fmt.{length-decimal-le}
 use Rattle.std.proofs.lemmas.List.{drop-set}
 use Rattle.kt_text.proofs.LineFacts.{gathered_front}

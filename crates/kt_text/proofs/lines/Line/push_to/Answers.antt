@@ -1,4 +1,4 @@
-use Rattle.std.proofs.Common.{◌≡◌, ◌∙◌, ◌+◌, ◌-◌, ◌++◌, List, ℕ, ap, sym, arith, length, take, drop, take-append-drop, length-append, length-take, length-drop}
+use Rattle.std.proofs.Common.{◌≡◌, ◌∙◌, ◌+◌, ◌-◌, ◌++◌, List, ℕ, ap, sym, arith, length, take, drop, take-append-drop, length-take, length-drop}
 use Rattle.kt_text.proofs.LineFacts.{line_length, gathered_front}
 use Rattle.kt_text.proofs.lines.Line.push_to.Goals as goal
 
