@@ -15,3 +15,4 @@ pub mod Tallying
 pub mod Growing
 pub mod Saving
 pub mod Places
+pub mod Quieting

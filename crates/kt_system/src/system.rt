@@ -21,6 +21,7 @@ mod instances;
 mod leaves;
 mod messages;
 mod processes;
+mod quiet;
 mod reads;
 mod replies;
 mod takes;

@@ -179,7 +179,8 @@ impl System {
     }
 
     /// A process takes an ask to take part in a checkpoint.
-    fn take_ask_to_save(
+    #[inline(always)]
+    pub(super) fn take_ask_to_save(
         &mut self,
         alloc: Global,
         at: ProcNo,

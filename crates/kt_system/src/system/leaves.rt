@@ -33,6 +33,7 @@ impl System {
     }
 
     /// One parcel more in a channel.
+    #[inline(always)]
     pub(super) fn put(&mut self, p: ProcNo, to: ProcNo, parcel: Parcel)
         requires p { p < self.old.size }
         requires to { to < self.old.size }
@@ -47,6 +48,7 @@ impl System {
     }
 
     /// The front of a channel goes.
+    #[inline(always)]
     pub(super) fn pop(&mut self, at: ProcNo, from: ProcNo)
         requires at { at < self.old.size }
         requires from { from < self.old.size }

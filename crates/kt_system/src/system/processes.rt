@@ -156,6 +156,7 @@ impl System {
     }
 
     /// A process hears a reply.
+    #[inline(always)]
     pub(super) fn hear_reply(&mut self, p: ProcNo, willing: bool) -> Action
         requires { p < self.old.size }
         ensures action { result ≡ reply_of (part_of_side (state_of self.old p).side) willing }

@@ -78,7 +78,7 @@ impl System {
     }
 
     /// Whether a process is in this instance.
-    fn is_in(&self, p: ProcNo, inst: InstNo) -> bool
+    pub(super) fn is_in(&self, p: ProcNo, inst: InstNo) -> bool
         requires { p < self.now.size }
         ensures inside { result ≡ true → IsInside self.now p }
         ensures shows { (v : Seen) → ShowsState self.now v → result ≡ ((v.states p).inst == inst) }
