@@ -25,6 +25,7 @@ mod commands;
 mod hindrances;
 mod looks;
 mod priorities;
+mod quiet;
 mod steps;
 
 /// A system of processes whose commands are those of a plan: which are done, and which may be done.

@@ -144,7 +144,7 @@ impl World {
     }
 
     /// Whether fewer than four rows of the limit are left.
-    fn is_full(&self) -> bool
+    pub(super) fn is_full(&self) -> bool
         ensures { result ≡ is_full self.now }
     {
         self.system.log().rows().len() + 4 > self.limit

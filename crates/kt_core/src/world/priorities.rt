@@ -36,8 +36,10 @@ impl World {
             → result ≡ nat_lt (count_of senders) (awaited_of (part_of_side (state_of self.now.system p).side)) }
     {
         kt_base::same_members();
+        let _processes = self.system.processes();
+        let _senders = self.system.all_senders(p);
         let awaited = self.system.awaited(p);
-        awaited > 0 && self.system.all_senders(p).count() < awaited
+        awaited > 0 && self.system.take_count(p) < awaited as usize
     }
 
     /// Whether a process's object is down, and the process in no instance.
