@@ -18,8 +18,8 @@ use std::alloc::Global;
 /// The objects of a run, by process: the object that is present at first, and one spare for each failure of the process.
 pub type Cast = Vec<Vec<Object>>;
 
-/// How often each process is to fail.
-fn failures(commands: &[Command]) -> [usize; 64]
+/// How often each process is to fail, by its number; 0 past the processes there are.
+pub fn failures(commands: &[Command]) -> [usize; 64]
     ensures counts { (p : ℕ) → p < 64 → slice_index result p ≡ failures_of commands.now p }
     ensures size { length result ≡ 64 }
 {

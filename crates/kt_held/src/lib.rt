@@ -5,6 +5,6 @@ mod casts;
 mod faults;
 mod held;
 
-pub use casts::{Cast, begin_all};
+pub use casts::{Cast, begin_all, failures};
 pub use faults::{ActFault, CastFault};
 pub use held::{Answer, Held};
