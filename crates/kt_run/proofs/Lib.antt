@@ -13,3 +13,4 @@ pub mod Telling
 pub mod Spares
 pub mod Rejecting
 pub mod Moves
+pub mod Quieting

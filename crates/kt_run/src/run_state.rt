@@ -31,6 +31,7 @@ use std::alloc::Global;
 
 mod hindered;
 mod in_order;
+mod quiet;
 
 /// A world, what its processes hold, and what they were told.
 #[derive(Drop)]
@@ -234,7 +235,7 @@ impl RunState {
 
     /// Makes a step that is enabled: asks the process's object for what it needs, notes what is told, and does it.
     #[inline(always)]
-    fn make(&mut self, step: Step) -> Result<(), RunFault>
+    fn make_with_object(&mut self, step: Step) -> Result<(), RunFault>
         requires enabled { can_make self.old.world step ≡ true }
         requires few { self.old.done < 2 ^ 64 - 1 }
         requires per_process { length self.old.objects.items ≡ self.old.world.system.size }
