@@ -6,7 +6,6 @@ ghost use Rattle.kt_held.specs.Holdings.{Content};
 ghost use Rattle.kt_object.specs.Reliable.{IsReliable};
 ghost use Rattle.kt_object.specs.Value.{opening_value};
 ghost use Rattle.kt_plan.specs.Limits.{IsKindOfObject};
-ghost use Rattle.kt_plan.specs.Failures.{failures_of};
 ghost use Rattle.kt_held.specs.Casts.{HasSizes, HasKind};
 ghost use Rattle.kt_held.specs.Refusals.{IsLeastRefused};
 ghost use Rattle.kt_program.specs.CastRows.{IsMadeCast};
@@ -25,9 +24,9 @@ ghost use Rattle.kt_program.specs.Played.{AreNew, IsWritten, OverNew, StopsAtFau
 use crate::fault::AppFault;
 use crate::played::{live_plan, play_plan};
 use kt_base::Memory;
-use kt_held::Cast;
+use kt_held::{Cast, failures};
 use kt_object::{Last, Object, Recoverable, SlotBook, Sum, Tail};
-use kt_plan::{Command, Job, Plan, Step};
+use kt_plan::{Plan, Step};
 use std::alloc::Global;
 use std::io::Write;
 use std::sync::Wait;
@@ -44,11 +43,12 @@ pub fn cast_of<O: Drop, F: FnMut(u8) -> Result<O, Memory>>(
     ensures { IfOk result (λ cast. IsMadeCast (λ kind object. (before after : F) × F.step before kind (Ok object) after)
         plan.now.kinds plan.now.commands (map (λ row. row.items) cast.items)) }
 {
+    let _processes = plan.size();
     let kinds = plan.kinds.as_slice();
+    let spares = failures(&plan.commands);
     let mut cast = Vec::with_capacity(alloc, kinds.len())?;
     for number in 0..kinds.len() {
-        let spares = failures(&plan.commands, number);
-        let row = row_of(alloc, &mut make, kinds[number], spares)?;
+        let row = row_of(alloc, &mut make, kinds[number], spares[number])?;
         cast.push(row)?;
     }
     Ok(cast)
@@ -71,16 +71,6 @@ fn row_of<O: Drop, F: FnMut(u8) -> Result<O, Memory>>(
         row.push(make(kind)?)?;
     }
     Ok(row)
-}
-
-// How often a process is to fail.
-fn failures(commands: &[Command], p: usize) -> usize
-    ensures { result ≡ failures_of commands.now p }
-{
-    commands
-        .iter()
-        .filter(|command| command.by.index() == p && command.job == Job::Fail)
-        .count()
 }
 
 /// Plays a run of a plan as `play_plan` does, over new objects of the plan's kinds.
