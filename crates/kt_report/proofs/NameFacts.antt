@@ -1,6 +1,6 @@
 -- The names of processes are short.
-use Rattle.std.proofs.Common.{◌≡◌, ◌≤◌, ◌&&◌, ℕ, zero, suc, Bool, List, [], ◌∷◌, true, false, refl, arith, length}
-use Rattle.std.specs.Prelude.{All, codes, nat_le, slice_index_or}
+use Rattle.std.proofs.Common.{◌≡◌, ◌≤◌, ℕ, zero, suc, List, [], ◌∷◌, true, arith, length}
+use Rattle.std.specs.Prelude.{All, codes, slice_index_or}
 use Rattle.kt_plan.specs.Names.{is_name, AreNames}
 use Rattle.kt_report.specs.Lines.{name_of}
 
