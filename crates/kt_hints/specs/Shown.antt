@@ -1,5 +1,5 @@
 -- Texts of others, shown to a person.
-use Rattle.std.specs.Prelude.{ℕ, ◌/◌, ◌%◌, ◌+◌, ◌-◌, ◌&&◌, Bool, if◌then◌else◌, nat_lt, List, [], ◌∷◌, ◌++◌, take, codes}
+use Rattle.std.specs.Prelude.{ℕ, ◌/◌, ◌%◌, ◌+◌, ◌-◌, ◌==◌, ◌&&◌, Bool, true, false, if◌then◌else◌, nat_lt, List, [], ◌∷◌, ◌++◌, take, codes}
 use Rattle.std.specs.List.{flat_map}
 use Rattle.std.specs.Fmt.{decimal}
 
@@ -14,6 +14,16 @@ hex_digit digit = if nat_lt digit 10 then 48 + digit else 65 + (digit - 10)
 -- a byte as it is shown: itself, or its number in two digits to base 16 after a backslash and an x
 abbrev pub shown_byte : ℕ → List ℕ
 shown_byte byte = if is_printable byte then byte ∷ [] else 92 ∷ 120 ∷ hex_digit (byte / 16) ∷ hex_digit (byte % 16) ∷ []
+
+-- two spaces, where a line begins
+abbrev pub margin : Bool → List ℕ
+margin true = codes "  "
+margin false = []
+
+-- lines, two spaces before each, where the first byte begins one or not
+abbrev pub indented : Bool → List ℕ → List ℕ
+indented begins [] = []
+indented begins (byte ∷ text) = margin begins ++ byte ∷ indented (byte == 10) text
 
 -- how many bytes of a text are shown at most
 abbrev pub most_shown : ℕ

@@ -13,4 +13,4 @@ pub use limits::{Limit, push_limit};
 pub use lines::line_at;
 pub use records::{Record, record_at};
 pub use rows::{Row, push_row_line, row_at};
-pub use shown::{push_hint, push_numbered, push_shown};
+pub use shown::{push_hint, push_lines, push_numbered, push_shown};

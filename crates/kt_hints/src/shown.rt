@@ -1,9 +1,9 @@
 //! Texts of others, shown to a person.
 
-ghost use Rattle.std.specs.Prelude.{◌≡◌, ◌<◌, ◌^◌, ◌++◌, ℕ, List, All, true, OnOk, length, slice_index, take};
+ghost use Rattle.std.specs.Prelude.{◌≡◌, ◌<◌, ◌^◌, ◌++◌, ◌∷◌, [], ℕ, List, All, true, OnOk, length, slice_index, take};
 ghost use Rattle.std.specs.List.{flat_map, list_all};
 ghost use Rattle.std.specs.Fmt.{decimal};
-ghost use Rattle.kt_hints.specs.Shown.{counted_part, hex_digit, hint_line, is_printable, most_shown, numbered_line, shown, shown_byte};
+ghost use Rattle.kt_hints.specs.Shown.{counted_part, hex_digit, hint_line, indented, is_printable, margin, most_shown, numbered_line, shown, shown_byte};
 
 use kt_base::Memory;
 
@@ -79,6 +79,29 @@ pub fn push_shown(lines: &mut Vec<u8>, text: &[u8]) -> Result<(), Memory>
     ensures { OnOk result (lines.new.items ≡ lines.old.items ++ shown text.now) }
 {
     push_bytes(lines, front_of(text))
+}
+
+/// Gathers lines of the program below a fault, two spaces before each.
+pub fn push_lines(lines: &mut Vec<u8>, text: &[u8]) -> Result<(), Memory>
+    ensures { OnOk result (lines.new.items ≡ lines.old.items ++ indented true text.now) }
+{
+    let mut begins = true;
+    for place in 0..text.len() {
+        push_within(lines, text[place], begins)?;
+        begins = text[place] == b'\n';
+    }
+    Ok(())
+}
+
+// Gathers a byte of such lines, two spaces before it where it begins one.
+fn push_within(lines: &mut Vec<u8>, byte: u8, begins: bool) -> Result<(), Memory>
+    ensures { OnOk result (lines.new.items ≡ lines.old.items ++ (margin begins ++ byte ∷ [])) }
+{
+    if begins {
+        lines.extend_from_slice(b"  ")?;
+    }
+    lines.push(byte)?;
+    Ok(())
 }
 
 // Gathers a text, byte by byte, as it is shown.
