@@ -1,5 +1,4 @@
 use Rattle.std.proofs.Common.{◌≡◌, ◌++◌, true, drop}
-
 use Rattle.kt_hints.specs.Shown.{indented}
 use Rattle.kt_hints.proofs.shown.push_lines.Given as goal
 
