@@ -27,6 +27,11 @@ pub second_part : {X : Type 0} (rows : List Event) (a b : Past → Bool) (r : Re
 second_part rows a b (Ok x) e h = both_true (a (past rows)) (b (past rows)) e h
 second_part rows a b (Err y) e h = record { so = h.so; against = λ log l so. last_false (a (past log)) (b (past log)) (h.against log l so) }
 
+-- where the second part is kept, the first one is judged
+pub first_judged : {X : Type 0} (rows : List Event) (a b : Past → Bool) (r : Result X Breach) → b (past rows) ≡ true → IsJudged rows a r → IsJudged rows (λ s. a s && b s) r
+first_judged rows a b (Ok x) e h = both_true (a (past rows)) (b (past rows)) h e
+first_judged rows a b (Err y) e h = first_part rows a b y h
+
 pub not_false : {b : Bool} → b ≡ true → not b ≡ false
 not_false e = ap not e
 

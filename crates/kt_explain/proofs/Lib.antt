@@ -15,6 +15,9 @@ pub mod ChainSteps
 pub mod Chained
 pub mod Delivered
 pub mod Demands
+pub mod Insteads
+pub mod Caused
+pub mod ChainWords
 pub mod KnownRows
 pub mod Replaying
 pub mod RecordFacts

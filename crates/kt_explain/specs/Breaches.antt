@@ -1,5 +1,5 @@
 -- What breaks a rule: when what is told is so, and what it is against.
-use Rattle.std.specs.Prelude.{◌≡◌, ◌≤◌, ◌+◌, ◌^◌, ℕ, Bool, true, false, Option, Some, None, Result, Ok, Err, is_some, List, [], length}
+use Rattle.std.specs.Prelude.{◌≡◌, ◌≤◌, ◌+◌, ◌^◌, ℕ, Bool, true, false, Option, Some, None, Result, Ok, Err, is_some, IfSome, List, [], length}
 use Rattle.kt_base.specs.declared.words.Kind.{Kind}
 use Rattle.kt_base.specs.declared.words.Kind.TheVariants.{Rollback}
 use Rattle.kt_spacetime.specs.declared.event.Event.{Event}
@@ -15,6 +15,7 @@ use Rattle.kt_explain.specs.declared.breach.Breach.{Breach}
 use Rattle.kt_explain.specs.declared.breach.Breach.TheVariants as breach
 use Rattle.kt_explain.specs.declared.breach.MessageBreach.{MessageBreach}
 use Rattle.kt_explain.specs.declared.breach.MessageBreach.TheVariants as message
+use Rattle.kt_explain.specs.declared.breach.Open.{Open}
 use Rattle.kt_explain.specs.declared.breach.Outside.{Outside}
 use Rattle.kt_explain.specs.declared.breach.ProcessBreach.{ProcessBreach}
 use Rattle.kt_explain.specs.declared.breach.ProcessBreach.TheVariants as process
@@ -64,16 +65,23 @@ pub record IsOutside (rows : List Event) (o : Outside) : Type 0 where
   pub joined : IsLastNumber (is_join o.p o.inst) rows o.joined
   pub closed : IsLastNumber (closes o.p o.inst) rows o.closed
 
+-- a process is in an open instance, which it joined last in this row; who began that, and in which row it was decided
+pub record IsOpen (rows : List Event) (o : Open) : Type 0 where
+  pub open_in : (past rows).open_in o.p ≡ Some o.inst
+  pub joined : IsLastIn (is_join o.p o.inst) rows o.row
+  pub decided : IsLastNumber (decides_inst o.inst) rows o.decided
+  pub initiator : IfSome o.initiator (λ q. initiator_of (past rows) o.inst ≡ Some q)
+
 -- what is told of a process is so after these rows
 abbrev pub IsSoOfProcess : List Event → ProcessBreach → Type 0
 IsSoOfProcess rows (process.OwnPeer p) = Unit {0}
 IsSoOfProcess rows (process.Down p row) = ((past rows).up p ≡ false) × IsLastIn (fails p) rows row
 IsSoOfProcess rows (process.Up p) = (past rows).up p ≡ true
-IsSoOfProcess rows (process.Inside p k row) = ((past rows).open_in p ≡ Some k) × IsLastIn (is_join p k) rows row
-IsSoOfProcess rows (process.Rolling p k row) =
-    ((past rows).open_in p ≡ Some k) × (is_rollback (past rows) k ≡ true) × IsLastIn (is_join p k) rows row
+IsSoOfProcess rows (process.Inside o) = IsOpen rows o
+IsSoOfProcess rows (process.Rolling o) = IsOpen rows o × (is_rollback (past rows) o.inst ≡ true)
 IsSoOfProcess rows (process.NotInside o) = IsOutside rows o
 IsSoOfProcess rows (process.Joined p k row) = (is_member (past rows) k p ≡ true) × IsLastIn (is_join p k) rows row
+IsSoOfProcess rows (process.Member p k row) = ((past rows).open_in p ≡ Some k) × IsLastIn (is_join p k) rows row
 
 -- what is told of an instance is so after these rows
 abbrev pub IsSoOfInstance : List Event → InstanceBreach → Type 0
@@ -81,7 +89,7 @@ IsSoOfInstance rows (instance.Next number) = number ≡ length (past rows).begun
 IsSoOfInstance rows (instance.NotBegun k) = has_begun (past rows) k ≡ false
 IsSoOfInstance rows (instance.Decided k row) =
     (is_some ((past rows).decision k) ≡ true) × IsLastIn (decides_inst k) rows row
-IsSoOfInstance rows (instance.Undecided k) = (past rows).decision k ≡ None
+IsSoOfInstance rows (instance.Undecided k p) = ((past rows).decision k ≡ None) × IfSome p (λ q. initiator_of (past rows) k ≡ Some q)
 IsSoOfInstance rows (instance.OfKind k kind row) =
     (kind_of (past rows) k ≡ Some kind) × (p : ℕ) × IsFirstRow (begins_inst k) rows row (event.Began p k kind)
 IsSoOfInstance rows (instance.OnlyBusy k row) =

@@ -72,6 +72,11 @@ abbrev pub IsFirstFound : (Event → Bool) → List Event → Option Found → T
 IsFirstFound test rows None = HasNoRow test rows
 IsFirstFound test rows (Some found) = IsFirstRow test rows found.number found.row
 
+-- the number of the first row that passes a test, or that there is none
+abbrev pub IsFirstNumber : (Event → Bool) → List Event → Option ℕ → Type 0
+IsFirstNumber test rows None = HasNoRow test rows
+IsFirstNumber test rows (Some number) = (row : Event) × IsFirstRow test rows number row
+
 -- the row of this number passes a test, and none after it does
 pub record IsLastRow (test : Event → Bool) (rows : List Event) (number : ℕ) (row : Event) : Type 0 where
   pub place : ℕ

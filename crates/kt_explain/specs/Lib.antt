@@ -7,6 +7,9 @@ pub mod ChainRows
 pub mod Linking
 pub mod Breaches
 pub mod Undoing
+pub mod Insteads
+pub mod Laters
+pub mod RowsTold
 pub mod LeftOpen
 pub mod LeftOpenWords
 pub mod Told

@@ -1,5 +1,5 @@
 -- The orphan that is told of a cut.
-use Rattle.std.specs.Prelude.{◌≡◌, ◌≤◌, ℕ, Option, Some, None, List, Contains}
+use Rattle.std.specs.Prelude.{◌≡◌, ◌≤◌, ℕ, Option, Some, None, IfSome, true, List, Contains}
 use Rattle.kt_base.specs.declared.words.Kind.{Kind}
 use Rattle.kt_base.specs.declared.words.Kind.TheVariants.{Checkpoint, Rollback}
 use Rattle.kt_spacetime.specs.declared.event.Event.{Event}
@@ -10,6 +10,7 @@ use Rattle.kt_cuts.specs.Messages.{IsMessage}
 use Rattle.kt_cuts.specs.Chains.{members}
 use Rattle.kt_checker.specs.Passing.{decided_cut}
 use Rattle.kt_explain.specs.declared.orphan.Orphan.{Orphan}
+use Rattle.kt_explain.specs.Insteads.{IsLegalNext, answers}
 use Rattle.kt_explain.specs.Finding.{IsLastRow, receives}
 
 -- the least orphan of a cut
@@ -28,9 +29,10 @@ IsOutsider joined p None = Contains joined p
 IsOutsider joined p (Some q) = (q ≡ p) × (Contains joined p → ⊥)
 
 -- what is told of the least orphan of the cut that the decision of an instance makes: its sender and its receiver, the
--- row in which it was received last, and who would have had to join, if it did not
+-- row in which it was received last, who would have had to join, if it did not, and what that one answers
 pub record IsOrphanTold (rows : List Event) (k : ℕ) (kind : Kind) (o : Orphan) : Type 0 where
   pub least : IsLeastOrphan (past rows) (decided_cut (past rows) k kind) o.msg
   pub message : IsMessage rows o.msg o.from o.to
   pub received : IsLastRow (receives o.to o.from o.msg) rows o.received (event.Received o.to o.from o.msg)
   pub outsider : IsOutsider (members rows k) (wanted_in kind o.from o.to) o.outsider
+  pub answer : IfSome o.answer (λ row. IsLegalNext rows row × IfSome o.outsider (λ p. answers p k row ≡ true))

@@ -4,7 +4,6 @@ use Rattle.kt_spacetime.specs.declared.event.Event.{Event}
 use Rattle.kt_spacetime.specs.declared.event.Event.TheVariants as event
 use Rattle.kt_base.specs.declared.words.Kind.{Kind}
 use Rattle.kt_base.specs.declared.words.Cause.{Cause}
-use Rattle.kt_spacetime.specs.Events.{process_of}
 use Rattle.kt_cuts.specs.Past.{past}
 use Rattle.kt_cuts.specs.Legal.{keeps}
 use Rattle.kt_cuts.specs.Messages.{row_at}
@@ -27,10 +26,12 @@ use Rattle.kt_explain.specs.LeftOpen.{IsLeftOpen, LeavesNothing}
 use Rattle.kt_explain.specs.Orphans.{IsOrphanTold}
 use Rattle.kt_explain.specs.Breaches.{IsBreach}
 use Rattle.kt_explain.specs.Undoing.{IsUndoneIn}
+use Rattle.kt_explain.specs.Laters.{IsLater}
+use Rattle.kt_explain.specs.Insteads.{IsInstead}
 use Rattle.kt_explain.specs.BadChains.{IsBadChain}
 use Rattle.kt_explain.specs.ChainRows.{AreChainRows}
 use Rattle.kt_explain.specs.Linking.{IsLinking, IsLinkingOf, MakesChain}
-use Rattle.kt_explain.specs.Finding.{HasNoRow, IsFirstRow, IsLastNumber, begins_inst, decides_inst, fails}
+use Rattle.kt_explain.specs.Finding.{HasNoRow, IsFirstRow, begins_inst, decides_inst}
 
 -- a certificate is the first one of an instance
 abbrev pub IsItsFirst : List Certificate → ℕ → Certificate → Type 0
@@ -50,6 +51,11 @@ IsDifference rows certificates c (difference.Initiator p named row) =
     (kind : Kind) × IsFirstRow (begins_inst c.inst) rows row (event.Began p c.inst kind) × (named ≡ c.initiator) × (p ≢ named)
 IsDifference rows certificates c (difference.Decision commit row) =
     (p : ℕ) × IsFirstRow (decides_inst c.inst) rows row (event.Decided p c.inst commit) × (commit ≢ c.commit)
+IsDifference rows certificates c (difference.Cause true row) =
+    (p : ℕ) × IsFirstRow (decides_inst c.inst) rows row (event.Decided p c.inst true) × (true ≢ c.commit)
+    × (n : ℕ) × (answer : Event) × IsFirstRow (is_unwilling c.inst) rows n answer
+IsDifference rows certificates c (difference.Cause false row) =
+    (p : ℕ) × IsFirstRow (decides_inst c.inst) rows row (event.Decided p c.inst false) × (false ≢ c.commit) × HasNoRow (is_unwilling c.inst) rows
 IsDifference rows certificates c difference.Members = (c.commit ≡ false) × (c.members ≢ [])
 IsDifference rows certificates c difference.Second = HasTwo certificates c.inst
 
@@ -91,16 +97,15 @@ HasDecided rows row k commit = (p : ℕ) × (row_at rows row ≡ Some (event.Dec
 abbrev pub IsNoOf : Verdict → ℕ → Why → Type 0
 IsNoOf verdict k reason = (row : Option ℕ) × (verdict ≡ No (Some k) row reason)
 
--- a row of a log, what breaks the rule, the row's process, and where this stands before it
+-- a row of a log, what breaks the rule, and what can stand in its place
 pub record IsBadRow (rows : List Event) (b : BadRow) (place : ℕ) (row : Event) : Type 0 where
   pub row_is : b.row ≡ place + 1
   pub there : slice_get rows place ≡ Some row
   pub event_is : b.event ≡ row
   pub breach_is : IsBreach (take place rows) (λ s. keeps b.rule s row) b.breach
-  pub process : b.p ≡ process_of row
-  pub open_in : b.open_in ≡ (past (take place rows)).open_in b.p
-  pub failed : IsLastNumber (fails b.p) (take place rows) b.failed
   pub undone : IfSome b.undone (IsUndoneIn (take place rows) b.breach)
+  pub later : IsLater rows b.breach b.later
+  pub instead : IsInstead (take place rows) b.instead
 
 -- what is told of an answer is so; nothing is told after a yes to a log that leaves nothing open, and else never
 abbrev pub IsExplanation : List Event → List Certificate → Verdict → Explanation → Type 0

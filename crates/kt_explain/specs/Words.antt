@@ -1,5 +1,5 @@
 -- The sentences that are written of an answer.
-use Rattle.std.specs.Prelude.{ℕ, ◌==◌, if◌then◌else◌, Bool, true, false, is_none, Option, Some, None, List, [], ◌∷◌, ◌++◌, codes}
+use Rattle.std.specs.Prelude.{ℕ, ◌==◌, if◌then◌else◌, Bool, true, false, is_none, is_some, Option, Some, None, List, [], ◌∷◌, ◌++◌, codes}
 use Rattle.std.specs.Fmt.{decimal}
 use Rattle.kt_base.specs.declared.words.Kind.{Kind as OneKind}
 use Rattle.kt_base.specs.declared.words.Kind.TheVariants.{Checkpoint, Rollback}
@@ -13,8 +13,13 @@ use Rattle.kt_cuts.specs.declared.rules.Rule.TheVariants as rule
 use Rattle.kt_explain.specs.BreachWords.{breach_words}
 use Rattle.kt_explain.specs.declared.bad_row.BadRow.{BadRow}
 use Rattle.kt_explain.specs.declared.breach.Breach.{Breach}
+use Rattle.kt_explain.specs.declared.breach.Open.{Open}
 use Rattle.kt_explain.specs.declared.breach.Breach.TheVariants as breach
 use Rattle.kt_explain.specs.declared.breach.ProcessBreach.TheVariants as process
+use Rattle.kt_explain.specs.declared.breach.InstanceBreach.TheVariants as instance
+use Rattle.kt_explain.specs.declared.breach.MessageBreach.TheVariants as message
+use Rattle.kt_explain.specs.declared.instead.Instead.{Instead}
+use Rattle.kt_base.specs.declared.words.Verb.TheVariants as verb
 use Rattle.kt_explain.specs.declared.bad_chain.Break.{Break}
 use Rattle.kt_explain.specs.declared.bad_chain.Demand.{Demand}
 use Rattle.kt_explain.specs.declared.bad_chain.Demand.TheVariants as demand
@@ -23,7 +28,7 @@ use Rattle.kt_explain.specs.declared.bad_chain.Flaw.TheVariants as flaw
 use Rattle.kt_explain.specs.declared.bad_chain.BadChain.{BadChain as OneBadChain}
 use Rattle.kt_explain.specs.declared.chain_rows.ChainRows.{ChainRows}
 use Rattle.kt_explain.specs.declared.difference.Difference.{Difference}
-use Rattle.kt_explain.specs.declared.difference.Difference.TheVariants.{Unbegun, Undecided, Kind, Initiator, Decision, Members, Second}
+use Rattle.kt_explain.specs.declared.difference.Difference.TheVariants.{Unbegun, Undecided, Kind, Initiator, Decision, Cause, Members, Second}
 use Rattle.kt_explain.specs.declared.difference.Head.{Head}
 use Rattle.kt_explain.specs.declared.explanation.Explanation.{Explanation}
 use Rattle.kt_explain.specs.declared.explanation.Unlike.{Unlike}
@@ -33,6 +38,10 @@ use Rattle.kt_explain.specs.declared.linking.Linking.{Linking}
 use Rattle.kt_explain.specs.declared.linking.Linking.TheVariants.{Linked, Unlinked}
 use Rattle.kt_explain.specs.declared.orphan.Orphan.{Orphan as OneOrphan}
 use Rattle.kt_explain.specs.LeftOpenWords.{left_open_words}
+
+-- a row as a log has it
+abbrev pub row_words : Event → List ℕ
+row_words row = joined (spelling row)
 
 -- an instance began as one of this kind, and its certificate says the other
 abbrev pub other_kind_words : OneKind → ℕ → List ℕ
@@ -44,6 +53,13 @@ abbrev pub other_decision_words : Bool → ℕ → List ℕ
 other_decision_words true row = codes "row " ++ (decimal row ++ codes " decides it, commit: the certificate has to say that, and not abort")
 other_decision_words false row = codes "row " ++ (decimal row ++ codes " decides it, abort: the certificate has to say that, and not commit")
 
+-- it was decided so, against what the processes answered, and its certificate says the other
+abbrev pub cause_words : Bool → ℕ → List ℕ
+cause_words true row =
+    codes "the log is at fault: row " ++ (decimal row ++ codes " decides it, commit, but a process was unwilling to join it, so that row has to say abort; then koo_toueg --hints certify LOG --cert CERT makes the certificates anew")
+cause_words false row =
+    codes "the log is at fault: row " ++ (decimal row ++ codes " decides it, abort, but no process was unwilling to join it, so that row has to say commit; then koo_toueg --hints certify LOG --cert CERT makes the certificates anew")
+
 -- what the log has otherwise than a certificate of an instance
 abbrev pub difference_words : Difference → List ℕ
 difference_words Unbegun = codes "no row begins it, so it may have no certificate: the records of its certificate have to go"
@@ -52,6 +68,7 @@ difference_words (Kind kind row) = other_kind_words kind row
 difference_words (Initiator p named row) =
     codes "process " ++ (decimal p ++ (codes " begins it in row " ++ (decimal row ++ (codes ": the certificate has to name that one, and not process " ++ decimal named))))
 difference_words (Decision commit row) = other_decision_words commit row
+difference_words (Cause commit row) = cause_words commit row
 difference_words Members = codes "it is aborted, and its certificate lists members: their records have to go"
 difference_words Second = codes "it has two certificates, and may have only one: the records of the second have to go"
 
@@ -69,8 +86,8 @@ begin_words false = codes "it has to be the one record cert,"
 
 -- what is judged next, once that record stands
 abbrev pub later_words : Bool → List ℕ
-later_words true = codes "; its members are judged after that" ++ 10 ∷ []
-later_words false = codes "; whether the log may abort it is judged after that" ++ 10 ∷ []
+later_words true = codes "; its members may be wrong as well" ++ 10 ∷ []
+later_words false = codes "; an abort has no members" ++ 10 ∷ []
 
 -- the first record of the certificate of an instance, as it has to be by the log
 abbrev pub head_words : ℕ → Head → List ℕ
@@ -91,7 +108,7 @@ place_words inst place = codes "member " ++ (decimal place ++ (codes " of instan
 -- who joined where this process is listed
 abbrev pub listed_words : ℕ → Option ℕ → List ℕ
 listed_words q (Some p) =
-    codes "process " ++ (decimal q ++ (codes " is listed, but process " ++ (decimal p ++ (codes " joined there: the record of process " ++ (decimal p ++ (codes " has to stand in this place" ++ 10 ∷ []))))))
+    codes "process " ++ (decimal q ++ (codes " is listed, but process " ++ (decimal p ++ (codes " joined there: the record of process " ++ (decimal p ++ (codes " has to stand in this place, and that of process " ++ (decimal q ++ (codes " after it, if it joined at all" ++ 10 ∷ []))))))))
 listed_words q None = codes "process " ++ (decimal q ++ (codes " is listed, but no more processes joined: its record has to go" ++ 10 ∷ []))
 
 -- who joined where nobody is listed
@@ -105,21 +122,22 @@ abbrev pub unlike_words : Option ℕ → Option ℕ → List ℕ
 unlike_words (Some q) joined = listed_words q joined
 unlike_words None joined = missing_words joined
 
--- that a process would have had to join a checkpoint, or a rollback
-abbrev pub took_words : ℕ → ℕ → List ℕ
-took_words inst p =
-    codes "process " ++ (decimal p ++ (codes " did not join, but has to before the instance is committed, by a row took," ++ (decimal p ++ (codes ","
-    ++ (decimal inst ++ (codes ",-: the log is at fault; then koo_toueg certify makes the certificates anew" ++ 10 ∷ []))))))
+-- that the decision has to be another one, where a process is unwilling
+abbrev pub abort_words : Event → List ℕ
+abort_words (event.Unwilling p inst cause) = codes ", and the decision has to be abort"
+abort_words row = []
 
-abbrev pub ready_words : ℕ → ℕ → List ℕ
-ready_words inst p =
-    codes "process " ++ (decimal p ++ (codes " did not join, but has to before the instance is committed, by a row ready," ++ (decimal p ++ (codes ","
-    ++ (decimal inst ++ (codes ",-: the log is at fault; then koo_toueg certify makes the certificates anew" ++ 10 ∷ []))))))
+-- what a process answers to the instance that it would have had to join
+abbrev pub answer_words : Option Event → List ℕ
+answer_words None = []
+answer_words (Some row) = codes ": before the row decided is missing " ++ (row_words row ++ abort_words row)
 
--- who would have had to join: the sender of an orphan, which is this process, a checkpoint, its receiver a rollback
-abbrev pub outsider_words : ℕ → ℕ → Option ℕ → List ℕ
-outsider_words inst from None = []
-outsider_words inst from (Some p) = if p == from then took_words inst p else ready_words inst p
+-- who would have had to join an instance, and what it answers to that just before the decision
+abbrev pub outsider_words : Option ℕ → Option Event → List ℕ
+outsider_words None answer = []
+outsider_words (Some p) answer =
+    (codes "the log is at fault: process " ++ (decimal p ++ codes " would have had to join"))
+    ++ (answer_words answer ++ (codes "; then koo_toueg --hints certify LOG --cert CERT makes the certificates anew" ++ 10 ∷ []))
 
 -- who sent an orphan, in which row
 abbrev pub sent_words : OneOrphan → List ℕ
@@ -222,8 +240,7 @@ linked_words inst member l =
 -- that no message links a member, which joined in this row, with one before it
 abbrev pub unlinked_words : ℕ → Option ℕ → List ℕ
 unlinked_words member (Some row) =
-    codes "the log is at fault: no message links process " ++ (decimal member ++ (codes " with a member before it; its rows of the instance have to go, that of joining, row " ++ (decimal row
-    ++ (codes ", and closed, or a row received is missing, by which a message links them" ++ 10 ∷ []))))
+    codes "the log is at fault: no message links process " ++ (decimal member ++ (codes " with a member before it; its rows of the instance have to go, that of joining, row " ++ (decimal row ++ (codes ", and closed, or a row received is missing, by which a message links them; then koo_toueg --hints certify LOG --cert CERT makes the certificates anew" ++ 10 ∷ []))))
 unlinked_words member None =
     codes "the log is at fault: no message links process " ++ (decimal member ++ (codes " with a member before it" ++ 10 ∷ []))
 
@@ -243,23 +260,12 @@ joined_link_words inst (Some p) (Some linking) = linking_words inst p linking
 joined_link_words inst (Some p) None = initiator_words inst p
 joined_link_words inst None linking = []
 
--- whether a chain has come to its member before a message
-abbrev pub has_arrived : ℕ → Demand → Bool
-has_arrived member (demand.GoneElsewhere from to p) = member == p
-has_arrived member (demand.SentElsewhere from to p) = member == p
-has_arrived member demand = false
-
--- the same, unless the chain is only too long
-abbrev pub past_end_words : ℕ → ℕ → Demand → Linking → List ℕ
-past_end_words inst member demand (Linked l) = if has_arrived member demand then [] else linked_words inst member l
-past_end_words inst member demand (Unlinked joined) = unlinked_words member joined
-
--- the same, unless the member is the initiator, which needs none
+-- the same, or the record of the initiator, which needs none
 abbrev pub link_words : ℕ → ℕ → Flaw → Linking → List ℕ
-link_words inst member flaw.Initiator linking = []
+link_words inst member flaw.Initiator linking = initiator_words inst member
 link_words inst member flaw.Empty linking = linking_words inst member linking
 link_words inst member (flaw.Elsewhere p) linking = linking_words inst member linking
-link_words inst member (flaw.Broken b) linking = past_end_words inst member b.demand linking
+link_words inst member (flaw.Broken b) linking = linking_words inst member linking
 
 -- a rule by number and name, and what it asks
 abbrev pub rule_words : Rule → List ℕ
@@ -273,105 +279,142 @@ rule_words rule.Deciding = codes "rule 7, deciding: the initiator decides once, 
 rule_words rule.Closing = codes "rule 8, closing: only a member that is in the instance closes it, once it is decided"
 rule_words rule.Causes = codes "rule 9, causes: only who is up fails; a cause that a row names has to be so"
 
--- the last row in which a process failed
-abbrev pub failure_words : Option ℕ → List ℕ
-failure_words (Some row) = codes ", failed in row " ++ decimal row ++ 10 ∷ []
-failure_words None = 10 ∷ []
-
--- that a process failed that is in no instance
-abbrev pub failed_words : ℕ → Option ℕ → List ℕ
-failed_words p (Some row) = codes "process " ++ (decimal p ++ (codes ": in no instance, failed in row " ++ (decimal row ++ 10 ∷ [])))
-failed_words p None = []
-
--- where a process stands, if it is in an instance or failed
-abbrev pub standing_words : ℕ → Option ℕ → Option ℕ → List ℕ
-standing_words p (Some inst) failed = (codes "process " ++ (decimal p ++ (codes ": in instance " ++ decimal inst))) ++ failure_words failed
-standing_words p None failed = failed_words p failed
-
--- a row as a log has it
-abbrev pub row_words : Event → List ℕ
-row_words row = joined (spelling row)
-
--- the number of a row
-abbrev pub numbered_words : ℕ → List ℕ
-numbered_words row = codes "log row " ++ (decimal row ++ codes " (a first line kt,2,-,- is not counted): ")
+-- a rule by number and name
+abbrev pub title_words : Rule → List ℕ
+title_words rule.Numbers = codes "rule 1, numbers"
+title_words rule.Message = codes "rule 2, message"
+title_words rule.Order = codes "rule 3, order"
+title_words rule.Sending = codes "rule 4, sending"
+title_words rule.Receiving = codes "rule 5, receiving"
+title_words rule.Joining = codes "rule 6, joining"
+title_words rule.Deciding = codes "rule 7, deciding"
+title_words rule.Closing = codes "rule 8, closing"
+title_words rule.Causes = codes "rule 9, causes"
 
 -- a rule, and what breaks it
 abbrev pub broken_words : Rule → Breach → List ℕ
-broken_words rule breach = 10 ∷ (rule_words rule ++ 10 ∷ breach_words breach)
+broken_words rule breach = title_words rule ++ (codes ": " ++ breach_words breach)
 
--- the row that undid the send of the row's message, and where the row's process stands
+-- the rest of a line
+abbrev pub line_words : List ℕ → List ℕ
+line_words end = end ++ 10 ∷ []
+
+-- whether a message that was not sent before is sent later
+abbrev pub sent_later_words : Option ℕ → List ℕ
+sent_later_words (Some row) =
+    codes ": row " ++ (decimal row ++ (codes " does, which has to come before it (a message has the number of the row that sends it), or the number of the message is wrong" ++ 10 ∷ []))
+sent_later_words None =
+    codes ", and none after it (a message has the number of the row that sends it): a row sent is missing before, or the number of the message is wrong" ++ 10 ∷ []
+
+-- whether an instance that has not begun before begins later, and what is wrong, unless a row can stand in the place of this one
+abbrev pub begun_later_words : Option ℕ → Bool → List ℕ
+begun_later_words (Some row) mended =
+    codes ": row " ++ (decimal row ++ (codes " does, which has to come before it, or the number of the instance is wrong" ++ 10 ∷ []))
+begun_later_words None true = codes ", and none after it" ++ 10 ∷ []
+begun_later_words None false =
+    codes ", and none after it: a row began is missing before, or the number of the instance is wrong" ++ 10 ∷ []
+
+-- the row that undid the send of the row's message
 abbrev pub undone_words : Option ℕ → List ℕ
-undone_words (Some row) = codes "row " ++ (decimal row ++ (codes " undid it" ++ 10 ∷ []))
-undone_words None = []
+undone_words (Some row) = codes ", by row " ++ (decimal row ++ (codes ": after that nobody receives or drops it, so this row has to go" ++ 10 ∷ []))
+undone_words None = codes ": after that nobody receives or drops it, so this row has to go" ++ 10 ∷ []
 
--- the instance that a row joins
-abbrev pub joined_by : Event → Option ℕ
-joined_by (event.Took p inst) = Some inst
-joined_by (event.Ready p inst) = Some inst
-joined_by row = None
+-- what a process that is down does instead of what a row says
+abbrev pub down_words : Event → List ℕ
+down_words (event.Sent p to body) = codes ": it sends nothing before it closes a committed rollback, which brings it up"
+down_words (event.Received p from msg) = codes ": it drops what comes, before it closes a committed rollback, which brings it up"
+down_words (event.Began p inst kind) = codes ": it begins no checkpoint"
+down_words (event.Took p inst) = codes ": it takes no checkpoint"
+down_words (event.Failed p) = codes ": it can't fail again before it closes a committed rollback, which brings it up"
+down_words (event.Unwilling p inst cause) = codes ", so the cause is down"
+down_words (event.Refused p verb cause) = codes ", so the cause is down"
+down_words row = []
 
--- that a process that is in this open instance is unwilling to join that one
-abbrev pub busy_words : ℕ → ℕ → Option ℕ → List ℕ
-busy_words p other (Some inst) =
-    codes "until then it is unwilling to join instance " ++ (decimal inst ++ (codes ": unwilling," ++ (decimal p ++ (codes ","
-    ++ (decimal inst ++ (codes ",busy-" ++ (decimal other ++ 10 ∷ [])))))))
-busy_words p other None = []
+-- what a process that is up does instead
+abbrev pub up_words : Event → List ℕ
+up_words (event.Dropped p from msg) = codes ": it receives what comes, unless its row failed is missing before"
+up_words (event.Unwilling p inst cause) = codes ", so the cause is not down"
+up_words (event.Refused p verb cause) = codes ", so the cause is not down"
+up_words row = []
 
--- the instance that a row is unwilling to join
-abbrev pub refused_by : Event → Option ℕ
-refused_by (event.Unwilling p inst cause) = Some inst
-refused_by row = None
+-- who has to decide an open instance before a row
+abbrev pub deciding_words : ℕ → Option ℕ → List ℕ
+deciding_words inst (Some q) =
+    codes ", which is not decided: before this row are missing decided," ++ (decimal q ++ (codes "," ++ (decimal inst ++ codes ",commit (or abort) and ")))
+deciding_words inst None = codes ", which is not decided: before this row are missing its row decided and "
 
--- what a process that is up, or down, answers to a checkpoint that asks it to join
-abbrev pub up_words : ℕ → Option ℕ → List ℕ
-up_words p (Some inst) =
-    codes "so it joins, took," ++ (decimal p ++ (codes "," ++ (decimal inst ++ (codes ",-, or can't be saved, unwilling,"
-    ++ (decimal p ++ (codes "," ++ (decimal inst ++ (codes ",nosave" ++ 10 ∷ []))))))))
-up_words p None = []
+-- the same, unless it is decided
+abbrev pub ending_words : ℕ → Option ℕ → Option ℕ → List ℕ
+ending_words inst (Some row) initiator = codes ", which row " ++ (decimal row ++ codes " decides: before this row is missing ")
+ending_words inst None initiator = deciding_words inst initiator
 
-abbrev pub down_words : ℕ → Option ℕ → List ℕ
-down_words p (Some inst) = codes "so it is unwilling for that, unwilling," ++ (decimal p ++ (codes "," ++ (decimal inst ++ (codes ",down" ++ 10 ∷ []))))
-down_words p None = []
+-- what has to come before a row of a process that is in an open instance
+abbrev pub leaving_words : Open → List ℕ
+leaving_words o =
+    ending_words o.inst o.decided o.initiator ++ (codes "closed," ++ (decimal o.p ++ (codes "," ++ (decimal o.inst ++ (codes ",-, or it has to come after that" ++ 10 ∷ [])))))
 
--- what a row's process answers to the instance that asks it to join, where that is what the row has otherwise
-abbrev pub answer_words : Event → Breach → List ℕ
-answer_words row (breach.Process (process.Inside p other since)) = busy_words p other (joined_by row)
-answer_words row (breach.Process (process.Up p)) = up_words p (refused_by row)
-answer_words row (breach.Process (process.Down p since)) = down_words p (refused_by row)
-answer_words row b = []
+-- what a process does that is in an open instance
+abbrev pub inside_words : Event → Open → List ℕ
+inside_words (event.Refused q verb.Send cause) o = codes ": a send is not refused for that, but waits for its end, so this row has to go" ++ 10 ∷ []
+inside_words (event.Refused q verb cause) o = codes ", so the cause is busy-" ++ (decimal o.inst ++ 10 ∷ [])
+inside_words (event.Unwilling q k cause) o = codes ", so the cause is busy-" ++ (decimal o.inst ++ 10 ∷ [])
+inside_words row o = leaving_words o
 
--- whether what breaks a rule says all of where the row's process stands
-abbrev pub says_standing : Breach → Option ℕ → Option ℕ → Bool
-says_standing (breach.Process (process.Inside p k row)) open_in failed = is_none failed
-says_standing (breach.Process (process.Rolling p k row)) open_in failed = is_none failed
-says_standing (breach.Process (process.NotInside o)) open_in failed = is_none failed
-says_standing (breach.Process (process.Down p row)) open_in failed = is_none open_in
-says_standing breach open_in failed = false
+-- what follows from it that a process is not in an instance, where nothing can stand in the row's place
+abbrev pub outside_end_words : Event → Bool → List ℕ
+outside_end_words (event.Unwilling p inst cause) mended = codes ", so it is not busy with it"
+outside_end_words (event.Refused p verb cause) mended = codes ", so it is not busy with it"
+outside_end_words (event.Closed p inst) mended = if mended then [] else codes ", so this row has to go"
+outside_end_words (event.Decided p inst commit) mended = if mended then [] else codes ", so this row has to go"
+outside_end_words row mended = []
 
--- where the row's process stands, unless what breaks the rule says that
-abbrev pub process_words : BadRow → List ℕ
-process_words b = if says_standing b.breach b.open_in b.failed then [] else standing_words b.p b.open_in b.failed
+-- for which causes a command is refused
+abbrev pub no_cause_words : Event → List ℕ
+no_cause_words (event.Refused p verb.Rollback cause) = codes "a rollback is refused only for another instance, as busy-K: who is down begins it, and closing it brings it up again"
+no_cause_words (event.Refused p verb cause) = codes "sends and failures are refused for down alone"
+no_cause_words row = []
 
-abbrev pub around_words : BadRow → List ℕ
-around_words b = undone_words b.undone ++ (answer_words b.event b.breach ++ process_words b)
+-- how the sentence of what breaks a rule ends: what is to be done, where that hangs on the row or on those after it
+abbrev pub ends_with : BadRow → Breach → List ℕ
+ends_with b (breach.Message (message.NotSent msg)) = sent_later_words b.later
+ends_with b (breach.Message (message.Undone msg from to)) = undone_words b.undone
+ends_with b (breach.Instance (instance.NotBegun inst)) = begun_later_words b.later (is_some b.instead.first)
+ends_with b (breach.Process (process.Down p row)) = line_words (down_words b.event)
+ends_with b (breach.Process (process.Up p)) = line_words (up_words b.event)
+ends_with b (breach.Process (process.Inside o)) = inside_words b.event o
+ends_with b (breach.Process (process.Rolling o)) = inside_words b.event o
+ends_with b (breach.Process (process.NotInside o)) = line_words (outside_end_words b.event (is_some b.instead.first))
+ends_with b breach.NoCause = line_words (no_cause_words b.event)
+ends_with b other = line_words []
 
--- a row that breaks a rule, the rule, what breaks it, what undid its message, what its process answers instead, and where its process stands before it
+abbrev pub end_words : BadRow → List ℕ
+end_words b = ends_with b b.breach
+
+-- which rows can stand in the place of one that breaks a rule
+abbrev pub or_words : Option Event → List ℕ
+or_words None = []
+or_words (Some row) = codes " or " ++ row_words row
+
+abbrev pub rows_words : Option Event → Option Event → List ℕ
+rows_words None second = []
+rows_words (Some row) second = codes "in its place can stand " ++ (row_words row ++ (or_words second ++ 10 ∷ []))
+
+abbrev pub instead_words : Instead → List ℕ
+instead_words i = rows_words i.first i.second
+
+-- a row that breaks a rule: the rule, what breaks it, and which rows can stand in its place
 abbrev pub bad_row_words : BadRow → List ℕ
-bad_row_words b =
-    numbered_words b.row ++ (row_words b.event ++ (broken_words b.rule b.breach ++ around_words b))
+bad_row_words b = broken_words b.rule b.breach ++ (end_words b ++ instead_words b.instead)
 
 -- an instance is committed in this row, though this process was unwilling to join it
 abbrev pub objection_words : ℕ → ℕ → ℕ → ℕ → List ℕ
 objection_words inst p row decided =
-    codes "row " ++ (decimal decided ++ (codes " commits instance " ++ (decimal inst ++ (codes ", but it has to be aborted, since process " ++ (decimal p
-    ++ (codes " was unwilling to join it in row " ++ (decimal row ++ (codes ": the log is at fault; then koo_toueg certify makes the certificates anew" ++ 10 ∷ []))))))))
+    codes "the log is at fault: row " ++ (decimal decided ++ (codes " commits instance " ++ (decimal inst ++ (codes ", but process " ++ (decimal p ++ (codes " was unwilling to join it in row " ++ (decimal row ++ (codes ", so it has to say abort; then koo_toueg --hints certify LOG --cert CERT makes the certificates anew" ++ 10 ∷ []))))))))
 
 -- an instance is aborted in this row, though no process was unwilling to join it
 abbrev pub no_objection_words : ℕ → ℕ → List ℕ
 no_objection_words inst decided =
-    codes "row " ++ (decimal decided ++ (codes " aborts instance " ++ (decimal inst
-    ++ (codes ", but no process was unwilling to join it: it has to be committed, or a row unwilling is missing before; the log is at fault; then koo_toueg certify makes the certificates anew" ++ 10 ∷ []))))
+    codes "the log is at fault: row " ++ (decimal decided ++ (codes " aborts instance " ++ (decimal inst ++ (codes ", but no process was unwilling to join it, so it has to say commit, or a row unwilling is missing before it; then koo_toueg --hints certify LOG --cert CERT makes the certificates anew" ++ 10 ∷ []))))
 
 -- the first place at which the list of an instance's certificate differs, and how the one who joined there is linked
 abbrev pub other_member_words : ℕ → Unlike → Option Linking → List ℕ
@@ -380,7 +423,8 @@ other_member_words inst unlike linking =
 
 -- that an instance that is decided in this row has no certificate
 abbrev pub uncertified_words : ℕ → ℕ → List ℕ
-uncertified_words inst row = codes "row " ++ (decimal row ++ (codes " decides instance " ++ (decimal inst ++ (codes ", but there is no certificate of it: koo_toueg --hints certify makes it, or says why it can't" ++ 10 ∷ []))))
+uncertified_words inst row =
+    codes "row " ++ (decimal row ++ (codes " decides instance " ++ (decimal inst ++ (codes ", but there is no certificate of it: koo_toueg --hints certify LOG --cert CERT makes all certificates, or says why it can't" ++ 10 ∷ []))))
 
 -- the lines that are told of an answer
 abbrev pub explanation_words : Explanation → List ℕ
@@ -392,6 +436,6 @@ explanation_words (NoObjection inst decided) = no_objection_words inst decided
 explanation_words (OtherMember inst unlike linking) = other_member_words inst unlike linking
 explanation_words (BadChain inst chain about linking) = bad_chain_words inst chain about ++ link_words inst chain.p chain.flaw linking
 explanation_words (Uncertified inst row) = uncertified_words inst row
-explanation_words (Orphan inst orphan) = (codes "instance " ++ (decimal inst ++ (codes ": " ++ orphan_words orphan))) ++ outsider_words inst orphan.from orphan.outsider
+explanation_words (Orphan inst orphan) = (codes "instance " ++ (decimal inst ++ (codes ": " ++ orphan_words orphan))) ++ outsider_words orphan.outsider orphan.answer
 explanation_words (BadLog b) = bad_row_words b
 explanation_words (LeftOpen l) = left_open_words l

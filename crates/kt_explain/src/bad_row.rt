@@ -2,16 +2,16 @@
 
 ghost use Rattle.std.specs.Prelude.{◌≡◌, Some};
 ghost use Rattle.std.specs.Fmt.{DisplaysOnOk};
-ghost use Rattle.kt_explain.specs.Words.{around_words, broken_words, answer_words, busy_words, down_words, failed_words, failure_words, joined_by, numbered_words, process_words, rule_words, says_standing, refused_by, standing_words, undone_words, up_words};
+ghost use Rattle.kt_explain.specs.Words.{begun_later_words, broken_words, deciding_words, down_words, end_words, ending_words, inside_words, leaving_words, line_words, no_cause_words, outside_end_words, rule_words, sent_later_words, title_words, undone_words, up_words};
 
-use crate::breach::{Breach, ProcessBreach};
-use crate::row_text::write_row;
-use kt_base::{InstNo, ProcNo, RowNo};
+use crate::breach::{Breach, InstanceBreach, MessageBreach, Open, ProcessBreach};
+use crate::instead::{Instead, write_instead};
+use kt_base::{InstNo, ProcNo, RowNo, Verb};
 use kt_cuts::Rule;
 use kt_spacetime::Event;
 use std::fmt;
 
-/// A row that breaks a rule, what breaks it, and where its process stands before it.
+/// A row that breaks a rule, what breaks it, and what can stand in its place.
 #[derive(Clone, Copy, Debug, PartialEq, Eq)]
 pub struct BadRow {
     pub row: RowNo,
@@ -19,13 +19,12 @@ pub struct BadRow {
     pub event: Event,
     pub rule: Rule,
     pub breach: Breach,
-    pub p: ProcNo,
-    /// The open instance that the process is in.
-    pub open_in: Option<InstNo>,
-    /// The last row before it in which the process failed.
-    pub failed: Option<RowNo>,
     /// The row before it that undid the send of its message, where that is what breaks the rule.
     pub undone: Option<RowNo>,
+    /// The row that sends its message or begins its instance, where it stands before that.
+    pub later: Option<RowNo>,
+    /// Rows that keep every rule in its place.
+    pub instead: Instead,
 }
 
 impl fmt::Display for BadRow {
@@ -35,18 +34,19 @@ impl fmt::Display for BadRow {
     ghost output = { λ b. Some (bad_row_words b) };
 
     fn fmt<W: fmt::Write>(&self, f: &mut fmt::Formatter<W>) -> fmt::Result {
-        let BadRow {
-            row,
-            event,
-            rule,
-            breach,
-            ..
-        } = *self;
-        write_number(f, row)?;
-        write_row(f, &event)?;
+        let BadRow { rule, breach, .. } = *self;
         write_broken(f, rule, breach)?;
-        write_around(f, self)
+        write_end(f, self)?;
+        write_instead(f, &self.instead)
     }
+}
+
+// A rule, and what breaks it.
+fn write_broken<W: fmt::Write>(f: &mut fmt::Formatter<W>, rule: Rule, breach: Breach) -> fmt::Result
+    ensures { DisplaysOnOk W.write_str_gives f.old result (Some (broken_words rule breach)) f.new }
+{
+    let title = rule_title(rule);
+    write!(f, "{title}: {breach}")
 }
 
 /// A rule by number and name, and what it asks.
@@ -74,143 +74,86 @@ pub fn rule_name(rule: Rule) -> &'static str
     }
 }
 
-// The number of a row.
-fn write_number<W: fmt::Write>(f: &mut fmt::Formatter<W>, row: RowNo) -> fmt::Result
-    ensures { DisplaysOnOk W.write_str_gives f.old result (Some (numbered_words row)) f.new }
+/// A rule by number and name.
+pub(crate) fn rule_title(rule: Rule) -> &'static str
+    ensures { result.now ≡ title_words rule }
 {
-    write!(f, "log row {row} (a first line kt,2,-,- is not counted): ")
+    match rule {
+        Rule::Numbers => "rule 1, numbers",
+        Rule::Message => "rule 2, message",
+        Rule::Order => "rule 3, order",
+        Rule::Sending => "rule 4, sending",
+        Rule::Receiving => "rule 5, receiving",
+        Rule::Joining => "rule 6, joining",
+        Rule::Deciding => "rule 7, deciding",
+        Rule::Closing => "rule 8, closing",
+        Rule::Causes => "rule 9, causes",
+    }
 }
 
-// A rule, and what breaks it.
-fn write_broken<W: fmt::Write>(f: &mut fmt::Formatter<W>, rule: Rule, breach: Breach) -> fmt::Result
-    ensures { DisplaysOnOk W.write_str_gives f.old result (Some (broken_words rule breach)) f.new }
+// How the sentence of what breaks a rule ends: what is to be done, where that hangs on the row or on those after it.
+fn write_end<W: fmt::Write>(f: &mut fmt::Formatter<W>, row: &BadRow) -> fmt::Result
+    ensures { DisplaysOnOk W.write_str_gives f.old result (Some (end_words row.now)) f.new }
 {
-    let name = rule_name(rule);
-    write!(f, "\n{name}\n{breach}")
-}
-
-// What undid the send of a row's message, what its process answers if it is busy, and where that stands.
-fn write_around<W: fmt::Write>(f: &mut fmt::Formatter<W>, row: &BadRow) -> fmt::Result
-    ensures { DisplaysOnOk W.write_str_gives f.old result (Some (around_words row.now)) f.new }
-{
-    write_undone(f, row.undone)?;
-    write_answer(f, &row.event, &row.breach)?;
-    write_process(f, row)
-}
-
-// What the row's process answers to the instance that asks it to join, where that is what the row has otherwise.
-fn write_answer<W: fmt::Write>(
-    f: &mut fmt::Formatter<W>,
-    row: &Event,
-    breach: &Breach,
-) -> fmt::Result
-    ensures { DisplaysOnOk W.write_str_gives f.old result (Some (answer_words row.now breach.now)) f.new }
-{
-    match *breach {
-        Breach::Process(ProcessBreach::Inside { p, inst, .. }) => {
-            write_busy(f, p, inst, joined_by(row))
+    match row.breach {
+        Breach::Message(MessageBreach::NotSent(_)) => write_sent_later(f, row.later),
+        Breach::Message(MessageBreach::Undone { .. }) => write_undone(f, row.undone),
+        Breach::Instance(InstanceBreach::NotBegun(_)) => {
+            write_begun_later(f, row.later, row.instead.first.is_some())
         }
-        Breach::Process(ProcessBreach::Up(p)) => write_up(f, p, refused_by(row)),
-        Breach::Process(ProcessBreach::Down { p, .. }) => write_down(f, p, refused_by(row)),
-        _ => Ok(()),
+        Breach::Process(ProcessBreach::Down { .. }) => write_line(f, down_end(&row.event)),
+        Breach::Process(ProcessBreach::Up(_)) => write_line(f, up_end(&row.event)),
+        Breach::Process(ProcessBreach::Inside(inside)) => write_inside(f, &row.event, &inside),
+        Breach::Process(ProcessBreach::Rolling(inside)) => write_inside(f, &row.event, &inside),
+        Breach::Process(ProcessBreach::NotInside(_)) => {
+            write_line(f, outside_end(&row.event, row.instead.first.is_some()))
+        }
+        Breach::NoCause => write_line(f, no_cause(&row.event)),
+        _ => write_line(f, ""),
     }
 }
 
-// What a process that is up answers to a checkpoint that asks it to join.
-fn write_up<W: fmt::Write>(
-    f: &mut fmt::Formatter<W>,
-    p: ProcNo,
-    refused: Option<InstNo>,
-) -> fmt::Result
-    ensures { DisplaysOnOk W.write_str_gives f.old result (Some (up_words p refused)) f.new }
+// The rest of a line.
+fn write_line<W: fmt::Write>(f: &mut fmt::Formatter<W>, end: &str) -> fmt::Result
+    ensures { DisplaysOnOk W.write_str_gives f.old result (Some (line_words end.now)) f.new }
 {
-    let Some(inst) = refused else {
-        return Ok(());
-    };
-    write!(
-        f,
-        "so it joins, took,{p},{inst},-, or can't be saved, unwilling,{p},{inst},nosave\n"
-    )
+    write!(f, "{end}\n")
 }
 
-// What a process that is down answers to a checkpoint that asks it to join.
-fn write_down<W: fmt::Write>(
-    f: &mut fmt::Formatter<W>,
-    p: ProcNo,
-    refused: Option<InstNo>,
-) -> fmt::Result
-    ensures { DisplaysOnOk W.write_str_gives f.old result (Some (down_words p refused)) f.new }
+// Whether a message is sent later.
+fn write_sent_later<W: fmt::Write>(f: &mut fmt::Formatter<W>, later: Option<RowNo>) -> fmt::Result
+    ensures { DisplaysOnOk W.write_str_gives f.old result (Some (sent_later_words later)) f.new }
 {
-    let Some(inst) = refused else {
-        return Ok(());
-    };
-    write!(
-        f,
-        "so it is unwilling for that, unwilling,{p},{inst},down\n"
-    )
-}
-
-// The instance that a row is unwilling to join.
-fn refused_by(row: &Event) -> Option<InstNo>
-    ensures { result ≡ refused_by row.now }
-{
-    match *row {
-        Event::Unwilling { inst, .. } => Some(inst),
-        _ => None,
-    }
-}
-
-// That a process that is in this open instance is unwilling to join that one.
-fn write_busy<W: fmt::Write>(
-    f: &mut fmt::Formatter<W>,
-    p: ProcNo,
-    other: InstNo,
-    joined: Option<InstNo>,
-) -> fmt::Result
-    ensures { DisplaysOnOk W.write_str_gives f.old result (Some (busy_words p other joined)) f.new }
-{
-    match joined {
-        Some(inst) => write!(
+    match later {
+        Some(row) => write!(
             f,
-            "until then it is unwilling to join instance {inst}: unwilling,{p},{inst},busy-{other}\n"
+            ": row {row} does, which has to come before it (a message has the number of the row that sends it), or the number of the message is wrong\n"
         ),
-        None => Ok(()),
+        None => write!(
+            f,
+            ", and none after it (a message has the number of the row that sends it): a row sent is missing before, or the number of the message is wrong\n"
+        ),
     }
 }
 
-// The instance that a row joins.
-fn joined_by(row: &Event) -> Option<InstNo>
-    ensures { result ≡ joined_by row.now }
+// Whether an instance begins later.
+fn write_begun_later<W: fmt::Write>(
+    f: &mut fmt::Formatter<W>,
+    later: Option<RowNo>,
+    mended: bool,
+) -> fmt::Result
+    ensures { DisplaysOnOk W.write_str_gives f.old result (Some (begun_later_words later mended)) f.new }
 {
-    match *row {
-        Event::Took { inst, .. } | Event::Ready { inst, .. } => Some(inst),
-        _ => None,
-    }
-}
-
-// Where the row's process stands, unless what breaks the rule says that.
-fn write_process<W: fmt::Write>(f: &mut fmt::Formatter<W>, row: &BadRow) -> fmt::Result
-    ensures { DisplaysOnOk W.write_str_gives f.old result (Some (process_words row.now)) f.new }
-{
-    if says_standing(&row.breach, row.open_in, row.failed) {
-        Ok(())
-    } else {
-        write_standing(f, row.p, row.open_in, row.failed)
-    }
-}
-
-// Whether what breaks a rule says all of where the row's process stands.
-fn says_standing(breach: &Breach, open_in: Option<InstNo>, failed: Option<RowNo>) -> bool
-    ensures { result ≡ says_standing breach.now open_in failed }
-{
-    match *breach {
-        Breach::Process(
-            ProcessBreach::Inside { .. }
-            | ProcessBreach::Rolling { .. }
-            | ProcessBreach::NotInside(_),
-        ) => failed.is_none(),
-        Breach::Process(ProcessBreach::Down { .. }) => open_in.is_none(),
-        _ => false,
+    match later {
+        None if mended => write!(f, ", and none after it\n"),
+        Some(row) => write!(
+            f,
+            ": row {row} does, which has to come before it, or the number of the instance is wrong\n"
+        ),
+        None => write!(
+            f,
+            ", and none after it: a row began is missing before, or the number of the instance is wrong\n"
+        ),
     }
 }
 
@@ -219,49 +162,135 @@ fn write_undone<W: fmt::Write>(f: &mut fmt::Formatter<W>, undone: Option<RowNo>)
     ensures { DisplaysOnOk W.write_str_gives f.old result (Some (undone_words undone)) f.new }
 {
     match undone {
-        Some(row) => write!(f, "row {row} undid it\n"),
-        None => Ok(()),
+        Some(row) => write!(
+            f,
+            ", by row {row}: after that nobody receives or drops it, so this row has to go\n"
+        ),
+        None => write!(
+            f,
+            ": after that nobody receives or drops it, so this row has to go\n"
+        ),
     }
 }
 
-// Where a process stands, if it is in an instance or failed.
-fn write_standing<W: fmt::Write>(
-    f: &mut fmt::Formatter<W>,
-    p: ProcNo,
-    open_in: Option<InstNo>,
-    failed: Option<RowNo>,
-) -> fmt::Result
-    ensures { DisplaysOnOk W.write_str_gives f.old result (Some (standing_words p open_in failed)) f.new }
+// What a process that is down does instead.
+fn down_end(row: &Event) -> &'static str
+    ensures { result.now ≡ down_words row.now }
 {
-    match open_in {
-        Some(inst) => {
-            write!(f, "process {p}: in instance {inst}")?;
-            write_failure(f, failed)
+    match row {
+        Event::Sent { .. } =>
+            ": it sends nothing before it closes a committed rollback, which brings it up",
+        Event::Received { .. } =>
+            ": it drops what comes, before it closes a committed rollback, which brings it up",
+        Event::Began { .. } => ": it begins no checkpoint",
+        Event::Took { .. } => ": it takes no checkpoint",
+        Event::Failed { .. } =>
+            ": it can't fail again before it closes a committed rollback, which brings it up",
+        Event::Unwilling { .. } | Event::Refused { .. } => ", so the cause is down",
+        _ => "",
+    }
+}
+
+// What a process that is up does instead.
+fn up_end(row: &Event) -> &'static str
+    ensures { result.now ≡ up_words row.now }
+{
+    match row {
+        Event::Dropped { .. } =>
+            ": it receives what comes, unless its row failed is missing before",
+        Event::Unwilling { .. } | Event::Refused { .. } => ", so the cause is not down",
+        _ => "",
+    }
+}
+
+// What a process does that is in an open instance.
+fn write_inside<W: fmt::Write>(f: &mut fmt::Formatter<W>, row: &Event, inside: &Open) -> fmt::Result
+    ensures { DisplaysOnOk W.write_str_gives f.old result (Some (inside_words row.now inside.now)) f.new }
+{
+    let inst = inside.inst;
+    match *row {
+        Event::Refused {
+            verb: Verb::Send,
+            ..
+        } => write!(
+            f,
+            ": a send is not refused for that, but waits for its end, so this row has to go\n"
+        ),
+        Event::Unwilling { .. } | Event::Refused { .. } => {
+            write!(f, ", so the cause is busy-{inst}\n")
         }
-        None => write_failed(f, p, failed),
+        _ => write_leaving(f, inside),
     }
 }
 
-// That a process failed that is in no instance.
-fn write_failed<W: fmt::Write>(
+// What has to come before a row of a process that is in an open instance.
+fn write_leaving<W: fmt::Write>(f: &mut fmt::Formatter<W>, inside: &Open) -> fmt::Result
+    ensures { DisplaysOnOk W.write_str_gives f.old result (Some (leaving_words inside.now)) f.new }
+{
+    let Open { p, inst, .. } = *inside;
+    write_ending(f, inside)?;
+    write!(f, "closed,{p},{inst},-, or it has to come after that\n")
+}
+
+// Who has to decide an open instance before that, unless it is decided.
+fn write_ending<W: fmt::Write>(f: &mut fmt::Formatter<W>, inside: &Open) -> fmt::Result
+    ensures { DisplaysOnOk W.write_str_gives f.old result
+        (Some (ending_words inside.now.inst inside.now.decided inside.now.initiator)) f.new }
+{
+    match inside.decided {
+        Some(row) => write!(f, ", which row {row} decides: before this row is missing "),
+        None => write_deciding(f, inside.inst, inside.initiator),
+    }
+}
+
+// Who has to decide an open instance.
+fn write_deciding<W: fmt::Write>(
     f: &mut fmt::Formatter<W>,
-    p: ProcNo,
-    failed: Option<RowNo>,
+    inst: InstNo,
+    initiator: Option<ProcNo>,
 ) -> fmt::Result
-    ensures { DisplaysOnOk W.write_str_gives f.old result (Some (failed_words p failed)) f.new }
+    ensures { DisplaysOnOk W.write_str_gives f.old result (Some (deciding_words inst initiator)) f.new }
 {
-    match failed {
-        Some(row) => write!(f, "process {p}: in no instance, failed in row {row}\n"),
-        None => Ok(()),
+    match initiator {
+        Some(q) => write!(
+            f,
+            ", which is not decided: before this row are missing decided,{q},{inst},commit (or abort) and "
+        ),
+        None => write!(
+            f,
+            ", which is not decided: before this row are missing its row decided and "
+        ),
     }
 }
 
-// The last row in which a process failed.
-fn write_failure<W: fmt::Write>(f: &mut fmt::Formatter<W>, failed: Option<RowNo>) -> fmt::Result
-    ensures { DisplaysOnOk W.write_str_gives f.old result (Some (failure_words failed)) f.new }
+// What follows from it that a process is not in an instance.
+fn outside_end(row: &Event, mended: bool) -> &'static str
+    ensures { result.now ≡ outside_end_words row.now mended }
 {
-    match failed {
-        Some(row) => write!(f, ", failed in row {row}\n"),
-        None => write!(f, "\n"),
+    match row {
+        Event::Unwilling { .. } | Event::Refused { .. } => ", so it is not busy with it",
+        Event::Closed { .. } | Event::Decided { .. } => {
+            if mended {
+                ""
+            } else {
+                ", so this row has to go"
+            }
+        }
+        _ => "",
+    }
+}
+
+// For which causes a command is refused.
+fn no_cause(row: &Event) -> &'static str
+    ensures { result.now ≡ no_cause_words row.now }
+{
+    match row {
+        Event::Refused {
+            verb: Verb::Rollback,
+            ..
+        } =>
+            "a rollback is refused only for another instance, as busy-K: who is down begins it, and closing it brings it up again",
+        Event::Refused { .. } => "sends and failures are refused for down alone",
+        _ => "",
     }
 }

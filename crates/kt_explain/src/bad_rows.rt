@@ -8,14 +8,15 @@ ghost use Rattle.kt_checker.specs.declared.verdict.Why.TheVariants as why;
 ghost use Rattle.kt_checker.specs.Order.{IsBadLog};
 ghost use Rattle.kt_cuts.specs.Legal.{first_broken};
 ghost use Rattle.kt_explain.specs.Told.{IsExplanation};
+ghost use Rattle.kt_explain.specs.Laters.{IsLater, IsSending};
 
 use crate::bad_row::BadRow;
 use crate::breach::before::Before;
+use crate::breach::{Breach, InstanceBreach, MessageBreach};
 use crate::explanation::Explanation;
-use crate::finding::{Sought, last_number};
-use crate::standing::open_in;
+use crate::finding::{Sought, first_number};
 use crate::undoing::undone_in;
-use kt_base::{Memory, RowNo};
+use kt_base::{Memory, MsgNo, RowNo};
 use kt_checker::Why;
 use kt_cuts::Rule;
 use kt_spacetime::Event;
@@ -57,7 +58,7 @@ fn broken(
     }
 }
 
-// The row of this number, which is the first that breaks a rule, what breaks it, and where its process stands before it.
+// The row of this number, which is the first that breaks a rule, what breaks it, and what can stand in its place.
 fn bad_row(alloc: Global, rows: &[Event], row: RowNo, rule: Rule) -> Result<Explanation, Memory>
     requires few { length rows.now ≤ 2 ^ 24 }
     requires within { row ≤ length rows.now }
@@ -66,7 +67,6 @@ fn bad_row(alloc: Global, rows: &[Event], row: RowNo, rule: Rule) -> Result<Expl
         → IsExplanation rows.now certificates (No None (Some row) (why.BadLog rule)) e) }
 {
     let index = row.get() as usize - 1;
-    let p = rows[index].process();
     let before = &rows[..index];
     let known = Before::of(alloc, before)?;
     match known.keeps(rule, &rows[index]) {
@@ -75,11 +75,35 @@ fn bad_row(alloc: Global, rows: &[Event], row: RowNo, rule: Rule) -> Result<Expl
             event: rows[index],
             rule,
             breach,
-            p,
-            open_in: open_in(before, p),
-            failed: last_number(before, &Sought::Failed(p)),
             undone: undone_in(alloc, before, &breach)?,
+            later: later_in(rows, &breach),
+            instead: known.instead(&rows[index], &breach),
         })),
         Ok(()) => Ok(Explanation::Nothing),
+    }
+}
+
+// The row of a log that sends the message that was not sent before, or begins the instance that had not begun.
+fn later_in(rows: &[Event], breach: &Breach) -> Option<RowNo>
+    requires few { length rows.now ≤ 2 ^ 24 }
+    ensures { IsLater rows.now breach.now result }
+{
+    match *breach {
+        Breach::Message(MessageBreach::NotSent(msg)) => sending(rows, msg),
+        Breach::Instance(InstanceBreach::NotBegun(inst)) => first_number(
+            rows,
+            &Sought::Began(inst),
+        ),
+        _ => None,
+    }
+}
+
+// The row that sends a message.
+fn sending(rows: &[Event], msg: MsgNo) -> Option<RowNo>
+    ensures { IsSending rows.now msg result }
+{
+    match rows.get(msg.index()) {
+        Some(Event::Sent { .. }) => Some(RowNo::after(msg.index())),
+        _ => None,
     }
 }

@@ -2,7 +2,7 @@
 
 ghost use Rattle.std.specs.Prelude.{◌≡◌, Some};
 ghost use Rattle.std.specs.Fmt.{DisplaysOnOk};
-ghost use Rattle.kt_explain.specs.BreachWords.{absence_words, closing_words, decision_words, open_in_words, just_begun_words, leaving_words};
+ghost use Rattle.kt_explain.specs.BreachWords.{absence_words, closing_words, decision_words, in_words, just_begun_words, open_in_words, rolling_words, undecided_words};
 
 pub(crate) mod before;
 mod deliveries;
@@ -75,14 +75,28 @@ pub enum ProcessBreach {
     Down { p: ProcNo, row: RowNo },
     /// It is up.
     Up(ProcNo),
-    /// It is in the open instance, which it joined in this row.
-    Inside { p: ProcNo, inst: InstNo, row: RowNo },
-    /// It is in the open instance, a rollback, which it joined in this row.
-    Rolling { p: ProcNo, inst: InstNo, row: RowNo },
+    /// It is in an open instance.
+    Inside(Open),
+    /// It is in an open instance, a rollback.
+    Rolling(Open),
     /// It is not in the instance.
     NotInside(Outside),
     /// It joined the instance in this row.
     Joined { p: ProcNo, inst: InstNo, row: RowNo },
+    /// It is in the instance, which it joined in this row, and is asked to join it.
+    Member { p: ProcNo, inst: InstNo, row: RowNo },
+}
+
+/// An open instance that a process is in, which it joined in this row.
+#[derive(Clone, Copy, Debug, PartialEq, Eq)]
+pub struct Open {
+    pub p: ProcNo,
+    pub inst: InstNo,
+    pub row: RowNo,
+    /// The row that decided it.
+    pub decided: Option<RowNo>,
+    /// Who began it.
+    pub initiator: Option<ProcNo>,
 }
 
 /// A process that is not in an instance.
@@ -112,8 +126,11 @@ pub enum InstanceBreach {
         inst: InstNo,
         row: RowNo,
     },
-    /// It is not decided.
-    Undecided(InstNo),
+    /// It is not decided. This process began it.
+    Undecided {
+        inst: InstNo,
+        p: Option<ProcNo>,
+    },
     /// It began in this row, as one of this kind.
     OfKind {
         inst: InstNo,
@@ -152,10 +169,7 @@ impl fmt::Display for Breach {
             Breach::Message(breach) => write!(f, "{breach}"),
             Breach::Process(breach) => write!(f, "{breach}"),
             Breach::Instance(breach) => write!(f, "{breach}"),
-            Breach::NoCause => write!(
-                f,
-                "send and fail are refused for down alone, rollback for busy alone, checkpoint for any cause\n"
-            ),
+            Breach::NoCause => Ok(()),
         }
     }
 }
@@ -168,36 +182,30 @@ impl fmt::Display for MessageBreach {
 
     fn fmt<W: fmt::Write>(&self, f: &mut fmt::Formatter<W>) -> fmt::Result {
         match *self {
-            MessageBreach::NotSent(msg) => write!(
+            MessageBreach::NotSent(msg) => write!(f, "no row before this one sends message {msg}"),
+            MessageBreach::SentBetween { msg, from, to } => write!(
                 f,
-                "message {msg} was not sent before; a message has the number of the row that sends it\n"
+                "message {msg} was sent by process {from} to process {to}: only process {to} takes it, of process {from}, so a number of this row is wrong"
             ),
-            MessageBreach::SentBetween { msg, from, to } => {
-                write!(
-                    f,
-                    "message {msg} was sent by process {from} to process {to}\n"
-                )
-            }
             MessageBreach::Undone { msg, from, .. } => write!(
                 f,
-                "message {msg} is undone: process {from} rolled back to before it sent it\n"
+                "message {msg} is undone: process {from} rolled back to before it sent it"
             ),
-            MessageBreach::Received { p, msg, row, .. } => {
-                write!(
-                    f,
-                    "process {p} received message {msg} already, in row {row}\n"
-                )
-            }
-            MessageBreach::Dropped { msg, row } => {
-                write!(f, "message {msg} was dropped in row {row}\n")
-            }
+            MessageBreach::Received { p, msg, row, .. } => write!(
+                f,
+                "process {p} received message {msg} already, in row {row}: this row has to go, or its message is another one"
+            ),
+            MessageBreach::Dropped { msg, row } => write!(
+                f,
+                "message {msg} was dropped in row {row}, and is lost: this row has to go, or its message is another one"
+            ),
             MessageBreach::ReceivedLater { p, from, msg, row } => write!(
                 f,
-                "process {p} received the later message {msg} of process {from} before, in row {row}\n"
+                "process {p} received the later message {msg} of process {from} already, in row {row}: messages of one sender are taken in the order in which they were sent, so this row has to come before that one"
             ),
             MessageBreach::DroppedLater { p, from, msg, row } => write!(
                 f,
-                "process {p} dropped the later message {msg} of process {from} before, in row {row}\n"
+                "process {p} dropped the later message {msg} of process {from} already, in row {row}: messages of one sender are taken in the order in which they were sent, so this row has to come before that one"
             ),
         }
     }
@@ -211,36 +219,43 @@ impl fmt::Display for ProcessBreach {
 
     fn fmt<W: fmt::Write>(&self, f: &mut fmt::Formatter<W>) -> fmt::Result {
         match *self {
-            ProcessBreach::OwnPeer(p) => write!(f, "both processes of the row are process {p}\n"),
-            ProcessBreach::Down { p, row } => write!(f, "process {p} is down since row {row}\n"),
-            ProcessBreach::Up(p) => write!(f, "process {p} is up\n"),
-            ProcessBreach::Inside { p, inst, row } => {
-                write!(f, "process {p} has been in instance {inst} since row {row}")?;
-                write_leaving(f, p, inst)
-            }
-            ProcessBreach::Rolling { p, inst, row } => {
-                write!(
-                    f,
-                    "process {p} has been in instance {inst}, a rollback, since row {row}"
-                )?;
-                write_leaving(f, p, inst)
-            }
+            ProcessBreach::OwnPeer(p) => write!(
+                f,
+                "both processes of the row are process {p}, but nobody sends to itself: one of the two is wrong, and only your program knows which"
+            ),
+            ProcessBreach::Down { p, row } => write!(f, "process {p} is down since row {row}"),
+            ProcessBreach::Up(p) => write!(f, "process {p} is up"),
+            ProcessBreach::Inside(inside) => write_in(f, &inside),
+            ProcessBreach::Rolling(inside) => write_rolling(f, &inside),
             ProcessBreach::NotInside(outside) => write!(f, "{outside}"),
             ProcessBreach::Joined { p, inst, row } => write!(
                 f,
-                "process {p} joined instance {inst} already, in row {row}\n"
+                "process {p} joined instance {inst} already, in row {row}: a process joins an instance once, so this row has to go"
+            ),
+            ProcessBreach::Member { p, inst, row } => write!(
+                f,
+                "process {p} joined instance {inst} in row {row}, and can't be unwilling to join it any more: this row has to go"
             ),
         }
     }
 }
 
-// How a process leaves an instance.
-fn write_leaving<W: fmt::Write>(f: &mut fmt::Formatter<W>, p: ProcNo, inst: InstNo) -> fmt::Result
-    ensures { DisplaysOnOk W.write_str_gives f.old result (Some (leaving_words p inst)) f.new }
+// That a process is in an open instance.
+fn write_in<W: fmt::Write>(f: &mut fmt::Formatter<W>, inside: &Open) -> fmt::Result
+    ensures { DisplaysOnOk W.write_str_gives f.old result (Some (in_words inside.now)) f.new }
 {
+    let Open { p, inst, row, .. } = *inside;
+    write!(f, "process {p} has been in instance {inst} since row {row}")
+}
+
+// That a process is in an open instance, a rollback.
+fn write_rolling<W: fmt::Write>(f: &mut fmt::Formatter<W>, inside: &Open) -> fmt::Result
+    ensures { DisplaysOnOk W.write_str_gives f.old result (Some (rolling_words inside.now)) f.new }
+{
+    let Open { p, inst, row, .. } = *inside;
     write!(
         f,
-        ", and has to close it first: closed,{p},{inst},-, after a row decided of its initiator\n"
+        "process {p} has been in instance {inst}, a rollback, since row {row}"
     )
 }
 
@@ -308,7 +323,7 @@ fn write_absence<W: fmt::Write>(
             write!(f, "it joined instance {inst} in row {row}")?;
             write_closing(f, closed)
         }
-        None => write!(f, "it has not joined instance {inst}\n"),
+        None => write!(f, "it has not joined instance {inst}"),
     }
 }
 
@@ -317,8 +332,8 @@ fn write_closing<W: fmt::Write>(f: &mut fmt::Formatter<W>, closed: Option<RowNo>
     ensures { DisplaysOnOk W.write_str_gives f.old result (Some (closing_words closed)) f.new }
 {
     match closed {
-        Some(row) => write!(f, ", and closed it in row {row}\n"),
-        None => write!(f, "\n"),
+        Some(row) => write!(f, ", and closed it in row {row}"),
+        None => Ok(()),
     }
 }
 
@@ -334,11 +349,31 @@ fn write_just_begun<W: fmt::Write>(
     match kind {
         Kind::Checkpoint => write!(
             f,
-            "process {p} began instance {inst}, a checkpoint, in the row before: next has to come took,{p},{inst},-\n"
+            "process {p} began instance {inst}, a checkpoint, in the row before: next has to come took,{p},{inst},-"
         ),
         Kind::Rollback => write!(
             f,
-            "process {p} began instance {inst}, a rollback, in the row before: next has to come ready,{p},{inst},-\n"
+            "process {p} began instance {inst}, a rollback, in the row before: next has to come ready,{p},{inst},-"
+        ),
+    }
+}
+
+// That an instance is not decided, and who decides it.
+fn write_undecided<W: fmt::Write>(
+    f: &mut fmt::Formatter<W>,
+    inst: InstNo,
+    p: Option<ProcNo>,
+) -> fmt::Result
+    ensures { DisplaysOnOk W.write_str_gives f.old result (Some (undecided_words inst p)) f.new }
+{
+    match p {
+        Some(p) => write!(
+            f,
+            "instance {inst} is not decided: its initiator, process {p}, does that before, by decided,{p},{inst},commit or abort"
+        ),
+        None => write!(
+            f,
+            "instance {inst} is not decided: its initiator does that before, by a row decided"
         ),
     }
 }
@@ -351,44 +386,45 @@ impl fmt::Display for InstanceBreach {
 
     fn fmt<W: fmt::Write>(&self, f: &mut fmt::Formatter<W>) -> fmt::Result {
         match *self {
-            InstanceBreach::Next(number) => {
-                write!(f, "the next instance to begin has number {number}\n")
-            }
-            InstanceBreach::NotBegun(inst) => write!(f, "instance {inst} has not begun\n"),
+            InstanceBreach::Next(number) => write!(
+                f,
+                "instances are numbered in the order in which they begin, and the next has number {number}"
+            ),
+            InstanceBreach::NotBegun(inst) => write!(
+                f,
+                "no row before this one begins instance {inst}"
+            ),
             InstanceBreach::Decided { inst, row } => {
                 write!(
                     f,
-                    "instance {inst} was decided in row {row}: after that nobody joins it, is unwilling to join it or decides it, so the row has to go\n"
+                    "instance {inst} was decided in row {row}: after that nobody joins it, is unwilling to join it or decides it, so this row has to go"
                 )
             }
-            InstanceBreach::Undecided(inst) => write!(
-                f,
-                "instance {inst} is not decided: its initiator does that, by a row decided\n"
-            ),
+            InstanceBreach::Undecided { inst, p } => write_undecided(f, inst, p),
             InstanceBreach::OfKind { inst, kind, row } => match kind {
                 Kind::Checkpoint => {
                     write!(
                         f,
-                        "instance {inst} began in row {row}, as a checkpoint: it is joined by took\n"
+                        "instance {inst} began in row {row}, as a checkpoint: who is up joins it, by took"
                     )
                 }
                 Kind::Rollback => write!(
                     f,
-                    "instance {inst} began in row {row}, as a rollback: it is joined by ready\n"
+                    "instance {inst} began in row {row}, as a rollback: it is joined by ready"
                 ),
             },
             InstanceBreach::OnlyBusy { inst, row } => write!(
                 f,
-                "instance {inst} began in row {row}, as a rollback: only who is in another instance is unwilling to join it, all others join it by ready, up or down\n"
+                "instance {inst} began in row {row}, as a rollback: only who is in another instance is unwilling to join it, all others join it by ready, up or down"
             ),
             InstanceBreach::Initiator { inst, p, row } => write!(
                 f,
-                "the initiator of instance {inst} is process {p}, which began it in row {row}\n"
+                "the initiator of instance {inst} is process {p}, which began it in row {row}, and nobody else decides it"
             ),
             InstanceBreach::JustBegun { p, inst, kind } => write_just_begun(f, p, inst, kind),
             InstanceBreach::OwnCause(inst) => write!(
                 f,
-                "who is busy with instance {inst} has joined it, and can't be unwilling to join it\n"
+                "who is busy with instance {inst} has joined it, and can't be unwilling to join it: the cause is wrong"
             ),
         }
     }

@@ -1,60 +1,203 @@
 //! Which record of the certificates' text an answer is about.
 
-ghost use Rattle.std.specs.Prelude.{◌≡◌, ◌<◌, ◌≤◌, if◌then◌else◌, IfSome, Some, None, length, take};
-ghost use Rattle.kt_chain.specs.Spelling.{certificate_records, records_of};
-ghost use Rattle.kt_explain.specs.RecordsTold.{IsPlaceOf, IsRecordOf, IsRecordTold, certified_inst, is_at_fault, is_of_second, is_unlinked, member_place, unlike_place};
+ghost use Rattle.std.specs.Fmt.{DisplaysOnOk, decimal};
+ghost use Rattle.std.specs.Prelude.{◌≡◌, ◌∷◌, ◌<◌, ◌≤◌, if◌then◌else◌, IfSome, Some, None, length, slice_get, take};
+ghost use Rattle.kt_text.specs.Writing.{joined};
+ghost use Rattle.kt_chain.specs.Spelling.{certificate_records, chain_word, instance_record, marked, member_record, records_of};
+ghost use Rattle.kt_explain.specs.RecordsTold.{IsPlaceOf, IsRecordOf, IsRecordTold, certified_inst, if_certified, is_at_fault, is_of_second, is_unlinked, member_place, member_words, place_word, record_words, told_words, unlike_place, wants_member, where_words};
 
 use crate::bad_chain::Flaw;
-use crate::difference::Difference;
+use crate::difference::{Difference, decision_name, kind_name};
 use crate::explanation::{Explanation, Unlike};
 use crate::linking::Linking;
 use crate::unknown::place_from;
-use kt_base::InstNo;
+use kt_base::{InstNo, MsgNo, ProcNo};
 use kt_chain::Certificate;
 use std::fmt;
 
-/// The number, from 1, of the record of the certificates' text that an answer is about, where it is about one.
-#[derive(Clone, Copy, Debug, PartialEq, Eq)]
-pub struct RecordTold {
-    pub number: Option<usize>,
+/// The record of the certificates' text that an answer is about, where it is about one.
+#[derive(Drop)]
+pub struct RecordTold<'a> {
+    pub told: Option<OneRecord<'a>>,
 }
 
-impl fmt::Display for RecordTold {
+/// A record of a certificate.
+#[derive(Drop)]
+pub struct OneRecord<'a> {
+    /// Its number in the certificates' text, from 1.
+    pub number: usize,
+    pub certificate: &'a Certificate,
+    /// The place of its member, from 1; 0 of the record of the instance.
+    pub place: usize,
+    /// The record that is wanting has to follow it.
+    pub wants: bool,
+}
+
+impl fmt::Display for RecordTold<'_> {
     ghost use Rattle.std.specs.Prelude.{Some};
     ghost use Rattle.kt_explain.specs.RecordsTold.{record_told_words};
 
-    ghost output = { λ r. Some (record_told_words r.number) };
+    ghost output = { λ r. Some (record_told_words r.told) };
 
     fn fmt<W: fmt::Write>(&self, f: &mut fmt::Formatter<W>) -> fmt::Result {
-        match self.number {
-            Some(number) => write!(
-                f,
-                "the certificates are at fault, see record {number}: koo_toueg --hints certify makes them anew from the log, or says why it can't\n"
-            ),
+        match &self.told {
+            Some(told) => write_told(f, told),
             None => Ok(()),
         }
     }
 }
 
-/// The record of the certificates' text that what is told is about: that of the first certificate of the instance, of
-/// the second where that is one too many, of the member that is named, or of the one after which a member is missing.
-pub fn record_told(certificates: &[Certificate], explanation: &Explanation) -> RecordTold
-    ensures { IsRecordTold certificates.now explanation.now result.number }
+// The record that an answer is about.
+fn write_told<W: fmt::Write>(f: &mut fmt::Formatter<W>, told: &OneRecord<'_>) -> fmt::Result
+    ensures { DisplaysOnOk W.write_str_gives f.old result (Some (told_words told.now)) f.new }
 {
-    RecordTold {
-        number: number_of(certificates, explanation),
+    write_where(f, told.wants, told.number)?;
+    write_record(f, told.certificate, told.place)?;
+    write!(
+        f,
+        ": koo_toueg --hints certify LOG --cert CERT makes them anew, or says why it can't\n"
+    )
+}
+
+// Which record is wrong, or after which one is wanting.
+fn write_where<W: fmt::Write>(f: &mut fmt::Formatter<W>, wants: bool, number: usize) -> fmt::Result
+    ensures { DisplaysOnOk W.write_str_gives f.old result (Some (where_words wants number)) f.new }
+{
+    let place = place_word(wants);
+    write!(f, "the certificates are at fault {place} record {number}, ")
+}
+
+// Whether a record is wrong, or one is wanting after it.
+fn place_word(wants: bool) -> &'static str
+    ensures { result.now ≡ place_word wants }
+{
+    if wants { "after" } else { "in" }
+}
+
+// A record of a certificate, as their text has it: that of the instance, or that of the member in this place.
+fn write_record<W: fmt::Write>(
+    f: &mut fmt::Formatter<W>,
+    certificate: &Certificate,
+    place: usize,
+) -> fmt::Result
+    ensures { DisplaysOnOk W.write_str_gives f.old result (Some (record_words certificate.now place)) f.new }
+{
+    match place.checked_sub(1) {
+        Some(index) => write_listed(f, certificate, index),
+        None => write_instance(f, certificate),
     }
 }
 
-// The number of that record.
-fn number_of(certificates: &[Certificate], explanation: &Explanation) -> Option<usize>
+// The record of the member at an index.
+fn write_listed<W: fmt::Write>(
+    f: &mut fmt::Formatter<W>,
+    certificate: &Certificate,
+    index: usize,
+) -> fmt::Result
+    ensures { DisplaysOnOk W.write_str_gives f.old result
+        (Some (member_words certificate.now (slice_get certificate.now.members index))) f.new }
+{
+    match certificate.members.list().get(index) {
+        Some((p, chain)) => write_member(f, certificate.inst, *p, chain.messages()),
+        None => write_instance(f, certificate),
+    }
+}
+
+// The record of an instance.
+fn write_instance<W: fmt::Write>(
+    f: &mut fmt::Formatter<W>,
+    certificate: &Certificate,
+) -> fmt::Result
+    ensures { DisplaysOnOk W.write_str_gives f.old result (Some (joined (instance_record certificate.now))) f.new }
+{
+    let inst = certificate.inst;
+    let kind = kind_name(certificate.kind);
+    let initiator = certificate.initiator;
+    let decision = decision_name(certificate.commit);
+    write!(f, "cert,{inst},{kind},{initiator},{decision}")
+}
+
+// The record of a member of an instance.
+fn write_member<W: fmt::Write>(
+    f: &mut fmt::Formatter<W>,
+    inst: InstNo,
+    p: ProcNo,
+    messages: &[MsgNo],
+) -> fmt::Result
+    ensures { DisplaysOnOk W.write_str_gives f.old result (Some (joined (member_record inst (p, messages.now)))) f.new }
+{
+    let count = messages.len();
+    write!(f, "member,{inst},{p},{count},")?;
+    write_chain(f, messages)
+}
+
+// The messages of a chain.
+fn write_chain<W: fmt::Write>(f: &mut fmt::Formatter<W>, messages: &[MsgNo]) -> fmt::Result
+    ensures { DisplaysOnOk W.write_str_gives f.old result (Some (chain_word messages.now)) f.new }
+{
+    if messages.is_empty() {
+        return write!(f, "-");
+    }
+    let first = messages[0];
+    write!(f, "{first}")?;
+    write_marked(f, &messages[1..])
+}
+
+// More messages of a chain.
+fn write_marked<W: fmt::Write>(f: &mut fmt::Formatter<W>, messages: &[MsgNo]) -> fmt::Result
+    ensures { DisplaysOnOk W.write_str_gives f.old result (Some (marked messages.now)) f.new }
+{
+    for place in 0..messages.len() {
+        write_next(f, messages[place])?;
+    }
+    Ok(())
+}
+
+// One more message of a chain.
+fn write_next<W: fmt::Write>(f: &mut fmt::Formatter<W>, msg: MsgNo) -> fmt::Result
+    ensures { DisplaysOnOk W.write_str_gives f.old result (Some (47 ∷ decimal msg)) f.new }
+{
+    write!(f, "/{msg}")
+}
+
+/// The record of the certificates' text that what is told is about: that of the first certificate of the instance, of
+/// the second where that is one too many, of the member that is named, or of the one after which a member is missing.
+pub fn record_told<'a>(certificates: &'a [Certificate], explanation: &Explanation) -> RecordTold<'a>
+    ensures { IsRecordTold certificates.now explanation.now result.told }
+{
+    RecordTold {
+        told: record_of(certificates, explanation),
+    }
+}
+
+// That record.
+fn record_of<'a>(
+    certificates: &'a [Certificate],
+    explanation: &Explanation,
+) -> Option<OneRecord<'a>>
     ensures { IfSome result (IsRecordOf certificates.now explanation.now) }
 {
     let inst = certified_inst(explanation)?;
-    let place = place_of(certificates, inst, is_of_second(explanation))?;
-    let before = records_before(certificates, place)?;
+    let index = place_of(certificates, inst, is_of_second(explanation))?;
+    let before = records_before(certificates, index)?;
     let first = before.checked_add(1)?;
-    first.checked_add(member_place(explanation))
+    let place = member_place(explanation);
+    Some(OneRecord {
+        number: first.checked_add(place)?,
+        certificate: &certificates[index],
+        place,
+        wants: wants_member(explanation),
+    })
+}
+
+// Whether the record of a member that joined is wanting.
+fn wants_member(explanation: &Explanation) -> bool
+    ensures { result ≡ wants_member explanation.now }
+{
+    match *explanation {
+        Explanation::OtherMember { unlike, .. } => unlike.listed.is_none(),
+        _ => false,
+    }
 }
 
 // The instance of the certificate that an answer is about.
@@ -62,7 +205,11 @@ fn certified_inst(explanation: &Explanation) -> Option<InstNo>
     ensures { result ≡ certified_inst explanation.now }
 {
     match *explanation {
-        Explanation::Unknown { inst, .. } => Some(inst),
+        Explanation::Unknown {
+            inst,
+            difference,
+            ..
+        } => if_certified(inst, difference),
         Explanation::OtherMember { inst, linking, .. } => {
             if is_unlinked(linking) {
                 None
@@ -83,6 +230,16 @@ fn certified_inst(explanation: &Explanation) -> Option<InstNo>
         | Explanation::LeftOpen(_)
         | Explanation::BadLog(_)
         | Explanation::Uncertified { .. } => None,
+    }
+}
+
+// The instance, unless it is the log that has its decision wrong.
+fn if_certified(inst: InstNo, difference: Difference) -> Option<InstNo>
+    ensures { result ≡ if_certified inst difference }
+{
+    match difference {
+        Difference::Cause(..) => None,
+        _ => Some(inst),
     }
 }
 

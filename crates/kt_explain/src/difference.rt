@@ -3,7 +3,7 @@
 ghost use Rattle.std.specs.Prelude.{◌≡◌, Some};
 ghost use Rattle.std.specs.Fmt.{DisplaysOnOk};
 ghost use Rattle.kt_text.specs.Words.{kind_word, decision_word};
-ghost use Rattle.kt_explain.specs.Words.{begin_words, head_words, is_of_head, later_words, other_decision_words, other_kind_words, right_head_words};
+ghost use Rattle.kt_explain.specs.Words.{begin_words, cause_words, head_words, is_of_head, later_words, other_decision_words, other_kind_words, right_head_words};
 
 use kt_base::{InstNo, Kind, ProcNo, RowNo};
 use std::fmt;
@@ -25,6 +25,9 @@ pub enum Difference {
     },
     /// This row decides the instance, and otherwise; true for a commit.
     Decision(bool, RowNo),
+    /// This row decides the instance, and otherwise; true for a commit. By the rows unwilling of the log it is the row that
+    /// is wrong.
+    Cause(bool, RowNo),
     /// The instance is aborted, and the certificate lists members.
     Members,
     /// An earlier certificate is of the same instance.
@@ -63,6 +66,7 @@ impl fmt::Display for Difference {
                 )
             }
             Difference::Decision(commit, row) => write_decision(f, commit, row),
+            Difference::Cause(commit, row) => write_cause(f, commit, row),
             Difference::Members => write!(
                 f,
                 "it is aborted, and its certificate lists members: their records have to go"
@@ -96,8 +100,11 @@ fn is_of_head(difference: Difference) -> bool
 {
     match difference {
         Difference::Kind(..) | Difference::Initiator { .. } | Difference::Decision(..) => true,
-        Difference::Unbegun | Difference::Undecided | Difference::Members | Difference::Second =>
-            false,
+        Difference::Unbegun
+        | Difference::Undecided
+        | Difference::Cause(..)
+        | Difference::Members
+        | Difference::Second => false,
     }
 }
 
@@ -122,9 +129,9 @@ fn write_later<W: fmt::Write>(f: &mut fmt::Formatter<W>, commit: bool) -> fmt::R
     ensures { DisplaysOnOk W.write_str_gives f.old result (Some (later_words commit)) f.new }
 {
     if commit {
-        write!(f, "; its members are judged after that\n")
+        write!(f, "; its members may be wrong as well\n")
     } else {
-        write!(f, "; whether the log may abort it is judged after that\n")
+        write!(f, "; an abort has no members\n")
     }
 }
 
@@ -168,6 +175,23 @@ fn write_decision<W: fmt::Write>(f: &mut fmt::Formatter<W>, commit: bool, row: R
         write!(
             f,
             "row {row} decides it, abort: the certificate has to say that, and not commit"
+        )
+    }
+}
+
+// That an instance was decided so, against what the processes answered, and the certificate says the other.
+fn write_cause<W: fmt::Write>(f: &mut fmt::Formatter<W>, commit: bool, row: RowNo) -> fmt::Result
+    ensures { DisplaysOnOk W.write_str_gives f.old result (Some (cause_words commit row)) f.new }
+{
+    if commit {
+        write!(
+            f,
+            "the log is at fault: row {row} decides it, commit, but a process was unwilling to join it, so that row has to say abort; then koo_toueg --hints certify LOG --cert CERT makes the certificates anew"
+        )
+    } else {
+        write!(
+            f,
+            "the log is at fault: row {row} decides it, abort, but no process was unwilling to join it, so that row has to say commit; then koo_toueg --hints certify LOG --cert CERT makes the certificates anew"
         )
     }
 }

@@ -118,7 +118,7 @@ impl fmt::Display for Explanation {
             }
             Explanation::Orphan { inst, orphan } => {
                 write!(f, "instance {inst}: {orphan}")?;
-                write_outsider(f, inst, orphan.from, orphan.outsider)
+                write_outsider(f, orphan.outsider, &orphan.answer)
             }
             Explanation::BadLog(row) => write!(f, "{row}"),
             Explanation::Uncertified { inst, row } => write_uncertified(f, inst, row),
@@ -138,7 +138,7 @@ fn write_objection<W: fmt::Write>(
 {
     write!(
         f,
-        "row {decided} commits instance {inst}, but it has to be aborted, since process {p} was unwilling to join it in row {row}: the log is at fault; then koo_toueg certify makes the certificates anew\n"
+        "the log is at fault: row {decided} commits instance {inst}, but process {p} was unwilling to join it in row {row}, so it has to say abort; then koo_toueg --hints certify LOG --cert CERT makes the certificates anew\n"
     )
 }
 
@@ -152,7 +152,7 @@ fn write_no_objection<W: fmt::Write>(
 {
     write!(
         f,
-        "row {decided} aborts instance {inst}, but no process was unwilling to join it: it has to be committed, or a row unwilling is missing before; the log is at fault; then koo_toueg certify makes the certificates anew\n"
+        "the log is at fault: row {decided} aborts instance {inst}, but no process was unwilling to join it, so it has to say commit, or a row unwilling is missing before it; then koo_toueg --hints certify LOG --cert CERT makes the certificates anew\n"
     )
 }
 
@@ -166,7 +166,7 @@ fn write_uncertified<W: fmt::Write>(
 {
     write!(
         f,
-        "row {row} decides instance {inst}, but there is no certificate of it: koo_toueg --hints certify makes it, or says why it can't\n"
+        "row {row} decides instance {inst}, but there is no certificate of it: koo_toueg --hints certify LOG --cert CERT makes all certificates, or says why it can't\n"
     )
 }
 
@@ -208,7 +208,7 @@ fn write_listed<W: fmt::Write>(
     match joined {
         Some(p) => write!(
             f,
-            "process {q} is listed, but process {p} joined there: the record of process {p} has to stand in this place\n"
+            "process {q} is listed, but process {p} joined there: the record of process {p} has to stand in this place, and that of process {q} after it, if it joined at all\n"
         ),
         None => write!(
             f,

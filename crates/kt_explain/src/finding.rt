@@ -1,7 +1,7 @@
 //! Rows that are sought in a log.
 
 ghost use Rattle.std.specs.Prelude.{◌≡◌, ◌≤◌, ◌^◌, length};
-ghost use Rattle.kt_explain.specs.Finding.{IsFirstFound, IsLastFound, IsLastNumber, is_sought};
+ghost use Rattle.kt_explain.specs.Finding.{IsFirstFound, IsFirstNumber, IsLastFound, IsLastNumber, is_sought};
 
 use kt_base::{InstNo, MsgNo, ProcNo, RowNo};
 use kt_spacetime::Event;
@@ -75,6 +75,17 @@ pub(crate) fn last_number(rows: &[Event], sought: &Sought) -> Option<RowNo>
     ensures { IsLastNumber (is_sought sought.now) rows.now result }
 {
     match last_row(rows, sought) {
+        Some(found) => Some(found.number),
+        None => None,
+    }
+}
+
+/// The number of the first row that says what is sought.
+pub(crate) fn first_number(rows: &[Event], sought: &Sought) -> Option<RowNo>
+    requires few { length rows.now ≤ 2 ^ 24 }
+    ensures { IsFirstNumber (is_sought sought.now) rows.now result }
+{
+    match first_row(rows, sought) {
         Some(found) => Some(found.number),
         None => None,
     }

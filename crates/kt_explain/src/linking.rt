@@ -6,9 +6,9 @@ ghost use Rattle.kt_spacetime.specs.declared.event.Event.{Event as Events};
 ghost use Rattle.kt_cuts.specs.Legal.{IsLegal};
 ghost use Rattle.kt_histories.specs.HistoriesOf.{HistoriesOf};
 ghost use Rattle.kt_explain.specs.Linking.{LeadsTo};
-ghost use Rattle.kt_explain.specs.Words.{chain_words, direct_words, has_arrived, joined_link_words, link_words, linked_words, linking_words, past_end_words, unlinked_words};
+ghost use Rattle.kt_explain.specs.Words.{chain_words, direct_words, initiator_words, joined_link_words, link_words, linked_words, linking_words, unlinked_words};
 
-use crate::bad_chain::{BadChain, Demand, Flaw};
+use crate::bad_chain::{BadChain, Flaw};
 use crate::breach::before::Before;
 use crate::chains::step;
 use crate::explanation::Unlike;
@@ -106,7 +106,7 @@ fn leads_to(
     }
 }
 
-/// Which message links a member with one before it, or that none does; the initiator needs none.
+/// Which message links a member with one before it, or that none does; the record of the initiator, which needs none.
 pub(crate) fn write_link<W: fmt::Write>(
     f: &mut fmt::Formatter<W>,
     inst: InstNo,
@@ -116,9 +116,10 @@ pub(crate) fn write_link<W: fmt::Write>(
     ensures { DisplaysOnOk W.write_str_gives f.old result (Some (link_words inst chain.now.p chain.now.flaw linking)) f.new }
 {
     match chain.flaw {
-        Flaw::Initiator => Ok(()),
-        Flaw::Empty | Flaw::Elsewhere(_) => write_linking(f, inst, chain.p, linking),
-        Flaw::Broken(broken) => write_past_end(f, inst, chain.p, broken.demand, linking),
+        Flaw::Initiator => write_initiator(f, inst, chain.p),
+        Flaw::Empty | Flaw::Elsewhere(_) | Flaw::Broken(_) => {
+            write_linking(f, inst, chain.p, linking)
+        }
     }
 }
 
@@ -137,47 +138,18 @@ pub(crate) fn write_joined_link<W: fmt::Write>(
     };
     match linking {
         Some(linking) => write_linking(f, inst, p, linking),
-        None => write!(
-            f,
-            "process {p} is the initiator: its record is member,{inst},{p},0,-\n"
-        ),
+        None => write_initiator(f, inst, p),
     }
 }
 
-// Which message links a member with one before it, unless its chain is only too long; or that none does.
-fn write_past_end<W: fmt::Write>(
-    f: &mut fmt::Formatter<W>,
-    inst: InstNo,
-    member: ProcNo,
-    demand: Demand,
-    linking: Linking,
-) -> fmt::Result
-    ensures { DisplaysOnOk W.write_str_gives f.old result (Some (past_end_words inst member demand linking)) f.new }
+// The record of the initiator.
+fn write_initiator<W: fmt::Write>(f: &mut fmt::Formatter<W>, inst: InstNo, p: ProcNo) -> fmt::Result
+    ensures { DisplaysOnOk W.write_str_gives f.old result (Some (initiator_words inst p)) f.new }
 {
-    match linking {
-        Linking::Linked(link) => {
-            if has_arrived(member, demand) {
-                Ok(())
-            } else {
-                write_linked(f, inst, member, link)
-            }
-        }
-        Linking::Unlinked(joined) => write_unlinked(f, member, joined),
-    }
-}
-
-// Whether a chain has come to its member before a message.
-fn has_arrived(member: ProcNo, demand: Demand) -> bool
-    ensures { result ≡ has_arrived member demand }
-{
-    match demand {
-        Demand::GoneElsewhere { p, .. } | Demand::SentElsewhere { p, .. } => member == p,
-        Demand::Message
-        | Demand::Received(_)
-        | Demand::Sent(_)
-        | Demand::Past(_)
-        | Demand::Within(_) => false,
-    }
+    write!(
+        f,
+        "process {p} is the initiator: its record is member,{inst},{p},0,-\n"
+    )
 }
 
 // Which message links a member with one before it, or that none does.
@@ -258,7 +230,7 @@ fn write_unlinked<W: fmt::Write>(
     match joined {
         Some(row) => write!(
             f,
-            "the log is at fault: no message links process {member} with a member before it; its rows of the instance have to go, that of joining, row {row}, and closed, or a row received is missing, by which a message links them\n"
+            "the log is at fault: no message links process {member} with a member before it; its rows of the instance have to go, that of joining, row {row}, and closed, or a row received is missing, by which a message links them; then koo_toueg --hints certify LOG --cert CERT makes the certificates anew\n"
         ),
         None => write!(
             f,

@@ -2,9 +2,11 @@
 
 ghost use Rattle.std.specs.Prelude.{◌≡◌, Some};
 ghost use Rattle.std.specs.Fmt.{DisplaysOnOk};
-ghost use Rattle.kt_explain.specs.Words.{outsider_words, ready_words, took_words};
+ghost use Rattle.kt_explain.specs.Words.{abort_words, answer_words, outsider_words};
 
-use kt_base::{InstNo, MsgNo, ProcNo, RowNo};
+use crate::row_text::write_row;
+use kt_base::{MsgNo, ProcNo, RowNo};
+use kt_spacetime::Event;
 use std::fmt;
 
 /// An orphan of the cut that the decision of an instance makes. Its number is that of the row that sent it.
@@ -17,6 +19,8 @@ pub struct Orphan {
     pub received: RowNo,
     /// Who would have had to join, the sender for a checkpoint and the receiver for a rollback, if it did not.
     pub outsider: Option<ProcNo>,
+    /// What that one answers to the instance just before the decision, by a row that keeps every rule there.
+    pub answer: Option<Event>,
 }
 
 impl fmt::Display for Orphan {
@@ -38,41 +42,43 @@ impl fmt::Display for Orphan {
     }
 }
 
-/// Who would have had to join the instance: the sender of the orphan, this process, a checkpoint, its receiver a rollback.
+/// Who would have had to join the instance, and what it answers to that just before the decision.
 pub(crate) fn write_outsider<W: fmt::Write>(
     f: &mut fmt::Formatter<W>,
-    inst: InstNo,
-    from: ProcNo,
     outsider: Option<ProcNo>,
+    answer: &Option<Event>,
 ) -> fmt::Result
-    ensures { DisplaysOnOk W.write_str_gives f.old result (Some (outsider_words inst from outsider)) f.new }
+    ensures { DisplaysOnOk W.write_str_gives f.old result (Some (outsider_words outsider answer.now)) f.new }
 {
     let Some(p) = outsider else {
         return Ok(());
     };
-    if p == from {
-        write_took(f, inst, p)
-    } else {
-        write_ready(f, inst, p)
+    write!(f, "the log is at fault: process {p} would have had to join")?;
+    write_answer(f, answer)?;
+    write!(
+        f,
+        "; then koo_toueg --hints certify LOG --cert CERT makes the certificates anew\n"
+    )
+}
+
+// What a process answers to the instance that it would have had to join.
+fn write_answer<W: fmt::Write>(f: &mut fmt::Formatter<W>, answer: &Option<Event>) -> fmt::Result
+    ensures { DisplaysOnOk W.write_str_gives f.old result (Some (answer_words answer.now)) f.new }
+{
+    let Some(row) = *answer else {
+        return Ok(());
+    };
+    write!(f, ": before the row decided is missing ")?;
+    write_row(f, &row)?;
+    write_abort(f, &row)
+}
+
+// That the decision has to be another one, where the process is unwilling.
+fn write_abort<W: fmt::Write>(f: &mut fmt::Formatter<W>, row: &Event) -> fmt::Result
+    ensures { DisplaysOnOk W.write_str_gives f.old result (Some (abort_words row.now)) f.new }
+{
+    match row {
+        Event::Unwilling { .. } => write!(f, ", and the decision has to be abort"),
+        _ => Ok(()),
     }
-}
-
-// That a process would have had to join a checkpoint.
-fn write_took<W: fmt::Write>(f: &mut fmt::Formatter<W>, inst: InstNo, p: ProcNo) -> fmt::Result
-    ensures { DisplaysOnOk W.write_str_gives f.old result (Some (took_words inst p)) f.new }
-{
-    write!(
-        f,
-        "process {p} did not join, but has to before the instance is committed, by a row took,{p},{inst},-: the log is at fault; then koo_toueg certify makes the certificates anew\n"
-    )
-}
-
-// That a process would have had to join a rollback.
-fn write_ready<W: fmt::Write>(f: &mut fmt::Formatter<W>, inst: InstNo, p: ProcNo) -> fmt::Result
-    ensures { DisplaysOnOk W.write_str_gives f.old result (Some (ready_words inst p)) f.new }
-{
-    write!(
-        f,
-        "process {p} did not join, but has to before the instance is committed, by a row ready,{p},{inst},-: the log is at fault; then koo_toueg certify makes the certificates anew\n"
-    )
 }

@@ -12,9 +12,11 @@ ghost use Rattle.kt_checker.specs.declared.verdict.Why.TheVariants as why;
 ghost use Rattle.kt_checker.specs.Order.{IsCheckerAnswer};
 ghost use Rattle.kt_checker.specs.Passing.{decided_cut};
 ghost use Rattle.kt_histories.specs.HistoriesOf.{HistoriesOf};
+ghost use Rattle.kt_explain.specs.Breaches.{KnowsBefore};
 ghost use Rattle.kt_explain.specs.Orphans.{IsOrphanTold, IsLeastOrphan, IsOutsider, wanted_in};
 ghost use Rattle.kt_explain.specs.Told.{IsItsFirst, IsExplanation};
 
+use crate::breach::before::Before;
 use crate::explanation::Explanation;
 use crate::finding::{Sought, last_row};
 use crate::members::joined_in;
@@ -76,7 +78,53 @@ fn orphan_before(
     let histories = Histories::of(alloc, log, before)?;
     let rows = &log.rows()[..before];
     let joined = joined_in(alloc, rows, inst)?;
-    Ok(least_orphan(&histories, rows, joined.as_slice(), inst, kind))
+    let found = least_orphan(&histories, rows, joined.as_slice(), inst, kind);
+    let known = known_before(rows, histories);
+    Ok(known.answered(inst, found))
+}
+
+// These rows, and their histories.
+fn known_before(rows: &[Event], histories: Histories) -> Before<'_>
+    requires few { length rows.now ≤ 2 ^ 24 }
+    requires legal { IsLegal rows.now }
+    requires histories { HistoriesOf histories rows.now }
+    ensures before { KnowsBefore result }
+    ensures rows { result.rows.now ≡ rows.now }
+{
+    Before { rows, histories }
+}
+
+impl Before<'_> {
+    ghost use Rattle.std.specs.Prelude.{◌≡◌, true, IfSome, IfNone};
+    ghost use Rattle.kt_base.specs.declared.words.Kind.{Kind as Kinds};
+    ghost use Rattle.kt_cuts.specs.Past.{past};
+    ghost use Rattle.kt_cuts.specs.Cuts.{IsConsistent};
+    ghost use Rattle.kt_checker.specs.Passing.{decided_cut};
+    ghost use Rattle.kt_explain.specs.Breaches.{KnowsBefore};
+    ghost use Rattle.kt_explain.specs.Insteads.{IsLegalNext, answers};
+    ghost use Rattle.kt_explain.specs.Orphans.{IsOrphanTold};
+
+    // An orphan, with what who would have had to join answers here.
+    fn answered(&self, inst: InstNo, found: Option<Orphan>) -> Option<Orphan>
+        requires before { KnowsBefore self.now }
+        ensures told { (kind : Kinds) → IfSome found (IsOrphanTold self.now.rows.now inst kind)
+            → IfSome result (IsOrphanTold self.now.rows.now inst kind) }
+        ensures none { (kind : Kinds) → IfNone found (IsConsistent (past self.now.rows.now) (decided_cut (past self.now.rows.now) inst kind))
+            → IfNone result (IsConsistent (past self.now.rows.now) (decided_cut (past self.now.rows.now) inst kind)) }
+    {
+        let mut orphan = found?;
+        orphan.answer = self.answer_of(inst, orphan.outsider);
+        Some(orphan)
+    }
+
+    // What a process answers here to an instance that it would have had to join.
+    fn answer_of(&self, inst: InstNo, outsider: Option<ProcNo>) -> Option<Event>
+        requires before { KnowsBefore self.now }
+        ensures { IfSome result (λ row. IsLegalNext self.now.rows.now row
+            × IfSome outsider (λ p. answers p inst row ≡ true)) }
+    {
+        self.answer(outsider?, inst)
+    }
 }
 
 // The least orphan of the cut that the decision of an instance of this kind makes, of which these joined.
@@ -125,6 +173,7 @@ fn told_of(rows: &[Event], joined: &[ProcNo], kind: Kind, msg: MsgNo) -> Option<
             to,
             received: found.number,
             outsider: if_outside(joined, wanted(kind, from, to)),
+            answer: None,
         }),
         None => None,
     }

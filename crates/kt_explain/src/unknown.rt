@@ -6,6 +6,7 @@ ghost use Rattle.kt_explain.specs.Finding.{HasNoRow, IsFirstRow, begins_inst, de
 ghost use Rattle.kt_spacetime.specs.declared.event.Event.{Event as Events};
 ghost use Rattle.kt_checker.specs.declared.verdict.Verdict.{Verdict};
 ghost use Rattle.kt_checker.specs.declared.verdict.Why.TheVariants as why;
+ghost use Rattle.kt_explain.specs.declared.difference.Difference.TheVariants as difference;
 ghost use Rattle.kt_spacetime.specs.declared.event.Event.TheVariants as event;
 ghost use Rattle.kt_cuts.specs.Legal.{IsLegal};
 ghost use Rattle.kt_checker.specs.Order.{IsCheckerAnswer};
@@ -15,7 +16,7 @@ ghost use Rattle.kt_explain.specs.Told.{IsDifference, IsHeadTold, IsItsFirst, Is
 use crate::difference::{Difference, Head};
 use crate::explanation::Explanation;
 use crate::finding::{Found, Sought, first_row};
-use kt_base::InstNo;
+use kt_base::{InstNo, RowNo};
 use kt_chain::Certificate;
 use kt_spacetime::Event;
 
@@ -137,7 +138,10 @@ fn difference_of(rows: &[Event], certificate: &Certificate) -> Option<Difference
     };
     match other_beginning(&began, certificate) {
         Some(difference) => Some(difference),
-        None => other_decision(&decided, certificate),
+        None => match other_decision(&decided, certificate) {
+            Some(difference) => Some(caused(rows, certificate, difference)),
+            None => None,
+        },
     }
 }
 
@@ -176,6 +180,34 @@ fn other_beginning(began: &Found, certificate: &Certificate) -> Option<Differenc
         });
     }
     None
+}
+
+// What a log has otherwise than a certificate; where it decides the instance otherwise, and is wrong by its rows unwilling,
+// that.
+fn caused(rows: &[Event], certificate: &Certificate, difference: Difference) -> Difference
+    requires few { length rows.now ≤ 2 ^ 24 }
+    ensures { (certificates : List Certificates) → IsDifference rows.now certificates certificate.now difference
+        → IsDifference rows.now certificates certificate.now result }
+{
+    match difference {
+        Difference::Decision(commit, row) => cause(rows, certificate.inst, commit, row),
+        _ => difference,
+    }
+}
+
+// That this row decides an instance so, and is wrong by the rows unwilling of the log, if it is.
+fn cause(rows: &[Event], inst: InstNo, commit: bool, row: RowNo) -> Difference
+    requires few { length rows.now ≤ 2 ^ 24 }
+    ensures { (certificates : List Certificates) (c : Certificates) → c.inst ≡ inst
+        → IsDifference rows.now certificates c (difference.Decision commit row)
+        → IsDifference rows.now certificates c result }
+{
+    let unwilling = first_row(rows, &Sought::Unwilling(inst)).is_some();
+    if unwilling == commit {
+        Difference::Cause(commit, row)
+    } else {
+        Difference::Decision(commit, row)
+    }
 }
 
 // What the log has otherwise of how the instance of a certificate was decided, in this first row that decides it.

@@ -10,6 +10,7 @@ use Rattle.kt_hints.specs.Shown.{hint_line}
 use Rattle.kt_text.specs.Writing.{WritesFront}
 use Rattle.kt_text.proofs.PieceFacts.{front_all}
 use Rattle.kt_program.specs.Asking.{IsUnasked}
+use Rattle.kt_program.specs.Breaches.{IsBreachOrRule}
 use Rattle.kt_program.specs.Ending.{Ends, EndsOn}
 use Rattle.kt_program.specs.Faults.{refusal_status}
 use Rattle.kt_program.specs.FaultTexts.{WritesLineOf}
@@ -80,22 +81,27 @@ pub one_tried : (asked : Asked) (fault : ProgramFault) (old new : List ℕ) (nam
     → (text : List ℕ) × (new ≡ old ++ text) × IsTriedShown asked fault text
 one_tried asked fault old new name verb tried e = (hint_line verb name.now, e, inr (record { name = name; verb = verb; tried = tried; is = refl }))
 
--- hints of a file, once its name, the place, why it is refused and what was tried were gathered
-pub of_file : {F : Type 0} (told : F → BytesTold) (asked : Asked) (fault : ProgramFault) (old first next more new : List ℕ) → old ≡ [] → first ≡ old ++ file_line (file_of asked fault)
+-- hints of a file, once its name, the place, why it is refused, what breaks a rule and what was tried were gathered
+pub of_file : {F : Type 0} (told : F → BytesTold) (asked : Asked) (fault : ProgramFault) (old first next more also new : List ℕ) → old ≡ [] → first ≡ old ++ file_line (file_of asked fault)
     → ((text : List ℕ) × (next ≡ first ++ text) × IsPlaceShown told fault text) → more ≡ next ++ reason_lines fault
-    → ((text : List ℕ) × (new ≡ more ++ text) × IsTriedShown asked fault text) → IsHintOfFile told asked fault new
-of_file told asked fault old first next more new empty named place reason last =
+    → ((text : List ℕ) × (also ≡ more ++ text) × IsBreachOrRule told fault text)
+    → ((text : List ℕ) × (new ≡ also ++ text) × IsTriedShown asked fault text) → IsHintOfFile told asked fault new
+of_file told asked fault old first next more also new empty named place reason breach last =
     let file = file_line (file_of asked fault) in
     let why = reason_lines fault in
     let front : first ≡ file = named ∙ ap (λ (x : List ℕ). x ++ file) empty in
     let second : next ≡ file ++ place.0 = place.1 ∙ ap (λ (x : List ℕ). x ++ place.0) front in
     let third : more ≡ (file ++ place.0) ++ why = reason ∙ ap (λ (x : List ℕ). x ++ why) second in
+    let fourth : also ≡ ((file ++ place.0) ++ why) ++ breach.0 = breach.1 ∙ ap (λ (x : List ℕ). x ++ breach.0) third in
     record {
       place_part = place.0;
       place = place.2;
+      breach_part = breach.0;
+      breach = breach.2;
       tried_part = last.0;
       tried = last.2;
-      is = last.1 ∙ ap (λ (x : List ℕ). x ++ last.0) third ∙ append_assoc (file ++ place.0) why last.0 ∙ append_assoc file place.0 (why ++ last.0);
+      is = last.1 ∙ ap (λ (x : List ℕ). x ++ last.0) fourth ∙ append_assoc ((file ++ place.0) ++ why) breach.0 last.0
+          ∙ append_assoc (file ++ place.0) why (breach.0 ++ last.0) ∙ append_assoc file place.0 (why ++ (breach.0 ++ last.0));
     }
 
 -- hints that were written, or a front part of them

@@ -11,6 +11,7 @@ pub mod Pictures
 pub mod Reading
 pub mod Refused
 pub mod FaultLines
+pub mod BreachFacts
 pub mod HintFacts
 pub mod PlaceFacts
 pub mod Mapped

@@ -9,14 +9,13 @@ use Rattle.kt_chain.specs.declared.fault.CertTextFault.TheVariants as cert
 use Rattle.kt_log_text.specs.declared.fault.LogFault.{LogFault}
 use Rattle.kt_log_text.specs.declared.fault.LogFault.TheVariants as log
 use Rattle.kt_certify.specs.declared.fault.Unfit.{Unfit}
-use Rattle.kt_cuts.specs.declared.rules.Rule.{Rule}
 use Rattle.kt_certify.specs.declared.fault.Unfit.TheVariants as unfit
-use Rattle.kt_explain.specs.Words.{rule_words}
 use Rattle.kt_hints.specs.Shown.{hint_line, numbered_line}
 use Rattle.kt_run.specs.declared.faults.RunFault.{RunFault}
 use Rattle.kt_run.specs.declared.faults.RunFault.TheVariants as run
 use Rattle.kt_text.specs.Writing.{WritesFront}
 use Rattle.kt_program.specs.Asking.{IsUnasked}
+use Rattle.kt_program.specs.Breaches.{IsBreachOrRule}
 use Rattle.kt_program.specs.FaultTexts.{WritesLineOf}
 use Rattle.kt_program.specs.Names.{Name}
 use Rattle.kt_program.specs.Places.{IsPlaceShown}
@@ -131,20 +130,15 @@ log_reason log.TooLong = Some (codes "a log has at most 16777216 rows, and witho
 log_reason log.Version = Some (codes "a first record that begins with kt is kt,2,-,-")
 log_reason fault = None
 
--- a rule that a row breaks, and what tells how
-abbrev pub rule_lines : Rule → List ℕ
-rule_lines rule =
-    hint_line (rule_words rule) [] ++ hint_line (codes "koo_toueg check --explain, with this log and /dev/null, tells what breaks it") []
-
 -- a member of an instance that no message links with one that joined before it
 abbrev pub unlinked_lines : ℕ → ℕ → List ℕ
 unlinked_lines inst process =
     numbered_line (codes "no message links process ") process (codes " with a member that joined before it: the log is at fault") []
     ++ numbered_line (codes "its rows of instance ") inst (codes " have to go, took or ready and closed, or a row received is missing, by which a message links them") []
 
--- why a log has no certificates: a rule that is broken, or a member without a chain
+-- why a log has no certificates: a member without a chain; of a broken rule more is told
 abbrev pub unfit_lines : Unfit → List ℕ
-unfit_lines (unfit.BadLog row rule) = rule_lines rule
+unfit_lines (unfit.BadLog row rule) = []
 unfit_lines (unfit.NoChain inst row process) = unlinked_lines inst process
 
 abbrev pub fault_reason : ProgramFault → Option (List ℕ)
@@ -270,14 +264,16 @@ written_lines asked fault = []
 abbrev pub IsTriedShown : Asked → ProgramFault → List ℕ → Type 0
 IsTriedShown asked fault text = (text ≡ written_lines asked fault) ⊎ IsTriedLine asked fault text
 
--- words that were taken: the file whose text the fault is about and the place that it names, why that is refused, and what
--- could not be read or written
+-- words that were taken: the file whose text the fault is about and the place that it names, why that is refused, what
+-- breaks a rule of a log, and what could not be read or written
 pub record IsHintOfFile {F : Type 0} (told : F → BytesTold) (asked : Asked) (fault : ProgramFault) (text : List ℕ) : Type 0 where
   pub place_part : List ℕ
   pub place : IsPlaceShown told fault place_part
+  pub breach_part : List ℕ
+  pub breach : IsBreachOrRule told fault breach_part
   pub tried_part : List ℕ
   pub tried : IsTriedShown asked fault tried_part
-  pub is : text ≡ file_line (file_of asked fault) ++ (place_part ++ (reason_lines fault ++ tried_part))
+  pub is : text ≡ file_line (file_of asked fault) ++ (place_part ++ (reason_lines fault ++ (breach_part ++ tried_part)))
 
 -- where to read of the words
 abbrev pub see_help : List ℕ

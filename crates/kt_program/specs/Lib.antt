@@ -16,6 +16,7 @@ pub mod Status
 pub mod Stored
 pub mod FaultTexts
 pub mod Places
+pub mod Breaches
 pub mod Hints
 pub mod Hindrances
 pub mod Expected

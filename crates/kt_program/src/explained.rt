@@ -1,12 +1,14 @@
 //! Stored runs judged, and the answers told of.
 
-ghost use Rattle.std.specs.Prelude.{◌≡◌, ◌≢◌, ℕ, Option, IfOk, IfErr, IfSome, OnOk};
+ghost use Rattle.std.specs.Prelude.{◌≡◌, ◌≢◌, Option, IfOk, IfErr, IfSome, OnOk};
 ghost use Rattle.std.specs.Io.KnownBytes.{Appends};
 ghost use Rattle.kt_log_text.specs.declared.fault.LogFault.{LogFault as LogFaults};
 ghost use Rattle.kt_log_text.specs.Texts as rows;
 ghost use Rattle.kt_checker.specs.declared.verdict.Verdict.{Verdict as Verdicts};
 ghost use Rattle.kt_checker.specs.Streamed.{SaysRows};
 ghost use Rattle.kt_explain.specs.declared.explanation.Explanation.{Explanation as Explanations};
+ghost use Rattle.kt_explain.specs.declared.certificate_place.OneRecord.{OneRecord as Records};
+ghost use Rattle.kt_explain.specs.declared.finding.Found.{Found as FoundRow};
 ghost use Rattle.kt_program.specs.declared.fault.AppFault.TheVariants as app;
 ghost use Rattle.kt_program.specs.Explained.{IsExplained, IsExplainedOf, LeavesExplained, Say, explained_text};
 ghost use Rattle.kt_program.specs.Stored.{IsRefusal, is_yes, of_log, records_told};
@@ -15,7 +17,7 @@ use crate::checked::{is_yes, log_fault, read_certificates};
 use crate::fault::AppFault;
 use kt_chain::{CertTextFault, Certificate};
 use kt_checker::{Verdict, check};
-use kt_explain::{Explanation, RecordTold, explain, record_told};
+use kt_explain::{Explanation, RecordTold, RowTold, explain, record_told, row_told};
 use kt_log_text::{LogFault, read_csv};
 use kt_spacetime::SpaceTime;
 use std::alloc::Global;
@@ -31,11 +33,12 @@ pub(crate) struct StoredRun {
 }
 
 // The checker's answer, and what is told of it.
-#[derive(Clone, Copy)]
-struct Answer {
+#[derive(Drop)]
+struct Answer<'a> {
     verdict: Verdict,
+    row: RowTold,
     explanation: Explanation,
-    place: RecordTold,
+    place: RecordTold<'a>,
 }
 
 /// Judges a stored log with its certificates as `check_bytes` does, and writes below the line of the answer what is told
@@ -48,10 +51,10 @@ pub fn explain_bytes<L: Read + Drop, C: Read + Drop, W: Write>(
 ) -> Result<bool, AppFault>
     // The line is that of the checker's answer to the rows and the certificates that the bytes say, and what is told of
     // it is so.
-    ensures answer { IfOk result (λ passed. (verdict : Verdicts) × (e : Explanations) × (number : Option ℕ)
-        × (passed ≡ is_yes verdict)
-        × IsExplainedOf (L.remaining log_reader) (C.remaining cert_reader) verdict e number
-        × Appends (W.contents writer.old) (W.contents writer.new) (explained_text verdict e number)) }
+    ensures answer { IfOk result (λ passed. (verdict : Verdicts) × (row : Option FoundRow) × (e : Explanations)
+        × (one : Option Records) × (passed ≡ is_yes verdict)
+        × IsExplainedOf (L.remaining log_reader) (C.remaining cert_reader) verdict row e one
+        × Appends (W.contents writer.old) (W.contents writer.new) (explained_text verdict row e one)) }
     // A fault but one of the writer is the first of the log, else that of the certificates.
     ensures fault { IfErr result (λ e. e ≢ app.Write
         → IsRefusal (L.remaining log_reader) (C.remaining cert_reader) e) }
@@ -98,36 +101,38 @@ fn read_log<L: Read + Drop>(alloc: Global, reader: L) -> Result<SpaceTime, AppFa
 }
 
 // The checker's answer to a log and certificates, and what is told of it.
-fn answer_of(
+fn answer_of<'a>(
     alloc: Global,
     log: &SpaceTime,
-    certificates: &[Certificate],
-) -> Result<Answer, AppFault>
+    certificates: &'a [Certificate],
+) -> Result<Answer<'a>, AppFault>
     ensures explained { IfOk result (λ answer. IsExplained log.now.rows certificates.now answer.verdict
-        answer.explanation answer.place.number) }
+        answer.row.row answer.explanation answer.place.told) }
     ensures fault { IfErr result (λ e. e ≡ app.Memory) }
 {
     let verdict = check(alloc, log, certificates)?;
     let explanation = explain(alloc, log, certificates, &verdict)?;
     Ok(Answer {
         verdict,
+        row: row_told(log, &verdict),
         explanation,
         place: record_told(certificates, &explanation),
     })
 }
 
 // Writes the line of an answer, and the lines of what is told of it.
-fn write_answer<W: Write>(writer: &mut W, answer: &Answer) -> Result<(), AppFault>
+fn write_answer<W: Write>(writer: &mut W, answer: &Answer<'_>) -> Result<(), AppFault>
     ensures written { OnOk result (Appends (W.contents writer.old) (W.contents writer.new)
-        (explained_text answer.now.verdict answer.now.explanation answer.now.place.number)) }
+        (explained_text answer.now.verdict answer.now.row.row answer.now.explanation answer.now.place.told)) }
     ensures fault { IfErr result (λ e. e ≡ app.Write) }
 {
     let Answer {
         verdict,
+        row,
         explanation,
         place,
     } = answer;
-    if write!(writer, "{verdict}\n{explanation}{place}").is_err() {
+    if write!(writer, "{verdict}\n{row}{explanation}{place}").is_err() {
         return Err(AppFault::Write);
     }
     match writer.flush() {

@@ -5,6 +5,7 @@ ghost use Rattle.kt_program.specs.Hints.{AreHints, AreHintsTold, IsHintOfFile, I
 ghost use Rattle.kt_program.specs.Status.{status_of};
 
 use crate::ask::{AskFault, asked};
+use crate::breaches::push_breach;
 use crate::ending::{Done, report_fault};
 use crate::fault::ProgramFault;
 use crate::line::Asked;
@@ -125,6 +126,7 @@ fn file_hints<F: Files>(
     push_file(&mut lines, asked, fault)?;
     push_place(files, alloc, &mut lines, asked, fault)?;
     push_reason(&mut lines, fault)?;
+    push_breach(files, alloc, &mut lines, asked, fault)?;
     push_tried(files, &mut lines, asked, fault)?;
     Ok(lines)
 }

@@ -3,7 +3,8 @@
 #![tactic(auto)]
 
 pub mod ask;
-pub mod casts;
+pub mod breaches;
+mod casts;
 pub mod certified;
 mod certifying;
 pub mod checked;

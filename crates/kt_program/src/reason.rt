@@ -1,14 +1,12 @@
 //! Why an input is refused, or a log has no certificates, in words.
 
 ghost use Rattle.std.specs.Prelude.{◌≡◌, ◌++◌, OnOk};
-ghost use Rattle.kt_program.specs.Hints.{log_reason, reason_line, reason_lines, rule_lines, unfit_lines, unlinked_lines};
+ghost use Rattle.kt_program.specs.Hints.{log_reason, reason_line, reason_lines, unfit_lines, unlinked_lines};
 ghost use Rattle.kt_program.specs.Reasons.{scenario_reason, steps_reason};
 
 use crate::fault::{AppFault, ProgramFault};
 use kt_base::{InstNo, Memory, ProcNo};
 use kt_certify::Unfit;
-use kt_cuts::Rule;
-use kt_explain::rule_name;
 use kt_hints::{push_hint, push_numbered};
 use kt_log_text::LogFault;
 use kt_scenario::{ScenarioFault, StepsFault};
@@ -109,12 +107,12 @@ fn push_steps_reason(lines: &mut Vec<u8>, fault: &StepsFault) -> Result<(), Memo
     }
 }
 
-// Gathers which rule a row breaks, and what tells how; or which member lacks a chain.
+// Gathers which member of an instance lacks a chain.
 fn push_unfit(lines: &mut Vec<u8>, why: &Unfit) -> Result<(), Memory>
     ensures { OnOk result (lines.new.items ≡ lines.old.items ++ unfit_lines why.now) }
 {
     match why {
-        Unfit::BadLog(_, rule) => push_rule(lines, *rule),
+        Unfit::BadLog(..) => Ok(()),
         Unfit::NoChain(inst, _, process) => push_unlinked(lines, *inst, *process),
     }
 }
@@ -135,18 +133,6 @@ fn push_unlinked(lines: &mut Vec<u8>, inst: InstNo, process: ProcNo) -> Result<(
         "its rows of instance ",
         u64::from(inst.get()),
         " have to go, took or ready and closed, or a row received is missing, by which a message links them",
-        b"",
-    )
-}
-
-// Gathers a rule that a row breaks, and what tells how.
-fn push_rule(lines: &mut Vec<u8>, rule: Rule) -> Result<(), Memory>
-    ensures { OnOk result (lines.new.items ≡ lines.old.items ++ rule_lines rule) }
-{
-    push_hint(lines, rule_name(rule), b"")?;
-    push_hint(
-        lines,
-        "koo_toueg check --explain, with this log and /dev/null, tells what breaks it",
         b"",
     )
 }

@@ -8,7 +8,7 @@ ghost use Rattle.kt_cuts.specs.Past.{Past, past, after};
 ghost use Rattle.kt_cuts.specs.Legal.{follows};
 ghost use Rattle.kt_explain.specs.Breaches.{IsJudged};
 
-use crate::breach::{Breach, InstanceBreach, Outside, ProcessBreach};
+use crate::breach::{Breach, InstanceBreach, Open, Outside, ProcessBreach};
 use crate::finding::{Found, Sought, first_row, last_number};
 use kt_base::{InstNo, Kind, Memory, ProcNo, RowNo};
 use kt_histories::Histories;
@@ -32,8 +32,8 @@ struct BegunIn {
 
 impl Before<'_> {
     ghost use Rattle.kt_cuts.specs.Past.{past, is_checkpoint, is_rollback, is_member, initiator_of, beginning_of};
-    ghost use Rattle.kt_cuts.specs.Legal.{IsLegal, has_begun, is_in, is_in_none, is_instance, is_rolling, is_undecided};
-    ghost use Rattle.kt_explain.specs.Breaches.{KnowsBefore, IsDecidedIn, IsJudged};
+    ghost use Rattle.kt_cuts.specs.Legal.{IsLegal, has_begun, is_in, is_in_none, is_instance, is_join, is_rolling, is_undecided};
+    ghost use Rattle.kt_explain.specs.Breaches.{KnowsBefore, IsDecidedIn, IsJudged, IsLastIn, IsOpen};
     ghost use Rattle.kt_explain.specs.Finding.{IsFirstRow, begins_inst};
 
     /// Those of the rows of a legal log.
@@ -85,8 +85,26 @@ impl Before<'_> {
             return Ok(());
         };
         match last_number(self.rows, &Sought::Joined(p, inst)) {
-            Some(row) => Err(Breach::Process(ProcessBreach::Inside { p, inst, row })),
+            Some(row) => Err(Breach::Process(ProcessBreach::Inside(self.open_at(p, inst, row)))),
             None => Ok(()),
+        }
+    }
+
+    // The open instance that the process is in, which it joined last in this row.
+    fn open_at(&self, p: ProcNo, inst: InstNo, row: RowNo) -> Open
+        requires before { KnowsBefore self.now }
+        requires open_in { (past self.now.rows.now).open_in p ≡ Some inst }
+        requires joined { IsLastIn (is_join p inst) self.now.rows.now row }
+        ensures told { IsOpen self.now.rows.now result }
+        ensures p { result.p ≡ p }
+        ensures inst { result.inst ≡ inst }
+    {
+        Open {
+            p,
+            inst,
+            row,
+            decided: last_number(self.rows, &Sought::Decided(inst)),
+            initiator: self.beginner(inst),
         }
     }
 
@@ -102,7 +120,21 @@ impl Before<'_> {
             return Ok(());
         }
         match last_number(self.rows, &Sought::Joined(p, inst)) {
-            Some(row) => Err(Breach::Process(ProcessBreach::Rolling { p, inst, row })),
+            Some(row) => Err(Breach::Process(ProcessBreach::Rolling(self.open_at(p, inst, row)))),
+            None => Ok(()),
+        }
+    }
+
+    /// The process is not in this open instance, which it is asked to join.
+    pub(crate) fn not_member(&self, p: ProcNo, inst: InstNo) -> Result<(), Breach>
+        requires before { KnowsBefore self.now }
+        ensures { IsJudged self.now.rows.now (λ s. not (is_in s p inst)) result }
+    {
+        if self.histories.open_in(p) != Some(inst) {
+            return Ok(());
+        }
+        match last_number(self.rows, &Sought::Joined(p, inst)) {
+            Some(row) => Err(Breach::Process(ProcessBreach::Member { p, inst, row })),
             None => Ok(()),
         }
     }
@@ -198,7 +230,21 @@ impl Before<'_> {
     {
         match self.histories.decision(inst) {
             Some(_) => Ok(()),
-            None => Err(Breach::Instance(InstanceBreach::Undecided(inst))),
+            None => Err(Breach::Instance(InstanceBreach::Undecided {
+                inst,
+                p: self.beginner(inst),
+            })),
+        }
+    }
+
+    // Who began an instance.
+    fn beginner(&self, inst: InstNo) -> Option<ProcNo>
+        requires before { KnowsBefore self.now }
+        ensures { IfSome result (λ p. initiator_of (past self.now.rows.now) inst ≡ Some p) }
+    {
+        match self.beginning(inst) {
+            Some(begun) => Some(begun.p),
+            None => None,
         }
     }
 
@@ -306,8 +352,8 @@ fn begun_by(found: &Found) -> Option<BegunIn>
     })
 }
 
-// How many instances began.
-fn begun_in(rows: &[Event]) -> usize
+/// How many instances began.
+pub(crate) fn begun_in(rows: &[Event]) -> usize
     requires few { length rows.now ≤ 2 ^ 24 }
     ensures begun { result ≡ length (past rows.now).begun }
     ensures few { result ≤ 2 ^ 24 }

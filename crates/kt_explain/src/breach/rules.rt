@@ -152,10 +152,10 @@ impl Before<'_> {
         requires before { KnowsBefore self.now }
         ensures { IsJudged self.now.rows.now (λ s. keeps_joining s row.now) result }
     {
-        if let Err(breach) = self.may_join(row) {
+        if let Err(breach) = self.follows(row) {
             return Err(breach);
         }
-        self.follows(row)
+        self.may_join(row)
     }
 
     fn may_join(&self, row: &Event) -> Result<(), Breach>
@@ -200,7 +200,7 @@ impl Before<'_> {
         self.rollback(inst)
     }
 
-    // The process is in no open instance and has not joined this one, which is not decided.
+    // The process has not joined the instance, which is not decided, and is in no open one.
     fn joinable(&self, p: ProcNo, inst: InstNo) -> Result<(), Breach>
         requires before { KnowsBefore self.now }
         ensures { IsJudged self.now.rows.now
@@ -209,10 +209,10 @@ impl Before<'_> {
         if let Err(breach) = self.not_joined(p, inst) {
             return Err(breach);
         }
-        if let Err(breach) = self.idle(p) {
+        if let Err(breach) = self.undecided(inst) {
             return Err(breach);
         }
-        self.undecided(inst)
+        self.idle(p)
     }
 
     // The row after a beginning is the initiator's joining.
@@ -284,12 +284,15 @@ impl Before<'_> {
         }
     }
 
-    // The instance is undecided, and the process has this cause to be unwilling to join it.
+    // The instance is undecided, and the process is not in it, and has this cause to be unwilling to join it.
     fn may_be_unwilling(&self, p: ProcNo, inst: InstNo, cause: Cause) -> Result<(), Breach>
         requires before { KnowsBefore self.now }
         ensures { IsJudged self.now.rows.now (λ s. is_undecided s inst && excuses s p inst cause) result }
     {
         if let Err(breach) = self.undecided(inst) {
+            return Err(breach);
+        }
+        if let Err(breach) = self.not_member(p, inst) {
             return Err(breach);
         }
         self.excuses(p, inst, cause)
@@ -312,10 +315,10 @@ impl Before<'_> {
         requires before { KnowsBefore self.now }
         ensures { IsJudged self.now.rows.now (λ s. is_in s p other && not (other == inst)) result }
     {
-        if let Err(breach) = self.inside(p, other) {
+        if let Err(breach) = other_cause(inst, other) {
             return Err(breach);
         }
-        other_cause(inst, other)
+        self.inside(p, other)
     }
 
     // The instance is a checkpoint, and the process in no open one, and down.

@@ -1,11 +1,11 @@
 use Rattle.std.proofs.Common.{◌≡◌, ◌∙◌, ◌-◌, ◌<◌, Bool, true, false, List, length, refl, sym, ap, subst, arith}
 use Rattle.kt_spacetime.specs.declared.event.Event.{Event}
-use Rattle.kt_spacetime.specs.Events.{process_of}
 use Rattle.kt_cuts.specs.Past.{past}
 use Rattle.kt_cuts.specs.Legal.{keeps}
 use Rattle.kt_cuts.proofs.Replayed.{row_read}
 use Rattle.kt_cuts.proofs.SortedFacts.{some_same}
 use Rattle.kt_explain.specs.Breaches.{IsBreach}
+use Rattle.kt_explain.specs.Insteads.{IsInstead}
 use Rattle.kt_explain.proofs.Faults.{legal_before, breaks_there}
 use Rattle.kt_explain.proofs.bad_rows.bad_row.Goals as goal
 
@@ -20,21 +20,19 @@ returns-in-Err c = λ certificates.
     let place : c.get.result - 1 ≡ c.args.row - 1 = omega (arith, c.get.ensures.value) in
     let number = (legal_before rows c.args.row (c.get.result - 1) c.args.rule c.requires.bad place).1 in
     let low : c.get.result - 1 < length rows = omega (arith, number, c.requires.within) in
-    let at = row_read rows (c.get.result - 1) c.index-rows-index.result low c.index-rows-index.is in
-    let again = row_read rows (c.get.result - 1) c.index-rows-index-2.result low c.index-rows-index-2.is in
+    let again = row_read rows (c.get.result - 1) c.index-rows-index.result low c.index-rows-index.is in
     let third = row_read rows (c.get.result - 1) c.index-rows-index-in-Err.result low c.index-rows-index-in-Err.is in (
       c.get.result - 1,
-      c.index-rows-index-2.result,
+      c.index-rows-index.result,
       refl,
       record {
         row_is = number;
         there = again;
         event_is = some_same (sym third ∙ again);
-        breach_is = subst (λ (before : List Event). IsBreach before (λ s. keeps c.args.rule s c.index-rows-index-2.result) c.in-Err.breach) c.in_ok-known.ensures.rows c.in-Err.ensures;
-        process = c.process-p.ensures ∙ ap process_of (some_same (sym at ∙ again));
-        open_in = c.open_in.ensures;
-        failed = c.last_number.ensures;
+        breach_is = subst (λ (before : List Event). IsBreach before (λ s. keeps c.args.rule s c.index-rows-index.result) c.in-Err.breach) c.in_ok-known.ensures.rows c.in-Err.ensures;
         undone = c.in_ok-undone_in-in-Err.ensures;
+        later = c.later_in.ensures;
+        instead = subst (λ (before : List Event). IsInstead before c.instead.result) c.in_ok-known.ensures.rows c.instead.ensures;
       },
     )
 
@@ -47,7 +45,7 @@ returns c = λ certificates.
     let place : c.get.result - 1 ≡ c.args.row - 1 = omega (arith, c.get.ensures.value) in
     let number = (legal_before rows c.args.row (c.get.result - 1) c.args.rule c.requires.bad place).1 in
     let low : c.get.result - 1 < length rows = omega (arith, number, c.requires.within) in
-    let again = row_read rows (c.get.result - 1) c.index-rows-index-2.result low c.index-rows-index-2.is in
-    let broken = breaks_there rows c.args.row (c.get.result - 1) c.args.rule c.index-rows-index-2.result c.requires.bad place again in
-    let kept = subst (λ (before : List Event). keeps c.args.rule (past before) c.index-rows-index-2.result ≡ true) c.in_ok-known.ensures.rows c.in-Ok.ensures in
+    let again = row_read rows (c.get.result - 1) c.index-rows-index.result low c.index-rows-index.is in
+    let broken = breaks_there rows c.args.row (c.get.result - 1) c.args.rule c.index-rows-index.result c.requires.bad place again in
+    let kept = subst (λ (before : List Event). keeps c.args.rule (past before) c.index-rows-index.result ≡ true) c.in_ok-known.ensures.rows c.in-Ok.ensures in
     absurd (differ _ kept broken)

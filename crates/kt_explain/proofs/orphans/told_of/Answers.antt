@@ -46,4 +46,5 @@ returns-in-Some-clause-orphan c = λ inst joined least.
       received = subst (λ (row : Event). IsLastRow (receives c.in-Sent.to c.in-Sent.from c.args.msg) rows c.in-Some.found.number row) (received_row c.in-Sent.to c.in-Sent.from c.args.msg c.in-Some.found.row last.passes) last;
       outsider = subst (λ (list : List ℕ). IsOutsider list (wanted_in c.args.kind c.in-Sent.from c.in-Sent.to) c.if_outside.result) joined
           (subst (λ (p : ℕ). IsOutsider c.args.joined.now p c.if_outside.result) c.wanted.ensures c.if_outside.ensures);
+      answer = tt;
     }

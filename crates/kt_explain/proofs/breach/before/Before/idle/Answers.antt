@@ -1,11 +1,22 @@
 use Rattle.std.proofs.Common.{◌≡◌, ◌∙◌, ℕ, ◌==◌, true, sym, ap, arith}
 use Rattle.std.proofs.lemmas.Bool.Decides.{nat_tests}
+use Rattle.std.specs.Prelude.{is_none}
+use Rattle.kt_cuts.specs.Past.{past}
 use Rattle.kt_cuts.specs.Legal.{is_instance}
 use Rattle.kt_explain.proofs.KnownRows.{unjoined}
 use Rattle.kt_explain.proofs.breach.before.Before.idle.Goals as goal
 
 itself : (a : ℕ) → (a == a) ≡ true
 itself a = grind (arith, nat_tests)
+
+pub open_at-requires-clause-open_in : goal.open_at-requires-clause-open_in
+open_at-requires-clause-open_in c = sym (c.open_in.ensures c.args.self.now.rows.now c.requires.before.histories) ∙ c.in-Some.is
+
+pub returns-in-Some-last_number : goal.returns-in-Some-last_number
+returns-in-Some-last_number c = record {
+  so = c.open_at.ensures.told;
+  against = λ log legal so. ap (λ (q : ℕ). is_none ((past log).open_in q)) (sym c.open_at.ensures.p) ∙ ap is_none so.open_in;
+}
 
 pub returns-in-None : goal.returns-in-None
 returns-in-None c =

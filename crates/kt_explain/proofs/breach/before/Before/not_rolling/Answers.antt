@@ -1,6 +1,6 @@
 use Rattle.std.proofs.Common.{◌≡◌, ◌∙◌, ℕ, ◌==◌, not, true, sym, ap, arith}
 use Rattle.std.proofs.lemmas.Bool.Decides.{nat_tests}
-use Rattle.kt_cuts.specs.Past.{past}
+use Rattle.kt_cuts.specs.Past.{past, is_rollback}
 use Rattle.kt_cuts.specs.Legal.{is_instance, is_open_rollback}
 use Rattle.kt_explain.proofs.KnownRows.{unjoined}
 use Rattle.kt_explain.proofs.breach.before.Before.not_rolling.Goals as goal
@@ -21,11 +21,11 @@ returns-in-None c =
     let inside = sym (c.open_in.ensures rows c.requires.before.histories) ∙ c.in-Some.is in
     absurd (cc (sym out ∙ ap (λ o. is_instance o c.in-Some.inst) inside, itself c.in-Some.inst))
 
+pub open_at-requires-clause-open_in : goal.open_at-requires-clause-open_in
+open_at-requires-clause-open_in c = sym (c.open_in.ensures c.args.self.now.rows.now c.requires.before.histories) ∙ c.in-Some.is
+
 pub returns-in-Some-last_number : goal.returns-in-Some-last_number
-returns-in-Some-last_number c =
-    let rows = c.args.self.now.rows.now in
-    let inside = sym (c.open_in.ensures rows c.requires.before.histories) ∙ c.in-Some.is in
-    record {
-      so = (inside, sym c.is_rollback.ensures ∙ c.if-not-is_rollback.false, c.in-Some-last_number.ensures);
-      against = λ log legal so. ap not (ap (is_open_rollback (past log)) so.0 ∙ so.1);
-    }
+returns-in-Some-last_number c = record {
+  so = (c.open_at.ensures.told, ap (is_rollback (past c.args.self.now.rows.now)) c.open_at.ensures.inst ∙ (sym c.is_rollback.ensures ∙ c.if-not-is_rollback.false));
+  against = λ log legal so. ap (λ (q : ℕ). not (is_open_rollback (past log) ((past log).open_in q))) (sym c.open_at.ensures.p) ∙ ap not (ap (is_open_rollback (past log)) so.0.open_in ∙ so.1);
+}

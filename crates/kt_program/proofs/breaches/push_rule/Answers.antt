@@ -3,7 +3,7 @@ use Rattle.std.specs.Prelude.{codes}
 use Rattle.kt_explain.specs.Words.{rule_words}
 use Rattle.kt_hints.specs.Shown.{hint_line}
 use Rattle.kt_program.proofs.HintFacts.{two_lines}
-use Rattle.kt_program.proofs.reason.push_rule.Goals as goal
+use Rattle.kt_program.proofs.breaches.push_rule.Goals as goal
 
 pub returns : goal.returns
 returns c = two_lines c.push_hint-2.result c.args.lines.now.items c.push_hint.new.lines.items c.push_hint-2.new.lines.items

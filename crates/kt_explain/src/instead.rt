@@ -1,0 +1,289 @@
+//! Rows that can stand in the place of one that breaks a rule.
+
+ghost use Rattle.std.specs.Prelude.{Some};
+ghost use Rattle.std.specs.Fmt.{DisplaysOnOk};
+ghost use Rattle.kt_explain.specs.Words.{instead_words, or_words};
+
+use crate::breach::before::{Before, begun_in};
+use crate::breach::{Breach, InstanceBreach, MessageBreach};
+use crate::row_text::write_row;
+use kt_base::{Cause, InstNo, Kind, MsgNo, ProcNo, Verb};
+use kt_cuts::Rule;
+use kt_spacetime::Event;
+use std::fmt;
+
+/// Rows that keep every rule in the place of one that breaks one.
+#[derive(Clone, Copy, Debug, PartialEq, Eq)]
+pub struct Instead {
+    pub first: Option<Event>,
+    pub second: Option<Event>,
+}
+
+impl Before<'_> {
+    ghost use Rattle.std.specs.Prelude.{◌≡◌, true, IfSome, IsTrue};
+    ghost use Rattle.kt_cuts.specs.Past.{past};
+    ghost use Rattle.kt_cuts.specs.Legal.{keeps};
+    ghost use Rattle.kt_explain.specs.Breaches.{KnowsBefore};
+    ghost use Rattle.kt_explain.specs.Insteads.{IsInstead, IsLegalNext, answers};
+
+    /// Rows that keep every rule in the place of this one, which breaks a rule like this.
+    pub(crate) fn instead(&self, row: &Event, breach: &Breach) -> Instead
+        requires before { KnowsBefore self.now }
+        ensures { IsInstead self.now.rows.now result }
+    {
+        let first = match *breach {
+            Breach::Instance(InstanceBreach::JustBegun { p, inst, .. }) => self.answer(p, inst),
+            _ => self.first_instead(row, breach),
+        };
+        let second = self.unsaved(&first);
+        Instead { first, second }
+    }
+
+    // The first row of those that may be meant which keeps every rule.
+    fn first_instead(&self, row: &Event, breach: &Breach) -> Option<Event>
+        requires before { KnowsBefore self.now }
+        ensures { IfSome result (IsLegalNext self.now.rows.now) }
+    {
+        match *row {
+            Event::Sent { p, .. } => self.legal(Event::Refused {
+                p,
+                verb: Verb::Send,
+                cause: Cause::Down,
+            }),
+            Event::Received { p, from, msg } => self.received_instead(p, from, msg, breach),
+            Event::Dropped { p, from, msg } => self.dropped_instead(p, from, msg, breach),
+            Event::Began { p, kind, .. } => self.began_instead(p, kind),
+            Event::Took { p, inst } | Event::Ready { p, inst } | Event::Unwilling { p, inst, .. } =>
+                self.answer(p, inst),
+            Event::Decided { inst, commit, .. } => self.decided_instead(inst, commit, breach),
+            Event::Closed { p, .. } => self.closed_instead(p),
+            Event::Failed { p } => self.legal(Event::Refused {
+                p,
+                verb: Verb::Fail,
+                cause: Cause::Down,
+            }),
+            Event::Refused { p, verb, .. } => self.refused_instead(p, verb),
+        }
+    }
+
+    // The row, if it keeps every rule here.
+    fn legal(&self, row: Event) -> Option<Event>
+        requires before { KnowsBefore self.now }
+        ensures legal { IfSome result (IsLegalNext self.now.rows.now) }
+        ensures same { IfSome result (λ told. told ≡ row) }
+    {
+        if self.keeps_all(&row) {
+            Some(row)
+        } else {
+            None
+        }
+    }
+
+    // Whether a row keeps every rule.
+    fn keeps_all(&self, row: &Event) -> bool
+        requires before { KnowsBefore self.now }
+        ensures { IsTrue result → IsLegalNext self.now.rows.now row.now }
+    {
+        self.is_kept(Rule::Numbers, row)
+            && self.is_kept(Rule::Message, row)
+            && self.is_kept(Rule::Order, row)
+            && self.is_kept(Rule::Sending, row)
+            && self.is_kept(Rule::Receiving, row)
+            && self.is_kept(Rule::Joining, row)
+            && self.is_kept(Rule::Deciding, row)
+            && self.is_kept(Rule::Closing, row)
+            && self.is_kept(Rule::Causes, row)
+    }
+
+    // Whether a row keeps a rule.
+    fn is_kept(&self, rule: Rule, row: &Event) -> bool
+        requires before { KnowsBefore self.now }
+        ensures { IsTrue result → keeps rule (past self.now.rows.now) row.now ≡ true }
+    {
+        match self.keeps(rule, row) {
+            Ok(()) => true,
+            Err(_) => false,
+        }
+    }
+
+    // That a process that joins a checkpoint here can't be saved.
+    fn unsaved(&self, first: &Option<Event>) -> Option<Event>
+        requires before { KnowsBefore self.now }
+        ensures { IfSome result (IsLegalNext self.now.rows.now) }
+    {
+        let Some(Event::Took { p, inst }) = *first else {
+            return None;
+        };
+        self.legal(Event::Unwilling {
+            p,
+            inst,
+            cause: Cause::NoSave,
+        })
+    }
+
+    // That a message is dropped, or received between those between whom it was sent.
+    fn received_instead(
+        &self,
+        p: ProcNo,
+        from: ProcNo,
+        msg: MsgNo,
+        breach: &Breach,
+    ) -> Option<Event>
+        requires before { KnowsBefore self.now }
+        ensures { IfSome result (IsLegalNext self.now.rows.now) }
+    {
+        match *breach {
+            Breach::Message(MessageBreach::SentBetween { from, to, .. }) => {
+                self.legal(Event::Received { p: to, from, msg })
+            }
+            _ => self.legal(Event::Dropped { p, from, msg }),
+        }
+    }
+
+    // That a message is received, or dropped between those between whom it was sent.
+    fn dropped_instead(&self, p: ProcNo, from: ProcNo, msg: MsgNo, breach: &Breach) -> Option<Event>
+        requires before { KnowsBefore self.now }
+        ensures { IfSome result (IsLegalNext self.now.rows.now) }
+    {
+        match *breach {
+            Breach::Message(MessageBreach::SentBetween { from, to, .. }) => {
+                self.legal(Event::Dropped { p: to, from, msg })
+            }
+            _ => self.legal(Event::Received { p, from, msg }),
+        }
+    }
+
+    // That a process begins the next instance, or refuses to.
+    fn began_instead(&self, p: ProcNo, kind: Kind) -> Option<Event>
+        requires before { KnowsBefore self.now }
+        ensures { IfSome result (IsLegalNext self.now.rows.now) }
+    {
+        let verb = match kind {
+            Kind::Checkpoint => Verb::Checkpoint,
+            Kind::Rollback => Verb::Rollback,
+        };
+        match self.begin(p, kind) {
+            Some(row) => Some(row),
+            None => self.refused_instead(p, verb),
+        }
+    }
+
+    // That a process begins the next instance.
+    fn begin(&self, p: ProcNo, kind: Kind) -> Option<Event>
+        requires before { KnowsBefore self.now }
+        ensures { IfSome result (IsLegalNext self.now.rows.now) }
+    {
+        let next = begun_in(self.rows) + 1;
+        let inst = InstNo::new(u16::try_from(next).ok()?)?;
+        self.legal(Event::Began { p, inst, kind })
+    }
+
+    /// What a process answers to an instance that asks it to join.
+    pub(crate) fn answer(&self, p: ProcNo, inst: InstNo) -> Option<Event>
+        requires before { KnowsBefore self.now }
+        ensures legal { IfSome result (IsLegalNext self.now.rows.now) }
+        ensures answers { IfSome result (λ row. answers p inst row ≡ true) }
+    {
+        let joins = match self.legal(Event::Took { p, inst }) {
+            Some(row) => Some(row),
+            None => self.legal(Event::Ready { p, inst }),
+        };
+        match joins {
+            Some(row) => Some(row),
+            None => self.unwilling(p, inst),
+        }
+    }
+
+    // That a process is down or busy, and so unwilling to join an instance.
+    fn unwilling(&self, p: ProcNo, inst: InstNo) -> Option<Event>
+        requires before { KnowsBefore self.now }
+        ensures legal { IfSome result (IsLegalNext self.now.rows.now) }
+        ensures answers { IfSome result (λ row. answers p inst row ≡ true) }
+    {
+        let cause = match self.histories.open_in(p) {
+            Some(other) => Cause::Busy(other),
+            None => Cause::Down,
+        };
+        self.legal(Event::Unwilling { p, inst, cause })
+    }
+
+    // That the initiator of an instance decides it.
+    fn decided_instead(&self, inst: InstNo, commit: bool, breach: &Breach) -> Option<Event>
+        requires before { KnowsBefore self.now }
+        ensures { IfSome result (IsLegalNext self.now.rows.now) }
+    {
+        match *breach {
+            Breach::Instance(InstanceBreach::Initiator { p, .. }) => {
+                self.legal(Event::Decided { p, inst, commit })
+            }
+            _ => None,
+        }
+    }
+
+    // That a process closes the instance that it is in.
+    fn closed_instead(&self, p: ProcNo) -> Option<Event>
+        requires before { KnowsBefore self.now }
+        ensures { IfSome result (IsLegalNext self.now.rows.now) }
+    {
+        let inst = self.histories.open_in(p)?;
+        self.legal(Event::Closed { p, inst })
+    }
+
+    // That a process refuses a command for another cause, or begins a rollback.
+    fn refused_instead(&self, p: ProcNo, verb: Verb) -> Option<Event>
+        requires before { KnowsBefore self.now }
+        ensures { IfSome result (IsLegalNext self.now.rows.now) }
+    {
+        match self.refused(p, verb) {
+            Some(row) => Some(row),
+            None => match verb {
+                Verb::Rollback => self.begin(p, Kind::Rollback),
+                Verb::Checkpoint => self.legal(Event::Refused {
+                    p,
+                    verb,
+                    cause: Cause::NoSave,
+                }),
+                Verb::Send | Verb::Fail => None,
+            },
+        }
+    }
+
+    // That a process is down or busy, and so refuses a command.
+    fn refused(&self, p: ProcNo, verb: Verb) -> Option<Event>
+        requires before { KnowsBefore self.now }
+        ensures { IfSome result (IsLegalNext self.now.rows.now) }
+    {
+        let cause = match self.histories.open_in(p) {
+            Some(other) => Cause::Busy(other),
+            None => Cause::Down,
+        };
+        self.legal(Event::Refused { p, verb, cause })
+    }
+}
+
+/// Which rows can stand in the place of one that breaks a rule.
+pub(crate) fn write_instead<W: fmt::Write>(
+    f: &mut fmt::Formatter<W>,
+    instead: &Instead,
+) -> fmt::Result
+    ensures { DisplaysOnOk W.write_str_gives f.old result (Some (instead_words instead.now)) f.new }
+{
+    let Some(row) = instead.first else {
+        return Ok(());
+    };
+    write!(f, "in its place can stand ")?;
+    write_row(f, &row)?;
+    write_or(f, instead.second)?;
+    write!(f, "\n")
+}
+
+// The second of those rows.
+fn write_or<W: fmt::Write>(f: &mut fmt::Formatter<W>, second: Option<Event>) -> fmt::Result
+    ensures { DisplaysOnOk W.write_str_gives f.old result (Some (or_words second)) f.new }
+{
+    let Some(row) = second else {
+        return Ok(());
+    };
+    write!(f, " or ")?;
+    write_row(f, &row)
+}

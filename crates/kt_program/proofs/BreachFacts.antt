@@ -1,0 +1,20 @@
+-- What breaks a rule of a log, gathered below a fault's line.
+use Rattle.std.proofs.Common.{◌≡◌, ℕ, List, ◌++◌, true, refl, inl, inr}
+use Rattle.std.specs.Prelude.{Result, Ok, Err, OnOk}
+use Rattle.kt_explain.specs.declared.bad_row.BadRow.{BadRow}
+use Rattle.kt_explain.specs.Words.{bad_row_words}
+use Rattle.kt_hints.specs.Shown.{indented}
+use Rattle.kt_program.specs.Breaches.{IsBreachOrRule, IsRowBroken, rule_lines_of}
+use Rattle.kt_program.specs.Stored.{BytesTold}
+use Rattle.kt_program.specs.declared.fault.ProgramFault.{ProgramFault}
+
+-- the rule alone was gathered, or what is told of the row
+pub rule_told : {F T E : Type 0} (told : F → BytesTold) (fault : ProgramFault) (old new : List ℕ) (r : Result T E) → OnOk r (new ≡ old ++ rule_lines_of fault)
+    → OnOk r ((text : List ℕ) × (new ≡ old ++ text) × IsBreachOrRule told fault text)
+rule_told told fault old new (Ok x) e = (rule_lines_of fault, e, inl refl)
+rule_told told fault old new (Err x) e = tt
+
+pub breach_told : {F T E : Type 0} (told : F → BytesTold) (fault : ProgramFault) (old new : List ℕ) (row : BadRow) (r : Result T E) → IsRowBroken told fault row → OnOk r (new ≡ old ++ indented true (bad_row_words row))
+    → OnOk r ((text : List ℕ) × (new ≡ old ++ text) × IsBreachOrRule told fault text)
+breach_told told fault old new row (Ok x) broken e = (indented true (bad_row_words row), e, inr (record { row = row; broken = broken; is = refl }))
+breach_told told fault old new row (Err x) broken e = tt

@@ -1,0 +1,121 @@
+//! What breaks a rule of a log that has no certificates, told below the fault's line.
+
+ghost use Rattle.std.specs.Prelude.{◌≡◌, ◌++◌, true, ℕ, List, OnOk, IfSome};
+ghost use Rattle.kt_explain.specs.Words.{bad_row_words};
+ghost use Rattle.kt_hints.specs.Shown.{indented};
+ghost use Rattle.kt_program.specs.Breaches.{IsBreachOf, IsBreachOrRule, IsLogOfFile, IsRowBroken, rule_lines, rule_lines_of};
+
+use crate::fault::{AppFault, ProgramFault};
+use crate::inputs::regular_file;
+use crate::line::Asked;
+use crate::subject::file_of;
+use kt_base::Memory;
+use kt_certify::Unfit;
+use kt_checker::check;
+use kt_cuts::Rule;
+use kt_explain::{BadRow, Explanation, explain, rule_name};
+use kt_hints::{push_hint, push_lines};
+use kt_log_text::read_csv;
+use kt_spacetime::SpaceTime;
+use std::alloc::Global;
+use std::rt::Files;
+
+/// Gathers what breaks the rule of the row for which a log has no certificates, where its file can be read again; else the
+/// rule, and what tells how.
+#[tactic(auto, using(crate::proofs::BreachFacts::rule_told, crate::proofs::BreachFacts::breach_told))]
+pub(crate) fn push_breach<F: Files>(
+    files: &F,
+    alloc: Global,
+    lines: &mut Vec<u8>,
+    asked: &Asked<'_>,
+    fault: &ProgramFault,
+) -> Result<(), Memory>
+    ensures { OnOk result ((text : List ℕ) × (lines.new.items ≡ lines.old.items ++ text)
+        × IsBreachOrRule F.File.remaining fault.now text) }
+{
+    match row_again(files, alloc, asked, fault) {
+        Some(row) => push_bad_row(alloc, lines, &row),
+        None => push_rule_of(lines, fault),
+    }
+}
+
+// Gathers what is told of a row that breaks a rule.
+fn push_bad_row(alloc: Global, lines: &mut Vec<u8>, row: &BadRow) -> Result<(), Memory>
+    ensures { OnOk result (lines.new.items ≡ lines.old.items ++ indented true (bad_row_words row.now)) }
+{
+    let text = format!(in alloc; "{row}")?;
+    push_lines(lines, text.as_bytes())
+}
+
+// Gathers the rule that a fault names, and what tells how it is broken.
+fn push_rule_of(lines: &mut Vec<u8>, fault: &ProgramFault) -> Result<(), Memory>
+    ensures { OnOk result (lines.new.items ≡ lines.old.items ++ rule_lines_of fault.now) }
+{
+    match fault {
+        ProgramFault::App(AppFault::Unfit(Unfit::BadLog(_, rule))) => push_rule(lines, *rule),
+        _ => Ok(()),
+    }
+}
+
+// Gathers a rule that a row breaks, and what tells how.
+fn push_rule(lines: &mut Vec<u8>, rule: Rule) -> Result<(), Memory>
+    ensures { OnOk result (lines.new.items ≡ lines.old.items ++ rule_lines rule) }
+{
+    push_hint(lines, rule_name(rule), b"")?;
+    push_hint(
+        lines,
+        "koo_toueg check --explain, with this log and /dev/null, tells what breaks it",
+        b"",
+    )
+}
+
+// What is told of the row for which a log has no certificates, where that can be read again and breaks a rule so again.
+fn row_again<F: Files>(
+    files: &F,
+    alloc: Global,
+    asked: &Asked<'_>,
+    fault: &ProgramFault,
+) -> Option<BadRow>
+    ensures { IfSome result (IsRowBroken F.File.remaining fault.now) }
+{
+    let ProgramFault::App(AppFault::Unfit(Unfit::BadLog(row, rule))) = fault else {
+        return None;
+    };
+    let log = log_again(files, alloc, asked, fault)?;
+    let bad = bad_row_of(alloc, &log)?;
+    if bad.row == *row && bad.rule == *rule {
+        Some(bad)
+    } else {
+        None
+    }
+}
+
+// The log that a fault is about, where that can be read again.
+fn log_again<F: Files>(
+    files: &F,
+    alloc: Global,
+    asked: &Asked<'_>,
+    fault: &ProgramFault,
+) -> Option<SpaceTime>
+    ensures { IfSome result (λ log. IsLogOfFile F.File.remaining log.rows) }
+{
+    let name = file_of(asked, fault)?;
+    let file = regular_file(files, name)?;
+    match read_csv(alloc, file) {
+        Ok(log) => Some(log),
+        Err(_) => None,
+    }
+}
+
+// The first row of a log that breaks a rule, as it is told.
+fn bad_row_of(alloc: Global, log: &SpaceTime) -> Option<BadRow>
+    ensures { IfSome result (IsBreachOf log.now.rows) }
+{
+    let Ok(verdict) = check(alloc, log, &[]) else {
+        return None;
+    };
+    match explain(alloc, log, &[], &verdict) {
+        Ok(Explanation::BadLog(row)) => Some(row),
+        _ => None,
+    }
+}
