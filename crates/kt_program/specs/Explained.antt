@@ -1,5 +1,5 @@
 -- What the program writes of a stored run of which the answer is told.
-use Rattle.std.specs.Prelude.{◌≡◌, ◌≢◌, Bool, Option, List, ◌∷◌, ◌++◌, Result, Ok, Err}
+use Rattle.std.specs.Prelude.{◌≡◌, ◌≢◌, Bool, Option, List, ℕ, ◌∷◌, ◌++◌, Result, Ok, Err}
 use Rattle.std.specs.Io.KnownBytes.{Appends}
 use Rattle.kt_spacetime.specs.declared.event.Event.{Event}
 use Rattle.kt_chain.specs.declared.certificate.Certificate.{Certificate}

@@ -32,15 +32,6 @@ pub(crate) struct StoredRun {
     pub(crate) certificates: Vec<Certificate>,
 }
 
-// The checker's answer, and what is told of it.
-#[derive(Drop)]
-struct Answer<'a> {
-    verdict: Verdict,
-    row: RowTold,
-    explanation: Explanation,
-    place: RecordTold<'a>,
-}
-
 /// Judges a stored log with its certificates as `check_bytes` does, and writes below the line of the answer what is told
 /// of it; true for a yes. It keeps the rows of the log in memory.
 pub fn explain_bytes<L: Read + Drop, C: Read + Drop, W: Write>(
@@ -60,10 +51,8 @@ pub fn explain_bytes<L: Read + Drop, C: Read + Drop, W: Write>(
         → IsRefusal (L.remaining log_reader) (C.remaining cert_reader) e) }
     ensures unwritten { IfErr result (λ e. e ≢ app.Write → W.contents writer.new ≡ W.contents writer.old) }
 {
-    let stored = read_stored(alloc, log_reader, cert_reader)?;
-    let answer = answer_of(alloc, &stored.log, stored.certificates.as_slice())?;
-    write_answer(writer, &answer)?;
-    Ok(is_yes(&answer.verdict))
+    let StoredRun { log, certificates } = read_stored(alloc, log_reader, cert_reader)?;
+    judge(alloc, &log, certificates.as_slice(), writer)
 }
 
 /// The log and the certificates that the readers tell.
@@ -100,38 +89,40 @@ fn read_log<L: Read + Drop>(alloc: Global, reader: L) -> Result<SpaceTime, AppFa
     }
 }
 
-// The checker's answer to a log and certificates, and what is told of it.
-fn answer_of<'a>(
+// Judges a log with its certificates, and writes the line of the answer, and the lines of what is told of it; true for a yes.
+fn judge<W: Write>(
     alloc: Global,
     log: &SpaceTime,
-    certificates: &'a [Certificate],
-) -> Result<Answer<'a>, AppFault>
-    ensures explained { IfOk result (λ answer. IsExplained log.now.rows certificates.now answer.verdict
-        answer.row.row answer.explanation answer.place.told) }
-    ensures fault { IfErr result (λ e. e ≡ app.Memory) }
+    certificates: &[Certificate],
+    writer: &mut W,
+) -> Result<bool, AppFault>
+    ensures answer { IfOk result (λ passed. (verdict : Verdicts) × (row : Option FoundRow) × (e : Explanations)
+        × (one : Option Records) × (passed ≡ is_yes verdict)
+        × IsExplained log.now.rows certificates.now verdict row e one
+        × Appends (W.contents writer.old) (W.contents writer.new) (explained_text verdict row e one)) }
+    ensures fault { IfErr result (λ e. e ≢ app.Write → e ≡ app.Memory) }
+    ensures unwritten { IfErr result (λ e. e ≢ app.Write → W.contents writer.new ≡ W.contents writer.old) }
 {
     let verdict = check(alloc, log, certificates)?;
     let explanation = explain(alloc, log, certificates, &verdict)?;
-    Ok(Answer {
-        verdict,
-        row: row_told(log, &verdict),
-        explanation,
-        place: record_told(certificates, &explanation),
-    })
+    let row = row_told(log, &verdict);
+    let place = record_told(certificates, &explanation);
+    write_answer(writer, &verdict, &row, &explanation, &place)?;
+    Ok(is_yes(&verdict))
 }
 
-// Writes the line of an answer, and the lines of what is told of it.
-fn write_answer<W: Write>(writer: &mut W, answer: &Answer<'_>) -> Result<(), AppFault>
+// Writes the line of an answer, that of the row that it names, and the lines of what is told of it.
+fn write_answer<W: Write>(
+    writer: &mut W,
+    verdict: &Verdict,
+    row: &RowTold,
+    explanation: &Explanation,
+    place: &RecordTold<'_>,
+) -> Result<(), AppFault>
     ensures written { OnOk result (Appends (W.contents writer.old) (W.contents writer.new)
-        (explained_text answer.now.verdict answer.now.row.row answer.now.explanation answer.now.place.told)) }
+        (explained_text verdict.now row.now.row explanation.now place.now.told)) }
     ensures fault { IfErr result (λ e. e ≡ app.Write) }
 {
-    let Answer {
-        verdict,
-        row,
-        explanation,
-        place,
-    } = answer;
     if write!(writer, "{verdict}\n{row}{explanation}{place}").is_err() {
         return Err(AppFault::Write);
     }

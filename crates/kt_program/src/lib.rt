@@ -3,8 +3,8 @@
 #![tactic(auto)]
 
 pub mod ask;
-pub mod breaches;
-mod casts;
+mod breaches;
+pub mod casts;
 pub mod certified;
 mod certifying;
 pub mod checked;
