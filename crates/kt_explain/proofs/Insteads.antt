@@ -1,6 +1,6 @@
 -- A row that keeps every rule.
-use Rattle.std.proofs.Common.{◌≡◌, ◌∙◌, ℕ, ◌==◌, Bool, true, false, Option, None, Some, List, [], ◌∷◌, refl, ap, subst, sym, arith}
-use Rattle.std.specs.Prelude.{◌&&◌, not, cond, find, IfSome, Result, Ok, Err}
+use Rattle.std.proofs.Common.{◌≡◌, ◌∙◌, ℕ, ◌==◌, Bool, true, Option, None, Some, List, [], ◌∷◌, refl, ap, arith}
+use Rattle.std.specs.Prelude.{◌&&◌, not, cond, find, IfSome}
 use Rattle.std.proofs.lemmas.Bool.Decides.{nat_tests}
 use Rattle.kt_base.specs.declared.words.Cause.{Cause}
 use Rattle.kt_spacetime.specs.declared.event.Event.{Event}

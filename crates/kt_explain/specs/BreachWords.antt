@@ -1,5 +1,5 @@
 -- The sentences that are written of what breaks a rule.
-use Rattle.std.specs.Prelude.{ℕ, Option, Some, None, List, [], ◌∷◌, ◌++◌, codes}
+use Rattle.std.specs.Prelude.{ℕ, Option, Some, None, List, [], ◌++◌, codes}
 use Rattle.std.specs.Fmt.{decimal}
 use Rattle.kt_base.specs.declared.words.Kind.{Kind}
 use Rattle.kt_base.specs.declared.words.Kind.TheVariants.{Checkpoint, Rollback}
@@ -85,12 +85,12 @@ just_begun_words p inst Checkpoint =
 just_begun_words p inst Rollback =
     codes "process " ++ (decimal p ++ (codes " began instance " ++ (decimal inst ++ (codes ", a rollback, in the row before: next has to come ready," ++ (decimal p ++ (codes "," ++ (decimal inst ++ codes ",-")))))))
 
--- that an instance is not decided, and who decides it
+-- that an instance is not decided, and who has to decide it
 abbrev pub undecided_words : ℕ → Option ℕ → List ℕ
 undecided_words inst (Some p) =
-    codes "instance " ++ (decimal inst ++ (codes " is not decided: its initiator, process " ++ (decimal p ++ (codes ", does that before, by decided," ++ (decimal p ++ (codes "," ++ (decimal inst ++ codes ",commit or abort")))))))
+    codes "instance " ++ (decimal inst ++ (codes " is not decided by its initiator, process " ++ (decimal p ++ codes ", before this row")))
 undecided_words inst None =
-    codes "instance " ++ (decimal inst ++ codes " is not decided: its initiator does that before, by a row decided")
+    codes "instance " ++ (decimal inst ++ codes " is not decided before this row")
 
 -- what is so of an instance
 abbrev pub instance_breach_words : InstanceBreach → List ℕ

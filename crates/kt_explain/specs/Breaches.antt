@@ -23,7 +23,8 @@ use Rattle.kt_explain.specs.declared.breach.InstanceBreach.{InstanceBreach}
 use Rattle.kt_explain.specs.declared.breach.InstanceBreach.TheVariants as instance
 use Rattle.kt_explain.specs.declared.breach.before.Before.{Before}
 use Rattle.kt_explain.specs.BadChains.{has_sent, has_received}
-use Rattle.kt_explain.specs.Finding.{IsFirstRow, IsLastNumber, begins_inst, closes, decides_inst, drops, fails, receives}
+use Rattle.kt_checker.specs.Unwilling.{is_unwilling}
+use Rattle.kt_explain.specs.Finding.{IsFirstNumber, IsFirstRow, IsLastNumber, begins_inst, closes, decides_inst, drops, fails, receives}
 
 -- the greatest message from a sender that is in a list of deeds as received
 pub record IsLatestFrom (from : ℕ) (deeds : List Deed) (msg : ℕ) : Type 0 where
@@ -65,12 +66,14 @@ pub record IsOutside (rows : List Event) (o : Outside) : Type 0 where
   pub joined : IsLastNumber (is_join o.p o.inst) rows o.joined
   pub closed : IsLastNumber (closes o.p o.inst) rows o.closed
 
--- a process is in an open instance, which it joined last in this row; who began that, and in which row it was decided
+-- a process is in an open instance, which it joined last in this row; who began that, in which row it was decided, and in
+-- which one a process was first unwilling to join it
 pub record IsOpen (rows : List Event) (o : Open) : Type 0 where
   pub open_in : (past rows).open_in o.p ≡ Some o.inst
   pub joined : IsLastIn (is_join o.p o.inst) rows o.row
   pub decided : IsLastNumber (decides_inst o.inst) rows o.decided
   pub initiator : IfSome o.initiator (λ q. initiator_of (past rows) o.inst ≡ Some q)
+  pub unwilling : IsFirstNumber (is_unwilling o.inst) rows o.unwilling
 
 -- what is told of a process is so after these rows
 abbrev pub IsSoOfProcess : List Event → ProcessBreach → Type 0

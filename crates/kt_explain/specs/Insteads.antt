@@ -1,5 +1,5 @@
 -- Rows that can stand in the place of one that breaks a rule.
-use Rattle.std.specs.Prelude.{◌≡◌, ◌==◌, ◌&&◌, ℕ, Bool, false, None, IfSome, List}
+use Rattle.std.specs.Prelude.{◌≡◌, ◌==◌, ◌&&◌, ℕ, Bool, false, None, IfSome, List, [], ◌∷◌, ◌++◌}
 use Rattle.kt_spacetime.specs.declared.event.Event.{Event}
 use Rattle.kt_spacetime.specs.declared.event.Event.TheVariants as event
 use Rattle.kt_cuts.specs.Past.{past}
@@ -16,6 +16,11 @@ answers p k (event.Took q j) = (q == p) && (j == k)
 answers p k (event.Ready q j) = (q == p) && (j == k)
 answers p k (event.Unwilling q j cause) = (q == p) && (j == k)
 answers p k row = false
+
+-- a row that can stand before another one: each keeps every rule in its turn
+pub record IsMissing (rows : List Event) (row earlier : Event) : Type 0 where
+  pub first : IsLegalNext rows earlier
+  pub second : IsLegalNext (rows ++ earlier ∷ []) row
 
 -- each of two rows, where it is told, keeps every rule after these rows
 pub record IsInstead (rows : List Event) (i : Instead) : Type 0 where

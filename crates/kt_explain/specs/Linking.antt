@@ -4,7 +4,8 @@ use Rattle.kt_spacetime.specs.declared.event.Event.{Event}
 use Rattle.kt_cuts.specs.Past.{past}
 use Rattle.kt_cuts.specs.Legal.{is_join}
 use Rattle.kt_chain.specs.declared.certificate.Certificate.{Certificate}
-use Rattle.kt_checker.specs.Passing.{IsChain}
+use Rattle.kt_checker.specs.Passing.{IsChain, IsListOf}
+use Rattle.kt_explain.specs.declared.linking.Link.{Link}
 use Rattle.kt_explain.specs.declared.linking.Linking.{Linking}
 use Rattle.kt_explain.specs.declared.linking.Linking.TheVariants.{Linked, Unlinked}
 use Rattle.kt_explain.specs.Finding.{IsLastNumber}
@@ -21,18 +22,38 @@ LeadsTo rows c q msg p = IsChain (past rows) c.inst c.kind q (msg ∷ []) p
 abbrev pub HasNoLink : List Event → Certificate → ℕ → ℕ → Type 0
 HasNoLink rows c place p = (q msg : ℕ) → IsListedBefore c place q → LeadsTo rows c q msg p → ⊥
 
--- a message that leads to a process from one that is listed before a place, and whether that is the initiator; or that there is none, and in which row that
--- process joined the instance
+-- a message leads to a process from the member at an index
+abbrev pub LinksFrom : List Event → Certificate → ℕ → ℕ → ℕ → Type 0
+LinksFrom rows c index msg p = (q : ℕ) × (list : List ℕ) × (slice_get c.members index ≡ Some (q, list)) × LeadsTo rows c q msg p
+
+-- a chain from the initiator to the member at an index, followed by a message; none is told only where its list is no chain
+abbrev pub IsLonger : List Event → Certificate → ℕ → ℕ → Option (List ℕ) → Type 0
+IsLonger rows c index msg None =
+    (q : ℕ) (list : List ℕ) → slice_get c.members index ≡ Some (q, list) → IsListOf (past rows) c.inst c.kind c.initiator q list → ⊥
+IsLonger rows c index msg (Some longer) =
+    (q : ℕ) × (list : List ℕ) × (slice_get c.members index ≡ Some (q, list))
+    × (chain : List ℕ) × IsChain (past rows) c.inst c.kind c.initiator chain q × (longer ≡ chain ++ msg ∷ [])
+
+-- a message that leads to a process from one that is listed before a place, whether that is the initiator, and the chain that
+-- it makes
+pub record IsLink (rows : List Event) (c : Certificate) (place p : ℕ) (l : Link) : Type 0 where
+  pub index : ℕ
+  pub list : List ℕ
+  pub before : index + 1 < place
+  pub listed : slice_get c.members index ≡ Some (l.q, list)
+  pub leads : LeadsTo rows c l.q l.msg p
+  pub of_initiator : l.of_initiator ≡ (l.q == c.initiator)
+  pub longer : IsLonger rows c index l.msg l.chain
+
+-- such a message; or that there is none, and in which row that process joined the instance
 abbrev pub IsLinking : List Event → Certificate → ℕ → ℕ → Linking → Type 0
-IsLinking rows c place p (Linked l) = IsListedBefore c place l.q × LeadsTo rows c l.q l.msg p × (l.of_initiator ≡ (l.q == c.initiator))
+IsLinking rows c place p (Linked l) = IsLink rows c place p l
 IsLinking rows c place p (Unlinked joined) = HasNoLink rows c place p × IsLastNumber (is_join p c.inst) rows joined
 
--- the list of that one, followed by the message, is a chain from the initiator to the process
-abbrev pub MakesChain : List Event → Certificate → ℕ → ℕ → Linking → Type 0
-MakesChain rows c place p (Linked l) =
-    (n : ℕ) × (list : List ℕ) × (n + 1 < place) × (slice_get c.members n ≡ Some (l.q, list))
-    × IsChain (past rows) c.inst c.kind c.initiator (list ++ l.msg ∷ []) p
-MakesChain rows c place p (Unlinked joined) = Unit {0}
+-- a chain from the initiator to the process is told
+abbrev pub MakesChain : List Event → Certificate → ℕ → Linking → Type 0
+MakesChain rows c p (Linked l) = (chain : List ℕ) × (l.chain ≡ Some chain) × IsChain (past rows) c.inst c.kind c.initiator chain p
+MakesChain rows c p (Unlinked joined) = Unit {0}
 
 -- any chain from the initiator to that one, followed by the message, is a chain to the process
 abbrev pub GoesOn : List Event → Certificate → ℕ → Linking → Type 0

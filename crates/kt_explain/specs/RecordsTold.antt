@@ -1,5 +1,5 @@
 -- Which record of the certificates' text an answer is about.
-use Rattle.std.specs.Prelude.{◌≡◌, ◌≤◌, ◌<◌, ◌+◌, ◌-◌, ℕ, zero, suc, is_none, if◌then◌else◌, Bool, true, false, Option, Some, None, IfSome, List, [], ◌∷◌, ◌++◌, codes, length, take, slice_get}
+use Rattle.std.specs.Prelude.{◌≡◌, ◌≤◌, ◌<◌, ◌+◌, ◌-◌, ℕ, zero, suc, is_none, is_some, ◌&&◌, ◌||◌, if◌then◌else◌, Bool, true, false, Option, Some, None, IfSome, List, [], ◌∷◌, ◌++◌, codes, length, take, slice_get}
 use Rattle.std.specs.Fmt.{decimal}
 use Rattle.kt_text.specs.Writing.{joined}
 use Rattle.kt_chain.specs.Spelling.{Member, instance_record, member_record, records_of}
@@ -12,6 +12,7 @@ use Rattle.kt_explain.specs.declared.linking.Linking.TheVariants.{Linked, Unlink
 use Rattle.kt_explain.specs.declared.difference.Difference.{Difference}
 use Rattle.kt_explain.specs.declared.difference.Difference.TheVariants.{Cause, Second}
 use Rattle.kt_explain.specs.declared.explanation.Explanation.{Explanation}
+use Rattle.kt_explain.specs.declared.explanation.Unlike.{Unlike}
 use Rattle.kt_explain.specs.declared.explanation.Explanation.TheVariants.{Nothing, Unknown, Objection, NoObjection, OtherMember, BadChain, Uncertified, Orphan, BadLog, LeftOpen}
 
 -- whether a process that joined is not the initiator, and no message links it with one before it: the log is at fault
@@ -44,15 +45,18 @@ certified_inst (Uncertified k row) = None
 certified_inst (Orphan k orphan) = None
 certified_inst (BadLog b) = None
 
--- the place of the one who is listed, or of the one before it where nobody is
-abbrev pub unlike_place : Option ℕ → ℕ → ℕ
-unlike_place (Some p) place = place
-unlike_place None place = place - 1
+-- whether the record of the one who joined is wanting: nobody is listed there, or one who joined too
+abbrev pub is_wanting : Unlike → Bool
+is_wanting u = is_none u.listed || (is_some u.joined && is_some u.joined_as && is_none u.listed_as)
+
+-- the place of the one who is listed, or of the one before it where a record is wanting
+abbrev pub unlike_place : Unlike → ℕ
+unlike_place u = if is_wanting u then u.place - 1 else u.place
 
 -- the place, from 1, of the listed member that an answer is about, or after which one is missing; 0 where it is about none
 abbrev pub member_place : Explanation → ℕ
 member_place (BadChain k chain about linking) = chain.place
-member_place (OtherMember k unlike linking) = unlike_place unlike.listed unlike.place
+member_place (OtherMember k unlike linking) = unlike_place unlike
 member_place e = 0
 
 -- the first certificate of an instance from a place on stands at this one
@@ -75,7 +79,7 @@ IsPlaceOf certificates k true i = (j : ℕ) × IsNextAt certificates k 0 j × Is
 
 -- whether the record of a member that joined is wanting
 abbrev pub wants_member : Explanation → Bool
-wants_member (OtherMember k unlike linking) = is_none unlike.listed
+wants_member (OtherMember k unlike linking) = is_wanting unlike
 wants_member e = false
 
 -- an answer is about this record: that of the first certificate of its instance, or of the second, after those of the

@@ -4,7 +4,6 @@ use Rattle.kt_spacetime.specs.declared.event.Event.{Event}
 use Rattle.kt_spacetime.specs.declared.event.Event.TheVariants as event
 use Rattle.kt_base.specs.declared.words.Kind.{Kind}
 use Rattle.kt_base.specs.declared.words.Cause.{Cause}
-use Rattle.kt_cuts.specs.Past.{past}
 use Rattle.kt_cuts.specs.Legal.{keeps}
 use Rattle.kt_cuts.specs.Messages.{row_at}
 use Rattle.kt_cuts.specs.Chains.{members}
@@ -21,13 +20,14 @@ use Rattle.kt_explain.specs.declared.difference.Difference.{Difference}
 use Rattle.kt_explain.specs.declared.difference.Difference.TheVariants as difference
 use Rattle.kt_explain.specs.declared.difference.Head.{Head}
 use Rattle.kt_explain.specs.declared.explanation.Explanation.{Explanation}
+use Rattle.kt_explain.specs.declared.explanation.Unlike.{Unlike}
 use Rattle.kt_explain.specs.declared.explanation.Explanation.TheVariants.{Nothing, Unknown, Objection, NoObjection, OtherMember, BadChain, Uncertified, Orphan, BadLog, LeftOpen}
 use Rattle.kt_explain.specs.LeftOpen.{IsLeftOpen, LeavesNothing}
 use Rattle.kt_explain.specs.Orphans.{IsOrphanTold}
 use Rattle.kt_explain.specs.Breaches.{IsBreach}
 use Rattle.kt_explain.specs.Undoing.{IsUndoneIn}
 use Rattle.kt_explain.specs.Laters.{IsLater}
-use Rattle.kt_explain.specs.Insteads.{IsInstead}
+use Rattle.kt_explain.specs.Insteads.{IsInstead, IsMissing}
 use Rattle.kt_explain.specs.BadChains.{IsBadChain}
 use Rattle.kt_explain.specs.ChainRows.{AreChainRows}
 use Rattle.kt_explain.specs.Linking.{IsLinking, IsLinkingOf, MakesChain}
@@ -89,6 +89,19 @@ pub record DifferAt (xs ys : List ℕ) (place : ℕ) (x y : Option ℕ) : Type 0
   pub differ : x ≢ y
   pub first : (n : ℕ) → n < index → slice_get xs n ≡ slice_get ys n
 
+-- the first place, from 1, of a process in a list, or that it is not there; of nobody there is none
+abbrev pub IsPlaceIn : List ℕ → Option ℕ → Option ℕ → Type 0
+IsPlaceIn xs None place = place ≡ None
+IsPlaceIn xs (Some p) None = (n : ℕ) → slice_get xs n ≢ Some p
+IsPlaceIn xs (Some p) (Some place) =
+    (index : ℕ) × (place ≡ index + 1) × (slice_get xs index ≡ Some p) × ((n : ℕ) → n < index → slice_get xs n ≢ Some p)
+
+-- the first place at which those who are listed differ from those who joined, and where else each of the two stands
+pub record IsUnlikeAt (listed joined : List ℕ) (u : Unlike) : Type 0 where
+  pub differ : DifferAt listed joined u.place u.listed u.joined
+  pub joined_as : IsPlaceIn joined u.listed u.joined_as
+  pub listed_as : IsPlaceIn listed u.joined u.listed_as
+
 -- a row decides an instance so
 abbrev pub HasDecided : List Event → ℕ → ℕ → Bool → Type 0
 HasDecided rows row k commit = (p : ℕ) × (row_at rows row ≡ Some (event.Decided p k commit))
@@ -97,7 +110,7 @@ HasDecided rows row k commit = (p : ℕ) × (row_at rows row ≡ Some (event.Dec
 abbrev pub IsNoOf : Verdict → ℕ → Why → Type 0
 IsNoOf verdict k reason = (row : Option ℕ) × (verdict ≡ No (Some k) row reason)
 
--- a row of a log, what breaks the rule, and what can stand in its place
+-- a row of a log, what breaks the rule, and what can stand before it or in its place
 pub record IsBadRow (rows : List Event) (b : BadRow) (place : ℕ) (row : Event) : Type 0 where
   pub row_is : b.row ≡ place + 1
   pub there : slice_get rows place ≡ Some row
@@ -105,6 +118,7 @@ pub record IsBadRow (rows : List Event) (b : BadRow) (place : ℕ) (row : Event)
   pub breach_is : IsBreach (take place rows) (λ s. keeps b.rule s row) b.breach
   pub undone : IfSome b.undone (IsUndoneIn (take place rows) b.breach)
   pub later : IsLater rows b.breach b.later
+  pub missing : IfSome b.missing (IsMissing (take place rows) row)
   pub instead : IsInstead (take place rows) b.instead
 
 -- what is told of an answer is so; nothing is told after a yes to a log that leaves nothing open, and else never
@@ -119,13 +133,13 @@ IsExplanation rows certificates verdict (NoObjection k decided) =
     (verdict ≡ No (Some k) (Some decided) why.Cause) × HasDecided rows decided k false × HasNoRow (is_unwilling k) rows
 IsExplanation rows certificates verdict (OtherMember k unlike linking) =
     (n : ℕ) × (verdict ≡ No (Some k) (Some (n + 1)) why.Members)
-    × (c : Certificate) × IsItsFirst certificates k c × DifferAt (listed_in c) (members rows k) unlike.place unlike.listed unlike.joined
+    × (c : Certificate) × IsItsFirst certificates k c × IsUnlikeAt (listed_in c) (members rows k) unlike
     × IsLinkingOf (take n rows) c unlike.place unlike.joined linking
 IsExplanation rows certificates verdict (BadChain k chain about linking) =
     (n : ℕ) × (verdict ≡ No (Some k) (Some (n + 1)) why.Chain)
     × (c : Certificate) × IsItsFirst certificates k c × IsBadChain (take n rows) c chain
     × AreChainRows (take n rows) k chain.flaw about
-    × IsLinking (take n rows) c chain.place chain.p linking × MakesChain (take n rows) c chain.place chain.p linking
+    × IsLinking (take n rows) c chain.place chain.p linking × MakesChain (take n rows) c chain.p linking
 IsExplanation rows certificates verdict (Uncertified k row) =
     IsNoOf verdict k why.Missing × (commit : Bool) × HasDecided rows row k commit × (HasCertificate certificates k → ⊥)
 IsExplanation rows certificates verdict (Orphan k orphan) =

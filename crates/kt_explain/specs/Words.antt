@@ -1,11 +1,12 @@
 -- The sentences that are written of an answer.
-use Rattle.std.specs.Prelude.{ℕ, ◌==◌, if◌then◌else◌, Bool, true, false, is_none, is_some, Option, Some, None, List, [], ◌∷◌, ◌++◌, codes}
+use Rattle.std.specs.Prelude.{ℕ, ◌==◌, ◌||◌, if◌then◌else◌, Bool, true, false, is_none, is_some, Option, Some, None, List, [], ◌∷◌, ◌++◌, codes}
 use Rattle.std.specs.Fmt.{decimal}
 use Rattle.kt_base.specs.declared.words.Kind.{Kind as OneKind}
 use Rattle.kt_base.specs.declared.words.Kind.TheVariants.{Checkpoint, Rollback}
 use Rattle.kt_text.specs.Words.{decision_word, kind_word}
 use Rattle.kt_text.specs.Writing.{joined}
 use Rattle.kt_log_text.specs.Spelling.{spelling}
+use Rattle.kt_chain.specs.Spelling.{member_record}
 use Rattle.kt_spacetime.specs.declared.event.Event.{Event}
 use Rattle.kt_spacetime.specs.declared.event.Event.TheVariants as event
 use Rattle.kt_cuts.specs.declared.rules.Rule.{Rule}
@@ -105,11 +106,50 @@ right_head_words inst difference (Some head) = if is_of_head difference then hea
 abbrev pub place_words : ℕ → ℕ → List ℕ
 place_words inst place = codes "member " ++ (decimal place ++ (codes " of instance " ++ (decimal inst ++ codes ": ")))
 
+-- that a process that never joined is listed where another one joined, which is listed in this place, or nowhere
+abbrev pub stranger_words : ℕ → ℕ → Option ℕ → List ℕ
+stranger_words q p (Some place) =
+    codes ": process " ++ (decimal q ++ (codes " never joined, so its record has to go, and that of process " ++ (decimal p ++ (codes ", member " ++ (decimal place ++ (codes ", to stand here" ++ 10 ∷ []))))))
+stranger_words q p None =
+    codes ": process " ++ (decimal q ++ (codes " never joined, so its record has to go, and one of process " ++ (decimal p ++ (codes " to stand here" ++ 10 ∷ []))))
+
+-- that the records of two members have to change places
+abbrev pub swap_words : ℕ → ℕ → List ℕ
+swap_words here place = codes ": the records of members " ++ (decimal here ++ (codes " and " ++ (decimal place ++ (codes " have to change places" ++ 10 ∷ []))))
+
+-- that the record of a member has to stand where another one is listed, which joined elsewhere
+abbrev pub come_words : ℕ → ℕ → ℕ → ℕ → List ℕ
+come_words q p place joined =
+    codes ": the record of process " ++ (decimal p ++ (codes ", member " ++ (decimal place ++ (codes ", has to stand here; process " ++ (decimal q ++ (codes " joined as member " ++ (decimal joined ++ 10 ∷ [])))))))
+
+-- that a record is wanting where another one is listed, which joined elsewhere
+abbrev pub wanting_words : ℕ → ℕ → ℕ → List ℕ
+wanting_words q p joined =
+    codes ": a record of process " ++ (decimal p ++ (codes " has to stand before that of process " ++ (decimal q ++ (codes ", which joined as member " ++ (decimal joined ++ 10 ∷ [])))))
+
+-- where the record has to stand of a process that joined as this member, and is listed where another one joined
+abbrev pub moved_words : ℕ → ℕ → ℕ → ℕ → Option ℕ → List ℕ
+moved_words here q p joined (Some place) = if place == joined then swap_words here place else come_words q p place joined
+moved_words here q p joined None = wanting_words q p joined
+
+-- where the records have to stand of a process that is listed, which joined as this member, or never, and of the one that joined there
+abbrev pub places_words : ℕ → ℕ → ℕ → Option ℕ → Option ℕ → List ℕ
+places_words here q p (Some joined) listed = moved_words here q p joined listed
+places_words here q p None listed = stranger_words q p listed
+
 -- who joined where this process is listed
-abbrev pub listed_words : ℕ → Option ℕ → List ℕ
-listed_words q (Some p) =
-    codes "process " ++ (decimal q ++ (codes " is listed, but process " ++ (decimal p ++ (codes " joined there: the record of process " ++ (decimal p ++ (codes " has to stand in this place, and that of process " ++ (decimal q ++ (codes " after it, if it joined at all" ++ 10 ∷ []))))))))
-listed_words q None = codes "process " ++ (decimal q ++ (codes " is listed, but no more processes joined: its record has to go" ++ 10 ∷ []))
+abbrev pub instead_of_words : ℕ → ℕ → Unlike → List ℕ
+instead_of_words q p u =
+    (codes "process " ++ (decimal q ++ (codes " is listed, but process " ++ (decimal p ++ codes " joined there"))))
+    ++ places_words u.place q p u.joined_as u.listed_as
+
+-- the same, where somebody did
+abbrev pub joined_there_words : ℕ → Option ℕ → Unlike → List ℕ
+joined_there_words q (Some p) u = instead_of_words q p u
+joined_there_words q None u = codes "process " ++ (decimal q ++ (codes " is listed, but no more processes joined: its record has to go" ++ 10 ∷ []))
+
+abbrev pub listed_words : ℕ → Unlike → List ℕ
+listed_words q u = joined_there_words q u.joined u
 
 -- who joined where nobody is listed
 abbrev pub missing_words : Option ℕ → List ℕ
@@ -118,9 +158,12 @@ missing_words (Some p) =
 missing_words None = codes "nobody is listed, and nobody joined" ++ 10 ∷ []
 
 -- who is listed at a place, and who joined there
-abbrev pub unlike_words : Option ℕ → Option ℕ → List ℕ
-unlike_words (Some q) joined = listed_words q joined
-unlike_words None joined = missing_words joined
+abbrev pub listed_or_missing_words : Option ℕ → Unlike → List ℕ
+listed_or_missing_words (Some q) u = listed_words q u
+listed_or_missing_words None u = missing_words u.joined
+
+abbrev pub unlike_words : Unlike → List ℕ
+unlike_words u = listed_or_missing_words u.listed u
 
 -- that the decision has to be another one, where a process is unwilling
 abbrev pub abort_words : Event → List ℕ
@@ -216,31 +259,44 @@ abbrev pub bad_chain_words : ℕ → OneBadChain → ChainRows → List ℕ
 bad_chain_words inst b about =
     (codes "instance " ++ (decimal inst ++ (codes ": member " ++ (decimal b.place ++ (codes " is process " ++ (decimal b.p ++ codes ", ")))))) ++ flaw_words b.p b.flaw about
 
--- that a message links a process with another one
-abbrev pub pair_words : ℕ → ℕ → ℕ → List ℕ
-pair_words msg member q = codes "message " ++ (decimal msg ++ (codes " links process " ++ (decimal member ++ (codes " with process " ++ decimal q))))
+-- whether that one is the initiator
+abbrev pub neighbour_words : Bool → List ℕ
+neighbour_words true = codes "the initiator"
+neighbour_words false = codes "a member before it"
 
--- the record of a member that a message links with the initiator
-abbrev pub direct_words : ℕ → ℕ → ℕ → List ℕ
-direct_words inst member msg =
-    codes ", the initiator: the record of process " ++ (decimal member ++ (codes " can be member," ++ (decimal inst
-    ++ (codes "," ++ (decimal member ++ (codes ",1," ++ (decimal msg ++ 10 ∷ [])))))))
+-- the record that a member can have
+abbrev pub can_be_words : ℕ → ℕ → List ℕ → List ℕ
+can_be_words inst member chain =
+    (codes "the record of process " ++ (decimal member ++ codes " can be ")) ++ (joined (member_record inst (member, chain)) ++ 10 ∷ [])
 
--- the chain of a member that a message links with another one before it
-abbrev pub chain_words : ℕ → ℕ → ℕ → List ℕ
-chain_words msg member q =
-    codes ", a member before it: the chain of process " ++ (decimal member ++ (codes " can be that of process " ++ (decimal q
-    ++ (codes ", followed by message " ++ (decimal msg ++ 10 ∷ [])))))
+-- that the chain of a member can be that of another one, once that is mended, followed by a message
+abbrev pub later_chain_words : ℕ → ℕ → ℕ → List ℕ
+later_chain_words member q msg =
+    codes "the chain of process " ++ (decimal member ++ (codes " can be that of process " ++ (decimal q
+    ++ (codes ", which has to be mended first, followed by message " ++ (decimal msg ++ 10 ∷ [])))))
 
--- that this message links a member of an instance with this one before it
+-- the record of a member that a message links with another one before it, unless the chain of that has to be mended first
+abbrev pub chain_words : ℕ → ℕ → ℕ → ℕ → Option (List ℕ) → List ℕ
+chain_words inst member q msg (Some chain) = can_be_words inst member chain
+chain_words inst member q msg None = later_chain_words member q msg
+
+abbrev pub longer_words : ℕ → ℕ → Link → List ℕ
+longer_words inst member l = chain_words inst member l.q l.msg l.chain
+
+-- that this message links a member with this one before it
+abbrev pub pair_words : ℕ → Link → List ℕ
+pair_words member l =
+    codes "message " ++ (decimal l.msg ++ (codes " links process " ++ (decimal member ++ (codes " with process " ++ (decimal l.q
+    ++ (codes ", " ++ (neighbour_words l.of_initiator ++ codes ": ")))))))
+
+-- the same, and the record that this makes
 abbrev pub linked_words : ℕ → ℕ → Link → List ℕ
-linked_words inst member l =
-    pair_words l.msg member l.q ++ (if l.of_initiator then direct_words inst member l.msg else chain_words l.msg member l.q)
+linked_words inst member l = pair_words member l ++ longer_words inst member l
 
 -- that no message links a member, which joined in this row, with one before it
 abbrev pub unlinked_words : ℕ → Option ℕ → List ℕ
 unlinked_words member (Some row) =
-    codes "the log is at fault: no message links process " ++ (decimal member ++ (codes " with a member before it; its rows of the instance have to go, that of joining, row " ++ (decimal row ++ (codes ", and closed, or a row received is missing, by which a message links them; then koo_toueg --hints certify LOG --cert CERT makes the certificates anew" ++ 10 ∷ []))))
+    codes "the log is at fault: no message links process " ++ (decimal member ++ (codes " with a member before it" ++ 10 ∷ (codes "either its rows of the instance have to go, that of joining, row " ++ (decimal row ++ (codes ", and closed, or a row received is missing, by which a message links them" ++ 10 ∷ (codes "then koo_toueg --hints certify LOG --cert CERT makes the certificates anew" ++ 10 ∷ []))))))
 unlinked_words member None =
     codes "the log is at fault: no message links process " ++ (decimal member ++ (codes " with a member before it" ++ 10 ∷ []))
 
@@ -299,14 +355,16 @@ broken_words rule breach = title_words rule ++ (codes ": " ++ breach_words breac
 abbrev pub line_words : List ℕ → List ℕ
 line_words end = end ++ 10 ∷ []
 
--- whether a message that was not sent before is sent later
-abbrev pub sent_later_words : Option ℕ → List ℕ
-sent_later_words (Some row) =
+-- whether a message that was not sent before is sent later, and what is wrong, unless the row that sends it can stand before
+abbrev pub sent_later_words : Option ℕ → Bool → List ℕ
+sent_later_words (Some row) mended =
     codes ": row " ++ (decimal row ++ (codes " does, which has to come before it (a message has the number of the row that sends it), or the number of the message is wrong" ++ 10 ∷ []))
-sent_later_words None =
+sent_later_words None true = codes ", and none after it (a message has the number of the row that sends it)" ++ 10 ∷ []
+sent_later_words None false =
     codes ", and none after it (a message has the number of the row that sends it): a row sent is missing before, or the number of the message is wrong" ++ 10 ∷ []
 
--- whether an instance that has not begun before begins later, and what is wrong, unless a row can stand in the place of this one
+-- whether an instance that has not begun before begins later, and what is wrong, unless a row can stand before this one or in its
+-- place
 abbrev pub begun_later_words : Option ℕ → Bool → List ℕ
 begun_later_words (Some row) mended =
     codes ": row " ++ (decimal row ++ (codes " does, which has to come before it, or the number of the instance is wrong" ++ 10 ∷ []))
@@ -321,11 +379,11 @@ undone_words None = codes ": after that nobody receives or drops it, so this row
 
 -- what a process that is down does instead of what a row says
 abbrev pub down_words : Event → List ℕ
-down_words (event.Sent p to body) = codes ": it sends nothing before it closes a committed rollback, which brings it up"
-down_words (event.Received p from msg) = codes ": it drops what comes, before it closes a committed rollback, which brings it up"
+down_words (event.Sent p to body) = codes ": it sends nothing until it closes a committed rollback, which brings it up"
+down_words (event.Received p from msg) = codes ": it drops what comes until it closes a committed rollback, which brings it up"
 down_words (event.Began p inst kind) = codes ": it begins no checkpoint"
 down_words (event.Took p inst) = codes ": it takes no checkpoint"
-down_words (event.Failed p) = codes ": it can't fail again before it closes a committed rollback, which brings it up"
+down_words (event.Failed p) = codes ": it can't fail again until it closes a committed rollback, which brings it up"
 down_words (event.Unwilling p inst cause) = codes ", so the cause is down"
 down_words (event.Refused p verb cause) = codes ", so the cause is down"
 down_words row = []
@@ -337,21 +395,21 @@ up_words (event.Unwilling p inst cause) = codes ", so the cause is not down"
 up_words (event.Refused p verb cause) = codes ", so the cause is not down"
 up_words row = []
 
--- who has to decide an open instance before a row
-abbrev pub deciding_words : ℕ → Option ℕ → List ℕ
-deciding_words inst (Some q) =
-    codes ", which is not decided: before this row are missing decided," ++ (decimal q ++ (codes "," ++ (decimal inst ++ codes ",commit (or abort) and ")))
-deciding_words inst None = codes ", which is not decided: before this row are missing its row decided and "
+-- who has to decide an open instance before a row, and how
+abbrev pub deciding_words : Option ℕ → Open → List ℕ
+deciding_words (Some q) o =
+    codes ", which is not decided: before this row are missing decided," ++ (decimal q ++ (codes "," ++ (decimal o.inst ++ (codes "," ++ (decision_word (is_none o.unwilling) ++ codes " and ")))))
+deciding_words None o = codes ", which is not decided: before this row are missing its row decided and "
 
 -- the same, unless it is decided
-abbrev pub ending_words : ℕ → Option ℕ → Option ℕ → List ℕ
-ending_words inst (Some row) initiator = codes ", which row " ++ (decimal row ++ codes " decides: before this row is missing ")
-ending_words inst None initiator = deciding_words inst initiator
+abbrev pub ending_words : Option ℕ → Open → List ℕ
+ending_words (Some row) o = codes ", which row " ++ (decimal row ++ codes " decides: before this row is missing ")
+ending_words None o = deciding_words o.initiator o
 
 -- what has to come before a row of a process that is in an open instance
 abbrev pub leaving_words : Open → List ℕ
 leaving_words o =
-    ending_words o.inst o.decided o.initiator ++ (codes "closed," ++ (decimal o.p ++ (codes "," ++ (decimal o.inst ++ (codes ",-, or it has to come after that" ++ 10 ∷ [])))))
+    ending_words o.decided o ++ (codes "closed," ++ (decimal o.p ++ (codes "," ++ (decimal o.inst ++ (codes ",-, or this row comes too early" ++ 10 ∷ [])))))
 
 -- what a process does that is in an open instance
 abbrev pub inside_words : Event → Open → List ℕ
@@ -374,11 +432,23 @@ no_cause_words (event.Refused p verb.Rollback cause) = codes "a rollback is refu
 no_cause_words (event.Refused p verb cause) = codes "sends and failures are refused for down alone"
 no_cause_words row = []
 
+-- whether an instance that is not decided before is decided later, and what is wrong, unless the row that decides it can stand
+-- before
+abbrev pub decided_later_words : Option ℕ → Bool → List ℕ
+decided_later_words (Some row) mended = codes ": row " ++ (decimal row ++ (codes " does, which has to come before it" ++ 10 ∷ []))
+decided_later_words None true = 10 ∷ []
+decided_later_words None false = codes ": a row decided is missing before it" ++ 10 ∷ []
+
+-- whether a row can stand before one that breaks a rule, or in its place
+abbrev pub is_mended : BadRow → Bool
+is_mended b = is_some b.missing || is_some b.instead.first
+
 -- how the sentence of what breaks a rule ends: what is to be done, where that hangs on the row or on those after it
 abbrev pub ends_with : BadRow → Breach → List ℕ
-ends_with b (breach.Message (message.NotSent msg)) = sent_later_words b.later
+ends_with b (breach.Message (message.NotSent msg)) = sent_later_words b.later (is_some b.missing)
 ends_with b (breach.Message (message.Undone msg from to)) = undone_words b.undone
-ends_with b (breach.Instance (instance.NotBegun inst)) = begun_later_words b.later (is_some b.instead.first)
+ends_with b (breach.Instance (instance.NotBegun inst)) = begun_later_words b.later (is_mended b)
+ends_with b (breach.Instance (instance.Undecided inst p)) = decided_later_words b.later (is_some b.missing)
 ends_with b (breach.Process (process.Down p row)) = line_words (down_words b.event)
 ends_with b (breach.Process (process.Up p)) = line_words (up_words b.event)
 ends_with b (breach.Process (process.Inside o)) = inside_words b.event o
@@ -402,9 +472,23 @@ rows_words (Some row) second = codes "in its place can stand " ++ (row_words row
 abbrev pub instead_words : Instead → List ℕ
 instead_words i = rows_words i.first i.second
 
--- a row that breaks a rule: the rule, what breaks it, and which rows can stand in its place
+-- that a message may have another body
+abbrev pub body_words : Event → List ℕ
+body_words (event.Sent p to body) = codes " (or another body)"
+body_words row = []
+
+-- a row that can stand before one that breaks a rule
+abbrev pub missing_row_words : Event → List ℕ
+missing_row_words row = codes "insert before it: " ++ (row_words row ++ (body_words row ++ 10 ∷ []))
+
+-- that row, or else those that can stand in its place
+abbrev pub mend_words : Option Event → Instead → List ℕ
+mend_words (Some row) instead = missing_row_words row
+mend_words None instead = instead_words instead
+
+-- a row that breaks a rule: the rule, what breaks it, and which row can stand before it, or which in its place
 abbrev pub bad_row_words : BadRow → List ℕ
-bad_row_words b = broken_words b.rule b.breach ++ (end_words b ++ instead_words b.instead)
+bad_row_words b = broken_words b.rule b.breach ++ (end_words b ++ mend_words b.missing b.instead)
 
 -- an instance is committed in this row, though this process was unwilling to join it
 abbrev pub objection_words : ℕ → ℕ → ℕ → ℕ → List ℕ
@@ -419,7 +503,7 @@ no_objection_words inst decided =
 -- the first place at which the list of an instance's certificate differs, and how the one who joined there is linked
 abbrev pub other_member_words : ℕ → Unlike → Option Linking → List ℕ
 other_member_words inst unlike linking =
-    place_words inst unlike.place ++ (unlike_words unlike.listed unlike.joined ++ joined_link_words inst unlike.joined linking)
+    place_words inst unlike.place ++ (unlike_words unlike ++ joined_link_words inst unlike.joined linking)
 
 -- that an instance that is decided in this row has no certificate
 abbrev pub uncertified_words : ℕ → ℕ → List ℕ

@@ -2,16 +2,18 @@
 
 ghost use Rattle.std.specs.Prelude.{◌≡◌, Some};
 ghost use Rattle.std.specs.Fmt.{DisplaysOnOk};
-ghost use Rattle.kt_explain.specs.Words.{begun_later_words, broken_words, deciding_words, down_words, end_words, ending_words, inside_words, leaving_words, line_words, no_cause_words, outside_end_words, rule_words, sent_later_words, title_words, undone_words, up_words};
+ghost use Rattle.kt_explain.specs.Words.{begun_later_words, body_words, broken_words, decided_later_words, deciding_words, down_words, end_words, ending_words, inside_words, is_mended, leaving_words, line_words, mend_words, missing_row_words, no_cause_words, outside_end_words, rule_words, sent_later_words, title_words, undone_words, up_words};
 
 use crate::breach::{Breach, InstanceBreach, MessageBreach, Open, ProcessBreach};
+use crate::difference::decision_name;
 use crate::instead::{Instead, write_instead};
-use kt_base::{InstNo, ProcNo, RowNo, Verb};
+use crate::row_text::write_row;
+use kt_base::{RowNo, Verb};
 use kt_cuts::Rule;
 use kt_spacetime::Event;
 use std::fmt;
 
-/// A row that breaks a rule, what breaks it, and what can stand in its place.
+/// A row that breaks a rule, what breaks it, and what can stand before it or in its place.
 #[derive(Clone, Copy, Debug, PartialEq, Eq)]
 pub struct BadRow {
     pub row: RowNo,
@@ -23,6 +25,8 @@ pub struct BadRow {
     pub undone: Option<RowNo>,
     /// The row that sends its message or begins its instance, where it stands before that.
     pub later: Option<RowNo>,
+    /// A row that keeps every rule before it, after which it does as well.
+    pub missing: Option<Event>,
     /// Rows that keep every rule in its place.
     pub instead: Instead,
 }
@@ -37,7 +41,7 @@ impl fmt::Display for BadRow {
         let BadRow { rule, breach, .. } = *self;
         write_broken(f, rule, breach)?;
         write_end(f, self)?;
-        write_instead(f, &self.instead)
+        write_mend(f, &self.missing, &self.instead)
     }
 }
 
@@ -96,10 +100,15 @@ fn write_end<W: fmt::Write>(f: &mut fmt::Formatter<W>, row: &BadRow) -> fmt::Res
     ensures { DisplaysOnOk W.write_str_gives f.old result (Some (end_words row.now)) f.new }
 {
     match row.breach {
-        Breach::Message(MessageBreach::NotSent(_)) => write_sent_later(f, row.later),
+        Breach::Message(MessageBreach::NotSent(_)) => {
+            write_sent_later(f, row.later, row.missing.is_some())
+        }
         Breach::Message(MessageBreach::Undone { .. }) => write_undone(f, row.undone),
         Breach::Instance(InstanceBreach::NotBegun(_)) => {
-            write_begun_later(f, row.later, row.instead.first.is_some())
+            write_begun_later(f, row.later, is_mended(row))
+        }
+        Breach::Instance(InstanceBreach::Undecided { .. }) => {
+            write_decided_later(f, row.later, row.missing.is_some())
         }
         Breach::Process(ProcessBreach::Down { .. }) => write_line(f, down_end(&row.event)),
         Breach::Process(ProcessBreach::Up(_)) => write_line(f, up_end(&row.event)),
@@ -121,10 +130,18 @@ fn write_line<W: fmt::Write>(f: &mut fmt::Formatter<W>, end: &str) -> fmt::Resul
 }
 
 // Whether a message is sent later.
-fn write_sent_later<W: fmt::Write>(f: &mut fmt::Formatter<W>, later: Option<RowNo>) -> fmt::Result
-    ensures { DisplaysOnOk W.write_str_gives f.old result (Some (sent_later_words later)) f.new }
+fn write_sent_later<W: fmt::Write>(
+    f: &mut fmt::Formatter<W>,
+    later: Option<RowNo>,
+    mended: bool,
+) -> fmt::Result
+    ensures { DisplaysOnOk W.write_str_gives f.old result (Some (sent_later_words later mended)) f.new }
 {
     match later {
+        None if mended => write!(
+            f,
+            ", and none after it (a message has the number of the row that sends it)\n"
+        ),
         Some(row) => write!(
             f,
             ": row {row} does, which has to come before it (a message has the number of the row that sends it), or the number of the message is wrong\n"
@@ -157,6 +174,62 @@ fn write_begun_later<W: fmt::Write>(
     }
 }
 
+// Whether an instance is decided later.
+fn write_decided_later<W: fmt::Write>(
+    f: &mut fmt::Formatter<W>,
+    later: Option<RowNo>,
+    mended: bool,
+) -> fmt::Result
+    ensures { DisplaysOnOk W.write_str_gives f.old result (Some (decided_later_words later mended)) f.new }
+{
+    match later {
+        None if mended => write!(f, "\n"),
+        Some(row) => write!(f, ": row {row} does, which has to come before it\n"),
+        None => write!(f, ": a row decided is missing before it\n"),
+    }
+}
+
+// Whether a row can stand before this one, or in its place.
+fn is_mended(row: &BadRow) -> bool
+    ensures { result ≡ is_mended row.now }
+{
+    row.missing.is_some() || row.instead.first.is_some()
+}
+
+// A row that can stand before one that breaks a rule, or else those that can stand in its place.
+fn write_mend<W: fmt::Write>(
+    f: &mut fmt::Formatter<W>,
+    missing: &Option<Event>,
+    instead: &Instead,
+) -> fmt::Result
+    ensures { DisplaysOnOk W.write_str_gives f.old result (Some (mend_words missing.now instead.now)) f.new }
+{
+    match missing {
+        Some(row) => write_missing_row(f, row),
+        None => write_instead(f, instead),
+    }
+}
+
+// A row that can stand before one that breaks a rule.
+fn write_missing_row<W: fmt::Write>(f: &mut fmt::Formatter<W>, row: &Event) -> fmt::Result
+    ensures { DisplaysOnOk W.write_str_gives f.old result (Some (missing_row_words row.now)) f.new }
+{
+    write!(f, "insert before it: ")?;
+    write_row(f, row)?;
+    let end = body_end(row);
+    write!(f, "{end}\n")
+}
+
+// That a message may have another body.
+fn body_end(row: &Event) -> &'static str
+    ensures { result.now ≡ body_words row.now }
+{
+    match row {
+        Event::Sent { .. } => " (or another body)",
+        _ => "",
+    }
+}
+
 // The row that undid the send of a message.
 fn write_undone<W: fmt::Write>(f: &mut fmt::Formatter<W>, undone: Option<RowNo>) -> fmt::Result
     ensures { DisplaysOnOk W.write_str_gives f.old result (Some (undone_words undone)) f.new }
@@ -179,13 +252,13 @@ fn down_end(row: &Event) -> &'static str
 {
     match row {
         Event::Sent { .. } =>
-            ": it sends nothing before it closes a committed rollback, which brings it up",
+            ": it sends nothing until it closes a committed rollback, which brings it up",
         Event::Received { .. } =>
-            ": it drops what comes, before it closes a committed rollback, which brings it up",
+            ": it drops what comes until it closes a committed rollback, which brings it up",
         Event::Began { .. } => ": it begins no checkpoint",
         Event::Took { .. } => ": it takes no checkpoint",
         Event::Failed { .. } =>
-            ": it can't fail again before it closes a committed rollback, which brings it up",
+            ": it can't fail again until it closes a committed rollback, which brings it up",
         Event::Unwilling { .. } | Event::Refused { .. } => ", so the cause is down",
         _ => "",
     }
@@ -229,33 +302,34 @@ fn write_leaving<W: fmt::Write>(f: &mut fmt::Formatter<W>, inside: &Open) -> fmt
 {
     let Open { p, inst, .. } = *inside;
     write_ending(f, inside)?;
-    write!(f, "closed,{p},{inst},-, or it has to come after that\n")
+    write!(f, "closed,{p},{inst},-, or this row comes too early\n")
 }
 
 // Who has to decide an open instance before that, unless it is decided.
 fn write_ending<W: fmt::Write>(f: &mut fmt::Formatter<W>, inside: &Open) -> fmt::Result
     ensures { DisplaysOnOk W.write_str_gives f.old result
-        (Some (ending_words inside.now.inst inside.now.decided inside.now.initiator)) f.new }
+        (Some (ending_words inside.now.decided inside.now)) f.new }
 {
     match inside.decided {
         Some(row) => write!(f, ", which row {row} decides: before this row is missing "),
-        None => write_deciding(f, inside.inst, inside.initiator),
+        None => write_deciding(f, inside),
     }
 }
 
 // Who has to decide an open instance.
-fn write_deciding<W: fmt::Write>(
-    f: &mut fmt::Formatter<W>,
-    inst: InstNo,
-    initiator: Option<ProcNo>,
-) -> fmt::Result
-    ensures { DisplaysOnOk W.write_str_gives f.old result (Some (deciding_words inst initiator)) f.new }
+fn write_deciding<W: fmt::Write>(f: &mut fmt::Formatter<W>, inside: &Open) -> fmt::Result
+    ensures { DisplaysOnOk W.write_str_gives f.old result
+        (Some (deciding_words inside.now.initiator inside.now)) f.new }
 {
-    match initiator {
-        Some(q) => write!(
-            f,
-            ", which is not decided: before this row are missing decided,{q},{inst},commit (or abort) and "
-        ),
+    match inside.initiator {
+        Some(q) => {
+            let inst = inside.inst;
+            let decision = decision_name(inside.unwilling.is_none());
+            write!(
+                f,
+                ", which is not decided: before this row are missing decided,{q},{inst},{decision} and "
+            )
+        }
         None => write!(
             f,
             ", which is not decided: before this row are missing its row decided and "

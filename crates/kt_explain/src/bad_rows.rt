@@ -70,20 +70,25 @@ fn bad_row(alloc: Global, rows: &[Event], row: RowNo, rule: Rule) -> Result<Expl
     let before = &rows[..index];
     let known = Before::of(alloc, before)?;
     match known.keeps(rule, &rows[index]) {
-        Err(breach) => Ok(Explanation::BadLog(BadRow {
-            row,
-            event: rows[index],
-            rule,
-            breach,
-            undone: undone_in(alloc, before, &breach)?,
-            later: later_in(rows, &breach),
-            instead: known.instead(&rows[index], &breach),
-        })),
+        Err(breach) => {
+            let later = later_in(rows, &breach);
+            Ok(Explanation::BadLog(BadRow {
+                row,
+                event: rows[index],
+                rule,
+                breach,
+                undone: undone_in(alloc, before, &breach)?,
+                later,
+                missing: known.missing(alloc, &rows[index], &breach, later)?,
+                instead: known.instead(&rows[index], &breach),
+            }))
+        }
         Ok(()) => Ok(Explanation::Nothing),
     }
 }
 
-// The row of a log that sends the message that was not sent before, or begins the instance that had not begun.
+// The row of a log that sends the message that was not sent before, begins the instance that had not begun, or decides the one
+// that was not decided.
 fn later_in(rows: &[Event], breach: &Breach) -> Option<RowNo>
     requires few { length rows.now ≤ 2 ^ 24 }
     ensures { IsLater rows.now breach.now result }
@@ -93,6 +98,10 @@ fn later_in(rows: &[Event], breach: &Breach) -> Option<RowNo>
         Breach::Instance(InstanceBreach::NotBegun(inst)) => first_number(
             rows,
             &Sought::Began(inst),
+        ),
+        Breach::Instance(InstanceBreach::Undecided { inst, .. }) => first_number(
+            rows,
+            &Sought::Decided(inst),
         ),
         _ => None,
     }

@@ -97,6 +97,8 @@ pub struct Open {
     pub decided: Option<RowNo>,
     /// Who began it.
     pub initiator: Option<ProcNo>,
+    /// The first row in which a process is unwilling to join it.
+    pub unwilling: Option<RowNo>,
 }
 
 /// A process that is not in an instance.
@@ -369,12 +371,9 @@ fn write_undecided<W: fmt::Write>(
     match p {
         Some(p) => write!(
             f,
-            "instance {inst} is not decided: its initiator, process {p}, does that before, by decided,{p},{inst},commit or abort"
+            "instance {inst} is not decided by its initiator, process {p}, before this row"
         ),
-        None => write!(
-            f,
-            "instance {inst} is not decided: its initiator does that before, by a row decided"
-        ),
+        None => write!(f, "instance {inst} is not decided before this row"),
     }
 }
 

@@ -4,7 +4,7 @@ ghost use Rattle.std.specs.Fmt.{DisplaysOnOk, decimal};
 ghost use Rattle.std.specs.Prelude.{◌≡◌, ◌∷◌, ◌<◌, ◌≤◌, if◌then◌else◌, IfSome, Some, None, length, slice_get, take};
 ghost use Rattle.kt_text.specs.Writing.{joined};
 ghost use Rattle.kt_chain.specs.Spelling.{certificate_records, chain_word, instance_record, marked, member_record, records_of};
-ghost use Rattle.kt_explain.specs.RecordsTold.{IsPlaceOf, IsRecordOf, IsRecordTold, certified_inst, if_certified, is_at_fault, is_of_second, is_unlinked, member_place, member_words, place_word, record_words, told_words, unlike_place, wants_member, where_words};
+ghost use Rattle.kt_explain.specs.RecordsTold.{IsPlaceOf, IsRecordOf, IsRecordTold, certified_inst, if_certified, is_at_fault, is_of_second, is_unlinked, is_wanting, member_place, member_words, place_word, record_words, told_words, unlike_place, wants_member, where_words};
 
 use crate::bad_chain::Flaw;
 use crate::difference::{Difference, decision_name, kind_name};
@@ -117,8 +117,8 @@ fn write_instance<W: fmt::Write>(
     write!(f, "cert,{inst},{kind},{initiator},{decision}")
 }
 
-// The record of a member of an instance.
-fn write_member<W: fmt::Write>(
+/// The record of a member of an instance.
+pub(crate) fn write_member<W: fmt::Write>(
     f: &mut fmt::Formatter<W>,
     inst: InstNo,
     p: ProcNo,
@@ -194,8 +194,8 @@ fn record_of<'a>(
 fn wants_member(explanation: &Explanation) -> bool
     ensures { result ≡ wants_member explanation.now }
 {
-    match *explanation {
-        Explanation::OtherMember { unlike, .. } => unlike.listed.is_none(),
+    match explanation {
+        Explanation::OtherMember { unlike, .. } => is_wanting(unlike),
         _ => false,
     }
 }
@@ -204,17 +204,17 @@ fn wants_member(explanation: &Explanation) -> bool
 fn certified_inst(explanation: &Explanation) -> Option<InstNo>
     ensures { result ≡ certified_inst explanation.now }
 {
-    match *explanation {
+    match explanation {
         Explanation::Unknown {
             inst,
             difference,
             ..
-        } => if_certified(inst, difference),
+        } => if_certified(*inst, *difference),
         Explanation::OtherMember { inst, linking, .. } => {
             if is_unlinked(linking) {
                 None
             } else {
-                Some(inst)
+                Some(*inst)
             }
         }
         Explanation::BadChain {
@@ -222,7 +222,7 @@ fn certified_inst(explanation: &Explanation) -> Option<InstNo>
             chain,
             linking,
             ..
-        } => if_mendable(inst, &chain.flaw, linking),
+        } => if_mendable(*inst, &chain.flaw, linking),
         Explanation::Objection { .. }
         | Explanation::NoObjection { .. }
         | Explanation::Orphan { .. }
@@ -244,8 +244,8 @@ fn if_certified(inst: InstNo, difference: Difference) -> Option<InstNo>
 }
 
 // Whether a process that joined is not the initiator, and no message links it with one before it.
-fn is_unlinked(linking: Option<Linking>) -> bool
-    ensures { result ≡ is_unlinked linking }
+fn is_unlinked(linking: &Option<Linking>) -> bool
+    ensures { result ≡ is_unlinked linking.now }
 {
     match linking {
         Some(Linking::Unlinked(_)) => true,
@@ -254,8 +254,8 @@ fn is_unlinked(linking: Option<Linking>) -> bool
 }
 
 // The instance, unless its log is at fault: its member has to have a chain, and no message links it with one before it.
-fn if_mendable(inst: InstNo, flaw: &Flaw, linking: Linking) -> Option<InstNo>
-    ensures { result ≡ (if is_at_fault flaw.now linking then None else Some inst) }
+fn if_mendable(inst: InstNo, flaw: &Flaw, linking: &Linking) -> Option<InstNo>
+    ensures { result ≡ (if is_at_fault flaw.now linking.now then None else Some inst) }
 {
     match flaw {
         Flaw::Initiator => Some(inst),
@@ -270,8 +270,8 @@ fn if_mendable(inst: InstNo, flaw: &Flaw, linking: Linking) -> Option<InstNo>
 fn is_of_second(explanation: &Explanation) -> bool
     ensures { result ≡ is_of_second explanation.now }
 {
-    match *explanation {
-        Explanation::Unknown { difference, .. } => difference == Difference::Second,
+    match explanation {
+        Explanation::Unknown { difference, .. } => *difference == Difference::Second,
         _ => false,
     }
 }
@@ -293,21 +293,33 @@ fn place_of(certificates: &[Certificate], inst: InstNo, second: bool) -> Option<
 fn member_place(explanation: &Explanation) -> usize
     ensures { result ≡ member_place explanation.now }
 {
-    match *explanation {
+    match explanation {
         Explanation::BadChain { chain, .. } => chain.place,
-        Explanation::OtherMember { unlike, .. } => unlike_place(&unlike),
+        Explanation::OtherMember { unlike, .. } => unlike_place(unlike),
         _ => 0,
     }
 }
 
-// The place of the one who is listed, or of the one before it where nobody is.
-fn unlike_place(unlike: &Unlike) -> usize
-    ensures { result ≡ unlike_place unlike.now.listed unlike.now.place }
+// Whether the record of the one who joined is wanting: nobody is listed there, or one who joined too.
+fn is_wanting(unlike: &Unlike) -> bool
+    ensures { result ≡ is_wanting unlike.now }
 {
-    if unlike.listed.is_some() {
-        unlike.place
-    } else {
+    match unlike.listed {
+        Some(_) => {
+            unlike.joined.is_some() && unlike.joined_as.is_some() && unlike.listed_as.is_none()
+        }
+        None => true,
+    }
+}
+
+// The place of the one who is listed, or of the one before it where a record is wanting.
+fn unlike_place(unlike: &Unlike) -> usize
+    ensures { result ≡ unlike_place unlike.now }
+{
+    if is_wanting(unlike) {
         unlike.place.saturating_sub(1)
+    } else {
+        unlike.place
     }
 }
 

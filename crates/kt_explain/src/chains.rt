@@ -65,7 +65,7 @@ fn no_chain_at(
             inst,
             chain,
             about: before.chain_rows(inst, &chain.flaw),
-            linking: before.link_before(certificate, chain.place, chain.p),
+            linking: before.link_before(alloc, certificate, chain.place, chain.p)?,
         }),
         None => Ok(Explanation::Nothing),
     }
@@ -92,8 +92,8 @@ fn bad_chain(histories: &Histories, certificate: &Certificate) -> Option<BadChai
     None
 }
 
-// What is wrong with the list of a member.
-fn flaw_of(
+/// What is wrong with the list of a member.
+pub(crate) fn flaw_of(
     histories: &Histories,
     certificate: &Certificate,
     p: ProcNo,

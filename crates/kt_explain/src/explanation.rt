@@ -2,7 +2,7 @@
 
 ghost use Rattle.std.specs.Prelude.{◌≡◌, Some};
 ghost use Rattle.std.specs.Fmt.{DisplaysOnOk};
-ghost use Rattle.kt_explain.specs.Words.{joined_link_words, listed_words, missing_words, no_objection_words, objection_words, other_member_words, uncertified_words, unlike_words};
+ghost use Rattle.kt_explain.specs.Words.{instead_of_words, listed_words, missing_words, moved_words, no_objection_words, objection_words, other_member_words, stranger_words, uncertified_words, unlike_words};
 
 use crate::bad_chain::{BadChain, write_bad_chain};
 use crate::bad_row::BadRow;
@@ -20,10 +20,14 @@ pub struct Unlike {
     pub place: usize,
     pub listed: Option<ProcNo>,
     pub joined: Option<ProcNo>,
+    /// The place at which the one joined who is listed.
+    pub joined_as: Option<usize>,
+    /// The place at which the one is listed who joined.
+    pub listed_as: Option<usize>,
 }
 
 /// What is told of an answer of the checker, in the words of the log.
-#[derive(Clone, Copy, Debug, PartialEq, Eq)]
+#[derive(Debug, Drop)]
 pub enum Explanation {
     /// Nothing is told: after a yes to a log that leaves nothing open.
     Nothing,
@@ -84,7 +88,7 @@ impl fmt::Display for Explanation {
     ghost output = { λ e. Some (explanation_words e) };
 
     fn fmt<W: fmt::Write>(&self, f: &mut fmt::Formatter<W>) -> fmt::Result {
-        match *self {
+        match self {
             Explanation::Nothing => Ok(()),
             Explanation::LeftOpen(left) => write!(f, "{left}"),
             Explanation::Unknown {
@@ -93,35 +97,35 @@ impl fmt::Display for Explanation {
                 head,
             } => {
                 write!(f, "instance {inst}: {difference}\n")?;
-                write_right_head(f, inst, difference, head)
+                write_right_head(f, *inst, *difference, *head)
             }
             Explanation::Objection {
                 inst,
                 p,
                 row,
                 decided,
-            } => write_objection(f, inst, p, row, decided),
-            Explanation::NoObjection { inst, decided } => write_no_objection(f, inst, decided),
+            } => write_objection(f, *inst, *p, *row, *decided),
+            Explanation::NoObjection { inst, decided } => write_no_objection(f, *inst, *decided),
             Explanation::OtherMember {
                 inst,
                 unlike,
                 linking,
-            } => write_other_member(f, inst, &unlike, linking),
+            } => write_other_member(f, *inst, unlike, linking),
             Explanation::BadChain {
                 inst,
                 chain,
                 about,
                 linking,
             } => {
-                write_bad_chain(f, inst, &chain, about)?;
-                write_link(f, inst, &chain, linking)
+                write_bad_chain(f, *inst, chain, *about)?;
+                write_link(f, *inst, chain, linking)
             }
             Explanation::Orphan { inst, orphan } => {
                 write!(f, "instance {inst}: {orphan}")?;
                 write_outsider(f, orphan.outsider, &orphan.answer)
             }
             Explanation::BadLog(row) => write!(f, "{row}"),
-            Explanation::Uncertified { inst, row } => write_uncertified(f, inst, row),
+            Explanation::Uncertified { inst, row } => write_uncertified(f, *inst, *row),
         }
     }
 }
@@ -175,10 +179,10 @@ fn write_other_member<W: fmt::Write>(
     f: &mut fmt::Formatter<W>,
     inst: InstNo,
     unlike: &Unlike,
-    linking: Option<Linking>,
+    linking: &Option<Linking>,
 ) -> fmt::Result
     ensures { DisplaysOnOk W.write_str_gives f.old result
-        (Some (other_member_words inst unlike.now linking)) f.new }
+        (Some (other_member_words inst unlike.now linking.now)) f.new }
 {
     let place = unlike.place;
     write!(f, "member {place} of instance {inst}: ")?;
@@ -188,31 +192,89 @@ fn write_other_member<W: fmt::Write>(
 
 // Who is listed at a place, and who joined there.
 fn write_unlike<W: fmt::Write>(f: &mut fmt::Formatter<W>, unlike: &Unlike) -> fmt::Result
-    ensures { DisplaysOnOk W.write_str_gives f.old result
-        (Some (unlike_words unlike.now.listed unlike.now.joined)) f.new }
+    ensures { DisplaysOnOk W.write_str_gives f.old result (Some (unlike_words unlike.now)) f.new }
 {
     match unlike.listed {
-        Some(q) => write_listed(f, q, unlike.joined),
+        Some(q) => write_listed(f, q, unlike),
         None => write_missing(f, unlike.joined),
     }
 }
 
 // Who joined where this process is listed.
-fn write_listed<W: fmt::Write>(
-    f: &mut fmt::Formatter<W>,
-    q: ProcNo,
-    joined: Option<ProcNo>,
-) -> fmt::Result
-    ensures { DisplaysOnOk W.write_str_gives f.old result (Some (listed_words q joined)) f.new }
+fn write_listed<W: fmt::Write>(f: &mut fmt::Formatter<W>, q: ProcNo, unlike: &Unlike) -> fmt::Result
+    ensures { DisplaysOnOk W.write_str_gives f.old result (Some (listed_words q unlike.now)) f.new }
 {
-    match joined {
-        Some(p) => write!(
-            f,
-            "process {q} is listed, but process {p} joined there: the record of process {p} has to stand in this place, and that of process {q} after it, if it joined at all\n"
-        ),
+    match unlike.joined {
+        Some(p) => write_instead_of(f, q, p, unlike),
         None => write!(
             f,
             "process {q} is listed, but no more processes joined: its record has to go\n"
+        ),
+    }
+}
+
+// Who joined where another one is listed, and where the record of each has to stand.
+fn write_instead_of<W: fmt::Write>(
+    f: &mut fmt::Formatter<W>,
+    q: ProcNo,
+    p: ProcNo,
+    unlike: &Unlike,
+) -> fmt::Result
+    ensures { DisplaysOnOk W.write_str_gives f.old result (Some (instead_of_words q p unlike.now)) f.new }
+{
+    write!(f, "process {q} is listed, but process {p} joined there")?;
+    match unlike.joined_as {
+        Some(joined) => write_moved(f, q, p, joined, unlike),
+        None => write_stranger(f, q, p, unlike.listed_as),
+    }
+}
+
+// That a process that never joined is listed, where another one joined.
+fn write_stranger<W: fmt::Write>(
+    f: &mut fmt::Formatter<W>,
+    q: ProcNo,
+    p: ProcNo,
+    listed: Option<usize>,
+) -> fmt::Result
+    ensures { DisplaysOnOk W.write_str_gives f.old result (Some (stranger_words q p listed)) f.new }
+{
+    match listed {
+        Some(place) => write!(
+            f,
+            ": process {q} never joined, so its record has to go, and that of process {p}, member {place}, to stand here\n"
+        ),
+        None => write!(
+            f,
+            ": process {q} never joined, so its record has to go, and one of process {p} to stand here\n"
+        ),
+    }
+}
+
+// Where the record has to stand of a process that joined as this member, and is listed where another one joined.
+fn write_moved<W: fmt::Write>(
+    f: &mut fmt::Formatter<W>,
+    q: ProcNo,
+    p: ProcNo,
+    joined: usize,
+    unlike: &Unlike,
+) -> fmt::Result
+    ensures { DisplaysOnOk W.write_str_gives f.old result (Some (moved_words unlike.now.place q p joined unlike.now.listed_as)) f.new }
+{
+    match unlike.listed_as {
+        Some(place) if place == joined => {
+            let here = unlike.place;
+            write!(
+                f,
+                ": the records of members {here} and {place} have to change places\n"
+            )
+        }
+        Some(place) => write!(
+            f,
+            ": the record of process {p}, member {place}, has to stand here; process {q} joined as member {joined}\n"
+        ),
+        None => write!(
+            f,
+            ": a record of process {p} has to stand before that of process {q}, which joined as member {joined}\n"
         ),
     }
 }

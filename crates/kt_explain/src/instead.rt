@@ -1,15 +1,19 @@
 //! Rows that can stand in the place of one that breaks a rule.
 
-ghost use Rattle.std.specs.Prelude.{Some};
+ghost use Rattle.std.specs.Prelude.{◌≤◌, ◌^◌, Some, IfOk, IsTrue, length};
 ghost use Rattle.std.specs.Fmt.{DisplaysOnOk};
+ghost use Rattle.kt_cuts.specs.Legal.{IsLegal};
+ghost use Rattle.kt_explain.specs.Insteads.{IsLegalNext};
 ghost use Rattle.kt_explain.specs.Words.{instead_words, or_words};
 
 use crate::breach::before::{Before, begun_in};
 use crate::breach::{Breach, InstanceBreach, MessageBreach};
+use crate::finding::{Sought, first_number};
 use crate::row_text::write_row;
-use kt_base::{Cause, InstNo, Kind, MsgNo, ProcNo, Verb};
+use kt_base::{Cause, InstNo, Kind, Memory, MsgNo, ProcNo, RowNo, Verb};
 use kt_cuts::Rule;
 use kt_spacetime::Event;
+use std::alloc::Global;
 use std::fmt;
 
 /// Rows that keep every rule in the place of one that breaks one.
@@ -20,11 +24,11 @@ pub struct Instead {
 }
 
 impl Before<'_> {
-    ghost use Rattle.std.specs.Prelude.{◌≡◌, true, IfSome, IsTrue};
+    ghost use Rattle.std.specs.Prelude.{◌≡◌, ◌<◌, ◌∷◌, ◌++◌, [], true, IfSome};
     ghost use Rattle.kt_cuts.specs.Past.{past};
     ghost use Rattle.kt_cuts.specs.Legal.{keeps};
     ghost use Rattle.kt_explain.specs.Breaches.{KnowsBefore};
-    ghost use Rattle.kt_explain.specs.Insteads.{IsInstead, IsLegalNext, answers};
+    ghost use Rattle.kt_explain.specs.Insteads.{IsInstead, IsMissing, answers};
 
     /// Rows that keep every rule in the place of this one, which breaks a rule like this.
     pub(crate) fn instead(&self, row: &Event, breach: &Breach) -> Instead
@@ -37,6 +41,108 @@ impl Before<'_> {
         };
         let second = self.unsaved(&first);
         Instead { first, second }
+    }
+
+    /// A row that can stand before this one, which breaks a rule like this, if none stands later in its place: each keeps every
+    /// rule in its turn.
+    pub(crate) fn missing(
+        &self,
+        alloc: Global,
+        row: &Event,
+        breach: &Breach,
+        later: Option<RowNo>,
+    ) -> Result<Option<Event>, Memory>
+        requires before { KnowsBefore self.now }
+        requires few { length self.now.rows.now < 2 ^ 24 }
+        ensures { IfOk result (λ told. IfSome told (IsMissing self.now.rows.now row.now)) }
+    {
+        if later.is_some() {
+            return Ok(None);
+        }
+        let Some(earlier) = self.earlier(row, breach) else {
+            return Ok(None);
+        };
+        if self.precedes(alloc, &earlier, row)? {
+            Ok(Some(earlier))
+        } else {
+            Ok(None)
+        }
+    }
+
+    // Whether the second row keeps every rule after the first.
+    fn precedes(&self, alloc: Global, earlier: &Event, row: &Event) -> Result<bool, Memory>
+        requires before { KnowsBefore self.now }
+        requires few { length self.now.rows.now < 2 ^ 24 }
+        requires next { IsLegalNext self.now.rows.now earlier.now }
+        ensures { IfOk result (λ precedes. IsTrue precedes → IsLegalNext (self.now.rows.now ++ earlier.now ∷ []) row.now) }
+    {
+        let mut rows = Vec::with_capacity(alloc, self.rows.len() + 1)?;
+        rows.extend_from_slice(self.rows)?;
+        rows.push(*earlier)?;
+        is_legal_next(alloc, rows.as_slice(), row)
+    }
+
+    // The row that may be missing before one that breaks a rule like this.
+    fn earlier(&self, row: &Event, breach: &Breach) -> Option<Event>
+        requires before { KnowsBefore self.now }
+        ensures { IfSome result (IsLegalNext self.now.rows.now) }
+    {
+        match *breach {
+            Breach::Instance(InstanceBreach::JustBegun { p, inst, .. }) => self.answer(p, inst),
+            Breach::Instance(InstanceBreach::NotBegun(_)) => self.beginning_before(row),
+            Breach::Instance(InstanceBreach::Undecided { inst, p }) => self.deciding_before(
+                inst, p,
+            ),
+            Breach::Message(MessageBreach::NotSent(_)) => self.sending_before(row),
+            _ => None,
+        }
+    }
+
+    // That the process that joins by a row begins the instance.
+    fn beginning_before(&self, row: &Event) -> Option<Event>
+        requires before { KnowsBefore self.now }
+        ensures { IfSome result (IsLegalNext self.now.rows.now) }
+    {
+        match *row {
+            Event::Took { p, inst } => self.legal(Event::Began {
+                p,
+                inst,
+                kind: Kind::Checkpoint,
+            }),
+            Event::Ready { p, inst } => self.legal(Event::Began {
+                p,
+                inst,
+                kind: Kind::Rollback,
+            }),
+            _ => None,
+        }
+    }
+
+    // That the initiator of an instance decides it, as the processes have answered.
+    fn deciding_before(&self, inst: InstNo, p: Option<ProcNo>) -> Option<Event>
+        requires before { KnowsBefore self.now }
+        ensures { IfSome result (IsLegalNext self.now.rows.now) }
+    {
+        let p = p?;
+        let commit = first_number(self.rows, &Sought::Unwilling(inst)).is_none();
+        self.legal(Event::Decided { p, inst, commit })
+    }
+
+    // That the message is sent which a row takes.
+    fn sending_before(&self, row: &Event) -> Option<Event>
+        requires before { KnowsBefore self.now }
+        ensures { IfSome result (IsLegalNext self.now.rows.now) }
+    {
+        match *row {
+            Event::Received { p, from, .. } | Event::Dropped { p, from, .. } => self.legal(
+                Event::Sent {
+                    p: from,
+                    to: p,
+                    body: 0,
+                },
+            ),
+            _ => None,
+        }
     }
 
     // The first row of those that may be meant which keeps every rule.
@@ -259,6 +365,16 @@ impl Before<'_> {
         };
         self.legal(Event::Refused { p, verb, cause })
     }
+}
+
+// Whether a row keeps every rule after those of a legal log.
+fn is_legal_next(alloc: Global, rows: &[Event], row: &Event) -> Result<bool, Memory>
+    requires few { length rows.now ≤ 2 ^ 24 }
+    requires legal { IsLegal rows.now }
+    ensures { IfOk result (λ legal. IsTrue legal → IsLegalNext rows.now row.now) }
+{
+    let before = Before::of(alloc, rows)?;
+    Ok(before.keeps_all(row))
 }
 
 /// Which rows can stand in the place of one that breaks a rule.

@@ -1,11 +1,11 @@
 //! What is told of a list that is not an instance's members.
 
-ghost use Rattle.std.specs.Prelude.{◌≡◌, Some, IfOk, IfNone, IfSome, map, slice_get};
+ghost use Rattle.std.specs.Prelude.{◌≡◌, Some, IfOk, IfNone, IfSome};
 ghost use Rattle.kt_cuts.specs.Chains.{joins, members};
 ghost use Rattle.kt_checker.specs.declared.verdict.Verdict.TheVariants.{No};
 ghost use Rattle.kt_checker.specs.declared.verdict.Why.TheVariants as why;
 ghost use Rattle.kt_checker.specs.Order.{IsCheckerAnswer};
-ghost use Rattle.kt_explain.specs.Told.{DifferAt, IsExplanation, listed_in};
+ghost use Rattle.kt_explain.specs.Told.{IsExplanation, IsPlaceIn, IsUnlikeAt, listed_in};
 
 use crate::breach::before::Before;
 use crate::explanation::{Explanation, Unlike};
@@ -48,13 +48,14 @@ fn other_member_at(
         return Ok(Explanation::Nothing);
     };
     let rows = log.rows();
-    let members = joined_in(alloc, rows, inst)?;
-    let Some(unlike) = first_unlike(certificate, members.as_slice()) else {
+    let listed = listed_in(alloc, certificate)?;
+    let joined = joined_in(alloc, rows, inst)?;
+    let Some(unlike) = first_unlike(listed.as_slice(), joined.as_slice()) else {
         return Ok(Explanation::Nothing);
     };
     let upto = row.get() as usize - 1;
     let before = Before::of(alloc, &rows[..upto])?;
-    let linking = before.linking_of(certificate, &unlike);
+    let linking = before.linking_of(alloc, certificate, &unlike)?;
     Ok(Explanation::OtherMember {
         inst,
         unlike,
@@ -85,32 +86,50 @@ fn joining(inst: InstNo, row: &Event) -> Option<ProcNo>
     }
 }
 
-// The first place at which the list of a certificate differs from those who joined.
-fn first_unlike(certificate: &Certificate, joined: &[ProcNo]) -> Option<Unlike>
-    ensures unlike { IfSome result (λ u. DifferAt (listed_in certificate.now) joined.now u.place u.listed u.joined) }
-    ensures same { IfNone result (listed_in certificate.now ≡ joined.now) }
+// The processes that a certificate lists.
+fn listed_in(alloc: Global, certificate: &Certificate) -> Result<Vec<ProcNo>, Memory>
+    ensures { IfOk result (λ list. list.items ≡ listed_in certificate.now) }
 {
-    let count = certificate.members.list().len().max(joined.len());
+    let list = certificate
+        .members
+        .list()
+        .iter()
+        .map(|(p, _chain)| *p)
+        .collect(alloc)?;
+    Ok(list)
+}
+
+// The first place at which those who are listed differ from those who joined.
+fn first_unlike(listed: &[ProcNo], joined: &[ProcNo]) -> Option<Unlike>
+    ensures unlike { IfSome result (IsUnlikeAt listed.now joined.now) }
+    ensures same { IfNone result (listed.now ≡ joined.now) }
+{
+    let count = listed.len().max(joined.len());
     for index in 0..count {
-        let listed = listed_at(certificate, index);
+        let here = listed.get(index).copied();
         let there = joined.get(index).copied();
-        if listed != there {
+        if here != there {
             return Some(Unlike {
                 place: index + 1,
-                listed,
+                listed: here,
                 joined: there,
+                joined_as: place_in(joined, here),
+                listed_as: place_in(listed, there),
             });
         }
     }
     None
 }
 
-// Who is listed at an index.
-fn listed_at(certificate: &Certificate, index: usize) -> Option<ProcNo>
-    ensures { result ≡ slice_get (listed_in certificate.now) index }
+// The first place, from 1, of a process in a list.
+fn place_in(list: &[ProcNo], p: Option<ProcNo>) -> Option<usize>
+    ensures { IsPlaceIn list.now p result }
 {
-    match certificate.members.list().get(index) {
-        Some((p, _chain)) => Some(*p),
-        None => None,
+    let p = p?;
+    for index in 0..list.len() {
+        if list[index] == p {
+            return Some(index + 1);
+        }
     }
+    None
 }

@@ -9,7 +9,7 @@ ghost use Rattle.kt_cuts.specs.Legal.{follows};
 ghost use Rattle.kt_explain.specs.Breaches.{IsJudged};
 
 use crate::breach::{Breach, InstanceBreach, Open, Outside, ProcessBreach};
-use crate::finding::{Found, Sought, first_row, last_number};
+use crate::finding::{Found, Sought, first_number, first_row, last_number};
 use kt_base::{InstNo, Kind, Memory, ProcNo, RowNo};
 use kt_histories::Histories;
 use kt_spacetime::{Event, SpaceTime};
@@ -105,6 +105,7 @@ impl Before<'_> {
             row,
             decided: last_number(self.rows, &Sought::Decided(inst)),
             initiator: self.beginner(inst),
+            unwilling: first_number(self.rows, &Sought::Unwilling(inst)),
         }
     }
 

@@ -1,4 +1,4 @@
-use Rattle.std.proofs.Common.{◌≡◌, ◌<◌, ◌++◌, ◌∷◌, ℕ, List, length, take, refl, sym, ap, subst, rules, arith}
+use Rattle.std.proofs.Common.{◌<◌, ◌∷◌, ℕ, List, length, refl, sym, subst, rules, arith}
 use Rattle.std.proofs.lemmas.Grind.{put_two}
 use Rattle.std.proofs.lemmas.List.{take_all}
 use Rattle.std.specs.Fmt.{HasWritten, decimal}

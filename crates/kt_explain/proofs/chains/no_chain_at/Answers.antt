@@ -44,7 +44,7 @@ returns-in-Some-bad_chain c =
     let bad = c.in-Some-bad_chain.ensures.bad (take n rows) histories (legal_take n rows h.legal) in
     let found = c.in-Some-bad_chain.chain in
     let certificate = c.in-Some.certificate.now in
-    let linking : IsLinking (take n rows) certificate found.place found.p c.link_before.result = subst (λ (list : List Event). IsLinking list certificate found.place found.p c.link_before.result) same c.link_before.ensures in (
+    let linking : IsLinking (take n rows) certificate found.place found.p c.in_ok-link_before-in-Some-bad_chain.field-0 = subst (λ (list : List Event). IsLinking list certificate found.place found.p c.in_ok-link_before-in-Some-bad_chain.field-0) same c.in_ok-link_before-in-Some-bad_chain.ensures in (
       n,
       ap (λ (r : ℕ). No (Some c.args.inst) (Some r) why.Chain) number,
       c.in-Some.certificate.now,
@@ -52,7 +52,7 @@ returns-in-Some-bad_chain c =
       bad,
       subst (λ (list : List Event). AreChainRows list c.args.inst c.in-Some-bad_chain.chain.flaw c.chain_rows.result) same c.chain_rows.ensures,
       linking,
-      chain_made (take n rows) certificate found c.link_before.result bad linking,
+      chain_made (take n rows) certificate found c.in_ok-link_before-in-Some-bad_chain.field-0 bad linking,
     )
 
 pub returns : goal.returns

@@ -1,7 +1,6 @@
 use Rattle.std.proofs.Common.{◌≡◌, ◌<◌, ℕ}
 use Rattle.std.specs.List.{slice_get}
-use Rattle.kt_explain.specs.Told.{listed_in}
 use Rattle.kt_explain.proofs.members.first_unlike.Given as goal
 
 abbrev pub invariant-loop-index : goal.invariant-loop-index
-invariant-loop-index l = (n : ℕ) → n < l.index → slice_get (listed_in l.certificate) n ≡ slice_get l.joined n
+invariant-loop-index l = (n : ℕ) → n < l.index → slice_get l.listed n ≡ slice_get l.joined n

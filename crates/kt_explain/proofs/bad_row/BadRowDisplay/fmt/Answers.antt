@@ -6,5 +6,5 @@ pub returns-clause-writes : goal.returns-clause-writes
 returns-clause-writes g c = λ plain ok.
     let a = c.in_ok-write_broken.ensures plain refl in
     let b = c.in_ok-write_end.ensures a.plain refl in
-    let d = c.write_instead.ensures b.plain ok in
+    let d = c.write_mend.ensures b.plain ok in
     put_three g.W.Write.write_str_gives _ _ _ _ _ _ _ _ a b d refl

@@ -8,5 +8,6 @@ returns c =
     let rows = c.args.self.now.rows.now in
     let certificate = c.args.certificate.now in
     let place = c.args.unlike.now.place in
-    let linking = c.link_before.result in
-    subst (λ (o : Option ℕ). IsLinkingOf rows certificate place o (Some linking)) (sym c.in_ok-p.was) (c.link_before.ensures, goes_on rows certificate place c.in_ok-p.p linking c.link_before.ensures)
+    let linking = c.in_ok-link_before.field-0 in
+    subst (λ (o : Option ℕ). IsLinkingOf rows certificate place o (Some linking)) (sym c.in-Some.is)
+    (c.in_ok-link_before.ensures, goes_on rows certificate place c.in-Some.p linking c.in_ok-link_before.ensures)
