@@ -101,7 +101,7 @@ instance_breach_words (instance.Decided inst row) =
     codes "instance " ++ (decimal inst ++ (codes " was decided in row " ++ (decimal row ++ codes ": after that nobody joins it, is unwilling to join it or decides it, so this row has to go")))
 instance_breach_words (instance.Undecided inst p) = undecided_words inst p
 instance_breach_words (instance.OfKind inst Checkpoint row) =
-    codes "instance " ++ (decimal inst ++ (codes " began in row " ++ (decimal row ++ codes ", as a checkpoint: who is up joins it, by took")))
+    codes "instance " ++ (decimal inst ++ (codes " began in row " ++ (decimal row ++ codes ", as a checkpoint: it is joined by took, and who is down is unwilling to join it")))
 instance_breach_words (instance.OfKind inst Rollback row) =
     codes "instance " ++ (decimal inst ++ (codes " began in row " ++ (decimal row ++ codes ", as a rollback: it is joined by ready")))
 instance_breach_words (instance.OnlyBusy inst row) =

@@ -59,7 +59,7 @@ abbrev pub cause_words : Bool → ℕ → List ℕ
 cause_words true row =
     codes "the log is at fault: row " ++ (decimal row ++ codes " decides it, commit, but a process was unwilling to join it, so that row has to say abort; then koo_toueg --hints certify LOG --cert CERT makes the certificates anew")
 cause_words false row =
-    codes "the log is at fault: row " ++ (decimal row ++ codes " decides it, abort, but no process was unwilling to join it, so that row has to say commit; then koo_toueg --hints certify LOG --cert CERT makes the certificates anew")
+    codes "the log is at fault: row " ++ (decimal row ++ codes " decides it, abort, but no process was unwilling to join it, so that row has to say commit, or a row unwilling is missing before it; then koo_toueg --hints certify LOG --cert CERT makes the certificates anew")
 
 -- what the log has otherwise than a certificate of an instance
 abbrev pub difference_words : Difference → List ℕ
@@ -109,9 +109,9 @@ place_words inst place = codes "member " ++ (decimal place ++ (codes " of instan
 -- that a process that never joined is listed where another one joined, which is listed in this place, or nowhere
 abbrev pub stranger_words : ℕ → ℕ → Option ℕ → List ℕ
 stranger_words q p (Some place) =
-    codes ": process " ++ (decimal q ++ (codes " never joined, so its record has to go, and that of process " ++ (decimal p ++ (codes ", member " ++ (decimal place ++ (codes ", to stand here" ++ 10 ∷ []))))))
+    codes ": process " ++ (decimal q ++ (codes " never joined, so its record has to go, and that of process " ++ (decimal p ++ (codes ", member " ++ (decimal place ++ (codes ", has to stand here" ++ 10 ∷ []))))))
 stranger_words q p None =
-    codes ": process " ++ (decimal q ++ (codes " never joined, so its record has to go, and one of process " ++ (decimal p ++ (codes " to stand here" ++ 10 ∷ []))))
+    codes ": process " ++ (decimal q ++ (codes " never joined, so its record has to go, and one of process " ++ (decimal p ++ (codes " has to stand here" ++ 10 ∷ []))))
 
 -- that the records of two members have to change places
 abbrev pub swap_words : ℕ → ℕ → List ℕ
@@ -296,7 +296,7 @@ linked_words inst member l = pair_words member l ++ longer_words inst member l
 -- that no message links a member, which joined in this row, with one before it
 abbrev pub unlinked_words : ℕ → Option ℕ → List ℕ
 unlinked_words member (Some row) =
-    codes "the log is at fault: no message links process " ++ (decimal member ++ (codes " with a member before it" ++ 10 ∷ (codes "either its rows of the instance have to go, that of joining, row " ++ (decimal row ++ (codes ", and closed, or a row received is missing, by which a message links them" ++ 10 ∷ (codes "then koo_toueg --hints certify LOG --cert CERT makes the certificates anew" ++ 10 ∷ []))))))
+    codes "the log is at fault: no message links process " ++ (decimal member ++ (codes " with a member before it" ++ 10 ∷ (codes "either its rows of the instance have to go, row " ++ (decimal row ++ (codes ", by which it joins, and closed, or a row received is missing, by which a message links them" ++ 10 ∷ (codes "then koo_toueg --hints certify LOG --cert CERT makes the certificates anew" ++ 10 ∷ []))))))
 unlinked_words member None =
     codes "the log is at fault: no message links process " ++ (decimal member ++ (codes " with a member before it" ++ 10 ∷ []))
 
@@ -355,12 +355,13 @@ broken_words rule breach = title_words rule ++ (codes ": " ++ breach_words breac
 abbrev pub line_words : List ℕ → List ℕ
 line_words end = end ++ 10 ∷ []
 
--- whether a message that was not sent before is sent later, and what is wrong, unless the row that sends it can stand before
-abbrev pub sent_later_words : Option ℕ → Bool → List ℕ
-sent_later_words (Some row) mended =
-    codes ": row " ++ (decimal row ++ (codes " does, which has to come before it (a message has the number of the row that sends it), or the number of the message is wrong" ++ 10 ∷ []))
-sent_later_words None true = codes ", and none after it (a message has the number of the row that sends it)" ++ 10 ∷ []
-sent_later_words None false =
+-- whether a message that was not sent before this row is sent later, and what is wrong, unless the row that sends it can stand
+-- before
+abbrev pub sent_later_words : ℕ → Option ℕ → Bool → List ℕ
+sent_later_words here (Some row) mended =
+    codes ": row " ++ (decimal row ++ (codes " does; unless this row names the wrong message, that one has to come before it; there it is row " ++ (decimal here ++ (codes ", so this row then has to name message " ++ (decimal here ++ 10 ∷ [])))))
+sent_later_words here None true = codes ", and none after it (a message has the number of the row that sends it)" ++ 10 ∷ []
+sent_later_words here None false =
     codes ", and none after it (a message has the number of the row that sends it): a row sent is missing before, or the number of the message is wrong" ++ 10 ∷ []
 
 -- whether an instance that has not begun before begins later, and what is wrong, unless a row can stand before this one or in its
@@ -445,7 +446,7 @@ is_mended b = is_some b.missing || is_some b.instead.first
 
 -- how the sentence of what breaks a rule ends: what is to be done, where that hangs on the row or on those after it
 abbrev pub ends_with : BadRow → Breach → List ℕ
-ends_with b (breach.Message (message.NotSent msg)) = sent_later_words b.later (is_some b.missing)
+ends_with b (breach.Message (message.NotSent msg)) = sent_later_words b.row b.later (is_some b.missing)
 ends_with b (breach.Message (message.Undone msg from to)) = undone_words b.undone
 ends_with b (breach.Instance (instance.NotBegun inst)) = begun_later_words b.later (is_mended b)
 ends_with b (breach.Instance (instance.Undecided inst p)) = decided_later_words b.later (is_some b.missing)

@@ -101,7 +101,7 @@ fn write_end<W: fmt::Write>(f: &mut fmt::Formatter<W>, row: &BadRow) -> fmt::Res
 {
     match row.breach {
         Breach::Message(MessageBreach::NotSent(_)) => {
-            write_sent_later(f, row.later, row.missing.is_some())
+            write_sent_later(f, row.row, row.later, row.missing.is_some())
         }
         Breach::Message(MessageBreach::Undone { .. }) => write_undone(f, row.undone),
         Breach::Instance(InstanceBreach::NotBegun(_)) => {
@@ -132,10 +132,11 @@ fn write_line<W: fmt::Write>(f: &mut fmt::Formatter<W>, end: &str) -> fmt::Resul
 // Whether a message is sent later.
 fn write_sent_later<W: fmt::Write>(
     f: &mut fmt::Formatter<W>,
+    here: RowNo,
     later: Option<RowNo>,
     mended: bool,
 ) -> fmt::Result
-    ensures { DisplaysOnOk W.write_str_gives f.old result (Some (sent_later_words later mended)) f.new }
+    ensures { DisplaysOnOk W.write_str_gives f.old result (Some (sent_later_words here later mended)) f.new }
 {
     match later {
         None if mended => write!(
@@ -144,7 +145,7 @@ fn write_sent_later<W: fmt::Write>(
         ),
         Some(row) => write!(
             f,
-            ": row {row} does, which has to come before it (a message has the number of the row that sends it), or the number of the message is wrong\n"
+            ": row {row} does; unless this row names the wrong message, that one has to come before it; there it is row {here}, so this row then has to name message {here}\n"
         ),
         None => write!(
             f,

@@ -404,7 +404,7 @@ impl fmt::Display for InstanceBreach {
                 Kind::Checkpoint => {
                     write!(
                         f,
-                        "instance {inst} began in row {row}, as a checkpoint: who is up joins it, by took"
+                        "instance {inst} began in row {row}, as a checkpoint: it is joined by took, and who is down is unwilling to join it"
                     )
                 }
                 Kind::Rollback => write!(

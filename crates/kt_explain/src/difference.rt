@@ -191,7 +191,7 @@ fn write_cause<W: fmt::Write>(f: &mut fmt::Formatter<W>, commit: bool, row: RowN
     } else {
         write!(
             f,
-            "the log is at fault: row {row} decides it, abort, but no process was unwilling to join it, so that row has to say commit; then koo_toueg --hints certify LOG --cert CERT makes the certificates anew"
+            "the log is at fault: row {row} decides it, abort, but no process was unwilling to join it, so that row has to say commit, or a row unwilling is missing before it; then koo_toueg --hints certify LOG --cert CERT makes the certificates anew"
         )
     }
 }

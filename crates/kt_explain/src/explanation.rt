@@ -241,11 +241,11 @@ fn write_stranger<W: fmt::Write>(
     match listed {
         Some(place) => write!(
             f,
-            ": process {q} never joined, so its record has to go, and that of process {p}, member {place}, to stand here\n"
+            ": process {q} never joined, so its record has to go, and that of process {p}, member {place}, has to stand here\n"
         ),
         None => write!(
             f,
-            ": process {q} never joined, so its record has to go, and one of process {p} to stand here\n"
+            ": process {q} never joined, so its record has to go, and one of process {p} has to stand here\n"
         ),
     }
 }

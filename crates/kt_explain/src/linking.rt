@@ -335,7 +335,7 @@ fn write_unlinked<W: fmt::Write>(
     match joined {
         Some(row) => write!(
             f,
-            "the log is at fault: no message links process {member} with a member before it\neither its rows of the instance have to go, that of joining, row {row}, and closed, or a row received is missing, by which a message links them\nthen koo_toueg --hints certify LOG --cert CERT makes the certificates anew\n"
+            "the log is at fault: no message links process {member} with a member before it\neither its rows of the instance have to go, row {row}, by which it joins, and closed, or a row received is missing, by which a message links them\nthen koo_toueg --hints certify LOG --cert CERT makes the certificates anew\n"
         ),
         None => write!(
             f,
