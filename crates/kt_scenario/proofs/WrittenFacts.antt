@@ -117,7 +117,7 @@ module _ (names : List (List ℕ)) (are : AreNames names) where
   apart false same other = refl
 
   -- a name has its number
-  number_is : (p : ℕ) → p < length names → number_in names (step_name names p) ≡ Some p
+  pub number_is : (p : ℕ) → p < length names → number_in names (step_name names p) ≡ Some p
   number_is p l =
       let name = step_name names p in
       let at : position_or_len (bytes_eq name) names ≡ p = position_or_len_is (bytes_eq name) names p (codes "-") (omega (arith, l))

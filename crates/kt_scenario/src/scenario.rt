@@ -7,7 +7,7 @@ ghost use Rattle.kt_scenario.specs.Said.{nothing_said};
 ghost use Rattle.kt_scenario.specs.Scenario.{IsScenario, IsFirstScenarioFault, Says, most_bytes};
 ghost use Rattle.kt_scenario.specs.declared.fault.ScenarioFault.TheVariants as fault;
 
-use crate::draft::{Draft, note_line};
+use crate::draft::{Draft, GUESSES, note_line};
 use crate::fault::ScenarioFault;
 use crate::words::split_line;
 use kt_plan::{Names, Plan};
@@ -48,6 +48,7 @@ fn read_lines(alloc: Global, text: &[u8]) -> Result<Draft, ScenarioFault>
         kinds: Vec::new(alloc),
         commands: Vec::new(alloc),
         phase: 0,
+        guesses: [0; GUESSES],
     };
     let mut left = Some(text);
     let mut number = 0;
