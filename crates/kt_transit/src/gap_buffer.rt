@@ -282,6 +282,9 @@ fn seek(passed: &mut Vec<Sent>, next: &mut VecDeque<Sent>, index: usize) -> Resu
     ensures capacity { deque_capacity next.new ≡ deque_capacity next.old }
 {
     let cursor = passed.len();
+    if index == cursor {
+        return Ok(());
+    }
     if index < cursor {
         move_back(passed, next, cursor - index);
     } else {

@@ -12,7 +12,7 @@ ghost use Rattle.kt_transit.specs.LastReceived.{IsLastFrom};
 ghost use Rattle.kt_walk.specs.declared.queue.Arrival.{Arrival};
 ghost use Rattle.kt_walk.specs.Searching.{IsFoundPast};
 ghost use Rattle.kt_walk.specs.Arrivals.{AreRisingArrivals, IsUncovered, ShowsReceived, cut_back};
-ghost use Rattle.kt_walk.specs.Pairs.{but_for, count_of, is_idle, IsPairCutBack, IsPairCommitted, IsPairState, IsEachOnce, AreNotDropped};
+ghost use Rattle.kt_walk.specs.Pairs.{but_for, count_of, is_idle, IsPairCutBack, IsPairCommitted, IsPairState, IsEachOnce, AreNotDropped, Grows};
 
 use crate::last::{last_arrival, last_undone, latest};
 use crate::opt_msg_no::OptMsgNo;
@@ -131,6 +131,12 @@ impl Pair {
         ensures none { IfNone result (IsBySend self.now.in_transit → (k : ℕ) (w : Sent)
             → slice_get self.now.in_transit k ≡ Some w → w.msg ≡ msg → ⊥) }
     {
+        // Most messages are received in their turn.
+        if let Some(first) = self.in_transit.get(0) {
+            if first.msg.get() == msg.get() {
+                return Some((0, first));
+            }
+        }
         let index = self.in_transit.find(msg)?;
         let message = self.in_transit.get(index)?;
         Some((index, message))
@@ -182,20 +188,34 @@ impl Pair {
             .saturating_add(self.received_from.undone().len())
     }
 
-    /// Forgets what both permanent parts have, of these lengths by process.
-    fn forget_permanent(&mut self, permanent: &[usize; 64])
+    /// Forgets what both permanent parts have, once those of these members have grown to these lengths by process.
+    fn forget_permanent(&mut self, members: ProcSet, permanent: &[usize; 64])
         ensures receiver { self.new.received_from.receiver ≡ self.old.received_from.receiver }
         ensures sender { self.new.received_from.sender ≡ self.old.received_from.sender }
         ensures pair_state { (received sent : List Deed) (dropped : ℕ → Bool) (i j : ℕ)
-            → i ≤ slice_index permanent.now self.old.received_from.receiver
+            → Grows members permanent.now self.old.received_from.receiver i
             → j ≤ slice_index permanent.now self.old.received_from.sender
             → IsPairState self.old received sent dropped i j
             → IsPairState self.new received sent dropped (slice_index permanent.now self.old.received_from.receiver) (slice_index permanent.now self.old.received_from.sender) }
         ensures none { AreRisingArrivals self.old.received_from.arrivals → IsUncovered permanent.now self.new.received_from }
     {
-        let place = permanent[self.received_from.receiver().get() as usize];
-        self.last_permanent = OptMsgNo::of(self.last_before(place));
+        self.last_permanent = OptMsgNo::of(self.last_in_permanent(members, permanent));
         self.received_from.forget_permanent(permanent);
+    }
+
+    // What was received last in the receiver's permanent part, once those of these members have grown to these lengths by
+    // process: as before, where the receiver is none of them.
+    fn last_in_permanent(&self, members: ProcSet, permanent: &[usize; 64]) -> Option<MsgNo>
+        ensures { (received sent : List Deed) (dropped : ℕ → Bool) (i j : ℕ)
+            → Grows members permanent.now self.now.received_from.receiver i
+            → IsPairState self.now received sent dropped i j
+            → IsLastFrom result self.now.received_from.sender (take (slice_index permanent.now self.now.received_from.receiver) received) }
+    {
+        let receiver = self.received_from.receiver();
+        if !members.has(receiver) {
+            return self.last_permanent.get();
+        }
+        self.last_before(permanent[receiver.get() as usize])
     }
 
     // What was received last before this place, which is not before the permanent part ends.
@@ -214,7 +234,7 @@ impl Pair {
         ensures { IsPairCommitted kind members permanent.now self.old self.new }
     {
         match kind {
-            Kind::Checkpoint => self.forget_permanent(permanent),
+            Kind::Checkpoint => self.forget_permanent(members, permanent),
             Kind::Rollback => self.cut_back(members, permanent),
         }
     }

@@ -6,7 +6,7 @@ returns-in-Checkpoint c =
     let last_permanent : IsPairMadePermanent c.args.members c.args.permanent.now c.args.self.now c.forget_permanent.new.self = record {
       receiver = c.forget_permanent.ensures.receiver;
       sender = c.forget_permanent.ensures.sender;
-      pair_state = λ rs ss dropped i j more most l. c.forget_permanent.ensures.pair_state rs ss dropped i j more.no_less most.no_less l;
+      pair_state = λ rs ss dropped i j more most l. c.forget_permanent.ensures.pair_state rs ss dropped i j more most.no_less l;
       none = λ rising already. c.forget_permanent.ensures.none rising;
     } in
     rw c.in-Checkpoint.is last_permanent
