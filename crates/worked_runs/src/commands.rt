@@ -47,6 +47,16 @@ pub(crate) fn show_command<R: Host>(rt: &R, words: &Words) -> Result<()> {
     Ok(())
 }
 
+/// Shows each command line of a file, what it prints and the exit status.
+pub(crate) fn show_lines<R: Host>(rt: &R, file: &str) -> Result<()> {
+    let lines = fs::read_to_string(rt, file)?;
+    for line in lines.lines() {
+        println!(rt; "$ {line}")?;
+        show_command(rt, &words_of(rt.alloc(), line)?)?;
+    }
+    Ok(())
+}
+
 /// What is stored under this name with this ending.
 pub(crate) fn stored<R: Files + AllocGlobal>(rt: &R, name: &str, ending: &str) -> Result<Vec<u8>> {
     let file = format!(in rt.alloc(); "{name}{ending}")?;

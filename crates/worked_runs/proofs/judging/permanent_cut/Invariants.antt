@@ -4,7 +4,7 @@ use Rattle.kt_spacetime.specs.declared.event.Event.{Event}
 use Rattle.kt_cuts.specs.Past.{past}
 use Rattle.kt_cuts.specs.Cuts.{permanent_cut}
 use Rattle.kt_walk.specs.WalkOf.{WalkOf}
-use Rattle.calling_runs.proofs.judging.permanent_cut.Given as goal
+use Rattle.worked_runs.proofs.judging.permanent_cut.Given as goal
 
 abbrev pub invariant-loop-number : goal.invariant-loop-number
 invariant-loop-number l = record {

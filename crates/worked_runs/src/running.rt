@@ -2,6 +2,7 @@
 
 ghost use Rattle.kt_plans.specs.Headline.{IsCertified};
 
+use crate::commands::Host;
 use crate::counter::{Count, Counter};
 use crate::stepping::gets_yes;
 use anyhow::{Result, anyhow};
@@ -14,15 +15,8 @@ use kt_run::{Outcome, run};
 use kt_scenario::parse;
 use kt_threads::live;
 use std::fs;
-use std::rt::Files;
+use std::sync::Arc;
 use std::sync::atomic::{AtomicU64, Ordering};
-use std::sync::{Arc, Wait};
-use std::thread::Threads;
-
-/// What runs in threads need, and what shows them.
-pub(crate) trait Host: Files + Threads + Wait + Sync + Print + AllocGlobal {}
-
-impl<R: Files + Threads + Wait + Sync + Print + AllocGlobal> Host for R {}
 
 /// One step after another, or each process in a thread of its own.
 #[derive(Clone, Copy)]

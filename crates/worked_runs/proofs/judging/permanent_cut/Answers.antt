@@ -4,7 +4,7 @@ use Rattle.std.proofs.lemmas.Grind.{get_or-set_at}
 use Rattle.std.proofs.lemmas.List.{get_or-set_other, length-set}
 use Rattle.kt_cuts.specs.Past.{past}
 use Rattle.kt_cuts.specs.Cuts.{permanent_cut}
-use Rattle.calling_runs.proofs.judging.permanent_cut.Goals as goal
+use Rattle.worked_runs.proofs.judging.permanent_cut.Goals as goal
 
 pub loop-number-preserved : goal.loop-number-preserved
 loop-number-preserved c =

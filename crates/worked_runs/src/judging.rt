@@ -8,7 +8,7 @@ ghost use Rattle.kt_cuts.specs.Past.{past};
 ghost use Rattle.kt_cuts.specs.Cuts.{IsOrphan, IsConsistent, permanent_cut};
 ghost use Rattle.kt_walk.specs.WalkOf.{WalkOf};
 ghost use Rattle.kt_checker.specs.Passing.{IsPassed};
-ghost use Rattle.calling_runs.specs.Walked.{IsWalkedText};
+ghost use Rattle.worked_runs.specs.Walked.{IsWalkedText};
 
 use anyhow::Result;
 use kt_base::{Memory, MsgNo, ProcNo};

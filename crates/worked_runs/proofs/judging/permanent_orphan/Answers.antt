@@ -1,5 +1,5 @@
-use Rattle.calling_runs.proofs.CutFacts as cut
-use Rattle.calling_runs.proofs.judging.permanent_orphan.Goals as goal
+use Rattle.worked_runs.proofs.CutFacts as cut
+use Rattle.worked_runs.proofs.judging.permanent_orphan.Goals as goal
 
 pub returns-clause-orphan : goal.returns-clause-orphan
 returns-clause-orphan c = cut.permanent_orphan c.args.walk.now c.orphan.result c.permanent_cut.result c.permanent_cut.ensures c.orphan.ensures.orphan

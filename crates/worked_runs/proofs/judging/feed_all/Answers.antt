@@ -1,6 +1,6 @@
 use Rattle.kt_log_text.proofs.GatherFacts.{at_end}
-use Rattle.calling_runs.proofs.Feeding.{fed_none, fed_few, fed_more, fed_all}
-use Rattle.calling_runs.proofs.judging.feed_all.Goals as goal
+use Rattle.worked_runs.proofs.Feeding.{fed_none, fed_few, fed_more, fed_all}
+use Rattle.worked_runs.proofs.judging.feed_all.Goals as goal
 
 pub loop-row-init : goal.loop-row-init
 loop-row-init g c = λ text e. fed_none text c.args.rows.now c.args.walk.now e c.requires.unfed

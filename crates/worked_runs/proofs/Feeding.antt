@@ -7,7 +7,7 @@ use Rattle.kt_log_text.specs.Progress.{GathersRows}
 use Rattle.kt_log_text.proofs.GatherFacts.{gathers_more, gathers_none, gathered_all, most_rows_le}
 use Rattle.kt_walk.specs.WalkOf.{WalkOf}
 use Rattle.kt_walk.specs.WalkParts.{WalkParts}
-use Rattle.calling_runs.specs.Walked.{IsWalkedText}
+use Rattle.worked_runs.specs.Walked.{IsWalkedText}
 
 -- the rows that were read so far are those that the walk was fed
 pub record HasFed (text : Option (List ℕ)) (reader : RowsRead) (walk : WalkParts) : Type 0 where
