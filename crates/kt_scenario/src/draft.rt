@@ -64,7 +64,7 @@ fn is_named(names: &Names, number: u8, word: &[u8]) -> bool
     }
 }
 
-// The number of the process that a word names, if there is one. A guess is tried first, which takes a fifth of the time
+// The number of the process that a word names, if there is one. A guess is tried first, which takes a quarter of the time
 // that it takes to look the name up.
 fn number_of(draft: &Draft, word: &[u8]) -> Option<ProcNo>
     ensures { result ≡ number_in draft.now.names word.now }
