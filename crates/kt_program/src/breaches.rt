@@ -2,6 +2,7 @@
 
 ghost use Rattle.std.specs.Prelude.{◌≡◌, ◌++◌, true, ℕ, List, OnOk, IfSome};
 ghost use Rattle.kt_explain.specs.Words.{bad_row_words};
+ghost use Rattle.kt_explain.specs.declared.explanation.Explanation.TheVariants.{BadLog};
 ghost use Rattle.kt_hints.specs.Shown.{indented};
 ghost use Rattle.kt_program.specs.Breaches.{IsBreachOf, IsBreachOrRule, IsLogOfFile, IsRowBroken, rule_lines, rule_lines_of};
 
@@ -108,14 +109,25 @@ fn log_again<F: Files>(
 }
 
 // The first row of a log that breaks a rule, as it is told.
+#[tactic(auto, using(crate::proofs::BreachFacts::breach_of))]
 fn bad_row_of(alloc: Global, log: &SpaceTime) -> Option<BadRow>
     ensures { IfSome result (IsBreachOf log.now.rows) }
 {
     let Ok(verdict) = check(alloc, log, &[]) else {
         return None;
     };
-    match explain(alloc, log, &[], &verdict) {
-        Ok(Explanation::BadLog(row)) => Some(row),
+    let Ok(explanation) = explain(alloc, log, &[], &verdict) else {
+        return None;
+    };
+    bad_row_in(&explanation)
+}
+
+// The row that breaks a rule, where one is told.
+fn bad_row_in(told: &Explanation) -> Option<BadRow>
+    ensures { IfSome result (λ row. told.now ≡ BadLog row) }
+{
+    match told {
+        Explanation::BadLog(row) => Some(*row),
         _ => None,
     }
 }
