@@ -6,11 +6,12 @@
 
 use crate::commands::{Host, stored};
 use crate::texts::HEADER;
-use anyhow::Result;
-use kt_chain::read_certs;
+use anyhow::{Result, bail};
+use kt_chain::{Certificate, read_certs};
 use kt_checker::check;
 use kt_log_text::read_csv;
 use kt_program::{Done, ProgramFault, check_bytes, end};
+use kt_spacetime::SpaceTime;
 use std::alloc::Global;
 use std::fs;
 
@@ -39,12 +40,19 @@ fn written_of(alloc: Global, log: &[u8], cert: &[u8]) -> Written {
     Written { out, err, status }
 }
 
+// The answer to lists of rows and of certificates, as a line.
+fn answer_to(alloc: Global, log: &SpaceTime, certificates: &[Certificate]) -> Result<String> {
+    let Ok(verdict) = check(alloc, log, certificates) else {
+        bail!("no answer");
+    };
+    Ok(format!(in alloc; "{verdict}\n")?)
+}
+
 // Whether this line is the answer to the list of rows and the list of certificates that the texts say.
 fn is_answer_to_lists(alloc: Global, log: &[u8], cert: &[u8], line: &[u8]) -> Result<bool> {
-    let rows = read_csv(alloc, log)?;
+    let log = read_csv(alloc, log)?;
     let certificates = read_certs(alloc, cert)?;
-    let verdict = check(alloc, &rows, certificates.as_slice())?;
-    let answer = format!(in alloc; "{verdict}\n")?;
+    let answer = answer_to(alloc, &log, certificates.as_slice())?;
     Ok(answer.as_bytes() == line)
 }
 

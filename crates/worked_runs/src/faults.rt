@@ -63,9 +63,8 @@ fn live_faults(p: ProcNo) -> [AppFault; 9] {
     ]
 }
 
-// Shows a fault, its line and its exit status.
+// Shows the line of a fault and its exit status.
 fn show_fault<R: Host>(rt: &R, fault: ProgramFault) -> Result<()> {
-    println!(rt; "{fault:?}")?;
     let status = end(Err(fault), &mut io::writer(rt));
     println!(rt; "status {status}")?;
     Ok(())
@@ -79,7 +78,7 @@ fn show_each<R: Host>(rt: &R, faults: &[AppFault]) -> Result<()> {
     Ok(())
 }
 
-/// Shows faults, their lines and their exit statuses.
+/// Shows the lines of faults and their exit statuses.
 pub(crate) fn show_faults<R: Host>(rt: &R) -> Result<()> {
     let p = ProcNo::nth(1);
     show_fault(rt, ProgramFault::Line)?;
