@@ -4,6 +4,7 @@ pub mod Replay
 pub mod Reading
 pub mod Asking
 pub mod Noting
+pub mod Quieting
 pub mod Serving
 pub mod Moving
 pub mod Keeping

@@ -9,9 +9,10 @@ use Rattle.kt_plans.specs.Steps.{process_of_step}
 use Rattle.kt_plan.specs.declared.steps.Step.{Step}
 use Rattle.kt_plan.specs.declared.steps.Told.{Told}
 use Rattle.kt_threads.specs.Errands.{errand_of, errands_at, errands_of, is_no_errand}
-use Rattle.kt_threads.specs.Histories.{AreTheirs, AreTold, made_by, told_to}
+use Rattle.kt_threads.specs.Histories.{AreTheirs, AreTold, WorldHistory, made_by, told_to}
 use Rattle.kt_threads.specs.Moves.{move_of}
 use Rattle.kt_threads.specs.Noted.{AreAskedBy, AreListed, AreNoted, AreToldBy, IsNotedBy, made_steps}
+use Rattle.kt_threads.specs.Turns.{IsMadeQuietly}
 use Rattle.kt_threads.specs.declared.errands.Errand.{Errand}
 use Rattle.kt_threads.specs.declared.state.Made.{Made}
 
@@ -162,6 +163,18 @@ noted_next made steps errands errands' told told' listed listed' step asks tells
   lists = listed_next made steps listed listed'
       (more ∙ ap (λ (s : Step). option_map (λ (list : List Step). list ++ s ∷ []) listed) same) n.lists;
 }
+
+-- a step that asked nothing, where what is told is not kept
+pub noted_quietly : (old new : WorldHistory) (step : Step) (errands : List (List Errand)) (told : List (List Told)) (listed listed' : Option (List Step))
+    → IsMadeQuietly old new step → told ≡ [] → listed' ≡ option_map (λ list. list ++ step ∷ []) listed
+    → AreNoted old.steps errands told listed → AreNoted new.steps errands told listed'
+noted_quietly old new step errands told listed listed' quiet none more n =
+    subst (λ (steps : List Made). AreNoted steps errands told listed') (sym quiet.steps) (record {
+      asked = none_asked_next quiet.made old.steps errands quiet.idle n.asked;
+      tells = untold_next quiet.made old.steps told none;
+      lists = listed_next quiet.made old.steps listed listed'
+          (more ∙ ap (λ (s : Step). option_map (λ (list : List Step). list ++ s ∷ []) listed) (sym quiet.is)) n.lists;
+    })
 
 pub at_ok : {T E : Type 0} (r : Result T E) (P : Type 0) → is_err r ≡ false → OnOk r P → P
 at_ok (Ok x) P e h = h

@@ -1,5 +1,5 @@
 -- An object that rejects a saved state, and whose it is.
-use Rattle.std.proofs.Common.{arith, ◌≡◌, ◌≢◌, ◌⊎◌, ◌∙◌, inl, inr, ℕ, zero, suc, List, [], ◌∷◌, map, refl, sym, ap, subst, All, IfSome, Option, Some, None}
+use Rattle.std.proofs.Common.{arith, ◌≡◌, ◌≢◌, ◌∙◌, inl, inr, ℕ, zero, suc, List, [], ◌∷◌, map, refl, sym, ap, subst, All, IfSome, Option, Some, None}
 use Rattle.std.specs.List.{AllZip, Any}
 use Rattle.std.specs.Prelude.{option_map, slice_get, slice_index_or, take}
 use Rattle.std.specs.declared.alloc.Global.{Global}
@@ -20,7 +20,7 @@ use Rattle.kt_values.specs.Values.{Due, due}
 use Rattle.kt_threads.specs.Faults.{AnswersFirst, live_of_act, live_stopped_at}
 use Rattle.kt_threads.specs.Workers.{IsOfKind, HasOf, KeepsObjects, KeepsServing}
 use Rattle.kt_threads.specs.declared.faults.LiveFault.{LiveFault}
-use Rattle.kt_threads.specs.declared.faults.LiveFault.TheVariants.{CastSize, CastKind, Object, Journal, Step, Spawn, Differ, Memory}
+use Rattle.kt_threads.specs.declared.faults.LiveFault.TheVariants.{Object, Journal}
 use Rattle.kt_threads.specs.declared.worker.Worker.{Worker}
 
 -- of objects of which the first one is of a kind

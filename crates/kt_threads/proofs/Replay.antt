@@ -1,15 +1,18 @@
 -- Steps one after another.
-use Rattle.std.proofs.Common.{arith, ◌≡◌, ◌∙◌, ◌<◌, ◌+◌, ◌^◌, ℕ, zero, suc, List, [], ◌∷◌, ◌++◌, length, refl, sym, subst, ap, None, Some}
-use Rattle.std.specs.Prelude.{slice_get}
+use Rattle.std.proofs.Common.{arith, ◌≡◌, ◌∙◌, ◌<◌, ◌+◌, ◌^◌, ℕ, zero, suc, List, [], ◌∷◌, ◌++◌, length, refl, sym, subst, ap, None, Some, false}
+use Rattle.std.specs.Prelude.{pos, slice_get}
 use Rattle.kt_core.specs.Making.{KeepsPlan, MakesStep}
 use Rattle.kt_core.specs.Ready.{IsReady}
 use Rattle.kt_core.specs.Shown.{Mirrors}
-use Rattle.kt_core.specs.Worlds.{World, IsSameWorld, IsOpening, numbered_row}
+use Rattle.kt_core.specs.Worlds.{World, IsSameWorld, IsOpening, numbered_row, step_refusal}
 use Rattle.kt_core.specs.declared.ready.Ready.{Ready}
 use Rattle.kt_plan.specs.Limits.{Planned}
 use Rattle.kt_plan.specs.declared.steps.Act.{Act}
 use Rattle.kt_plan.specs.declared.steps.Give.{Give}
 use Rattle.kt_plan.specs.declared.steps.Step.{Step}
+use Rattle.kt_plan.specs.declared.steps.Step.TheVariants.{Take}
+use Rattle.kt_plan.specs.declared.steps.Act.TheVariants as act
+use Rattle.kt_plan.specs.declared.steps.Look.TheVariants as need
 use Rattle.kt_plans.specs.Looks as run_looks
 use Rattle.kt_plans.specs.Progress.{Progress, progress_at_start}
 use Rattle.kt_system.specs.Systems.{Whole, IsSameSystem}
@@ -108,3 +111,22 @@ ready_step w next step is ready looks = record {
   ready = ready;
   look = λ first v r. subst (λ (s : Step). next.look ≡ run_looks.look w.agenda.plan v s) (sym is) (looks first v r);
 }
+
+-- a parcel was taken of which nothing was needed or asked
+pub taken_quietly : (old new : World) (at from count : ℕ) (made : Made)
+    → made ≡ record { look = need.Plain; give = record { able = false; body = pos 0 }; told = record { step = Take at from; rows = four_rows new.system.rows.rows count; acts = act.Nothing ∷ act.Nothing ∷ [] } }
+    → count ≡ length old.system.rows.rows → step_refusal old (Take at from) ≡ None → KeepsPlan old new
+    → MakesStep old (Take at from) (record { able = false; body = pos 0 }) (act.Nothing ∷ act.Nothing ∷ []) new
+    → ((first : ℕ) (v : Progress) → Mirrors old.agenda old.system first v → run_looks.look old.agenda.plan v (Take at from) ≡ need.Plain)
+    → IsMade old made new
+taken_quietly old new at from count made is before allowed keeps makes looks = subst (λ (m : Made). IsMade old m new) (sym is) step
+  where
+    step : IsMade old (record { look = need.Plain; give = record { able = false; body = pos 0 }; told = record { step = Take at from; rows = four_rows new.system.rows.rows count; acts = act.Nothing ∷ act.Nothing ∷ [] } }) new
+    step = record {
+      allowed = allowed;
+      keeps = keeps;
+      makes = makes;
+      four = refl;
+      rows = λ i l. told_at_place new.system.rows.rows count i l ∙ ap (λ (k : ℕ). Some (numbered_row new.system.rows.rows (k + i))) before;
+      look = λ first v r. sym (looks first v r);
+    }

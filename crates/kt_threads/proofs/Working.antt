@@ -1,5 +1,5 @@
 -- A worker's next step, and what workers come to.
-use Rattle.std.proofs.Common.{◌≡◌, ◌∙◌, ◌+◌, Bool, true, List, [], ◌∷◌, ◌++◌, drop, map, refl, sym, ap, subst, All, IfSome, ℕ, ℤ, suc, Option, Some, None}
+use Rattle.std.proofs.Common.{◌≡◌, ◌∙◌, ◌+◌, Bool, List, [], ◌∷◌, ◌++◌, drop, map, refl, sym, ap, subst, All, IfSome, ℕ, ℤ, suc, Option, Some, None}
 use Rattle.std.specs.List.{AllZip}
 use Rattle.std.specs.Prelude.{is_some, option_map, slice_get}
 use Rattle.std.specs.declared.alloc.Global.{Global}

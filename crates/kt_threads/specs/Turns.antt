@@ -1,5 +1,5 @@
 -- What a process can do next, and when all is over.
-use Rattle.std.specs.Prelude.{◌≡◌, ◌⊎◌, ℕ, true, false, Option, Some, None, IsSome}
+use Rattle.std.specs.Prelude.{◌≡◌, ◌⊎◌, ℕ, true, false, [], ◌∷◌, ◌++◌, All, List, Option, Some, None, IsSome}
 use Rattle.kt_core.specs.declared.faults.StepFault.{StepFault}
 use Rattle.kt_core.specs.declared.faults.StepFault.TheVariants as refused
 use Rattle.kt_core.specs.Ready.{IsReady}
@@ -11,8 +11,10 @@ use Rattle.kt_plans.specs.Progress.{Progress}
 use Rattle.kt_plans.specs.Steps.{process_of_step}
 use Rattle.kt_plan.specs.declared.steps.Step.{Step}
 use Rattle.kt_threads.specs.Faults.{live_of_step}
-use Rattle.kt_threads.specs.Histories.{WorldHistory, first_fault}
+use Rattle.kt_threads.specs.Errands.{errand_of, is_no_errand}
+use Rattle.kt_threads.specs.Histories.{WorldHistory, IsMade, first_fault}
 use Rattle.kt_threads.specs.declared.faults.LiveFault.{LiveFault}
+use Rattle.kt_threads.specs.declared.state.Made.{Made}
 
 -- the step that a process makes next, which can be made; none where no step of it can be made
 abbrev pub IsNext : World → ℕ → Option Step → Type 0
@@ -40,3 +42,17 @@ pub record EndsBy (state : WorldHistory) (step : Step) (fault : Option LiveFault
   pub why : StepFault
   pub refused : (why ≡ refused.Memory) ⊎ (step_refusal state.world step ≡ Some why)
   pub kept : fault ≡ first_fault state.fault (live_of_step why)
+
+-- a step was made and recorded that asked nothing of its process's object
+pub record IsMadeQuietly (old new : WorldHistory) (step : Step) : Type 0 where
+  pub made : Made
+  pub steps : new.steps ≡ old.steps ++ made ∷ []
+  pub is : made.told.step ≡ step
+  pub leads : IsMade old.world made new.world
+  pub idle : is_no_errand (errand_of made) ≡ true
+
+-- steps were made and recorded that asked nothing of any object
+pub record GoesOnQuietly (old new : WorldHistory) : Type 0 where
+  pub more : List Made
+  pub steps : new.steps ≡ old.steps ++ more
+  pub idle : All (λ made. is_no_errand (errand_of made) ≡ true) more

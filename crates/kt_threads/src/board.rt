@@ -6,16 +6,14 @@ ghost use Rattle.kt_threads.specs.Turns.{HasStep, IsOver};
 
 use crate::errands::errand_for;
 use crate::faults::LiveFault;
-use crate::minutes::Minutes;
+use crate::minutes::{MOST_IN_ONE_HOLD, Minutes};
 use crate::state::{Acted, State};
 use kt_base::{Memory, ProcNo};
 use kt_core::Ready;
 use kt_plan::{Give, Look, Step};
 use std::alloc::Global;
-use std::sync::{Condvar, Mutex, Wait};
-
-/// How many steps of one process are made while the others wait for the lock.
-const MOST_IN_ONE_HOLD: usize = 1024;
+use std::sync::{Mutex, Wait};
+use std::thread::Parker;
 
 /// What comes next for a process.
 #[derive(Drop)]
@@ -30,11 +28,19 @@ pub(crate) enum Next {
     End,
 }
 
+/// Whom one calls who leaves the lock.
+#[derive(Clone, Copy)]
+enum Whom {
+    Nobody,
+    One(ProcNo),
+    All,
+}
+
 /// Minutes under a lock, and for each process the news that it can make a step, or that all is over.
 #[derive(Drop)]
 pub(crate) struct Board {
     minutes: Mutex<Minutes>,
-    news: Vec<Condvar>,
+    news: Vec<Parker>,
 }
 
 impl Board {
@@ -57,18 +63,23 @@ impl Board {
         let Some(news) = self.news.get(me.index()) else {
             return Next::End;
         };
-        let mut minutes = self.minutes.lock(rt);
         for _ in rt.forever() {
+            let mut minutes = self.minutes.lock(rt);
             minutes.arrive(me);
             let next = go_on(&mut minutes, me);
-            if !is_nothing(&next) || !must_wait(minutes.state(), me) {
+            let waits = is_nothing(&next) && must_wait(minutes.state(), me);
+            if waits {
+                minutes.sleep(me);
+            } else {
                 minutes.leave(me);
-                self.wake(&mut minutes);
+            }
+            let whom = called(&mut minutes);
+            drop(minutes);
+            self.wake(whom);
+            if !waits {
                 return next;
             }
-            minutes.sleep(me);
-            self.wake(&mut minutes);
-            minutes = news.wait(rt, minutes);
+            news.park(rt);
         }
         Next::End
     }
@@ -94,7 +105,9 @@ impl Board {
         minutes.arrive(me);
         let next = make_asked(&mut minutes, me, step, look, give);
         minutes.leave(me);
-        self.wake(&mut minutes);
+        let whom = called(&mut minutes);
+        drop(minutes);
+        self.wake(whom);
         next
     }
 
@@ -105,25 +118,23 @@ impl Board {
         self.wake_all();
     }
 
-    /// Who leaves the lock wakes a process that sleeps though it can make a step, unless another thread is at the lock or on
-    /// its way there; and all of them where all is over.
-    fn wake(&self, minutes: &mut Minutes) {
-        if minutes.state().is_over() {
-            self.wake_all();
-            return;
-        }
-        let Some(p) = minutes.call() else {
-            return;
-        };
-        if let Some(news) = self.news.get(p.index()) {
-            news.notify_one();
+    /// Wakes who was called.
+    fn wake(&self, whom: Whom) {
+        match whom {
+            Whom::Nobody => {}
+            Whom::One(p) => {
+                if let Some(news) = self.news.get(p.index()) {
+                    news.unpark();
+                }
+            }
+            Whom::All => self.wake_all(),
         }
     }
 
     /// Wakes all.
     fn wake_all(&self) {
         for news in self.news.iter() {
-            news.notify_all();
+            news.unpark();
         }
     }
 
@@ -135,12 +146,27 @@ impl Board {
 }
 
 /// For each of so many processes, news that did not come yet.
-fn news_of(alloc: Global, processes: usize) -> Result<Vec<Condvar>, Memory> {
+fn news_of(alloc: Global, processes: usize) -> Result<Vec<Parker>, Memory> {
     let mut news = Vec::with_capacity(alloc, processes)?;
     for _ in 0..processes {
-        news.push(Condvar::new())?;
+        news.push(Parker::new())?;
     }
     Ok(news)
+}
+
+/// Whom one calls who leaves the lock: a process that sleeps though it can make a step, unless another thread is at the lock or
+/// on its way there; and all of them where all is over.
+fn called(minutes: &mut Minutes) -> Whom {
+    if !minutes.state().is_over() {
+        if let Some(p) = minutes.call() {
+            return Whom::One(p);
+        }
+    }
+    if minutes.state().is_over() {
+        Whom::All
+    } else {
+        Whom::Nobody
+    }
 }
 
 /// Whether a process waits: where it can make no step, and all is not over.
@@ -219,6 +245,7 @@ fn go_on(minutes: &mut Minutes, me: ProcNo) -> Next
     ensures own { (made : _) → result ≡ Next.Made made → process_of_step made.told.step ≡ me }
 {
     for _ in 0..MOST_IN_ONE_HOLD {
+        minutes.take_all_quietly(me);
         let next = make_next(minutes, me);
         if !is_done(&next) {
             return next;

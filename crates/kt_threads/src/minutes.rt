@@ -1,10 +1,10 @@
 //! What lies under the lock: a state, and what is noted of the steps that led to it.
 
-ghost use Rattle.std.specs.Prelude.{◌≡◌, ◌⊎◌, ◌^◌, ◌≤◌, [], ◌∷◌, ◌++◌, None, map, option_map, IfOk, IfNone, IfSome, IsSome, IsTrue, OnOk, ◌↔◌};
+ghost use Rattle.std.specs.Prelude.{◌≡◌, ◌⊎◌, ◌^◌, ◌≤◌, [], ◌∷◌, ◌++◌, true, false, None, map, option_map, IfOk, IfNone, IfSome, IsSome, IsTrue, OnOk, ◌↔◌};
 ghost use Rattle.kt_plans.specs.Steps.{process_of_step};
 ghost use Rattle.kt_threads.specs.Noted.{AreNoted, AreToldBy};
 ghost use Rattle.kt_threads.specs.Rows.{four_rows};
-ghost use Rattle.kt_threads.specs.Turns.{EndsBy, HasStep, IsNext, IsReadyStep};
+ghost use Rattle.kt_threads.specs.Turns.{EndsBy, GoesOnQuietly, HasStep, IsMadeQuietly, IsNext, IsReadyStep};
 
 use crate::board::Next;
 use crate::errands::{Errand, note_errand, process_of};
@@ -16,6 +16,9 @@ use kt_core::{Priority, Ready};
 use kt_plan::{Give, Step, Told};
 use std::alloc::Global;
 use std::marker::Model;
+
+/// How many steps of one process are made while the others wait for the lock.
+pub(crate) const MOST_IN_ONE_HOLD: usize = 1024;
 
 /// What is kept of the steps of a run, beside its log.
 #[derive(Clone, Copy, Debug, PartialEq, Eq)]
@@ -132,6 +135,52 @@ impl Minutes {
         Next::Made(made)
     }
 
+    /// Takes the next parcel for a process, where that has nothing to do with its object and what it tells is not kept, and
+    /// notes it. Whether it did so. Want of memory ends all.
+    #[inline(always)]
+    pub(crate) fn take_quietly(&mut self, p: ProcNo) -> bool
+        ensures made { result ≡ true → (step : Step) × (process_of_step step ≡ p) × IsMadeQuietly self.old self.new step }
+        ensures left { result ≡ false → self.new.steps ≡ self.old.steps }
+    {
+        let Minutes {
+            state,
+            told,
+            steps,
+            ..
+        } = self;
+        if told.are_kept() || state.fault().is_some() {
+            return false;
+        }
+        let Ok(taken) = state.take_quietly(p) else {
+            state.stop(LiveFault::Memory);
+            return false;
+        };
+        let Some(step) = taken else {
+            return false;
+        };
+        if steps.note(step).is_err() {
+            state.stop(LiveFault::Memory);
+        }
+        true
+    }
+
+    /// Takes parcels for a process as `take_quietly` does, as long as that goes, and at most so many that others don't wait
+    /// long. Whether there were any.
+    #[inline(always)]
+    #[tactic(auto, using(crate::proofs::Quieting::quiet_first, crate::proofs::Quieting::quiet_stays))]
+    pub(crate) fn take_all_quietly(&mut self, p: ProcNo) -> bool
+        ensures { GoesOnQuietly self.old self.new }
+    {
+        let mut any = false;
+        for _ in 0..MOST_IN_ONE_HOLD {
+            if !self.take_quietly(p) {
+                return any;
+            }
+            any = true;
+        }
+        any
+    }
+
     /// A process's thread has come to the lock.
     pub(crate) fn arrive(&mut self, me: ProcNo)
         ensures { self.new ≡ self.old }
@@ -156,16 +205,33 @@ impl Minutes {
     }
 
     /// Calls a process that sleeps though it can make a step, if there is one; none while a thread is at the lock or on
-    /// its way there.
+    /// its way there. Steps that have nothing to do with the object of a process that sleeps are made here, and need no call.
+    #[tactic(auto, using(crate::proofs::Quieting::quiet_first))]
     pub(crate) fn call(&mut self) -> Option<ProcNo>
-        ensures { self.new ≡ self.old }
+        ensures { GoesOnQuietly self.old self.new }
     {
         if self.coming.first().is_some() {
             return None;
         }
-        let p = self.best_sleeper()?;
+        let p = self.next_called()?;
         self.arrive(p);
         Some(p)
+    }
+
+    /// The process that is called next, if there is one. The quiet steps of those before it are made.
+    #[tactic(auto, using(crate::proofs::Quieting::quiet_first, crate::proofs::Quieting::quiet_then))]
+    fn next_called(&mut self) -> Option<ProcNo>
+        ensures { GoesOnQuietly self.old self.new }
+    {
+        for _ in 0..ProcNo::COUNT {
+            let Some(p) = self.best_sleeper() else {
+                return None;
+            };
+            if !self.take_all_quietly(p) {
+                return Some(p);
+            }
+        }
+        self.best_sleeper()
     }
 
     /// Of the processes that sleep though they can make a step, the one that steps best; of several the least.

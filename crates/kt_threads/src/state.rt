@@ -1,6 +1,6 @@
 //! A world, and the steps that led to it.
 
-ghost use Rattle.std.specs.Prelude.{◌≡◌, ◌⊎◌, ◌+◌, ◌^◌, [], ◌∷◌, ◌++◌, None, Some, IfOk, IfErr, IfSome, OnErr, IsTrue, ◌↔◌, ◌<◌, ◌≤◌, length, map, option_map, vec_len, vec_capacity};
+ghost use Rattle.std.specs.Prelude.{◌≡◌, ◌⊎◌, ◌+◌, ◌^◌, [], ◌∷◌, ◌++◌, false, pos, None, Some, IfOk, IfErr, IfSome, IfNone, OnErr, IsTrue, ◌↔◌, ◌<◌, ◌≤◌, length, map, option_map, vec_len, vec_capacity};
 ghost use Rattle.kt_core.specs.Choices.{HasNoOthers};
 ghost use Rattle.kt_core.specs.Worlds.{needs, numbered_row, step_refusal, IsWorldAtRest, IsOpening, IsSameWorld};
 ghost use Rattle.kt_plans.specs.Follows.{FollowsPlan};
@@ -8,7 +8,7 @@ ghost use Rattle.kt_plans.specs.Headline.{IsPromised};
 ghost use Rattle.kt_plans.specs.Steps.{process_of_step};
 ghost use Rattle.kt_threads.specs.Histories.{IsMade, IsHistory, first_fault};
 ghost use Rattle.kt_threads.specs.Rows.{four_rows};
-ghost use Rattle.kt_threads.specs.Turns.{IsNext, IsOver, IsReadyStep};
+ghost use Rattle.kt_threads.specs.Turns.{IsMadeQuietly, IsNext, IsOver, IsReadyStep};
 
 use crate::faults::LiveFault;
 use crate::plans::is_same_plan;
@@ -137,6 +137,35 @@ impl State {
         let made = acted_of(ready, &give, &acts, &count, world);
         record_made(steps, &made);
         Ok(made)
+    }
+
+    /// Takes the next parcel for a process, where that needs nothing of its object and asks nothing of it, and records it: the
+    /// step, if it was made. Else, and after want of memory, the world and the steps are as they were.
+    #[inline(always)]
+    pub(crate) fn take_quietly(&mut self, p: ProcNo) -> Result<Option<Step>, Memory>
+        ensures made { IfOk result (λ taken. IfSome taken (IsMadeQuietly self.old self.new)) }
+        ensures own { IfOk result (λ taken. IfSome taken (λ step. process_of_step step ≡ p)) }
+        ensures left { IfOk result (λ taken. IfNone taken (self.new ≡ self.old)) }
+        ensures err_world { OnErr result (IsSameWorld self.new.world self.old.world) }
+        ensures err_steps { OnErr result (self.new.steps ≡ self.old.steps) }
+        ensures fault { self.new.fault ≡ self.old.fault }
+    {
+        let State { world, steps, .. } = self;
+        let Some(step) = world.next_step_of(p) else {
+            return Ok(None);
+        };
+        let Step::Take { at, from } = step else {
+            return Ok(None);
+        };
+        steps.reserve(1)?;
+        let count = world.log().rows().len();
+        let taken = world.take_quietly(at, from)?;
+        if !taken {
+            return Ok(None);
+        }
+        let quiet = taken_of(at, from, &count, world);
+        record_made(steps, &quiet);
+        Ok(Some(step))
     }
 
     /// How many rows the log has.
@@ -275,6 +304,31 @@ fn acted_of(ready: &Ready, give: &Give, acts: &[Act; 2], count: &usize, world: &
             body: give.body,
         },
         acts: [acts[0], acts[1]],
+        count: Snapshot::of(count),
+        world: Snapshot::of(world),
+    }
+}
+
+/// A parcel that a process took, where nothing was needed or asked of its object, of a world that had so many rows before it.
+fn taken_of(at: ProcNo, from: ProcNo, count: &usize, world: &World) -> Acted
+    ensures { result ≡ record {
+      look = Look.Plain;
+      give = record { able = false; body = pos 0 };
+      told = record {
+        step = Step.Take at from;
+        rows = four_rows world.now.system.rows.rows count.now;
+        acts = Act.Nothing ∷ Act.Nothing ∷ [];
+      };
+    } }
+{
+    Acted {
+        step: Step::Take { at, from },
+        look: Look::Plain,
+        give: Give {
+            able: false,
+            body: 0,
+        },
+        acts: NO_ACTS,
         count: Snapshot::of(count),
         world: Snapshot::of(world),
     }
