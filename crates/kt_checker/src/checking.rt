@@ -87,6 +87,7 @@ fn judge_rows(
 }
 
 /// One more row; the answer where it breaks a rule.
+#[inline(always)]
 pub(crate) fn feed_row(
     judge: &mut Judge,
     certificates: &[Certificate],

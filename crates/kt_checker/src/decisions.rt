@@ -86,6 +86,7 @@ impl Instances {
     }
 
     /// One more row, of this number, and where it decides an instance what was found of its first certificate.
+    #[inline(always)]
     pub(crate) fn add(
         &mut self,
         number: RowNo,

@@ -52,11 +52,27 @@ impl Judge {
     }
 
     /// One more row. Where it decides an instance, the first certificate of the instance is tested just before it.
+    #[inline(always)]
     pub(crate) fn feed(
         &mut self,
         certificates: &[Certificate],
         row: &Event,
     ) -> Result<(), LegalFault>
+        requires few { IsFew self.old }
+        ensures fed { OnOk result ((rows : List Event) → JudgeOf self.old certificates.now rows
+            → JudgeOf self.new certificates.now (rows ++ row.now ∷ [])) }
+        ensures broken { (n : ℕ) (rule : Rule) → result ≡ Err (fault.Broken n rule) → (rows : List Event)
+            → JudgeOf self.old certificates.now rows → first_broken (rows ++ row.now ∷ []) ≡ Some (n, rule) }
+    {
+        match *row {
+            Event::Decided { .. } => self.feed_decided(certificates, row),
+            _ => self.feed_other(row),
+        }
+    }
+
+    // One more row. Where it decides an instance, the first certificate of the instance is tested just before it.
+    #[inline(never)]
+    fn feed_decided(&mut self, certificates: &[Certificate], row: &Event) -> Result<(), LegalFault>
         requires few { IsFew self.old }
         ensures fed { OnOk result ((rows : List Event) → JudgeOf self.old certificates.now rows
             → JudgeOf self.new certificates.now (rows ++ row.now ∷ [])) }
@@ -69,6 +85,23 @@ impl Judge {
         self.walk.feed(row)?;
         self.instances.add(number, row, fault)?;
         self.is_consistent = stays_consistent;
+        Ok(())
+    }
+
+    // One more row, which decides no instance.
+    #[inline(always)]
+    fn feed_other(&mut self, row: &Event) -> Result<(), LegalFault>
+        requires few { IsFew self.old }
+        requires other { (p k : ℕ) (commit : Bool) → row.now ≡ event.Decided p k commit → ⊥ }
+        ensures fed { (certificates : List Certificates) → OnOk result ((rows : List Event)
+            → JudgeOf self.old certificates rows → JudgeOf self.new certificates (rows ++ row.now ∷ [])) }
+        ensures broken { (certificates : List Certificates) (n : ℕ) (rule : Rule)
+            → result ≡ Err (fault.Broken n rule) → (rows : List Event) → JudgeOf self.old certificates rows
+            → first_broken (rows ++ row.now ∷ []) ≡ Some (n, rule) }
+    {
+        let number = RowNo::after(self.walk.rows());
+        self.walk.feed(row)?;
+        self.instances.add(number, row, None)?;
         Ok(())
     }
 

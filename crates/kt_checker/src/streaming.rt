@@ -62,7 +62,9 @@ fn judge_unread<R: Read + Drop>(
     let mut broken = None;
     while let Some(row) = rows.next()? {
         if broken.is_none() {
-            broken = feed_row(judge, certificates, &row)?;
+            if let Some(answer) = feed_row(judge, certificates, &row)? {
+                broken = Some(answer);
+            }
         }
     }
     match broken {

@@ -28,6 +28,7 @@ enum Progress {
 }
 
 // The four fields of a record.
+#[inline(always)]
 fn four_fields(current: &ByteRecord) -> Option<(&[u8], &[u8], &[u8], &[u8])>
     ensures found { IfSome result (λ f. fields_of current.now ≡ f.0.now ∷ f.1.now ∷ f.2.now ∷ f.3.now ∷ []) }
     ensures none { IfNone result (length (fields_of current.now) ≢ 4) }
@@ -87,6 +88,7 @@ fn format_of(current: &ByteRecord) -> Result<Format, LogFault>
 }
 
 // The row that a record says, after `count` rows.
+#[inline(always)]
 fn row_in(current: &ByteRecord, format: Format, count: u32) -> Result<Event, LogFault>
     requires { count ≤ max_rows format }
     ensures found { IfOk result (λ row. (spelling row ≡ fields_of current.now) × IsRowInRange row
@@ -134,6 +136,7 @@ fn begin<R: Read>(
 }
 
 // The format, once the next row's record was read; None where there is no row left.
+#[inline(always)]
 fn advance<R: Read>(
     records: &mut Reader<R>,
     current: &mut ByteRecord,
@@ -156,6 +159,7 @@ fn advance<R: Read>(
 }
 
 // The next row, after `count` rows.
+#[inline(always)]
 fn read_row<R: Read>(
     records: &mut Reader<R>,
     current: &mut ByteRecord,
@@ -219,6 +223,7 @@ impl<R: Read + Drop> RowReader<R> {
     }
 
     /// The next row, None at the end of the text, or the first fault.
+    #[inline(always)]
     pub fn next(&mut self) -> Result<Option<Event>, LogFault>
         ensures steps { Steps self.old self.new result }
         ensures done { self.old.ended ≡ true → (result ≡ Ok None) × (self.new ≡ self.old) }

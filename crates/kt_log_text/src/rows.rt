@@ -72,6 +72,7 @@ impl RowFault {
     }
 }
 
+#[inline(always)]
 fn process(text: &[u8]) -> Result<ProcNo, RowFault>
     ensures found { IfOk result (λ p. IsProcNo p × (text.now ≡ decimal p)) }
     ensures fault { IfErr result (IsRowMisfit One slot.process text.now) }
@@ -198,6 +199,7 @@ fn parse_taken(
     Ok((p, from, msg))
 }
 
+#[inline(always)]
 fn parse_sent(first: &[u8], second: &[u8], third: &[u8]) -> Result<Event, RowFault>
     ensures found { IfOk result (λ e. (spelling e ≡ codes "sent" ∷ first.now ∷ second.now ∷ third.now ∷ [])
         × IsRowInRange e × IsInFormat One e) }
@@ -265,6 +267,7 @@ fn parse_refused(first: &[u8], second: &[u8], third: &[u8]) -> Result<Event, Row
 }
 
 // The word that a row begins with, which a text spells.
+#[inline(always)]
 fn word_of(text: &[u8]) -> Option<RowWord>
     ensures found { IfSome result (λ w. text.now ≡ row_word w) }
     ensures none { IfNone result ((w : row_words) → text.now ≢ row_word w) }
@@ -307,6 +310,7 @@ fn word_of(text: &[u8]) -> Option<RowWord>
 
 /// The row that a word and three more fields spell, or what is first wrong in them: the word, then the others
 /// in order.
+#[inline(always)]
 pub(crate) fn event_of(
     word: &[u8],
     first: &[u8],
@@ -325,6 +329,7 @@ pub(crate) fn event_of(
 }
 
 // The row that begins with a word, or the first of the fields after it that is wrong.
+#[inline(always)]
 fn event_after(
     word: RowWord,
     first: &[u8],

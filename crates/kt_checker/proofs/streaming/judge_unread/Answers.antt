@@ -1,4 +1,4 @@
-use Rattle.std.proofs.Common.{Option, subst}
+use Rattle.std.proofs.Common.{◌∙◌, Option, sym, subst}
 use Rattle.std.proofs.lemmas.Result.{err_from_is_err_and}
 use Rattle.kt_log_text.proofs.GatherFacts.{gathered_to_fault, at_end}
 use Rattle.kt_checker.specs.declared.verdict.Verdict.{Verdict}
@@ -23,11 +23,19 @@ feed_row-requires g c =
     let seen = subst (λ (o : Option Verdict). HasSeen source c.loop-row.rows c.loop-row.judge c.args.certificates.now o) none (c.loop-row.invariant source c.requires.unread.1) in
     record { few = seen_few c.loop-row.rows c.next.new.self c.loop-row.judge c.in-Some.row seen (rw c.in-Some.is at c.in_ok-row.ensures.steps) }
 
-pub loop-row-preserved-then-is_none : goal.loop-row-preserved-then-is_none
-loop-row-preserved-then-is_none g c = λ source e.
+pub loop-row-preserved-in-Some-2 : goal.loop-row-preserved-in-Some-2
+loop-row-preserved-in-Some-2 g c = λ source e.
     let none = none_of c.loop-row.broken c.if-is_none.ensures in
     let seen = subst (λ (o : Option Verdict). HasSeen source c.loop-row.rows c.loop-row.judge c.args.certificates.now o) none (c.loop-row.invariant source e) in
-    seen_fed c.loop-row.rows c.next.new.self c.loop-row.judge c.feed_row.new.judge c.args.certificates.now c.in_ok-broken.broken c.in-Some.row seen (rw c.in-Some.is at c.in_ok-row.ensures.steps) c.in_ok-broken.ensures.fed c.in_ok-broken.ensures.bad
+    subst (λ (o : Option Verdict). HasSeen source c.next.new.self c.feed_row.new.judge c.args.certificates.now o) c.in-Some-2.is
+    (seen_fed c.loop-row.rows c.next.new.self c.loop-row.judge c.feed_row.new.judge c.args.certificates.now c.in_ok-answer.field-0 c.in-Some.row seen (rw c.in-Some.is at c.in_ok-row.ensures.steps) c.in_ok-answer.ensures.fed c.in_ok-answer.ensures.bad)
+
+pub loop-row-preserved-in_default-2 : goal.loop-row-preserved-in_default-2
+loop-row-preserved-in_default-2 g c = λ source e.
+    let none = none_of c.loop-row.broken c.if-is_none.ensures in
+    let seen = subst (λ (o : Option Verdict). HasSeen source c.loop-row.rows c.loop-row.judge c.args.certificates.now o) none (c.loop-row.invariant source e) in
+    subst (λ (o : Option Verdict). HasSeen source c.next.new.self c.feed_row.new.judge c.args.certificates.now o) (c.in_default-2.is ∙ sym none)
+    (seen_fed c.loop-row.rows c.next.new.self c.loop-row.judge c.feed_row.new.judge c.args.certificates.now c.in_ok-answer.field-0 c.in-Some.row seen (rw c.in-Some.is at c.in_ok-row.ensures.steps) c.in_ok-answer.ensures.fed c.in_ok-answer.ensures.bad)
 
 pub loop-row-preserved : goal.loop-row-preserved
 loop-row-preserved g c = λ source e.
