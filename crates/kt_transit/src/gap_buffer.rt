@@ -91,9 +91,13 @@ impl GapBuffer {
         ensures room { length self.old.messages + additional ≤ self.old.room
             → length self.new.messages + additional ≤ self.new.room }
     {
-        self.passed.shrink_to(FEW);
-        let wanted = self.len().saturating_add(additional);
-        self.next.shrink_to(wanted.max(FEW));
+        if self.passed.capacity() > FEW {
+            self.passed.shrink_to_fit();
+        }
+        if self.next.capacity() > FEW {
+            let wanted = self.len().saturating_add(additional);
+            self.next.shrink_to(wanted);
+        }
     }
 
     /// Adds a message at the end, where there is room.

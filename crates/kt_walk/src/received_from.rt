@@ -162,8 +162,10 @@ impl ReceivedFrom {
         ensures { self.new ≡ self.old }
     {
         self.arrivals.shrink();
-        let wanted = self.undone.len().saturating_add(self.arrivals.len());
-        self.undone.shrink_to(wanted.max(FEW));
+        if self.undone.capacity() > FEW {
+            let wanted = self.undone.len().saturating_add(self.arrivals.len());
+            self.undone.shrink_to(wanted);
+        }
     }
 
     /// The least message whose send is live that was sent at one place or later and received before another one.
