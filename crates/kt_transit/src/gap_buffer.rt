@@ -13,7 +13,7 @@ use std::alloc::Global;
 use std::collections::VecDeque;
 use std::marker::Model;
 
-// So many messages keep their room. Most lists have few at a time, and would give it back and ask for it again.
+// Room for so many messages is kept. Most lists have few at a time, and would give it back and ask for it again.
 const FEW: usize = 4;
 
 /// Messages in transit from one process to another, in the order of their sends. There is a cursor among them: what
@@ -85,7 +85,7 @@ impl GapBuffer {
         Ok(())
     }
 
-    /// Gives back the room that is not needed for the messages and so many more, but for that of a few.
+    /// Gives back the room that is not needed for the messages and so many more, where there is room for more than a few.
     pub(crate) fn shrink(&mut self, additional: usize)
         ensures messages { self.new.messages ≡ self.old.messages }
         ensures room { length self.old.messages + additional ≤ self.old.room

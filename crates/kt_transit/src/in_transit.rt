@@ -94,7 +94,7 @@ impl InTransit {
         self.slots.reserve(additional)
     }
 
-    /// Gives back the room that is not needed for the messages and so many more, but for that of a few.
+    /// Gives back the room that is not needed for the messages and so many more, where there is room for more than a few.
     pub fn shrink(&mut self, additional: usize)
         ensures messages { self.new.messages ≡ self.old.messages }
         ensures room { length self.old.messages + additional ≤ self.old.room

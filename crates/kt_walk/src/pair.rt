@@ -168,7 +168,7 @@ impl Pair {
         self.in_transit.take(index)
     }
 
-    /// Gives back the room that was needed, but for that of a few messages, where there are none.
+    /// Gives back the room that was needed, where there are no messages and it is room for more than a few.
     pub(crate) fn shrink(&mut self)
         ensures { self.new ≡ self.old }
     {

@@ -185,7 +185,8 @@ impl Pairs {
     }
 
     /// Gives back the room of the pairs that came to have no messages at the last decision or after it, and have none
-    /// now, but for that of a few. Those that have messages at each decision keep it, so that it is not asked for again and again.
+    /// now, where it is room for more than a few. Those that have messages at each decision keep it, so that it is not
+    /// asked for again and again.
     pub(crate) fn shrink(&mut self)
         ensures { self.new ≡ self.old }
     {

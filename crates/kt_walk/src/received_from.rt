@@ -157,7 +157,7 @@ impl ReceivedFrom {
         self.arrivals.skip(sent.min(received));
     }
 
-    /// Gives back the room that the messages do not need, but for that of a few.
+    /// Gives back the room that the messages do not need, where there is room for more than a few.
     pub(crate) fn shrink(&mut self)
         ensures { self.new ≡ self.old }
     {
