@@ -23,7 +23,7 @@ use std::alloc::{AllocFailed, Global};
 const MAX_MESSAGES: u32 = 63;
 
 /// What is first wrong in a record.
-#[derive(Clone, Copy, Debug, PartialEq, Eq)]
+#[derive(Clone, Copy)]
 pub(crate) enum RecordFault {
     Fields,
     Word,

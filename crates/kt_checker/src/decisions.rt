@@ -18,7 +18,7 @@ use kt_spacetime::Event;
 use std::alloc::Global;
 
 /// How an instance was decided: by which row, and whether committed.
-#[derive(Clone, Copy, Debug, PartialEq, Eq)]
+#[derive(Clone, Copy)]
 pub(crate) struct Decision {
     pub(crate) inst: InstNo,
     pub(crate) row: RowNo,

@@ -12,7 +12,7 @@ use std::marker::Model;
 
 /// The commands of a plan, the place of each process's next one, that of the first one that is not done, the phase that is
 /// open, and the processes whose next commands are of it.
-#[derive(Debug, Drop)]
+#[derive(Drop)]
 pub(crate) struct Agenda {
     plan: Plan,
     next: [usize; 64],

@@ -9,7 +9,7 @@ use kt_base::{InstNo, MsgNo, ProcNo, RowNo};
 use std::fmt;
 
 /// A demand on a message of a chain that it does not meet.
-#[derive(Clone, Copy, Debug, PartialEq, Eq)]
+#[derive(Clone, Copy, Debug)]
 pub enum Demand {
     /// No row sends it.
     Message,
@@ -28,7 +28,7 @@ pub enum Demand {
 }
 
 /// The first place of a chain, from 1, of which the message leads nowhere.
-#[derive(Clone, Copy, Debug, PartialEq, Eq)]
+#[derive(Clone, Copy, Debug)]
 pub struct Break {
     pub place: usize,
     pub msg: MsgNo,
@@ -36,7 +36,7 @@ pub struct Break {
 }
 
 /// What is wrong with the list of a member.
-#[derive(Clone, Copy, Debug, PartialEq, Eq)]
+#[derive(Clone, Copy, Debug)]
 pub enum Flaw {
     /// It is the initiator's, and has a message.
     Initiator,
@@ -49,7 +49,7 @@ pub enum Flaw {
 }
 
 /// The first member, by its place from 1, whose list is no chain for it.
-#[derive(Clone, Copy, Debug, PartialEq, Eq)]
+#[derive(Clone, Copy, Debug)]
 pub struct BadChain {
     pub place: usize,
     pub p: ProcNo,

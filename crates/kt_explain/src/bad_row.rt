@@ -14,7 +14,7 @@ use kt_spacetime::Event;
 use std::fmt;
 
 /// A row that breaks a rule, what breaks it, and what can stand before it or in its place.
-#[derive(Clone, Copy, Debug, PartialEq, Eq)]
+#[derive(Clone, Copy, Debug)]
 pub struct BadRow {
     pub row: RowNo,
     /// What the row says.

@@ -12,7 +12,7 @@ use kt_base::{InstNo, Kind, MsgNo, ProcNo, RowNo};
 use std::fmt;
 
 /// What is so before a row, and is against the rule that the row breaks.
-#[derive(Clone, Copy, Debug, PartialEq, Eq)]
+#[derive(Clone, Copy, Debug)]
 pub enum Breach {
     Message(MessageBreach),
     Process(ProcessBreach),
@@ -22,7 +22,7 @@ pub enum Breach {
 }
 
 /// What is so of a message that is received or dropped.
-#[derive(Clone, Copy, Debug, PartialEq, Eq)]
+#[derive(Clone, Copy, Debug)]
 pub enum MessageBreach {
     /// No row sends it.
     NotSent(MsgNo),
@@ -67,7 +67,7 @@ pub enum MessageBreach {
 }
 
 /// What is so of a process.
-#[derive(Clone, Copy, Debug, PartialEq, Eq)]
+#[derive(Clone, Copy, Debug)]
 pub enum ProcessBreach {
     /// It is also the other process of the row's message.
     OwnPeer(ProcNo),
@@ -88,7 +88,7 @@ pub enum ProcessBreach {
 }
 
 /// An open instance that a process is in, which it joined in this row.
-#[derive(Clone, Copy, Debug, PartialEq, Eq)]
+#[derive(Clone, Copy, Debug)]
 pub struct Open {
     pub p: ProcNo,
     pub inst: InstNo,
@@ -102,7 +102,7 @@ pub struct Open {
 }
 
 /// A process that is not in an instance.
-#[derive(Clone, Copy, Debug, PartialEq, Eq)]
+#[derive(Clone, Copy, Debug)]
 pub struct Outside {
     pub p: ProcNo,
     pub inst: InstNo,
@@ -117,7 +117,7 @@ pub struct Outside {
 }
 
 /// What is so of an instance.
-#[derive(Clone, Copy, Debug, PartialEq, Eq)]
+#[derive(Clone, Copy, Debug)]
 pub enum InstanceBreach {
     /// The next one to begin has this number.
     Next(usize),

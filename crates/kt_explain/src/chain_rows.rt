@@ -7,7 +7,7 @@ use kt_base::{InstNo, MsgNo, ProcNo, RowNo};
 use kt_spacetime::Event;
 
 /// The rows, of those before a decision, that a demand on a message of a chain is about, where it is about them.
-#[derive(Clone, Copy, Debug, PartialEq, Eq)]
+#[derive(Clone, Copy, Debug)]
 pub struct ChainRows {
     /// The last one in which the process that is to have received the message did.
     pub received: Option<RowNo>,

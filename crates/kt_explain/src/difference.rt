@@ -35,7 +35,7 @@ pub enum Difference {
 }
 
 /// What the first record of an instance's certificate has to say by the log.
-#[derive(Clone, Copy, Debug, PartialEq, Eq)]
+#[derive(Clone, Copy, Debug)]
 pub struct Head {
     pub kind: Kind,
     pub initiator: ProcNo,

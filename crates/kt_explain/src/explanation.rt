@@ -15,7 +15,7 @@ use kt_base::{InstNo, ProcNo, RowNo};
 use std::fmt;
 
 /// A place, from 1, of a certificate's list, who is listed there, and who joined there instead.
-#[derive(Clone, Copy, Debug, PartialEq, Eq)]
+#[derive(Clone, Copy, Debug)]
 pub struct Unlike {
     pub place: usize,
     pub listed: Option<ProcNo>,

@@ -30,7 +30,7 @@ pub enum Sought {
 }
 
 /// A row that was found, with its number.
-#[derive(Clone, Copy, Debug, PartialEq, Eq)]
+#[derive(Clone, Copy, Debug)]
 pub struct Found {
     pub number: RowNo,
     pub row: Event,

@@ -17,7 +17,7 @@ use std::alloc::Global;
 use std::fmt;
 
 /// Rows that keep every rule in the place of one that breaks one.
-#[derive(Clone, Copy, Debug, PartialEq, Eq)]
+#[derive(Clone, Copy, Debug)]
 pub struct Instead {
     pub first: Option<Event>,
     pub second: Option<Event>,

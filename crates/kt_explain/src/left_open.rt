@@ -9,7 +9,7 @@ use kt_base::{InstNo, ProcNo, ProcSet};
 use std::fmt;
 
 /// An instance that is undecided, or that not all of its members have closed.
-#[derive(Clone, Copy, Debug, PartialEq, Eq)]
+#[derive(Clone, Copy, Debug)]
 pub struct OpenInstance {
     pub inst: InstNo,
     /// The processes that are in it.
@@ -17,7 +17,7 @@ pub struct OpenInstance {
 }
 
 /// What a log leaves open.
-#[derive(Clone, Copy, Debug, PartialEq, Eq)]
+#[derive(Clone, Copy, Debug)]
 pub struct LeftOpen {
     /// How many instances are open.
     pub open_count: usize,

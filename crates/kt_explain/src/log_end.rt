@@ -195,7 +195,7 @@ fn with_if(set: ProcSet, p: ProcNo, is_wanted: bool) -> ProcSet
 }
 
 // Messages in transit.
-#[derive(Clone, Copy, Debug, PartialEq, Eq)]
+#[derive(Clone, Copy)]
 struct Transit {
     count: usize,
     receivers: ProcSet,

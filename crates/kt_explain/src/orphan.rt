@@ -10,7 +10,7 @@ use kt_spacetime::Event;
 use std::fmt;
 
 /// An orphan of the cut that the decision of an instance makes. Its number is that of the row that sent it.
-#[derive(Clone, Copy, Debug, PartialEq, Eq)]
+#[derive(Clone, Copy, Debug)]
 pub struct Orphan {
     pub msg: MsgNo,
     pub from: ProcNo,

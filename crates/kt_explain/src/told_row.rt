@@ -12,7 +12,7 @@ use kt_spacetime::{Event, SpaceTime};
 use std::fmt;
 
 /// The row of a log that an answer names, where it names one.
-#[derive(Clone, Copy, Debug, PartialEq, Eq)]
+#[derive(Clone, Copy, Debug)]
 pub struct RowTold {
     pub row: Option<Found>,
 }

@@ -20,7 +20,7 @@ use std::alloc::Global;
 use std::io::Read;
 use std::marker::Model;
 
-#[derive(Clone, Copy, Debug, PartialEq, Eq)]
+#[derive(Clone, Copy)]
 enum Progress {
     Reading,
     Ended,

@@ -18,7 +18,7 @@ use kt_spacetime::Event;
 use kt_text::fields::{body_of, decision_of, instance_of, kind_of, message_of, process_of};
 
 /// The two formats of a log's text, which differ in their limits.
-#[derive(Clone, Copy, Debug, PartialEq, Eq)]
+#[derive(Clone, Copy)]
 pub(crate) enum Format {
     One,
     Two,
@@ -38,7 +38,7 @@ impl Format {
 }
 
 /// The word that a row begins with.
-#[derive(Clone, Copy, Debug, PartialEq, Eq)]
+#[derive(Clone, Copy)]
 pub(crate) enum RowWord {
     Sent,
     Received,
@@ -54,7 +54,7 @@ pub(crate) enum RowWord {
 }
 
 /// What is first wrong in the fields of a row.
-#[derive(Clone, Copy, Debug, PartialEq, Eq)]
+#[derive(Clone, Copy)]
 pub(crate) enum RowFault {
     Word,
     Number,

@@ -13,7 +13,7 @@ use kt_plan::Act;
 use kt_spacetime::Event;
 
 /// An instance that has begun: its kind, and whether it is decided and committed.
-#[derive(Clone, Copy, Debug, PartialEq, Eq)]
+#[derive(Clone, Copy)]
 pub(crate) struct Instance {
     pub(crate) kind: Kind,
     pub(crate) is_committed: bool,

@@ -21,7 +21,7 @@ fn offer_after(kind: u8, offer: i64, body: i64) -> i64
 
 /// What the object of a process offers: where it is up, what it offers now; and what its tentative state, where there
 /// is one, and its permanent one would offer.
-#[derive(Clone, Copy, Debug, PartialEq, Eq)]
+#[derive(Clone, Copy)]
 pub(crate) struct Offers {
     pub(crate) kind: u8,
     pub(crate) now: Option<i64>,

@@ -11,7 +11,7 @@ use std::alloc::Global;
 use std::marker::Model;
 
 /// By instance the processes that were unwilling to join it, each with its cause, in the order of the log.
-#[derive(Debug, Drop)]
+#[derive(Drop)]
 pub(crate) struct Unwilling {
     lists: Vec<Vec<(ProcNo, Cause)>>,
 }

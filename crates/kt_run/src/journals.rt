@@ -10,7 +10,7 @@ use std::alloc::Global;
 use std::marker::Model;
 
 /// What each process was told, in order; or nothing, where nobody asks for it.
-#[derive(Debug, Drop)]
+#[derive(Drop)]
 pub(crate) struct Journals {
     lists: Vec<Vec<Told>>,
 }

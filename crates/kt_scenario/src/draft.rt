@@ -17,7 +17,7 @@ use kt_text::fields::body_of;
 use std::alloc::Global;
 
 /// The words that a line may begin with.
-#[derive(Clone, Copy, Debug, PartialEq, Eq)]
+#[derive(Clone, Copy)]
 pub(crate) enum Word {
     Object,
     Send,

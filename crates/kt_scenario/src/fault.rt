@@ -13,7 +13,7 @@ use std::error::Error;
 use std::fmt;
 
 /// What is wrong in a line of a scenario.
-#[derive(Clone, Copy, Debug, PartialEq, Eq)]
+#[derive(Clone, Copy)]
 pub(crate) enum LineFault {
     Command,
     Words,
@@ -45,7 +45,7 @@ impl<T: Drop> From<AllocFailed<T>> for LineFault {
 }
 
 /// What is wrong in a line of a text of steps.
-#[derive(Clone, Copy, Debug, PartialEq, Eq)]
+#[derive(Clone, Copy)]
 pub(crate) enum StepLineFault {
     Command,
     Words,

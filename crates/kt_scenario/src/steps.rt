@@ -16,7 +16,7 @@ const MOST_BYTES: usize = 67_108_864;
 const MOST_STEPS: usize = 1_048_576;
 
 /// The words that a line may begin with.
-#[derive(Clone, Copy, Debug, PartialEq, Eq)]
+#[derive(Clone, Copy)]
 pub(crate) enum StepWord {
     Do,
     Take,

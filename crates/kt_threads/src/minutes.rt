@@ -21,7 +21,7 @@ use std::marker::Model;
 pub(crate) const MOST_IN_ONE_HOLD: usize = 1024;
 
 /// What is kept of the steps of a run, beside its log.
-#[derive(Clone, Copy, Debug, PartialEq, Eq)]
+#[derive(Clone, Copy, PartialEq, Eq)]
 pub(crate) enum Keep {
     /// Nothing.
     Nothing,

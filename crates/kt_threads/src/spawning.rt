@@ -44,7 +44,7 @@ impl<J, X, F: Calls<J, X>> Promise<X> for CallOf<J, F> {
 }
 
 /// Why not all threads did their jobs.
-#[derive(Debug, Drop)]
+#[derive(Drop)]
 pub(crate) enum SpawnFault {
     /// There was no memory; no thread was started.
     Memory,

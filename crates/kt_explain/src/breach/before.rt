@@ -23,7 +23,7 @@ pub(crate) struct Before<'a> {
 }
 
 // Who began an instance, of which kind, and in which row.
-#[derive(Clone, Copy, Debug, PartialEq, Eq)]
+#[derive(Clone, Copy)]
 struct BegunIn {
     row: RowNo,
     p: ProcNo,

@@ -23,7 +23,7 @@ use kt_plan::Act;
 use kt_spacetime::Event;
 
 /// An application message: its label, its number and its body.
-#[derive(Clone, Copy, Debug, PartialEq, Eq)]
+#[derive(Clone, Copy)]
 pub(super) struct Message {
     pub(super) label: Label,
     pub(super) msg: MsgNo,
