@@ -2,24 +2,31 @@
 
 use crate::entries::Entry;
 use crate::failing::FailingReader;
-use crate::heads::{show_count, show_fault};
+use crate::heads::{show_count, show_fault, show_read_faults};
 use crate::long_text::{LongText, parts_of};
 use crate::writing::{Form, show_failing_writes, show_written};
 use anyhow::Result;
 use kt_chain::{CertTextFault, Certificate, read_certs};
+use std::alloc::Global;
 
-// Shows at how many calls a reader that gives a byte a call and fails there is a read fault.
-fn show_failing_reads<R: Print + AllocGlobal>(rt: &R, text: &[u8]) -> Result<()> {
-    let calls = text.len().saturating_add(1);
+// Whether a reader that gives a byte a call and fails at this call is a read fault.
+fn fails_at(alloc: Global, text: &[u8], call: usize) -> bool {
+    let read = read_certs(alloc, FailingReader::new(text, call));
+    read.err() == Some(CertTextFault::Read)
+}
+
+// At how many of so many calls a reader that fails is a read fault.
+fn count_faults(alloc: Global, text: &[u8], calls: usize) -> usize {
     let mut faults: usize = 0;
     for call in 0..calls {
-        let read = read_certs(rt.alloc(), FailingReader::new(text, call));
-        if read.err() == Some(CertTextFault::Read) {
-            faults = faults.saturating_add(1);
-        }
+        faults = faults.saturating_add(usize::from(fails_at(alloc, text, call)));
     }
-    println!(rt; "  of {calls} calls that fail {faults} are a read fault")?;
-    Ok(())
+    faults
+}
+
+fn show_failing_reads<R: Print + AllocGlobal>(rt: &R, text: &[u8]) -> Result<()> {
+    let calls = text.len().saturating_add(1);
+    show_read_faults(rt, calls, count_faults(rt.alloc(), text, calls), "")
 }
 
 fn show_each<R: Print>(rt: &R, list: &[Certificate]) -> Result<()> {
@@ -29,13 +36,18 @@ fn show_each<R: Print>(rt: &R, list: &[Certificate]) -> Result<()> {
     Ok(())
 }
 
-// Shows certificates, what is written of them, and what failing readers and writers make of it.
+// Shows what is written of certificates, and what failing readers and writers make of it.
+fn show_writing<R: Print + AllocGlobal>(rt: &R, text: &[u8]) -> Result<()> {
+    show_written(rt, Form::Certificates, text)?;
+    show_failing_reads(rt, text)?;
+    show_failing_writes(rt, Form::Certificates, text, 7)
+}
+
+// Shows certificates, and what is written of them.
 fn show_list<R: Print + AllocGlobal>(rt: &R, entry: &Entry, list: &[Certificate]) -> Result<()> {
     show_count(rt, entry.title, list.len(), "certificates")?;
     show_each(rt, list)?;
-    show_written(rt, Form::Certificates, entry.text)?;
-    show_failing_reads(rt, entry.text)?;
-    show_failing_writes(rt, Form::Certificates, entry.text, 7)
+    show_writing(rt, entry.text)
 }
 
 /// Shows what is read of a stored text of certificates.

@@ -78,14 +78,18 @@ fn ask_of(words: &mut Words) -> Result<Parcel> {
     Ok(Parcel::Ask { inst, kind, label })
 }
 
+fn parcel_of(word: &str, words: &mut Words) -> Result<Parcel> {
+    match word {
+        "message" => message_of(words),
+        "ask" => ask_of(words),
+        _ => bail!("no call"),
+    }
+}
+
 // Puts a message into a channel, or an ask; whether there is room.
 fn put_one(channels: &mut Channels, word: &str, words: &mut Words) -> Result<bool> {
     let Pair { from, to } = pair_of(channels, words)?;
-    let parcel = match word {
-        "message" => message_of(words)?,
-        "ask" => ask_of(words)?,
-        _ => bail!("no call"),
-    };
+    let parcel = parcel_of(word, words)?;
     Ok(put(channels, from, to, parcel))
 }
 
@@ -117,13 +121,24 @@ fn show_sender<R: Print>(rt: &R, senders: ProcSet, number: u8) -> Result<()> {
     Ok(())
 }
 
-fn show_senders<R: Print>(rt: &R, senders: ProcSet) -> Result<()> {
-    print!(rt; "{}:", senders.count())?;
+fn show_each_sender<R: Print>(rt: &R, senders: ProcSet) -> Result<()> {
     for number in 0..64 {
         show_sender(rt, senders, number)?;
     }
+    Ok(())
+}
+
+fn show_senders<R: Print>(rt: &R, senders: ProcSet) -> Result<()> {
+    print!(rt; "{}:", senders.count())?;
+    show_each_sender(rt, senders)?;
     println!(rt)?;
     Ok(())
+}
+
+// Shows who has sent what this process has not taken.
+fn show_senders_to<R: Print>(rt: &R, channels: &Channels, words: &mut Words) -> Result<()> {
+    let to = process_of(channels, words)?;
+    show_senders(rt, channels.senders(to))
 }
 
 fn show_parcel<R: Print>(rt: &R, parcel: Option<Parcel>) -> Result<()> {
@@ -159,10 +174,7 @@ fn show_pair<R: Print>(
 fn show_answer<R: Print>(rt: &R, channels: &mut Channels, words: &mut Words) -> Result<()> {
     match words.word() {
         "processes" => show_number(rt, channels.processes()),
-        "senders" => {
-            let to = process_of(channels, words)?;
-            show_senders(rt, channels.senders(to))
-        }
+        "senders" => show_senders_to(rt, channels, words),
         word => show_pair(rt, channels, word, words),
     }
 }

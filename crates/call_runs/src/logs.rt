@@ -2,6 +2,7 @@
 
 use crate::entries::Entry;
 use crate::failing::FailingReader;
+use crate::heads::show_read_faults;
 use crate::long_text::{LongText, parts_of};
 use crate::writing::{Form, show_failing_writes, show_written};
 use anyhow::Result;
@@ -34,14 +35,19 @@ fn count_rows<R: Read + Drop>(rows: &mut RowReader<R>) -> (u32, Answer) {
     (u32::MAX, rows.next())
 }
 
-// Shows how many rows are read one by one, and what the next two calls answer.
-fn show_count<R: Print, S: Read + Drop>(rt: &R, rows: &mut RowReader<S>) -> Result<()> {
-    let (count, answer) = count_rows(rows);
+// Shows how many rows there are, and what the next two calls answer.
+fn show_answers<R: Print>(rt: &R, count: u32, first: Answer, second: Answer) -> Result<()> {
     print!(rt; "{count} rows")?;
-    show_answer(rt, answer)?;
-    show_answer(rt, rows.next())?;
+    show_answer(rt, first)?;
+    show_answer(rt, second)?;
     println!(rt)?;
     Ok(())
+}
+
+// Shows how many rows are read one by one, and what the next two calls answer.
+fn show_count<R: Print, S: Read + Drop>(rt: &R, rows: &mut RowReader<S>) -> Result<()> {
+    let (count, first) = count_rows(rows);
+    show_answers(rt, count, first, rows.next())
 }
 
 fn is_read_fault(answer: Answer) -> bool {
@@ -65,17 +71,24 @@ fn fails_again(alloc: Global, text: &[u8], call: usize) -> Result<bool> {
     Ok(is_read_fault(first) && is_read_fault(second))
 }
 
-// Shows at how many calls a reader that gives a byte a call and fails there is a read fault.
-fn show_failing_reads<R: Print + AllocGlobal>(rt: &R, text: &[u8]) -> Result<()> {
-    let calls = text.len().saturating_add(1);
+// Whether a reader that gives a byte a call and fails at this call is a read fault, and stays one.
+fn fails_at(alloc: Global, text: &[u8], call: usize) -> Result<bool> {
+    Ok(fails_whole(alloc, text, call) && fails_again(alloc, text, call)?)
+}
+
+// At how many of so many calls that is so.
+fn count_faults(alloc: Global, text: &[u8], calls: usize) -> Result<usize> {
     let mut faults: usize = 0;
     for call in 0..calls {
-        if fails_whole(rt.alloc(), text, call) && fails_again(rt.alloc(), text, call)? {
-            faults = faults.saturating_add(1);
-        }
+        faults = faults.saturating_add(usize::from(fails_at(alloc, text, call)?));
     }
-    println!(rt; "  of {calls} calls that fail {faults} are a read fault, again and again")?;
-    Ok(())
+    Ok(faults)
+}
+
+fn show_failing_reads<R: Print + AllocGlobal>(rt: &R, text: &[u8]) -> Result<()> {
+    let calls = text.len().saturating_add(1);
+    let faults = count_faults(rt.alloc(), text, calls)?;
+    show_read_faults(rt, calls, faults, ", again and again")
 }
 
 fn show_each_row<R: Print>(rt: &R, rows: &[Event]) -> Result<()> {

@@ -1,5 +1,6 @@
 //! Makes stored lists of calls of label tables and of channels, walks logs that stored scripts tell of, and makes stored
-//! lists of calls of messages in transit; shows what is answered. Then shows what is read of stored texts, and written.
+//! lists of calls of messages in transit, of objects and of slots; shows what is answered, and which numbers there are.
+//! Then shows what is read of stored texts, and written.
 #![tactic(auto)]
 
 mod answers;
@@ -14,12 +15,14 @@ mod lists;
 mod logs;
 mod long_text;
 mod numbers;
+mod objects;
 mod readers;
 mod rounds;
 mod rows;
 mod run;
 mod scenarios;
 mod scripts;
+mod slots;
 mod table_calls;
 mod texts;
 mod transit;
@@ -28,42 +31,67 @@ mod writing;
 
 use anyhow::{Context, Result, bail};
 use lists::show_calls;
+use numbers::show_limits;
+use objects::show_object_calls;
 use scripts::show_script;
+use slots::show_slot_calls;
 use std::fs;
 use texts::show_texts;
 use transit::show_list;
 
-// Shows what a script asks, or what a list of calls makes of messages in transit, under its title.
-fn show_script_or_list<R: Print + AllocGlobal>(rt: &R, file: &str, text: &str) -> Result<()> {
-    let (title, lines) = text.split_once('\n').context("no title")?;
-    println!(rt; "{title}")?;
+// The files of lists, in the order in which they are shown.
+const FILES: [&str; 7] = [
+    "tables", "channels", "scripts", "transit", "objects", "slots", "limits",
+];
+
+// Shows what the lines of one of the files ask.
+fn show_lines<R: Print + AllocGlobal>(rt: &R, file: &str, lines: &str) -> Result<()> {
     match file {
         "scripts" => show_script(rt, lines),
         "transit" => show_list(rt, lines),
+        "objects" => show_object_calls(rt, lines),
+        "slots" => show_slot_calls(rt, lines),
+        "limits" => show_limits(rt, lines),
         _ => bail!("no such file"),
     }
+}
+
+// Shows what the lines of a text ask, under its title.
+fn show_titled<R: Print + AllocGlobal>(rt: &R, file: &str, text: &str) -> Result<()> {
+    let (title, lines) = text.split_once('\n').context("no title")?;
+    println!(rt; "{title}")?;
+    show_lines(rt, file, lines)
 }
 
 // Shows what is answered to a text of one of the files.
 fn show_text<R: Print + AllocGlobal>(rt: &R, file: &str, text: &str) -> Result<()> {
     match file {
         "tables" | "channels" => show_calls(rt, file, text),
-        _ => show_script_or_list(rt, file, text),
+        _ => show_titled(rt, file, text),
     }
 }
 
-fn show_file(rt: &HostRuntime, file: &str) -> Result<()> {
-    let texts = fs::read_to_string(rt, file)?;
+// Shows what is answered to each text of one of the files.
+fn show_each<R: Print + AllocGlobal>(rt: &R, file: &str, texts: &str) -> Result<()> {
     for text in texts.split("\n\n") {
         show_text(rt, file, text)?;
     }
     Ok(())
 }
 
+fn show_file(rt: &HostRuntime, file: &str) -> Result<()> {
+    let texts = fs::read_to_string(rt, file)?;
+    show_each(rt, file, texts.as_str())
+}
+
+fn show_files(rt: &HostRuntime) -> Result<()> {
+    for file in &FILES {
+        show_file(rt, file)?;
+    }
+    Ok(())
+}
+
 fn main(rt: HostRuntime) -> Result<()> {
-    show_file(&rt, "tables")?;
-    show_file(&rt, "channels")?;
-    show_file(&rt, "scripts")?;
-    show_file(&rt, "transit")?;
+    show_files(&rt)?;
     show_texts(&rt)
 }

@@ -1,6 +1,6 @@
 //! Rounds of messages between two checkpoints.
 
-use crate::answers::show_message;
+use crate::answers::Shown;
 use crate::cuts::{permanent, present, present_but};
 use crate::rows::commit;
 use crate::run::Run;
@@ -37,9 +37,7 @@ fn pass_looking(
 // Passes so many messages from process 0 to process 1; shows the first orphan, and after how many messages it is that one.
 fn show_passing<R: Print>(rt: &R, run: &mut Run, number: u16, count: u32) -> Result<()> {
     let (first, same) = pass_looking(run, ProcNo::nth(0), ProcNo::nth(1), count)?;
-    print!(rt; "\n  {number}: ")?;
-    show_message(rt, first)?;
-    print!(rt; " after {same}")?;
+    print!(rt; "\n  {number}: {} after {same}", Shown(first))?;
     Ok(())
 }
 
@@ -47,8 +45,9 @@ fn show_passing<R: Print>(rt: &R, run: &mut Run, number: u16, count: u32) -> Res
 fn show_permanent<R: Print>(rt: &R, walk: &Walk) -> Result<()> {
     let to = ProcNo::nth(1);
     let (permanent_length, length) = (walk.permanent(to), walk.length(to));
-    print!(rt; ", permanent {permanent_length} of {length}, orphan ")?;
-    show_message(rt, walk.orphan(&permanent(walk)))
+    let orphan = Shown(walk.orphan(&permanent(walk)));
+    print!(rt; ", permanent {permanent_length} of {length}, orphan {orphan}")?;
+    Ok(())
 }
 
 // Shows a round: so many messages from process 0 to process 1, and a checkpoint of both.

@@ -25,15 +25,23 @@ fn add_messages(run: &mut Run, word: &str, words: &mut Words) -> Result<()> {
     Ok(())
 }
 
+fn receive_one(run: &mut Run, p: ProcNo, from: ProcNo, number: u32) -> Result<()> {
+    let msg = MsgNo::new(number).context("no message")?;
+    run.add(Event::Received { p, from, msg })
+}
+
 // Receives of messages with these numbers and those between.
-fn receive_many(run: &mut Run, words: &mut Words) -> Result<()> {
-    let (p, from) = (words.process()?, words.process()?);
+fn receive_from(run: &mut Run, p: ProcNo, from: ProcNo, words: &mut Words) -> Result<()> {
     let (first, last) = (words.number()?, words.number()?);
     for number in first..last.saturating_add(1) {
-        let msg = MsgNo::new(number).context("no message")?;
-        run.add(Event::Received { p, from, msg })?;
+        receive_one(run, p, from, number)?;
     }
     Ok(())
+}
+
+fn receive_many(run: &mut Run, words: &mut Words) -> Result<()> {
+    let (p, from) = (words.process()?, words.process()?);
+    receive_from(run, p, from, words)
 }
 
 // The process after this one, of 64 in a ring.

@@ -7,17 +7,24 @@ use crate::rows::add_rows;
 use crate::run::Run;
 use crate::words::Words;
 use anyhow::Result;
+use kt_cuts::LegalFault;
 use kt_log_text::read_csv;
 use kt_spacetime::{Event, SpaceTime};
 use std::alloc::Global;
 
-// Feeds a row, and shows how many messages are held then, or why the row is refused.
-fn show_row<R: Print>(rt: &R, run: &mut Run, row: Event, line: &str) -> Result<()> {
-    match run.try_row(row)? {
-        None => println!(rt; "{line}: {} held", run.walk.held())?,
+// Shows how many messages are held after a row, or why it was refused.
+fn show_taken<R: Print>(rt: &R, line: &str, held: usize, fault: Option<LegalFault>) -> Result<()> {
+    match fault {
+        None => println!(rt; "{line}: {held} held")?,
         Some(fault) => println!(rt; "{line}: {fault}")?,
     }
     Ok(())
+}
+
+// Feeds a row, and shows what becomes of it.
+fn show_row<R: Print>(rt: &R, run: &mut Run, row: Event, line: &str) -> Result<()> {
+    let fault = run.try_row(row)?;
+    show_taken(rt, line, run.walk.held(), fault)
 }
 
 // The rows that a line spells, of which there is one.
@@ -26,12 +33,17 @@ fn rows_of(alloc: Global, line: &str) -> Result<SpaceTime> {
     Ok(read_csv(alloc, text.as_bytes())?)
 }
 
-// Feeds the row that a line spells.
-fn show_rows<R: Print + AllocGlobal>(rt: &R, run: &mut Run, line: &str) -> Result<()> {
-    for row in rows_of(rt.alloc(), line)?.rows() {
+fn show_each_row<R: Print>(rt: &R, run: &mut Run, rows: &[Event], line: &str) -> Result<()> {
+    for row in rows {
         show_row(rt, run, *row, line)?;
     }
     Ok(())
+}
+
+// Feeds the row that a line spells.
+fn show_rows<R: Print + AllocGlobal>(rt: &R, run: &mut Run, line: &str) -> Result<()> {
+    let log = rows_of(rt.alloc(), line)?;
+    show_each_row(rt, run, log.rows(), line)
 }
 
 // Shows a question, and the answer to it.

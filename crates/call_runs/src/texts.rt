@@ -64,6 +64,18 @@ fn show_entry<R: Print + AllocGlobal>(
     }
 }
 
+fn show_each<R: Print + AllocGlobal>(
+    rt: &R,
+    plan: &Plan,
+    file: &str,
+    list: &[Entry],
+) -> Result<()> {
+    for entry in list {
+        show_entry(rt, plan, file, entry)?;
+    }
+    Ok(())
+}
+
 // Shows each text of a file.
 fn show_entries<R: Print + AllocGlobal>(
     rt: &R,
@@ -71,10 +83,8 @@ fn show_entries<R: Print + AllocGlobal>(
     file: &str,
     bytes: &[u8],
 ) -> Result<()> {
-    for entry in entries(rt.alloc(), bytes)?.iter() {
-        show_entry(rt, plan, file, entry)?;
-    }
-    Ok(())
+    let list = entries(rt.alloc(), bytes)?;
+    show_each(rt, plan, file, list.as_slice())
 }
 
 fn show_file(rt: &HostRuntime, plan: &Plan, file: &str) -> Result<()> {

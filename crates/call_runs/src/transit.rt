@@ -85,14 +85,19 @@ fn show_message<R: Print>(rt: &R, in_transit: &InTransit, index: usize) -> Resul
     Ok(())
 }
 
-// Shows each message in transit, in order.
-fn show_messages<R: Print>(rt: &R, in_transit: &InTransit) -> Result<()> {
-    let count = in_transit.len();
-    print!(rt; "{count} in transit")?;
+fn show_each_message<R: Print>(rt: &R, in_transit: &InTransit, count: usize) -> Result<()> {
     for index in 0..count {
         show_message(rt, in_transit, index)?;
     }
     ensure!(in_transit.get(count).is_none(), "too many");
+    Ok(())
+}
+
+// Shows each message in transit, in order.
+fn show_messages<R: Print>(rt: &R, in_transit: &InTransit) -> Result<()> {
+    let count = in_transit.len();
+    print!(rt; "{count} in transit")?;
+    show_each_message(rt, in_transit, count)?;
     println!(rt)?;
     Ok(())
 }

@@ -111,6 +111,20 @@ fn show_each_held<R: Print + AllocGlobal>(
     bail!("it is not written")
 }
 
+// Shows the same, and in how many calls the whole text is written.
+fn show_calls<R: Print + AllocGlobal>(
+    rt: &R,
+    form: Form,
+    whole: &[u8],
+    text: &[u8],
+    takes: usize,
+) -> Result<()> {
+    print!(rt; "  {takes} bytes a call:")?;
+    let calls = show_each_held(rt, form, whole, text, takes)?;
+    println!(rt; ", written in {calls} calls")?;
+    Ok(())
+}
+
 /// Shows how many bytes of its text a writer holds that fails at each call in turn, and at which call there is none.
 pub(crate) fn show_failing_writes<R: Print + AllocGlobal>(
     rt: &R,
@@ -119,10 +133,7 @@ pub(crate) fn show_failing_writes<R: Print + AllocGlobal>(
     takes: usize,
 ) -> Result<()> {
     let whole = written(rt.alloc(), form, text)?;
-    print!(rt; "  {takes} bytes a call:")?;
-    let calls = show_each_held(rt, form, whole.as_slice(), text, takes)?;
-    println!(rt; ", written in {calls} calls")?;
-    Ok(())
+    show_calls(rt, form, whole.as_slice(), text, takes)
 }
 
 // Shows how many bytes are written of a text, and whether they are that text.

@@ -1,5 +1,4 @@
 mod base;
-mod cuts;
 mod histories;
 mod object;
 mod spacetime;

@@ -1,0 +1,115 @@
+//! Calls of a book of slots, as lines spell them: objects hold the slots.
+
+use anyhow::{Context, Result, bail};
+use kt_object::{Recoverable, SlotBook, Sum};
+
+// Opens a slot for an object, and keeps the object.
+fn open(book: &mut SlotBook, objects: &mut Vec<Option<Sum>>) -> Result<()> {
+    let guard = book.open()?;
+    objects.push(Some(Sum::new(guard)))?;
+    Ok(())
+}
+
+fn open_many(book: &mut SlotBook, objects: &mut Vec<Option<Sum>>, count: &str) -> Result<()> {
+    for _ in 0..count.parse::<u32>()? {
+        open(book, objects)?;
+    }
+    Ok(())
+}
+
+// Drops the object of this number, counted from 0 in the order in which they were made.
+fn drop_one(objects: &mut [Option<Sum>], number: &str) -> Result<()> {
+    let number = number.parse::<usize>()?;
+    let object = objects.get_mut(number).context("no such object")?;
+    drop(object.take());
+    Ok(())
+}
+
+// Shows how many slots are freed and how many are out then, and how many are freed once more.
+fn show_freed<R: Print>(rt: &R, book: &mut SlotBook, line: &str) -> Result<()> {
+    let (freed, out, again) = (book.collect(), book.out(), book.collect());
+    println!(rt; "{line}: {freed}, out {out}, then {again}")?;
+    Ok(())
+}
+
+// Drops the object of this number, and shows how many slots are freed.
+fn show_dropped<R: Print>(
+    rt: &R,
+    book: &mut SlotBook,
+    objects: &mut [Option<Sum>],
+    line: &str,
+    number: &str,
+) -> Result<()> {
+    drop_one(objects, number)?;
+    show_freed(rt, book, line)
+}
+
+// Drops each object, and shows how many slots are freed.
+fn show_all_dropped<R: Print>(
+    rt: &R,
+    book: &mut SlotBook,
+    objects: &mut Vec<Option<Sum>>,
+    line: &str,
+) -> Result<()> {
+    objects.clear();
+    show_freed(rt, book, line)
+}
+
+// Shows the number of an object's slot, where there is the object.
+fn show_slot<R: Print>(rt: &R, object: &Option<Sum>) -> Result<()> {
+    if let Some(object) = object {
+        print!(rt; " {}", object.slot())?;
+    }
+    Ok(())
+}
+
+fn show_each_slot<R: Print>(rt: &R, objects: &[Option<Sum>]) -> Result<()> {
+    for object in objects {
+        show_slot(rt, object)?;
+    }
+    Ok(())
+}
+
+// Shows the slots of the objects that are kept.
+fn show_slots<R: Print>(rt: &R, objects: &[Option<Sum>], line: &str) -> Result<()> {
+    print!(rt; "{line}:")?;
+    show_each_slot(rt, objects)?;
+    println!(rt)?;
+    Ok(())
+}
+
+fn show_call<R: Print>(
+    rt: &R,
+    book: &mut SlotBook,
+    objects: &mut Vec<Option<Sum>>,
+    line: &str,
+) -> Result<()> {
+    let (word, number) = line.split_once(' ').unwrap_or((line, ""));
+    match word {
+        "open" => open_many(book, objects, number),
+        "drop" => show_dropped(rt, book, objects.as_mut_slice(), line, number),
+        "drop-all" => show_all_dropped(rt, book, objects, line),
+        "slots" => show_slots(rt, objects.as_slice(), line),
+        "freed" => show_freed(rt, book, line),
+        _ => bail!("no call"),
+    }
+}
+
+fn show_calls<R: Print>(
+    rt: &R,
+    book: &mut SlotBook,
+    objects: &mut Vec<Option<Sum>>,
+    calls: &str,
+) -> Result<()> {
+    for line in calls.lines() {
+        show_call(rt, book, objects, line)?;
+    }
+    Ok(())
+}
+
+/// Shows what a book of slots answers to calls, a line each.
+pub(crate) fn show_slot_calls<R: Print + AllocGlobal>(rt: &R, calls: &str) -> Result<()> {
+    let mut book = SlotBook::new(rt.alloc());
+    let mut objects = Vec::new(rt.alloc());
+    show_calls(rt, &mut book, &mut objects, calls)
+}
