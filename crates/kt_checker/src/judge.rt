@@ -70,7 +70,7 @@ impl Judge {
         }
     }
 
-    // One more row. Where it decides an instance, the first certificate of the instance is tested just before it.
+    // One more row, which decides an instance: the first certificate of the instance is tested just before it.
     #[inline(never)]
     fn feed_decided(&mut self, certificates: &[Certificate], row: &Event) -> Result<(), LegalFault>
         requires few { IsFew self.old }

@@ -21,8 +21,8 @@
 //!
 //! **How it is proved.** `specs/Passing` says when a certificate passes, `specs/Order` which answer is right: both
 //! speak of the rows and the certificates alone, never of a walk or of a loop, so another way to read a log only has to
-//! give `IsAnswer`. `JudgeOf` (`specs/Judged`) says what a judge knows after some rows, `Gathered` (`specs/Gathered`)
-//! what instances were found to have. Exact: row by row `proofs/Judging`, `Gathering`, `FirstPlaces` and `RowByRow`;
+//! give `IsCheckerAnswer`. `JudgeOf` (`specs/Judged`) says what a judge knows after some rows, `Gathered`
+//! (`specs/Gathered`) what instances were found to have. Exact: row by row `proofs/Judging`, `Gathering`, `FirstPlaces` and `RowByRow`;
 //! the cut of an undecided instance `Inside`; chains `Chaining`, `Links`, `Following`; what stays of an instance after
 //! its decided row `Deciding`; the list of certificates `Marking`, `Answering`. Sound: `proofs/Sound` goes from
 //! `IsPassed` to leastness, by the laws of kt_cuts.

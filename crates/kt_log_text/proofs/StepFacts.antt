@@ -41,20 +41,20 @@ pub ends_later : (format : Format) (old : Known) → IfSome old (λ left. left �
 ends_later format None e = tt
 ends_later format (Some left) e = (format, (refl, e))
 
-pub other_version : (old new : Known) (fields : List (List ℕ)) (fault : LogFault) → FieldsTaken old new fields → (fault ≡ Version) × IsOtherVersion fields → IfSome old (λ left. IsHeadFault None left fault)
+pub other_version : (old new : Known) (fields : List (List ℕ)) (fault : LogFault) → FieldsTaken old new fields → (fault ≡ Version) × IsOtherVersion fields → IfSome old (λ left. IsHeadFault left fault)
 other_version None new fields fault t o = tt
 other_version (Some left) None fields fault t o = absurd t
-other_version (Some left) (Some rest) fields fault t o = inr (inr (o.0, refl, (fields, rest, t, o.1)))
+other_version (Some left) (Some rest) fields fault t o = inr (inr (o.0, (fields, rest, t, o.1)))
 
 -- what goes wrong before a row is what is first wrong
-pub head_fault : (known : Option Format) (count : ℕ) (left : List (List (List ℕ))) (fault : LogFault) → IsHeadFault known left fault → IsFaultFrom known count left fault
-head_fault known count left fault (inl e) = subst (λ (f : LogFault). IsFaultFrom known count left f) (sym e) tt
-head_fault known count left fault (inr (inl e)) = subst (λ (f : LogFault). IsFaultFrom known count left f) (sym e) tt
-head_fault known count left fault (inr (inr (e, n, b))) = subst (λ (f : LogFault). IsFaultFrom known count left f) (sym e) (n, b.0, b.1, b.2, b.3)
+pub head_fault : (count : ℕ) (left : List (List (List ℕ))) (fault : LogFault) → IsHeadFault left fault → IsFaultFrom None count left fault
+head_fault count left fault (inl e) = subst (λ (f : LogFault). IsFaultFrom None count left f) (sym e) tt
+head_fault count left fault (inr (inl e)) = subst (λ (f : LogFault). IsFaultFrom None count left f) (sym e) tt
+head_fault count left fault (inr (inr (e, b))) = subst (λ (f : LogFault). IsFaultFrom None count left f) (sym e) (refl, b.0, b.1, b.2, b.3)
 
-pub head_faults : (known : Option Format) (count : ℕ) (old : Known) (fault : LogFault) → IfSome old (λ left. IsHeadFault known left fault) → IfSome old (λ left. IsFaultFrom known count left fault)
-head_faults known count None fault h = tt
-head_faults known count (Some left) fault h = head_fault known count left fault h
+pub head_faults : (count : ℕ) (old : Known) (fault : LogFault) → IfSome old (λ left. IsHeadFault left fault) → IfSome old (λ left. IsFaultFrom None count left fault)
+head_faults count None fault h = tt
+head_faults count (Some left) fault h = head_fault count left fault h
 
 -- what is wrong in a row is what is first wrong
 pub row_fault : (known : Option Format) (format : Format) (count : ℕ) (left fields : List (List (List ℕ))) (fault : LogFault) → IsTextFrom known format fields left → IsRowFault format count fields fault → IsFaultFrom known count left fault

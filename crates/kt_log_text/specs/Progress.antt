@@ -74,13 +74,8 @@ abbrev pub BeginsOtherVersion : List (List (List ℕ)) → Type 0
 BeginsOtherVersion text = (fields : List (List ℕ)) × (rest : List (List (List ℕ))) × (text ≡ fields ∷ rest) × IsOtherVersion fields
 
 -- what may go wrong before a row: the reader, memory, or the first record
-abbrev pub IsHeadFault : Option Format → List (List (List ℕ)) → LogFault → Type 0
-IsHeadFault known text fault = (fault ≡ Read) ⊎ ((fault ≡ Memory) ⊎ ((fault ≡ Version) × (known ≡ None) × BeginsOtherVersion text))
-
--- the format that was known stays
-abbrev pub FormatStays : Option Format → Format → Type 0
-FormatStays None format = Unit {0}
-FormatStays (Some known) format = known ≡ format
+abbrev pub IsHeadFault : List (List (List ℕ)) → LogFault → Type 0
+IsHeadFault text fault = (fault ≡ Read) ⊎ ((fault ≡ Memory) ⊎ ((fault ≡ Version) × BeginsOtherVersion text))
 
 -- what a reader has gathered of a text: rows that it begins with, and what comes after them
 abbrev pub BeginsWithRows : Option (List (List (List ℕ))) → Option (List (List (List ℕ))) → Option Format → List Event → Type 0

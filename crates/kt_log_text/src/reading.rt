@@ -8,7 +8,7 @@ ghost use Rattle.kt_log_text.specs.Spelling.{spelling, max_rows, IsInFormat};
 ghost use Rattle.kt_log_text.specs.Texts.{header, IsFormatRecord, IsUnmarked, IsOtherVersion, IsRowFault, IsFaultFrom, IsEndedFrom, IsLogText, IsFirstLogFault};
 ghost use Rattle.kt_log_text.specs.Reading.{Steps, rows_unread};
 ghost use Rattle.kt_text.specs.Records.{left_in, ReadsOn};
-ghost use Rattle.kt_log_text.specs.Progress.{TakesFields, IsFormatOf, IsHeadFault, IsRowCount, FormatStays, ReadsRow};
+ghost use Rattle.kt_log_text.specs.Progress.{TakesFields, IsFormatOf, IsHeadFault, IsRowCount, ReadsRow};
 
 use crate::fault::LogFault;
 use crate::rows::{Format, event_of};
@@ -118,7 +118,7 @@ fn begin<R: Read>(
     ensures found { IfOk result (λ o. IfSome o (λ format. ReadsOn records.new
         × TakesFields None format (left_in R.remaining records.old) (left_in R.remaining records.new) (fields_of current.new))) }
     ensures ended { IfOk result (λ o. IfNone o (IfSome (left_in R.remaining records.old) (IsEndedFrom None))) }
-    ensures fault { IfErr result (λ e. IfSome (left_in R.remaining records.old) (λ left. IsHeadFault None left e)) }
+    ensures fault { IfErr result (λ e. IfSome (left_in R.remaining records.old) (λ left. IsHeadFault left e)) }
 {
     if !next_record(records, current)? {
         return Ok(None);
@@ -132,29 +132,6 @@ fn begin<R: Read>(
                 Ok(None)
             }
         }
-    }
-}
-
-// The format, once the next row's record was read; None where there is no row left.
-#[inline(always)]
-fn advance<R: Read>(
-    records: &mut Reader<R>,
-    current: &mut ByteRecord,
-    format: Option<Format>,
-) -> Result<Option<Format>, LogFault>
-    requires { ReadsOn records.old }
-    ensures found { IfOk result (λ o. IfSome o (λ found. ReadsOn records.new × FormatStays format found
-        × TakesFields format found (left_in R.remaining records.old) (left_in R.remaining records.new) (fields_of current.new))) }
-    ensures ended { IfOk result (λ o. IfNone o (IfSome (left_in R.remaining records.old) (IsEndedFrom format))) }
-    ensures fault { IfErr result (λ e. IfSome (left_in R.remaining records.old) (λ left. IsHeadFault format left e)) }
-{
-    let Some(format) = format else {
-        return begin(records, current);
-    };
-    if next_record(records, current)? {
-        Ok(Some(format))
-    } else {
-        Ok(None)
     }
 }
 
@@ -174,10 +151,21 @@ fn read_row<R: Read>(
     ensures fault { IfErr result (λ e. IfSome (left_in R.remaining records.old) (λ left. IsFaultFrom format.old count left e)) }
     ensures count { IsRowCount format.new count }
 {
-    let Some(found) = advance(records, current, *format)? else {
-        return Ok(None);
+    let found = match *format {
+        Some(found) => {
+            if !next_record(records, current)? {
+                return Ok(None);
+            }
+            found
+        }
+        None => {
+            let Some(found) = begin(records, current)? else {
+                return Ok(None);
+            };
+            *format = Some(found);
+            found
+        }
     };
-    *format = Some(found);
     let event = row_in(current, found, count)?;
     Ok(Some(event))
 }
