@@ -3,7 +3,7 @@ use Rattle.std.specs.Prelude.{Result, Ok, Err, OnErr, OnOk}
 use Rattle.kt_held.specs.Fits.{is_up_after}
 use Rattle.kt_held.specs.Refusals.{held_objects}
 use Rattle.kt_held.proofs.Rejected.{rejected_first, rejected_after}
-use Rattle.kt_held.proofs.Acted.{both_done, one_done, second_done, idle_leads, idle_fits, is_some-map, leads_up, leads_tentative, both_fit, two_of}
+use Rattle.kt_held.proofs.Acted.{both_done, one_done, none_done, second_done, idle_leads, idle_fits, is_some-map, leads_up, leads_tentative, both_fit, two_of}
 use Rattle.kt_held.proofs.held.Held.do_both.Goals as goal
 
 on_err : {T E : Type 0} (r : Result T E) (P : Type 0) → P → OnErr r P
@@ -55,6 +55,9 @@ pub returns-then-is_nothing-clause-does : goal.returns-then-is_nothing-clause-do
 returns-then-is_nothing-clause-does g c =
     let is = two_of c.args.acts c.index-acts-0.result c.index-acts-1.result (omega arith) in
     on_ok_so c.act.result (λ leads h held. second_done c.args.acts _ _ is (c.is_nothing.ensures.yes c.if-is_nothing.true) h _ _ _ _ leads held) c.act.ensures.leads
+
+pub returns-then-is_nothing-clause-err : goal.returns-then-is_nothing-clause-err
+returns-then-is_nothing-clause-err g c = none_done c.act.result c.args.acts _ _ _ _ c.act.ensures.err_object c.act.ensures.err_depot
 
 pub returns-then-is_nothing-clause-form : goal.returns-then-is_nothing-clause-form
 returns-then-is_nothing-clause-form g c = λ e h held.
