@@ -1,8 +1,8 @@
 //! A list of a member that is no chain, as it is told.
 
-ghost use Rattle.std.specs.Prelude.{◌≡◌, Some};
-ghost use Rattle.std.specs.Fmt.{DisplaysOnOk};
-ghost use Rattle.kt_explain.specs.Words.{arrived_words, bad_chain_words, beyond_words, break_words, demand_words, elsewhere_words, flaw_words, gone_words, past_words, receipt_words, unreceived_words};
+ghost use Rattle.std.specs.Prelude.{◌≡◌, ◌==◌, ◌++◌, if◌then◌else◌, codes, Some};
+ghost use Rattle.std.specs.Fmt.{DisplaysOnOk, decimal};
+ghost use Rattle.kt_explain.specs.Words.{arrived_words, bad_chain_words, beyond_words, break_words, demand_words, flaw_words, parties_words, past_words, receipt_words, unreceived_words};
 
 use crate::chain_rows::ChainRows;
 use kt_base::{InstNo, MsgNo, ProcNo, RowNo};
@@ -80,10 +80,9 @@ fn write_flaw<W: fmt::Write>(
     ensures { DisplaysOnOk W.write_str_gives f.old result (Some (flaw_words member flaw about)) f.new }
 {
     match flaw {
-        Flaw::Initiator => write!(f, "the initiator, and has a chain: it must have none\n"),
-        Flaw::Empty => write!(
-            f,
-            "and has no chain: each member but the initiator must have one\n"
+        Flaw::Initiator => f.write_str("the initiator, and has a chain: it must have none\n"),
+        Flaw::Empty => f.write_str(
+            "and has no chain: each member but the initiator must have one\n",
         ),
         Flaw::Elsewhere(p) => {
             write!(
@@ -119,12 +118,15 @@ fn write_demand<W: fmt::Write>(
     ensures { DisplaysOnOk W.write_str_gives f.old result (Some (demand_words member demand about)) f.new }
 {
     match demand {
-        Demand::Message => write!(
-            f,
-            "was never sent: a message has the number of the row that sends it\n"
+        Demand::Message => f.write_str(
+            "was never sent: a message has the number of the row that sends it\n",
         ),
-        Demand::GoneElsewhere { from, to, p } => write_gone(f, member, from, to, p),
-        Demand::SentElsewhere { from, to, p } => write_elsewhere(f, member, from, to, p),
+        Demand::GoneElsewhere { from, to, p } => {
+            write_astray(f, member, from, to, p, "which has to have received it\n")
+        }
+        Demand::SentElsewhere { from, to, p } => {
+            write_astray(f, member, from, to, p, "which has to have sent it\n")
+        }
         Demand::Received(p) => write_unreceived(f, p, about.received),
         Demand::Sent(p) => {
             write!(
@@ -200,48 +202,30 @@ fn write_beyond<W: fmt::Write>(f: &mut fmt::Formatter<W>, joined: Option<RowNo>)
             f,
             "after its checkpoint of the instance, taken in row {row}: it links nobody\n"
         ),
-        None => write!(
-            f,
-            "and not before it took a checkpoint of the instance: it links nobody\n"
+        None => f.write_str(
+            "and not before it took a checkpoint of the instance: it links nobody\n",
         ),
     }
 }
 
-// A message between these, that this process is to have received, or that comes too late.
-fn write_gone<W: fmt::Write>(
+// A message between these, of which this process is to have done what the sentence ends with, or that comes too late.
+fn write_astray<W: fmt::Write>(
     f: &mut fmt::Formatter<W>,
     member: ProcNo,
     from: ProcNo,
     to: ProcNo,
     p: ProcNo,
+    end: &str,
 ) -> fmt::Result
-    ensures { DisplaysOnOk W.write_str_gives f.old result (Some (gone_words member from to p)) f.new }
+    ensures { DisplaysOnOk W.write_str_gives f.old result (Some (if member == p then arrived_words p else
+        parties_words from to ++ (codes ", but here the chain is at process " ++ (decimal p ++ (codes ", " ++ end.now))))) f.new }
 {
     if member == p {
         return write_arrived(f, p);
     }
     write!(
         f,
-        "was sent by process {from} to process {to}, but here the chain is at process {p}, which has to have received it\n"
-    )
-}
-
-// A message between these, that this process is to have sent, or that comes too late.
-fn write_elsewhere<W: fmt::Write>(
-    f: &mut fmt::Formatter<W>,
-    member: ProcNo,
-    from: ProcNo,
-    to: ProcNo,
-    p: ProcNo,
-) -> fmt::Result
-    ensures { DisplaysOnOk W.write_str_gives f.old result (Some (elsewhere_words member from to p)) f.new }
-{
-    if member == p {
-        return write_arrived(f, p);
-    }
-    write!(
-        f,
-        "was sent by process {from} to process {to}, but here the chain is at process {p}, which has to have sent it\n"
+        "was sent by process {from} to process {to}, but here the chain is at process {p}, {end}"
     )
 }
 

@@ -139,17 +139,15 @@ fn write_sent_later<W: fmt::Write>(
     ensures { DisplaysOnOk W.write_str_gives f.old result (Some (sent_later_words here later mended)) f.new }
 {
     match later {
-        None if mended => write!(
-            f,
-            ", and none after it (a message has the number of the row that sends it)\n"
+        None if mended => f.write_str(
+            ", and none after it (a message has the number of the row that sends it)\n",
         ),
         Some(row) => write!(
             f,
             ": row {row} does; unless this row names the wrong message, that one has to come before it; there it is row {here}, so this row then has to name message {here}\n"
         ),
-        None => write!(
-            f,
-            ", and none after it (a message has the number of the row that sends it): a row sent is missing before, or the number of the message is wrong\n"
+        None => f.write_str(
+            ", and none after it (a message has the number of the row that sends it): a row sent is missing before, or the number of the message is wrong\n",
         ),
     }
 }
@@ -163,14 +161,13 @@ fn write_begun_later<W: fmt::Write>(
     ensures { DisplaysOnOk W.write_str_gives f.old result (Some (begun_later_words later mended)) f.new }
 {
     match later {
-        None if mended => write!(f, ", and none after it\n"),
+        None if mended => f.write_str(", and none after it\n"),
         Some(row) => write!(
             f,
             ": row {row} does, which has to come before it, or the number of the instance is wrong\n"
         ),
-        None => write!(
-            f,
-            ", and none after it: a row began is missing before, or the number of the instance is wrong\n"
+        None => f.write_str(
+            ", and none after it: a row began is missing before, or the number of the instance is wrong\n",
         ),
     }
 }
@@ -184,9 +181,9 @@ fn write_decided_later<W: fmt::Write>(
     ensures { DisplaysOnOk W.write_str_gives f.old result (Some (decided_later_words later mended)) f.new }
 {
     match later {
-        None if mended => write!(f, "\n"),
+        None if mended => f.write_str("\n"),
         Some(row) => write!(f, ": row {row} does, which has to come before it\n"),
-        None => write!(f, ": a row decided is missing before it\n"),
+        None => f.write_str(": a row decided is missing before it\n"),
     }
 }
 
@@ -215,10 +212,9 @@ fn write_mend<W: fmt::Write>(
 fn write_missing_row<W: fmt::Write>(f: &mut fmt::Formatter<W>, row: &Event) -> fmt::Result
     ensures { DisplaysOnOk W.write_str_gives f.old result (Some (missing_row_words row.now)) f.new }
 {
-    write!(f, "insert before it: ")?;
+    f.write_str("insert before it: ")?;
     write_row(f, row)?;
-    let end = body_end(row);
-    write!(f, "{end}\n")
+    write_line(f, body_end(row))
 }
 
 // That a message may have another body.
@@ -240,10 +236,7 @@ fn write_undone<W: fmt::Write>(f: &mut fmt::Formatter<W>, undone: Option<RowNo>)
             f,
             ", by row {row}: after that nobody receives or drops it, so this row has to go\n"
         ),
-        None => write!(
-            f,
-            ": after that nobody receives or drops it, so this row has to go\n"
-        ),
+        None => f.write_str(": after that nobody receives or drops it, so this row has to go\n"),
     }
 }
 
@@ -286,9 +279,8 @@ fn write_inside<W: fmt::Write>(f: &mut fmt::Formatter<W>, row: &Event, inside: &
         Event::Refused {
             verb: Verb::Send,
             ..
-        } => write!(
-            f,
-            ": a send is not refused for that, but waits for its end, so this row has to go\n"
+        } => f.write_str(
+            ": a send is not refused for that, but waits for its end, so this row has to go\n",
         ),
         Event::Unwilling { .. } | Event::Refused { .. } => {
             write!(f, ", so the cause is busy-{inst}\n")
@@ -331,9 +323,8 @@ fn write_deciding<W: fmt::Write>(f: &mut fmt::Formatter<W>, inside: &Open) -> fm
                 ", which is not decided: before this row are missing decided,{q},{inst},{decision} and "
             )
         }
-        None => write!(
-            f,
-            ", which is not decided: before this row are missing its row decided and "
+        None => f.write_str(
+            ", which is not decided: before this row are missing its row decided and ",
         ),
     }
 }

@@ -1,8 +1,8 @@
 //! What breaks a rule, as it is told.
 
-ghost use Rattle.std.specs.Prelude.{◌≡◌, Some};
-ghost use Rattle.std.specs.Fmt.{DisplaysOnOk};
-ghost use Rattle.kt_explain.specs.BreachWords.{absence_words, closing_words, decision_words, in_words, just_begun_words, open_in_words, rolling_words, undecided_words};
+ghost use Rattle.std.specs.Prelude.{◌≡◌, ◌++◌, codes, Some};
+ghost use Rattle.std.specs.Fmt.{DisplaysOnOk, decimal};
+ghost use Rattle.kt_explain.specs.BreachWords.{absence_words, closing_words, decision_words, just_begun_words, open_in_words, undecided_words};
 
 pub(crate) mod before;
 mod deliveries;
@@ -168,9 +168,9 @@ impl fmt::Display for Breach {
 
     fn fmt<W: fmt::Write>(&self, f: &mut fmt::Formatter<W>) -> fmt::Result {
         match *self {
-            Breach::Message(breach) => write!(f, "{breach}"),
-            Breach::Process(breach) => write!(f, "{breach}"),
-            Breach::Instance(breach) => write!(f, "{breach}"),
+            Breach::Message(breach) => fmt::Display::fmt(&breach, f),
+            Breach::Process(breach) => fmt::Display::fmt(&breach, f),
+            Breach::Instance(breach) => fmt::Display::fmt(&breach, f),
             Breach::NoCause => Ok(()),
         }
     }
@@ -201,16 +201,33 @@ impl fmt::Display for MessageBreach {
                 f,
                 "message {msg} was dropped in row {row}, and is lost: this row has to go, or its message is another one"
             ),
-            MessageBreach::ReceivedLater { p, from, msg, row } => write!(
-                f,
-                "process {p} received the later message {msg} of process {from} already, in row {row}: messages of one sender are taken in the order in which they were sent, so this row has to come before that one"
-            ),
-            MessageBreach::DroppedLater { p, from, msg, row } => write!(
-                f,
-                "process {p} dropped the later message {msg} of process {from} already, in row {row}: messages of one sender are taken in the order in which they were sent, so this row has to come before that one"
-            ),
+            MessageBreach::ReceivedLater { p, from, msg, row } => {
+                write_later(f, p, " received the later message ", msg, from, row)
+            }
+            MessageBreach::DroppedLater { p, from, msg, row } => {
+                write_later(f, p, " dropped the later message ", msg, from, row)
+            }
         }
     }
+}
+
+// That a process took a later message of a sender, in this row, and how.
+fn write_later<W: fmt::Write>(
+    f: &mut fmt::Formatter<W>,
+    p: ProcNo,
+    took: &str,
+    msg: MsgNo,
+    from: ProcNo,
+    row: RowNo,
+) -> fmt::Result
+    ensures { DisplaysOnOk W.write_str_gives f.old result (Some (codes "process " ++ (decimal p
+        ++ (took.now ++ (decimal msg ++ (codes " of process " ++ (decimal from ++ (codes " already, in row " ++ (decimal row
+        ++ codes ": messages of one sender are taken in the order in which they were sent, so this row has to come before that one"))))))))) f.new }
+{
+    write!(
+        f,
+        "process {p}{took}{msg} of process {from} already, in row {row}: messages of one sender are taken in the order in which they were sent, so this row has to come before that one"
+    )
 }
 
 impl fmt::Display for ProcessBreach {
@@ -227,9 +244,9 @@ impl fmt::Display for ProcessBreach {
             ),
             ProcessBreach::Down { p, row } => write!(f, "process {p} is down since row {row}"),
             ProcessBreach::Up(p) => write!(f, "process {p} is up"),
-            ProcessBreach::Inside(inside) => write_in(f, &inside),
-            ProcessBreach::Rolling(inside) => write_rolling(f, &inside),
-            ProcessBreach::NotInside(outside) => write!(f, "{outside}"),
+            ProcessBreach::Inside(inside) => write_in(f, &inside, " since row "),
+            ProcessBreach::Rolling(inside) => write_in(f, &inside, ", a rollback, since row "),
+            ProcessBreach::NotInside(outside) => fmt::Display::fmt(&outside, f),
             ProcessBreach::Joined { p, inst, row } => write!(
                 f,
                 "process {p} joined instance {inst} already, in row {row}: a process joins an instance once, so this row has to go"
@@ -242,23 +259,13 @@ impl fmt::Display for ProcessBreach {
     }
 }
 
-// That a process is in an open instance.
-fn write_in<W: fmt::Write>(f: &mut fmt::Formatter<W>, inside: &Open) -> fmt::Result
-    ensures { DisplaysOnOk W.write_str_gives f.old result (Some (in_words inside.now)) f.new }
+// That a process is in an open instance, with these words before the row in which it joined.
+fn write_in<W: fmt::Write>(f: &mut fmt::Formatter<W>, inside: &Open, since: &str) -> fmt::Result
+    ensures { DisplaysOnOk W.write_str_gives f.old result (Some (codes "process " ++ (decimal inside.now.p
+        ++ (codes " has been in instance " ++ (decimal inside.now.inst ++ (since.now ++ decimal inside.now.row)))))) f.new }
 {
     let Open { p, inst, row, .. } = *inside;
-    write!(f, "process {p} has been in instance {inst} since row {row}")
-}
-
-// That a process is in an open instance, a rollback.
-fn write_rolling<W: fmt::Write>(f: &mut fmt::Formatter<W>, inside: &Open) -> fmt::Result
-    ensures { DisplaysOnOk W.write_str_gives f.old result (Some (rolling_words inside.now)) f.new }
-{
-    let Open { p, inst, row, .. } = *inside;
-    write!(
-        f,
-        "process {p} has been in instance {inst}, a rollback, since row {row}"
-    )
+    write!(f, "process {p} has been in instance {inst}{since}{row}")
 }
 
 impl fmt::Display for Outside {
@@ -307,7 +314,7 @@ fn write_decision<W: fmt::Write>(f: &mut fmt::Formatter<W>, decided: Option<RowN
 {
     match decided {
         Some(row) => write!(f, ", which row {row} decides"),
-        None => write!(f, ", which is not decided"),
+        None => f.write_str(", which is not decided"),
     }
 }
 
@@ -349,15 +356,45 @@ fn write_just_begun<W: fmt::Write>(
     ensures { DisplaysOnOk W.write_str_gives f.old result (Some (just_begun_words p inst kind)) f.new }
 {
     match kind {
-        Kind::Checkpoint => write!(
+        Kind::Checkpoint => write_next(
             f,
-            "process {p} began instance {inst}, a checkpoint, in the row before: next has to come took,{p},{inst},-"
+            p,
+            inst,
+            ", a checkpoint, in the row before: next has to come took,",
         ),
-        Kind::Rollback => write!(
+        Kind::Rollback => write_next(
             f,
-            "process {p} began instance {inst}, a rollback, in the row before: next has to come ready,{p},{inst},-"
+            p,
+            inst,
+            ", a rollback, in the row before: next has to come ready,",
         ),
     }
+}
+
+// That a process began an instance, and the row that it has to join it by, which begins as these words end.
+fn write_next<W: fmt::Write>(
+    f: &mut fmt::Formatter<W>,
+    p: ProcNo,
+    inst: InstNo,
+    next: &str,
+) -> fmt::Result
+    ensures { DisplaysOnOk W.write_str_gives f.old result (Some (codes "process " ++ (decimal p
+        ++ (codes " began instance " ++ (decimal inst ++ (next.now ++ (decimal p ++ (codes "," ++ (decimal inst ++ codes ",-"))))))))) f.new }
+{
+    write!(f, "process {p} began instance {inst}{next}{p},{inst},-")
+}
+
+// In which row an instance began, and what follows from how.
+fn write_beginning<W: fmt::Write>(
+    f: &mut fmt::Formatter<W>,
+    inst: InstNo,
+    row: RowNo,
+    end: &str,
+) -> fmt::Result
+    ensures { DisplaysOnOk W.write_str_gives f.old result (Some (codes "instance " ++ (decimal inst
+        ++ (codes " began in row " ++ (decimal row ++ end.now))))) f.new }
+{
+    write!(f, "instance {inst} began in row {row}{end}")
 }
 
 // That an instance is not decided, and who decides it.
@@ -401,20 +438,21 @@ impl fmt::Display for InstanceBreach {
             }
             InstanceBreach::Undecided { inst, p } => write_undecided(f, inst, p),
             InstanceBreach::OfKind { inst, kind, row } => match kind {
-                Kind::Checkpoint => {
-                    write!(
-                        f,
-                        "instance {inst} began in row {row}, as a checkpoint: it is joined by took, and who is down is unwilling to join it"
-                    )
-                }
-                Kind::Rollback => write!(
+                Kind::Checkpoint => write_beginning(
                     f,
-                    "instance {inst} began in row {row}, as a rollback: it is joined by ready"
+                    inst,
+                    row,
+                    ", as a checkpoint: it is joined by took, and who is down is unwilling to join it",
                 ),
+                Kind::Rollback => {
+                    write_beginning(f, inst, row, ", as a rollback: it is joined by ready")
+                }
             },
-            InstanceBreach::OnlyBusy { inst, row } => write!(
+            InstanceBreach::OnlyBusy { inst, row } => write_beginning(
                 f,
-                "instance {inst} began in row {row}, as a rollback: only who is in another instance is unwilling to join it, all others join it by ready, up or down"
+                inst,
+                row,
+                ", as a rollback: only who is in another instance is unwilling to join it, all others join it by ready, up or down",
             ),
             InstanceBreach::Initiator { inst, p, row } => write!(
                 f,

@@ -1,7 +1,7 @@
 //! What differs between a certificate and the log.
 
-ghost use Rattle.std.specs.Prelude.{◌≡◌, Some};
-ghost use Rattle.std.specs.Fmt.{DisplaysOnOk};
+ghost use Rattle.std.specs.Prelude.{◌≡◌, ◌++◌, Some};
+ghost use Rattle.std.specs.Fmt.{DisplaysOnOk, decimal};
 ghost use Rattle.kt_text.specs.Words.{kind_word, decision_word};
 ghost use Rattle.kt_explain.specs.Words.{begin_words, cause_words, head_words, is_of_head, later_words, other_decision_words, other_kind_words, right_head_words};
 
@@ -9,7 +9,7 @@ use kt_base::{InstNo, Kind, ProcNo, RowNo};
 use std::fmt;
 
 /// What the log has otherwise than a certificate of an instance.
-#[derive(Clone, Copy, Debug, PartialEq, Eq)]
+#[derive(Clone, Copy, Debug)]
 pub enum Difference {
     /// No row begins the instance.
     Unbegun,
@@ -50,13 +50,11 @@ impl fmt::Display for Difference {
 
     fn fmt<W: fmt::Write>(&self, f: &mut fmt::Formatter<W>) -> fmt::Result {
         match *self {
-            Difference::Unbegun => write!(
-                f,
-                "no row begins it, so it may have no certificate: the records of its certificate have to go"
+            Difference::Unbegun => f.write_str(
+                "no row begins it, so it may have no certificate: the records of its certificate have to go",
             ),
-            Difference::Undecided => write!(
-                f,
-                "no row decides it, so it may have no certificate: the records of its certificate have to go"
+            Difference::Undecided => f.write_str(
+                "no row decides it, so it may have no certificate: the records of its certificate have to go",
             ),
             Difference::Kind(kind, row) => write_kind(f, kind, row),
             Difference::Initiator { p, named, row } => {
@@ -67,13 +65,11 @@ impl fmt::Display for Difference {
             }
             Difference::Decision(commit, row) => write_decision(f, commit, row),
             Difference::Cause(commit, row) => write_cause(f, commit, row),
-            Difference::Members => write!(
-                f,
-                "it is aborted, and its certificate lists members: their records have to go"
+            Difference::Members => f.write_str(
+                "it is aborted, and its certificate lists members: their records have to go",
             ),
-            Difference::Second => write!(
-                f,
-                "it has two certificates, and may have only one: the records of the second have to go"
+            Difference::Second => f.write_str(
+                "it has two certificates, and may have only one: the records of the second have to go",
             ),
         }
     }
@@ -129,9 +125,9 @@ fn write_later<W: fmt::Write>(f: &mut fmt::Formatter<W>, commit: bool) -> fmt::R
     ensures { DisplaysOnOk W.write_str_gives f.old result (Some (later_words commit)) f.new }
 {
     if commit {
-        write!(f, "; its members may be wrong as well\n")
+        f.write_str("; its members may be wrong as well\n")
     } else {
-        write!(f, "; an abort has no members\n")
+        f.write_str("; an abort has no members\n")
     }
 }
 
@@ -140,9 +136,9 @@ fn write_begin<W: fmt::Write>(f: &mut fmt::Formatter<W>, commit: bool) -> fmt::R
     ensures { DisplaysOnOk W.write_str_gives f.old result (Some (begin_words commit)) f.new }
 {
     if commit {
-        write!(f, "it has to begin with cert,")
+        f.write_str("it has to begin with cert,")
     } else {
-        write!(f, "it has to be the one record cert,")
+        f.write_str("it has to be the one record cert,")
     }
 }
 
@@ -151,15 +147,31 @@ fn write_kind<W: fmt::Write>(f: &mut fmt::Formatter<W>, kind: Kind, row: RowNo) 
     ensures { DisplaysOnOk W.write_str_gives f.old result (Some (other_kind_words kind row)) f.new }
 {
     match kind {
-        Kind::Checkpoint => write!(
+        Kind::Checkpoint => write_of_row(
             f,
-            "row {row} begins it as a checkpoint: the certificate has to say that, and not rollback"
+            "row ",
+            row,
+            " begins it as a checkpoint: the certificate has to say that, and not rollback",
         ),
-        Kind::Rollback => write!(
+        Kind::Rollback => write_of_row(
             f,
-            "row {row} begins it as a rollback: the certificate has to say that, and not checkpoint"
+            "row ",
+            row,
+            " begins it as a rollback: the certificate has to say that, and not checkpoint",
         ),
     }
+}
+
+// A sentence with the number of a row between these words.
+fn write_of_row<W: fmt::Write>(
+    f: &mut fmt::Formatter<W>,
+    begin: &str,
+    row: RowNo,
+    end: &str,
+) -> fmt::Result
+    ensures { DisplaysOnOk W.write_str_gives f.old result (Some (begin.now ++ (decimal row ++ end.now))) f.new }
+{
+    write!(f, "{begin}{row}{end}")
 }
 
 // That an instance was decided so, and the certificate says the other.
@@ -167,14 +179,18 @@ fn write_decision<W: fmt::Write>(f: &mut fmt::Formatter<W>, commit: bool, row: R
     ensures { DisplaysOnOk W.write_str_gives f.old result (Some (other_decision_words commit row)) f.new }
 {
     if commit {
-        write!(
+        write_of_row(
             f,
-            "row {row} decides it, commit: the certificate has to say that, and not abort"
+            "row ",
+            row,
+            " decides it, commit: the certificate has to say that, and not abort",
         )
     } else {
-        write!(
+        write_of_row(
             f,
-            "row {row} decides it, abort: the certificate has to say that, and not commit"
+            "row ",
+            row,
+            " decides it, abort: the certificate has to say that, and not commit",
         )
     }
 }
@@ -184,14 +200,18 @@ fn write_cause<W: fmt::Write>(f: &mut fmt::Formatter<W>, commit: bool, row: RowN
     ensures { DisplaysOnOk W.write_str_gives f.old result (Some (cause_words commit row)) f.new }
 {
     if commit {
-        write!(
+        write_of_row(
             f,
-            "the log is at fault: row {row} decides it, commit, but a process was unwilling to join it, so that row has to say abort; then koo_toueg --hints certify LOG --cert CERT makes the certificates anew"
+            "the log is at fault: row ",
+            row,
+            " decides it, commit, but a process was unwilling to join it, so that row has to say abort; then koo_toueg --hints certify LOG --cert CERT makes the certificates anew",
         )
     } else {
-        write!(
+        write_of_row(
             f,
-            "the log is at fault: row {row} decides it, abort, but no process was unwilling to join it, so that row has to say commit, or a row unwilling is missing before it; then koo_toueg --hints certify LOG --cert CERT makes the certificates anew"
+            "the log is at fault: row ",
+            row,
+            " decides it, abort, but no process was unwilling to join it, so that row has to say commit, or a row unwilling is missing before it; then koo_toueg --hints certify LOG --cert CERT makes the certificates anew",
         )
     }
 }

@@ -285,6 +285,6 @@ fn write_missing<W: fmt::Write>(f: &mut fmt::Formatter<W>, joined: Option<ProcNo
 {
     match joined {
         Some(p) => write!(f, "process {p} joined too, and has no record\n"),
-        None => write!(f, "nobody is listed, and nobody joined\n"),
+        None => f.write_str("nobody is listed, and nobody joined\n"),
     }
 }

@@ -7,7 +7,7 @@ use kt_base::{InstNo, MsgNo, ProcNo, RowNo};
 use kt_spacetime::Event;
 
 /// What a row that is sought says.
-#[derive(Clone, Copy, Debug, PartialEq, Eq)]
+#[derive(Clone, Copy, PartialEq)]
 pub enum Sought {
     /// A process was unwilling to join this instance.
     Unwilling(InstNo),

@@ -387,10 +387,10 @@ pub(crate) fn write_instead<W: fmt::Write>(
     let Some(row) = instead.first else {
         return Ok(());
     };
-    write!(f, "in its place can stand ")?;
+    f.write_str("in its place can stand ")?;
     write_row(f, &row)?;
     write_or(f, instead.second)?;
-    write!(f, "\n")
+    f.write_str("\n")
 }
 
 // The second of those rows.
@@ -400,6 +400,6 @@ fn write_or<W: fmt::Write>(f: &mut fmt::Formatter<W>, second: Option<Event>) -> 
     let Some(row) = second else {
         return Ok(());
     };
-    write!(f, " or ")?;
+    f.write_str(" or ")?;
     write_row(f, &row)
 }

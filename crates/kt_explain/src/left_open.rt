@@ -80,7 +80,7 @@ fn write_inside<W: fmt::Write>(f: &mut fmt::Formatter<W>, inside: ProcSet) -> fm
     ensures { DisplaysOnOk W.write_str_gives f.old result (Some (inside_words inside)) f.new }
 {
     if inside.count() == 0 {
-        write!(f, "no process\n")
+        f.write_str("no process\n")
     } else {
         write_processes(f, inside)
     }
@@ -119,7 +119,7 @@ fn write_down<W: fmt::Write>(f: &mut fmt::Formatter<W>, down: ProcSet) -> fmt::R
     if down.count() == 0 {
         return Ok(());
     }
-    write!(f, "down: ")?;
+    f.write_str("down: ")?;
     write_processes(f, down)
 }
 
@@ -138,9 +138,9 @@ fn write_dropped<W: fmt::Write>(f: &mut fmt::Formatter<W>, dropped: usize) -> fm
 fn write_processes<W: fmt::Write>(f: &mut fmt::Formatter<W>, set: ProcSet) -> fmt::Result
     ensures { DisplaysOnOk W.write_str_gives f.old result (Some (processes_words set)) f.new }
 {
-    write!(f, "processes")?;
+    f.write_str("processes")?;
     write_members(f, set)?;
-    write!(f, "\n")
+    f.write_str("\n")
 }
 
 // The processes of a set, by rising number.

@@ -306,7 +306,7 @@ fn write_record<W: fmt::Write>(
 {
     write!(f, "the record of process {member} can be ")?;
     write_member(f, inst, member, chain.messages())?;
-    write!(f, "\n")
+    f.write_str("\n")
 }
 
 // That the chain of a member can be that of another one, once that is mended, followed by a message.

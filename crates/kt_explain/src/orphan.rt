@@ -55,10 +55,7 @@ pub(crate) fn write_outsider<W: fmt::Write>(
     };
     write!(f, "the log is at fault: process {p} would have had to join")?;
     write_answer(f, answer)?;
-    write!(
-        f,
-        "; then koo_toueg --hints certify LOG --cert CERT makes the certificates anew\n"
-    )
+    f.write_str("; then koo_toueg --hints certify LOG --cert CERT makes the certificates anew\n")
 }
 
 // What a process answers to the instance that it would have had to join.
@@ -68,7 +65,7 @@ fn write_answer<W: fmt::Write>(f: &mut fmt::Formatter<W>, answer: &Option<Event>
     let Some(row) = *answer else {
         return Ok(());
     };
-    write!(f, ": before the row decided is missing ")?;
+    f.write_str(": before the row decided is missing ")?;
     write_row(f, &row)?;
     write_abort(f, &row)
 }
@@ -78,7 +75,7 @@ fn write_abort<W: fmt::Write>(f: &mut fmt::Formatter<W>, row: &Event) -> fmt::Re
     ensures { DisplaysOnOk W.write_str_gives f.old result (Some (abort_words row.now)) f.new }
 {
     match row {
-        Event::Unwilling { .. } => write!(f, ", and the decision has to be abort"),
+        Event::Unwilling { .. } => f.write_str(", and the decision has to be abort"),
         _ => Ok(()),
     }
 }

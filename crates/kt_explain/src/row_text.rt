@@ -103,8 +103,8 @@ fn write_cause<W: fmt::Write>(f: &mut fmt::Formatter<W>, cause: Cause) -> fmt::R
 {
     match cause {
         Cause::Busy(inst) => write!(f, "busy-{inst}"),
-        Cause::Down => write!(f, "down"),
-        Cause::NoSave => write!(f, "nosave"),
+        Cause::Down => f.write_str("down"),
+        Cause::NoSave => f.write_str("nosave"),
     }
 }
 

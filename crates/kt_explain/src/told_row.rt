@@ -41,7 +41,7 @@ fn write_numbered<W: fmt::Write>(f: &mut fmt::Formatter<W>, found: &Found) -> fm
         "log row {number} (a first line kt,2,-,- is not counted): "
     )?;
     write_row(f, &found.row)?;
-    write!(f, "\n")
+    f.write_str("\n")
 }
 
 /// The row of a log that an answer names.

@@ -1,6 +1,6 @@
 //! The row that undid the send of a message.
 
-ghost use Rattle.std.specs.Prelude.{◌≡◌, ◌≤◌, ◌<◌, ◌+◌, ◌^◌, ◌&&◌, if◌then◌else◌, not, List, Some, IfOk, IfSome, length};
+ghost use Rattle.std.specs.Prelude.{◌≡◌, ◌≤◌, ◌<◌, ◌+◌, ◌^◌, ◌&&◌, if◌then◌else◌, not, [], List, Some, IfOk, IfSome, length};
 ghost use Rattle.kt_spacetime.specs.declared.event.Event.{Event as Events};
 ghost use Rattle.kt_cuts.specs.Legal.{IsLegal};
 ghost use Rattle.kt_cuts.specs.Traces.{trace_of};
@@ -36,11 +36,25 @@ fn undoing(alloc: Global, rows: &[Event], msg: MsgNo) -> Result<Option<RowNo>, M
     ensures { IfOk result (λ row. IfSome row (IsUndoing rows.now msg)) }
 {
     let mut histories = Histories::of(alloc, &SpaceTime::new(alloc), 0)?;
+    undoing_after(&mut histories, rows, msg)
+}
+
+// The last of these rows that undid the send of a message, after the histories of no row.
+fn undoing_after(
+    histories: &mut Histories,
+    rows: &[Event],
+    msg: MsgNo,
+) -> Result<Option<RowNo>, Memory>
+    requires few { length rows.now ≤ 2 ^ 24 }
+    requires legal { IsLegal rows.now }
+    requires histories { HistoriesOf histories.old [] }
+    ensures { IfOk result (λ row. IfSome row (IsUndoing rows.now msg)) }
+{
     let mut undone = None;
     for place in 0..rows.len() {
-        let was = is_send_live(&histories, msg);
+        let was = is_send_live(histories, msg);
         histories.add(&rows[place])?;
-        let is = is_send_live(&histories, msg);
+        let is = is_send_live(histories, msg);
         undone = undone_after(undone, was, is, place);
     }
     Ok(undone)

@@ -1,11 +1,12 @@
 //! What is known before a row, and the demands of the rules on it: an error tells what is against the demand.
 
-ghost use Rattle.std.specs.Prelude.{◌≡◌, ◌≤◌, ◌+◌, ◌^◌, ◌==◌, ℕ, not, is_none, is_some, false, List, Some, IfOk, IfNone, IfSome, length};
+ghost use Rattle.std.specs.Prelude.{◌≡◌, ◌≤◌, ◌+◌, ◌^◌, ◌==◌, ℕ, not, is_none, is_some, false, [], List, Some, OnOk, IfOk, IfNone, IfSome, length};
 ghost use Rattle.kt_base.specs.declared.words.Kind.{Kind as Kinds};
 ghost use Rattle.kt_spacetime.specs.declared.event.Event.{Event as Events};
 ghost use Rattle.kt_spacetime.specs.declared.event.Event.TheVariants as event;
 ghost use Rattle.kt_cuts.specs.Past.{Past, past, after};
-ghost use Rattle.kt_cuts.specs.Legal.{follows};
+ghost use Rattle.kt_cuts.specs.Legal.{IsLegal, follows};
+ghost use Rattle.kt_histories.specs.HistoriesOf.{HistoriesOf};
 ghost use Rattle.kt_explain.specs.Breaches.{IsJudged};
 
 use crate::breach::{Breach, InstanceBreach, Open, Outside, ProcessBreach};
@@ -44,9 +45,7 @@ impl Before<'_> {
         ensures rows { IfOk result (λ b. b.rows.now ≡ rows.now) }
     {
         let mut histories = Histories::of(alloc, &SpaceTime::new(alloc), 0)?;
-        for row in rows {
-            histories.add(row)?;
-        }
+        add_all(&mut histories, rows)?;
         Ok(Before { rows, histories })
     }
 
@@ -335,6 +334,19 @@ impl Before<'_> {
             None => None,
         }
     }
+}
+
+// Adds the rows of a legal log to the histories of no row.
+fn add_all(histories: &mut Histories, rows: &[Event]) -> Result<(), Memory>
+    requires few { length rows.now ≤ 2 ^ 24 }
+    requires legal { IsLegal rows.now }
+    requires histories { HistoriesOf histories.old [] }
+    ensures { OnOk result (HistoriesOf histories.new rows.now) }
+{
+    for row in rows {
+        histories.add(row)?;
+    }
+    Ok(())
 }
 
 // How the instance began that a row begins.

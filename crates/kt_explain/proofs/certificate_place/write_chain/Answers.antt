@@ -10,7 +10,7 @@ pub returns : goal.returns
 returns g c = λ plain ok.
     let messages = c.args.messages.now in
     let some : 0 < length messages = search rules in
-    let a = c.in_ok-write.ensures.writes plain refl in
+    let a = c.in_ok-fmt.ensures.writes plain refl in
     let b = c.write_marked.ensures a.plain ok in
     put_two g.W.Write.write_str_gives _ _ _ _ _ _ a b
     (ap (λ (list : List ℕ). decimal c.index-messages-0.result ++ marked list) (take_rest messages 1) ∙ chain_told messages c.index-messages-0.result some (sym c.index-messages-0.is))

@@ -6,5 +6,5 @@ pub returns : goal.returns
 returns g c = λ plain ok.
     let a = c.in_ok-write_where.ensures plain refl in
     let b = c.in_ok-write_record.ensures a.plain refl in
-    let d = c.write.ensures.writes b.plain ok in
+    let d = c.write_str.ensures.writes b.plain ok in
     put_three g.W.Write.write_str_gives _ _ _ _ _ _ _ _ a b d refl

@@ -7,5 +7,5 @@ pub returns : goal.returns
 returns g c = λ plain ok.
     let a = c.in_ok-write.ensures.writes plain refl in
     let b = c.in_ok-write_member.ensures a.plain refl in
-    let d = c.write-2.ensures.writes b.plain ok in
+    let d = c.write_str.ensures.writes b.plain ok in
     put_three g.W.Write.write_str_gives _ _ _ _ _ _ _ _ a b d (ap (can_be_words c.args.inst c.args.member) c.messages.ensures)

@@ -8,11 +8,11 @@ use Rattle.kt_explain.proofs.breach.InstanceBreachDisplay.fmt.Goals as goal
 
 pub returns-in-Checkpoint-clause-writes : goal.returns-in-Checkpoint-clause-writes
 returns-in-Checkpoint-clause-writes g c = λ plain ok.
-    subst (λ (x : InstanceBreach). HasWritten {W = g.row.W.Denot} g.W.Write.write_str_gives c.args.f.now (instance_breach_words x) c.write-in-Checkpoint.new.self) (sym (c.in-OfKind.is ∙ ap (λ (kind : Kind). variant.OfKind c.in-OfKind.inst kind c.in-OfKind.row) c.in-Checkpoint.is)) (c.write-in-Checkpoint.ensures.writes plain ok)
+    subst (λ (x : InstanceBreach). HasWritten {W = g.row.W.Denot} g.W.Write.write_str_gives c.args.f.now (instance_breach_words x) c.write_beginning.new.f) (sym (c.in-OfKind.is ∙ ap (λ (kind : Kind). variant.OfKind c.in-OfKind.inst kind c.in-OfKind.row) c.in-Checkpoint.is)) (c.write_beginning.ensures plain ok)
 
 pub returns-in-Rollback-clause-writes : goal.returns-in-Rollback-clause-writes
 returns-in-Rollback-clause-writes g c = λ plain ok.
-    subst (λ (x : InstanceBreach). HasWritten {W = g.row.W.Denot} g.W.Write.write_str_gives c.args.f.now (instance_breach_words x) c.write-in-Rollback.new.self) (sym (c.in-OfKind.is ∙ ap (λ (kind : Kind). variant.OfKind c.in-OfKind.inst kind c.in-OfKind.row) c.in-Rollback.is)) (c.write-in-Rollback.ensures.writes plain ok)
+    subst (λ (x : InstanceBreach). HasWritten {W = g.row.W.Denot} g.W.Write.write_str_gives c.args.f.now (instance_breach_words x) c.write_beginning-in-Rollback.new.f) (sym (c.in-OfKind.is ∙ ap (λ (kind : Kind). variant.OfKind c.in-OfKind.inst kind c.in-OfKind.row) c.in-Rollback.is)) (c.write_beginning-in-Rollback.ensures plain ok)
 
 pub returns-in-Initiator-clause-writes : goal.returns-in-Initiator-clause-writes
 returns-in-Initiator-clause-writes g c = λ plain ok.
@@ -24,4 +24,4 @@ returns-in-OwnCause-clause-writes g c = λ plain ok.
 
 pub returns-in-OnlyBusy-clause-writes : goal.returns-in-OnlyBusy-clause-writes
 returns-in-OnlyBusy-clause-writes g c = λ plain ok.
-    subst (λ (x : InstanceBreach). HasWritten {W = g.row.W.Denot} g.W.Write.write_str_gives c.args.f.now (instance_breach_words x) c.write-in-OnlyBusy.new.self) (sym (c.in-OnlyBusy.is)) (c.write-in-OnlyBusy.ensures.writes plain ok)
+    subst (λ (x : InstanceBreach). HasWritten {W = g.row.W.Denot} g.W.Write.write_str_gives c.args.f.now (instance_breach_words x) c.write_beginning-in-OnlyBusy.new.f) (sym (c.in-OnlyBusy.is)) (c.write_beginning-in-OnlyBusy.ensures plain ok)

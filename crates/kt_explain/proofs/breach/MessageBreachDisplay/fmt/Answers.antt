@@ -14,7 +14,7 @@ returns-in-Undone-clause-writes g c = λ plain ok.
 
 pub returns-in-DroppedLater-clause-writes : goal.returns-in-DroppedLater-clause-writes
 returns-in-DroppedLater-clause-writes g c = λ plain ok.
-    subst (λ (x : MessageBreach). HasWritten {W = g.row.W.Denot} g.W.Write.write_str_gives c.args.f.now (message_breach_words x) c.write-in-DroppedLater.new.self) (sym (c.in-DroppedLater.is)) (c.write-in-DroppedLater.ensures.writes plain ok)
+    subst (λ (x : MessageBreach). HasWritten {W = g.row.W.Denot} g.W.Write.write_str_gives c.args.f.now (message_breach_words x) c.write_later-in-DroppedLater.new.f) (sym (c.in-DroppedLater.is)) (c.write_later-in-DroppedLater.ensures plain ok)
 
 pub returns-in-Received-clause-writes : goal.returns-in-Received-clause-writes
 returns-in-Received-clause-writes g c = λ plain ok.
@@ -22,4 +22,4 @@ returns-in-Received-clause-writes g c = λ plain ok.
 
 pub returns-in-ReceivedLater-clause-writes : goal.returns-in-ReceivedLater-clause-writes
 returns-in-ReceivedLater-clause-writes g c = λ plain ok.
-    subst (λ (x : MessageBreach). HasWritten {W = g.row.W.Denot} g.W.Write.write_str_gives c.args.f.now (message_breach_words x) c.write-in-ReceivedLater.new.self) (sym (c.in-ReceivedLater.is)) (c.write-in-ReceivedLater.ensures.writes plain ok)
+    subst (λ (x : MessageBreach). HasWritten {W = g.row.W.Denot} g.W.Write.write_str_gives c.args.f.now (message_breach_words x) c.write_later.new.f) (sym (c.in-ReceivedLater.is)) (c.write_later.ensures plain ok)

@@ -11,7 +11,7 @@ use Rattle.kt_cuts.proofs.Replayed.{row_read}
 use Rattle.kt_histories.specs.HistoriesOf.{HistoriesOf}
 use Rattle.kt_explain.specs.Undoing.{IsUndoing, is_send_live}
 use Rattle.kt_explain.proofs.Replaying.{messages_kept}
-use Rattle.kt_explain.proofs.undoing.undoing.Goals as goal
+use Rattle.kt_explain.proofs.undoing.undoing_after.Goals as goal
 
 undone_more : (rows : List Event) (msg place : ℕ) (old new : Option ℕ) (was now : Bool) → new ≡ (if was && not now then Some (place + 1) else old)
     → was ≡ is_send_live (trace_of (take place rows) msg) → now ≡ is_send_live (trace_of (take (place + 1) rows) msg) → IfSome old (IsUndoing rows msg) → IfSome new (IsUndoing rows msg)
