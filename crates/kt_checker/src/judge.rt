@@ -65,32 +65,23 @@ impl Judge {
             → JudgeOf self.old certificates.now rows → first_broken (rows ++ row.now ∷ []) ≡ Some (n, rule) }
     {
         match *row {
-            Event::Decided { inst, commit, .. } => {
-                self.feed_decided(certificates, row, inst, commit)
-            }
+            Event::Decided { .. } => self.feed_decided(certificates, row),
             _ => self.feed_other(row),
         }
     }
 
-    // One more row, which decides this instance: the first certificate of the instance is tested just before it.
+    // One more row, which decides an instance: the first certificate of the instance is tested just before it.
     #[inline(never)]
-    fn feed_decided(
-        &mut self,
-        certificates: &[Certificate],
-        row: &Event,
-        inst: InstNo,
-        commit: bool,
-    ) -> Result<(), LegalFault>
+    fn feed_decided(&mut self, certificates: &[Certificate], row: &Event) -> Result<(), LegalFault>
         requires few { IsFew self.old }
-        requires decided { (p : ℕ) × (row.now ≡ event.Decided p inst commit) }
         ensures fed { OnOk result ((rows : List Event) → JudgeOf self.old certificates.now rows
             → JudgeOf self.new certificates.now (rows ++ row.now ∷ [])) }
         ensures broken { (n : ℕ) (rule : Rule) → result ≡ Err (fault.Broken n rule) → (rows : List Event)
             → JudgeOf self.old certificates.now rows → first_broken (rows ++ row.now ∷ []) ≡ Some (n, rule) }
     {
         let number = RowNo::after(self.walk.rows());
-        let fault = self.fault_at(certificates, inst, commit);
-        let stays_consistent = self.stays_consistent(certificates, inst, commit, fault);
+        let fault = self.fault_at(certificates, row);
+        let stays_consistent = self.stays_consistent(certificates, row, fault);
         self.walk.feed(row)?;
         self.instances.add(number, row, fault)?;
         self.is_consistent = stays_consistent;
@@ -115,11 +106,14 @@ impl Judge {
     }
 
     // What is first wrong with the first certificate of the instance that the next row decides.
-    fn fault_at(&self, certificates: &[Certificate], inst: InstNo, commit: bool) -> Option<Why>
-        ensures { (rows : List Event) (p : ℕ) → JudgeOf self.now certificates.now rows
-            → IsLegal (rows ++ event.Decided p inst commit ∷ [])
-            → IsFoundFirst certificates.now rows inst commit result }
+    fn fault_at(&self, certificates: &[Certificate], row: &Event) -> Option<Why>
+        ensures { (rows : List Event) (p k : ℕ) (commit : Bool) → JudgeOf self.now certificates.now rows
+            → IsLegal (rows ++ row.now ∷ []) → row.now ≡ event.Decided p k commit
+            → IsFoundFirst certificates.now rows k commit result }
     {
+        let Event::Decided { inst, commit, .. } = *row else {
+            return None;
+        };
         let Some(instance) = self.instances.get(inst) else {
             return None;
         };
@@ -135,20 +129,22 @@ impl Judge {
         )
     }
 
-    // Whether each committed decision is found to leave a consistent cut, with that of the next row, which decides this
-    // instance. This was found of its first certificate, whose cut was tested if nothing is wrong with it, and is the
-    // instance's if it has its kind.
+    // Whether each committed decision is found to leave a consistent cut, with that of the next row. This was found of
+    // its first certificate, whose cut was tested if nothing is wrong with it, and is the instance's if it has its kind.
     fn stays_consistent(
         &self,
         certificates: &[Certificate],
-        inst: InstNo,
-        commit: bool,
+        row: &Event,
         fault: Option<Why>,
     ) -> bool
-        ensures { (rows : List Event) (p : ℕ) → JudgeOf self.now certificates.now rows
-            → IsFoundFirst certificates.now rows inst commit fault
-            → IsTrue result → HasConsistentDecisions (rows ++ event.Decided p inst commit ∷ []) }
+        ensures { (rows : List Event) → JudgeOf self.now certificates.now rows
+            → ((p k : ℕ) (commit : Bool) → row.now ≡ event.Decided p k commit
+            → IsFoundFirst certificates.now rows k commit fault)
+            → IsTrue result → HasConsistentDecisions (rows ++ row.now ∷ []) }
     {
+        let Event::Decided { inst, commit, .. } = *row else {
+            return self.is_consistent;
+        };
         self.is_consistent
             && (!commit || (fault.is_none() && self.is_of_its_kind(certificates, inst)))
     }
