@@ -1,8 +1,11 @@
 -- Lanes, found one by one.
-use Rattle.std.proofs.Common.{◌≡◌, ◌∙◌, ◌<◌, ◌≤◌, ◌+◌, ℕ, zero, suc, Bool, true, false, List, [], ◌∷◌, ◌++◌, length, refl, sym, ap, cond, filter, arith, map, add-one}
+use Rattle.std.proofs.Common.{◌≡◌, ◌≢◌, ◌∙◌, ◌<◌, ◌≤◌, ◌+◌, ℕ, zero, suc, Bool, true, false, List, [], ◌∷◌, ◌++◌, length, refl, sym, ap, subst, cond, filter, arith, map, add-one}
 use Rattle.std.proofs.lemmas.List.{map-id, append-nil, length_push}
 use Rattle.std.proofs.lemmas.List.FromFn.{filter_of_map_range_with_len_more}
 use Rattle.std.specs.List.{range_with_len}
+use Rattle.std.specs.Prelude.{◌==◌, ◌||◌}
+use Rattle.std.proofs.lemmas.Bool.Decides.{nat_tests}
+use Rattle.kt_base.specs.Sets.{has}
 
 -- one more lane at most
 pub few_more : (t : Bool) (lanes : List ℕ) (p n : ℕ) → length lanes ≤ n → length (lanes ++ cond t (p ∷ []) []) ≤ n + 1
@@ -24,3 +27,32 @@ same_lanes p q (suc n) h =
     ap (λ (m : ℕ). filter p (range_with_len 0 m)) (sym number) ∙ lanes_more p n
     ∙ (λ j. rest j ++ cond (h n (omega arith) j) (n ∷ []) [])
     ∙ sym (lanes_more q n) ∙ ap (λ (m : ℕ). filter q (range_with_len 0 m)) number
+
+or_assoc : (a b d : Bool) → (a || (b || d)) ≡ ((a || b) || d)
+or_assoc true b d = refl
+or_assoc false b d = refl
+
+or_true : (a : Bool) → (a || true) ≡ true
+or_true true = refl
+or_true false = refl
+
+or_false : (a : Bool) → (a || false) ≡ a
+or_false true = refl
+or_false false = refl
+
+-- a set with one process more
+with_one : (old new p : ℕ) → has new p ≡ true → ((q : ℕ) → q ≢ p → has new q ≡ has old q) → (q : ℕ) → has new q ≡ (has old q || p == q)
+with_one old new p added others q = at_test (p == q) refl
+  where
+    at_test : (b : Bool) → (p == q) ≡ b → has new q ≡ (has old q || b)
+    at_test true t =
+        let same : p ≡ q = grind (arith, nat_tests, t) in
+        subst (λ (k : ℕ). has new k ≡ true) same added ∙ sym (or_true (has old q))
+    at_test false t =
+        others q (λ e. absurd (let found : (p == q) ≡ true = grind (arith, nat_tests, e) in cc)) ∙ sym (or_false (has old q))
+
+-- and with two
+pub with_two : (old one two p peer : ℕ) → has one p ≡ true → ((q : ℕ) → q ≢ p → has one q ≡ has old q) → has two peer ≡ true → ((q : ℕ) → q ≢ peer → has two q ≡ has one q)
+    → (q : ℕ) → has two q ≡ (has old q || (p == q || peer == q))
+with_two old one two p peer first rest second others q =
+    with_one one two peer second others q ∙ ap (λ (b : Bool). b || peer == q) (with_one old one p first rest q) ∙ sym (or_assoc (has old q) (p == q) (peer == q))

@@ -1,12 +1,13 @@
 -- Instances noted at messages of chains, one after another.
-use Rattle.std.proofs.Common.{◌≡◌, ◌∙◌, ◌+◌, ℕ, zero, suc, Bool, true, false, Option, Some, None, List, [], ◌∷◌, cond, refl, ap, take}
-use Rattle.std.specs.Prelude.{find}
+use Rattle.std.proofs.Common.{◌≡◌, ◌∙◌, ◌+◌, ℕ, zero, suc, Bool, true, false, Option, Some, None, List, [], ◌∷◌, cond, refl, sym, ap, take, get_or, arith}
+use Rattle.std.specs.Prelude.{◌||◌, find}
 use Rattle.std.specs.List.{slice_get}
 use Rattle.std.specs.Option.{option_map, option_or}
 use Rattle.std.proofs.lemmas.List.Folds.{find-append}
 use Rattle.kt_cuts.proofs.Items.{take_item}
 use Rattle.kt_chain.specs.declared.certificate.Certificate.{Certificate}
 use Rattle.kt_picture.specs.Evidence.{has_chained, chained_by}
+use Rattle.kt_picture.specs.Links.{NotesMore}
 
 map_or : (f : Certificate → ℕ) (o p : Option Certificate) → option_map f (option_or o p) ≡ option_or (option_map f o) (option_map f p)
 map_or f None p = refl
@@ -53,3 +54,27 @@ none_picked true x o t e = absurd (cc)
 pub none_next : {X : Type 0} (p : X → Bool) (xs : List X) (i : ℕ) (x : X) → slice_get xs i ≡ Some x → p x ≡ false → find p (take i xs) ≡ None → find p (take (i + 1) xs) ≡ None
 none_next p xs i x at fails none =
     ap (find p) (take_item xs i (i + 1) x refl at) ∙ find-append p (take i xs) (x ∷ []) ∙ none_picked (p x) x (find p (take i xs)) fails none
+
+or_none : (o : Option ℕ) → o ≡ option_or o None
+or_none None = refl
+or_none (Some x) = refl
+
+or_more : (o : Option ℕ) (a b : Bool) (inst : ℕ) → option_or (option_or o (cond a (Some inst) None)) (cond b (Some inst) None) ≡ option_or o (cond (a || b) (Some inst) None)
+or_more None true b inst = refl
+or_more None false b inst = refl
+or_more (Some x) a b inst = refl
+
+-- nothing is noted more
+pub notes_none : (noted : List (Option ℕ)) (inst : ℕ) → NotesMore noted noted inst (λ msg. false)
+notes_none noted inst = record { few = refl; noted = λ n l. or_none (get_or noted n None) }
+
+-- what is noted in two steps
+pub notes_next : (old mid new : List (Option ℕ)) (inst : ℕ) (told more all : ℕ → Bool) → NotesMore old mid inst told → NotesMore mid new inst more
+    → ((msg : ℕ) → all msg ≡ (told msg || more msg)) → NotesMore old new inst all
+notes_next old mid new inst told more all first next same = record {
+  few = next.few ∙ first.few;
+  noted = λ n l.
+      next.noted n (omega (arith, l, first.few)) ∙ ap (λ (o : Option ℕ). option_or o (cond (more (suc n)) (Some inst) None)) (first.noted n l)
+      ∙ or_more (get_or old n None) (told (suc n)) (more (suc n)) inst
+      ∙ ap (λ (b : Bool). option_or (get_or old n None) (cond b (Some inst) None)) (sym (same (suc n)));
+}

@@ -1,9 +1,11 @@
 -- What is known at each row of the window, one row after another.
-use Rattle.std.proofs.Common.{◌≡◌, ◌∙◌, ◌+◌, ℕ, zero, suc, false, Some, None, List, [], ◌∷◌, ◌++◌, length, take, drop, refl, sym, ap, fold, arith, map, append_assoc}
+use Rattle.std.proofs.Common.{◌≡◌, ◌∙◌, ◌<◌, ◌+◌, ℕ, zero, suc, Bool, false, Some, None, List, [], ◌∷◌, ◌++◌, length, take, drop, get_or, refl, sym, ap, fold, arith, map, append_assoc}
 use Rattle.std.proofs.lemmas.List.{append-nil}
 use Rattle.std.proofs.lemmas.List.Sums.{fold-append}
-use Rattle.std.specs.List.{slice_get, slice_index}
-use Rattle.std.specs.Prelude.{slice_set}
+use Rattle.std.proofs.lemmas.List.Folds.{list_any_more}
+use Rattle.std.specs.List.{list_any, slice_get, slice_index}
+use Rattle.std.specs.Prelude.{◌||◌, slice_set}
+use Rattle.kt_plan.proofs.NameFacts.{list_any-map}
 use Rattle.kt_spacetime.specs.declared.event.Event.{Event}
 use Rattle.kt_spacetime.specs.Events.{process_of}
 use Rattle.kt_cuts.specs.Past.{Past, past, after}
@@ -16,6 +18,7 @@ use Rattle.kt_picture.specs.declared.known.Known.{Known}
 use Rattle.kt_picture.specs.declared.shown.Shown.{Shown}
 use Rattle.kt_picture.specs.declared.shown.CutMark.{CutMark}
 use Rattle.kt_picture.specs.declared.shown.End.{End}
+use Rattle.kt_picture.specs.Fates.{receives}
 use Rattle.kt_picture.specs.Followed.{event_of, plain_at, plain_of, plain_rows, told_at, told_rows}
 use Rattle.kt_picture.specs.KnownOf.{KnownOf}
 use Rattle.kt_picture.specs.KnownAtRow.{KnownAtRow, seen_before, seen_after, shown_rows, taken_after, places_after, cut_in, cut_rows}
@@ -114,3 +117,12 @@ told_all upto s (row ∷ window) (x ∷ entries) e =
     let tail : map plain_of entries ≡ plain_rows (seen_after s row) window = cc in
     let events = events_are (seen_after s row) window entries tail in
     λ j. told_at upto (head j) (events j) ∷ told_all upto (seen_after s row) window entries tail j
+
+-- no row of the first entries receives a message, nor does the next one
+pub none_received : (msg : ℕ) (entries : List Entry) (i : ℕ) (x : Entry) → i < length entries → get_or entries i x ≡ x → receives msg (event_of x) ≡ false
+    → list_any (receives msg) (map event_of (take i entries)) ≡ false → list_any (receives msg) (map event_of (take (i + 1) entries)) ≡ false
+none_received msg entries i x within at fails none =
+    let test : Entry → Bool = λ e. receives msg (event_of e) in
+    let before = sym (list_any-map (receives msg) event_of (take i entries)) ∙ none in
+    let here = ap test at ∙ fails in
+    list_any-map (receives msg) event_of (take (i + 1) entries) ∙ list_any_more test entries i x within ∙ (λ j. before j || here j)

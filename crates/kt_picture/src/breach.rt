@@ -8,7 +8,7 @@ ghost use Rattle.kt_picture.specs.Shapes.{y_of};
 use crate::lanes::Lanes;
 use crate::marks::push_title;
 use crate::shapes::{push_x, y_of};
-use crate::words::{push_long, push_number, push_text};
+use crate::words::{push_number, push_text};
 use kt_base::Memory;
 use kt_cuts::Rule;
 use kt_spacetime::Event;
@@ -26,20 +26,25 @@ pub fn caption(alloc: Global, number: u32, breach: Option<Breach>) -> Result<Vec
     ensures exact { IfOk result (λ t. t.items ≡ caption_of number breach) }
 {
     let mut text = Vec::new(alloc);
-    match breach {
-        Some(breach) => push_broken(&mut text, number, breach)?,
-        None => push_text(&mut text, b"a legal log")?,
-    }
+    push_caption(&mut text, number, breach)?;
     Ok(text)
+}
+
+// Gathers what is said below a picture.
+fn push_caption(text: &mut Vec<u8>, number: u32, breach: Option<Breach>) -> Result<(), Memory>
+    ensures { OnOk result (text.new.items ≡ text.old.items ++ caption_of number breach) }
+{
+    match breach {
+        Some(breach) => push_broken(text, number, breach),
+        None => push_text(text, b"a legal log"),
+    }
 }
 
 // Gathers that the row of this number breaks a rule.
 fn push_broken(text: &mut Vec<u8>, number: u32, breach: Breach) -> Result<(), Memory>
     ensures { OnOk result (text.new.items ≡ text.old.items ++ caption_of number (Some breach)) }
 {
-    push_text(text, b"row ")?;
-    push_number(text, number)?;
-    push_text(text, b" breaks ")?;
+    push_number(text, b"row ", u64::from(number), b" breaks ")?;
     push_rule(text, breach.rule)
 }
 
@@ -47,9 +52,7 @@ fn push_broken(text: &mut Vec<u8>, number: u32, breach: Breach) -> Result<(), Me
 fn push_rule(text: &mut Vec<u8>, rule: Rule) -> Result<(), Memory>
     ensures { OnOk result (text.new.items ≡ text.old.items ++ rule_label rule) }
 {
-    push_text(text, b"rule ")?;
-    push_number(text, u32::from(rule.number()))?;
-    push_text(text, b", ")?;
+    push_number(text, b"rule ", u64::from(rule.number()), b", ")?;
     push_text(text, rule_name(rule))
 }
 
@@ -104,27 +107,23 @@ fn push_mark(
 fn push_line(text: &mut Vec<u8>, lanes: &Lanes, column: u32) -> Result<(), Memory>
     ensures { OnOk result (text.new.items ≡ text.old.items ++ breach_line lanes.now column) }
 {
-    push_text(text, b"<path class='x' d='M")?;
-    push_x(text, column)?;
-    push_text(text, b" 40V")?;
-    push_line_end(text, lanes)?;
-    push_text(text, b"'/>")
+    push_x(text, b"<path class='x' d='M", column, b" 40V")?;
+    push_line_end(text, lanes)
 }
 
 // Gathers where that line ends.
 fn push_line_end(text: &mut Vec<u8>, lanes: &Lanes) -> Result<(), Memory>
-    ensures { OnOk result (text.new.items ≡ text.old.items ++ decimal (y_of (length lanes.now) - 30)) }
+    ensures { OnOk result (text.new.items ≡ text.old.items
+        ++ decimal (y_of (length lanes.now) - 30) ++ codes "'/>") }
 {
-    push_long(text, y_of(lanes.count()) - 30)
+    push_number(text, b"", y_of(lanes.count()) - 30, b"'/>")
 }
 
 // Gathers which rule is broken.
 fn push_broken_rule(text: &mut Vec<u8>, column: u32, rule: Rule) -> Result<(), Memory>
     ensures { OnOk result (text.new.items ≡ text.old.items ++ breach_word column rule) }
 {
-    push_text(text, b"<text class='bad' x='")?;
-    push_x(text, column)?;
-    push_text(text, b"' y='34'>")?;
+    push_x(text, b"<text class='bad' x='", column, b"' y='34'>")?;
     push_rule(text, rule)?;
     push_text(text, b"</text></g>\n")
 }

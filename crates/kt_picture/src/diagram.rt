@@ -8,12 +8,14 @@ ghost use Rattle.kt_cuts.specs.Legal.{first_broken};
 ghost use Rattle.kt_walk.specs.WalkOf.{WalkOf};
 ghost use Rattle.kt_walk.specs.WalkParts.{WalkParts};
 ghost use Rattle.kt_picture.specs.DiagramOf.{DiagramOf, HasRowsFor, SheetOf};
-ghost use Rattle.kt_picture.specs.Picture.{picture_of};
+ghost use Rattle.kt_picture.specs.Picture.{picture_of, picture_text, picture_end};
+ghost use Rattle.kt_picture.specs.Notes.{class_in, reason_in};
 ghost use Rattle.kt_picture.specs.KnownAtRow.{cut_in};
 
 use crate::breach::Breach;
 use crate::entry::{Entry, follow, message_of, taken_by};
 use crate::evidence::{Evidence, Notes};
+use crate::items::push_item;
 use crate::known::Known;
 use crate::lanes::{Lanes, with_named};
 use crate::layers::{push_picture, push_picture_end};
@@ -146,14 +148,6 @@ fn keep(
     push_cut(cuts, places, row)
 }
 
-// One more item.
-fn push_item<T: Copy>(items: &mut Vec<T>, item: T) -> Result<(), Memory>
-    ensures { OnOk result (items.new.items ≡ items.old.items ++ item ∷ []) }
-{
-    items.push(item)?;
-    Ok(())
-}
-
 /// A window of a log, with what became of its rows: what a picture shows.
 #[derive(Drop)]
 pub struct Sheet {
@@ -192,24 +186,55 @@ impl Sheet {
             rows,
             links,
         };
+        self.text(alloc, columns, &notes, breach, caption)
+    }
+
+    // The picture of the window, with so many columns.
+    fn text(
+        &self,
+        alloc: Global,
+        columns: u32,
+        notes: &Notes<'_>,
+        breach: Option<Breach>,
+        caption: &[u8],
+    ) -> Result<Vec<u8>, Memory>
+        requires few { self.now.before + columns < 2 ^ 25 }
+        ensures { IfOk result (λ t. t.items ≡
+            picture_text (class_in notes.now) (reason_in notes.now) notes.now.names.now
+            self.now.lanes self.now.before columns
+            self.now.window.shown.items self.now.window.cuts.items self.now.window.ends.items
+            ++ picture_end self.now.lanes (self.now.before + columns) columns breach caption.now) }
+    {
         let mut text = Vec::new(alloc);
-        push_picture(
-            &mut text,
-            &self.lanes,
-            self.before,
-            columns,
-            &notes,
-            &self.window,
-        )?;
+        self.push(&mut text, columns, notes, breach, caption)?;
+        Ok(text)
+    }
+
+    // Gathers the picture of the window, with so many columns.
+    fn push(
+        &self,
+        text: &mut Vec<u8>,
+        columns: u32,
+        notes: &Notes<'_>,
+        breach: Option<Breach>,
+        caption: &[u8],
+    ) -> Result<(), Memory>
+        requires few { self.now.before + columns < 2 ^ 25 }
+        ensures { OnOk result (text.new.items ≡ text.old.items
+            ++ picture_text (class_in notes.now) (reason_in notes.now) notes.now.names.now
+            self.now.lanes self.now.before columns
+            self.now.window.shown.items self.now.window.cuts.items self.now.window.ends.items
+            ++ picture_end self.now.lanes (self.now.before + columns) columns breach caption.now) }
+    {
+        push_picture(text, &self.lanes, self.before, columns, notes, &self.window)?;
         push_picture_end(
-            &mut text,
+            text,
             &self.lanes,
             self.before + columns,
             columns,
             breach,
             caption,
-        )?;
-        Ok(text)
+        )
     }
 }
 

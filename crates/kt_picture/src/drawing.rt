@@ -1,14 +1,14 @@
 //! Pictures.
 
-ghost use Rattle.std.specs.Prelude.{◌≡◌, ◌≤◌, [], IfOk, OnOk, OnErr, length, take, drop};
+ghost use Rattle.std.specs.Prelude.{◌≡◌, ◌≤◌, ◌^◌, ◌+◌, [], IfOk, OnOk, OnErr, length, take, drop};
 ghost use Rattle.std.specs.Io.KnownBytes.{Appends};
 ghost use Rattle.kt_cuts.specs.Legal.{IsLegal};
 ghost use Rattle.kt_text.specs.Writing.{WritesFront};
-ghost use Rattle.kt_picture.specs.DiagramOf.{DiagramOf};
+ghost use Rattle.kt_picture.specs.DiagramOf.{DiagramOf, SheetOf};
 ghost use Rattle.kt_picture.specs.Picture.{picture_of};
 
 use crate::breach::Breach;
-use crate::diagram::Diagram;
+use crate::diagram::{Diagram, Sheet};
 use crate::evidence::Evidence;
 use kt_base::Memory;
 use kt_plan::Names;
@@ -72,12 +72,39 @@ pub fn picture(
         evidence.now.certificates.now evidence.now.orphan caption.now) }
 {
     let rows = log.rows();
+    let sheet = sheet_of(alloc, log, before)?;
+    sheet.picture(alloc, rows, breach, evidence, names, caption)
+}
+
+// The window of a legal log after its first `before` rows.
+fn sheet_of(alloc: Global, log: &SpaceTime, before: usize) -> Result<Sheet, Memory>
+    requires few { length log.now.rows ≤ 2 ^ 24 }
+    requires before { before ≤ length log.now.rows }
+    ensures exact { IfOk result (λ sheet. SheetOf sheet log.now.rows before) }
+    ensures few { IfOk result (λ sheet. sheet.before + sheet.columns ≤ 2 ^ 24) }
+{
     let mut walk = Walk::new(alloc)?;
     let mut diagram = Diagram::new(alloc);
-    pass_rows(&mut diagram, &mut walk, log, before)?;
-    add_rows(&mut diagram, &mut walk, log, before)?;
-    let sheet = diagram.sheet(alloc, &walk)?;
-    sheet.picture(alloc, rows, breach, evidence, names, caption)
+    read_sheet(alloc, &mut diagram, &mut walk, log, before)
+}
+
+// The same, read by a walk and a diagram of no rows.
+fn read_sheet(
+    alloc: Global,
+    diagram: &mut Diagram,
+    walk: &mut Walk,
+    log: &SpaceTime,
+    before: usize,
+) -> Result<Sheet, Memory>
+    requires few { length log.now.rows ≤ 2 ^ 24 }
+    requires before { before ≤ length log.now.rows }
+    requires none { DiagramOf diagram.old walk.old [] [] }
+    ensures exact { IfOk result (λ sheet. SheetOf sheet log.now.rows before) }
+    ensures few { IfOk result (λ sheet. sheet.before + sheet.columns ≤ 2 ^ 24) }
+{
+    pass_rows(diagram, walk, log, before)?;
+    add_rows(diagram, walk, log, before)?;
+    diagram.sheet(alloc, walk)
 }
 
 // The rows of a legal log before the window.

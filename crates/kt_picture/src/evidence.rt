@@ -48,17 +48,9 @@ fn push_link_class(text: &mut Vec<u8>, inst: Option<InstNo>) -> Result<(), Memor
     ensures { OnOk result (text.new.items ≡ text.old.items ++ link_class inst) }
 {
     match inst {
-        Some(inst) => push_link_of(text, inst),
+        Some(inst) => push_colour_of(text, b" link", inst, b""),
         None => Ok(()),
     }
-}
-
-// Gathers the class of a message of a chain of this instance.
-fn push_link_of(text: &mut Vec<u8>, inst: InstNo) -> Result<(), Memory>
-    ensures { OnOk result (text.new.items ≡ text.old.items ++ link_class (Some inst)) }
-{
-    push_text(text, b" link")?;
-    push_colour_of(text, inst)
 }
 
 fn orphan_class(orphan: Option<MsgNo>, msg: MsgNo) -> &'static [u8]
@@ -157,7 +149,6 @@ fn push_chain(text: &mut Vec<u8>, notes: &Notes<'_>, chain: &[MsgNo]) -> Result<
 fn push_chain_word(text: &mut Vec<u8>, notes: &Notes<'_>, msg: MsgNo) -> Result<(), Memory>
     ensures { OnOk result (text.new.items ≡ text.old.items ++ chain_word notes.now.names.now notes.now.rows.now msg) }
 {
-    push_text(text, b" ")?;
     push_message(text, msg)?;
     push_ends(text, notes, notes.row_of(msg))
 }

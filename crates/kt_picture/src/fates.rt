@@ -72,10 +72,16 @@ fn has_no_receive(message: Option<Message>) -> bool
     }
 }
 
+// Whether a row of one of these entries receives a message.
 fn is_received_in(rest: &[Entry], msg: MsgNo) -> bool
     ensures { result ≡ list_any (receives msg) (map event_of rest.now) }
 {
-    rest.iter().any(|entry| receives(entry.plain.event, msg))
+    for entry in rest {
+        if receives(entry.plain.event, msg) {
+            return true;
+        }
+    }
+    false
 }
 
 /// Whether a row receives this message.

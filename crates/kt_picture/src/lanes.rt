@@ -5,6 +5,7 @@ ghost use Rattle.std.specs.List.{range_with_len};
 ghost use Rattle.kt_base.specs.Sets.{has};
 ghost use Rattle.kt_picture.specs.Lanes.{names_process, lane_of};
 
+use crate::items::push_item;
 use kt_base::{Memory, ProcNo, ProcSet};
 use kt_spacetime::Event;
 use std::alloc::Global;
@@ -32,10 +33,7 @@ impl Lanes {
         ensures { IfOk result (λ l. l ≡ filter (has named) (range_with_len 0 64)) }
     {
         let mut processes = Vec::new(alloc);
-        for number in 0..ProcNo::COUNT {
-            let p = ProcNo::nth(number);
-            add_if(&mut processes, p, named.has(p))?;
-        }
+        add_named(&mut processes, named)?;
         Ok(Lanes { processes })
     }
 
@@ -63,14 +61,28 @@ impl Lanes {
     }
 }
 
+// Adds the processes that are named, by rising number.
+fn add_named(processes: &mut Vec<ProcNo>, named: ProcSet) -> Result<(), Memory>
+    requires { processes.old.items ≡ [] }
+    ensures named { OnOk result (processes.new.items ≡ filter (has named) (range_with_len 0 64)) }
+    ensures few { OnOk result (length processes.new.items ≤ 64) }
+{
+    for number in 0..ProcNo::COUNT {
+        let p = ProcNo::nth(number);
+        add_if(processes, p, named.has(p))?;
+    }
+    Ok(())
+}
+
 // Adds a process that is named.
 fn add_if(processes: &mut Vec<ProcNo>, p: ProcNo, named: bool) -> Result<(), Memory>
     ensures { OnOk result (processes.new.items ≡ processes.old.items ++ (if named then p ∷ [] else [])) }
 {
     if named {
-        processes.push(p)?;
+        push_item(processes, p)
+    } else {
+        Ok(())
     }
-    Ok(())
 }
 
 /// The processes that rows name, with those that one more row names.

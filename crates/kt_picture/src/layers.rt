@@ -1,6 +1,6 @@
 //! The layers of a picture: lanes, cuts, arrows, and what shows each row at its place.
 
-ghost use Rattle.std.specs.Prelude.{◌≡◌, ◌<◌, ◌^◌, ◌-◌, ◌+◌, ◌++◌, OnOk, length, slice_index_or};
+ghost use Rattle.std.specs.Prelude.{◌≡◌, ◌<◌, ◌^◌, ◌-◌, ◌+◌, ◌++◌, codes, OnOk, length, slice_index_or};
 ghost use Rattle.std.specs.List.{flat_map};
 ghost use Rattle.std.specs.Fmt.{decimal};
 ghost use Rattle.kt_picture.specs.Escaping.{escaped};
@@ -19,7 +19,7 @@ use crate::shapes::{push_colour_of, push_y, x_of, y_of};
 use crate::shown::{CutMark, End, Shown};
 use crate::style::{push_arrow_heads, push_style_by_day, push_style_by_night};
 use crate::window::Window;
-use crate::words::{push_inst, push_long, push_text};
+use crate::words::{push_inst, push_number, push_text};
 use kt_base::{Memory, ProcNo};
 use kt_plan::Names;
 
@@ -62,52 +62,50 @@ fn push_opening(text: &mut Vec<u8>, columns: u32, lanes: &Lanes) -> Result<(), M
     requires { columns < 2 ^ 25 }
     ensures { OnOk result (text.new.items ≡ text.old.items ++ document_opening columns lanes.now) }
 {
-    push_text(
+    push_width(
         text,
         b"<svg xmlns='http://www.w3.org/2000/svg' viewBox='0 0 ",
+        columns,
+        b" ",
     )?;
-    push_width(text, columns)?;
-    push_text(text, b" ")?;
-    push_height(text, lanes)?;
-    push_text(text, b"' width='")?;
-    push_width(text, columns)?;
-    push_text(text, b"'>\n")?;
+    push_height(text, lanes, b"' width='")?;
+    push_width(text, b"", columns, b"'>\n")?;
     push_style_by_day(text)?;
     push_style_by_night(text)?;
     push_arrow_heads(text)
 }
 
-// Gathers how wide a picture is that has so many columns.
-fn push_width(text: &mut Vec<u8>, columns: u32) -> Result<(), Memory>
+// Gathers how wide a picture is that has so many columns, between two texts.
+fn push_width(text: &mut Vec<u8>, before: &[u8], columns: u32, after: &[u8]) -> Result<(), Memory>
     requires { columns < 2 ^ 25 }
-    ensures { OnOk result (text.new.items ≡ text.old.items ++ decimal (width_of columns)) }
+    ensures { OnOk result (text.new.items ≡ text.old.items
+        ++ before.now ++ decimal (width_of columns) ++ after.now) }
 {
-    push_long(text, x_of(columns + 1) + 30)
+    push_number(text, before, x_of(columns + 1) + 30, after)
 }
 
-// Gathers how high a picture is that has these lanes.
-fn push_height(text: &mut Vec<u8>, lanes: &Lanes) -> Result<(), Memory>
-    ensures { OnOk result (text.new.items ≡ text.old.items ++ decimal (height_of lanes.now)) }
+// Gathers how high a picture is that has these lanes, before a text.
+fn push_height(text: &mut Vec<u8>, lanes: &Lanes, after: &[u8]) -> Result<(), Memory>
+    ensures { OnOk result (text.new.items ≡ text.old.items ++ decimal (height_of lanes.now) ++ after.now) }
 {
-    push_long(text, y_of(lanes.count()) + 10)
+    push_number(text, b"", y_of(lanes.count()) + 10, after)
 }
 
 // Gathers what is said below the lanes, and the document's end.
 fn push_closing(text: &mut Vec<u8>, lanes: &Lanes, caption: &[u8]) -> Result<(), Memory>
     ensures { OnOk result (text.new.items ≡ text.old.items ++ document_end lanes.now caption.now) }
 {
-    push_text(text, b"<text x='92' y='")?;
     push_foot(text, lanes)?;
-    push_text(text, b"' dy='-10'>")?;
     push_escaped(text, caption)?;
     push_text(text, b"</text>\n</svg>\n")
 }
 
-// Gathers where the lanes end.
+// Gathers how the text where the lanes end begins.
 fn push_foot(text: &mut Vec<u8>, lanes: &Lanes) -> Result<(), Memory>
-    ensures { OnOk result (text.new.items ≡ text.old.items ++ decimal (y_of (length lanes.now))) }
+    ensures { OnOk result (text.new.items ≡ text.old.items
+        ++ codes "<text x='92' y='" ++ decimal (y_of (length lanes.now)) ++ codes "' dy='-10'>") }
 {
-    push_y(text, lanes.count())
+    push_y(text, b"<text x='92' y='", lanes.count(), b"' dy='-10'>")
 }
 
 // Gathers the marks of lanes.
@@ -157,13 +155,14 @@ fn push_cuts(text: &mut Vec<u8>, lanes: &Lanes, cuts: &[CutMark]) -> Result<(), 
 fn push_cut_line(text: &mut Vec<u8>, lanes: &Lanes, cut: &CutMark) -> Result<(), Memory>
     ensures { OnOk result (text.new.items ≡ text.old.items ++ cut_line lanes.now cut.now) }
 {
-    push_text(text, b"<polyline class='cut")?;
-    push_colour_of(text, cut.inst)?;
-    push_text(text, b"' points='")?;
+    push_colour_of(text, b"<polyline class='cut", cut.inst, b"' points='")?;
     push_cut_points(text, lanes, cut)?;
-    push_text(text, b"'><title>permanent cut after instance ")?;
-    push_inst(text, cut.inst)?;
-    push_text(text, b"</title></polyline>\n")
+    push_inst(
+        text,
+        b"'><title>permanent cut after instance ",
+        cut.inst,
+        b"</title></polyline>\n",
+    )
 }
 
 fn push_cut_points(text: &mut Vec<u8>, lanes: &Lanes, cut: &CutMark) -> Result<(), Memory>
@@ -180,35 +179,35 @@ fn push_cut_point(text: &mut Vec<u8>, lanes: &Lanes, cut: &CutMark, p: ProcNo) -
     ensures { OnOk result (text.new.items ≡ text.old.items ++ cut_points lanes.now cut.now p) }
 {
     push_cut_x(text, cut, p)?;
-    push_text(text, b",")?;
     push_above(text, lanes, p)?;
-    push_text(text, b" ")?;
     push_cut_x(text, cut, p)?;
-    push_text(text, b",")?;
-    push_below(text, lanes, p)?;
-    push_text(text, b" ")
+    push_below(text, lanes, p)
 }
 
-// Gathers where a cut crosses a process's lane.
+// Gathers where a cut crosses a process's lane, and a comma.
 fn push_cut_x(text: &mut Vec<u8>, cut: &CutMark, p: ProcNo) -> Result<(), Memory>
-    ensures { OnOk result (text.new.items ≡ text.old.items ++ decimal (cut_x cut.now p)) }
+    ensures { OnOk result (text.new.items ≡ text.old.items ++ decimal (cut_x cut.now p) ++ codes ",") }
 {
-    push_long(
+    push_number(
         text,
+        b"",
         x_of(cut.columns[p.index()]) - 3 * (u64::from(cut.inst.get()) % 4),
+        b",",
     )
 }
 
 fn push_above(text: &mut Vec<u8>, lanes: &Lanes, p: ProcNo) -> Result<(), Memory>
-    ensures { OnOk result (text.new.items ≡ text.old.items ++ decimal (y_of (lane_of lanes.now p) - 15)) }
+    ensures { OnOk result (text.new.items ≡ text.old.items
+        ++ decimal (y_of (lane_of lanes.now p) - 15) ++ codes " ") }
 {
-    push_long(text, y_of(lanes.of(p)) - 15)
+    push_number(text, b"", y_of(lanes.of(p)) - 15, b" ")
 }
 
 fn push_below(text: &mut Vec<u8>, lanes: &Lanes, p: ProcNo) -> Result<(), Memory>
-    ensures { OnOk result (text.new.items ≡ text.old.items ++ decimal (y_of (lane_of lanes.now p) + 15)) }
+    ensures { OnOk result (text.new.items ≡ text.old.items
+        ++ decimal (y_of (lane_of lanes.now p) + 15) ++ codes " ") }
 {
-    push_long(text, y_of(lanes.of(p)) + 15)
+    push_number(text, b"", y_of(lanes.of(p)) + 15, b" ")
 }
 
 fn push_names(text: &mut Vec<u8>, names: &Names, lanes: &Lanes) -> Result<(), Memory>
@@ -224,18 +223,22 @@ fn push_names(text: &mut Vec<u8>, names: &Names, lanes: &Lanes) -> Result<(), Me
 fn push_name(text: &mut Vec<u8>, names: &Names, lanes: &Lanes, p: ProcNo) -> Result<(), Memory>
     ensures { OnOk result (text.new.items ≡ text.old.items ++ lane_name names.now lanes.now p) }
 {
-    push_text(text, b"<text class='name' x='80' y='")?;
-    push_lane_y(text, lanes, p)?;
-    push_text(text, b"' dy='4'>")?;
+    push_name_place(text, lanes, p)?;
     push_name_of(text, names, p)?;
     push_text(text, b"</text>\n")
 }
 
-// Gathers where a process's lane is.
-fn push_lane_y(text: &mut Vec<u8>, lanes: &Lanes, p: ProcNo) -> Result<(), Memory>
-    ensures { OnOk result (text.new.items ≡ text.old.items ++ decimal (y_of (lane_of lanes.now p))) }
+// Gathers how the name beside a process's lane begins.
+fn push_name_place(text: &mut Vec<u8>, lanes: &Lanes, p: ProcNo) -> Result<(), Memory>
+    ensures { OnOk result (text.new.items ≡ text.old.items
+        ++ codes "<text class='name' x='80' y='" ++ decimal (y_of (lane_of lanes.now p)) ++ codes "' dy='4'>") }
 {
-    push_y(text, lanes.of(p))
+    push_y(
+        text,
+        b"<text class='name' x='80' y='",
+        lanes.of(p),
+        b"' dy='4'>",
+    )
 }
 
 /// Gathers the name of a process, or its number where it has none.

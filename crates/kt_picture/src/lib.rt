@@ -8,6 +8,7 @@ mod entry;
 mod escaping;
 mod evidence;
 mod fates;
+mod items;
 mod known;
 mod lanes;
 mod laws;

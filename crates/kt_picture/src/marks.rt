@@ -1,6 +1,7 @@
 //! The marks of rows: stretches of lanes, arrows, and what shows a row at its place.
 
 ghost use Rattle.std.specs.Prelude.{◌≡◌, ◌∷◌, ◌++◌, [], codes, Some, OnOk, if◌then◌else◌};
+ghost use Rattle.std.specs.Fmt.{decimal};
 ghost use Rattle.kt_spacetime.specs.Events.{process_of};
 ghost use Rattle.kt_picture.specs.Lanes.{lane_of};
 ghost use Rattle.kt_picture.specs.Shapes.{point};
@@ -15,7 +16,7 @@ use crate::shapes::{
     square, triangle,
 };
 use crate::shown::Shown;
-use crate::words::{push_inst, push_number, push_text};
+use crate::words::{push_between, push_inst, push_row, push_text};
 use kt_base::{Cause, InstNo, Kind, Memory, MsgNo, ProcNo};
 use kt_spacetime::Event;
 
@@ -32,9 +33,7 @@ pub(crate) fn push_stretch(
 {
     push_bar(text, open_in, lane, since, column)?;
     push_lane_path(text, up)?;
-    push_point(text, since, lane)?;
-    push_to_column(text, column)?;
-    push_text(text, b"'/>\n")
+    push_line(text, since, lane, column, b"'/>\n")
 }
 
 // Gathers the bar under a stretch.
@@ -63,36 +62,29 @@ fn push_bar_of(
 ) -> Result<(), Memory>
     ensures { OnOk result (text.new.items ≡ text.old.items ++ bar (Some inst) lane since column) }
 {
-    push_text(text, b"<path class='in")?;
-    push_colour(text, inst)?;
-    push_text(text, b"' d='M")?;
-    push_point(text, since, lane)?;
-    push_to_column(text, column)?;
-    push_text(text, b"'/>")
+    push_colour(text, b"<path class='in", inst, b"' d='M")?;
+    push_line(text, since, lane, column, b"'/>")
 }
 
-// Gathers where a stretch of a lane goes.
-fn push_to_column(text: &mut Vec<u8>, column: u32) -> Result<(), Memory>
-    ensures { OnOk result (text.new.items ≡ text.old.items ++ to_column column) }
+// Gathers a line along a lane, before a text.
+fn push_line(
+    text: &mut Vec<u8>,
+    since: u32,
+    lane: u8,
+    column: u32,
+    after: &[u8],
+) -> Result<(), Memory>
+    ensures { OnOk result (text.new.items ≡ text.old.items ++ point since lane ++ to_column column ++ after.now) }
 {
-    push_text(text, b"H")?;
-    push_x(text, column)
+    push_point(text, b"", since, lane, b"H")?;
+    push_x(text, b"", column, after)
 }
 
 // Gathers how the path of a stretch begins.
 fn push_lane_path(text: &mut Vec<u8>, up: bool) -> Result<(), Memory>
     ensures { OnOk result (text.new.items ≡ text.old.items ++ path_of (lane_class up)) }
 {
-    push_path(text, lane_class(up))
-}
-
-// Gathers how a path of a class begins.
-fn push_path(text: &mut Vec<u8>, class: &[u8]) -> Result<(), Memory>
-    ensures { OnOk result (text.new.items ≡ text.old.items ++ path_of class.now) }
-{
-    push_text(text, b"<path class='")?;
-    push_text(text, class)?;
-    push_text(text, b"' d='M")
+    push_between(text, b"<path class='", lane_class(up), b"' d='M")
 }
 
 fn lane_class(up: bool) -> &'static [u8]
@@ -131,9 +123,7 @@ fn push_title_with_reason(text: &mut Vec<u8>, notes: &Notes<'_>, s: &Shown) -> R
 fn push_row_words(text: &mut Vec<u8>, number: u32, row: Event) -> Result<(), Memory>
     ensures { OnOk result (text.new.items ≡ text.old.items ++ row_words number row) }
 {
-    push_text(text, b"<g><title>row ")?;
-    push_number(text, number)?;
-    push_text(text, b": ")?;
+    push_row(text, b"<g><title>row ", number, b": ")?;
     push_fields(text, row)
 }
 
@@ -186,9 +176,7 @@ fn push_arrow(
     push_title(text, s.row, s.event)?;
     push_arrow_path(text, notes, s, msg)?;
     push_origin(text, lanes, before, from, msg)?;
-    push_text(text, b"L")?;
-    push_target(text, lanes, s)?;
-    push_text(text, b"'/></g>\n")
+    push_target(text, lanes, s)
 }
 
 // Gathers how the path of the arrow of a message begins.
@@ -201,10 +189,22 @@ fn push_arrow_path(
     ensures { OnOk result (text.new.items ≡ text.old.items
         ++ path_of (arrow_class s.now.is_undone s.now.is_taken_back ++ class_in notes.now msg)) }
 {
-    push_text(text, b"<path class='")?;
-    push_text(text, arrow_class(s.is_undone, s.is_taken_back))?;
+    push_arrow_class(text, s.is_undone, s.is_taken_back)?;
     push_class_of(text, notes, msg)?;
     push_text(text, b"' d='M")
+}
+
+// Gathers how the path of an arrow begins, with its class.
+fn push_arrow_class(text: &mut Vec<u8>, is_undone: bool, is_taken_back: bool) -> Result<(), Memory>
+    ensures { OnOk result (text.new.items ≡ text.old.items
+        ++ codes "<path class='" ++ arrow_class is_undone is_taken_back) }
+{
+    push_between(
+        text,
+        b"<path class='",
+        arrow_class(is_undone, is_taken_back),
+        b"",
+    )
 }
 
 fn arrow_class(is_undone: bool, is_taken_back: bool) -> &'static [u8]
@@ -218,7 +218,7 @@ fn arrow_class(is_undone: bool, is_taken_back: bool) -> &'static [u8]
     }
 }
 
-// Gathers where a message was sent.
+// Gathers where a message was sent, and that a line goes from there.
 fn push_origin(
     text: &mut Vec<u8>,
     lanes: &Lanes,
@@ -226,24 +226,31 @@ fn push_origin(
     from: ProcNo,
     msg: MsgNo,
 ) -> Result<(), Memory>
-    ensures { OnOk result (text.new.items ≡ text.old.items ++ point (column_of before msg) (lane_of lanes.now from)) }
+    ensures { OnOk result (text.new.items ≡ text.old.items
+        ++ point (column_of before msg) (lane_of lanes.now from) ++ codes "L") }
 {
-    push_place(text, lanes, msg.get().saturating_sub(before), from)
+    push_place(text, lanes, msg.get().saturating_sub(before), from, b"L")
 }
 
-// Gathers the place of a row in its process's lane.
+// Gathers the place of a row in its process's lane, and the end of an arrow.
 fn push_target(text: &mut Vec<u8>, lanes: &Lanes, s: &Shown) -> Result<(), Memory>
     ensures { OnOk result (text.new.items ≡ text.old.items
-        ++ point s.now.column (lane_of lanes.now (process_of s.now.event))) }
+        ++ point s.now.column (lane_of lanes.now (process_of s.now.event)) ++ codes "'/></g>\n") }
 {
-    push_place(text, lanes, s.column, s.event.process())
+    push_place(text, lanes, s.column, s.event.process(), b"'/></g>\n")
 }
 
-// Gathers the place of a column in a process's lane.
-fn push_place(text: &mut Vec<u8>, lanes: &Lanes, column: u32, p: ProcNo) -> Result<(), Memory>
-    ensures { OnOk result (text.new.items ≡ text.old.items ++ point column (lane_of lanes.now p)) }
+// Gathers the place of a column in a process's lane, before a text.
+fn push_place(
+    text: &mut Vec<u8>,
+    lanes: &Lanes,
+    column: u32,
+    p: ProcNo,
+    after: &[u8],
+) -> Result<(), Memory>
+    ensures { OnOk result (text.new.items ≡ text.old.items ++ point column (lane_of lanes.now p) ++ after.now) }
 {
-    push_point(text, column, lanes.of(p))
+    push_point(text, b"", column, lanes.of(p), after)
 }
 
 // Gathers the short arrow of a message that is in transit at the window's end.
@@ -329,11 +336,8 @@ fn push_number_at(text: &mut Vec<u8>, row: u32, column: u32) -> Result<(), Memor
 fn push_row_number(text: &mut Vec<u8>, row: u32, column: u32) -> Result<(), Memory>
     ensures { OnOk result (text.new.items ≡ text.old.items ++ row_number row column) }
 {
-    push_text(text, b"<text class='num' x='")?;
-    push_x(text, column)?;
-    push_text(text, b"' y='20'>")?;
-    push_number(text, row)?;
-    push_text(text, b"</text>\n")
+    push_x(text, b"<text class='num' x='", column, b"' y='20'>")?;
+    push_row(text, b"", row, b"</text>\n")
 }
 
 // Gathers what shows a row in its process's lane.
@@ -401,15 +405,10 @@ fn push_word_at(
 ) -> Result<(), Memory>
     ensures { OnOk result (text.new.items ≡ text.old.items ++ word_at class.now column lane below.now) }
 {
-    push_text(text, b"<text class='")?;
-    push_text(text, class)?;
-    push_text(text, b"' x='")?;
-    push_x(text, column)?;
-    push_text(text, b"' y='")?;
-    push_y(text, lane)?;
-    push_text(text, b"' dy='")?;
-    push_text(text, below)?;
-    push_text(text, b"'>")
+    push_between(text, b"<text class='", class, b"' x='")?;
+    push_x(text, b"", column, b"' y='")?;
+    push_y(text, b"", lane, b"' dy='")?;
+    push_between(text, b"", below, b"'>")
 }
 
 // Gathers what shows a row of an instance.
@@ -451,17 +450,22 @@ fn push_beginning(
 {
     push_coloured(text, b"in", inst, column, lane, b"m-5 0h10")?;
     push_word_at(text, b"inst", column, lane, b"-13")?;
-    push_kind_letter(text, kind)?;
-    push_inst(text, inst)?;
-    push_text(text, b"</text>")
+    push_instance_name(text, kind, inst)
 }
 
-// Gathers the letter of a kind of instance.
-fn push_kind_letter(text: &mut Vec<u8>, kind: Kind) -> Result<(), Memory>
-    ensures { OnOk result (text.new.items ≡ text.old.items ++ kind_letter kind) }
+// Gathers what an instance is called, and the end of its word.
+fn push_instance_name(text: &mut Vec<u8>, kind: Kind, inst: InstNo) -> Result<(), Memory>
+    ensures { OnOk result (text.new.items ≡ text.old.items ++ kind_letter kind ++ decimal inst ++ codes "</text>") }
+{
+    push_inst(text, kind_letter(kind), inst, b"</text>")
+}
+
+// The letter of a kind of instance.
+fn kind_letter(kind: Kind) -> &'static [u8]
+    ensures { result.now ≡ kind_letter kind }
 {
     match kind {
-        Kind::Checkpoint => push_text(text, b"C"),
-        Kind::Rollback => push_text(text, b"R"),
+        Kind::Checkpoint => b"C",
+        Kind::Rollback => b"R",
     }
 }

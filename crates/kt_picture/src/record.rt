@@ -5,11 +5,10 @@ ghost use Rattle.std.specs.Fmt.{decimal, signed_decimal};
 ghost use Rattle.kt_log_text.specs.Spelling.{spelling, verb_word, cause_word};
 ghost use Rattle.kt_text.specs.Writing.{joined};
 
-use crate::words::{push_inst, push_text};
+use crate::words::{push_between, push_inst, push_number, push_text};
 use kt_base::{Cause, InstNo, Memory, MsgNo, ProcNo, Verb};
 use kt_spacetime::Event;
 use kt_text::fields::{decision_text, kind_text};
-use kt_text::pieces::push_field;
 
 /// Gathers the fields of a row, joined by commas.
 pub(crate) fn push_fields(text: &mut Vec<u8>, row: Event) -> Result<(), Memory>
@@ -91,14 +90,14 @@ fn push_unwilling(text: &mut Vec<u8>, p: ProcNo, inst: InstNo, cause: Cause) -> 
         p,
         instance.format(inst.get()).as_bytes(),
     )?;
-    push_cause_field(text, cause)
+    push_cause(text, cause)
 }
 
 fn push_refused(text: &mut Vec<u8>, p: ProcNo, verb: Verb, cause: Cause) -> Result<(), Memory>
     ensures { OnOk result (text.new.items ≡ text.old.items ++ joined (codes "refused" ∷ decimal p ∷ verb_word verb ∷ cause_word cause ∷ [])) }
 {
     push_three(text, b"refused", p, verb_text(verb))?;
-    push_cause_field(text, cause)
+    push_cause(text, cause)
 }
 
 // Four fields.
@@ -112,25 +111,16 @@ fn push_four(
     ensures { OnOk result (text.new.items ≡ text.old.items ++ joined (word.now ∷ decimal p ∷ second.now ∷ third.now ∷ [])) }
 {
     push_three(text, word, p, second)?;
-    push_field(text, third)
+    push_text(text, third)
 }
 
-// The first three of four fields.
+// The first three of four fields, and the comma after them.
 fn push_three(text: &mut Vec<u8>, word: &[u8], p: ProcNo, second: &[u8]) -> Result<(), Memory>
-    ensures { OnOk result (text.new.items ≡ text.old.items ++ joined (word.now ∷ decimal p ∷ second.now ∷ [])) }
+    ensures { OnOk result (text.new.items ≡ text.old.items ++ joined (word.now ∷ decimal p ∷ second.now ∷ [] ∷ [])) }
 {
-    let mut process = itoa::Buffer::new();
-    text.extend_from_slice(word)?;
-    push_field(text, process.format(p.get()).as_bytes())?;
-    push_field(text, second)
-}
-
-// A comma and a cause.
-fn push_cause_field(text: &mut Vec<u8>, cause: Cause) -> Result<(), Memory>
-    ensures { OnOk result (text.new.items ≡ text.old.items ++ 44 ∷ cause_word cause) }
-{
-    text.extend_from_slice(b",")?;
-    push_cause(text, cause)
+    push_text(text, word)?;
+    push_number(text, b",", u64::from(p.get()), b",")?;
+    push_between(text, second, b",", b"")
 }
 
 /// Gathers a cause.
@@ -138,10 +128,7 @@ pub(crate) fn push_cause(text: &mut Vec<u8>, cause: Cause) -> Result<(), Memory>
     ensures { OnOk result (text.new.items ≡ text.old.items ++ cause_word cause) }
 {
     match cause {
-        Cause::Busy(inst) => {
-            text.extend_from_slice(b"busy-")?;
-            push_inst(text, inst)
-        }
+        Cause::Busy(inst) => push_inst(text, b"busy-", inst, b""),
         Cause::Down => push_text(text, b"down"),
         Cause::NoSave => push_text(text, b"nosave"),
     }

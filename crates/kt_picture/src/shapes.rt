@@ -1,10 +1,10 @@
 //! Shapes at the places of a picture.
 
-ghost use Rattle.std.specs.Prelude.{◌≡◌, ◌∷◌, ◌++◌, OnOk};
+ghost use Rattle.std.specs.Prelude.{◌≡◌, ◌∷◌, ◌++◌, codes, OnOk};
 ghost use Rattle.std.specs.Fmt.{decimal};
 ghost use Rattle.kt_picture.specs.Shapes.{point, shape, colour, coloured, fill_class, square, triangle, diamond, x_of, y_of};
 
-use crate::words::{push_long, push_text};
+use crate::words::{push_between, push_number, push_text};
 use kt_base::{InstNo, Memory};
 
 /// Where a column is.
@@ -21,27 +21,42 @@ pub(crate) fn y_of(lane: u8) -> u64
     60 + 54 * u64::from(lane)
 }
 
-/// Gathers the place where a column crosses a lane.
-pub(crate) fn push_point(text: &mut Vec<u8>, column: u32, lane: u8) -> Result<(), Memory>
-    ensures { OnOk result (text.new.items ≡ text.old.items ++ point column lane) }
+/// Gathers the place where a column crosses a lane, between two texts.
+pub(crate) fn push_point(
+    text: &mut Vec<u8>,
+    before: &[u8],
+    column: u32,
+    lane: u8,
+    after: &[u8],
+) -> Result<(), Memory>
+    ensures { OnOk result (text.new.items ≡ text.old.items ++ before.now ++ point column lane ++ after.now) }
 {
-    push_x(text, column)?;
-    push_text(text, b" ")?;
-    push_y(text, lane)
+    push_x(text, before, column, b" ")?;
+    push_y(text, b"", lane, after)
 }
 
-/// Gathers where a column is.
-pub(crate) fn push_x(text: &mut Vec<u8>, column: u32) -> Result<(), Memory>
-    ensures { OnOk result (text.new.items ≡ text.old.items ++ decimal (x_of column)) }
+/// Gathers where a column is, between two texts.
+pub(crate) fn push_x(
+    text: &mut Vec<u8>,
+    before: &[u8],
+    column: u32,
+    after: &[u8],
+) -> Result<(), Memory>
+    ensures { OnOk result (text.new.items ≡ text.old.items ++ before.now ++ decimal (x_of column) ++ after.now) }
 {
-    push_long(text, x_of(column))
+    push_number(text, before, x_of(column), after)
 }
 
-/// Gathers where a lane is.
-pub(crate) fn push_y(text: &mut Vec<u8>, lane: u8) -> Result<(), Memory>
-    ensures { OnOk result (text.new.items ≡ text.old.items ++ decimal (y_of lane)) }
+/// Gathers where a lane is, between two texts.
+pub(crate) fn push_y(
+    text: &mut Vec<u8>,
+    before: &[u8],
+    lane: u8,
+    after: &[u8],
+) -> Result<(), Memory>
+    ensures { OnOk result (text.new.items ≡ text.old.items ++ before.now ++ decimal (y_of lane) ++ after.now) }
 {
-    push_long(text, y_of(lane))
+    push_number(text, before, y_of(lane), after)
 }
 
 /// Gathers a shape of a class at a place.
@@ -54,11 +69,15 @@ pub(crate) fn push_shape(
 ) -> Result<(), Memory>
     ensures { OnOk result (text.new.items ≡ text.old.items ++ shape class.now column lane outline.now) }
 {
-    push_text(text, b"<path class='")?;
-    push_text(text, class)?;
-    push_text(text, b"' d='M")?;
-    push_point(text, column, lane)?;
-    push_text(text, outline)?;
+    push_between(text, b"<path class='", class, b"' d='M")?;
+    push_outline(text, column, lane, outline)
+}
+
+// Gathers an outline at a place, and the end of its path.
+fn push_outline(text: &mut Vec<u8>, column: u32, lane: u8, outline: &[u8]) -> Result<(), Memory>
+    ensures { OnOk result (text.new.items ≡ text.old.items ++ point column lane ++ outline.now ++ codes "'/>") }
+{
+    push_point(text, b"", column, lane, outline)?;
     push_text(text, b"'/>")
 }
 
@@ -73,28 +92,34 @@ pub(crate) fn push_coloured(
 ) -> Result<(), Memory>
     ensures { OnOk result (text.new.items ≡ text.old.items ++ coloured class.now inst column lane outline.now) }
 {
-    push_text(text, b"<path class='")?;
-    push_text(text, class)?;
-    push_colour_of(text, inst)?;
-    push_text(text, b"' d='M")?;
-    push_point(text, column, lane)?;
-    push_text(text, outline)?;
-    push_text(text, b"'/>")
+    push_between(text, b"<path class='", class, b"")?;
+    push_colour_of(text, b"", inst, b"' d='M")?;
+    push_outline(text, column, lane, outline)
 }
 
-/// Gathers the class of an instance's colour.
-pub(crate) fn push_colour_of(text: &mut Vec<u8>, inst: InstNo) -> Result<(), Memory>
-    ensures { OnOk result (text.new.items ≡ text.old.items ++ colour inst) }
+/// Gathers the class of an instance's colour, between two texts.
+pub(crate) fn push_colour_of(
+    text: &mut Vec<u8>,
+    before: &[u8],
+    inst: InstNo,
+    after: &[u8],
+) -> Result<(), Memory>
+    ensures { OnOk result (text.new.items ≡ text.old.items ++ before.now ++ colour inst ++ after.now) }
 {
-    push_colour(text, inst.get())
+    push_colour(text, before, inst.get(), after)
 }
 
-/// Gathers the class of the colour of an instance of this number.
-pub(crate) fn push_colour(text: &mut Vec<u8>, inst: u16) -> Result<(), Memory>
-    ensures { OnOk result (text.new.items ≡ text.old.items ++ colour inst) }
+/// Gathers the class of the colour of an instance of this number, between two texts.
+pub(crate) fn push_colour(
+    text: &mut Vec<u8>,
+    before: &[u8],
+    inst: u16,
+    after: &[u8],
+) -> Result<(), Memory>
+    ensures { OnOk result (text.new.items ≡ text.old.items ++ before.now ++ colour inst ++ after.now) }
 {
-    push_text(text, b" c")?;
-    push_long(text, u64::from(inst) % 6)
+    push_text(text, before)?;
+    push_number(text, b" c", u64::from(inst) % 6, after)
 }
 
 /// The class of what is filled after a commit, else open.

@@ -10,10 +10,11 @@ ghost use Rattle.kt_walk.specs.WalkOf.{WalkOf};
 
 use crate::entry::Entry;
 use crate::fates::told;
+use crate::items::push_item;
 use crate::known::Known;
 use crate::lanes::Lanes;
 use crate::shown::{CutMark, End, Shown};
-use kt_base::{InstNo, Memory};
+use kt_base::{InstNo, Memory, ProcNo};
 use kt_spacetime::Event;
 use kt_walk::Walk;
 use std::alloc::Global;
@@ -36,13 +37,21 @@ pub(crate) fn shown_rows(
         → v.items ≡ told_rows upto entries.now) }
 {
     let mut shown = Vec::new(alloc);
+    add_shown(&mut shown, walk, entries)?;
+    Ok(shown)
+}
+
+// Adds what each row of the window shows.
+fn add_shown(shown: &mut Vec<Shown>, walk: &Walk, entries: &[Entry]) -> Result<(), Memory>
+    ensures { OnOk result ((upto : List Event) → WalkOf walk.now upto → AreFollowed upto entries.now
+        → shown.new.items ≡ shown.old.items ++ told_rows upto entries.now) }
+{
     for index in 0..entries.len() {
         let entry = entries[index];
-        let rest = rest_of(entries, index);
-        let mark = told(walk, &entry, rest);
-        shown.push(mark)?;
+        let mark = told(walk, &entry, rest_of(entries, index));
+        push_item(shown, mark)?;
     }
-    Ok(shown)
+    Ok(())
 }
 
 // The entries after the one at a place from 0.
@@ -64,10 +73,24 @@ pub(crate) fn lane_ends(
         → v.items ≡ map (end_of s) lanes.now) }
 {
     let mut ends = Vec::new(alloc);
-    for p in lanes.processes() {
-        ends.push(known.end(walk, *p))?;
-    }
+    add_ends(&mut ends, walk, known, lanes.processes())?;
     Ok(ends)
+}
+
+// Adds how the lanes of these processes go on.
+fn add_ends(
+    ends: &mut Vec<End>,
+    walk: &Walk,
+    known: &Known,
+    processes: &[ProcNo],
+) -> Result<(), Memory>
+    ensures { OnOk result ((s : KnownAtRow) (rows : List Event) → KnownOf known.now walk.now s rows
+        → ends.new.items ≡ ends.old.items ++ map (end_of s) processes.now) }
+{
+    for p in processes {
+        push_item(ends, known.end(walk, *p))?;
+    }
+    Ok(())
 }
 
 /// Adds the permanent cut after a row that commits an instance, where permanent positions are in these columns.
@@ -95,10 +118,14 @@ fn push_cut_if(
         ++ (if commit then record { inst = inst; columns = places.now } ∷ [] else [])) }
 {
     if commit {
-        cuts.push(CutMark {
-            inst,
-            columns: *places,
-        })?;
+        push_item(
+            cuts,
+            CutMark {
+                inst,
+                columns: *places,
+            },
+        )
+    } else {
+        Ok(())
     }
-    Ok(())
 }

@@ -1,6 +1,6 @@
 //! Texts and numbers, gathered.
 
-ghost use Rattle.std.specs.Prelude.{◌≡◌, ◌++◌, OnOk};
+ghost use Rattle.std.specs.Prelude.{◌≡◌, ◌++◌, codes, OnOk};
 ghost use Rattle.std.specs.Fmt.{decimal};
 
 use kt_base::{InstNo, Memory, MsgNo};
@@ -13,33 +13,60 @@ pub(crate) fn push_text(text: &mut Vec<u8>, word: &[u8]) -> Result<(), Memory>
     Ok(())
 }
 
-/// Gathers a number of 64 bits.
-pub(crate) fn push_long(text: &mut Vec<u8>, number: u64) -> Result<(), Memory>
-    ensures { OnOk result (text.new.items ≡ text.old.items ++ decimal number) }
+/// Gathers a text between two others.
+pub(crate) fn push_between(
+    text: &mut Vec<u8>,
+    before: &[u8],
+    middle: &[u8],
+    after: &[u8],
+) -> Result<(), Memory>
+    ensures { OnOk result (text.new.items ≡ text.old.items ++ before.now ++ middle.now ++ after.now) }
 {
-    let mut digits = itoa::Buffer::new();
-    push_text(text, digits.format(number).as_bytes())
+    push_text(text, before)?;
+    push_text(text, middle)?;
+    push_text(text, after)
 }
 
-/// Gathers a number.
-pub(crate) fn push_number(text: &mut Vec<u8>, number: u32) -> Result<(), Memory>
-    ensures { OnOk result (text.new.items ≡ text.old.items ++ decimal number) }
+/// Gathers a number between two texts.
+pub(crate) fn push_number(
+    text: &mut Vec<u8>,
+    before: &[u8],
+    number: u64,
+    after: &[u8],
+) -> Result<(), Memory>
+    ensures { OnOk result (text.new.items ≡ text.old.items ++ before.now ++ decimal number ++ after.now) }
 {
     let mut digits = itoa::Buffer::new();
-    push_text(text, digits.format(number).as_bytes())
+    push_between(text, before, digits.format(number).as_bytes(), after)
 }
 
-/// Gathers the number of an instance.
-pub(crate) fn push_inst(text: &mut Vec<u8>, inst: InstNo) -> Result<(), Memory>
-    ensures { OnOk result (text.new.items ≡ text.old.items ++ decimal inst) }
+/// Gathers the number of an instance, between two texts.
+pub(crate) fn push_inst(
+    text: &mut Vec<u8>,
+    before: &[u8],
+    inst: InstNo,
+    after: &[u8],
+) -> Result<(), Memory>
+    ensures { OnOk result (text.new.items ≡ text.old.items ++ before.now ++ decimal inst ++ after.now) }
 {
-    let mut digits = itoa::Buffer::new();
-    push_text(text, digits.format(inst.get()).as_bytes())
+    push_number(text, before, u64::from(inst.get()), after)
 }
 
-/// Gathers the number of a message.
+/// Gathers a space and the number of a message.
 pub(crate) fn push_message(text: &mut Vec<u8>, msg: MsgNo) -> Result<(), Memory>
-    ensures { OnOk result (text.new.items ≡ text.old.items ++ decimal msg) }
+    ensures { OnOk result (text.new.items ≡ text.old.items ++ codes " " ++ decimal msg) }
 {
-    push_number(text, msg.get())
+    push_number(text, b" ", u64::from(msg.get()), b"")
+}
+
+/// Gathers the number of a row, between two texts.
+pub(crate) fn push_row(
+    text: &mut Vec<u8>,
+    before: &[u8],
+    row: u32,
+    after: &[u8],
+) -> Result<(), Memory>
+    ensures { OnOk result (text.new.items ≡ text.old.items ++ before.now ++ decimal row ++ after.now) }
+{
+    push_number(text, before, u64::from(row), after)
 }

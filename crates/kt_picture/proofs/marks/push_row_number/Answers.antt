@@ -1,10 +1,8 @@
-use Rattle.kt_picture.proofs.Gathering.{gathered, then_piece}
+use Rattle.kt_picture.proofs.Gathering.{gathered, then_two, three_pieces}
 use Rattle.kt_picture.proofs.marks.push_row_number.Goals as goal
 
 pub returns : goal.returns
 returns c =
     let first = c.args.text.now.items in
-    let so_far-1 = then_piece first c.push_text.new.text.items c.push_x.new.text.items _ _ c.in_ok-push_text.ensures c.in_ok-push_x.ensures in
-    let so_far-2 = then_piece first c.push_x.new.text.items c.push_text-2.new.text.items _ _ so_far-1 c.in_ok-push_text-2.ensures in
-    let so_far-3 = then_piece first c.push_text-2.new.text.items c.push_number.new.text.items _ _ so_far-2 c.in_ok-push_number.ensures in
-    gathered c.push_text-3.result c.push_text-3.ensures (λ e. then_piece first c.push_number.new.text.items c.push_text-3.new.text.items _ _ so_far-3 e)
+    let so_far = three_pieces first c.push_x.new.text.items _ _ _ c.in_ok-push_x.ensures in
+    gathered c.push_row.result c.push_row.ensures (λ e. then_two first c.push_x.new.text.items c.push_row.new.text.items _ _ _ so_far e)

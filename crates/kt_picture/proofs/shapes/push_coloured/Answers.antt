@@ -1,12 +1,9 @@
-use Rattle.kt_picture.proofs.Gathering.{gathered, then_piece}
+use Rattle.kt_picture.proofs.Gathering.{gathered, then_three, then_two, two_pieces}
 use Rattle.kt_picture.proofs.shapes.push_coloured.Goals as goal
 
 pub returns : goal.returns
 returns c =
     let first = c.args.text.now.items in
-    let so_far-1 = then_piece first c.push_text.new.text.items c.push_text-2.new.text.items _ _ c.in_ok-push_text.ensures c.in_ok-push_text-2.ensures in
-    let so_far-2 = then_piece first c.push_text-2.new.text.items c.push_colour_of.new.text.items _ _ so_far-1 c.in_ok-push_colour_of.ensures in
-    let so_far-3 = then_piece first c.push_colour_of.new.text.items c.push_text-3.new.text.items _ _ so_far-2 c.in_ok-push_text-3.ensures in
-    let so_far-4 = then_piece first c.push_text-3.new.text.items c.push_point.new.text.items _ _ so_far-3 c.in_ok-push_point.ensures in
-    let so_far-5 = then_piece first c.push_point.new.text.items c.push_text-4.new.text.items _ _ so_far-4 c.in_ok-push_text-4.ensures in
-    gathered c.push_text-5.result c.push_text-5.ensures (λ e. then_piece first c.push_text-4.new.text.items c.push_text-5.new.text.items _ _ so_far-5 e)
+    let so_far-1 = two_pieces first c.push_between.new.text.items _ _ c.in_ok-push_between.ensures in
+    let so_far-2 = then_two first c.push_between.new.text.items c.push_colour_of.new.text.items _ _ _ so_far-1 c.in_ok-push_colour_of.ensures in
+    gathered c.push_outline.result c.push_outline.ensures (λ e. then_three first c.push_colour_of.new.text.items c.push_outline.new.text.items _ _ _ _ so_far-2 e)

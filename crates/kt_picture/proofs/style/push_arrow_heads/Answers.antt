@@ -1,13 +1,9 @@
-use Rattle.kt_picture.proofs.Gathering.{gathered, then_piece}
+use Rattle.kt_picture.proofs.Gathering.{gathered, then_three, three_pieces}
 use Rattle.kt_picture.proofs.style.push_arrow_heads.Goals as goal
 
 pub returns : goal.returns
 returns c =
     let first = c.args.text.now.items in
-    let so_far-1 = then_piece first c.push_text.new.text.items c.push_text-2.new.text.items _ _ c.in_ok-push_text.ensures c.in_ok-push_text-2.ensures in
-    let so_far-2 = then_piece first c.push_text-2.new.text.items c.push_text-3.new.text.items _ _ so_far-1 c.in_ok-push_text-3.ensures in
-    let so_far-3 = then_piece first c.push_text-3.new.text.items c.push_text-4.new.text.items _ _ so_far-2 c.in_ok-push_text-4.ensures in
-    let so_far-4 = then_piece first c.push_text-4.new.text.items c.push_text-5.new.text.items _ _ so_far-3 c.in_ok-push_text-5.ensures in
-    let so_far-5 = then_piece first c.push_text-5.new.text.items c.push_text-6.new.text.items _ _ so_far-4 c.in_ok-push_text-6.ensures in
-    let so_far-6 = then_piece first c.push_text-6.new.text.items c.push_text-7.new.text.items _ _ so_far-5 c.in_ok-push_text-7.ensures in
-    gathered c.push_text-8.result c.push_text-8.ensures (λ e. then_piece first c.push_text-7.new.text.items c.push_text-8.new.text.items _ _ so_far-6 e)
+    let so_far-1 = three_pieces first c.push_between.new.text.items _ _ _ c.in_ok-push_between.ensures in
+    let so_far-2 = then_three first c.push_between.new.text.items c.push_between-2.new.text.items _ _ _ _ so_far-1 c.in_ok-push_between-2.ensures in
+    gathered c.push_between-3.result c.push_between-3.ensures (λ e. then_three first c.push_between-2.new.text.items c.push_between-3.new.text.items _ _ _ _ so_far-2 e)

@@ -1,15 +1,10 @@
-use Rattle.kt_picture.proofs.Gathering.{gathered, then_piece}
+use Rattle.kt_picture.proofs.Gathering.{gathered, then_piece, then_three, three_pieces}
 use Rattle.kt_picture.proofs.style.push_style_by_day.Goals as goal
 
 pub returns : goal.returns
 returns c =
     let first = c.args.text.now.items in
-    let so_far-1 = then_piece first c.push_text.new.text.items c.push_text-2.new.text.items _ _ c.in_ok-push_text.ensures c.in_ok-push_text-2.ensures in
-    let so_far-2 = then_piece first c.push_text-2.new.text.items c.push_text-3.new.text.items _ _ so_far-1 c.in_ok-push_text-3.ensures in
-    let so_far-3 = then_piece first c.push_text-3.new.text.items c.push_text-4.new.text.items _ _ so_far-2 c.in_ok-push_text-4.ensures in
-    let so_far-4 = then_piece first c.push_text-4.new.text.items c.push_text-5.new.text.items _ _ so_far-3 c.in_ok-push_text-5.ensures in
-    let so_far-5 = then_piece first c.push_text-5.new.text.items c.push_text-6.new.text.items _ _ so_far-4 c.in_ok-push_text-6.ensures in
-    let so_far-6 = then_piece first c.push_text-6.new.text.items c.push_text-7.new.text.items _ _ so_far-5 c.in_ok-push_text-7.ensures in
-    let so_far-7 = then_piece first c.push_text-7.new.text.items c.push_text-8.new.text.items _ _ so_far-6 c.in_ok-push_text-8.ensures in
-    let so_far-8 = then_piece first c.push_text-8.new.text.items c.push_text-9.new.text.items _ _ so_far-7 c.in_ok-push_text-9.ensures in
-    gathered c.push_text-10.result c.push_text-10.ensures (λ e. then_piece first c.push_text-9.new.text.items c.push_text-10.new.text.items _ _ so_far-8 e)
+    let so_far-1 = three_pieces first c.push_between.new.text.items _ _ _ c.in_ok-push_between.ensures in
+    let so_far-2 = then_three first c.push_between.new.text.items c.push_between-2.new.text.items _ _ _ _ so_far-1 c.in_ok-push_between-2.ensures in
+    let so_far-3 = then_three first c.push_between-2.new.text.items c.push_between-3.new.text.items _ _ _ _ so_far-2 c.in_ok-push_between-3.ensures in
+    gathered c.push_text.result c.push_text.ensures (λ e. then_piece first c.push_between-3.new.text.items c.push_text.new.text.items _ _ so_far-3 e)

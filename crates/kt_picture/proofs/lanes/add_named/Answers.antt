@@ -2,7 +2,7 @@ use Rattle.std.proofs.Common.{◌≡◌, ◌≤◌, ◌+◌, ◌∙◌, ◌++◌
 use Rattle.std.specs.List.{range_with_len}
 use Rattle.kt_base.specs.Sets.{has}
 use Rattle.kt_picture.proofs.LaneFacts.{lanes_more, few_more}
-use Rattle.kt_picture.proofs.lanes.Lanes.of_named.Goals as goal
+use Rattle.kt_picture.proofs.lanes.add_named.Goals as goal
 
 pub loop-number-preserved : goal.loop-number-preserved
 loop-number-preserved c =
@@ -16,7 +16,7 @@ loop-number-preserved c =
       low = omega (arith, c.loop-number-test.true);
     }
 
-pub returns : goal.returns
-returns c =
+pub returns-clause-named : goal.returns-clause-named
+returns-clause-named c =
     let all : c.loop-number.number ≡ 64 = omega (arith, c.loop-number.invariant.low) in
     c.loop-number.invariant.items ∙ ap (λ (n : ℕ). filter (has c.args.named) (range_with_len 0 n)) all
