@@ -321,13 +321,18 @@ fn show_plans<R: Host>(
     show_ways(rt, &case, ways, &mut Papers::whole(rt.alloc()))
 }
 
+// Shows the run of a line with this plan.
+fn show_planned<R: Host>(rt: &R, line: &str, ways: &[Way], plan: &Plan) -> io::Result<()> {
+    let asked = plan_in(rt, word(line, 1))?;
+    show_plans(rt, line, ways, plan, &asked)
+}
+
 /// Shows the run of a line, made in these ways: the files of the scenario, of the one whose objects it is made over, and of
 /// the steps, the number of the object that has a trouble, counted from 1 in the order of the processes, each with its
 /// spares behind it, and the trouble: the call, which one, and its answer.
 pub(crate) fn show_runs<R: Host>(rt: &R, line: &str, ways: &[Way]) -> io::Result<()> {
     let plan = plan_in(rt, word(line, 0))?;
-    let asked = plan_in(rt, word(line, 1))?;
-    show_plans(rt, line, ways, &plan, &asked)
+    show_planned(rt, line, ways, &plan)
 }
 
 /// Shows a line and its run, made in these ways.

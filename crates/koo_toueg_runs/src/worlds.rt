@@ -193,12 +193,17 @@ fn show_title<R: Host>(rt: &R, title: &str, asked: &str) -> io::Result<()> {
     print!(rt; "{title}{end}")
 }
 
+// The world of a line's words.
+fn world_in<R: Host>(rt: &R, words: &str) -> io::Result<World> {
+    let plan = plan_in(rt, word(words, 0))?;
+    value_of(world_of(rt.alloc(), plan, word(words, 2), word(words, 3)))
+}
+
 /// Shows the world of a line.
 pub(crate) fn show_world<R: Host>(rt: &R, line: &str) -> io::Result<()> {
     let (words, title) = line.split_once(": ").unwrap_or((line, ""));
-    show_title(rt, title, word(words, 1))?;
-    let plan = plan_in(rt, word(words, 0))?;
-    let limited = world_of(rt.alloc(), plan, word(words, 2), word(words, 3));
-    let mut world = value_of(limited)?;
-    show_asked(rt, word(words, 1), &mut world)
+    let asked = word(words, 1);
+    show_title(rt, title, asked)?;
+    let mut world = world_in(rt, words)?;
+    show_asked(rt, asked, &mut world)
 }
