@@ -1,5 +1,8 @@
 //! Texts: the checker's answer in both formats, and what is written of what was read.
 
+ghost use Rattle.std.specs.Prelude.{All};
+ghost use Rattle.kt_chain.specs.Spelling.{HasShortChains};
+
 use crate::commands::{Host, value_of};
 use kt_chain::{Certificate, read_certs, write_certs};
 use kt_log_text::write_csv;
@@ -19,7 +22,9 @@ fn is_written_as(alloc: Global, log: &SpaceTime, text: &[u8]) -> io::Result<bool
 }
 
 // Whether certificates are written as this text.
-fn are_written_as(alloc: Global, certificates: &[Certificate], text: &[u8]) -> io::Result<bool> {
+fn are_written_as(alloc: Global, certificates: &[Certificate], text: &[u8]) -> io::Result<bool>
+    requires { All HasShortChains certificates.now }
+{
     let mut written = Vec::new(alloc);
     value_of(write_certs(alloc, certificates, &mut written))?;
     Ok(written.as_slice() == text)
@@ -27,8 +32,10 @@ fn are_written_as(alloc: Global, certificates: &[Certificate], text: &[u8]) -> i
 
 // Whether the certificates that a text says are written as this text.
 fn is_written_again(alloc: Global, text: &[u8]) -> io::Result<bool> {
-    let certificates = value_of(read_certs(alloc, text))?;
-    are_written_as(alloc, certificates.as_slice(), text)
+    match read_certs(alloc, text) {
+        Ok(certificates) => are_written_as(alloc, certificates.as_slice(), text),
+        Err(_) => Err(io::Error::from(io::ErrorKind::Other)),
+    }
 }
 
 // Shows the checker's answer.
