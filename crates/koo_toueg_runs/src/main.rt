@@ -6,21 +6,34 @@
 
 mod cases;
 mod commands;
+mod lists;
 mod outcomes;
 mod papers;
 mod staged;
 mod texts;
 mod worlds;
 
-use anyhow::Result;
-use cases::{show_cases, show_failing_writers};
-use commands::do_files;
+use lists::{Left, List, show_list};
+use std::io;
 use std::process::ExitCode;
-use worlds::show_worlds;
+use texts::Host;
 
-fn main(rt: HostRuntime) -> Result<ExitCode> {
-    show_cases(&rt)?;
-    show_failing_writers(&rt)?;
-    show_worlds(&rt)?;
-    Ok(ExitCode::from(do_files(&rt)?))
+// Shows the cases of each file.
+fn show_all<R: Host>(rt: &R, left: &mut Left) -> io::Result<()> {
+    show_list(rt, &List::Runs, "cases", left)?;
+    show_list(rt, &List::Given, "given", left)?;
+    show_list(rt, &List::Meetings, "meetings", left)?;
+    show_list(rt, &List::Failing, "failing", left)?;
+    show_list(rt, &List::Worlds, "worlds", left)?;
+    show_list(rt, &List::Commands, "made", left)?;
+    show_list(rt, &List::Commands, "lines", left)
+}
+
+fn main(rt: HostRuntime) -> io::Result<ExitCode> {
+    let mut left = Left {
+        text: String::new(rt.alloc()),
+        status: 0,
+    };
+    show_all(&rt, &mut left)?;
+    Ok(ExitCode::from(left.status))
 }

@@ -1,8 +1,6 @@
 //! Writers that fail at one call.
 
-use crate::outcomes::show_text;
 use crate::texts::Host;
-use anyhow::Result;
 use std::alloc::Global;
 use std::io;
 use std::io::Write;
@@ -64,7 +62,7 @@ impl Write for Paper {
 }
 
 /// One of the three texts of a run.
-#[derive(Clone, Copy, PartialEq, Eq)]
+#[derive(Drop)]
 pub(crate) enum Text {
     Log,
     Certificates,
@@ -90,7 +88,7 @@ impl Papers {
     }
 
     /// Papers of which that of one text fails at this call.
-    pub(crate) fn failing(alloc: Global, text: Text, call: usize) -> Papers {
+    pub(crate) fn failing(alloc: Global, text: &Text, call: usize) -> Papers {
         let mut papers = Papers::whole(alloc);
         match text {
             Text::Log => papers.log.fails_at = call,
@@ -107,22 +105,26 @@ impl Papers {
             && self.report.has_all(&before.report)
     }
 
+    // Shows the texts.
+    fn show_all<R: Host>(&self, rt: &R) -> io::Result<()> {
+        io::writer(rt).write_all(self.log.taken())?;
+        io::writer(rt).write_all(self.cert.taken())?;
+        io::writer(rt).write_all(self.report.taken())
+    }
+
     /// Shows the texts, if there are any, or that they are those before.
-    pub(crate) fn show<R: Host>(&self, rt: &R, before: &Papers) -> Result<()> {
+    pub(crate) fn show<R: Host>(&self, rt: &R, before: &Papers) -> io::Result<()> {
         if self.log.taken().is_empty() {
-            return Ok(());
+            Ok(())
+        } else if self.have_all(before) {
+            println!(rt; "the same texts")
+        } else {
+            self.show_all(rt)
         }
-        if self.have_all(before) {
-            println!(rt; "the same texts")?;
-            return Ok(());
-        }
-        show_text(rt, self.log.taken())?;
-        show_text(rt, self.cert.taken())?;
-        show_text(rt, self.report.taken())
     }
 
     /// Whether the texts before this one are whole, this one was begun, and those after it were not.
-    pub(crate) fn stop_in(&self, text: Text, whole: &Papers) -> bool {
+    pub(crate) fn stop_in(&self, text: &Text, whole: &Papers) -> bool {
         match text {
             Text::Log => {
                 self.log.has_part(&whole.log) && self.cert.calls == 0 && self.report.calls == 0

@@ -12,7 +12,7 @@ use std::sync::atomic::{AtomicBool, Ordering};
 const TURNS: u32 = 100_000_000;
 
 /// What is asked of an object beside what a sum does.
-#[derive(Clone, Copy, PartialEq, Eq)]
+#[derive(Clone, Copy)]
 pub(crate) enum Trouble {
     /// Nothing.
     Absent,
@@ -45,38 +45,60 @@ impl Trouble {
     }
 }
 
-/// The flags of two objects: whether each has called, and whether it saw the other's call.
+// One of two objects that meet: whether it has called, and whether it saw the other's call.
 #[derive(Drop)]
-pub(crate) struct Flags {
-    set: [AtomicBool; 2],
-    seen: [AtomicBool; 2],
+struct Side {
+    set: AtomicBool,
+    seen: AtomicBool,
 }
 
-impl Flags {
-    pub(crate) fn new() -> Flags {
-        Flags {
-            set: [AtomicBool::new(false), AtomicBool::new(false)],
-            seen: [AtomicBool::new(false), AtomicBool::new(false)],
+impl Side {
+    fn new() -> Side {
+        Side {
+            set: AtomicBool::new(false),
+            seen: AtomicBool::new(false),
+        }
+    }
+
+    // Calls, and waits for the other's call.
+    fn meet(&self, other: &Side) {
+        self.set.store(true, Ordering::SeqCst);
+        for _ in 0..TURNS {
+            if other.set.load(Ordering::SeqCst) {
+                self.seen.store(true, Ordering::SeqCst);
+                return;
+            }
+            spin_loop();
+        }
+    }
+}
+
+/// Where two objects meet.
+#[derive(Drop)]
+pub(crate) struct Meeting {
+    one: Side,
+    two: Side,
+}
+
+impl Meeting {
+    pub(crate) fn new() -> Meeting {
+        Meeting {
+            one: Side::new(),
+            two: Side::new(),
         }
     }
 
     /// Whether both objects saw each other's call.
     pub(crate) fn both_seen(&self) -> bool {
-        self.seen[0].load(Ordering::SeqCst) && self.seen[1].load(Ordering::SeqCst)
+        self.one.seen.load(Ordering::SeqCst) && self.two.seen.load(Ordering::SeqCst)
     }
 
-    // Sets the flag of one object, and waits for the other's.
-    fn meet(&self, mine: usize, other: usize) {
-        if mine > 1 || other > 1 {
-            return;
-        }
-        self.set[mine].store(true, Ordering::SeqCst);
-        for _ in 0..TURNS {
-            if self.set[other].load(Ordering::SeqCst) {
-                self.seen[mine].store(true, Ordering::SeqCst);
-                return;
-            }
-            spin_loop();
+    // The object with this number waits for the other one.
+    fn wait_for(&self, number: u64) {
+        match number {
+            1 => self.one.meet(&self.two),
+            2 => self.two.meet(&self.one),
+            _ => {}
         }
     }
 }
@@ -87,7 +109,7 @@ pub(crate) struct Staged {
     sum: Sum,
     number: u64,
     trouble: Trouble,
-    flags: Arc<Flags, Global>,
+    meeting: Arc<Meeting, Global>,
     saves: Cell<u64>,
     restores: u64,
 }
@@ -98,26 +120,15 @@ impl Staged {
         sum: Sum,
         number: u64,
         trouble: Trouble,
-        flags: Arc<Flags, Global>,
+        meeting: Arc<Meeting, Global>,
     ) -> Staged {
         Staged {
             sum,
             number,
             trouble,
-            flags,
+            meeting,
             saves: Cell::new(0),
             restores: 0,
-        }
-    }
-
-    // Waits for the other object, where it has this trouble.
-    fn wait_in(&self, trouble: Trouble) {
-        if self.trouble == trouble {
-            match self.number {
-                1 => self.flags.meet(0, 1),
-                2 => self.flags.meet(1, 0),
-                _ => {}
-            }
         }
     }
 }
@@ -134,12 +145,16 @@ impl Recoverable for Staged {
     }
 
     fn apply(&mut self, from: ProcNo, body: i64) {
-        self.wait_in(Trouble::Apply);
+        if matches!(self.trouble, Trouble::Apply) {
+            self.meeting.wait_for(self.number);
+        }
         self.sum.apply(from, body);
     }
 
     fn offer(&self) -> i64 {
-        self.wait_in(Trouble::Offer);
+        if matches!(self.trouble, Trouble::Offer) {
+            self.meeting.wait_for(self.number);
+        }
         self.sum.offer()
     }
 

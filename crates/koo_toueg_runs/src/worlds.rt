@@ -1,19 +1,17 @@
 //! Worlds at their limits, and how many parcels instances put.
+//!
+//! A line says the file of the scenario, what is shown, what is limited with its number, and its title: `rows 3` for a log of
+//! three rows at most, `labels 3` for labels that come after 3, `none 0` for neither.
 
-use crate::texts::{Host, plan_in};
-use anyhow::Result;
-use kt_base::{InstNo, Label, ProcNo, RowNo};
+use crate::texts::{Host, plan_in, value_of, word};
+use kt_base::{InstNo, Label, Memory, ProcNo, RowNo};
 use kt_core::{StepFault, World};
 use kt_log_text::write_csv;
 use kt_plan::{Give, Plan, Step};
 use kt_program::{certify_bytes, check_bytes};
-use kt_scenario::parse;
 use kt_spacetime::{Event, SpaceTime};
 use std::alloc::Global;
 use std::io;
-
-// How many rows a log has at most.
-const LIMIT: u32 = 1_048_576;
 
 // How many default steps are made at most.
 const MOST: u32 = 100_000_000;
@@ -31,21 +29,36 @@ fn step_once(world: &mut World, step: Step) -> Result<(), StepFault> {
     }
 }
 
+// Makes the default step; whether there was one.
+fn step_next(world: &mut World) -> Result<bool, StepFault> {
+    match world.default_step() {
+        Some(step) => {
+            step_once(world, step)?;
+            Ok(true)
+        }
+        None => Ok(false),
+    }
+}
+
 // Makes default steps until there is none, or one is refused.
 fn step_on(world: &mut World) -> Result<(), StepFault> {
     for _ in 0..MOST {
-        let Some(step) = world.default_step() else {
+        if !step_next(world)? {
             return Ok(());
-        };
-        step_once(world, step)?;
+        }
     }
     Ok(())
 }
 
-// How many instances a log has that were aborted.
-fn aborts(world: &World) -> u32 {
+// The log of a world.
+fn log_of(world: &World) -> &SpaceTime {
+    world.log()
+}
+
+// How many of these rows abort an instance.
+fn aborts(rows: &[Event]) -> u32 {
     let mut count: u32 = 0;
-    for row in world.log().rows() {
+    for row in rows {
         if matches!(row, Event::Decided { commit: false, .. }) {
             count = count.saturating_add(1);
         }
@@ -54,198 +67,143 @@ fn aborts(world: &World) -> u32 {
 }
 
 // Shows whether a world is at rest, or why a step was refused.
-fn show_rest<R: Host>(rt: &R, ended: Result<(), StepFault>, at_rest: bool) -> Result<()> {
+fn show_rest<R: Host>(rt: &R, ended: Result<(), StepFault>, at_rest: bool) -> io::Result<()> {
     match ended {
-        Ok(()) => println!(rt; "at rest: {at_rest}")?,
-        Err(fault) => println!(rt; "{fault}")?,
+        Ok(()) => println!(rt; "at rest: {at_rest}"),
+        Err(fault) => println!(rt; "{fault}"),
     }
-    Ok(())
 }
 
-// Shows how many rows the log of a world has, and how many instances were aborted.
-fn show_counts<R: Host>(rt: &R, world: &World) -> Result<()> {
-    let rows = world.log().rows().len();
-    let aborts = aborts(world);
-    println!(rt; "{rows} rows, {aborts} aborts")?;
-    Ok(())
+// Shows how many rows there are, and how many instances were aborted.
+fn show_counts<R: Host>(rt: &R, rows: &[Event]) -> io::Result<()> {
+    println!(rt; "{} rows, {} aborts", rows.len(), aborts(rows))
 }
 
-// Shows how a world ends by default steps; its log.
-fn show_end<R: Host>(rt: &R, mut world: World) -> Result<SpaceTime> {
-    let ended = step_on(&mut world);
+// Shows how a world ends by default steps.
+fn show_end<R: Host>(rt: &R, world: &mut World) -> io::Result<()> {
+    let ended = step_on(world);
     show_rest(rt, ended, world.at_rest())?;
-    show_counts(rt, &world)?;
-    Ok(world.into_log())
+    show_counts(rt, log_of(world).rows())
 }
 
 // Shows the answer to a stored log with its certificates.
-fn show_answer<R: Host>(rt: &R, log: &[u8]) -> Result<()> {
-    let mut cert = Vec::new(rt.alloc());
-    certify_bytes(rt.alloc(), log, &mut cert)?;
-    check_bytes(rt.alloc(), log, cert.as_slice(), &mut io::writer(rt))?;
+fn show_answer<R: Host>(rt: &R, log: &[u8], cert: &mut Vec<u8>) -> io::Result<()> {
+    value_of(certify_bytes(rt.alloc(), log, cert))?;
+    value_of(check_bytes(rt.alloc(), log, cert.as_slice(), &mut io::writer(rt)))?;
     Ok(())
 }
 
-// Shows the answers to a log in both formats.
-fn show_answers<R: Host>(rt: &R, log: &SpaceTime) -> Result<()> {
-    let mut text = Vec::new(rt.alloc());
-    write_csv(rt.alloc(), log, &mut text)?;
-    show_answer(rt, text.as_slice())?;
-    show_answer(
-        rt,
-        text.as_slice().strip_prefix(b"kt,2,-,-\n").unwrap_or(b""),
+// Shows the answers to a stored log in both formats.
+fn show_both_answers<R: Host>(rt: &R, log: &[u8]) -> io::Result<()> {
+    show_answer(rt, log, &mut Vec::new(rt.alloc()))?;
+    let rows = log.strip_prefix(b"kt,2,-,-\n").unwrap_or(b"");
+    show_answer(rt, rows, &mut Vec::new(rt.alloc()))
+}
+
+// Shows the answers to a log in both formats; `text` gets what is written of it.
+fn show_answers<R: Host>(rt: &R, log: &SpaceTime, text: &mut Vec<u8>) -> io::Result<()> {
+    value_of(write_csv(rt.alloc(), log, text))?;
+    show_both_answers(rt, text.as_slice())
+}
+
+// Shows how a world ends by default steps, and the answers to its log.
+fn show_end_judged<R: Host>(rt: &R, world: &mut World) -> io::Result<()> {
+    show_end(rt, world)?;
+    show_answers(rt, log_of(world), &mut Vec::new(rt.alloc()))
+}
+
+// Shows how many parcels are in the channels of the first two processes, and in one of a process that is not there.
+fn show_in_flight<R: Host>(rt: &R, world: &World) -> io::Result<()> {
+    let (a, b, none) = (ProcNo::nth(0), ProcNo::nth(1), ProcNo::nth(63));
+    let (there, back) = (world.in_flight(a, b), world.in_flight(b, a));
+    let elsewhere = world.in_flight(a, none);
+    println!(rt; "in flight: {there}, {back}, {elsewhere}")
+}
+
+// Shows how many parcels are in channels at first and after each default step.
+fn show_channels<R: Host>(rt: &R, world: &mut World) -> io::Result<()> {
+    show_in_flight(rt, world)?;
+    for _ in 0..MOST {
+        if !value_of(step_next(world))? {
+            return Ok(());
+        }
+        show_in_flight(rt, world)?;
+    }
+    Ok(())
+}
+
+// Shows what came of a step, and how many rows there are.
+fn show_step<R: Host>(rt: &R, ended: Result<(), StepFault>, rows: usize) -> io::Result<()> {
+    match ended {
+        Ok(()) => println!(rt; "done\n{rows} rows"),
+        Err(fault) => println!(rt; "{fault}\n{rows} rows"),
+    }
+}
+
+// Shows a take of nothing.
+fn show_take<R: Host>(rt: &R, world: &mut World) -> io::Result<()> {
+    let (at, from) = (ProcNo::nth(1), ProcNo::nth(0));
+    let ended = step_once(world, Step::Take { at, from });
+    show_step(rt, ended, log_of(world).rows().len())
+}
+
+// Shows how many parcels an instance has put.
+fn show_instance<R: Host>(rt: &R, world: &World, inst: InstNo) -> io::Result<()> {
+    let tally = world.tally(inst);
+    println!(rt;
+        "{} asks, {} replies, {} decisions",
+        tally.asks, tally.replies, tally.decisions
     )
 }
 
-// A scenario of 64 processes whose instances all abort: half of the processes send to all of the other half, and fail;
-// then the process to which the rest of that half has sent begins one instance after another.
-fn scenario_of_aborts(alloc: Global) -> Result<String> {
-    let mut text = String::new(alloc);
-    for p in 0..64u32 {
-        text.push_str(format!(in alloc; "object p{p} sum\n")?.as_str())?;
-    }
-    for p in 1..32u32 {
-        text.push_str(format!(in alloc; "send p{p} p0 1\n")?.as_str())?;
-    }
-    for pair in 0..1024u32 {
-        let (p, q) = (32 + pair / 32, pair % 32);
-        text.push_str(format!(in alloc; "send p{p} p{q} 1\n")?.as_str())?;
-    }
-    for p in 32..64u32 {
-        text.push_str(format!(in alloc; "fail p{p}\n")?.as_str())?;
-    }
-    for _ in 0..961u32 {
-        text.push_str("checkpoint p0\n")?;
-    }
-    Ok(text)
-}
-
-// The plan of that scenario.
-fn plan_of_aborts(alloc: Global) -> Result<Plan> {
-    let text = scenario_of_aborts(alloc)?;
-    Ok(parse(alloc, text.as_bytes())?)
-}
-
-// Shows how that plan ends with a log of so many rows at most, and the answers to it.
-fn show_limited<R: Host>(rt: &R, limit: RowNo) -> Result<()> {
-    let plan = plan_of_aborts(rt.alloc())?;
-    let log = show_end(rt, World::with_rows(rt.alloc(), plan, limit)?)?;
-    show_answers(rt, &log)
-}
-
-// Shows how that plan ends with a log of its usual size.
-fn show_unlimited<R: Host>(rt: &R) -> Result<()> {
-    let plan = plan_of_aborts(rt.alloc())?;
-    show_end(rt, World::new(rt.alloc(), plan)?)?;
-    Ok(())
-}
-
-// Shows a log that is full, and one that is not.
-fn show_full_log<R: Host>(rt: &R) -> Result<()> {
-    println!(rt; "aborts in a log of {LIMIT} rows at most")?;
-    if let Some(limit) = RowNo::new(LIMIT) {
-        show_limited(rt, limit)?;
-    }
-    println!(rt; "aborts")?;
-    show_unlimited(rt)
-}
-
-// Shows a send by a process whose labels come after one that is used.
-fn show_after_label<R: Host>(rt: &R, used: Label) -> Result<()> {
-    let plan = plan_in(rt, "checkpoint")?;
-    show_end(rt, World::with_labels(rt.alloc(), plan, used)?)?;
-    Ok(())
-}
-
-// Shows a send by a process that has so many labels left.
-fn show_labels_left<R: Host>(rt: &R, left: &str, used: u64) -> Result<()> {
-    println!(rt; "a send with {left} left")?;
-    match Label::new(used) {
-        Some(used) => show_after_label(rt, used),
+// Shows how many parcels the first instance puts.
+fn show_tally<R: Host>(rt: &R, world: &mut World) -> io::Result<()> {
+    value_of(step_on(world))?;
+    match InstNo::new(1) {
+        Some(inst) => show_instance(rt, world, inst),
         None => Ok(()),
     }
 }
 
-// Shows a send by a process that has no label left, and by one that has one.
-fn show_spent_labels<R: Host>(rt: &R) -> Result<()> {
-    show_labels_left(rt, "no label", 281_474_976_710_655)?;
-    show_labels_left(rt, "one label", 281_474_976_710_654)
-}
-
-// The world in which nothing of the scenario in a file is done.
-fn world_in<R: Host>(rt: &R, scenario: &str) -> Result<World> {
-    let plan = plan_in(rt, scenario)?;
-    Ok(World::new(rt.alloc(), plan)?)
-}
-
-// Shows what came of a step, and how many rows there are.
-fn show_step<R: Host>(rt: &R, ended: Result<(), StepFault>, rows: usize) -> Result<()> {
-    match ended {
-        Ok(()) => println!(rt; "done")?,
-        Err(fault) => println!(rt; "{fault}")?,
+// The world in which nothing of a plan is done, with this limit.
+fn world_of(alloc: Global, plan: Plan, limited: &str, limit: &str) -> Result<World, Memory> {
+    let rows = RowNo::new(limit.parse::<u32>().unwrap_or(0));
+    let used = Label::new(limit.parse::<u64>().unwrap_or(0));
+    match (limited, rows, used) {
+        ("rows", Some(rows), _) => World::with_rows(alloc, plan, rows),
+        ("labels", _, Some(used)) => World::with_labels(alloc, plan, used),
+        _ => World::new(alloc, plan),
     }
-    println!(rt; "{rows} rows")?;
-    Ok(())
 }
 
-// Shows how many parcels are in the channels of the first two processes, and in one of a process that is not there.
-fn show_in_flight<R: Host>(rt: &R, world: &World) -> Result<()> {
-    let (a, b, none) = (ProcNo::nth(0), ProcNo::nth(1), ProcNo::nth(63));
-    let (there, back) = (world.in_flight(a, b), world.in_flight(b, a));
-    let elsewhere = world.in_flight(a, none);
-    println!(rt; "in flight: {there}, {back}, {elsewhere}")?;
-    Ok(())
-}
-
-// Shows how many parcels are in channels at first and after each default step of a scenario.
-fn show_channels<R: Host>(rt: &R, scenario: &str) -> Result<()> {
-    println!(rt; "channels of {scenario}")?;
-    let mut world = world_in(rt, scenario)?;
-    show_in_flight(rt, &world)?;
-    for _ in 0..MOST {
-        let Some(step) = world.default_step() else {
-            return Ok(());
-        };
-        step_once(&mut world, step)?;
-        show_in_flight(rt, &world)?;
+// Shows what a line asks of its world.
+fn show_asked<R: Host>(rt: &R, asked: &str, world: &mut World) -> io::Result<()> {
+    match asked {
+        "take" => show_take(rt, world),
+        "channels" => show_channels(rt, world),
+        "tally" => show_tally(rt, world),
+        "answers" => show_end_judged(rt, world),
+        _ => show_end(rt, world),
     }
-    Ok(())
 }
 
-// Shows a step that is not enabled.
-fn show_idle_step<R: Host>(rt: &R) -> Result<()> {
-    println!(rt; "a take of nothing")?;
-    let mut world = world_in(rt, "checkpoint")?;
-    let (at, from) = (ProcNo::nth(1), ProcNo::nth(0));
-    let ended = step_once(&mut world, Step::Take { at, from });
-    show_step(rt, ended, world.log().rows().len())
+// Shows the title of a world, in the line of its tally where that is shown.
+fn show_title<R: Host>(rt: &R, title: &str, asked: &str) -> io::Result<()> {
+    let end = if asked == "tally" { ": " } else { "\n" };
+    print!(rt; "{title}{end}")
 }
 
-// Shows how many parcels the first instance of a world has put.
-fn show_first<R: Host>(rt: &R, scenario: &str, world: &World) -> Result<()> {
-    if let Some(inst) = InstNo::new(1) {
-        let tally = world.tally(inst);
-        println!(rt;
-            "{scenario}: {} asks, {} replies, {} decisions",
-            tally.asks, tally.replies, tally.decisions
-        )?;
-    }
-    Ok(())
+// The world of a line's words.
+fn world_in<R: Host>(rt: &R, words: &str) -> io::Result<World> {
+    let plan = plan_in(rt, word(words, 0))?;
+    value_of(world_of(rt.alloc(), plan, word(words, 2), word(words, 3)))
 }
 
-// Shows how many parcels the first instance of a scenario puts.
-fn show_tally<R: Host>(rt: &R, scenario: &str) -> Result<()> {
-    let mut world = world_in(rt, scenario)?;
-    step_on(&mut world)?;
-    show_first(rt, scenario, &world)
-}
-
-/// Shows worlds whose log is full, whose labels are spent, a step that is not enabled, and how many parcels instances put.
-pub(crate) fn show_worlds<R: Host>(rt: &R) -> Result<()> {
-    show_idle_step(rt)?;
-    show_channels(rt, "checkpoint")?;
-    show_spent_labels(rt)?;
-    show_tally(rt, "all_to_all")?;
-    show_tally(rt, "ring")?;
-    show_full_log(rt)
+/// Shows the world of a line.
+pub(crate) fn show_world<R: Host>(rt: &R, line: &str) -> io::Result<()> {
+    let (words, title) = line.split_once(": ").unwrap_or((line, ""));
+    let asked = word(words, 1);
+    show_title(rt, title, asked)?;
+    let mut world = world_in(rt, words)?;
+    show_asked(rt, asked, &mut world)
 }

@@ -1,37 +1,39 @@
 //! Plays a run again by the steps that were made, and judges what was written of it.
 
-use crate::commands::{
-    CERT, CERT_AGAIN, Host, LOG, LOG_AGAIN, are_same, carry_out_words, words_of,
-};
-use anyhow::Result;
-use kt_program::Words;
-use std::alloc::Global;
-
-/// Where the steps of a run are written.
-pub(crate) const STEPS: &str = "run.steps";
+use crate::commands::{CERT, CERT_AGAIN, Host, LOG, LOG_AGAIN, are_same, carry_out_line};
+use std::io;
 
 /// Whether the checker says yes to what was written.
-pub(crate) fn is_yes<R: Host>(rt: &R) -> Result<bool> {
-    let words = words_of(rt.alloc(), "koo_toueg check run.log.csv run.cert.csv")?;
+pub(crate) fn is_yes<R: Host>(rt: &R) -> io::Result<bool> {
     let mut answer = Vec::new(rt.alloc());
-    let status = carry_out_words(rt, &words, &mut answer);
+    let line = "koo_toueg check run.log.csv run.cert.csv";
+    let status = carry_out_line(rt, line, &mut answer)?;
     Ok(status == 0 && answer.as_slice() == b"yes\n".as_slice())
 }
 
-/// The words that play the scenario of this name by the steps that were written.
-pub(crate) fn again_words(alloc: Global, name: &str) -> Result<Words> {
-    let line = format!(in alloc;
-        "koo_toueg play {name}.scenario --steps {STEPS} --log {LOG_AGAIN} --cert {CERT_AGAIN}"
-    )?;
-    Ok(words_of(alloc, line.as_str())?)
+// Makes a run and plays it again by the steps that were made, which both have to come to an end; both reports.
+fn add_reports<R: Host>(
+    rt: &R,
+    run: &str,
+    again: &str,
+    report: &mut Vec<u8>,
+    report_again: &mut Vec<u8>,
+) -> io::Result<bool> {
+    let status = carry_out_line(rt, run, report)?;
+    let status_again = carry_out_line(rt, again, report_again)?;
+    Ok(status == 0 && status_again == 0)
+}
+
+// Whether a run is played again with the same report.
+fn is_reported_again<R: Host>(rt: &R, run: &str, again: &str) -> io::Result<bool> {
+    let mut report = Vec::new(rt.alloc());
+    let mut report_again = Vec::new(rt.alloc());
+    let ended = add_reports(rt, run, again, &mut report, &mut report_again)?;
+    Ok(ended && report.as_slice() == report_again.as_slice())
 }
 
 /// Makes a run and plays it again by the steps that were made: whether log, certificates and report are the same.
-pub(crate) fn is_played_again<R: Host>(rt: &R, run: &Words, again: &Words) -> Result<bool> {
-    let mut report = Vec::new(rt.alloc());
-    let mut report_again = Vec::new(rt.alloc());
-    let runs = carry_out_words(rt, run, &mut report) == 0;
-    let plays = carry_out_words(rt, again, &mut report_again) == 0;
-    let same = are_same(rt, LOG, LOG_AGAIN)? && are_same(rt, CERT, CERT_AGAIN)?;
-    Ok(runs && plays && same && report.as_slice() == report_again.as_slice())
+pub(crate) fn is_played_again<R: Host>(rt: &R, run: &str, again: &str) -> io::Result<bool> {
+    let reported = is_reported_again(rt, run, again)?;
+    Ok(reported && are_same(rt, LOG, LOG_AGAIN)? && are_same(rt, CERT, CERT_AGAIN)?)
 }

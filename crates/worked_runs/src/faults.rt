@@ -1,7 +1,6 @@
 //! The line and the exit status of each fault of a log, of certificates and of a run, and of those that have no more to them.
 
 use crate::commands::Host;
-use anyhow::Result;
 use kt_base::{ProcNo, RowNo};
 use kt_chain::CertTextFault;
 use kt_core::StepFault;
@@ -64,14 +63,13 @@ fn live_faults(p: ProcNo) -> [AppFault; 9] {
 }
 
 // Shows the line of a fault and its exit status.
-fn show_fault<R: Host>(rt: &R, fault: ProgramFault) -> Result<()> {
+fn show_fault<R: Host>(rt: &R, fault: ProgramFault) -> io::Result<()> {
     let status = end(Err(fault), &mut io::writer(rt));
-    println!(rt; "status {status}")?;
-    Ok(())
+    println!(rt; "status {status}")
 }
 
 // Shows each of these faults.
-fn show_each<R: Host>(rt: &R, faults: &[AppFault]) -> Result<()> {
+fn show_each<R: Host>(rt: &R, faults: &[AppFault]) -> io::Result<()> {
     for fault in faults {
         show_fault(rt, ProgramFault::App(*fault))?;
     }
@@ -79,7 +77,7 @@ fn show_each<R: Host>(rt: &R, faults: &[AppFault]) -> Result<()> {
 }
 
 /// Shows the lines of faults and their exit statuses.
-pub(crate) fn show_faults<R: Host>(rt: &R) -> Result<()> {
+pub(crate) fn show_faults<R: Host>(rt: &R) -> io::Result<()> {
     let p = ProcNo::nth(1);
     show_fault(rt, ProgramFault::Line)?;
     show_each(rt, &log_faults(RowNo::after(16_777_215)))?;

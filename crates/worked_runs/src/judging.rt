@@ -10,6 +10,7 @@ ghost use Rattle.kt_walk.specs.WalkOf.{WalkOf};
 ghost use Rattle.kt_checker.specs.Passing.{IsPassed};
 ghost use Rattle.worked_runs.specs.Walked.{IsWalkedText};
 
+use crate::commands::{Host, value_of};
 use anyhow::Result;
 use kt_base::{Memory, MsgNo, ProcNo};
 use kt_chain::{Certificate, read_certs};
@@ -19,9 +20,8 @@ use kt_log_text::RowReader;
 use kt_spacetime::SpaceTime;
 use kt_walk::Walk;
 use std::alloc::Global;
-use std::fs;
 use std::io::Read;
-use std::rt::Files;
+use std::{fs, io};
 
 /// The walk of a stored log, which is legal.
 fn walk_of<R: Read + Drop>(alloc: Global, text: R) -> Result<Walk>
@@ -102,8 +102,8 @@ fn is_yes(verdict: Verdict) -> bool
     }
 }
 
-// Shows how many rows there are, where processes 0 and 1 stand, and the orphan of the permanent cut.
-fn show_walk<R: Print>(rt: &R, walk: &Walk) -> Result<()> {
+// Shows how many rows there are, and where processes 0 and 1 stand.
+fn show_places<R: Host>(rt: &R, walk: &Walk) -> io::Result<()> {
     let (p, q) = (ProcNo::nth(0), ProcNo::nth(1));
     let rows = walk.rows();
     println!(rt;
@@ -112,25 +112,35 @@ fn show_walk<R: Print>(rt: &R, walk: &Walk) -> Result<()> {
         walk.length(p),
         walk.permanent(q),
         walk.length(q)
-    )?;
+    )
+}
+
+// Shows the orphan of the permanent cut.
+fn show_orphan<R: Host>(rt: &R, walk: &Walk) -> io::Result<()> {
     match permanent_orphan(walk) {
-        Some(msg) => println!(rt; "orphan {msg}")?,
-        None => println!(rt; "no orphan")?,
+        Some(msg) => println!(rt; "orphan {msg}"),
+        None => println!(rt; "no orphan"),
     }
-    Ok(())
+}
+
+// Shows what a walk tells of a stored log.
+fn show_walk<R: Host>(rt: &R, log: &str) -> io::Result<()> {
+    let walk = value_of(walk_of(rt.alloc(), fs::open(rt, log)?))?;
+    show_places(rt, &walk)?;
+    show_orphan(rt, &walk)
+}
+
+// Shows what the checker says of a stored log with stored certificates.
+fn show_passes<R: Host>(rt: &R, log: &str, cert: &str) -> io::Result<()> {
+    let certificates = value_of(read_certs(rt.alloc(), fs::open(rt, cert)?))?;
+    let answer = passes(rt.alloc(), fs::open(rt, log)?, certificates.as_slice());
+    let yes = value_of(answer)?;
+    println!(rt; "passes: {yes}")
 }
 
 /// Shows what a walk tells of a stored log, and what the checker says of it with stored certificates.
-pub(crate) fn show_judged<R: Files + Print + AllocGlobal>(
-    rt: &R,
-    log: &str,
-    cert: &str,
-) -> Result<()> {
-    let alloc = rt.alloc();
+pub(crate) fn show_judged<R: Host>(rt: &R, log: &str, cert: &str) -> io::Result<()> {
     println!(rt; "{log}")?;
-    show_walk(rt, &walk_of(alloc, fs::open(rt, log)?)?)?;
-    let certificates = read_certs(alloc, fs::open(rt, cert)?)?;
-    let yes = passes(alloc, fs::open(rt, log)?, certificates.as_slice())?;
-    println!(rt; "passes: {yes}")?;
-    Ok(())
+    show_walk(rt, log)?;
+    show_passes(rt, log, cert)
 }

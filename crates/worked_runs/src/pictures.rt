@@ -2,50 +2,39 @@
 
 ghost use Rattle.kt_cuts.specs.Legal.{IsLegal};
 
-use crate::commands::stored;
-use anyhow::Result;
+use crate::commands::{Host, stored, value_of};
 use kt_histories::legal;
 use kt_log_text::read_csv;
 use kt_picture::{Evidence, picture};
 use kt_plan::Names;
 use kt_spacetime::SpaceTime;
-use std::fs;
+use std::io;
+use std::io::Write;
 
 // Shows a legal log as a picture.
-fn show_picture<R: Print + AllocGlobal>(rt: &R, log: &SpaceTime) -> Result<()>
+fn show_drawn<R: Host>(rt: &R, log: &SpaceTime, names: &Names) -> io::Result<()>
     requires { IsLegal log.now.rows }
 {
-    let names = Names::new(rt.alloc());
     let evidence = Evidence {
         certificates: &[],
         orphan: None,
     };
-    let text = picture(rt.alloc(), log, 0, None, &evidence, &names, b"<yes> & 'no'")?;
-    match std::str::from_utf8(text.as_slice()) {
-        Ok(text) => print!(rt; "{text}")?,
-        Err(_) => println!(rt; "no text")?,
-    }
-    Ok(())
+    let drawn = picture(rt.alloc(), log, 0, None, &evidence, names, b"<yes> & 'no'");
+    let text = value_of(drawn)?;
+    io::writer(rt).write_all(text.as_slice())
 }
 
-// Shows the stored run of this name as a picture.
-fn show_stored_picture(rt: &HostRuntime, name: &str) -> Result<()> {
+// Shows a log as a picture, or why it is not legal.
+fn show_log<R: Host>(rt: &R, log: &SpaceTime) -> io::Result<()> {
+    match legal(rt.alloc(), log) {
+        Ok(()) => show_drawn(rt, log, &Names::new(rt.alloc())),
+        Err(fault) => println!(rt; "{fault}"),
+    }
+}
+
+/// Shows the stored run of this name as a picture.
+pub(crate) fn show_picture<R: Host>(rt: &R, name: &str) -> io::Result<()> {
     let text = stored(rt, name, ".log.csv")?;
-    let log = read_csv(rt.alloc(), text.as_slice())?;
-    match legal(rt.alloc(), &log) {
-        Ok(()) => show_picture(rt, &log),
-        Err(fault) => {
-            println!(rt; "{fault}")?;
-            Ok(())
-        }
-    }
-}
-
-/// Shows as a picture each stored run that a list names.
-pub(crate) fn show_pictures(rt: &HostRuntime, list: &str) -> Result<()> {
-    let names = fs::read_to_string(rt, list)?;
-    for name in names.lines() {
-        show_stored_picture(rt, name)?;
-    }
-    Ok(())
+    let log = value_of(read_csv(rt.alloc(), text.as_slice()))?;
+    show_log(rt, &log)
 }

@@ -1,27 +1,27 @@
 //! The plain reader of a log beside the one that keeps no rows.
 
-use anyhow::{Result, bail};
+use crate::commands::value_of;
 use kt_base::{InstNo, MsgNo, ProcNo};
 use kt_cuts::Cut;
 use kt_histories::{Histories, legal};
 use kt_spacetime::SpaceTime;
 use kt_walk::Walk;
 use std::alloc::Global;
+use std::io;
 
 // How many shares the part of a history past its permanent position has.
 const SHARES: usize = 4;
 
 // What the first rows of a legal log say.
-fn histories_of(alloc: Global, log: &SpaceTime, upto: usize) -> Result<Histories> {
-    legal(alloc, log)?;
-    if upto > log.rows().len() {
-        bail!("no such row");
+fn histories_of(alloc: Global, log: &SpaceTime, upto: usize) -> io::Result<Histories> {
+    match legal(alloc, log) {
+        Ok(()) if upto <= log.rows().len() => value_of(Histories::of(alloc, log, upto)),
+        _ => Err(io::Error::from(io::ErrorKind::Other)),
     }
-    Ok(Histories::of(alloc, log, upto)?)
 }
 
 /// Whether the plain reader tells of the first rows of a log what the walk tells that took them.
-pub(crate) fn is_read_so(alloc: Global, log: &SpaceTime, walk: &Walk) -> Result<bool> {
+pub(crate) fn is_read_so(alloc: Global, log: &SpaceTime, walk: &Walk) -> io::Result<bool> {
     let histories = histories_of(alloc, log, walk.rows())?;
     Ok(is_same_after(walk, &histories))
 }
@@ -30,40 +30,51 @@ pub(crate) fn is_read_so(alloc: Global, log: &SpaceTime, walk: &Walk) -> Result<
 fn is_same_after(walk: &Walk, histories: &Histories) -> bool {
     has_same_processes(walk, histories)
         && has_same_messages(walk, histories)
-        && (0..SHARES + 1).all(|shares| has_same_orphans(walk, histories, shares))
+        && has_same_orphans(walk, histories)
 }
 
 fn has_same_processes(walk: &Walk, histories: &Histories) -> bool {
-    (0..64).all(|number| match ProcNo::new(number) {
-        Some(p) => has_same_lengths(walk, histories, p) && has_same_positions(walk, histories, p),
-        None => false,
-    })
+    for number in 0..ProcNo::COUNT {
+        let p = ProcNo::nth(number);
+        if !has_same_lengths(walk, histories, p) || !has_same_positions(walk, histories, p) {
+            return false;
+        }
+    }
+    true
 }
 
 fn has_same_lengths(walk: &Walk, histories: &Histories, p: ProcNo) -> bool {
     walk.length(p) == histories.length(p) && walk.permanent(p) == histories.permanent(p)
 }
 
+// Whether a process has the same new positions in the first instances.
 fn has_same_positions(walk: &Walk, histories: &Histories, p: ProcNo) -> bool {
-    (1..8).all(|number| match InstNo::new(number) {
-        Some(inst) => walk.position(inst, p) == histories.position(inst, p),
-        None => false,
-    })
+    for number in 1..8 {
+        if let Some(inst) = InstNo::new(number) {
+            if walk.position(inst, p) != histories.position(inst, p) {
+                return false;
+            }
+        }
+    }
+    true
+}
+
+// Whether the walk keeps nothing of a message, or the places that it has; `kept` counts those that are kept.
+fn has_same_places(walk: &Walk, histories: &Histories, msg: MsgNo, kept: &mut usize) -> bool {
+    let trace = walk.trace(msg);
+    if trace.is_none() {
+        return true;
+    }
+    *kept = kept.saturating_add(1);
+    trace == histories.trace(msg)
 }
 
 // Whether each message that the walk keeps has its places, and it holds as many as it tells.
 fn has_same_messages(walk: &Walk, histories: &Histories) -> bool {
     let mut kept: usize = 0;
-    for number in 1..100 {
-        let Some(msg) = MsgNo::new(number) else {
+    for sent in 0..99 {
+        if !has_same_places(walk, histories, MsgNo::after(sent), &mut kept) {
             return false;
-        };
-        let trace = walk.trace(msg);
-        if trace.is_some() {
-            kept = kept.saturating_add(1);
-            if trace != histories.trace(msg) {
-                return false;
-            }
         }
     }
     kept == walk.held()
@@ -79,30 +90,49 @@ fn part(walk: &Walk, p: ProcNo, shares: usize) -> usize {
 // The cut with so many shares of each history.
 fn cut_with(walk: &Walk, shares: usize) -> Cut {
     let mut cut = Cut::new([0; 64]);
-    for number in 0..64 {
-        if let Some(p) = ProcNo::new(number) {
-            cut.set(p, part(walk, p, shares));
-        }
+    for number in 0..ProcNo::COUNT {
+        let p = ProcNo::nth(number);
+        cut.set(p, part(walk, p, shares));
     }
     cut
 }
 
-// Whether both find the same orphan of the cut with so many shares of each history, and of those where one process has all
-// shares or none.
-fn has_same_orphans(walk: &Walk, histories: &Histories, shares: usize) -> bool {
-    let cut = cut_with(walk, shares);
-    walk.orphan(&cut) == histories.first_orphan(&cut)
-        && (0..8).all(|number| match ProcNo::new(number) {
-            Some(p) => has_same_orphans_but(walk, histories, cut, p),
-            None => false,
-        })
+// Whether both find the same orphan of a cut.
+fn has_same_orphan(walk: &Walk, histories: &Histories, cut: &Cut) -> bool {
+    walk.orphan(cut) == histories.first_orphan(cut)
 }
 
-fn has_same_orphans_but(walk: &Walk, histories: &Histories, cut: Cut, p: ProcNo) -> bool {
-    let mut whole = cut;
-    whole.set(p, walk.length(p));
-    let mut least = cut;
-    least.set(p, walk.permanent(p));
-    walk.orphan(&whole) == histories.first_orphan(&whole)
-        && walk.orphan(&least) == histories.first_orphan(&least)
+// Whether both find the same orphan of a cut where one process has so many shares instead.
+fn has_same_orphan_with(
+    walk: &Walk,
+    histories: &Histories,
+    mut cut: Cut,
+    p: ProcNo,
+    shares: usize,
+) -> bool {
+    cut.set(p, part(walk, p, shares));
+    has_same_orphan(walk, histories, &cut)
+}
+
+// Whether both find the same orphan of a cut, and of those where one process has all shares or none.
+fn has_same_orphans_near(walk: &Walk, histories: &Histories, cut: Cut) -> bool {
+    for number in 0..8 {
+        let p = ProcNo::nth(number);
+        if !has_same_orphan_with(walk, histories, cut, p, SHARES)
+            || !has_same_orphan_with(walk, histories, cut, p, 0)
+        {
+            return false;
+        }
+    }
+    has_same_orphan(walk, histories, &cut)
+}
+
+// Whether both find the same orphans of the cuts with each number of shares of each history.
+fn has_same_orphans(walk: &Walk, histories: &Histories) -> bool {
+    for shares in 0..SHARES + 1 {
+        if !has_same_orphans_near(walk, histories, cut_with(walk, shares)) {
+            return false;
+        }
+    }
+    true
 }

@@ -2,10 +2,9 @@
 
 ghost use Rattle.kt_plans.specs.Headline.{IsCertified};
 
-use crate::commands::Host;
+use crate::commands::{Host, value_of};
 use crate::counter::{Count, Counter};
-use crate::stepping::gets_yes;
-use anyhow::{Result, anyhow};
+use crate::stepping::show_log;
 use kt_base::Memory;
 use kt_held::{Cast, Held};
 use kt_object::{Object, SlotBook};
@@ -14,12 +13,12 @@ use kt_program::cast_of;
 use kt_run::{Outcome, run};
 use kt_scenario::parse;
 use kt_threads::live;
-use std::fs;
 use std::sync::Arc;
 use std::sync::atomic::{AtomicU64, Ordering};
+use std::{fs, io};
 
 /// One step after another, or each process in a thread of its own.
-#[derive(Clone, Copy)]
+#[derive(Drop)]
 enum Way {
     Run,
     Live,
@@ -31,34 +30,37 @@ fn show_run<R: Print + AllocGlobal>(
     plan: &Plan,
     cast: Cast,
     book: &mut SlotBook,
-) -> Result<()> {
+) -> io::Result<()> {
     match run(rt.alloc(), plan, &[], cast) {
         Ok(outcome) => show_outcome(rt, &outcome, book),
-        Err(fault) => Err(anyhow!("{fault}")),
+        Err(fault) => println!(rt; "{fault}"),
     }
 }
 
 /// The same with a thread for each process.
-fn show_live<R: Host>(rt: &R, plan: &Plan, cast: Cast, book: &mut SlotBook) -> Result<()> {
+fn show_live<R: Host>(rt: &R, plan: &Plan, cast: Cast, book: &mut SlotBook) -> io::Result<()> {
     match live(rt, rt.alloc(), plan, cast) {
         Ok(outcome) => show_outcome(rt, &outcome, book),
-        Err(fault) => Err(anyhow!("{fault}")),
+        Err(fault) => println!(rt; "{fault}"),
     }
 }
 
 /// Runs a plan over counters in one way, and shows what is left of it.
 fn show_counters<R: Host>(
     rt: &R,
-    way: Way,
+    way: &Way,
     plan: &Plan,
     book: &mut SlotBook,
     taken: &Count,
-) -> Result<()> {
+) -> io::Result<()> {
     let alloc = rt.alloc();
-    let cast = cast_of(alloc, plan, |_kind: u8| -> Result<Object, Memory> {
+    let made = cast_of(alloc, plan, |_kind: u8| -> Result<Object, Memory> {
         let counter = Counter::new(book.open()?, Arc::try_clone(taken)?);
         Ok(Box::new(alloc, counter)?)
-    })?;
+    });
+    let Ok(cast) = made else {
+        return Err(io::Error::from(io::ErrorKind::OutOfMemory));
+    };
     match way {
         Way::Run => show_run(rt, plan, cast, book),
         Way::Live => show_live(rt, plan, cast, book),
@@ -70,66 +72,82 @@ fn show_outcome<R: Print + AllocGlobal>(
     rt: &R,
     outcome: &Outcome,
     book: &mut SlotBook,
-) -> Result<()>
+) -> io::Result<()>
     requires certified { IsCertified outcome.now.log.rows }
 {
-    let rows = outcome.log.rows().len();
-    let yes = gets_yes(rt.alloc(), &outcome.log)?;
-    println!(rt; "{rows} rows, passes: {yes}")?;
-    for told in &outcome.told {
-        show_told(rt, told.as_slice())?;
-    }
-    for held in &outcome.objects {
-        show_held(rt, held)?;
-    }
+    show_log(rt, &outcome.log)?;
+    show_all_told(rt, outcome.told.as_slice())?;
+    show_all_held(rt, outcome.objects.as_slice())?;
     show_slots(rt, book)
 }
 
+// Shows what the processes were told.
+fn show_all_told<R: Print>(rt: &R, lists: &[Vec<Told>]) -> io::Result<()> {
+    for told in lists {
+        show_told(rt, told.as_slice())?;
+    }
+    Ok(())
+}
+
 // Shows how many steps a process was told, and how many rows of its own they have.
-fn show_told<R: Print>(rt: &R, told: &[Told]) -> Result<()> {
+fn show_told<R: Print>(rt: &R, list: &[Told]) -> io::Result<()> {
     let mut rows: usize = 0;
-    for told in told {
+    for told in list {
         rows = rows.saturating_add(told.rows.iter().flatten().count());
     }
-    let steps = told.len();
-    println!(rt; "told {steps} steps, {rows} rows")?;
+    println!(rt; "told {} steps, {rows} rows", list.len())
+}
+
+// Shows what the processes hold.
+fn show_all_held<R: Print + AllocGlobal>(rt: &R, objects: &[Held]) -> io::Result<()> {
+    for held in objects {
+        show_held(rt, held)?;
+    }
     Ok(())
 }
 
 // Shows what a process's object offers, and its saved state.
-fn show_held<R: Print + AllocGlobal>(rt: &R, held: &Held) -> Result<()> {
+fn show_held<R: Print + AllocGlobal>(rt: &R, held: &Held) -> io::Result<()> {
     let body = held.ask(rt.alloc(), Look::NeedsBody).give.body;
-    let saved = held.depot.permanent();
-    println!(rt; "offers {body}, saved {saved:?}")?;
-    Ok(())
+    println!(rt; "offers {body}, saved {:?}", held.depot.permanent())
 }
 
 // Shows how many slots come free now, and how many are out then.
-fn show_slots<R: Print>(rt: &R, book: &mut SlotBook) -> Result<()> {
+fn show_slots<R: Print>(rt: &R, book: &mut SlotBook) -> io::Result<()> {
     let freed = book.collect();
-    let out = book.out();
-    println!(rt; "{freed} slots freed, {out} out")?;
-    Ok(())
+    println!(rt; "{freed} slots freed, {} out", book.out())
 }
 
-// Shows a run of a plan in one way; then which slots come free once nothing of it is left.
-fn show_way<R: Host>(rt: &R, way: Way, plan: &Plan) -> Result<()> {
-    let alloc = rt.alloc();
-    let mut book = SlotBook::new(alloc);
-    let taken = Arc::new(alloc, AtomicU64::new(0))?;
-    show_counters(rt, way, plan, &mut book, &taken)?;
-    show_slots(rt, &mut book)?;
-    let count = taken.load(Ordering::SeqCst);
-    println!(rt; "taken in {count}")?;
-    Ok(())
+// Shows a run of a plan in one way; then which slots come free once nothing of it is left, and the count.
+fn show_counted<R: Host>(
+    rt: &R,
+    way: &Way,
+    plan: &Plan,
+    book: &mut SlotBook,
+    taken: &Count,
+) -> io::Result<()> {
+    show_counters(rt, way, plan, book, taken)?;
+    show_slots(rt, book)?;
+    println!(rt; "taken in {}", taken.load(Ordering::SeqCst))
+}
+
+// Shows a run of a plan in one way.
+fn show_way<R: Host>(rt: &R, way: &Way, plan: &Plan) -> io::Result<()> {
+    let taken = Arc::new(rt.alloc(), AtomicU64::new(0))?;
+    show_counted(rt, way, plan, &mut SlotBook::new(rt.alloc()), &taken)
+}
+
+// Shows the runs of a plan.
+fn show_ways<R: Host>(rt: &R, scenario: &str, plan: &Plan) -> io::Result<()> {
+    println!(rt; "run {scenario}")?;
+    show_way(rt, &Way::Run, plan)?;
+    println!(rt; "live {scenario}")?;
+    show_way(rt, &Way::Live, plan)
 }
 
 /// Shows the runs of a stored scenario.
-pub(crate) fn show_runs<R: Host>(rt: &R, scenario: &str) -> Result<()> {
+pub(crate) fn show_runs<R: Host>(rt: &R, scenario: &str) -> io::Result<()> {
     let text = fs::read(rt, scenario)?;
-    let plan = parse(rt.alloc(), text.as_slice())?;
-    println!(rt; "run {scenario}")?;
-    show_way(rt, Way::Run, &plan)?;
-    println!(rt; "live {scenario}")?;
-    show_way(rt, Way::Live, &plan)
+    let plan = value_of(parse(rt.alloc(), text.as_slice()))?;
+    show_ways(rt, scenario, &plan)
 }

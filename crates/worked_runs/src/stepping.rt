@@ -4,6 +4,7 @@ ghost use Rattle.std.specs.Prelude.{◌≡◌, ◌≢◌, ◌↔◌, true, IfOk,
 ghost use Rattle.kt_core.specs.Worlds.{IsWorldAtRest};
 ghost use Rattle.kt_plans.specs.Headline.{IsCertified};
 
+use crate::commands::{Host, value_of};
 use crate::judging::log_passes;
 use anyhow::{Result, ensure};
 use kt_base::ProcNo;
@@ -13,8 +14,7 @@ use kt_plan::{Give, Look};
 use kt_scenario::parse;
 use kt_spacetime::SpaceTime;
 use std::alloc::Global;
-use std::fs;
-use std::rt::Files;
+use std::{fs, io};
 
 // How many turns are taken at most.
 const MOST: u32 = 1_000_000;
@@ -70,7 +70,7 @@ fn give_for(look: Look) -> Give
 }
 
 /// Whether the checker says yes to a log and its own certificates: it always does.
-pub(crate) fn gets_yes(alloc: Global, log: &SpaceTime) -> Result<bool, CertFault>
+fn gets_yes(alloc: Global, log: &SpaceTime) -> Result<bool, CertFault>
     requires certified { IsCertified log.now.rows }
     ensures yes { IfOk result (λ yes. IsTrue yes) }
     ensures fault { IfErr result (λ fault. fault ≡ CertFault.Memory) }
@@ -80,13 +80,20 @@ pub(crate) fn gets_yes(alloc: Global, log: &SpaceTime) -> Result<bool, CertFault
     Ok(yes)
 }
 
+/// Shows how many rows a log has, and whether the checker says yes to it and its own certificates.
+pub(crate) fn show_log<R: Print + AllocGlobal>(rt: &R, log: &SpaceTime) -> io::Result<()>
+    requires certified { IsCertified log.now.rows }
+{
+    let yes = value_of(gets_yes(rt.alloc(), log))?;
+    println!(rt; "{} rows, passes: {yes}", log.rows().len())
+}
+
 /// Shows what a stored scenario comes to where its processes make their steps by turns.
-pub(crate) fn show_stepped<R: Files + Print + AllocGlobal>(rt: &R, scenario: &str) -> Result<()> {
-    let alloc = rt.alloc();
+pub(crate) fn show_stepped<R: Host>(rt: &R, scenario: &str) -> io::Result<()> {
+    print!(rt; "{scenario}: ")?;
     let text = fs::read(rt, scenario)?;
-    let log = stepped(alloc, text.as_slice())?;
-    let rows = log.rows().len();
-    let yes = gets_yes(alloc, &log)?;
-    println!(rt; "{scenario}: {rows} rows, passes: {yes}")?;
-    Ok(())
+    match stepped(rt.alloc(), text.as_slice()) {
+        Ok(log) => show_log(rt, &log),
+        Err(_) => Err(io::Error::from(io::ErrorKind::Other)),
+    }
 }
