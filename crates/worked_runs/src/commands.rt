@@ -52,8 +52,8 @@ pub(crate) fn run_line(
     Ok(format!(in alloc; "koo_toueg {command} {name}.scenario {options}")?)
 }
 
-// Adds the words of a command line, which stand behind single spaces.
-fn add_words(words: &mut Words, line: &str) -> Result<(), Memory> {
+/// Adds the words of a command line, which stand behind single spaces.
+pub(crate) fn add_words(words: &mut Words, line: &str) -> Result<(), Memory> {
     for word in line.split(' ') {
         words.push(word)?;
     }
@@ -77,12 +77,6 @@ pub(crate) fn carry_out_line<R: Host, O: Write>(rt: &R, line: &str, out: &mut O)
 pub(crate) fn show_command<R: Host>(rt: &R, line: &str) -> io::Result<()> {
     let status = carry_out_line(rt, line, &mut io::writer(rt))?;
     println!(rt; "status {status}")
-}
-
-/// Shows a command line, what it prints and the exit status.
-pub(crate) fn show_line<R: Host>(rt: &R, line: &str) -> io::Result<()> {
-    println!(rt; "$ {line}")?;
-    show_command(rt, line)
 }
 
 /// What is stored under this name with this ending.

@@ -2,58 +2,69 @@
 //! readers tell it, the checker's answer in both formats, whether what is written is what was read, its answer to
 //! certificates that are made after each row, and whether those made of its text are the stored ones. Then plays each
 //! scenario that a stored run is of, some in many drawn orders, and runs each in threads, and shows some as pictures. Then
-//! shows what the program writes of other texts and command lines, and the line of each fault. Last, runs the callers that
-//! `docs/CALLING.md` shows.
+//! shows what the program writes of other texts and command lines, and the line of each fault, and runs the callers that
+//! `docs/CALLING.md` shows. Then shows runs over objects of its own: that can't be saved or brought back, that a plan does
+//! not ask for, and that wait for one another; what is left of them, and what is written, by writers that fail too; worlds
+//! at their limits, and how many parcels instances put. Last, runs the program on command lines over stored files, and ends
+//! with the status of the last one.
 #![tactic(auto)]
 
 mod again;
 mod answers;
+mod cases;
 mod certified;
 mod commands;
 mod counter;
 mod facts;
 mod faults;
 mod judging;
+mod lines;
 mod lists;
 mod lives;
 mod long;
 mod made;
+mod outcomes;
+mod papers;
 mod pictures;
+mod plans;
 mod plays;
 mod readers;
 mod running;
 mod runs;
 mod seeds;
+mod staged;
 mod stepping;
 mod texts;
+mod worlds;
 
 use answers::{show_answers, show_beginnings};
 use commands::Host;
 use faults::show_faults;
 use judging::show_judged;
-use lists::{List, show_list};
+use lists::{Left, List, show_list};
 use long::show_long;
 use made::show_many;
 use running::show_runs;
 use std::io;
+use std::process::ExitCode;
 use stepping::show_stepped;
 
 // Shows the runs of each list, and runs at their limits.
-fn show_all_runs<R: Host>(rt: &R) -> io::Result<()> {
-    show_list(rt, &List::Stored, "runs.txt")?;
-    show_list(rt, &List::Plays, "plays.txt")?;
-    show_list(rt, &List::Seeds, "seeds.txt")?;
-    show_list(rt, &List::Lives, "lives.txt")?;
+fn show_all_runs<R: Host>(rt: &R, left: &mut Left) -> io::Result<()> {
+    show_list(rt, &List::Stored, "runs.txt", left)?;
+    show_list(rt, &List::Plays, "plays.txt", left)?;
+    show_list(rt, &List::Seeds, "seeds.txt", left)?;
+    show_list(rt, &List::Lives, "lives.txt", left)?;
     show_long(rt)?;
     show_many(rt)?;
-    show_list(rt, &List::Pictures, "pictures.txt")
+    show_list(rt, &List::Pictures, "pictures.txt", left)
 }
 
 // Shows what the program writes of other texts and command lines, and of faults.
-fn show_all_answers<R: Host>(rt: &R) -> io::Result<()> {
+fn show_all_answers<R: Host>(rt: &R, left: &mut Left) -> io::Result<()> {
     show_answers(rt, "answers.txt")?;
     show_beginnings(rt, "a-rollback-through-three")?;
-    show_list(rt, &List::Commands, "lines.txt")?;
+    show_list(rt, &List::Commands, "lines.txt", left)?;
     show_faults(rt)
 }
 
@@ -61,12 +72,29 @@ fn show_all_answers<R: Host>(rt: &R) -> io::Result<()> {
 fn show_callers<R: Host>(rt: &R) -> io::Result<()> {
     show_judged(rt, "log.csv", "cert.csv")?;
     show_judged(rt, "too_few.csv", "alone.csv")?;
-    show_stepped(rt, "scenario")?;
-    show_runs(rt, "phases")
+    show_stepped(rt, "stepped")?;
+    show_runs(rt, "counted")
 }
 
-fn main(rt: HostRuntime) -> io::Result<()> {
-    show_all_runs(&rt)?;
-    show_all_answers(&rt)?;
-    show_callers(&rt)
+// Shows runs over objects of its own, worlds, and command lines over stored files.
+fn show_all_cases<R: Host>(rt: &R, left: &mut Left) -> io::Result<()> {
+    show_list(rt, &List::Runs, "cases", left)?;
+    show_list(rt, &List::Given, "given", left)?;
+    show_list(rt, &List::Meetings, "meetings", left)?;
+    show_list(rt, &List::Failing, "failing", left)?;
+    show_list(rt, &List::Worlds, "worlds", left)?;
+    show_list(rt, &List::Commands, "made", left)?;
+    show_list(rt, &List::Commands, "lines", left)
+}
+
+fn main(rt: HostRuntime) -> io::Result<ExitCode> {
+    let mut left = Left {
+        text: String::new(rt.alloc()),
+        status: 0,
+    };
+    show_all_runs(&rt, &mut left)?;
+    show_all_answers(&rt, &mut left)?;
+    show_callers(&rt)?;
+    show_all_cases(&rt, &mut left)?;
+    Ok(ExitCode::from(left.status))
 }

@@ -1,9 +1,10 @@
 //! Runs over sums of which one has a trouble, and over objects that a plan does not ask for.
 
+use crate::commands::Host;
 use crate::outcomes::{show_holdings, show_outcome};
 use crate::papers::{Papers, Text};
+use crate::plans::{plan_in, steps_in, word};
 use crate::staged::{Meeting, Staged, Trouble};
-use crate::texts::{Host, plan_in, steps_in, word};
 use kt_base::Memory;
 use kt_held::Cast;
 use kt_object::{Last, Object, SlotBook, Sum};

@@ -1,24 +1,9 @@
-//! What the runs need, and what is read from files.
+//! Plans and steps that are read from files.
 
+use crate::commands::{Host, value_of};
 use kt_plan::{Plan, Step};
 use kt_scenario::{parse, parse_steps};
-use std::rt::Files;
-use std::sync::Wait;
-use std::thread::Threads;
 use std::{fs, io};
-
-/// What runs in threads need, and what shows them.
-pub(crate) trait Host: Files + Threads + Wait + Sync + Print + AllocGlobal {}
-
-impl<R: Files + Threads + Wait + Sync + Print + AllocGlobal> Host for R {}
-
-/// What was answered, or that it was a fault.
-pub(crate) fn value_of<T, E: Drop>(answer: Result<T, E>) -> io::Result<T> {
-    match answer {
-        Ok(value) => Ok(value),
-        Err(_) => Err(io::Error::from(io::ErrorKind::Other)),
-    }
-}
 
 /// The plan of the scenario in a file.
 pub(crate) fn plan_in<R: Host>(rt: &R, name: &str) -> io::Result<Plan> {

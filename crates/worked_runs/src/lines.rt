@@ -3,19 +3,10 @@
 //! It prints each command line, what the program prints for it to either stream, and its exit status. Other lines make
 //! files: `text 3 x` adds the line `x` three times to a text, and `file NAME` writes that text into a file; or tell whether
 //! two files have the same: `same NAME OTHER`.
+use crate::commands::{Host, add_words, are_same, value_of};
 use crate::lists::Left;
-use crate::texts::{Host, value_of};
-use kt_base::Memory;
 use kt_program::{Words, run_words};
 use std::{fs, io};
-
-// Adds the words of a command line, which stand behind single spaces.
-fn add_words(words: &mut Words, line: &str) -> Result<(), Memory> {
-    for word in line.split(' ') {
-        words.push(word)?;
-    }
-    Ok(())
-}
 
 // Runs the program on the words of a command line; its exit status is left.
 fn run_program<R: Host>(rt: &R, line: &str, words: &Words, left: &mut Left) -> io::Result<()> {
@@ -64,8 +55,11 @@ fn write_file<R: Host>(rt: &R, name: &str, left: &mut Left) -> io::Result<()> {
 // Prints whether two files have the same.
 fn compare_files<R: Host>(rt: &R, names: &str) -> io::Result<()> {
     let (one, other) = names.split_once(' ').unwrap_or((names, names));
-    let same = fs::read(rt, one)?.as_slice() == fs::read(rt, other)?.as_slice();
-    let word = if same { "the same" } else { "not the same" };
+    let word = if are_same(rt, one, other)? {
+        "the same"
+    } else {
+        "not the same"
+    };
     println!(rt; "{names}: {word}")
 }
 

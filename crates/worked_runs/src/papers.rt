@@ -1,6 +1,6 @@
 //! Writers that fail at one call.
 
-use crate::texts::Host;
+use crate::commands::Host;
 use std::alloc::Global;
 use std::io;
 use std::io::Write;

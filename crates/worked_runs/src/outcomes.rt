@@ -1,6 +1,6 @@
 //! What is left of a run, shown.
 
-use crate::texts::{Host, value_of};
+use crate::commands::{Host, value_of};
 use kt_held::Held;
 use kt_log_text::write_csv;
 use kt_object::SlotBook;

@@ -3,7 +3,8 @@
 //! A line says the file of the scenario, what is shown, what is limited with its number, and its title: `rows 3` for a log of
 //! three rows at most, `labels 3` for labels that come after 3, `none 0` for neither.
 
-use crate::texts::{Host, plan_in, value_of, word};
+use crate::commands::{Host, value_of};
+use crate::plans::{plan_in, word};
 use kt_base::{InstNo, Label, Memory, ProcNo, RowNo};
 use kt_core::{StepFault, World};
 use kt_log_text::write_csv;
