@@ -6,11 +6,11 @@ ghost use Rattle.kt_threads.specs.Turns.{HasStep, IsOver};
 
 use crate::errands::errand_for;
 use crate::faults::LiveFault;
-use crate::minutes::{MOST_IN_ONE_HOLD, Minutes};
+use crate::minutes::{Keep, MOST_IN_ONE_HOLD, Minutes, Notes};
 use crate::state::{Acted, State};
 use kt_base::{Memory, ProcNo};
 use kt_core::Ready;
-use kt_plan::{Give, Look, Step};
+use kt_plan::{Give, Look, Plan, Step};
 use std::alloc::Global;
 use std::sync::{Mutex, Wait};
 use std::thread::Parker;
@@ -44,11 +44,13 @@ pub(crate) struct Board {
 }
 
 impl Board {
-    /// A board with these minutes, for so many processes.
-    pub(crate) fn new(alloc: Global, minutes: Minutes, processes: usize) -> Result<Board, Memory> {
-        let news = news_of(alloc, processes)?;
+    /// A board of a plan, of which nothing is done, with what is to be kept of its steps.
+    pub(crate) fn new(alloc: Global, plan: &Plan, keep: Keep) -> Result<Board, Memory> {
+        let notes = Notes::of(alloc, plan.size(), keep)?;
+        let news = news_of(alloc, plan.size())?;
+        let state = State::new(alloc, plan.copy(alloc)?)?;
         Ok(Board {
-            minutes: Mutex::new(minutes),
+            minutes: Mutex::new(Minutes::new(state, notes)),
             news,
         })
     }

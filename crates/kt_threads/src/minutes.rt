@@ -31,6 +31,30 @@ pub(crate) enum Keep {
     Steps,
 }
 
+/// Lists for what is noted of steps.
+#[derive(Drop)]
+pub(crate) struct Notes {
+    errands: ErrandLists,
+    told: ToldLists,
+    steps: StepList,
+}
+
+impl Notes {
+    /// For so many processes, with what is to be kept of their steps, of which there was none.
+    #[tactic(auto, using(crate::proofs::Noting::listed_first))]
+    pub(crate) fn of(alloc: Global, processes: usize, keep: Keep) -> Result<Notes, Memory>
+        ensures { IfOk result (λ notes. AreNoted [] notes.errands notes.told notes.steps) }
+    {
+        let errands = ErrandLists::of(alloc, processes)?;
+        let told = ToldLists::of(alloc, if keep == Keep::Told { processes } else { 0 })?;
+        Ok(Notes {
+            errands,
+            told,
+            steps: StepList::of(alloc, keep == Keep::Steps),
+        })
+    }
+}
+
 /// A state; what each process's object was asked for; and what each process was told, or all steps, where somebody asks for
 /// them. Beside these, which processes' threads sleep, and which are at the lock, or were called and are on their way.
 #[derive(Drop)]
@@ -56,27 +80,25 @@ impl Model for Minutes {
 }
 
 impl Minutes {
-    /// Of a state to which no step led, for so many processes, with what is to be kept of its steps.
-    #[tactic(auto, using(crate::proofs::Noting::listed_first))]
-    pub(crate) fn new(
-        alloc: Global,
-        state: State,
-        processes: usize,
-        keep: Keep,
-    ) -> Result<Minutes, Memory>
-        requires { state.steps ≡ [] }
-        ensures { IfOk result (λ minutes. minutes ≡ state) }
+    /// Of a state to which no step led, with lists in which nothing is noted.
+    pub(crate) fn new(state: State, notes: Notes) -> Minutes
+        requires steps { state.steps ≡ [] }
+        requires noted { AreNoted [] notes.errands notes.told notes.steps }
+        ensures { result ≡ state }
     {
-        let errands = ErrandLists::of(alloc, processes)?;
-        let told = ToldLists::of(alloc, if keep == Keep::Told { processes } else { 0 })?;
-        Ok(Minutes {
+        let Notes {
+            errands,
+            told,
+            steps,
+        } = notes;
+        Minutes {
             state,
             errands,
             told,
-            steps: StepList::of(alloc, keep == Keep::Steps),
+            steps,
             asleep: ProcSet::empty(),
             coming: ProcSet::empty(),
-        })
+        }
     }
 
     /// The state.

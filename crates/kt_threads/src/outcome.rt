@@ -131,10 +131,34 @@ fn finish(
     ensures named { IfErr result (λ fault. (p : ℕ) → live_stopped_at fault ≡ Some p →
         slice_index_or (map (λ worker. worker.fault) workers.entry.now) p None ≡ Some fault) }
 {
-    ended(minutes.state(), plan, workers)?;
+    match ended(minutes.state(), plan, workers) {
+        Ok(()) => Ok(parts_of(minutes)),
+        Err(fault) => Err(fault),
+    }
+}
+
+/// The log of a run that ended at rest, its steps, and what was noted of them.
+fn parts_of(
+    minutes: Minutes,
+) -> (
+    SpaceTime,
+    Vec<Snapshot<Acted>>,
+    Vec<Vec<Errand>>,
+    Vec<Vec<Told>>,
+    Option<Vec<Step>>,
+)
+    requires going { minutes.fault ≡ None }
+    requires rest { IsWorldAtRest minutes.world }
+    ensures log { result.0 ≡ minutes.world.system.rows }
+    ensures run { IsWholeHistory minutes.world.agenda.plan (map (λ step. step.value) result.1.items) result.0.rows }
+    ensures noted { AreNoted (map (λ step. step.value) result.1.items)
+        (map (λ list. list.items) result.2.items) (map (λ list. list.items) result.3.items)
+        (option_map (λ list. list.items) result.4) }
+    ensures promised { IsPromised result.0.rows }
+{
     let (state, asked, told, listed) = minutes.into_parts();
     let (log, steps) = state.into_parts();
-    Ok((log, steps, asked, told, listed))
+    (log, steps, asked, told, listed)
 }
 
 /// The fault that is answered where this one was the first. Of the faults that name a process only one by which its thread
@@ -252,9 +276,7 @@ pub(crate) fn work_out<R: Threads + Wait + Sync>(
         (slice_index_or (objects_held objects.items) p [])) }
 {
     let workers = workers_of(alloc, objects)?;
-    let state = State::new(alloc, plan.copy(alloc)?)?;
-    let minutes = Minutes::new(alloc, state, plan.size(), keep)?;
-    let board = Board::new(alloc, minutes, plan.size())?;
+    let board = Board::new(alloc, plan, keep)?;
     let workers = work_all(rt, alloc, &board, workers)?;
     let (log, steps, asked, told, listed) = finish(board.into_minutes(), plan, &workers)?;
     let (lists, objects) = leave(alloc, workers)?;
