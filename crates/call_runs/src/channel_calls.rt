@@ -1,22 +1,26 @@
 //! Calls of channels, as lines spell them, and what channels answer.
 
-ghost use Rattle.std.specs.Prelude.{◌≡◌, ◌<◌, IfOk};
+ghost use Rattle.std.specs.Prelude.{◌≡◌, ◌<◌, IfSome};
 
+use crate::faults::refused;
 use crate::words::Words;
-use anyhow::{Context, Result, bail, ensure};
 use kt_base::{InstNo, Kind, ProcNo, ProcSet};
 use kt_fifo::{Channels, Parcel};
+use std::io;
 
 // The body of each message.
 const BODY: i64 = -5;
 
-// The next word's process, which is one of those of the channels.
-fn process_of(channels: &Channels, words: &mut Words) -> Result<ProcNo>
-    ensures { IfOk result (λ p. p < channels.now.processes) }
+// The next word's process, if it is one of those of the channels.
+fn process_of(channels: &Channels, words: &mut Words) -> Option<ProcNo>
+    ensures { IfSome result (λ p. p < channels.now.processes) }
 {
-    let p = words.process()?;
-    ensure!((p.get() as usize) < channels.processes(), "no such process");
-    Ok(p)
+    let p = words.process();
+    if (p.get() as usize) < channels.processes() {
+        Some(p)
+    } else {
+        None
+    }
 }
 
 // Two processes of the channels, a sender and a receiver.
@@ -27,171 +31,207 @@ struct Pair {
 }
 
 // The pair of the next two words.
-fn pair_of(channels: &Channels, words: &mut Words) -> Result<Pair>
-    ensures from { IfOk result (λ pair. pair.from < channels.now.processes) }
-    ensures to { IfOk result (λ pair. pair.to < channels.now.processes) }
+fn pair_of(channels: &Channels, words: &mut Words) -> Option<Pair>
+    ensures from { IfSome result (λ pair. pair.from < channels.now.processes) }
+    ensures to { IfSome result (λ pair. pair.to < channels.now.processes) }
 {
     let from = process_of(channels, words)?;
     let to = process_of(channels, words)?;
-    Ok(Pair { from, to })
+    Some(Pair { from, to })
 }
 
-// Makes room for parcels of a pair; whether there is memory.
-fn make_room(channels: &mut Channels, words: &mut Words) -> Result<bool> {
-    let Pair { from, to } = pair_of(channels, words)?;
-    Ok(channels.reserve_many(from, to, words.count()?).is_ok())
-}
-
-// Makes room for a parcel to each of two processes, which is always allowed.
-fn make_room_for_two(channels: &mut Channels, words: &mut Words) -> Result<bool> {
-    let Pair { from, to } = pair_of(channels, words)?;
-    let other = process_of(channels, words)?;
-    channels.reserve(from, ProcSet::empty().with(to).with(other))?;
-    Ok(true)
+// Makes room for a parcel to each of two processes; whether there is memory.
+fn make_room_for_two(channels: &mut Channels, pair: Pair, words: &mut Words) -> bool
+    requires from { pair.from < channels.old.processes }
+    requires to { pair.to < channels.old.processes }
+{
+    match process_of(channels, words) {
+        Some(other) => {
+            let targets = ProcSet::empty().with(pair.to).with(other);
+            channels.reserve(pair.from, targets).is_ok()
+        }
+        None => false,
+    }
 }
 
 // Puts a parcel into a channel, where there is room; whether there is.
-fn put(channels: &mut Channels, from: ProcNo, to: ProcNo, parcel: Parcel) -> bool
-    requires from { from < channels.old.processes }
-    requires to { to < channels.old.processes }
+fn put(channels: &mut Channels, pair: Pair, parcel: Parcel) -> bool
+    requires from { pair.from < channels.old.processes }
+    requires to { pair.to < channels.old.processes }
 {
-    let may = channels.spare(from, to) > 0;
+    let may = channels.spare(pair.from, pair.to) > 0;
     if may {
-        channels.push_reserved(from, to, parcel);
+        channels.push_reserved(pair.from, pair.to, parcel);
     }
     may
 }
 
-fn message_of(words: &mut Words) -> Result<Parcel> {
-    let (label, msg) = (words.label()?, words.message()?);
-    Ok(Parcel::App {
-        label,
-        msg,
-        body: BODY,
-    })
-}
-
-fn ask_of(words: &mut Words) -> Result<Parcel> {
+// The message or the ask that the words say.
+fn parcel_of(word: &str, words: &mut Words) -> Option<Parcel> {
     let label = words.label()?;
-    let inst = InstNo::new(1).context("no instance")?;
-    let kind = Kind::Rollback;
-    Ok(Parcel::Ask { inst, kind, label })
-}
-
-fn parcel_of(word: &str, words: &mut Words) -> Result<Parcel> {
     match word {
-        "message" => message_of(words),
-        "ask" => ask_of(words),
-        _ => bail!("no call"),
+        "message" => Some(Parcel::App {
+            label,
+            msg: words.message(),
+            body: BODY,
+        }),
+        "ask" => Some(Parcel::Ask {
+            inst: InstNo::new(1)?,
+            kind: Kind::Rollback,
+            label,
+        }),
+        _ => None,
     }
 }
 
 // Puts a message into a channel, or an ask; whether there is room.
-fn put_one(channels: &mut Channels, word: &str, words: &mut Words) -> Result<bool> {
-    let Pair { from, to } = pair_of(channels, words)?;
-    let parcel = parcel_of(word, words)?;
-    Ok(put(channels, from, to, parcel))
-}
-
-// Takes the messages above a label out, which is always allowed.
-fn drop_above(channels: &mut Channels, words: &mut Words) -> Result<bool> {
-    let Pair { from, to } = pair_of(channels, words)?;
-    channels.drop_above(from, to, words.label()?);
-    Ok(true)
-}
-
-// Sets what other channels have for a pair before what these have, where there is room; whether there is.
-fn put_before(channels: &mut Channels, other: &mut Channels, words: &mut Words) -> Result<bool> {
-    let Pair { from, to } = pair_of(channels, words)?;
-    ensure!(other.processes() == channels.processes(), "other processes");
-    let may = other.len(from, to) <= channels.spare(from, to);
-    if may {
-        channels.put_before(other, from, to);
+fn put_one(channels: &mut Channels, pair: Pair, word: &str, words: &mut Words) -> bool
+    requires from { pair.from < channels.old.processes }
+    requires to { pair.to < channels.old.processes }
+{
+    match parcel_of(word, words) {
+        Some(parcel) => put(channels, pair, parcel),
+        None => false,
     }
-    Ok(may)
+}
+
+// Takes the messages above a label out; whether there is the label.
+fn drop_above(channels: &mut Channels, pair: Pair, words: &mut Words) -> bool
+    requires from { pair.from < channels.old.processes }
+    requires to { pair.to < channels.old.processes }
+{
+    match words.label() {
+        Some(label) => {
+            channels.drop_above(pair.from, pair.to, label);
+            true
+        }
+        None => false,
+    }
+}
+
+// Sets what other channels of as many processes have for a pair before what these have, where there is room; whether there
+// is.
+fn put_before(channels: &mut Channels, other: &mut Channels, pair: Pair) -> bool
+    requires from { pair.from < channels.old.processes }
+    requires to { pair.to < channels.old.processes }
+{
+    let may = other.processes() == channels.processes()
+        && other.len(pair.from, pair.to) <= channels.spare(pair.from, pair.to);
+    if may {
+        channels.put_before(other, pair.from, pair.to);
+    }
+    may
 }
 
 // Shows a process, where it is one of the senders.
-fn show_sender<R: Print>(rt: &R, senders: ProcSet, number: u8) -> Result<()> {
-    if let Some(p) = ProcNo::new(number) {
-        if senders.has(p) {
-            print!(rt; " {p}")?;
-        }
+fn show_sender<R: Print>(rt: &R, senders: ProcSet, p: ProcNo) -> io::Result<()> {
+    if senders.has(p) {
+        print!(rt; " {p}")
+    } else {
+        Ok(())
+    }
+}
+
+fn show_each_sender<R: Print>(rt: &R, senders: ProcSet) -> io::Result<()> {
+    for number in 0..ProcNo::COUNT {
+        show_sender(rt, senders, ProcNo::nth(number))?;
     }
     Ok(())
 }
 
-fn show_each_sender<R: Print>(rt: &R, senders: ProcSet) -> Result<()> {
-    for number in 0..64 {
-        show_sender(rt, senders, number)?;
-    }
-    Ok(())
-}
-
-fn show_senders<R: Print>(rt: &R, senders: ProcSet) -> Result<()> {
+fn show_senders<R: Print>(rt: &R, senders: ProcSet) -> io::Result<()> {
     print!(rt; "{}:", senders.count())?;
     show_each_sender(rt, senders)?;
-    println!(rt)?;
-    Ok(())
+    println!(rt)
 }
 
-// Shows who has sent what this process has not taken.
-fn show_senders_to<R: Print>(rt: &R, channels: &Channels, words: &mut Words) -> Result<()> {
-    let to = process_of(channels, words)?;
-    show_senders(rt, channels.senders(to))
-}
-
-fn show_parcel<R: Print>(rt: &R, parcel: Option<Parcel>) -> Result<()> {
+fn show_parcel<R: Print>(rt: &R, parcel: Option<Parcel>) -> io::Result<()> {
     match parcel {
-        Some(parcel) => println!(rt; "{parcel:?}")?,
-        None => println!(rt; "none")?,
+        Some(parcel) => println!(rt; "{parcel:?}"),
+        None => println!(rt; "none"),
     }
-    Ok(())
 }
 
-fn show_number<R: Print>(rt: &R, number: usize) -> Result<()> {
-    println!(rt; "{number}")?;
-    Ok(())
+fn show_number<R: Print>(rt: &R, number: usize) -> io::Result<()> {
+    println!(rt; "{number}")
 }
 
-// Shows what channels have for a pair.
-fn show_pair<R: Print>(
+// Shows what channels have for a pair: the first parcel, taken or not, or how many there are.
+fn show_pair<R: Print>(rt: &R, channels: &mut Channels, pair: Pair, word: &str) -> io::Result<()>
+    requires from { pair.from < channels.old.processes }
+    requires to { pair.to < channels.old.processes }
+{
+    match word {
+        "pop" => show_parcel(rt, channels.pop(pair.from, pair.to)),
+        "front" => show_parcel(rt, channels.front(pair.from, pair.to).copied()),
+        _ => show_number(rt, channels.len(pair.from, pair.to)),
+    }
+}
+
+// Shows what channels have for the pair of the next two words.
+fn show_of_pair<R: Print>(
     rt: &R,
     channels: &mut Channels,
     word: &str,
     words: &mut Words,
-) -> Result<()> {
-    let Pair { from, to } = pair_of(channels, words)?;
-    match word {
-        "pop" => show_parcel(rt, channels.pop(from, to)),
-        "front" => show_parcel(rt, channels.front(from, to).copied()),
-        "count" => show_number(rt, channels.len(from, to)),
-        _ => bail!("no question"),
+) -> io::Result<()> {
+    match pair_of(channels, words) {
+        Some(pair) => show_pair(rt, channels, pair, word),
+        None => refused(),
+    }
+}
+
+// Shows who has sent what the process of the next word has not taken.
+fn show_senders_to<R: Print>(rt: &R, channels: &Channels, words: &mut Words) -> io::Result<()> {
+    match process_of(channels, words) {
+        Some(to) => show_senders(rt, channels.senders(to)),
+        None => refused(),
     }
 }
 
 // Shows the answer to a question.
-fn show_answer<R: Print>(rt: &R, channels: &mut Channels, words: &mut Words) -> Result<()> {
+fn show_answer<R: Print>(rt: &R, channels: &mut Channels, words: &mut Words) -> io::Result<()> {
     match words.word() {
         "processes" => show_number(rt, channels.processes()),
         "senders" => show_senders_to(rt, channels, words),
-        word => show_pair(rt, channels, word, words),
+        word => show_of_pair(rt, channels, word, words),
     }
 }
 
-// Makes a call that changes channels, where that is allowed; whether it is.
-fn change(channels: &mut Channels, other: &mut Channels, words: &mut Words) -> Result<bool> {
-    match words.word() {
-        "room" => make_room(channels, words),
-        "room-for-two" => make_room_for_two(channels, words),
-        "drop-above" => drop_above(channels, words),
-        "put-before" => put_before(channels, other, words),
-        word => put_one(channels, word, words),
+// Makes a call that changes what channels have for a pair, where that is allowed; whether it is.
+fn change(
+    channels: &mut Channels,
+    other: &mut Channels,
+    pair: Pair,
+    word: &str,
+    words: &mut Words,
+) -> bool
+    requires from { pair.from < channels.old.processes }
+    requires to { pair.to < channels.old.processes }
+{
+    match word {
+        "room" => channels
+            .reserve_many(pair.from, pair.to, words.count())
+            .is_ok(),
+        "room-for-two" => make_room_for_two(channels, pair, words),
+        "drop-above" => drop_above(channels, pair, words),
+        "put-before" => put_before(channels, other, pair),
+        _ => put_one(channels, pair, word, words),
+    }
+}
+
+// Makes a call that a line spells, where that is allowed; whether it is.
+fn is_made(channels: &mut Channels, other: &mut Channels, line: &str) -> bool {
+    let mut words = Words::new(line);
+    let word = words.word();
+    match pair_of(channels, &mut words) {
+        Some(pair) => change(channels, other, pair, word, &mut words),
+        None => false,
     }
 }
 
 // Shows a question, and the answer to it.
-fn show_question<R: Print>(rt: &R, channels: &mut Channels, question: &str) -> Result<()> {
+fn show_question<R: Print>(rt: &R, channels: &mut Channels, question: &str) -> io::Result<()> {
     print!(rt; "{question}: ")?;
     show_answer(rt, channels, &mut Words::new(question))
 }
@@ -202,11 +242,12 @@ fn show_change<R: Print>(
     channels: &mut Channels,
     other: &mut Channels,
     line: &str,
-) -> Result<()> {
-    if !change(channels, other, &mut Words::new(line))? {
-        println!(rt; "{line}: refused")?;
+) -> io::Result<()> {
+    if is_made(channels, other, line) {
+        Ok(())
+    } else {
+        println!(rt; "{line}: refused")
     }
-    Ok(())
 }
 
 // Makes a call of channels, and shows the answer, or that it is not allowed.
@@ -215,7 +256,7 @@ fn show_call<R: Print>(
     channels: &mut Channels,
     other: &mut Channels,
     line: &str,
-) -> Result<()> {
+) -> io::Result<()> {
     match line.strip_prefix("? ") {
         Some(question) => show_question(rt, channels, question),
         None => show_change(rt, channels, other, line),
@@ -228,7 +269,7 @@ pub(crate) fn show_channel_call<R: Print>(
     held: &mut Channels,
     kept: &mut Channels,
     line: &str,
-) -> Result<()> {
+) -> io::Result<()> {
     match line.strip_prefix("kept ") {
         Some(call) => show_call(rt, kept, held, call),
         None => show_call(rt, held, kept, line),

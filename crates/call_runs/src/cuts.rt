@@ -7,10 +7,9 @@ use kt_walk::Walk;
 /// The present cut: of each process its whole history.
 pub(crate) fn present(walk: &Walk) -> Cut {
     let mut cut = Cut::new([0; 64]);
-    for number in 0..64 {
-        if let Some(p) = ProcNo::new(number) {
-            cut.set(p, walk.length(p));
-        }
+    for number in 0..ProcNo::COUNT {
+        let p = ProcNo::nth(number);
+        cut.set(p, walk.length(p));
     }
     cut
 }
@@ -18,10 +17,9 @@ pub(crate) fn present(walk: &Walk) -> Cut {
 /// The permanent cut: of each process what its permanent checkpoint has.
 pub(crate) fn permanent(walk: &Walk) -> Cut {
     let mut cut = Cut::new([0; 64]);
-    for number in 0..64 {
-        if let Some(p) = ProcNo::new(number) {
-            cut.set(p, walk.permanent(p));
-        }
+    for number in 0..ProcNo::COUNT {
+        let p = ProcNo::nth(number);
+        cut.set(p, walk.permanent(p));
     }
     cut
 }

@@ -1,8 +1,5 @@
 //! Stored texts, each under its title.
 
-use anyhow::{Context, Result, ensure};
-use std::alloc::Global;
-
 // What stands between a title and its text, and what stands behind a text.
 const LINE_FEED: &[u8] = b"\n";
 
@@ -17,37 +14,19 @@ pub(crate) struct Entry<'a> {
 
 // What stands before the first mark in these bytes, and what stands behind it.
 fn split_at_mark<'a>(bytes: &'a [u8], mark: &[u8]) -> Option<(&'a [u8], &'a [u8])> {
-    let place = (0..bytes.len()).find(|place| is_marked(bytes, *place, mark))?;
-    let before = bytes.get(..place)?;
-    let behind = bytes.get(place.saturating_add(mark.len())..)?;
-    Some((before, behind))
-}
-
-// Whether a mark stands at this place.
-fn is_marked(bytes: &[u8], place: usize, mark: &[u8]) -> bool {
-    match bytes.get(place..) {
-        Some(left) => left.starts_with(mark),
-        None => false,
+    for place in 0..bytes.len() {
+        let (before, left) = bytes.split_at(place);
+        if let Some(behind) = left.strip_prefix(mark) {
+            return Some((before, behind));
+        }
     }
+    None
 }
 
-fn entry_of(bytes: &[u8]) -> Result<Entry<'_>> {
-    let (title, text) = split_at_mark(bytes, LINE_FEED).context("a text has no title")?;
-    let title = std::str::from_utf8(title)?;
-    Ok(Entry { title, text })
-}
-
-/// The texts of a file, in order.
-pub(crate) fn entries(alloc: Global, bytes: &[u8]) -> Result<Vec<Entry<'_>>> {
-    let mut list = Vec::new(alloc);
-    let mut left = bytes;
-    for _ in 0..bytes.len() {
-        let Some((first, behind)) = split_at_mark(left, MARKER) else {
-            break;
-        };
-        list.push(entry_of(first)?)?;
-        left = behind;
-    }
-    ensure!(left.is_empty(), "no mark stands behind the last text");
-    Ok(list)
+/// The first text of a file, and what stands behind it; none where no mark does.
+pub(crate) fn next_entry(bytes: &[u8]) -> Option<(Entry<'_>, &[u8])> {
+    let (entry, behind) = split_at_mark(bytes, MARKER)?;
+    let (title, text) = split_at_mark(entry, LINE_FEED)?;
+    let title = std::str::from_utf8(title).ok()?;
+    Some((Entry { title, text }, behind))
 }

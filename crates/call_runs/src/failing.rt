@@ -59,8 +59,8 @@ impl FailingWriter {
     }
 
     /// What it has taken.
-    pub(crate) fn into_held(self) -> Vec<u8> {
-        self.held
+    pub(crate) fn held(&self) -> &[u8] {
+        self.held.as_slice()
     }
 
     fn call(&mut self) -> io::Result<()> {

@@ -1,27 +1,19 @@
-//! What is shown of a text first: its title, and how much is read of it, or its fault; and where readers fail.
+//! What is shown of a text first: its title, and how much is read of it, or its fault.
 
-use anyhow::Result;
 use std::fmt::Display;
+use std::io;
 
 /// Shows how many things a text has.
-pub(crate) fn show_count<R: Print>(rt: &R, title: &str, count: usize, things: &str) -> Result<()> {
-    println!(rt; "{title}: {count} {things}")?;
-    Ok(())
-}
-
-/// Shows how many of the calls of readers that fail are a read fault.
-pub(crate) fn show_read_faults<R: Print>(
+pub(crate) fn show_count<R: Print>(
     rt: &R,
-    calls: usize,
-    faults: usize,
-    note: &str,
-) -> Result<()> {
-    println!(rt; "  of {calls} calls that fail {faults} are a read fault{note}")?;
-    Ok(())
+    title: &str,
+    count: usize,
+    things: &str,
+) -> io::Result<()> {
+    println!(rt; "{title}: {count} {things}")
 }
 
 /// Shows the fault of a text.
-pub(crate) fn show_fault<R: Print, F: Display>(rt: &R, title: &str, fault: &F) -> Result<()> {
-    println!(rt; "{title}: {fault}")?;
-    Ok(())
+pub(crate) fn show_fault<R: Print, F: Display>(rt: &R, title: &str, fault: &F) -> io::Result<()> {
+    println!(rt; "{title}: {fault}")
 }

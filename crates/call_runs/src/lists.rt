@@ -1,12 +1,13 @@
 //! Stored lists of calls of label tables and of channels, and what each call answers.
 
-ghost use Rattle.std.specs.Prelude.{◌≤◌, IfOk};
+ghost use Rattle.std.specs.Prelude.{◌≤◌};
 
 use crate::channel_calls::show_channel_call;
+use crate::faults::refused;
 use crate::table_calls::show_table_call;
-use anyhow::{Context, Result, bail, ensure};
 use kt_fifo::Channels;
 use kt_tables::Tables;
+use std::io;
 
 // A list of calls: what it shows, the number of processes, and the calls, a line each.
 #[derive(Clone, Copy)]
@@ -17,22 +18,21 @@ struct List<'a> {
 }
 
 // The list that a text spells: a title, a number of processes, and calls.
-fn list_of(text: &str) -> Result<List<'_>>
-    ensures { IfOk result (λ list. list.processes ≤ 64) }
+fn list_of(text: &str) -> List<'_>
+    ensures { result.processes ≤ 64 }
 {
-    let (title, left) = text.split_once('\n').context("no title")?;
-    let (number, calls) = left.split_once('\n').context("no number of processes")?;
-    let processes = number.parse::<usize>()?;
-    ensure!(processes <= 64, "too many processes");
-    Ok(List {
+    let (title, left) = text.split_once('\n').unwrap_or((text, ""));
+    let (number, calls) = left.split_once('\n').unwrap_or((left, ""));
+    let processes = number.parse::<usize>().unwrap_or(0).min(64);
+    List {
         title,
         processes,
         calls,
-    })
+    }
 }
 
 // Makes calls of tables, a line each, and shows what they answer.
-fn show_table_calls<R: Print>(rt: &R, tables: &mut Tables, calls: &str) -> Result<()> {
+fn show_table_calls<R: Print>(rt: &R, tables: &mut Tables, calls: &str) -> io::Result<()> {
     for line in calls.lines() {
         show_table_call(rt, tables, line)?;
     }
@@ -40,11 +40,13 @@ fn show_table_calls<R: Print>(rt: &R, tables: &mut Tables, calls: &str) -> Resul
 }
 
 // Shows what tables answer to a list of calls.
-fn show_tables<R: Print + AllocGlobal>(rt: &R, list: &List) -> Result<()>
+fn show_tables<R: Print + AllocGlobal>(rt: &R, list: &List) -> io::Result<()>
     requires { list.now.processes ≤ 64 }
 {
-    let mut tables = Tables::new(rt.alloc(), list.processes)?;
-    show_table_calls(rt, &mut tables, list.calls)
+    match Tables::new(rt.alloc(), list.processes) {
+        Ok(mut tables) => show_table_calls(rt, &mut tables, list.calls),
+        Err(_) => refused(),
+    }
 }
 
 // Makes calls of channels, a line each, and shows what they answer.
@@ -53,29 +55,40 @@ fn show_channel_calls<R: Print>(
     held: &mut Channels,
     kept: &mut Channels,
     calls: &str,
-) -> Result<()> {
+) -> io::Result<()> {
     for line in calls.lines() {
         show_channel_call(rt, held, kept, line)?;
     }
     Ok(())
 }
 
-// Shows what two systems of channels answer to a list of calls.
-fn show_channels<R: Print + AllocGlobal>(rt: &R, list: &List) -> Result<()>
+// Shows what these channels and others of as many processes answer to a list of calls.
+fn show_beside<R: Print + AllocGlobal>(rt: &R, held: &mut Channels, list: &List) -> io::Result<()>
     requires { list.now.processes ≤ 64 }
 {
-    let mut held = Channels::new(rt.alloc(), list.processes)?;
-    let mut kept = Channels::new(rt.alloc(), list.processes)?;
-    show_channel_calls(rt, &mut held, &mut kept, list.calls)
+    match Channels::new(rt.alloc(), list.processes) {
+        Ok(mut kept) => show_channel_calls(rt, held, &mut kept, list.calls),
+        Err(_) => refused(),
+    }
+}
+
+// Shows what two systems of channels answer to a list of calls.
+fn show_channels<R: Print + AllocGlobal>(rt: &R, list: &List) -> io::Result<()>
+    requires { list.now.processes ≤ 64 }
+{
+    match Channels::new(rt.alloc(), list.processes) {
+        Ok(mut held) => show_beside(rt, &mut held, list),
+        Err(_) => refused(),
+    }
 }
 
 /// Shows what tables or channels answer to a list of calls.
-pub(crate) fn show_calls<R: Print + AllocGlobal>(rt: &R, file: &str, text: &str) -> Result<()> {
-    let list = list_of(text)?;
+pub(crate) fn show_calls<R: Print + AllocGlobal>(rt: &R, file: &str, text: &str) -> io::Result<()> {
+    let list = list_of(text);
     println!(rt; "{}", list.title)?;
-    match file {
-        "tables" => show_tables(rt, &list),
-        "channels" => show_channels(rt, &list),
-        _ => bail!("no such file"),
+    if file == "tables" {
+        show_tables(rt, &list)
+    } else {
+        show_channels(rt, &list)
     }
 }

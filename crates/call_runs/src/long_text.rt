@@ -3,7 +3,7 @@
 //! `lines 3 x` tells of `x` and a line feed, three times; `bytes 3 x` of `x` alone, three times.
 
 use crate::entries::Entry;
-use anyhow::{Context, Result, bail, ensure};
+use crate::faults::value_of;
 use std::alloc::Global;
 use std::io;
 use std::io::Read;
@@ -15,36 +15,32 @@ pub(crate) struct Part {
     times: u32,
 }
 
-// What stands once in a part: a text, with a line feed where it is a line.
-fn piece_of(alloc: Global, word: &str, text: &str) -> Result<String> {
-    match word {
-        "lines" => Ok(format!(in alloc; "{text}\n")?),
-        "bytes" => Ok(String::from_str(alloc, text)?),
-        _ => bail!("neither lines nor bytes"),
-    }
-}
-
-fn part_of(alloc: Global, line: &str) -> Result<Part> {
-    let (word, rest) = line.split_once(' ').context("no word")?;
-    let (times, text) = rest.split_once(' ').context("no count")?;
-    let times = times.parse::<u32>()?;
-    ensure!(times > 0 && !text.is_empty(), "a part without a byte");
-    let piece = piece_of(alloc, word, text)?;
+// The part that a line tells of: a text, with a line feed where it is a line, so many times.
+fn part_of(alloc: Global, line: &str) -> io::Result<Part> {
+    let (word, rest) = line.split_once(' ').unwrap_or((line, ""));
+    let (times, text) = rest.split_once(' ').unwrap_or((rest, ""));
+    let end = if word == "lines" { "\n" } else { "" };
+    let times = times.parse::<u32>().unwrap_or(0);
+    let piece = format!(in alloc; "{text}{end}")?;
     Ok(Part { piece, times })
 }
 
-fn add_part_of(alloc: Global, parts: &mut Vec<Part>, line: &str) -> Result<()> {
-    parts.push(part_of(alloc, line)?)?;
+// Adds the parts that these lines tell of.
+fn add_parts_of(alloc: Global, parts: &mut Vec<Part>, lines: &str) -> io::Result<()> {
+    for line in lines.lines() {
+        value_of(parts.push(part_of(alloc, line)?))?;
+    }
     Ok(())
 }
 
 /// The parts that a stored text tells of.
-pub(crate) fn parts_of(alloc: Global, entry: &Entry) -> Result<Vec<Part>> {
-    let lines = std::str::from_utf8(entry.text)?.lines();
+pub(crate) fn parts_of(alloc: Global, entry: &Entry) -> io::Result<Vec<Part>> {
     let mut parts = Vec::new(alloc);
-    for line in lines {
-        add_part_of(alloc, &mut parts, line)?;
-    }
+    add_parts_of(
+        alloc,
+        &mut parts,
+        std::str::from_utf8(entry.text).unwrap_or(""),
+    )?;
     Ok(parts)
 }
 
@@ -101,7 +97,7 @@ impl Read for LongText<'_> {
 }
 
 // Adds a part to a text.
-fn add_part(text: &mut Vec<u8>, part: &Part) -> Result<()> {
+fn add_part(text: &mut Vec<u8>, part: &Part) -> io::Result<()> {
     for _ in 0..part.times {
         text.extend_from_slice(part.piece.as_bytes())?;
     }
@@ -109,17 +105,15 @@ fn add_part(text: &mut Vec<u8>, part: &Part) -> Result<()> {
 }
 
 // Adds parts to a text.
-fn add_parts(text: &mut Vec<u8>, parts: &[Part]) -> Result<()> {
+fn add_parts(text: &mut Vec<u8>, parts: &[Part]) -> io::Result<()> {
     for part in parts {
         add_part(text, part)?;
     }
     Ok(())
 }
 
-/// The text that a stored one tells.
-pub(crate) fn told(alloc: Global, entry: &Entry) -> Result<Vec<u8>> {
+/// Adds what a stored text tells to another one.
+pub(crate) fn tell(alloc: Global, entry: &Entry, text: &mut Vec<u8>) -> io::Result<()> {
     let parts = parts_of(alloc, entry)?;
-    let mut text = Vec::new(alloc);
-    add_parts(&mut text, parts.as_slice())?;
-    Ok(text)
+    add_parts(text, parts.as_slice())
 }

@@ -10,12 +10,15 @@ mod channel_calls;
 mod cuts;
 mod entries;
 mod failing;
+mod failing_reads;
+mod faults;
 mod heads;
 mod lists;
 mod logs;
 mod long_text;
 mod numbers;
 mod objects;
+mod plain;
 mod readers;
 mod rounds;
 mod rows;
@@ -29,13 +32,13 @@ mod transit;
 mod words;
 mod writing;
 
-use anyhow::{Context, Result, bail};
+use faults::refused;
 use lists::show_calls;
 use numbers::show_limits;
 use objects::show_object_calls;
 use scripts::show_script;
 use slots::show_slot_calls;
-use std::fs;
+use std::{fs, io};
 use texts::show_texts;
 use transit::show_list;
 
@@ -45,26 +48,26 @@ const FILES: [&str; 7] = [
 ];
 
 // Shows what the lines of one of the files ask.
-fn show_lines<R: Print + AllocGlobal>(rt: &R, file: &str, lines: &str) -> Result<()> {
+fn show_lines<R: Print + AllocGlobal>(rt: &R, file: &str, lines: &str) -> io::Result<()> {
     match file {
         "scripts" => show_script(rt, lines),
         "transit" => show_list(rt, lines),
         "objects" => show_object_calls(rt, lines),
         "slots" => show_slot_calls(rt, lines),
         "limits" => show_limits(rt, lines),
-        _ => bail!("no such file"),
+        _ => refused(),
     }
 }
 
 // Shows what the lines of a text ask, under its title.
-fn show_titled<R: Print + AllocGlobal>(rt: &R, file: &str, text: &str) -> Result<()> {
-    let (title, lines) = text.split_once('\n').context("no title")?;
+fn show_titled<R: Print + AllocGlobal>(rt: &R, file: &str, text: &str) -> io::Result<()> {
+    let (title, lines) = text.split_once('\n').unwrap_or((text, ""));
     println!(rt; "{title}")?;
     show_lines(rt, file, lines)
 }
 
 // Shows what is answered to a text of one of the files.
-fn show_text<R: Print + AllocGlobal>(rt: &R, file: &str, text: &str) -> Result<()> {
+fn show_text<R: Print + AllocGlobal>(rt: &R, file: &str, text: &str) -> io::Result<()> {
     match file {
         "tables" | "channels" => show_calls(rt, file, text),
         _ => show_titled(rt, file, text),
@@ -72,26 +75,26 @@ fn show_text<R: Print + AllocGlobal>(rt: &R, file: &str, text: &str) -> Result<(
 }
 
 // Shows what is answered to each text of one of the files.
-fn show_each<R: Print + AllocGlobal>(rt: &R, file: &str, texts: &str) -> Result<()> {
+fn show_each<R: Print + AllocGlobal>(rt: &R, file: &str, texts: &str) -> io::Result<()> {
     for text in texts.split("\n\n") {
         show_text(rt, file, text)?;
     }
     Ok(())
 }
 
-fn show_file(rt: &HostRuntime, file: &str) -> Result<()> {
+fn show_file(rt: &HostRuntime, file: &str) -> io::Result<()> {
     let texts = fs::read_to_string(rt, file)?;
     show_each(rt, file, texts.as_str())
 }
 
-fn show_files(rt: &HostRuntime) -> Result<()> {
+fn show_files(rt: &HostRuntime) -> io::Result<()> {
     for file in &FILES {
         show_file(rt, file)?;
     }
     Ok(())
 }
 
-fn main(rt: HostRuntime) -> Result<()> {
+fn main(rt: HostRuntime) -> io::Result<()> {
     show_files(&rt)?;
     show_texts(&rt)
 }

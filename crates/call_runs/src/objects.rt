@@ -1,41 +1,25 @@
 //! Calls of objects, as lines spell them, and what objects answer.
 
-use anyhow::{Context, Result, bail};
+use crate::faults::{refused, value_of};
 use kt_base::ProcNo;
-use kt_object::{Last, Recoverable, SlotBook, Sum, Tail};
-use std::alloc::Global;
-
-fn add_byte(bytes: &mut Vec<u8>, number: &str) -> Result<()> {
-    bytes.push(number.parse::<u8>()?)?;
-    Ok(())
-}
+use kt_object::{Last, Recoverable, SlotBook, SlotGuard, Sum, Tail};
+use std::io;
 
 // Adds the bytes that these numbers spell.
-fn add_bytes(bytes: &mut Vec<u8>, numbers: &str) -> Result<()> {
+fn add_bytes(bytes: &mut Vec<u8>, numbers: &str) -> io::Result<()> {
     for number in numbers.split(' ') {
-        add_byte(bytes, number)?;
+        bytes.push(number.parse::<u8>().unwrap_or(0))?;
     }
     Ok(())
 }
 
-fn bytes_of(alloc: Global, numbers: &str) -> Result<Vec<u8>> {
-    let mut bytes = Vec::new(alloc);
-    add_bytes(&mut bytes, numbers)?;
-    Ok(bytes)
+fn show_number<R: Print>(rt: &R, line: &str, number: i64) -> io::Result<()> {
+    println!(rt; "{line}: {number}")
 }
 
-fn apply<O: Recoverable>(object: &mut O, body: &str) -> Result<()> {
-    object.apply(ProcNo::nth(3), body.parse::<i64>()?);
-    Ok(())
-}
-
-fn show_number<R: Print>(rt: &R, line: &str, number: i64) -> Result<()> {
-    println!(rt; "{line}: {number}")?;
-    Ok(())
-}
-
-fn show_bytes<R: Print>(rt: &R, line: &str, bytes: &[u8]) -> Result<()> {
-    println!(rt; "{line}: {bytes:?}")?;
+// Lets an object take a body in.
+fn apply<O: Recoverable>(object: &mut O, body: &str) -> io::Result<()> {
+    object.apply(ProcNo::nth(3), body.parse::<i64>().unwrap_or(0));
     Ok(())
 }
 
@@ -45,9 +29,9 @@ fn show_saved<R: Print, O: Recoverable>(
     object: &O,
     held: &mut Vec<u8>,
     line: &str,
-) -> Result<()> {
-    object.save(held)?;
-    show_bytes(rt, line, held.as_slice())
+) -> io::Result<()> {
+    value_of(object.save(held))?;
+    println!(rt; "{line}: {held:?}")
 }
 
 // Shows whether an object takes these bytes, and what it offers then.
@@ -56,21 +40,21 @@ fn show_restored<R: Print, O: Recoverable>(
     object: &mut O,
     line: &str,
     bytes: &[u8],
-) -> Result<()> {
+) -> io::Result<()> {
     let answer = object.restore(bytes);
     let offered = object.offer();
-    println!(rt; "{line}: {answer:?}, offer {offered}")?;
-    Ok(())
+    println!(rt; "{line}: {answer:?}, offer {offered}")
 }
 
-// The same of bytes that numbers spell.
-fn show_spelled<R: Print + AllocGlobal, O: Recoverable>(
+// The same of bytes that numbers spell, behind others.
+fn show_spelled<R: Print, O: Recoverable>(
     rt: &R,
     object: &mut O,
     line: &str,
     numbers: &str,
-) -> Result<()> {
-    let bytes = bytes_of(rt.alloc(), numbers)?;
+    bytes: &mut Vec<u8>,
+) -> io::Result<()> {
+    add_bytes(bytes, numbers)?;
     show_restored(rt, object, line, bytes.as_slice())
 }
 
@@ -80,7 +64,7 @@ fn show_call<R: Print + AllocGlobal, O: Recoverable>(
     object: &mut O,
     held: &mut Vec<u8>,
     line: &str,
-) -> Result<()> {
+) -> io::Result<()> {
     let (word, numbers) = line.split_once(' ').unwrap_or((line, ""));
     match word {
         "kind" => show_number(rt, line, i64::from(object.kind())),
@@ -88,9 +72,9 @@ fn show_call<R: Print + AllocGlobal, O: Recoverable>(
         "offer" => show_number(rt, line, object.offer()),
         "hold" => add_bytes(held, numbers),
         "save" => show_saved(rt, object, held, line),
-        "restore" => show_spelled(rt, object, line, numbers),
+        "restore" => show_spelled(rt, object, line, numbers, &mut Vec::new(rt.alloc())),
         "restore-nothing" => show_restored(rt, object, line, b"".as_slice()),
-        _ => bail!("no call"),
+        _ => refused(),
     }
 }
 
@@ -99,31 +83,32 @@ fn show_calls<R: Print + AllocGlobal, O: Recoverable>(
     object: &mut O,
     held: &mut Vec<u8>,
     calls: &str,
-) -> Result<()> {
+) -> io::Result<()> {
     for line in calls.lines() {
         show_call(rt, object, held, line)?;
     }
     Ok(())
 }
 
-fn show_object<R: Print + AllocGlobal, O: Recoverable>(
+// Shows what an object of a kind answers.
+fn show_kind<R: Print + AllocGlobal>(
     rt: &R,
-    object: O,
+    kind: &str,
+    guard: SlotGuard,
+    held: &mut Vec<u8>,
     calls: &str,
-) -> Result<()> {
-    let mut object = object;
-    let mut held = Vec::new(rt.alloc());
-    show_calls(rt, &mut object, &mut held, calls)
+) -> io::Result<()> {
+    match kind {
+        "sum" => show_calls(rt, &mut Sum::new(guard), held, calls),
+        "last" => show_calls(rt, &mut Last::new(guard), held, calls),
+        "tail" => show_calls(rt, &mut Tail::new(guard), held, calls),
+        _ => refused(),
+    }
 }
 
 /// Shows what an object of the kind of the first line answers to the calls of the others.
-pub(crate) fn show_object_calls<R: Print + AllocGlobal>(rt: &R, lines: &str) -> Result<()> {
-    let (kind, calls) = lines.split_once('\n').context("no kind")?;
-    let guard = SlotBook::new(rt.alloc()).open()?;
-    match kind {
-        "sum" => show_object(rt, Sum::new(guard), calls),
-        "last" => show_object(rt, Last::new(guard), calls),
-        "tail" => show_object(rt, Tail::new(guard), calls),
-        _ => bail!("no kind"),
-    }
+pub(crate) fn show_object_calls<R: Print + AllocGlobal>(rt: &R, lines: &str) -> io::Result<()> {
+    let (kind, calls) = lines.split_once('\n').unwrap_or((lines, ""));
+    let guard = value_of(SlotBook::new(rt.alloc()).open())?;
+    show_kind(rt, kind, guard, &mut Vec::new(rt.alloc()), calls)
 }

@@ -1,17 +1,18 @@
 //! The walk beside the plain reader.
 
 use crate::run::Run;
-use anyhow::{Result, ensure};
 use kt_base::{InstNo, MsgNo, ProcNo};
 use kt_cuts::Trace;
 use kt_histories::{Histories, legal};
 use kt_walk::Walk;
 use std::alloc::Global;
 
-/// What the plain reader makes of the rows that were taken.
-pub(crate) fn histories_of(alloc: Global, run: &Run) -> Result<Histories> {
-    legal(alloc, &run.log)?;
-    Ok(Histories::of(alloc, &run.log, run.log.rows().len())?)
+/// What the plain reader makes of the rows that were taken, if it finds them legal.
+pub(crate) fn histories_of(alloc: Global, run: &Run) -> Option<Histories> {
+    match legal(alloc, &run.log) {
+        Ok(()) => Histories::of(alloc, &run.log, run.log.rows().len()).ok(),
+        Err(_) => None,
+    }
 }
 
 fn has_same_lengths(walk: &Walk, histories: &Histories, p: ProcNo) -> bool {
@@ -19,17 +20,24 @@ fn has_same_lengths(walk: &Walk, histories: &Histories, p: ProcNo) -> bool {
 }
 
 fn has_same_positions(walk: &Walk, histories: &Histories, p: ProcNo) -> bool {
-    (1..5).all(|number| match InstNo::new(number) {
-        Some(inst) => walk.position(inst, p) == histories.position(inst, p),
-        None => false,
-    })
+    for number in 1..5 {
+        if let Some(inst) = InstNo::new(number) {
+            if walk.position(inst, p) != histories.position(inst, p) {
+                return false;
+            }
+        }
+    }
+    true
 }
 
 fn has_same_processes(walk: &Walk, histories: &Histories) -> bool {
-    (0..64).all(|number| match ProcNo::new(number) {
-        Some(p) => has_same_lengths(walk, histories, p) && has_same_positions(walk, histories, p),
-        None => false,
-    })
+    for number in 0..ProcNo::COUNT {
+        let p = ProcNo::nth(number);
+        if !has_same_lengths(walk, histories, p) || !has_same_positions(walk, histories, p) {
+            return false;
+        }
+    }
+    true
 }
 
 // Whether the places of a message are told between its sender and its receiver, and not the other way round.
@@ -39,32 +47,31 @@ fn has_places(walk: &Walk, msg: MsgNo, trace: &Trace) -> bool {
     places == trace.sent.zip(trace.received) && back.is_none()
 }
 
-// Whether a message that is kept has the trace of the plain reader, and its places.
-fn has_same_trace(walk: &Walk, histories: &Histories, msg: MsgNo) -> bool {
+// Whether a message that is kept has the trace of the plain reader, and its places; `kept` counts those that are kept.
+fn has_same_trace(walk: &Walk, histories: &Histories, msg: MsgNo, kept: &mut usize) -> bool {
     match walk.trace(msg) {
-        Some(trace) => histories.trace(msg) == Some(trace) && has_places(walk, msg, &trace),
+        Some(trace) => {
+            *kept = kept.saturating_add(1);
+            histories.trace(msg) == Some(trace) && has_places(walk, msg, &trace)
+        }
         None => true,
     }
 }
 
-// How many messages are kept, of those up to two past the last row; none where both readers differ.
-fn kept(walk: &Walk, histories: &Histories) -> Option<usize> {
+// Whether that is so of each message up to two past the last row, and as many are kept as the walk holds.
+fn has_same_messages(walk: &Walk, histories: &Histories) -> bool {
     let mut kept: usize = 0;
-    let last = u32::try_from(walk.rows()).ok()?.saturating_add(2);
-    for number in 1..last {
-        let msg = MsgNo::new(number)?;
-        if !has_same_trace(walk, histories, msg) {
-            return None;
+    for sent in 0..walk.rows().saturating_add(2).min(16_777_216) {
+        if !has_same_trace(walk, histories, MsgNo::after(sent), &mut kept) {
+            return false;
         }
-        kept = kept.saturating_add(usize::from(walk.trace(msg).is_some()));
     }
-    Some(kept)
+    kept == walk.held()
 }
 
 /// Whether both readers tell the same of the rows that were taken.
-pub(crate) fn are_same(alloc: Global, run: &Run) -> Result<bool> {
-    let walk = &run.walk;
-    let histories = histories_of(alloc, run)?;
-    ensure!(walk.rows() == run.log.rows().len(), "a row is missing");
-    Ok(has_same_processes(walk, &histories) && kept(walk, &histories) == Some(walk.held()))
+pub(crate) fn are_same(run: &Run, histories: &Histories) -> bool {
+    run.walk.rows() == run.log.rows().len()
+        && has_same_processes(&run.walk, histories)
+        && has_same_messages(&run.walk, histories)
 }

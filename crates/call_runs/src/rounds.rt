@@ -2,12 +2,14 @@
 
 use crate::answers::Shown;
 use crate::cuts::{permanent, present, present_but};
-use crate::rows::commit;
+use crate::faults::value_of;
+use crate::rows::{add_message, commit};
 use crate::run::Run;
 use crate::words::Words;
-use anyhow::{Context, Result};
-use kt_base::{InstNo, Kind, MsgNo, ProcNo};
+use kt_base::{Kind, MsgNo, ProcNo};
+use kt_cuts::LegalFault;
 use kt_walk::Walk;
+use std::io;
 
 // The orphan of the present cut with no more than the permanent part of a process, where the present cut has none.
 fn first_undone(walk: &Walk, p: ProcNo) -> Option<MsgNo> {
@@ -17,54 +19,51 @@ fn first_undone(walk: &Walk, p: ProcNo) -> Option<MsgNo> {
     }
 }
 
-// Passes so many messages; the first orphan that there is then, and after how many messages it is that one.
-fn pass_looking(
-    run: &mut Run,
-    from: ProcNo,
-    to: ProcNo,
-    count: u32,
-) -> Result<(Option<MsgNo>, u32)> {
-    run.pass(from, to)?;
-    let first = first_undone(&run.walk, from);
-    let mut same: u32 = 1;
-    for _ in 1..count {
-        run.pass(from, to)?;
-        same = same.saturating_add(u32::from(first_undone(&run.walk, from) == first));
-    }
-    Ok((first, same))
+// Passes a message from process 0 to process 1; the first orphan that there is then.
+fn pass_one(run: &mut Run) -> Result<Option<MsgNo>, LegalFault> {
+    let from = ProcNo::nth(0);
+    add_message(run, "pass", from, ProcNo::nth(1))?;
+    Ok(first_undone(&run.walk, from))
 }
 
-// Passes so many messages from process 0 to process 1; shows the first orphan, and after how many messages it is that one.
-fn show_passing<R: Print>(rt: &R, run: &mut Run, number: u16, count: u32) -> Result<()> {
-    let (first, same) = pass_looking(run, ProcNo::nth(0), ProcNo::nth(1), count)?;
-    print!(rt; "\n  {number}: {} after {same}", Shown(first))?;
-    Ok(())
+// Passes so many messages; after how many of them the first orphan is this one.
+fn pass_more(run: &mut Run, first: Option<MsgNo>, count: u32) -> Result<u32, LegalFault> {
+    let mut same: u32 = 0;
+    for _ in 0..count {
+        same = same.saturating_add(u32::from(pass_one(run)? == first));
+    }
+    Ok(same)
+}
+
+// Passes so many messages; shows the first orphan after the first one, and after how many messages it is that one.
+fn show_passing<R: Print>(rt: &R, run: &mut Run, number: u16, count: u32) -> io::Result<()> {
+    let first = value_of(pass_one(run))?;
+    let orphan = Shown(first);
+    let same = value_of(pass_more(run, first, count.saturating_sub(1)))?.saturating_add(1);
+    print!(rt; "\n  {number}: {orphan} after {same}")
 }
 
 // Shows how much of process 1 is permanent, and the orphan of the permanent cut.
-fn show_permanent<R: Print>(rt: &R, walk: &Walk) -> Result<()> {
+fn show_permanent<R: Print>(rt: &R, walk: &Walk) -> io::Result<()> {
     let to = ProcNo::nth(1);
     let (permanent_length, length) = (walk.permanent(to), walk.length(to));
     let orphan = Shown(walk.orphan(&permanent(walk)));
-    print!(rt; ", permanent {permanent_length} of {length}, orphan {orphan}")?;
-    Ok(())
+    print!(rt; ", permanent {permanent_length} of {length}, orphan {orphan}")
 }
 
 // Shows a round: so many messages from process 0 to process 1, and a checkpoint of both.
-fn show_round<R: Print>(rt: &R, run: &mut Run, number: u16, count: u32) -> Result<()> {
+fn show_round<R: Print>(rt: &R, run: &mut Run, number: u16, count: u32) -> io::Result<()> {
     show_passing(rt, run, number, count)?;
-    let inst = InstNo::new(number).context("no instance")?;
-    commit(run, Kind::Checkpoint, inst, 2)?;
+    value_of(commit(run, Kind::Checkpoint, number, 2))?;
     show_permanent(rt, &run.walk)
 }
 
 /// Shows so many rounds.
-pub(crate) fn show_rounds<R: Print>(rt: &R, run: &mut Run, words: &mut Words) -> Result<()> {
-    let (rounds, count) = (words.number()?, words.number()?);
+pub(crate) fn show_rounds<R: Print>(rt: &R, run: &mut Run, words: &mut Words) -> io::Result<()> {
+    let (rounds, count) = (words.small(), words.number());
     print!(rt; "first orphans")?;
     for round in 0..rounds {
-        let number = u16::try_from(round.saturating_add(1))?;
-        show_round(rt, run, number, count)?;
+        show_round(rt, run, round.saturating_add(1), count)?;
     }
     Ok(())
 }

@@ -2,19 +2,17 @@
 
 use crate::entries::Entry;
 use crate::heads::{show_count, show_fault};
-use crate::long_text::told;
-use anyhow::Result;
 use kt_plan::{Plan, Step};
 use kt_scenario::{parse, parse_steps};
+use std::io;
 
 // Shows how many objects and commands a scenario has.
-fn show_counts<R: Print>(rt: &R, title: &str, plan: &Plan) -> Result<()> {
+fn show_counts<R: Print>(rt: &R, title: &str, plan: &Plan) -> io::Result<()> {
     let (objects, commands) = (plan.names.len(), plan.commands.len());
-    println!(rt; "{title}: {objects} objects, {commands} commands")?;
-    Ok(())
+    println!(rt; "{title}: {objects} objects, {commands} commands")
 }
 
-fn show_objects<R: Print>(rt: &R, plan: &Plan) -> Result<()> {
+fn show_objects<R: Print>(rt: &R, plan: &Plan) -> io::Result<()> {
     let names = plan.names.list();
     for (name, kind) in names.iter().zip(plan.kinds.as_slice()) {
         println!(rt; "  object {name} of kind {kind}")?;
@@ -22,7 +20,7 @@ fn show_objects<R: Print>(rt: &R, plan: &Plan) -> Result<()> {
     Ok(())
 }
 
-fn show_commands<R: Print>(rt: &R, plan: &Plan) -> Result<()> {
+fn show_commands<R: Print>(rt: &R, plan: &Plan) -> io::Result<()> {
     for command in plan.commands.as_slice() {
         println!(rt; "  {command:?}")?;
     }
@@ -30,58 +28,56 @@ fn show_commands<R: Print>(rt: &R, plan: &Plan) -> Result<()> {
 }
 
 // Shows a plan: how much it has, its objects and its commands.
-fn show_plan<R: Print>(rt: &R, title: &str, plan: &Plan) -> Result<()> {
+fn show_plan<R: Print>(rt: &R, title: &str, plan: &Plan) -> io::Result<()> {
     show_counts(rt, title, plan)?;
     show_objects(rt, plan)?;
     show_commands(rt, plan)
 }
 
 /// Shows what is read of a stored scenario.
-pub(crate) fn show_scenario<R: Print + AllocGlobal>(rt: &R, entry: &Entry) -> Result<()> {
+pub(crate) fn show_scenario<R: Print + AllocGlobal>(rt: &R, entry: &Entry) -> io::Result<()> {
     match parse(rt.alloc(), entry.text) {
         Ok(plan) => show_plan(rt, entry.title, &plan),
         Err(fault) => show_fault(rt, entry.title, &fault),
     }
 }
 
-/// Shows how many objects and commands are read of a scenario that is told.
-pub(crate) fn show_long_scenario<R: Print + AllocGlobal>(rt: &R, entry: &Entry) -> Result<()> {
-    let text = told(rt.alloc(), entry)?;
-    match parse(rt.alloc(), text.as_slice()) {
+/// Shows how many objects and commands are read of a scenario.
+pub(crate) fn show_long_scenario<R: Print + AllocGlobal>(rt: &R, entry: &Entry) -> io::Result<()> {
+    match parse(rt.alloc(), entry.text) {
         Ok(plan) => show_counts(rt, entry.title, &plan),
         Err(fault) => show_fault(rt, entry.title, &fault),
     }
 }
 
-fn show_each<R: Print>(rt: &R, steps: &[Step]) -> Result<()> {
+// Shows steps, and how many there are.
+fn show_list<R: Print>(rt: &R, title: &str, steps: &[Step]) -> io::Result<()> {
+    show_count(rt, title, steps.len(), "steps")?;
     for step in steps {
         println!(rt; "  {step:?}")?;
     }
     Ok(())
 }
 
-// Shows steps, and how many there are.
-fn show_list<R: Print>(rt: &R, title: &str, steps: &[Step]) -> Result<()> {
-    show_count(rt, title, steps.len(), "steps")?;
-    show_each(rt, steps)
-}
-
 /// Shows what is read of a stored text of steps over a plan.
-pub(crate) fn show_steps<R: Print + AllocGlobal>(rt: &R, plan: &Plan, entry: &Entry) -> Result<()> {
+pub(crate) fn show_steps<R: Print + AllocGlobal>(
+    rt: &R,
+    plan: &Plan,
+    entry: &Entry,
+) -> io::Result<()> {
     match parse_steps(rt.alloc(), entry.text, plan) {
         Ok(steps) => show_list(rt, entry.title, steps.as_slice()),
         Err(fault) => show_fault(rt, entry.title, &fault),
     }
 }
 
-/// Shows how many steps are read of a text that is told, over a plan.
+/// Shows how many steps are read of a text, over a plan.
 pub(crate) fn show_long_steps<R: Print + AllocGlobal>(
     rt: &R,
     plan: &Plan,
     entry: &Entry,
-) -> Result<()> {
-    let text = told(rt.alloc(), entry)?;
-    match parse_steps(rt.alloc(), text.as_slice(), plan) {
+) -> io::Result<()> {
+    match parse_steps(rt.alloc(), entry.text, plan) {
         Ok(steps) => show_count(rt, entry.title, steps.len(), "steps"),
         Err(fault) => show_fault(rt, entry.title, &fault),
     }

@@ -2,10 +2,11 @@
 
 ghost use Rattle.std.specs.Prelude.{◌<◌, ◌↔◌, IsTrue};
 
+use crate::faults::refused;
 use crate::words::Words;
-use anyhow::{Result, bail};
-use kt_base::{Label, ProcNo};
+use kt_base::{Label, Memory, ProcNo};
 use kt_tables::Tables;
+use std::io;
 
 // Whether a process is one of those of the tables.
 fn is_there(tables: &Tables, p: ProcNo) -> bool
@@ -93,72 +94,78 @@ fn word_of_truth(truth: Option<bool>) -> &'static str {
 }
 
 // Makes a call of a process and a label; what is shown of it.
-fn call_with_label(
-    tables: &mut Tables,
-    word: &str,
-    peer: ProcNo,
-    label: Label,
-) -> Result<&'static str> {
+fn call_with_label(tables: &mut Tables, word: &str, peer: ProcNo, label: Label) -> &'static str {
     match word {
-        "sent" => Ok(refusal(send(tables, peer, label))),
-        "received" => Ok(refusal(receive(tables, peer, label))),
-        "takes" => Ok(word_of_truth(takes(tables, peer, label))),
-        "rolls" => Ok(word_of_truth(rolls(tables, peer, label))),
-        _ => bail!("no call of a process and a label"),
+        "sent" => refusal(send(tables, peer, label)),
+        "received" => refusal(receive(tables, peer, label)),
+        "takes" => word_of_truth(takes(tables, peer, label)),
+        "rolls" => word_of_truth(rolls(tables, peer, label)),
+        _ => "no such call",
     }
 }
 
 // Makes the call of a process and a label that a line spells; what is shown of it.
-fn answer_with_label(tables: &mut Tables, line: &str) -> Result<&'static str> {
+fn answer_with_label(tables: &mut Tables, line: &str) -> &'static str {
     let mut words = Words::new(line);
-    let word = words.word();
-    let (peer, label) = (words.process()?, words.label()?);
-    call_with_label(tables, word, peer, label)
+    let (word, peer) = (words.word(), words.process());
+    match words.label() {
+        Some(label) => call_with_label(tables, word, peer, label),
+        None => "no such label",
+    }
 }
 
 // Makes the call that a line spells; what is shown of it.
-fn answer_to(tables: &mut Tables, line: &str) -> Result<&'static str> {
+fn answer_to(tables: &mut Tables, line: &str) -> &'static str {
     match line {
-        "tentative" => Ok(refusal(take(tables))),
-        "commit" => Ok(refusal(decide(tables, true))),
-        "abort" => Ok(refusal(decide(tables, false))),
-        "rollback" => Ok(refusal(roll_back(tables))),
+        "tentative" => refusal(take(tables)),
+        "commit" => refusal(decide(tables, true)),
+        "abort" => refusal(decide(tables, false)),
+        "rollback" => refusal(roll_back(tables)),
         _ => answer_with_label(tables, line),
     }
 }
 
-fn show_answer<R: Print>(rt: &R, line: &str, answer: &str) -> Result<()> {
-    if !answer.is_empty() {
-        println!(rt; "{line}: {answer}")?;
+fn show_answer<R: Print>(rt: &R, line: &str, answer: &str) -> io::Result<()> {
+    if answer.is_empty() {
+        Ok(())
+    } else {
+        println!(rt; "{line}: {answer}")
     }
-    Ok(())
 }
 
-fn show_peer<R: Print>(rt: &R, peer: ProcNo, label: Label) -> Result<()> {
-    print!(rt; ", {peer} with {}", label.get())?;
-    Ok(())
+fn show_peer<R: Print>(rt: &R, peer: ProcNo, label: Label) -> io::Result<()> {
+    print!(rt; ", {peer} with {}", label.get())
 }
 
-fn show_cohort<R: Print>(rt: &R, line: &str, cohort: &[(ProcNo, Label)]) -> Result<()> {
+fn show_peers<R: Print>(rt: &R, line: &str, cohort: &[(ProcNo, Label)]) -> io::Result<()> {
     print!(rt; "{line}: {}", cohort.len())?;
     for (peer, label) in cohort {
         show_peer(rt, *peer, *label)?;
     }
-    println!(rt)?;
-    Ok(())
+    println!(rt)
 }
 
-fn show_kept<R: Print>(rt: &R, kept: usize) -> Result<()> {
-    println!(rt; "kept: {kept}")?;
-    Ok(())
+fn show_cohort<R: Print>(
+    rt: &R,
+    line: &str,
+    cohort: Result<Vec<(ProcNo, Label)>, Memory>,
+) -> io::Result<()> {
+    match cohort {
+        Ok(cohort) => show_peers(rt, line, cohort.as_slice()),
+        Err(_) => refused(),
+    }
+}
+
+fn show_kept<R: Print>(rt: &R, kept: usize) -> io::Result<()> {
+    println!(rt; "kept: {kept}")
 }
 
 /// Makes a call that a line spells, and shows the answer, or that it is not allowed.
-pub(crate) fn show_table_call<R: Print>(rt: &R, tables: &mut Tables, line: &str) -> Result<()> {
+pub(crate) fn show_table_call<R: Print>(rt: &R, tables: &mut Tables, line: &str) -> io::Result<()> {
     match line {
-        "checkpoint cohort" => show_cohort(rt, line, tables.ckpt_cohort()?.as_slice()),
-        "rollback cohort" => show_cohort(rt, line, tables.roll_cohort()?.as_slice()),
+        "checkpoint cohort" => show_cohort(rt, line, tables.ckpt_cohort()),
+        "rollback cohort" => show_cohort(rt, line, tables.roll_cohort()),
         "kept" => show_kept(rt, tables.kept()),
-        _ => show_answer(rt, line, answer_to(tables, line)?),
+        _ => show_answer(rt, line, answer_to(tables, line)),
     }
 }

@@ -1,71 +1,71 @@
 //! Messages in transit, as stored lists of calls put them in and take them out.
 
+use crate::faults::{refused, value_of};
 use crate::words::Words;
-use anyhow::{Context, Result, bail, ensure};
-use kt_base::MsgNo;
+use kt_base::{Memory, MsgNo};
 use kt_transit::{InTransit, Sent};
+use std::io;
 
 // A message of this number, sent at the place that is half of it.
-fn message_of(number: u32) -> Result<Sent> {
-    let msg = MsgNo::new(number).context("no message")?;
+fn message_of(number: u32) -> Sent {
+    let msg = MsgNo::new(number).unwrap_or(MsgNo::after(0));
     let place = number / 2;
-    Ok(Sent { msg, place })
+    Sent { msg, place }
 }
 
-fn send(in_transit: &mut InTransit, number: u32) -> Result<()> {
+fn send(in_transit: &mut InTransit, number: u32) -> Result<(), Memory> {
     in_transit.reserve(1)?;
-    in_transit.push(message_of(number)?);
+    in_transit.push(message_of(number));
     Ok(())
 }
 
-fn put_back(in_transit: &mut InTransit, number: u32) -> Result<()> {
+fn put_back(in_transit: &mut InTransit, number: u32) -> Result<(), Memory> {
     in_transit.reserve(1)?;
-    in_transit.put_back(message_of(number)?);
+    in_transit.put_back(message_of(number));
     Ok(())
 }
 
-fn receive(in_transit: &mut InTransit, number: u32) -> Result<()> {
-    let sent = message_of(number)?;
-    let index = in_transit.find(sent.msg).context("not in transit")?;
-    in_transit.take(index)?;
-    Ok(())
+// Receives a message, if it is in transit.
+fn receive(in_transit: &mut InTransit, number: u32) -> Result<(), Memory> {
+    match in_transit.find(message_of(number).msg) {
+        Some(index) => in_transit.take(index),
+        None => Ok(()),
+    }
 }
 
 // Sends and receives a message.
-fn pass(in_transit: &mut InTransit, number: u32) -> Result<()> {
+fn pass(in_transit: &mut InTransit, number: u32) -> Result<(), Memory> {
     send(in_transit, number)?;
     receive(in_transit, number)
 }
 
-// Leaves no more than so many messages in transit.
-fn truncate(in_transit: &mut InTransit, count: u32) -> Result<()> {
-    in_transit.truncate(count as usize);
-    Ok(())
-}
-
-// Gives room back, but that of so many messages.
-fn shrink(in_transit: &mut InTransit, count: u32) -> Result<()> {
-    in_transit.shrink(count as usize);
-    Ok(())
+// Leaves no more than so many messages in transit, or gives room back, but that of so many.
+fn lessen(in_transit: &mut InTransit, word: &str, count: usize) {
+    match word {
+        "truncate" => in_transit.truncate(count),
+        "shrink" => in_transit.shrink(count),
+        _ => {}
+    }
 }
 
 // Makes a call with a number.
-fn make_call(in_transit: &mut InTransit, word: &str, number: u32) -> Result<()> {
+fn make_call(in_transit: &mut InTransit, word: &str, number: u32) -> Result<(), Memory> {
     match word {
         "send" => send(in_transit, number),
         "receive" => receive(in_transit, number),
         "put-back" => put_back(in_transit, number),
         "pass" => pass(in_transit, number),
-        "truncate" => truncate(in_transit, number),
-        "shrink" => shrink(in_transit, number),
-        _ => bail!("no call"),
+        _ => {
+            lessen(in_transit, word, number as usize);
+            Ok(())
+        }
     }
 }
 
 // Makes a call with each number from one to another, the last one first where that is less.
-fn make_calls(in_transit: &mut InTransit, words: &mut Words) -> Result<()> {
+fn make_calls(in_transit: &mut InTransit, words: &mut Words) -> Result<(), Memory> {
     let word = words.word();
-    let (from, to) = (words.number()?, words.number()?);
+    let (from, to) = (words.number(), words.number());
     for step in 0..from.abs_diff(to).saturating_add(1) {
         let number = if from <= to {
             from.saturating_add(step)
@@ -77,56 +77,50 @@ fn make_calls(in_transit: &mut InTransit, words: &mut Words) -> Result<()> {
     Ok(())
 }
 
-// Shows the message that stands at an index, with its place, and whether it is found where it stands.
-fn show_message<R: Print>(rt: &R, in_transit: &InTransit, index: usize) -> Result<()> {
-    let sent = in_transit.get(index).context("too few")?;
-    ensure!(in_transit.find(sent.msg) == Some(index), "found elsewhere");
-    print!(rt; ", {} at {}", sent.msg, sent.place)?;
-    Ok(())
+// Shows the message that stands at an index, with its place, if it is found where it stands.
+fn show_message<R: Print>(rt: &R, in_transit: &InTransit, index: usize) -> io::Result<()> {
+    match in_transit.get(index) {
+        Some(sent) if in_transit.find(sent.msg) == Some(index) => {
+            print!(rt; ", {} at {}", sent.msg, sent.place)
+        }
+        _ => refused(),
+    }
 }
 
-fn show_each_message<R: Print>(rt: &R, in_transit: &InTransit, count: usize) -> Result<()> {
+// Shows each message in transit, in order, and that there is none behind them.
+fn show_messages<R: Print>(rt: &R, in_transit: &InTransit) -> io::Result<()> {
+    let count = in_transit.len();
+    print!(rt; "{count} in transit")?;
     for index in 0..count {
         show_message(rt, in_transit, index)?;
     }
-    ensure!(in_transit.get(count).is_none(), "too many");
-    Ok(())
+    match in_transit.get(count) {
+        None => println!(rt),
+        Some(_) => refused(),
+    }
 }
 
-// Shows each message in transit, in order.
-fn show_messages<R: Print>(rt: &R, in_transit: &InTransit) -> Result<()> {
-    let count = in_transit.len();
-    print!(rt; "{count} in transit")?;
-    show_each_message(rt, in_transit, count)?;
-    println!(rt)?;
-    Ok(())
-}
-
-fn show_count<R: Print>(rt: &R, in_transit: &InTransit) -> Result<()> {
-    println!(rt; "{} in transit", in_transit.len())?;
-    Ok(())
+fn show_count<R: Print>(rt: &R, in_transit: &InTransit) -> io::Result<()> {
+    println!(rt; "{} in transit", in_transit.len())
 }
 
 // Shows where a message is found.
-fn show_place<R: Print>(rt: &R, in_transit: &InTransit, number: &str) -> Result<()> {
-    let sent = message_of(number.parse::<u32>()?)?;
-    println!(rt; "{number} is found at {:?}", in_transit.find(sent.msg))?;
-    Ok(())
+fn show_place<R: Print>(rt: &R, in_transit: &InTransit, number: &str) -> io::Result<()> {
+    let sent = message_of(number.parse::<u32>().unwrap_or(0));
+    println!(rt; "{number} is found at {:?}", in_transit.find(sent.msg))
 }
 
 // Shows what a line asks, or makes its calls.
-fn show_call<R: Print>(rt: &R, in_transit: &mut InTransit, line: &str) -> Result<()> {
-    if line == "?" {
-        return show_messages(rt, in_transit);
-    }
+fn show_call<R: Print>(rt: &R, in_transit: &mut InTransit, line: &str) -> io::Result<()> {
     match line.strip_prefix("? ") {
+        Some("all") => show_messages(rt, in_transit),
         Some("count") => show_count(rt, in_transit),
         Some(number) => show_place(rt, in_transit, number),
-        None => make_calls(in_transit, &mut Words::new(line)),
+        None => value_of(make_calls(in_transit, &mut Words::new(line))),
     }
 }
 
-fn show_calls<R: Print>(rt: &R, in_transit: &mut InTransit, lines: &str) -> Result<()> {
+fn show_calls<R: Print>(rt: &R, in_transit: &mut InTransit, lines: &str) -> io::Result<()> {
     for line in lines.lines() {
         show_call(rt, in_transit, line)?;
     }
@@ -134,7 +128,7 @@ fn show_calls<R: Print>(rt: &R, in_transit: &mut InTransit, lines: &str) -> Resu
 }
 
 /// Shows what calls, a line each, make of messages in transit.
-pub(crate) fn show_list<R: Print + AllocGlobal>(rt: &R, lines: &str) -> Result<()> {
+pub(crate) fn show_list<R: Print + AllocGlobal>(rt: &R, lines: &str) -> io::Result<()> {
     let mut in_transit = InTransit::new(rt.alloc());
     show_calls(rt, &mut in_transit, lines)
 }

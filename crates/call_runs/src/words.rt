@@ -1,7 +1,6 @@
-//! The words of a line, read one by one.
+//! The words of a line, read one by one. Where a word is no number, it counts as the first that there is.
 
-use anyhow::{Context, Result};
-use kt_base::{InstNo, Label, MsgNo, ProcNo};
+use kt_base::{Label, MsgNo, ProcNo};
 
 /// What is left of a line.
 #[derive(Clone, Copy)]
@@ -21,27 +20,30 @@ impl<'a> Words<'a> {
         word
     }
 
-    pub(crate) fn count(&mut self) -> Result<usize> {
-        Ok(self.word().parse::<usize>()?)
+    pub(crate) fn count(&mut self) -> usize {
+        self.word().parse::<usize>().unwrap_or(0)
     }
 
-    pub(crate) fn number(&mut self) -> Result<u32> {
-        Ok(self.word().parse::<u32>()?)
+    pub(crate) fn number(&mut self) -> u32 {
+        self.word().parse::<u32>().unwrap_or(0)
     }
 
-    pub(crate) fn process(&mut self) -> Result<ProcNo> {
-        ProcNo::new(self.word().parse::<u8>()?).context("no process")
+    /// The next word as a number of 16 bits.
+    pub(crate) fn small(&mut self) -> u16 {
+        self.word().parse::<u16>().unwrap_or(0)
     }
 
-    pub(crate) fn label(&mut self) -> Result<Label> {
-        Label::new(self.word().parse::<u64>()?).context("no label")
+    pub(crate) fn process(&mut self) -> ProcNo {
+        let number = self.word().parse::<u8>().unwrap_or(0);
+        ProcNo::new(number).unwrap_or(ProcNo::nth(0))
     }
 
-    pub(crate) fn message(&mut self) -> Result<MsgNo> {
-        MsgNo::new(self.number()?).context("no message")
+    pub(crate) fn message(&mut self) -> MsgNo {
+        MsgNo::new(self.number()).unwrap_or(MsgNo::after(0))
     }
 
-    pub(crate) fn instance(&mut self) -> Result<InstNo> {
-        InstNo::new(self.word().parse::<u16>()?).context("no instance")
+    /// The next word as a label; none where it is too great.
+    pub(crate) fn label(&mut self) -> Option<Label> {
+        Label::new(self.word().parse::<u64>().unwrap_or(0))
     }
 }

@@ -1,4 +1,0 @@
-mod base;
-mod histories;
-mod object;
-mod spacetime;
