@@ -82,8 +82,8 @@ pub record AppendsRecordedLive {F : Type 0} (told : F → BytesTold) (old new : 
   pub report : Appends old new (report_of plan rows (certificates rows))
 
 -- the run's report; at a fault nothing, unless a writer failed or there was no memory for more of the report
-abbrev pub LeavesPlayed : Result Unit ProgramFault → BytesTold → BytesTold → Type 0
-LeavesPlayed (Ok u) old new = AppendsReport old new
+abbrev pub LeavesPlayed : Result Done ProgramFault → BytesTold → BytesTold → Type 0
+LeavesPlayed (Ok what) old new = AppendsReport old new
 LeavesPlayed (Err fault) old new = (fault ≢ program.Line) × (fault ≢ program.App app.Write → fault ≢ program.App app.Memory → new ≡ old)
 
 -- a fault of a scenario or of steps, of their files, or of memory

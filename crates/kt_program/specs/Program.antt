@@ -30,29 +30,37 @@ switch id = record (new_rule id) { long = Some id; action = Some SetTrue }
 abbrev pub numeric : Text → Rule
 numeric id = record (new_rule id) { long = Some id; value_names = 1; parser = Some (Unsigned 0 18446744073709551615) }
 
--- the command that plays a scenario in an order
-abbrev pub play_order : App
-play_order = with_rule (with_rule (with_rule (with_rule (new_app (codes "play")) (wanted (codes "scenario"))) (optional (codes "steps"))) (numeric (codes "seed"))) (optional (codes "record"))
+-- a command that runs a scenario
+abbrev pub scenario_command : Text → App
+scenario_command name = with_rule (new_app name) (wanted (codes "scenario"))
 
--- the same with its log and its certificates: the command that plays a scenario
+-- a command that reads a log
+abbrev pub log_command : Text → App
+log_command name = with_rule (new_app name) (wanted (codes "log"))
+
+-- a command with files for the log and the certificates of its run
+abbrev pub with_outputs : App → App
+with_outputs app = with_rule (with_rule app (optional (codes "log"))) (optional (codes "cert"))
+
+-- the command that plays a scenario
 abbrev pub play : App
-play = with_rule (with_rule play_order (optional (codes "log"))) (optional (codes "cert"))
+play = with_outputs (with_rule (with_rule (with_rule (scenario_command (codes "play")) (optional (codes "steps"))) (numeric (codes "seed"))) (optional (codes "record")))
 
 -- the command that runs one in threads
 abbrev pub live : App
-live = with_rule (with_rule (with_rule (with_rule (new_app (codes "live")) (wanted (codes "scenario"))) (optional (codes "record"))) (optional (codes "log"))) (optional (codes "cert"))
+live = with_outputs (with_rule (scenario_command (codes "live")) (optional (codes "record")))
 
 -- the command that judges a stored run
 abbrev pub check : App
-check = with_rule (with_rule (with_rule (new_app (codes "check")) (wanted (codes "log"))) (wanted (codes "cert"))) (switch (codes "explain"))
+check = with_rule (with_rule (log_command (codes "check")) (wanted (codes "cert"))) (switch (codes "explain"))
 
 -- the command that certifies a stored log
 abbrev pub certify : App
-certify = with_rule (with_rule (new_app (codes "certify")) (wanted (codes "log"))) (optional (codes "cert"))
+certify = with_rule (log_command (codes "certify")) (optional (codes "cert"))
 
 -- the command that draws a stored log
 abbrev pub draw : App
-draw = with_rule (with_rule (with_rule (with_rule (with_rule (with_rule (new_app (codes "draw")) (wanted (codes "log"))) (optional (codes "cert"))) (optional (codes "names"))) (optional (codes "from"))) (optional (codes "to"))) (optional (codes "svg"))
+draw = with_rule (with_rule (with_rule (with_rule (with_rule (log_command (codes "draw")) (optional (codes "cert"))) (optional (codes "names"))) (optional (codes "from"))) (optional (codes "to"))) (optional (codes "svg"))
 
 -- a command with a version
 abbrev pub with_version : App → App

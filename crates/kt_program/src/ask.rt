@@ -2,8 +2,8 @@
 
 ghost use Rattle.std.specs.Prelude.{◌≡◌, ◌≢◌, ◌<◌, ◌^◌, ◌↔◌, ℕ, codes, IfOk, IfErr, IfSome, IfNone, IsTrue, Some, option_map, Option};
 ghost use Rattle.std.specs.Fmt.{decimal};
-ghost use Rattle.clap.specs.Words.{first_of, kind_of, new_app, subcommand_of, subcommand_rows_of, rows_of, found_of};
-ghost use Rattle.kt_program.specs.Program.{program, certify, check, live, numeric, play, play_order, optional, switch, switched, wanted, with_version, IsRule, IsDefined, IsSet, NamesAsked, NamesIn, NamesNoOrder, draw, IsGivenNumber};
+ghost use Rattle.clap.specs.Words.{App, Rule, with_rule, with_subcommand, first_of, kind_of, new_app, subcommand_of, subcommand_rows_of, rows_of, found_of};
+ghost use Rattle.kt_program.specs.Program.{program, certify, check, live, numeric, play, log_command, scenario_command, with_outputs, optional, switch, switched, wanted, with_version, IsRule, IsDefined, IsSet, NamesAsked, NamesIn, NamesNoOrder, draw, IsGivenNumber};
 ghost use Rattle.clap.specs.declared.error.kind.ErrorKind.TheVariants.{MissingSubcommand};
 ghost use Rattle.kt_program.specs.declared.line.Asked.{Asked};
 ghost use Rattle.kt_program.specs.Asking.{IsUnasked};
@@ -236,120 +236,201 @@ fn plain_switch<'a>(alloc: Global, id: &'a str, help: &'a str) -> Arg<'a>
         .help(help)
 }
 
-// A command with its texts in help.
-fn command_of<'a>(alloc: Global, name: &'a str, about: &'a str, long_about: &'a str) -> Command<'a>
-    ensures { IsDefined (new_app name.entry.now) result }
+// A command with one more argument. Want of memory is handed on, so that a command is defined without a `?` for each.
+#[tactic(auto, using(crate::proofs::Commands::arg_added))]
+fn with_arg<'a>(
+    command: Result<Command<'a>, AllocError>,
+    arg: Arg<'a>,
+) -> Result<Command<'a>, AllocError>
+    ensures { (app : App) (rule : Rule) → IfOk command.entry (IsDefined app) → IsRule rule arg.entry →
+        IfOk result (IsDefined (with_rule app rule)) }
 {
-    Command::new(alloc, name)
-        .about(about)
-        .long_about(long_about)
-        .after_help(STATUSES)
+    command?.arg(arg)
 }
 
-// The command that plays a scenario in an order, without its log and its certificates.
-fn play_order_command<'a>(alloc: Global) -> Result<Command<'a>, AllocError>
-    ensures { IfOk result (IsDefined play_order) }
+// A command with one more subcommand.
+#[tactic(auto, using(crate::proofs::Commands::subcommand_added))]
+fn with_subcommand<'a>(
+    command: Result<Command<'a>, AllocError>,
+    part: Result<Command<'a>, AllocError>,
+) -> Result<Command<'a>, AllocError>
+    ensures { (app sub : App) → IfOk command.entry (IsDefined app) → IfOk part.entry (IsDefined sub) →
+        IfOk result (IsDefined (with_subcommand app sub.top)) }
 {
-    let command = command_of(alloc, "play", ABOUT_PLAY, LONG_ABOUT_PLAY)
-        .arg(wanted_word(
-            alloc,
-            "scenario",
-            "SCENARIO",
-            ABOUT_SCENARIO,
-            LONG_ABOUT_SCENARIO,
-        ))?
-        .arg(optional_word(alloc, "steps", ABOUT_STEPS, LONG_ABOUT_STEPS))?
-        .arg(numeric_word(alloc, "seed", ABOUT_SEED, LONG_ABOUT_SEED))?
-        .arg(optional_word(alloc, "record", ABOUT_RECORD, LONG_ABOUT_RECORD))?;
-    Ok(command)
+    command?.subcommand(part?)
+}
+
+// A command with its texts in help.
+fn command_of<'a>(
+    alloc: Global,
+    name: &'a str,
+    about: &'a str,
+    long_about: &'a str,
+) -> Result<Command<'a>, AllocError>
+    ensures { IfOk result (IsDefined (new_app name.entry.now)) }
+{
+    Ok(
+        Command::new(alloc, name)
+            .about(about)
+            .long_about(long_about)
+            .after_help(STATUSES),
+    )
+}
+
+// A command that runs a scenario, without its options.
+fn scenario_command<'a>(
+    alloc: Global,
+    name: &'a str,
+    about: &'a str,
+    long_about: &'a str,
+) -> Result<Command<'a>, AllocError>
+    ensures { IfOk result (IsDefined (scenario_command name.entry.now)) }
+{
+    let command = command_of(alloc, name, about, long_about);
+    let scenario = wanted_word(
+        alloc,
+        "scenario",
+        "SCENARIO",
+        ABOUT_SCENARIO,
+        LONG_ABOUT_SCENARIO,
+    );
+    with_arg(command, scenario)
+}
+
+// A command that reads a log, without what else it is told.
+fn log_command<'a>(
+    alloc: Global,
+    name: &'a str,
+    about: &'a str,
+    long_about: &'a str,
+) -> Result<Command<'a>, AllocError>
+    ensures { IfOk result (IsDefined (log_command name.entry.now)) }
+{
+    let command = command_of(alloc, name, about, long_about);
+    with_arg(
+        command,
+        wanted_word(alloc, "log", "LOG", ABOUT_LOG, LONG_ABOUT_LOG),
+    )
+}
+
+// A command with files for the log and the certificates of its run.
+fn with_outputs<'a>(
+    alloc: Global,
+    command: Result<Command<'a>, AllocError>,
+) -> Result<Command<'a>, AllocError>
+    ensures { (app : App) → IfOk command.entry (IsDefined app) → IfOk result (IsDefined (with_outputs app)) }
+{
+    let command = with_arg(
+        command,
+        optional_word(alloc, "log", ABOUT_LOG_OUT, ABOUT_LOG_OUT),
+    );
+    with_arg(
+        command,
+        optional_word(alloc, "cert", ABOUT_CERT_OUT, ABOUT_CERT_OUT),
+    )
 }
 
 fn play_command<'a>(alloc: Global) -> Result<Command<'a>, AllocError>
     ensures { IfOk result (IsDefined play) }
 {
-    let command = play_order_command(alloc)?
-        .arg(optional_word(alloc, "log", ABOUT_LOG_OUT, ABOUT_LOG_OUT))?
-        .arg(optional_word(alloc, "cert", ABOUT_CERT_OUT, ABOUT_CERT_OUT))?;
-    Ok(command)
+    let command = scenario_command(alloc, "play", ABOUT_PLAY, LONG_ABOUT_PLAY);
+    let command = with_arg(
+        command,
+        optional_word(alloc, "steps", ABOUT_STEPS, LONG_ABOUT_STEPS),
+    );
+    let command = with_arg(
+        command,
+        numeric_word(alloc, "seed", ABOUT_SEED, LONG_ABOUT_SEED),
+    );
+    let command = with_arg(
+        command,
+        optional_word(alloc, "record", ABOUT_RECORD, LONG_ABOUT_RECORD),
+    );
+    with_outputs(alloc, command)
 }
 
 fn live_command<'a>(alloc: Global) -> Result<Command<'a>, AllocError>
     ensures { IfOk result (IsDefined live) }
 {
-    let command = command_of(alloc, "live", ABOUT_LIVE, LONG_ABOUT_LIVE)
-        .arg(wanted_word(
-            alloc,
-            "scenario",
-            "SCENARIO",
-            ABOUT_SCENARIO,
-            LONG_ABOUT_SCENARIO,
-        ))?
-        .arg(optional_word(alloc, "record", ABOUT_RECORD, LONG_ABOUT_RECORD_LIVE))?
-        .arg(optional_word(alloc, "log", ABOUT_LOG_OUT, ABOUT_LOG_OUT))?
-        .arg(optional_word(alloc, "cert", ABOUT_CERT_OUT, ABOUT_CERT_OUT))?;
-    Ok(command)
+    let command = scenario_command(alloc, "live", ABOUT_LIVE, LONG_ABOUT_LIVE);
+    let command = with_arg(
+        command,
+        optional_word(alloc, "record", ABOUT_RECORD, LONG_ABOUT_RECORD_LIVE),
+    );
+    with_outputs(alloc, command)
 }
 
 fn check_command<'a>(alloc: Global) -> Result<Command<'a>, AllocError>
     ensures { IfOk result (IsDefined check) }
 {
-    let command = command_of(alloc, "check", ABOUT_CHECK, LONG_ABOUT_CHECK)
-        .arg(wanted_word(alloc, "log", "LOG", ABOUT_LOG, LONG_ABOUT_LOG))?
-        .arg(wanted_word(alloc, "cert", "CERT", ABOUT_CERT, LONG_ABOUT_CERT))?
-        .arg(switch(alloc, "explain", ABOUT_EXPLAIN, LONG_ABOUT_EXPLAIN))?;
-    Ok(command)
+    let command = log_command(alloc, "check", ABOUT_CHECK, LONG_ABOUT_CHECK);
+    let command = with_arg(
+        command,
+        wanted_word(alloc, "cert", "CERT", ABOUT_CERT, LONG_ABOUT_CERT),
+    );
+    with_arg(
+        command,
+        switch(alloc, "explain", ABOUT_EXPLAIN, LONG_ABOUT_EXPLAIN),
+    )
 }
 
 fn certify_command<'a>(alloc: Global) -> Result<Command<'a>, AllocError>
     ensures { IfOk result (IsDefined certify) }
 {
-    let command = command_of(alloc, "certify", ABOUT_CERTIFY, LONG_ABOUT_CERTIFY)
-        .arg(wanted_word(alloc, "log", "LOG", ABOUT_LOG, LONG_ABOUT_LOG))?
-        .arg(optional_word(alloc, "cert", ABOUT_CERT_FILE, ABOUT_CERT_FILE))?;
-    Ok(command)
+    let command = log_command(alloc, "certify", ABOUT_CERTIFY, LONG_ABOUT_CERTIFY);
+    with_arg(
+        command,
+        optional_word(alloc, "cert", ABOUT_CERT_FILE, ABOUT_CERT_FILE),
+    )
 }
 
 fn draw_command<'a>(alloc: Global) -> Result<Command<'a>, AllocError>
     ensures { IfOk result (IsDefined draw) }
 {
-    let command = command_of(alloc, "draw", ABOUT_DRAW, LONG_ABOUT_DRAW)
-        .arg(wanted_word(alloc, "log", "LOG", ABOUT_LOG, LONG_ABOUT_LOG))?
-        .arg(optional_value(alloc, "cert", "CERT", ABOUT_DRAWN_CERT))?
-        .arg(optional_value(alloc, "names", "SCENARIO", ABOUT_NAMES))?
-        .arg(optional_value(alloc, "from", "ROW", ABOUT_FROM))?
-        .arg(optional_value(alloc, "to", "ROW", ABOUT_TO))?
-        .arg(optional_value(alloc, "svg", "FILE", ABOUT_SVG))?;
-    Ok(command)
+    let command = log_command(alloc, "draw", ABOUT_DRAW, LONG_ABOUT_DRAW);
+    let command = with_arg(
+        command,
+        optional_value(alloc, "cert", "CERT", ABOUT_DRAWN_CERT),
+    );
+    let command = with_arg(
+        command,
+        optional_value(alloc, "names", "SCENARIO", ABOUT_NAMES),
+    );
+    let command = with_arg(command, optional_value(alloc, "from", "ROW", ABOUT_FROM));
+    let command = with_arg(command, optional_value(alloc, "to", "ROW", ABOUT_TO));
+    with_arg(command, optional_value(alloc, "svg", "FILE", ABOUT_SVG))
 }
 
 // The program's command, without its switch and without what it may be asked to do.
-fn bare_command<'a>(alloc: Global) -> Command<'a>
-    ensures { IsDefined (with_version (new_app (codes "koo_toueg"))) result }
+fn bare_command<'a>(alloc: Global) -> Result<Command<'a>, AllocError>
+    ensures { IfOk result (IsDefined (with_version (new_app (codes "koo_toueg")))) }
 {
-    Command::new(alloc, "koo_toueg")
-        .version(VERSION)
-        .about(ABOUT)
-        .after_help(STATUSES)
+    Ok(
+        Command::new(alloc, "koo_toueg")
+            .version(VERSION)
+            .about(ABOUT)
+            .after_help(STATUSES),
+    )
 }
 
 // The same with its switch.
 fn switched_command<'a>(alloc: Global) -> Result<Command<'a>, AllocError>
     ensures { IfOk result (IsDefined switched) }
 {
-    let command = bare_command(alloc).arg(plain_switch(alloc, "hints", ABOUT_HINTS))?;
-    Ok(command)
+    with_arg(
+        bare_command(alloc),
+        plain_switch(alloc, "hints", ABOUT_HINTS),
+    )
 }
 
 fn program_command<'a>(alloc: Global) -> Result<Command<'a>, AllocError>
     ensures { IfOk result (IsDefined program) }
 {
-    let command = switched_command(alloc)?
-        .subcommand(play_command(alloc)?)?
-        .subcommand(live_command(alloc)?)?
-        .subcommand(check_command(alloc)?)?
-        .subcommand(certify_command(alloc)?)?
-        .subcommand(draw_command(alloc)?)?;
-    Ok(command)
+    let command = with_subcommand(switched_command(alloc), play_command(alloc));
+    let command = with_subcommand(command, live_command(alloc));
+    let command = with_subcommand(command, check_command(alloc));
+    let command = with_subcommand(command, certify_command(alloc));
+    with_subcommand(command, draw_command(alloc))
 }
 
 // The text that the matches have for an argument.

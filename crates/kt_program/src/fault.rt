@@ -57,12 +57,12 @@ impl fmt::Display for AppFault {
             AppFault::Cert(fault) => fmt::Display::fmt(fault, f),
             AppFault::Run(fault) => fmt::Display::fmt(fault, f),
             AppFault::Live(fault) => fmt::Display::fmt(fault, f),
-            AppFault::Uncertified(_) => write!(f, "run: Uncertified"),
+            AppFault::Uncertified(_) => f.write_str("run: Uncertified"),
             AppFault::Unfit(why) => fmt::Display::fmt(why, f),
-            AppFault::RecordTooLong => write!(f, "record too long"),
+            AppFault::RecordTooLong => f.write_str("record too long"),
             AppFault::Picture(why) => fmt::Display::fmt(why, f),
-            AppFault::Write => write!(f, "write fault"),
-            AppFault::Memory => write!(f, "memory"),
+            AppFault::Write => f.write_str("write fault"),
+            AppFault::Memory => f.write_str("memory"),
         }
     }
 }
@@ -190,10 +190,10 @@ impl fmt::Display for ProgramFault {
 
     fn fmt<W: fmt::Write>(&self, f: &mut fmt::Formatter<W>) -> fmt::Result {
         match self {
-            ProgramFault::Line | ProgramFault::SameFile => write!(f, "command line refused"),
+            ProgramFault::Line | ProgramFault::SameFile => f.write_str("command line refused"),
             ProgramFault::Scenario(fault) => write!(f, "scenario {fault}"),
             ProgramFault::Steps(fault) => write!(f, "steps {fault}"),
-            ProgramFault::Read => write!(f, "read fault"),
+            ProgramFault::Read => f.write_str("read fault"),
             ProgramFault::App(fault) => fmt::Display::fmt(fault, f),
         }
     }

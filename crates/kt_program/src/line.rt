@@ -6,7 +6,7 @@ use crate::names::clash;
 use kt_draw::Span;
 
 /// A scenario that is to be played in an order of its own, or of which the steps are to be kept, with the names of files.
-#[derive(Clone, Copy, Debug, PartialEq, Eq)]
+#[derive(Clone, Copy)]
 pub struct OrderedPlay<'a> {
     /// The scenario.
     pub scenario: &'a str,
@@ -23,7 +23,7 @@ pub struct OrderedPlay<'a> {
 }
 
 /// A scenario that is to be run in threads, of which the steps are to be kept, with the names of files.
-#[derive(Clone, Copy, Debug, PartialEq, Eq)]
+#[derive(Clone, Copy)]
 pub struct RecordedLive<'a> {
     /// The scenario.
     pub scenario: &'a str,
@@ -36,7 +36,7 @@ pub struct RecordedLive<'a> {
 }
 
 /// What the words of a command line ask for, with the names of files.
-#[derive(Clone, Copy, Debug, PartialEq, Eq)]
+#[derive(Clone, Copy)]
 pub enum Asked<'a> {
     /// Play a scenario, perhaps with steps that come first, and write its log and its certificates where that is asked.
     Play {
@@ -76,7 +76,7 @@ pub enum Asked<'a> {
 
 /// A picture that is asked for: of which log, with which certificates, with the names of which scenario's objects, of which
 /// rows, and into which file, else to standard output.
-#[derive(Clone, Copy, Debug, PartialEq, Eq)]
+#[derive(Clone, Copy)]
 pub struct Drawing<'a> {
     pub log: &'a str,
     pub cert: Option<&'a str>,

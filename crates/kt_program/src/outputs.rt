@@ -23,6 +23,14 @@ pub enum Output<W> {
     Nowhere(Sink),
 }
 
+/// Where a log, certificates and the steps that are made go.
+#[derive(Drop)]
+pub(crate) struct RecordedOutputs<W> {
+    pub(crate) log: Output<W>,
+    pub(crate) cert: Output<W>,
+    pub(crate) kept: Output<W>,
+}
+
 impl<W: Write> Write for Output<W> {
     ghost contents = { contents_of W.contents };
 
@@ -73,21 +81,42 @@ pub(crate) fn recorded_outputs_of<F: Files>(
     log: Option<&str>,
     cert: Option<&str>,
     kept: Option<&str>,
-) -> Result<(Output<F::File>, Output<F::File>, Output<F::File>), ProgramFault>
+) -> Result<RecordedOutputs<F::File>, ProgramFault>
     ensures fault { IfErr result IsOfOutputs }
     ensures named { IfErr result (λ fault. fault ≡ program.SameFile →
         IsFileName log.entry ⊎ (IsFileName cert.entry ⊎ IsFileName kept.entry)) }
 {
-    let log_file = output_of(files, log)?;
-    let cert_file = output_of(files, cert)?;
-    let kept_file = output_of(files, kept)?;
+    let outputs = opened_outputs(files, log, cert, kept)?;
     if is_one_file(files, inputs, &[log, cert, kept]) {
         return Err(ProgramFault::SameFile);
     }
-    empty(&log_file)?;
-    empty(&cert_file)?;
-    empty(&kept_file)?;
-    Ok((log_file, cert_file, kept_file))
+    empty_all(&outputs)?;
+    Ok(outputs)
+}
+
+// The same files, only opened. What they have stays.
+fn opened_outputs<F: Files>(
+    files: &F,
+    log: Option<&str>,
+    cert: Option<&str>,
+    kept: Option<&str>,
+) -> Result<RecordedOutputs<F::File>, ProgramFault>
+    ensures { IsOkUnless result (program.App app.Write) }
+{
+    Ok(RecordedOutputs {
+        log: output_of(files, log)?,
+        cert: output_of(files, cert)?,
+        kept: output_of(files, kept)?,
+    })
+}
+
+// Empties files that were opened.
+fn empty_all<W: OpenFile>(outputs: &RecordedOutputs<W>) -> Result<(), ProgramFault>
+    ensures { IsOkUnless result (program.App app.Write) }
+{
+    empty(&outputs.log)?;
+    empty(&outputs.cert)?;
+    empty(&outputs.kept)
 }
 
 // Opens a file of this name, if one is given, or makes it. What it has stays.

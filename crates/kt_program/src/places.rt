@@ -162,7 +162,7 @@ fn record_of_fault<F: Files>(
 }
 
 // Gathers the step that a fault names, and what stands in its way.
-#[tactic(auto, using(crate::proofs::PlaceFacts::no_step, crate::proofs::PlaceFacts::one_step))]
+#[tactic(auto, using(crate::proofs::PlaceFacts::no_step))]
 fn push_step<F: Files>(
     files: &F,
     alloc: Global,
@@ -179,14 +179,31 @@ fn push_step<F: Files>(
     let Some(plan) = plan_again(files, alloc, asked) else {
         return Ok(());
     };
-    let Some(steps) = steps_again(files, alloc, asked, &plan) else {
+    push_step_of(files, alloc, lines, asked, fault, &plan)
+}
+
+// Gathers the step of a plan that a fault names, and what stands in its way.
+#[tactic(auto, using(crate::proofs::PlaceFacts::no_step, crate::proofs::PlaceFacts::one_step))]
+fn push_step_of<F: Files>(
+    files: &F,
+    alloc: Global,
+    lines: &mut Vec<u8>,
+    asked: &Asked<'_>,
+    fault: &ProgramFault,
+    plan: &Plan,
+) -> Result<(), Memory>
+    requires { IsPlanOfFile F.File.remaining plan.now }
+    ensures { OnOk result ((text : List ℕ) × (lines.new.items ≡ lines.old.items ++ text)
+        × IsStepOrNone F.File.remaining fault.now text) }
+{
+    let Some(steps) = steps_again(files, alloc, asked, plan) else {
         return Ok(());
     };
     let Some(step) = step_at(steps.as_slice(), step_of(fault)) else {
         return Ok(());
     };
-    push_one_step(alloc, lines, &plan, &step)?;
-    push_hindrance(alloc, lines, &plan, steps.as_slice(), step_of(fault))?;
+    push_one_step(alloc, lines, plan, &step)?;
+    push_hindrance(alloc, lines, plan, steps.as_slice(), step_of(fault))?;
     Ok(())
 }
 

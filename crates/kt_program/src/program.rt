@@ -94,24 +94,15 @@ pub fn carry_out<F: Files + Threads + Wait + Sync, O: Write>(
                 log,
                 cert,
             },
-        ) => match play_files(files, alloc, scenario, steps, log, cert, out) {
-            Ok(()) => Ok(Done::Played),
-            Err(fault) => Err(fault),
-        },
-        Ok(Asked::PlayInOrder(play)) => match record_files(files, alloc, &play, out) {
-            Ok(()) => Ok(Done::Played),
-            Err(fault) => Err(fault),
-        },
+        ) => play_files(files, alloc, scenario, steps, log, cert, out),
+        Ok(Asked::PlayInOrder(play)) => record_files(files, alloc, &play, out),
         Ok(
             Asked::Live {
                 scenario,
                 log,
                 cert,
             },
-        ) => match live_files(files, alloc, scenario, log, cert, out) {
-            Ok(()) => Ok(Done::Played),
-            Err(fault) => Err(fault),
-        },
+        ) => live_files(files, alloc, scenario, log, cert, out),
         Ok(Asked::LiveRecorded(live)) => record_live_files(files, alloc, &live, out),
         Ok(Asked::Check { log, cert }) => match check_files(files, alloc, log, cert, out) {
             Ok(passed) => Ok(Done::Judged(passed)),

@@ -1,6 +1,6 @@
 //! Why an input is refused, or a log has no certificates, in words.
 
-ghost use Rattle.std.specs.Prelude.{◌≡◌, ◌++◌, OnOk};
+ghost use Rattle.std.specs.Prelude.{◌≡◌, ◌++◌, OnOk, option_map};
 ghost use Rattle.kt_program.specs.Hints.{log_reason, reason_line, reason_lines, unfit_lines, unlinked_lines};
 ghost use Rattle.kt_program.specs.Reasons.{scenario_reason, steps_reason};
 
@@ -16,94 +16,71 @@ pub(crate) fn push_reason(lines: &mut Vec<u8>, fault: &ProgramFault) -> Result<(
     ensures { OnOk result (lines.new.items ≡ lines.old.items ++ reason_lines fault.now) }
 {
     match fault {
-        ProgramFault::Scenario(fault) => push_scenario_reason(lines, fault),
-        ProgramFault::Steps(fault) => push_steps_reason(lines, fault),
-        ProgramFault::App(AppFault::Log(fault)) => push_log_reason(lines, fault),
+        ProgramFault::Scenario(fault) => push_words(lines, scenario_reason(fault)),
+        ProgramFault::Steps(fault) => push_words(lines, steps_reason(fault)),
+        ProgramFault::App(AppFault::Log(fault)) => push_words(lines, log_reason(fault)),
         ProgramFault::App(AppFault::Unfit(why)) => push_unfit(lines, why),
         _ => Ok(()),
     }
 }
 
-// Gathers why a log is refused.
-fn push_log_reason(lines: &mut Vec<u8>, fault: &LogFault) -> Result<(), Memory>
-    ensures { OnOk result (lines.new.items ≡ lines.old.items ++ reason_line (log_reason fault.now)) }
+// Gathers why an input is refused, where there are words for that.
+fn push_words(lines: &mut Vec<u8>, words: Option<&str>) -> Result<(), Memory>
+    ensures { OnOk result (lines.new.items ≡ lines.old.items
+        ++ reason_line (option_map (λ s. s.now) words.entry)) }
+{
+    match words {
+        Some(words) => push_hint(lines, words, b""),
+        None => Ok(()),
+    }
+}
+
+// Why a log is refused.
+fn log_reason(fault: &LogFault) -> Option<&'static str>
+    ensures { option_map (λ s. s.now) result ≡ log_reason fault.now }
 {
     match fault {
-        LogFault::TooLong => push_hint(
-            lines,
+        LogFault::TooLong => Some(
             "a log has at most 16777216 rows, and without a first record kt,2,-,- at most 1048576",
-            b"",
         ),
-        LogFault::Version => push_hint(
-            lines,
-            "a first record that begins with kt is kt,2,-,-",
-            b"",
-        ),
-        _ => Ok(()),
+        LogFault::Version => Some("a first record that begins with kt is kt,2,-,-"),
+        _ => None,
     }
 }
 
-// Gathers what was expected of the line of a scenario that is refused.
-fn push_scenario_reason(lines: &mut Vec<u8>, fault: &ScenarioFault) -> Result<(), Memory>
-    ensures { OnOk result (lines.new.items ≡ lines.old.items ++ reason_line (scenario_reason fault.now)) }
+// What was expected of the line of a scenario that is refused.
+fn scenario_reason(fault: &ScenarioFault) -> Option<&'static str>
+    ensures { option_map (λ s. s.now) result ≡ scenario_reason fault.now }
 {
     match fault {
-        ScenarioFault::Command(_) => push_hint(
-            lines,
+        ScenarioFault::Command(_) => Some(
             "a line begins with object, send, checkpoint, rollback, fail or settle",
-            b"",
         ),
-        ScenarioFault::Words(_) => push_hint(
-            lines,
+        ScenarioFault::Words(_) => Some(
             "expected: object NAME KIND, send A B BODY, checkpoint A, rollback A, fail A or settle",
-            b"",
         ),
-        ScenarioFault::Name(_) => push_hint(
-            lines,
+        ScenarioFault::Name(_) => Some(
             "a name has 1 to 16 of a to z, 0 to 9 and _, and begins with a letter",
-            b"",
         ),
-        ScenarioFault::KindWord(_) => push_hint(lines, "a kind is sum, last or tail", b""),
-        ScenarioFault::Unknown(_) => push_hint(
-            lines,
-            "a name has an object line above the line that uses it",
-            b"",
-        ),
-        ScenarioFault::Number(_) => push_hint(
-            lines,
+        ScenarioFault::KindWord(_) => Some("a kind is sum, last or tail"),
+        ScenarioFault::Unknown(_) => Some("a name has an object line above the line that uses it"),
+        ScenarioFault::Number(_) => Some(
             "a body is . or a whole number of 64 bits, without a leading zero",
-            b"",
         ),
-        ScenarioFault::TooManyObjects(_) => push_hint(
-            lines,
-            "a scenario has at most 64 objects",
-            b"",
-        ),
-        ScenarioFault::TooManyCommands(_) => push_hint(
-            lines,
-            "a scenario has at most 4096 commands",
-            b"",
-        ),
-        _ => Ok(()),
+        ScenarioFault::TooManyObjects(_) => Some("a scenario has at most 64 objects"),
+        ScenarioFault::TooManyCommands(_) => Some("a scenario has at most 4096 commands"),
+        _ => None,
     }
 }
 
-// Gathers what was expected of the line of a text of steps that is refused.
-fn push_steps_reason(lines: &mut Vec<u8>, fault: &StepsFault) -> Result<(), Memory>
-    ensures { OnOk result (lines.new.items ≡ lines.old.items ++ reason_line (steps_reason fault.now)) }
+// What was expected of the line of a text of steps that is refused.
+fn steps_reason(fault: &StepsFault) -> Option<&'static str>
+    ensures { option_map (λ s. s.now) result ≡ steps_reason fault.now }
 {
     match fault {
-        StepsFault::Command(_) | StepsFault::Words(_) => push_hint(
-            lines,
-            "expected: do A or take AT FROM",
-            b"",
-        ),
-        StepsFault::Unknown(_) => push_hint(
-            lines,
-            "no object line of the scenario has this name",
-            b"",
-        ),
-        _ => Ok(()),
+        StepsFault::Command(_) | StepsFault::Words(_) => Some("expected: do A or take AT FROM"),
+        StepsFault::Unknown(_) => Some("no object line of the scenario has this name"),
+        _ => None,
     }
 }
 

@@ -1,9 +1,10 @@
 //! A scenario played in an order, or run by threads, from its files, with its steps written.
 
-ghost use Rattle.std.specs.Prelude.{◌≡◌, ◌⊎◌, Err, Some, IfOk, IfErr, OnOk};
+ghost use Rattle.std.specs.Prelude.{◌≡◌, ◌⊎◌, Some, IfOk, IfErr, OnOk};
 ghost use Rattle.kt_program.specs.declared.ending.Done.TheVariants.{Played};
 ghost use Rattle.kt_program.specs.declared.fault.ProgramFault.TheVariants as program;
-ghost use Rattle.kt_program.specs.Ending.{AppendsOrderedPlay, AppendsRecordedLive, AppendsReport, IsNotOfSteps, LeavesPlayed};
+ghost use Rattle.kt_program.specs.Ending.{AppendsOrderedPlay, AppendsRecordedLive, IsNotOfSteps, LeavesPlayed};
+ghost use Rattle.kt_program.specs.Inputs.{AreGiven, IsPlanOfFile};
 ghost use Rattle.kt_program.specs.Names.{IsFileName};
 ghost use Rattle.kt_program.specs.Recorded.{order_of};
 
@@ -11,9 +12,10 @@ use crate::ending::Done;
 use crate::fault::ProgramFault;
 use crate::line::{OrderedPlay, RecordedLive};
 use crate::outputs::recorded_outputs_of;
-use crate::playing::{scenario_in, steps_in};
+use crate::playing::{GivenPlay, given_play, scenario_in};
 use crate::recorded::record_objects;
 use crate::recorded_live::record_live_objects;
+use kt_plan::Plan;
 use kt_run::Order;
 use std::alloc::Global;
 use std::io::Write;
@@ -26,13 +28,13 @@ use std::thread::Threads;
 ///
 /// Files are made once the scenario and the steps were taken, and emptied once all are open.
 #[inline(never)]
-#[tactic(auto, using(crate::proofs::OrderedRuns::report_of_kept, crate::proofs::OrderedRuns::ordered_of_kept, crate::proofs::OrderedRuns::left_of_kept))]
 pub(crate) fn record_files<F: Files, O: Write>(
     files: &F,
     alloc: Global,
     play: &OrderedPlay<'_>,
     out: &mut O,
-) -> Result<(), ProgramFault>
+) -> Result<Done, ProgramFault>
+    ensures done { IfOk result (λ what. what ≡ Played) }
     ensures output { LeavesPlayed result (O.contents out.old) (O.contents out.new) }
     // The run whose report is written is that of the scenario; it begins with the steps that were read, and goes on as the
     // seed draws them.
@@ -42,23 +44,41 @@ pub(crate) fn record_files<F: Files, O: Write>(
     ensures named { IfErr result (λ fault. fault ≡ program.SameFile →
         IsFileName play.now.log ⊎ (IsFileName play.now.cert ⊎ IsFileName play.now.kept)) }
 {
-    let plan = scenario_in(files, alloc, play.scenario)?;
-    let given = steps_in(files, alloc, play.steps, &plan)?;
+    let given = given_play(files, alloc, play.scenario, play.steps)?;
+    record_given(files, alloc, &given, play, out)
+}
+
+// Plays a scenario that was read, as `record_files` does.
+#[tactic(auto, using(crate::proofs::OrderedRuns::report_of_kept, crate::proofs::OrderedRuns::ordered_of_kept, crate::proofs::OrderedRuns::left_of_kept))]
+fn record_given<F: Files, O: Write>(
+    files: &F,
+    alloc: Global,
+    given: &GivenPlay,
+    play: &OrderedPlay<'_>,
+    out: &mut O,
+) -> Result<Done, ProgramFault>
+    requires planned { IsPlanOfFile F.File.remaining given.now.plan }
+    requires given { AreGiven F.File.remaining play.now.steps given.now.plan.names given.now.steps.items }
+    ensures done { IfOk result (λ what. what ≡ Played) }
+    ensures output { LeavesPlayed result (O.contents out.old) (O.contents out.new) }
+    ensures ordered { OnOk result (AppendsOrderedPlay F.File.remaining play.now.steps play.now.seed (O.contents out.old)
+        (O.contents out.new)) }
+    ensures named { IfErr result (λ fault. fault ≡ program.SameFile →
+        IsFileName play.now.log ⊎ (IsFileName play.now.cert ⊎ IsFileName play.now.kept)) }
+{
     let inputs = [Some(play.scenario), play.steps];
-    let (mut log, mut cert, mut kept) = recorded_outputs_of(
-        files, &inputs, play.log, play.cert, play.kept,
-    )?;
+    let mut outputs = recorded_outputs_of(files, &inputs, play.log, play.cert, play.kept)?;
     record_objects(
         alloc,
-        &plan,
-        given.as_slice(),
+        &given.plan,
+        given.steps.as_slice(),
         order_of(play.seed),
-        &mut log,
-        &mut cert,
-        &mut kept,
+        &mut outputs.log,
+        &mut outputs.cert,
+        &mut outputs.kept,
         out,
     )?;
-    Ok(())
+    Ok(Done::Played)
 }
 
 /// Runs the scenario in a file, each object in a thread of its own, and writes its log and its certificates into files where
@@ -66,7 +86,6 @@ pub(crate) fn record_files<F: Files, O: Write>(
 ///
 /// Files are made once the scenario was taken, and emptied once all are open.
 #[inline(never)]
-#[tactic(auto, using(crate::proofs::KeptLives::report_of_lived, crate::proofs::KeptLives::lived_of_file, crate::proofs::KeptLives::left_of_lived))]
 pub(crate) fn record_live_files<F: Files + Threads + Wait + Sync, O: Write>(
     rt: &F,
     alloc: Global,
@@ -74,8 +93,7 @@ pub(crate) fn record_live_files<F: Files + Threads + Wait + Sync, O: Write>(
     out: &mut O,
 ) -> Result<Done, ProgramFault>
     ensures done { IfOk result (λ what. what ≡ Played) }
-    ensures report { OnOk result (AppendsReport (O.contents out.old) (O.contents out.new)) }
-    ensures unwritten { IfErr result (λ fault. LeavesPlayed (Err fault) (O.contents out.old) (O.contents out.new)) }
+    ensures output { LeavesPlayed result (O.contents out.old) (O.contents out.new) }
     // The run whose report is written is that of the scenario, and is made again by its steps.
     ensures lived { OnOk result (AppendsRecordedLive F.File.remaining (O.contents out.old) (O.contents out.new)) }
     ensures fault { IfErr result IsNotOfSteps }
@@ -84,14 +102,37 @@ pub(crate) fn record_live_files<F: Files + Threads + Wait + Sync, O: Write>(
         IsFileName live.now.log ⊎ (IsFileName live.now.cert ⊎ IsFileName (Some live.now.kept))) }
 {
     let plan = scenario_in(rt, alloc, live.scenario)?;
-    let (mut log, mut cert, mut kept) = recorded_outputs_of(
+    record_live_given(rt, alloc, &plan, live, out)
+}
+
+// Runs a scenario that was read, as `record_live_files` does.
+#[tactic(auto, using(crate::proofs::KeptLives::report_of_lived, crate::proofs::KeptLives::lived_of_file, crate::proofs::KeptLives::left_of_lived))]
+fn record_live_given<F: Files + Threads + Wait + Sync, O: Write>(
+    rt: &F,
+    alloc: Global,
+    plan: &Plan,
+    live: &RecordedLive<'_>,
+    out: &mut O,
+) -> Result<Done, ProgramFault>
+    requires { IsPlanOfFile F.File.remaining plan.now }
+    ensures done { IfOk result (λ what. what ≡ Played) }
+    ensures output { LeavesPlayed result (O.contents out.old) (O.contents out.new) }
+    ensures lived { OnOk result (AppendsRecordedLive F.File.remaining (O.contents out.old) (O.contents out.new)) }
+    ensures fault { IfErr result IsNotOfSteps }
+    ensures named { IfErr result (λ fault. fault ≡ program.SameFile →
+        IsFileName live.now.log ⊎ (IsFileName live.now.cert ⊎ IsFileName (Some live.now.kept))) }
+{
+    let inputs = [Some(live.scenario)];
+    let mut outputs = recorded_outputs_of(rt, &inputs, live.log, live.cert, Some(live.kept))?;
+    record_live_objects(
         rt,
-        &[Some(live.scenario)],
-        live.log,
-        live.cert,
-        Some(live.kept),
+        alloc,
+        plan,
+        &mut outputs.log,
+        &mut outputs.cert,
+        &mut outputs.kept,
+        out,
     )?;
-    record_live_objects(rt, alloc, &plan, &mut log, &mut cert, &mut kept, out)?;
     Ok(Done::Played)
 }
 

@@ -1,7 +1,7 @@
-use Rattle.kt_program.proofs.Commands.{arg_added}
 use Rattle.kt_program.proofs.ask.play_command.Goals as goal
 
 pub returns : goal.returns
 returns c =
-    let log = arg_added _ _ _ _ _ c.in_ok-play_order_command.ensures c.optional_word.ensures c.in_ok-arg.ensures in
-    arg_added _ _ _ _ _ log c.optional_word-2.ensures c.in_ok-command.ensures
+    let steps = c.with_arg-command.ensures _ _ c.scenario_command-command.ensures c.optional_word.ensures in
+    let seed = c.with_arg-command-2.ensures _ _ steps c.numeric_word.ensures in
+    c.with_outputs.ensures _ (c.with_arg-command-3.ensures _ _ seed c.optional_word-2.ensures)

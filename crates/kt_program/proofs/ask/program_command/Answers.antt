@@ -1,10 +1,9 @@
-use Rattle.kt_program.proofs.Commands.{subcommand_added}
 use Rattle.kt_program.proofs.ask.program_command.Goals as goal
 
 pub returns : goal.returns
 returns c =
-    let play = subcommand_added _ _ _ _ _ c.in_ok-switched_command.ensures c.in_ok-play_command.ensures c.in_ok-subcommand.ensures in
-    let live = subcommand_added _ _ _ _ _ play c.in_ok-live_command.ensures c.in_ok-subcommand-2.ensures in
-    let check = subcommand_added _ _ _ _ _ live c.in_ok-check_command.ensures c.in_ok-subcommand-3.ensures in
-    let certify = subcommand_added _ _ _ _ _ check c.in_ok-certify_command.ensures c.in_ok-subcommand-4.ensures in
-    subcommand_added _ _ _ _ _ certify c.in_ok-draw_command.ensures c.in_ok-command.ensures
+    let play = c.with_subcommand-command.ensures _ _ c.switched_command.ensures c.play_command.ensures in
+    let live = c.with_subcommand-command-2.ensures _ _ play c.live_command.ensures in
+    let check = c.with_subcommand-command-3.ensures _ _ live c.check_command.ensures in
+    let certify = c.with_subcommand-command-4.ensures _ _ check c.certify_command.ensures in
+    c.with_subcommand.ensures _ _ certify c.draw_command.ensures

@@ -1,5 +1,4 @@
-use Rattle.kt_program.proofs.Commands.{arg_added}
 use Rattle.kt_program.proofs.ask.switched_command.Goals as goal
 
 pub returns : goal.returns
-returns c = arg_added _ _ _ _ _ c.bare_command.ensures c.plain_switch.ensures c.in_ok-command.ensures
+returns c = c.with_arg.ensures _ _ c.bare_command.ensures c.plain_switch.ensures
