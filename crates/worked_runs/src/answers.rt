@@ -12,6 +12,7 @@ use kt_log_text::read_csv;
 use kt_program::{Done, ProgramFault, check_bytes, end};
 use kt_spacetime::SpaceTime;
 use std::alloc::Global;
+use std::io::{Read, Write};
 use std::{fs, io};
 
 // What stands behind a log, and what stands behind its certificates.
@@ -19,19 +20,28 @@ const CERT_MARK: &str = "\n--\n";
 
 const MARK: &str = "\n----\n";
 
-// Writes to either stream what the program writes of a log and its certificates; its exit status.
-fn write_answer(
+/// Judges a log and its certificates, as the program tells of it.
+pub(crate) fn judged<L: Read + Drop, C: Read + Drop, W: Write>(
     alloc: Global,
-    log: &[u8],
+    log: L,
+    cert: C,
+    out: &mut W,
+) -> Result<Done, ProgramFault> {
+    match check_bytes(alloc, log, cert, out) {
+        Ok(passed) => Ok(Done::Judged(passed)),
+        Err(fault) => Err(ProgramFault::App(fault)),
+    }
+}
+
+/// Writes to either stream what the program writes of a log and its certificates; its exit status.
+pub(crate) fn write_answer<L: Read + Drop>(
+    alloc: Global,
+    log: L,
     cert: &[u8],
     out: &mut Vec<u8>,
     err: &mut Vec<u8>,
 ) -> u8 {
-    let outcome = match check_bytes(alloc, log, cert, out) {
-        Ok(passed) => Ok(Done::Judged(passed)),
-        Err(fault) => Err(ProgramFault::App(fault)),
-    };
-    end(outcome, err)
+    end(judged(alloc, log, cert, out), err)
 }
 
 // The answer to lists of rows and of certificates, as a line.
@@ -72,8 +82,14 @@ fn note_of(
     }
 }
 
-// Shows an exit status, what was written to either stream, and what is said of the lists.
-fn show_written<R: Host>(rt: &R, status: u8, out: &[u8], err: &[u8], note: &str) -> io::Result<()> {
+/// Shows an exit status, what was written to either stream, and what is said beside.
+pub(crate) fn show_written<R: Host>(
+    rt: &R,
+    status: u8,
+    out: &[u8],
+    err: &[u8],
+    note: &str,
+) -> io::Result<()> {
     let out = value_of(std::str::from_utf8(out))?;
     let err = value_of(std::str::from_utf8(err))?;
     println!(rt; "{status}, {out:?}, {err:?}{note}")
@@ -92,8 +108,8 @@ fn show_kept<R: Host>(
     show_written(rt, status, out.as_slice(), err.as_slice(), note)
 }
 
-// Shows what the program writes of a log and its certificates.
-fn show_answer<R: Host>(rt: &R, log: &[u8], cert: &[u8]) -> io::Result<()> {
+/// Shows what the program writes of a log and its certificates.
+pub(crate) fn show_answer<R: Host>(rt: &R, log: &[u8], cert: &[u8]) -> io::Result<()> {
     let alloc = rt.alloc();
     show_kept(rt, log, cert, &mut Vec::new(alloc), &mut Vec::new(alloc))
 }

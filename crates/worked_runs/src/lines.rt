@@ -2,8 +2,9 @@
 //!
 //! It prints each command line, what the program prints for it to either stream, and its exit status. Other lines make
 //! files: `text 3 x` adds the line `x` three times to a text, and `file NAME` writes that text into a file; or tell whether
-//! two files have the same: `same NAME OTHER`.
+//! two files have the same: `same NAME OTHER`; or make a run whose writers or readers fail: `fails out koo_toueg --version`.
 use crate::commands::{Host, add_words, are_same, value_of};
+use crate::failing::show_failing;
 use crate::lists::Left;
 use kt_program::{Words, run_words};
 use std::{fs, io};
@@ -69,6 +70,7 @@ pub(crate) fn do_line<R: Host>(rt: &R, line: &str, left: &mut Left) -> io::Resul
         Some(("text", words)) => add_lines(left, words),
         Some(("file", name)) => write_file(rt, name, left),
         Some(("same", names)) => compare_files(rt, names),
+        Some(("fails", words)) => show_failing(rt, words),
         _ => run_line(rt, line, left),
     }
 }

@@ -2,11 +2,12 @@
 //! readers tell it, the checker's answer in both formats, whether what is written is what was read, its answer to
 //! certificates that are made after each row, and whether those made of its text are the stored ones. Then plays each
 //! scenario that a stored run is of, some in many drawn orders, and runs each in threads, and shows some as pictures. Then
-//! shows what the program writes of other texts and command lines, and the line of each fault, and runs the callers that
+//! shows what the program writes of other texts and command lines, and of words that are no texts, the line of each fault,
+//! and what comes of a reader that is always interrupted and of the longest logs, and runs the callers that
 //! `docs/CALLING.md` shows. Then shows runs over objects of its own: that can't be saved or brought back, that a plan does
 //! not ask for, and that wait for one another; what is left of them, and what is written, by writers that fail too; worlds
-//! at their limits, and how many parcels instances put. Last, runs the program on command lines over stored files, and ends
-//! with the status of the last one.
+//! at their limits, and how many parcels instances put. Last, runs the program by readers and writers that fail, and on
+//! command lines over stored files, and ends with the status of the last one.
 #![tactic(auto)]
 
 mod again;
@@ -16,6 +17,7 @@ mod certified;
 mod commands;
 mod counter;
 mod facts;
+mod failing;
 mod faults;
 mod judging;
 mod lines;
@@ -32,8 +34,10 @@ mod readers;
 mod running;
 mod runs;
 mod seeds;
+mod sources;
 mod staged;
 mod stepping;
+mod system_words;
 mod texts;
 mod worlds;
 
@@ -45,9 +49,11 @@ use lists::{Left, List, show_list};
 use long::show_long;
 use made::show_many;
 use running::show_runs;
+use sources::show_sources;
 use std::io;
 use std::process::ExitCode;
 use stepping::show_stepped;
+use system_words::show_lines;
 
 // Shows the runs of each list, and runs at their limits.
 fn show_all_runs<R: Host>(rt: &R, left: &mut Left) -> io::Result<()> {
@@ -65,7 +71,9 @@ fn show_all_answers<R: Host>(rt: &R, left: &mut Left) -> io::Result<()> {
     show_answers(rt, "answers.txt")?;
     show_beginnings(rt, "a-rollback-through-three")?;
     show_list(rt, &List::Commands, "lines.txt", left)?;
-    show_faults(rt)
+    show_lines(rt)?;
+    show_faults(rt)?;
+    show_sources(rt)
 }
 
 // Runs the callers.
@@ -83,6 +91,7 @@ fn show_all_cases<R: Host>(rt: &R, left: &mut Left) -> io::Result<()> {
     show_list(rt, &List::Meetings, "meetings", left)?;
     show_list(rt, &List::Failing, "failing", left)?;
     show_list(rt, &List::Worlds, "worlds", left)?;
+    show_list(rt, &List::Commands, "streams", left)?;
     show_list(rt, &List::Commands, "made", left)?;
     show_list(rt, &List::Commands, "lines", left)
 }

@@ -5,18 +5,21 @@ use std::alloc::Global;
 use std::io;
 use std::io::Write;
 
-/// Takes a byte a call, and fails at one call; a flush is a call.
+/// Takes a byte a call, and hands over what it took when it is flushed; it fails at one call, a flush too.
 #[derive(Drop)]
 pub(crate) struct Paper {
     taken: Vec<u8>,
+    given: usize,
     calls: usize,
     fails_at: usize,
 }
 
 impl Paper {
-    fn new(alloc: Global, fails_at: usize) -> Paper {
+    /// A paper that fails at this call.
+    pub(crate) fn new(alloc: Global, fails_at: usize) -> Paper {
         Paper {
             taken: Vec::new(alloc),
+            given: 0,
             calls: 0,
             fails_at,
         }
@@ -25,6 +28,12 @@ impl Paper {
     /// What it has taken.
     pub(crate) fn taken(&self) -> &[u8] {
         self.taken.as_slice()
+    }
+
+    /// What it has handed over.
+    pub(crate) fn given(&self) -> &[u8] {
+        let count = self.given.min(self.taken.len());
+        &self.taken[..count]
     }
 
     /// Whether it has taken all of this text.
@@ -57,7 +66,9 @@ impl Write for Paper {
     }
 
     fn flush(&mut self) -> io::Result<()> {
-        self.call()
+        self.call()?;
+        self.given = self.taken.len();
+        Ok(())
     }
 }
 
