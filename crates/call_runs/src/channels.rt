@@ -69,7 +69,9 @@ fn show_left<R: Print>(rt: &R, channels: &mut Channels) -> io::Result<()>
 
 /// Shows which parcels stay where messages above a label are taken out, and that room that cannot be had is refused.
 pub(crate) fn show_channels<R: Print + AllocGlobal>(rt: &R) -> io::Result<()> {
-    let mut channels = value_of(Channels::new(rt.alloc(), 2))?;
+    let Ok(mut channels) = Channels::new(rt.alloc(), 2) else {
+        return refused();
+    };
     put_three(&mut channels)?;
     let is_there = drop_and_ask(&mut channels)?;
     println!(rt; "parcels above a label are taken out; with room for 2^64 more: {is_there}")?;

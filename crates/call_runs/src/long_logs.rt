@@ -81,11 +81,8 @@ fn show_put_back<R: Print>(rt: &R, run: &mut Run) -> io::Result<()> {
 
 // Shows that room that cannot be had is refused, and that a row is added then.
 fn show_refused_room<R: Print>(rt: &R, run: &mut Run) -> io::Result<()> {
-    let is_there = run.log.reserve(usize::MAX).is_ok();
-    println!(rt;
-        "a log with room for 2^64 rows more: {is_there}, {}",
-        run.log.spare()
-    )?;
+    let (is_there, spare) = (run.log.reserve(usize::MAX).is_ok(), run.log.spare());
+    println!(rt; "a log with room for 2^64 rows more: {is_there}, {spare}")?;
     value_of(pass_rounds(run, 1))?;
     show_walk(rt, "passed", &run.walk)
 }
