@@ -5,6 +5,9 @@ const LINE_FEED: &[u8] = b"\n";
 
 const MARKER: &[u8] = b"\n----\n";
 
+/// From how many bytes on it is only shown how much is read of a text.
+pub(crate) const MANY: usize = 400;
+
 /// A text and what it shows.
 #[derive(Clone, Copy)]
 pub(crate) struct Entry<'a> {

@@ -16,13 +16,7 @@ pub(crate) enum Reading {
     Certified,
 }
 
-// Whether a reader that fails at this call is a read fault of a whole log.
-fn fails_whole(alloc: Global, text: &[u8], call: usize) -> bool {
-    let read = read_csv(alloc, FailingReader::new(text, call));
-    read.err() == Some(LogFault::Read)
-}
-
-// Whether it is one row by row, and stays one.
+// Whether a reader that fails at this call is a read fault row by row, and stays one.
 fn fails_again(alloc: Global, text: &[u8], call: usize) -> bool {
     match RowReader::new(alloc, FailingReader::new(text, call)) {
         Ok(mut rows) => stays_failed(&mut rows),
@@ -30,34 +24,18 @@ fn fails_again(alloc: Global, text: &[u8], call: usize) -> bool {
     }
 }
 
-// Whether it is a read fault of certificates.
-fn fails_certificates(alloc: Global, text: &[u8], call: usize) -> bool {
-    let read = read_certs(alloc, FailingReader::new(text, call));
-    read.err() == Some(CertTextFault::Read)
-}
-
-// Whether it is a read fault of a log that certificates are made of.
-fn fails_certified(alloc: Global, text: &[u8], call: usize) -> bool {
-    let read = certify_stream(alloc, FailingReader::new(text, call));
-    read.err() == Some(StreamFault::Log(LogFault::Read))
-}
-
 // Whether it is a read fault.
 fn fails_at(alloc: Global, reading: Reading, text: &[u8], call: usize) -> bool {
+    let reader = FailingReader::new(text, call);
     match reading {
-        Reading::Log => fails_whole(alloc, text, call) && fails_again(alloc, text, call),
-        Reading::Certificates => fails_certificates(alloc, text, call),
-        Reading::Certified => fails_certified(alloc, text, call),
+        Reading::Log => {
+            read_csv(alloc, reader).err() == Some(LogFault::Read) && fails_again(alloc, text, call)
+        }
+        Reading::Certificates => read_certs(alloc, reader).err() == Some(CertTextFault::Read),
+        Reading::Certified => {
+            certify_stream(alloc, reader).err() == Some(StreamFault::Log(LogFault::Read))
+        }
     }
-}
-
-// At how many of so many calls it is one.
-fn count_faults(alloc: Global, reading: Reading, text: &[u8], calls: usize) -> usize {
-    let mut faults: usize = 0;
-    for call in 0..calls {
-        faults = faults.saturating_add(usize::from(fails_at(alloc, reading, text, call)));
-    }
-    faults
 }
 
 /// Shows at how many calls of a reader it is a read fault, and a note.
@@ -68,6 +46,10 @@ pub(crate) fn show_failing_reads<R: Print + AllocGlobal>(
     note: &str,
 ) -> io::Result<()> {
     let calls = text.len().saturating_add(1);
-    let faults = count_faults(rt.alloc(), reading, text, calls);
+    let mut faults: usize = 0;
+    for call in 0..calls {
+        let fails = fails_at(rt.alloc(), reading, text, call);
+        faults = faults.saturating_add(usize::from(fails));
+    }
     println!(rt; "  of {calls} calls that fail {faults} are a read fault{note}")
 }

@@ -4,7 +4,7 @@ use crate::entries::Entry;
 use crate::failing_reads::{Reading, show_failing_reads};
 use crate::faults::refused;
 use crate::long_text::{LongText, parts_of};
-use crate::writing::{Form, show_failing_writes, show_written};
+use crate::writing::{Form, show_written};
 use kt_log_text::{LogFault, RowReader, read_csv};
 use kt_spacetime::Event;
 use std::io;
@@ -12,15 +12,6 @@ use std::io::Read;
 
 // What a call for the next row answers.
 type Answer = Result<Option<Event>, LogFault>;
-
-// Shows a row, or that there is none, or why, behind a comma.
-fn show_answer<R: Print>(rt: &R, answer: Answer) -> io::Result<()> {
-    match answer {
-        Ok(Some(row)) => print!(rt; ", {row:?}"),
-        Ok(None) => print!(rt; ", the end"),
-        Err(fault) => print!(rt; ", {fault}"),
-    }
-}
 
 // Reads rows one by one, and counts them; the first answer that is none.
 fn count_rows<R: Read + Drop>(rows: &mut RowReader<R>, count: &mut u32) -> Answer {
@@ -45,52 +36,39 @@ pub(crate) fn stays_failed<R: Read + Drop>(rows: &mut RowReader<R>) -> bool {
     is_read_fault(count_rows(rows, &mut 0)) && is_read_fault(rows.next())
 }
 
-// Shows how many rows there are, and what the next two calls answer.
-fn show_answers<R: Print>(rt: &R, count: u32, first: Answer, second: Answer) -> io::Result<()> {
-    print!(rt; "{count} rows")?;
-    show_answer(rt, first)?;
-    show_answer(rt, second)?;
-    println!(rt)
-}
-
 // Shows how many rows are read one by one, and what the next two calls answer.
 fn show_count<R: Print, S: Read + Drop>(rt: &R, rows: &mut RowReader<S>) -> io::Result<()> {
     let mut count = 0;
     let first = count_rows(rows, &mut count);
-    show_answers(rt, count, first, rows.next())
+    let second = rows.next();
+    println!(rt; "{count} rows, then {first:?} and {second:?}")
 }
 
 // Shows how many rows of a log are read one by one from a reader.
-fn show_one_by_one<R: Print + AllocGlobal, S: Read + Drop>(rt: &R, reader: S) -> io::Result<()> {
+fn show_one_by_one<R: Print + AllocGlobal, S: Read + Drop>(
+    rt: &R,
+    title: &str,
+    reader: S,
+) -> io::Result<()> {
+    print!(rt; "{title}: ")?;
     match RowReader::new(rt.alloc(), reader) {
         Ok(mut rows) => show_count(rt, &mut rows),
         Err(_) => refused(),
     }
 }
 
-fn show_each_row<R: Print>(rt: &R, rows: &[Event]) -> io::Result<()> {
+// Shows the rows of a log, what is written of them, and what failing readers and writers make of it.
+fn show_rows<R: Print + AllocGlobal>(rt: &R, text: &[u8], rows: &[Event]) -> io::Result<()> {
     for row in rows {
         println!(rt; "  {row:?}")?;
     }
-    Ok(())
-}
-
-// Shows the rows of a log, what is written of them, and what failing readers and writers make of it.
-fn show_rows<R: Print + AllocGlobal>(rt: &R, text: &[u8], rows: &[Event]) -> io::Result<()> {
-    show_each_row(rt, rows)?;
     show_written(rt, Form::Log, text)?;
-    show_failing_reads(rt, Reading::Log, text, ", again and again")?;
-    show_failing_writes(rt, Form::Log, text, 7)
-}
-
-fn show_title<R: Print>(rt: &R, title: &str) -> io::Result<()> {
-    print!(rt; "{title}: ")
+    show_failing_reads(rt, Reading::Log, text, ", again and again")
 }
 
 /// Shows what is read of a stored log.
 pub(crate) fn show_log<R: Print + AllocGlobal>(rt: &R, entry: &Entry) -> io::Result<()> {
-    show_title(rt, entry.title)?;
-    show_one_by_one(rt, entry.text)?;
+    show_one_by_one(rt, entry.title, entry.text)?;
     match read_csv(rt.alloc(), entry.text) {
         Ok(log) => show_rows(rt, entry.text, log.rows()),
         Err(fault) => println!(rt; "  {fault}"),
@@ -99,7 +77,6 @@ pub(crate) fn show_log<R: Print + AllocGlobal>(rt: &R, entry: &Entry) -> io::Res
 
 /// Shows how many rows are read of a log that is told.
 pub(crate) fn show_long_log<R: Print + AllocGlobal>(rt: &R, entry: &Entry) -> io::Result<()> {
-    show_title(rt, entry.title)?;
     let parts = parts_of(rt.alloc(), entry)?;
-    show_one_by_one(rt, LongText::new(parts.as_slice()))
+    show_one_by_one(rt, entry.title, LongText::new(parts.as_slice()))
 }

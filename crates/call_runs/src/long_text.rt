@@ -25,22 +25,12 @@ fn part_of(alloc: Global, line: &str) -> io::Result<Part> {
     Ok(Part { piece, times })
 }
 
-// Adds the parts that these lines tell of.
-fn add_parts_of(alloc: Global, parts: &mut Vec<Part>, lines: &str) -> io::Result<()> {
-    for line in lines.lines() {
-        value_of(parts.push(part_of(alloc, line)?))?;
-    }
-    Ok(())
-}
-
 /// The parts that a stored text tells of.
 pub(crate) fn parts_of(alloc: Global, entry: &Entry) -> io::Result<Vec<Part>> {
     let mut parts = Vec::new(alloc);
-    add_parts_of(
-        alloc,
-        &mut parts,
-        std::str::from_utf8(entry.text).unwrap_or(""),
-    )?;
+    for line in std::str::from_utf8(entry.text).unwrap_or("").lines() {
+        value_of(parts.push(part_of(alloc, line)?))?;
+    }
     Ok(parts)
 }
 
@@ -63,19 +53,14 @@ impl LongText<'_> {
         }
     }
 
-    // Begins the next part, if there is one.
-    fn begin_part(&mut self) {
-        if let Some((part, rest)) = self.parts.split_first() {
+    // Begins the next piece, if there is one.
+    fn go_on(&mut self) {
+        if self.times == 0
+            && let Some((part, rest)) = self.parts.split_first()
+        {
             self.parts = rest;
             self.piece = part.piece.as_bytes();
             self.times = part.times;
-        }
-    }
-
-    // What comes after what is given up.
-    fn go_on(&mut self) {
-        if self.times == 0 {
-            self.begin_part();
         }
         if self.times > 0 {
             self.left = self.piece;
@@ -96,24 +81,10 @@ impl Read for LongText<'_> {
     }
 }
 
-// Adds a part to a text.
-fn add_part(text: &mut Vec<u8>, part: &Part) -> io::Result<()> {
-    for _ in 0..part.times {
-        text.extend_from_slice(part.piece.as_bytes())?;
-    }
-    Ok(())
-}
-
-// Adds parts to a text.
-fn add_parts(text: &mut Vec<u8>, parts: &[Part]) -> io::Result<()> {
-    for part in parts {
-        add_part(text, part)?;
-    }
-    Ok(())
-}
-
-/// Adds what a stored text tells to another one.
-pub(crate) fn tell(alloc: Global, entry: &Entry, text: &mut Vec<u8>) -> io::Result<()> {
+/// The text that a stored one tells, whole.
+pub(crate) fn told(alloc: Global, entry: &Entry) -> io::Result<Vec<u8>> {
     let parts = parts_of(alloc, entry)?;
-    add_parts(text, parts.as_slice())
+    let mut text = Vec::new(alloc);
+    LongText::new(parts.as_slice()).read_to_end(&mut text)?;
+    Ok(text)
 }

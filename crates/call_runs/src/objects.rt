@@ -1,114 +1,58 @@
-//! Calls of objects, as lines spell them, and what objects answer.
+//! Saved states of objects, byte for byte.
 
-use crate::faults::{refused, value_of};
+use crate::faults::value_of;
 use kt_base::ProcNo;
 use kt_object::{Last, Recoverable, SlotBook, SlotGuard, Sum, Tail};
 use std::io;
 
-// Adds the bytes that these numbers spell.
-fn add_bytes(bytes: &mut Vec<u8>, numbers: &str) -> io::Result<()> {
-    for number in numbers.split(' ') {
-        bytes.push(number.parse::<u8>().unwrap_or(0))?;
-    }
-    Ok(())
-}
-
-fn show_number<R: Print>(rt: &R, line: &str, number: i64) -> io::Result<()> {
-    println!(rt; "{line}: {number}")
-}
-
-// Lets an object take a body in.
-fn apply<O: Recoverable>(object: &mut O, body: &str) -> io::Result<()> {
-    object.apply(ProcNo::nth(3), body.parse::<i64>().unwrap_or(0));
-    Ok(())
-}
-
-// Saves an object behind what is held, and shows all that is held then.
-fn show_saved<R: Print, O: Recoverable>(
-    rt: &R,
-    object: &O,
-    held: &mut Vec<u8>,
-    line: &str,
-) -> io::Result<()> {
-    value_of(object.save(held))?;
-    println!(rt; "{line}: {held:?}")
-}
-
-// Shows whether an object takes these bytes, and what it offers then.
-fn show_restored<R: Print, O: Recoverable>(
+// Shows the state of an object that took these bodies in, and whether a spare one takes it.
+fn show_state<R: Print + AllocGlobal, O: Recoverable>(
     rt: &R,
     object: &mut O,
-    line: &str,
-    bytes: &[u8],
+    spare: &mut O,
+    bodies: &[i64],
 ) -> io::Result<()> {
-    let answer = object.restore(bytes);
-    let offered = object.offer();
-    println!(rt; "{line}: {answer:?}, offer {offered}")
-}
-
-// The same of bytes that numbers spell, behind others.
-fn show_spelled<R: Print, O: Recoverable>(
-    rt: &R,
-    object: &mut O,
-    line: &str,
-    numbers: &str,
-    bytes: &mut Vec<u8>,
-) -> io::Result<()> {
-    add_bytes(bytes, numbers)?;
-    show_restored(rt, object, line, bytes.as_slice())
-}
-
-// Makes a call that a line spells, and shows what is answered.
-fn show_call<R: Print + AllocGlobal, O: Recoverable>(
-    rt: &R,
-    object: &mut O,
-    held: &mut Vec<u8>,
-    line: &str,
-) -> io::Result<()> {
-    let (word, numbers) = line.split_once(' ').unwrap_or((line, ""));
-    match word {
-        "kind" => show_number(rt, line, i64::from(object.kind())),
-        "apply" => apply(object, numbers),
-        "offer" => show_number(rt, line, object.offer()),
-        "hold" => add_bytes(held, numbers),
-        "save" => show_saved(rt, object, held, line),
-        "restore" => show_spelled(rt, object, line, numbers, &mut Vec::new(rt.alloc())),
-        "restore-nothing" => show_restored(rt, object, line, b"".as_slice()),
-        _ => refused(),
+    for body in bodies {
+        object.apply(ProcNo::nth(3), *body);
     }
+    let mut state = Vec::new(rt.alloc());
+    value_of(object.save(&mut state))?;
+    let (kind, offered) = (object.kind(), object.offer());
+    println!(rt; "  kind {kind}, offers {offered}, saved {state:?}")?;
+    let answer = spare.restore(state.as_slice());
+    let offered = spare.offer();
+    println!(rt; "  restored {answer:?}, offers {offered}")
 }
 
-fn show_calls<R: Print + AllocGlobal, O: Recoverable>(
+fn guard(book: &mut SlotBook) -> io::Result<SlotGuard> {
+    value_of(book.open())
+}
+
+fn show_sum<R: Print + AllocGlobal>(rt: &R, book: &mut SlotBook) -> io::Result<()> {
+    let (mut object, mut spare) = (Sum::new(guard(book)?), Sum::new(guard(book)?));
+    show_state(rt, &mut object, &mut spare, &[7, -2])
+}
+
+fn show_last<R: Print + AllocGlobal>(rt: &R, book: &mut SlotBook) -> io::Result<()> {
+    let (mut object, mut spare) = (Last::new(guard(book)?), Last::new(guard(book)?));
+    show_state(rt, &mut object, &mut spare, &[3, i64::MAX])
+}
+
+fn show_tail<R: Print + AllocGlobal>(
     rt: &R,
-    object: &mut O,
-    held: &mut Vec<u8>,
-    calls: &str,
+    book: &mut SlotBook,
+    bodies: &[i64],
 ) -> io::Result<()> {
-    for line in calls.lines() {
-        show_call(rt, object, held, line)?;
-    }
-    Ok(())
+    let (mut object, mut spare) = (Tail::new(guard(book)?), Tail::new(guard(book)?));
+    show_state(rt, &mut object, &mut spare, bodies)
 }
 
-// Shows what an object of a kind answers.
-fn show_kind<R: Print + AllocGlobal>(
-    rt: &R,
-    kind: &str,
-    guard: SlotGuard,
-    held: &mut Vec<u8>,
-    calls: &str,
-) -> io::Result<()> {
-    match kind {
-        "sum" => show_calls(rt, &mut Sum::new(guard), held, calls),
-        "last" => show_calls(rt, &mut Last::new(guard), held, calls),
-        "tail" => show_calls(rt, &mut Tail::new(guard), held, calls),
-        _ => refused(),
-    }
-}
-
-/// Shows what an object of the kind of the first line answers to the calls of the others.
-pub(crate) fn show_object_calls<R: Print + AllocGlobal>(rt: &R, lines: &str) -> io::Result<()> {
-    let (kind, calls) = lines.split_once('\n').unwrap_or((lines, ""));
-    let guard = value_of(SlotBook::new(rt.alloc()).open())?;
-    show_kind(rt, kind, guard, &mut Vec::new(rt.alloc()), calls)
+/// Shows saved states of each kind of object, and that a spare object of the kind takes each.
+pub(crate) fn show_objects<R: Print + AllocGlobal>(rt: &R) -> io::Result<()> {
+    let mut book = SlotBook::new(rt.alloc());
+    println!(rt; "saved states")?;
+    show_sum(rt, &mut book)?;
+    show_last(rt, &mut book)?;
+    show_tail(rt, &mut book, &[])?;
+    show_tail(rt, &mut book, &[1, 2, 3, 4, 5, 6, 7, 8, 9])
 }

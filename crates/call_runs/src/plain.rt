@@ -1,10 +1,9 @@
-//! The plain reader alone, of logs with so many rows that a scan for each row or cut would not end in time.
+//! The plain reader, of a log of 2^20 rows: that no row and no cut takes time for each row of the log.
 
-use crate::faults::refused;
-use crate::rows::rows_of;
-use crate::run::{MOST_ROWS, Run};
-use kt_base::{Memory, ProcNo};
-use kt_cuts::{Cut, LegalFault};
+use crate::faults::{refused, value_of};
+use crate::run::add_row;
+use kt_base::{MsgNo, ProcNo};
+use kt_cuts::Cut;
 use kt_histories::{Histories, legal};
 use kt_spacetime::{Event, SpaceTime};
 use std::alloc::Global;
@@ -13,44 +12,19 @@ use std::io;
 // After how many rounds a cut is looked at, and again.
 const APART: usize = 128;
 
-// Adds rows to a log, which no reader judges.
-fn add_rows(log: &mut SpaceTime, rows: &[Event]) -> Result<(), Memory> {
-    for row in rows {
-        log.reserve(1)?;
-        if log.rows().len() < MOST_ROWS {
-            log.push_reserved(*row);
-        }
-    }
-    Ok(())
-}
-
-// What is said of a log with more rows.
-fn judged(alloc: Global, log: &mut SpaceTime, rows: &[Event]) -> Result<(), LegalFault> {
-    add_rows(log, rows)?;
-    legal(alloc, log)
-}
-
-// Shows what is said of a log with more rows.
-fn show_legal<R: Print + AllocGlobal>(
-    rt: &R,
-    log: &mut SpaceTime,
-    rows: &[Event],
-) -> io::Result<()> {
-    match judged(rt.alloc(), log, rows) {
-        Ok(()) => print!(rt; "legal"),
-        Err(fault) => print!(rt; "{fault}"),
+// Shows what is said of a log.
+fn show_judged<R: Print + AllocGlobal>(rt: &R, log: &SpaceTime) -> io::Result<()> {
+    match legal(rt.alloc(), log) {
+        Ok(()) => println!(rt; "  judged: legal"),
+        Err(fault) => println!(rt; "  judged: {fault}"),
     }
 }
 
-/// Adds a row to the log alone, if there is one, and shows what is said of the log.
-pub(crate) fn show_judged<R: Print + AllocGlobal>(
-    rt: &R,
-    run: &mut Run,
-    row: &str,
-) -> io::Result<()> {
-    match rows_of(rt.alloc(), row) {
-        Some(rows) => show_legal(rt, &mut run.log, rows.rows()),
-        None => refused(),
+// The histories of a legal log.
+fn histories_of(alloc: Global, log: &SpaceTime) -> io::Result<Histories> {
+    match legal(alloc, log) {
+        Ok(()) => value_of(Histories::of(alloc, log, log.rows().len())),
+        Err(_) => refused(),
     }
 }
 
@@ -66,28 +40,32 @@ fn is_sent_next(found: &Histories, p: ProcNo, rounds: usize) -> bool {
     }
 }
 
-// Of how many processes that is so.
-fn count_sent_next(found: &Histories, rounds: usize) -> u32 {
-    let mut count: u32 = 0;
-    for number in 0..ProcNo::COUNT {
-        let is_so = is_sent_next(found, ProcNo::nth(number), rounds);
-        count = count.saturating_add(u32::from(is_so));
-    }
-    count
-}
-
 // Of how many cuts that is so.
-fn count_all(found: &Histories) -> u32 {
+fn count_sent_next(found: &Histories) -> u32 {
     let mut count: u32 = 0;
     for step in 0..found.length(ProcNo::nth(0)) / 2 / APART {
-        let more = count_sent_next(found, step.saturating_mul(APART));
-        count = count.saturating_add(more);
+        for number in 0..ProcNo::COUNT {
+            let is_so = is_sent_next(found, ProcNo::nth(number), step.saturating_mul(APART));
+            count = count.saturating_add(u32::from(is_so));
+        }
     }
     count
 }
 
-/// Shows of how many cuts of messages round a ring that is so.
-pub(crate) fn show_first_orphans<R: Print>(rt: &R, found: &Histories) -> io::Result<()> {
-    let count = count_all(found);
-    print!(rt; "{count} as the ring has them")
+// Shows of how many cuts of messages round a ring that is so.
+fn show_first_orphans<R: Print + AllocGlobal>(rt: &R, log: &SpaceTime) -> io::Result<()> {
+    let found = histories_of(rt.alloc(), log)?;
+    println!(rt;
+        "  first orphans: {} as the ring has them",
+        count_sent_next(&found)
+    )
+}
+
+/// Shows what the plain reader says of messages round a ring, and of the log with a row more, which breaks a rule.
+pub(crate) fn show_ring<R: Print + AllocGlobal>(rt: &R, log: &mut SpaceTime) -> io::Result<()> {
+    show_judged(rt, log)?;
+    show_first_orphans(rt, log)?;
+    let (p, from, msg) = (ProcNo::nth(1), ProcNo::nth(0), MsgNo::after(0));
+    value_of(add_row(log, Event::Received { p, from, msg }))?;
+    show_judged(rt, log)
 }

@@ -6,8 +6,26 @@ use kt_spacetime::{Event, SpaceTime};
 use kt_walk::Walk;
 use std::alloc::Global;
 
-/// The limit of a log's rows.
-pub(crate) const MOST_ROWS: usize = 16_777_216;
+// The limit of a log's rows.
+const MOST_ROWS: usize = 16_777_216;
+
+/// Adds a row to a log; of a full log it is a fault, as for want of memory.
+pub(crate) fn add_row(log: &mut SpaceTime, row: Event) -> Result<(), LegalFault> {
+    log.reserve(1)?;
+    if log.rows().len() >= MOST_ROWS {
+        return Err(LegalFault::Memory);
+    }
+    log.push_reserved(row);
+    Ok(())
+}
+
+/// Feeds a row to a walk; after as many rows as there may be it is a fault, as for want of memory.
+pub(crate) fn feed(walk: &mut Walk, row: &Event) -> Result<(), LegalFault> {
+    if walk.rows() >= MOST_ROWS {
+        return Err(LegalFault::Memory);
+    }
+    walk.feed(row)
+}
 
 /// The rows that were taken, and the walk that took them.
 #[derive(Drop)]
@@ -23,15 +41,10 @@ impl Run {
         Ok(Run { log, walk })
     }
 
-    /// Feeds a row, and adds it to the log where it is taken; why it is refused, of a full log as for want of memory.
+    /// Feeds a row, and adds it to the log where it is taken.
     pub(crate) fn add(&mut self, row: Event) -> Result<(), LegalFault> {
-        if self.walk.rows() >= MOST_ROWS || self.log.rows().len() >= MOST_ROWS {
-            return Err(LegalFault::Memory);
-        }
-        self.log.reserve(1)?;
-        self.walk.feed(&row)?;
-        self.log.push_reserved(row);
-        Ok(())
+        feed(&mut self.walk, &row)?;
+        add_row(&mut self.log, row)
     }
 
     /// A process sends a message; its number.

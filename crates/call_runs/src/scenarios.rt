@@ -1,16 +1,9 @@
 //! What is read of scenarios, and of steps over a plan.
 
-use crate::entries::Entry;
-use crate::heads::{show_count, show_fault};
+use crate::entries::{Entry, MANY};
 use kt_plan::{Plan, Step};
 use kt_scenario::{parse, parse_steps};
 use std::io;
-
-// Shows how many objects and commands a scenario has.
-fn show_counts<R: Print>(rt: &R, title: &str, plan: &Plan) -> io::Result<()> {
-    let (objects, commands) = (plan.names.len(), plan.commands.len());
-    println!(rt; "{title}: {objects} objects, {commands} commands")
-}
 
 fn show_objects<R: Print>(rt: &R, plan: &Plan) -> io::Result<()> {
     let names = plan.names.list();
@@ -27,58 +20,45 @@ fn show_commands<R: Print>(rt: &R, plan: &Plan) -> io::Result<()> {
     Ok(())
 }
 
-// Shows a plan: how much it has, its objects and its commands.
-fn show_plan<R: Print>(rt: &R, title: &str, plan: &Plan) -> io::Result<()> {
-    show_counts(rt, title, plan)?;
+// Shows how many objects and commands a scenario has; where its text is not long, also which.
+fn show_plan<R: Print>(rt: &R, entry: &Entry, plan: &Plan) -> io::Result<()> {
+    let (title, objects, commands) = (entry.title, plan.names.len(), plan.commands.len());
+    println!(rt; "{title}: {objects} objects, {commands} commands")?;
+    if entry.text.len() >= MANY {
+        return Ok(());
+    }
     show_objects(rt, plan)?;
     show_commands(rt, plan)
 }
 
-/// Shows what is read of a stored scenario.
+/// Shows what is read of a scenario.
 pub(crate) fn show_scenario<R: Print + AllocGlobal>(rt: &R, entry: &Entry) -> io::Result<()> {
     match parse(rt.alloc(), entry.text) {
-        Ok(plan) => show_plan(rt, entry.title, &plan),
-        Err(fault) => show_fault(rt, entry.title, &fault),
+        Ok(plan) => show_plan(rt, entry, &plan),
+        Err(fault) => println!(rt; "{}: {fault}", entry.title),
     }
 }
 
-/// Shows how many objects and commands are read of a scenario.
-pub(crate) fn show_long_scenario<R: Print + AllocGlobal>(rt: &R, entry: &Entry) -> io::Result<()> {
-    match parse(rt.alloc(), entry.text) {
-        Ok(plan) => show_counts(rt, entry.title, &plan),
-        Err(fault) => show_fault(rt, entry.title, &fault),
+// Shows how many steps there are; where their text is not long, also which.
+fn show_list<R: Print>(rt: &R, entry: &Entry, steps: &[Step]) -> io::Result<()> {
+    println!(rt; "{}: {} steps", entry.title, steps.len())?;
+    if entry.text.len() >= MANY {
+        return Ok(());
     }
-}
-
-// Shows steps, and how many there are.
-fn show_list<R: Print>(rt: &R, title: &str, steps: &[Step]) -> io::Result<()> {
-    show_count(rt, title, steps.len(), "steps")?;
     for step in steps {
         println!(rt; "  {step:?}")?;
     }
     Ok(())
 }
 
-/// Shows what is read of a stored text of steps over a plan.
+/// Shows what is read of a text of steps over a plan.
 pub(crate) fn show_steps<R: Print + AllocGlobal>(
     rt: &R,
     plan: &Plan,
     entry: &Entry,
 ) -> io::Result<()> {
     match parse_steps(rt.alloc(), entry.text, plan) {
-        Ok(steps) => show_list(rt, entry.title, steps.as_slice()),
-        Err(fault) => show_fault(rt, entry.title, &fault),
-    }
-}
-
-/// Shows how many steps are read of a text, over a plan.
-pub(crate) fn show_long_steps<R: Print + AllocGlobal>(
-    rt: &R,
-    plan: &Plan,
-    entry: &Entry,
-) -> io::Result<()> {
-    match parse_steps(rt.alloc(), entry.text, plan) {
-        Ok(steps) => show_count(rt, entry.title, steps.len(), "steps"),
-        Err(fault) => show_fault(rt, entry.title, &fault),
+        Ok(steps) => show_list(rt, entry, steps.as_slice()),
+        Err(fault) => println!(rt; "{}: {fault}", entry.title),
     }
 }

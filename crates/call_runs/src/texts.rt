@@ -1,15 +1,14 @@
-//! Stored texts of logs, certificates, scenarios, steps and numbers: what is read of each, and what is written of it; what
-//! of it is read and written where a reader or a writer fails; what is read of texts that are too long; and the
-//! certificates of stored logs.
+//! Stored texts of logs, certificates, scenarios and steps: what is read of each, and what is written of it; what of it is
+//! read and written where a reader or a writer fails; what is read of texts that are too long; and the certificates and the
+//! reports of stored logs.
 
-use crate::certificates::{show_certificates, show_long_certificates};
+use crate::certificates::show_certificates;
 use crate::certified::show_certified;
 use crate::entries::{Entry, next_entry};
 use crate::faults::{refused, value_of};
 use crate::logs::{show_log, show_long_log};
-use crate::long_text::tell;
-use crate::numbers::show_numbers;
-use crate::scenarios::{show_long_scenario, show_long_steps, show_scenario, show_steps};
+use crate::long_text::told;
+use crate::scenarios::{show_scenario, show_steps};
 use crate::writing::{Form, show_pieces};
 use kt_plan::Plan;
 use kt_scenario::parse;
@@ -30,33 +29,23 @@ const FILES: [&str; 11] = [
     "long-steps",
 ];
 
-// Shows a text that was told, of one of the files.
+// Shows the text that a stored one tells.
 fn show_told<R: Print + AllocGlobal>(
     rt: &R,
     plan: &Plan,
     file: &str,
     entry: &Entry,
 ) -> io::Result<()> {
+    let (title, text) = (entry.title, told(rt.alloc(), entry)?);
+    let text = text.as_slice();
     match file {
-        "written-logs" => show_pieces(rt, Form::Log, entry),
-        "written-certificates" => show_pieces(rt, Form::Certificates, entry),
-        "long-scenarios" => show_long_scenario(rt, entry),
-        "long-steps" => show_long_steps(rt, plan, entry),
+        "written-logs" => show_pieces(rt, Form::Log, &Entry { title, text }),
+        "long-certificates" => show_certificates(rt, &Entry { title, text }),
+        "written-certificates" => show_pieces(rt, Form::Certificates, &Entry { title, text }),
+        "long-scenarios" => show_scenario(rt, &Entry { title, text }),
+        "long-steps" => show_steps(rt, plan, &Entry { title, text }),
         _ => refused(),
     }
-}
-
-// Shows the text that a stored one tells, behind what is held.
-fn show_teller<R: Print + AllocGlobal>(
-    rt: &R,
-    plan: &Plan,
-    file: &str,
-    entry: &Entry,
-    held: &mut Vec<u8>,
-) -> io::Result<()> {
-    tell(rt.alloc(), entry, held)?;
-    let (title, text) = (entry.title, held.as_slice());
-    show_told(rt, plan, file, &Entry { title, text })
 }
 
 // Shows a text of one of the files.
@@ -70,11 +59,10 @@ fn show_entry<R: Print + AllocGlobal>(
         "logs" => show_log(rt, entry),
         "long-logs" => show_long_log(rt, entry),
         "certificates" => show_certificates(rt, entry),
-        "long-certificates" => show_long_certificates(rt, entry),
-        "certified" => show_certified(rt, entry),
+        "certified" => show_certified(rt, plan, entry),
         "scenarios" => show_scenario(rt, entry),
         "steps" => show_steps(rt, plan, entry),
-        _ => show_teller(rt, plan, file, entry, &mut Vec::new(rt.alloc())),
+        _ => show_told(rt, plan, file, entry),
     }
 }
 
@@ -104,27 +92,12 @@ fn show_file(rt: &HostRuntime, plan: &Plan, file: &str) -> io::Result<()> {
     show_entries(rt, plan, file, bytes.as_slice())
 }
 
-fn show_files(rt: &HostRuntime, plan: &Plan) -> io::Result<()> {
-    for file in &FILES {
-        show_file(rt, plan, file)?;
-    }
-    Ok(())
-}
-
-fn show_number_file(rt: &HostRuntime) -> io::Result<()> {
-    let lines = fs::read_to_string(rt, "numbers")?;
-    show_numbers(rt, lines.as_str())
-}
-
-// The plan that stored steps are read over.
-fn stored_plan(rt: &HostRuntime) -> io::Result<Plan> {
-    let text = fs::read(rt, "plan")?;
-    value_of(parse(rt.alloc(), text.as_slice()))
-}
-
 /// Shows the texts of each file.
 pub(crate) fn show_texts(rt: &HostRuntime) -> io::Result<()> {
-    show_number_file(rt)?;
-    let plan = stored_plan(rt)?;
-    show_files(rt, &plan)
+    let text = fs::read(rt, "plan")?;
+    let plan = value_of(parse(rt.alloc(), text.as_slice()))?;
+    for file in &FILES {
+        show_file(rt, &plan, file)?;
+    }
+    Ok(())
 }

@@ -1,33 +1,35 @@
-//! What is written of logs and certificates that were read, and where a writer fails.
+//! What is written of logs and certificates that were read, and of reports, and where a writer fails.
 
 use crate::entries::Entry;
 use crate::failing::FailingWriter;
 use crate::faults::refused;
+use kt_certify::certify;
 use kt_chain::{read_certs, write_certs};
 use kt_log_text::{read_csv, write_csv};
+use kt_plan::Plan;
+use kt_report::report;
+use kt_spacetime::SpaceTime;
 use std::alloc::Global;
 use std::io;
 use std::io::Write;
 
-// So many bytes that a writer takes each piece whole.
-const WHOLE_PIECES: usize = 1_000_000;
-
-/// What a text says.
+/// What is written of a text: the log or the certificates that it says, or the report of that log, as of a run of a plan.
 #[derive(Clone, Copy)]
-pub(crate) enum Form {
+pub(crate) enum Form<'a> {
     Log,
     Certificates,
+    Report(&'a Plan),
 }
 
-// Reads a log and writes it; whether it is written.
-fn write_log<W: Write>(alloc: Global, text: &[u8], writer: &mut W) -> bool {
-    match read_csv(alloc, text) {
-        Ok(log) => write_csv(alloc, &log, writer).is_ok(),
+// Writes the report of a log, if it has certificates; whether it is written.
+fn report_log<W: Write>(alloc: Global, plan: &Plan, log: &SpaceTime, writer: &mut W) -> bool {
+    match certify(alloc, log) {
+        Ok(list) => report(alloc, plan, log, list.as_slice(), writer).is_ok(),
         Err(_) => false,
     }
 }
 
-// Reads certificates and writes them; whether they are written.
+// Writes certificates that are read; whether they are written.
 fn write_certificates<W: Write>(alloc: Global, text: &[u8], writer: &mut W) -> bool {
     match read_certs(alloc, text) {
         Ok(list) => write_certs(alloc, list.as_slice(), writer).is_ok(),
@@ -35,11 +37,20 @@ fn write_certificates<W: Write>(alloc: Global, text: &[u8], writer: &mut W) -> b
     }
 }
 
+// Writes a log that is read, or its report; whether it is written.
+fn write_of_log<W: Write>(alloc: Global, form: Form, text: &[u8], writer: &mut W) -> bool {
+    match (read_csv(alloc, text), form) {
+        (Ok(log), Form::Report(plan)) => report_log(alloc, plan, &log, writer),
+        (Ok(log), _) => write_csv(alloc, &log, writer).is_ok(),
+        (Err(_), _) => false,
+    }
+}
+
 // Reads a text and writes what it says; whether it is written.
 fn write_again<W: Write>(alloc: Global, form: Form, text: &[u8], writer: &mut W) -> bool {
     match form {
-        Form::Log => write_log(alloc, text, writer),
         Form::Certificates => write_certificates(alloc, text, writer),
+        _ => write_of_log(alloc, form, text, writer),
     }
 }
 
@@ -53,27 +64,6 @@ fn written(alloc: Global, form: Form, text: &[u8]) -> io::Result<Vec<u8>> {
     }
 }
 
-// Shows what is written of a text, and whether it is that text.
-fn show_whole<R: Print>(rt: &R, text: &[u8], whole: &[u8]) -> io::Result<()> {
-    let how = if whole == text {
-        "as it was read"
-    } else {
-        "otherwise"
-    };
-    print!(rt; "  written {how}:\n")?;
-    io::writer(rt).write_all(whole)
-}
-
-/// Shows what is written of a text that is read, and whether it is that text.
-pub(crate) fn show_written<R: Print + AllocGlobal>(
-    rt: &R,
-    form: Form,
-    text: &[u8],
-) -> io::Result<()> {
-    let whole = written(rt.alloc(), form, text)?;
-    show_whole(rt, text, whole.as_slice())
-}
-
 // Shows how many bytes a writer holds that failed, and whether they are a beginning of the text.
 fn show_held<R: Print>(rt: &R, whole: &[u8], held: &[u8]) -> io::Result<()> {
     let count = held.len();
@@ -85,76 +75,68 @@ fn show_held<R: Print>(rt: &R, whole: &[u8], held: &[u8]) -> io::Result<()> {
     print!(rt; " {count}{note}")
 }
 
-/// How a text is written again, and what of it is whole.
-#[derive(Clone, Copy)]
-struct Failing<'a> {
+// A writer that fails at this call, if it does not take the whole text before.
+fn failed(
+    alloc: Global,
     form: Form,
-    text: &'a [u8],
-    whole: &'a [u8],
+    text: &[u8],
     takes: usize,
-}
-
-// Shows what a writer holds that fails at this call; whether it did not fail.
-fn show_failing<R: Print + AllocGlobal>(
-    rt: &R,
-    failing: &Failing,
     call: usize,
-) -> io::Result<bool> {
-    let mut writer = FailingWriter::new(Vec::new(rt.alloc()), failing.takes, call);
-    let done = write_again(rt.alloc(), failing.form, failing.text, &mut writer);
-    if !done {
-        show_held(rt, failing.whole, writer.held())?;
+) -> Option<FailingWriter> {
+    let mut writer = FailingWriter::new(Vec::new(alloc), takes, call);
+    if write_again(alloc, form, text, &mut writer) {
+        None
+    } else {
+        Some(writer)
     }
-    Ok(done)
 }
 
-// Shows how many bytes of the whole text writers hold that fail at each call in turn; at which call none fails.
-fn show_each_failing<R: Print + AllocGlobal>(rt: &R, failing: &Failing) -> io::Result<usize> {
-    for call in 0..failing.whole.len().saturating_add(3) {
-        if show_failing(rt, failing, call)? {
-            return Ok(call);
+// Shows how many bytes of the whole text writers hold that fail at each call in turn, and in how many calls it is written.
+fn show_each_failing<R: Print + AllocGlobal>(
+    rt: &R,
+    form: Form,
+    text: &[u8],
+    whole: &[u8],
+    takes: usize,
+) -> io::Result<()> {
+    print!(rt; "  {takes} bytes a call:")?;
+    for call in 0..whole.len().saturating_add(3) {
+        match failed(rt.alloc(), form, text, takes, call) {
+            Some(writer) => show_held(rt, whole, writer.held())?,
+            None => return println!(rt; ", written in {call} calls"),
         }
     }
     refused()
 }
 
-// Shows the same, and in how many calls the whole text is written.
-fn show_calls<R: Print + AllocGlobal>(rt: &R, failing: &Failing) -> io::Result<()> {
-    print!(rt; "  {} bytes a call:", failing.takes)?;
-    let calls = show_each_failing(rt, failing)?;
-    println!(rt; ", written in {calls} calls")
-}
-
-/// Shows how many bytes of its text a writer holds that fails at each call in turn, and at which call there is none.
-pub(crate) fn show_failing_writes<R: Print + AllocGlobal>(
+/// Shows what is written of a text that is read, whether it is that text, and what writers hold that take seven bytes a call
+/// at most and fail at each call in turn.
+pub(crate) fn show_written<R: Print + AllocGlobal>(
     rt: &R,
     form: Form,
     text: &[u8],
-    takes: usize,
 ) -> io::Result<()> {
     let whole = written(rt.alloc(), form, text)?;
-    let failing = Failing {
-        form,
-        text,
-        whole: whole.as_slice(),
-        takes,
+    let whole = whole.as_slice();
+    let how = match form {
+        Form::Report(_) => "in a report",
+        _ if whole == text => "as it was read",
+        _ => "otherwise",
     };
-    show_calls(rt, &failing)
+    println!(rt; "  written {how}:")?;
+    io::writer(rt).write_all(whole)?;
+    show_each_failing(rt, form, text, whole, 7)
 }
 
-// Shows how many bytes are written of a text, and whether they are that text.
-fn show_length<R: Print + AllocGlobal>(rt: &R, form: Form, entry: &Entry) -> io::Result<()> {
-    let whole = written(rt.alloc(), form, entry.text)?;
-    let (title, count, same) = (entry.title, whole.len(), whole.as_slice() == entry.text);
-    println!(rt; "{title}: {count} bytes are written, as they were read: {same}")
-}
-
-/// Shows what is written of a text, and where a writer fails that takes each piece whole.
+/// Shows how much is written of a text, and what writers hold that take each piece whole.
 pub(crate) fn show_pieces<R: Print + AllocGlobal>(
     rt: &R,
     form: Form,
     entry: &Entry,
 ) -> io::Result<()> {
-    show_length(rt, form, entry)?;
-    show_failing_writes(rt, form, entry.text, WHOLE_PIECES)
+    let whole = written(rt.alloc(), form, entry.text)?;
+    let (title, whole) = (entry.title, whole.as_slice());
+    let (count, same) = (whole.len(), whole == entry.text);
+    println!(rt; "{title}: {count} bytes are written, as they were read: {same}")?;
+    show_each_failing(rt, form, entry.text, whole, 1_000_000)
 }
