@@ -77,13 +77,6 @@ impl Part {
         self.awaited
     }
 
-    /// Whether all replies so far were willing.
-    pub fn is_willing(&self) -> bool
-        ensures { result ≡ self.now.willing }
-    {
-        self.willing
-    }
-
     /// How the process goes on that has just joined.
     fn way_on(&self) -> Then
         ensures { result ≡ way_on self.now }

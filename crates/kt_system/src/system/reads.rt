@@ -143,15 +143,6 @@ impl System {
 
     /// The parcel that a process would take next from another one: the first that is held, where it is in no rollback,
     /// else the front of the channel.
-    pub fn next_parcel(&self, at: ProcNo, from: ProcNo) -> Option<Parcel>
-        requires at { at < self.now.size }
-        requires from { from < self.now.size }
-        ensures { result ≡ next_parcel self.now at from }
-    {
-        self.next_front(at, from).copied()
-    }
-
-    /// The parcel that a process would take next from another one, where it lies.
     #[tactic(auto, using(crate::proofs::Saving::next_unheld, crate::proofs::Saving::next_held, crate::proofs::Saving::next_sent))]
     fn next_front(&self, at: ProcNo, from: ProcNo) -> Option<&Parcel>
         requires at { at < self.now.size }
