@@ -1,11 +1,10 @@
 -- The line of a fault, made and written.
 use Rattle.std.proofs.Common.{◌≡◌, ◌∙◌, ℕ, List, [], ◌∷◌, ◌++◌, Option, None, Some, ap, subst}
 use Rattle.std.specs.Fmt.{WritesInCalls, option_append}
-use Rattle.std.specs.Io.KnownBytes.{Appends}
 use Rattle.std.specs.Prelude.{Result, Ok, Err, OnOk, OnErr, IfSome, codes}
 use Rattle.std.proofs.lemmas.Fmt.{contents_after_writes}
 use Rattle.kt_text.specs.Writing.{WritesFront}
-use Rattle.kt_text.proofs.PieceFacts.{front_all, front_none}
+use Rattle.kt_text.proofs.PieceFacts.{front_none}
 use Rattle.kt_program.specs.Faults.{fault_line}
 use Rattle.kt_program.specs.Stored.{BytesTold}
 
@@ -31,10 +30,3 @@ line_stopped (Err fault) P words bytes e p = of_bytes P words bytes e p
 pub line_unwritten : (a : BytesTold) (words : Option (List ℕ)) → IfSome words (λ text. WritesFront a a (fault_line text))
 line_unwritten a None = tt
 line_unwritten a (Some text) = front_none a (fault_line text)
-
--- all of the line, or a front part of it
-pub line_or_front : {T E : Type 0} (r : Result T E) (words : Option (List ℕ)) (a b : BytesTold) → OnOk r (IfSome words (λ text. Appends a b (fault_line text))) → OnErr r (IfSome words (λ text. WritesFront a b (fault_line text)))
-    → IfSome words (λ text. WritesFront a b (fault_line text))
-line_or_front (Ok u) None a b whole front = tt
-line_or_front (Ok u) (Some text) a b whole front = front_all a b (fault_line text) whole
-line_or_front (Err fault) words a b whole front = front

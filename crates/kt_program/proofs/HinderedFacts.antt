@@ -1,6 +1,6 @@
 -- What stands in the way of a step, gathered.
-use Rattle.std.proofs.Common.{◌≡◌, ◌∙◌, ℕ, List, [], ◌++◌, sym, subst, refl, inl, inr, append-nil}
-use Rattle.std.specs.Prelude.{IfSome, Option, Some, None, codes}
+use Rattle.std.proofs.Common.{◌≡◌, ℕ, List, [], ◌++◌, sym, refl, inl, inr, append-nil}
+use Rattle.std.specs.Prelude.{IfSome, Option, Some, None}
 use Rattle.kt_hints.specs.Shown.{hint_line}
 use Rattle.kt_plan.specs.Limits.{Planned}
 use Rattle.kt_plan.specs.declared.steps.Step.{Step}

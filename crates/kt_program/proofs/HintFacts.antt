@@ -1,9 +1,8 @@
 -- What is told below the line of a fault, gathered and written.
-use Rattle.std.proofs.Common.{◌≡◌, ◌∙◌, ◌<◌, ◌≤◌, arith, length, ℕ, Bool, List, [], ◌∷◌, ◌++◌, append_assoc, ap, sym, subst, refl, inl, inr, append-nil}
+use Rattle.std.proofs.Common.{◌≡◌, ◌∙◌, ◌≤◌, arith, length, ℕ, Bool, List, [], ◌∷◌, ◌++◌, append_assoc, ap, sym, subst, refl, inl, inr, append-nil}
 use Rattle.std.specs.Borrow.{Bor}
 use Rattle.std.specs.Prelude.{◌⊎◌, Any, IfSome, Option, Some, None, codes, Result, Ok, Err, OnOk, OnErr}
 use Rattle.std.specs.Io.KnownBytes.{Appends}
-use Rattle.std.specs.List.{flat_map}
 use Rattle.std.proofs.lemmas.Grind.{flat_map-append}
 use Rattle.clap.specs.Words.{Text, subcommand_of}
 use Rattle.kt_hints.specs.Shown.{hint_line}
@@ -11,9 +10,8 @@ use Rattle.kt_text.specs.Writing.{WritesFront}
 use Rattle.kt_text.proofs.PieceFacts.{front_all}
 use Rattle.kt_program.specs.Asking.{IsUnasked}
 use Rattle.kt_program.specs.Breaches.{IsBreachOrRule}
-use Rattle.kt_program.specs.Ending.{Ends, EndsOn}
+use Rattle.kt_program.specs.Ending.{Ends}
 use Rattle.kt_program.specs.Faults.{refusal_status}
-use Rattle.kt_program.specs.FaultTexts.{WritesLineOf}
 use Rattle.kt_program.specs.Hints.{AreHints, AreHintsTold, IsHintOfFile, IsHintOfWords, IsHinted, IsReadVerb, IsTried, IsTriedShown, WritesHints, file_line, file_of, reason_lines, said_lines, see_help, unmade_of, unread_of, written_lines}
 use Rattle.kt_program.specs.Inputs.{IsRead}
 use Rattle.kt_program.specs.Names.{Name}
@@ -111,15 +109,14 @@ written_front told words fault text (Ok u) old new are whole front = record { te
 written_front told words fault text (Err e) old new are whole front = record { text = text; are = are; front = front }
 
 -- the line of a fault alone
-pub line_alone : {F : Type 0} (told : F → BytesTold) (terminal : Bool) (words : List Text) (fault : ProgramFault) (old new : BytesTold) → WritesLineOf fault old new → IsHinted told terminal words fault old new
-line_alone told terminal words fault old new line = record { middle = new; line = line; below = inl refl }
+pub line_alone : {F : Type 0} (told : F → BytesTold) (terminal : Bool) (words : List Text) (fault : ProgramFault) (old new : BytesTold) → IsHinted told terminal words fault old new
+line_alone told terminal words fault old new = record { middle = new; below = inl refl }
 
 -- the line of a fault, and below it hints that are told
-pub line_hinted : {F : Type 0} (told : F → BytesTold) (terminal : Bool) (words : List Text) (fault : ProgramFault) (old middle new : BytesTold) → WritesLineOf fault old middle → AreHintsTold terminal words
+pub line_hinted : {F : Type 0} (told : F → BytesTold) (terminal : Bool) (words : List Text) (fault : ProgramFault) (old middle new : BytesTold) → AreHintsTold terminal words
     → (new ≡ middle) ⊎ WritesHints told words fault middle new → IsHinted told terminal words fault old new
-line_hinted told terminal words fault old middle new line asked below = record {
+line_hinted told terminal words fault old middle new asked below = record {
   middle = middle;
-  line = line;
   below = elim below [
     | inl same ↦ inl same
     | inr hints ↦ inr (asked, hints)
@@ -127,10 +124,10 @@ line_hinted told terminal words fault old middle new line asked below = record {
 }
 
 -- nothing was done, since the words are not known
-pub nothing_done : {F : Type 0} (told : F → BytesTold) (terminal : Bool) (fault : ProgramFault) (status : ℕ) (out old new : BytesTold) → status ≡ refusal_status fault → WritesLineOf fault old new
+pub nothing_done : {F : Type 0} (told : F → BytesTold) (terminal : Bool) (fault : ProgramFault) (status : ℕ) (out old new : BytesTold) → status ≡ refusal_status fault
     → Ends told terminal status out out old new
-nothing_done told terminal fault status out old new is line =
-    ([], record { outcome = Err fault; status_is = is; output = λ _. inl refl; quiet = tt; line = line_alone told terminal [] fault old new line })
+nothing_done told terminal fault status out old new is =
+    ([], record { outcome = Err fault; status_is = is; output = λ _. inl refl; quiet = tt; line = line_alone told terminal [] fault old new })
 
 -- what holds after one line, and after another one below it
 pub two_lines : {T E : Type 0} (r : Result T E) (old one two first second : List ℕ) → one ≡ old ++ first → OnOk r (two ≡ one ++ second)

@@ -1,5 +1,6 @@
 pub mod RunFacts
 pub mod Apart
+pub mod Opening
 pub mod Casting
 pub mod StoredLogs
 pub mod Commands
@@ -19,6 +20,6 @@ pub mod RunLaws
 pub mod OfOthers
 pub mod KeptRuns
 pub mod OrderedRuns
-pub mod KeptLives
+pub mod MadeRuns
 pub mod Seeds
 pub mod HinderedFacts

@@ -1,23 +1,18 @@
 -- What is written of runs whose steps are kept, and over new objects.
-use Rattle.std.proofs.Common.{◌≡◌, ◌≢◌, ◌<◌, ◌≤◌, ◌∙◌, ℕ, Some, None, inl, inr, List, ap, length, refl, subst, sym}
-use Rattle.std.specs.Prelude.{Option, Result, Ok, Err, IfOk, IfErr, IfSome, OnOk}
+use Rattle.std.proofs.Common.{◌≡◌, ◌≢◌, ◌<◌, ◌≤◌, ◌∙◌, Some, None, inl, inr, List, ap, length, refl, subst, sym}
+use Rattle.std.specs.Prelude.{Result, Ok, Err, IfOk, IfErr, IfSome, OnOk}
 use Rattle.std.specs.Io.KnownBytes.{Appends}
 use Rattle.kt_plans.specs.Follows.{FollowsPlan}
 use Rattle.kt_plans.specs.Headline.{IsPromised}
 use Rattle.kt_scenario.specs.Steps.{most_steps}
 use Rattle.kt_scenario.specs.Written.{steps_text}
 use Rattle.kt_text.specs.Writing.{WritesFront}
-use Rattle.kt_held.specs.Holdings.{Content}
 use Rattle.kt_plan.specs.Limits.{Planned}
 use Rattle.kt_plan.specs.declared.steps.Step.{Step}
 use Rattle.kt_spacetime.specs.declared.event.Event.{Event}
-use Rattle.kt_run.specs.Runs.{IsLogOfRun}
-use Rattle.kt_run.specs.declared.orders.Order.{Order}
-use Rattle.kt_program.specs.Ending.{AppendsOrderedPlay, AppendsReport, LeavesPlayed}
-use Rattle.kt_program.specs.Inputs.{AreGiven, IsPlanOfFile}
-use Rattle.kt_program.specs.Names.{Name}
-use Rattle.kt_program.specs.Played.{AreNew, IsOfWriting, OverNew, WritesRun, outputs}
-use Rattle.kt_program.specs.Recorded.{IsKeptRun, IsOfRecording, IsRecorded, KeptOutputs, OfSome, StopsRecording, WritesLog, WritesSteps, kept_outputs, order_of}
+use Rattle.kt_program.specs.Ending.{LeavesPlayed}
+use Rattle.kt_program.specs.Played.{IsOfWriting, WritesRun, outputs}
+use Rattle.kt_program.specs.Recorded.{IsOfRecording, IsRecorded, KeptOutputs, OfSome, StopsRecording, WritesLog, WritesSteps, kept_outputs}
 use Rattle.kt_program.specs.Stored.{BytesTold}
 use Rattle.kt_program.specs.declared.fault.AppFault.{AppFault}
 use Rattle.kt_program.specs.declared.fault.AppFault.TheVariants as app
@@ -48,44 +43,6 @@ module _ (Are Be : List Step → List Event → Type 0) (so : (steps : List Step
   recording_so (app.Log fault) s = s
   recording_so (app.Cert fault) s = s
 
--- over objects that are new
-pub kept_over_new : (plan : Planned) (cast : List (List Content)) (given : List Step) (order : Order) → AreNew plan cast → (steps : List Step) (rows : List Event) → IsKeptRun plan cast given order steps rows
-    → OverNew plan (λ c. IsKeptRun plan c given order steps) rows
-kept_over_new plan cast given order new steps rows run = (cast, new, run)
-
--- it is a run of the plan
-pub log_over_new : (plan : Planned) (given steps : List Step) (order : Order) (rows : List Event) → OverNew plan (λ c. IsKeptRun plan c given order steps) rows → OverNew plan (IsLogOfRun plan) rows
-log_over_new plan given steps order rows o = (o.0, o.1, (o.2.run.by.moves, o.2.run.by.run))
-
--- standard output has the report of such a run
-module _ (plan : Planned) (given : List Step) (order : Order) (l c r s l' c' r' s' : BytesTold) where
-  -- over new objects
-  abbrev New : List Step → List Event → Type 0
-  New made = OverNew plan (λ cast. IsKeptRun plan cast given order made)
-
-  pub report_of_kept : IsRecorded New plan (kept_outputs (outputs l c r) s) (kept_outputs (outputs l' c' r') s') → AppendsReport r r'
-  report_of_kept w = record {
-    plan = plan;
-    rows = w.1.rows;
-    run = log_over_new plan given w.0 order w.1.rows w.1.run;
-    follows = w.1.follows;
-    promised = w.1.promised;
-    report = w.1.writes.report;
-  }
-
-  pub ordered_of_kept : {F : Type 0} (told : F → BytesTold) (name : Name) (seed : Option ℕ) → order ≡ order_of seed → IsPlanOfFile told plan → AreGiven told name plan.names given
-      → IsRecorded New plan (kept_outputs (outputs l c r) s) (kept_outputs (outputs l' c' r') s') → AppendsOrderedPlay told name seed r r'
-  ordered_of_kept told name seed e planned begins w = record {
-    plan = plan;
-    planned = planned;
-    given = given;
-    begins = begins;
-    steps = w.0;
-    rows = w.1.rows;
-    played = subst (λ (o : Order). OverNew plan (λ cast. IsKeptRun plan cast given o w.0) w.1.rows) e w.1.run;
-    report = w.1.writes.report;
-  }
-
 -- or nothing new
 pub report_kept : (Are : List Step → List Event → Type 0) (plan : Planned) (old new : KeptOutputs) (fault : AppFault) → StopsRecording Are plan old new fault → fault ≢ app.Write → fault ≢ app.Memory
     → new.run.report ≡ old.run.report
@@ -93,7 +50,7 @@ report_kept Are plan old new (app.Run fault) s w m = ap (λ (o : KeptOutputs). o
 report_kept Are plan old new app.RecordTooLong s w m = s.3.log.report
 report_kept Are plan old new app.Write s w m = absurd (w refl)
 report_kept Are plan old new app.Memory s w m = absurd (m refl)
-report_kept Are plan old new (app.Live fault) s w m = absurd s
+report_kept Are plan old new (app.Live fault) s w m = ap (λ (o : KeptOutputs). o.run.report) s.1
 report_kept Are plan old new (app.Uncertified fault) s w m = absurd s
 report_kept Are plan old new (app.Unfit why) s w m = absurd s
 report_kept Are plan old new (app.Picture why) s w m = absurd s

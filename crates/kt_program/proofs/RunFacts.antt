@@ -1,5 +1,5 @@
 -- What is so of the log of a run: no member lacks a chain, and at its end, where all is quiet, no message is lost.
-use Rattle.std.proofs.Common.{◌≡◌, ℕ, Bool, true, false, List, [], ◌∷◌, Option, Some, None, refl, count_by, length}
+use Rattle.std.proofs.Common.{◌≡◌, ℕ, Bool, true, false, List, [], ◌∷◌, Option, Some, refl, count_by, length}
 use Rattle.std.specs.Prelude.{◌&&◌, not, slice_get, ◌-◌}
 use Rattle.std.specs.List.{range_with_len}
 use Rattle.kt_spacetime.specs.declared.event.Event.{Event}

@@ -1,5 +1,5 @@
 -- What the program has written where it ends.
-use Rattle.std.specs.Prelude.{◌≡◌, ◌≢◌, ◌⊎◌, ℕ, Bool, List, Option, Result, Ok, Err, OnOk, IfErr}
+use Rattle.std.specs.Prelude.{◌≡◌, ◌≢◌, ◌⊎◌, ℕ, Bool, List, None, Some, Result, Ok, Err, OnOk, IfErr}
 use Rattle.std.specs.Io.KnownBytes.{Appends}
 use Rattle.clap.specs.Words.{Text}
 use Rattle.kt_spacetime.specs.declared.event.Event.{Event}
@@ -17,9 +17,10 @@ use Rattle.kt_program.specs.declared.fault.AppFault.TheVariants as app
 use Rattle.kt_program.specs.declared.fault.ProgramFault.{ProgramFault}
 use Rattle.kt_program.specs.declared.fault.ProgramFault.TheVariants as program
 use Rattle.kt_program.specs.declared.line.Asked.{Asked}
+use Rattle.kt_program.specs.declared.line.Run.{Run}
 use Rattle.kt_program.specs.declared.line.Asked.TheVariants.{Certify, Check, Explain, Live, LiveRecorded, Play, PlayInOrder, Draw}
 use Rattle.kt_program.specs.Asking.{Ask, IsCertify, IsOfRun}
-use Rattle.kt_run.specs.Runs.{IsLogOfRun, IsPlayed}
+use Rattle.kt_run.specs.Runs.{IsLogOfRun}
 use Rattle.kt_program.specs.Certified.{CertifiesTo, LeavesCertificates}
 use Rattle.kt_program.specs.Drawn.{DrawsTo, LeavesPicture}
 use Rattle.kt_program.specs.Hints.{IsHinted}
@@ -27,8 +28,7 @@ use Rattle.kt_program.specs.Explained.{AppendsExplained}
 use Rattle.kt_program.specs.Inputs.{AreGiven, IsPlanOfFile}
 use Rattle.kt_program.specs.Names.{Name}
 use Rattle.kt_program.specs.Played.{OverNew}
-use Rattle.kt_program.specs.Recorded.{IsKeptRun, order_of}
-use Rattle.kt_program.specs.KeptLives.{IsKeptLive}
+use Rattle.kt_program.specs.Made.{IsMadeAs, lived_run, ordered_run, played_run, recorded_run, way_by}
 use Rattle.kt_program.specs.Status.{status_of}
 use Rattle.kt_program.specs.Stored.{BytesTold, is_yes, verdict_line}
 
@@ -50,35 +50,16 @@ pub record AppendsReport (old new : BytesTold) : Type 0 where
   pub promised : IsPromised rows
   pub report : Appends old new (report_of plan rows (certificates rows))
 
--- the report of a run over new objects, of a plan that a file says, which begins with the steps that are given
-pub record AppendsPlay {F : Type 0} (told : F → BytesTold) (name : Name) (old new : BytesTold) : Type 0 where
-  pub plan : Planned
-  pub planned : IsPlanOfFile told plan
-  pub steps : List Step
-  pub given : AreGiven told name plan.names steps
-  pub rows : List Event
-  pub played : OverNew plan (λ cast. IsPlayed plan cast steps) rows
-  pub report : Appends old new (report_of plan rows (certificates rows))
-
--- the report of a run over new objects, of a plan that a file says, which begins with the steps that are given and goes on
--- as a seed draws them, or by default
-pub record AppendsOrderedPlay {F : Type 0} (told : F → BytesTold) (name : Name) (seed : Option ℕ) (old new : BytesTold) : Type 0 where
+-- the report of a run over new objects, of a plan that a file says, which begins with the steps that are given and is made as
+-- is asked
+pub record AppendsRun {F : Type 0} (told : F → BytesTold) (asked : Run) (old new : BytesTold) : Type 0 where
   pub plan : Planned
   pub planned : IsPlanOfFile told plan
   pub given : List Step
-  pub begins : AreGiven told name plan.names given
+  pub begins : AreGiven told asked.steps plan.names given
   pub steps : List Step
   pub rows : List Event
-  pub played : OverNew plan (λ cast. IsKeptRun plan cast given (order_of seed) steps) rows
-  pub report : Appends old new (report_of plan rows (certificates rows))
-
--- the report of a run in threads over new objects, of a plan that a file says, of which the steps are kept
-pub record AppendsRecordedLive {F : Type 0} (told : F → BytesTold) (old new : BytesTold) : Type 0 where
-  pub plan : Planned
-  pub planned : IsPlanOfFile told plan
-  pub steps : List Step
-  pub rows : List Event
-  pub lived : OverNew plan (λ cast. IsKeptLive plan cast steps) rows
+  pub made : OverNew plan (λ cast. IsMadeAs (way_by asked.by asked.seed asked.kept) plan cast given steps) rows
   pub report : Appends old new (report_of plan rows (certificates rows))
 
 -- the run's report; at a fault nothing, unless a writer failed or there was no memory for more of the report
@@ -108,6 +89,11 @@ IsNotOfSteps (program.Steps fault) = ⊥
 IsNotOfSteps program.Read = Unit {0}
 IsNotOfSteps (program.App fault) = Unit {0}
 
+-- a fault of a text of steps only where one is named
+abbrev pub IsOfNamedSteps : Name → ProgramFault → Type 0
+IsOfNamedSteps None fault = IsNotOfSteps fault
+IsOfNamedSteps (Some name) fault = Unit {0}
+
 -- the same of all that the program does; nothing is said of the text of help
 abbrev pub LeavesDone : Done → BytesTold → BytesTold → Type 0
 LeavesDone (Judged passed) old new = AppendsAnswer passed old new
@@ -117,13 +103,12 @@ LeavesDone Certified old new = LeavesCertificates old new
 LeavesDone Drawn old new = LeavesPicture old new
 LeavesDone Shown old new = Unit {0}
 
--- what is written for what is asked: the report of the scenario played with the steps of the file that is named, by a seed
--- where one is given, or of a run by threads
+-- what is written for what is asked: the report of a run of the scenario, made as is asked
 abbrev pub Plays : {F : Type 0} → (F → BytesTold) → BytesTold → BytesTold → Asked → Type 0
-Plays told old new (Play scenario steps log cert) = AppendsPlay told steps old new
-Plays told old new (PlayInOrder play) = AppendsOrderedPlay told play.steps play.seed old new
-Plays told old new (Live scenario log cert) = AppendsReport old new
-Plays told old new (LiveRecorded live) = AppendsRecordedLive told old new
+Plays told old new (Play scenario steps log cert) = AppendsRun told (played_run scenario steps log cert) old new
+Plays told old new (PlayInOrder play) = AppendsRun told (ordered_run play) old new
+Plays told old new (Live scenario log cert) = AppendsRun told (lived_run scenario log cert) old new
+Plays told old new (LiveRecorded live) = AppendsRun told (recorded_run live) old new
 Plays told old new (Check log cert) = ⊥
 Plays told old new (Explain log cert) = ⊥
 Plays told old new (Certify log cert) = ⊥

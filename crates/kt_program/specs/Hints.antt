@@ -16,7 +16,6 @@ use Rattle.kt_run.specs.declared.faults.RunFault.TheVariants as run
 use Rattle.kt_text.specs.Writing.{WritesFront}
 use Rattle.kt_program.specs.Asking.{IsUnasked}
 use Rattle.kt_program.specs.Breaches.{IsBreachOrRule}
-use Rattle.kt_program.specs.FaultTexts.{WritesLineOf}
 use Rattle.kt_program.specs.Names.{Name}
 use Rattle.kt_program.specs.Places.{IsPlaceShown}
 use Rattle.kt_program.specs.Reasons.{scenario_reason, steps_reason}
@@ -300,8 +299,7 @@ pub record WritesHints {F : Type 0} (told : F → BytesTold) (words : List Text)
   pub are : AreHints told words fault text
   pub front : WritesFront old new text
 
--- the line of a fault, or a front part of it, and below it hints, where they are told
+-- below what is written of a fault's line, hints, where they are told
 pub record IsHinted {F : Type 0} (told : F → BytesTold) (terminal : Bool) (words : List Text) (fault : ProgramFault) (old new : BytesTold) : Type 0 where
   pub middle : BytesTold
-  pub line : WritesLineOf fault old middle
   pub below : (new ≡ middle) ⊎ (AreHintsTold terminal words × WritesHints told words fault middle new)

@@ -1,15 +1,12 @@
--- What is written of runs in threads of which the steps are kept.
-use Rattle.std.specs.Prelude.{◌≢◌, List}
+-- Runs in threads of which the steps are kept.
+use Rattle.std.specs.Prelude.{List}
 use Rattle.kt_spacetime.specs.declared.event.Event.{Event}
 use Rattle.kt_held.specs.Holdings.{Content}
 use Rattle.kt_plan.specs.declared.steps.Step.{Step}
 use Rattle.kt_plan.specs.Limits.{Planned}
 use Rattle.kt_plans.specs.Headline.{IsCertified}
 use Rattle.kt_run.specs.Orders.{IsRunBy}
-use Rattle.kt_threads.specs.declared.faults.LiveFault.TheVariants as live
-use Rattle.kt_program.specs.Recorded.{AreReadBack, AreUnwritten, IsPlayedAgain, KeptOutputs, StopsRecording}
-use Rattle.kt_program.specs.declared.fault.AppFault.{AppFault}
-use Rattle.kt_program.specs.declared.fault.AppFault.TheVariants as app
+use Rattle.kt_program.specs.Recorded.{AreReadBack, IsPlayedAgain}
 
 -- these are the rows of a run by just these steps, in whatever order threads made them; played again by these steps, which are
 -- read back as they are written, it is the same; and to its certificates the checker says yes
@@ -18,9 +15,3 @@ pub record IsKeptLive (plan : Planned) (cast : List (List Content)) (steps : Lis
   pub again : IsPlayedAgain plan cast steps rows
   pub read : AreReadBack plan steps
   pub certified : IsCertified rows
-
--- what is written where such a run by such steps, in threads, is not written to its end
-abbrev pub StopsRecordingLive : (List Step → List Event → Type 0) → Planned → KeptOutputs → KeptOutputs → AppFault → Type 0
-StopsRecordingLive Are plan old new (app.Live fault) = (fault ≢ live.Memory) × AreUnwritten old new
-StopsRecordingLive Are plan old new (app.Run fault) = ⊥
-StopsRecordingLive Are plan old new fault = StopsRecording Are plan old new fault

@@ -5,7 +5,9 @@ pub mod Drawn
 pub mod Explained
 pub mod Ending
 pub mod Faults
+pub mod Files
 pub mod Inputs
+pub mod Made
 pub mod Names
 pub mod Outputs
 pub mod Played
@@ -14,7 +16,6 @@ pub mod Recorded
 pub mod KeptLives
 pub mod Status
 pub mod Stored
-pub mod FaultTexts
 pub mod Places
 pub mod Breaches
 pub mod Hints

@@ -1,5 +1,5 @@
 -- What is written of runs of which the steps are kept.
-use Rattle.std.specs.Prelude.{◌≡◌, ◌≢◌, ◌<◌, ◌≤◌, ◌⊎◌, ◌++◌, ℕ, List, Option, Some, None, IfSome, length}
+use Rattle.std.specs.Prelude.{◌≡◌, ◌≢◌, ◌<◌, ◌≤◌, ◌⊎◌, ◌++◌, List, IfSome, length}
 use Rattle.std.specs.Io.KnownBytes.{Appends}
 use Rattle.kt_text.specs.Writing.{WritesFront}
 use Rattle.kt_spacetime.specs.declared.event.Event.{Event}
@@ -13,18 +13,13 @@ use Rattle.kt_run.specs.Orders.{IsOrderedRun}
 use Rattle.kt_run.specs.Runs.{IsPlayed}
 use Rattle.kt_run.specs.declared.faults.RunFault.TheVariants as run
 use Rattle.kt_run.specs.declared.orders.Order.{Order}
-use Rattle.kt_run.specs.declared.orders.Order.TheVariants.{Default, Drawn}
+use Rattle.kt_threads.specs.declared.faults.LiveFault.TheVariants as live
 use Rattle.kt_scenario.specs.Steps.{AreSteps, most_steps}
 use Rattle.kt_scenario.specs.Written.{steps_text}
 use Rattle.kt_program.specs.Played.{Outputs, IsOfWriting, IsWritten, StopsInLog, StopsInCertificates, StopsInReport, certificate_text, log_text}
 use Rattle.kt_program.specs.Stored.{BytesTold}
 use Rattle.kt_program.specs.declared.fault.AppFault.{AppFault}
 use Rattle.kt_program.specs.declared.fault.AppFault.TheVariants as app
-
--- the order that a seed asks for; default steps where there is none
-abbrev pub order_of : Option ℕ → Order
-order_of None = Default
-order_of (Some seed) = Drawn seed
 
 -- a run that begins with these steps and goes on by default steps has these rows; and so has every such run, as far as no
 -- save is refused in either
@@ -108,7 +103,7 @@ StopsRecording Are plan old new (app.Run fault) = (fault ≢ run.Memory) × AreU
 StopsRecording Are plan old new app.RecordTooLong = OfSome Are (λ steps rows. StopsAtLength steps rows old new)
 StopsRecording Are plan old new app.Write = OfSome Are (λ steps rows. StopsWithin plan steps rows old new)
 StopsRecording Are plan old new app.Memory = AreUnwritten old new ⊎ OfSome Are (λ steps rows. StopsWithin plan steps rows old new)
-StopsRecording Are plan old new (app.Live fault) = ⊥
+StopsRecording Are plan old new (app.Live fault) = (fault ≢ live.Memory) × AreUnwritten old new
 StopsRecording Are plan old new (app.Uncertified fault) = ⊥
 StopsRecording Are plan old new (app.Unfit why) = ⊥
 StopsRecording Are plan old new (app.Picture why) = ⊥

@@ -1,20 +1,24 @@
 //! A stored log certified, from its file.
 
-ghost use Rattle.std.specs.Prelude.{◌≡◌, ◌≢◌, ◌⊎◌, IfOk, IfErr, OnOk, All};
+ghost use Rattle.std.specs.Prelude.{◌≡◌, ◌≢◌, ◌⊎◌, [], ◌∷◌, None, IfOk, IfErr, OnOk, All};
 ghost use Rattle.std.specs.Io.KnownBytes.{Appends};
 ghost use Rattle.kt_chain.specs.Spelling.{HasShortChains};
 ghost use Rattle.kt_program.specs.declared.fault.AppFault.TheVariants as app;
 ghost use Rattle.kt_program.specs.declared.fault.ProgramFault.TheVariants as program;
-ghost use Rattle.kt_program.specs.Certified.{AreOfFile, CertifiesTo, GoTo, IsOfCertifying, LeavesCertified, text_of_list};
-ghost use Rattle.kt_program.specs.Names.{IsFileName};
+ghost use Rattle.kt_program.specs.Certified.{AreOfFile, CertifiesTo, IsOfCertifying, LeavesCertified, text_of_list};
+ghost use Rattle.kt_program.specs.Files.{AreOthers};
+ghost use Rattle.kt_program.specs.Names.{IsNaming};
+ghost use Rattle.kt_program.specs.Outputs.{contents_of, files_of};
 
 use crate::certified::certify_log;
 use crate::fault::{AppFault, ProgramFault};
-use crate::outputs::outputs_of;
+use crate::files::{ReadFrom, number_of};
+use crate::outputs::{Outputs, Targets, outputs_of};
 use kt_chain::{Certificate, write_certs};
 use kt_log_text::LogFault;
 use std::alloc::Global;
 use std::fs;
+use std::fs::OpenFile;
 use std::io::Write;
 use std::rt::Files;
 
@@ -33,10 +37,13 @@ pub(crate) fn certify_files<F: Files, O: Write>(
     ensures certified { OnOk result (CertifiesTo F.File.remaining cert.entry (O.contents out.old) (O.contents out.new)) }
     ensures fault { IfErr result IsOfCertifying }
     ensures output { LeavesCertified result (O.contents out.old) (O.contents out.new) }
-    ensures named { IfErr result (λ fault. fault ≡ program.SameFile → IsFileName cert.entry) }
+    ensures named { IfErr result (λ fault. fault ≡ program.SameFile → IsNaming None cert.entry None None) }
 {
-    let certificates = certificates_in(files, alloc, log)?;
-    write_to(files, alloc, log, cert, certificates.as_slice(), out)
+    let read = certificates_in(files, alloc, log)?;
+    match cert {
+        Some(cert) => write_in(files, alloc, &read, cert),
+        None => write_list(alloc, read.value.as_slice(), out),
+    }
 }
 
 // The certificates of the log in this file.
@@ -44,37 +51,54 @@ fn certificates_in<F: Files>(
     files: &F,
     alloc: Global,
     log: &str,
-) -> Result<Vec<Certificate>, AppFault>
-    ensures certificates { IfOk result (λ list. AreOfFile F.File.remaining list.items) }
-    ensures short { IfOk result (λ list. All HasShortChains list.items) }
+) -> Result<ReadFrom<Vec<Certificate>>, AppFault>
+    ensures certificates { IfOk result (λ read. AreOfFile F.File.remaining read.value.items) }
+    ensures short { IfOk result (λ read. All HasShortChains read.value.items) }
 {
     let Ok(file) = fs::open(files, log) else {
         return Err(AppFault::Log(LogFault::Read));
     };
-    certify_log(alloc, file)
+    let number = number_of(&file);
+    Ok(ReadFrom {
+        value: certify_log(alloc, file)?,
+        file: number,
+    })
 }
 
-// Writes certificates into the file that is named for them, else to `out`.
-fn write_to<F: Files, O: Write>(
+// Writes the certificates of a log that was read into the file that is named for them.
+fn write_in<F: Files>(
     files: &F,
     alloc: Global,
-    log: &str,
-    cert: Option<&str>,
-    certificates: &[Certificate],
-    out: &mut O,
+    read: &ReadFrom<Vec<Certificate>>,
+    cert: &str,
 ) -> Result<(), ProgramFault>
-    requires { All HasShortChains certificates.now }
-    ensures output { OnOk result (GoTo cert.entry certificates.now (O.contents out.old) (O.contents out.new)) }
+    requires { All HasShortChains read.now.value.items }
     ensures fault { IfErr result IsOfCertifying }
-    ensures kept { IfErr result (λ fault. fault ≢ program.App app.Write → fault ≢ program.App app.Memory
-        → O.contents out.new ≡ O.contents out.old) }
-    ensures named { IfErr result (λ fault. fault ≡ program.SameFile → IsFileName cert.entry) }
 {
-    let Some(cert) = cert else {
-        return write_list(alloc, certificates, out);
+    let targets = Targets {
+        log: None,
+        cert: Some(cert),
+        kept: None,
+        svg: None,
     };
-    let (_log, mut file) = outputs_of(files, &[Some(log)], None, Some(cert))?;
-    write_list(alloc, certificates, &mut file)
+    let mut outputs = outputs_of(files, &[read.file], &targets)?;
+    write_into(alloc, read, &mut outputs)
+}
+
+// Writes them into a file that is not the one that was read.
+fn write_into<W: Write + OpenFile>(
+    alloc: Global,
+    read: &ReadFrom<Vec<Certificate>>,
+    outputs: &mut Outputs<W>,
+) -> Result<(), ProgramFault>
+    requires short { All HasShortChains read.now.value.items }
+    requires apart { AreOthers (read.now.file ∷ []) (files_of outputs.old) }
+    ensures written { OnOk result (Appends (contents_of W.contents outputs.old.cert.output)
+        (contents_of W.contents outputs.new.cert.output) (text_of_list read.now.value.items)) }
+    ensures fault { IfErr result (λ fault. (fault ≡ program.App app.Write) ⊎ (fault ≡ program.App app.Memory)) }
+{
+    outputs.empty(&[read.file])?;
+    write_list(alloc, read.value.as_slice(), &mut outputs.cert.output)
 }
 
 // Writes certificates.

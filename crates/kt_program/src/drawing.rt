@@ -1,24 +1,29 @@
 //! A stored log drawn, from its file.
 
-ghost use Rattle.std.specs.Prelude.{◌≡◌, ◌≢◌, IfOk, IfErr, OnOk};
+ghost use Rattle.std.specs.Prelude.{◌≡◌, ◌≢◌, ◌⊎◌, None, IfOk, IfErr, OnOk};
+ghost use Rattle.std.specs.Io.KnownBytes.{Appends};
 ghost use Rattle.kt_program.specs.declared.ending.Done.TheVariants.{Drawn};
 ghost use Rattle.kt_program.specs.declared.fault.AppFault.TheVariants as app;
 ghost use Rattle.kt_program.specs.declared.fault.ProgramFault.TheVariants as program;
 ghost use Rattle.kt_program.specs.Drawn.{AreNamesOf, DrawsTo, IsOfDrawing, IsOfNames, IsPictureOfFile, IsPictureWith, LeavesDrawn, TextGoesTo};
-ghost use Rattle.kt_program.specs.Names.{IsFileName};
+ghost use Rattle.kt_program.specs.Files.{AreOthers};
+ghost use Rattle.kt_program.specs.Names.{IsNaming};
+ghost use Rattle.kt_program.specs.Outputs.{contents_of, files_of};
 
 use crate::drawn::{draw_log, draw_run, write_picture};
 use crate::ending::Done;
 use crate::fault::{AppFault, ProgramFault};
+use crate::files::{FileNumber, ReadFrom, number_of};
 use crate::line::Drawing;
-use crate::outputs::outputs_of;
-use crate::playing::scenario_in;
+use crate::outputs::{Outputs, Targets, outputs_of};
+use crate::running::scenario_in;
 use kt_chain::CertTextFault;
 use kt_draw::Span;
 use kt_log_text::LogFault;
 use kt_plan::Names;
 use std::alloc::Global;
 use std::fs;
+use std::fs::OpenFile;
 use std::io::Write;
 use std::rt::Files;
 
@@ -37,11 +42,18 @@ pub(crate) fn draw_files<F: Files, O: Write>(
     ensures drawn { OnOk result (DrawsTo F.File.remaining asked.now (O.contents out.old) (O.contents out.new)) }
     ensures fault { IfErr result (IsOfDrawing asked.now.names) }
     ensures output { LeavesDrawn result (O.contents out.old) (O.contents out.new) }
-    ensures named { IfErr result (λ fault. fault ≡ program.SameFile → IsFileName asked.now.svg) }
+    ensures named { IfErr result (λ fault. fault ≡ program.SameFile → IsNaming None None None asked.now.svg) }
 {
-    let text = picture_in(files, alloc, asked)?;
-    write_to(files, asked, text.as_slice(), out)?;
+    let picture = picture_in(files, alloc, asked)?;
+    write_to(files, &picture, asked.svg, out)?;
     Ok(Done::Drawn)
+}
+
+// A picture, and the files that it was made of.
+#[derive(Drop)]
+struct Picture {
+    text: Vec<u8>,
+    files: [Option<FileNumber>; 3],
 }
 
 // The picture that is asked for.
@@ -49,20 +61,24 @@ fn picture_in<F: Files>(
     files: &F,
     alloc: Global,
     asked: &Drawing<'_>,
-) -> Result<Vec<u8>, ProgramFault>
-    ensures picture { IfOk result (λ text. IsPictureOfFile F.File.remaining asked.now.names asked.now.cert asked.now.span
-        text.items) }
+) -> Result<Picture, ProgramFault>
+    ensures picture { IfOk result (λ picture. IsPictureOfFile F.File.remaining asked.now.names asked.now.cert asked.now.span
+        picture.text.items) }
     ensures fault { IfErr result (IsOfNames asked.now.names) }
 {
     let names = names_in(files, alloc, asked.names)?;
     let Ok(log) = fs::open(files, asked.log) else {
         return Err(ProgramFault::App(AppFault::Log(LogFault::Read)));
     };
-    let text = drawn_with(files, alloc, log, asked.cert, &names, asked.span)?;
-    Ok(text)
+    let number = number_of(&log);
+    let drawn = drawn_with(files, alloc, log, asked.cert, &names.value, asked.span)?;
+    Ok(Picture {
+        text: drawn.value,
+        files: [names.file, number, drawn.file],
+    })
 }
 
-// The picture of the log that a reader tells, with the certificates in this file, where one is named.
+// The picture of the log that a reader tells, with the certificates in this file, where one is named; and that file.
 fn drawn_with<F: Files>(
     files: &F,
     alloc: Global,
@@ -70,17 +86,24 @@ fn drawn_with<F: Files>(
     cert: Option<&str>,
     names: &Names,
     span: Span,
-) -> Result<Vec<u8>, AppFault>
-    ensures { IfOk result (λ text. IsPictureWith F.File.remaining cert.entry names.now span
-        (F.File.remaining log) text.items) }
+) -> Result<ReadFrom<Vec<u8>>, AppFault>
+    ensures { IfOk result (λ read. IsPictureWith F.File.remaining cert.entry names.now span
+        (F.File.remaining log) read.value.items) }
 {
     let Some(cert) = cert else {
-        return draw_log(alloc, log, names, span);
+        return Ok(ReadFrom {
+            value: draw_log(alloc, log, names, span)?,
+            file: None,
+        });
     };
-    match fs::open(files, cert) {
-        Ok(cert) => draw_run(alloc, log, cert, names, span),
-        Err(_) => Err(AppFault::Cert(CertTextFault::Read)),
-    }
+    let Ok(cert) = fs::open(files, cert) else {
+        return Err(AppFault::Cert(CertTextFault::Read));
+    };
+    let number = number_of(&cert);
+    Ok(ReadFrom {
+        value: draw_run(alloc, log, cert, names, span)?,
+        file: number,
+    })
 }
 
 // The names of the objects of the scenario in this file; none where none is named.
@@ -88,35 +111,67 @@ fn names_in<F: Files>(
     files: &F,
     alloc: Global,
     scenario: Option<&str>,
-) -> Result<Names, ProgramFault>
-    ensures names { IfOk result (AreNamesOf F.File.remaining scenario.entry) }
+) -> Result<ReadFrom<Names>, ProgramFault>
+    ensures names { IfOk result (λ read. AreNamesOf F.File.remaining scenario.entry read.value) }
     ensures fault { IfErr result (IsOfNames scenario.entry) }
 {
     let Some(scenario) = scenario else {
-        return Ok(Names::new(alloc));
+        return Ok(ReadFrom {
+            value: Names::new(alloc),
+            file: None,
+        });
     };
-    let plan = scenario_in(files, alloc, scenario)?;
-    Ok(plan.names)
+    let ReadFrom { value: plan, file } = scenario_in(files, alloc, scenario)?;
+    Ok(ReadFrom {
+        value: plan.names,
+        file,
+    })
 }
 
 // Writes a picture into the file that is named for it, else to `out`.
 fn write_to<F: Files, O: Write>(
     files: &F,
-    asked: &Drawing<'_>,
-    text: &[u8],
+    picture: &Picture,
+    svg: Option<&str>,
     out: &mut O,
 ) -> Result<(), ProgramFault>
-    ensures output { OnOk result (TextGoesTo asked.now.svg text.now (O.contents out.old) (O.contents out.new)) }
-    ensures fault { IfErr result (IsOfDrawing asked.now.names) }
+    ensures output { OnOk result (TextGoesTo svg.entry picture.now.text.items (O.contents out.old) (O.contents out.new)) }
+    ensures fault { IfErr result (λ fault. (fault ≡ program.SameFile) ⊎ (fault ≡ program.App app.Write)) }
     ensures kept { IfErr result (λ fault. fault ≢ program.App app.Write → O.contents out.new ≡ O.contents out.old) }
-    ensures named { IfErr result (λ fault. fault ≡ program.SameFile → IsFileName asked.now.svg) }
+    ensures named { IfErr result (λ fault. fault ≡ program.SameFile → IsNaming None None None svg.entry) }
 {
-    let Some(svg) = asked.svg else {
-        write_picture(text, out)?;
+    let Some(svg) = svg else {
+        write_picture(picture.text.as_slice(), out)?;
         return Ok(());
     };
-    let inputs = [Some(asked.log), asked.names, asked.cert];
-    let (_log, mut file) = outputs_of(files, &inputs, None, Some(svg))?;
-    write_picture(text, &mut file)?;
+    write_in(files, picture, svg)
+}
+
+// Writes a picture into the file that is named for it.
+fn write_in<F: Files>(files: &F, picture: &Picture, svg: &str) -> Result<(), ProgramFault>
+    ensures fault { IfErr result (λ fault. (fault ≡ program.SameFile) ⊎ (fault ≡ program.App app.Write)) }
+{
+    let targets = Targets {
+        log: None,
+        cert: None,
+        kept: None,
+        svg: Some(svg),
+    };
+    let mut outputs = outputs_of(files, &picture.files, &targets)?;
+    write_into(picture, &mut outputs)
+}
+
+// Writes a picture into a file that is none of those that it was made of.
+fn write_into<W: Write + OpenFile>(
+    picture: &Picture,
+    outputs: &mut Outputs<W>,
+) -> Result<(), ProgramFault>
+    requires { AreOthers picture.now.files (files_of outputs.old) }
+    ensures written { OnOk result (Appends (contents_of W.contents outputs.old.svg.output)
+        (contents_of W.contents outputs.new.svg.output) picture.now.text.items) }
+    ensures fault { IfErr result (λ fault. fault ≡ program.App app.Write) }
+{
+    outputs.empty(&picture.files)?;
+    write_picture(picture.text.as_slice(), &mut outputs.svg.output)?;
     Ok(())
 }

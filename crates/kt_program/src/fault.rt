@@ -18,56 +18,42 @@ use kt_run::RunFault;
 use kt_scenario::{ScenarioFault, StepsFault};
 use kt_text::WriteFault;
 use kt_threads::LiveFault;
-use std::error::Error;
-use std::fmt;
+use thiserror::Error;
 
 /// Why a run was not played, or a stored run not judged, certified or drawn.
-#[derive(Clone, Copy, Debug, PartialEq, Eq, Hash)]
+#[derive(Clone, Copy, Debug, PartialEq, Eq, Hash, Error)]
 pub enum AppFault {
     /// The log's text was refused.
+    #[error(transparent)]
     Log(LogFault),
     /// The certificates' text was refused.
+    #[error(transparent)]
     Cert(CertTextFault),
     /// The run came to no end.
+    #[error(transparent)]
     Run(RunFault),
     /// The run by threads came to no end.
+    #[error(transparent)]
     Live(LiveFault),
     /// The log of the run has no certificates.
+    #[error("run: Uncertified")]
     Uncertified(CertFault),
     /// A stored log has no certificates.
+    #[error(transparent)]
     Unfit(Unfit),
     /// A run has more steps than a text of steps may have.
+    #[error("record too long")]
     RecordTooLong,
     /// A stored log has no such picture.
+    #[error(transparent)]
     Picture(PictureFault),
     /// A writer failed.
+    #[error("write fault")]
     Write,
     /// There was no memory.
+    #[error("memory")]
     Memory,
 }
-
-impl fmt::Display for AppFault {
-    ghost use Rattle.kt_program.specs.FaultTexts.{app_fault_text};
-
-    ghost output = { app_fault_text };
-
-    fn fmt<W: fmt::Write>(&self, f: &mut fmt::Formatter<W>) -> fmt::Result {
-        match self {
-            AppFault::Log(fault) => fmt::Display::fmt(fault, f),
-            AppFault::Cert(fault) => fmt::Display::fmt(fault, f),
-            AppFault::Run(fault) => fmt::Display::fmt(fault, f),
-            AppFault::Live(fault) => fmt::Display::fmt(fault, f),
-            AppFault::Uncertified(_) => f.write_str("run: Uncertified"),
-            AppFault::Unfit(why) => fmt::Display::fmt(why, f),
-            AppFault::RecordTooLong => f.write_str("record too long"),
-            AppFault::Picture(why) => fmt::Display::fmt(why, f),
-            AppFault::Write => f.write_str("write fault"),
-            AppFault::Memory => f.write_str("memory"),
-        }
-    }
-}
-
-impl Error for AppFault {}
 
 impl AppFault {
     /// The program's exit status: 1 for a log that has no certificates, 2 for refused input, 3 for a read or write fault, 4
@@ -166,40 +152,28 @@ impl From<WriteFault> for AppFault {
 }
 
 /// Why the program did not do what it was asked. Its text is the program's fault line, without the program's name.
-#[derive(Clone, Copy, Debug, PartialEq, Eq)]
+#[derive(Clone, Copy, Debug, PartialEq, Eq, Error)]
 pub enum ProgramFault {
     /// The words of the command line were refused.
+    #[error("command line refused")]
     Line,
     /// A file that is to be written is one that is read, or another one that is written, by another name.
+    #[error("command line refused")]
     SameFile,
     /// The scenario's text was refused.
+    #[error("scenario {0}")]
     Scenario(ScenarioFault),
     /// The text of the steps was refused.
+    #[error("steps {0}")]
     Steps(StepsFault),
     /// The scenario or the steps could not be read.
+    #[error("read fault")]
     Read,
     /// A run was not played or a stored run not judged, or there was no memory for the words, or what was asked for was
     /// not written.
+    #[error(transparent)]
     App(AppFault),
 }
-
-impl fmt::Display for ProgramFault {
-    ghost use Rattle.kt_program.specs.FaultTexts.{program_fault_text};
-
-    ghost output = { program_fault_text };
-
-    fn fmt<W: fmt::Write>(&self, f: &mut fmt::Formatter<W>) -> fmt::Result {
-        match self {
-            ProgramFault::Line | ProgramFault::SameFile => f.write_str("command line refused"),
-            ProgramFault::Scenario(fault) => write!(f, "scenario {fault}"),
-            ProgramFault::Steps(fault) => write!(f, "steps {fault}"),
-            ProgramFault::Read => f.write_str("read fault"),
-            ProgramFault::App(fault) => fmt::Display::fmt(fault, f),
-        }
-    }
-}
-
-impl Error for ProgramFault {}
 
 impl ProgramFault {
     /// The program's exit status: 1 for a log that has no certificates, 2 for refused input, 3 for a read or write fault, 4

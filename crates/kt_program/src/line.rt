@@ -1,6 +1,6 @@
 //! What a command line may ask for.
 
-ghost use Rattle.std.specs.Prelude.{MatchBool};
+ghost use Rattle.std.specs.Prelude.{◌≡◌, MatchBool};
 
 use crate::names::clash;
 use kt_draw::Span;
@@ -29,6 +29,34 @@ pub struct RecordedLive<'a> {
     pub scenario: &'a str,
     /// Where the steps that are made are written.
     pub kept: &'a str,
+    /// Where the log is written, where that is asked.
+    pub log: Option<&'a str>,
+    /// Where the certificates are written, where that is asked.
+    pub cert: Option<&'a str>,
+}
+
+/// By what a run is made.
+#[derive(Clone, Copy)]
+pub enum By {
+    /// One step after the other.
+    Serial,
+    /// A thread for each process.
+    Threads,
+}
+
+/// A run of a scenario, with the names of files.
+#[derive(Clone, Copy)]
+pub struct Run<'a> {
+    /// By what it is made.
+    pub by: By,
+    /// The scenario.
+    pub scenario: &'a str,
+    /// The steps that come first, where that is asked.
+    pub steps: Option<&'a str>,
+    /// The seed by which the steps after these are drawn; none for default steps.
+    pub seed: Option<u64>,
+    /// Where all the steps that are made are written, where that is asked.
+    pub kept: Option<&'a str>,
     /// Where the log is written, where that is asked.
     pub log: Option<&'a str>,
     /// Where the certificates are written, where that is asked.
@@ -85,11 +113,80 @@ pub struct Drawing<'a> {
     pub svg: Option<&'a str>,
 }
 
+impl<'a> Run<'a> {
+    ghost use Rattle.kt_program.specs.Made.{lived_run, ordered_run, played_run, recorded_run};
+
+    /// A run by default steps after those that come first.
+    pub(crate) fn played(
+        scenario: &'a str,
+        steps: Option<&'a str>,
+        log: Option<&'a str>,
+        cert: Option<&'a str>,
+    ) -> Run<'a>
+        ensures { result ≡ played_run scenario.entry steps.entry log.entry cert.entry }
+    {
+        Run {
+            by: By::Serial,
+            scenario,
+            steps,
+            seed: None,
+            kept: None,
+            log,
+            cert,
+        }
+    }
+
+    /// A run in threads.
+    pub(crate) fn lived(scenario: &'a str, log: Option<&'a str>, cert: Option<&'a str>) -> Run<'a>
+        ensures { result ≡ lived_run scenario.entry log.entry cert.entry }
+    {
+        Run {
+            by: By::Threads,
+            scenario,
+            steps: None,
+            seed: None,
+            kept: None,
+            log,
+            cert,
+        }
+    }
+
+    /// A run in an order of its own, or of which the steps are kept.
+    pub(crate) fn ordered(play: &OrderedPlay<'a>) -> Run<'a>
+        ensures { result ≡ ordered_run play.now }
+    {
+        Run {
+            by: By::Serial,
+            scenario: play.scenario,
+            steps: play.steps,
+            seed: play.seed,
+            kept: play.kept,
+            log: play.log,
+            cert: play.cert,
+        }
+    }
+
+    /// A run in threads, of which the steps are kept.
+    pub(crate) fn recorded(live: &RecordedLive<'a>) -> Run<'a>
+        ensures { result ≡ recorded_run live.now }
+    {
+        Run {
+            by: By::Threads,
+            scenario: live.scenario,
+            steps: None,
+            seed: None,
+            kept: Some(live.kept),
+            log: live.log,
+            cert: live.cert,
+        }
+    }
+}
+
 impl<'a> Asked<'a> {
     ghost use Rattle.kt_program.specs.Names.{IsApart};
 
-    /// Whether a file that is to be written has the name of one that is read, or of another one that is written. A name
-    /// that begins with `/dev/` may be given again.
+    /// Whether a file that is to be written has the name of one that is read, or of another one that is written. The
+    /// name of a device may be given again.
     pub fn clash(&self) -> bool
         ensures { MatchBool result (¬ IsApart self.now) (IsApart self.now) }
     {

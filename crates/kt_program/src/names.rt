@@ -1,15 +1,28 @@
 //! Names of files, and which of them may be given together.
 
-ghost use Rattle.std.specs.Prelude.{◌≡◌, All, MatchBool};
-ghost use Rattle.kt_program.specs.Names.{Apart, AreApart, is_device};
+ghost use Rattle.std.specs.Prelude.{◌↔◌, All, IsTrue, MatchBool};
+ghost use Rattle.kt_program.specs.Names.{Apart, AreApart, IsDescriptor, IsDevice};
 
-/// Whether a name is a device's: it begins with `/dev/`.
+/// Whether a name is a device's that may be given again: `/dev/null`, `/dev/stdin`, `/dev/stdout`, `/dev/stderr`, `/dev/tty`, or
+/// `/dev/fd/` and a number.
 pub fn is_device(name: &str) -> bool
-    ensures { result ≡ is_device name.now }
+    ensures { IsTrue result ↔ IsDevice name.now }
 {
-    name.as_bytes().starts_with(b"/dev/")
+    match name {
+        "/dev/null" | "/dev/stdin" | "/dev/stdout" | "/dev/stderr" | "/dev/tty" => true,
+        _ => is_descriptor(name),
+    }
 }
 
+// Whether a name is a descriptor's.
+fn is_descriptor(name: &str) -> bool
+    ensures { IsTrue result ↔ IsDescriptor name.now }
+{
+    match name.as_bytes().strip_prefix(b"/dev/fd/") {
+        Some(digits) => !digits.is_empty() && digits.iter().all(|digit| digit.is_ascii_digit()),
+        None => false,
+    }
+}
 // Whether both names are given, are the same, and are no device's.
 fn is_same(one: Option<&str>, other: Option<&str>) -> bool
     ensures { MatchBool result (¬ Apart one.entry other.entry) (Apart one.entry other.entry) }
@@ -32,7 +45,7 @@ fn is_among(name: Option<&str>, names: &[Option<&str>]) -> bool
     false
 }
 
-/// Whether an output has the name of an input or of another output. A name that begins with `/dev/` may be given again.
+/// Whether an output has the name of an input or of another output. The name of a device may be given again.
 pub fn clash(inputs: &[Option<&str>], outputs: &[Option<&str>]) -> bool
     ensures { MatchBool result (¬ AreApart inputs.now outputs.now) (AreApart inputs.now outputs.now) }
 {

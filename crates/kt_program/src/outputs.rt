@@ -1,20 +1,19 @@
-//! Where a log or certificates go.
+//! Where a log, certificates, steps and a picture go.
 
-ghost use Rattle.std.specs.Bool.{OnTrue};
-ghost use Rattle.std.specs.Prelude.{◌≡◌, ◌⊎◌, Any, IfErr, IsOkUnless, OnSome};
+ghost use Rattle.std.specs.Prelude.{◌≡◌, IfOk, IfErr, IsOkUnless};
 ghost use Rattle.kt_program.specs.declared.fault.AppFault.TheVariants as app;
 ghost use Rattle.kt_program.specs.declared.fault.ProgramFault.TheVariants as program;
 ghost use Rattle.kt_program.specs.Ending.{IsOfOutputs};
-ghost use Rattle.kt_program.specs.Names.{IsFileName};
-ghost use Rattle.kt_program.specs.Outputs.{contents_of};
+ghost use Rattle.kt_program.specs.Files.{AreOthers, IsToldOf};
+ghost use Rattle.kt_program.specs.Names.{IsNaming};
+ghost use Rattle.kt_program.specs.Outputs.{contents_of, files_of};
 
 use crate::fault::{AppFault, ProgramFault};
-use crate::names::is_device;
-use std::fs::{Metadata, OpenFile, OpenOptions};
+use crate::files::{FileNumber, is_twice, number_of};
+use std::fs::{OpenFile, OpenOptions};
+use std::io;
 use std::io::{Sink, Write};
-use std::os::unix::fs::MetadataExt;
 use std::rt::Files;
-use std::{fs, io};
 
 /// A file that is written, or nothing where none is asked for.
 #[derive(Drop)]
@@ -23,12 +22,29 @@ pub enum Output<W> {
     Nowhere(Sink),
 }
 
-/// Where a log, certificates and the steps that are made go.
+/// The names of the files that a command writes, as far as they are given.
+#[derive(Clone, Copy)]
+pub(crate) struct Targets<'a> {
+    pub(crate) log: Option<&'a str>,
+    pub(crate) cert: Option<&'a str>,
+    pub(crate) kept: Option<&'a str>,
+    pub(crate) svg: Option<&'a str>,
+}
+
+/// An output that was opened, and which regular file it is, where that is told.
 #[derive(Drop)]
-pub(crate) struct RecordedOutputs<W> {
-    pub(crate) log: Output<W>,
-    pub(crate) cert: Output<W>,
-    pub(crate) kept: Output<W>,
+pub(crate) struct Opened<W> {
+    pub(crate) output: Output<W>,
+    pub(crate) file: Option<FileNumber>,
+}
+
+/// What a command writes: a log, certificates, the steps of a run, a picture.
+#[derive(Drop)]
+pub(crate) struct Outputs<W> {
+    pub(crate) log: Opened<W>,
+    pub(crate) cert: Opened<W>,
+    pub(crate) kept: Opened<W>,
+    pub(crate) svg: Opened<W>,
 }
 
 impl<W: Write> Write for Output<W> {
@@ -49,90 +65,88 @@ impl<W: Write> Write for Output<W> {
     }
 }
 
-/// The files of these names for a log and for certificates, as far as names are given; inputs are the names of files that
-/// are read.
-///
-/// A regular file is emptied, once both are open and neither is one of the others by another name: at any fault before
-/// that each file has what it had. A file that was made stays, empty.
+/// The files of these names, opened in this order, or made. None is an input or another one, as far as that is told. At a
+/// fault as at `Ok`, each has what it had.
+#[tactic(auto, using(crate::proofs::Opening::naming))]
 pub(crate) fn outputs_of<F: Files>(
     files: &F,
-    inputs: &[Option<&str>],
-    log: Option<&str>,
-    cert: Option<&str>,
-) -> Result<(Output<F::File>, Output<F::File>), ProgramFault>
-    ensures fault { IfErr result IsOfOutputs }
-    ensures named { IfErr result (λ fault. fault ≡ program.SameFile → IsFileName log.entry ⊎ IsFileName cert.entry) }
-{
-    let log_file = output_of(files, log)?;
-    let cert_file = output_of(files, cert)?;
-    if is_one_file(files, inputs, &[log, cert]) {
-        return Err(ProgramFault::SameFile);
-    }
-    empty(&log_file)?;
-    empty(&cert_file)?;
-    Ok((log_file, cert_file))
-}
-
-/// The files of these names for a log, for certificates and for the steps that are made, as far as names are given. They
-/// are opened in this order, and emptied as those for a log and for certificates alone.
-pub(crate) fn recorded_outputs_of<F: Files>(
-    files: &F,
-    inputs: &[Option<&str>],
-    log: Option<&str>,
-    cert: Option<&str>,
-    kept: Option<&str>,
-) -> Result<RecordedOutputs<F::File>, ProgramFault>
+    inputs: &[Option<FileNumber>],
+    names: &Targets<'_>,
+) -> Result<Outputs<F::File>, ProgramFault>
+    ensures apart { IfOk result (λ outputs. AreOthers inputs.now (files_of outputs)) }
     ensures fault { IfErr result IsOfOutputs }
     ensures named { IfErr result (λ fault. fault ≡ program.SameFile →
-        IsFileName log.entry ⊎ (IsFileName cert.entry ⊎ IsFileName kept.entry)) }
+        IsNaming names.now.log names.now.cert names.now.kept names.now.svg) }
 {
-    let outputs = opened_outputs(files, log, cert, kept)?;
-    if is_one_file(files, inputs, &[log, cert, kept]) {
+    let outputs = opened_outputs(files, names)?;
+    let found = [
+        outputs.log.file,
+        outputs.cert.file,
+        outputs.kept.file,
+        outputs.svg.file,
+    ];
+    if is_twice(inputs, &found) {
         return Err(ProgramFault::SameFile);
     }
-    empty_all(&outputs)?;
     Ok(outputs)
 }
 
-// The same files, only opened. What they have stays.
+// The same files, not compared.
 fn opened_outputs<F: Files>(
     files: &F,
-    log: Option<&str>,
-    cert: Option<&str>,
-    kept: Option<&str>,
-) -> Result<RecordedOutputs<F::File>, ProgramFault>
-    ensures { IsOkUnless result (program.App app.Write) }
+    names: &Targets<'_>,
+) -> Result<Outputs<F::File>, ProgramFault>
+    ensures fault { IsOkUnless result (program.App app.Write) }
+    ensures log { IfOk result (λ outputs. IsToldOf names.now.log outputs.log.file) }
+    ensures cert { IfOk result (λ outputs. IsToldOf names.now.cert outputs.cert.file) }
+    ensures kept { IfOk result (λ outputs. IsToldOf names.now.kept outputs.kept.file) }
+    ensures svg { IfOk result (λ outputs. IsToldOf names.now.svg outputs.svg.file) }
 {
-    Ok(RecordedOutputs {
-        log: output_of(files, log)?,
-        cert: output_of(files, cert)?,
-        kept: output_of(files, kept)?,
+    Ok(Outputs {
+        log: open_output(files, names.log)?,
+        cert: open_output(files, names.cert)?,
+        kept: open_output(files, names.kept)?,
+        svg: open_output(files, names.svg)?,
     })
 }
 
-// Empties files that were opened.
-fn empty_all<W: OpenFile>(outputs: &RecordedOutputs<W>) -> Result<(), ProgramFault>
-    ensures { IsOkUnless result (program.App app.Write) }
-{
-    empty(&outputs.log)?;
-    empty(&outputs.cert)?;
-    empty(&outputs.kept)
-}
-
 // Opens a file of this name, if one is given, or makes it. What it has stays.
-fn output_of<F: Files>(files: &F, name: Option<&str>) -> Result<Output<F::File>, ProgramFault>
-    ensures { IsOkUnless result (program.App app.Write) }
+fn open_output<F: Files>(files: &F, name: Option<&str>) -> Result<Opened<F::File>, ProgramFault>
+    ensures fault { IsOkUnless result (program.App app.Write) }
+    ensures told { IfOk result (λ opened. IsToldOf name.entry opened.file) }
 {
     let Some(name) = name else {
-        return Ok(Output::Nowhere(io::sink()));
+        return Ok(Opened {
+            output: Output::Nowhere(io::sink()),
+            file: None,
+        });
     };
-    match OpenOptions::new()
+    let made = OpenOptions::new()
         .write(true)
         .create(true)
-        .open(files, name)
-    {
-        Ok(file) => Ok(Output::File(file)),
+        .open(files, name);
+    match made {
+        Ok(file) => {
+            let number = number_of(&file);
+            Ok(Opened {
+                output: Output::File(file),
+                file: number,
+            })
+        }
         Err(_) => Err(ProgramFault::App(AppFault::Write)),
+    }
+}
+
+impl<W: OpenFile> Outputs<W> {
+    /// Empties these files, none of which is one of these inputs or another one of them.
+    pub(crate) fn empty(&self, _inputs: &[Option<FileNumber>]) -> Result<(), ProgramFault>
+        requires { AreOthers _inputs.now (files_of self.now) }
+        ensures { IsOkUnless result (program.App app.Write) }
+    {
+        empty(&self.log.output)?;
+        empty(&self.cert.output)?;
+        empty(&self.kept.output)?;
+        empty(&self.svg.output)
     }
 }
 
@@ -156,73 +170,4 @@ fn empty_file<W: OpenFile>(file: &W) -> io::Result<()> {
         file.set_len(0)?;
     }
     Ok(())
-}
-
-// A regular file, by its device and its number there.
-#[derive(Clone, Copy, PartialEq, Eq)]
-struct FileNumber {
-    device: u64,
-    number: u64,
-}
-
-// Which file a name leads to. None where that is a device, no regular file or none at all, or where it is not told.
-fn file_number<F: Files>(files: &F, name: Option<&str>) -> Option<FileNumber>
-    ensures { OnSome result (IsFileName name.entry) }
-{
-    let name = name?;
-    if is_device(name) {
-        return None;
-    }
-    let Ok(metadata) = fs::metadata(files, name) else {
-        return None;
-    };
-    number_of(&metadata)
-}
-
-fn number_of(metadata: &Metadata) -> Option<FileNumber> {
-    let number = metadata.ino();
-    if number == 0 || !metadata.is_file() {
-        return None;
-    }
-    Some(FileNumber {
-        device: metadata.dev(),
-        number,
-    })
-}
-
-// Whether both names lead to one file.
-fn is_same_file<F: Files>(files: &F, one: Option<&str>, other: Option<&str>) -> bool
-    ensures { OnTrue result (IsFileName one.entry) }
-{
-    match (file_number(files, one), file_number(files, other)) {
-        (Some(one), Some(other)) => one == other,
-        _ => false,
-    }
-}
-
-// Whether a name leads to the file of one of these.
-fn is_among_files<F: Files>(files: &F, name: Option<&str>, names: &[Option<&str>]) -> bool
-    ensures { OnTrue result (IsFileName name.entry) }
-{
-    for other in names {
-        if is_same_file(files, name, *other) {
-            return true;
-        }
-    }
-    false
-}
-
-// Whether an output is the file of an input or of another output.
-fn is_one_file<F: Files>(files: &F, inputs: &[Option<&str>], outputs: &[Option<&str>]) -> bool
-    ensures { OnTrue result (Any IsFileName outputs.now) }
-{
-    for (place, output) in outputs.iter().enumerate() {
-        if is_among_files(files, *output, inputs) {
-            return true;
-        }
-        if is_among_files(files, *output, &outputs[..place]) {
-            return true;
-        }
-    }
-    false
 }

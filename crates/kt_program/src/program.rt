@@ -18,9 +18,8 @@ use crate::ending::{Done, end};
 use crate::explained::explain_files;
 use crate::fault::{AppFault, ProgramFault};
 use crate::hints::end_hinted;
-use crate::line::Asked;
-use crate::playing::{live_files, play_files};
-use crate::recording::{record_files, record_live_files};
+use crate::line::{Asked, Run};
+use crate::running::run_files;
 use crate::words::Words;
 use clap::Error;
 use clap::error::ErrorKind;
@@ -94,16 +93,16 @@ pub fn carry_out<F: Files + Threads + Wait + Sync, O: Write>(
                 log,
                 cert,
             },
-        ) => play_files(files, alloc, scenario, steps, log, cert, out),
-        Ok(Asked::PlayInOrder(play)) => record_files(files, alloc, &play, out),
+        ) => run_files(files, alloc, &Run::played(scenario, steps, log, cert), out),
         Ok(
             Asked::Live {
                 scenario,
                 log,
                 cert,
             },
-        ) => live_files(files, alloc, scenario, log, cert, out),
-        Ok(Asked::LiveRecorded(live)) => record_live_files(files, alloc, &live, out),
+        ) => run_files(files, alloc, &Run::lived(scenario, log, cert), out),
+        Ok(Asked::PlayInOrder(play)) => run_files(files, alloc, &Run::ordered(&play), out),
+        Ok(Asked::LiveRecorded(live)) => run_files(files, alloc, &Run::recorded(&live), out),
         Ok(Asked::Check { log, cert }) => match check_files(files, alloc, log, cert, out) {
             Ok(passed) => Ok(Done::Judged(passed)),
             Err(fault) => Err(ProgramFault::App(fault)),

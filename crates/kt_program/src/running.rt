@@ -1,0 +1,197 @@
+//! A scenario run, serially or by threads, from its files.
+
+ghost use Rattle.std.specs.Prelude.{◌≡◌, ◌≢◌, None, IfOk, IfErr, OnOk};
+ghost use Rattle.kt_program.specs.declared.ending.Done.TheVariants.{Played};
+ghost use Rattle.kt_program.specs.declared.fault.ProgramFault.TheVariants as program;
+ghost use Rattle.kt_program.specs.Ending.{AppendsRun, IsNotOfSteps, IsOfInput, IsOfNamedSteps, LeavesPlayed};
+ghost use Rattle.kt_program.specs.Files.{AreOthers};
+ghost use Rattle.kt_program.specs.Inputs.{AreGiven, IsPlanOfFile};
+ghost use Rattle.kt_program.specs.Made.{way_by};
+ghost use Rattle.kt_program.specs.Names.{IsNaming};
+ghost use Rattle.kt_program.specs.Outputs.{files_of};
+
+use crate::ending::Done;
+use crate::fault::ProgramFault;
+use crate::files::{FileNumber, ReadFrom, number_of};
+use crate::inputs::{read_scenario, read_steps};
+use crate::line::{By, Run};
+use crate::outputs::{Outputs, Targets, outputs_of};
+use crate::runs::{Way, run_objects};
+use kt_plan::{Plan, Step};
+use kt_run::Order;
+use std::alloc::Global;
+use std::fs;
+use std::io::Write;
+use std::rt::Files;
+use std::sync::Wait;
+use std::thread::Threads;
+
+/// A scenario that was read, with the steps that come first, and the files that they are of.
+#[derive(Drop)]
+pub(crate) struct Given {
+    pub(crate) plan: Plan,
+    pub(crate) steps: Vec<Step>,
+    pub(crate) files: [Option<FileNumber>; 2],
+}
+
+/// Runs the scenario in a file, with the steps of another one first, if that is named, and writes its log, its certificates and
+/// its steps into files where these are named, and its report.
+///
+/// Files are made once the scenario and the steps were taken, and emptied once all are open and none is one that was read or
+/// another one of them.
+#[inline(never)]
+pub(crate) fn run_files<F: Files + Threads + Wait + Sync, O: Write>(
+    rt: &F,
+    alloc: Global,
+    run: &Run<'_>,
+    out: &mut O,
+) -> Result<Done, ProgramFault>
+    ensures done { IfOk result (λ what. what ≡ Played) }
+    ensures output { LeavesPlayed result (O.contents out.old) (O.contents out.new) }
+    // The run whose report is written is that of the scenario; it begins with the steps that were read, and goes on as is
+    // asked.
+    ensures made { OnOk result (AppendsRun F.File.remaining run.now (O.contents out.old) (O.contents out.new)) }
+    // Steps are refused only where they are named.
+    ensures steps { IfErr result (IsOfNamedSteps run.now.steps) }
+    // Two names of one file are refused where a file is to be written.
+    ensures named { IfErr result (λ fault. fault ≡ program.SameFile →
+        IsNaming run.now.log run.now.cert run.now.kept None) }
+{
+    let given = given_run(rt, alloc, run.scenario, run.steps)?;
+    run_given(rt, alloc, run, &given, out)
+}
+
+// Runs a scenario that was read, as `run_files` does.
+#[tactic(auto, using(crate::proofs::MadeRuns::outputs_named))]
+fn run_given<F: Files + Threads + Wait + Sync, O: Write>(
+    rt: &F,
+    alloc: Global,
+    run: &Run<'_>,
+    given: &Given,
+    out: &mut O,
+) -> Result<Done, ProgramFault>
+    requires planned { IsPlanOfFile F.File.remaining given.now.plan }
+    requires given { AreGiven F.File.remaining run.now.steps given.now.plan.names given.now.steps.items }
+    ensures done { IfOk result (λ what. what ≡ Played) }
+    ensures output { LeavesPlayed result (O.contents out.old) (O.contents out.new) }
+    ensures made { OnOk result (AppendsRun F.File.remaining run.now (O.contents out.old) (O.contents out.new)) }
+    ensures steps { IfErr result (IsOfNamedSteps run.now.steps) }
+    ensures named { IfErr result (λ fault. fault ≡ program.SameFile →
+        IsNaming run.now.log run.now.cert run.now.kept None) }
+{
+    let targets = Targets {
+        log: run.log,
+        cert: run.cert,
+        kept: run.kept,
+        svg: None,
+    };
+    let mut outputs = outputs_of(rt, &given.files, &targets)?;
+    run_into(rt, alloc, run, given, &mut outputs, out)
+}
+
+// Runs a scenario that was read, into files that are none of those that it was read from.
+#[tactic(auto, using(crate::proofs::MadeRuns::report_of_made, crate::proofs::MadeRuns::made_of_file, crate::proofs::MadeRuns::left_of_made, crate::proofs::MadeRuns::app_named))]
+fn run_into<F: Files + Threads + Wait + Sync, O: Write>(
+    rt: &F,
+    alloc: Global,
+    run: &Run<'_>,
+    given: &Given,
+    outputs: &mut Outputs<F::File>,
+    out: &mut O,
+) -> Result<Done, ProgramFault>
+    requires planned { IsPlanOfFile F.File.remaining given.now.plan }
+    requires given { AreGiven F.File.remaining run.now.steps given.now.plan.names given.now.steps.items }
+    requires apart { AreOthers given.now.files (files_of outputs.old) }
+    ensures done { IfOk result (λ what. what ≡ Played) }
+    ensures output { LeavesPlayed result (O.contents out.old) (O.contents out.new) }
+    ensures made { OnOk result (AppendsRun F.File.remaining run.now (O.contents out.old) (O.contents out.new)) }
+    ensures steps { IfErr result (IsOfNamedSteps run.now.steps) }
+    ensures named { IfErr result (λ fault. fault ≢ program.SameFile) }
+{
+    outputs.empty(&given.files)?;
+    let steps = given.steps.as_slice();
+    let way = way_of(run);
+    run_objects(rt, alloc, &given.plan, steps, way, outputs, out)?;
+    Ok(Done::Played)
+}
+
+// How a run is made that is asked for.
+fn way_of(run: &Run<'_>) -> Way
+    ensures { result ≡ way_by run.now.by run.now.seed run.now.kept }
+{
+    match (run.by, run.seed, run.kept) {
+        (By::Threads, _, None) => Way::Lived,
+        (By::Threads, _, Some(_)) => Way::LivedKept,
+        (By::Serial, None, None) => Way::Played,
+        (By::Serial, None, Some(_)) => Way::Ordered(Order::Default),
+        (By::Serial, Some(seed), _) => Way::Ordered(Order::Drawn(seed)),
+    }
+}
+
+/// The scenario in this file, with the steps in another one, where that is named.
+pub(crate) fn given_run<F: Files>(
+    files: &F,
+    alloc: Global,
+    scenario: &str,
+    steps: Option<&str>,
+) -> Result<Given, ProgramFault>
+    ensures plan { IfOk result (λ given. IsPlanOfFile F.File.remaining given.plan) }
+    ensures steps { IfOk result (λ given. AreGiven F.File.remaining steps.entry given.plan.names given.steps.items) }
+    ensures fault { IfErr result IsOfInput }
+    ensures named { IfErr result (IsOfNamedSteps steps.entry) }
+{
+    let plan = scenario_in(files, alloc, scenario)?;
+    let read = steps_in(files, alloc, steps, &plan.value)?;
+    Ok(Given {
+        plan: plan.value,
+        steps: read.value,
+        files: [plan.file, read.file],
+    })
+}
+
+/// The plan of the scenario in this file.
+pub(crate) fn scenario_in<F: Files>(
+    files: &F,
+    alloc: Global,
+    name: &str,
+) -> Result<ReadFrom<Plan>, ProgramFault>
+    ensures plan { IfOk result (λ read. IsPlanOfFile F.File.remaining read.value) }
+    ensures input { IfErr result IsOfInput }
+    ensures fault { IfErr result IsNotOfSteps }
+{
+    let Ok(file) = fs::open(files, name) else {
+        return Err(ProgramFault::Read);
+    };
+    let number = number_of(&file);
+    Ok(ReadFrom {
+        value: read_scenario(alloc, file)?,
+        file: number,
+    })
+}
+
+// The steps in this file; none where none is named.
+fn steps_in<F: Files>(
+    files: &F,
+    alloc: Global,
+    name: Option<&str>,
+    plan: &Plan,
+) -> Result<ReadFrom<Vec<Step>>, ProgramFault>
+    ensures steps { IfOk result (λ read. AreGiven F.File.remaining name.entry plan.now.names read.value.items) }
+    ensures fault { IfErr result IsOfInput }
+    ensures named { IfErr result (IsOfNamedSteps name.entry) }
+{
+    let Some(name) = name else {
+        return Ok(ReadFrom {
+            value: Vec::new(alloc),
+            file: None,
+        });
+    };
+    let Ok(file) = fs::open(files, name) else {
+        return Err(ProgramFault::Read);
+    };
+    let number = number_of(&file);
+    Ok(ReadFrom {
+        value: read_steps(alloc, file, plan)?,
+        file: number,
+    })
+}
