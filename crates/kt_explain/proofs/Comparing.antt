@@ -19,8 +19,9 @@ use Rattle.kt_checker.specs.declared.verdict.Why.{Why}
 use Rattle.kt_checker.specs.declared.verdict.Why.TheVariants as why
 use Rattle.kt_checker.specs.Order.{IsCheckerAnswer}
 use Rattle.kt_checker.specs.Passing.{AreComplete, HasLists, IsAsInLog, IsSecond}
-use Rattle.kt_explain.specs.Compared.{AreAlike, AreSame, IsAlone, IsFirstAt, IsSecondAt, IsOfCertificate, asks_all, certificate_at}
+use Rattle.kt_explain.specs.Compared.{AreAlike, AreSame, IsAlone, IsFirstAt, IsSecondAt, IsOfCertificate, asks_all, asks_chains, certificate_at}
 use Rattle.kt_explain.specs.Told.{IsItsFirst}
+use Rattle.kt_explain.proofs.SameLists.{members_equal, processes_equal}
 use Rattle.kt_explain.proofs.Faults.{certificate_fault, missing_fault, none_some, one_first, unknown_fault}
 
 -- a reason that is neither of these is about a certificate
@@ -66,29 +67,29 @@ pub record Laws : Type 0 where
       → HasLists (past (take n log)) c
 
 -- the certificate that a log means of an instance, which is the same as one of a list
-record Twin (rows : List Event) (k : ℕ) (all : Bool) (c : Certificate) : Type 0 where
+record Twin (rows : List Event) (k : ℕ) (all chains : Bool) (c : Certificate) : Type 0 where
   pub place : ℕ
   pub twin : Certificate
   pub there : slice_get (certificates rows) place ≡ Some twin
   pub of_instance : twin.inst ≡ k
-  pub same : AreSame all c twin
+  pub same : AreSame all chains c twin
 
-twin_of : (rows : List Event) (list : List Certificate) (k : ℕ) (all : Bool) (has means : Option ℕ) (c : Certificate) → IsItsFirst list k c → IsFirstAt list k has → IsFirstAt (certificates rows) k means
-    → AreAlike all (certificate_at list has) (certificate_at (certificates rows) means) → Twin rows k all c
-twin_of rows list k all None means c first none meant alike = absurd (none first.0 c (slice_get_within list first.0 c first.1) first.1 first.2)
-twin_of rows list k all (Some i) None c first has meant alike = absurd (subst (λ (o : Option Certificate). AreAlike all o None) has.1 alike)
-twin_of rows list k all (Some i) (Some j) c first has meant alike =
-    let both = subst (λ (o : Option Certificate). AreAlike all o (Some meant.0)) has.1 (subst (λ (o : Option Certificate). AreAlike all (slice_get list i) o) meant.1 alike) in
+twin_of : (rows : List Event) (list : List Certificate) (k : ℕ) (all chains : Bool) (has means : Option ℕ) (c : Certificate) → IsItsFirst list k c → IsFirstAt list k has → IsFirstAt (certificates rows) k means
+    → AreAlike all chains (certificate_at list has) (certificate_at (certificates rows) means) → Twin rows k all chains c
+twin_of rows list k all chains None means c first none meant alike = absurd (none first.0 c (slice_get_within list first.0 c first.1) first.1 first.2)
+twin_of rows list k all chains (Some i) None c first has meant alike = absurd (subst (λ (o : Option Certificate). AreAlike all chains o None) has.1 alike)
+twin_of rows list k all chains (Some i) (Some j) c first has meant alike =
+    let both = subst (λ (o : Option Certificate). AreAlike all chains o (Some meant.0)) has.1 (subst (λ (o : Option Certificate). AreAlike all chains (slice_get list i) o) meant.1 alike) in
     record {
       place = j;
       twin = meant.0;
       there = meant.1;
       of_instance = meant.2;
-      same = subst (λ (x : Certificate). AreSame all x meant.0) (one_first list k has.0 c (i, has.1, has.2, has.4) first) both;
+      same = subst (λ (x : Certificate). AreSame all chains x meant.0) (one_first list k has.0 c (i, has.1, has.2, has.4) first) both;
     }
 
 -- it is as the log has it
-as_stated : (rows : List Event) (k : ℕ) (all : Bool) (c : Certificate) → Laws → c.inst ≡ k → Twin rows k all c → (n : ℕ) × IsAsInLog rows c n
+as_stated : (rows : List Event) (k : ℕ) (all : Bool) (c : Certificate) → Laws → c.inst ≡ k → Twin rows k all true c → (n : ℕ) × IsAsInLog rows c n
 as_stated rows k all c laws inst t =
     let s = laws.stated rows t.place t.twin t.there in
     let e : t.twin.inst ≡ c.inst = t.of_instance ∙ sym inst in (
@@ -98,43 +99,43 @@ as_stated rows k all c laws inst t =
         decided = s.1.decided ∙ (λ i. Some (Decided s.1.process (e i) (sym t.same.head.2 i)));
         kind = ap (kind_of (past (take s.0 rows))) (sym e) ∙ (s.1.kind ∙ (λ i. Some (sym t.same.head.0 i)));
         initiator = ap (initiator_of (past (take s.0 rows))) (sym e) ∙ (s.1.initiator ∙ (λ i. Some (sym t.same.head.1 i)));
-        no_members = λ aborted. t.same.aborted aborted ∙ s.1.no_members (sym t.same.head.2 ∙ aborted);
+        no_members = λ aborted. members_equal c.members t.twin.members (t.same.aborted aborted) ∙ s.1.no_members (sym t.same.head.2 ∙ aborted);
       },
     )
 
-same_certificate : (c d : Certificate) → c.inst ≡ d.inst → AreSame true c d → c ≡ d
-same_certificate c d inst h = λ i. record {
+same_certificate : (c d : Certificate) → c.inst ≡ d.inst → AreSame true true c d → c ≡ d
+same_certificate c d inst h = let all : c.members ≡ d.members = members_equal c.members d.members (h.members refl) in λ i. record {
   inst = inst i;
   kind = h.head.0 i;
   initiator = h.head.1 i;
   commit = h.head.2 i;
-  members = h.members refl i;
+  members = all i;
 }
 
 module _ (rows : List Event) (list : List Certificate) (k : ℕ) (row : Option ℕ) (has means : Option ℕ) (laws : Laws) (chained : (j p : ℕ) → HasNoChain rows j p → ⊥) (first : IsFirstAt list k has) (meant : IsFirstAt (certificates rows) k means) where
-  not_members : IsCheckerAnswer rows list (No (Some k) row why.Members) → AreAlike true (certificate_at list has) (certificate_at (certificates rows) means) → ⊥
+  not_members : IsCheckerAnswer rows list (No (Some k) row why.Members) → AreAlike true false (certificate_at list has) (certificate_at (certificates rows) means) → ⊥
   not_members a alike =
       let h = certificate_fault rows list k row why.Members (λ e. cc) (λ e. cc) a in
-      let t = twin_of rows list k true has means h.certificate h.first first meant alike in
+      let t = twin_of rows list k true false has means h.certificate h.first first meant alike in
       let s = laws.stated rows t.place t.twin t.there in
-      h.wrong.2 (ap (map (λ m. m.0)) (t.same.members refl) ∙ (laws.listed rows t.place s.0 t.twin h.legal t.there s.1 (sym t.same.head.2 ∙ h.wrong.1) ∙ ap (members rows) (t.of_instance ∙ h.of_instance)))
+      h.wrong.2 (processes_equal h.certificate.members t.twin.members (t.same.members refl) ∙ (laws.listed rows t.place s.0 t.twin h.legal t.there s.1 (sym t.same.head.2 ∙ h.wrong.1) ∙ ap (members rows) (t.of_instance ∙ h.of_instance)))
 
-  not_chain : IsCheckerAnswer rows list (No (Some k) row why.Chain) → AreAlike true (certificate_at list has) (certificate_at (certificates rows) means) → ⊥
+  not_chain : IsCheckerAnswer rows list (No (Some k) row why.Chain) → AreAlike true true (certificate_at list has) (certificate_at (certificates rows) means) → ⊥
   not_chain a alike =
       let h = certificate_fault rows list k row why.Chain (λ e. cc) (λ e. cc) a in
-      let t = twin_of rows list k true has means h.certificate h.first first meant alike in
+      let t = twin_of rows list k true true has means h.certificate h.first first meant alike in
       let one : h.certificate ≡ t.twin = same_certificate h.certificate t.twin (sym h.of_instance ∙ sym t.of_instance) t.same in
       h.wrong.3 (subst (HasLists (past (take h.place rows))) (sym one)
       (laws.chains rows t.place h.place t.twin h.legal chained t.there (subst (λ (c : Certificate). IsAsInLog rows c h.place) one h.in_log) (sym t.same.head.2 ∙ h.wrong.1)))
 
-  not_unknown : IsCheckerAnswer rows list (No (Some k) row why.Unknown) → AreAlike false (certificate_at list has) (certificate_at (certificates rows) means)
+  not_unknown : IsCheckerAnswer rows list (No (Some k) row why.Unknown) → AreAlike false true (certificate_at list has) (certificate_at (certificates rows) means)
       → IsAlone list k has → ⊥
   not_unknown a alike alone =
       let h = unknown_fault rows list k row a in
       let n = h.1 in
       let c = h.2 in
       let never : IsSecond list n c → ⊥ = no_second has first n c h.3 h.4 alone in
-      let s = as_stated rows k false c laws h.4 (twin_of rows list k false has means c (n, h.3, h.4, never) first meant alike) in
+      let s = as_stated rows k false c laws h.4 (twin_of rows list k false true has means c (n, h.3, h.4, never) first meant alike) in
       h.5 s.0 s.1 never
     where
       no_second : (place : Option ℕ) → IsFirstAt list k place → (n : ℕ) (c : Certificate) → slice_get list n ≡ Some c → c.inst ≡ k
@@ -148,20 +149,20 @@ module _ (rows : List Event) (list : List Certificate) (k : ℕ) (row : Option �
         ]
       ]
 
-  not_missing : IsCheckerAnswer rows list (No (Some k) row why.Missing) → AreAlike true (certificate_at list has) (certificate_at (certificates rows) means) → ⊥
+  not_missing : IsCheckerAnswer rows list (No (Some k) row why.Missing) → AreAlike true true (certificate_at list has) (certificate_at (certificates rows) means) → ⊥
   not_missing a alike =
       let h = missing_fault rows list k row a in
       let c = laws.complete rows h.0 h.1 h.2 k h.3 h.4 in
       by_place has first means meant alike c h.5
     where
-      by_place : (p : Option ℕ) → IsFirstAt list k p → (q : Option ℕ) → IsFirstAt (certificates rows) k q → AreAlike true (certificate_at list p) (certificate_at (certificates rows) q)
+      by_place : (p : Option ℕ) → IsFirstAt list k p → (q : Option ℕ) → IsFirstAt (certificates rows) k q → AreAlike true true (certificate_at list p) (certificate_at (certificates rows) q)
           → ((i : ℕ) × (c : Certificate) × (slice_get (certificates rows) i ≡ Some c) × (c.inst ≡ k)) → (((i : ℕ) × (c : Certificate) × (slice_get list i ≡ Some c) × (c.inst ≡ k)) → ⊥) → ⊥
       by_place (Some i) at q meant' both there none = none (i, at.0, at.1, at.2)
       by_place None at None meant' both there none = meant' there.0 there.1 (slice_get_within (certificates rows) there.0 there.1 there.2) there.2 there.3
-      by_place None at (Some j) meant' both there none = subst (λ (o : Option Certificate). AreAlike true None o) meant'.1 both
+      by_place None at (Some j) meant' both there none = subst (λ (o : Option Certificate). AreAlike true true None o) meant'.1 both
 
   -- so something is told of each no for a certificate
-  pub nothing_alike : (reason : Why) → IsOfCertificate reason → IsCheckerAnswer rows list (No (Some k) row reason) → AreAlike (asks_all reason) (certificate_at list has) (certificate_at (certificates rows) means)
+  pub nothing_alike : (reason : Why) → IsOfCertificate reason → IsCheckerAnswer rows list (No (Some k) row reason) → AreAlike (asks_all reason) (asks_chains reason) (certificate_at list has) (certificate_at (certificates rows) means)
       → IsAlone list k has → ⊥
   nothing_alike why.Unknown of_certificate a alike alone = not_unknown a alike alone
   nothing_alike why.Members of_certificate a alike alone = not_members a alike

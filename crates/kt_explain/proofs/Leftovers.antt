@@ -1,6 +1,5 @@
 -- What is told of a log that passes.
-use Rattle.std.proofs.Common.{◌≡◌, ◌∙◌, ℕ, zero, suc, Bool, true, false, Option, Some, None, List, [], ◌∷◌, sym, refl, subst, inl, inr}
-use Rattle.std.specs.Prelude.{not}
+use Rattle.std.proofs.Common.{◌≡◌, ◌∙◌, ℕ, zero, suc, Option, Some, None, List, [], ◌∷◌, sym, subst, inl, inr}
 use Rattle.std.specs.List.{slice_get}
 use Rattle.kt_explain.specs.declared.judged.OpenInstance.{OpenInstance}
 use Rattle.kt_cuts.specs.Past.{Past}
@@ -12,7 +11,6 @@ use Rattle.kt_checker.specs.declared.verdict.Verdict.{Verdict}
 use Rattle.kt_checker.specs.declared.verdict.Verdict.TheVariants.{Yes, No}
 use Rattle.kt_checker.specs.declared.verdict.Why.TheVariants as why
 use Rattle.kt_checker.specs.Order.{IsCheckerAnswer}
-use Rattle.std.proofs.lemmas.List.{nil_from_length}
 
 -- what four open instances are told as
 pub four_told : (s : Past) (list : List ℕ) (a b c d : Option OpenInstance) → IsOpenInstance s (slice_get list 0) a → IsOpenInstance s (slice_get list 1) b → IsOpenInstance s (slice_get list 2) c

@@ -1,5 +1,5 @@
 -- What is told of a log that passes: what was judged, and what it leaves open.
-use Rattle.std.specs.Prelude.{◌≡◌, ℕ, ◌<◌, ◌&&◌, ◌||◌, ◌↔◌, not, if◌then◌else◌, Bool, true, false, Option, Some, None, is_none, List, [], length, slice_get, count_by, Contains}
+use Rattle.std.specs.Prelude.{◌≡◌, ℕ, ◌<◌, ◌&&◌, ◌||◌, ◌↔◌, not, if◌then◌else◌, Bool, true, false, Option, Some, None, is_none, List, length, slice_get, count_by, Contains}
 use Rattle.std.specs.List.{filter_map, list_any, range_with_len}
 use Rattle.kt_base.specs.Sets.{has}
 use Rattle.kt_spacetime.specs.declared.event.Event.{Event}

@@ -1,6 +1,6 @@
 //! A certificate that does not pass, beside the one that the log means.
 
-ghost use Rattle.std.specs.Prelude.{◌≡◌, ◌≤◌, ◌<◌, ℕ, List, Some, length, slice_get, option_map, IfOk, IfSome, IfNone};
+ghost use Rattle.std.specs.Prelude.{◌≡◌, ◌≤◌, ◌<◌, ℕ, List, Option, Some, length, slice_get, option_map, IfOk, IfSome, IfNone};
 ghost use Rattle.kt_chain.specs.declared.certificate.Certificate.{Certificate as Certificates};
 ghost use Rattle.kt_checker.specs.declared.verdict.Verdict.TheVariants.{No};
 ghost use Rattle.kt_checker.specs.Order.{IsCheckerAnswer};
@@ -8,7 +8,7 @@ ghost use Rattle.kt_certify.specs.Certificates.{certificates as certificates_mea
 ghost use Rattle.kt_certify.specs.Faults.{HasNoChain, IsFaultOf};
 ghost use Rattle.kt_cuts.specs.Legal.{IsLegal};
 ghost use Rattle.kt_checker.specs.declared.verdict.Verdict.{Verdict};
-ghost use Rattle.kt_explain.specs.Compared.{AreAlike, DifferIn, IsAlone, IsDifference, IsFirstAt, IsOfCertificate, IsSecondAt, asks_all, certificate_at};
+ghost use Rattle.kt_explain.specs.Compared.{AreAlike, DifferIn, IsAlone, IsDifference, IsFirstAt, IsOfCertificate, IsSecondAt, asks_all, asks_chains, certificate_at};
 ghost use Rattle.kt_explain.specs.Told.{IsCertificateNo, IsExplanation, IsItsFirst};
 
 use crate::differing::first_difference;
@@ -26,6 +26,8 @@ use std::alloc::Global;
 pub enum Differs {
     /// In the record at this place: 0 of that of the instance, from 1 on of those of its members.
     Record(usize),
+    /// In that record, where chains don't count.
+    Process(usize),
     /// The certificate at this place of the list, from 0, is a second one of the instance.
     Second(usize),
 }
@@ -99,14 +101,7 @@ fn beside(
     certificates_of_legal_logs();
     let has = first_place(certificates, inst);
     let means = first_place(meant.as_slice(), inst);
-    match differing(
-        certificates,
-        inst,
-        has,
-        meant.as_slice(),
-        means,
-        asks_all(why),
-    ) {
+    match differing(certificates, inst, has, meant.as_slice(), means, why) {
         Some(differs) => Explanation::Compared(Compared {
             inst,
             has,
@@ -125,17 +120,18 @@ fn differing(
     has: Option<usize>,
     meant: &[Certificate],
     means: Option<usize>,
-    all: bool,
+    why: Why,
 ) -> Option<Differs>
     requires has { IfSome has (λ i. i < length certificates.now) }
     ensures differ { IfSome result (IsDifference certificates.now inst has meant.now means) }
-    ensures alike { IfNone result (AreAlike all (certificate_at certificates.now has) (certificate_at meant.now means)) }
+    ensures alike { IfNone result (AreAlike (asks_all why) (asks_chains why)
+        (certificate_at certificates.now has) (certificate_at meant.now means)) }
     ensures alone { IfNone result (IsAlone certificates.now inst has) }
 {
     let here = certificate_at(certificates, has);
     let there = certificate_at(meant, means);
-    match difference(here, there, all) {
-        Some(place) => Some(Differs::Record(place)),
+    match difference(here, there, asks_all(why), asks_chains(why)) {
+        Some(place) => Some(told_at(place, why)),
         None => match second_place(certificates, inst, has) {
             Some(place) => Some(Differs::Second(place)),
             None => None,
@@ -153,14 +149,41 @@ fn asks_all(why: Why) -> bool
     }
 }
 
+// Whether their chains count, where the members do.
+fn asks_chains(why: Why) -> bool
+    ensures { result ≡ asks_chains why }
+{
+    match why {
+        Why::Members => false,
+        _ => true,
+    }
+}
+
+// A difference in the record at a place.
+fn told_at(place: usize, why: Why) -> Differs
+    ensures { (list meant : List Certificates) (k : ℕ) (has means : Option ℕ)
+        → DifferIn (asks_chains why) (certificate_at list has) (certificate_at meant means) place
+        → IsDifference list k has meant means result }
+{
+    match why {
+        Why::Members => Differs::Process(place),
+        _ => Differs::Record(place),
+    }
+}
+
 // The first record in which two certificates differ, of which each may be missing.
-fn difference(here: Option<&Certificate>, there: Option<&Certificate>, all: bool) -> Option<usize>
-    ensures differ { IfSome result (DifferIn (option_map (λ c. c.now) here.entry) (option_map (λ c. c.now) there.entry)) }
-    ensures alike { IfNone result (AreAlike all (option_map (λ c. c.now) here.entry) (option_map (λ c. c.now) there.entry)) }
+fn difference(
+    here: Option<&Certificate>,
+    there: Option<&Certificate>,
+    all: bool,
+    chains: bool,
+) -> Option<usize>
+    ensures differ { IfSome result (DifferIn chains (option_map (λ c. c.now) here.entry) (option_map (λ c. c.now) there.entry)) }
+    ensures alike { IfNone result (AreAlike all chains (option_map (λ c. c.now) here.entry) (option_map (λ c. c.now) there.entry)) }
 {
     match here {
         Some(here) => match there {
-            Some(there) => first_difference(here, there, all),
+            Some(there) => first_difference(here, there, all, chains),
             None => Some(0),
         },
         None => match there {

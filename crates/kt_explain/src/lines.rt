@@ -77,7 +77,7 @@ fn record_lines(
 ) -> Result<String, Memory> {
     let inst = told.inst;
     let (has, place) = match told.differs {
-        Differs::Record(place) => (told.has, place),
+        Differs::Record(place) | Differs::Process(place) => (told.has, place),
         Differs::Second(second) => (Some(second), 0),
     };
     let here = record_text(alloc, certificates, has, place)?;

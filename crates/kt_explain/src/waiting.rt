@@ -31,21 +31,24 @@ impl fmt::Display for Waiting {
             from,
             to,
             count,
+            least,
             received,
-            ..
         } = self;
         write!(
             f,
-            "before it, in transit from process {from} to process {to}: {count}"
+            "in transit from process {from} to process {to} before this row:"
         )?;
-        if !self.least.is_empty() {
-            f.write_str(", the least of them")?;
+        if least.is_empty() {
+            f.write_str(" none")?;
         }
-        for msg in &self.least {
+        for msg in least {
             write!(f, " {msg}")?;
         }
+        if *count > least.len() {
+            write!(f, " and more, {count} in all")?;
+        }
         match received {
-            Some(msg) => write!(f, "; received last: message {msg}\n"),
+            Some(msg) => write!(f, "; received last: {msg}\n"),
             None => f.write_str("; received: none\n"),
         }
     }

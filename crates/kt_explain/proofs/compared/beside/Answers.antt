@@ -1,7 +1,6 @@
-use Rattle.std.proofs.Common.{◌≡◌, ◌∙◌, ◌<◌, ℕ, Bool, Option, List, length, refl, sym, subst}
-use Rattle.std.specs.Prelude.{IfSome}
+use Rattle.std.proofs.Common.{◌∙◌, List, refl, subst}
 use Rattle.kt_chain.specs.declared.certificate.Certificate.{Certificate}
-use Rattle.kt_explain.specs.Compared.{AreAlike, IsDifference, IsFirstAt, asks_all, certificate_at}
+use Rattle.kt_explain.specs.Compared.{AreAlike, IsDifference, IsFirstAt, asks_all, asks_chains, certificate_at}
 use Rattle.kt_explain.proofs.Comparing.{first_within, nothing_alike}
 use Rattle.kt_explain.proofs.compared.beside.Goals as goal
 
@@ -27,6 +26,5 @@ returns-in-None c =
     (record { complete = laws.complete; stated = laws.stated; listed = laws.listed; chains = laws.chains }) c.requires.chained c.first_place-has.ensures
     (subst (λ (l : List Certificate). IsFirstAt l c.args.inst c.first_place-means.result) (c.as_slice.ensures.value ∙ c.requires.meant) c.first_place-means.ensures)
     c.args.why c.requires.of_certificate c.requires.answer
-    (subst (λ (l : List Certificate). AreAlike (asks_all c.args.why) (certificate_at list c.first_place-has.result) (certificate_at l c.first_place-means.result)) (c.as_slice-2.ensures.value ∙ c.requires.meant)
-    (subst (λ (b : Bool). AreAlike b (certificate_at list c.first_place-has.result) (certificate_at c.as_slice-2.result.now c.first_place-means.result)) c.asks_all.ensures c.in-None.ensures.alike))
+    (subst (λ (l : List Certificate). AreAlike (asks_all c.args.why) (asks_chains c.args.why) (certificate_at list c.first_place-has.result) (certificate_at l c.first_place-means.result)) (c.as_slice-2.ensures.value ∙ c.requires.meant) c.in-None.ensures.alike)
     c.in-None.ensures.alone)

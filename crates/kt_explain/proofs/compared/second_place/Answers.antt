@@ -1,4 +1,4 @@
-use Rattle.std.proofs.Common.{◌≡◌, ◌<◌, ℕ, Option, List, length, sym, subst, arith}
+use Rattle.std.proofs.Common.{ℕ, Option, sym, subst}
 use Rattle.std.specs.Prelude.{IfNone, IfSome}
 use Rattle.kt_explain.specs.Compared.{IsAlone, IsSecondAt}
 use Rattle.kt_explain.proofs.Comparing.{second_found, second_lacks, none_alone}

@@ -1,9 +1,6 @@
-use Rattle.std.proofs.Common.{◌≡◌, ℕ, subst, sym}
 use Rattle.std.specs.List.{slice_index}
 use Rattle.kt_cuts.specs.Past.{past}
-use Rattle.kt_cuts.specs.Chains.{members}
 use Rattle.kt_checker.specs.Passing.{decided_cut}
-use Rattle.kt_explain.specs.declared.orphans.Orphan.{Orphan}
 use Rattle.kt_explain.specs.Orphans.{HasParts, IsLeastOrphan, IsOrphanTold}
 use Rattle.kt_explain.proofs.Gives.{some_gives, none_gives}
 use Rattle.kt_explain.proofs.Orphaned.{least_same, same_orphan, told_least}

@@ -1,4 +1,4 @@
-use Rattle.std.proofs.Common.{◌≡◌, ◌∙◌, List, take, sym, ap, subst}
+use Rattle.std.proofs.Common.{List, take, sym, subst}
 use Rattle.std.specs.Prelude.{IfNone, IfOk, IfSome}
 use Rattle.kt_spacetime.specs.declared.event.Event.{Event}
 use Rattle.kt_cuts.specs.Past.{past}

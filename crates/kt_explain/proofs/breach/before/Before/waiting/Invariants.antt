@@ -1,4 +1,3 @@
-use Rattle.std.proofs.Common.{◌≡◌, ◌≤◌, ℕ}
 use Rattle.kt_explain.proofs.InTransit.{IsWaitingTo}
 use Rattle.kt_explain.proofs.breach.before.Before.waiting.Given as goal
 
