@@ -49,8 +49,8 @@ fn later_words(breach: &Breach) -> &'static str {
     }
 }
 
-/// A rule by number and name.
-pub fn rule_title(rule: Rule) -> &'static str {
+// A rule by number and name.
+fn rule_title(rule: Rule) -> &'static str {
     match rule {
         Rule::Numbers => "rule 1, numbers",
         Rule::Message => "rule 2, message",

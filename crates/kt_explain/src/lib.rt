@@ -20,12 +20,12 @@ mod orphans;
 mod undoing;
 mod waiting;
 
-pub use bad_row::{BadRow, rule_title};
+pub use bad_row::BadRow;
 pub use breach::{Breach, InstanceBreach, MessageBreach, Open, Outside, ProcessBreach};
 pub use compared::{Compared, Differs};
 pub use explaining::explain;
 pub use explanation::Explanation;
 pub use judged::{Decided, Judged, OpenInstance};
-pub use lines::lines_of;
+pub use lines::Told;
 pub use orphans::Orphan;
 pub use waiting::Waiting;

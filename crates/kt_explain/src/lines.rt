@@ -11,22 +11,32 @@ use kt_checker::Verdict;
 use kt_log_text::write_csv;
 use kt_spacetime::{Event, SpaceTime};
 use std::alloc::Global;
+use std::fmt;
 
-/// The lines of what is told of an answer: the row that it names, as a log has it, the facts, and the records that differ.
-pub fn lines_of(
-    alloc: Global,
-    log: &SpaceTime,
-    certificates: &[Certificate],
-    verdict: &Verdict,
-    told: &Explanation,
-) -> Result<String, Memory> {
-    let row = row_line(alloc, log.rows(), verdict)?;
-    let records = match told {
-        Explanation::Compared(compared) => record_lines(alloc, certificates, compared)?,
-        _ => String::new(alloc),
-    };
-    let lines = format!(in alloc; "{row}{told}{records}")?;
-    Ok(lines)
+/// What is told of an answer, as lines: the row that it names, as a log has it, the facts, and the records that differ.
+pub struct Told<'a> {
+    pub alloc: Global,
+    pub log: &'a SpaceTime,
+    pub certificates: &'a [Certificate],
+    pub verdict: &'a Verdict,
+    pub explanation: &'a Explanation,
+}
+
+impl fmt::Display for Told<'_> {
+    fn fmt<W: fmt::Write>(&self, f: &mut fmt::Formatter<W>) -> fmt::Result {
+        let Ok(row) = row_line(self.alloc, self.log.rows(), self.verdict) else {
+            return Err(fmt::Error);
+        };
+        let explanation = self.explanation;
+        write!(f, "{row}{explanation}")?;
+        let Explanation::Compared(compared) = explanation else {
+            return Ok(());
+        };
+        match record_lines(self.alloc, self.certificates, compared) {
+            Ok(records) => f.write_str(records.as_str()),
+            Err(Memory) => Err(fmt::Error),
+        }
+    }
 }
 
 // The line of the row that an answer names.
