@@ -14,6 +14,7 @@ use std::alloc::Global;
 use std::fmt;
 
 /// What is told of an answer, as lines: the row that it names, as a log has it, the facts, and the records that differ.
+#[derive(Drop)]
 pub struct Told<'a> {
     pub alloc: Global,
     pub log: &'a SpaceTime,

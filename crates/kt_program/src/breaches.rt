@@ -12,8 +12,7 @@ use crate::subject::file_of;
 use kt_base::Memory;
 use kt_certify::Unfit;
 use kt_checker::check;
-use kt_cuts::Rule;
-use kt_explain::{BadRow, Explanation, explain, rule_title};
+use kt_explain::{BadRow, Explanation, explain};
 use kt_hints::{push_hint, push_lines};
 use kt_log_text::read_csv;
 use kt_spacetime::SpaceTime;
@@ -47,25 +46,25 @@ fn push_bad_row(alloc: Global, lines: &mut Vec<u8>, row: &BadRow) -> Result<(), 
     push_lines(lines, text.as_bytes())
 }
 
-// Gathers the rule that a fault names, and what tells how it is broken.
+// Gathers what tells how the rule that a fault names is broken.
 fn push_rule_of(lines: &mut Vec<u8>, fault: &ProgramFault) -> Result<(), Memory>
     ensures { OnOk result ((text : List ℕ) × (lines.new.items ≡ lines.old.items ++ text)
         × IsRuleTold fault.now text) }
 {
     match fault {
-        ProgramFault::App(AppFault::Unfit(Unfit::BadLog(_, rule))) => push_rule(lines, *rule),
+        ProgramFault::App(AppFault::Unfit(Unfit::BadLog(..))) => push_rule(lines),
         _ => Ok(()),
     }
 }
 
-// Gathers a rule that a row breaks, and what tells how.
-fn push_rule(lines: &mut Vec<u8>, rule: Rule) -> Result<(), Memory>
+// Gathers what tells how a rule is broken.
+fn push_rule(lines: &mut Vec<u8>) -> Result<(), Memory>
     ensures { OnOk result ((text : List ℕ) × (lines.new.items ≡ lines.old.items ++ text)) }
 {
     push_hint(
         lines,
-        rule_title(rule),
-        b": koo_toueg check --explain, with this log and /dev/null, tells what breaks it",
+        "koo_toueg check --explain, with this log and /dev/null, tells what breaks the rule",
+        b"",
     )
 }
 

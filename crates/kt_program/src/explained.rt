@@ -15,7 +15,7 @@ use crate::checked::{is_yes, log_fault, read_certificates};
 use crate::fault::AppFault;
 use kt_chain::{CertTextFault, Certificate};
 use kt_checker::{Verdict, check};
-use kt_explain::{explain, lines_of};
+use kt_explain::{Told, explain};
 use kt_log_text::{LogFault, read_csv};
 use kt_spacetime::SpaceTime;
 use std::alloc::Global;
@@ -102,7 +102,16 @@ fn judge<W: Write>(
 {
     let verdict = check(alloc, log, certificates)?;
     let explanation = explain(alloc, log, certificates, &verdict)?;
-    let lines = lines_of(alloc, log, certificates, &verdict, &explanation)?;
+    let told = Told {
+        alloc,
+        log,
+        certificates,
+        verdict: &verdict,
+        explanation: &explanation,
+    };
+    let Ok(lines) = format!(in alloc; "{told}") else {
+        return Err(AppFault::Memory);
+    };
     write_answer(writer, &verdict, lines.as_str())?;
     Ok(is_yes(&verdict))
 }
