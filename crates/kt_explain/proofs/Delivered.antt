@@ -25,9 +25,9 @@ use Rattle.kt_cuts.proofs.RowRules.{both, not_true}
 use Rattle.kt_checker.proofs.Chaining.{trace_parts}
 use Rattle.kt_explain.specs.declared.breach.Breach.TheVariants as breach
 use Rattle.kt_explain.specs.declared.breach.MessageBreach.TheVariants as message
-use Rattle.kt_explain.specs.BadChains.{has_sent, has_received}
+use Rattle.kt_explain.specs.Breaches.{has_sent, has_received}
 use Rattle.kt_explain.specs.Breaches.{IsBreach, IsLatestFrom, IsLastDropped}
-use Rattle.kt_explain.proofs.ChainSteps.{is_false, traced_message, untraced, unplaced, placed_deed, sent_message, received_message}
+use Rattle.kt_explain.proofs.TracedMessages.{is_false, traced_message, untraced, unplaced, placed_deed, sent_message, received_message}
 
 module _ (rows : List Event) (l : IsLegal rows) where
   -- a message that was not sent

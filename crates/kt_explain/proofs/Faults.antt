@@ -4,12 +4,14 @@ use Rattle.std.proofs.Common.{◌≡◌, ℕ, suc, ◌+◌, ◌-◌, ◌<◌, �
 use Rattle.std.specs.List.{slice_get}
 use Rattle.kt_base.specs.declared.words.Kind.{Kind}
 use Rattle.kt_spacetime.specs.declared.event.Event.{Event}
+use Rattle.kt_spacetime.specs.declared.event.Event.TheVariants.{Decided}
 use Rattle.kt_cuts.specs.declared.rules.Rule.{Rule}
 use Rattle.kt_cuts.specs.Past.{Past, start, past, after, kind_of}
 use Rattle.kt_cuts.specs.Rules.{all_rules}
 use Rattle.kt_cuts.specs.Legal.{IsLegal, IsLegalAfter, keeps, broken_rule, or_later, first_broken_after, first_broken}
 use Rattle.kt_cuts.specs.Cuts.{IsConsistent}
 use Rattle.kt_cuts.specs.Chains.{members}
+use Rattle.kt_cuts.proofs.LegalLogs.{legal_unbroken}
 use Rattle.kt_cuts.proofs.RowRules.{not_true}
 use Rattle.kt_cuts.proofs.SortedFacts.{some_same}
 use Rattle.kt_chain.specs.declared.certificate.Certificate.{Certificate}
@@ -18,9 +20,9 @@ use Rattle.kt_checker.specs.declared.verdict.Verdict.TheVariants.{Yes, No}
 use Rattle.kt_checker.specs.declared.verdict.Why.{Why}
 use Rattle.kt_checker.specs.declared.verdict.Why.TheVariants as why
 use Rattle.kt_checker.specs.Unwilling.{has_unwilling}
-use Rattle.kt_checker.specs.Passing.{IsAsInLog, IsSecond, decided_cut}
+use Rattle.kt_checker.specs.Passing.{HasCertificate, IsAsInLog, IsSecond, decided_cut}
 use Rattle.kt_checker.specs.Order.{IsCheckerAnswer, IsBadLog, IsFirstWhy}
-use Rattle.kt_explain.specs.Told.{IsItsFirst, IsNoOf, listed_in}
+use Rattle.kt_explain.specs.Told.{IsItsFirst}
 use Rattle.std.proofs.lemmas.Bool.{cases_order}
 use Rattle.kt_checker.proofs.Sound.{within}
 
@@ -191,24 +193,6 @@ certificate_fault rows certificates k row reason known certified a = elim a [
 pub log_not_instance : (rows : List Event) (certificates : List Certificate) (k : ℕ) (row : Option ℕ) (rule : Rule) → IsCheckerAnswer rows certificates (No (Some k) row (why.BadLog rule)) → ⊥
 log_not_instance rows certificates k row rule a = (certificate_fault rows certificates k row (why.BadLog rule) (λ e. cc) (λ e. cc) a).wrong
 
--- that a certificate is missing comes with a row
-pub missing_row : (rows : List Event) (certificates : List Certificate) (k : ℕ) → IsCheckerAnswer rows certificates (No (Some k) None why.Missing) → ⊥
-missing_row rows certificates k a = elim a [
-  | inl passed ↦ none_some why.Missing (sym (ap reason_told passed.0))
-  | inr fault ↦ elim fault [
-    | inl bad ↦ none_some k (sym (ap instance_told bad.2))
-    | inr legal ↦ elim legal.1 [
-      | inl refused ↦ elim refused.4 [
-        | inl unknown ↦
-            let e : why.Missing ≡ why.Unknown = some_same (ap reason_told unknown.0) in
-            absurd (cc)
-        | inr wrong ↦ none_some (wrong.0 + 1) (ap row_told wrong.2)
-      ]
-      | inr missing ↦ none_some (missing.1 + 1) (ap row_told missing.5)
-    ]
-  ]
-]
-
 -- an instance has one first certificate
 pub one_first : (certificates : List Certificate) (k : ℕ) (a b : Certificate) → IsItsFirst certificates k a → IsItsFirst certificates k b → a ≡ b
 one_first certificates k a b g h = elim (cases_order g.0 h.0) [
@@ -218,35 +202,6 @@ one_first certificates k a b g h = elim (cases_order g.0 h.0) [
     | inr low ↦ absurd (g.3 (h.0, b, low, h.1, h.2 ∙ sym g.2))
   ]
 ]
-
--- what a no to a list that is not an instance's members says of the first certificate of the instance
-pub record MembersFault (rows : List Event) (certificates : List Certificate) (k r : ℕ) : Type 0 where
-  pub legal : IsLegal rows
-  pub place : ℕ
-  pub row_is : r ≡ place + 1
-  pub upto : place ≤ length rows
-  pub certificate : Certificate
-  pub first : IsItsFirst certificates k certificate
-  pub unlike : (c : Certificate) → IsItsFirst certificates k c → listed_in c ≡ members rows k → ⊥
-
-pub members_fault : (rows : List Event) (certificates : List Certificate) (k r : ℕ) → IsCheckerAnswer rows certificates (No (Some k) (Some r) why.Members) → MembersFault rows certificates k r
-members_fault rows certificates k r answer =
-    let h = certificate_fault rows certificates k (Some r) why.Members (λ e. cc) (λ e. cc) answer in
-    record {
-      legal = h.legal;
-      place = h.place;
-      row_is = some_same h.row_is;
-      upto = within rows h.place _ h.in_log.decided;
-      certificate = h.certificate;
-      first = h.first;
-      unlike = λ c first same. h.wrong.2 (ap listed_in (one_first certificates k h.certificate c h.first first) ∙ (same ∙ ap (members rows) h.of_instance));
-    }
-
--- it comes with a row
-pub members_row : (rows : List Event) (certificates : List Certificate) (k : ℕ) → IsCheckerAnswer rows certificates (No (Some k) None why.Members) → ⊥
-members_row rows certificates k a =
-    let h = certificate_fault rows certificates k None why.Members (λ e. cc) (λ e. cc) a in
-    none_some (h.place + 1) h.row_is
 
 -- what is known just before the decision of an instance of which the first certificate is answered by an orphan
 pub record Before (rows : List Event) (c : Certificate) (k r : ℕ) : Type 0 where
@@ -321,13 +276,37 @@ unknown_fault rows certificates k row a = elim a [
   ]
 ]
 
--- each certificate of an instance is the first of it, and as the log has it: then none is unknown
-abbrev pub AreAsInLog : List Event → List Certificate → ℕ → Type 0
-AreAsInLog rows certificates k =
-    (i : ℕ) (c : Certificate) → slice_get certificates i ≡ Some c → c.inst ≡ k → ((n : ℕ) × IsAsInLog rows c n) × (IsSecond certificates i c → ⊥)
+-- the row that decides an instance of which a certificate is missing
+pub missing_fault : (rows : List Event) (certificates : List Certificate) (k : ℕ) (row : Option ℕ) → IsCheckerAnswer rows certificates (No (Some k) row why.Missing)
+    → IsLegal rows × (n : ℕ) × (p : ℕ) × (commit : Bool) × (slice_get rows n ≡ Some (Decided p k commit)) × (HasCertificate certificates k → ⊥)
+missing_fault rows certificates k row a = elim a [
+  | inl passed ↦ absurd (none_some why.Missing (sym (ap reason_told passed.0)))
+  | inr fault ↦ elim fault [
+    | inl bad ↦ absurd (none_some k (sym (ap instance_told bad.2)))
+    | inr legal ↦ elim legal.1 [
+      | inl refused ↦ elim refused.4 [
+        | inl unknown ↦
+            let e : why.Missing ≡ why.Unknown = some_same (ap reason_told unknown.0) in
+            absurd (cc)
+        | inr wrong ↦ absurd (subst (IsFirstWhy (past (take wrong.0 rows)) (members rows refused.1.inst) (has_unwilling rows refused.1.inst) refused.1) (sym (some_same (ap reason_told wrong.2))) wrong.5)
+      ]
+      | inr missing ↦
+          let inst : missing.3 ≡ k = sym (some_same (ap instance_told missing.5)) in
+          (legal.0, missing.1, missing.2, missing.4, missing.6 ∙ ap (λ (j : ℕ). Some (Decided missing.2 j missing.4)) inst, subst (λ (j : ℕ). HasCertificate certificates j → ⊥) inst missing.7)
+    ]
+  ]
+]
 
-pub none_unknown : (rows : List Event) (certificates : List Certificate) (k : ℕ) (v : Verdict) → IsNoOf v k why.Unknown → IsCheckerAnswer rows certificates v → (IsLegal rows → AreAsInLog rows certificates k) → ⊥
-none_unknown rows certificates k v is a known =
-    let h = unknown_fault rows certificates k is.0 (subst (IsCheckerAnswer rows certificates) is.1 a) in
-    let one = known h.0 h.1 h.2 h.3 h.4 in
-    h.5 one.0.0 one.0.1 one.1
+-- a no to a certificate, or for the want of one, is of a legal log
+pub certificate_legal : (rows : List Event) (certificates : List Certificate) (k : ℕ) (row : Option ℕ) (reason : Why) → IsCheckerAnswer rows certificates (No (Some k) row reason) → IsLegal rows
+certificate_legal rows certificates k row reason a = elim a [
+  | inl passed ↦ absurd (none_some reason (sym (ap reason_told passed.0)))
+  | inr fault ↦ elim fault [
+    | inl bad ↦ absurd (none_some k (sym (ap instance_told bad.2)))
+    | inr legal ↦ legal.0
+  ]
+]
+
+-- of a legal log no row breaks a rule
+pub not_broken : (rows : List Event) (n : ℕ) (rule : Rule) → IsLegal rows → first_broken rows ≡ Some (n, rule) → ⊥
+not_broken rows n rule legal broken = none_some (n, rule) (sym (legal_unbroken start rows legal) ∙ broken)

@@ -1,20 +1,12 @@
--- Sets that are filled by rising number, and their words.
-use Rattle.std.proofs.Common.{◌≡◌, ◌≢◌, ◌∙◌, ◌+◌, ◌<◌, ◌≤◌, ℕ, zero, suc, Bool, true, false, ◌++◌, refl, sym, ap, arith, inl, inr}
+-- Sets that are filled by rising number.
+use Rattle.std.proofs.Common.{◌≡◌, ◌≢◌, ◌∙◌, ◌+◌, ◌<◌, ◌≤◌, ℕ, zero, suc, Bool, true, false, refl, sym, ap, arith, inl, inr}
 use Rattle.std.specs.Prelude.{◌||◌}
 use Rattle.std.specs.List.{list_any, range_with_len}
 use Rattle.std.proofs.lemmas.Bool.{cases_eq}
 use Rattle.kt_base.specs.Sets.{has}
 use Rattle.kt_cuts.specs.Past.{Past}
 use Rattle.kt_cuts.specs.Legal.{is_in}
-use Rattle.kt_explain.specs.LeftOpen.{is_anyone_in}
-use Rattle.kt_explain.specs.LeftOpenWords.{member_words, members_below}
-
--- one more process in words
-pub members_more : (set n p : ℕ) → p ≡ n → members_below set n ++ member_words set p ≡ members_below set (n + 1)
-unfolding members_below
-members_more set n p e =
-    let on : suc n ≡ n + 1 = omega arith in
-    ap (λ (q : ℕ). members_below set n ++ member_words set q) e ∙ ap (members_below set) on
+use Rattle.kt_explain.specs.Judged.{is_anyone_in}
 
 -- a set has of the processes below a limit those that pass a test, and none from there on
 pub record IsFilledTo (test : ℕ → Bool) (n set : ℕ) : Type 0 where

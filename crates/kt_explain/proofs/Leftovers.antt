@@ -1,11 +1,9 @@
--- What is told of a log that leaves something open, or nothing.
-use Rattle.std.proofs.Common.{◌≡◌, ◌∙◌, ℕ, zero, suc, Bool, true, false, Option, Some, None, List, [], ◌∷◌, sym, refl, subst, inl, inr}
-use Rattle.std.specs.Prelude.{not}
+-- What is told of a log that passes.
+use Rattle.std.proofs.Common.{◌≡◌, ◌∙◌, ℕ, zero, suc, Option, Some, None, List, [], ◌∷◌, sym, subst, inl, inr}
 use Rattle.std.specs.List.{slice_get}
-use Rattle.kt_explain.specs.declared.left_open.OpenInstance.{OpenInstance}
+use Rattle.kt_explain.specs.declared.judged.OpenInstance.{OpenInstance}
 use Rattle.kt_cuts.specs.Past.{Past}
-use Rattle.kt_explain.specs.declared.left_open.LeftOpen.{LeftOpen}
-use Rattle.kt_explain.specs.LeftOpen.{IsOpenInstance, IsLeftOpen, TellsNothing, LeavesNothing}
+use Rattle.kt_explain.specs.Judged.{IsOpenInstance}
 use Rattle.kt_spacetime.specs.declared.event.Event.{Event}
 use Rattle.kt_cuts.specs.Legal.{IsLegal}
 use Rattle.kt_chain.specs.declared.certificate.Certificate.{Certificate}
@@ -13,7 +11,6 @@ use Rattle.kt_checker.specs.declared.verdict.Verdict.{Verdict}
 use Rattle.kt_checker.specs.declared.verdict.Verdict.TheVariants.{Yes, No}
 use Rattle.kt_checker.specs.declared.verdict.Why.TheVariants as why
 use Rattle.kt_checker.specs.Order.{IsCheckerAnswer}
-use Rattle.std.proofs.lemmas.List.{nil_from_length}
 
 -- what four open instances are told as
 pub four_told : (s : Past) (list : List ℕ) (a b c d : Option OpenInstance) → IsOpenInstance s (slice_get list 0) a → IsOpenInstance s (slice_get list 1) b → IsOpenInstance s (slice_get list 2) c
@@ -23,20 +20,6 @@ four_told s list a b c d ha hb hc hd (suc zero) o e = let is : b ≡ o = cc in s
 four_told s list a b c d ha hb hc hd (suc (suc zero)) o e = let is : c ≡ o = cc in subst (IsOpenInstance s (slice_get list 2)) is hc
 four_told s list a b c d ha hb hc hd (suc (suc (suc zero))) o e = let is : d ≡ o = cc in subst (IsOpenInstance s (slice_get list 3)) is hd
 four_told s list a b c d ha hb hc hd (suc (suc (suc (suc i)))) o e = absurd (cc)
-
--- who is not down is up
-up_from : (up down : Bool) → down ≡ not up → down ≡ false → up ≡ true
-up_from true down e none = refl
-up_from false down e none = let never : true ≡ false = sym e ∙ none in absurd (cc)
-
--- where nothing is told, nothing is left open
-pub nothing_left : (rows : List Event) (l : LeftOpen) → IsLeftOpen rows l → TellsNothing l → LeavesNothing rows
-nothing_left rows l h none = record {
-  closed = nil_from_length _ (sym h.count ∙ none.closed);
-  received = nil_from_length _ (sym h.in_transit ∙ none.received);
-  up = λ p low. up_from _ _ (h.down p low) (none.up p);
-  dropped = sym h.dropped ∙ none.dropped;
-}
 
 -- a log that passes is legal
 pub yes_legal : (rows : List Event) (certificates : List Certificate) (verdict : Verdict) → IsCheckerAnswer rows certificates verdict → verdict ≡ Yes → IsLegal rows

@@ -1,5 +1,5 @@
 -- Orphans of a cut that an instance's decision makes.
-use Rattle.std.proofs.Common.{◌≡◌, ℕ, zero, suc, ◌<◌, ◌≤◌, true, false, Bool, Some, List, [], length, take, refl, sym, ap, ◌∙◌, inl, inr}
+use Rattle.std.proofs.Common.{◌≡◌, ℕ, zero, suc, ◌<◌, ◌≤◌, true, false, Bool, Some, List, [], length, take, refl, subst, sym, ap, ◌∙◌, inl, inr}
 use Rattle.std.specs.List.{slice_get}
 use Rattle.std.specs.Prelude.{if◌then◌else◌, Contains}
 use Rattle.std.proofs.lemmas.Bool.{cases_lt}
@@ -15,7 +15,10 @@ use Rattle.kt_cuts.specs.Chains.{members}
 use Rattle.kt_cuts.proofs.Leastness.{members_cut}
 use Rattle.kt_cuts.proofs.Members.{contains_member, member_contained}
 use Rattle.kt_cuts.proofs.OrphanFacts.{between_of, orphan_of}
-use Rattle.kt_explain.specs.Orphans.{IsLeastOrphan}
+use Rattle.kt_base.specs.declared.words.Kind.{Kind}
+use Rattle.kt_checker.specs.Passing.{decided_cut}
+use Rattle.kt_explain.specs.declared.orphans.Orphan.{Orphan}
+use Rattle.kt_explain.specs.Orphans.{HasParts, IsLeastOrphan, IsOrphanTold}
 
 take_none : (n : ℕ) → take n (let l : List Deed = [] in l) ≡ []
 take_none zero = refl
@@ -66,3 +69,11 @@ outside_cut log k p l kind other = sym (cut_at (past log) k p false (is_not (is_
     is_not : (b : Bool) → is_member (past log) k p ≡ b → is_member (past log) k p ≡ false
     is_not true e = absurd (other (contains_member log k p e))
     is_not false e = e
+
+-- what is told of the least orphan
+pub told_least : (rows : List Event) (k : ℕ) (kind : Kind) (joined : List ℕ) (msg : ℕ) (o : Orphan) → joined ≡ members rows k → IsLeastOrphan (past rows) (decided_cut (past rows) k kind) msg → HasParts rows joined msg o
+    → IsOrphanTold rows k kind o
+told_least rows k kind joined msg o same least h = record {
+  least = subst (IsLeastOrphan (past rows) (decided_cut (past rows) k kind)) (sym h.msg_is) least;
+  parts = subst (λ (m : ℕ). HasParts rows (members rows k) m o) (sym h.msg_is) (subst (λ (list : List ℕ). HasParts rows list msg o) same h);
+}

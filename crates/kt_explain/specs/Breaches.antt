@@ -1,7 +1,6 @@
 -- What breaks a rule: when what is told is so, and what it is against.
-use Rattle.std.specs.Prelude.{◌≡◌, ◌≤◌, ◌+◌, ◌^◌, ℕ, Bool, true, false, Option, Some, None, Result, Ok, Err, is_some, IfSome, List, [], length}
+use Rattle.std.specs.Prelude.{◌≡◌, ◌≤◌, ◌+◌, ◌^◌, ℕ, Bool, true, false, Option, Some, None, Result, Ok, Err, is_some, List, [], length}
 use Rattle.kt_base.specs.declared.words.Kind.{Kind}
-use Rattle.kt_base.specs.declared.words.Kind.TheVariants.{Rollback}
 use Rattle.kt_spacetime.specs.declared.event.Event.{Event}
 use Rattle.kt_spacetime.specs.declared.event.Event.TheVariants as event
 use Rattle.kt_cuts.specs.declared.deeds.Deed.{Deed}
@@ -22,9 +21,15 @@ use Rattle.kt_explain.specs.declared.breach.ProcessBreach.TheVariants as process
 use Rattle.kt_explain.specs.declared.breach.InstanceBreach.{InstanceBreach}
 use Rattle.kt_explain.specs.declared.breach.InstanceBreach.TheVariants as instance
 use Rattle.kt_explain.specs.declared.breach.before.Before.{Before}
-use Rattle.kt_explain.specs.BadChains.{has_sent, has_received}
-use Rattle.kt_checker.specs.Unwilling.{is_unwilling}
-use Rattle.kt_explain.specs.Finding.{IsFirstNumber, IsFirstRow, IsLastNumber, begins_inst, closes, decides_inst, drops, fails, receives}
+use Rattle.kt_explain.specs.Finding.{IsFirstRow, IsLastNumber, begins_inst, closes, decides_inst, drops, fails, receives}
+
+-- whether a process has sent another one a message, as its live history has it
+abbrev pub has_sent : Past → ℕ → ℕ → ℕ → Bool
+has_sent s p q msg = has_deed (deed.Sent msg q) (s.live p)
+
+-- whether a process has received a message from another one, as its live history has it
+abbrev pub has_received : Past → ℕ → ℕ → ℕ → Bool
+has_received s q p msg = has_deed (deed.Received msg p) (s.live q)
 
 -- the greatest message from a sender that is in a list of deeds as received
 pub record IsLatestFrom (from : ℕ) (deeds : List Deed) (msg : ℕ) : Type 0 where
@@ -66,14 +71,11 @@ pub record IsOutside (rows : List Event) (o : Outside) : Type 0 where
   pub joined : IsLastNumber (is_join o.p o.inst) rows o.joined
   pub closed : IsLastNumber (closes o.p o.inst) rows o.closed
 
--- a process is in an open instance, which it joined last in this row; who began that, in which row it was decided, and in
--- which one a process was first unwilling to join it
+-- a process is in an open instance, which it joined last in this row; in which row that was decided
 pub record IsOpen (rows : List Event) (o : Open) : Type 0 where
   pub open_in : (past rows).open_in o.p ≡ Some o.inst
   pub joined : IsLastIn (is_join o.p o.inst) rows o.row
   pub decided : IsLastNumber (decides_inst o.inst) rows o.decided
-  pub initiator : IfSome o.initiator (λ q. initiator_of (past rows) o.inst ≡ Some q)
-  pub unwilling : IsFirstNumber (is_unwilling o.inst) rows o.unwilling
 
 -- what is told of a process is so after these rows
 abbrev pub IsSoOfProcess : List Event → ProcessBreach → Type 0
@@ -92,11 +94,9 @@ IsSoOfInstance rows (instance.Next number) = number ≡ length (past rows).begun
 IsSoOfInstance rows (instance.NotBegun k) = has_begun (past rows) k ≡ false
 IsSoOfInstance rows (instance.Decided k row) =
     (is_some ((past rows).decision k) ≡ true) × IsLastIn (decides_inst k) rows row
-IsSoOfInstance rows (instance.Undecided k p) = ((past rows).decision k ≡ None) × IfSome p (λ q. initiator_of (past rows) k ≡ Some q)
+IsSoOfInstance rows (instance.Undecided k) = (past rows).decision k ≡ None
 IsSoOfInstance rows (instance.OfKind k kind row) =
     (kind_of (past rows) k ≡ Some kind) × (p : ℕ) × IsFirstRow (begins_inst k) rows row (event.Began p k kind)
-IsSoOfInstance rows (instance.OnlyBusy k row) =
-    (kind_of (past rows) k ≡ Some Rollback) × (p : ℕ) × (kind : Kind) × IsFirstRow (begins_inst k) rows row (event.Began p k kind)
 IsSoOfInstance rows (instance.Initiator k p row) =
     (initiator_of (past rows) k ≡ Some p) × (kind : Kind) × IsFirstRow (begins_inst k) rows row (event.Began p k kind)
 IsSoOfInstance rows (instance.JustBegun p k kind) = (past rows).last ≡ Some (event.Began p k kind)

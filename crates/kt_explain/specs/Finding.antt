@@ -5,7 +5,7 @@ use Rattle.kt_spacetime.specs.declared.event.Event.TheVariants as event
 use Rattle.kt_cuts.specs.Legal.{is_join}
 use Rattle.kt_checker.specs.Unwilling.{is_unwilling}
 use Rattle.kt_explain.specs.declared.finding.Sought.{Sought}
-use Rattle.kt_explain.specs.declared.finding.Sought.TheVariants.{Unwilling, Began, Decided, Received, Got, Failed, Dropped, Joined, Closed}
+use Rattle.kt_explain.specs.declared.finding.Sought.TheVariants.{Unwilling, Began, Decided, Received, Failed, Dropped, Joined, Closed}
 use Rattle.kt_explain.specs.declared.finding.Found.{Found}
 
 -- whether a row begins an instance
@@ -22,11 +22,6 @@ decides_inst k _ = false
 abbrev pub receives : ℕ → ℕ → ℕ → Event → Bool
 receives p from msg (event.Received q sender n) = (q == p) && (sender == from) && (n == msg)
 receives p from msg _ = false
-
--- whether this process receives this message by a row
-abbrev pub gets : ℕ → ℕ → Event → Bool
-gets p msg (event.Received q from n) = (q == p) && (n == msg)
-gets p msg _ = false
 
 -- whether this process fails by a row
 abbrev pub fails : ℕ → Event → Bool
@@ -49,7 +44,6 @@ is_sought (Unwilling k) row = is_unwilling k row
 is_sought (Began k) row = begins_inst k row
 is_sought (Decided k) row = decides_inst k row
 is_sought (Received p from msg) row = receives p from msg row
-is_sought (Got p msg) row = gets p msg row
 is_sought (Failed p) row = fails p row
 is_sought (Dropped msg) row = drops msg row
 is_sought (Joined p k) row = is_join p k row

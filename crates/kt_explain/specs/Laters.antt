@@ -18,5 +18,5 @@ IsSending rows msg (Some number) = (number ≡ msg) × (p : ℕ) × (q : ℕ) ×
 abbrev pub IsLater : List Event → Breach → Option ℕ → Type 0
 IsLater rows (breach.Message (message.NotSent msg)) later = IsSending rows msg later
 IsLater rows (breach.Instance (instance.NotBegun k)) later = IsFirstNumber (begins_inst k) rows later
-IsLater rows (breach.Instance (instance.Undecided k p)) later = IsFirstNumber (decides_inst k) rows later
+IsLater rows (breach.Instance (instance.Undecided k)) later = IsFirstNumber (decides_inst k) rows later
 IsLater rows b later = later ≡ None

@@ -58,7 +58,7 @@ fn broken(
     }
 }
 
-// The row of this number, which is the first that breaks a rule, what breaks it, and what can stand in its place.
+// The row of this number, which is the first that breaks a rule, and what breaks it.
 fn bad_row(alloc: Global, rows: &[Event], row: RowNo, rule: Rule) -> Result<Explanation, Memory>
     requires few { length rows.now ≤ 2 ^ 24 }
     requires within { row ≤ length rows.now }
@@ -70,19 +70,14 @@ fn bad_row(alloc: Global, rows: &[Event], row: RowNo, rule: Rule) -> Result<Expl
     let before = &rows[..index];
     let known = Before::of(alloc, before)?;
     match known.keeps(rule, &rows[index]) {
-        Err(breach) => {
-            let later = later_in(rows, &breach);
-            Ok(Explanation::BadLog(BadRow {
-                row,
-                event: rows[index],
-                rule,
-                breach,
-                undone: undone_in(alloc, before, &breach)?,
-                later,
-                missing: known.missing(alloc, &rows[index], &breach, later)?,
-                instead: known.instead(&rows[index], &breach),
-            }))
-        }
+        Err(breach) => Ok(Explanation::BadLog(BadRow {
+            row,
+            rule,
+            breach,
+            undone: undone_in(alloc, before, &breach)?,
+            later: later_in(rows, &breach),
+            waiting: known.waiting_at(alloc, &rows[index])?,
+        })),
         Ok(()) => Ok(Explanation::Nothing),
     }
 }
@@ -99,7 +94,7 @@ fn later_in(rows: &[Event], breach: &Breach) -> Option<RowNo>
             rows,
             &Sought::Began(inst),
         ),
-        Breach::Instance(InstanceBreach::Undecided { inst, .. }) => first_number(
+        Breach::Instance(InstanceBreach::Undecided(inst)) => first_number(
             rows,
             &Sought::Decided(inst),
         ),

@@ -42,15 +42,3 @@ fn objection_to(rows: &[Event], inst: InstNo, decided: RowNo) -> Explanation
         decided,
     }
 }
-
-/// The instance that lacks a certificate, which this row decides.
-pub(crate) fn uncertified(inst: InstNo, row: Option<RowNo>) -> Explanation
-    ensures { (rows : List Event) (certificates : List Certificate)
-        → IsCheckerAnswer rows certificates (No (Some inst) row why.Missing)
-        → IsExplanation rows certificates (No (Some inst) row why.Missing) result }
-{
-    match row {
-        Some(row) => Explanation::Uncertified { inst, row },
-        None => Explanation::Nothing,
-    }
-}

@@ -6,13 +6,11 @@ ghost use Rattle.kt_checker.specs.Order.{IsCheckerAnswer};
 ghost use Rattle.kt_explain.specs.Told.{IsExplanation};
 
 use crate::bad_rows::bad_log;
-use crate::causes::{objection, uncertified};
-use crate::chains::no_chain;
+use crate::causes::objection;
+use crate::compared::compare;
 use crate::explanation::Explanation;
 use crate::log_end::at_end;
-use crate::members::other_member;
-use crate::orphans::orphan;
-use crate::unknown::unlike;
+use crate::orphans::orphan_at;
 use kt_base::{InstNo, Memory, RowNo};
 use kt_chain::Certificate;
 use kt_checker::{Verdict, Why};
@@ -30,7 +28,7 @@ pub fn explain(
     ensures told { IfOk result (IsExplanation log.now.rows certificates.now verdict.now) }
 {
     match *verdict {
-        Verdict::Yes => at_end(alloc, log),
+        Verdict::Yes => Ok(Explanation::Judged(at_end(alloc, log, certificates)?)),
         Verdict::No { inst, row, why } => explain_no(alloc, log, certificates, inst, row, why),
     }
 }
@@ -66,15 +64,12 @@ fn of_instance(
     ensures { IfOk result (IsExplanation log.now.rows certificates.now (No (Some inst) row why)) }
 {
     match why {
-        Why::Unknown => Ok(unlike(log.rows(), certificates, inst)),
         Why::Cause => Ok(objection(log.rows(), inst, row)),
-        Why::Members => other_member(alloc, log, certificates, inst, row),
-        Why::Missing => Ok(uncertified(inst, row)),
         Why::Orphan => match row {
-            Some(row) => orphan(alloc, log, certificates, inst, row),
+            Some(row) => orphan_at(alloc, log, certificates, inst, row),
             None => Ok(Explanation::Nothing),
         },
-        Why::Chain => no_chain(alloc, log, certificates, inst, row),
         Why::BadLog(_) => Ok(Explanation::Nothing),
+        _ => compare(alloc, log, certificates, inst, row, why),
     }
 }

@@ -17,8 +17,6 @@ pub enum Sought {
     Decided(InstNo),
     /// This process received from that one this message.
     Received(ProcNo, ProcNo, MsgNo),
-    /// This process received this message.
-    Got(ProcNo, MsgNo),
     /// This process failed.
     Failed(ProcNo),
     /// This message was dropped.
@@ -31,7 +29,7 @@ pub enum Sought {
 
 /// A row that was found, with its number.
 #[derive(Clone, Copy, Debug)]
-pub struct Found {
+pub(crate) struct Found {
     pub number: RowNo,
     pub row: Event,
 }
@@ -99,9 +97,7 @@ fn is_sought(sought: &Sought, row: &Event) -> bool
         Event::Unwilling { inst, .. } => *sought == Sought::Unwilling(inst),
         Event::Began { inst, .. } => *sought == Sought::Began(inst),
         Event::Decided { inst, .. } => *sought == Sought::Decided(inst),
-        Event::Received { p, from, msg } => {
-            *sought == Sought::Received(p, from, msg) || *sought == Sought::Got(p, msg)
-        }
+        Event::Received { p, from, msg } => *sought == Sought::Received(p, from, msg),
         Event::Failed { p } => *sought == Sought::Failed(p),
         Event::Dropped { msg, .. } => *sought == Sought::Dropped(msg),
         Event::Took { p, inst } | Event::Ready { p, inst } => *sought == Sought::Joined(p, inst),

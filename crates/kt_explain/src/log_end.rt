@@ -5,29 +5,30 @@ ghost use Rattle.kt_base.specs.Sets.{has};
 ghost use Rattle.kt_spacetime.specs.declared.event.Event.{Event as Events};
 ghost use Rattle.kt_cuts.specs.Past.{past};
 ghost use Rattle.kt_cuts.specs.Legal.{IsLegal, is_in};
-ghost use Rattle.kt_chain.specs.declared.certificate.Certificate.{Certificate};
-ghost use Rattle.kt_checker.specs.declared.verdict.Verdict.TheVariants.{Yes};
 ghost use Rattle.kt_histories.specs.HistoriesOf.{HistoriesOf};
-ghost use Rattle.kt_explain.specs.declared.left_open.OpenInstance.{OpenInstance as OpenInstances};
-ghost use Rattle.kt_explain.specs.LeftOpen.{IsLeftOpen, IsOpenInstance, TellsNothing, is_anyone_in, is_left_open, begun_open, open_instances, receiver_in_transit, receivers_in_transit, is_drop};
-ghost use Rattle.kt_explain.specs.Told.{IsExplanation};
+ghost use Rattle.kt_explain.specs.declared.judged.OpenInstance.{OpenInstance as OpenInstances};
+ghost use Rattle.kt_explain.specs.Judged.{AreDecided, IsJudgedSo, IsOpenInstance, is_aborted, is_anyone_in, is_committed, is_kind, is_left_open, begun_open, open_instances, receiver_in_transit, receivers_in_transit, is_drop};
 
-use crate::explanation::Explanation;
-use crate::left_open::{LeftOpen, OpenInstance};
-use kt_base::{InstNo, Memory, MsgNo, ProcNo, ProcSet};
+use crate::breach::before::begun_in;
+use crate::judged::{Decided, Judged, OpenInstance};
+use kt_base::{InstNo, Kind, Memory, MsgNo, ProcNo, ProcSet};
+use kt_chain::Certificate;
 use kt_histories::Histories;
 use kt_spacetime::{Event, SpaceTime};
 use std::alloc::Global;
 
-/// What is told of a legal log that passes.
-pub(crate) fn at_end(alloc: Global, log: &SpaceTime) -> Result<Explanation, Memory>
+/// What is told of a legal log that passes with these certificates.
+pub(crate) fn at_end(
+    alloc: Global,
+    log: &SpaceTime,
+    certificates: &[Certificate],
+) -> Result<Judged, Memory>
     requires legal { IsLegal log.now.rows }
-    ensures { IfOk result (λ e. (certificates : List Certificate)
-        → IsExplanation log.now.rows certificates Yes e) }
+    ensures { IfOk result (IsJudgedSo log.now.rows certificates.now) }
 {
     let histories = last_histories(alloc, log)?;
-    let left = left_open(alloc, &histories, log.rows())?;
-    Ok(if_any(&left))
+    let insts = open_instances(alloc, &histories, log.rows())?;
+    Ok(judged(&histories, log.rows(), certificates, insts.as_slice()))
 }
 
 // The histories after all rows of a legal log.
@@ -38,50 +39,87 @@ fn last_histories(alloc: Global, log: &SpaceTime) -> Result<Histories, Memory>
     Histories::of(alloc, log, log.rows().len())
 }
 
-// What is told of what rows leave open.
-fn if_any(left: &LeftOpen) -> Explanation
-    ensures { (rows : List Events) (certificates : List Certificate) → IsLeftOpen rows left.now
-        → IsExplanation rows certificates Yes result }
-{
-    if is_nothing(left) {
-        Explanation::Nothing
-    } else {
-        Explanation::LeftOpen(*left)
-    }
-}
-
-// Whether nothing is left open.
-fn is_nothing(left: &LeftOpen) -> bool
-    ensures { IsTrue result → TellsNothing left.now }
-{
-    left.open_count == 0 && left.in_transit == 0 && left.down.first().is_none() && left.dropped == 0
-}
-
-// What rows leave open, of which these are the histories.
-fn left_open(alloc: Global, histories: &Histories, rows: &[Event]) -> Result<LeftOpen, Memory>
-    requires few { length rows.now ≤ 2 ^ 24 }
-    requires histories { HistoriesOf histories.now rows.now }
-    ensures { IfOk result (IsLeftOpen rows.now) }
-{
-    let insts = open_instances(alloc, histories, rows)?;
-    Ok(of_instances(histories, rows, insts.as_slice()))
-}
-
-// What rows leave open, of which these are the histories, and these the open instances.
-fn of_instances(histories: &Histories, rows: &[Event], insts: &[InstNo]) -> LeftOpen
+// What is told of rows that pass with these certificates, of which these are the histories, and these the open instances.
+fn judged(
+    histories: &Histories,
+    rows: &[Event],
+    certificates: &[Certificate],
+    insts: &[InstNo],
+) -> Judged
     requires few { length rows.now ≤ 2 ^ 24 }
     requires histories { HistoriesOf histories.now rows.now }
     requires insts { insts.now ≡ open_instances rows.now }
-    ensures { IsLeftOpen rows.now result }
+    ensures { IsJudgedSo rows.now certificates.now result }
 {
     let transit = in_transit(histories, rows);
-    LeftOpen {
+    Judged {
+        rows: rows.len(),
+        instances: begun_in(rows),
+        checkpoints: decided_by(certificates, Kind::Checkpoint),
+        rollbacks: decided_by(certificates, Kind::Rollback),
         open_count: insts.len(),
-        instances: first_four(histories, insts),
+        open: first_four(histories, insts),
         in_transit: transit.count,
         receivers: transit.receivers,
         down: down(histories),
         dropped: dropped(rows),
+    }
+}
+
+// How many certificates are of committed and of aborted instances of a kind.
+fn decided_by(certificates: &[Certificate], kind: Kind) -> Decided
+    ensures { AreDecided certificates.now kind result }
+{
+    Decided {
+        committed: committed(certificates, kind),
+        aborted: aborted(certificates, kind),
+    }
+}
+
+// How many are of committed ones.
+fn committed(certificates: &[Certificate], kind: Kind) -> usize
+    ensures { result ≡ count_by (is_committed kind) certificates.now }
+{
+    certificates
+        .iter()
+        .filter(|c| is_committed(kind, c))
+        .count()
+}
+
+// How many are of aborted ones.
+fn aborted(certificates: &[Certificate], kind: Kind) -> usize
+    ensures { result ≡ count_by (is_aborted kind) certificates.now }
+{
+    certificates.iter().filter(|c| is_aborted(kind, c)).count()
+}
+
+// Whether a certificate is of a committed instance of a kind.
+fn is_committed(kind: Kind, certificate: &Certificate) -> bool
+    ensures { result ≡ is_committed kind certificate.now }
+{
+    is_kind(kind, certificate.kind) && certificate.commit
+}
+
+// Whether a certificate is of an aborted instance of a kind.
+fn is_aborted(kind: Kind, certificate: &Certificate) -> bool
+    ensures { result ≡ is_aborted kind certificate.now }
+{
+    is_kind(kind, certificate.kind) && !certificate.commit
+}
+
+// Whether a kind is this one.
+fn is_kind(kind: Kind, other: Kind) -> bool
+    ensures { result ≡ is_kind kind other }
+{
+    match kind {
+        Kind::Checkpoint => match other {
+            Kind::Checkpoint => true,
+            Kind::Rollback => false,
+        },
+        Kind::Rollback => match other {
+            Kind::Checkpoint => false,
+            Kind::Rollback => true,
+        },
     }
 }
 

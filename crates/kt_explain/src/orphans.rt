@@ -5,32 +5,79 @@ ghost use Rattle.kt_spacetime.specs.declared.event.Event.{Event as Events};
 ghost use Rattle.kt_cuts.specs.Past.{past, kind_of};
 ghost use Rattle.kt_cuts.specs.Legal.{IsLegal};
 ghost use Rattle.kt_cuts.specs.Cuts.{IsConsistent, IsOrphan};
-ghost use Rattle.kt_cuts.specs.Chains.{members};
+ghost use Rattle.kt_cuts.specs.Chains.{joins, members};
 ghost use Rattle.kt_chain.specs.declared.certificate.Certificate.{Certificate as Certificates};
 ghost use Rattle.kt_checker.specs.declared.verdict.Verdict.TheVariants.{No};
 ghost use Rattle.kt_checker.specs.declared.verdict.Why.TheVariants as why;
 ghost use Rattle.kt_checker.specs.Order.{IsCheckerAnswer};
 ghost use Rattle.kt_checker.specs.Passing.{decided_cut};
 ghost use Rattle.kt_histories.specs.HistoriesOf.{HistoriesOf};
-ghost use Rattle.kt_explain.specs.Breaches.{KnowsBefore};
-ghost use Rattle.kt_explain.specs.Orphans.{IsOrphanTold, IsLeastOrphan, IsOutsider, wanted_in};
+ghost use Rattle.kt_explain.specs.Orphans.{HasParts, IsOrphanTold};
+ghost use Rattle.kt_explain.specs.Undoing.{IsUndoing};
 ghost use Rattle.kt_explain.specs.Told.{IsItsFirst, IsExplanation};
 
-use crate::breach::before::Before;
+use crate::compared::first_of;
 use crate::explanation::Explanation;
 use crate::finding::{Sought, last_row};
-use crate::members::joined_in;
-use crate::orphan::Orphan;
-use crate::unknown::first_of;
+use crate::undoing::undoing;
 use kt_base::{InstNo, Kind, Memory, MsgNo, ProcNo, RowNo};
 use kt_chain::Certificate;
 use kt_cuts::Cut;
 use kt_histories::Histories;
 use kt_spacetime::{Event, SpaceTime};
 use std::alloc::Global;
+use std::fmt;
+
+/// An orphan of the cut that the decision of an instance makes. Its number is that of the row that sent it.
+#[derive(Clone, Copy, Debug)]
+pub struct Orphan {
+    pub msg: MsgNo,
+    pub from: ProcNo,
+    pub to: ProcNo,
+    /// The row in which it was received.
+    pub received: RowNo,
+    /// The row that undid its send, if one did.
+    pub undone: Option<RowNo>,
+    /// Whether its sender is a member of the instance.
+    pub is_sender_member: bool,
+    /// Whether its receiver is.
+    pub is_receiver_member: bool,
+}
+
+impl fmt::Display for Orphan {
+    fn fmt<W: fmt::Write>(&self, f: &mut fmt::Formatter<W>) -> fmt::Result {
+        let Orphan {
+            msg,
+            from,
+            to,
+            received,
+            undone,
+            ..
+        } = *self;
+        write!(
+            f,
+            "message {msg} is an orphan: process {from} sent it in row {msg}"
+        )?;
+        if let Some(row) = undone {
+            write!(f, ", which row {row} undid")?;
+        }
+        write!(f, "; process {to} received it in row {received}\n")?;
+        let sender = member_word(self.is_sender_member);
+        let receiver = member_word(self.is_receiver_member);
+        write!(
+            f,
+            "its sender is {sender} of the instance, its receiver is {receiver}\n"
+        )
+    }
+}
+
+// Whether a process is a member.
+fn member_word(is_member: bool) -> &'static str {
+    if is_member { "a member" } else { "no member" }
+}
 
 /// The least orphan of the cut that the decision of an instance makes, of which this is the row.
-pub(crate) fn orphan(
+pub(crate) fn orphan_at(
     alloc: Global,
     log: &SpaceTime,
     certificates: &[Certificate],
@@ -78,85 +125,81 @@ fn orphan_before(
     let histories = Histories::of(alloc, log, before)?;
     let rows = &log.rows()[..before];
     let joined = joined_in(alloc, rows, inst)?;
-    let found = least_orphan(&histories, rows, joined.as_slice(), inst, kind);
-    let known = known_before(rows, histories);
-    Ok(known.answered(inst, found))
+    least_orphan(alloc, &histories, rows, joined.as_slice(), inst, kind)
 }
 
-// These rows, and their histories.
-fn known_before(rows: &[Event], histories: Histories) -> Before<'_>
-    requires few { length rows.now ≤ 2 ^ 24 }
-    requires legal { IsLegal rows.now }
-    requires histories { HistoriesOf histories rows.now }
-    ensures before { KnowsBefore result }
-    ensures rows { result.rows.now ≡ rows.now }
+// The members of an instance, in the order in which they joined.
+fn joined_in(alloc: Global, rows: &[Event], inst: InstNo) -> Result<Vec<ProcNo>, Memory>
+    ensures { IfOk result (λ list. list.items ≡ members rows.now inst) }
 {
-    Before { rows, histories }
+    let list = rows
+        .iter()
+        .filter_map(|row| joining(inst, row))
+        .collect(alloc)?;
+    Ok(list)
 }
 
-impl Before<'_> {
-    ghost use Rattle.std.specs.Prelude.{◌≡◌, true, IfSome, IfNone};
-    ghost use Rattle.kt_base.specs.declared.words.Kind.{Kind as Kinds};
-    ghost use Rattle.kt_cuts.specs.Past.{past};
-    ghost use Rattle.kt_cuts.specs.Cuts.{IsConsistent};
-    ghost use Rattle.kt_checker.specs.Passing.{decided_cut};
-    ghost use Rattle.kt_explain.specs.Breaches.{KnowsBefore};
-    ghost use Rattle.kt_explain.specs.Insteads.{IsLegalNext, answers};
-    ghost use Rattle.kt_explain.specs.Orphans.{IsOrphanTold};
-
-    // An orphan, with what who would have had to join answers here.
-    fn answered(&self, inst: InstNo, found: Option<Orphan>) -> Option<Orphan>
-        requires before { KnowsBefore self.now }
-        ensures told { (kind : Kinds) → IfSome found (IsOrphanTold self.now.rows.now inst kind)
-            → IfSome result (IsOrphanTold self.now.rows.now inst kind) }
-        ensures none { (kind : Kinds) → IfNone found (IsConsistent (past self.now.rows.now) (decided_cut (past self.now.rows.now) inst kind))
-            → IfNone result (IsConsistent (past self.now.rows.now) (decided_cut (past self.now.rows.now) inst kind)) }
-    {
-        let mut orphan = found?;
-        orphan.answer = self.answer_of(inst, orphan.outsider);
-        Some(orphan)
-    }
-
-    // What a process answers here to an instance that it would have had to join.
-    fn answer_of(&self, inst: InstNo, outsider: Option<ProcNo>) -> Option<Event>
-        requires before { KnowsBefore self.now }
-        ensures { IfSome result (λ row. IsLegalNext self.now.rows.now row
-            × IfSome outsider (λ p. answers p inst row ≡ true)) }
-    {
-        self.answer(outsider?, inst)
+// The process that joins an instance by a row.
+fn joining(inst: InstNo, row: &Event) -> Option<ProcNo>
+    ensures { result ≡ joins inst row.now }
+{
+    match *row {
+        Event::Took { p, inst: joined } | Event::Ready { p, inst: joined } => {
+            if joined == inst { Some(p) } else { None }
+        }
+        _ => None,
     }
 }
 
 // The least orphan of the cut that the decision of an instance of this kind makes, of which these joined.
 fn least_orphan(
+    alloc: Global,
     histories: &Histories,
     rows: &[Event],
     joined: &[ProcNo],
     inst: InstNo,
     kind: Kind,
-) -> Option<Orphan>
+) -> Result<Option<Orphan>, Memory>
     requires few { length rows.now ≤ 2 ^ 24 }
     requires histories { HistoriesOf histories.now rows.now }
     requires legal { IsLegal rows.now }
     requires kind { kind_of (past rows.now) inst ≡ Some kind }
     requires joined { joined.now ≡ members rows.now inst }
-    ensures orphan { IfSome result (IsOrphanTold rows.now inst kind) }
-    ensures none { IfNone result (IsConsistent (past rows.now) (decided_cut (past rows.now) inst kind)) }
+    ensures orphan { IfOk result (λ found. IfSome found (IsOrphanTold rows.now inst kind)) }
+    ensures none { IfOk result (λ found. IfNone found (IsConsistent (past rows.now)
+        (decided_cut (past rows.now) inst kind))) }
 {
     let cut = cut_of(histories, inst, kind, joined);
-    match histories.first_orphan(&cut) {
-        Some(msg) => told_of(rows, joined, kind, msg),
-        None => None,
+    let Some(msg) = histories.first_orphan(&cut) else {
+        return Ok(None);
+    };
+    let undone = undone_row(alloc, histories, rows, msg)?;
+    Ok(told_of(rows, joined, msg, undone))
+}
+
+// The row that undid the send of a message, if it is undone.
+fn undone_row(
+    alloc: Global,
+    histories: &Histories,
+    rows: &[Event],
+    msg: MsgNo,
+) -> Result<Option<RowNo>, Memory>
+    requires few { length rows.now ≤ 2 ^ 24 }
+    requires legal { IsLegal rows.now }
+    ensures { IfOk result (λ row. IfSome row (IsUndoing rows.now msg)) }
+{
+    match histories.trace(msg) {
+        Some(trace) if trace.sent.is_none() => undoing(alloc, rows, msg),
+        _ => Ok(None),
     }
 }
 
 // What is told of an orphan.
-fn told_of(rows: &[Event], joined: &[ProcNo], kind: Kind, msg: MsgNo) -> Option<Orphan>
+fn told_of(rows: &[Event], joined: &[ProcNo], msg: MsgNo, undone: Option<RowNo>) -> Option<Orphan>
     requires few { length rows.now ≤ 2 ^ 24 }
     requires legal { IsLegal rows.now }
-    ensures orphan { IfSome result (λ o. (inst : ℕ) → joined.now ≡ members rows.now inst
-        → IsLeastOrphan (past rows.now) (decided_cut (past rows.now) inst kind) msg
-        → IsOrphanTold rows.now inst kind o) }
+    requires undone { IfSome undone (IsUndoing rows.now msg) }
+    ensures orphan { IfSome result (λ o. HasParts rows.now joined.now msg o) }
     ensures none { IfNone result ((cut : ℕ → ℕ) → IsOrphan (past rows.now) cut msg → ⊥) }
 {
     let index = msg.index();
@@ -172,28 +215,12 @@ fn told_of(rows: &[Event], joined: &[ProcNo], kind: Kind, msg: MsgNo) -> Option<
             from,
             to,
             received: found.number,
-            outsider: if_outside(joined, wanted(kind, from, to)),
-            answer: None,
+            undone,
+            is_sender_member: is_among(joined, from),
+            is_receiver_member: is_among(joined, to),
         }),
         None => None,
     }
-}
-
-// Who has to be in an instance of this kind, because of a message from one process to another that is an orphan.
-fn wanted(kind: Kind, from: ProcNo, to: ProcNo) -> ProcNo
-    ensures { result ≡ wanted_in kind from to }
-{
-    match kind {
-        Kind::Checkpoint => from,
-        Kind::Rollback => to,
-    }
-}
-
-// A process, if it did not join.
-fn if_outside(joined: &[ProcNo], p: ProcNo) -> Option<ProcNo>
-    ensures { IsOutsider joined.now p result }
-{
-    if is_among(joined, p) { None } else { Some(p) }
 }
 
 // The cut that the decision of an instance makes, of which these joined.

@@ -29,8 +29,8 @@ pub(crate) fn undone_in(
     }
 }
 
-// The last row that undid the send of a message.
-fn undoing(alloc: Global, rows: &[Event], msg: MsgNo) -> Result<Option<RowNo>, Memory>
+/// The last row that undid the send of a message.
+pub(crate) fn undoing(alloc: Global, rows: &[Event], msg: MsgNo) -> Result<Option<RowNo>, Memory>
     requires few { length rows.now ≤ 2 ^ 24 }
     requires legal { IsLegal rows.now }
     ensures { IfOk result (λ row. IfSome row (IsUndoing rows.now msg)) }

@@ -1,7 +1,6 @@
 -- What breaks a rule of a log that has no certificates, told below the fault's line.
-use Rattle.std.specs.Prelude.{◌≡◌, ◌⊎◌, true, ℕ, List, [], ◌++◌, codes}
+use Rattle.std.specs.Prelude.{◌≡◌, ◌⊎◌, true, ℕ, List, []}
 use Rattle.kt_spacetime.specs.declared.event.Event.{Event}
-use Rattle.kt_cuts.specs.declared.rules.Rule.{Rule}
 use Rattle.kt_certify.specs.declared.fault.Unfit.TheVariants as unfit
 use Rattle.kt_checker.specs.declared.verdict.Verdict.{Verdict}
 use Rattle.kt_checker.specs.Order.{IsCheckerAnswer}
@@ -9,22 +8,16 @@ use Rattle.kt_checker.specs.Streamed.{SaysRows}
 use Rattle.kt_explain.specs.declared.bad_row.BadRow.{BadRow}
 use Rattle.kt_explain.specs.declared.explanation.Explanation.TheVariants.{BadLog}
 use Rattle.kt_explain.specs.Told.{IsExplanation}
-use Rattle.kt_explain.specs.Words.{bad_row_words, rule_words}
-use Rattle.kt_hints.specs.Shown.{hint_line, indented}
+use Rattle.kt_hints.specs.Shown.{indented}
 use Rattle.kt_program.specs.Stored.{BytesTold}
 use Rattle.kt_program.specs.declared.fault.AppFault.TheVariants as app
 use Rattle.kt_program.specs.declared.fault.ProgramFault.{ProgramFault}
 use Rattle.kt_program.specs.declared.fault.ProgramFault.TheVariants as program
 
--- a rule that a row breaks, and what tells how
-abbrev pub rule_lines : Rule → List ℕ
-rule_lines rule =
-    hint_line (rule_words rule) [] ++ hint_line (codes "koo_toueg check --explain, with this log and /dev/null, tells what breaks it") []
-
--- the same of the rule that a fault names
-abbrev pub rule_lines_of : ProgramFault → List ℕ
-rule_lines_of (program.App (app.Unfit (unfit.BadLog row rule))) = rule_lines rule
-rule_lines_of fault = []
+-- a rule is told of a fault that names one, and nothing of another one
+abbrev pub IsRuleTold : ProgramFault → List ℕ → Type 0
+IsRuleTold (program.App (app.Unfit (unfit.BadLog row rule))) text = Unit {0}
+IsRuleTold fault text = text ≡ []
 
 -- the rows that some file tells
 abbrev pub IsLogOfFile : {F : Type 0} → (F → BytesTold) → List Event → Type 0
@@ -45,8 +38,9 @@ pub record IsRowBroken {F : Type 0} (told : F → BytesTold) (fault : ProgramFau
 pub record IsBreachShown {F : Type 0} (told : F → BytesTold) (fault : ProgramFault) (text : List ℕ) : Type 0 where
   pub row : BadRow
   pub broken : IsRowBroken told fault row
-  pub is : text ≡ indented true (bad_row_words row)
+  pub words : List ℕ
+  pub is : text ≡ indented true words
 
 -- the same, or the rule alone where the log can't be read again; nothing of another fault
 abbrev pub IsBreachOrRule : {F : Type 0} → (F → BytesTold) → ProgramFault → List ℕ → Type 0
-IsBreachOrRule told fault text = (text ≡ rule_lines_of fault) ⊎ IsBreachShown told fault text
+IsBreachOrRule told fault text = IsRuleTold fault text ⊎ IsBreachShown told fault text

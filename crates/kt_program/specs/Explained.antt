@@ -1,5 +1,5 @@
 -- What the program writes of a stored run of which the answer is told.
-use Rattle.std.specs.Prelude.{◌≡◌, ◌≢◌, Bool, Option, List, ℕ, ◌∷◌, ◌++◌, Result, Ok, Err}
+use Rattle.std.specs.Prelude.{◌≡◌, ◌≢◌, Bool, List, ℕ, ◌∷◌, ◌++◌, Result, Ok, Err}
 use Rattle.std.specs.Io.KnownBytes.{Appends}
 use Rattle.kt_spacetime.specs.declared.event.Event.{Event}
 use Rattle.kt_chain.specs.declared.certificate.Certificate.{Certificate}
@@ -8,22 +8,15 @@ use Rattle.kt_checker.specs.Order.{IsCheckerAnswer}
 use Rattle.kt_checker.specs.Streamed.{SaysRows}
 use Rattle.kt_checker.specs.Words.{verdict_words}
 use Rattle.kt_explain.specs.declared.explanation.Explanation.{Explanation}
-use Rattle.kt_explain.specs.declared.certificate_place.OneRecord.{OneRecord}
-use Rattle.kt_explain.specs.declared.finding.Found.{Found}
-use Rattle.kt_explain.specs.RecordsTold.{IsRecordTold, record_told_words}
-use Rattle.kt_explain.specs.RowsTold.{row_told, row_told_words}
 use Rattle.kt_explain.specs.Told.{IsExplanation}
-use Rattle.kt_explain.specs.Words.{explanation_words}
 use Rattle.kt_program.specs.declared.fault.AppFault.{AppFault}
 use Rattle.kt_program.specs.declared.fault.AppFault.TheVariants as app
 use Rattle.kt_program.specs.Stored.{BytesTold, SayCertificates, is_yes}
 
--- the checker's answer to rows and certificates, the row that it names, what is told of it, and the record that it is about
-pub record IsExplained (rows : List Event) (certificates : List Certificate) (verdict : Verdict) (row : Option Found) (e : Explanation) (one : Option OneRecord) : Type 0 where
+-- the checker's answer to rows and certificates, and what is told of it
+pub record IsExplained (rows : List Event) (certificates : List Certificate) (verdict : Verdict) (e : Explanation) : Type 0 where
   pub answer : IsCheckerAnswer rows certificates verdict
-  pub named : row ≡ row_told rows verdict
   pub told : IsExplanation rows certificates verdict e
-  pub place : IsRecordTold certificates e one
 
 -- bytes say these rows and certificates
 pub record Say (log cert : BytesTold) (rows : List Event) (certificates : List Certificate) : Type 0 where
@@ -31,20 +24,20 @@ pub record Say (log cert : BytesTold) (rows : List Event) (certificates : List C
   pub certificates_said : SayCertificates cert certificates
 
 -- the checker's answer to the rows and the certificates that the bytes say, and what is told of it
-pub record IsExplainedOf (log cert : BytesTold) (verdict : Verdict) (row : Option Found) (e : Explanation) (one : Option OneRecord) : Type 0 where
+pub record IsExplainedOf (log cert : BytesTold) (verdict : Verdict) (e : Explanation) : Type 0 where
   pub rows : List Event
   pub certificates : List Certificate
   pub said : Say log cert rows certificates
-  pub explained : IsExplained rows certificates verdict row e one
+  pub explained : IsExplained rows certificates verdict e
 
--- the line of an answer, that of the row that it names, and the lines of what is told of it
-abbrev pub explained_text : Verdict → Option Found → Explanation → Option OneRecord → List ℕ
-explained_text verdict row e one = verdict_words verdict ++ 10 ∷ (row_told_words row ++ (explanation_words e ++ record_told_words one))
+-- the line of an answer, and the lines below it
+abbrev pub explained_text : Verdict → List ℕ → List ℕ
+explained_text verdict lines = verdict_words verdict ++ 10 ∷ lines
 
--- an answer and what is told of it, which is a yes exactly where this is true
+-- an answer and lines below it, which is a yes exactly where this is true
 abbrev pub AppendsExplained : Bool → BytesTold → BytesTold → Type 0
 AppendsExplained passed old new =
-    (verdict : Verdict) × (row : Option Found) × (e : Explanation) × (one : Option OneRecord) × (passed ≡ is_yes verdict) × Appends old new (explained_text verdict row e one)
+    (verdict : Verdict) × (lines : List ℕ) × (passed ≡ is_yes verdict) × Appends old new (explained_text verdict lines)
 
 -- the answer and what is told of it; at a fault nothing, unless it is one of the writer
 abbrev pub LeavesExplained : Result Bool AppFault → BytesTold → BytesTold → Type 0

@@ -1,10 +1,9 @@
 //! What breaks a rule of a log that has no certificates, told below the fault's line.
 
 ghost use Rattle.std.specs.Prelude.{◌≡◌, ◌++◌, true, ℕ, List, OnOk, IfSome};
-ghost use Rattle.kt_explain.specs.Words.{bad_row_words};
 ghost use Rattle.kt_explain.specs.declared.explanation.Explanation.TheVariants.{BadLog};
 ghost use Rattle.kt_hints.specs.Shown.{indented};
-ghost use Rattle.kt_program.specs.Breaches.{IsBreachOf, IsBreachOrRule, IsLogOfFile, IsRowBroken, rule_lines, rule_lines_of};
+ghost use Rattle.kt_program.specs.Breaches.{IsBreachOf, IsBreachOrRule, IsLogOfFile, IsRowBroken, IsRuleTold};
 
 use crate::fault::{AppFault, ProgramFault};
 use crate::inputs::regular_file;
@@ -13,8 +12,7 @@ use crate::subject::file_of;
 use kt_base::Memory;
 use kt_certify::Unfit;
 use kt_checker::check;
-use kt_cuts::Rule;
-use kt_explain::{BadRow, Explanation, explain, rule_name};
+use kt_explain::{BadRow, Explanation, explain};
 use kt_hints::{push_hint, push_lines};
 use kt_log_text::read_csv;
 use kt_spacetime::SpaceTime;
@@ -42,30 +40,30 @@ pub(crate) fn push_breach<F: Files>(
 
 // Gathers what is told of a row that breaks a rule.
 fn push_bad_row(alloc: Global, lines: &mut Vec<u8>, row: &BadRow) -> Result<(), Memory>
-    ensures { OnOk result (lines.new.items ≡ lines.old.items ++ indented true (bad_row_words row.now)) }
+    ensures { OnOk result ((words : List ℕ) × (lines.new.items ≡ lines.old.items ++ indented true words)) }
 {
     let text = format!(in alloc; "{row}")?;
     push_lines(lines, text.as_bytes())
 }
 
-// Gathers the rule that a fault names, and what tells how it is broken.
+// Gathers what tells how the rule that a fault names is broken.
 fn push_rule_of(lines: &mut Vec<u8>, fault: &ProgramFault) -> Result<(), Memory>
-    ensures { OnOk result (lines.new.items ≡ lines.old.items ++ rule_lines_of fault.now) }
+    ensures { OnOk result ((text : List ℕ) × (lines.new.items ≡ lines.old.items ++ text)
+        × IsRuleTold fault.now text) }
 {
     match fault {
-        ProgramFault::App(AppFault::Unfit(Unfit::BadLog(_, rule))) => push_rule(lines, *rule),
+        ProgramFault::App(AppFault::Unfit(Unfit::BadLog(..))) => push_rule(lines),
         _ => Ok(()),
     }
 }
 
-// Gathers a rule that a row breaks, and what tells how.
-fn push_rule(lines: &mut Vec<u8>, rule: Rule) -> Result<(), Memory>
-    ensures { OnOk result (lines.new.items ≡ lines.old.items ++ rule_lines rule) }
+// Gathers what tells how a rule is broken.
+fn push_rule(lines: &mut Vec<u8>) -> Result<(), Memory>
+    ensures { OnOk result ((text : List ℕ) × (lines.new.items ≡ lines.old.items ++ text)) }
 {
-    push_hint(lines, rule_name(rule), b"")?;
     push_hint(
         lines,
-        "koo_toueg check --explain, with this log and /dev/null, tells what breaks it",
+        "koo_toueg check --explain, with this log and /dev/null, tells what breaks the rule",
         b"",
     )
 }
@@ -119,15 +117,15 @@ fn bad_row_of(alloc: Global, log: &SpaceTime) -> Option<BadRow>
     let Ok(explanation) = explain(alloc, log, &[], &verdict) else {
         return None;
     };
-    bad_row_in(&explanation)
+    bad_row_in(explanation)
 }
 
 // The row that breaks a rule, where one is told.
-fn bad_row_in(told: &Explanation) -> Option<BadRow>
-    ensures { IfSome result (λ row. told.now ≡ BadLog row) }
+fn bad_row_in(told: Explanation) -> Option<BadRow>
+    ensures { IfSome result (λ row. told ≡ BadLog row) }
 {
     match told {
-        Explanation::BadLog(row) => Some(*row),
+        Explanation::BadLog(row) => Some(row),
         _ => None,
     }
 }

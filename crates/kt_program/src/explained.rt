@@ -1,14 +1,12 @@
 //! Stored runs judged, and the answers told of.
 
-ghost use Rattle.std.specs.Prelude.{◌≡◌, ◌≢◌, Option, IfOk, IfErr, IfSome, OnOk};
+ghost use Rattle.std.specs.Prelude.{◌≡◌, ◌≢◌, ℕ, List, IfOk, IfErr, IfSome, OnOk};
 ghost use Rattle.std.specs.Io.KnownBytes.{Appends};
 ghost use Rattle.kt_log_text.specs.declared.fault.LogFault.{LogFault as LogFaults};
 ghost use Rattle.kt_log_text.specs.Texts as rows;
 ghost use Rattle.kt_checker.specs.declared.verdict.Verdict.{Verdict as Verdicts};
 ghost use Rattle.kt_checker.specs.Streamed.{SaysRows};
 ghost use Rattle.kt_explain.specs.declared.explanation.Explanation.{Explanation as Explanations};
-ghost use Rattle.kt_explain.specs.declared.certificate_place.OneRecord.{OneRecord as Records};
-ghost use Rattle.kt_explain.specs.declared.finding.Found.{Found as FoundRow};
 ghost use Rattle.kt_program.specs.declared.fault.AppFault.TheVariants as app;
 ghost use Rattle.kt_program.specs.Explained.{IsExplained, IsExplainedOf, LeavesExplained, Say, explained_text};
 ghost use Rattle.kt_program.specs.Stored.{IsRefusal, is_yes, of_log, records_told};
@@ -17,7 +15,7 @@ use crate::checked::{is_yes, log_fault, read_certificates};
 use crate::fault::AppFault;
 use kt_chain::{CertTextFault, Certificate};
 use kt_checker::{Verdict, check};
-use kt_explain::{Explanation, RecordTold, RowTold, explain, record_told, row_told};
+use kt_explain::{Told, explain};
 use kt_log_text::{LogFault, read_csv};
 use kt_spacetime::SpaceTime;
 use std::alloc::Global;
@@ -40,12 +38,12 @@ pub fn explain_bytes<L: Read + Drop, C: Read + Drop, W: Write>(
     cert_reader: C,
     writer: &mut W,
 ) -> Result<bool, AppFault>
-    // The line is that of the checker's answer to the rows and the certificates that the bytes say, and what is told of
-    // it is so.
-    ensures answer { IfOk result (λ passed. (verdict : Verdicts) × (row : Option FoundRow) × (e : Explanations)
-        × (one : Option Records) × (passed ≡ is_yes verdict)
-        × IsExplainedOf (L.remaining log_reader) (C.remaining cert_reader) verdict row e one
-        × Appends (W.contents writer.old) (W.contents writer.new) (explained_text verdict row e one)) }
+    // The first line is that of the checker's answer to the rows and the certificates that the bytes say, and what is told
+    // of it is so.
+    ensures answer { IfOk result (λ passed. (verdict : Verdicts) × (e : Explanations) × (lines : List ℕ)
+        × (passed ≡ is_yes verdict)
+        × IsExplainedOf (L.remaining log_reader) (C.remaining cert_reader) verdict e
+        × Appends (W.contents writer.old) (W.contents writer.new) (explained_text verdict lines)) }
     // A fault but one of the writer is the first of the log, else that of the certificates.
     ensures fault { IfErr result (λ e. e ≢ app.Write
         → IsRefusal (L.remaining log_reader) (C.remaining cert_reader) e) }
@@ -96,34 +94,35 @@ fn judge<W: Write>(
     certificates: &[Certificate],
     writer: &mut W,
 ) -> Result<bool, AppFault>
-    ensures answer { IfOk result (λ passed. (verdict : Verdicts) × (row : Option FoundRow) × (e : Explanations)
-        × (one : Option Records) × (passed ≡ is_yes verdict)
-        × IsExplained log.now.rows certificates.now verdict row e one
-        × Appends (W.contents writer.old) (W.contents writer.new) (explained_text verdict row e one)) }
+    ensures answer { IfOk result (λ passed. (verdict : Verdicts) × (e : Explanations) × (lines : List ℕ)
+        × (passed ≡ is_yes verdict) × IsExplained log.now.rows certificates.now verdict e
+        × Appends (W.contents writer.old) (W.contents writer.new) (explained_text verdict lines)) }
     ensures fault { IfErr result (λ e. e ≢ app.Write → e ≡ app.Memory) }
     ensures unwritten { IfErr result (λ e. e ≢ app.Write → W.contents writer.new ≡ W.contents writer.old) }
 {
     let verdict = check(alloc, log, certificates)?;
     let explanation = explain(alloc, log, certificates, &verdict)?;
-    let row = row_told(log, &verdict);
-    let place = record_told(certificates, &explanation);
-    write_answer(writer, &verdict, &row, &explanation, &place)?;
+    let told = Told {
+        alloc,
+        log,
+        certificates,
+        verdict: &verdict,
+        explanation: &explanation,
+    };
+    let Ok(lines) = format!(in alloc; "{told}") else {
+        return Err(AppFault::Memory);
+    };
+    write_answer(writer, &verdict, lines.as_str())?;
     Ok(is_yes(&verdict))
 }
 
-// Writes the line of an answer, that of the row that it names, and the lines of what is told of it.
-fn write_answer<W: Write>(
-    writer: &mut W,
-    verdict: &Verdict,
-    row: &RowTold,
-    explanation: &Explanation,
-    place: &RecordTold<'_>,
-) -> Result<(), AppFault>
+// Writes the line of an answer, and the lines of what is told of it.
+fn write_answer<W: Write>(writer: &mut W, verdict: &Verdict, lines: &str) -> Result<(), AppFault>
     ensures written { OnOk result (Appends (W.contents writer.old) (W.contents writer.new)
-        (explained_text verdict.now row.now.row explanation.now place.now.told)) }
+        (explained_text verdict.now lines.now)) }
     ensures fault { IfErr result (λ e. e ≡ app.Write) }
 {
-    if write!(writer, "{verdict}\n{row}{explanation}{place}").is_err() {
+    if write!(writer, "{verdict}\n{lines}").is_err() {
         return Err(AppFault::Write);
     }
     match writer.flush() {

@@ -10,7 +10,7 @@ ghost use Rattle.kt_histories.specs.HistoriesOf.{HistoriesOf};
 ghost use Rattle.kt_explain.specs.Breaches.{IsJudged};
 
 use crate::breach::{Breach, InstanceBreach, Open, Outside, ProcessBreach};
-use crate::finding::{Found, Sought, first_number, first_row, last_number};
+use crate::finding::{Found, Sought, first_row, last_number};
 use kt_base::{InstNo, Kind, Memory, ProcNo, RowNo};
 use kt_histories::Histories;
 use kt_spacetime::{Event, SpaceTime};
@@ -103,8 +103,6 @@ impl Before<'_> {
             inst,
             row,
             decided: last_number(self.rows, &Sought::Decided(inst)),
-            initiator: self.beginner(inst),
-            unwilling: first_number(self.rows, &Sought::Unwilling(inst)),
         }
     }
 
@@ -230,21 +228,7 @@ impl Before<'_> {
     {
         match self.histories.decision(inst) {
             Some(_) => Ok(()),
-            None => Err(Breach::Instance(InstanceBreach::Undecided {
-                inst,
-                p: self.beginner(inst),
-            })),
-        }
-    }
-
-    // Who began an instance.
-    fn beginner(&self, inst: InstNo) -> Option<ProcNo>
-        requires before { KnowsBefore self.now }
-        ensures { IfSome result (λ p. initiator_of (past self.now.rows.now) inst ≡ Some p) }
-    {
-        match self.beginning(inst) {
-            Some(begun) => Some(begun.p),
-            None => None,
+            None => Err(Breach::Instance(InstanceBreach::Undecided(inst))),
         }
     }
 
@@ -259,20 +243,6 @@ impl Before<'_> {
         match kind {
             Kind::Checkpoint => Ok(()),
             Kind::Rollback => Err(Breach::Instance(InstanceBreach::OfKind { inst, kind, row })),
-        }
-    }
-
-    /// The instance is a checkpoint, which those too are unwilling to join that are in no other instance.
-    pub(crate) fn excusing(&self, inst: InstNo) -> Result<(), Breach>
-        requires before { KnowsBefore self.now }
-        ensures { IsJudged self.now.rows.now (λ s. is_checkpoint s inst) result }
-    {
-        let Some(BegunIn { row, kind, .. }) = self.beginning(inst) else {
-            return Err(Breach::Instance(InstanceBreach::NotBegun(inst)));
-        };
-        match kind {
-            Kind::Checkpoint => Ok(()),
-            Kind::Rollback => Err(Breach::Instance(InstanceBreach::OnlyBusy { inst, row })),
         }
     }
 

@@ -17,8 +17,7 @@ impl Before<'_> {
     ghost use Rattle.std.specs.List.{list_all};
     ghost use Rattle.kt_cuts.specs.Past.{past};
     ghost use Rattle.kt_cuts.specs.Legal.{is_undelivered, is_latest, is_later};
-    ghost use Rattle.kt_explain.specs.BadChains.{has_sent, has_received};
-    ghost use Rattle.kt_explain.specs.Breaches.{KnowsBefore, IsJudged, IsLatestFrom};
+    ghost use Rattle.kt_explain.specs.Breaches.{KnowsBefore, IsJudged, IsLatestFrom, has_sent, has_received};
 
     /// The message was sent to the process, and not undone, received or dropped.
     pub(crate) fn undelivered(&self, p: ProcNo, from: ProcNo, msg: MsgNo) -> Result<(), Breach>
@@ -127,8 +126,8 @@ impl Before<'_> {
         }
     }
 
-    // The latest message of the sender that the process received.
-    fn latest_received(&self, p: ProcNo, from: ProcNo) -> Option<MsgNo>
+    /// The latest message of the sender that the process received.
+    pub(crate) fn latest_received(&self, p: ProcNo, from: ProcNo) -> Option<MsgNo>
         requires before { KnowsBefore self.now }
         ensures latest { IfSome result (IsLatestFrom from ((past self.now.rows.now).live p)) }
         ensures none { IfNone result ((m : ℕ) → has_received (past self.now.rows.now) p from m ≡ true → ⊥) }

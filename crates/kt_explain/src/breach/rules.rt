@@ -326,7 +326,7 @@ impl Before<'_> {
         requires before { KnowsBefore self.now }
         ensures { IsJudged self.now.rows.now (λ s. is_checkpoint s inst && is_in_none s p && not (s.up p)) result }
     {
-        if let Err(breach) = self.excusing(inst) {
+        if let Err(breach) = self.checkpoint(inst) {
             return Err(breach);
         }
         if let Err(breach) = self.idle(p) {
@@ -340,7 +340,7 @@ impl Before<'_> {
         requires before { KnowsBefore self.now }
         ensures { IsJudged self.now.rows.now (λ s. is_checkpoint s inst && is_in_none s p && s.up p) result }
     {
-        if let Err(breach) = self.excusing(inst) {
+        if let Err(breach) = self.checkpoint(inst) {
             return Err(breach);
         }
         if let Err(breach) = self.idle(p) {

@@ -1,12 +1,11 @@
 use Rattle.std.proofs.Common.{◌≡◌, ◌∙◌, ◌-◌, ◌<◌, Bool, true, false, List, length, take, refl, sym, subst, arith}
-use Rattle.std.specs.Prelude.{IfSome}
 use Rattle.kt_spacetime.specs.declared.event.Event.{Event}
 use Rattle.kt_cuts.specs.Past.{past}
 use Rattle.kt_cuts.specs.Legal.{keeps}
 use Rattle.kt_cuts.proofs.Replayed.{row_read}
 use Rattle.kt_cuts.proofs.SortedFacts.{some_same}
 use Rattle.kt_explain.specs.Breaches.{IsBreach}
-use Rattle.kt_explain.specs.Insteads.{IsInstead, IsMissing}
+use Rattle.kt_explain.specs.Waiting.{IsWaitingAt}
 use Rattle.kt_explain.proofs.Faults.{legal_before, breaks_there}
 use Rattle.kt_explain.proofs.bad_rows.bad_row.Goals as goal
 
@@ -22,21 +21,18 @@ returns-in-Err c = λ certificates.
     let number = (legal_before rows c.args.row (c.get.result - 1) c.args.rule c.requires.bad place).1 in
     let low : c.get.result - 1 < length rows = omega (arith, number, c.requires.within) in
     let again = row_read rows (c.get.result - 1) c.index-rows-index.result low c.index-rows-index.is in
-    let second = row_read rows (c.get.result - 1) c.index-rows-index-in-Err-2.result low c.index-rows-index-in-Err-2.is in
-    let third = row_read rows (c.get.result - 1) c.index-rows-index-in-Err.result low c.index-rows-index-in-Err.is in (
+    let second = row_read rows (c.get.result - 1) c.index-rows-index-in-Err.result low c.index-rows-index-in-Err.is in (
       c.get.result - 1,
       c.index-rows-index.result,
       refl,
       record {
         row_is = number;
         there = again;
-        event_is = some_same (sym third ∙ again);
         breach_is = subst (λ (before : List Event). IsBreach before (λ s. keeps c.args.rule s c.index-rows-index.result) c.in-Err.breach) c.in_ok-known.ensures.rows c.in-Err.ensures;
         undone = c.in_ok-undone_in-in-Err.ensures;
-        later = c.later_in-later.ensures;
-        missing = subst (λ (row : Event). IfSome c.in_ok-missing-in-Err.field-0 (IsMissing (take (c.get.result - 1) rows) row)) (some_same (sym second ∙ again))
-            (subst (λ (before : List Event). IfSome c.in_ok-missing-in-Err.field-0 (IsMissing before c.index-rows-index-in-Err-2.result)) c.in_ok-known.ensures.rows c.in_ok-missing-in-Err.ensures);
-        instead = subst (λ (before : List Event). IsInstead before c.instead.result) c.in_ok-known.ensures.rows c.instead.ensures;
+        later = c.later_in.ensures;
+        waiting = subst (λ (row : Event). IsWaitingAt (take (c.get.result - 1) rows) row c.in_ok-waiting_at-in-Err.field-0) (some_same (sym second ∙ again))
+            (subst (λ (before : List Event). IsWaitingAt before c.index-rows-index-in-Err.result c.in_ok-waiting_at-in-Err.field-0) c.in_ok-known.ensures.rows c.in_ok-waiting_at-in-Err.ensures);
       },
     )
 

@@ -1,12 +1,8 @@
-use Rattle.std.proofs.Common.{List, sym, subst}
+use Rattle.std.proofs.Common.{sym, subst}
 use Rattle.std.specs.Prelude.{IfOk}
 use Rattle.kt_checker.specs.declared.verdict.Verdict.{Verdict}
 use Rattle.kt_checker.specs.Order.{IsCheckerAnswer}
 use Rattle.kt_explain.specs.Told.{IsExplanation}
-use Rattle.kt_explain.specs.declared.explanation.Explanation.{Explanation}
-use Rattle.kt_chain.specs.declared.certificate.Certificate.{Certificate}
-use Rattle.kt_checker.specs.declared.verdict.Verdict.TheVariants.{Yes}
-use Rattle.kt_explain.proofs.Gives.{ok_gives}
 use Rattle.kt_explain.proofs.Leftovers.{yes_legal}
 use Rattle.kt_explain.proofs.explaining.explain.Goals as goal
 
@@ -20,12 +16,3 @@ returns-in-No c = record {
 
 pub at_end-requires : goal.at_end-requires
 at_end-requires c = record { legal = yes_legal c.args.log.now.rows c.args.certificates.now c.args.verdict.now c.requires.answer c.in-Yes.is }
-
-pub returns-in-Yes : goal.returns-in-Yes
-returns-in-Yes c =
-    let rows = c.args.log.now.rows in
-    let certificates = c.args.certificates.now in
-    record {
-      told = ok_gives c.at_end.result (λ (e : Explanation). (list : List Certificate) → IsExplanation rows list Yes e) (IsExplanation rows certificates c.args.verdict.now)
-          (λ e f. subst (λ (v : Verdict). IsExplanation rows certificates v e) (sym c.in-Yes.is) (f certificates)) c.at_end.ensures;
-    }

@@ -1,10 +1,9 @@
-use Rattle.std.proofs.Common.{◌≡◌, ◌∙◌, ◌<◌, ℕ, Some, List, length, ap, subst, arith}
+use Rattle.std.proofs.Common.{◌≡◌, ◌∙◌, ◌<◌, Some, length, refl, ap, subst, arith}
 use Rattle.std.specs.List.{slice_get}
 use Rattle.std.proofs.lemmas.Option.{slice_get-get_or, slice_get_within, get_or_from_slice_get}
 use Rattle.kt_spacetime.specs.declared.event.Event.{Event}
 use Rattle.kt_spacetime.specs.declared.event.Event.TheVariants as event
 use Rattle.kt_explain.specs.Finding.{IsLastRow, receives}
-use Rattle.kt_explain.specs.Orphans.{IsOutsider, wanted_in}
 use Rattle.kt_explain.proofs.FoundRows.{received_row}
 use Rattle.kt_explain.proofs.ReceivedRows.{orphan_rows, message_index, index_message, no_lost_orphan}
 use Rattle.kt_explain.proofs.orphans.told_of.Goals as goal
@@ -35,16 +34,16 @@ returns-in-None-clause-none c = λ cut orphan.
     absurd (no_lost_orphan rows cut c.args.msg c.in-Sent.from c.in-Sent.to c.requires.legal orphan (index_message rows c.args.msg c.index-index.result c.in-Sent.from c.in-Sent.to c.in-Sent.body c.index-index.ensures.value there) c.in-None.ensures)
 
 pub returns-in-Some-clause-orphan : goal.returns-in-Some-clause-orphan
-returns-in-Some-clause-orphan c = λ inst joined least.
+returns-in-Some-clause-orphan c =
     let rows = c.args.rows.now in
     let low : c.index-index.result < length rows = omega (arith, c.if-index-rows.false) in
     let there : slice_get rows c.index-index.result ≡ Some (event.Sent c.in-Sent.from c.in-Sent.to c.in-Sent.body) = slice_get-get_or rows c.index-index.result _ low ∙ ap Some c.in-Sent.is in
     let last : IsLastRow (receives c.in-Sent.to c.in-Sent.from c.args.msg) rows c.in-Some.found.number c.in-Some.found.row = c.in-Some.ensures in
     record {
-      least = least;
+      msg_is = refl;
       message = index_message rows c.args.msg c.index-index.result c.in-Sent.from c.in-Sent.to c.in-Sent.body c.index-index.ensures.value there;
       received = subst (λ (row : Event). IsLastRow (receives c.in-Sent.to c.in-Sent.from c.args.msg) rows c.in-Some.found.number row) (received_row c.in-Sent.to c.in-Sent.from c.args.msg c.in-Some.found.row last.passes) last;
-      outsider = subst (λ (list : List ℕ). IsOutsider list (wanted_in c.args.kind c.in-Sent.from c.in-Sent.to) c.if_outside.result) joined
-          (subst (λ (p : ℕ). IsOutsider c.args.joined.now p c.if_outside.result) c.wanted.ensures c.if_outside.ensures);
-      answer = tt;
+      undone = c.requires.undone;
+      sender = c.is_among.ensures;
+      receiver = c.is_among-in-Some.ensures;
     }

@@ -1,0 +1,22 @@
+use Rattle.std.proofs.Common.{List, refl}
+use Rattle.kt_chain.specs.declared.certificate.Certificate.{Certificate}
+use Rattle.kt_checker.specs.declared.verdict.Verdict.{Verdict}
+use Rattle.kt_checker.specs.declared.verdict.Verdict.TheVariants.{No}
+use Rattle.std.proofs.Common.{Some}
+use Rattle.kt_explain.specs.declared.explanation.Explanation.{Explanation}
+use Rattle.kt_explain.specs.Told.{IsCertificateNo, IsExplanation}
+use Rattle.kt_explain.proofs.Faults.{certificate_legal}
+use Rattle.kt_explain.proofs.Gives.{ok_gives}
+use Rattle.kt_explain.proofs.compared.compare.Goals as goal
+
+pub without-requires-clause-legal : goal.without-requires-clause-legal
+without-requires-clause-legal c = certificate_legal c.args.log.now.rows c.args.certificates.now c.args.inst c.args.row c.args.why c.requires.answer
+
+pub returns-in-Err : goal.returns-in-Err
+returns-in-Err c =
+    let rows = c.args.log.now.rows in
+    let list = c.args.certificates.now in
+    let verdict = No (Some c.args.inst) c.args.row c.args.why in
+    let no : IsCertificateNo verdict = record { inst = c.args.inst; row = c.args.row; reason = c.args.why; verdict_is = refl; of_certificate = c.requires.of_certificate } in
+    ok_gives c.without.result (λ (e : Explanation). (l : List Certificate) (v : Verdict) → IsCertificateNo v → IsExplanation rows l v e) (IsExplanation rows list verdict)
+    (λ e f. f list verdict no) c.without.ensures

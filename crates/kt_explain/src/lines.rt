@@ -1,0 +1,178 @@
+//! The lines of what is told of an answer.
+
+ghost use Rattle.std.specs.Prelude.{◌≡◌, ◌≤◌, ◌+◌, All, IfSome, IsTrue, length, take};
+ghost use Rattle.kt_chain.specs.Spelling.{HasShortChains, certificate_records, records_of};
+
+use crate::compared::{Compared, Differs};
+use crate::explanation::Explanation;
+use kt_base::{InstNo, Memory};
+use kt_chain::{Certificate, write_certs};
+use kt_checker::Verdict;
+use kt_log_text::write_csv;
+use kt_spacetime::{Event, SpaceTime};
+use std::alloc::Global;
+use std::fmt;
+
+/// What is told of an answer, as lines: the row that it names, as a log has it, the facts, and the records that differ.
+#[derive(Drop)]
+pub struct Told<'a> {
+    pub alloc: Global,
+    pub log: &'a SpaceTime,
+    pub certificates: &'a [Certificate],
+    pub verdict: &'a Verdict,
+    pub explanation: &'a Explanation,
+}
+
+impl fmt::Display for Told<'_> {
+    fn fmt<W: fmt::Write>(&self, f: &mut fmt::Formatter<W>) -> fmt::Result {
+        let Ok(row) = row_line(self.alloc, self.log.rows(), self.verdict) else {
+            return Err(fmt::Error);
+        };
+        let explanation = self.explanation;
+        write!(f, "{row}{explanation}")?;
+        let Explanation::Compared(compared) = explanation else {
+            return Ok(());
+        };
+        match record_lines(self.alloc, self.certificates, compared) {
+            Ok(records) => f.write_str(records.as_str()),
+            Err(Memory) => Err(fmt::Error),
+        }
+    }
+}
+
+// The line of the row that an answer names.
+fn row_line(alloc: Global, rows: &[Event], verdict: &Verdict) -> Result<String, Memory> {
+    let Verdict::No {
+        row: Some(number),
+        ..
+    } = *verdict
+    else {
+        return Ok(String::new(alloc));
+    };
+    let Some(row) = rows.get(number.get() as usize - 1) else {
+        return Ok(String::new(alloc));
+    };
+    let text = row_text(alloc, *row)?;
+    let line = format!(in alloc; "row {number}: {text}\n")?;
+    Ok(line)
+}
+
+// A row, as the text of a log has it.
+fn row_text(alloc: Global, row: Event) -> Result<String, Memory> {
+    let mut log = SpaceTime::new(alloc);
+    log.reserve(1)?;
+    log.push_reserved(row);
+    let mut text = Vec::new(alloc);
+    if write_csv(alloc, &log, &mut text).is_err() {
+        return Err(Memory);
+    }
+    match line_at(alloc, text.as_slice(), 1)? {
+        Some(line) => Ok(line),
+        None => Err(Memory),
+    }
+}
+
+// The line of a text after so many others.
+fn line_at(alloc: Global, text: &[u8], before: usize) -> Result<Option<String>, Memory> {
+    match text.split(|byte| *byte == b'\n').nth(before) {
+        Some([]) | None => Ok(None),
+        Some(line) => Ok(Some(String::from_utf8_lossy(alloc, line)?)),
+    }
+}
+
+// The records of an instance that differ: what the certificates have, and what the log means.
+fn record_lines(
+    alloc: Global,
+    certificates: &[Certificate],
+    told: &Compared,
+) -> Result<String, Memory> {
+    let inst = told.inst;
+    let (has, place) = match told.differs {
+        Differs::Record(place) | Differs::Process(place) => (told.has, place),
+        Differs::Second(second) => (Some(second), 0),
+    };
+    let here = record_text(alloc, certificates, has, place)?;
+    let number = match has {
+        Some(index) if index < certificates.len() => record_number(certificates, index, place),
+        _ => None,
+    };
+    let there = record_text(alloc, told.meant.as_slice(), told.means, place)?;
+    let has = has_line(alloc, inst, &here, number)?;
+    let lines = match (told.differs, &there) {
+        (Differs::Second(_), _) => format!(in alloc;
+            "{has}it is a second certificate of instance {inst}\n"
+        ),
+        (_, Some(text)) => format!(in alloc; "{has}the log means {text}\n"),
+        (_, None) if told.means.is_some() => {
+            format!(in alloc; "{has}the log means no more records of instance {inst}\n")
+        }
+        (_, None) => format!(in alloc; "{has}the log means none: no row decides instance {inst}\n"),
+    };
+    Ok(lines?)
+}
+
+// What the certificates have.
+fn has_line(
+    alloc: Global,
+    inst: InstNo,
+    text: &Option<String>,
+    number: Option<usize>,
+) -> Result<String, Memory> {
+    let line = match (text, number) {
+        (Some(text), Some(number)) => format!(in alloc;
+            "record {number} of the certificates is {text}\n"
+        ),
+        (None, Some(_)) => {
+            format!(in alloc; "the certificates have no more records of instance {inst}\n")
+        }
+        (_, None) => format!(in alloc; "the certificates have no record of instance {inst}\n"),
+    };
+    Ok(line?)
+}
+
+// The record at a place of the certificate at an index: 0 for that of the instance, from 1 on for those of its members.
+fn record_text(
+    alloc: Global,
+    certificates: &[Certificate],
+    index: Option<usize>,
+    place: usize,
+) -> Result<Option<String>, Memory> {
+    let Some(index) = index else {
+        return Ok(None);
+    };
+    if index >= certificates.len() {
+        return Ok(None);
+    }
+    let one = &certificates[index..index + 1];
+    let mut text = Vec::new(alloc);
+    if !are_short(one) || write_certs(alloc, one, &mut text).is_err() {
+        return Err(Memory);
+    }
+    line_at(alloc, text.as_slice(), place)
+}
+
+// Whether no chain is too long to be written.
+fn are_short(certificates: &[Certificate]) -> bool
+    ensures { IsTrue result → All HasShortChains certificates.now }
+{
+    certificates.iter().all(|c| c.members.list().iter().all(|m| m.1.messages().len() <= 63))
+}
+
+// The number, from 1, of the record at a place of the certificate at an index, in the text of certificates.
+fn record_number(certificates: &[Certificate], index: usize, place: usize) -> Option<usize>
+    requires { index ≤ length certificates.now }
+    ensures { IfSome result (λ number. number ≡ length (records_of (take index certificates.now)) + 1 + place) }
+{
+    let mut number: usize = 0;
+    for before in 0..index {
+        number = number.checked_add(records_in(&certificates[before]))?;
+    }
+    number.checked_add(1)?.checked_add(place)
+}
+
+// How many records a certificate has.
+fn records_in(certificate: &Certificate) -> usize
+    ensures { result ≡ length (certificate_records certificate.now) }
+{
+    certificate.members.list().len() + 1
+}
