@@ -9,11 +9,15 @@ pub mod Followed
 pub mod KnownOf
 pub mod Lanes
 pub mod Links
-pub mod Notes
+pub mod Looks
+pub mod Marks
+pub mod Pages
+pub mod Parts
 pub mod Picture
 pub mod Places
 pub mod KnownAtRow
 pub mod Shapes
 pub mod Style
-pub mod Svg
+pub mod View
 pub mod Window
+pub mod Words

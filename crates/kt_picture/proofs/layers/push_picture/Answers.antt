@@ -3,6 +3,9 @@ use Rattle.kt_picture.proofs.layers.push_picture.Goals as goal
 
 pub returns : goal.returns
 returns c =
-    let first = c.args.text.now.items in
-    let so_far-1 = then_piece first c.push_opening.new.text.items c.push_lane_marks.new.text.items _ _ c.in_ok-push_opening.ensures c.in_ok-push_lane_marks.ensures in
-    gathered c.push_row_marks.result c.push_row_marks.ensures (λ e. then_piece first c.push_lane_marks.new.text.items c.push_row_marks.new.text.items _ _ so_far-1 e)
+    let t0 = c.args.text.now.items in
+    let t1 = c.push_opening_of.new.text.items in
+    let t2 = c.push_lanes.new.text.items in
+    let t3 = c.push_marks.new.text.items in
+    let t4 = c.push_words.new.text.items in
+    gathered c.push_words.result c.push_words.ensures (λ e. then_piece t0 t1 t4 _ _ c.in_ok-push_opening_of.ensures (then_piece t1 t2 t4 _ _ c.in_ok-push_lanes.ensures (then_piece t2 t3 t4 _ _ c.in_ok-push_marks.ensures e)))
