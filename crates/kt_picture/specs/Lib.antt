@@ -8,6 +8,7 @@ pub mod Fates
 pub mod Followed
 pub mod KnownOf
 pub mod Lanes
+pub mod Legend
 pub mod Links
 pub mod Looks
 pub mod Marks

@@ -26,6 +26,7 @@ class_text look.Failed = codes "bolt"
 class_text look.Refused = codes "w"
 class_text look.Open = codes "f"
 class_text look.Full = codes "f full"
+class_text look.Cut = codes "cut"
 class_text look.Number = codes "num"
 class_text look.Instance = codes "inst"
 class_text look.Cause = codes "bad"
@@ -50,8 +51,8 @@ diamond false = codes "m0 -8l8 8l-8 8l-8 -8zm-4 4l8 8"
 
 -- a short way down, or up
 abbrev pub way : Bool → List ℕ
-way true = codes "l12 18"
-way false = codes "l12 -18"
+way true = codes "l9 11"
+way false = codes "l9 -11"
 
 -- the outline of a mark
 abbrev pub outline_text : Outline → List ℕ
@@ -60,6 +61,7 @@ outline_text outline.Tick = codes "m0 -4v8"
 outline_text outline.Cross = codes "m-5 -5l10 10m0 -10l-10 10"
 outline_text outline.Bolt = codes "m3 -11l-9 12h5l-2 10l9 -12h-5z"
 outline_text outline.Ban = codes "m-6 0a6 6 0 1 0 12 0a6 6 0 1 0 -12 0m2 -4l8 8"
+outline_text outline.Line = codes "m-12 0h24"
 outline_text outline.Beginning = codes "m-5 0h10"
 outline_text outline.Ending = codes "m0 -5v10"
 outline_text (outline.Square decision) = square decision

@@ -1,5 +1,5 @@
 -- A picture as text.
-use Rattle.std.specs.Prelude.{ℕ, ◌+◌, ◌-◌, ◌*◌, ◌%◌, max, min, is_some, if◌then◌else◌, Option, Some, None, List, [], ◌∷◌, ◌++◌, codes, length, drop, fold, map, slice_index, slice_get}
+use Rattle.std.specs.Prelude.{ℕ, ◌+◌, ◌-◌, ◌*◌, ◌%◌, max, min, is_some, if◌then◌else◌, Bool, Option, Some, None, List, [], ◌∷◌, ◌++◌, codes, length, drop, fold, map, slice_index, slice_get}
 use Rattle.std.specs.List.{flat_map, concat}
 use Rattle.std.specs.Fmt.{decimal}
 use Rattle.kt_spacetime.specs.declared.event.Event.{Event}
@@ -14,6 +14,8 @@ use Rattle.kt_chain.specs.declared.certificate.Certificate.{Certificate}
 use Rattle.kt_picture.specs.Escaping.{escaped}
 use Rattle.kt_picture.specs.Evidence.{link_of, reason_of}
 use Rattle.kt_picture.specs.Lanes.{lanes_in, lane_of, name_or_number}
+use Rattle.kt_picture.specs.declared.legend.Sign.{Sign}
+use Rattle.kt_picture.specs.Legend.{has_sign, is_cut, is_wrong, legend, legend_height}
 use Rattle.kt_picture.specs.Marks.{stretch, stretch_of, arrow_of, figure_of}
 use Rattle.kt_picture.specs.Shapes.{x_of, y_of, colour_text}
 use Rattle.kt_picture.specs.Style.{style_by_day, style_by_night, arrow_heads}
@@ -35,10 +37,10 @@ margin_for longest = text_width longest - 68
 
 -- how wide a picture is, with its margin: no narrower than its columns, and than a line of text of this length
 abbrev pub width_of : ℕ → ℕ → ℕ → ℕ
-width_of margin columns line = margin + max (x_of columns + 120) (24 + text_width line)
+width_of margin columns line = margin + max (x_of columns + 120) (max 560 (24 + text_width line))
 
-abbrev pub height_of : List ℕ → ℕ
-height_of lanes = y_of (length lanes) + 26
+abbrev pub height_of : List ℕ → ℕ → ℕ
+height_of lanes legend = y_of (length lanes) + 26 + legend
 
 -- how a document begins that has this margin and width: its size, and its background
 abbrev pub frame : ℕ → ℕ → ℕ → List ℕ
@@ -54,11 +56,11 @@ background margin width height = concat (
 abbrev pub opening : ℕ → ℕ → ℕ → List ℕ
 opening margin width height = frame margin width height ++ (style_by_day ++ (style_by_night ++ (arrow_heads ++ background margin width height)))
 
--- the same of a view, with a line of text below
-abbrev pub opening_of : View → List ℕ → List ℕ
-opening_of view caption =
+-- the same of a view, with a legend of this height and a line of text below
+abbrev pub opening_of : View → ℕ → List ℕ → List ℕ
+opening_of view legend caption =
     let margin = margin_for (longest_name view.names view.lanes) in
-    opening margin (width_of margin view.columns (length caption)) (height_of view.lanes)
+    opening margin (width_of margin view.columns (length caption)) (height_of view.lanes legend)
 
 -- the marks of a row in a layer
 abbrev pub row_mark : Layer → View → Shown → List ℕ
@@ -132,16 +134,25 @@ marks_text view cuts breach =
     flat_map (new_cut view.lanes) cuts
     ++ (layer_text layer.Arrows view ++ (layer_text layer.Figures view ++ breach_mark view (view.before + view.columns) view.columns breach))
 
--- over them its words
-abbrev pub words_text : View → Option Breach → List ℕ → List ℕ
-words_text view breach caption =
+-- where the legend begins, below the line of text
+abbrev pub top_of : List ℕ → ℕ
+top_of lanes = 64 * length lanes + 34
+
+-- over them its words, and the legend of the marks that it has
+abbrev pub words_text : View → (Sign → Bool) → Option Breach → List ℕ → List ℕ
+words_text view has breach caption =
     codes "</g>\n<g fill='#1d232b'>\n" ++ (flat_map (lane_name view.names view.lanes) view.lanes
-    ++ (layer_text layer.Words view ++ (breach_word view.columns breach ++ ending view.lanes caption)))
+    ++ (layer_text layer.Words view ++ (breach_word view.columns breach ++ (legend has (top_of view.lanes) ++ ending view.lanes caption))))
+
+-- which marks a picture has
+abbrev pub has_mark : View → List CutMark → Option Breach → Sign → Bool
+has_mark view cuts breach = has_sign view (is_cut cuts) (is_wrong view breach)
 
 -- a picture: its size and style, and its layers
 abbrev pub picture_text : View → List CutMark → List End → Option Breach → List ℕ → List ℕ
 picture_text view cuts ends breach caption =
-    opening_of view caption ++ (lanes_text view ends breach ++ (marks_text view cuts breach ++ words_text view breach caption))
+    opening_of view (legend_height (has_mark view cuts breach)) caption
+    ++ (lanes_text view ends breach ++ (marks_text view cuts breach ++ words_text view (has_mark view cuts breach) breach caption))
 
 -- how many columns a picture has: one for each row, and one for the row that breaks a rule
 abbrev pub columns_of : List Event → ℕ → Option Breach → ℕ

@@ -5,12 +5,14 @@ ghost use Rattle.std.specs.List.{flat_map};
 ghost use Rattle.kt_picture.specs.Breach.{breach_mark};
 ghost use Rattle.kt_picture.specs.Escaping.{escaped};
 ghost use Rattle.kt_picture.specs.Lanes.{name_or_number};
+ghost use Rattle.kt_picture.specs.Legend.{has_sign};
 ghost use Rattle.kt_picture.specs.Pages.{view_in};
-ghost use Rattle.kt_picture.specs.Picture.{longest_name, text_width, margin_for, width_of, height_of, frame, background, opening, opening_of, row_mark, layer_text, last_stretch, last_stretch_of, right_of, cut_x, cut_line, new_cut, cut_point, cut_points, lane_name, foot, ending, lanes_text, marks_text, words_text, picture_text};
+ghost use Rattle.kt_picture.specs.Picture.{longest_name, text_width, margin_for, width_of, height_of, frame, background, opening, opening_of, row_mark, layer_text, last_stretch, last_stretch_of, right_of, cut_x, cut_line, new_cut, cut_point, cut_points, lane_name, foot, ending, lanes_text, marks_text, top_of, words_text, picture_text};
 
 use crate::breach::{Breach, push_breach, push_breach_word};
 use crate::escaping::push_escaped;
 use crate::lanes::Lanes;
+use crate::legend::{Beside, found_beside, legend_height, push_legend};
 use crate::marks::{push_arrow_of, push_figure_of, push_stretch, push_stretch_of};
 use crate::page::Page;
 use crate::parts::{Part, push_parts, push_text};
@@ -34,20 +36,27 @@ pub(crate) fn push_picture(
     ensures { OnOk result (text.new.items ≡ text.old.items
         ++ picture_text (view_in page.now) window.now.cuts.items window.now.ends.items breach.now caption.now) }
 {
-    push_opening_of(text, page, caption)?;
+    let beside = found_beside(page, window.cuts.as_slice(), breach);
+    push_opening_of(text, page, legend_height(page, &beside), caption)?;
     push_lanes(text, page, window, breach)?;
     push_marks(text, page, window, breach)?;
-    push_words(text, page, breach, caption)
+    push_words(text, page, &beside, breach, caption)
 }
 
-// Gathers how the document of a page begins, with a line of text below.
-fn push_opening_of(text: &mut Vec<u8>, page: &Page<'_>, caption: &[u8]) -> Result<(), Memory>
-    requires { page.now.columns < 2 ^ 25 }
-    ensures { OnOk result (text.new.items ≡ text.old.items ++ opening_of (view_in page.now) caption.now) }
+// Gathers how the document of a page begins, with a legend of this height and a line of text below.
+fn push_opening_of(
+    text: &mut Vec<u8>,
+    page: &Page<'_>,
+    legend: u64,
+    caption: &[u8],
+) -> Result<(), Memory>
+    requires columns { page.now.columns < 2 ^ 25 }
+    requires legend { legend < 2 ^ 16 }
+    ensures { OnOk result (text.new.items ≡ text.old.items ++ opening_of (view_in page.now) legend caption.now) }
 {
     let margin = margin_for(longest_name(page.names, page.lanes));
     let width = width_of(margin, page.columns, caption.len());
-    push_opening(text, margin, width, y_of(page.lanes.count()) + 26)
+    push_opening(text, margin, width, y_of(page.lanes.count()) + 26 + legend)
 }
 
 // The length of the longest name beside a lane.
@@ -101,6 +110,7 @@ fn width_of(margin: u64, columns: u32, line: usize) -> u64
     ensures { result ≡ width_of margin columns line }
 {
     let needed = 24 + text_width(line);
+    let needed = if needed < 560 { 560 } else { needed };
     let wide = x_of(columns) + 120;
     margin + if wide < needed { needed } else { wide }
 }
@@ -202,16 +212,27 @@ fn push_marks(
 fn push_words(
     text: &mut Vec<u8>,
     page: &Page<'_>,
+    beside: &Beside,
     breach: &Option<Breach>,
     caption: &[u8],
 ) -> Result<(), Memory>
-    ensures { OnOk result (text.new.items ≡ text.old.items ++ words_text (view_in page.now) breach.now caption.now) }
+    ensures { OnOk result (text.new.items ≡ text.old.items
+        ++ words_text (view_in page.now) (has_sign (view_in page.now) beside.now.is_cut beside.now.is_wrong) breach.now caption.now) }
 {
     push_text(text, b"</g>\n<g fill='#1d232b'>\n")?;
     push_names(text, page.names, page.lanes)?;
     push_layer(text, page, Layer::Words)?;
     push_breach_word(text, page.columns, breach)?;
+    push_legend(text, page, beside, top_of(page.lanes))?;
     push_ending(text, page.lanes, caption)
+}
+
+// Where the legend begins, below the line of text.
+fn top_of(lanes: &Lanes) -> u64
+    ensures exact { result ≡ top_of lanes.now }
+    ensures few { result < 2 ^ 32 }
+{
+    64 * u64::from(lanes.count()) + 34
 }
 
 // Gathers the marks of all rows in a layer.

@@ -14,6 +14,7 @@ mod known;
 mod lanes;
 mod laws;
 mod layers;
+mod legend;
 mod links;
 mod looks;
 mod marks;

@@ -39,6 +39,8 @@ pub(crate) enum Look {
     Open,
     /// What is filled, after a commit.
     Full,
+    /// A permanent cut.
+    Cut,
     /// The number of a row.
     Number,
     /// The name of an instance.
@@ -74,6 +76,7 @@ impl Look {
             Look::Refused => b"w",
             Look::Open => b"f",
             Look::Full => b"f full",
+            Look::Cut => b"cut",
             Look::Number => b"num",
             Look::Instance => b"inst",
             Look::Cause => b"bad",
@@ -95,6 +98,8 @@ pub(crate) enum Outline {
     Bolt,
     /// A process did not do what it was asked.
     Ban,
+    /// A line.
+    Line,
     /// An instance begins.
     Beginning,
     /// A process closes.
@@ -120,6 +125,7 @@ impl Outline {
             Outline::Cross => b"m-5 -5l10 10m0 -10l-10 10",
             Outline::Bolt => b"m3 -11l-9 12h5l-2 10l9 -12h-5z",
             Outline::Ban => b"m-6 0a6 6 0 1 0 12 0a6 6 0 1 0 -12 0m2 -4l8 8",
+            Outline::Line => b"m-12 0h24",
             Outline::Beginning => b"m-5 0h10",
             Outline::Ending => b"m0 -5v10",
             Outline::Square(decision) => square(decision),
@@ -163,5 +169,5 @@ fn diamond(commit: bool) -> &'static [u8]
 fn way(down: bool) -> &'static [u8]
     ensures { result.now ≡ way down }
 {
-    if down { b"l12 18" } else { b"l12 -18" }
+    if down { b"l9 11" } else { b"l9 -11" }
 }

@@ -266,8 +266,13 @@ pub(crate) fn push_figure_of(text: &mut Vec<u8>, page: &Page<'_>, s: &Shown) -> 
     push_text(text, b"</g>\n")
 }
 
-// Gathers a shape at a place.
-fn push_figure(text: &mut Vec<u8>, figure: &Figure, column: u32, lane: u8) -> Result<(), Memory>
+/// Gathers a shape at a place.
+pub(crate) fn push_figure(
+    text: &mut Vec<u8>,
+    figure: &Figure,
+    column: u32,
+    lane: u8,
+) -> Result<(), Memory>
     ensures { OnOk result (text.new.items ≡ text.old.items ++ drawn figure.now column lane) }
 {
     push_shape(text, figure.look, figure.inst, column, lane, figure.outline)

@@ -13,49 +13,29 @@ pub(crate) fn push_style_by_day(text: &mut Vec<u8>) -> Result<(), Memory>
     push_parts(
         text,
         &[
-            Part::Text(b"<style>svg{font:12px system-ui,sans-serif}path,polyline{fill:none}"),
-            Part::Text(b"text{paint-order:stroke;stroke-width:3px;stroke-linejoin:round}"),
             Part::Text(
-                b".num,.say,.bad,.top,.rule{font-size:10px}.top{text-anchor:middle}.name,.rule{text-anchor:end}",
-            ),
-            Part::Text(b".inst{font-weight:600}"),
-            Part::Text(
-                b".lane,.m,.open{stroke-width:1.4}.down{stroke-dasharray:2 5}.in{stroke-width:10;stroke-opacity:.28}",
+                b"<style>svg{font:12px system-ui,sans-serif}path,polyline{fill:none}text{paint-order:stroke;stroke-width:3px;stroke-linejoin:round}.num,.say,.bad,.top,.rule,.inst{font-size:10px}",
             ),
             Part::Text(
-                b".m{marker-end:url(#a)}.way{marker-end:url(#o)}.gone{stroke-dasharray:6 4}.gone,.back{marker-end:url(#g)}",
-            ),
-            Part::Text(b".back{stroke-width:.8}"),
-            Part::Text(
-                b".link{stroke-width:2.6}.f,.w{stroke-width:1.6}.x{stroke-width:2.4}.dot,.tip{stroke:none}",
+                b".top{text-anchor:middle}.name,.rule{text-anchor:end}.inst{font-weight:600}.lane,.m,.open{stroke-width:1.4}.down{stroke-dasharray:2 5}.in{stroke-width:10;stroke-opacity:.28}",
             ),
             Part::Text(
-                b".cut{stroke-width:2;stroke-dasharray:1 5;stroke-linecap:round}.orphan{stroke-width:4}",
-            ),
-            Part::Text(b".orphan,.wrong .m{marker-end:url(#x)}"),
-            Part::Text(
-                b".link.c0{marker-end:url(#k0)}.link.c1{marker-end:url(#k1)}.link.c2{marker-end:url(#k2)}",
+                b".m{marker-end:url(#a)}.way{marker-end:url(#o)}.gone{stroke-dasharray:6 4}.gone,.back{marker-end:url(#g)}.back{stroke-width:.8}.link{stroke-width:2.6}.f,.w{stroke-width:1.6}",
             ),
             Part::Text(
-                b".link.c3{marker-end:url(#k3)}.link.c4{marker-end:url(#k4)}.link.c5{marker-end:url(#k5)}",
+                b".x{stroke-width:2.4}.dot,.tip{stroke:none}.cut{stroke-width:2;stroke-dasharray:1 5;stroke-linecap:round}.orphan{stroke-width:4}.orphan,.wrong .m{marker-end:url(#x)}",
             ),
             Part::Text(
-                b".paper,.f,.w{fill:#fff}text{fill:#1d232b;stroke:#fff}.num,.top{fill:#5c6672}.lane{stroke:#7a8490}",
-            ),
-            Part::Text(b".m,.open{stroke:#1d232b}"),
-            Part::Text(
-                b".dot,.tip{fill:#1d232b}.gone,.back,.faint{stroke:#a3abb5}.pale{fill:#a3abb5}",
-            ),
-            Part::Text(b".x,.w,.bolt,.orphan{stroke:#a8201a}.bolt,.hot,.bad,.rule{fill:#a8201a}"),
-            Part::Text(
-                b".c0{stroke:#0b3d75}.c1{stroke:#d9771f}.c2{stroke:#7a1f5c}.c3{stroke:#2f9e6a}.c4{stroke:#5b3a9e}",
-            ),
-            Part::Text(b".c5{stroke:#c4612e}"),
-            Part::Text(
-                b".full.c0,.k0{fill:#0b3d75}.full.c1,.k1{fill:#d9771f}.full.c2,.k2{fill:#7a1f5c}",
+                b".link.c0{marker-end:url(#k0)}.link.c1{marker-end:url(#k1)}.link.c2{marker-end:url(#k2)}.link.c3{marker-end:url(#k3)}.link.c4{marker-end:url(#k4)}.link.c5{marker-end:url(#k5)}",
             ),
             Part::Text(
-                b".full.c3,.k3{fill:#2f9e6a}.full.c4,.k4{fill:#5b3a9e}.full.c5,.k5{fill:#c4612e}",
+                b".paper,.f,.w{fill:#fff}text{fill:#1d232b;stroke:#fff}.num,.top{fill:#5c6672}.lane{stroke:#7a8490}.m,.open{stroke:#1d232b}.dot,.tip{fill:#1d232b}.gone,.back,.faint{stroke:#a3abb5}",
+            ),
+            Part::Text(
+                b".pale{fill:#a3abb5}.x,.w,.bolt,.orphan{stroke:#a8201a}.bolt,.hot,.bad,.rule{fill:#a8201a}.c0{stroke:#0b3d75}.c1{stroke:#d9771f}.c2{stroke:#7a1f5c}.c3{stroke:#2f9e6a}.c4{stroke:#5b3a9e}",
+            ),
+            Part::Text(
+                b".c5{stroke:#c4612e}.full.c0,.k0{fill:#0b3d75}.full.c1,.k1{fill:#d9771f}.full.c2,.k2{fill:#7a1f5c}.full.c3,.k3{fill:#2f9e6a}.full.c4,.k4{fill:#5b3a9e}.full.c5,.k5{fill:#c4612e}",
             ),
             Part::Text(
                 b".wrong path{stroke:#a8201a}.wrong .dot,.wrong .full,.wrong .bolt{fill:#a8201a}",
@@ -72,25 +52,16 @@ pub(crate) fn push_style_by_night(text: &mut Vec<u8>) -> Result<(), Memory>
         text,
         &[
             Part::Text(
-                b"@media(prefers-color-scheme:dark){.paper,.f,.w{fill:#14181d}text{fill:#e6eaef;stroke:#14181d}",
-            ),
-            Part::Text(b".num,.top{fill:#98a3ae}.lane{stroke:#87919c}.m,.open{stroke:#e6eaef}"),
-            Part::Text(
-                b".dot,.tip{fill:#e6eaef}.gone,.back,.faint{stroke:#5d6772}.pale{fill:#5d6772}",
-            ),
-            Part::Text(b".x,.w,.bolt,.orphan{stroke:#ff7a70}.bolt,.hot,.bad,.rule{fill:#ff7a70}"),
-            Part::Text(
-                b".c0{stroke:#7db4f0}.c1{stroke:#c9701f}.c2{stroke:#8fe0b4}.c3{stroke:#b06fd8}.c4{stroke:#f2d16b}",
-            ),
-            Part::Text(b".c5{stroke:#d9557f}"),
-            Part::Text(
-                b".full.c0,.k0{fill:#7db4f0}.full.c1,.k1{fill:#c9701f}.full.c2,.k2{fill:#8fe0b4}",
+                b"@media(prefers-color-scheme:dark){.paper,.f,.w{fill:#14181d}text{fill:#e6eaef;stroke:#14181d}.num,.top{fill:#98a3ae}.lane{stroke:#87919c}.m,.open{stroke:#e6eaef}.dot,.tip{fill:#e6eaef}",
             ),
             Part::Text(
-                b".full.c3,.k3{fill:#b06fd8}.full.c4,.k4{fill:#f2d16b}.full.c5,.k5{fill:#d9557f}",
+                b".gone,.back,.faint{stroke:#5d6772}.pale{fill:#5d6772}.x,.w,.bolt,.orphan{stroke:#ff7a70}.bolt,.hot,.bad,.rule{fill:#ff7a70}.c0{stroke:#7db4f0}.c1{stroke:#c9701f}.c2{stroke:#8fe0b4}",
             ),
             Part::Text(
-                b".wrong path{stroke:#ff7a70}.wrong .dot,.wrong .full,.wrong .bolt{fill:#ff7a70}}</style>\n",
+                b".c3{stroke:#b06fd8}.c4{stroke:#f2d16b}.c5{stroke:#d9557f}.full.c0,.k0{fill:#7db4f0}.full.c1,.k1{fill:#c9701f}.full.c2,.k2{fill:#8fe0b4}.full.c3,.k3{fill:#b06fd8}.full.c4,.k4{fill:#f2d16b}",
+            ),
+            Part::Text(
+                b".full.c5,.k5{fill:#d9557f}.wrong path{stroke:#ff7a70}.wrong .dot,.wrong .full,.wrong .bolt{fill:#ff7a70}}</style>\n",
             ),
         ],
     )
@@ -104,68 +75,36 @@ pub(crate) fn push_arrow_heads(text: &mut Vec<u8>) -> Result<(), Memory>
     push_parts(
         text,
         &[
-            Part::Text(b"<defs>"),
             Part::Text(
-                b"<marker id='a' viewBox='0 0 8 8' refX='8' refY='4' markerUnits='userSpaceOnUse'",
+                b"<defs><marker id='a' viewBox='0 0 8 8' refX='8' refY='4' markerUnits='userSpaceOnUse' markerWidth='9' markerHeight='9' orient='auto'><path class='tip' d='M0 0L8 4L0 8z'/></marker>",
             ),
             Part::Text(
-                b" markerWidth='9' markerHeight='9' orient='auto'><path class='tip' d='M0 0L8 4L0 8z'/></marker>",
+                b"<marker id='g' viewBox='0 0 8 8' refX='8' refY='4' markerUnits='userSpaceOnUse' markerWidth='9' markerHeight='9' orient='auto'><path class='tip pale' d='M0 0L8 4L0 8z'/></marker>",
             ),
             Part::Text(
-                b"<marker id='g' viewBox='0 0 8 8' refX='8' refY='4' markerUnits='userSpaceOnUse'",
+                b"<marker id='x' viewBox='0 0 8 8' refX='8' refY='4' markerUnits='userSpaceOnUse' markerWidth='9' markerHeight='9' orient='auto'><path class='tip hot' d='M0 0L8 4L0 8z'/></marker>",
             ),
             Part::Text(
-                b" markerWidth='9' markerHeight='9' orient='auto'><path class='tip pale' d='M0 0L8 4L0 8z'/></marker>",
+                b"<marker id='k0' viewBox='0 0 8 8' refX='8' refY='4' markerUnits='userSpaceOnUse' markerWidth='9' markerHeight='9' orient='auto'><path class='tip k0' d='M0 0L8 4L0 8z'/></marker>",
             ),
             Part::Text(
-                b"<marker id='x' viewBox='0 0 8 8' refX='8' refY='4' markerUnits='userSpaceOnUse'",
+                b"<marker id='k1' viewBox='0 0 8 8' refX='8' refY='4' markerUnits='userSpaceOnUse' markerWidth='9' markerHeight='9' orient='auto'><path class='tip k1' d='M0 0L8 4L0 8z'/></marker>",
             ),
             Part::Text(
-                b" markerWidth='9' markerHeight='9' orient='auto'><path class='tip hot' d='M0 0L8 4L0 8z'/></marker>",
+                b"<marker id='k2' viewBox='0 0 8 8' refX='8' refY='4' markerUnits='userSpaceOnUse' markerWidth='9' markerHeight='9' orient='auto'><path class='tip k2' d='M0 0L8 4L0 8z'/></marker>",
             ),
             Part::Text(
-                b"<marker id='k0' viewBox='0 0 8 8' refX='8' refY='4' markerUnits='userSpaceOnUse'",
+                b"<marker id='k3' viewBox='0 0 8 8' refX='8' refY='4' markerUnits='userSpaceOnUse' markerWidth='9' markerHeight='9' orient='auto'><path class='tip k3' d='M0 0L8 4L0 8z'/></marker>",
             ),
             Part::Text(
-                b" markerWidth='9' markerHeight='9' orient='auto'><path class='tip k0' d='M0 0L8 4L0 8z'/></marker>",
+                b"<marker id='k4' viewBox='0 0 8 8' refX='8' refY='4' markerUnits='userSpaceOnUse' markerWidth='9' markerHeight='9' orient='auto'><path class='tip k4' d='M0 0L8 4L0 8z'/></marker>",
             ),
             Part::Text(
-                b"<marker id='k1' viewBox='0 0 8 8' refX='8' refY='4' markerUnits='userSpaceOnUse'",
+                b"<marker id='k5' viewBox='0 0 8 8' refX='8' refY='4' markerUnits='userSpaceOnUse' markerWidth='9' markerHeight='9' orient='auto'><path class='tip k5' d='M0 0L8 4L0 8z'/></marker>",
             ),
             Part::Text(
-                b" markerWidth='9' markerHeight='9' orient='auto'><path class='tip k1' d='M0 0L8 4L0 8z'/></marker>",
+                b"<marker id='o' viewBox='0 0 8 8' refX='8' refY='4' markerUnits='userSpaceOnUse' markerWidth='9' markerHeight='9' orient='auto'><path class='open' d='M0 0L8 4L0 8'/></marker></defs>\n",
             ),
-            Part::Text(
-                b"<marker id='k2' viewBox='0 0 8 8' refX='8' refY='4' markerUnits='userSpaceOnUse'",
-            ),
-            Part::Text(
-                b" markerWidth='9' markerHeight='9' orient='auto'><path class='tip k2' d='M0 0L8 4L0 8z'/></marker>",
-            ),
-            Part::Text(
-                b"<marker id='k3' viewBox='0 0 8 8' refX='8' refY='4' markerUnits='userSpaceOnUse'",
-            ),
-            Part::Text(
-                b" markerWidth='9' markerHeight='9' orient='auto'><path class='tip k3' d='M0 0L8 4L0 8z'/></marker>",
-            ),
-            Part::Text(
-                b"<marker id='k4' viewBox='0 0 8 8' refX='8' refY='4' markerUnits='userSpaceOnUse'",
-            ),
-            Part::Text(
-                b" markerWidth='9' markerHeight='9' orient='auto'><path class='tip k4' d='M0 0L8 4L0 8z'/></marker>",
-            ),
-            Part::Text(
-                b"<marker id='k5' viewBox='0 0 8 8' refX='8' refY='4' markerUnits='userSpaceOnUse'",
-            ),
-            Part::Text(
-                b" markerWidth='9' markerHeight='9' orient='auto'><path class='tip k5' d='M0 0L8 4L0 8z'/></marker>",
-            ),
-            Part::Text(
-                b"<marker id='o' viewBox='0 0 8 8' refX='8' refY='4' markerUnits='userSpaceOnUse'",
-            ),
-            Part::Text(
-                b" markerWidth='9' markerHeight='9' orient='auto'><path class='open' d='M0 0L8 4L0 8'/></marker>",
-            ),
-            Part::Text(b"</defs>\n"),
         ],
     )
 }
