@@ -3,7 +3,7 @@ use Rattle.std.specs.Prelude.{ℕ, ◌+◌, ◌*◌, ◌/◌, ◌%◌, ◌==◌,
 use Rattle.std.specs.List.{list_any, concat}
 use Rattle.std.specs.Fmt.{decimal}
 use Rattle.kt_spacetime.specs.declared.event.Event.{Event}
-use Rattle.kt_spacetime.specs.declared.event.Event.TheVariants.{Sent, Received, Dropped, Took, Ready, Unwilling, Decided, Failed, Refused}
+use Rattle.kt_spacetime.specs.declared.event.Event.TheVariants.{Sent, Received, Dropped, Began, Took, Ready, Unwilling, Decided, Failed, Refused}
 use Rattle.kt_picture.specs.declared.breach.Breach.{Breach}
 use Rattle.kt_picture.specs.declared.figures.Figure.{Figure}
 use Rattle.kt_picture.specs.declared.legend.Sign.{Sign}
@@ -23,6 +23,7 @@ sign_figure sign.Undone = figure look.Unsent None outline.Line
 sign_figure sign.Chain = figure look.Linked (Some 1) outline.Line
 sign_figure sign.Transit = figure look.Way None (outline.Way true)
 sign_figure sign.Dropped = figure look.Dropped None outline.Cross
+sign_figure sign.Instance = figure look.Bar (Some 1) outline.Line
 sign_figure sign.Checkpoint = figure look.Full (Some 1) (outline.Square (Some true))
 sign_figure sign.Rollback = figure look.Full (Some 1) (outline.Triangle (Some true))
 sign_figure sign.Decision = figure look.Full (Some 1) (outline.Diamond true)
@@ -37,6 +38,7 @@ sign_words sign.Undone = codes "its send or its receive is undone"
 sign_words sign.Chain = codes "message by which a process joined"
 sign_words sign.Transit = codes "message in transit"
 sign_words sign.Dropped = codes "message dropped"
+sign_words sign.Instance = codes "in an instance, begun at C or R"
 sign_words sign.Checkpoint = codes "checkpoint: full if committed"
 sign_words sign.Rollback = codes "rollback: full if committed"
 sign_words sign.Decision = codes "decision: full for commit"
@@ -54,6 +56,10 @@ is_message _ = false
 abbrev pub is_dropped : Event → Bool
 is_dropped (Dropped p from msg) = true
 is_dropped _ = false
+
+abbrev pub is_began : Event → Bool
+is_began (Began p inst kind) = true
+is_began _ = false
 
 abbrev pub is_took : Event → Bool
 is_took (Took p inst) = true
@@ -87,6 +93,7 @@ row_shows view sign.Undone s = s.is_undone || s.is_taken_back
 row_shows view sign.Chain s = is_linked view s.event
 row_shows view sign.Transit s = s.is_in_transit
 row_shows view sign.Dropped s = is_dropped s.event
+row_shows view sign.Instance s = is_began s.event || is_some s.open_in
 row_shows view sign.Checkpoint s = is_took s.event
 row_shows view sign.Rollback s = is_ready s.event
 row_shows view sign.Decision s = is_decided s.event

@@ -40,7 +40,7 @@ abbrev pub width_of : ℕ → ℕ → ℕ → ℕ
 width_of margin columns line = margin + max (x_of columns + 120) (max 560 (24 + text_width line))
 
 abbrev pub height_of : List ℕ → ℕ → ℕ
-height_of lanes legend = y_of (length lanes) + 26 + legend
+height_of lanes legend = y_of (length lanes) + 34 + legend
 
 -- how a document begins that has this margin and width: its size, and its background
 abbrev pub frame : ℕ → ℕ → ℕ → List ℕ

@@ -56,7 +56,7 @@ fn push_opening_of(
 {
     let margin = margin_for(longest_name(page.names, page.lanes));
     let width = width_of(margin, page.columns, caption.len());
-    push_opening(text, margin, width, y_of(page.lanes.count()) + 26 + legend)
+    push_opening(text, margin, width, y_of(page.lanes.count()) + 34 + legend)
 }
 
 // The length of the longest name beside a lane.

@@ -2,7 +2,7 @@
 
 ghost use Rattle.std.specs.Prelude.{◌≡◌, ◌≤◌, ◌<◌, ◌^◌, ◌+◌, ◌/◌, ◌*◌, ◌||◌, ◌++◌, [], OnOk, is_some, fold, if◌then◌else◌};
 ghost use Rattle.std.specs.List.{list_any};
-ghost use Rattle.kt_picture.specs.Legend.{sign_figure, sign_words, is_message, is_dropped, is_took, is_ready, is_decided, is_failed, is_refusal, is_linked, row_shows, column_start, beside_rows, has_sign, is_cut, is_wrong, place_text, said_text, sign_mark, sign_if, next_place, legend, legend_height};
+ghost use Rattle.kt_picture.specs.Legend.{sign_figure, sign_words, is_message, is_dropped, is_began, is_took, is_ready, is_decided, is_failed, is_refusal, is_linked, row_shows, column_start, beside_rows, has_sign, is_cut, is_wrong, place_text, said_text, sign_mark, sign_if, next_place, legend, legend_height};
 ghost use Rattle.kt_picture.specs.Pages.{view_in};
 
 use crate::breach::Breach;
@@ -23,6 +23,7 @@ pub(crate) enum Sign {
     Chain,
     Transit,
     Dropped,
+    Instance,
     Checkpoint,
     Rollback,
     Decision,
@@ -34,12 +35,13 @@ pub(crate) enum Sign {
 }
 
 // The marks in their order.
-pub(crate) const SIGNS: [Sign; 12] = [
+pub(crate) const SIGNS: [Sign; 13] = [
     Sign::Message,
     Sign::Undone,
     Sign::Chain,
     Sign::Transit,
     Sign::Dropped,
+    Sign::Instance,
     Sign::Checkpoint,
     Sign::Rollback,
     Sign::Decision,
@@ -60,6 +62,7 @@ impl Sign {
             Sign::Chain => figure(Look::Linked, Some(1), Outline::Line),
             Sign::Transit => figure(Look::Way, None, Outline::Way(true)),
             Sign::Dropped => figure(Look::Dropped, None, Outline::Cross),
+            Sign::Instance => figure(Look::Bar, Some(1), Outline::Line),
             Sign::Checkpoint => figure(Look::Full, Some(1), Outline::Square(Some(true))),
             Sign::Rollback => figure(Look::Full, Some(1), Outline::Triangle(Some(true))),
             Sign::Decision => figure(Look::Full, Some(1), Outline::Diamond(true)),
@@ -80,6 +83,7 @@ impl Sign {
             Sign::Chain => b"message by which a process joined",
             Sign::Transit => b"message in transit",
             Sign::Dropped => b"message dropped",
+            Sign::Instance => b"in an instance, begun at C or R",
             Sign::Checkpoint => b"checkpoint: full if committed",
             Sign::Rollback => b"rollback: full if committed",
             Sign::Decision => b"decision: full for commit",
@@ -116,6 +120,15 @@ fn is_dropped(event: Event) -> bool
 {
     match event {
         Event::Dropped { .. } => true,
+        _ => false,
+    }
+}
+
+fn is_began(event: Event) -> bool
+    ensures { result ≡ is_began event }
+{
+    match event {
+        Event::Began { .. } => true,
         _ => false,
     }
 }
@@ -187,6 +200,7 @@ fn row_shows(page: &Page<'_>, sign: Sign, s: &Shown) -> bool
         Sign::Chain => is_linked(page, s.event),
         Sign::Transit => s.is_in_transit,
         Sign::Dropped => is_dropped(s.event),
+        Sign::Instance => either(is_began(s.event), s.open_in.is_some()),
         Sign::Checkpoint => is_took(s.event),
         Sign::Rollback => is_ready(s.event),
         Sign::Decision => is_decided(s.event),
