@@ -18,6 +18,8 @@ ghost use Rattle.kt_picture.specs.Fates.{is_send_undone, has_no_receive};
 ghost use Rattle.kt_picture.specs.Places.{columns_before, IsLastPermanent, IsPermanentColumn, commits};
 ghost use Rattle.kt_picture.specs.Looks.{class_text, square, triangle};
 ghost use Rattle.kt_picture.specs.declared.looks.Look.TheVariants as look;
+ghost use Rattle.kt_picture.specs.declared.legend.Sign.{Sign};
+ghost use Rattle.kt_picture.specs.Legend.{sign_if};
 ghost use Rattle.kt_picture.specs.Marks.{arrow_of, colour_for, column_of, fill_look, is_grey, look_of, stands_out};
 ghost use Rattle.kt_picture.specs.Picture.{new_cut};
 ghost use Rattle.kt_picture.specs.Shapes.{word_y};
@@ -146,4 +148,10 @@ pub fn words_stand_apart()
     ensures apart { (lane c d : ℕ) (below : Bool) → c < d → d < c + 4 → word_y lane below c ≢ word_y lane below d }
     // Below a lane they stand in the same lines as above the next one.
     ensures shared { (lane c : ℕ) → word_y lane true c ≡ word_y (lane + 1) false c }
+{}
+
+/// The legend has a sign exactly where the picture has its mark.
+pub fn legend_tells_marks()
+    ensures { (has : Sign → Bool) (top place : ℕ) (sign : Sign) →
+        (sign_if has top place sign ≢ []) ↔ (has sign ≡ true) }
 {}

@@ -34,5 +34,6 @@ pub use escaping::escaped_has_no_mark;
 pub use evidence::Evidence;
 pub use laws::{
     arrows_look_as_they_end, arrows_tell_messages, cuts_are_permanent, each_row_is_shown,
-    joinings_tell_decisions, undone_is_not_live, unreceived_is_not_live, words_stand_apart,
+    joinings_tell_decisions, legend_tells_marks, undone_is_not_live, unreceived_is_not_live,
+    words_stand_apart,
 };
