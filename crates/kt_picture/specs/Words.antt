@@ -1,5 +1,5 @@
 -- The words beside marks.
-use Rattle.std.specs.Prelude.{ℕ, ℤ, ◌-◌, ◌%◌, ◌==◌, nat_lt, nat_le, slice_get, if◌then◌else◌, Bool, true, false, Option, Some, None, List, [], ◌∷◌, ◌++◌, codes}
+use Rattle.std.specs.Prelude.{ℕ, ℤ, ◌-◌, ◌%◌, ◌==◌, nat_lt, nat_le, unsigned_abs, slice_get, if◌then◌else◌, Bool, true, false, Option, Some, None, List, [], ◌∷◌, ◌++◌, codes}
 use Rattle.std.specs.List.{concat}
 use Rattle.std.specs.Fmt.{decimal, signed_decimal}
 use Rattle.kt_base.specs.declared.words.Kind.{Kind}
@@ -70,11 +70,23 @@ word_at view s (Unwilling p inst cause) = Some (word look.Cause true (say.Why ca
 word_at view s (Refused p verb cause) = Some (word look.Cause true (say.Why cause))
 word_at view s _ = None
 
+-- a word with a long body is set narrower, so that it is no wider than four columns
+abbrev pub length_fit : ℕ → List ℕ
+length_fit size = if nat_lt 9999999 size then codes "' textLength='96' lengthAdjust='spacingAndGlyphs" else []
+
+abbrev pub body_fit : Option ℤ → List ℕ
+body_fit None = []
+body_fit (Some body) = length_fit (unsigned_abs body)
+
+abbrev pub saying_fit : Saying → List ℕ
+saying_fit (say.Message msg body) = body_fit body
+saying_fit _ = []
+
 -- how a word of a lane at a column begins
 abbrev pub word_place : ℕ → ℕ → Word → List ℕ
 word_place lane column w = concat (
     codes "<text class='" ∷ class_text w.look ∷ codes "' x='" ∷ decimal (x_of column) ∷ codes "' y='" ∷ decimal (word_y lane w.below column)
-    ∷ codes "' dx='4'>" ∷ [])
+    ∷ codes "' dx='4" ∷ saying_fit w.saying ∷ codes "'>" ∷ [])
 
 -- the same with what it says
 abbrev pub word_text : ℕ → ℕ → Option Word → List ℕ

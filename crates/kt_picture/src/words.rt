@@ -2,7 +2,7 @@
 
 ghost use Rattle.std.specs.Prelude.{◌≡◌, ◌++◌, Some, None, OnOk, slice_get, if◌then◌else◌};
 ghost use Rattle.kt_picture.specs.Pages.{view_in};
-ghost use Rattle.kt_picture.specs.Words.{kind_letter, message_words, saying_text, body_sent, body_shown, body_of, label, word, word_at, word_place, word_text, row_number, number_at, words_of};
+ghost use Rattle.kt_picture.specs.Words.{kind_letter, message_words, saying_text, length_fit, body_fit, body_sent, body_shown, saying_fit, body_of, label, word, word_at, word_place, word_text, row_number, number_at, words_of};
 
 use crate::figures::{Saying, Word};
 use crate::looks::Look;
@@ -81,10 +81,44 @@ fn push_word_place(text: &mut Vec<u8>, lane: u8, column: u32, word: &Word) -> Re
             Part::X(column),
             Part::Text(b"' y='"),
             Part::Number(word_y(lane, word.below, column)),
-            Part::Text(b"' dx='4'>"),
+            Part::Text(b"' dx='4"),
+            Part::Text(saying_fit(&word.saying)),
+            Part::Text(b"'>"),
         ],
     )
 }
+
+// How a word is set: where its body is long, no wider than four columns.
+fn saying_fit(saying: &Saying) -> &'static [u8]
+    ensures { result.now ≡ saying_fit saying.now }
+{
+    match *saying {
+        Saying::Message(_, body) => body_fit(body),
+        _ => b"",
+    }
+}
+
+fn body_fit(body: Option<i64>) -> &'static [u8]
+    ensures { result.now ≡ body_fit body }
+{
+    match body {
+        Some(body) => length_fit(body.unsigned_abs()),
+        None => b"",
+    }
+}
+
+fn length_fit(size: u64) -> &'static [u8]
+    ensures { result.now ≡ length_fit size }
+{
+    if LONGEST_BODY < size {
+        b"' textLength='96' lengthAdjust='spacingAndGlyphs"
+    } else {
+        b""
+    }
+}
+
+// A body beyond this one has more than eight letters.
+const LONGEST_BODY: u64 = 9_999_999;
 
 // Gathers what a word says.
 fn push_saying(text: &mut Vec<u8>, saying: &Saying) -> Result<(), Memory>
