@@ -1,5 +1,5 @@
 -- Which rows of a stored log are drawn, and what the picture is.
-use Rattle.std.specs.Prelude.{◌≡◌, ◌≤◌, ◌<◌, ◌+◌, ◌-◌, ℕ, if◌then◌else◌, nat_lt, List, [], take, length, slice_get, Option, Some, None, IfSome, codes}
+use Rattle.std.specs.Prelude.{◌≡◌, ◌≤◌, ◌<◌, ◌+◌, ◌-◌, ℕ, if◌then◌else◌, nat_lt, List, [], ◌++◌, take, length, slice_get, Option, Some, None, IfSome, codes}
 use Rattle.kt_spacetime.specs.declared.event.Event.{Event}
 use Rattle.kt_cuts.specs.Legal.{IsLegal, first_broken}
 use Rattle.kt_log_text.specs.declared.fault.LogFault.TheVariants as log
@@ -117,6 +117,10 @@ orphan_told _ = None
 abbrev pub IsOrphanDrawn : List Event → List Certificate → Verdict → Option ℕ → Type 0
 IsOrphanDrawn log certificates verdict orphan = (told : Explanation) × IsExplanation log certificates verdict told × (orphan ≡ orphan_told told)
 
+-- the line below a picture with certificates: what the checker answers
+abbrev pub answer_sentence : Verdict → List ℕ
+answer_sentence verdict = codes "The checker answers: " ++ verdict_words verdict ++ codes "."
+
 -- the same with certificates: their chains are drawn, the least orphan stands out where the checker's answer is that there
 -- is one, and below stands that answer
 pub record IsCertifiedPicture (names : List (List ℕ)) (span : Span) (log : List Event) (certificates : List Certificate) (text : List ℕ) : Type 0 where
@@ -124,7 +128,7 @@ pub record IsCertifiedPicture (names : List (List ℕ)) (span : Span) (log : Lis
   pub answer : IsCheckerAnswer log certificates verdict
   pub orphan : Option ℕ
   pub told : IsOrphanDrawn log certificates verdict orphan
-  pub drawn : IsDrawn names span log certificates orphan (Some (verdict_words verdict)) text
+  pub drawn : IsDrawn names span log certificates orphan (Some (answer_sentence verdict)) text
 
 -- why a log has no such picture
 pub record IsNoPicture (span : Span) (log : List Event) (why : PictureFault) : Type 0 where

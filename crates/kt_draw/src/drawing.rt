@@ -5,10 +5,9 @@ ghost use Rattle.kt_cuts.specs.declared.legality.LegalFault.TheVariants as legal
 ghost use Rattle.kt_cuts.specs.declared.rules.Rule.{Rule as Rules};
 ghost use Rattle.kt_cuts.specs.Legal.{IsLegal, first_broken};
 ghost use Rattle.kt_checker.specs.Order.{IsCheckerAnswer};
-ghost use Rattle.kt_checker.specs.Words.{verdict_words};
 ghost use Rattle.kt_log_text.specs.declared.fault.LogFault.TheVariants as log_fault;
 ghost use Rattle.kt_draw.specs.declared.fault.DrawFault.TheVariants as draw;
-ghost use Rattle.kt_draw.specs.Drawn.{IsCertifiedPicture, IsDrawn, IsOrphanDrawn, IsReadTo, IsUndrawnLog, drawn_text, orphan_told, rows_seen};
+ghost use Rattle.kt_draw.specs.Drawn.{answer_sentence, IsCertifiedPicture, IsDrawn, IsOrphanDrawn, IsReadTo, IsUndrawnLog, drawn_text, orphan_told, rows_seen};
 
 use crate::fault::DrawFault;
 use crate::reach::Reach;
@@ -26,7 +25,7 @@ use kt_spacetime::SpaceTime;
 use std::alloc::Global;
 
 /// The picture of rows of a log as `draw_stream` has it, with what certificates tell of it: the messages of their chains in
-/// the colours of the instances, and why each member took part. The line below is the checker's answer; where that is an
+/// the colours of the instances, and why each member took part. The line below says the checker's answer; where that is an
 /// orphan, the least one stands out.
 ///
 /// Fails where there are no such rows, or more than 4,096 of them, or where memory is wanting.
@@ -66,11 +65,11 @@ fn orphan_in(
     }
 }
 
-// The line of an answer.
+// The line of an answer, as a sentence.
 fn line_of(alloc: Global, verdict: &Verdict) -> Result<String, Memory>
-    ensures { IfOk result (λ line. line.bytes.items ≡ verdict_words verdict.now) }
+    ensures { IfOk result (λ line. line.bytes.items ≡ answer_sentence verdict.now) }
 {
-    let line = format!(in alloc; "{verdict}")?;
+    let line = format!(in alloc; "The checker answers: {verdict}.")?;
     Ok(line)
 }
 

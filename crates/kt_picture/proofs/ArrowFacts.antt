@@ -21,7 +21,8 @@ use Rattle.kt_cuts.proofs.Traced.{next_unbroken}
 use Rattle.kt_picture.specs.declared.shown.Shown.{Shown}
 use Rattle.kt_picture.specs.Arrows.{StaysReceived, has_arrow}
 use Rattle.kt_picture.specs.Fates.{is_send_undone, has_no_receive, receives, is_receive_undone, is_sent_in_transit}
-use Rattle.kt_picture.specs.Svg.{arrow_at, short_arrow}
+use Rattle.kt_picture.specs.Marks.{arrow_at, short_arrow}
+use Rattle.kt_picture.specs.View.{View}
 use Rattle.kt_picture.proofs.LawFacts.{no_place, trace_is}
 
 from_not : (b : Bool) → not b ≡ false → b ≡ true
@@ -154,20 +155,20 @@ received_for_good rows j p q msg l at stays = λ i. no_receive i || none_later i
     ]
 
 -- an arrow is drawn where the row has one
-pub drawn_at : (class : ℕ → List ℕ) (lanes : List ℕ) (rows : List Event) (before : ℕ) (s : Shown) (row : Event) → s.is_in_transit ≡ is_sent_in_transit rows s.row row
-    → (arrow_at class lanes before s row ≢ []) ↔ (has_arrow rows s.row row ≡ true)
-drawn_at class lanes rows before s (Received p q msg) e = (λ n. refl, λ h none. absurd (cc))
-drawn_at class lanes rows before s (Dropped p q msg) e = (λ n. refl, λ h none. absurd (cc))
-drawn_at class lanes rows before s (Sent p q body) e = at_test s.is_in_transit (sym e)
+pub drawn_at : (view : View) (rows : List Event) (s : Shown) (row : Event) → s.is_in_transit ≡ is_sent_in_transit rows s.row row
+    → (arrow_at view s row ≢ []) ↔ (has_arrow rows s.row row ≡ true)
+drawn_at view rows s (Received p q msg) e = (λ n. refl, λ h none. absurd (cc))
+drawn_at view rows s (Dropped p q msg) e = (λ n. refl, λ h none. absurd (cc))
+drawn_at view rows s (Sent p q body) e = at_test s.is_in_transit (sym e)
   where
-    at_test : (b : Bool) → is_sent_in_transit rows s.row (Sent p q body) ≡ b → ((if b then short_arrow lanes s p q else []) ≢ []) ↔ (is_sent_in_transit rows s.row (Sent p q body) ≡ true)
+    at_test : (b : Bool) → is_sent_in_transit rows s.row (Sent p q body) ≡ b → ((if b then short_arrow view.lanes s p q else []) ≢ []) ↔ (is_sent_in_transit rows s.row (Sent p q body) ≡ true)
     at_test true same = (λ n. same, λ h none. absurd (cc))
     at_test false same = (λ n. absurd (n refl), λ h. absurd (cc))
-drawn_at class lanes rows before s (Began p k kind) e = (λ n. absurd (n refl), λ h. absurd (cc))
-drawn_at class lanes rows before s (Took p k) e = (λ n. absurd (n refl), λ h. absurd (cc))
-drawn_at class lanes rows before s (Ready p k) e = (λ n. absurd (n refl), λ h. absurd (cc))
-drawn_at class lanes rows before s (Unwilling p k cause) e = (λ n. absurd (n refl), λ h. absurd (cc))
-drawn_at class lanes rows before s (Decided p k commit) e = (λ n. absurd (n refl), λ h. absurd (cc))
-drawn_at class lanes rows before s (Closed p k) e = (λ n. absurd (n refl), λ h. absurd (cc))
-drawn_at class lanes rows before s (Failed p) e = (λ n. absurd (n refl), λ h. absurd (cc))
-drawn_at class lanes rows before s (Refused p verb cause) e = (λ n. absurd (n refl), λ h. absurd (cc))
+drawn_at view rows s (Began p k kind) e = (λ n. absurd (n refl), λ h. absurd (cc))
+drawn_at view rows s (Took p k) e = (λ n. absurd (n refl), λ h. absurd (cc))
+drawn_at view rows s (Ready p k) e = (λ n. absurd (n refl), λ h. absurd (cc))
+drawn_at view rows s (Unwilling p k cause) e = (λ n. absurd (n refl), λ h. absurd (cc))
+drawn_at view rows s (Decided p k commit) e = (λ n. absurd (n refl), λ h. absurd (cc))
+drawn_at view rows s (Closed p k) e = (λ n. absurd (n refl), λ h. absurd (cc))
+drawn_at view rows s (Failed p) e = (λ n. absurd (n refl), λ h. absurd (cc))
+drawn_at view rows s (Refused p verb cause) e = (λ n. absurd (n refl), λ h. absurd (cc))

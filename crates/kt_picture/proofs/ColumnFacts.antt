@@ -1,6 +1,6 @@
 -- The columns of cuts are those of permanent positions.
 use Rattle.std.proofs.Common.{◌≡◌, ◌≢◌, ◌∙◌, ◌<◌, ◌≤◌, ◌+◌, ◌-◌, inl, inr, ℕ, zero, suc, Bool, true, false, Some, List, [], ◌∷◌, ◌++◌, length, refl, sym, ap, subst, take, drop, map, fold, replicate, get_or, arith}
-use Rattle.std.specs.Prelude.{slice_get, slice_index, slice_set, is_some, if◌then◌else◌, ◌==◌}
+use Rattle.std.specs.Prelude.{not, bytes_eq, slice_get, slice_index, slice_set, is_some, if◌then◌else◌, ◌==◌}
 use Rattle.std.specs.List.{filter_map}
 use Rattle.std.proofs.lemmas.Bool.{cases_eq, cases_lt}
 use Rattle.std.proofs.lemmas.Bool.Decides.{nat_tests}
@@ -15,7 +15,7 @@ use Rattle.kt_cuts.proofs.Items.{item_there}
 use Rattle.kt_cuts.proofs.Lists.{get_drop}
 use Rattle.kt_cuts.proofs.SortedFacts.{some_same}
 use Rattle.kt_picture.specs.declared.shown.CutMark.{CutMark}
-use Rattle.kt_picture.specs.Places.{IsLastPermanent, IsPermanentColumn, commits}
+use Rattle.kt_picture.specs.Places.{columns_before, IsLastPermanent, IsPermanentColumn, commits}
 use Rattle.kt_picture.specs.KnownAtRow.{KnownAtRow, seen_before, seen_after, taken_after, places_after, place_after, cut_in, cut_rows}
 use Rattle.kt_picture.specs.Window.{seen_at}
 use Rattle.kt_picture.proofs.CutFacts.{Standing, never, last, StandsAt, stands_next, stands_start, taken_next, place_next}
@@ -222,15 +222,15 @@ cut_nth s (row ∷ rest) j c e = at_row row refl (λ k f. cut_nth (seen_after s 
         → (i : ℕ) × (p : ℕ) × (slice_get (row ∷ rest) i ≡ Some (Decided p c.inst true)) × (c.columns ≡ (fold seen_after s (take (suc i) (row ∷ rest))).places)
     later more k f = let h = more k f in (suc h.0, h.1, h.2, h.3)
 
-    at_commit : (p k : ℕ) → row ≡ Decided p k true → ((k : ℕ) → slice_get (cut_rows (seen_after s row) rest) k ≡ Some c → (i : ℕ) × (p : ℕ) × (slice_get rest i ≡ Some (Decided p c.inst true)) × (c.columns ≡ (fold seen_after (seen_after s row) (take (suc i) rest)).places)) → (j : ℕ) → slice_get (record { inst = k; columns = (seen_after s row).places } ∷ cut_rows (seen_after s row) rest) j ≡ Some c
+    at_commit : (p k : ℕ) → row ≡ Decided p k true → ((k : ℕ) → slice_get (cut_rows (seen_after s row) rest) k ≡ Some c → (i : ℕ) × (p : ℕ) × (slice_get rest i ≡ Some (Decided p c.inst true)) × (c.columns ≡ (fold seen_after (seen_after s row) (take (suc i) rest)).places)) → (j : ℕ) → slice_get (record { inst = k; columns = (seen_after s row).places; is_new = not (bytes_eq s.places (seen_after s row).places) } ∷ cut_rows (seen_after s row) rest) j ≡ Some c
         → (i : ℕ) × (p : ℕ) × (slice_get (row ∷ rest) i ≡ Some (Decided p c.inst true)) × (c.columns ≡ (fold seen_after s (take (suc i) (row ∷ rest))).places)
     at_commit p k is more zero f =
-        let mark : CutMark = record { inst = k; columns = (seen_after s row).places } in
+        let mark : CutMark = record { inst = k; columns = (seen_after s row).places; is_new = not (bytes_eq s.places (seen_after s row).places) } in
         let same : mark ≡ c = some_same f in
         (0, p, ap (λ (x : Event). Some x) is ∙ ap (λ (x : CutMark). Some (Decided p x.inst true)) same, ap (λ (x : CutMark). x.columns) (sym same))
     at_commit p k is more (suc j) f = later more j f
 
-    at_row : (x : Event) → row ≡ x → ((k : ℕ) → slice_get (cut_rows (seen_after s row) rest) k ≡ Some c → (i : ℕ) × (p : ℕ) × (slice_get rest i ≡ Some (Decided p c.inst true)) × (c.columns ≡ (fold seen_after (seen_after s row) (take (suc i) rest)).places)) → slice_get (cut_in (seen_after s row).places x ++ cut_rows (seen_after s row) rest) j ≡ Some c
+    at_row : (x : Event) → row ≡ x → ((k : ℕ) → slice_get (cut_rows (seen_after s row) rest) k ≡ Some c → (i : ℕ) × (p : ℕ) × (slice_get rest i ≡ Some (Decided p c.inst true)) × (c.columns ≡ (fold seen_after (seen_after s row) (take (suc i) rest)).places)) → slice_get (cut_in s.places (seen_after s row).places x ++ cut_rows (seen_after s row) rest) j ≡ Some c
         → (i : ℕ) × (p : ℕ) × (slice_get (row ∷ rest) i ≡ Some (Decided p c.inst true)) × (c.columns ≡ (fold seen_after s (take (suc i) (row ∷ rest))).places)
     at_row (Decided p k true) is more f = at_commit p k is more j f
     at_row (Decided p k false) is more f = later more j f
@@ -260,3 +260,24 @@ cut_instances s (Unwilling p k cause ∷ rest) = cut_instances (seen_after s (Un
 cut_instances s (Closed p k ∷ rest) = cut_instances (seen_after s (Closed p k)) rest
 cut_instances s (Failed p ∷ rest) = cut_instances (seen_after s (Failed p)) rest
 cut_instances s (Refused p verb cause ∷ rest) = cut_instances (seen_after s (Refused p verb cause)) rest
+
+-- a cut is new where it differs from the one before
+pub cut_new : (s : KnownAtRow) (window : List Event) (j : ℕ) (c : CutMark) → slice_get (cut_rows s window) j ≡ Some c → c.is_new ≡ not (bytes_eq (columns_before s.places (cut_rows s window) j) c.columns)
+cut_new s [] j c e = absurd (cc)
+cut_new s (Decided p k true ∷ rest) zero c e =
+    let places = (seen_after s (Decided p k true)).places in
+    let mark : CutMark = record { inst = k; columns = places; is_new = not (bytes_eq s.places places) } in
+    let same : mark ≡ c = some_same e in
+    ap (λ (x : CutMark). x.is_new) (sym same) ∙ ap (λ (x : CutMark). not (bytes_eq s.places x.columns)) same
+cut_new s (Decided p k true ∷ rest) (suc j) c e = cut_new (seen_after s (Decided p k true)) rest j c e
+cut_new s (Decided p k false ∷ rest) j c e = cut_new (seen_after s (Decided p k false)) rest j c e
+cut_new s (Sent p to body ∷ rest) j c e = cut_new (seen_after s (Sent p to body)) rest j c e
+cut_new s (Received p from msg ∷ rest) j c e = cut_new (seen_after s (Received p from msg)) rest j c e
+cut_new s (Dropped p from msg ∷ rest) j c e = cut_new (seen_after s (Dropped p from msg)) rest j c e
+cut_new s (Began p k kind ∷ rest) j c e = cut_new (seen_after s (Began p k kind)) rest j c e
+cut_new s (Took p k ∷ rest) j c e = cut_new (seen_after s (Took p k)) rest j c e
+cut_new s (Ready p k ∷ rest) j c e = cut_new (seen_after s (Ready p k)) rest j c e
+cut_new s (Unwilling p k cause ∷ rest) j c e = cut_new (seen_after s (Unwilling p k cause)) rest j c e
+cut_new s (Closed p k ∷ rest) j c e = cut_new (seen_after s (Closed p k)) rest j c e
+cut_new s (Failed p ∷ rest) j c e = cut_new (seen_after s (Failed p)) rest j c e
+cut_new s (Refused p verb cause ∷ rest) j c e = cut_new (seen_after s (Refused p verb cause)) rest j c e

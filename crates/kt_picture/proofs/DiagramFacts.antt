@@ -4,7 +4,7 @@ use Rattle.std.specs.Prelude.{◌||◌, ◌⊎◌}
 use Rattle.std.specs.List.{range_with_len, slice_get}
 use Rattle.std.proofs.Math.Seq.{drop-append_seam, take-append_seam}
 use Rattle.std.proofs.lemmas.Bool.{cases_eq}
-use Rattle.std.proofs.lemmas.List.{length-drop, map-append, take_all}
+use Rattle.std.proofs.lemmas.List.{append-nil, length-drop, map-append, take_all}
 use Rattle.std.proofs.lemmas.List.Sums.{fold-append}
 use Rattle.kt_base.specs.Sets.{has}
 use Rattle.kt_spacetime.specs.declared.event.Event.{Event}
@@ -48,6 +48,14 @@ pub named_push : (old new : ℕ) (rows : List Event) (row : Event) → ((q : ℕ
     → (q : ℕ) → q < 64 → has new q ≡ is_named (rows ++ row ∷ []) q
 named_push old new rows row h more q l = more q ∙ ap (λ (b : Bool). b || names_process q row) (h q l) ∙ sym (named_or rows row q)
 
+-- who is named with the row that breaks a rule
+pub named_none : (named : ℕ) (rows : List Event) → ((q : ℕ) → q < 64 → has named q ≡ is_named rows q) → (q : ℕ) → q < 64 → has named q ≡ is_named (rows ++ []) q
+named_none named rows h q l = h q l ∙ ap (λ (x : List Event). is_named x q) (sym (append-nil rows))
+
+-- lanes of those who are named
+pub lanes_named : (named : ℕ) (rows : List Event) → ((q : ℕ) → q < 64 → has named q ≡ is_named rows q) → filter (has named) (range_with_len 0 64) ≡ lanes_in rows
+lanes_named named rows h = same_lanes (has named) (is_named rows) 64 h
+
 unpicked : (b : Bool) (o : Option ℕ) → o ≡ None → cond b o None ≡ None
 unpicked true o e = e
 unpicked false o e = refl
@@ -73,24 +81,23 @@ same_reason names rows log certificates row (inr none) =
     ap (λ (l : List Certificate). reason_of names rows l row) none ∙ unreasoned names rows row ∙ sym (unreasoned names log row) ∙ ap (λ (l : List Certificate). reason_of names log l row) (sym none)
 
 -- the window of a diagram, as a sheet has it
-pub sheet_of : (d : Diagram) (w : WalkParts) (front window : List Event) (s : Sheet) → DiagramOf d w front window → s.lanes ≡ filter (has d.named) (range_with_len 0 64)
+pub sheet_of : (d : Diagram) (w : WalkParts) (front window : List Event) (s : Sheet) → DiagramOf d w front window → s.named ≡ d.named
     → s.columns ≡ d.known.column → s.before + s.columns ≡ w.rows
-    → s.window.shown.items ≡ told_rows (front ++ window) d.entries.items → s.window.cuts.items ≡ d.cuts.items → s.window.ends.items ≡ map (end_of (seen_in front window)) s.lanes
+    → s.window.shown.items ≡ told_rows (front ++ window) d.entries.items → s.window.cuts.items ≡ d.cuts.items → s.window.ends.items ≡ map (end_of (seen_in front window)) (range_with_len 0 64)
     → SheetOf s (front ++ window) (length front)
-sheet_of d w front window s h lanes columns rows shown cuts ends =
+sheet_of d w front window s h named columns rows shown cuts ends =
     let log = front ++ window in
     let before = length front in
     let head : take before log ≡ front = take-append_seam front window in
     let tail : drop before log ≡ window = drop-append_seam front window in
     let column : d.known.column ≡ length window = omega (arith, h.known.column, seen_column (seen_before front) window) in
-    let named : s.lanes ≡ lanes_in log = lanes ∙ same_lanes (has d.named) (is_named log) 64 h.named in
     record {
-      lanes = named;
+      named = λ q l. ap (λ (n : ℕ). has n q) named ∙ h.named q l;
       before_is = omega (arith, rows, columns, column, h.known.walk.control.number, length-append front window);
       columns = columns ∙ column ∙ ap length (sym tail);
       shown = shown ∙ told_all log (seen_before front) window d.entries.items h.plain ∙ (λ j. shown_rows log (seen_before (sym head j)) (sym tail j));
       cuts = cuts ∙ h.cuts ∙ (λ j. cut_rows (seen_before (sym head j)) (sym tail j));
-      ends = ends ∙ (λ j. map (end_of (fold seen_after (seen_before (sym head j)) (sym tail j))) (named j));
+      ends = ends ∙ (λ j. map (end_of (fold seen_after (seen_before (sym head j)) (sym tail j))) (range_with_len 0 64));
     }
 
 -- the columns of a diagram: one for each row of the window so far
@@ -106,7 +113,7 @@ pub diagram_added : (d e : Diagram) (w v : WalkParts) (front window : List Event
     → KnownOf e.known v (seen_after (seen_in front window) row) ((front ++ window) ++ row ∷ []) → ((q : ℕ) → has e.named q ≡ (has d.named q || names_process q row))
     → x.plain ≡ plain_at (seen_in front window) row → (entries : List Entry) → map plain_of entries ≡ map plain_of d.entries.items → e.entries.items ≡ entries ++ x ∷ []
     → AreFollowed ((front ++ window) ++ row ∷ []) entries → IsFollowed ((front ++ window) ++ row ∷ []) x
-    → e.cuts.items ≡ d.cuts.items ++ cut_in e.known.places row → DiagramOf e v front (window ++ row ∷ [])
+    → e.cuts.items ≡ d.cuts.items ++ cut_in d.known.places e.known.places row → DiagramOf e v front (window ++ row ∷ [])
 diagram_added d e w v front window row x h known named plain entries plains pushed followed last cuts =
     let log : (front ++ window) ++ row ∷ [] ≡ front ++ (window ++ row ∷ []) = append_assoc front window (row ∷ []) in
     let seen = sym (seen_push front window row) in
@@ -115,7 +122,7 @@ diagram_added d e w v front window row x h known named plain entries plains push
       named = subst (λ (l : List Event). (q : ℕ) → q < 64 → has e.named q ≡ is_named l q) log (named_push d.named e.named (front ++ window) row h.named named);
       plain = ap (map plain_of) pushed ∙ map-append plain_of entries (x ∷ []) ∙ (λ j. (plains ∙ h.plain) j ++ plain j ∷ []) ∙ sym (plain_push (seen_before front) window row);
       followed = subst (λ (l : List Event). AreFollowed l e.entries.items) log (λ k y at. each k y (get_push entries x k y (subst (λ (l : List Entry). slice_get l k ≡ Some y) pushed at)));
-      cuts = cuts ∙ (λ j. h.cuts j ++ cut_in (known.places j) row) ∙ sym (cuts_push (seen_before front) window row);
+      cuts = cuts ∙ (λ j. h.cuts j ++ cut_in (h.known.places j) (known.places j) row) ∙ sym (cuts_push (seen_before front) window row);
     }
   where
     each : (k : ℕ) (y : Entry) → (slice_get entries k ≡ Some y) ⊎ ((k ≡ length entries) × (x ≡ y)) → IsFollowed ((front ++ window) ++ row ∷ []) y

@@ -1,6 +1,6 @@
 -- Lanes, found one by one.
 use Rattle.std.proofs.Common.{◌≡◌, ◌≢◌, ◌∙◌, ◌<◌, ◌≤◌, ◌+◌, ℕ, zero, suc, Bool, true, false, List, [], ◌∷◌, ◌++◌, length, refl, sym, ap, subst, cond, filter, arith, map, add-one}
-use Rattle.std.proofs.lemmas.List.{map-id, append-nil, length_push}
+use Rattle.std.proofs.lemmas.List.{map-id, map-append, append-nil, length_push}
 use Rattle.std.proofs.lemmas.List.FromFn.{filter_of_map_range_with_len_more}
 use Rattle.std.specs.List.{range_with_len}
 use Rattle.std.specs.Prelude.{◌==◌, ◌||◌}
@@ -12,11 +12,22 @@ pub few_more : (t : Bool) (lanes : List ℕ) (p n : ℕ) → length lanes ≤ n 
 few_more true lanes p n l = omega (arith, length_push lanes p, l)
 few_more false lanes p n l = omega (arith, ap length (append-nil lanes), l)
 
+all_pass : (xs : List ℕ) → filter (λ p. true) xs ≡ xs
+all_pass [] = refl
+all_pass (x ∷ xs) = ap (λ (l : List ℕ). x ∷ l) (all_pass xs)
+
 -- one more process is tested
 pub lanes_more : (p : ℕ → Bool) (n : ℕ) → filter p (range_with_len 0 (n + 1)) ≡ filter p (range_with_len 0 n) ++ cond (p n) (n ∷ []) []
 lanes_more p n =
     let same : (m : ℕ) → map (λ (x : ℕ). x) (range_with_len 0 m) ≡ range_with_len 0 m = λ m. map-id (range_with_len 0 m) in
     ap (filter p) (sym (same (n + 1))) ∙ filter_of_map_range_with_len_more p (λ (x : ℕ). x) 0 n n (omega arith) ∙ ap (λ (x : List ℕ). filter p x ++ cond (p n) (n ∷ []) []) (same n)
+
+range_more : (n : ℕ) → range_with_len 0 (n + 1) ≡ range_with_len 0 n ++ n ∷ []
+range_more n = sym (all_pass (range_with_len 0 (n + 1))) ∙ lanes_more (λ p. true) n ∙ ap (λ (l : List ℕ). l ++ n ∷ []) (all_pass (range_with_len 0 n))
+
+-- one process more, of which something is made
+pub ends_more : {B : Type 0} (f : ℕ → B) (n : ℕ) → map f (range_with_len 0 (n + 1)) ≡ map f (range_with_len 0 n) ++ f n ∷ []
+ends_more f n = ap (map f) (range_more n) ∙ map-append f (range_with_len 0 n) (n ∷ [])
 
 -- two tests that agree find the same lanes
 pub same_lanes : (p q : ℕ → Bool) (n : ℕ) → ((k : ℕ) → k < n → p k ≡ q k) → filter p (range_with_len 0 n) ≡ filter q (range_with_len 0 n)

@@ -12,3 +12,4 @@ pub mod DecisionFacts
 pub mod CutFacts
 pub mod ColumnFacts
 pub mod ArrowFacts
+pub mod LegendFacts

@@ -91,11 +91,11 @@ pub plain_push : (s : KnownAtRow) (window : List Event) (row : Event) → plain_
 plain_push s [] row = refl
 plain_push s (x ∷ window) row = ap (λ (l : List Shown). plain_at s x ∷ l) (plain_push (seen_after s x) window row)
 
-pub cuts_push : (s : KnownAtRow) (window : List Event) (row : Event) → cut_rows s (window ++ row ∷ []) ≡ cut_rows s window ++ cut_in (seen_after (fold seen_after s window) row).places row
-cuts_push s [] row = append-nil (cut_in (seen_after s row).places row)
+pub cuts_push : (s : KnownAtRow) (window : List Event) (row : Event) → cut_rows s (window ++ row ∷ []) ≡ cut_rows s window ++ cut_in (fold seen_after s window).places (seen_after (fold seen_after s window) row).places row
+cuts_push s [] row = append-nil (cut_in s.places (seen_after s row).places row)
 cuts_push s (x ∷ window) row =
-    ap (λ (l : List CutMark). cut_in (seen_after s x).places x ++ l) (cuts_push (seen_after s x) window row)
-    ∙ sym (append_assoc (cut_in (seen_after s x).places x) (cut_rows (seen_after s x) window) (cut_in (seen_after (fold seen_after (seen_after s x) window) row).places row))
+    ap (λ (l : List CutMark). cut_in s.places (seen_after s x).places x ++ l) (cuts_push (seen_after s x) window row)
+    ∙ sym (append_assoc (cut_in s.places (seen_after s x).places x) (cut_rows (seen_after s x) window) (cut_in (fold seen_after (seen_after s x) window).places (seen_after (fold seen_after (seen_after s x) window) row).places row))
 
 -- the rows of entries
 events_are : (s : KnownAtRow) (window : List Event) (entries : List Entry) → map plain_of entries ≡ plain_rows s window → map event_of entries ≡ window

@@ -8,7 +8,7 @@ use Rattle.kt_picture.specs.declared.diagram.Diagram.{Diagram}
 use Rattle.kt_picture.specs.declared.diagram.Sheet.{Sheet}
 use Rattle.kt_picture.specs.Followed.{AreFollowed, plain_of, plain_rows}
 use Rattle.kt_picture.specs.KnownOf.{KnownOf}
-use Rattle.kt_picture.specs.Lanes.{is_named, lanes_in}
+use Rattle.kt_picture.specs.Lanes.{is_named}
 use Rattle.kt_picture.specs.KnownAtRow.{KnownAtRow, seen_before, seen_after, cut_rows}
 use Rattle.kt_picture.specs.Window.{shown_of, cuts_of, ends_of}
 
@@ -26,7 +26,7 @@ pub record DiagramOf (d : Diagram) (w : WalkParts) (front window : List Event) :
 
 -- a sheet stands for a log after its first so many rows
 pub record SheetOf (s : Sheet) (log : List Event) (before : ℕ) : Type 0 where
-  pub lanes : s.lanes ≡ lanes_in log
+  pub named : (q : ℕ) → q < 64 → has s.named q ≡ is_named log q
   pub before_is : s.before ≡ before
   pub columns : s.columns ≡ length (drop before log)
   pub shown : s.window.shown.items ≡ shown_of log before

@@ -1,6 +1,6 @@
 -- What certificates add to a picture: whose chain has a message, and why a member took part.
-use Rattle.std.specs.Prelude.{◌==◌, ℕ, zero, suc, nat_lt, if◌then◌else◌, Bool, Option, Some, None, List, [], ◌++◌, codes, length, find}
-use Rattle.std.specs.List.{list_any, flat_map}
+use Rattle.std.specs.Prelude.{◌==◌, ℕ, zero, suc, nat_lt, if◌then◌else◌, Bool, Option, Some, None, List, [], ◌∷◌, ◌++◌, codes, length, find}
+use Rattle.std.specs.List.{list_any, flat_map, concat}
 use Rattle.std.specs.Fmt.{decimal}
 use Rattle.std.specs.Option.{option_map}
 use Rattle.kt_spacetime.specs.declared.event.Event.{Event}
@@ -9,7 +9,6 @@ use Rattle.kt_cuts.specs.Messages.{row_at}
 use Rattle.kt_chain.specs.declared.certificate.Certificate.{Certificate}
 use Rattle.kt_picture.specs.Escaping.{escaped}
 use Rattle.kt_picture.specs.Lanes.{name_or_number}
-use Rattle.kt_picture.specs.Shapes.{colour}
 
 -- whether a chain has a message
 abbrev pub has_message : ℕ → List ℕ → Bool
@@ -28,20 +27,6 @@ abbrev pub link_of : ℕ → List Certificate → ℕ → Option ℕ
 link_of count certificates zero = None
 link_of count certificates (suc n) = if nat_lt n count then chained_by certificates (suc n) else None
 
--- how a message of a chain is drawn: in the colour of the instance
-abbrev pub link_class : Option ℕ → List ℕ
-link_class None = []
-link_class (Some inst) = codes " link" ++ colour inst
-
--- how the orphan is drawn that stands out
-abbrev pub orphan_class : Option ℕ → ℕ → List ℕ
-orphan_class None msg = []
-orphan_class (Some orphan) msg = if orphan == msg then codes " orphan" else []
-
--- how a message of a log with so many rows is drawn, beside what became of it
-abbrev pub message_class : ℕ → List Certificate → Option ℕ → ℕ → List ℕ
-message_class count certificates orphan msg = link_class (link_of count certificates msg) ++ orphan_class orphan msg
-
 -- the chain of a member; none where there is no member
 abbrev pub chain_of_member : Option (ℕ × List ℕ) → List ℕ
 chain_of_member None = []
@@ -58,7 +43,7 @@ chain_for certificates inst p = chain_listed (find (λ c. c.inst == inst) certif
 
 -- between whom a message went
 abbrev pub ends_between : List (List ℕ) → ℕ → ℕ → List ℕ
-ends_between names p to = codes ":" ++ escaped (name_or_number names p) ++ codes "&gt;" ++ escaped (name_or_number names to)
+ends_between names p to = codes ":" ++ (escaped (name_or_number names p) ++ (codes "&gt;" ++ escaped (name_or_number names to)))
 
 -- the same, as the row that sent it says
 abbrev pub ends_of_message : List (List ℕ) → Option Event → List ℕ
@@ -67,7 +52,7 @@ ends_of_message names _ = []
 
 -- a message of a chain: its number and between whom it went
 abbrev pub chain_word : List (List ℕ) → List Event → ℕ → List ℕ
-chain_word names rows msg = codes " " ++ decimal msg ++ ends_of_message names (row_at rows msg)
+chain_word names rows msg = concat (codes " " ∷ decimal msg ∷ []) ++ ends_of_message names (row_at rows msg)
 
 -- the messages of a chain, by which a member took part
 abbrev pub reason_words : List (List ℕ) → List Event → List ℕ → List ℕ

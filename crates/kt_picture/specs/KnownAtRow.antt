@@ -1,5 +1,5 @@
 -- What each row of the window shows.
-use Rattle.std.specs.Prelude.{ℕ, ◌+◌, if◌then◌else◌, is_some, List, [], ◌∷◌, ◌++◌, map, replicate, slice_index, slice_set}
+use Rattle.std.specs.Prelude.{ℕ, ◌+◌, not, bytes_eq, if◌then◌else◌, is_some, List, [], ◌∷◌, ◌++◌, map, replicate, slice_index, slice_set}
 use Rattle.std.specs.List.{range_with_len}
 use Rattle.kt_spacetime.specs.declared.event.Event.{Event}
 use Rattle.kt_spacetime.specs.declared.event.Event.TheVariants.{Took, Decided}
@@ -67,12 +67,13 @@ abbrev pub shown_rows : List Event → KnownAtRow → List Event → List Shown
 shown_rows upto s [] = []
 shown_rows upto s (row ∷ rest) = shown_at upto s row rest ∷ shown_rows upto (seen_after s row) rest
 
--- the permanent cut after a row that commits an instance, where permanent positions are in these columns after it
-abbrev pub cut_in : List ℕ → Event → List CutMark
-cut_in places (Decided p inst commit) = if commit then record { inst = inst; columns = places } ∷ [] else []
-cut_in places _ = []
+-- the permanent cut after a row that commits an instance, where permanent positions are in the first columns before it and in
+-- the second ones after it; it is new where they differ
+abbrev pub cut_in : List ℕ → List ℕ → Event → List CutMark
+cut_in before places (Decided p inst commit) = if commit then record { inst = inst; columns = places; is_new = not (bytes_eq before places) } ∷ [] else []
+cut_in before places _ = []
 
 -- the permanent cuts after the committed decisions of a window
 abbrev pub cut_rows : KnownAtRow → List Event → List CutMark
 cut_rows s [] = []
-cut_rows s (row ∷ rest) = cut_in (seen_after s row).places row ++ cut_rows (seen_after s row) rest
+cut_rows s (row ∷ rest) = cut_in s.places (seen_after s row).places row ++ cut_rows (seen_after s row) rest

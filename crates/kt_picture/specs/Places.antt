@@ -1,10 +1,11 @@
 -- Where a process's permanent position stands.
-use Rattle.std.specs.Prelude.{◌≡◌, ◌≢◌, ◌≤◌, ◌<◌, ℕ, true, Option, Some, None, List, take}
+use Rattle.std.specs.Prelude.{◌≡◌, ◌≢◌, ◌≤◌, ◌<◌, ℕ, zero, suc, true, Option, Some, None, List, [], ◌∷◌, take}
 use Rattle.kt_spacetime.specs.declared.event.Event.{Event}
 use Rattle.kt_spacetime.specs.declared.event.Event.TheVariants.{Took, Decided}
 use Rattle.kt_cuts.specs.Past.{past}
 use Rattle.kt_cuts.specs.Messages.{row_at}
-use Rattle.kt_picture.specs.Svg.{column_of}
+use Rattle.kt_picture.specs.declared.shown.CutMark.{CutMark}
+use Rattle.kt_picture.specs.Marks.{column_of}
 
 -- by the row of this number a process took its last permanent checkpoint: its instance is committed after these first so
 -- many rows, and none is of which it has a later took row there
@@ -25,3 +26,9 @@ pub record IsPermanentColumn (rows : List Event) (before upto p column : ℕ) : 
 abbrev pub commits : Event → Option ℕ
 commits (Decided p instance true) = Some instance
 commits _ = None
+
+-- the columns of the cut before the one at a place of a list; before the first one, these columns
+abbrev pub columns_before : List ℕ → List CutMark → ℕ → List ℕ
+columns_before first cuts zero = first
+columns_before first [] (suc j) = first
+columns_before first (c ∷ cuts) (suc j) = columns_before c.columns cuts j

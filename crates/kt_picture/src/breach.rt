@@ -1,14 +1,13 @@
 //! The row of a log that breaks a rule: its mark, and what is said of it below a picture.
 
-ghost use Rattle.std.specs.Prelude.{◌≡◌, ◌≤◌, ◌<◌, ◌^◌, ◌+◌, ◌-◌, ◌++◌, codes, length, IfOk, OnOk, Some};
-ghost use Rattle.std.specs.Fmt.{decimal};
-ghost use Rattle.kt_picture.specs.Breach.{rule_name, rule_label, breach_line, breach_word, breach_mark, caption_of};
-ghost use Rattle.kt_picture.specs.Shapes.{y_of};
+ghost use Rattle.std.specs.Prelude.{◌≡◌, ◌++◌, IfOk, OnOk, Some};
+ghost use Rattle.kt_picture.specs.Breach.{rule_name, rule_label, breach_shown, wrong_mark, breach_mark, breach_word, caption_of};
+ghost use Rattle.kt_picture.specs.Pages.{view_in};
 
-use crate::lanes::Lanes;
-use crate::marks::push_title;
-use crate::shapes::{push_x, y_of};
-use crate::words::{push_number, push_text};
+use crate::marks::{push_arrow_of, push_figure_of};
+use crate::page::Page;
+use crate::parts::{Part, push_parts, push_text};
+use crate::shown::Shown;
 use kt_base::Memory;
 use kt_cuts::Rule;
 use kt_spacetime::Event;
@@ -36,7 +35,7 @@ fn push_caption(text: &mut Vec<u8>, number: u32, breach: Option<Breach>) -> Resu
 {
     match breach {
         Some(breach) => push_broken(text, number, breach),
-        None => push_text(text, b"a legal log"),
+        None => push_text(text, b"The log is legal."),
     }
 }
 
@@ -44,16 +43,31 @@ fn push_caption(text: &mut Vec<u8>, number: u32, breach: Option<Breach>) -> Resu
 fn push_broken(text: &mut Vec<u8>, number: u32, breach: Breach) -> Result<(), Memory>
     ensures { OnOk result (text.new.items ≡ text.old.items ++ caption_of number (Some breach)) }
 {
-    push_number(text, b"row ", u64::from(number), b" breaks ")?;
-    push_rule(text, breach.rule)
+    push_parts(
+        text,
+        &[
+            Part::Text(b"Row "),
+            Part::Row(number),
+            Part::Text(b" breaks "),
+        ],
+    )?;
+    push_rule(text, breach.rule)?;
+    push_text(text, b".")
 }
 
 // Gathers a rule by number and name.
 fn push_rule(text: &mut Vec<u8>, rule: Rule) -> Result<(), Memory>
     ensures { OnOk result (text.new.items ≡ text.old.items ++ rule_label rule) }
 {
-    push_number(text, b"rule ", u64::from(rule.number()), b", ")?;
-    push_text(text, rule_name(rule))
+    push_parts(
+        text,
+        &[
+            Part::Text(b"rule "),
+            Part::Number(u64::from(rule.number())),
+            Part::Text(b", "),
+            Part::Text(rule_name(rule)),
+        ],
+    )
 }
 
 fn rule_name(rule: Rule) -> &'static [u8]
@@ -72,58 +86,78 @@ fn rule_name(rule: Rule) -> &'static [u8]
     }
 }
 
-/// Gathers the mark of the row that breaks a rule, where there is one; the row has this number.
+/// Gathers the marks of the row that breaks a rule, where there is one, in a column of its own; the row has this number.
 pub(crate) fn push_breach(
     text: &mut Vec<u8>,
-    lanes: &Lanes,
+    page: &Page<'_>,
     number: u32,
     column: u32,
-    breach: Option<Breach>,
+    breach: &Option<Breach>,
 ) -> Result<(), Memory>
-    ensures { OnOk result (text.new.items ≡ text.old.items ++ breach_mark lanes.now number column breach) }
+    ensures { OnOk result (text.new.items ≡ text.old.items ++ breach_mark (view_in page.now) number column breach.now) }
 {
     match breach {
-        Some(breach) => push_mark(text, lanes, number, column, breach),
+        Some(breach) => push_wrong(text, page, &breach.shown(number, column)),
         None => Ok(()),
     }
 }
 
-// Gathers that mark.
-fn push_mark(
+// Gathers the marks of a row in the warning colour.
+fn push_wrong(text: &mut Vec<u8>, page: &Page<'_>, s: &Shown) -> Result<(), Memory>
+    ensures { OnOk result (text.new.items ≡ text.old.items ++ wrong_mark (view_in page.now) s.now) }
+{
+    push_text(text, b"<g class='wrong'>")?;
+    push_arrow_of(text, page, s)?;
+    push_figure_of(text, page, s)?;
+    push_text(text, b"</g>\n")
+}
+
+impl Breach {
+    // The row as what it says.
+    fn shown(&self, number: u32, column: u32) -> Shown
+        ensures { result ≡ breach_shown number column self.now }
+    {
+        Shown {
+            row: number,
+            column,
+            event: self.event,
+            since: 0,
+            up: true,
+            open_in: None,
+            is_undone: false,
+            is_taken_back: false,
+            is_in_transit: true,
+            decision: None,
+        }
+    }
+}
+
+/// Gathers which rule is broken, above the lanes.
+pub(crate) fn push_breach_word(
     text: &mut Vec<u8>,
-    lanes: &Lanes,
-    number: u32,
     column: u32,
-    breach: Breach,
+    breach: &Option<Breach>,
 ) -> Result<(), Memory>
-    ensures { OnOk result (text.new.items ≡ text.old.items ++ breach_mark lanes.now number column (Some breach)) }
+    ensures { OnOk result (text.new.items ≡ text.old.items ++ breach_word column breach.now) }
 {
-    push_title(text, number, breach.event)?;
-    push_line(text, lanes, column)?;
-    push_broken_rule(text, column, breach.rule)
+    match breach {
+        Some(breach) => push_rule_word(text, column, breach),
+        None => Ok(()),
+    }
 }
 
-// Gathers a line across the lanes.
-fn push_line(text: &mut Vec<u8>, lanes: &Lanes, column: u32) -> Result<(), Memory>
-    ensures { OnOk result (text.new.items ≡ text.old.items ++ breach_line lanes.now column) }
+// Gathers that word.
+fn push_rule_word(text: &mut Vec<u8>, column: u32, breach: &Breach) -> Result<(), Memory>
+    ensures { OnOk result (text.new.items ≡ text.old.items ++ breach_word column (Some breach.now)) }
 {
-    push_x(text, b"<path class='x' d='M", column, b" 40V")?;
-    push_line_end(text, lanes)
-}
-
-// Gathers where that line ends.
-fn push_line_end(text: &mut Vec<u8>, lanes: &Lanes) -> Result<(), Memory>
-    ensures { OnOk result (text.new.items ≡ text.old.items
-        ++ decimal (y_of (length lanes.now) - 30) ++ codes "'/>") }
-{
-    push_number(text, b"", y_of(lanes.count()) - 30, b"'/>")
-}
-
-// Gathers which rule is broken.
-fn push_broken_rule(text: &mut Vec<u8>, column: u32, rule: Rule) -> Result<(), Memory>
-    ensures { OnOk result (text.new.items ≡ text.old.items ++ breach_word column rule) }
-{
-    push_x(text, b"<text class='bad' x='", column, b"' y='34'>")?;
-    push_rule(text, rule)?;
-    push_text(text, b"</text></g>\n")
+    push_parts(
+        text,
+        &[
+            Part::Text(b"<text class='rule' x='"),
+            Part::X(column),
+            Part::Text(b"' y='34'>"),
+        ],
+    )?;
+    push_rule(text, breach.rule)?;
+    push_text(text, b"</text>\n")
 }

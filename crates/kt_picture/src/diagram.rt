@@ -1,6 +1,7 @@
 //! A space-time diagram under way: rows come one after another, and are not kept.
 
 ghost use Rattle.std.specs.Prelude.{◌≡◌, ◌≤◌, ◌<◌, ◌^◌, ◌+◌, ◌++◌, ◌∷◌, [], ℕ, List, Some, Err, IfOk, OnOk, OnErr, if◌then◌else◌, length};
+ghost use Rattle.kt_base.specs.Sets.{has};
 ghost use Rattle.kt_spacetime.specs.declared.event.Event.{Event};
 ghost use Rattle.kt_cuts.specs.declared.rules.Rule.{Rule};
 ghost use Rattle.kt_cuts.specs.declared.legality.LegalFault.TheVariants as fault;
@@ -8,18 +9,21 @@ ghost use Rattle.kt_cuts.specs.Legal.{first_broken};
 ghost use Rattle.kt_walk.specs.WalkOf.{WalkOf};
 ghost use Rattle.kt_walk.specs.WalkParts.{WalkParts};
 ghost use Rattle.kt_picture.specs.DiagramOf.{DiagramOf, HasRowsFor, SheetOf};
-ghost use Rattle.kt_picture.specs.Picture.{picture_of, picture_text, picture_end};
-ghost use Rattle.kt_picture.specs.Notes.{class_in, reason_in};
+ghost use Rattle.kt_picture.specs.Breach.{breach_rows};
+ghost use Rattle.kt_picture.specs.Lanes.{is_named};
+ghost use Rattle.kt_picture.specs.Pages.{view_in};
+ghost use Rattle.kt_picture.specs.Picture.{picture_of, picture_text};
 ghost use Rattle.kt_picture.specs.KnownAtRow.{cut_in};
 
 use crate::breach::Breach;
 use crate::entry::{Entry, follow, message_of, taken_by};
-use crate::evidence::{Evidence, Notes};
+use crate::evidence::Evidence;
 use crate::items::push_item;
 use crate::known::Known;
 use crate::lanes::{Lanes, with_named};
-use crate::layers::{push_picture, push_picture_end};
+use crate::layers::push_picture;
 use crate::links::Links;
+use crate::page::Page;
 use crate::shown::CutMark;
 use crate::window::{Window, lane_ends, push_cut, shown_rows};
 use kt_base::{Memory, MsgNo, ProcSet};
@@ -81,6 +85,7 @@ impl Diagram {
         ensures still { (number : ℕ) (rule : Rule) → result ≡ Err (fault.Broken number rule) → walk.new ≡ walk.old }
     {
         let msg = MsgNo::after(walk.rows());
+        let before = self.known.places;
         let plain = self.known.plain(walk, row);
         let taken = taken_by(walk, row);
         if let Err(fault) = self.known.add(walk, row) {
@@ -94,6 +99,7 @@ impl Diagram {
         match keep(
             &mut self.entries,
             &mut self.cuts,
+            &before,
             &self.known.places,
             &entry,
             row,
@@ -117,15 +123,14 @@ impl Diagram {
             → SheetOf sheet (front ++ window) (length front)) }
         ensures few { IfOk result (λ sheet. sheet.before + sheet.columns ≤ 2 ^ 24) }
     {
-        let lanes = Lanes::of_named(alloc, self.named)?;
         let shown = shown_rows(alloc, walk, self.entries.as_slice())?;
-        let ends = lane_ends(alloc, walk, &self.known, &lanes)?;
+        let ends = lane_ends(alloc, walk, &self.known)?;
         let mut cuts = Vec::new(alloc);
         cuts.extend_from_slice(self.cuts.as_slice())?;
         let rows = walk.rows() as u32;
         let before = rows.saturating_sub(self.known.column);
         Ok(Sheet {
-            lanes,
+            named: self.named,
             before,
             columns: rows - before,
             window: Window { shown, ends, cuts },
@@ -133,25 +138,28 @@ impl Diagram {
     }
 }
 
-// Keeps a row of the window, and the permanent cut after it, where permanent positions are in these columns.
+// Keeps a row of the window, and the permanent cut after it, where permanent positions are in the first columns before it and
+// in the second ones after it.
 fn keep(
     entries: &mut Vec<Entry>,
     cuts: &mut Vec<CutMark>,
+    before: &[u32; 64],
     places: &[u32; 64],
     entry: &Entry,
     row: &Event,
 ) -> Result<(), Memory>
     ensures entries { OnOk result (entries.new.items ≡ entries.old.items ++ entry.now ∷ []) }
-    ensures cuts { OnOk result (cuts.new.items ≡ cuts.old.items ++ cut_in places.now row.now) }
+    ensures cuts { OnOk result (cuts.new.items ≡ cuts.old.items ++ cut_in before.now places.now row.now) }
 {
     push_item(entries, *entry)?;
-    push_cut(cuts, places, row)
+    push_cut(cuts, before, places, row)
 }
 
 /// A window of a log, with what became of its rows: what a picture shows.
 #[derive(Drop)]
 pub struct Sheet {
-    pub(crate) lanes: Lanes,
+    /// The processes that rows up to the window's end name.
+    pub(crate) named: ProcSet,
     /// How many rows come before the window.
     pub(crate) before: u32,
     /// How many rows the window has.
@@ -177,64 +185,48 @@ impl Sheet {
             → t.items ≡ picture_of names.now log before breach
             evidence.now.certificates.now evidence.now.orphan caption.now) }
     {
-        let columns = columns_of(self.columns, breach.is_some());
+        let lanes = Lanes::of_named(alloc, with_breach(self.named, breach))?;
         let links = Links::of(alloc, evidence.certificates, rows.len())?;
-        let notes = Notes {
+        let page = Page {
+            names,
+            lanes: &lanes,
+            before: self.before,
+            columns: columns_of(self.columns, breach.is_some()),
+            shown: self.window.shown.as_slice(),
             certificates: evidence.certificates,
             orphan: evidence.orphan,
-            names,
             rows,
-            links,
+            links: &links,
         };
-        self.text(alloc, columns, &notes, breach, caption)
+        self.text(alloc, &page, &breach, caption)
     }
 
-    // The picture of the window, with so many columns.
+    // The picture of the window on a page.
     fn text(
         &self,
         alloc: Global,
-        columns: u32,
-        notes: &Notes<'_>,
-        breach: Option<Breach>,
+        page: &Page<'_>,
+        breach: &Option<Breach>,
         caption: &[u8],
     ) -> Result<Vec<u8>, Memory>
-        requires few { self.now.before + columns < 2 ^ 25 }
-        ensures { IfOk result (λ t. t.items ≡
-            picture_text (class_in notes.now) (reason_in notes.now) notes.now.names.now
-            self.now.lanes self.now.before columns
-            self.now.window.shown.items self.now.window.cuts.items self.now.window.ends.items
-            ++ picture_end self.now.lanes (self.now.before + columns) columns breach caption.now) }
+        requires few { page.now.before + page.now.columns < 2 ^ 25 }
+        ensures { IfOk result (λ t. t.items
+            ≡ picture_text (view_in page.now) self.now.window.cuts.items self.now.window.ends.items breach.now caption.now) }
     {
         let mut text = Vec::new(alloc);
-        self.push(&mut text, columns, notes, breach, caption)?;
+        push_picture(&mut text, page, &self.window, breach, caption)?;
         Ok(text)
     }
+}
 
-    // Gathers the picture of the window, with so many columns.
-    fn push(
-        &self,
-        text: &mut Vec<u8>,
-        columns: u32,
-        notes: &Notes<'_>,
-        breach: Option<Breach>,
-        caption: &[u8],
-    ) -> Result<(), Memory>
-        requires few { self.now.before + columns < 2 ^ 25 }
-        ensures { OnOk result (text.new.items ≡ text.old.items
-            ++ picture_text (class_in notes.now) (reason_in notes.now) notes.now.names.now
-            self.now.lanes self.now.before columns
-            self.now.window.shown.items self.now.window.cuts.items self.now.window.ends.items
-            ++ picture_end self.now.lanes (self.now.before + columns) columns breach caption.now) }
-    {
-        push_picture(text, &self.lanes, self.before, columns, notes, &self.window)?;
-        push_picture_end(
-            text,
-            &self.lanes,
-            self.before + columns,
-            columns,
-            breach,
-            caption,
-        )
+// The processes that rows name, with those of the row that breaks a rule.
+fn with_breach(named: ProcSet, breach: Option<Breach>) -> ProcSet
+    ensures { (rows : List Event) → ((q : ℕ) → q < 64 → has named q ≡ is_named rows q)
+        → (q : ℕ) → q < 64 → has result q ≡ is_named (rows ++ breach_rows breach) q }
+{
+    match breach {
+        Some(breach) => with_named(named, &breach.event),
+        None => named,
     }
 }
 

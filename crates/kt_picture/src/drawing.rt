@@ -20,14 +20,17 @@ use std::alloc::Global;
 use std::io::Write;
 
 /// Writes the space-time diagram of a legal log after its first `before` rows, as one SVG document, with a line of text
-/// below. The row after it that breaks a rule, where there is one, is marked in a column of its own.
+/// below. The row after it that breaks a rule, where there is one, is drawn as what it says in a column of its own, in the
+/// colour of a warning, and lanes end there.
 ///
 /// The processes that the log names have a lane each, from above by rising number, with their names or else their
 /// numbers; each row has a column, from left to right, and a tooltip with its number and its text. A lane is dashed
 /// while its process is down, and lies on a bar while its process is in an instance. What became of a message or an
-/// instance is what the log says at its end: an arrow is grey and dashed where the send is undone, thin where the
-/// receive is, short where the message is in transit; squares (`took`) and triangles (`ready`) are filled after a
-/// commit and crossed after an abort. The names and the text below are escaped.
+/// instance is what the log says at its end: an arrow is grey and dashed where the send is undone, grey and thin where
+/// the receive is, short where the message is in transit; squares (`took`) and triangles (`ready`) are filled after a
+/// commit and crossed after an abort. A permanent cut is drawn where it differs from the one before. Up to 64 columns
+/// messages have their numbers and bodies; each fifth column and each decision has its row's number. The names and the
+/// text below are escaped; under it stands a legend of the marks that there are.
 ///
 /// A message that certificates have in a chain is drawn in the colour of the instance, and the row in which a member joins
 /// tells in its tooltip which messages bound it; the orphan that is named stands out.

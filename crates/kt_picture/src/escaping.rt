@@ -4,7 +4,7 @@ ghost use Rattle.std.specs.Prelude.{◌≡◌, ◌<◌, ◌++◌, ℕ, List, tru
 ghost use Rattle.std.specs.List.{list_all};
 ghost use Rattle.kt_picture.specs.Escaping.{escaped_byte, escaped, is_no_mark};
 
-use crate::words::push_text;
+use crate::parts::push_text;
 use kt_base::Memory;
 
 /// Gathers a text of others, in which nothing is read as a mark.

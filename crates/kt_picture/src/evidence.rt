@@ -3,13 +3,12 @@
 ghost use Rattle.std.specs.Prelude.{◌≡◌, ◌++◌, ◌==◌, Some, OnOk, find, flat_map};
 ghost use Rattle.std.specs.Option.{option_copied};
 ghost use Rattle.kt_cuts.specs.Messages.{row_at};
-ghost use Rattle.kt_picture.specs.Evidence.{chain_for, chain_of_member, chain_word, ends_between, ends_of_message, link_class, orphan_class, reason, reason_words};
-ghost use Rattle.kt_picture.specs.Notes.{class_in, reason_in};
+ghost use Rattle.kt_picture.specs.Evidence.{chain_for, chain_of_member, chain_word, ends_between, ends_of_message, reason, reason_words};
+ghost use Rattle.kt_picture.specs.Pages.{reason_in};
 
 use crate::layers::push_name_of;
-use crate::links::Links;
-use crate::shapes::push_colour_of;
-use crate::words::{push_message, push_text};
+use crate::page::Page;
+use crate::parts::{Part, push_parts, push_text};
 use kt_base::{InstNo, Memory, MsgNo, ProcNo};
 use kt_chain::{Certificate, Chain};
 use kt_plan::Names;
@@ -25,67 +24,24 @@ pub struct Evidence<'a> {
     pub orphan: Option<MsgNo>,
 }
 
-/// The same, with the names and the rows that are told with it, and the instances of messages.
-#[derive(Drop)]
-pub(crate) struct Notes<'a> {
-    pub(crate) certificates: &'a [Certificate],
-    pub(crate) orphan: Option<MsgNo>,
-    pub(crate) names: &'a Names,
-    pub(crate) rows: &'a [Event],
-    pub(crate) links: Links,
-}
-
-/// Gathers how a message is drawn, beside what became of it.
-pub(crate) fn push_class_of(text: &mut Vec<u8>, notes: &Notes<'_>, msg: MsgNo) -> Result<(), Memory>
-    ensures { OnOk result (text.new.items ≡ text.old.items ++ class_in notes.now msg) }
-{
-    push_link_class(text, notes.links.get(msg))?;
-    push_text(text, orphan_class(notes.orphan, msg))
-}
-
-// Gathers the class of a message of a chain.
-fn push_link_class(text: &mut Vec<u8>, inst: Option<InstNo>) -> Result<(), Memory>
-    ensures { OnOk result (text.new.items ≡ text.old.items ++ link_class inst) }
-{
-    match inst {
-        Some(inst) => push_colour_of(text, b" link", inst, b""),
-        None => Ok(()),
-    }
-}
-
-fn orphan_class(orphan: Option<MsgNo>, msg: MsgNo) -> &'static [u8]
-    ensures { result.now ≡ orphan_class orphan msg }
-{
-    match orphan {
-        Some(orphan) if orphan == msg => b" orphan",
-        _ => b"",
-    }
-}
-
 /// Gathers why a process took part that joins an instance by a row.
-pub(crate) fn push_reason_of(
-    text: &mut Vec<u8>,
-    notes: &Notes<'_>,
-    row: Event,
-) -> Result<(), Memory>
-    ensures { OnOk result (text.new.items ≡ text.old.items ++ reason_in notes.now row) }
+pub(crate) fn push_reason_of(text: &mut Vec<u8>, page: &Page<'_>, row: Event) -> Result<(), Memory>
+    ensures { OnOk result (text.new.items ≡ text.old.items ++ reason_in page.now row) }
 {
     match row {
-        Event::Took { p, inst } => push_reason(text, notes, notes.chain_for(inst, p)),
-        Event::Ready { p, inst } => push_reason(text, notes, notes.chain_for(inst, p)),
+        Event::Took { p, inst } => push_reason(text, page, chain_for(page.certificates, inst, p)),
+        Event::Ready { p, inst } => push_reason(text, page, chain_for(page.certificates, inst, p)),
         _ => Ok(()),
     }
 }
 
-impl Notes<'_> {
-    // The chain that the first certificate of an instance lists for a process.
-    fn chain_for(&self, inst: InstNo, p: ProcNo) -> &[MsgNo]
-        ensures { result.now ≡ chain_for self.now.certificates.now inst p }
-    {
-        match certificate_of(self.certificates, inst) {
-            Some(certificate) => chain_listed(certificate.members.list(), p),
-            None => &[],
-        }
+// The chain that the first certificate of an instance lists for a process.
+fn chain_for(certificates: &[Certificate], inst: InstNo, p: ProcNo) -> &[MsgNo]
+    ensures { result.now ≡ chain_for certificates.now inst p }
+{
+    match certificate_of(certificates, inst) {
+        Some(certificate) => chain_listed(certificate.members.list(), p),
+        None => &[],
     }
 }
 
@@ -114,70 +70,68 @@ fn chain_listed(members: &[(ProcNo, Chain)], p: ProcNo) -> &[MsgNo]
 }
 
 // Gathers why a member took part that has this chain.
-fn push_reason(text: &mut Vec<u8>, notes: &Notes<'_>, chain: &[MsgNo]) -> Result<(), Memory>
+fn push_reason(text: &mut Vec<u8>, page: &Page<'_>, chain: &[MsgNo]) -> Result<(), Memory>
     ensures { OnOk result (text.new.items ≡ text.old.items
-        ++ reason notes.now.names.now notes.now.rows.now chain.now) }
+        ++ reason page.now.names.now page.now.rows.now chain.now) }
 {
     if chain.is_empty() {
         Ok(())
     } else {
-        push_reason_words(text, notes, chain)
+        push_reason_words(text, page, chain)
     }
 }
 
 // Gathers by which messages a member took part.
-fn push_reason_words(text: &mut Vec<u8>, notes: &Notes<'_>, chain: &[MsgNo]) -> Result<(), Memory>
+fn push_reason_words(text: &mut Vec<u8>, page: &Page<'_>, chain: &[MsgNo]) -> Result<(), Memory>
     ensures { OnOk result (text.new.items ≡ text.old.items
-        ++ reason_words notes.now.names.now notes.now.rows.now chain.now) }
+        ++ reason_words page.now.names.now page.now.rows.now chain.now) }
 {
     push_text(text, b"; took part because of")?;
-    push_chain(text, notes, chain)
+    push_chain(text, page, chain)
 }
 
 // Gathers the messages of a chain.
-fn push_chain(text: &mut Vec<u8>, notes: &Notes<'_>, chain: &[MsgNo]) -> Result<(), Memory>
+fn push_chain(text: &mut Vec<u8>, page: &Page<'_>, chain: &[MsgNo]) -> Result<(), Memory>
     ensures { OnOk result (text.new.items ≡ text.old.items
-        ++ flat_map (chain_word notes.now.names.now notes.now.rows.now) chain.now) }
+        ++ flat_map (chain_word page.now.names.now page.now.rows.now) chain.now) }
 {
     for msg in chain {
-        push_chain_word(text, notes, *msg)?;
+        push_chain_word(text, page, *msg)?;
     }
     Ok(())
 }
 
 // Gathers a message of a chain.
-fn push_chain_word(text: &mut Vec<u8>, notes: &Notes<'_>, msg: MsgNo) -> Result<(), Memory>
-    ensures { OnOk result (text.new.items ≡ text.old.items ++ chain_word notes.now.names.now notes.now.rows.now msg) }
+fn push_chain_word(text: &mut Vec<u8>, page: &Page<'_>, msg: MsgNo) -> Result<(), Memory>
+    ensures { OnOk result (text.new.items ≡ text.old.items ++ chain_word page.now.names.now page.now.rows.now msg) }
 {
-    push_message(text, msg)?;
-    push_ends(text, notes, notes.row_of(msg))
+    push_parts(text, &[Part::Text(b" "), Part::Message(msg)])?;
+    push_ends(text, page, row_of(page.rows, msg))
 }
 
-impl Notes<'_> {
-    // The row of the number of a message.
-    fn row_of(&self, msg: MsgNo) -> Option<Event>
-        ensures { result ≡ row_at self.now.rows.now msg }
-    {
-        self.rows.get(msg.index()).copied()
-    }
+// The row of the number of a message.
+fn row_of(rows: &[Event], msg: MsgNo) -> Option<Event>
+    ensures { result ≡ row_at rows.now msg }
+{
+    rows.get(msg.index()).copied()
 }
 
 // Gathers between whom a message went that this row sent, where there is such a row.
-fn push_ends(text: &mut Vec<u8>, notes: &Notes<'_>, row: Option<Event>) -> Result<(), Memory>
-    ensures { OnOk result (text.new.items ≡ text.old.items ++ ends_of_message notes.now.names.now row) }
+fn push_ends(text: &mut Vec<u8>, page: &Page<'_>, row: Option<Event>) -> Result<(), Memory>
+    ensures { OnOk result (text.new.items ≡ text.old.items ++ ends_of_message page.now.names.now row) }
 {
     match row {
-        Some(row) => push_ends_of(text, notes, row),
+        Some(row) => push_ends_of(text, page, row),
         None => Ok(()),
     }
 }
 
 // Gathers between whom a message went that this row sent, if it sends one.
-fn push_ends_of(text: &mut Vec<u8>, notes: &Notes<'_>, row: Event) -> Result<(), Memory>
-    ensures { OnOk result (text.new.items ≡ text.old.items ++ ends_of_message notes.now.names.now (Some row)) }
+fn push_ends_of(text: &mut Vec<u8>, page: &Page<'_>, row: Event) -> Result<(), Memory>
+    ensures { OnOk result (text.new.items ≡ text.old.items ++ ends_of_message page.now.names.now (Some row)) }
 {
     match row {
-        Event::Sent { p, to, .. } => push_parties(text, notes.names, p, to),
+        Event::Sent { p, to, .. } => push_parties(text, page.names, p, to),
         _ => Ok(()),
     }
 }

@@ -191,8 +191,8 @@ fn promoted(walk: &Walk, inst: InstNo, taken: &[u32; 64], places: &[u32; 64]) ->
     after
 }
 
-// The number of an instance.
-fn number_of(inst: Option<InstNo>) -> Option<u16>
+/// The number of an instance.
+pub(crate) fn number_of(inst: Option<InstNo>) -> Option<u16>
     ensures { result ≡ inst }
 {
     match inst {

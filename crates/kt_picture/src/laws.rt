@@ -1,6 +1,6 @@
 //! Laws that a reader of a picture relies on, with nothing to run.
 
-ghost use Rattle.std.specs.Prelude.{◌≡◌, ◌≢◌, ◌↔◌, ◌+◌, ◌-◌, ◌≤◌, ◌<◌, ℕ, ℤ, Bool, Option, Some, None, true, false, List, [], Contains, length, drop, take, map, not, slice_get, slice_index};
+ghost use Rattle.std.specs.Prelude.{◌≡◌, ◌≢◌, ◌↔◌, ◌||◌, ◌+◌, ◌-◌, ◌≤◌, ◌<◌, ℕ, ℤ, Bool, Option, Some, None, true, false, List, [], Contains, length, drop, take, map, not, bytes_eq, replicate, slice_get, slice_index};
 ghost use Rattle.std.specs.List.{filter_map};
 ghost use Rattle.kt_spacetime.specs.declared.event.Event.{Event};
 ghost use Rattle.kt_spacetime.specs.declared.event.Event.TheVariants.{Sent, Received, Dropped, Took, Ready, Decided};
@@ -15,9 +15,15 @@ ghost use Rattle.kt_picture.specs.declared.shown.Shown.{Shown};
 ghost use Rattle.kt_picture.specs.declared.shown.CutMark.{CutMark};
 ghost use Rattle.kt_picture.specs.Arrows.{has_arrow, StaysReceived};
 ghost use Rattle.kt_picture.specs.Fates.{is_send_undone, has_no_receive};
-ghost use Rattle.kt_picture.specs.Places.{IsLastPermanent, IsPermanentColumn, commits};
-ghost use Rattle.kt_picture.specs.Shapes.{fill_class, square, triangle};
-ghost use Rattle.kt_picture.specs.Svg.{arrow_of, column_of};
+ghost use Rattle.kt_picture.specs.Places.{columns_before, IsLastPermanent, IsPermanentColumn, commits};
+ghost use Rattle.kt_picture.specs.Looks.{class_text, square, triangle};
+ghost use Rattle.kt_picture.specs.declared.looks.Look.TheVariants as look;
+ghost use Rattle.kt_picture.specs.declared.legend.Sign.{Sign};
+ghost use Rattle.kt_picture.specs.Legend.{sign_if};
+ghost use Rattle.kt_picture.specs.Marks.{arrow_of, colour_for, column_of, fill_look, is_grey, look_of, stands_out};
+ghost use Rattle.kt_picture.specs.Picture.{new_cut};
+ghost use Rattle.kt_picture.specs.Shapes.{word_y};
+ghost use Rattle.kt_picture.specs.View.{View};
 ghost use Rattle.kt_picture.specs.Window.{shown_of, cuts_of};
 
 /// Each row of the window is shown once, with its number, in its column, on a lane that tells what is known before it.
@@ -50,9 +56,9 @@ pub fn unreceived_is_not_live()
 /// Where an arrow is drawn, between which columns, and when it is grey or thin.
 pub fn arrows_tell_messages()
     // Exactly where a message is received or dropped, or stands in transit at the window's end.
-    ensures drawn { (class : ℕ → List ℕ) (lanes : List ℕ) (rows : List Event) (before : ℕ) (s : Shown) →
+    ensures drawn { (view : View) (rows : List Event) (before : ℕ) (s : Shown) →
         Contains (shown_of rows before) s →
-        (arrow_of class lanes before s ≢ []) ↔ (has_arrow rows s.row s.event ≡ true) }
+        (arrow_of view s ≢ []) ↔ (has_arrow rows s.row s.event ≡ true) }
 
     // From the column of the row that sent it, or from the left end.
     ensures tail { (rows : List Event) (before : ℕ) (s : Shown) → Contains (shown_of rows before) s →
@@ -86,16 +92,21 @@ pub fn joinings_tell_decisions()
         (s.decision ≡ Some commit) ↔ ((q : ℕ) × Contains (drop before rows) (Decided q k commit)) }
 
     // Filled exactly after a commit, and crossed exactly after an abort; else as where nothing is decided.
-    ensures filled { (d : Option Bool) → (fill_class d ≢ fill_class None) ↔ (d ≡ Some true) }
+    ensures filled { (d : Option Bool) → (class_text (fill_look d) ≢ class_text (fill_look None)) ↔ (d ≡ Some true) }
     ensures crossed_square { (d : Option Bool) → (square d ≢ square None) ↔ (d ≡ Some false) }
     ensures crossed_triangle { (d : Option Bool) → (triangle d ≢ triangle None) ↔ (d ≡ Some false) }
 {}
 
-/// After each committed decision of the window one cut is drawn, through each process's permanent position there.
+/// After each committed decision of the window there is one cut, through each process's permanent position there; it is drawn
+/// exactly where it differs from the one before, and the first one where it leaves the left end.
 pub fn cuts_are_permanent()
     // One for each, in their order.
     ensures one_each { (rows : List Event) (before : ℕ) →
         map (λ c. c.inst) (cuts_of rows before) ≡ filter_map commits (drop before rows) }
+
+    ensures changes { (rows : List Event) (before j : ℕ) (c : CutMark) → slice_get (cuts_of rows before) j ≡ Some c →
+        c.is_new ≡ not (bytes_eq (columns_before (replicate 64 0) (cuts_of rows before) j) c.columns) }
+    ensures drawn { (lanes : List ℕ) (c : CutMark) → (new_cut lanes c ≢ []) ↔ (c.is_new ≡ true) }
 
     // Each crosses a lane in the column of the row of the last permanent checkpoint, or at the left end.
     ensures through { (rows : List Event) (before : ℕ) (c : CutMark) → IsLegal rows →
@@ -109,4 +120,38 @@ pub fn cuts_are_permanent()
         permanent_cut (past (take n rows)) p ≡ length ((past (take (row - 1) rows)).live p) }
     ensures no_position { (rows : List Event) (n p : ℕ) → IsLegal rows → n ≤ length rows →
         ((row : ℕ) → IsLastPermanent rows n p row → ⊥) → permanent_cut (past (take n rows)) p ≡ 0 }
+{}
+
+/// How an arrow looks tells what became of its message, also of one in a chain.
+pub fn arrows_look_as_they_end()
+    // Grey exactly where its send or that receive is undone; the orphan alone stands out though its send is undone.
+    ensures grey { (view : View) (s : Shown) (msg : ℕ) → stands_out view.orphan msg ≡ false →
+        is_grey (look_of view s msg) ≡ (s.is_undone || s.is_taken_back) }
+    ensures taken_back { (view : View) (s : Shown) (msg : ℕ) → s.is_taken_back ≡ true →
+        is_grey (look_of view s msg) ≡ true }
+    ensures orphan { (view : View) (s : Shown) (msg : ℕ) →
+        s.is_taken_back ≡ false → stands_out view.orphan msg ≡ true → look_of view s msg ≡ look.Orphan }
+
+    // In the colour of an instance exactly where the message is in that one's chain, and the arrow is neither grey nor stands
+    // out.
+    ensures coloured { (view : View) (s : Shown) (msg inst : ℕ) → view.link msg ≡ Some inst →
+        s.is_undone ≡ false → s.is_taken_back ≡ false → stands_out view.orphan msg ≡ false →
+        colour_for (look_of view s msg) (view.link msg) ≡ Some inst }
+    ensures uncoloured { (view : View) (s : Shown) (msg : ℕ) → is_grey (look_of view s msg) ≡ true →
+        colour_for (look_of view s msg) (view.link msg) ≡ None }
+    ensures unlinked { (view : View) (s : Shown) (msg : ℕ) → view.link msg ≡ None →
+        colour_for (look_of view s msg) (view.link msg) ≡ None }
+{}
+
+/// Words do not cover each other: between two lanes, words of columns that are less than four apart stand in different lines.
+pub fn words_stand_apart()
+    ensures apart { (lane c d : ℕ) (below : Bool) → c < d → d < c + 4 → word_y lane below c ≢ word_y lane below d }
+    // Below a lane they stand in the same lines as above the next one.
+    ensures shared { (lane c : ℕ) → word_y lane true c ≡ word_y (lane + 1) false c }
+{}
+
+/// The legend has a sign exactly where the picture has its mark.
+pub fn legend_tells_marks()
+    ensures { (has : Sign → Bool) (top place : ℕ) (sign : Sign) →
+        (sign_if has top place sign ≢ []) ↔ (has sign ≡ true) }
 {}

@@ -1,167 +1,363 @@
-//! The layers of a picture: lanes, cuts, arrows, and what shows each row at its place.
+//! The layers of a picture: lanes, cuts, arrows, what shows each row at its place, and words.
 
-ghost use Rattle.std.specs.Prelude.{◌≡◌, ◌<◌, ◌^◌, ◌-◌, ◌+◌, ◌++◌, codes, OnOk, length, slice_index_or};
+ghost use Rattle.std.specs.Prelude.{◌≡◌, ◌<◌, ◌≤◌, ◌^◌, ◌-◌, ◌+◌, ◌*◌, ◌++◌, max, OnOk, Some, ℕ, fold, map, length, slice_index_or};
 ghost use Rattle.std.specs.List.{flat_map};
-ghost use Rattle.std.specs.Fmt.{decimal};
+ghost use Rattle.kt_picture.specs.Breach.{breach_mark};
 ghost use Rattle.kt_picture.specs.Escaping.{escaped};
-ghost use Rattle.kt_picture.specs.Lanes.{lane_of, name_or_number};
-ghost use Rattle.kt_picture.specs.Notes.{class_in, reason_in};
-ghost use Rattle.kt_picture.specs.Shapes.{y_of};
-ghost use Rattle.kt_picture.specs.Picture.{document_opening, width_of, height_of, lane_name, last_stretch, document_end, lane_marks, row_marks, cut_x, cut_line, cut_points, picture_text, picture_end};
-ghost use Rattle.kt_picture.specs.Svg.{stretch_of, arrow_of, figure_of};
+ghost use Rattle.kt_picture.specs.Lanes.{name_or_number};
+ghost use Rattle.kt_picture.specs.Legend.{has_sign};
+ghost use Rattle.kt_picture.specs.Pages.{view_in};
+ghost use Rattle.kt_picture.specs.Picture.{longest_name, text_width, margin_for, width_of, height_of, frame, background, opening, opening_of, row_mark, layer_text, last_stretch, last_stretch_of, right_of, cut_x, cut_line, new_cut, cut_point, cut_points, lane_name, foot, ending, lanes_text, marks_text, top_of, words_text, picture_text};
 
-use crate::breach::{Breach, push_breach};
+use crate::breach::{Breach, push_breach, push_breach_word};
 use crate::escaping::push_escaped;
-use crate::evidence::Notes;
 use crate::lanes::Lanes;
+use crate::legend::{Beside, found_beside, legend_height, push_legend};
 use crate::marks::{push_arrow_of, push_figure_of, push_stretch, push_stretch_of};
-use crate::shapes::{push_colour_of, push_y, x_of, y_of};
+use crate::page::Page;
+use crate::parts::{Part, push_parts, push_text};
+use crate::shapes::{x_of, y_of};
 use crate::shown::{CutMark, End, Shown};
 use crate::style::{push_arrow_heads, push_style_by_day, push_style_by_night};
 use crate::window::Window;
-use crate::words::{push_inst, push_number, push_text};
+use crate::words::push_words_of;
 use kt_base::{Memory, ProcNo};
 use kt_plan::Names;
 
-/// Gathers a picture with these lanes, columns and marks, after so many rows, but for its end.
+/// Gathers a picture with these marks, with the row that breaks a rule, and what is said below.
 pub(crate) fn push_picture(
     text: &mut Vec<u8>,
-    lanes: &Lanes,
-    before: u32,
-    columns: u32,
-    notes: &Notes<'_>,
+    page: &Page<'_>,
     window: &Window,
-) -> Result<(), Memory>
-    requires { columns < 2 ^ 25 }
-    ensures { OnOk result (text.new.items ≡ text.old.items
-        ++ picture_text (class_in notes.now) (reason_in notes.now) notes.now.names.now lanes.now before columns
-        window.now.shown.items window.now.cuts.items window.now.ends.items) }
-{
-    push_opening(text, columns, lanes)?;
-    push_lane_marks(text, notes.names, lanes, columns, window)?;
-    push_row_marks(text, lanes, before, notes, window)
-}
-
-/// Gathers the end of a picture: the mark of the row of this number that breaks a rule, and what is said below.
-pub(crate) fn push_picture_end(
-    text: &mut Vec<u8>,
-    lanes: &Lanes,
-    number: u32,
-    column: u32,
-    breach: Option<Breach>,
+    breach: &Option<Breach>,
     caption: &[u8],
 ) -> Result<(), Memory>
-    ensures { OnOk result (text.new.items ≡ text.old.items ++ picture_end lanes.now number column breach caption.now) }
+    requires { page.now.before + page.now.columns < 2 ^ 25 }
+    ensures { OnOk result (text.new.items ≡ text.old.items
+        ++ picture_text (view_in page.now) window.now.cuts.items window.now.ends.items breach.now caption.now) }
 {
-    push_breach(text, lanes, number, column, breach)?;
-    push_closing(text, lanes, caption)
+    let beside = found_beside(page, window.cuts.as_slice(), breach);
+    push_opening_of(text, page, legend_height(page, &beside), caption)?;
+    push_lanes(text, page, window, breach)?;
+    push_marks(text, page, window, breach)?;
+    push_words(text, page, &beside, breach, caption)
 }
 
-// Gathers how a document begins.
-fn push_opening(text: &mut Vec<u8>, columns: u32, lanes: &Lanes) -> Result<(), Memory>
-    requires { columns < 2 ^ 25 }
-    ensures { OnOk result (text.new.items ≡ text.old.items ++ document_opening columns lanes.now) }
+// Gathers how the document of a page begins, with a legend of this height and a line of text below.
+fn push_opening_of(
+    text: &mut Vec<u8>,
+    page: &Page<'_>,
+    legend: u64,
+    caption: &[u8],
+) -> Result<(), Memory>
+    requires columns { page.now.columns < 2 ^ 25 }
+    requires legend { legend < 2 ^ 16 }
+    ensures { OnOk result (text.new.items ≡ text.old.items ++ opening_of (view_in page.now) legend caption.now) }
 {
-    push_width(
-        text,
-        b"<svg xmlns='http://www.w3.org/2000/svg' viewBox='0 0 ",
-        columns,
-        b" ",
-    )?;
-    push_height(text, lanes, b"' width='")?;
-    push_width(text, b"", columns, b"'>\n")?;
+    let margin = margin_for(longest_name(page.names, page.lanes));
+    let width = width_of(margin, page.columns, caption.len());
+    push_opening(text, margin, width, y_of(page.lanes.count()) + 34 + legend)
+}
+
+// The length of the longest name beside a lane.
+fn longest_name(names: &Names, lanes: &Lanes) -> usize
+    ensures { result ≡ longest_name names.now lanes.now }
+{
+    let mut longest = 0;
+    for p in lanes.processes() {
+        longest = longer(longest, name_length(names, *p));
+    }
+    longest
+}
+
+fn longer(first: usize, second: usize) -> usize
+    ensures { result ≡ max first second }
+{
+    if first < second { second } else { first }
+}
+
+// The length of the name of a process, or of its number where it has none.
+fn name_length(names: &Names, p: ProcNo) -> usize
+    ensures { result ≡ length (name_or_number names.now p) }
+{
+    let mut digits = itoa::Buffer::new();
+    name_or(names, p, digits.format(p.get()).as_bytes()).len()
+}
+
+// The width of a text of this length; of more than 4096 bytes no more counts.
+fn text_width(letters: usize) -> u64
+    ensures exact { result ≡ text_width letters }
+    ensures few { result < 2 ^ 16 }
+{
+    if letters < 4096 {
+        8 * letters as u64
+    } else {
+        8 * 4096
+    }
+}
+
+// How far a picture goes to the left, so that a name of this length fits.
+fn margin_for(longest: usize) -> u64
+    ensures exact { result ≡ margin_for longest }
+    ensures few { result < 2 ^ 16 }
+{
+    text_width(longest).saturating_sub(68)
+}
+
+// How wide a picture is.
+fn width_of(margin: u64, columns: u32, line: usize) -> u64
+    requires { margin < 2 ^ 16 }
+    ensures { result ≡ width_of margin columns line }
+{
+    let needed = 24 + text_width(line);
+    let needed = if needed < 560 { 560 } else { needed };
+    let wide = x_of(columns) + 120;
+    margin + if wide < needed { needed } else { wide }
+}
+
+// Gathers how a document begins: its size, its style, and its background.
+fn push_opening(text: &mut Vec<u8>, margin: u64, width: u64, height: u64) -> Result<(), Memory>
+    ensures { OnOk result (text.new.items ≡ text.old.items ++ opening margin width height) }
+{
+    push_frame(text, margin, width, height)?;
     push_style_by_day(text)?;
     push_style_by_night(text)?;
-    push_arrow_heads(text)
+    push_arrow_heads(text)?;
+    push_background(text, margin, width, height)
 }
 
-// Gathers how wide a picture is that has so many columns, between two texts.
-fn push_width(text: &mut Vec<u8>, before: &[u8], columns: u32, after: &[u8]) -> Result<(), Memory>
-    requires { columns < 2 ^ 25 }
-    ensures { OnOk result (text.new.items ≡ text.old.items
-        ++ before.now ++ decimal (width_of columns) ++ after.now) }
+fn push_frame(text: &mut Vec<u8>, margin: u64, width: u64, height: u64) -> Result<(), Memory>
+    ensures { OnOk result (text.new.items ≡ text.old.items ++ frame margin width height) }
 {
-    push_number(text, before, x_of(columns + 1) + 30, after)
+    push_parts(
+        text,
+        &[
+            Part::Text(b"<svg xmlns='http://www.w3.org/2000/svg' viewBox='-"),
+            Part::Number(margin),
+            Part::Text(b" 0 "),
+            Part::Number(width),
+            Part::Text(b" "),
+            Part::Number(height),
+            Part::Text(b"' width='"),
+            Part::Number(width),
+            Part::Text(b"'>\n"),
+        ],
+    )
 }
 
-// Gathers how high a picture is that has these lanes, before a text.
-fn push_height(text: &mut Vec<u8>, lanes: &Lanes, after: &[u8]) -> Result<(), Memory>
-    ensures { OnOk result (text.new.items ≡ text.old.items ++ decimal (height_of lanes.now) ++ after.now) }
+fn push_background(text: &mut Vec<u8>, margin: u64, width: u64, height: u64) -> Result<(), Memory>
+    ensures { OnOk result (text.new.items ≡ text.old.items ++ background margin width height) }
 {
-    push_number(text, b"", y_of(lanes.count()) + 10, after)
+    push_parts(
+        text,
+        &[
+            Part::Text(b"<rect class='paper' x='-"),
+            Part::Number(margin),
+            Part::Text(b"' width='"),
+            Part::Number(width),
+            Part::Text(b"' height='"),
+            Part::Number(height),
+            Part::Text(b"' fill='#fff'/>\n<g fill='none' stroke='#1d232b'>\n"),
+        ],
+    )
 }
 
-// Gathers what is said below the lanes, and the document's end.
-fn push_closing(text: &mut Vec<u8>, lanes: &Lanes, caption: &[u8]) -> Result<(), Memory>
-    ensures { OnOk result (text.new.items ≡ text.old.items ++ document_end lanes.now caption.now) }
-{
-    push_foot(text, lanes)?;
-    push_escaped(text, caption)?;
-    push_text(text, b"</text>\n</svg>\n")
+// The layers of rows.
+#[derive(Clone, Copy)]
+pub(crate) enum Layer {
+    Stretches,
+    Arrows,
+    Figures,
+    Words,
 }
 
-// Gathers how the text where the lanes end begins.
-fn push_foot(text: &mut Vec<u8>, lanes: &Lanes) -> Result<(), Memory>
-    ensures { OnOk result (text.new.items ≡ text.old.items
-        ++ codes "<text x='92' y='" ++ decimal (y_of (length lanes.now)) ++ codes "' dy='-10'>") }
-{
-    push_y(text, b"<text x='92' y='", lanes.count(), b"' dy='-10'>")
-}
-
-// Gathers the marks of lanes.
-fn push_lane_marks(
+// Gathers the lanes of a picture.
+fn push_lanes(
     text: &mut Vec<u8>,
-    names: &Names,
-    lanes: &Lanes,
-    columns: u32,
+    page: &Page<'_>,
     window: &Window,
+    breach: &Option<Breach>,
 ) -> Result<(), Memory>
-    requires { columns < 2 ^ 25 }
-    ensures { OnOk result (text.new.items ≡ text.old.items ++ lane_marks names.now lanes.now columns
-        window.now.shown.items window.now.ends.items) }
+    requires { page.now.columns < 2 ^ 25 }
+    ensures { OnOk result (text.new.items ≡ text.old.items
+        ++ lanes_text (view_in page.now) window.now.ends.items breach.now) }
 {
-    push_names(text, names, lanes)?;
-    push_stretches(text, lanes, window.shown.as_slice())?;
-    push_last_stretches(text, lanes, columns, window.ends.as_slice())
+    push_layer(text, page, Layer::Stretches)?;
+    push_last_stretches(
+        text,
+        page,
+        right_of(page.columns, breach),
+        window.ends.as_slice(),
+    )
 }
 
-// Gathers the marks of rows; so many rows come before the window.
-fn push_row_marks(
+// Gathers the marks of a picture.
+fn push_marks(
     text: &mut Vec<u8>,
-    lanes: &Lanes,
-    before: u32,
-    notes: &Notes<'_>,
+    page: &Page<'_>,
     window: &Window,
+    breach: &Option<Breach>,
+) -> Result<(), Memory>
+    requires { page.now.before + page.now.columns < 2 ^ 25 }
+    ensures { OnOk result (text.new.items ≡ text.old.items
+        ++ marks_text (view_in page.now) window.now.cuts.items breach.now) }
+{
+    push_cuts(text, page.lanes, window.cuts.as_slice())?;
+    push_layer(text, page, Layer::Arrows)?;
+    push_layer(text, page, Layer::Figures)?;
+    push_breach(text, page, page.before + page.columns, page.columns, breach)
+}
+
+// Gathers the words of a picture, and its end.
+fn push_words(
+    text: &mut Vec<u8>,
+    page: &Page<'_>,
+    beside: &Beside,
+    breach: &Option<Breach>,
+    caption: &[u8],
 ) -> Result<(), Memory>
     ensures { OnOk result (text.new.items ≡ text.old.items
-        ++ row_marks (class_in notes.now) (reason_in notes.now) lanes.now before
-        window.now.cuts.items window.now.shown.items) }
+        ++ words_text (view_in page.now) (has_sign (view_in page.now) beside.now.is_cut beside.now.is_wrong) breach.now caption.now) }
 {
-    push_cuts(text, lanes, window.cuts.as_slice())?;
-    push_arrows(text, lanes, before, notes, window.shown.as_slice())?;
-    push_figures(text, lanes, notes, window.shown.as_slice())
+    push_text(text, b"</g>\n<g fill='#1d232b'>\n")?;
+    push_names(text, page.names, page.lanes)?;
+    push_layer(text, page, Layer::Words)?;
+    push_breach_word(text, page.columns, breach)?;
+    push_legend(text, page, beside, top_of(page.lanes))?;
+    push_ending(text, page.lanes, caption)
+}
+
+// Where the legend begins, below the line of text.
+fn top_of(lanes: &Lanes) -> u64
+    ensures exact { result ≡ top_of lanes.now }
+    ensures few { result < 2 ^ 32 }
+{
+    64 * u64::from(lanes.count()) + 34
+}
+
+// Gathers the marks of all rows in a layer.
+fn push_layer(text: &mut Vec<u8>, page: &Page<'_>, layer: Layer) -> Result<(), Memory>
+    ensures { OnOk result (text.new.items ≡ text.old.items ++ layer_text layer (view_in page.now)) }
+{
+    let shown = page.shown;
+    for row in shown {
+        push_row_mark(text, page, layer, row)?;
+    }
+    Ok(())
+}
+
+// Gathers the marks of a row in a layer.
+fn push_row_mark(
+    text: &mut Vec<u8>,
+    page: &Page<'_>,
+    layer: Layer,
+    row: &Shown,
+) -> Result<(), Memory>
+    ensures { OnOk result (text.new.items ≡ text.old.items ++ row_mark layer (view_in page.now) row.now) }
+{
+    match layer {
+        Layer::Stretches => push_stretch_of(text, page, row),
+        Layer::Arrows => push_arrow_of(text, page, row),
+        Layer::Figures => push_figure_of(text, page, row),
+        Layer::Words => push_words_of(text, page, row),
+    }
+}
+
+// Where lanes end: at the row that breaks a rule, else behind the last row.
+fn right_of(columns: u32, breach: &Option<Breach>) -> u32
+    requires { columns < 2 ^ 25 }
+    ensures { result ≡ right_of columns breach.now }
+{
+    if breach.is_some() {
+        columns
+    } else {
+        columns + 1
+    }
+}
+
+fn push_last_stretches(
+    text: &mut Vec<u8>,
+    page: &Page<'_>,
+    right: u32,
+    ends: &[End],
+) -> Result<(), Memory>
+    ensures { OnOk result (text.new.items ≡ text.old.items
+        ++ flat_map (last_stretch_of (view_in page.now) right ends.now) page.now.lanes.now) }
+{
+    for p in page.lanes.processes() {
+        push_last_stretch_of(text, page, right, ends, *p)?;
+    }
+    Ok(())
+}
+
+// Gathers the last stretch of a process's lane, up to a column.
+fn push_last_stretch_of(
+    text: &mut Vec<u8>,
+    page: &Page<'_>,
+    right: u32,
+    ends: &[End],
+    p: ProcNo,
+) -> Result<(), Memory>
+    ensures { OnOk result (text.new.items ≡ text.old.items ++ last_stretch_of (view_in page.now) right ends.now p) }
+{
+    push_last_stretch(text, page.lanes.of(p), right, ends.get(p.index()).copied())
+}
+
+// Gathers the last stretch of a lane.
+fn push_last_stretch(
+    text: &mut Vec<u8>,
+    lane: u8,
+    right: u32,
+    end: Option<End>,
+) -> Result<(), Memory>
+    ensures { OnOk result (text.new.items ≡ text.old.items ++ last_stretch lane right end) }
+{
+    match end {
+        Some(end) => push_stretch(text, lane, end.since, right, end.up, end.open_in),
+        None => Ok(()),
+    }
 }
 
 fn push_cuts(text: &mut Vec<u8>, lanes: &Lanes, cuts: &[CutMark]) -> Result<(), Memory>
-    ensures { OnOk result (text.new.items ≡ text.old.items ++ flat_map (cut_line lanes.now) cuts.now) }
+    ensures { OnOk result (text.new.items ≡ text.old.items ++ flat_map (new_cut lanes.now) cuts.now) }
 {
     for cut in cuts {
-        push_cut_line(text, lanes, cut)?;
+        push_new_cut(text, lanes, cut)?;
     }
     Ok(())
+}
+
+// Gathers a permanent cut that differs from the one before.
+fn push_new_cut(text: &mut Vec<u8>, lanes: &Lanes, cut: &CutMark) -> Result<(), Memory>
+    ensures { OnOk result (text.new.items ≡ text.old.items ++ new_cut lanes.now cut.now) }
+{
+    if cut.is_new {
+        push_cut_line(text, lanes, cut)
+    } else {
+        Ok(())
+    }
 }
 
 // Gathers the line of a permanent cut.
 fn push_cut_line(text: &mut Vec<u8>, lanes: &Lanes, cut: &CutMark) -> Result<(), Memory>
     ensures { OnOk result (text.new.items ≡ text.old.items ++ cut_line lanes.now cut.now) }
 {
-    push_colour_of(text, b"<polyline class='cut", cut.inst, b"' points='")?;
-    push_cut_points(text, lanes, cut)?;
-    push_inst(
+    push_parts(
         text,
-        b"'><title>permanent cut after instance ",
-        cut.inst,
-        b"</title></polyline>\n",
+        &[
+            Part::Text(b"<polyline class='cut"),
+            Part::Colour(Some(cut.inst.get())),
+            Part::Text(b"' points='"),
+        ],
+    )?;
+    push_cut_points(text, lanes, cut)?;
+    push_parts(
+        text,
+        &[
+            Part::Text(b"'><title>permanent cut after instance "),
+            Part::Instance(cut.inst),
+            Part::Text(b"</title></polyline>\n"),
+        ],
     )
 }
 
@@ -169,45 +365,49 @@ fn push_cut_points(text: &mut Vec<u8>, lanes: &Lanes, cut: &CutMark) -> Result<(
     ensures { OnOk result (text.new.items ≡ text.old.items ++ flat_map (cut_points lanes.now cut.now) lanes.now) }
 {
     for p in lanes.processes() {
-        push_cut_point(text, lanes, cut, *p)?;
+        push_cut_points_of(text, lanes, cut, *p)?;
     }
     Ok(())
 }
 
 // Gathers two points of a cut, above and below a process's lane.
-fn push_cut_point(text: &mut Vec<u8>, lanes: &Lanes, cut: &CutMark, p: ProcNo) -> Result<(), Memory>
+fn push_cut_points_of(
+    text: &mut Vec<u8>,
+    lanes: &Lanes,
+    cut: &CutMark,
+    p: ProcNo,
+) -> Result<(), Memory>
     ensures { OnOk result (text.new.items ≡ text.old.items ++ cut_points lanes.now cut.now p) }
 {
-    push_cut_x(text, cut, p)?;
-    push_above(text, lanes, p)?;
-    push_cut_x(text, cut, p)?;
-    push_below(text, lanes, p)
+    push_cut_point(text, cut_x(cut, p), y_of(lanes.of(p)))
 }
 
-// Gathers where a cut crosses a process's lane, and a comma.
-fn push_cut_x(text: &mut Vec<u8>, cut: &CutMark, p: ProcNo) -> Result<(), Memory>
-    ensures { OnOk result (text.new.items ≡ text.old.items ++ decimal (cut_x cut.now p) ++ codes ",") }
+// Gathers two points at this place, above and below a lane.
+fn push_cut_point(text: &mut Vec<u8>, x: u64, y: u64) -> Result<(), Memory>
+    requires above { 15 ≤ y }
+    requires below { y < 2 ^ 32 }
+    ensures { OnOk result (text.new.items ≡ text.old.items ++ cut_point x y) }
 {
-    push_number(
+    push_parts(
         text,
-        b"",
-        x_of(cut.columns[p.index()]) - 3 * (u64::from(cut.inst.get()) % 4),
-        b",",
+        &[
+            Part::Number(x),
+            Part::Text(b","),
+            Part::Number(y - 15),
+            Part::Text(b" "),
+            Part::Number(x),
+            Part::Text(b","),
+            Part::Number(y + 15),
+            Part::Text(b" "),
+        ],
     )
 }
 
-fn push_above(text: &mut Vec<u8>, lanes: &Lanes, p: ProcNo) -> Result<(), Memory>
-    ensures { OnOk result (text.new.items ≡ text.old.items
-        ++ decimal (y_of (lane_of lanes.now p) - 15) ++ codes " ") }
+// Where a cut crosses a process's lane.
+fn cut_x(cut: &CutMark, p: ProcNo) -> u64
+    ensures { result ≡ cut_x cut.now p }
 {
-    push_number(text, b"", y_of(lanes.of(p)) - 15, b" ")
-}
-
-fn push_below(text: &mut Vec<u8>, lanes: &Lanes, p: ProcNo) -> Result<(), Memory>
-    ensures { OnOk result (text.new.items ≡ text.old.items
-        ++ decimal (y_of (lane_of lanes.now p) + 15) ++ codes " ") }
-{
-    push_number(text, b"", y_of(lanes.of(p)) + 15, b" ")
+    x_of(cut.columns[p.index()]) - 3 * (u64::from(cut.inst.get()) % 4)
 }
 
 fn push_names(text: &mut Vec<u8>, names: &Names, lanes: &Lanes) -> Result<(), Memory>
@@ -223,22 +423,16 @@ fn push_names(text: &mut Vec<u8>, names: &Names, lanes: &Lanes) -> Result<(), Me
 fn push_name(text: &mut Vec<u8>, names: &Names, lanes: &Lanes, p: ProcNo) -> Result<(), Memory>
     ensures { OnOk result (text.new.items ≡ text.old.items ++ lane_name names.now lanes.now p) }
 {
-    push_name_place(text, lanes, p)?;
+    push_parts(
+        text,
+        &[
+            Part::Text(b"<text class='name' x='80' y='"),
+            Part::Y(lanes.of(p)),
+            Part::Text(b"' dy='4'>"),
+        ],
+    )?;
     push_name_of(text, names, p)?;
     push_text(text, b"</text>\n")
-}
-
-// Gathers how the name beside a process's lane begins.
-fn push_name_place(text: &mut Vec<u8>, lanes: &Lanes, p: ProcNo) -> Result<(), Memory>
-    ensures { OnOk result (text.new.items ≡ text.old.items
-        ++ codes "<text class='name' x='80' y='" ++ decimal (y_of (lane_of lanes.now p)) ++ codes "' dy='4'>") }
-{
-    push_y(
-        text,
-        b"<text class='name' x='80' y='",
-        lanes.of(p),
-        b"' dy='4'>",
-    )
 }
 
 /// Gathers the name of a process, or its number where it has none.
@@ -259,71 +453,25 @@ fn name_or<'a>(names: &'a Names, p: ProcNo, other: &'a [u8]) -> &'a [u8]
     }
 }
 
-fn push_stretches(text: &mut Vec<u8>, lanes: &Lanes, shown: &[Shown]) -> Result<(), Memory>
-    ensures { OnOk result (text.new.items ≡ text.old.items ++ flat_map (stretch_of lanes.now) shown.now) }
+// Gathers what is said below the lanes, and the document's end.
+fn push_ending(text: &mut Vec<u8>, lanes: &Lanes, caption: &[u8]) -> Result<(), Memory>
+    ensures { OnOk result (text.new.items ≡ text.old.items ++ ending lanes.now caption.now) }
 {
-    for row in shown {
-        push_stretch_of(text, lanes, row)?;
-    }
-    Ok(())
+    push_foot(text, lanes.count(), caption)
 }
 
-fn push_last_stretches(
-    text: &mut Vec<u8>,
-    lanes: &Lanes,
-    columns: u32,
-    ends: &[End],
-) -> Result<(), Memory>
-    requires { columns < 2 ^ 25 }
-    ensures { OnOk result (text.new.items ≡ text.old.items ++ flat_map (last_stretch lanes.now columns) ends.now) }
+// Gathers the same where the lanes end here.
+fn push_foot(text: &mut Vec<u8>, lane: u8, caption: &[u8]) -> Result<(), Memory>
+    ensures { OnOk result (text.new.items ≡ text.old.items ++ foot lane caption.now) }
 {
-    for end in ends {
-        push_last_stretch(text, lanes, columns, end)?;
-    }
-    Ok(())
-}
-
-// Gathers the last stretch of a lane, up to the right end.
-fn push_last_stretch(
-    text: &mut Vec<u8>,
-    lanes: &Lanes,
-    columns: u32,
-    end: &End,
-) -> Result<(), Memory>
-    requires { columns < 2 ^ 25 }
-    ensures { OnOk result (text.new.items ≡ text.old.items ++ last_stretch lanes.now columns end.now) }
-{
-    let lane = lanes.of(end.process);
-    push_stretch(text, lane, end.since, columns + 1, end.up, end.open_in)
-}
-
-fn push_arrows(
-    text: &mut Vec<u8>,
-    lanes: &Lanes,
-    before: u32,
-    notes: &Notes<'_>,
-    shown: &[Shown],
-) -> Result<(), Memory>
-    ensures { OnOk result (text.new.items ≡ text.old.items
-        ++ flat_map (arrow_of (class_in notes.now) lanes.now before) shown.now) }
-{
-    for row in shown {
-        push_arrow_of(text, lanes, before, notes, row)?;
-    }
-    Ok(())
-}
-
-fn push_figures(
-    text: &mut Vec<u8>,
-    lanes: &Lanes,
-    notes: &Notes<'_>,
-    shown: &[Shown],
-) -> Result<(), Memory>
-    ensures { OnOk result (text.new.items ≡ text.old.items
-        ++ flat_map (figure_of (reason_in notes.now) lanes.now) shown.now) }
-{
-    for row in shown {
-        push_figure_of(text, lanes, notes, row)?;
-    }
-    Ok(())
+    push_parts(
+        text,
+        &[
+            Part::Text(b"<text x='12' y='"),
+            Part::Y(lane),
+            Part::Text(b"' dy='10'>"),
+            Part::Other(caption),
+            Part::Text(b"</text>\n</g>\n</svg>\n"),
+        ],
+    )
 }

@@ -8,13 +8,18 @@ mod entry;
 mod escaping;
 mod evidence;
 mod fates;
+mod figures;
 mod items;
 mod known;
 mod lanes;
 mod laws;
 mod layers;
+mod legend;
 mod links;
+mod looks;
 mod marks;
+mod page;
+mod parts;
 mod record;
 mod shapes;
 mod shown;
@@ -28,6 +33,7 @@ pub use drawing::{draw, picture};
 pub use escaping::escaped_has_no_mark;
 pub use evidence::Evidence;
 pub use laws::{
-    arrows_tell_messages, cuts_are_permanent, each_row_is_shown, joinings_tell_decisions,
-    undone_is_not_live, unreceived_is_not_live,
+    arrows_look_as_they_end, arrows_tell_messages, cuts_are_permanent, each_row_is_shown,
+    joinings_tell_decisions, legend_tells_marks, undone_is_not_live, unreceived_is_not_live,
+    words_stand_apart,
 };

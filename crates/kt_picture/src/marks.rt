@@ -1,23 +1,20 @@
 //! The marks of rows: stretches of lanes, arrows, and what shows a row at its place.
 
-ghost use Rattle.std.specs.Prelude.{◌≡◌, ◌∷◌, ◌++◌, [], codes, Some, OnOk, if◌then◌else◌};
-ghost use Rattle.std.specs.Fmt.{decimal};
-ghost use Rattle.kt_spacetime.specs.Events.{process_of};
-ghost use Rattle.kt_picture.specs.Lanes.{lane_of};
-ghost use Rattle.kt_picture.specs.Shapes.{point};
-ghost use Rattle.kt_picture.specs.Svg.{to_column, bar, stretch, stretch_of, lane_class, path_of, arrow_class, arrow, arrow_at, arrow_of, column_of, short_arrow, way, towards, row_words, title, title_with, word_at, kind_letter, dot_class, refusal_mark, beginning, instance_figure, figure, figure_at, figure_of, row_number, number_at};
-ghost use Rattle.kt_picture.specs.Notes.{class_in, reason_in};
+ghost use Rattle.std.specs.Prelude.{◌≡◌, ◌++◌, [], None, Some, false, OnOk, is_some, if◌then◌else◌};
+ghost use Rattle.kt_picture.specs.Marks.{title, row_words, drawn, figure, line, lane_look, bar, stretch, stretch_of, arrow_look, stands_out, colour_for, dress_of, arrow_path, tail_of, arrow, short_arrow, arrow_at, arrow_of, dot_look, tick_look, fill_look, figure_at, figure_of};
+ghost use Rattle.kt_picture.specs.Pages.{view_in, reason_in};
 
-use crate::evidence::{Notes, push_class_of, push_reason_of};
+use crate::evidence::push_reason_of;
+use crate::figures::{Dress, Figure};
+use crate::known::number_of;
 use crate::lanes::Lanes;
-use crate::record::{push_cause, push_fields};
-use crate::shapes::{
-    diamond, fill_class, push_colour, push_coloured, push_point, push_shape, push_x, push_y,
-    square, triangle,
-};
+use crate::looks::{Look, Outline};
+use crate::page::Page;
+use crate::parts::{Part, push_parts, push_text};
+use crate::record::push_fields;
+use crate::shapes::push_shape;
 use crate::shown::Shown;
-use crate::words::{push_between, push_inst, push_row, push_text};
-use kt_base::{Cause, InstNo, Kind, Memory, MsgNo, ProcNo};
+use kt_base::{InstNo, Memory, MsgNo, ProcNo};
 use kt_spacetime::Event;
 
 /// Gathers a stretch of a lane, dashed while the process is down, over a bar while it is in an instance.
@@ -32,8 +29,7 @@ pub(crate) fn push_stretch(
     ensures { OnOk result (text.new.items ≡ text.old.items ++ stretch lane since column up open_in) }
 {
     push_bar(text, open_in, lane, since, column)?;
-    push_lane_path(text, up)?;
-    push_line(text, since, lane, column, b"'/>\n")
+    push_line(text, lane_look(up), None, lane, since, column)
 }
 
 // Gathers the bar under a stretch.
@@ -47,115 +43,68 @@ fn push_bar(
     ensures { OnOk result (text.new.items ≡ text.old.items ++ bar open_in lane since column) }
 {
     match open_in {
-        Some(inst) => push_bar_of(text, inst, lane, since, column),
+        Some(inst) => push_line(text, Look::Bar, Some(inst), lane, since, column),
         None => Ok(()),
     }
 }
 
-// Gathers the bar of an instance.
-fn push_bar_of(
-    text: &mut Vec<u8>,
-    inst: u16,
-    lane: u8,
-    since: u32,
-    column: u32,
-) -> Result<(), Memory>
-    ensures { OnOk result (text.new.items ≡ text.old.items ++ bar (Some inst) lane since column) }
-{
-    push_colour(text, b"<path class='in", inst, b"' d='M")?;
-    push_line(text, since, lane, column, b"'/>")
-}
-
-// Gathers a line along a lane, before a text.
+// Gathers a line of a class along a lane.
 fn push_line(
     text: &mut Vec<u8>,
-    since: u32,
+    look: Look,
+    inst: Option<u16>,
     lane: u8,
+    since: u32,
     column: u32,
-    after: &[u8],
 ) -> Result<(), Memory>
-    ensures { OnOk result (text.new.items ≡ text.old.items ++ point since lane ++ to_column column ++ after.now) }
+    ensures { OnOk result (text.new.items ≡ text.old.items ++ line look inst lane since column) }
 {
-    push_point(text, b"", since, lane, b"H")?;
-    push_x(text, b"", column, after)
+    push_parts(
+        text,
+        &[
+            Part::Text(b"<path class='"),
+            Part::Class(look),
+            Part::Colour(inst),
+            Part::Text(b"' d='M"),
+            Part::X(since),
+            Part::Text(b" "),
+            Part::Y(lane),
+            Part::Text(b"H"),
+            Part::X(column),
+            Part::Text(b"'/>\n"),
+        ],
+    )
 }
 
-// Gathers how the path of a stretch begins.
-fn push_lane_path(text: &mut Vec<u8>, up: bool) -> Result<(), Memory>
-    ensures { OnOk result (text.new.items ≡ text.old.items ++ path_of (lane_class up)) }
+fn lane_look(up: bool) -> Look
+    ensures { result ≡ lane_look up }
 {
-    push_between(text, b"<path class='", lane_class(up), b"' d='M")
-}
-
-fn lane_class(up: bool) -> &'static [u8]
-    ensures { result.now ≡ lane_class up }
-{
-    if up { b"lane" } else { b"lane down" }
+    if up { Look::Up } else { Look::Down }
 }
 
 /// Gathers the stretch of a process's lane up to a row.
-pub(crate) fn push_stretch_of(text: &mut Vec<u8>, lanes: &Lanes, s: &Shown) -> Result<(), Memory>
-    ensures { OnOk result (text.new.items ≡ text.old.items ++ stretch_of lanes.now s.now) }
+pub(crate) fn push_stretch_of(text: &mut Vec<u8>, page: &Page<'_>, s: &Shown) -> Result<(), Memory>
+    ensures { OnOk result (text.new.items ≡ text.old.items ++ stretch_of (view_in page.now) s.now) }
 {
-    let lane = lanes.of(s.event.process());
+    let lane = page.lanes.of(s.event.process());
     push_stretch(text, lane, s.since, s.column, s.up, s.open_in)
 }
 
-/// Gathers a tooltip with a row's number and text.
-pub(crate) fn push_title(text: &mut Vec<u8>, number: u32, row: Event) -> Result<(), Memory>
-    ensures { OnOk result (text.new.items ≡ text.old.items ++ title number row) }
+/// Gathers the arrow of a row, where it has one.
+pub(crate) fn push_arrow_of(text: &mut Vec<u8>, page: &Page<'_>, s: &Shown) -> Result<(), Memory>
+    ensures { OnOk result (text.new.items ≡ text.old.items ++ arrow_of (view_in page.now) s.now) }
 {
-    push_row_words(text, number, row)?;
-    push_text(text, b"</title>")
-}
-
-// Gathers a tooltip with a row's number and text, and why its process took part.
-fn push_title_with_reason(text: &mut Vec<u8>, notes: &Notes<'_>, s: &Shown) -> Result<(), Memory>
-    ensures { OnOk result (text.new.items ≡ text.old.items
-        ++ title_with (reason_in notes.now s.now.event) s.now.row s.now.event) }
-{
-    push_row_words(text, s.row, s.event)?;
-    push_reason_of(text, notes, s.event)?;
-    push_text(text, b"</title>")
-}
-
-// Gathers how a tooltip begins, with a row's number and text.
-fn push_row_words(text: &mut Vec<u8>, number: u32, row: Event) -> Result<(), Memory>
-    ensures { OnOk result (text.new.items ≡ text.old.items ++ row_words number row) }
-{
-    push_row(text, b"<g><title>row ", number, b": ")?;
-    push_fields(text, row)
-}
-
-/// Gathers the arrow of a row, where it has one; so many rows come before the window.
-pub(crate) fn push_arrow_of(
-    text: &mut Vec<u8>,
-    lanes: &Lanes,
-    before: u32,
-    notes: &Notes<'_>,
-    s: &Shown,
-) -> Result<(), Memory>
-    ensures { OnOk result (text.new.items ≡ text.old.items ++ arrow_of (class_in notes.now) lanes.now before s.now) }
-{
-    push_arrow_at(text, lanes, before, notes, s, s.event)
+    push_arrow_at(text, page, s, s.event)
 }
 
 // Gathers the arrow of this row, where it has one.
-fn push_arrow_at(
-    text: &mut Vec<u8>,
-    lanes: &Lanes,
-    before: u32,
-    notes: &Notes<'_>,
-    s: &Shown,
-    event: Event,
-) -> Result<(), Memory>
-    ensures { OnOk result (text.new.items ≡ text.old.items
-        ++ arrow_at (class_in notes.now) lanes.now before s.now event) }
+fn push_arrow_at(text: &mut Vec<u8>, page: &Page<'_>, s: &Shown, event: Event) -> Result<(), Memory>
+    ensures { OnOk result (text.new.items ≡ text.old.items ++ arrow_at (view_in page.now) s.now event) }
 {
     match event {
-        Event::Sent { p, to, .. } => push_arrow_in_transit(text, lanes, s, p, to),
-        Event::Received { from, msg, .. } => push_arrow(text, lanes, before, notes, s, from, msg),
-        Event::Dropped { from, msg, .. } => push_arrow(text, lanes, before, notes, s, from, msg),
+        Event::Sent { p, to, .. } => push_arrow_in_transit(text, page, s, p, to),
+        Event::Received { from, msg, .. } => push_arrow(text, page, s, from, msg),
+        Event::Dropped { from, msg, .. } => push_arrow(text, page, s, from, msg),
         _ => Ok(()),
     }
 }
@@ -163,109 +112,124 @@ fn push_arrow_at(
 // Gathers the arrow of a message from where it was sent to where it was taken.
 fn push_arrow(
     text: &mut Vec<u8>,
-    lanes: &Lanes,
-    before: u32,
-    notes: &Notes<'_>,
+    page: &Page<'_>,
     s: &Shown,
     from: ProcNo,
     msg: MsgNo,
 ) -> Result<(), Memory>
-    ensures { OnOk result (text.new.items ≡ text.old.items
-        ++ arrow (class_in notes.now msg) lanes.now before s.now from msg) }
+    ensures { OnOk result (text.new.items ≡ text.old.items ++ arrow (view_in page.now) s.now from msg) }
 {
-    push_title(text, s.row, s.event)?;
-    push_arrow_path(text, notes, s, msg)?;
-    push_origin(text, lanes, before, from, msg)?;
-    push_target(text, lanes, s)
+    let dress = dress_of(s, stands_out(page.orphan, msg), page.links.get(msg));
+    let tail = tail_of(page.before, msg, s.column);
+    let start = page.lanes.of(from);
+    let end = page.lanes.of(s.event.process());
+    push_title(text, s)?;
+    push_arrow_path(text, &dress, tail, start, s.column, end)
 }
 
-// Gathers how the path of the arrow of a message begins.
+// Gathers the line of an arrow from one place to another.
 fn push_arrow_path(
     text: &mut Vec<u8>,
-    notes: &Notes<'_>,
-    s: &Shown,
-    msg: MsgNo,
+    dress: &Dress,
+    tail: u32,
+    from: u8,
+    column: u32,
+    lane: u8,
 ) -> Result<(), Memory>
-    ensures { OnOk result (text.new.items ≡ text.old.items
-        ++ path_of (arrow_class s.now.is_undone s.now.is_taken_back ++ class_in notes.now msg)) }
+    ensures { OnOk result (text.new.items ≡ text.old.items ++ arrow_path dress.now tail from column lane) }
 {
-    push_arrow_class(text, s.is_undone, s.is_taken_back)?;
-    push_class_of(text, notes, msg)?;
-    push_text(text, b"' d='M")
-}
-
-// Gathers how the path of an arrow begins, with its class.
-fn push_arrow_class(text: &mut Vec<u8>, is_undone: bool, is_taken_back: bool) -> Result<(), Memory>
-    ensures { OnOk result (text.new.items ≡ text.old.items
-        ++ codes "<path class='" ++ arrow_class is_undone is_taken_back) }
-{
-    push_between(
+    push_parts(
         text,
-        b"<path class='",
-        arrow_class(is_undone, is_taken_back),
-        b"",
+        &[
+            Part::Text(b"<path class='"),
+            Part::Class(dress.look),
+            Part::Colour(dress.inst),
+            Part::Text(b"' d='M"),
+            Part::X(tail),
+            Part::Text(b" "),
+            Part::Y(from),
+            Part::Text(b"L"),
+            Part::X(column),
+            Part::Text(b" "),
+            Part::Y(lane),
+            Part::Text(b"'/></g>\n"),
+        ],
     )
 }
 
-fn arrow_class(is_undone: bool, is_taken_back: bool) -> &'static [u8]
-    ensures { result.now ≡ arrow_class is_undone is_taken_back }
+// How the arrow of a row is drawn that takes a message, and in which instance's colour: that of its chain, if it is in one.
+fn dress_of(s: &Shown, stands_out: bool, link: Option<InstNo>) -> Dress
+    ensures { result ≡ dress_of s.now stands_out link }
+{
+    let look = arrow_look(s.is_undone, s.is_taken_back, stands_out, link.is_some());
+    let inst = colour_for(look, link);
+    Dress { look, inst }
+}
+
+// How an arrow is drawn.
+fn arrow_look(is_undone: bool, is_taken_back: bool, stands_out: bool, linked: bool) -> Look
+    ensures { result ≡ arrow_look is_undone is_taken_back stands_out linked }
 {
     match (is_undone, is_taken_back) {
-        (false, false) => b"m",
-        (false, true) => b"m back",
-        (true, false) => b"m gone",
-        (true, true) => b"m gone back",
+        (true, true) => Look::Vanished,
+        (false, true) => Look::Unreceived,
+        (_, false) => standing_look(is_undone, stands_out, linked),
     }
 }
 
-// Gathers where a message was sent, and that a line goes from there.
-fn push_origin(
-    text: &mut Vec<u8>,
-    lanes: &Lanes,
-    before: u32,
-    from: ProcNo,
-    msg: MsgNo,
-) -> Result<(), Memory>
-    ensures { OnOk result (text.new.items ≡ text.old.items
-        ++ point (column_of before msg) (lane_of lanes.now from) ++ codes "L") }
+// The same where the receive is not undone.
+fn standing_look(is_undone: bool, stands_out: bool, linked: bool) -> Look
+    ensures { result ≡ arrow_look is_undone false stands_out linked }
 {
-    push_place(text, lanes, msg.get().saturating_sub(before), from, b"L")
+    match (is_undone, stands_out, linked) {
+        (_, true, _) => Look::Orphan,
+        (true, false, _) => Look::Unsent,
+        (false, false, true) => Look::Linked,
+        (false, false, false) => Look::Message,
+    }
 }
 
-// Gathers the place of a row in its process's lane, and the end of an arrow.
-fn push_target(text: &mut Vec<u8>, lanes: &Lanes, s: &Shown) -> Result<(), Memory>
-    ensures { OnOk result (text.new.items ≡ text.old.items
-        ++ point s.now.column (lane_of lanes.now (process_of s.now.event)) ++ codes "'/></g>\n") }
+// Whether a message is the orphan that stands out.
+fn stands_out(orphan: Option<MsgNo>, msg: MsgNo) -> bool
+    ensures { result ≡ stands_out orphan msg }
 {
-    push_place(text, lanes, s.column, s.event.process(), b"'/></g>\n")
+    match orphan {
+        Some(orphan) => orphan == msg,
+        None => false,
+    }
 }
 
-// Gathers the place of a column in a process's lane, before a text.
-fn push_place(
-    text: &mut Vec<u8>,
-    lanes: &Lanes,
-    column: u32,
-    p: ProcNo,
-    after: &[u8],
-) -> Result<(), Memory>
-    ensures { OnOk result (text.new.items ≡ text.old.items ++ point column (lane_of lanes.now p) ++ after.now) }
+// The instance whose colour an arrow has.
+fn colour_for(look: Look, link: Option<InstNo>) -> Option<u16>
+    ensures { result ≡ colour_for look link }
 {
-    push_point(text, b"", column, lanes.of(p), after)
+    match look {
+        Look::Linked => number_of(link),
+        _ => None,
+    }
+}
+
+// The column where the arrow of a message begins: that of the row which sent it, but not behind its head.
+fn tail_of(before: u32, msg: MsgNo, column: u32) -> u32
+    ensures { result ≡ tail_of before msg column }
+{
+    let sent = msg.get().saturating_sub(before);
+    if column < sent { column } else { sent }
 }
 
 // Gathers the short arrow of a message that is in transit at the window's end.
 fn push_arrow_in_transit(
     text: &mut Vec<u8>,
-    lanes: &Lanes,
+    page: &Page<'_>,
     s: &Shown,
     p: ProcNo,
     to: ProcNo,
 ) -> Result<(), Memory>
     ensures { OnOk result (text.new.items ≡ text.old.items
-        ++ (if s.now.is_in_transit then short_arrow lanes.now s.now p to else [])) }
+        ++ (if s.now.is_in_transit then short_arrow page.now.lanes.now s.now p to else [])) }
 {
     if s.is_in_transit {
-        push_short_arrow(text, lanes, s, p, to)
+        push_short_arrow(text, page.lanes, s, p, to)
     } else {
         Ok(())
     }
@@ -281,191 +245,134 @@ fn push_short_arrow(
 ) -> Result<(), Memory>
     ensures { OnOk result (text.new.items ≡ text.old.items ++ short_arrow lanes.now s.now p to) }
 {
-    push_title(text, s.row, s.event)?;
-    push_way(text, lanes, s.column, p, to)?;
-    push_text(text, b"</g>\n")
-}
-
-// Gathers the way that a message in transit has gone.
-fn push_way(
-    text: &mut Vec<u8>,
-    lanes: &Lanes,
-    column: u32,
-    p: ProcNo,
-    to: ProcNo,
-) -> Result<(), Memory>
-    ensures { OnOk result (text.new.items ≡ text.old.items ++ way lanes.now column p to) }
-{
     let lane = lanes.of(p);
-    push_shape(text, b"m way", column, lane, towards(lane, lanes.of(to)))
-}
-
-fn towards(lane: u8, other: u8) -> &'static [u8]
-    ensures { result.now ≡ towards lane other }
-{
-    if lane < other { b"l12 18" } else { b"l12 -18" }
-}
-
-/// Gathers what shows a row at its place, and the number of each fifth row.
-pub(crate) fn push_figure_of(
-    text: &mut Vec<u8>,
-    lanes: &Lanes,
-    notes: &Notes<'_>,
-    s: &Shown,
-) -> Result<(), Memory>
-    ensures { OnOk result (text.new.items ≡ text.old.items ++ figure_of (reason_in notes.now) lanes.now s.now) }
-{
-    push_number_at(text, s.row, s.column)?;
-    push_title_with_reason(text, notes, s)?;
-    push_figure_at(text, lanes, s)?;
+    let down = lane < lanes.of(to);
+    push_title(text, s)?;
+    push_shape(text, Look::Way, None, s.column, lane, Outline::Way(down))?;
     push_text(text, b"</g>\n")
 }
 
-// Gathers the number of each fifth row.
-fn push_number_at(text: &mut Vec<u8>, row: u32, column: u32) -> Result<(), Memory>
-    ensures { OnOk result (text.new.items ≡ text.old.items ++ number_at row column) }
+/// Gathers what shows a row at its place, under its tooltip.
+pub(crate) fn push_figure_of(text: &mut Vec<u8>, page: &Page<'_>, s: &Shown) -> Result<(), Memory>
+    ensures { OnOk result (text.new.items ≡ text.old.items ++ figure_of (view_in page.now) s.now) }
 {
-    if row % 5 == 0 {
-        push_row_number(text, row, column)
-    } else {
-        Ok(())
-    }
-}
-
-// Gathers the number of a row, above it.
-fn push_row_number(text: &mut Vec<u8>, row: u32, column: u32) -> Result<(), Memory>
-    ensures { OnOk result (text.new.items ≡ text.old.items ++ row_number row column) }
-{
-    push_x(text, b"<text class='num' x='", column, b"' y='20'>")?;
-    push_row(text, b"", row, b"</text>\n")
-}
-
-// Gathers what shows a row in its process's lane.
-fn push_figure_at(text: &mut Vec<u8>, lanes: &Lanes, s: &Shown) -> Result<(), Memory>
-    ensures { OnOk result (text.new.items ≡ text.old.items ++ figure_at lanes.now s.now) }
-{
-    push_figure(text, lanes.of(s.event.process()), s, s.event)
-}
-
-// Gathers what shows a row at its place.
-fn push_figure(text: &mut Vec<u8>, lane: u8, s: &Shown, event: Event) -> Result<(), Memory>
-    ensures { OnOk result (text.new.items ≡ text.old.items ++ figure lane s.now event) }
-{
-    let column = s.column;
-    match event {
-        Event::Sent { .. } => push_shape(
-            text,
-            dot_class(s.is_undone),
-            column,
-            lane,
-            b"m-3 0a3 3 0 1 0 6 0a3 3 0 1 0 -6 0",
-        ),
-        Event::Received { .. } => push_shape(text, b"open", column, lane, b"m0 -4v8"),
-        Event::Dropped { .. } => {
-            push_shape(text, b"x", column, lane, b"m-5 -5l10 10m0 -10l-10 10")
-        }
-        Event::Failed { .. } => {
-            push_shape(text, b"x", column, lane, b"m-7 -7l14 14m0 -14l-14 14")
-        }
-        Event::Unwilling { cause, .. } => push_refusal(text, column, lane, cause),
-        Event::Refused { cause, .. } => push_refusal(text, column, lane, cause),
-        _ => push_joining(text, lane, s, event),
-    }
-}
-
-fn dot_class(is_undone: bool) -> &'static [u8]
-    ensures { result.now ≡ dot_class is_undone }
-{
-    if is_undone { b"dot pale" } else { b"dot" }
-}
-
-// Gathers that a process did not do what it was asked, and why.
-fn push_refusal(text: &mut Vec<u8>, column: u32, lane: u8, cause: Cause) -> Result<(), Memory>
-    ensures { OnOk result (text.new.items ≡ text.old.items ++ refusal_mark column lane cause) }
-{
-    push_shape(
+    push_title_with_reason(text, page, s)?;
+    push_figure(
         text,
-        b"w",
-        column,
-        lane,
-        b"m-6 0a6 6 0 1 0 12 0a6 6 0 1 0 -12 0m2 -4l8 8",
+        &figure_at(s, s.event),
+        s.column,
+        page.lanes.of(s.event.process()),
     )?;
-    push_word_at(text, b"bad", column, lane, b"20")?;
-    push_cause(text, cause)?;
-    push_text(text, b"</text>")
+    push_text(text, b"</g>\n")
 }
 
-// Gathers how a word begins that stands so far below a place.
-fn push_word_at(
+/// Gathers a shape at a place.
+pub(crate) fn push_figure(
     text: &mut Vec<u8>,
-    class: &[u8],
+    figure: &Figure,
     column: u32,
     lane: u8,
-    below: &[u8],
 ) -> Result<(), Memory>
-    ensures { OnOk result (text.new.items ≡ text.old.items ++ word_at class.now column lane below.now) }
+    ensures { OnOk result (text.new.items ≡ text.old.items ++ drawn figure.now column lane) }
 {
-    push_between(text, b"<text class='", class, b"' x='")?;
-    push_x(text, b"", column, b"' y='")?;
-    push_y(text, b"", lane, b"' dy='")?;
-    push_between(text, b"", below, b"'>")
+    push_shape(text, figure.look, figure.inst, column, lane, figure.outline)
 }
 
-// Gathers what shows a row of an instance.
-fn push_joining(text: &mut Vec<u8>, lane: u8, s: &Shown, event: Event) -> Result<(), Memory>
-    ensures { OnOk result (text.new.items ≡ text.old.items ++ instance_figure lane s.now event) }
+// Gathers a tooltip with a row's number and text, and why its process took part.
+fn push_title_with_reason(text: &mut Vec<u8>, page: &Page<'_>, s: &Shown) -> Result<(), Memory>
+    ensures { OnOk result (text.new.items ≡ text.old.items
+        ++ title (reason_in page.now s.now.event) s.now.row s.now.event) }
 {
-    let column = s.column;
-    let fill = fill_class(s.decision);
+    push_row_words(text, s)?;
+    push_reason_of(text, page, s.event)?;
+    push_text(text, b"</title>")
+}
+
+// Gathers a tooltip with a row's number and text.
+fn push_title(text: &mut Vec<u8>, s: &Shown) -> Result<(), Memory>
+    ensures { OnOk result (text.new.items ≡ text.old.items ++ title [] s.now.row s.now.event) }
+{
+    push_row_words(text, s)?;
+    push_text(text, b"</title>")
+}
+
+// Gathers how a tooltip begins, with a row's number and text.
+fn push_row_words(text: &mut Vec<u8>, s: &Shown) -> Result<(), Memory>
+    ensures { OnOk result (text.new.items ≡ text.old.items ++ row_words s.now.row s.now.event) }
+{
+    push_parts(
+        text,
+        &[
+            Part::Text(b"<g><title>row "),
+            Part::Row(s.row),
+            Part::Text(b": "),
+        ],
+    )?;
+    push_fields(text, s.event)
+}
+
+// What shows a row at its place.
+fn figure_at(s: &Shown, event: Event) -> Figure
+    ensures { result ≡ figure_at s.now event }
+{
+    let fill = fill_look(s.decision);
     match event {
-        Event::Began { inst, kind, .. } => push_beginning(text, column, lane, inst, kind),
-        Event::Took { inst, .. } => {
-            push_coloured(text, fill, inst, column, lane, square(s.decision))
+        Event::Sent { .. } => figure(dot_look(s.is_undone), None, Outline::Dot),
+        Event::Received { .. } => {
+            figure(tick_look(s.is_undone, s.is_taken_back), None, Outline::Tick)
         }
-        Event::Ready { inst, .. } => {
-            push_coloured(text, fill, inst, column, lane, triangle(s.decision))
+        Event::Dropped { .. } => figure(Look::Dropped, None, Outline::Cross),
+        Event::Began { inst, .. } => figure(Look::Bar, Some(inst), Outline::Beginning),
+        Event::Took { inst, .. } => figure(fill, Some(inst), Outline::Square(s.decision)),
+        Event::Ready { inst, .. } => figure(fill, Some(inst), Outline::Triangle(s.decision)),
+        Event::Unwilling { .. } => figure(Look::Refused, None, Outline::Ban),
+        Event::Decided { inst, commit, .. } => {
+            figure(
+                fill_look(Some(commit)),
+                Some(inst),
+                Outline::Diamond(commit),
+            )
         }
-        Event::Decided { inst, commit, .. } => push_coloured(
-            text,
-            fill_class(Some(commit)),
-            inst,
-            column,
-            lane,
-            diamond(commit),
-        ),
-        Event::Closed { inst, .. } => push_coloured(text, b"f", inst, column, lane, b"m0 -5v10"),
-        _ => Ok(()),
+        Event::Closed { inst, .. } => figure(Look::Open, Some(inst), Outline::Ending),
+        Event::Failed { .. } => figure(Look::Failed, None, Outline::Bolt),
+        Event::Refused { .. } => figure(Look::Refused, None, Outline::Ban),
     }
 }
 
-// Gathers that an instance begins, with its number.
-fn push_beginning(
-    text: &mut Vec<u8>,
-    column: u32,
-    lane: u8,
-    inst: InstNo,
-    kind: Kind,
-) -> Result<(), Memory>
-    ensures { OnOk result (text.new.items ≡ text.old.items ++ beginning column lane inst kind) }
+fn figure(look: Look, inst: Option<InstNo>, outline: Outline) -> Figure
+    ensures { result ≡ figure look inst outline }
 {
-    push_coloured(text, b"in", inst, column, lane, b"m-5 0h10")?;
-    push_word_at(text, b"inst", column, lane, b"-13")?;
-    push_instance_name(text, kind, inst)
+    let inst = number_of(inst);
+    Figure {
+        look,
+        inst,
+        outline,
+    }
 }
 
-// Gathers what an instance is called, and the end of its word.
-fn push_instance_name(text: &mut Vec<u8>, kind: Kind, inst: InstNo) -> Result<(), Memory>
-    ensures { OnOk result (text.new.items ≡ text.old.items ++ kind_letter kind ++ decimal inst ++ codes "</text>") }
+fn dot_look(is_undone: bool) -> Look
+    ensures { result ≡ dot_look is_undone }
 {
-    push_inst(text, kind_letter(kind), inst, b"</text>")
+    if is_undone { Look::PaleDot } else { Look::Dot }
 }
 
-// The letter of a kind of instance.
-fn kind_letter(kind: Kind) -> &'static [u8]
-    ensures { result.now ≡ kind_letter kind }
+fn tick_look(is_undone: bool, is_taken_back: bool) -> Look
+    ensures { result ≡ tick_look is_undone is_taken_back }
 {
-    match kind {
-        Kind::Checkpoint => b"C",
-        Kind::Rollback => b"R",
+    match (is_undone, is_taken_back) {
+        (false, false) => Look::Tick,
+        (true, _) => Look::PaleTick,
+        (false, true) => Look::PaleTick,
+    }
+}
+
+// Filled after a commit, else open.
+fn fill_look(decision: Option<bool>) -> Look
+    ensures { result ≡ fill_look decision }
+{
+    match decision {
+        Some(true) => Look::Full,
+        Some(false) => Look::Open,
+        None => Look::Open,
     }
 }

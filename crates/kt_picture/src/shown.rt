@@ -44,4 +44,6 @@ pub(crate) struct End {
 pub(crate) struct CutMark {
     pub(crate) inst: InstNo,
     pub(crate) columns: [u32; 64],
+    /// Whether it differs from the one before.
+    pub(crate) is_new: bool,
 }

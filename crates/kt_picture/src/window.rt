@@ -1,10 +1,11 @@
 //! What the window of a picture shows.
 
-ghost use Rattle.std.specs.Prelude.{◌≡◌, ◌<◌, ◌+◌, ◌++◌, ◌∷◌, [], List, IfOk, OnOk, if◌then◌else◌, length, drop, map};
+ghost use Rattle.std.specs.Prelude.{◌≡◌, ◌<◌, ◌+◌, ◌++◌, ◌∷◌, [], List, IfOk, OnOk, if◌then◌else◌, not, bytes_eq, length, drop, map};
 ghost use Rattle.kt_picture.specs.Followed.{AreFollowed, told_rows};
 ghost use Rattle.kt_picture.specs.KnownAtRow.{KnownAtRow, cut_in};
 ghost use Rattle.kt_picture.specs.KnownOf.{KnownOf};
 ghost use Rattle.kt_picture.specs.Window.{end_of};
+ghost use Rattle.std.specs.List.{range_with_len};
 ghost use Rattle.kt_spacetime.specs.declared.event.Event.{Event};
 ghost use Rattle.kt_walk.specs.WalkOf.{WalkOf};
 
@@ -12,7 +13,6 @@ use crate::entry::Entry;
 use crate::fates::told;
 use crate::items::push_item;
 use crate::known::Known;
-use crate::lanes::Lanes;
 use crate::shown::{CutMark, End, Shown};
 use kt_base::{InstNo, Memory, ProcNo};
 use kt_spacetime::Event;
@@ -62,47 +62,40 @@ fn rest_of(entries: &[Entry], index: usize) -> &[Entry]
     &entries[index + 1..]
 }
 
-/// How each lane goes on to the right end.
-pub(crate) fn lane_ends(
-    alloc: Global,
-    walk: &Walk,
-    known: &Known,
-    lanes: &Lanes,
-) -> Result<Vec<End>, Memory>
+/// How the lane of each process goes on to the right end.
+pub(crate) fn lane_ends(alloc: Global, walk: &Walk, known: &Known) -> Result<Vec<End>, Memory>
     ensures { IfOk result (λ v. (s : KnownAtRow) (rows : List Event) → KnownOf known.now walk.now s rows
-        → v.items ≡ map (end_of s) lanes.now) }
+        → v.items ≡ map (end_of s) (range_with_len 0 64)) }
 {
     let mut ends = Vec::new(alloc);
-    add_ends(&mut ends, walk, known, lanes.processes())?;
+    add_ends(&mut ends, walk, known)?;
     Ok(ends)
 }
 
-// Adds how the lanes of these processes go on.
-fn add_ends(
-    ends: &mut Vec<End>,
-    walk: &Walk,
-    known: &Known,
-    processes: &[ProcNo],
-) -> Result<(), Memory>
+// Adds how the lane of each process goes on.
+fn add_ends(ends: &mut Vec<End>, walk: &Walk, known: &Known) -> Result<(), Memory>
+    requires { ends.old.items ≡ [] }
     ensures { OnOk result ((s : KnownAtRow) (rows : List Event) → KnownOf known.now walk.now s rows
-        → ends.new.items ≡ ends.old.items ++ map (end_of s) processes.now) }
+        → ends.new.items ≡ map (end_of s) (range_with_len 0 64)) }
 {
-    for p in processes {
-        push_item(ends, known.end(walk, *p))?;
+    for number in 0..ProcNo::COUNT {
+        push_item(ends, known.end(walk, ProcNo::nth(number)))?;
     }
     Ok(())
 }
 
-/// Adds the permanent cut after a row that commits an instance, where permanent positions are in these columns.
+/// Adds the permanent cut after a row that commits an instance, where permanent positions are in the first columns before it
+/// and in the second ones after it.
 pub(crate) fn push_cut(
     cuts: &mut Vec<CutMark>,
+    before: &[u32; 64],
     places: &[u32; 64],
     row: &Event,
 ) -> Result<(), Memory>
-    ensures { OnOk result (cuts.new.items ≡ cuts.old.items ++ cut_in places.now row.now) }
+    ensures { OnOk result (cuts.new.items ≡ cuts.old.items ++ cut_in before.now places.now row.now) }
 {
     match *row {
-        Event::Decided { inst, commit, .. } => push_cut_if(cuts, places, inst, commit),
+        Event::Decided { inst, commit, .. } => push_cut_if(cuts, before, places, inst, commit),
         _ => Ok(()),
     }
 }
@@ -110,12 +103,13 @@ pub(crate) fn push_cut(
 // Adds the permanent cut after the commit of an instance.
 fn push_cut_if(
     cuts: &mut Vec<CutMark>,
+    before: &[u32; 64],
     places: &[u32; 64],
     inst: InstNo,
     commit: bool,
 ) -> Result<(), Memory>
     ensures { OnOk result (cuts.new.items ≡ cuts.old.items
-        ++ (if commit then record { inst = inst; columns = places.now } ∷ [] else [])) }
+        ++ (if commit then record { inst = inst; columns = places.now; is_new = not (bytes_eq before.now places.now) } ∷ [] else [])) }
 {
     if commit {
         push_item(
@@ -123,6 +117,7 @@ fn push_cut_if(
             CutMark {
                 inst,
                 columns: *places,
+                is_new: !(*before == *places),
             },
         )
     } else {

@@ -8,7 +8,7 @@ loop-msg-preserved c =
     let items = c.args.chain.now in
     let within : c.loop-msg.msg-index < length items = omega arith in
     let at : get_or items c.loop-msg.msg-index c.msg-item.result ≡ c.msg-item.result = search rules in
-    gathers_item (chain_word c.args.notes.now.names.now c.args.notes.now.rows.now) c.args.text.now.items c.loop-msg.text.items c.push_chain_word.new.text.items items c.loop-msg.msg-index c.msg-item.result within at c.loop-msg.invariant c.in_ok-push_chain_word.ensures
+    gathers_item (chain_word c.args.page.now.names.now c.args.page.now.rows.now) c.args.text.now.items c.loop-msg.text.items c.push_chain_word.new.text.items items c.loop-msg.msg-index c.msg-item.result within at c.loop-msg.invariant c.in_ok-push_chain_word.ensures
 
 pub returns : goal.returns
-returns c = gathers_all (chain_word c.args.notes.now.names.now c.args.notes.now.rows.now) c.args.text.now.items _ c.args.chain.now c.loop-msg.msg-index (omega arith) c.loop-msg.invariant
+returns c = gathers_all (chain_word c.args.page.now.names.now c.args.page.now.rows.now) c.args.text.now.items _ c.args.chain.now c.loop-msg.msg-index (omega arith) c.loop-msg.invariant

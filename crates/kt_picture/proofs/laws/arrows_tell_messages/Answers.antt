@@ -8,10 +8,10 @@ use Rattle.kt_picture.proofs.ArrowFacts.{drawn_at, undone_is, received_message, 
 use Rattle.kt_picture.proofs.laws.arrows_tell_messages.Goals as goal
 
 pub returns-clause-drawn : goal.returns-clause-drawn
-returns-clause-drawn c = λ class lanes rows before s h.
+returns-clause-drawn c = λ view rows before s h.
     let at = place_in (shown_of rows before) s h in
     let v = shows_row rows before at.0 s at.1 in
-    drawn_at class lanes rows before s s.event v.in_transit
+    drawn_at view rows s s.event v.in_transit
 
 pub returns-clause-tail : goal.returns-clause-tail
 returns-clause-tail c = λ rows before s h.

@@ -1,5 +1,7 @@
-use Rattle.std.proofs.Common.{◌≡◌, ◌<◌, ◌≤◌, ◌+◌, ℕ, suc, true, List, sym, subst, length, take, drop, arith}
-use Rattle.std.specs.Prelude.{slice_index}
+use Rattle.std.proofs.Common.{◌≡◌, ◌≢◌, ◌<◌, ◌≤◌, ◌+◌, ℕ, suc, Bool, true, false, List, [], refl, sym, subst, length, take, drop, arith}
+use Rattle.std.specs.Prelude.{slice_index, ◌↔◌}
+use Rattle.kt_picture.specs.declared.shown.CutMark.{CutMark}
+use Rattle.kt_picture.specs.Picture.{new_cut}
 use Rattle.std.proofs.lemmas.List.{length-drop}
 use Rattle.std.proofs.lemmas.Option.{slice_get_within}
 use Rattle.kt_spacetime.specs.declared.event.Event.TheVariants.{Decided}
@@ -7,11 +9,22 @@ use Rattle.kt_picture.specs.Places.{IsPermanentColumn}
 use Rattle.kt_picture.specs.KnownAtRow.{seen_before}
 use Rattle.kt_picture.specs.Window.{cuts_of}
 use Rattle.kt_picture.proofs.ShownFacts.{place_in}
-use Rattle.kt_picture.proofs.ColumnFacts.{column_is, position_is, no_position, cut_nth, cut_instances}
+use Rattle.kt_picture.proofs.ColumnFacts.{column_is, position_is, no_position, cut_new, cut_nth, cut_instances}
 use Rattle.kt_picture.proofs.laws.cuts_are_permanent.Goals as goal
 
 pub returns-clause-one_each : goal.returns-clause-one_each
 returns-clause-one_each c = λ rows before. cut_instances (seen_before (take before rows)) (drop before rows)
+
+pub returns-clause-changes : goal.returns-clause-changes
+returns-clause-changes c = λ rows before j cut at. cut_new (seen_before (take before rows)) (drop before rows) j cut at
+
+drawn : (lanes : List ℕ) (inst : ℕ) (columns : List ℕ) (b : Bool)
+    → (new_cut lanes (record { inst = inst; columns = columns; is_new = b }) ≢ []) ↔ (b ≡ true)
+drawn lanes inst columns true = (λ n. refl, λ h none. absurd (cc))
+drawn lanes inst columns false = (λ n. absurd (n refl), λ h. absurd (cc))
+
+pub returns-clause-drawn : goal.returns-clause-drawn
+returns-clause-drawn c = λ lanes cut. drawn lanes cut.inst cut.columns cut.is_new
 
 pub returns-clause-through : goal.returns-clause-through
 returns-clause-through c = λ rows before cut legal h.

@@ -6,7 +6,8 @@ use Rattle.kt_cuts.specs.Past.{past}
 use Rattle.kt_cuts.proofs.RowRules.{may_take, may_get_ready}
 use Rattle.kt_cuts.proofs.Traced.{next_unbroken}
 use Rattle.kt_picture.specs.Fates.{joined_decision}
-use Rattle.kt_picture.specs.Shapes.{fill_class, square, triangle}
+use Rattle.kt_picture.specs.Looks.{class_text, square, triangle}
+use Rattle.kt_picture.specs.Marks.{fill_look}
 use Rattle.kt_picture.specs.Window.{shown_of}
 use Rattle.kt_picture.proofs.ShownFacts.{place_in, shows_row}
 use Rattle.kt_picture.proofs.DecisionFacts.{decided_in_window}
@@ -39,7 +40,7 @@ undecided b e = absurd (cc)
 apart : (xs ys : List ℕ) → length xs ≢ length ys → xs ≢ ys
 apart xs ys differ same = differ (ap length same)
 
-filled : (d : Option Bool) → (fill_class d ≢ fill_class None) ↔ (d ≡ Some true)
+filled : (d : Option Bool) → (class_text (fill_look d) ≢ class_text (fill_look None)) ↔ (d ≡ Some true)
 filled None = (λ n. absurd (n refl), λ e. absurd (undecided true e))
 filled (Some false) = (λ n. absurd (n refl), λ e. absurd (cc))
 filled (Some true) = (λ n. refl, λ e. λ same. absurd (cc))

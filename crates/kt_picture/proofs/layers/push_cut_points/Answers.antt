@@ -9,7 +9,7 @@ loop-p-preserved c =
     let items = c.processes-p-items.result.now in
     let within : c.loop-p.p-index < length items = omega arith in
     let at : get_or items c.loop-p.p-index c.p-item.result ≡ c.p-item.result = search rules in
-    gathers_item (cut_points c.args.lanes.now c.args.cut.now) c.args.text.now.items c.loop-p.text.items c.push_cut_point.new.text.items items c.loop-p.p-index c.p-item.result within at c.loop-p.invariant c.in_ok-push_cut_point.ensures
+    gathers_item (cut_points c.args.lanes.now c.args.cut.now) c.args.text.now.items c.loop-p.text.items c.push_cut_points_of.new.text.items items c.loop-p.p-index c.p-item.result within at c.loop-p.invariant c.in_ok-push_cut_points_of.ensures
 
 pub returns : goal.returns
 returns c = gathers_all (cut_points c.args.lanes.now c.args.cut.now) c.args.text.now.items _ (c.processes-p-items.result.now) c.loop-p.p-index (omega arith) c.loop-p.invariant

@@ -1,7 +1,7 @@
 use Rattle.std.proofs.Common.{◌≡◌, ◌++◌, take}
 use Rattle.std.specs.List.{flat_map}
-use Rattle.kt_picture.specs.Picture.{cut_line}
+use Rattle.kt_picture.specs.Picture.{new_cut}
 use Rattle.kt_picture.proofs.layers.push_cuts.Given as goal
 
 abbrev pub invariant-loop-cut : goal.invariant-loop-cut
-invariant-loop-cut l = l.text.items ≡ l.fn.text.items ++ flat_map (cut_line l.lanes) (take l.cut-index l.cuts)
+invariant-loop-cut l = l.text.items ≡ l.fn.text.items ++ flat_map (new_cut l.lanes) (take l.cut-index l.cuts)

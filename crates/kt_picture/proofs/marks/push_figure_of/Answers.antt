@@ -1,9 +1,13 @@
-use Rattle.kt_picture.proofs.Gathering.{gathered, then_piece}
+use Rattle.std.proofs.Common.{◌∙◌, ap}
+use Rattle.kt_picture.specs.Lanes.{lane_of}
+use Rattle.kt_picture.specs.Marks.{drawn}
+use Rattle.kt_picture.proofs.Gathering.{gathered, same_piece, then_piece}
 use Rattle.kt_picture.proofs.marks.push_figure_of.Goals as goal
 
 pub returns : goal.returns
 returns c =
-    let first = c.args.text.now.items in
-    let so_far-1 = then_piece first c.push_number_at.new.text.items c.push_title_with_reason.new.text.items _ _ c.in_ok-push_number_at.ensures c.in_ok-push_title_with_reason.ensures in
-    let so_far-2 = then_piece first c.push_title_with_reason.new.text.items c.push_figure_at.new.text.items _ _ so_far-1 c.in_ok-push_figure_at.ensures in
-    gathered c.push_text.result c.push_text.ensures (λ e. then_piece first c.push_figure_at.new.text.items c.push_text.new.text.items _ _ so_far-2 e)
+    let t0 = c.args.text.now.items in
+    let t1 = c.push_title_with_reason.new.text.items in
+    let t2 = c.push_figure.new.text.items in
+    let t3 = c.push_text.new.text.items in
+    gathered c.push_text.result c.push_text.ensures (λ e. then_piece t0 t1 t3 _ _ c.in_ok-push_title_with_reason.ensures (then_piece t1 t2 t3 _ _ (same_piece t1 t2 _ _ c.in_ok-push_figure.ensures (λ j. drawn (c.figure_at.ensures j) c.args.s.now.column ((c.of.ensures ∙ ap (lane_of c.args.page.now.lanes.now) c.process.ensures) j))) e))

@@ -3,5 +3,7 @@ use Rattle.kt_picture.proofs.marks.push_title.Goals as goal
 
 pub returns : goal.returns
 returns c =
-    let first = c.args.text.now.items in
-    gathered c.push_text.result c.push_text.ensures (λ e. then_piece first c.push_row_words.new.text.items c.push_text.new.text.items _ _ c.in_ok-push_row_words.ensures e)
+    let t0 = c.args.text.now.items in
+    let t1 = c.push_row_words.new.text.items in
+    let t2 = c.push_text.new.text.items in
+    gathered c.push_text.result c.push_text.ensures (λ e. then_piece t0 t1 t2 _ _ c.in_ok-push_row_words.ensures e)

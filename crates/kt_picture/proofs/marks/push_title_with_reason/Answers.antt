@@ -3,6 +3,8 @@ use Rattle.kt_picture.proofs.marks.push_title_with_reason.Goals as goal
 
 pub returns : goal.returns
 returns c =
-    let first = c.args.text.now.items in
-    let so_far-1 = then_piece first c.push_row_words.new.text.items c.push_reason_of.new.text.items _ _ c.in_ok-push_row_words.ensures c.in_ok-push_reason_of.ensures in
-    gathered c.push_text.result c.push_text.ensures (λ e. then_piece first c.push_reason_of.new.text.items c.push_text.new.text.items _ _ so_far-1 e)
+    let t0 = c.args.text.now.items in
+    let t1 = c.push_row_words.new.text.items in
+    let t2 = c.push_reason_of.new.text.items in
+    let t3 = c.push_text.new.text.items in
+    gathered c.push_text.result c.push_text.ensures (λ e. then_piece t0 t1 t3 _ _ c.in_ok-push_row_words.ensures (then_piece t1 t2 t3 _ _ c.in_ok-push_reason_of.ensures e))

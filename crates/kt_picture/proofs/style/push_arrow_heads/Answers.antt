@@ -1,9 +1,6 @@
-use Rattle.kt_picture.proofs.Gathering.{gathered, then_three, three_pieces}
+use Rattle.kt_picture.specs.Style.{arrow_heads}
 use Rattle.kt_picture.proofs.style.push_arrow_heads.Goals as goal
 
 pub returns : goal.returns
-returns c =
-    let first = c.args.text.now.items in
-    let so_far-1 = three_pieces first c.push_between.new.text.items _ _ _ c.in_ok-push_between.ensures in
-    let so_far-2 = then_three first c.push_between.new.text.items c.push_between-2.new.text.items _ _ _ _ so_far-1 c.in_ok-push_between-2.ensures in
-    gathered c.push_between-3.result c.push_between-3.ensures (λ e. then_three first c.push_between-2.new.text.items c.push_between-3.new.text.items _ _ _ _ so_far-2 e)
+unfolding arrow_heads
+returns c = c.push_parts.ensures

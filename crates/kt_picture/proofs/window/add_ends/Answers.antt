@@ -1,16 +1,18 @@
-use Rattle.std.proofs.Common.{rules, arith, ◌≡◌, ◌<◌, length, get_or}
+use Rattle.std.proofs.Common.{◌≡◌, ◌∙◌, ◌++◌, ◌∷◌, [], ℕ, List, ap, arith, map, sym}
+use Rattle.std.specs.List.{range_with_len}
 use Rattle.kt_picture.specs.Window.{end_of}
-use Rattle.kt_picture.proofs.Gathering.{maps_item, maps_all}
+use Rattle.kt_picture.proofs.LaneFacts.{ends_more}
 use Rattle.kt_picture.proofs.window.add_ends.Goals as goal
 
-pub loop-p-preserved : goal.loop-p-preserved
-loop-p-preserved c =
-    let items = c.args.processes.now in
-    let i = c.loop-p.p-index in
-    let p = c.p-item.result in
-    let within : i < length items = omega arith in
-    let at : get_or items i p ≡ p = search rules in
-    λ s rows h. maps_item (end_of s) c.args.ends.now.items c.loop-p.ends.items c.push_item.new.items.items c.end.result items i p within at (c.loop-p.invariant s rows h) c.in_ok-push_item.ensures (c.end.ensures s rows h)
+pub loop-number-preserved : goal.loop-number-preserved
+loop-number-preserved c =
+    let n = c.loop-number.number in
+    record {
+      items = λ s rows h. c.in_ok-push_item.ensures ∙ (λ j. c.loop-number.invariant.items s rows h j ++ (c.end.ensures s rows h ∙ ap (end_of s) c.nth.ensures) j ∷ []) ∙ sym (ends_more (end_of s) n);
+      low = omega (arith, c.loop-number-test.true);
+    }
 
 pub returns : goal.returns
-returns c = λ s rows h. maps_all (end_of s) c.args.ends.now.items _ c.args.processes.now c.loop-p.p-index (omega arith) (c.loop-p.invariant s rows h)
+returns c = λ s rows h.
+    let all : c.loop-number.number ≡ 64 = omega (arith, c.loop-number.invariant.low) in
+    c.loop-number.invariant.items s rows h ∙ ap (λ (n : ℕ). map (end_of s) (range_with_len 0 n)) all

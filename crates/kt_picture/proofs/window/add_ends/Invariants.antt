@@ -1,9 +1,13 @@
-use Rattle.std.proofs.Common.{◌≡◌, ◌++◌, List, take, map}
+use Rattle.std.proofs.Common.{◌≡◌, ◌≤◌, List, map}
+use Rattle.std.specs.List.{range_with_len}
 use Rattle.kt_spacetime.specs.declared.event.Event.{Event}
 use Rattle.kt_picture.specs.KnownAtRow.{KnownAtRow}
 use Rattle.kt_picture.specs.KnownOf.{KnownOf}
 use Rattle.kt_picture.specs.Window.{end_of}
 use Rattle.kt_picture.proofs.window.add_ends.Given as goal
 
-abbrev pub invariant-loop-p : goal.invariant-loop-p
-invariant-loop-p l = (s : KnownAtRow) (rows : List Event) → KnownOf l.known l.walk s rows → l.ends.items ≡ l.fn.ends.items ++ map (end_of s) (take l.p-index l.processes)
+abbrev pub invariant-loop-number : goal.invariant-loop-number
+invariant-loop-number l = record {
+  items : (s : KnownAtRow) (rows : List Event) → KnownOf l.known l.walk s rows → l.ends.items ≡ map (end_of s) (range_with_len 0 l.number);
+  low : l.number ≤ 64;
+}

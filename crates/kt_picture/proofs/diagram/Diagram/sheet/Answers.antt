@@ -1,4 +1,4 @@
-use Rattle.std.proofs.Common.{◌≡◌, ◌∙◌, ◌++◌, List, ap, arith, rules, subst, sym}
+use Rattle.std.proofs.Common.{◌≡◌, ◌∙◌, ◌++◌, List, ap, arith, refl, rules, subst, sym}
 use Rattle.kt_picture.specs.declared.entry.Entry.{Entry}
 use Rattle.kt_picture.specs.DiagramOf.{seen_in}
 use Rattle.kt_picture.specs.Followed.{AreFollowed, told_rows}
@@ -13,7 +13,7 @@ returns-clause-exact c = λ front window h.
     let made : c.as_slice.result.now ≡ d.entries.items = search rules in
     let cuts : c.as_slice-2.result.now ≡ d.cuts.items = search rules in
     let few = columns_few d w front window h in
-    sheet_of d w front window _ h c.in_ok-lanes.ensures (omega (arith, few, c.rows-rows.ensures.rows, c.saturating_sub-before.ensures, c.requires.few)) (omega (arith, c.rows-rows.ensures.rows, c.saturating_sub-before.ensures, c.requires.few))
+    sheet_of d w front window _ h refl (omega (arith, few, c.rows-rows.ensures.rows, c.saturating_sub-before.ensures, c.requires.few)) (omega (arith, c.rows-rows.ensures.rows, c.saturating_sub-before.ensures, c.requires.few))
     (c.in_ok-shown.ensures log h.known.walk (subst (λ (l : List Entry). AreFollowed log l) (sym made) h.followed) ∙ ap (told_rows log) made)
     (c.in_ok-extend_from_slice.ensures.items ∙ (λ j. c.new-cuts.ensures.items j ++ cuts j))
     (c.in_ok-ends.ensures (seen_in front window) log h.known)
