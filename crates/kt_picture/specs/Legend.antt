@@ -1,5 +1,5 @@
 -- The legend of a picture: of the marks that it has, and of no others.
-use Rattle.std.specs.Prelude.{ℕ, ◌+◌, ◌*◌, ◌/◌, ◌%◌, ◌==◌, ◌||◌, is_some, fold, if◌then◌else◌, Bool, true, false, Option, Some, None, List, [], ◌∷◌, ◌++◌, codes, length}
+use Rattle.std.specs.Prelude.{ℕ, ◌+◌, ◌*◌, ◌/◌, ◌%◌, ◌==◌, ◌||◌, is_some, fold, if◌then◌else◌, Bool, true, false, Option, Some, None, List, [], ◌∷◌, ◌++◌, codes}
 use Rattle.std.specs.List.{list_any, concat}
 use Rattle.std.specs.Fmt.{decimal}
 use Rattle.kt_spacetime.specs.declared.event.Event.{Event}

@@ -1,5 +1,5 @@
 -- Texts as lists of parts.
-use Rattle.std.specs.Prelude.{ℕ, ◌%◌, Option, Some, None, List, [], ◌++◌, codes}
+use Rattle.std.specs.Prelude.{ℕ, List}
 use Rattle.std.specs.List.{flat_map}
 use Rattle.std.specs.Fmt.{decimal, signed_decimal}
 use Rattle.kt_picture.specs.declared.parts.Part.{Part}

@@ -1,7 +1,7 @@
 use Rattle.std.proofs.Common.{rules, arith, ◌≡◌, ◌∙◌, ◌<◌, Bool, List, length, get_or, map, sym, ap}
 use Rattle.std.specs.List.{list_any}
 use Rattle.std.proofs.lemmas.List.{take_all}
-use Rattle.std.proofs.lemmas.List.Folds.{list_any_at, list_any_more}
+use Rattle.std.proofs.lemmas.List.Folds.{list_any_at}
 use Rattle.kt_plan.proofs.NameFacts.{list_any-map}
 use Rattle.kt_picture.specs.declared.entry.Entry.{Entry}
 use Rattle.kt_picture.specs.Fates.{receives}

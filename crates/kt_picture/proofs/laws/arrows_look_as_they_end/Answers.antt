@@ -1,4 +1,4 @@
-use Rattle.std.proofs.Common.{◌≡◌, ◌∙◌, ℕ, Bool, true, false, Option, Some, None, is_some, refl, ap}
+use Rattle.std.proofs.Common.{◌≡◌, ℕ, Bool, true, false, Option, Some, None, is_some, refl}
 use Rattle.std.specs.Prelude.{◌||◌}
 use Rattle.kt_picture.specs.declared.looks.Look.{Look}
 use Rattle.kt_picture.specs.declared.looks.Look.TheVariants as look

@@ -1,6 +1,5 @@
 use Rattle.std.proofs.Common.{◌≡◌, ◌≢◌, ◌<◌, ◌≤◌, ◌+◌, ℕ, suc, Bool, true, false, List, [], refl, sym, subst, length, take, drop, arith}
 use Rattle.std.specs.Prelude.{slice_index, ◌↔◌}
-use Rattle.kt_picture.specs.declared.shown.CutMark.{CutMark}
 use Rattle.kt_picture.specs.Picture.{new_cut}
 use Rattle.std.proofs.lemmas.List.{length-drop}
 use Rattle.std.proofs.lemmas.Option.{slice_get_within}

@@ -1,4 +1,4 @@
-use Rattle.std.proofs.Common.{◌≡◌, ◌≢◌, ◌<◌, ◌+◌, ◌-◌, ◌*◌, ◌%◌, ◌/◌, ℕ, Bool, true, false, arith}
+use Rattle.std.proofs.Common.{◌≢◌, ◌<◌, ◌+◌, ℕ, Bool, true, false, arith}
 use Rattle.kt_picture.specs.Shapes.{word_y}
 use Rattle.kt_picture.proofs.laws.words_stand_apart.Goals as goal
 

@@ -1,4 +1,4 @@
-use Rattle.std.proofs.Common.{rules, arith, ◌≡◌, ◌∙◌, ◌<◌, ◌++◌, ◌∷◌, [], ℕ, List, ap, sym, length, get_or, take, map, fold, max}
+use Rattle.std.proofs.Common.{rules, arith, ◌≡◌, ◌∙◌, ◌<◌, ◌∷◌, [], ℕ, List, ap, sym, length, get_or, take, map, fold, max}
 use Rattle.std.proofs.lemmas.List.{map_more, take_all}
 use Rattle.std.proofs.lemmas.List.Sums.{fold-append}
 use Rattle.kt_picture.specs.Lanes.{name_or_number}

@@ -1,4 +1,4 @@
-use Rattle.std.proofs.Common.{◌≡◌, ℕ, length, take, map, fold, max}
+use Rattle.std.proofs.Common.{◌≡◌, length, take, map, fold, max}
 use Rattle.kt_picture.specs.Lanes.{name_or_number}
 use Rattle.kt_picture.proofs.layers.longest_name.Given as goal
 

@@ -1,5 +1,5 @@
 use Rattle.std.proofs.Common.{◌≡◌, ◌∙◌, ◌+◌, ℕ, ap, length}
-use Rattle.kt_picture.specs.Picture.{longest_name, margin_for, width_of, height_of, opening}
+use Rattle.kt_picture.specs.Picture.{margin_for, width_of, height_of, opening}
 use Rattle.kt_picture.specs.Shapes.{y_of}
 use Rattle.kt_picture.proofs.Gathering.{gathered, same_piece}
 use Rattle.kt_picture.proofs.layers.push_opening_of.Goals as goal

@@ -1,6 +1,5 @@
-use Rattle.std.proofs.Common.{◌≡◌, ◌∙◌, ap, Bool}
+use Rattle.std.proofs.Common.{◌≡◌, ◌∙◌, ap}
 use Rattle.kt_picture.specs.declared.legend.Beside.{Beside}
-use Rattle.kt_picture.specs.declared.legend.Sign.{Sign}
 use Rattle.kt_picture.specs.Legend.{has_sign, is_cut, is_wrong, legend_height}
 use Rattle.kt_picture.specs.Picture.{opening_of, words_text, has_mark}
 use Rattle.kt_picture.specs.Pages.{view_in}

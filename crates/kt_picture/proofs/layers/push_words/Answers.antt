@@ -1,4 +1,4 @@
-use Rattle.std.proofs.Common.{◌∙◌, ap}
+use Rattle.std.proofs.Common.{ap}
 use Rattle.kt_picture.specs.Legend.{has_sign, legend}
 use Rattle.kt_picture.specs.Pages.{view_in}
 use Rattle.kt_picture.proofs.Gathering.{gathered, same_piece, then_piece}

@@ -1,5 +1,4 @@
-use Rattle.std.proofs.Common.{◌≡◌, ◌≤◌, ◌++◌, Bool, take, fold}
-use Rattle.kt_picture.specs.declared.legend.Sign.{Sign}
+use Rattle.std.proofs.Common.{◌≡◌, ◌≤◌, ◌++◌, take, fold}
 use Rattle.kt_picture.specs.Legend.{has_sign, legend_from, next_place}
 use Rattle.kt_picture.specs.Pages.{view_in}
 use Rattle.kt_picture.proofs.legend.push_legend.Given as goal

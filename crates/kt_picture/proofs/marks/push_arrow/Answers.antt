@@ -1,4 +1,4 @@
-use Rattle.std.proofs.Common.{◌∙◌, ap, ℕ, Option}
+use Rattle.std.proofs.Common.{◌∙◌, ap}
 use Rattle.kt_picture.specs.Lanes.{lane_of}
 use Rattle.kt_picture.specs.Marks.{arrow_path, dress_of}
 use Rattle.kt_picture.proofs.Gathering.{gathered, same_piece, then_piece}

@@ -1,7 +1,7 @@
-use Rattle.std.proofs.Common.{ℕ, ap, nat_lt}
+use Rattle.std.proofs.Common.{nat_lt}
 use Rattle.kt_picture.specs.declared.looks.Look.TheVariants as look
 use Rattle.kt_picture.specs.declared.looks.Outline.TheVariants as outline
-use Rattle.std.proofs.Common.{None, rules}
+use Rattle.std.proofs.Common.{None}
 use Rattle.kt_picture.specs.Shapes.{shape}
 use Rattle.kt_picture.proofs.Gathering.{gathered, same_piece, then_piece}
 use Rattle.kt_picture.proofs.marks.push_short_arrow.Goals as goal

@@ -1,5 +1,4 @@
-use Rattle.std.proofs.Common.{rules, arith, ◌≡◌, ◌∙◌, ◌<◌, ◌++◌, ℕ, List, ap, length, get_or}
-use Rattle.std.specs.List.{flat_map}
+use Rattle.std.proofs.Common.{rules, arith, ◌≡◌, ◌<◌, length, get_or}
 use Rattle.kt_picture.specs.Parts.{part_text}
 use Rattle.kt_picture.proofs.Gathering.{gathers_item, gathers_all}
 use Rattle.kt_picture.proofs.parts.push_parts.Goals as goal

@@ -2,7 +2,6 @@ use Rattle.std.proofs.Common.{◌≡◌, ◌∙◌, ◌++◌, ◌+◌, ℕ, if�
 use Rattle.std.proofs.lemmas.Result.{IfOk-weaker}
 use Rattle.kt_spacetime.specs.declared.event.Event.{Event}
 use Rattle.kt_picture.specs.Breach.{breach_rows}
-use Rattle.kt_picture.specs.Lanes.{lanes_in}
 use Rattle.kt_picture.specs.Picture.{columns_of, picture_text}
 use Rattle.kt_picture.proofs.DiagramFacts.{lanes_named, same_link, same_reason}
 use Rattle.kt_picture.proofs.diagram.Sheet.picture.Goals as goal
