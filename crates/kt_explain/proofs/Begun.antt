@@ -1,5 +1,5 @@
 -- How an instance began, by the rows of a legal log.
-use Rattle.std.proofs.Common.{◌≡◌, ◌⊎◌, ℕ, zero, suc, ◌+◌, ◌==◌, Bool, true, false, Option, Some, None, option_map, List, [], ◌∷◌, ◌++◌, length, take, refl, sym, ap, ◌∙◌, inl, inr, arith}
+use Rattle.std.proofs.Common.{◌≡◌, ◌⊎◌, ℕ, zero, suc, ◌+◌, ◌==◌, Bool, true, false, Option, Some, None, List, [], ◌∷◌, ◌++◌, length, take, refl, ap, ◌∙◌, inl, inr, arith}
 use Rattle.std.specs.Prelude.{nat_le}
 use Rattle.std.specs.List.{slice_get}
 use Rattle.std.proofs.lemmas.Bool.{and_parts}
@@ -11,13 +11,10 @@ use Rattle.kt_spacetime.specs.declared.event.Event.TheVariants.{Sent, Received, 
 use Rattle.kt_cuts.specs.Past.{Past, Beginning, past, after, beginning_of}
 use Rattle.kt_cuts.specs.Legal.{IsLegal, broken_rule, has_begun}
 use Rattle.kt_cuts.proofs.Items.{item_there, take_item}
-use Rattle.kt_cuts.proofs.SortedFacts.{some_same}
-use Rattle.kt_cuts.proofs.LegalLogs.{past_push, legal_log_induction, kept}
+use Rattle.kt_cuts.proofs.LegalLogs.{past_push, legal_log_induction}
 use Rattle.kt_cuts.proofs.Lists.{get_push, get_kept, get_last}
 use Rattle.kt_cuts.proofs.RowRules.{may_begin}
 use Rattle.kt_cuts.proofs.Traced.{next_unbroken}
-use Rattle.kt_chain.specs.declared.certificate.Certificate.{Certificate}
-use Rattle.kt_checker.specs.Passing.{IsAsInLog}
 use Rattle.kt_checker.proofs.Deciding.{beginning_stays}
 use Rattle.kt_explain.specs.Finding.{HasNoRow, begins_inst}
 
@@ -84,30 +81,6 @@ begun_before s zero e =
 begun_before s (suc k) e =
     let parts = and_parts (nat_le 1 (suc k)) (nat_le (suc k) (length s.begun)) e in
     item_there s.begun k (grind (arith, nat_tests, parts.1))
-
-known_at : (log : List Event) (n p k : ℕ) (commit : Bool) → IsLegal log → slice_get log n ≡ Some (Decided p k commit) → (b : Beginning) × (beginning_of (past (take n log)) k ≡ Some b)
-known_at log n p k commit l e = begun_before (past (take n log)) k (kept (past (take n log)) (Decided p k commit) (next_unbroken log n (Decided p k commit) l e)).numbers
-
--- a decided instance has a row that begins it
-pub no_unbegun : (log : List Event) (n p k : ℕ) (commit : Bool) → IsLegal log → slice_get log n ≡ Some (Decided p k commit) → HasNoRow (begins_inst k) log → ⊥
-no_unbegun log n p k commit l e none =
-    let known = known_at log n p k commit l e in
-    let a = (legal_log_induction BegunRows begun_rows_start begun_rows_keep log l).row k known.0 (beginning_stays log n k known.0 known.1) in
-    none a.0 (Began known.0.initiator k known.0.kind) a.1 (itself k)
-
--- a certificate that says what the rows say that begin and decide its instance is as the log has it
-pub as_rows_say : (log : List Event) (c : Certificate) (n p m : ℕ) → IsLegal log → slice_get log n ≡ Some (Decided p c.inst c.commit) → slice_get log m ≡ Some (Began c.initiator c.inst c.kind) → (c.commit ≡ false → c.members ≡ []) → IsAsInLog log c n
-as_rows_say log c n p m l decided began no_members =
-    let known = known_at log n p c.inst c.commit l decided in
-    let same : known.0 ≡ record { initiator = c.initiator; kind = c.kind } =
-    some_same (sym (beginning_stays log n c.inst known.0 known.1) ∙ begun_by_row log m c.initiator c.inst c.kind l began) in
-    record {
-      process = p;
-      decided = decided;
-      kind = ap (λ (o : Option Beginning). option_map (λ b. b.kind) o) known.1 ∙ ap (λ (b : Beginning). Some b.kind) same;
-      initiator = ap (λ (o : Option Beginning). option_map (λ b. b.initiator) o) known.1 ∙ ap (λ (b : Beginning). Some b.initiator) same;
-      no_members = no_members;
-    }
 
 -- an instance that no row begins has not begun
 pub unbegun : (log : List Event) (k : ℕ) → IsLegal log → HasNoRow (begins_inst k) log → has_begun (past log) k ≡ false

@@ -7,7 +7,7 @@ use Rattle.kt_spacetime.specs.declared.event.Event.{Event}
 use Rattle.kt_spacetime.specs.declared.event.Event.TheVariants.{Sent, Received, Dropped, Began, Took, Ready, Unwilling, Decided, Closed, Failed, Refused}
 use Rattle.kt_spacetime.specs.Events.{process_of}
 use Rattle.kt_checker.specs.Unwilling.{is_unwilling}
-use Rattle.kt_explain.specs.Finding.{receives, begins_inst, decides_inst}
+use Rattle.kt_explain.specs.Finding.{receives, begins_inst}
 
 same_number : (a b : ℕ) → (a == b) ≡ true → a ≡ b
 same_number a b e = grind (arith, nat_tests, e)
@@ -61,17 +61,3 @@ begin_row k (Decided p j commit) e = absurd (cc)
 begin_row k (Closed p j) e = absurd (cc)
 begin_row k (Failed p) e = absurd (cc)
 begin_row k (Refused p verb cause) e = absurd (cc)
-
--- a row that decides an instance
-pub decide_row : (k : ℕ) (row : Event) → decides_inst k row ≡ true → (p : ℕ) × (commit : Bool) × (row ≡ Decided p k commit)
-decide_row k (Decided p j commit) e = (p, commit, ap (λ (n : ℕ). Decided p n commit) (same_number j k e))
-decide_row k (Sent p to body) e = absurd (cc)
-decide_row k (Received p from msg) e = absurd (cc)
-decide_row k (Dropped p from msg) e = absurd (cc)
-decide_row k (Began p j kind) e = absurd (cc)
-decide_row k (Took p j) e = absurd (cc)
-decide_row k (Ready p j) e = absurd (cc)
-decide_row k (Unwilling p j cause) e = absurd (cc)
-decide_row k (Closed p j) e = absurd (cc)
-decide_row k (Failed p) e = absurd (cc)
-decide_row k (Refused p verb cause) e = absurd (cc)

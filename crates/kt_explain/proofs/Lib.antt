@@ -14,7 +14,6 @@ pub mod Delivered
 pub mod Demands
 pub mod KnownRows
 pub mod Replaying
-pub mod RecordFacts
 pub mod Comparing
 pub mod InTransit
 pub mod TracedMessages
